@@ -1,0 +1,129 @@
+//! The syntax tree of a description. Lists in it keep the order of the text.
+
+use config_graph::Text;
+use darwin_lexer::At;
+
+/// A whole description.
+#[derive(Debug, Drop)]
+pub struct Unit {
+    pub components: Vec<Component>,
+}
+
+/// A component: its parameters, ports and arrays, and the statements of its body.
+#[derive(Debug, Drop)]
+pub struct Component {
+    pub name: Text,
+    pub at: At,
+    pub params: Vec<Text>,
+    pub ports: Vec<PortDecl>,
+    pub arrays: Vec<ArrayDecl>,
+    pub body: Vec<Stmt>,
+}
+
+/// Whether a port is a service that the component provides or one that it requires.
+#[derive(Clone, Copy, Debug, PartialEq, Eq)]
+pub enum Side {
+    Provide,
+    Require,
+}
+
+/// A port, or an array of ports where it has a size. Its place is that of the word `provide` or
+/// `require`. A note is a list of token texts.
+#[derive(Debug, Drop)]
+pub struct PortDecl {
+    pub side: Side,
+    pub name: Text,
+    pub size: Option<Expr>,
+    pub note: Option<Vec<Text>>,
+    pub at: At,
+}
+
+/// An array of instances. The arguments are those of each element that has none of its own.
+#[derive(Debug, Drop)]
+pub struct ArrayDecl {
+    pub name: Text,
+    pub size: Expr,
+    pub component: Text,
+    pub args: Option<Vec<Expr>>,
+    pub at: At,
+}
+
+/// A statement. A list after `inst` or `bind` is one statement an entry.
+#[derive(Debug, Drop)]
+pub enum Stmt {
+    Inst(InstEntry),
+    Bind(BindEntry),
+    Forall {
+        var: Text,
+        low: Expr,
+        high: Expr,
+        body: Vec<Stmt>,
+        at: At,
+    },
+    When {
+        test: Expr,
+        body: Vec<Stmt>,
+        at: At,
+    },
+}
+
+/// An instance: a single one, or an element of an array.
+#[derive(Debug, Drop)]
+pub enum InstEntry {
+    Single {
+        name: Text,
+        component: Text,
+        args: Vec<Expr>,
+        at: At,
+    },
+    Element {
+        array: Text,
+        index: Expr,
+        args: Option<Vec<Expr>>,
+        at: At,
+    },
+}
+
+/// A binding of two ends, in either order.
+#[derive(Debug, Drop)]
+pub struct BindEntry {
+    pub left: PortRef,
+    pub right: PortRef,
+    pub at: At,
+}
+
+/// An end of a binding: a port of an instance, or of the component itself where no instance stands.
+#[derive(Debug, Drop)]
+pub struct PortRef {
+    pub inst: Option<Text>,
+    pub inst_index: Option<Expr>,
+    pub port: Text,
+    pub port_index: Option<Expr>,
+}
+
+/// An expression over integers.
+#[derive(Debug, Drop)]
+pub enum Expr {
+    Num(u32),
+    Var(Text),
+    Neg(Box<Expr>),
+    Op(Op, Box<Expr>, Box<Expr>),
+}
+
+/// An operation on two sides.
+#[derive(Clone, Copy, Debug, PartialEq, Eq)]
+pub enum Op {
+    Or,
+    And,
+    Eq,
+    Ne,
+    Lt,
+    Le,
+    Gt,
+    Ge,
+    Add,
+    Sub,
+    Mul,
+    Div,
+    Rem,
+}
