@@ -1,0 +1,54 @@
+-- What a description declares: its components by name, and the parameters, ports, arrays, instances and entries of
+-- each component. Where a name is declared twice, a look-up finds the first.
+use Rattle.std.specs.Prelude.{ℕ, List, [], ◌∷◌, ◌++◌, Option, Bool, ◌==◌, find, position, length, map, option_map, bytes_eq}
+use Rattle.std.specs.List.{flat_map}
+use Rattle.darwin_parser.specs.Tree.{Name, Tree, Component, PortDecl, ArrayDecl, InstEntry, Stmt, Stmts}
+use Rattle.darwin_parser.specs.Tree.InstEntry.{single, element}
+use Rattle.darwin_parser.specs.Tree.Stmt.{inst, bind, forall, when}
+use Rattle.darwin_parser.specs.Tree.Stmts.{end, then}
+
+-- the component with the name
+abbrev pub component_named : Tree → Name → Option Component
+component_named t name = find (λ c. bytes_eq name c.name) t
+
+abbrev mutual
+  -- the `inst` entries of a statement, those in its body counted
+  pub entries_of_stmt : Stmt → List InstEntry
+  entries_of_stmt (inst e) = e ∷ []
+  entries_of_stmt (bind b) = []
+  entries_of_stmt (forall x low high body at) = entries_of body
+  entries_of_stmt (when test body at) = entries_of body
+
+  -- the `inst` entries of a list of statements, those in bodies counted, in the order of the text
+  pub entries_of : Stmts → List InstEntry
+  entries_of end = []
+  entries_of (then s rest) = entries_of_stmt s ++ entries_of rest
+
+-- a component is primitive where its body, bodies within counted, has no `inst` entry
+abbrev pub is_primitive : Component → Bool
+is_primitive c = length (entries_of c.body) == 0
+
+-- the place of a parameter among the parameters
+abbrev pub param_position : Component → Name → Option ℕ
+param_position c name = position (bytes_eq name) c.params
+
+-- the port with the name
+abbrev pub port_named : Component → Name → Option PortDecl
+port_named c name = find (λ p. bytes_eq name p.name) c.ports
+
+-- the array with the name
+abbrev pub array_named : Component → Name → Option ArrayDecl
+array_named c name = find (λ a. bytes_eq name a.name) c.arrays
+
+-- the instance that an entry declares, with its component; an element declares none
+abbrev pub single_of : InstEntry → List (Name × Name)
+single_of (single name component args at) = (name, component) ∷ []
+single_of (element array index args at) = []
+
+-- the instances that a component declares, each with its component: its arrays, and then its single entries
+abbrev pub instances_of : Component → List (Name × Name)
+instances_of c = map (λ a. (a.name, a.component)) c.arrays ++ flat_map single_of (entries_of c.body)
+
+-- the component of the instance with the name
+abbrev pub instance_component : Component → Name → Option Name
+instance_component c name = option_map (λ d. d.1) (find (λ d. bytes_eq name d.0) (instances_of c))
