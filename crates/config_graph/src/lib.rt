@@ -1,11 +1,21 @@
 //! Configurations as graphs: node kinds, nodes, links, and the graph text.
 #![tactic(auto)]
 
+mod kind;
 mod list;
+mod node;
 mod text;
 
+pub use kind::{Kind, kind_of, kinds_have_their_names};
 pub use list::List;
+pub use node::{Link, Made, Node, Port, Target};
 pub use text::Text;
 
 /// Memory ran out. Nothing else is wrong, and arguments are as before.
 pub type NoMemory = std::alloc::AllocError;
+
+/// How many nodes one run makes at most.
+pub const MAX_NODES: u32 = 1_023;
+
+/// How many ports, the required services of nodes, one run makes at most.
+pub const MAX_PORTS: u32 = 4_096;
