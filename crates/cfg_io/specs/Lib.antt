@@ -1,4 +1,0 @@
-pub mod Count
-pub mod Shelf
-pub mod Sink
-pub mod Store

@@ -1,0 +1,114 @@
+-- The faults of an elaboration: the set of those that hold. Where it is empty the elaboration is the graph.
+use Rattle.std.specs.Prelude.{◌≡◌, ◌≢◌, ◌<◌, ℕ, true, ◌&&◌, ◌||◌, not, ℤ, pos, int_le, int_lt, List, [], ◌∷◌, ◌++◌, length, min, Option, Some, None, if◌then◌else◌, Contains}
+use Rattle.std.specs.List.{flat_map, list_all}
+use Rattle.std.specs.Option.{option_map_or}
+use Rattle.darwin_lexer.specs.declared.token.At.{At}
+use Rattle.darwin_parser.specs.Tree.{Name, Tree, Component, Expr}
+use Rattle.darwin_types.specs.Scope.{component_named, is_primitive}
+use Rattle.config_graph.specs.declared.node.Node.{Node}
+use Rattle.darwin_walk.specs.Value.{integer, value}
+use Rattle.darwin_walk.specs.Instance.{Child, End, Binding, index_fault, faults}
+use Rattle.darwin_walk.specs.declared.fault.Fault.{Fault}
+use Rattle.darwin_walk.specs.declared.fault.Fault.TheVariants as shown
+use Rattle.elaborator.specs.Paths.{Path, end_bytes}
+use Rattle.elaborator.specs.Instances.{Instance, top_instance, Inst, is_expanded, children_in, instance_of, total, paths_made}
+use Rattle.elaborator.specs.Bindings.{Named, named, Pair, pair_of, pairs_in, bindings_in}
+use Rattle.elaborator.specs.Graph.{IsFirstOnCycle}
+use Rattle.elaborator.specs.declared.error.ElabError.{ElabError}
+use Rattle.elaborator.specs.declared.error.ElabError.TheVariants as error
+
+-- a number as an error carries it
+abbrev pub capped : ℕ → ℕ
+capped n = min n 4294967295
+
+-- the arguments of an instance of a primitive component are from 0 to 16,777,215
+abbrev pub kind_faults : Tree → Instance → Child → List Fault
+kind_faults tree i child = option_map_or faults_at (instance_of tree i child) []
+  where
+    faults_at : Instance → List Fault
+    faults_at j =
+        if not (is_primitive j.component) || list_all (λ v. int_le (pos 0) v.value && int_lt v.value (pos 16777216)) j.env
+        then []
+        else shown.OutOfRange child.at ∷ []
+
+-- an index of a port isn't from 0 to the size less 1
+abbrev pub port_faults : Tree → Instance → At → End → List Fault
+port_faults tree i at e = option_map_or faults_at (named tree i e) []
+  where
+    indexed : Instance → Option Expr → Option ℤ → List Fault
+    indexed j (Some size) (Some index) = index_fault at (value size j.env) (integer index)
+    indexed j _ _ = []
+
+    faults_at : Named → List Fault
+    faults_at x = indexed x.instance x.decl.size x.index
+
+-- the faults of values and indexes in an instance
+abbrev pub faults_in : Tree → Instance → List Fault
+faults_in tree i =
+    if is_expanded i
+    then faults i.component i.env ++ flat_map (kind_faults tree i) (children_in i)
+    ++ flat_map (λ b. port_faults tree i b.at b.left ++ port_faults tree i b.at b.right) (bindings_in i)
+    else []
+
+-- the notes of two ports differ, where both have one
+pub data NotesDiffer (x y : Option Named) : Type 0 where
+  differ :
+      (m n : Named) (note note' : List Name) → x ≡ Some m → y ≡ Some n → m.decl.note ≡ Some note → n.decl.note ≡ Some note' → note ≢ note'
+      → NotesDiffer x y
+
+-- an element stands at two places of a list
+pub data Twice {X : Type 0} (xs : List X) (x : X) : Type 0 where
+  twice : (before between after : List X) → xs ≡ before ++ (x ∷ between) ++ (x ∷ after) → Twice xs x
+
+-- the faults of the elaboration of a description, with a component of a name at the top that has arguments
+pub data Faults (tree : Tree) (name : Name) (arguments : List ℤ) : ElabError → Type 0 where
+  -- no component has the name
+  no_top : component_named tree name ≡ None → Faults tree name arguments (error.NoTop name)
+  -- the component is primitive
+  top_is_kind :
+      (c : Component) → component_named tree name ≡ Some c → is_primitive c ≡ true → Faults tree name arguments (error.TopIsKind name)
+  -- the numbers of parameters and arguments differ
+  top_args :
+      (c : Component) → component_named tree name ≡ Some c → length c.params ≢ length arguments
+      → Faults tree name arguments (error.TopArgs (capped (length c.params)) (capped (length arguments)))
+  -- a result isn't from -2,147,483,648 to 2,147,483,647, or a kind's argument isn't from 0 to 16,777,215
+  out_of_range :
+      (top i : Instance) (at : At) → top_instance tree name arguments ≡ Some top → Inst tree top i
+      → Contains (faults_in tree i) (shown.OutOfRange at) → Faults tree name arguments (error.OutOfRange i.path at)
+  -- a right side of `/` or `%` is 0
+  zero_divisor :
+      (top i : Instance) (at : At) → top_instance tree name arguments ≡ Some top → Inst tree top i
+      → Contains (faults_in tree i) (shown.ZeroDivisor at) → Faults tree name arguments (error.ZeroDivisor i.path at)
+  -- an index isn't from 0 to the size less 1
+  bad_index :
+      (top i : Instance) (at : At) → top_instance tree name arguments ≡ Some top → Inst tree top i
+      → Contains (faults_in tree i) (shown.BadIndex at) → Faults tree name arguments (error.BadIndex i.path at)
+  -- two reached entries make the instance of a path
+  two_instances :
+      (top : Instance) (path : Path) → top_instance tree name arguments ≡ Some top → Twice (paths_made tree top) path
+      → Faults tree name arguments (error.TwoInstances path)
+  -- in an instance one source is bound to two different ends
+  bound_twice :
+      (top i : Instance) (p q : Pair) → top_instance tree name arguments ≡ Some top → Inst tree top i
+      → Contains (pairs_in tree i) p → Contains (pairs_in tree i) q → p.source ≡ q.source → p.target ≢ q.target
+      → Faults tree name arguments (error.BoundTwice i.path (end_bytes p.end))
+  -- a reached binding gives no pair: it is of another form, or names an instance that isn't made, or an index is missing
+  -- or stands where none belongs
+  bad_binding :
+      (top i : Instance) (b : Binding) → top_instance tree name arguments ≡ Some top → Inst tree top i
+      → Contains (bindings_in i) b → pair_of tree i b ≡ [] → Faults tree name arguments (error.BadBinding i.path b.at)
+  -- both ports of a reached binding have a note, and the notes differ
+  annotation :
+      (top i : Instance) (b : Binding) → top_instance tree name arguments ≡ Some top → Inst tree top i
+      → Contains (bindings_in i) b → NotesDiffer (named tree i b.left) (named tree i b.right)
+      → Faults tree name arguments (error.Annotation i.path b.at)
+  -- a reached entry makes an instance of depth 33
+  too_deep :
+      (top i : Instance) → top_instance tree name arguments ≡ Some top → Inst tree top i → i.depth ≡ 33
+      → Faults tree name arguments (error.TooDeep i.path)
+  -- more than 65,536 turns are taken and entries reached
+  too_many : (top : Instance) → top_instance tree name arguments ≡ Some top → 65536 < total tree top → Faults tree name arguments error.TooMany
+  -- nodes depend on themselves; the first by its path is named
+  depends_cycle :
+      (top : Instance) (n : Node) → top_instance tree name arguments ≡ Some top → IsFirstOnCycle tree top n
+      → Faults tree name arguments (error.DependsCycle n.path)

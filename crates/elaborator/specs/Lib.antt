@@ -1,0 +1,5 @@
+pub mod Bindings
+pub mod Faults
+pub mod Graph
+pub mod Instances
+pub mod Paths

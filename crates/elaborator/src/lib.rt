@@ -1,0 +1,6 @@
+//! Elaboration: from a description to its graph of nodes and links.
+#![tactic(auto)]
+
+mod error;
+
+pub use error::ElabError;
