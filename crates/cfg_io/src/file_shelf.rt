@@ -1,0 +1,80 @@
+//! The files of the system as a shelf.
+
+ghost use Rattle.std.specs.Prelude.{◌≡◌, ◌≤◌, IfOk, [], vec_len};
+ghost use Rattle.cfg_io.specs.Shelf.{CarriesLimit};
+
+use crate::shelf::{Shelf, ShelfError};
+use std::alloc::Global;
+use std::io::{ErrorKind, Read};
+use std::marker::Model;
+use std::rt::Files;
+use std::{fs, io};
+
+/// The files of the system, by their paths. What they hold is not told. Contracts see the names on
+/// which it failed.
+#[derive(Drop)]
+pub struct FileShelf<R> {
+    rt: R,
+    alloc: Global,
+    failed: Vec<String>,
+}
+
+impl<R> Model for FileShelf<R> {
+    ghost use Rattle.std.specs.Prelude.{List, ℕ, map, string_bytes};
+
+    ghost Value = { List (List ℕ) };
+
+    ghost view = { λ s. map string_bytes s.failed.items };
+}
+
+impl<R> FileShelf<R> {
+    /// The files of this runtime, none of which failed so far.
+    pub fn new(rt: R, alloc: Global) -> FileShelf<R>
+        ensures { result ≡ [] }
+    {
+        FileShelf {
+            rt,
+            alloc,
+            failed: Vec::new(alloc),
+        }
+    }
+}
+
+impl<R: Files> Shelf for FileShelf<R> {
+    ghost use Rattle.std.specs.Prelude.{None};
+
+    ghost failed = { λ names. names };
+
+    ghost files = { λ _. None };
+
+    // The memory for the name is taken first, so that a failure can always be kept.
+    fn fetch(&mut self, name: &str, limit: u32) -> Result<Vec<u8>, ShelfError> {
+        let kept_name = String::from_str(self.alloc, name)?;
+        self.failed.reserve(1)?;
+        let outcome = read_file(&self.rt, self.alloc, name, limit);
+        if let Err(ShelfError::Failed) = &outcome {
+            self.failed.push(kept_name).unwrap();
+        }
+        outcome
+    }
+}
+
+// The bytes of a file that keeps the limit. One byte past the limit is read to tell a longer one.
+fn read_file<R: Files>(rt: &R, alloc: Global, name: &str, limit: u32) -> Result<Vec<u8>, ShelfError>
+    ensures within { IfOk result (λ bytes. vec_len bytes ≤ limit) }
+    ensures carries { CarriesLimit result limit }
+{
+    match read_front(rt, alloc, name, u64::from(limit) + 1) {
+        Ok(bytes) if bytes.len() > limit as usize => Err(ShelfError::TooLong { limit }),
+        Ok(bytes) => Ok(bytes),
+        Err(error) if error.kind() == ErrorKind::OutOfMemory => Err(ShelfError::NoMemory),
+        Err(_) => Err(ShelfError::Failed),
+    }
+}
+
+// The bytes at the front of a file, at most so many. They are read in pieces, so that the memory is that of the bytes that are there.
+fn read_front<R: Files>(rt: &R, alloc: Global, name: &str, most: u64) -> io::Result<Vec<u8>> {
+    let mut bytes = Vec::new(alloc);
+    fs::open(rt, name)?.take(most).read_to_end(&mut bytes)?;
+    Ok(bytes)
+}

@@ -1,0 +1,65 @@
+//! Standard output as a sink.
+
+ghost use Rattle.std.specs.Prelude.{◌≡◌, ◌≤◌, IfOk, length};
+
+use crate::sink::{Sink, SinkFailed};
+use std::io;
+use std::io::ErrorKind;
+use std::marker::Model;
+
+/// Standard output. What it took is not told, and nothing that it took waits in a buffer. Contracts
+/// see the count of its faults, which stands still at its last value.
+#[derive(Drop)]
+pub struct OutSink<R> {
+    rt: R,
+    faults: u64,
+}
+
+impl<R> Model for OutSink<R> {
+    ghost use Rattle.std.specs.Prelude.{ℕ};
+
+    ghost Value = { ℕ };
+
+    ghost view = { λ s. s.faults };
+}
+
+impl<R> OutSink<R> {
+    /// The standard output of this runtime, without faults so far.
+    pub fn new(rt: R) -> OutSink<R>
+        ensures { result ≡ 0 }
+    {
+        OutSink { rt, faults: 0 }
+    }
+}
+
+impl<R: Print> Sink for OutSink<R> {
+    ghost use Rattle.std.specs.Prelude.{None};
+
+    ghost faults = { λ faults. faults };
+
+    ghost taken = { λ _. None };
+
+    // A write that takes nothing of a piece that isn't empty is a fault too: no later one need take more.
+    fn put(&mut self, piece: &[u8]) -> Result<usize, SinkFailed> {
+        match write_some(&self.rt, piece) {
+            Ok(count) if count > 0 || piece.is_empty() => Ok(count),
+            _ => {
+                self.faults = self.faults.saturating_add(1);
+                Err(SinkFailed)
+            }
+        }
+    }
+}
+
+// One write, again where a signal interrupts it.
+fn write_some<R: Print>(rt: &R, piece: &[u8]) -> io::Result<usize>
+    ensures { IfOk result (λ count. count ≤ length piece.now) }
+{
+    for _ in 0..u64::MAX {
+        match rt.write_some(piece) {
+            Err(error) if error.kind() == ErrorKind::Interrupted => {}
+            written => return written,
+        }
+    }
+    Err(io::Error::from(ErrorKind::TimedOut))
+}

@@ -1,0 +1,60 @@
+//! What every shelf does.
+
+ghost use Rattle.std.specs.Prelude.{◌≡◌, ◌≤◌, ℕ, List, Option, IfOk, IfSome, vec_len};
+
+use std::alloc::{AllocError, AllocFailed};
+use thiserror::Error;
+
+/// Why a fetch gave no bytes.
+#[derive(Debug, Drop, Error)]
+pub enum ShelfError {
+    /// The file isn't there or can't be read. The shelf keeps its name.
+    #[error("the file can't be read")]
+    Failed,
+    /// The file has more bytes than the limit of the call.
+    #[error("the file has more than {limit} bytes")]
+    TooLong { limit: u32 },
+    #[error("no memory")]
+    NoMemory,
+}
+
+impl From<AllocError> for ShelfError {
+    ghost use Rattle.std.specs.Prelude.{◌≡◌};
+    ghost use Rattle.cfg_io.specs.declared.shelf.ShelfError.TheVariants.{NoMemory};
+
+    ghost from_gives = { λ _ e. e ≡ NoMemory };
+
+    fn from(_error: AllocError) -> ShelfError {
+        ShelfError::NoMemory
+    }
+}
+
+impl<T: Drop> From<AllocFailed<T>> for ShelfError {
+    ghost use Rattle.std.specs.Prelude.{◌≡◌};
+    ghost use Rattle.cfg_io.specs.declared.shelf.ShelfError.TheVariants.{NoMemory};
+
+    ghost from_gives = { λ _ e. e ≡ NoMemory };
+
+    fn from(_failed: AllocFailed<T>) -> ShelfError {
+        ShelfError::NoMemory
+    }
+}
+
+/// A place from which files are fetched by name.
+pub trait Shelf {
+    ghost use Rattle.cfg_io.specs.Shelf.{Files, Answers, CarriesLimit, failed_after};
+
+    /// The names on which it failed, in order: its length is the shelf's count of faults.
+    ghost failed: { Self → List (List ℕ) };
+
+    /// Its files, where it tells them.
+    ghost files: { Self → Option Files };
+
+    /// The bytes of the file of this name, which has at most `limit` of them.
+    fn fetch(&mut self, name: &str, limit: u32) -> Result<Vec<u8>, ShelfError>
+        ensures within { IfOk result (λ bytes. vec_len bytes ≤ limit) }
+        ensures carries { CarriesLimit result limit }
+        ensures told { IfSome (files self.old) (λ holds. Answers (holds name.now) limit result) }
+        ensures noted { failed self.new ≡ failed_after result name.now (failed self.old) }
+        ensures kept { files self.new ≡ files self.old };
+}
