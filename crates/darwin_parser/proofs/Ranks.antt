@@ -1,0 +1,11 @@
+-- How the recursion over expressions goes down: within one nesting, from the loosest level to the tightest.
+use Rattle.std.specs.Prelude.{ℕ}
+use Rattle.darwin_parser.specs.declared.cursor.Level.{Level}
+use Rattle.darwin_parser.specs.declared.cursor.Level.TheVariants.{Or, And, Comparison, Sum, Term}
+
+abbrev pub rank : Level → ℕ
+rank Term = 2
+rank Sum = 4
+rank Comparison = 6
+rank And = 8
+rank Or = 10
