@@ -39,11 +39,14 @@ impl<R: Print> Sink for OutSink<R> {
 
     ghost taken = { λ _. None };
 
-    // A write that takes nothing of a piece that isn't empty is a fault too: no later one need take more.
     fn put(&mut self, piece: &[u8]) -> Result<usize, SinkFailed> {
+        if piece.is_empty() {
+            return Ok(0);
+        }
         match write_some(&self.rt, piece) {
-            Ok(count) if count > 0 || piece.is_empty() => Ok(count),
-            _ => {
+            Ok(count) if count > 0 => Ok(count),
+            // A write that takes nothing of such a piece would take nothing the next time either.
+            Ok(_) | Err(_) => {
                 self.faults = self.faults.saturating_add(1);
                 Err(SinkFailed)
             }
