@@ -1,6 +1,15 @@
 //! Tokens of Darwin descriptions (Magee, Dulay, Eisenbach and Kramer 1995).
 #![tactic(auto)]
 
+mod front;
+mod lexing;
+mod place;
 mod token;
+mod words;
 
+pub use front::{MAX_NAME, MAX_NUMBER};
+pub use lexing::{MAX_TEXT, lex};
 pub use token::{At, Keyword, LexError, Sign, Token, TokenKind};
+
+#[cfg(test)]
+mod tests;

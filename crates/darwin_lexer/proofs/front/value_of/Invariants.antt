@@ -1,0 +1,10 @@
+use Rattle.std.proofs.Common.{◌≡◌, ◌≤◌, take}
+use Rattle.std.specs.Str.Parse.{digits_value}
+use Rattle.darwin_lexer.specs.declared.front.TheConstants.{MAX_NUMBER}
+use Rattle.darwin_lexer.proofs.front.value_of.Given as goal
+
+abbrev pub invariant-loop-digit : goal.invariant-loop-digit
+invariant-loop-digit l = record {
+  value : l.value ≡ digits_value 10 (take l.digit-index l.digits);
+  small : l.value ≤ MAX_NUMBER;
+}

@@ -1,0 +1,35 @@
+use Rattle.std.proofs.Common.{◌+◌, subst, sym, ap, refl, ◌∙◌, arith, length, take, drop, fold, ◌-◌, ◌≤◌, length-drop, length-take-le}
+use Rattle.darwin_lexer.specs.Tokens.{Parts, ended}
+use Rattle.darwin_lexer.specs.Places.{next, place_of}
+use Rattle.darwin_lexer.proofs.FrontLemmas.{rest_is}
+use Rattle.darwin_lexer.proofs.TokensLemmas.{gap_more, token_more, place_of-add}
+use Rattle.darwin_lexer.proofs.lexing.lex.Goals as goal
+use Rattle.darwin_lexer.proofs.lexing.lex.Goals.{in-Gap, in-Lexeme+in_ok-push-in-Lexeme}
+
+pub pieces-init : goal.pieces-init
+pieces-init c = record { parted = subst (Parts c.args.text.now 0 0) (sym c.new-tokens.ensures.items) (ended 0); within = omega arith; place = refl; line = omega arith; column = omega arith }
+
+pub pieces-preserved : goal.pieces-preserved
+pieces-preserved c =
+    let text = c.args.text.now in
+    let start = c.pieces.start in
+    let kept = c.pieces.invariant in
+    let rest = rest_is text start kept.within in
+    let len = length-drop start text in
+    let within : start + c.match-front_of.len ≤ length text =
+    elim c.match-front_of.branch [
+      | in-Gap w ↦ omega (arith, ap length rest, w.in-Gap.ensures.within.1)
+      | in-Lexeme+in_ok-push-in-Lexeme w ↦ omega (arith, ap length rest, w.in-Lexeme.ensures.within.1)
+    ] in
+    let taken = length-take-le c.match-front_of.len (take (length text - start) (drop start text)) (omega (arith, ap length rest)) in
+    record {
+      parted =
+          elim c.match-front_of.branch [
+            | in-Gap w ↦ gap_more text _ start _ _ _ _ kept.parted rest w.in-Gap.ensures.front w.len-is (ap (λ v. v.items) w.tokens-is)
+            | in-Lexeme+in_ok-push-in-Lexeme w ↦ token_more text _ start _ _ _ _ _ _ kept.parted rest w.in-Lexeme.ensures.front w.len-is kept.place (ap (λ v. v.items) w.tokens-is ∙ w.in_ok-push-in-Lexeme.ensures.items)
+          ];
+      within = within;
+      place = c.after-at.ensures.place ∙ (ap (λ at. fold next at (take c.match-front_of.len (take (length text - start) (drop start text)))) kept.place) ∙ ap (λ l. fold next (place_of text start) (take c.match-front_of.len l)) rest ∙ place_of-add text start c.match-front_of.len;
+      line = omega (arith, taken, c.after-at.ensures.line);
+      column = omega (arith, taken, c.after-at.ensures.column);
+    }
