@@ -1,14 +1,18 @@
 -- How a parting goes on by one piece more, and that a text has one parting or one first fault.
-use Rattle.std.proofs.Common.{◌≡◌, ℕ, ◌+◌, List, [], ◌∷◌, ◌++◌, take, drop, fold, sym, ap, ◌∙◌}
-use Rattle.std.proofs.Math.Seq.{take-add}
+use Rattle.std.proofs.Common.{◌≡◌, ℕ, ◌+◌, List, [], ◌∷◌, ◌++◌, length, take, drop, fold, refl, sym, ap, subst, ◌∙◌, Ok, Err, inl}
+use Rattle.std.proofs.Math.Seq.{take-add, drop-length}
 use Rattle.std.proofs.lemmas.Grind.{fold-append}
 use Rattle.darwin_lexer.specs.declared.token.At.{At}
 use Rattle.darwin_lexer.specs.declared.token.Token.{Token}
 use Rattle.darwin_lexer.specs.declared.token.TokenKind.{TokenKind}
-use Rattle.darwin_lexer.specs.declared.front.Front.TheVariants.{Gap, Lexeme}
+use Rattle.darwin_lexer.specs.declared.token.LexError.{LexError}
+use Rattle.darwin_lexer.specs.declared.front.Fault.{Fault}
+use Rattle.darwin_lexer.specs.declared.front.Fault.TheVariants.{BadByte, OpenComment, LongName, BigNumber}
+use Rattle.darwin_lexer.specs.declared.front.Front.{Front}
+use Rattle.darwin_lexer.specs.declared.front.Front.TheVariants.{End, Gap, Lexeme, Broken}
 use Rattle.darwin_lexer.specs.Places.{start, next, place_of}
 use Rattle.darwin_lexer.specs.Fronts.{front_of}
-use Rattle.darwin_lexer.specs.Tokens.{token_at, Parts, ended, gap, token}
+use Rattle.darwin_lexer.specs.Tokens.{token_at, Parts, ended, gap, token, IsTokens, FirstFault, refusal, RefusesExactly}
 
 pub parts_gap : (text : List ℕ) (from to n : ℕ) (tokens : List Token) → Parts text from to tokens → front_of (drop to text) ≡ Gap n → Parts text from (to + n) tokens
 parts_gap text _ _ n _ (ended from) is = gap from n (from + n) [] is (ended (from + n))
@@ -31,3 +35,69 @@ token_more text rest to n m kind at tokens more parts rest_is is m_is at_is more
 -- the place after a piece
 pub place_of-add : (text : List ℕ) (offset n : ℕ) → fold next (place_of text offset) (take n (drop offset text)) ≡ place_of text (offset + n)
 place_of-add text offset n = sym (ap (λ l. fold next start l) (take-add offset n text) ∙ fold-append next start (take offset text) (take n (drop offset text)))
+
+-- where a parting can't go on
+abbrev IsStop : Front → Type 0
+IsStop End = Unit {0}
+IsStop (Gap n) = ⊥
+IsStop (Lexeme kind n) = ⊥
+IsStop (Broken fault) = Unit {0}
+
+-- Two partings that can't go on end at one offset, with the same tokens.
+same_parts : (text : List ℕ) (from to other : ℕ) (tokens others : List Token) → Parts text from to tokens → Parts text from other others → IsStop (front_of (drop to text)) → IsStop (front_of (drop other text)) → (to ≡ other) × (tokens ≡ others)
+same_parts text _ _ _ _ _ (ended from) (ended _) stop halt = (refl, refl)
+same_parts text _ _ _ _ _ (ended from) (gap _ n to tokens is rest) stop halt = absurd (subst IsStop is stop)
+same_parts text _ _ _ _ _ (ended from) (token _ n to kind tokens is rest) stop halt = absurd (subst IsStop is stop)
+same_parts text _ _ _ _ _ (gap from n to tokens is rest) (ended _) stop halt = absurd (subst IsStop is halt)
+same_parts text _ _ _ _ _ (gap from n to tokens is rest) (gap _ m other others at more) stop halt =
+    let same : m ≡ n = cc in same_parts text (from + n) to other tokens others rest (subst (λ k. Parts text (from + k) other others) same more) stop halt
+same_parts text _ _ _ _ _ (gap from n to tokens is rest) (token _ m other kind others at more) stop halt = cc
+same_parts text _ _ _ _ _ (token from n to kind tokens is rest) (ended _) stop halt = absurd (subst IsStop is halt)
+same_parts text _ _ _ _ _ (token from n to kind tokens is rest) (gap _ m other others at more) stop halt = cc
+same_parts text _ _ _ _ _ (token from n to kind tokens is rest) (token _ m other sort others at more) stop halt =
+    let same : m ≡ n = cc in
+    let alike : sort ≡ kind = cc in
+    let both = same_parts text (from + n) to other tokens others rest (subst (λ k. Parts text (from + k) other others) same more) stop halt in
+    (both.0, cc)
+
+-- a text's end
+at_end : (text : List ℕ) → front_of (drop (length text) text) ≡ End
+at_end text = ap front_of (drop-length text)
+
+pub one_parting : (text : List ℕ) (tokens others : List Token) → IsTokens text tokens → IsTokens text others → tokens ≡ others
+one_parting text tokens others parts more = (same_parts text 0 _ _ _ _ parts more (subst IsStop (sym (at_end text)) tt) (subst IsStop (sym (at_end text)) tt)).1
+
+pub never_both : (text : List ℕ) (tokens : List Token) (fault : Fault) (at : At) → IsTokens text tokens → FirstFault text fault at → ⊥
+never_both text tokens fault at parts first =
+    let both = same_parts text 0 _ _ _ _ parts first.2 (subst IsStop (sym (at_end text)) tt) (subst IsStop (sym first.3) tt) in
+    let ends : front_of (drop first.0 text) ≡ End = subst (λ k. front_of (drop k text) ≡ End) both.0 (at_end text) in
+    let breaks = first.3 in
+    cc
+
+pub one_first_fault : (text : List ℕ) (fault other : Fault) (at place : At) → FirstFault text fault at → FirstFault text other place → (fault ≡ other) × (at ≡ place)
+one_first_fault text fault other at place first more =
+    let both = same_parts text 0 _ _ _ _ first.2 more.2 (subst IsStop (sym first.3) tt) (subst IsStop (sym more.3) tt) in
+    let breaks : front_of (drop more.0 text) ≡ Broken fault = subst (λ k. front_of (drop k text) ≡ Broken fault) both.0 first.3 in
+    let again = more.3 in
+    (cc, first.4 ∙ ap (λ k. place_of text k) both.0 ∙ sym more.4)
+
+refusal_one : (fault other : Fault) (at place : At) → refusal fault at ≡ refusal other place → (fault ≡ other) × (at ≡ place)
+refusal_one BadByte BadByte at place is = (refl, cc)
+refusal_one OpenComment OpenComment at place is = (refl, cc)
+refusal_one LongName LongName at place is = (refl, cc)
+refusal_one BigNumber BigNumber at place is = (refl, cc)
+refusal_one _ _ at place is = absurd (let no_way : ⊥ = cc in no_way)
+
+-- what the two answers other than want of memory say of each fault
+pub refuses_tokens : {T : Type 0} (text : List ℕ) (tokens : List Token) (value : T) (fault : Fault) → IsTokens text tokens → RefusesExactly text (Ok value) fault
+refuses_tokens text tokens value fault parts at = (λ is. absurd (let no_way : ⊥ = cc in no_way), λ first. absurd (never_both text tokens fault at parts first))
+
+pub refuses_fault : {T : Type 0} (text : List ℕ) (error : LexError) (fault other : Fault) (at : At) → error ≡ refusal fault at → FirstFault text fault at → RefusesExactly {T = T} text (Err error) other
+refuses_fault text error fault other at error_is first place = (
+  λ is.
+      let same = refusal_one fault other at place (sym error_is ∙ (let e : error ≡ refusal other place = cc in e)) in
+      subst (λ f. FirstFault text f place) same.0 (subst (FirstFault text fault) same.1 first),
+  λ more.
+      let same = one_first_fault text fault other at place first more in
+      inl (ap Err (error_is ∙ ap (λ f. refusal f at) same.0 ∙ ap (refusal other) same.1)),
+)

@@ -1,5 +1,5 @@
 -- The tokens of a text: the one way to part it, from its first byte to its last, into blanks, comments and longest tokens; or its first fault.
-use Rattle.std.specs.Prelude.{◌≡◌, ℕ, ◌+◌, ◌-◌, List, [], ◌∷◌, take, drop, length}
+use Rattle.std.specs.Prelude.{◌≡◌, ℕ, ◌+◌, ◌-◌, List, [], ◌∷◌, take, drop, length, Result, IsErrOf, ◌⊎◌}
 use Rattle.darwin_lexer.specs.declared.token.At.{At}
 use Rattle.darwin_lexer.specs.declared.token.Token.{Token}
 use Rattle.darwin_lexer.specs.declared.token.TokenKind.{TokenKind}
@@ -40,3 +40,7 @@ refusal BadByte at = errors.BadByte at
 refusal OpenComment at = errors.OpenComment at
 refusal LongName at = errors.LongName at
 refusal BigNumber at = errors.BigNumber at
+
+-- An answer is a fault's refusal exactly where this fault is the first of the text, unless memory ran out.
+abbrev pub RefusesExactly : {T : Type 0} → List ℕ → Result T LexError → Fault → Type 0
+RefusesExactly text answer fault = (at : At) → (IsErrOf answer (refusal fault at) → FirstFault text fault at) × (FirstFault text fault at → IsErrOf answer (refusal fault at) ⊎ IsErrOf answer errors.NoMemory)

@@ -1,9 +1,10 @@
 //! From a text to its tokens.
 
-ghost use Rattle.std.specs.Prelude.{◌≡◌, ◌≤◌, length, IfOk};
-ghost use Rattle.darwin_lexer.specs.Tokens.{IsTokens};
+ghost use Rattle.std.specs.Prelude.{◌≡◌, ◌≤◌, length, List, IfOk, IsOkAnd, IsErrOf, ◌⊎◌};
+ghost use Rattle.darwin_lexer.specs.declared.token.Token.{Token};
+ghost use Rattle.darwin_lexer.specs.Tokens.{IsTokens, RefusesExactly};
 
-use crate::front::{Front, front_of};
+use crate::front::{Fault, Front, front_of};
 use crate::token::{At, LexError, Token};
 use std::alloc::Global;
 
@@ -13,7 +14,14 @@ pub const MAX_TEXT: usize = 1_048_576;
 /// The tokens of `text`, in order, or its first fault.
 pub fn lex(alloc: Global, text: &[u8]) -> Result<Vec<Token>, LexError>
     requires { length text.now ≤ MAX_TEXT }
-    ensures { IfOk result (λ found. IsTokens text.now found.items) }
+    ensures tokens { IfOk result (λ found. IsTokens text.now found.items) }
+    ensures whenever { (tokens : List Token) → IsTokens text.now tokens
+        → IsOkAnd result (λ found. found.items ≡ tokens) ⊎ IsErrOf result LexError.NoMemory }
+
+    ensures bad_byte { RefusesExactly text.now result Fault.BadByte }
+    ensures open_comment { RefusesExactly text.now result Fault.OpenComment }
+    ensures long_name { RefusesExactly text.now result Fault.LongName }
+    ensures big_number { RefusesExactly text.now result Fault.BigNumber }
 {
     let mut tokens = Vec::new(alloc);
     let mut at = At::START;

@@ -1,8 +1,9 @@
-use Rattle.std.proofs.Common.{◌+◌, subst, sym, ap, refl, ◌∙◌, arith, length, take, drop, fold, ◌-◌, ◌≤◌, length-drop, length-take-le}
-use Rattle.darwin_lexer.specs.Tokens.{Parts, ended}
+use Rattle.std.proofs.Common.{inl, ◌≡◌, ◌+◌, subst, sym, ap, refl, ◌∙◌, arith, length, take, drop, fold, ◌-◌, ◌≤◌, length-drop, length-take-le}
+use Rattle.darwin_lexer.specs.Tokens.{Parts, ended, FirstFault}
+use Rattle.darwin_lexer.specs.Fronts.{front_of}
 use Rattle.darwin_lexer.specs.Places.{next, place_of}
 use Rattle.darwin_lexer.proofs.FrontLemmas.{rest_is}
-use Rattle.darwin_lexer.proofs.TokensLemmas.{gap_more, token_more, place_of-add}
+use Rattle.darwin_lexer.proofs.TokensLemmas.{gap_more, token_more, place_of-add, one_parting, never_both, refuses_tokens, refuses_fault}
 use Rattle.darwin_lexer.proofs.lexing.lex.Goals as goal
 use Rattle.darwin_lexer.proofs.lexing.lex.Goals.{in-Gap, in-Lexeme+in_ok-push-in-Lexeme}
 
@@ -32,4 +33,36 @@ pieces-preserved c =
       place = c.after-at.ensures.place ∙ (ap (λ at. fold next at (take c.match-front_of.len (take (length text - start) (drop start text)))) kept.place) ∙ ap (λ l. fold next (place_of text start) (take c.match-front_of.len l)) rest ∙ place_of-add text start c.match-front_of.len;
       line = omega (arith, taken, c.after-at.ensures.line);
       column = omega (arith, taken, c.after-at.ensures.column);
+    }
+
+pub returns-in-End : goal.returns-in-End
+returns-in-End c =
+    let text = c.args.text.now in
+    let kept = c.pieces.invariant in
+    let rest = rest_is text c.pieces.start kept.within in
+    let len = length-drop c.pieces.start text in
+    let at_end : c.pieces.start ≡ length text = omega (arith, ap length rest, c.in-End.ensures.within) in
+    let parts = subst (λ k. Parts text 0 k c.pieces.tokens.items) at_end kept.parted in
+    record {
+      tokens = parts;
+      whenever = λ tokens is. inl (one_parting text _ _ parts is);
+      bad_byte = refuses_tokens text _ _ _ parts;
+      open_comment = refuses_tokens text _ _ _ parts;
+      long_name = refuses_tokens text _ _ _ parts;
+      big_number = refuses_tokens text _ _ _ parts;
+    }
+
+pub returns-in-Broken : goal.returns-in-Broken
+returns-in-Broken c =
+    let text = c.args.text.now in
+    let kept = c.pieces.invariant in
+    let rest = rest_is text c.pieces.start kept.within in
+    let first : FirstFault text c.in-Broken.fault c.pieces.at = (c.pieces.start, c.pieces.tokens.items, kept.parted, sym (c.in-Broken.ensures.front ∙ ap front_of rest), kept.place) in
+    record {
+      tokens = tt;
+      whenever = λ tokens is. absurd (never_both text tokens _ _ is first);
+      bad_byte = refuses_fault text _ _ _ _ c.at.ensures first;
+      open_comment = refuses_fault text _ _ _ _ c.at.ensures first;
+      long_name = refuses_fault text _ _ _ _ c.at.ensures first;
+      big_number = refuses_fault text _ _ _ _ c.at.ensures first;
     }
