@@ -72,7 +72,8 @@ fn read_file<R: Files>(rt: &R, alloc: Global, name: &str, limit: u32) -> Result<
     }
 }
 
-// The bytes at the front of a file, at most so many. They are read in pieces, so that the memory is that of the bytes that are there.
+// The bytes at the front of a file, at most so many. They are read in pieces, so that the memory
+// goes with the bytes that are there.
 fn read_front<R: Files>(rt: &R, alloc: Global, name: &str, most: u64) -> io::Result<Vec<u8>> {
     let mut bytes = Vec::new(alloc);
     fs::open(rt, name)?.take(most).read_to_end(&mut bytes)?;

@@ -52,7 +52,8 @@ impl MemShelf {
     /// Puts a file of this name there, in place of one that had the name.
     pub fn add(&mut self, name: &str, bytes: &[u8]) -> Result<(), NoMemory>
         ensures there { OnOk result (look_up self.new.files name.now ≡ Some bytes.now) }
-        ensures others { OnOk result ((other : List ℕ) → other ≢ name.now → look_up self.new.files other ≡ look_up self.old.files other) }
+        ensures others { OnOk result ((other : List ℕ) → other ≢ name.now →
+            look_up self.new.files other ≡ look_up self.old.files other) }
         ensures rest { self.new ≡ record self.old { files = self.new.files } }
         ensures err { OnErr result (self.new ≡ self.old) }
     {
@@ -64,7 +65,8 @@ impl MemShelf {
 
     /// Makes the fetch of this number fail, counted from 0.
     pub fn fail_at(&mut self, call: u32) -> Result<(), NoMemory>
-        ensures ok { OnOk result (self.new ≡ record self.old { failing = self.old.failing ++ call ∷ [] }) }
+        ensures ok { OnOk result
+            (self.new ≡ record self.old { failing = self.old.failing ++ call ∷ [] }) }
         ensures err { OnErr result (self.new ≡ self.old) }
     {
         self.failing.push(u64::from(call))?;
@@ -105,7 +107,8 @@ impl Shelf for MemShelf {
 
         // But for want of memory, which changes nothing, it fails exactly where it is to fail.
         ensures fails { FailsExactly (MustFail self.old name.now) result }
-        ensures counted { result ≢ Err ShelfError.NoMemory → self.new.next ≡ min (self.old.next + 1) u64.MAX }
+        ensures counted { result ≢ Err ShelfError.NoMemory →
+            self.new.next ≡ min (self.old.next + 1) u64.MAX }
         ensures failing_kept { self.new.failing ≡ self.old.failing }
         ensures no_memory { result ≡ Err ShelfError.NoMemory → self.new ≡ self.old }
     {

@@ -40,7 +40,8 @@ pub trait Sink {
 pub fn write_all<K: Sink>(sink: &mut K, bytes: &[u8]) -> Result<(), Stopped>
     ensures all { OnOk result (K.taken sink.new ≡ with_bytes (K.taken sink.old) bytes.now) }
     ensures steady { OnOk result (K.faults sink.new ≡ K.faults sink.old) }
-    ensures prefix { IfErr result (λ stopped. K.taken sink.new ≡ with_bytes (K.taken sink.old) (take stopped.written bytes.now)) }
+    ensures prefix { IfErr result (λ stopped.
+        K.taken sink.new ≡ with_bytes (K.taken sink.old) (take stopped.written bytes.now)) }
     ensures short { IfErr result (λ stopped. stopped.written < length bytes.now) }
     ensures rose { OnErr result (Rose (K.faults sink.old) (K.faults sink.new)) }
 {

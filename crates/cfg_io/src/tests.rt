@@ -23,8 +23,11 @@ fn copy<H: Shelf, K: Sink>(shelf: &mut H, sink: &mut K, name: &str) -> Outcome
     ensures no_read_fault { result ≢ Outcome.ReadFault → H.failed shelf.new ≡ H.failed shelf.old }
     ensures write_fault { result ≡ Outcome.WriteFault → Rose (K.faults sink.old) (K.faults sink.new) }
     ensures no_write_fault { result ≢ Outcome.WriteFault → K.faults sink.new ≡ K.faults sink.old }
-    ensures done { result ≡ Outcome.Done → IfSome (H.files shelf.old) (λ holds. IfSome (holds name.now) (λ text. K.taken sink.new ≡ with_bytes (K.taken sink.old) text)) }
-    ensures part { result ≡ Outcome.WriteFault → IfSome (H.files shelf.old) (λ holds. IfSome (holds name.now) (λ text. (n : ℕ) × (n < length text) × (K.taken sink.new ≡ with_bytes (K.taken sink.old) (take n text)))) }
+    ensures done { result ≡ Outcome.Done → IfSome (H.files shelf.old) (λ holds.
+        IfSome (holds name.now) (λ text. K.taken sink.new ≡ with_bytes (K.taken sink.old) text)) }
+    ensures part { result ≡ Outcome.WriteFault → IfSome (H.files shelf.old) (λ holds.
+        IfSome (holds name.now) (λ text. (n : ℕ) × (n < length text)
+        × (K.taken sink.new ≡ with_bytes (K.taken sink.old) (take n text)))) }
     ensures kept { H.files shelf.new ≡ H.files shelf.old }
 {
     match shelf.fetch(name, 100) {
@@ -44,7 +47,9 @@ fn copy_both<H: Shelf, K: Sink>(shelf: &mut H, sink: &mut K, first: &str, second
     ensures no_write_fault { result ≢ Outcome.WriteFault → K.faults sink.new ≡ K.faults sink.old }
     ensures write_fault { result ≡ Outcome.WriteFault → Rose (K.faults sink.old) (K.faults sink.new) }
     ensures read_fault { result ≡ Outcome.ReadFault → ((name : List ℕ) × (H.failed shelf.new ≡ H.failed shelf.old ++ name ∷ [])) }
-    ensures done { result ≡ Outcome.Done → IfSome (H.files shelf.old) (λ holds. IfSome (holds first.now) (λ a. IfSome (holds second.now) (λ b. K.taken sink.new ≡ with_bytes (K.taken sink.old) (a ++ b)))) }
+    ensures done { result ≡ Outcome.Done → IfSome (H.files shelf.old) (λ holds.
+        IfSome (holds first.now) (λ a. IfSome (holds second.now) (λ b.
+        K.taken sink.new ≡ with_bytes (K.taken sink.old) (a ++ b)))) }
 {
     let (a, b) = match shelf.fetch(first, 100) {
         Ok(a) => match shelf.fetch(second, 100) {
@@ -97,6 +102,12 @@ fn reads_files_and_writes_out(rt: HostRuntime) -> Result<(), Fail> {
     fs::remove_file(&rt, path)?;
     assert!(rt; matches!(shelf.fetch(path, 4), Err(ShelfError::Failed)));
     assert!(rt; matches!(shelf.fetch(".", 4), Err(ShelfError::Failed)));
+    assert!(rt;
+        matches!(
+            shelf.fetch("/dev/zero", 4),
+            Err(ShelfError::TooLong { limit: 4 })
+        )
+    );
     assert_eq!(rt; write_all(&mut OutSink::new(&rt), b"out\n"), Ok(()));
     Ok(())
 }

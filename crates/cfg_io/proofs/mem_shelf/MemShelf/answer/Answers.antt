@@ -1,6 +1,5 @@
-use Rattle.std.proofs.Common.{◌≡◌, Some, None, inl, inr, arith, rules}
+use Rattle.std.proofs.Common.{Some, None, inl, inr, arith, rules}
 use Rattle.std.proofs.lemmas.Grind.{common_steps}
-use Rattle.cfg_io.specs.Store.{look_up}
 use Rattle.cfg_io.proofs.FilesLemmas.{look_up-got}
 use Rattle.cfg_io.proofs.mem_shelf.MemShelf.answer.Goals as goal
 
