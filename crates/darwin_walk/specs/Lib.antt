@@ -1,3 +1,4 @@
 pub mod Instance
 pub mod Reached
+pub mod Spine
 pub mod Value

@@ -2,5 +2,7 @@
 #![tactic(auto)]
 
 mod fault;
+mod valuing;
 
 pub use fault::Fault;
+pub use valuing::{ValueError, Variable, value};

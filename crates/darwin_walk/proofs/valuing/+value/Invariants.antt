@@ -1,0 +1,20 @@
+use Rattle.std.proofs.Common.{◌+◌, ◌*◌, vec_len}
+use Rattle.darwin_parser.specs.Tree.{expr_of}
+use Rattle.darwin_walk.specs.Spine.{env_of, expr_size, IsClimbing}
+use Rattle.darwin_walk.proofs.valuing.+value.Given as goal
+
+-- the operations that are left make the value of the whole from the one at hand, and are smaller than it
+abbrev pub invariant-value-loop-next : goal.invariant-value-loop-next
+invariant-value-loop-next l = IsClimbing (expr_of l.expr) (env_of l.env) l.spine.pending.items l.total
+
+abbrev pub decreases-value-loop-next : goal.decreases-value-loop-next
+decreases-value-loop-next l = vec_len l.spine.pending
+
+abbrev pub decreases-value : goal.decreases-value
+decreases-value l = 2 * expr_size (expr_of l.expr.now) + 1
+
+abbrev pub decreases-operand : goal.decreases-operand
+decreases-operand l = 2 * expr_size (expr_of l.expr.now)
+
+abbrev pub decreases-operation_on : goal.decreases-operation_on
+decreases-operation_on l = 2 * expr_size (expr_of l.right.now) + 2
