@@ -1,1 +1,5 @@
 pub mod KindLemmas
+pub mod NumberingLemmas
+pub mod LinkLemmas
+pub mod PathLemmas
+pub mod OrderLemmas

@@ -1,1 +1,4 @@
+pub mod Graph
+pub mod Indexes
 pub mod Kinds
+pub mod Numbering

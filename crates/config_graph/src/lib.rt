@@ -1,11 +1,15 @@
 //! Configurations as graphs: node kinds, nodes, links, and the graph text.
 #![tactic(auto)]
 
+mod graph;
+mod indexes;
 mod kind;
 mod list;
 mod node;
+mod numbering;
 mod text;
 
+pub use graph::Graph;
 pub use kind::{Kind, kind_of, kinds_have_their_names};
 pub use list::List;
 pub use node::{Link, Made, Node, Port, Target};

@@ -1,0 +1,19 @@
+use Rattle.std.proofs.Common.{◌<◌, ◌∙◌, ap, sym, slice_get}
+use Rattle.std.proofs.Math.ListN.{get_or-map}
+use Rattle.config_graph.specs.Graph.{provides_at, incoming_ports}
+use Rattle.config_graph.specs.Indexes.{graph_in}
+use Rattle.config_graph.specs.Numbering.{provisions}
+use Rattle.config_graph.proofs.LinkLemmas.{get-provisions, table_read}
+use Rattle.config_graph.proofs.graph.Graph.incoming.Goals as goal
+
+pub returns : goal.returns
+returns c =
+    let g = graph_in c.self.inside in
+    let i = c.args.node in
+    let x = c.args.provide in
+    let q = c.provision_number.result in
+    let there : x < provides_at g.nodes i = rw (← c.self.view_is) at c.requires in
+    let at = ap (slice_get (provisions g.nodes)) c.provision_number.ensures.number ∙ get-provisions g.nodes i x there in
+    let lists = c.self.inside.incoming.items in
+    let read = ap (λ v. v.items) c.index.ensures ∙ sym (get_or-map (λ v. v.items) lists q c.index.result.now) in
+    rw (← c.self.view_is) (c.as_slice.ensures.value ∙ table_read (λ t. incoming_ports g t.node t.provide) (provisions g.nodes) _ q _ _ c.self.invariant.incoming_are at read)

@@ -1,0 +1,121 @@
+//! Configurations as flat graphs, with the indexes that answer look-ups at once.
+
+ghost use Rattle.std.specs.Prelude.{◌≡◌, ◌+◌, ◌^◌, ◌<◌, ◌↔◌, ℕ, length, map, slice_get, Some, IfOk, IfSome, All, Contains, IsNone, option_map};
+ghost use Rattle.config_graph.specs.Graph.{Configuration, IsGraph, IsWithin, OneLinkAPort, PathsRise, graph_of, incoming_ports, index_of, ports, provides_at, requires_at, target_of};
+
+use crate::numbering::Numbering;
+use crate::{Link, NoMemory, Node, Port, Target, indexes};
+use indexmap::IndexSet;
+use std::alloc::Global;
+use std::marker::Model;
+
+/// A configuration. Contracts see its nodes, in the order of their paths, and its links, in the order of their ports.
+///
+/// Look-ups take constant time and no memory.
+#[derive(Debug, Drop)]
+pub struct Graph {
+    nodes: Numbering,
+    links: Vec<Link>,
+    targets: Vec<Option<Target>>,
+    incoming: Vec<Vec<u32>>,
+    paths: IndexSet<Vec<u8>>,
+}
+
+impl Model for Graph {
+    ghost use Rattle.config_graph.specs.Graph.{Configuration};
+
+    ghost Value = { Configuration };
+
+    ghost use Rattle.config_graph.specs.Indexes.{graph_in, IsIndexed};
+
+    ghost view = { graph_in };
+
+    ghost invariant = { IsIndexed };
+}
+
+impl Graph {
+    /// The graph of these nodes and links. Time grows with their number alone.
+    pub fn build(alloc: Global, nodes: Vec<Node>, links: Vec<Link>) -> Result<Graph, NoMemory>
+        requires paths_rise { PathsRise nodes.items }
+        requires within { All (IsWithin nodes.items) links.items }
+        requires one_link_a_port { OneLinkAPort links.items }
+        requires few_nodes { length nodes.items < 2 ^ 32 }
+        requires few_ports { length (ports nodes.items) < 2 ^ 32 }
+        ensures { IfOk result (λ g. g ≡ graph_of nodes.items links.items) }
+    {
+        let nodes = Numbering::of(alloc, nodes)?;
+        let targets = indexes::list_targets(alloc, &nodes, &links)?;
+        let links = indexes::list_links(alloc, nodes.ports(), &targets)?;
+        let incoming = indexes::list_incoming(alloc, &nodes, &links)?;
+        let paths = indexes::list_paths(alloc, nodes.nodes())?;
+        Ok(Graph {
+            nodes,
+            links,
+            targets,
+            incoming,
+            paths,
+        })
+    }
+
+    /// How many nodes there are.
+    pub fn node_count(&self) -> u32
+        ensures count { result ≡ length self.now.nodes }
+        ensures graph { IsGraph self.now }
+    {
+        self.nodes.nodes().len() as u32
+    }
+
+    /// How many ports the nodes have.
+    pub fn port_count(&self) -> u32
+        ensures { result ≡ length (ports self.now.nodes) }
+    {
+        self.nodes.ports().len() as u32
+    }
+
+    /// The node of this index.
+    pub fn node(&self, index: u32) -> &Node
+        requires { index < length self.now.nodes }
+        ensures { slice_get self.now.nodes index ≡ Some result.now }
+    {
+        &self.nodes.nodes()[index as usize]
+    }
+
+    /// The port of this number.
+    pub fn port(&self, number: u32) -> Port
+        requires { number < length (ports self.now.nodes) }
+        ensures { slice_get (ports self.now.nodes) number ≡ Some result }
+    {
+        self.nodes.ports()[number as usize]
+    }
+
+    /// All links, in the order of their ports.
+    pub fn links(&self) -> &[Link]
+        ensures { result.now ≡ self.now.links }
+    {
+        self.links.as_slice()
+    }
+
+    /// What a node's requirement is linked to, or `None` where it is unlinked.
+    pub fn target(&self, index: u32, require: u32) -> Option<Target>
+        requires { require < requires_at self.now.nodes index }
+        ensures { result ≡ target_of self.now.links index require }
+    {
+        self.targets[self.nodes.port_number(index, require) as usize]
+    }
+
+    /// The index of the node with this path, or `None` where no node has it.
+    pub fn index_of(&self, path: &[u8]) -> Option<u32>
+        ensures { result ≡ index_of self.now.nodes path.now }
+    {
+        let index = self.paths.get_index_of(path)?;
+        Some(index as u32)
+    }
+
+    /// The numbers of the ports that are linked to a node's provision, in rising order.
+    pub fn incoming(&self, node: u32, provide: u32) -> &[u32]
+        requires { provide < provides_at self.now.nodes node }
+        ensures { result.now ≡ incoming_ports self.now node provide }
+    {
+        self.incoming[self.nodes.provision_number(node, provide) as usize].as_slice()
+    }
+}
