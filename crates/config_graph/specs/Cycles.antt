@@ -1,0 +1,43 @@
+-- Ways along depended-on links, and cycles of them. A port of a node is depended on where some provision of the node's kind
+-- depends on it, so that serving a transaction there may begin one at the port.
+use Rattle.std.specs.Prelude.{◌≡◌, ℕ, ◌<◌, Bool, true, false, ◌&&◌, ◌==◌, IsTrue, List, map, filter, Option, Some, slice_get}
+use Rattle.std.specs.Option.{option_map_or}
+use Rattle.config_graph.specs.Kinds.{depends_on, is_depended_on}
+use Rattle.config_graph.specs.Graph.{Configuration, target_of}
+use Rattle.config_graph.specs.declared.node.Node.{Node}
+use Rattle.config_graph.specs.declared.node.Target.{Target}
+
+-- a requirement of node i is linked to a provision of node j
+abbrev pub IsLinked : Configuration → ℕ → ℕ → ℕ → ℕ → Type 0
+IsLinked g i require j provide = target_of g.links i require ≡ Some (record { node = j; provide = provide })
+
+-- whether a provision of node i depends on a requirement of it, and whether some provision of it does
+abbrev pub depends_at : List Node → ℕ → ℕ → ℕ → Bool
+depends_at nodes i provide require = option_map_or (λ n. depends_on n.kind provide require) (slice_get nodes i) false
+
+abbrev pub is_depended_at : List Node → ℕ → ℕ → Bool
+is_depended_at nodes i require = option_map_or (λ n. is_depended_on n.kind require) (slice_get nodes i) false
+
+-- node i leads to node j: a depended-on port of i is linked to j
+pub record Leads (g : Configuration) (i j : ℕ) : Type 0 where
+  pub require : ℕ
+  pub provide : ℕ
+  pub linked : IsLinked g i require j provide
+  pub depended : IsTrue (is_depended_at g.nodes i require)
+
+-- a way of one or more steps from i to j
+pub data Way (g : Configuration) : ℕ → ℕ → Type 0 where
+  step : {i j : ℕ} → Leads g i j → Way g i j
+  onward : {i j k : ℕ} → Leads g i j → Way g j k → Way g i k
+
+-- node i is on a cycle: a way leads from it back to it
+abbrev pub OnCycle : Configuration → ℕ → Type 0
+OnCycle g i = Way g i i
+
+abbrev pub NoCycle : Configuration → Type 0
+NoCycle g = (i : ℕ) → ¬ OnCycle g i
+
+-- node i is the first of the nodes that are on cycles
+pub record FirstOnCycle (g : Configuration) (i : ℕ) : Type 0 where
+  pub on_cycle : OnCycle g i
+  pub first : (j : ℕ) → j < i → ¬ OnCycle g j

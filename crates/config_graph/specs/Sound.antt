@@ -1,0 +1,18 @@
+-- Sound graphs: those that a description gives and that may be run.
+use Rattle.std.specs.Prelude.{◌≡◌, ℕ, ◌<◌, ◌^◌, All, IfSome, is_some}
+use Rattle.config_graph.specs.Kinds.{row}
+use Rattle.config_graph.specs.Graph.{Configuration, IsWithin, PathsRise, in_port_order}
+use Rattle.config_graph.specs.Cycles.{NoCycle}
+use Rattle.config_graph.specs.declared.node.Node.{Node}
+
+-- an argument below 2^24 is there exactly where the kind has one
+pub record HasItsArgument (n : Node) : Type 0 where
+  pub present : is_some n.arg ≡ is_some (row n.kind).arg
+  pub below : IfSome n.arg (λ a. a < 2 ^ 24)
+
+pub record Sound (g : Configuration) : Type 0 where
+  pub paths_rise : PathsRise g.nodes
+  pub arguments : All HasItsArgument g.nodes
+  pub within : All (IsWithin g.nodes) g.links
+  pub in_order : in_port_order g.nodes g.links ≡ g.links
+  pub no_cycle : NoCycle g
