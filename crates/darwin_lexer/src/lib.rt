@@ -3,12 +3,14 @@
 
 mod front;
 mod lexing;
+mod naming;
 mod place;
 mod token;
 mod words;
 
 pub use front::{MAX_NAME, MAX_NUMBER};
 pub use lexing::{MAX_TEXT, lex};
+pub use naming::is_name;
 pub use token::{At, Keyword, LexError, Sign, Token, TokenKind};
 
 #[cfg(test)]

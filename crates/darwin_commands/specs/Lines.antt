@@ -1,0 +1,58 @@
+-- The lines that refuse: what refuses, and the name of the fault with its fields, each after a space. A place is
+-- written as LINE:COLUMN, and the empty path, that of the top, as a full stop.
+use Rattle.std.specs.Prelude.{ℕ, List, [], ◌∷◌, ◌++◌, codes, decimal}
+use Rattle.std.specs.List.{flat_map}
+use Rattle.darwin_lexer.specs.declared.token.At.{At}
+use Rattle.darwin_lexer.specs.declared.token.LexError.{LexError}
+use Rattle.darwin_lexer.specs.declared.token.LexError.TheVariants as lexing
+use Rattle.darwin_parser.specs.declared.error.ParseError.{ParseError}
+use Rattle.darwin_parser.specs.declared.error.ParseError.TheVariants as parsing
+use Rattle.elaborator.specs.declared.error.ElabError.{ElabError}
+use Rattle.elaborator.specs.declared.error.ElabError.TheVariants as elaborating
+
+abbrev pub place_word : At → List ℕ
+place_word at = decimal at.line ++ codes ":" ++ decimal at.column
+
+abbrev pub path_word : List ℕ → List ℕ
+path_word [] = codes "."
+path_word (byte ∷ path) = byte ∷ path
+
+abbrev pub spaced : List (List ℕ) → List ℕ
+spaced words = flat_map (λ word. 32 ∷ word) words
+
+abbrev pub lex_words : LexError → List (List ℕ)
+lex_words (lexing.BadByte at) = codes "BadByte" ∷ place_word at ∷ []
+lex_words (lexing.OpenComment at) = codes "OpenComment" ∷ place_word at ∷ []
+lex_words (lexing.LongName at) = codes "LongName" ∷ place_word at ∷ []
+lex_words (lexing.BigNumber at) = codes "BigNumber" ∷ place_word at ∷ []
+lex_words lexing.NoMemory = []
+
+-- A fault of the grammar shows the place of its token, not the token's number.
+abbrev pub parse_words : ParseError → At → List (List ℕ)
+parse_words (parsing.Expected n) at = codes "Expected" ∷ place_word at ∷ []
+parse_words (parsing.TooNested n) at = codes "TooNested" ∷ place_word at ∷ []
+parse_words parsing.NoMemory at = []
+
+abbrev pub elaborate_words : ElabError → List (List ℕ)
+elaborate_words (elaborating.NoTop name) = codes "NoTop" ∷ name ∷ []
+elaborate_words (elaborating.TopArgs wanted given) = codes "TopArgs" ∷ decimal wanted ∷ decimal given ∷ []
+elaborate_words (elaborating.OutOfRange path at) = codes "OutOfRange" ∷ path_word path ∷ place_word at ∷ []
+elaborate_words (elaborating.ZeroDivisor path at) = codes "ZeroDivisor" ∷ path_word path ∷ place_word at ∷ []
+elaborate_words (elaborating.BadIndex path at) = codes "BadIndex" ∷ path_word path ∷ place_word at ∷ []
+elaborate_words (elaborating.TwoInstances path) = codes "TwoInstances" ∷ path_word path ∷ []
+elaborate_words (elaborating.BoundTwice path end) = codes "BoundTwice" ∷ path_word path ∷ end ∷ []
+elaborate_words (elaborating.BadBinding path at) = codes "BadBinding" ∷ path_word path ∷ place_word at ∷ []
+elaborate_words (elaborating.Annotation path at) = codes "Annotation" ∷ path_word path ∷ place_word at ∷ []
+elaborate_words (elaborating.TooDeep path) = codes "TooDeep" ∷ path_word path ∷ []
+elaborate_words elaborating.TooMany = codes "TooMany" ∷ []
+elaborate_words (elaborating.DependsCycle path) = codes "DependsCycle" ∷ path_word path ∷ []
+elaborate_words (elaborating.TopIsKind name) = codes "TopIsKind" ∷ name ∷ []
+elaborate_words elaborating.NoMemory = []
+
+-- the line of a file that can't be read
+abbrev pub read_fault_line : List ℕ → List ℕ
+read_fault_line file = codes "read fault " ++ file ++ 10 ∷ []
+
+-- the line of a description with a fault
+abbrev pub description_line : List ℕ → List (List ℕ) → List ℕ
+description_line file words = codes "description " ++ file ++ codes ":" ++ spaced words ++ 10 ∷ []

@@ -1,0 +1,140 @@
+//! The lines that refuse.
+
+ghost use Rattle.std.specs.Prelude.{◌≡◌, ◌++◌, ◌∷◌, [], OnOk, decimal};
+ghost use Rattle.darwin_commands.specs.Lines as lines;
+
+use config_graph::{NoMemory, Text};
+use darwin_lexer::{At, LexError};
+use darwin_parser::ParseError;
+use elaborator::ElabError;
+use itoa::Buffer;
+
+/// Writes a place, as LINE:COLUMN, after a space.
+fn push_place(line: &mut Vec<u8>, at: At) -> Result<(), NoMemory>
+    ensures { OnOk result (line.new.items ≡ line.old.items ++ lines.spaced (lines.place_word at ∷ [])) }
+{
+    let mut row = Buffer::new();
+    let mut column = Buffer::new();
+    line.extend_from_slice(b" ")?;
+    line.extend_from_slice(row.format(at.line).as_bytes())?;
+    line.extend_from_slice(b":")?;
+    line.extend_from_slice(column.format(at.column).as_bytes())
+}
+
+/// Writes a word after a space.
+fn push_word(line: &mut Vec<u8>, word: &[u8]) -> Result<(), NoMemory>
+    ensures { OnOk result (line.new.items ≡ line.old.items ++ lines.spaced (word.now ∷ [])) }
+{
+    line.extend_from_slice(b" ")?;
+    line.extend_from_slice(word)
+}
+
+/// Writes a path after a space, that of the top as a full stop.
+fn push_path(line: &mut Vec<u8>, path: &Text) -> Result<(), NoMemory>
+    ensures { OnOk result (line.new.items ≡ line.old.items ++ lines.spaced (lines.path_word path.now ∷ [])) }
+{
+    match path.as_bytes() {
+        [] => push_word(line, b"."),
+        bytes => push_word(line, bytes),
+    }
+}
+
+/// Writes the name of a fault and its place.
+fn push_placed(line: &mut Vec<u8>, name: &[u8], at: At) -> Result<(), NoMemory>
+    ensures { OnOk result (line.new.items ≡ line.old.items ++ lines.spaced (name.now ∷ lines.place_word at ∷ [])) }
+{
+    push_word(line, name)?;
+    push_place(line, at)
+}
+
+/// Writes the name of a fault, the path of an instance, and a place.
+fn push_placed_in(line: &mut Vec<u8>, name: &[u8], path: &Text, at: At) -> Result<(), NoMemory>
+    ensures { OnOk result (line.new.items ≡ line.old.items ++ lines.spaced (name.now ∷ lines.path_word path.now ∷ lines.place_word at ∷ [])) }
+{
+    push_word(line, name)?;
+    push_path(line, path)?;
+    push_place(line, at)
+}
+
+/// Writes a fault of the lexer.
+pub fn push_lex_fault(line: &mut Vec<u8>, fault: &LexError) -> Result<(), NoMemory>
+    ensures { OnOk result (line.new.items ≡ line.old.items ++ lines.spaced (lines.lex_words fault.now)) }
+{
+    match fault {
+        LexError::BadByte(at) => push_placed(line, b"BadByte", *at),
+        LexError::OpenComment(at) => push_placed(line, b"OpenComment", *at),
+        LexError::LongName(at) => push_placed(line, b"LongName", *at),
+        LexError::BigNumber(at) => push_placed(line, b"BigNumber", *at),
+        LexError::NoMemory => Ok(()),
+    }
+}
+
+/// Writes a fault of the grammar, with the place of its token.
+pub fn push_parse_fault(line: &mut Vec<u8>, fault: &ParseError, at: At) -> Result<(), NoMemory>
+    ensures { OnOk result (line.new.items ≡ line.old.items ++ lines.spaced (lines.parse_words fault.now at)) }
+{
+    match fault {
+        ParseError::Expected(_) => push_placed(line, b"Expected", at),
+        ParseError::TooNested(_) => push_placed(line, b"TooNested", at),
+        ParseError::NoMemory => Ok(()),
+    }
+}
+
+/// Writes a number after a space.
+fn push_number(line: &mut Vec<u8>, number: u32) -> Result<(), NoMemory>
+    ensures { OnOk result (line.new.items ≡ line.old.items ++ lines.spaced (decimal number ∷ [])) }
+{
+    let mut digits = Buffer::new();
+    push_word(line, digits.format(number).as_bytes())
+}
+
+/// Writes the name of a fault and the path of an instance.
+fn push_pathed(line: &mut Vec<u8>, name: &[u8], path: &Text) -> Result<(), NoMemory>
+    ensures { OnOk result (line.new.items ≡ line.old.items ++ lines.spaced (name.now ∷ lines.path_word path.now ∷ [])) }
+{
+    push_word(line, name)?;
+    push_path(line, path)
+}
+
+/// Writes the name of a fault, the path of an instance, and an end of a binding in it.
+fn push_end_in(line: &mut Vec<u8>, name: &[u8], path: &Text, end: &Text) -> Result<(), NoMemory>
+    ensures { OnOk result (line.new.items ≡ line.old.items ++ lines.spaced (name.now ∷ lines.path_word path.now ∷ end.now ∷ [])) }
+{
+    push_word(line, name)?;
+    push_path(line, path)?;
+    push_word(line, end.as_bytes())
+}
+
+/// Writes the name of a fault and a name.
+fn push_named(line: &mut Vec<u8>, name: &[u8], what: &Text) -> Result<(), NoMemory>
+    ensures { OnOk result (line.new.items ≡ line.old.items ++ lines.spaced (name.now ∷ what.now ∷ [])) }
+{
+    push_word(line, name)?;
+    push_word(line, what.as_bytes())
+}
+
+/// Writes a fault of the elaboration.
+pub fn push_elaborate_fault(line: &mut Vec<u8>, fault: &ElabError) -> Result<(), NoMemory>
+    ensures { OnOk result (line.new.items ≡ line.old.items ++ lines.spaced (lines.elaborate_words fault.now)) }
+{
+    match fault {
+        ElabError::NoTop(name) => push_named(line, b"NoTop", name),
+        ElabError::TopIsKind(name) => push_named(line, b"TopIsKind", name),
+        ElabError::TopArgs { wanted, given } => {
+            push_word(line, b"TopArgs")?;
+            push_number(line, *wanted)?;
+            push_number(line, *given)
+        }
+        ElabError::OutOfRange(path, at) => push_placed_in(line, b"OutOfRange", path, *at),
+        ElabError::ZeroDivisor(path, at) => push_placed_in(line, b"ZeroDivisor", path, *at),
+        ElabError::BadIndex(path, at) => push_placed_in(line, b"BadIndex", path, *at),
+        ElabError::TwoInstances(path) => push_pathed(line, b"TwoInstances", path),
+        ElabError::BoundTwice(path, end) => push_end_in(line, b"BoundTwice", path, end),
+        ElabError::BadBinding(path, at) => push_placed_in(line, b"BadBinding", path, *at),
+        ElabError::Annotation(path, at) => push_placed_in(line, b"Annotation", path, *at),
+        ElabError::TooDeep(path) => push_pathed(line, b"TooDeep", path),
+        ElabError::TooMany => push_word(line, b"TooMany"),
+        ElabError::DependsCycle(path) => push_pathed(line, b"DependsCycle", path),
+        ElabError::NoMemory => Ok(()),
+    }
+}
