@@ -72,12 +72,12 @@ digits_value_next digits i all within =
     let more = digits_value_more 10 digits i within in
     (omega arith, omega arith, omega arith, digits_value-take-le 10 digits (i + 1) (lit≤ tt))
 
-find_passes : {X : Type 0} (test : X → Bool) (xs : List X) → IfSome (find test xs) (λ x. test x ≡ true)
+pub find_passes : {X : Type 0} (test : X → Bool) (xs : List X) → IfSome (find test xs) (λ x. test x ≡ true)
 find_passes test [] = tt
 find_passes test (x ∷ xs) = cond_both (test x) (Some x) (find test xs) (λ o. IfSome o (λ x. test x ≡ true)) (λ passes. passes) (λ _. find_passes test xs)
 
 -- where the first byte passes, a byte at least does
-prefix_within : (test : ℕ → Bool) (first : ℕ) (rest : List ℕ) → test first ≡ true → (0 < prefix_len test (first ∷ rest)) × (prefix_len test (first ∷ rest) ≤ length (first ∷ rest))
+pub prefix_within : (test : ℕ → Bool) (first : ℕ) (rest : List ℕ) → test first ≡ true → (0 < prefix_len test (first ∷ rest)) × (prefix_len test (first ∷ rest) ≤ length (first ∷ rest))
 prefix_within test first rest passes = (rw passes (omega arith), prefix_len-le-length test (first ∷ rest))
 
 line_comment_within : (first : ℕ) (rest : List ℕ) → starts_with nat_eq (first ∷ rest) (codes "//") ≡ true → IsWithin (length (first ∷ rest)) (line_comment (first ∷ rest))

@@ -1,2 +1,4 @@
 pub mod FrontLemmas
 pub mod TokensLemmas
+pub mod SpellingLemmas
+pub mod OrderLemmas

@@ -1,5 +1,5 @@
 -- How a parting goes on by one piece more, and that a text has one parting or one first fault.
-use Rattle.std.proofs.Common.{◌≡◌, ℕ, ◌+◌, List, [], ◌∷◌, ◌++◌, length, take, drop, fold, refl, sym, ap, subst, ◌∙◌, Ok, Err, inl}
+use Rattle.std.proofs.Common.{inr, zero, suc, ◌-◌, ◌<◌, ◌≤◌, ◌⊎◌, arith, length-drop, ◌≡◌, ℕ, ◌+◌, List, [], ◌∷◌, ◌++◌, length, take, drop, fold, refl, sym, ap, subst, ◌∙◌, Ok, Err, inl}
 use Rattle.std.proofs.Math.Seq.{take-add, drop-length}
 use Rattle.std.proofs.lemmas.Grind.{fold-append}
 use Rattle.darwin_lexer.specs.declared.token.At.{At}
@@ -11,7 +11,8 @@ use Rattle.darwin_lexer.specs.declared.front.Fault.TheVariants.{BadByte, OpenCom
 use Rattle.darwin_lexer.specs.declared.front.Front.{Front}
 use Rattle.darwin_lexer.specs.declared.front.Front.TheVariants.{End, Gap, Lexeme, Broken}
 use Rattle.darwin_lexer.specs.Places.{start, next, place_of}
-use Rattle.darwin_lexer.specs.Fronts.{front_of}
+use Rattle.darwin_lexer.specs.Fronts.{front_of, IsWithin}
+use Rattle.darwin_lexer.proofs.FrontLemmas.{front_of_within}
 use Rattle.darwin_lexer.specs.Tokens.{token_at, Parts, ended, gap, token, IsTokens, FirstFault, refusal, RefusesExactly}
 
 pub parts_gap : (text : List ℕ) (from to n : ℕ) (tokens : List Token) → Parts text from to tokens → front_of (drop to text) ≡ Gap n → Parts text from (to + n) tokens
@@ -101,3 +102,37 @@ refuses_fault text error fault other at error_is first place = (
       let same = one_first_fault text fault other at place first more in
       inl (ap Err (error_is ∙ ap (λ f. refusal f at) same.0 ∙ ap (refusal other) same.1)),
 )
+
+-- a text from an offset on, with so much left
+data Ends (text : List ℕ) (from : ℕ) : Type 0 where
+  parted : (tokens : List Token) → Parts text from (length text) tokens → Ends text from
+  broken : (to : ℕ) (tokens : List Token) (fault : Fault) → Parts text from to tokens → front_of (drop to text) ≡ Broken fault → Ends text from
+
+before_gap : (text : List ℕ) (from n : ℕ) → front_of (drop from text) ≡ Gap n → Ends text (from + n) → Ends text from
+before_gap text from n is (parted tokens rest) = parted tokens (gap from n (length text) tokens is rest)
+before_gap text from n is (broken to tokens fault rest breaks) = broken to tokens fault (gap from n to tokens is rest) breaks
+
+before_token : (text : List ℕ) (from n : ℕ) (kind : TokenKind) → front_of (drop from text) ≡ Lexeme kind n → Ends text (from + n) → Ends text from
+before_token text from n kind is (parted tokens rest) = parted _ (token from n (length text) kind tokens is rest)
+before_token text from n kind is (broken to tokens fault rest breaks) = broken to _ fault (token from n to kind tokens is rest) breaks
+
+before_front : (text : List ℕ) (from : ℕ) (front : Front) → from ≤ length text → front_of (drop from text) ≡ front → IsWithin (length text - from) front
+    → ((n : ℕ) → 0 < n → from + n ≤ length text → Ends text (from + n)) → Ends text from
+before_front text from End within is fits again = parted [] (subst (λ k. Parts text from k []) (omega arith) (ended from))
+before_front text from (Gap n) within is fits again = before_gap text from n is (again n fits.0 (omega (arith, fits.1)))
+before_front text from (Lexeme kind n) within is fits again = before_token text from n kind is (again n fits.0 (omega (arith, fits.1)))
+before_front text from (Broken fault) within is fits again = broken from [] fault (ended from) is
+
+-- by how much is left at most
+ends_from : (text : List ℕ) (left from : ℕ) → from ≤ length text → length text ≤ from + left → Ends text from
+ends_from text zero from within enough = parted [] (subst (λ k. Parts text from k []) (omega arith) (ended from))
+ends_from text (suc left) from within enough =
+    before_front text from _ within refl (subst (λ k. IsWithin k (front_of (drop from text))) (length-drop from text) (front_of_within (drop from text)))
+    (λ n some fits. ends_from text left (from + n) fits (omega arith))
+
+pub always_one : (text : List ℕ) → ((tokens : List Token) × IsTokens text tokens) ⊎ ((fault : Fault) × (at : At) × FirstFault text fault at)
+always_one text = go (ends_from text (length text) 0 (omega arith) (omega arith))
+  where
+    go : Ends text 0 → ((tokens : List Token) × IsTokens text tokens) ⊎ ((fault : Fault) × (at : At) × FirstFault text fault at)
+    go (parted tokens parts) = inl (tokens, parts)
+    go (broken to tokens fault parts is) = inr (fault, place_of text to, (to, tokens, parts, is, refl))

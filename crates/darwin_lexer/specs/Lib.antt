@@ -3,3 +3,4 @@ pub mod Places
 pub mod Fronts
 pub mod Tokens
 pub mod Naming
+pub mod Spelling

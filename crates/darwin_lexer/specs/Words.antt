@@ -1,5 +1,5 @@
 -- The words of the language with their bytes: which bytes are blanks, letters and digits, the eleven keywords, and the twenty-three signs.
-use Rattle.std.specs.Prelude.{ℕ, Bool, ◌==◌, ◌||◌, nat_eq, Option, Some, None, List, [], ◌∷◌, find, codes}
+use Rattle.std.specs.Prelude.{ℕ, Bool, ◌==◌, ◌||◌, nat_eq, Option, Some, None, List, [], ◌∷◌, ◌++◌, find, codes}
 use Rattle.std.specs.List.{starts_with}
 use Rattle.std.specs.Str.{bytes_eq}
 use Rattle.std.specs.Char.{is_ascii_alphabetic, is_ascii_digit}
@@ -63,12 +63,17 @@ sign_bytes Star = codes "*"
 sign_bytes Slash = codes "/"
 sign_bytes Percent = codes "%"
 
--- the signs, those of two bytes first, so that the first that fits is the longest
-abbrev pub signs : List Sign
-signs =
-    DotDot ∷ DashDash ∷ LessEq ∷ GreaterEq ∷ EqEq ∷ NotEq ∷
+abbrev pub two_byte_signs : List Sign
+two_byte_signs = DotDot ∷ DashDash ∷ LessEq ∷ GreaterEq ∷ EqEq ∷ NotEq ∷ []
+
+abbrev pub one_byte_signs : List Sign
+one_byte_signs =
     OpenBrace ∷ CloseBrace ∷ OpenParen ∷ CloseParen ∷ OpenBracket ∷ CloseBracket ∷ Semicolon ∷ Colon ∷ Comma ∷ Dot ∷
     Less ∷ Greater ∷ Plus ∷ Minus ∷ Star ∷ Slash ∷ Percent ∷ []
+
+-- the signs, those of two bytes first, so that the first that fits is the longest
+abbrev pub signs : List Sign
+signs = two_byte_signs ++ one_byte_signs
 
 -- the keyword with these bytes
 abbrev pub keyword_of : List ℕ → Option Keyword

@@ -1,0 +1,313 @@
+-- What stands at the front of a text is what its spelling says, and can't be longer.
+use Rattle.std.proofs.Common.{◌≡◌, ℕ, zero, suc, ◌+◌, ◌-◌, ◌<◌, ◌≤◌, ◌⊎◌, inl, inr, ⊎_elim, Bool, true, false, eqb, not, ◌||◌, nat_eq, nat_le, Option, Some, None, option_map, IfSome, List, [], ◌∷◌, ◌++◌, length, get_or, take, drop, refl, sym, ap, subst, ◌∙◌, arith, codes, lit<, lit≤}
+use Rattle.std.specs.List.{starts_with, prefix_len, find, AllPass, AllByRecursion, list_all}
+use Rattle.std.specs.Str.{bytes_eq}
+use Rattle.std.specs.Char.{is_ascii_digit}
+use Rattle.std.specs.Str.Parse.{digits_value}
+use Rattle.std.proofs.lemmas.Bool.{cond_both, cond-true, cond-false, false≢true}
+use Rattle.std.proofs.lemmas.Bool.Decides.{nat_tests, Decides-eqb}
+use Rattle.std.proofs.lemmas.List.{get_or-take, drop-drop, drop_all, length-take-le, take-append-drop}
+use Rattle.std.proofs.lemmas.List.Sums.{prefix_len-le-length, prefix_len_passes, prefix_len_stops, AllPass-from_list_all}
+use Rattle.std.proofs.lemmas.Slice.Eq.{starts_is, bytes_eq-Decides}
+use Rattle.std.proofs.Math.Seq.{take-append_seam}
+use Rattle.darwin_lexer.specs.declared.token.Keyword.{Keyword}
+use Rattle.darwin_lexer.specs.declared.token.Keyword.TheVariants as words
+use Rattle.darwin_lexer.specs.declared.token.Sign.{Sign}
+use Rattle.darwin_lexer.specs.declared.token.Sign.TheVariants as variants
+use Rattle.darwin_lexer.specs.declared.token.TokenKind.{TokenKind}
+use Rattle.darwin_lexer.specs.declared.token.TokenKind.TheVariants as kinds
+use Rattle.darwin_lexer.specs.declared.front.TheConstants.{MAX_NAME, MAX_NUMBER}
+use Rattle.darwin_lexer.specs.Words.{begins_name, continues_name, is_blank, keyword_bytes, keywords, keyword_of, kind_or_name, word_kind, sign_at, sign_bytes, signs, two_byte_signs, one_byte_signs}
+use Rattle.darwin_lexer.specs.Fronts.{through_close, line_comment, closed_or_open, block_comment, name, number, sign, sign_or_bad, front_of}
+use Rattle.darwin_lexer.proofs.FrontLemmas.{prefix_within, find_passes}
+use Rattle.darwin_lexer.specs.Spelling.{Spells, opens_line_comment, opens_block_comment, closes_at, Means}
+
+-- searches of a table
+
+find_among : {X : Type 0} (P : X → Type 0) (test : X → Bool) (xs : List X) → AllByRecursion P xs → IfSome (find test xs) P
+find_among P test [] all = tt
+find_among P test (x ∷ xs) all = cond_both (test x) (Some x) (find test xs) (λ o. IfSome o P) (λ _. all.0) (λ _. find_among P test xs all.1)
+
+all_fail : {X : Type 0} (test : X → Bool) (xs : List X) → find test xs ≡ None → AllByRecursion (λ x. test x ≡ false) xs
+all_fail test [] none_found = tt
+all_fail test (x ∷ xs) none_found = cond_both (test x) (Some x) (find test xs) (λ o. o ≡ None → AllByRecursion (λ x. test x ≡ false) (x ∷ xs))
+    (λ passes is. absurd (let no_way : ⊥ = cc in no_way)) (λ fails is. (fails, all_fail test xs is)) none_found
+
+find_front : {X : Type 0} (test : X → Bool) (xs ys : List X) (x : X) → find test xs ≡ Some x → find test (xs ++ ys) ≡ Some x
+find_front test [] ys x found = absurd (let no_way : ⊥ = cc in no_way)
+find_front test (y ∷ xs) ys x found = cond_both (test y) (Some y) (find test xs) (λ o. o ≡ Some x → find test ((y ∷ xs) ++ ys) ≡ Some x)
+    (λ passes is. cond-true _ _ _ passes ∙ is) (λ fails is. cond-false _ _ _ fails ∙ find_front test xs ys x is) found
+
+-- every keyword and sign is in its table
+
+keyword_fails : (test : Keyword → Bool) (keyword : Keyword) → AllByRecursion (λ k. test k ≡ false) keywords → test keyword ≡ false
+keyword_fails test words.Component all = assumption
+keyword_fails test _ all = assumption
+
+sign_fails : (test : Sign → Bool) (sign : Sign) → AllByRecursion (λ s. test s ≡ false) signs → test sign ≡ false
+sign_fails test variants.OpenBrace all = assumption
+sign_fails test _ all = assumption
+
+-- A sign has one byte, or stands among those of two.
+short_or_fails : (test : Sign → Bool) (sign : Sign) → AllByRecursion (λ s. test s ≡ false) two_byte_signs → (length (sign_bytes sign) ≤ 1) ⊎ (test sign ≡ false)
+short_or_fails test variants.DotDot all = inr all.0
+short_or_fails test variants.DashDash all = inr all.1.0
+short_or_fails test variants.LessEq all = inr all.1.1.0
+short_or_fails test variants.GreaterEq all = inr all.1.1.1.0
+short_or_fails test variants.EqEq all = inr all.1.1.1.1.0
+short_or_fails test variants.NotEq all = inr all.1.1.1.1.1.0
+short_or_fails test _ all = inl (lit≤ tt)
+
+sign_length : (sign : Sign) → (0 < length (sign_bytes sign)) × (length (sign_bytes sign) ≤ 2)
+sign_length variants.OpenBrace = (lit< tt, lit≤ tt)
+sign_length _ = (lit< tt, lit≤ tt)
+
+-- No name, word or number begins as a sign does.
+sign_begins : (sign : Sign) → (begins_name (get_or (sign_bytes sign) 0 0) ≡ false) × (is_ascii_digit (get_or (sign_bytes sign) 0 0) ≡ false)
+sign_begins variants.OpenBrace = (refl, refl)
+sign_begins _ = (refl, refl)
+
+keyword_letters : (keyword : Keyword) → (begins_name (get_or (keyword_bytes keyword) 0 0) ≡ true) × (list_all continues_name (keyword_bytes keyword) ≡ true)
+keyword_letters words.Component = (refl, refl)
+keyword_letters _ = (refl, refl)
+
+pub digit_is_no_letter : (byte : ℕ) → begins_name byte ≡ true → is_ascii_digit byte ≡ true → ⊥
+digit_is_no_letter byte letter digit = grind (arith, nat_tests)
+
+-- what a token's bytes are like: letters, digits or a sign
+
+abbrev Letters : List ℕ → Type 0
+Letters bytes = (begins_name (get_or bytes 0 0) ≡ true) × AllPass continues_name bytes
+
+abbrev Digits : List ℕ → Type 0
+Digits bytes = (0 < length bytes) × AllPass is_ascii_digit bytes
+
+abbrev Signed : List ℕ → Type 0
+Signed bytes = (sign : Sign) × (bytes ≡ sign_bytes sign)
+
+spelled_as : (kind : TokenKind) (bytes : List ℕ) → Spells kind bytes → Letters bytes ⊎ (Digits bytes ⊎ Signed bytes)
+spelled_as kinds.Name bytes is = inl (is.begins, is.goes_on)
+spelled_as (kinds.Number value) bytes is = inr (inl (is.some, is.digits))
+spelled_as (kinds.Word keyword) bytes is = inl (subst Letters (sym is) ((keyword_letters keyword).0, AllPass-from_list_all continues_name (keyword_bytes keyword) (keyword_letters keyword).1))
+spelled_as (kinds.Sign sign) bytes is = inr (inr (sign, is))
+
+letters_first : (n : ℕ) (text : List ℕ) → Letters (take n text) → begins_name (get_or text 0 0) ≡ true
+letters_first zero text is = absurd (false≢true is.0)
+letters_first (suc n) [] is = is.0
+letters_first (suc n) (byte ∷ text) is = is.0
+
+digits_first : (n : ℕ) (text : List ℕ) → Digits (take n text) → is_ascii_digit (get_or text 0 0) ≡ true
+digits_first zero text is = absurd (omega (arith, is.0))
+digits_first (suc n) [] is = absurd (omega (arith, is.0))
+digits_first (suc n) (byte ∷ text) is = is.1 0 0 is.0
+
+sign_first : (n : ℕ) (text : List ℕ) (sign : Sign) → take n text ≡ sign_bytes sign → get_or text 0 0 ≡ get_or (sign_bytes sign) 0 0
+sign_first zero text sign is = absurd (omega (arith, ap length is, (sign_length sign).0))
+sign_first (suc n) [] sign is = absurd (omega (arith, ap length is, (sign_length sign).0))
+sign_first (suc n) (byte ∷ text) sign is = ap (λ l. get_or l 0 0) is
+
+-- runs of bytes that pass a test
+
+run_passes : (test : ℕ → Bool) (text : List ℕ) (n : ℕ) → n ≤ prefix_len test text → AllPass test (take n text)
+run_passes test text n short k d within =
+    let some : n ≤ length text = omega (arith, prefix_len-le-length test text) in
+    let below : k < n = omega (arith, length-take-le n text some) in
+    ap test (get_or-take n text k d below) ∙ prefix_len_passes test text k d (omega arith)
+
+run_over : (test : ℕ → Bool) (text : List ℕ) (more : ℕ) → prefix_len test text < more → more ≤ length text → AllPass test (take more text) → ⊥
+run_over test text more longer within all =
+    let n : ℕ = prefix_len test text in
+    let here = all n 0 (omega (arith, length-take-le more text within)) in
+    let there = prefix_len_stops test text 0 (omega arith) in
+    false≢true (sym there ∙ sym (ap test (get_or-take more text n 0 longer)) ∙ here)
+
+-- words
+
+abbrev is_word : List ℕ → Keyword → Bool
+is_word word keyword = bytes_eq (keyword_bytes keyword) word
+
+word_spelled : (word : List ℕ) → Letters word → length word ≤ MAX_NAME → Spells (word_kind word) word
+word_spelled word letters short = go (keyword_of word) refl
+  where
+    go : (found : Option Keyword) → keyword_of word ≡ found → Spells (kind_or_name found) word
+    go None is = record {
+      begins = letters.0;
+      goes_on = letters.1;
+      short = short;
+      own = λ keyword same. false≢true (sym (keyword_fails (is_word word) keyword (all_fail (is_word word) keywords is)) ∙ (bytes_eq-Decides (keyword_bytes keyword) word).1 (sym same));
+    }
+    go (Some keyword) is = sym ((bytes_eq-Decides (keyword_bytes keyword) word).0 (subst (λ o. IfSome o (λ k. is_word word k ≡ true)) is (find_passes (is_word word) keywords)))
+
+word_longest : (text : List ℕ) (other : TokenKind) (more : ℕ) → begins_name (get_or text 0 0) ≡ true → prefix_len continues_name text < more → more ≤ length text → Spells other (take more text) → ⊥
+word_longest text other more begins longer within is = ⊎_elim
+    (λ letters. run_over continues_name text more longer within letters.1)
+    (λ others. ⊎_elim
+    (λ digits. digit_is_no_letter (get_or text 0 0) begins (digits_first more text digits))
+    (λ signed. false≢true (sym (sign_begins signed.0).0 ∙ sym (ap begins_name (sign_first more text signed.0 signed.1)) ∙ begins))
+    others)
+    (spelled_as other (take more text) is)
+
+at_most : (n most : ℕ) → nat_le n most ≡ true → n ≤ most
+at_most n most is = grind (arith, nat_tests)
+
+above : (n most : ℕ) → nat_le n most ≡ false → most < n
+above n most is = grind (arith, nat_tests)
+
+name_means : (first : ℕ) (rest : List ℕ) → begins_name first ≡ true → Means (first ∷ rest) (name (first ∷ rest))
+name_means first rest begins =
+    let text : List ℕ = first ∷ rest in
+    let n : ℕ = prefix_len continues_name text in
+    let within = prefix_within continues_name first rest (ap (λ b. b || is_ascii_digit first) begins) in
+    cond_both (nat_le n MAX_NAME) _ _ (Means text)
+    (λ short. record {
+      spelled = word_spelled (take n text) (ap begins_name (get_or-take n text 0 0 within.0) ∙ begins, run_passes continues_name text n (omega arith)) (omega (arith, length-take-le n text within.1, at_most n MAX_NAME short));
+      longest = λ other more longer fits is. word_longest text other more begins longer fits is;
+    })
+    (λ long. record { begins = begins; more = omega (arith, above n MAX_NAME long, within.1); goes_on = run_passes continues_name text (MAX_NAME + 1) (omega (arith, above n MAX_NAME long)) })
+
+-- numbers
+
+number_longest : (text : List ℕ) (other : TokenKind) (more : ℕ) → is_ascii_digit (get_or text 0 0) ≡ true → prefix_len is_ascii_digit text < more → more ≤ length text → Spells other (take more text) → ⊥
+number_longest text other more digit longer within is = ⊎_elim
+    (λ letters. digit_is_no_letter (get_or text 0 0) (letters_first more text letters) digit)
+    (λ others. ⊎_elim
+    (λ digits. run_over is_ascii_digit text more longer within digits.1)
+    (λ signed. false≢true (sym (sign_begins signed.0).1 ∙ sym (ap is_ascii_digit (sign_first more text signed.0 signed.1)) ∙ digit))
+    others)
+    (spelled_as other (take more text) is)
+
+number_means : (first : ℕ) (rest : List ℕ) → is_ascii_digit first ≡ true → Means (first ∷ rest) (number (first ∷ rest))
+number_means first rest digit =
+    let text : List ℕ = first ∷ rest in
+    let n : ℕ = prefix_len is_ascii_digit text in
+    let value : ℕ = digits_value 10 (take n text) in
+    let within = prefix_within is_ascii_digit first rest digit in
+    let all = run_passes is_ascii_digit text n (omega arith) in
+    cond_both (nat_le value MAX_NUMBER) _ _ (Means text)
+    (λ small. record {
+      spelled = record { some = omega (arith, length-take-le n text within.1, within.0); digits = all; written = refl; small = at_most value MAX_NUMBER small };
+      longest = λ other more longer fits is. number_longest text other more digit longer fits is;
+    })
+    (λ great. record { n = n; within = within.1; digits = all; all = λ shorter. prefix_len_stops is_ascii_digit text 0 shorter; great = above value MAX_NUMBER great })
+
+-- signs
+
+abbrev fits : List ℕ → Sign → Bool
+fits text sign = starts_with nat_eq text (sign_bytes sign)
+
+-- Where a text begins with no letter and no digit, a token there is a sign.
+only_sign : (text : List ℕ) (kind : TokenKind) (n : ℕ) → begins_name (get_or text 0 0) ≡ false → is_ascii_digit (get_or text 0 0) ≡ false → Spells kind (take n text) → Signed (take n text)
+only_sign text kind n no_letter no_digit is = ⊎_elim
+    (λ letters. absurd (false≢true (sym no_letter ∙ letters_first n text letters)))
+    (λ others. ⊎_elim (λ digits. absurd (false≢true (sym no_digit ∙ digits_first n text digits))) (λ signed. signed) others)
+    (spelled_as kind (take n text) is)
+
+sign_starts : (text : List ℕ) (n : ℕ) (sign : Sign) → take n text ≡ sign_bytes sign → fits text sign ≡ true
+sign_starts text n sign is = (starts_is Decides-eqb text (sign_bytes sign) _ refl).1 (drop n text) (sym (take-append-drop n text) ∙ ap (λ l. l ++ drop n text) is)
+
+-- The sign that is found is as long as any that fits.
+sign_longest : (text : List ℕ) (sign other : Sign) → sign_at text ≡ Some sign → fits text other ≡ true → length (sign_bytes other) ≤ length (sign_bytes sign)
+sign_longest text sign other found begins = go (find (fits text) two_byte_signs) refl
+  where
+    go : (two : Option Sign) → find (fits text) two_byte_signs ≡ two → length (sign_bytes other) ≤ length (sign_bytes sign)
+    go None is = ⊎_elim
+        (λ short. omega (arith, short, (sign_length sign).0))
+        (λ fails. absurd (false≢true (sym fails ∙ begins)))
+        (short_or_fails (fits text) other (all_fail (fits text) two_byte_signs is))
+    go (Some two) is =
+        let first : find (fits text) signs ≡ Some two = find_front (fits text) two_byte_signs one_byte_signs two is in
+        let same : two ≡ sign = cc in
+        let long : 2 ≤ length (sign_bytes two) = subst (λ o. IfSome o (λ s. 2 ≤ length (sign_bytes s))) is (find_among (λ s. 2 ≤ length (sign_bytes s)) (fits text) two_byte_signs (lit≤ tt, (lit≤ tt, (lit≤ tt, (lit≤ tt, (lit≤ tt, (lit≤ tt, tt))))))) in
+        omega (arith, (sign_length other).1, ap (λ s. length (sign_bytes s)) same)
+
+sign_means : (text : List ℕ) → is_blank (get_or text 0 0) ≡ false → opens_line_comment text ≡ false → opens_block_comment text ≡ false → begins_name (get_or text 0 0) ≡ false → is_ascii_digit (get_or text 0 0) ≡ false → Means text (sign text)
+sign_means text no_blank no_line no_block no_letter no_digit = go (sign_at text) refl
+  where
+    go : (found : Option Sign) → sign_at text ≡ found → Means text (sign_or_bad found)
+    go None is = record {
+      no_blank = no_blank;
+      no_line_comment = no_line;
+      no_block_comment = no_block;
+      no_token = λ kind n within spelled.
+          let signed = only_sign text kind n no_letter no_digit spelled in
+          let fails = sign_fails (fits text) signed.0 (all_fail (fits text) signs is) in
+          false≢true (sym fails ∙ sign_starts text n signed.0 signed.1);
+    }
+    go (Some found) is =
+        let begins : fits text found ≡ true = subst (λ o. IfSome o (λ s. fits text s ≡ true)) is (find_passes (fits text) signs) in
+        record {
+          spelled = ap (λ l. take (length (sign_bytes found)) l) ((starts_is Decides-eqb text (sign_bytes found) _ refl).0 begins) ∙ take-append_seam (sign_bytes found) (drop (length (sign_bytes found)) text);
+          longest = λ other more longer within spelled.
+              let signed = only_sign text other more no_letter no_digit spelled in
+              let most = sign_longest text found signed.0 is (sign_starts text more signed.0 signed.1) in
+              omega (arith, most, ap length signed.1, length-take-le more text within);
+        }
+
+-- comments
+
+is_line_feed : (byte : ℕ) → not (eqb byte 10) ≡ false → byte ≡ 10
+is_line_feed byte stops = grind (arith, nat_tests)
+
+line_means : (first : ℕ) (rest : List ℕ) → opens_line_comment (first ∷ rest) ≡ true → Means (first ∷ rest) (line_comment (first ∷ rest))
+line_means first rest opens =
+    let text : List ℕ = first ∷ rest in
+    let test : ℕ → Bool = λ byte. not (eqb byte 10) in
+    inr (inl (record { within = prefix_len-le-length test text; opens = opens; one_line = run_passes test text (prefix_len test text) (omega arith); to_its_end = λ shorter. is_line_feed (get_or text (prefix_len test text) 0) (prefix_len_stops test text 0 shorter) }))
+
+-- where the first `*/` of a text ends, if it has one
+abbrev Closes : List ℕ → Option ℕ → Type 0
+Closes text None = (offset : ℕ) → closes_at text offset ≡ false
+Closes text (Some n) = (2 ≤ n) × (closes_at text (n - 2) ≡ true) × ((offset : ℕ) → offset + 2 < n → closes_at text offset ≡ false)
+
+closes_next : (byte : ℕ) (text : List ℕ) (o : Option ℕ) → closes_at (byte ∷ text) 0 ≡ false → Closes text o → Closes (byte ∷ text) (option_map suc o)
+closes_next byte text None here later = λ offset. go offset
+  where
+    go : (offset : ℕ) → closes_at (byte ∷ text) offset ≡ false
+    go zero = here
+    go (suc offset) = later offset
+closes_next byte text (Some n) here later =
+    let next : suc (n - 2) ≡ suc n - 2 = omega (arith, later.0) in
+    (omega (arith, later.0), subst (λ k. closes_at (byte ∷ text) k ≡ true) next later.1, go)
+  where
+    go : (offset : ℕ) → offset + 2 < suc n → closes_at (byte ∷ text) offset ≡ false
+    go zero short = here
+    go (suc offset) short = later.2 offset (omega arith)
+
+close_means : (text : List ℕ) → Closes text (through_close text)
+close_means [] = λ offset. ap (λ l. starts_with nat_eq l (codes "*/")) (drop_all offset [] (omega arith))
+close_means (byte ∷ text) = cond_both (starts_with nat_eq (byte ∷ text) (codes "*/")) _ _ (Closes (byte ∷ text))
+    (λ begins. (lit≤ tt, begins, λ offset short. absurd (omega arith)))
+    (λ later. closes_next byte text (through_close text) later (close_means text))
+
+block_means : (text : List ℕ) → opens_block_comment text ≡ true → Means text (block_comment text)
+block_means text opens = go (through_close (drop 2 text)) (close_means (drop 2 text))
+  where
+    shifted : (offset : ℕ) → closes_at (drop 2 text) offset ≡ closes_at text (2 + offset)
+    shifted offset = ap (λ l. starts_with nat_eq l (codes "*/")) (drop-drop offset 2 text)
+
+    go : (o : Option ℕ) → Closes (drop 2 text) o → Means text (closed_or_open o)
+    go None never = record {
+      opens = opens;
+      never = λ offset behind.
+          let there : 2 + (offset - 2) ≡ offset = omega arith in
+          subst (λ k. closes_at text k ≡ false) there (sym (shifted (offset - 2)) ∙ never (offset - 2));
+    }
+    go (Some n) closes = inr (inr (record {
+      opens = opens;
+      after = omega (arith, closes.0);
+      closes = let there : 2 + (n - 2) ≡ 2 + n - 2 = omega (arith, closes.0) in subst (λ k. closes_at text k ≡ true) there (sym (shifted (n - 2)) ∙ closes.1);
+      first = λ offset behind short.
+          let there : 2 + (offset - 2) ≡ offset = omega arith in
+          subst (λ k. closes_at text k ≡ false) there (sym (shifted (offset - 2)) ∙ closes.2 (offset - 2) (omega arith));
+    }))
+
+pub front_means : (text : List ℕ) → Means text (front_of text)
+front_means [] = refl
+front_means (first ∷ rest) =
+    let text : List ℕ = first ∷ rest in
+    cond_both (is_blank first) _ _ (Means text) (λ blank. inl (refl, blank))
+    (λ no_blank. cond_both (opens_line_comment text) _ _ (Means text) (line_means first rest)
+    (λ no_line. cond_both (opens_block_comment text) _ _ (Means text) (block_means text)
+    (λ no_block. cond_both (begins_name first) _ _ (Means text) (name_means first rest)
+    (λ no_letter. cond_both (is_ascii_digit first) _ _ (Means text) (number_means first rest)
+    (λ no_digit. sign_means text no_blank no_line no_block no_letter no_digit)))))
