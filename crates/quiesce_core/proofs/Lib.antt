@@ -1,0 +1,4 @@
+pub mod Lists
+pub mod KindLemmas
+pub mod Cycles
+pub mod Reaching

@@ -1,0 +1,14 @@
+pub mod State
+pub mod Phases
+pub mod Reach
+pub mod Effect
+pub mod Rules
+pub mod Each
+pub mod Runs
+pub mod Settled
+pub mod Rest
+pub mod Words
+pub mod Knowledge
+pub mod WellFormed
+pub mod Known
+pub mod Tables

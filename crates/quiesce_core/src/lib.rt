@@ -1,0 +1,18 @@
+//! The change machine: the events of a system that is changed while it runs, the rules by which they may happen, and a state
+//! that is led through them. Transactions, passive and quiescent nodes are those of Kramer and Magee (The evolving philosophers
+//! problem: dynamic change management, 1990).
+#![tactic(auto)]
+
+mod denial;
+mod event;
+mod known;
+mod reach;
+mod rules;
+mod state;
+mod tables;
+mod word;
+
+pub use event::Event;
+pub use known::Served;
+pub use state::{Exchange, Gate, Phase, Service, Slot};
+pub use word::Word;

@@ -1,0 +1,88 @@
+//! What a state is made of: of each slot the node made there and what it services, of each port its gate and its exchange.
+
+ghost use Rattle.std.specs.Prelude.{◌≡◌};
+ghost use Rattle.quiesce_core.specs.Phases.{is_idle, is_asked, is_answered, is_in_more};
+
+use config_graph::{Node, Target};
+
+/// A node that was made, in its slot.
+#[derive(Debug, Drop, PartialEq, Eq)]
+pub struct Slot {
+    pub node: Node,
+    /// Its first port. Its ports are numbered in a row, in the order of its requirements.
+    pub first_port: u32,
+    /// The slot of the removed node whose state it took over.
+    pub from: Option<u32>,
+    /// Whether it hasn't been removed.
+    pub live: bool,
+}
+
+/// What the change decides of a port: whose requirement it is, whether it is closed, and to what it is linked.
+#[derive(Clone, Copy, Debug, PartialEq, Eq)]
+pub struct Gate {
+    pub owner: u32,
+    pub require: u32,
+    pub closed: bool,
+    pub target: Option<Target>,
+}
+
+/// How far a port's transaction has come.
+#[derive(Clone, Copy, Debug, PartialEq, Eq)]
+pub enum Phase {
+    /// There is none.
+    Idle,
+    /// A message was sent to the target.
+    Asked,
+    /// The last reply is there.
+    Answered,
+    /// An intermediate reply is there.
+    More,
+}
+
+impl Phase {
+    pub fn is_idle(self) -> bool
+        ensures { result ≡ is_idle self }
+    {
+        matches!(self, Phase::Idle)
+    }
+
+    pub fn is_asked(self) -> bool
+        ensures { result ≡ is_asked self }
+    {
+        matches!(self, Phase::Asked)
+    }
+
+    pub fn is_answered(self) -> bool
+        ensures { result ≡ is_answered self }
+    {
+        matches!(self, Phase::Answered)
+    }
+
+    pub fn is_in_more(self) -> bool
+        ensures { result ≡ is_in_more self }
+    {
+        matches!(self, Phase::More)
+    }
+}
+
+/// What the nodes do at a port: its last transaction, with the value of the last message.
+#[derive(Clone, Copy, Debug, PartialEq, Eq)]
+pub struct Exchange {
+    pub phase: Phase,
+    pub serial: u32,
+    pub value: u32,
+    /// Where the transaction is consequent, the port whose service it belongs to.
+    pub within: Option<u32>,
+}
+
+/// The service that a node is in.
+#[derive(Clone, Copy, Debug, PartialEq, Eq)]
+pub struct Service {
+    /// The port whose transaction it serves.
+    pub port: u32,
+    /// How many calls, missed ones among them, and how many intermediate replies it made.
+    pub calls: u32,
+    pub mores: u32,
+    /// Whether the last message of the transaction was heard.
+    pub heard: bool,
+}
