@@ -3,3 +3,5 @@ pub mod NumberingLemmas
 pub mod LinkLemmas
 pub mod PathLemmas
 pub mod OrderLemmas
+pub mod SameLemmas
+pub mod TextLemmas

@@ -1,12 +1,12 @@
 -- Lemmas on links, the ports at which they begin and the provisions at which they end.
-use Rattle.std.proofs.Common.{◌≡◌, ◌≢◌, ◌⊎◌, ℕ, zero, suc, ◌+◌, ◌-◌, ◌<◌, ◌≤◌, Bool, true, false, cond, ◌&&◌, eqb, List, [], ◌∷◌, ◌++◌, map, length, take, set, get_or, Option, Some, None, slice_get, option_map, refl, sym, ◌∙◌, ap, subst, inl, inr, arith, find, filter, filter_map, Contains, All}
+use Rattle.std.proofs.Common.{◌≡◌, ◌≢◌, ℕ, zero, suc, ◌+◌, ◌<◌, Bool, true, false, cond, ◌&&◌, eqb, List, [], ◌∷◌, ◌++◌, map, length, take, set, get_or, Option, Some, None, slice_get, option_map, refl, sym, ◌∙◌, ap, subst, arith, find, filter, Contains, All}
 use Rattle.std.proofs.lemmas.Bool.{eqb-true, eq-eqb, true≢false, false≢true}
 use Rattle.std.proofs.lemmas.List.Elements.{Contains-get_or, Contains-append_right, filter-append}
 use Rattle.std.proofs.lemmas.List.Folds.{find-append}
 use Rattle.std.proofs.lemmas.List.{map-append, map-set, length-map, take_more, get_or_default}
 use Rattle.std.specs.Option.{option_or}
-use Rattle.config_graph.specs.Graph.{Configuration, begins_at, ends_at, link_at, target_of, in_port_order, incoming_ports, requires_of, provides_of, requires_at, provides_at, ports, port_number, IsWithin, OneLinkAPort, index_of}
-use Rattle.std.proofs.Common.{zero-add, length-take, get_or-take, append-nil, replicate, not, ltb, bytes_eq, position}
+use Rattle.config_graph.specs.Graph.{begins_at, ends_at, link_at, target_of, incoming_ports, requires_of, provides_of, requires_at, provides_at, ports, port_number, IsWithin, OneLinkAPort, index_of}
+use Rattle.std.proofs.Common.{zero-add, length-take, get_or-take, append-nil, replicate, not, ltb, bytes_eq, position, IfSome}
 use Rattle.std.proofs.Math.ListN.{get_or-map}
 use Rattle.std.specs.List.{prefix_len}
 use Rattle.std.proofs.lemmas.Option.{slice_get-map, get_or_from_slice_get}
@@ -223,3 +223,19 @@ position-map p f xs =
 pub index_read : {V : Type 0} (items : V → List ℕ) (keys : List V) (nodes : List Node) (path : List ℕ) → map items keys ≡ map (λ n. n.path) nodes → position (λ k. bytes_eq path (items k)) keys ≡ index_of nodes path
 index_read items keys nodes path h =
     sym (position-map (bytes_eq path) items keys) ∙ ap (position (bytes_eq path)) h ∙ position-map (bytes_eq path) (λ n. n.path) nodes
+
+-- what a port is linked to is a provision of a node
+pub target_within : (nodes : List Node) (links : List Link) (i r : ℕ) (t : Target) → All (IsWithin nodes) links → target_of links i r ≡ Some t → t.provide < provides_at nodes t.node
+target_within nodes links i r t within h = by (link_at links i r) refl h
+  where
+    by : (o : Option Link) → link_at links i r ≡ o → option_map (λ (l : Link). record { node = l.to; provide = l.provide }) o ≡ Some t → t.provide < provides_at nodes t.node
+    by None e f = cc
+    by (Some l) e f =
+        let there = Contains-find (begins_at i r) links l e in
+        let inside : IsWithin nodes l = subst (IsWithin nodes) there.2 (within there.0 l there.1) in
+        let same : record { node = l.to; provide = l.provide } ≡ t = cc in
+        subst (λ t. t.provide < provides_at nodes t.node) same inside.ends
+
+pub IfSome-target : (nodes : List Node) (links : List Link) (i r : ℕ) (o : Option Target) → All (IsWithin nodes) links → o ≡ target_of links i r → IfSome o (λ t. t.provide < provides_at nodes t.node)
+IfSome-target nodes links i r None within h = tt
+IfSome-target nodes links i r (Some t) within h = target_within nodes links i r t within (sym h)

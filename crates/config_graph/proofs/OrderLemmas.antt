@@ -1,15 +1,16 @@
 -- Lemmas on the links in the order of their ports.
-use Rattle.std.proofs.Common.{◌≡◌, ◌<◌, ◌^◌, ℕ, zero, suc, Bool, true, false, cond, List, [], ◌∷◌, length, get_or, map, Option, Some, None, slice_get, option_map, refl, sym, ◌∙◌, ap, subst, arith, find, filter_map, Contains, All, zip}
+use Rattle.std.proofs.Common.{◌≡◌, ◌<◌, ◌^◌, ℕ, zero, suc, Bool, true, false, cond, List, [], ◌∷◌, length, map, Option, Some, None, slice_get, option_map, refl, sym, ◌∙◌, ap, subst, arith, find, filter_map, All}
 use Rattle.std.specs.List.{cons_option}
 use Rattle.std.proofs.lemmas.Bool.{true≢false}
-use Rattle.std.proofs.lemmas.List.Elements.{All-cons, Contains-get_or, Contains-append_right}
-use Rattle.config_graph.specs.Graph.{begins_at, link_at, target_of, in_port_order, ports, IsGraph, IsWithin, PathsRise, graph_of}
+use Rattle.std.proofs.lemmas.List.Elements.{All-cons}
+use Rattle.std.proofs.lemmas.List.Kept.{AllPairs-cons}
+use Rattle.config_graph.specs.Graph.{begins_at, link_at, target_of, in_port_order, ports, Configuration, IsGraph, IsWithin, OneLinkAPort, PathsRise, graph_of, port_number}
 use Rattle.config_graph.specs.Indexes.{targets, link_to, links_in}
 use Rattle.config_graph.specs.declared.node.Node.{Node}
 use Rattle.config_graph.specs.declared.node.Port.{Port}
 use Rattle.config_graph.specs.declared.node.Target.{Target}
 use Rattle.config_graph.specs.declared.node.Link.{Link}
-use Rattle.config_graph.proofs.LinkLemmas.{begins_there, begins_here, find_passes, Contains-find, get-ports, map_same}
+use Rattle.config_graph.proofs.LinkLemmas.{begins_there, begins_here, find_passes, Contains-find, map_same, port_number-place}
 
 pub filter_map_same : {A B : Type 0} (f g : A → Option B) (xs : List A) → ((k : ℕ) (a : A) → slice_get xs k ≡ Some a → f a ≡ g a) → filter_map f xs ≡ filter_map g xs
 filter_map_same f g [] h = refl
@@ -109,3 +110,43 @@ IsGraph-graph_of nodes links rise within few_nodes few_ports = record {
   few_nodes = few_nodes;
   few_ports = few_ports;
 }
+
+-- what each of the links that f gives has, the list of them has
+pub All-filter_map : {A B : Type 0} (f : A → Option B) (P : B → Type 0) (xs : List A) → ((k : ℕ) (a : A) (b : B) → slice_get xs k ≡ Some a → f a ≡ Some b → P b) → All P (filter_map f xs)
+All-filter_map f P [] h = λ k d low. absurd (omega arith)
+All-filter_map {B = B} f P (x ∷ xs) h = by (f x) refl (All-filter_map f P xs (λ k a b e. h (suc k) a b e))
+  where
+    by : (o : Option B) → f x ≡ o → All P (filter_map f xs) → All P (cons_option o (filter_map f xs))
+    by None e rest = rest
+    by (Some b) e rest = All-cons P b (filter_map f xs) (h 0 x b refl e) rest
+
+-- where no port stands twice, no two of the links in order begin at one port
+one_link-ordered : (links : List Link) (ps : List Port) → ((j k : ℕ) (p q : Port) → slice_get ps j ≡ Some p → slice_get ps k ≡ Some q → p.node ≡ q.node → p.require ≡ q.require → j ≡ k) → OneLinkAPort (ordered links ps)
+one_link-ordered links [] apart = λ i j d low high. absurd (omega arith)
+one_link-ordered links (p ∷ ps) apart =
+    by (link_at links p.node p.require) refl (one_link-ordered links ps (λ j k a b e f s t. suc_same (apart (suc j) (suc k) a b e f s t)))
+  where
+    suc_same : {j k : ℕ} → suc j ≡ suc k → j ≡ k
+    suc_same e = omega arith
+
+    by : (o : Option Link) → link_at links p.node p.require ≡ o → OneLinkAPort (ordered links ps) → OneLinkAPort (cons_option o (ordered links ps))
+    by None e rest = rest
+    by (Some l) e rest =
+        AllPairs-cons (λ k m. begins_at k.from k.require m ≡ false) l (ordered links ps) (All-filter_map (λ q. link_at links q.node q.require) (λ m. begins_at l.from l.require m ≡ false) ps elsewhere) rest
+      where
+        elsewhere : (k : ℕ) (q : Port) (m : Link) → slice_get ps k ≡ Some q → link_at links q.node q.require ≡ Some m → begins_at l.from l.require m ≡ false
+        elsewhere k q m at_k found = at (begins_at l.from l.require m) refl
+          where
+            at : (b : Bool) → begins_at l.from l.require m ≡ b → b ≡ false
+            at false f = refl
+            at true f =
+                let l_there = begins_there p.node p.require l (find_passes (begins_at p.node p.require) links l e) in
+                let m_there = begins_there q.node q.require m (find_passes (begins_at q.node q.require) links m found) in
+                let same = begins_there l.from l.require m f in
+                let index : 0 ≡ suc k = apart 0 (suc k) p q refl at_k (sym l_there.0 ∙ sym same.0 ∙ m_there.0) (sym l_there.1 ∙ sym same.1 ∙ m_there.1) in
+                absurd (omega (arith, index))
+
+pub one_link-in_order : (g : Configuration) → IsGraph g → OneLinkAPort g.links
+one_link-in_order g graph =
+    let number : (q : ℕ) (p : Port) → slice_get (ports g.nodes) q ≡ Some p → q ≡ port_number g.nodes p.node p.require = port_number-place g.nodes in
+    subst OneLinkAPort graph.in_order (one_link-ordered g.links (ports g.nodes) (λ j k p q e f s t. number j p e ∙ (λ i. port_number g.nodes (s i) (t i)) ∙ sym (number k q f)))

@@ -1,11 +1,10 @@
 -- Ways along depended-on links, and cycles of them. A port of a node is depended on where some provision of the node's kind
 -- depends on it, so that serving a transaction there may begin one at the port.
-use Rattle.std.specs.Prelude.{◌≡◌, ℕ, ◌<◌, Bool, true, false, ◌&&◌, ◌==◌, IsTrue, List, map, filter, Option, Some, slice_get}
+use Rattle.std.specs.Prelude.{◌≡◌, ℕ, ◌<◌, Bool, false, IsTrue, List, Some, slice_get}
 use Rattle.std.specs.Option.{option_map_or}
 use Rattle.config_graph.specs.Kinds.{depends_on, is_depended_on}
 use Rattle.config_graph.specs.Graph.{Configuration, target_of}
 use Rattle.config_graph.specs.declared.node.Node.{Node}
-use Rattle.config_graph.specs.declared.node.Target.{Target}
 
 -- a requirement of node i is linked to a provision of node j
 abbrev pub IsLinked : Configuration → ℕ → ℕ → ℕ → ℕ → Type 0

@@ -1,5 +1,5 @@
 -- The text of a graph: a line for each node, and below it a line for each of its requirements.
-use Rattle.std.specs.Prelude.{ℕ, List, [], ◌∷◌, ◌++◌, flat_map, Option, Some, None, option_map, slice_get, unwrap_or, codes, decimal}
+use Rattle.std.specs.Prelude.{ℕ, List, [], ◌++◌, flat_map, Option, Some, None, slice_get, unwrap_or, codes, decimal}
 use Rattle.std.specs.List.{enumerate_from, range_with_len}
 use Rattle.std.specs.Option.{option_map_or}
 use Rattle.config_graph.specs.Kinds.{Provision, row}
@@ -38,9 +38,12 @@ abbrev pub port_line : Configuration → ℕ → Node → ℕ → List ℕ
 port_line g i n require =
     codes "port " ++ end_text n.path (require_name n.kind require) ++ codes " " ++ target_text g.nodes (target_of g.links i require) ++ codes "\n"
 
--- the lines of node i and its ports
+-- the lines of node i's first ports, and those of the node and all its ports
+abbrev pub port_lines : Configuration → ℕ → Node → ℕ → List ℕ
+port_lines g i n count = flat_map (port_line g i n) (range_with_len 0 count)
+
 abbrev pub node_lines : Configuration → ℕ → Node → List ℕ
-node_lines g i n = node_line n ++ flat_map (port_line g i n) (range_with_len 0 (requires_of n))
+node_lines g i n = node_line n ++ port_lines g i n (requires_of n)
 
 abbrev pub graph_text : Configuration → List ℕ
 graph_text g = flat_map (λ p. node_lines g p.0 p.1) (enumerate_from 0 g.nodes)

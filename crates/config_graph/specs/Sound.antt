@@ -1,5 +1,5 @@
 -- Sound graphs: those that a description gives and that may be run.
-use Rattle.std.specs.Prelude.{◌≡◌, ℕ, ◌<◌, ◌^◌, All, IfSome, is_some}
+use Rattle.std.specs.Prelude.{◌≡◌, ◌<◌, ◌^◌, All, IfSome, is_some}
 use Rattle.config_graph.specs.Kinds.{row}
 use Rattle.config_graph.specs.Graph.{Configuration, IsWithin, PathsRise, in_port_order}
 use Rattle.config_graph.specs.Cycles.{NoCycle}

@@ -1,7 +1,7 @@
 //! Configurations as flat graphs, with the indexes that answer look-ups at once.
 
-ghost use Rattle.std.specs.Prelude.{◌≡◌, ◌+◌, ◌^◌, ◌<◌, ◌↔◌, ℕ, length, map, slice_get, Some, IfOk, IfSome, All, Contains, IsNone, option_map};
-ghost use Rattle.config_graph.specs.Graph.{Configuration, IsGraph, IsWithin, OneLinkAPort, PathsRise, graph_of, incoming_ports, index_of, ports, provides_at, requires_at, target_of};
+ghost use Rattle.std.specs.Prelude.{◌≡◌, ◌+◌, ◌^◌, ◌<◌, ◌↔◌, length, slice_get, Some, IfOk, IfSome, All, IsTrue};
+ghost use Rattle.config_graph.specs.Graph.{IsGraph, IsWithin, OneLinkAPort, PathsRise, graph_of, incoming_ports, index_of, ports, provides_at, requires_at, target_of};
 
 use crate::numbering::Numbering;
 use crate::{Link, NoMemory, Node, Port, Target, indexes};
@@ -80,6 +80,14 @@ impl Graph {
         &self.nodes.nodes()[index as usize]
     }
 
+    /// All nodes, in the order of their paths.
+    pub fn nodes(&self) -> &[Node]
+        ensures nodes { result.now ≡ self.now.nodes }
+        ensures graph { IsGraph self.now }
+    {
+        self.nodes.nodes()
+    }
+
     /// The port of this number.
     pub fn port(&self, number: u32) -> Port
         requires { number < length (ports self.now.nodes) }
@@ -98,7 +106,8 @@ impl Graph {
     /// What a node's requirement is linked to, or `None` where it is unlinked.
     pub fn target(&self, index: u32, require: u32) -> Option<Target>
         requires { require < requires_at self.now.nodes index }
-        ensures { result ≡ target_of self.now.links index require }
+        ensures target { result ≡ target_of self.now.links index require }
+        ensures within { IfSome result (λ t. t.provide < provides_at self.now.nodes t.node) }
     {
         self.targets[self.nodes.port_number(index, require) as usize]
     }
@@ -111,6 +120,16 @@ impl Graph {
         Some(index as u32)
     }
 
+    /// Another graph with the same nodes and links.
+    pub fn try_clone(&self) -> Result<Graph, NoMemory>
+        ensures { IfOk result (λ g. g ≡ self.now) }
+    {
+        let alloc = *self.links.allocator();
+        let nodes = clone_nodes(alloc, self.nodes())?;
+        let links = Vec::from_slice(alloc, self.links())?;
+        Graph::build(alloc, nodes, links)
+    }
+
     /// The numbers of the ports that are linked to a node's provision, in rising order.
     pub fn incoming(&self, node: u32, provide: u32) -> &[u32]
         requires { provide < provides_at self.now.nodes node }
@@ -118,4 +137,22 @@ impl Graph {
     {
         self.incoming[self.nodes.provision_number(node, provide) as usize].as_slice()
     }
+}
+
+/// Copies of these nodes.
+fn clone_nodes(alloc: Global, nodes: &[Node]) -> Result<Vec<Node>, NoMemory>
+    ensures { IfOk result (λ v. v.items ≡ nodes.now) }
+{
+    let mut copies = Vec::with_capacity(alloc, nodes.len())?;
+    for node in nodes {
+        copies.push(node.try_clone()?)?;
+    }
+    Ok(copies)
+}
+
+/// Whether two graphs have the same nodes and the same links. It takes no memory.
+pub fn same(a: &Graph, b: &Graph) -> bool
+    ensures { IsTrue result ↔ (a.now ≡ b.now) }
+{
+    a.nodes() == b.nodes() && a.links() == b.links()
 }

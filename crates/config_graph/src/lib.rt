@@ -8,12 +8,14 @@ mod list;
 mod node;
 mod numbering;
 mod text;
+mod writing;
 
-pub use graph::Graph;
+pub use graph::{Graph, same};
 pub use kind::{Kind, kind_of, kinds_have_their_names};
 pub use list::List;
 pub use node::{Link, Made, Node, Port, Target};
 pub use text::Text;
+pub use writing::graph_text;
 
 /// Memory ran out. Nothing else is wrong, and arguments are as before.
 pub type NoMemory = std::alloc::AllocError;

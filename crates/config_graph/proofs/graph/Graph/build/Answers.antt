@@ -1,5 +1,5 @@
 use Rattle.std.proofs.Common.{◌≡◌, ◌<◌, ◌^◌, ◌∙◌, ap, sym, subst, map, length, All}
-use Rattle.config_graph.specs.Graph.{Configuration, IsGraph, IsWithin, PathsRise, graph_of, in_port_order, ports}
+use Rattle.config_graph.specs.Graph.{IsGraph, IsWithin, PathsRise, graph_of, in_port_order, ports}
 use Rattle.config_graph.specs.Indexes.{incoming, links_in, targets}
 use Rattle.config_graph.specs.declared.node.Node.{Node}
 use Rattle.config_graph.proofs.OrderLemmas.{All-ordered, IsGraph-graph_of, links_in-targets, targets-ordered}

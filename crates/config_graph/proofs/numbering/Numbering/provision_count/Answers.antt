@@ -1,4 +1,4 @@
-use Rattle.std.proofs.Common.{arith, length, ◌∙◌}
+use Rattle.std.proofs.Common.{arith, ◌∙◌}
 use Rattle.config_graph.proofs.NumberingLemmas.{length-starts, total_is}
 use Rattle.config_graph.proofs.numbering.Numbering.provision_count.Goals as goal
 

@@ -1,4 +1,4 @@
-use Rattle.std.proofs.Common.{◌≡◌, ◌+◌, ◌<◌, ◌≤◌, ◌^◌, arith, length}
+use Rattle.std.proofs.Common.{◌≡◌, ◌+◌, ◌<◌, ◌^◌, arith, length}
 use Rattle.config_graph.specs.Graph.{provides_of}
 use Rattle.config_graph.specs.Numbering.{provision_number}
 use Rattle.config_graph.proofs.NumberingLemmas.{start_within, provision_is, provision_below, provisions-le}
