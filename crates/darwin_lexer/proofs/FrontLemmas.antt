@@ -14,7 +14,6 @@ use Rattle.std.specs.Str.Parse.{digits_value}
 use Rattle.darwin_lexer.specs.declared.token.Sign.{Sign}
 use Rattle.darwin_lexer.specs.declared.token.Sign.TheVariants as variants
 use Rattle.darwin_lexer.specs.declared.front.Front.{Front}
-use Rattle.darwin_lexer.specs.declared.front.TheConstants.{MAX_NAME, MAX_NUMBER}
 use Rattle.darwin_lexer.specs.Words.{begins_name, continues_name, is_blank, sign_bytes, signs}
 use Rattle.darwin_lexer.specs.Fronts.{through_close, line_comment, closed_or_open, block_comment, name, number, sign, sign_or_bad, IsWithin, front_of}
 
@@ -95,12 +94,12 @@ block_comment_within first rest begins = closed_within (first ∷ rest) _ (start
 name_within : (first : ℕ) (rest : List ℕ) → begins_name first ≡ true → IsWithin (length (first ∷ rest)) (name (first ∷ rest))
 name_within first rest begins =
     let n : ℕ = prefix_len continues_name (first ∷ rest) in
-    cond_both (nat_le n MAX_NAME) _ _ (IsWithin (length (first ∷ rest))) (λ _. prefix_within continues_name first rest (ap (λ b. b || is_ascii_digit first) begins)) (λ _. omega arith)
+    cond_both (nat_le n 64) _ _ (IsWithin (length (first ∷ rest))) (λ _. prefix_within continues_name first rest (ap (λ b. b || is_ascii_digit first) begins)) (λ _. omega arith)
 
 number_within : (first : ℕ) (rest : List ℕ) → is_ascii_digit first ≡ true → IsWithin (length (first ∷ rest)) (number (first ∷ rest))
 number_within first rest digit =
     let n : ℕ = prefix_len is_ascii_digit (first ∷ rest) in
-    cond_both (nat_le (digits_value 10 (take n (first ∷ rest))) MAX_NUMBER) _ _ (IsWithin (length (first ∷ rest))) (λ _. prefix_within is_ascii_digit first rest digit) (λ _. omega arith)
+    cond_both (nat_le (digits_value 10 (take n (first ∷ rest))) 2147483647) _ _ (IsWithin (length (first ∷ rest))) (λ _. prefix_within is_ascii_digit first rest digit) (λ _. omega arith)
 
 sign_has_bytes : (sign : Sign) → 0 < length (sign_bytes sign)
 sign_has_bytes variants.OpenBrace = lit< tt

@@ -16,7 +16,6 @@ use Rattle.darwin_lexer.specs.declared.token.Sign.{Sign}
 use Rattle.darwin_lexer.specs.declared.token.Sign.TheVariants as variants
 use Rattle.darwin_lexer.specs.declared.token.TokenKind.{TokenKind}
 use Rattle.darwin_lexer.specs.declared.token.TokenKind.TheVariants as kinds
-use Rattle.darwin_lexer.specs.declared.front.TheConstants.{MAX_NAME, MAX_NUMBER}
 use Rattle.darwin_lexer.specs.Words.{begins_name, continues_name, is_blank, keyword_bytes, keywords, keyword_of, kind_or_name, word_kind, sign_at, sign_bytes, signs, two_byte_signs, one_byte_signs}
 use Rattle.darwin_lexer.specs.Fronts.{through_close, line_comment, closed_or_open, block_comment, name, number, sign, sign_or_bad, front_of}
 use Rattle.darwin_lexer.proofs.FrontLemmas.{prefix_within, find_passes}
@@ -126,7 +125,7 @@ run_over test text more longer within all =
 abbrev is_word : List ℕ → Keyword → Bool
 is_word word keyword = bytes_eq (keyword_bytes keyword) word
 
-word_spelled : (word : List ℕ) → Letters word → length word ≤ MAX_NAME → Spells (word_kind word) word
+word_spelled : (word : List ℕ) → Letters word → length word ≤ 64 → Spells (word_kind word) word
 word_spelled word letters short = go (keyword_of word) refl
   where
     go : (found : Option Keyword) → keyword_of word ≡ found → Spells (kind_or_name found) word
@@ -158,12 +157,12 @@ name_means first rest begins =
     let text : List ℕ = first ∷ rest in
     let n : ℕ = prefix_len continues_name text in
     let within = prefix_within continues_name first rest (ap (λ b. b || is_ascii_digit first) begins) in
-    cond_both (nat_le n MAX_NAME) _ _ (Means text)
+    cond_both (nat_le n 64) _ _ (Means text)
     (λ short. record {
-      spelled = word_spelled (take n text) (ap begins_name (get_or-take n text 0 0 within.0) ∙ begins, run_passes continues_name text n (omega arith)) (omega (arith, length-take-le n text within.1, at_most n MAX_NAME short));
+      spelled = word_spelled (take n text) (ap begins_name (get_or-take n text 0 0 within.0) ∙ begins, run_passes continues_name text n (omega arith)) (omega (arith, length-take-le n text within.1, at_most n 64 short));
       longest = λ other more longer fits is. word_longest text other more begins longer fits is;
     })
-    (λ long. record { begins = begins; more = omega (arith, above n MAX_NAME long, within.1); goes_on = run_passes continues_name text (MAX_NAME + 1) (omega (arith, above n MAX_NAME long)) })
+    (λ long. record { begins = begins; more = omega (arith, above n 64 long, within.1); goes_on = run_passes continues_name text 65 (omega (arith, above n 64 long)) })
 
 -- numbers
 
@@ -183,12 +182,12 @@ number_means first rest digit =
     let value : ℕ = digits_value 10 (take n text) in
     let within = prefix_within is_ascii_digit first rest digit in
     let all = run_passes is_ascii_digit text n (omega arith) in
-    cond_both (nat_le value MAX_NUMBER) _ _ (Means text)
+    cond_both (nat_le value 2147483647) _ _ (Means text)
     (λ small. record {
-      spelled = record { some = omega (arith, length-take-le n text within.1, within.0); digits = all; written = refl; small = at_most value MAX_NUMBER small };
+      spelled = record { some = omega (arith, length-take-le n text within.1, within.0); digits = all; written = refl; small = at_most value 2147483647 small };
       longest = λ other more longer fits is. number_longest text other more digit longer fits is;
     })
-    (λ great. record { n = n; within = within.1; digits = all; all = λ shorter. prefix_len_stops is_ascii_digit text 0 shorter; great = above value MAX_NUMBER great })
+    (λ great. record { n = n; within = within.1; digits = all; all = λ shorter. prefix_len_stops is_ascii_digit text 0 shorter; great = above value 2147483647 great })
 
 -- signs
 

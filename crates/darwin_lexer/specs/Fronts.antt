@@ -8,7 +8,6 @@ use Rattle.darwin_lexer.specs.declared.token.TokenKind.TheVariants as kinds
 use Rattle.darwin_lexer.specs.declared.front.Front.{Front}
 use Rattle.darwin_lexer.specs.declared.front.Front.TheVariants.{End, Gap, Lexeme, Broken}
 use Rattle.darwin_lexer.specs.declared.front.Fault.TheVariants.{BadByte, OpenComment, LongName, BigNumber}
-use Rattle.darwin_lexer.specs.declared.front.TheConstants.{MAX_NAME, MAX_NUMBER}
 use Rattle.darwin_lexer.specs.Words.{is_blank, begins_name, continues_name, word_kind, sign_at, sign_bytes}
 
 -- a comment that ends before the next line feed, or with the text
@@ -28,13 +27,13 @@ closed_or_open (Some n) = Gap (2 + n)
 abbrev pub block_comment : List ℕ → Front
 block_comment text = closed_or_open (through_close (drop 2 text))
 
--- all the letters, digits and `_` that follow one another: a keyword or a name
+-- all the letters, digits and `_` that follow one another: a keyword or a name of at most 64 bytes
 abbrev pub name : List ℕ → Front
-name text = let n = prefix_len continues_name text in if nat_le n MAX_NAME then Lexeme (word_kind (take n text)) n else Broken LongName
+name text = let n = prefix_len continues_name text in if nat_le n 64 then Lexeme (word_kind (take n text)) n else Broken LongName
 
--- a number of that many digits, where it isn't too great
+-- a number of that many digits, at most 2,147,483,647
 abbrev pub number_or_big : ℕ → ℕ → Front
-number_or_big value n = if nat_le value MAX_NUMBER then Lexeme (kinds.Number value) n else Broken BigNumber
+number_or_big value n = if nat_le value 2147483647 then Lexeme (kinds.Number value) n else Broken BigNumber
 
 -- all the digits that follow one another, with the number that they write
 abbrev pub number : List ℕ → Front
@@ -48,7 +47,7 @@ sign_or_bad (Some sign) = Lexeme (kinds.Sign sign) (length (sign_bytes sign))
 abbrev pub sign : List ℕ → Front
 sign text = sign_or_bad (sign_at text)
 
--- Comments come before the sign `/`.
+-- The one piece at the front: comments come before the sign `/`.
 abbrev pub front_of : List ℕ → Front
 front_of [] = End
 front_of (first ∷ rest) = let text = first ∷ rest in

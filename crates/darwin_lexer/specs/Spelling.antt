@@ -11,28 +11,27 @@ use Rattle.darwin_lexer.specs.declared.front.Front.{Front}
 use Rattle.darwin_lexer.specs.declared.front.Front.TheVariants.{End, Gap, Lexeme, Broken}
 use Rattle.darwin_lexer.specs.declared.front.Fault.{Fault}
 use Rattle.darwin_lexer.specs.declared.front.Fault.TheVariants.{BadByte, OpenComment, LongName, BigNumber}
-use Rattle.darwin_lexer.specs.declared.front.TheConstants.{MAX_NAME, MAX_NUMBER}
 use Rattle.darwin_lexer.specs.Places.{place_of}
 use Rattle.darwin_lexer.specs.Words.{is_blank, begins_name, continues_name, keyword_bytes, sign_bytes}
 
--- a letter or `_`, then letters, digits and `_`, not too many, and no keyword
-pub record IsName (bytes : List ℕ) : Type 0 where
+-- a letter or `_`, then letters, digits and `_`, at most 64 bytes, and no keyword
+pub record SpellsName (bytes : List ℕ) : Type 0 where
   pub begins : begins_name (slice_index bytes 0) ≡ true
   pub goes_on : AllPass continues_name bytes
-  pub short : length bytes ≤ MAX_NAME
+  pub short : length bytes ≤ 64
   pub own : (keyword : Keyword) → bytes ≢ keyword_bytes keyword
 
--- digits that write a number, not too great
-pub record IsNumber (bytes : List ℕ) (value : ℕ) : Type 0 where
+-- digits that write a number, at most 2,147,483,647
+pub record SpellsNumber (bytes : List ℕ) (value : ℕ) : Type 0 where
   pub some : 0 < length bytes
   pub digits : AllPass is_ascii_digit bytes
   pub written : value ≡ digits_value 10 bytes
-  pub small : value ≤ MAX_NUMBER
+  pub small : value ≤ 2147483647
 
 -- These bytes are a token of this kind.
 abbrev pub Spells : TokenKind → List ℕ → Type 0
-Spells Name bytes = IsName bytes
-Spells (Number value) bytes = IsNumber bytes value
+Spells Name bytes = SpellsName bytes
+Spells (Number value) bytes = SpellsNumber bytes value
 Spells (Word keyword) bytes = bytes ≡ keyword_bytes keyword
 Spells (Sign sign) bytes = bytes ≡ sign_bytes sign
 
@@ -84,8 +83,8 @@ pub record NeverCloses (text : List ℕ) : Type 0 where
 -- A text begins as a name does, and goes on too long.
 pub record IsTooLong (text : List ℕ) : Type 0 where
   pub begins : begins_name (slice_index text 0) ≡ true
-  pub more : MAX_NAME < length text
-  pub goes_on : AllPass continues_name (take (MAX_NAME + 1) text)
+  pub more : 64 < length text
+  pub goes_on : AllPass continues_name (take 65 text)
 
 -- All digits at the front of a text write too great a number.
 pub record IsTooGreat (text : List ℕ) : Type 0 where
@@ -93,7 +92,7 @@ pub record IsTooGreat (text : List ℕ) : Type 0 where
   pub within : n ≤ length text
   pub digits : AllPass is_ascii_digit (take n text)
   pub all : n < length text → is_ascii_digit (slice_index text n) ≡ false
-  pub great : MAX_NUMBER < digits_value 10 (take n text)
+  pub great : 2147483647 < digits_value 10 (take n text)
 
 abbrev pub IsFault : List ℕ → Fault → Type 0
 IsFault text BadByte = BeginsNothing text
