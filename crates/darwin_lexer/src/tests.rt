@@ -2,14 +2,15 @@
 
 ghost use Rattle.std.specs.Prelude.{◌≤◌, length};
 
-use crate::{At, Keyword, LexError, MAX_TEXT, Sign, Token, TokenKind, lex};
+use crate::{At, Keyword, LexError, MAX_TEXT, Sign, Token, TokenKind, is_name, lex};
 use std::alloc::Global;
 use std::process::Abort;
 use std::test::Fail;
 
 const NAME_64: &[u8] = b"a123456789_123456789_123456789_123456789_123456789_123456789_123";
 
-const NAME_65: &[u8] = b"a123456789_123456789_123456789_123456789_123456789_123456789_1234";
+const NAME_65_ON_LINE_2: &[u8] =
+    b"\n a123456789_123456789_123456789_123456789_123456789_123456789_1234";
 
 /// The number of a text's first fault, with its line and column; zeros where there is none.
 fn fault(alloc: Global, text: &[u8]) -> (u32, u32, u32)
@@ -193,8 +194,17 @@ fn the_first_fault_with_its_place(rt: HostRuntime) -> Result<(), Fail> {
     assert_eq!(rt; fault(rt.alloc(), b"a\r\xc3"), (1, 1, 3));
     assert_eq!(rt; fault(rt.alloc(), b"// a\n x /*/"), (2, 2, 4));
     assert_eq!(rt; fault(rt.alloc(), b"/* * / /"), (2, 1, 1));
-    assert_eq!(rt; fault(rt.alloc(), NAME_65), (3, 1, 1));
+    assert_eq!(rt; fault(rt.alloc(), NAME_65_ON_LINE_2), (3, 2, 2));
     assert_eq!(rt; fault(rt.alloc(), b"/*\n*/2147483648"), (4, 2, 3));
     assert_eq!(rt; fault(rt.alloc(), b"x\n$ /*"), (1, 2, 1));
     Ok(())
+}
+
+#[test]
+fn a_name_stands_by_itself(rt: HostRuntime) {
+    assert!(rt; is_name(b"fork_1"));
+    assert!(rt; is_name(NAME_64));
+    assert!(rt; !is_name(b"when"));
+    assert!(rt; !is_name(b"fork 1"));
+    assert!(rt; !is_name(b""));
 }
