@@ -52,7 +52,12 @@ with_service s n v = record s { traffic = record s.traffic { services = slice_se
 
 -- the node to which the port is linked services this
 abbrev pub with_target_service : State → ℕ → Option Service → State
-with_target_service s p v = option_map_or (λ (t : Target). with_service s t.node v) (target s.config p) s
+with_target_service s p v =
+    record s {
+      traffic = record s.traffic {
+        services = option_map_or (λ (t : Target). slice_set s.traffic.services t.node v) (target s.config p) s.traffic.services;
+      };
+    }
 
 -- one more call was made in the service of node n
 abbrev pub with_call : State → ℕ → State

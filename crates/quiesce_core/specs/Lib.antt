@@ -3,6 +3,7 @@ pub mod Phases
 pub mod Reach
 pub mod Effect
 pub mod Rules
+pub mod Legal
 pub mod Each
 pub mod Runs
 pub mod Settled
@@ -12,3 +13,4 @@ pub mod Knowledge
 pub mod WellFormed
 pub mod Known
 pub mod Tables
+pub mod Machine

@@ -4,15 +4,21 @@
 #![tactic(auto)]
 
 mod denial;
+mod effect;
+mod error;
 mod event;
 mod known;
+mod machine;
+mod making;
 mod reach;
 mod rules;
 mod state;
 mod tables;
 mod word;
 
+pub use error::CoreError;
 pub use event::Event;
 pub use known::Served;
+pub use machine::Core;
 pub use state::{Exchange, Gate, Phase, Service, Slot};
 pub use word::Word;

@@ -6,6 +6,7 @@ ghost use Rattle.quiesce_core.specs.Tables.{state_of};
 
 use crate::state::{Exchange, Gate, Phase, Service, Slot};
 use config_graph::{Kind, Target};
+use std::alloc::Global;
 
 /// What a port that was never made looks like.
 pub const FRESH_GATE: Gate = Gate {
@@ -33,6 +34,17 @@ pub struct Tables {
 }
 
 impl Tables {
+    pub fn new(alloc: Global) -> Tables
+        ensures state { state_of result ≡ state.empty }
+    {
+        Tables {
+            slots: Vec::new(alloc),
+            services: Vec::new(alloc),
+            gates: Vec::new(alloc),
+            exchanges: Vec::new(alloc),
+        }
+    }
+
     pub fn slot(&self, node: u32) -> Option<&Slot>
         ensures { option_map (λ m. m.now) result ≡ state.slot (state_of self.now).config node }
     {

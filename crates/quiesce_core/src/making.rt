@@ -1,0 +1,83 @@
+//! How nodes come to be in the tables, and the memory for them.
+
+ghost use Rattle.std.specs.Prelude.{◌≡◌, ℕ, ◌+◌, ◌<◌, ◌≤◌, ◌++◌, length, replicate, OnOk, vec_capacity};
+ghost use Rattle.config_graph.specs.Kinds.{row};
+ghost use Rattle.quiesce_core.specs.State.{fresh_exchange};
+ghost use Rattle.quiesce_core.specs.Effect as effect;
+ghost use Rattle.quiesce_core.specs.Machine.{HasRoom, KeepsRoom};
+ghost use Rattle.quiesce_core.specs.WellFormed.{IsWellFormed};
+ghost use Rattle.quiesce_core.specs.Tables.{state_of};
+ghost use Rattle.quiesce_core.specs.declared.event.Event.TheVariants as event;
+
+use crate::state::{Exchange, Gate, Slot};
+use crate::tables::{FRESH_EXCHANGE, FRESH_GATE, Tables};
+use config_graph::{NoMemory, Node};
+
+/// No kind requires more services than this.
+const MOST_REQUIRES: usize = 2;
+
+/// Adds the gates of a new node. They have their room.
+fn push_gates(gates: &mut Vec<Gate>, owner: u32, requires_: u32)
+    requires { length gates.old.items + requires_ ≤ vec_capacity gates.old }
+    ensures items { gates.new.items ≡ gates.old.items ++ effect.new_gates owner requires_ }
+    ensures room { vec_capacity gates.old ≤ vec_capacity gates.new }
+{
+    for require in 0..requires_ {
+        let gate = Gate {
+            owner,
+            require,
+            ..FRESH_GATE
+        };
+        let _ = gates.push(gate);
+    }
+}
+
+/// Adds the exchanges of a new node. They have their room.
+fn push_exchanges(exchanges: &mut Vec<Exchange>, requires_: u32)
+    requires { length exchanges.old.items + requires_ ≤ vec_capacity exchanges.old }
+    ensures items { exchanges.new.items ≡ exchanges.old.items ++ replicate requires_ fresh_exchange }
+    ensures room { vec_capacity exchanges.old ≤ vec_capacity exchanges.new }
+{
+    for _ in 0..requires_ {
+        let _ = exchanges.push(FRESH_EXCHANGE);
+    }
+}
+
+impl Tables {
+    /// Makes room for so many nodes.
+    pub fn reserve(&mut self, nodes: usize) -> Result<(), NoMemory>
+        requires { nodes ≤ 1023 }
+        ensures state { state_of self.new ≡ state_of self.old }
+        ensures ok { OnOk result (HasRoom self.new nodes) }
+        ensures kept { KeepsRoom self.old self.new }
+    {
+        self.slots.reserve(nodes)?;
+        self.services.reserve(nodes)?;
+        self.gates.reserve(MOST_REQUIRES * nodes)?;
+        self.exchanges.reserve(MOST_REQUIRES * nodes)?;
+        Ok(())
+    }
+
+    /// The node is in the next slot, and its ports follow those made before. There is room for it.
+    pub fn add(&mut self, node: Node, from: Option<u32>)
+        requires well_formed { IsWellFormed (state_of self.old) }
+        requires room { (spare : ℕ) × (0 < spare) × HasRoom self.old spare }
+        requires few { length self.old.slots.items < 1023 }
+        requires ports { length self.old.gates.items + length (row node.kind).requires_ ≤ 4096 }
+        ensures state { state_of self.new ≡ effect.effect (state_of self.old) (event.Make (length self.old.slots.items) node from) }
+        ensures room { (spare : ℕ) → HasRoom self.old (spare + 1) → HasRoom self.new spare }
+    {
+        let owner = self.slots.len() as u32;
+        let requires_ = node.kind.requires_();
+        let slot = Slot {
+            node,
+            first_port: self.gates.len() as u32,
+            from,
+            live: true,
+        };
+        let _ = self.slots.push(slot);
+        let _ = self.services.push(None);
+        push_gates(&mut self.gates, owner, requires_);
+        push_exchanges(&mut self.exchanges, requires_);
+    }
+}
