@@ -5,3 +5,4 @@ pub mod PathLemmas
 pub mod OrderLemmas
 pub mod SameLemmas
 pub mod TextLemmas
+pub mod IncomingLemmas

@@ -9,7 +9,7 @@ use Rattle.config_graph.specs.Graph.{begins_at, ends_at, link_at, target_of, inc
 use Rattle.std.proofs.Common.{zero-add, length-take, get_or-take, append-nil, replicate, not, ltb, bytes_eq, position, IfSome}
 use Rattle.std.proofs.Math.ListN.{get_or-map}
 use Rattle.std.specs.List.{prefix_len}
-use Rattle.std.proofs.lemmas.Option.{slice_get-map, get_or_from_slice_get}
+use Rattle.std.proofs.lemmas.Option.{slice_get-get_or, slice_get-map, get_or_from_slice_get}
 use Rattle.config_graph.specs.Indexes.{targets, incoming}
 use Rattle.config_graph.specs.Numbering.{provisions, provision_number}
 use Rattle.config_graph.proofs.NumberingLemmas.{get-numbered, place-numbered}
@@ -81,6 +81,22 @@ port_number-place nodes q p h =
     let place = place-numbered requires_of (λ j r. record { node = j; require = r }) 0 nodes q p h in
     place.number ∙ ap (λ i. port_number nodes i place.index) (sym (zero-add place.node)) ∙ sym (ap (λ x. port_number nodes x.node x.require) place.is)
 
+pub require_within : (nodes : List Node) (q : ℕ) (p : Port) → slice_get (ports nodes) q ≡ Some p → p.require < requires_at nodes p.node
+require_within nodes q p h =
+    let place = place-numbered requires_of (λ j r. record { node = j; require = r }) 0 nodes q p h in
+    let at : place.index < requires_at nodes (0 + place.node) = rw zero-add place.within in
+    subst (λ x. x.require < requires_at nodes x.node) (sym place.is) at
+
+-- what a list of all ports has at a number
+module _ (nodes : List Node) (ps : List Port) (q : ℕ) (d : Port) (ps_are : ps ≡ ports nodes) (low : q < length (ports nodes)) where
+  pub number_read : port_number nodes (get_or ps q d).node (get_or ps q d).require ≡ q
+  number_read =
+      ap (λ t. port_number nodes (get_or t q d).node (get_or t q d).require) ps_are ∙ sym (port_number-place nodes q (get_or (ports nodes) q d) (slice_get-get_or (ports nodes) q d low))
+
+  pub require_read : (get_or ps q d).require < requires_at nodes (get_or ps q d).node
+  require_read =
+      subst (λ t. (get_or t q d).require < requires_at nodes (get_or t q d).node) (sym ps_are) (require_within nodes q (get_or (ports nodes) q d) (slice_get-get_or (ports nodes) q d low))
+
 pub provision_number-place : (nodes : List Node) (q : ℕ) (t : Target) → slice_get (provisions nodes) q ≡ Some t → q ≡ provision_number nodes t.node t.provide
 provision_number-place nodes q t h =
     let place = place-numbered provides_of (λ j x. record { node = j; provide = x }) 0 nodes q t h in
@@ -110,7 +126,7 @@ find_not_last {A = A} p xs x here =
     or_none (Some y) = refl
 
 -- of two links at different ports, neither begins at the other's
-begins_apart : (k l : Link) → begins_at k.from k.require l ≡ false → begins_at l.from l.require k ≡ false
+pub begins_apart : (k l : Link) → begins_at k.from k.require l ≡ false → begins_at l.from l.require k ≡ false
 begins_apart k l h = by (begins_at l.from l.require k) refl
   where
     by : (b : Bool) → begins_at l.from l.require k ≡ b → b ≡ false

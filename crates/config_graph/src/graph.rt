@@ -1,7 +1,9 @@
 //! Configurations as flat graphs, with the indexes that answer look-ups at once.
 
-ghost use Rattle.std.specs.Prelude.{◌≡◌, ◌+◌, ◌^◌, ◌<◌, ◌↔◌, length, slice_get, Some, IfOk, IfSome, All, IsTrue};
-ghost use Rattle.config_graph.specs.Graph.{IsGraph, IsWithin, OneLinkAPort, PathsRise, graph_of, incoming_ports, index_of, ports, provides_at, requires_at, target_of};
+ghost use Rattle.std.specs.Prelude.{◌≡◌, ◌+◌, ◌^◌, ◌<◌, ◌↔◌, ℕ, length, slice_get, Some, IfOk, IfSome, All, Contains, IsTrue};
+ghost use Rattle.std.specs.List.Sorted.{IsStrictlyIncreasing};
+ghost use Rattle.config_graph.specs.declared.node.Link.{Link};
+ghost use Rattle.config_graph.specs.Graph.{IsGraph, IsWithin, OneLinkAPort, PathsRise, graph_of, incoming_ports, index_of, port_number, ports, provides_at, requires_at, target_of};
 
 use crate::numbering::Numbering;
 use crate::{Link, NoMemory, Node, Port, Target, indexes};
@@ -41,7 +43,9 @@ impl Graph {
         requires one_link_a_port { OneLinkAPort links.items }
         requires few_nodes { length nodes.items < 2 ^ 32 }
         requires few_ports { length (ports nodes.items) < 2 ^ 32 }
-        ensures { IfOk result (λ g. g ≡ graph_of nodes.items links.items) }
+        ensures graph { IfOk result (λ g. g ≡ graph_of nodes.items links.items) }
+        ensures same_links { IfOk result
+            (λ g. (l : Link) → Contains g.links l ↔ Contains links.items l) }
     {
         let nodes = Numbering::of(alloc, nodes)?;
         let targets = indexes::list_targets(alloc, &nodes, &links)?;
@@ -91,7 +95,9 @@ impl Graph {
     /// The port of this number.
     pub fn port(&self, number: u32) -> Port
         requires { number < length (ports self.now.nodes) }
-        ensures { slice_get (ports self.now.nodes) number ≡ Some result }
+        ensures port { slice_get (ports self.now.nodes) number ≡ Some result }
+        ensures number { port_number self.now.nodes result.node result.require ≡ number }
+        ensures within { result.require < requires_at self.now.nodes result.node }
     {
         self.nodes.ports()[number as usize]
     }
@@ -109,7 +115,8 @@ impl Graph {
         ensures target { result ≡ target_of self.now.links index require }
         ensures within { IfSome result (λ t. t.provide < provides_at self.now.nodes t.node) }
     {
-        self.targets[self.nodes.port_number(index, require) as usize]
+        let port = self.nodes.port_number(index, require) as usize;
+        self.targets[port]
     }
 
     /// The index of the node with this path, or `None` where no node has it.
@@ -133,7 +140,11 @@ impl Graph {
     /// The numbers of the ports that are linked to a node's provision, in rising order.
     pub fn incoming(&self, node: u32, provide: u32) -> &[u32]
         requires { provide < provides_at self.now.nodes node }
-        ensures { result.now ≡ incoming_ports self.now node provide }
+        ensures ports { result.now ≡ incoming_ports self.now node provide }
+        ensures rising { IsStrictlyIncreasing result.now }
+        ensures linked { (i r : ℕ) → r < requires_at self.now.nodes i
+            → (Contains result.now (port_number self.now.nodes i r)
+            ↔ (target_of self.now.links i r ≡ Some (record { node = node; provide = provide }))) }
     {
         self.incoming[self.nodes.provision_number(node, provide) as usize].as_slice()
     }

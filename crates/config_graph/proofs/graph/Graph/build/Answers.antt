@@ -2,6 +2,7 @@ use Rattle.std.proofs.Common.{◌≡◌, ◌<◌, ◌^◌, ◌∙◌, ap, sym, s
 use Rattle.config_graph.specs.Graph.{IsGraph, IsWithin, PathsRise, graph_of, in_port_order, ports}
 use Rattle.config_graph.specs.Indexes.{incoming, links_in, targets}
 use Rattle.config_graph.specs.declared.node.Node.{Node}
+use Rattle.config_graph.proofs.IncomingLemmas.{Contains-in_order}
 use Rattle.config_graph.proofs.OrderLemmas.{All-ordered, IsGraph-graph_of, links_in-targets, targets-ordered}
 use Rattle.config_graph.proofs.graph.Graph.build.Goals as goal
 use Rattle.config_graph.proofs.graph.Graph.build.Goals.{After-deref-3}
@@ -39,9 +40,13 @@ invariant_of-result c =
       paths_are = c.in_ok-paths.ensures ∙ ap (map (λ (n : Node). n.path)) c.nodes-2.ensures.nodes;
     }
 
-pub returns : goal.returns
-returns c =
-    let d = (goal.at.returns c).After-deref-3 in
+pub returns-clause-graph : goal.returns-clause-graph
+returns-clause-graph c =
+    let d = (goal.at.returns-clause-graph c).After-deref-3 in
     let nodes = c.in_ok-nodes.nodes in
     let ordered : record { nodes = nodes; links = c.in_ok-links.links.items } ≡ graph_of nodes c.args.links.items = λ i. record { nodes = nodes; links = links_are d i } in
     ordered ∙ ap (λ ns. graph_of ns c.args.links.items) c.in_ok-nodes.ensures
+
+pub returns-clause-same_links : goal.returns-clause-same_links
+returns-clause-same_links c =
+    λ l. rw (links_are (goal.at.returns-clause-same_links c).After-deref-3) (Contains-in_order c.in_ok-nodes.nodes c.args.links.items (within (goal.at.returns-clause-same_links c).After-deref-3) c.requires.one_link_a_port l)

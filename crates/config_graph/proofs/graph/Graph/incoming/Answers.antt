@@ -1,13 +1,15 @@
-use Rattle.std.proofs.Common.{◌<◌, ◌∙◌, ap, sym, slice_get}
+use Rattle.std.proofs.Common.{◌≡◌, ◌<◌, ◌∙◌, ap, sym, slice_get}
 use Rattle.std.proofs.Math.ListN.{get_or-map}
-use Rattle.config_graph.specs.Graph.{provides_at, incoming_ports}
+use Rattle.config_graph.specs.Graph.{IsGraph, provides_at, incoming_ports}
 use Rattle.config_graph.specs.Indexes.{graph_in}
 use Rattle.config_graph.specs.Numbering.{provisions}
+use Rattle.config_graph.proofs.IncomingLemmas.{incoming-linked, incoming-rising}
 use Rattle.config_graph.proofs.LinkLemmas.{get-provisions, table_read}
 use Rattle.config_graph.proofs.graph.Graph.incoming.Goals as goal
+use Rattle.config_graph.proofs.graph.Graph.incoming.Goals.{After-as_slice}
 
-pub returns : goal.returns
-returns c =
+lists : (c : After-as_slice) → c.as_slice.result.now ≡ incoming_ports c.args.self.now c.args.node c.args.provide
+lists c =
     let g = graph_in c.self.inside in
     let i = c.args.node in
     let x = c.args.provide in
@@ -17,3 +19,15 @@ returns c =
     let lists = c.self.inside.incoming.items in
     let read = ap (λ v. v.items) c.index.ensures ∙ sym (get_or-map (λ v. v.items) lists q c.index.result.now) in
     rw (← c.self.view_is) (c.as_slice.ensures.value ∙ table_read (λ t. incoming_ports g t.node t.provide) (provisions g.nodes) _ q _ _ c.self.invariant.incoming_are at read)
+
+is_graph : (c : After-as_slice) → IsGraph c.args.self.now
+is_graph c = rw (← c.self.view_is) c.self.invariant.graph
+
+pub returns-clause-ports : goal.returns-clause-ports
+returns-clause-ports c = lists c
+
+pub returns-clause-rising : goal.returns-clause-rising
+returns-clause-rising c = rw (lists c) (incoming-rising c.args.self.now (is_graph c) c.args.node c.args.provide)
+
+pub returns-clause-linked : goal.returns-clause-linked
+returns-clause-linked c = rw (lists c) (incoming-linked c.args.self.now (is_graph c) c.args.node c.args.provide)
