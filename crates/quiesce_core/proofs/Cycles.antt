@@ -1,7 +1,7 @@
 -- Walks along links that a service may use, and ranks that fall along them.
 use Rattle.std.proofs.Common.{◌≡◌, ℕ, zero, suc, ◌+◌, ◌<◌, ◌≤◌, Bool, true, false, cond, eqb, not, ◌&&◌, List, [], length, Option, Some, None, refl, sym, ap, ◌∙◌, subst, inl, inr, ⊎_elim, arith}
 use Rattle.std.specs.Prelude.{nat_lt, slice_get}
-use Rattle.std.specs.List.{list_any, range_with_len}
+use Rattle.std.specs.List.{list_any, list_all, range_with_len}
 use Rattle.std.specs.Option.{option_map_or}
 use Rattle.std.proofs.lemmas.Bool.{and_parts, and_from, both_ways, cases_Bool, cases_lt, false_from_ne_true, ltb-true, lt-ltb, le-ltb, eqb-true, eq-eqb, not-true, not_from_false}
 use Rattle.std.proofs.lemmas.Option.{slice_get_cases}
@@ -175,3 +175,16 @@ pub port_in : (c : Configuration) (n a k q : ℕ) → range_with_len a k ≡ por
 port_in c n a k q e l u =
     let w = any_of c n (λ i. eqb i q) (sym (ap (λ ps. list_any (λ i. eqb i q) ps) e) ∙ range_has (λ i. eqb i q) a k q l u (eq-eqb q q refl)) in
     subst (λ i. IsPortOf c n i) (eqb-true w.port q w.passes) w.owned
+
+-- each port of a node passes
+pub all_of : (c : Configuration) (n : ℕ) (test : ℕ → Bool) (p : ℕ) → list_all test (ports_of c n) ≡ true → IsPortOf c n p → test p ≡ true
+all_of c n test p h o =
+    all_in_range test o.node.first_port (length (row o.node.node.kind).requires_) p (sym (ap (λ x. list_all test (ports_in x)) o.made) ∙ h) o.from o.below
+
+of_all_in : (c : Configuration) (n : ℕ) (test : ℕ → Bool) (o : Option Slot) → slot c n ≡ o → ((p : ℕ) → IsPortOf c n p → test p ≡ true) → list_all test (ports_in o) ≡ true
+of_all_in c n test None e h = refl
+of_all_in c n test (Some m) e h =
+    range_all test m.first_port (length (row m.node.kind).requires_) (λ p l u. h p (record { node = m; made = e; from = l; below = u }))
+
+pub of_all : (c : Configuration) (n : ℕ) (test : ℕ → Bool) → ((p : ℕ) → IsPortOf c n p → test p ≡ true) → list_all test (ports_of c n) ≡ true
+of_all c n test h = of_all_in c n test (slot c n) refl h

@@ -5,3 +5,4 @@ pub mod Reaching
 pub mod LegalLemmas
 pub mod Places
 pub mod Soundness
+pub mod SettledLemmas

@@ -1,10 +1,10 @@
 -- Where in the tables a legal event writes, and that what it counts stays small.
-use Rattle.std.proofs.Common.{◌≡◌, ℕ, ◌+◌, ◌<◌, ◌≤◌, true, false, List, [], ◌∷◌, ◌++◌, append_assoc, length, length-append, Option, Some, None, refl, sym, ap, ◌∙◌, arith}
+use Rattle.std.proofs.Common.{◌≡◌, ℕ, ◌+◌, ◌<◌, ◌≤◌, true, false, List, [], ◌∷◌, ◌++◌, append_assoc, length, length-append, Option, Some, None, refl, sym, ap, ◌∙◌, subst, arith}
 use Rattle.std.specs.Prelude.{nat_lt}
 use Rattle.std.specs.Option.{option_map_or}
 use Rattle.std.proofs.lemmas.Bool.{and_parts, ltb-true}
 use Rattle.std.proofs.lemmas.Option.{slice_get_within}
-use Rattle.config_graph.specs.Kinds.{calls_of, mores_of}
+use Rattle.config_graph.specs.Kinds.{row, calls_of, mores_of}
 use Rattle.config_graph.specs.declared.node.Target.{Target}
 use Rattle.quiesce_core.specs.declared.state.Slot.{Slot}
 use Rattle.quiesce_core.specs.declared.state.Service.{Service}
@@ -13,8 +13,9 @@ use Rattle.quiesce_core.specs.Effect.{new_gates}
 use Rattle.std.proofs.lemmas.List.FromFn.{map-range_with_len_more, length-map-range_with_len}
 use Rattle.quiesce_core.specs.State.{Configuration, State, slot, is_live, owner, target, provision, calls_allowed, mores_allowed, service}
 use Rattle.quiesce_core.specs.Rules.{is_live_port, has_calls_left, has_mores_left}
+use Rattle.quiesce_core.specs.WordFields.{FitsTarget}
 use Rattle.quiesce_core.specs.WellFormed.{IsWellFormed}
-use Rattle.quiesce_core.proofs.KindLemmas.{few_calls, few_mores}
+use Rattle.quiesce_core.proofs.KindLemmas.{one_provision, few_calls, few_mores}
 use Rattle.quiesce_core.proofs.Cycles.{map_or_true, map_or_at}
 
 pub live_made : (c : Configuration) (n : ℕ) → is_live c n ≡ true → n < length c.slots
@@ -63,3 +64,15 @@ new_gates_more gates n k =
 pub new_gates_length : (gates : List Gate) (n k : ℕ) → length (gates ++ new_gates n k) ≡ length gates + k
 new_gates_length gates n k =
     length-append gates (new_gates n k) ∙ ap (λ i. length gates + i) (length-map-range_with_len (λ r. record { owner = n; require = r; closed = true; target = None }) 0 k)
+
+-- the target of a port has its room in a word
+pub fits_target : (s : State) → IsWellFormed s → (p : ℕ) (t : Target) → target s.config p ≡ Some t → FitsTarget t
+fits_target s w p t e =
+    let l = w.sound.targets p t e in
+    let m = map_or_true (λ (m : Slot). m.live) (slot s.config t.node) l.live in
+    let inside : t.provide < length (row m.0.node.kind).provides =
+    subst (λ i. t.provide < i) (map_or_at (λ (m : Slot). length (row m.node.kind).provides) (slot s.config t.node) 0 m.0 m.1) l.provided in
+    record {
+      node = omega (arith, live_made s.config t.node l.live, w.sound.few_nodes);
+      provide = omega (arith, inside, one_provision m.0.node.kind);
+    }

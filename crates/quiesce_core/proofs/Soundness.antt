@@ -1,11 +1,11 @@
 -- Each event keeps a state well formed.
-use Rattle.std.proofs.Common.{◌≡◌, ℕ, ◌+◌, ◌-◌, ◌<◌, ◌≤◌, Bool, true, false, not, eqb, ◌&&◌, List, [], ◌∷◌, length, set, replicate, Option, Some, None, refl, sym, ap, ◌∙◌, subst, ⊎_elim, arith, length-set, length-append, get_or-set_same, get_or-set_other}
-use Rattle.std.specs.Prelude.{◌==◌, nat_lt, nat_le, is_none, slice_get}
+use Rattle.std.proofs.Common.{◌≡◌, ℕ, zero, suc, ◌+◌, ◌-◌, ◌<◌, ◌≤◌, Bool, true, false, not, eqb, ◌&&◌, List, [], ◌∷◌, ◌++◌, length, get_or, set, replicate, Option, Some, None, refl, sym, ap, ◌∙◌, subst, ⊎_elim, arith, length-set, length-append, get_or-set_same, get_or-set_other}
+use Rattle.std.specs.Prelude.{◌==◌, nat_lt, nat_le, is_none, slice_get, option_map}
 use Rattle.std.specs.List.{list_all, range_with_len}
 use Rattle.std.specs.Option.{option_map_or}
 use Rattle.std.proofs.lemmas.Bool.{and_parts, both_ways, cases_eq, cases_lt, eqb-true, ltb-true, leb-true, not-true, eq-eqb}
 use Rattle.std.proofs.lemmas.Option.{slice_get_within}
-use Rattle.std.proofs.lemmas.List.{length-replicate, get_or_append_left, get_or-append-add, get_or_past}
+use Rattle.std.proofs.lemmas.List.{length-replicate, get_or_append_left, get_or-append-add, get_or-append_right, get_or_past, set_past}
 use Rattle.std.proofs.lemmas.List.FromFn.{get_or-map-range_with_len, length-map-range_with_len}
 use Rattle.config_graph.specs.Kinds.{row, is_depended_on}
 use Rattle.config_graph.specs.declared.node.Node.{Node}
@@ -15,11 +15,13 @@ use Rattle.quiesce_core.specs.declared.event.Event.TheVariants.{Begin, Call, Tak
 use Rattle.quiesce_core.specs.declared.state.Slot.{Slot}
 use Rattle.quiesce_core.specs.declared.state.Gate.{Gate}
 use Rattle.quiesce_core.specs.declared.state.Service.{Service}
-use Rattle.quiesce_core.specs.State.{Configuration, State, empty, fresh_gate, fresh_exchange, slot, is_live, ports_of, gate, owner, target, provides}
+use Rattle.quiesce_core.specs.declared.state.Exchange.{Exchange}
+use Rattle.quiesce_core.specs.declared.state.Phase.TheVariants as phase
+use Rattle.quiesce_core.specs.State.{Configuration, State, empty, fresh_gate, fresh_exchange, slot, is_live, ports_of, gate, owner, target, provides, exchange, service}
 use Rattle.quiesce_core.specs.Reach.{IsPortOf, Leads, has_no_cycle}
-use Rattle.quiesce_core.specs.WellFormed.{StandInARow, LeadsToProvision, IsSound, IsWellFormed}
+use Rattle.quiesce_core.specs.WellFormed.{StandInARow, LeadsToProvision, IsWithinBounds, IsSound, IsWellFormed}
 use Rattle.quiesce_core.specs.Effect.{with_gate, closed, linked, removed, new_gates, with_node, effect}
-use Rattle.quiesce_core.specs.Rules.{is_apart}
+use Rattle.quiesce_core.specs.Rules.{is_apart, is_next_serial, is_value}
 use Rattle.quiesce_core.specs.Legal.{Legal}
 use Rattle.quiesce_core.proofs.Places.{gate_place}
 use Rattle.quiesce_core.proofs.Lists.{all_in_range, slice_get_set_same, slice_get_set_other, slice_get_front, slice_get_last, slice_get_snoc}
@@ -328,19 +330,46 @@ apart_from s n h q t e same =
     let other : not (eqb t.node n) ≡ true = sym (map_or_at (λ (t : Target). not (t.node == n)) (target s.config q) true t e) ∙ not_here in
     both_ways (eqb t.node n) (not-true (eqb t.node n) other) (eq-eqb t.node n same)
 
+-- bounds, after a write and behind the last port
+bounds_set : (xs : List Exchange) → ((q : ℕ) → IsWithinBounds (get_or xs q fresh_exchange)) → (p : ℕ) (x : Exchange) → IsWithinBounds x → (q : ℕ) → IsWithinBounds (get_or (set xs p x) q fresh_exchange)
+bounds_set xs old p x h q = ⊎_elim
+    (λ (same : q ≡ p). ⊎_elim
+    (λ (within : p < length xs). subst (λ y. IsWithinBounds y) (sym (ap (λ i. get_or (set xs p x) i fresh_exchange) same ∙ get_or-set_same xs p x fresh_exchange within)) h)
+    (λ (past : length xs ≤ p). subst (λ ys. IsWithinBounds (get_or ys q fresh_exchange)) (sym (set_past xs p x past)) (old q))
+    (cases_lt p (length xs)))
+    (λ (other : q ≡ p → ⊥). subst (λ y. IsWithinBounds y) (sym (get_or-set_other xs p q x fresh_exchange other)) (old q))
+    (cases_eq q p)
+
+bounds_fresh : (k q : ℕ) → IsWithinBounds (get_or (replicate k fresh_exchange) q fresh_exchange)
+bounds_fresh zero q = record { serial = omega arith; value = omega arith }
+bounds_fresh (suc k) zero = record { serial = omega arith; value = omega arith }
+bounds_fresh (suc k) (suc q) = bounds_fresh k q
+
+bounds_append : (xs : List Exchange) → ((q : ℕ) → IsWithinBounds (get_or xs q fresh_exchange)) → (k q : ℕ) → IsWithinBounds (get_or (xs ++ replicate k fresh_exchange) q fresh_exchange)
+bounds_append xs old k q = ⊎_elim
+    (λ (within : q < length xs). subst (λ y. IsWithinBounds y) (sym (get_or_append_left xs (replicate k fresh_exchange) fresh_exchange q within)) (old q))
+    (λ (past : length xs ≤ q). subst (λ y. IsWithinBounds y) (sym (get_or-append_right xs (replicate k fresh_exchange) (length xs) q fresh_exchange refl past)) (bounds_fresh k (q - length xs)))
+    (cases_lt q (length xs))
+
+next_bounds : (s : State) (p k v : ℕ) (within : Option ℕ) → is_next_serial s p k ≡ true → is_value v ≡ true → IsWithinBounds (record { phase = phase.Asked; serial = k; value = v; within = within })
+next_bounds s p k v within h e = record {
+  serial = leb-true k 16777215 ((and_parts (k == (exchange s p).serial + 1) (nat_le k 16777215) h).1);
+  value = ltb-true v 16777216 e;
+}
+
 -- what was well formed is so after each event that may happen
 pub well_formed_next : (s : State) (e : Event) → IsWellFormed s → Legal s e → IsWellFormed (effect s e)
-well_formed_next s (Begin p k v) w l = record { sound = w.sound; services = w.services; exchanges = length-set s.traffic.exchanges p _ ∙ w.exchanges }
-well_formed_next s (Call p k v) w l = record { sound = w.sound; services = length-set s.traffic.services (owner s.config p) _ ∙ w.services; exchanges = length-set s.traffic.exchanges p _ ∙ w.exchanges }
-well_formed_next s (Miss p) w l = record { sound = w.sound; services = length-set s.traffic.services (owner s.config p) _ ∙ w.services; exchanges = w.exchanges }
-well_formed_next s (Take p k v) w l = record { sound = w.sound; services = target_services s.traffic.services (target s.config p) _ ∙ w.services; exchanges = w.exchanges }
-well_formed_next s (Give p k v) w l = record { sound = w.sound; services = target_services s.traffic.services (target s.config p) _ ∙ w.services; exchanges = length-set s.traffic.exchanges p _ ∙ w.exchanges }
-well_formed_next s (More p k v) w l = record { sound = w.sound; services = target_services s.traffic.services (target s.config p) _ ∙ w.services; exchanges = length-set s.traffic.exchanges p _ ∙ w.exchanges }
-well_formed_next s (Ask p k v) w l = record { sound = w.sound; services = w.services; exchanges = length-set s.traffic.exchanges p _ ∙ w.exchanges }
-well_formed_next s (Hear p k v) w l = record { sound = w.sound; services = target_services s.traffic.services (target s.config p) _ ∙ w.services; exchanges = w.exchanges }
-well_formed_next s (End p k v) w l = record { sound = w.sound; services = w.services; exchanges = length-set s.traffic.exchanges p _ ∙ w.exchanges }
-well_formed_next s (Close p) w l = record { sound = sound_closed s.config p true (gate_place s p l.live) w.sound; services = w.services; exchanges = w.exchanges ∙ sym (length-set s.config.gates p _) }
-well_formed_next s (Reopen p) w l = record { sound = sound_closed s.config p false (gate_place s p l.live) w.sound; services = w.services; exchanges = w.exchanges ∙ sym (length-set s.config.gates p _) }
+well_formed_next s (Begin p k v) w l = record { sound = w.sound; services = w.services; exchanges = length-set s.traffic.exchanges p _ ∙ w.exchanges; bounds = bounds_set s.traffic.exchanges w.bounds p _ (next_bounds s p k v None l.next_serial l.value) }
+well_formed_next s (Call p k v) w l = record { sound = w.sound; services = length-set s.traffic.services (owner s.config p) _ ∙ w.services; exchanges = length-set s.traffic.exchanges p _ ∙ w.exchanges; bounds = bounds_set s.traffic.exchanges w.bounds p _ (next_bounds s p k v (option_map (λ (u : Service). u.port) (service s (owner s.config p))) l.next_serial l.value) }
+well_formed_next s (Miss p) w l = record { sound = w.sound; services = length-set s.traffic.services (owner s.config p) _ ∙ w.services; exchanges = w.exchanges; bounds = w.bounds }
+well_formed_next s (Take p k v) w l = record { sound = w.sound; services = target_services s.traffic.services (target s.config p) _ ∙ w.services; exchanges = w.exchanges; bounds = w.bounds }
+well_formed_next s (Give p k v) w l = record { sound = w.sound; services = target_services s.traffic.services (target s.config p) _ ∙ w.services; exchanges = length-set s.traffic.exchanges p _ ∙ w.exchanges; bounds = bounds_set s.traffic.exchanges w.bounds p _ (record { serial = (w.bounds p).serial; value = ltb-true v 16777216 l.value }) }
+well_formed_next s (More p k v) w l = record { sound = w.sound; services = target_services s.traffic.services (target s.config p) _ ∙ w.services; exchanges = length-set s.traffic.exchanges p _ ∙ w.exchanges; bounds = bounds_set s.traffic.exchanges w.bounds p _ (record { serial = (w.bounds p).serial; value = ltb-true v 16777216 l.value }) }
+well_formed_next s (Ask p k v) w l = record { sound = w.sound; services = w.services; exchanges = length-set s.traffic.exchanges p _ ∙ w.exchanges; bounds = bounds_set s.traffic.exchanges w.bounds p _ (record { serial = (w.bounds p).serial; value = ltb-true v 16777216 l.value }) }
+well_formed_next s (Hear p k v) w l = record { sound = w.sound; services = target_services s.traffic.services (target s.config p) _ ∙ w.services; exchanges = w.exchanges; bounds = w.bounds }
+well_formed_next s (End p k v) w l = record { sound = w.sound; services = w.services; exchanges = length-set s.traffic.exchanges p _ ∙ w.exchanges; bounds = bounds_set s.traffic.exchanges w.bounds p _ (record { serial = (w.bounds p).serial; value = omega arith }) }
+well_formed_next s (Close p) w l = record { sound = sound_closed s.config p true (gate_place s p l.live) w.sound; services = w.services; exchanges = w.exchanges ∙ sym (length-set s.config.gates p _); bounds = w.bounds }
+well_formed_next s (Reopen p) w l = record { sound = sound_closed s.config p false (gate_place s p l.live) w.sound; services = w.services; exchanges = w.exchanges ∙ sym (length-set s.config.gates p _); bounds = w.bounds }
 well_formed_next s (Make n node from) w l =
     let a = and_parts (n == length s.config.slots && nat_lt n 1023) (nat_le (length s.config.gates + length (row node.kind).requires_) 4096) l.room in
     let b = and_parts (n == length s.config.slots) (nat_lt n 1023) a.0 in
@@ -353,6 +382,7 @@ well_formed_next s (Make n node from) w l =
           ∙ ap (λ k. length s.traffic.exchanges + k) (length-replicate (length (row node.kind).requires_) fresh_exchange)
           ∙ ap (λ k. k + length (row node.kind).requires_) w.exchanges
           ∙ sym (grown_length s.config w.sound node from (omega (arith, next, ltb-true n 1023 b.1)) (leb-true (length s.config.gates + length (row node.kind).requires_) 4096 a.1));
+      bounds = bounds_append s.traffic.exchanges w.bounds (length (row node.kind).requires_);
     }
 well_formed_next s (Link p n x) w l =
     let t : Target = record { node = n; provide = x } in
@@ -361,14 +391,16 @@ well_formed_next s (Link p n x) w l =
       sound = sound_linked s.config p t (gate_place s p l.live) (record { live = both.0; provided = ltb-true x (provides s.config n) both.1 }) l.no_cycle w.sound;
       services = w.services;
       exchanges = w.exchanges ∙ sym (length-set s.config.gates p _);
+      bounds = w.bounds;
     }
-well_formed_next s (Unlink p) w l = record { sound = sound_unlinked s.config p (gate_place s p l.live) w.sound; services = w.services; exchanges = w.exchanges ∙ sym (length-set s.config.gates p _) }
+well_formed_next s (Unlink p) w l = record { sound = sound_unlinked s.config p (gate_place s p l.live) w.sound; services = w.services; exchanges = w.exchanges ∙ sym (length-set s.config.gates p _); bounds = w.bounds }
 well_formed_next s (Remove n) w l =
     let m = map_or_true (λ (m : Slot). m.live) (slot s.config n) l.live in
     record {
       sound = sound_removed s.config n m.0 m.1 w.sound (apart_from s n l.apart);
       services = w.services ∙ sym (length-set s.config.slots n (record m.0 { live = false })) ∙ sym (ap (λ o. length (option_map_or (λ (k : Slot). set s.config.slots n (record k { live = false })) o s.config.slots)) m.1);
       exchanges = w.exchanges;
+      bounds = w.bounds;
     }
 
 pub well_formed_empty : IsWellFormed empty
@@ -384,4 +416,5 @@ well_formed_empty = record {
   };
   services = refl;
   exchanges = refl;
+  bounds = λ p. record { serial = omega arith; value = omega arith };
 }

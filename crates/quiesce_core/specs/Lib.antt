@@ -14,3 +14,5 @@ pub mod WellFormed
 pub mod Known
 pub mod Tables
 pub mod Machine
+pub mod WordFields
+pub mod Open

@@ -4,7 +4,9 @@ use Rattle.config_graph.specs.Kinds.{row}
 use Rattle.config_graph.specs.declared.node.Target.{Target}
 use Rattle.config_graph.specs.declared.TheConstants.{MAX_NODES, MAX_PORTS}
 use Rattle.quiesce_core.specs.declared.state.Slot.{Slot}
-use Rattle.quiesce_core.specs.State.{Configuration, State, slot, gate, owner, target, provides, is_live}
+use Rattle.quiesce_core.specs.declared.state.Exchange.{Exchange}
+use Rattle.quiesce_core.specs.Rules.{last_serial, value_limit}
+use Rattle.quiesce_core.specs.State.{Configuration, State, slot, gate, owner, target, exchange, provides, is_live}
 use Rattle.quiesce_core.specs.Reach.{IsPortOf, has_no_cycle}
 
 -- the ports of the node in slot n stand in a row, in the order of its requirements
@@ -26,7 +28,13 @@ pub record IsSound (c : Configuration) : Type 0 where
   pub targets : (p : ℕ) (t : Target) → target c p ≡ Some t → LeadsToProvision c t
   pub no_cycle : has_no_cycle c ≡ true
 
+-- a serial and a value are within their bounds
+pub record IsWithinBounds (x : Exchange) : Type 0 where
+  pub serial : x.serial ≤ last_serial
+  pub value : x.value < value_limit
+
 pub record IsWellFormed (s : State) : Type 0 where
   pub sound : IsSound s.config
   pub services : length s.traffic.services ≡ length s.config.slots
   pub exchanges : length s.traffic.exchanges ≡ length s.config.gates
+  pub bounds : (p : ℕ) → IsWithinBounds (exchange s p)

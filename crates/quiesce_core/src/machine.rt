@@ -1,16 +1,22 @@
 //! The change machine: a state that events lead on, each where its rules hold.
 
-ghost use Rattle.std.specs.Prelude.{◌≡◌, ◌+◌, ◌<◌, ◌≤◌, ◌↔◌, ℕ, false, true, length, OnOk, OnErr};
+ghost use Rattle.std.specs.Prelude.{◌≡◌, ◌+◌, ◌<◌, ◌≤◌, ◌↔◌, ℕ, false, true, length, option_map, IfOk, IsTrue, OnOk, OnErr, SomeIff};
 ghost use Rattle.config_graph.specs.declared.TheConstants.{MAX_NODES};
 ghost use Rattle.quiesce_core.specs.State as state;
-ghost use Rattle.quiesce_core.specs.Rules.{denial};
+ghost use Rattle.quiesce_core.specs.Rules.{denial, is_settled, last_serial};
+ghost use Rattle.quiesce_core.specs.Settled.{Settled};
+ghost use Rattle.quiesce_core.specs.Open.{open_txns};
+ghost use Rattle.quiesce_core.specs.Words as words;
+ghost use Rattle.quiesce_core.specs.declared.state.Slot.{Slot};
 ghost use Rattle.quiesce_core.specs.Runs.{Step};
 ghost use Rattle.quiesce_core.specs.Machine.{is_make};
 
 use crate::error::CoreError;
 use crate::event::Event;
+use crate::rules::LAST_SERIAL;
+use crate::state::OpenTxn;
 use crate::tables::Tables;
-use config_graph::{NoMemory, Node};
+use config_graph::{Made, NoMemory, Node};
 use std::alloc::Global;
 use std::marker::Model;
 
@@ -106,5 +112,66 @@ impl Core {
             _ => self.perform(event),
         }
         Ok(())
+    }
+
+    /// How many nodes and how many ports were made.
+    pub fn made(&self) -> Made
+        ensures nodes { result.nodes ≡ length self.now.state.config.slots }
+        ensures ports { result.ports ≡ length self.now.state.config.gates }
+    {
+        Made {
+            nodes: self.tables.slots.len() as u32,
+            ports: self.tables.gates.len() as u32,
+        }
+    }
+
+    /// The node that was made in a slot, whether it is live or was removed.
+    pub fn node(&self, slot: u32) -> &Node
+        requires { slot < length self.now.state.config.slots }
+        ensures { option_map (λ (m : Slot). m.node) (state.slot self.now.state.config slot) ≡ Some result.now }
+    {
+        &self.tables.slots[slot as usize].node
+    }
+
+    pub fn is_live(&self, node: u32) -> bool
+        ensures { result ≡ state.is_live self.now.state.config node }
+    {
+        self.tables.is_live(node)
+    }
+
+    /// Whether nothing can engage the node any more, unless a port is reopened or linked or a node is made.
+    pub fn settled(&self, node: u32) -> bool
+        requires { IsTrue (state.is_live self.now.state.config node) }
+        ensures test { result ≡ is_settled self.now.state node }
+        ensures settled { IsTrue result ↔ Settled self.now.state node }
+    {
+        self.tables.is_settled(node)
+    }
+
+    /// What gates keep of the port, in one number.
+    pub fn word(&self, port: u32) -> u64
+        requires { port < length self.now.state.config.gates }
+        ensures { result ≡ words.word_of self.now.state port }
+    {
+        self.tables.word(port).pack()
+    }
+
+    /// The serial of the port's next transaction, or `None` where its transactions are spent.
+    pub fn next_serial(&self, port: u32) -> Option<u32>
+        requires { port < length self.now.state.config.gates }
+        ensures { SomeIff result (¬ ((state.exchange self.now.state port).serial ≡ last_serial)) ((state.exchange self.now.state port).serial + 1) }
+    {
+        let serial = self.tables.exchange(port).serial;
+        if serial == LAST_SERIAL {
+            return None;
+        }
+        Some(serial + 1)
+    }
+
+    /// The transactions that have not ended, by port.
+    pub fn open_txns(&self) -> Result<Vec<OpenTxn>, NoMemory>
+        ensures { IfOk result (λ v. v.items ≡ open_txns self.now.state) }
+    {
+        self.tables.open_txns()
     }
 }

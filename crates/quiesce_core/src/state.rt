@@ -86,3 +86,24 @@ pub struct Service {
     /// Whether the last message of the transaction was heard.
     pub heard: bool,
 }
+
+/// How far an open transaction has come.
+#[derive(Clone, Copy, Debug, PartialEq, Eq)]
+pub enum Stage {
+    /// Its request isn't taken up.
+    Waiting,
+    /// Its target serves it, intermediate replies and further messages among it.
+    Taken,
+    /// Its answer is there.
+    Answered,
+}
+
+/// A transaction that hasn't ended.
+#[derive(Clone, Copy, Debug, PartialEq, Eq)]
+pub struct OpenTxn {
+    pub port: u32,
+    pub serial: u32,
+    /// Whether it was begun and not called.
+    pub root: bool,
+    pub stage: Stage,
+}

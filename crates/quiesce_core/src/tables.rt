@@ -3,8 +3,12 @@
 ghost use Rattle.std.specs.Prelude.{◌≡◌, slice_get, option_map};
 ghost use Rattle.quiesce_core.specs.State as state;
 ghost use Rattle.quiesce_core.specs.Tables.{state_of};
+ghost use Rattle.quiesce_core.specs.WellFormed.{IsWellFormed};
+ghost use Rattle.quiesce_core.specs.WordFields.{FitsWord};
+ghost use Rattle.quiesce_core.specs.Words as words;
 
 use crate::state::{Exchange, Gate, Phase, Service, Slot};
+use crate::word::Word;
 use config_graph::{Kind, Target};
 use std::alloc::Global;
 
@@ -92,5 +96,22 @@ impl Tables {
     {
         let Target { node, .. } = self.gate(port).target?;
         self.service(node)
+    }
+
+    pub fn word(&self, port: u32) -> Word
+        requires { IsWellFormed (state_of self.now) }
+        ensures fields { result ≡ words.fields_of (state_of self.now) port }
+        ensures fits { FitsWord result }
+    {
+        let gate = self.gate(port);
+        let exchange = self.exchange(port);
+        Word {
+            closed: gate.closed,
+            phase: exchange.phase,
+            consequent: exchange.within.is_some(),
+            target: gate.target,
+            serial: exchange.serial,
+            value: exchange.value,
+        }
     }
 }
