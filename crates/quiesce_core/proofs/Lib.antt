@@ -6,3 +6,4 @@ pub mod LegalLemmas
 pub mod Places
 pub mod Soundness
 pub mod SettledLemmas
+pub mod RestLemmas

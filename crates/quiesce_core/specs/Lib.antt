@@ -16,3 +16,4 @@ pub mod Tables
 pub mod Machine
 pub mod WordFields
 pub mod Open
+pub mod Counted

@@ -25,14 +25,17 @@ full_within c (suc k) m x =
     + calls_allowed c m x
     * greatest (λ p. 1 + option_map_or (λ (t : Target). full_within c k t.node t.provide) (target c p) 0) (filter (depends c m x) (ports_of c m))
 
--- there is no cycle, so no chain is longer than there are nodes
-abbrev pub full : Configuration → ℕ → ℕ → ℕ
-full c m x = full_within c (length c.slots) m x
+-- all of it: where there is no cycle, no chain is longer
+unfoldable pub full : Configuration → ℕ → ℕ → ℕ
+full c m x = full_within c (suc (length c.slots)) m x
+
+-- the events of one call of the port: itself, and those of the provision to which the port is linked
+abbrev pub events_through : Configuration → ℕ → ℕ
+events_through c p = 1 + option_map_or (λ (t : Target). full c t.node t.provide) (target c p) 0
 
 -- the events of one call in a service by provision x of node m, at most
 abbrev pub call_events : Configuration → ℕ → ℕ → ℕ
-call_events c m x =
-    greatest (λ p. 1 + option_map_or (λ (t : Target). full c t.node t.provide) (target c p) 0) (filter (depends c m x) (ports_of c m))
+call_events c m x = greatest (events_through c) (filter (depends c m x) (ports_of c m))
 
 -- the replies and messages still due in a service: the reply and the End, a further message to be heard, and before that to be sent
 abbrev pub messages_due : Service → Phase → ℕ

@@ -12,6 +12,7 @@ mod machine;
 mod making;
 mod open;
 mod reach;
+mod rest;
 mod rules;
 mod state;
 mod tables;

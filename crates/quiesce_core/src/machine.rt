@@ -1,11 +1,12 @@
 //! The change machine: a state that events lead on, each where its rules hold.
 
-ghost use Rattle.std.specs.Prelude.{◌≡◌, ◌+◌, ◌<◌, ◌≤◌, ◌↔◌, ℕ, false, true, length, option_map, IfOk, IsTrue, OnOk, OnErr, SomeIff};
+ghost use Rattle.std.specs.Prelude.{◌≡◌, ◌+◌, ◌<◌, ◌≤◌, ◌↔◌, ◌-◌, ◌^◌, ℕ, min, false, true, length, option_map, IfOk, IsTrue, OnOk, OnErr, SomeIff};
 ghost use Rattle.config_graph.specs.declared.TheConstants.{MAX_NODES};
 ghost use Rattle.quiesce_core.specs.State as state;
 ghost use Rattle.quiesce_core.specs.Rules.{denial, is_settled, last_serial};
 ghost use Rattle.quiesce_core.specs.Settled.{Settled};
 ghost use Rattle.quiesce_core.specs.Open.{open_txns};
+ghost use Rattle.quiesce_core.specs.Rest.{rest};
 ghost use Rattle.quiesce_core.specs.Words as words;
 ghost use Rattle.quiesce_core.specs.declared.state.Slot.{Slot};
 ghost use Rattle.quiesce_core.specs.Runs.{Step};
@@ -173,5 +174,13 @@ impl Core {
         ensures { IfOk result (λ v. v.items ≡ open_txns self.now.state) }
     {
         self.tables.open_txns()
+    }
+
+    /// How many events can still happen, at most, until every open transaction has ended, where nothing is linked: of those
+    /// transactions and their consequents. It is the greatest number of 128 bits where it is more.
+    pub fn rest(&self) -> u128
+        ensures { result ≡ min (rest self.now.state) (2 ^ 128 - 1) }
+    {
+        self.tables.rest()
     }
 }

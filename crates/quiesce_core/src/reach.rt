@@ -32,6 +32,14 @@ impl Tables {
         }
     }
 
+    /// No walk has so many steps.
+    pub fn walk_bound(&self) -> u32
+        requires { IsSound (state_of self.now).config }
+        ensures { (n : ℕ) → reach.can_walk (state_of self.now).config result n ≡ false }
+    {
+        self.slots.len() as u32 + 1
+    }
+
     /// Whether the port reaches the node. What is found out about ports is noted in `known`; no walk has `depth` steps.
     #[cycle(reaching)]
     fn reaches(&self, node: u32, port: u32, depth: u32, known: &mut [Option<bool>]) -> bool
@@ -113,7 +121,7 @@ impl Tables {
         ensures { result ≡ list_all (λ p. rules.is_quiet (state_of self.now) p || not (reach.reaches (state_of self.now).config node p)) (range_with_len 0 (length (state_of self.now).config.gates)) }
     {
         let mut known = [None; PLACES];
-        let depth = self.slots.len() as u32 + 1;
+        let depth = self.walk_bound();
         let ports = self.gates.len() as u32;
         for port in 0..ports {
             if !self.is_quiet_or_apart(node, port, depth, &mut known) {
@@ -200,7 +208,7 @@ impl Tables {
             return true;
         }
         let mut known = [None; PLACES];
-        let depth = self.slots.len() as u32 + 1;
+        let depth = self.walk_bound();
         let ports = self.ports_of(node);
         for port in ports.start..ports.end {
             if self.leads_through(node, port, other, depth, &mut known) {

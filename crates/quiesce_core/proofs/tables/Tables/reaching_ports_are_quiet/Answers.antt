@@ -1,9 +1,9 @@
-use Rattle.std.proofs.Common.{◌≡◌, ◌+◌, ◌-◌, ◌||◌, not, length, ap, ◌∙◌, arith}
+use Rattle.std.proofs.Common.{◌≡◌, ◌-◌, ◌||◌, not, length, ap, ◌∙◌, arith}
 use Rattle.std.specs.List.{list_all, range_with_len}
-use Rattle.quiesce_core.specs.Reach.{can_walk, reaches}
+use Rattle.quiesce_core.specs.Reach.{reaches}
 use Rattle.quiesce_core.specs.Rules.{is_quiet}
 use Rattle.quiesce_core.specs.Tables.{state_of}
-use Rattle.quiesce_core.proofs.Reaching.{none_known, no_walk_plus}
+use Rattle.quiesce_core.proofs.Reaching.{none_known}
 use Rattle.quiesce_core.proofs.tables.Tables.reaching_ports_are_quiet.Goals as goal
 
 pub loop-port-init : goal.loop-port-init
@@ -13,9 +13,3 @@ loop-port-init c =
       known = none_known (state_of c.args.self.now).config c.args.node 4096;
       left = ap (λ k. list_all (λ p. is_quiet (state_of c.args.self.now) p || not (reaches (state_of c.args.self.now).config c.args.node p)) (range_with_len 0 k)) few;
     }
-
-pub is_quiet_or_apart-requires-clause-deep : goal.is_quiet_or_apart-requires-clause-deep
-is_quiet_or_apart-requires-clause-deep c t e =
-    let config = (state_of c.args.self.now).config in
-    let few : c.len.result ≡ length config.slots = c.len.ensures ∙ c.args.self.now.slots.ok.0 in
-    ap (λ k. can_walk config (k + 1) t.node) few ∙ no_walk_plus config c.requires t.node

@@ -1,0 +1,6 @@
+use Rattle.quiesce_core.specs.Tables.{state_of}
+use Rattle.quiesce_core.proofs.RestLemmas.{none_counted}
+use Rattle.quiesce_core.proofs.tables.Tables.rest.Goals as goal
+
+pub rest_with-requires-clause-known : goal.rest_with-requires-clause-known
+rest_with-requires-clause-known c = none_counted (state_of c.args.self.now).config 1023
