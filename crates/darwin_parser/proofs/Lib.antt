@@ -1,1 +1,4 @@
 pub mod Ranks
+pub mod Loops
+pub mod Deeper
+pub mod Bodies

@@ -5,7 +5,7 @@ use Rattle.darwin_parser.specs.declared.cursor.Level.TheVariants.{Or, And, Compa
 
 abbrev pub rank : Level → ℕ
 rank Term = 2
-rank Sum = 4
-rank Comparison = 6
-rank And = 8
-rank Or = 10
+rank Sum = 5
+rank Comparison = 8
+rank And = 11
+rank Or = 14

@@ -1,1 +1,5 @@
 pub mod Tree
+pub mod Language
+pub mod Grammar
+pub mod Reading
+pub mod Views

@@ -1,6 +1,10 @@
 //! The tokens that are still to be read, and why reading stops.
 
-ghost use Rattle.std.specs.Prelude.{◌≡◌, ◌<◌, ◌≤◌, length, IfNone, IfSome, OnOk};
+ghost use Rattle.std.specs.Prelude.{◌≡◌, ◌<◌, ◌≤◌, ◌↔◌, [], length, IsTrue, OnOk};
+ghost use Rattle.darwin_parser.specs.Reading as reading;
+ghost use Rattle.darwin_parser.specs.Reading.{Reads};
+ghost use Rattle.darwin_parser.specs.Grammar.{operation};
+ghost use Rattle.darwin_lexer.specs.declared.token.TokenKind.TheVariants as kinds;
 
 use crate::tree::Op;
 use darwin_lexer::{Keyword, Sign, Token, TokenKind};
@@ -9,8 +13,8 @@ use std::alloc::{AllocError, AllocFailed};
 /// Why a rule stops. A place is the number of tokens left there, the refused one included.
 #[derive(Drop)]
 pub enum Stop {
-    Expected { left: usize },
-    TooNested { left: usize },
+    Expected(usize),
+    TooNested(usize),
     NoMemory,
 }
 
@@ -51,49 +55,67 @@ pub struct Tokens<'a> {
 }
 
 impl Tokens<'_> {
-    pub fn is_empty(&self) -> bool {
+    pub fn is_empty(&self) -> bool
+        ensures { IsTrue result ↔ (self.now.rest.now ≡ []) }
+    {
         self.rest.is_empty()
     }
 
-    pub fn expected(&self) -> Stop {
-        Stop::Expected {
-            left: self.rest.len(),
-        }
+    pub fn expected(&self) -> Stop
+        ensures { result ≡ Stop.Expected (length self.now.rest.now) }
+    {
+        Stop::Expected(self.rest.len())
     }
 
-    pub fn too_nested(&self) -> Stop {
-        Stop::TooNested {
-            left: self.rest.len(),
-        }
+    pub fn too_nested(&self) -> Stop
+        ensures { result ≡ Stop.TooNested (length self.now.rest.now) }
+    {
+        Stop::TooNested(self.rest.len())
     }
 
     /// Whether the next token is of this kind.
-    pub fn sees(&self, kind: TokenKind) -> bool {
+    #[tactic(auto, unfolding(crate::specs::Reading::sees))]
+    pub fn sees(&self, kind: TokenKind) -> bool
+        ensures { result ≡ reading.sees kind self.now.rest.now }
+    {
         match self.rest {
-            [first, ..] => first.kind == kind,
+            [first, ..] => same_kind(first.kind, kind),
             [] => false,
         }
     }
 
-    /// The next token, which has to be of this kind.
-    pub fn expect(&mut self, kind: TokenKind) -> Result<Token, Stop>
-        ensures shorter { OnOk result (length self.new.rest.now < length self.old.rest.now) }
+    pub fn sees_word(&self, word: Keyword) -> bool
+        ensures { result ≡ reading.sees (kinds.Word word) self.now.rest.now }
+    {
+        self.sees(TokenKind::Word(word))
+    }
+
+    pub fn sees_sign(&self, sign: Sign) -> bool
+        ensures { result ≡ reading.sees (kinds.Sign sign) self.now.rest.now }
+    {
+        self.sees(TokenKind::Sign(sign))
+    }
+
+    #[tactic(auto, unfolding(crate::specs::Reading::sees_number))]
+    pub fn sees_number(&self) -> bool
+        ensures { result ≡ reading.sees_number self.now.rest.now }
     {
         match self.rest {
-            [first, rest @ ..] if first.kind == kind => {
-                self.rest = rest;
-                Ok(*first)
-            }
-            _ => Err(self.expected()),
+            [first, ..] => matches!(first.kind, TokenKind::Number(_)),
+            [] => false,
         }
     }
 
-    /// Takes the next token if it is of this kind.
-    pub fn eat(&mut self, kind: TokenKind) -> bool
+    /// Takes the next token if it is this sign.
+    #[tactic(auto, unfolding(crate::specs::Reading::sees, crate::specs::Reading::after))]
+    pub fn eat(&mut self, sign: Sign) -> bool
+        ensures found { result ≡ reading.sees (kinds.Sign sign) self.old.rest.now }
+        ensures rest { self.new.rest.now ≡ reading.after (kinds.Sign sign) self.old.rest.now }
         ensures shorter { length self.new.rest.now ≤ length self.old.rest.now }
+        ensures taken { IsTrue result → length self.new.rest.now < length self.old.rest.now }
     {
         match self.rest {
-            [first, rest @ ..] if first.kind == kind => {
+            [first, rest @ ..] if same_kind(first.kind, TokenKind::Sign(sign)) => {
                 self.rest = rest;
                 true
             }
@@ -101,75 +123,109 @@ impl Tokens<'_> {
         }
     }
 
-    pub fn sees_word(&self, word: Keyword) -> bool {
-        self.sees(TokenKind::Word(word))
-    }
-
-    pub fn sees_sign(&self, sign: Sign) -> bool {
-        self.sees(TokenKind::Sign(sign))
-    }
-
-    pub fn eat_word(&mut self, word: Keyword) -> bool
-        ensures shorter { length self.new.rest.now ≤ length self.old.rest.now }
+    /// The next token, which has to be of this kind.
+    #[tactic(auto, unfolding(crate::specs::Reading::expect))]
+    pub fn expect(&mut self, kind: TokenKind) -> Result<Token, Stop>
+        ensures reads { Reads (λ t. t) (reading.expect kind self.old.rest.now) result self.new.rest.now }
+        ensures shorter { OnOk result (length self.new.rest.now < length self.old.rest.now) }
     {
-        self.eat(TokenKind::Word(word))
-    }
-
-    pub fn eat_sign(&mut self, sign: Sign) -> bool
-        ensures shorter { length self.new.rest.now ≤ length self.old.rest.now }
-    {
-        self.eat(TokenKind::Sign(sign))
+        match self.rest {
+            [first, rest @ ..] if same_kind(first.kind, kind) => {
+                self.rest = rest;
+                Ok(*first)
+            }
+            _ => Err(self.expected()),
+        }
     }
 
     pub fn name(&mut self) -> Result<Token, Stop>
+        ensures reads { Reads (λ t. t) (reading.expect kinds.Name self.old.rest.now) result self.new.rest.now }
         ensures shorter { OnOk result (length self.new.rest.now < length self.old.rest.now) }
     {
         self.expect(TokenKind::Name)
     }
 
     pub fn word(&mut self, word: Keyword) -> Result<Token, Stop>
+        ensures reads { Reads (λ t. t) (reading.expect (kinds.Word word) self.old.rest.now) result self.new.rest.now }
         ensures shorter { OnOk result (length self.new.rest.now < length self.old.rest.now) }
     {
         self.expect(TokenKind::Word(word))
     }
 
     pub fn sign(&mut self, sign: Sign) -> Result<Token, Stop>
+        ensures reads { Reads (λ t. t) (reading.expect (kinds.Sign sign) self.old.rest.now) result self.new.rest.now }
         ensures shorter { OnOk result (length self.new.rest.now < length self.old.rest.now) }
     {
         self.expect(TokenKind::Sign(sign))
     }
 
-    /// Takes the next token if it is a number.
-    pub fn eat_number(&mut self) -> Option<u32>
-        ensures shorter { IfSome result (λ _. length self.new.rest.now < length self.old.rest.now) }
-        ensures same { IfNone result (length self.new.rest.now ≤ length self.old.rest.now) }
+    /// The number that comes next.
+    #[tactic(auto, unfolding(crate::specs::Reading::number))]
+    pub fn number(&mut self) -> Result<u32, Stop>
+        ensures reads { Reads (λ n. n) (reading.number self.old.rest.now) result self.new.rest.now }
+        ensures shorter { OnOk result (length self.new.rest.now < length self.old.rest.now) }
     {
         let [first, rest @ ..] = self.rest else {
-            return None;
+            return Err(self.expected());
         };
         let TokenKind::Number(number) = first.kind else {
-            return None;
+            return Err(self.expected());
         };
         self.rest = rest;
-        Some(number)
+        Ok(number)
     }
 
-    /// Takes the next token if it is an operator of this level.
-    pub fn eat_operator(&mut self, level: Level) -> Option<Op>
-        ensures shorter { IfSome result (λ _. length self.new.rest.now < length self.old.rest.now) }
-        ensures same { IfNone result (length self.new.rest.now ≤ length self.old.rest.now) }
+    #[tactic(auto, unfolding(crate::specs::Reading::operator_at))]
+    pub fn sees_operator(&self, level: Level) -> bool
+        ensures { result ≡ reading.sees_operator level self.now.rest.now }
+    {
+        match self.rest {
+            [first, ..] => operation(level, first.kind).is_some(),
+            [] => false,
+        }
+    }
+
+    /// Whether the next token puts an operand in parentheses or under a minus sign.
+    pub fn sees_nested(&self) -> bool
+        ensures { result ≡ reading.sees_nested self.now.rest.now }
+    {
+        self.sees_sign(Sign::OpenParen) || self.sees_sign(Sign::Minus)
+    }
+
+    /// Whether the next token begins a statement that has a body.
+    pub fn sees_block(&self) -> bool
+        ensures { result ≡ reading.sees_block self.now.rest.now }
+    {
+        self.sees_word(Keyword::Forall) || self.sees_word(Keyword::When)
+    }
+
+    /// The operator of this level that comes next.
+    #[tactic(auto, unfolding(crate::specs::Reading::operator, crate::specs::Reading::operator_at))]
+    pub fn operator(&mut self, level: Level) -> Result<Op, Stop>
+        ensures reads { Reads (λ o. o) (reading.operator level self.old.rest.now) result self.new.rest.now }
+        ensures shorter { OnOk result (length self.new.rest.now < length self.old.rest.now) }
     {
         let [first, rest @ ..] = self.rest else {
-            return None;
+            return Err(self.expected());
         };
-        let op = operator(level, first.kind)?;
+        let Some(op) = operation(level, first.kind) else {
+            return Err(self.expected());
+        };
         self.rest = rest;
-        Some(op)
+        Ok(op)
     }
 }
 
+fn same_kind(a: TokenKind, b: TokenKind) -> bool
+    ensures value { result ≡ reading.same_kind a b }
+{
+    a == b
+}
+
 /// The operation that a token of this kind stands for at this level.
-fn operator(level: Level, kind: TokenKind) -> Option<Op> {
+fn operation(level: Level, kind: TokenKind) -> Option<Op>
+    ensures { result ≡ operation level kind }
+{
     match kind {
         TokenKind::Word(word) => logical(level, word),
         TokenKind::Sign(sign) => match level {
@@ -182,7 +238,9 @@ fn operator(level: Level, kind: TokenKind) -> Option<Op> {
     }
 }
 
-fn logical(level: Level, word: Keyword) -> Option<Op> {
+fn logical(level: Level, word: Keyword) -> Option<Op>
+    ensures { result ≡ operation level (kinds.Word word) }
+{
     match (level, word) {
         (Level::Or, Keyword::Or) => Some(Op::Or),
         (Level::And, Keyword::And) => Some(Op::And),
@@ -190,7 +248,9 @@ fn logical(level: Level, word: Keyword) -> Option<Op> {
     }
 }
 
-fn comparison(sign: Sign) -> Option<Op> {
+fn comparison(sign: Sign) -> Option<Op>
+    ensures { result ≡ operation Level.Comparison (kinds.Sign sign) }
+{
     match sign {
         Sign::EqEq => Some(Op::Eq),
         Sign::NotEq => Some(Op::Ne),
@@ -202,7 +262,9 @@ fn comparison(sign: Sign) -> Option<Op> {
     }
 }
 
-fn additive(sign: Sign) -> Option<Op> {
+fn additive(sign: Sign) -> Option<Op>
+    ensures { result ≡ operation Level.Sum (kinds.Sign sign) }
+{
     match sign {
         Sign::Plus => Some(Op::Add),
         Sign::Minus => Some(Op::Sub),
@@ -210,7 +272,9 @@ fn additive(sign: Sign) -> Option<Op> {
     }
 }
 
-fn multiplicative(sign: Sign) -> Option<Op> {
+fn multiplicative(sign: Sign) -> Option<Op>
+    ensures { result ≡ operation Level.Term (kinds.Sign sign) }
+{
     match sign {
         Sign::Star => Some(Op::Mul),
         Sign::Slash => Some(Op::Div),

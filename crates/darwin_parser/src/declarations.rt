@@ -1,120 +1,205 @@
 //! Components with their parameters, ports and arrays.
 
-ghost use Rattle.std.specs.Prelude.{◌<◌, ◌≤◌, length, OnOk};
+ghost use Rattle.std.specs.Prelude.{◌≡◌, ◌<◌, ◌≤◌, [], ◌∷◌, length, map, option_map, OnOk};
+ghost use Rattle.darwin_parser.specs.Tree.{port_of, array_of, component_of, tree_of};
+ghost use Rattle.darwin_parser.specs.Grammar.{no_parts, with_item, side_word};
+ghost use Rattle.darwin_parser.specs.Views.{item_of, parts_of};
+ghost use Rattle.darwin_parser.specs.Reading as reading;
+ghost use Rattle.darwin_parser.specs.Reading.{Reads};
 
 use crate::cursor::{Stop, Tokens};
 use crate::source::Source;
 use crate::statements::MAX_STATEMENT_NESTING;
-use crate::tree::{ArrayDecl, Component, PortDecl, Side, Unit};
+use crate::tree::{ArrayDecl, Component, PortDecl, Side, Stmt, Unit};
 use config_graph::Text;
 use darwin_lexer::{At, Keyword, Sign, TokenKind};
+use std::alloc::{AllocError, Global};
+
+/// What an item adds to its component.
+#[derive(Drop)]
+enum Item {
+    Ports(Vec<PortDecl>),
+    Arrays(Vec<ArrayDecl>),
+    Statements(Vec<Stmt>),
+}
+
+/// What the items so far make of a component.
+#[derive(Drop)]
+struct Parts {
+    ports: Vec<PortDecl>,
+    arrays: Vec<ArrayDecl>,
+    body: Vec<Stmt>,
+}
+
+impl Parts {
+    fn new(alloc: Global) -> Parts
+        ensures { parts_of result ≡ no_parts }
+    {
+        Parts {
+            ports: Vec::new(alloc),
+            arrays: Vec::new(alloc),
+            body: Vec::new(alloc),
+        }
+    }
+
+    fn add(&mut self, item: Item) -> Result<(), AllocError>
+        ensures { OnOk result (parts_of self.new ≡ with_item (parts_of self.old) (item_of item)) }
+    {
+        match item {
+            Item::Ports(mut ports) => self.ports.append(&mut ports),
+            Item::Arrays(mut arrays) => self.arrays.append(&mut arrays),
+            Item::Statements(mut stmts) => self.body.append(&mut stmts),
+        }
+    }
+}
 
 impl Source<'_> {
     /// `{ component }`, up to the end.
-    pub fn unit(&self, tokens: &mut Tokens<'_>) -> Result<Unit, Stop> {
+    #[tactic(auto, unfolding(crate::specs::Reading::unit))]
+    pub fn unit(&self, tokens: &mut Tokens<'_>) -> Result<Unit, Stop>
+        ensures { Reads tree_of (reading.unit self.now.text.now 32 16 tokens.old.rest.now) result tokens.new.rest.now }
+    {
         let mut components = Vec::new(self.alloc);
-        while !tokens.is_empty() {
+        'more: while tokens.sees_word(Keyword::Component) {
             components.push(self.component(tokens)?)?;
+        }
+        if !tokens.is_empty() {
+            return Err(tokens.expected());
         }
         Ok(Unit { components })
     }
 
+    #[tactic(auto, unfolding(crate::specs::Reading::component))]
     fn component(&self, tokens: &mut Tokens<'_>) -> Result<Component, Stop>
+        ensures reads { Reads component_of (reading.component self.now.text.now 32 16 tokens.old.rest.now) result tokens.new.rest.now }
         ensures shorter { OnOk result (length tokens.new.rest.now < length tokens.old.rest.now) }
     {
         let at = tokens.word(Keyword::Component)?.at;
         let name = self.name(tokens)?;
         let params = self.params(tokens)?;
         tokens.sign(Sign::OpenBrace)?;
-        let mut component = Component {
+        let Parts {
+            ports,
+            arrays,
+            body,
+        } = self.parts(tokens)?;
+        Ok(Component {
             name,
             at,
             params,
-            ports: Vec::new(self.alloc),
-            arrays: Vec::new(self.alloc),
-            body: Vec::new(self.alloc),
-        };
-        while !tokens.eat_sign(Sign::CloseBrace) {
-            self.item(tokens, &mut component)?;
-        }
-        Ok(component)
+            ports,
+            arrays,
+            body,
+        })
     }
 
     /// `[ "(" [ param {"," param} ] ")" ]`
+    #[tactic(auto, unfolding(crate::specs::Reading::params, crate::specs::Reading::after))]
     fn params(&self, tokens: &mut Tokens<'_>) -> Result<Vec<Text>, Stop>
+        ensures reads { Reads (λ v. v.items) (reading.params self.now.text.now tokens.old.rest.now) result tokens.new.rest.now }
         ensures shorter { OnOk result (length tokens.new.rest.now ≤ length tokens.old.rest.now) }
     {
-        let mut params = Vec::new(self.alloc);
-        if !tokens.eat_sign(Sign::OpenParen) || tokens.eat_sign(Sign::CloseParen) {
-            return Ok(params);
+        if !tokens.sees_sign(Sign::OpenParen) {
+            return Ok(Vec::new(self.alloc));
         }
-        params.push(self.param(tokens)?)?;
-        while tokens.eat_sign(Sign::Comma) {
-            params.push(self.param(tokens)?)?;
+        tokens.sign(Sign::OpenParen)?;
+        if tokens.eat(Sign::CloseParen) {
+            return Ok(Vec::new(self.alloc));
         }
+        let params = self.param_list(tokens)?;
         tokens.sign(Sign::CloseParen)?;
         Ok(params)
     }
 
+    /// `param {"," param}`
+    #[tactic(auto, unfolding(crate::specs::Reading::param_list))]
+    fn param_list(&self, tokens: &mut Tokens<'_>) -> Result<Vec<Text>, Stop>
+        ensures reads { Reads (λ v. v.items) (reading.param_list self.now.text.now tokens.old.rest.now) result tokens.new.rest.now }
+        ensures shorter { OnOk result (length tokens.new.rest.now < length tokens.old.rest.now) }
+    {
+        let mut params = Vec::new(self.alloc);
+        params.push(self.param(tokens)?)?;
+        'more: while tokens.eat(Sign::Comma) {
+            params.push(self.param(tokens)?)?;
+        }
+        Ok(params)
+    }
+
     /// `"int" NAME`
+    #[tactic(auto, unfolding(crate::specs::Reading::param))]
     fn param(&self, tokens: &mut Tokens<'_>) -> Result<Text, Stop>
+        ensures reads { Reads (λ x. x) (reading.param self.now.text.now tokens.old.rest.now) result tokens.new.rest.now }
         ensures shorter { OnOk result (length tokens.new.rest.now < length tokens.old.rest.now) }
     {
         tokens.word(Keyword::Int)?;
         self.name(tokens)
     }
 
+    /// `{ item } "}"`
+    fn parts(&self, tokens: &mut Tokens<'_>) -> Result<Parts, Stop>
+        ensures reads { Reads parts_of (reading.parts self.now.text.now 32 16 tokens.old.rest.now) result tokens.new.rest.now }
+        ensures shorter { OnOk result (length tokens.new.rest.now < length tokens.old.rest.now) }
+    {
+        let mut parts = Parts::new(self.alloc);
+        'more: while !tokens.eat(Sign::CloseBrace) {
+            let item = self.item(tokens)?;
+            parts.add(item)?;
+        }
+        Ok(parts)
+    }
+
     /// `ports | arrays | statement`
-    fn item(&self, tokens: &mut Tokens<'_>, component: &mut Component) -> Result<(), Stop>
+    #[tactic(auto, unfolding(crate::specs::Reading::item))]
+    fn item(&self, tokens: &mut Tokens<'_>) -> Result<Item, Stop>
+        ensures reads { Reads item_of (reading.item self.now.text.now 32 16 tokens.old.rest.now) result tokens.new.rest.now }
         ensures shorter { OnOk result (length tokens.new.rest.now < length tokens.old.rest.now) }
     {
         if tokens.sees_word(Keyword::Provide) {
-            self.ports(
-                tokens,
-                Keyword::Provide,
-                Side::Provide,
-                &mut component.ports,
-            )
+            Ok(Item::Ports(self.ports(tokens, Side::Provide)?))
         } else if tokens.sees_word(Keyword::Require) {
-            self.ports(
-                tokens,
-                Keyword::Require,
-                Side::Require,
-                &mut component.ports,
-            )
+            Ok(Item::Ports(self.ports(tokens, Side::Require)?))
         } else if tokens.sees_word(Keyword::Array) {
-            self.arrays(tokens, &mut component.arrays)
+            Ok(Item::Arrays(self.arrays(tokens)?))
         } else {
-            self.statement(tokens, MAX_STATEMENT_NESTING, &mut component.body)
+            Ok(Item::Statements(self.statement(tokens, MAX_STATEMENT_NESTING)?))
         }
     }
 
     /// `("provide" | "require") port {"," port} ";"`
-    fn ports(
-        &self,
-        tokens: &mut Tokens<'_>,
-        word: Keyword,
-        side: Side,
-        ports: &mut Vec<PortDecl>,
-    ) -> Result<(), Stop>
+    #[tactic(auto, unfolding(crate::specs::Reading::port_list))]
+    fn ports(&self, tokens: &mut Tokens<'_>, side: Side) -> Result<Vec<PortDecl>, Stop>
+        ensures reads { Reads (λ v. map port_of v.items) (reading.port_list self.now.text.now 32 side tokens.old.rest.now) result tokens.new.rest.now }
         ensures shorter { OnOk result (length tokens.new.rest.now < length tokens.old.rest.now) }
     {
-        let at = tokens.word(word)?.at;
+        let at = tokens.word(side_word(side))?.at;
+        let ports = self.ports_at(tokens, side, at)?;
+        tokens.sign(Sign::Semicolon)?;
+        Ok(ports)
+    }
+
+    /// `port {"," port}`
+    #[tactic(auto, unfolding(crate::specs::Reading::ports_at))]
+    fn ports_at(&self, tokens: &mut Tokens<'_>, side: Side, at: At) -> Result<Vec<PortDecl>, Stop>
+        ensures reads { Reads (λ v. map port_of v.items) (reading.ports_at self.now.text.now 32 side at tokens.old.rest.now) result tokens.new.rest.now }
+        ensures shorter { OnOk result (length tokens.new.rest.now < length tokens.old.rest.now) }
+    {
+        let mut ports = Vec::new(self.alloc);
         ports.push(self.port(tokens, side, at)?)?;
-        while tokens.eat_sign(Sign::Comma) {
+        'more: while tokens.eat(Sign::Comma) {
             ports.push(self.port(tokens, side, at)?)?;
         }
-        tokens.sign(Sign::Semicolon)?;
-        Ok(())
+        Ok(ports)
     }
 
     /// `NAME [ "[" expr "]" ] [ "<" note { note } ">" ]`
+    #[tactic(auto, unfolding(crate::specs::Reading::port))]
     fn port(&self, tokens: &mut Tokens<'_>, side: Side, at: At) -> Result<PortDecl, Stop>
+        ensures reads { Reads port_of (reading.port self.now.text.now 32 side at tokens.old.rest.now) result tokens.new.rest.now }
         ensures shorter { OnOk result (length tokens.new.rest.now < length tokens.old.rest.now) }
     {
         let name = self.name(tokens)?;
         let size = self.index(tokens)?;
-        let note = self.note(tokens)?;
+        let note = self.notes(tokens)?;
         Ok(PortDecl {
             side,
             name,
@@ -125,48 +210,67 @@ impl Source<'_> {
     }
 
     /// `[ "<" note { note } ">" ]`
-    fn note(&self, tokens: &mut Tokens<'_>) -> Result<Option<Vec<Text>>, Stop>
+    #[tactic(auto, unfolding(crate::specs::Reading::notes))]
+    fn notes(&self, tokens: &mut Tokens<'_>) -> Result<Option<Vec<Text>>, Stop>
+        ensures reads { Reads (option_map (λ v. v.items)) (reading.notes self.now.text.now tokens.old.rest.now) result tokens.new.rest.now }
         ensures shorter { OnOk result (length tokens.new.rest.now ≤ length tokens.old.rest.now) }
     {
-        if !tokens.eat_sign(Sign::Less) {
+        if !tokens.sees_sign(Sign::Less) {
             return Ok(None);
         }
-        let mut note = Vec::new(self.alloc);
-        note.push(self.noted(tokens)?)?;
-        while !tokens.eat_sign(Sign::Greater) {
-            note.push(self.noted(tokens)?)?;
+        Ok(Some(self.note_list(tokens)?))
+    }
+
+    /// `"<" note { note } ">"`
+    #[tactic(auto, unfolding(crate::specs::Reading::note_list))]
+    fn note_list(&self, tokens: &mut Tokens<'_>) -> Result<Vec<Text>, Stop>
+        ensures reads { Reads (λ v. v.items) (reading.note_list self.now.text.now tokens.old.rest.now) result tokens.new.rest.now }
+        ensures shorter { OnOk result (length tokens.new.rest.now < length tokens.old.rest.now) }
+    {
+        tokens.sign(Sign::Less)?;
+        let mut notes = Vec::new(self.alloc);
+        notes.push(self.note(tokens)?)?;
+        'more: while !tokens.eat(Sign::Greater) {
+            notes.push(self.note(tokens)?)?;
         }
-        Ok(Some(note))
+        Ok(notes)
     }
 
     /// `NAME | "int" | ","`
-    fn noted(&self, tokens: &mut Tokens<'_>) -> Result<Text, Stop>
+    #[tactic(auto, unfolding(crate::specs::Reading::note))]
+    fn note(&self, tokens: &mut Tokens<'_>) -> Result<Text, Stop>
+        ensures reads { Reads (λ x. x) (reading.note self.now.text.now tokens.old.rest.now) result tokens.new.rest.now }
         ensures shorter { OnOk result (length tokens.new.rest.now < length tokens.old.rest.now) }
     {
-        let token = if tokens.sees_word(Keyword::Int) {
-            tokens.word(Keyword::Int)?
-        } else if tokens.sees_sign(Sign::Comma) {
-            tokens.sign(Sign::Comma)?
-        } else {
+        let token = if tokens.sees(TokenKind::Name) {
             tokens.name()?
+        } else if tokens.sees_word(Keyword::Int) {
+            tokens.word(Keyword::Int)?
+        } else {
+            tokens.sign(Sign::Comma)?
         };
         Ok(self.spelling(token)?)
     }
 
     /// `"array" arrayentry { arrayentry }`
-    fn arrays(&self, tokens: &mut Tokens<'_>, arrays: &mut Vec<ArrayDecl>) -> Result<(), Stop>
+    #[tactic(auto, unfolding(crate::specs::Reading::array_list))]
+    fn arrays(&self, tokens: &mut Tokens<'_>) -> Result<Vec<ArrayDecl>, Stop>
+        ensures reads { Reads (λ v. map array_of v.items) (reading.array_list self.now.text.now 32 tokens.old.rest.now) result tokens.new.rest.now }
         ensures shorter { OnOk result (length tokens.new.rest.now < length tokens.old.rest.now) }
     {
         tokens.word(Keyword::Array)?;
+        let mut arrays = Vec::new(self.alloc);
         arrays.push(self.array(tokens)?)?;
-        while tokens.sees(TokenKind::Name) {
+        'more: while tokens.sees(TokenKind::Name) {
             arrays.push(self.array(tokens)?)?;
         }
-        Ok(())
+        Ok(arrays)
     }
 
     /// `NAME "[" expr "]" ":" NAME [ args ] ";"`
+    #[tactic(auto, unfolding(crate::specs::Reading::arrayentry))]
     fn array(&self, tokens: &mut Tokens<'_>) -> Result<ArrayDecl, Stop>
+        ensures reads { Reads array_of (reading.arrayentry self.now.text.now 32 tokens.old.rest.now) result tokens.new.rest.now }
         ensures shorter { OnOk result (length tokens.new.rest.now < length tokens.old.rest.now) }
     {
         let name = tokens.name()?;
@@ -182,5 +286,15 @@ impl Source<'_> {
             args,
             at: name.at,
         })
+    }
+}
+
+/// The word before the ports of a side.
+fn side_word(side: Side) -> Keyword
+    ensures { result ≡ side_word side }
+{
+    match side {
+        Side::Provide => Keyword::Provide,
+        Side::Require => Keyword::Require,
     }
 }

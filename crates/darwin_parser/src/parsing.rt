@@ -25,8 +25,8 @@ fn numbered(count: usize, stop: Stop) -> ParseError
     requires few { count < 2 ^ 32 }
 {
     match stop {
-        Stop::Expected { left } => ParseError::Expected(count.saturating_sub(left) as u32),
-        Stop::TooNested { left } => ParseError::TooNested(count.saturating_sub(left) as u32),
+        Stop::Expected(left) => ParseError::Expected(count.saturating_sub(left) as u32),
+        Stop::TooNested(left) => ParseError::TooNested(count.saturating_sub(left) as u32),
         Stop::NoMemory => ParseError::NoMemory,
     }
 }

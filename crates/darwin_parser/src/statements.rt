@@ -1,51 +1,65 @@
 //! Statements: instances, bindings, and the bodies of `forall` and `when`.
 
-ghost use Rattle.std.specs.Prelude.{◌<◌, ◌≤◌, length, OnOk};
+ghost use Rattle.std.specs.Prelude.{◌≡◌, ◌<◌, ◌≤◌, [], ◌∷◌, length, map, option_map, OnOk};
+ghost use Rattle.darwin_parser.specs.Tree.{expr_of, entry_of, end_of, binding_of, stmt_of};
+ghost use Rattle.darwin_parser.specs.Reading as reading;
+ghost use Rattle.darwin_parser.specs.Reading.{Reads};
 
 use crate::cursor::{Stop, Tokens};
 use crate::source::Source;
-use crate::tree::{BindEntry, InstEntry, PortRef, Stmt};
+use crate::tree::{BindEntry, Expr, InstEntry, PortRef, Stmt};
 use darwin_lexer::{Keyword, Sign, Token, TokenKind};
 
 /// In how many bodies of `forall` and `when` a statement may stand.
 pub const MAX_STATEMENT_NESTING: usize = 16;
 
 impl Source<'_> {
-    /// Adds a statement, or each entry of a list, to the body that it stands in.
+    /// The entries of a list, each as a statement, or a single `forall` or `when`.
     #[cycle(statement)]
-    pub fn statement(
-        &self,
-        tokens: &mut Tokens<'_>,
-        nesting: usize,
-        body: &mut Vec<Stmt>,
-    ) -> Result<(), Stop>
+    pub fn statement(&self, tokens: &mut Tokens<'_>, nesting: usize) -> Result<Vec<Stmt>, Stop>
+        ensures reads { Reads (λ v. map stmt_of v.items) (reading.statement self.now.text.now 32 nesting tokens.old.rest.now) result tokens.new.rest.now }
         ensures shorter { OnOk result (length tokens.new.rest.now < length tokens.old.rest.now) }
     {
-        if tokens.sees_word(Keyword::Inst) {
-            return self.instances(tokens, body);
+        if tokens.sees_block() {
+            self.block(tokens, nesting)
+        } else {
+            self.listing(tokens)
         }
-        if tokens.sees_word(Keyword::Bind) {
-            return self.bindings(tokens, body);
-        }
-        let repeats = tokens.sees_word(Keyword::Forall);
-        if !repeats && !tokens.sees_word(Keyword::When) {
-            return Err(tokens.expected());
-        }
+    }
+
+    /// A `forall` or a `when`, where it may still nest.
+    #[cycle(statement)]
+    fn block(&self, tokens: &mut Tokens<'_>, nesting: usize) -> Result<Vec<Stmt>, Stop>
+        ensures reads { Reads (λ v. map stmt_of v.items) (reading.block self.now.text.now 32 nesting tokens.old.rest.now) result tokens.new.rest.now }
+        ensures shorter { OnOk result (length tokens.new.rest.now < length tokens.old.rest.now) }
+    {
         if nesting == 0 {
             return Err(tokens.too_nested());
         }
-        let stmt = if repeats {
-            self.forall(tokens, nesting - 1)?
+        self.block_over(tokens, nesting - 1)
+    }
+
+    #[cycle(statement)]
+    #[tactic(auto, unfolding(crate::specs::Reading::block_over))]
+    fn block_over(&self, tokens: &mut Tokens<'_>, nesting: usize) -> Result<Vec<Stmt>, Stop>
+        ensures reads { Reads (λ v. map stmt_of v.items) (reading.block_over self.now.text.now 32 (reading.statement self.now.text.now 32 nesting) tokens.old.rest.now) result tokens.new.rest.now }
+        ensures shorter { OnOk result (length tokens.new.rest.now < length tokens.old.rest.now) }
+    {
+        let stmt = if tokens.sees_word(Keyword::Forall) {
+            self.forall(tokens, nesting)?
         } else {
-            self.when(tokens, nesting - 1)?
+            self.when(tokens, nesting)?
         };
-        body.push(stmt)?;
-        Ok(())
+        let mut stmts = Vec::new(self.alloc);
+        stmts.push(stmt)?;
+        Ok(stmts)
     }
 
     /// `"forall" NAME ":" expr ".." expr body`
     #[cycle(statement)]
+    #[tactic(auto, unfolding(crate::specs::Reading::forall_over))]
     fn forall(&self, tokens: &mut Tokens<'_>, nesting: usize) -> Result<Stmt, Stop>
+        ensures reads { Reads stmt_of (reading.forall_over self.now.text.now 32 (reading.statement self.now.text.now 32 nesting) tokens.old.rest.now) result tokens.new.rest.now }
         ensures shorter { OnOk result (length tokens.new.rest.now < length tokens.old.rest.now) }
     {
         let at = tokens.word(Keyword::Forall)?.at;
@@ -66,7 +80,9 @@ impl Source<'_> {
 
     /// `"when" expr body`
     #[cycle(statement)]
+    #[tactic(auto, unfolding(crate::specs::Reading::when_over))]
     fn when(&self, tokens: &mut Tokens<'_>, nesting: usize) -> Result<Stmt, Stop>
+        ensures reads { Reads stmt_of (reading.when_over self.now.text.now 32 (reading.statement self.now.text.now 32 nesting) tokens.old.rest.now) result tokens.new.rest.now }
         ensures shorter { OnOk result (length tokens.new.rest.now < length tokens.old.rest.now) }
     {
         let at = tokens.word(Keyword::When)?.at;
@@ -77,60 +93,92 @@ impl Source<'_> {
 
     /// `"{" { statement } "}" | statement`
     #[cycle(statement)]
+    #[tactic(auto, unfolding(crate::specs::Reading::body_over, crate::specs::Reading::after))]
     fn body(&self, tokens: &mut Tokens<'_>, nesting: usize) -> Result<Vec<Stmt>, Stop>
+        ensures reads { Reads (λ v. map stmt_of v.items) (reading.body_over (reading.statement self.now.text.now 32 nesting) tokens.old.rest.now) result tokens.new.rest.now }
+        ensures shorter { OnOk result (length tokens.new.rest.now < length tokens.old.rest.now) }
+    {
+        if tokens.eat(Sign::OpenBrace) {
+            self.block_body(tokens, nesting)
+        } else {
+            self.statement(tokens, nesting)
+        }
+    }
+
+    /// `{ statement } "}"`
+    #[cycle(statement)]
+    fn block_body(&self, tokens: &mut Tokens<'_>, nesting: usize) -> Result<Vec<Stmt>, Stop>
+        ensures reads { Reads (λ v. map stmt_of v.items) (reading.block_body (reading.statement self.now.text.now 32 nesting) tokens.old.rest.now) result tokens.new.rest.now }
         ensures shorter { OnOk result (length tokens.new.rest.now < length tokens.old.rest.now) }
     {
         let mut body = Vec::new(self.alloc);
-        if !tokens.sees_sign(Sign::OpenBrace) {
-            self.statement(tokens, nesting, &mut body)?;
-            return Ok(body);
-        }
-        tokens.sign(Sign::OpenBrace)?;
-        while !tokens.eat_sign(Sign::CloseBrace) {
-            self.statement(tokens, nesting, &mut body)?;
+        'more: while !tokens.eat(Sign::CloseBrace) {
+            let mut stmts = self.statement(tokens, nesting)?;
+            body.append(&mut stmts)?;
         }
         Ok(body)
     }
 
+    #[tactic(auto, unfolding(crate::specs::Reading::listing))]
+    fn listing(&self, tokens: &mut Tokens<'_>) -> Result<Vec<Stmt>, Stop>
+        ensures reads { Reads (λ v. map stmt_of v.items) (reading.listing self.now.text.now 32 tokens.old.rest.now) result tokens.new.rest.now }
+        ensures shorter { OnOk result (length tokens.new.rest.now < length tokens.old.rest.now) }
+    {
+        if tokens.sees_word(Keyword::Inst) {
+            self.instances(tokens)
+        } else {
+            self.bindings(tokens)
+        }
+    }
+
     /// `"inst" instentry { instentry }`
-    fn instances(&self, tokens: &mut Tokens<'_>, body: &mut Vec<Stmt>) -> Result<(), Stop>
+    #[tactic(auto, unfolding(crate::specs::Reading::instances))]
+    fn instances(&self, tokens: &mut Tokens<'_>) -> Result<Vec<Stmt>, Stop>
+        ensures reads { Reads (λ v. map stmt_of v.items) (reading.instances self.now.text.now 32 tokens.old.rest.now) result tokens.new.rest.now }
         ensures shorter { OnOk result (length tokens.new.rest.now < length tokens.old.rest.now) }
     {
         tokens.word(Keyword::Inst)?;
-        body.push(Stmt::Inst(self.instance(tokens)?))?;
-        while tokens.sees(TokenKind::Name) {
-            body.push(Stmt::Inst(self.instance(tokens)?))?;
+        let mut stmts = Vec::new(self.alloc);
+        stmts.push(Stmt::Inst(self.instance(tokens)?))?;
+        'more: while tokens.sees(TokenKind::Name) {
+            stmts.push(Stmt::Inst(self.instance(tokens)?))?;
         }
-        Ok(())
+        Ok(stmts)
     }
 
     /// `NAME ":" NAME [ args ] ";" | NAME "[" expr "]" [ args ] ";"`
+    #[tactic(auto, unfolding(crate::specs::Reading::instentry, crate::specs::Reading::after))]
     fn instance(&self, tokens: &mut Tokens<'_>) -> Result<InstEntry, Stop>
+        ensures reads { Reads entry_of (reading.instentry self.now.text.now 32 tokens.old.rest.now) result tokens.new.rest.now }
         ensures shorter { OnOk result (length tokens.new.rest.now < length tokens.old.rest.now) }
     {
         let name = tokens.name()?;
-        if tokens.eat_sign(Sign::Colon) {
+        if tokens.eat(Sign::Colon) {
             self.single(tokens, name)
         } else {
             self.element(tokens, name)
         }
     }
 
+    #[tactic(auto, unfolding(crate::specs::Reading::single_after))]
     fn single(&self, tokens: &mut Tokens<'_>, name: Token) -> Result<InstEntry, Stop>
+        ensures reads { Reads entry_of (reading.single_after self.now.text.now 32 name tokens.old.rest.now) result tokens.new.rest.now }
         ensures shorter { OnOk result (length tokens.new.rest.now < length tokens.old.rest.now) }
     {
         let component = self.name(tokens)?;
-        let args = self.args(tokens)?;
+        let args = self.args(tokens)?.unwrap_or(Vec::new(self.alloc));
         tokens.sign(Sign::Semicolon)?;
         Ok(InstEntry::Single {
             name: self.spelling(name)?,
             component,
-            args: args.unwrap_or(Vec::new(self.alloc)),
+            args,
             at: name.at,
         })
     }
 
+    #[tactic(auto, unfolding(crate::specs::Reading::element_after))]
     fn element(&self, tokens: &mut Tokens<'_>, array: Token) -> Result<InstEntry, Stop>
+        ensures reads { Reads entry_of (reading.element_after self.now.text.now 32 array tokens.old.rest.now) result tokens.new.rest.now }
         ensures shorter { OnOk result (length tokens.new.rest.now < length tokens.old.rest.now) }
     {
         let index = self.bracketed(tokens)?;
@@ -145,26 +193,29 @@ impl Source<'_> {
     }
 
     /// `"bind" bindentry { bindentry }`
-    fn bindings(&self, tokens: &mut Tokens<'_>, body: &mut Vec<Stmt>) -> Result<(), Stop>
+    #[tactic(auto, unfolding(crate::specs::Reading::bindings))]
+    fn bindings(&self, tokens: &mut Tokens<'_>) -> Result<Vec<Stmt>, Stop>
+        ensures reads { Reads (λ v. map stmt_of v.items) (reading.bindings self.now.text.now 32 tokens.old.rest.now) result tokens.new.rest.now }
         ensures shorter { OnOk result (length tokens.new.rest.now < length tokens.old.rest.now) }
     {
         tokens.word(Keyword::Bind)?;
-        body.push(Stmt::Bind(self.binding(tokens)?))?;
-        while tokens.sees(TokenKind::Name) {
-            body.push(Stmt::Bind(self.binding(tokens)?))?;
+        let mut stmts = Vec::new(self.alloc);
+        stmts.push(Stmt::Bind(self.binding(tokens)?))?;
+        'more: while tokens.sees(TokenKind::Name) {
+            stmts.push(Stmt::Bind(self.binding(tokens)?))?;
         }
-        Ok(())
+        Ok(stmts)
     }
 
     /// `end "--" end ";"`
+    #[tactic(auto, unfolding(crate::specs::Reading::bindentry))]
     fn binding(&self, tokens: &mut Tokens<'_>) -> Result<BindEntry, Stop>
+        ensures reads { Reads binding_of (reading.bindentry self.now.text.now 32 tokens.old.rest.now) result tokens.new.rest.now }
         ensures shorter { OnOk result (length tokens.new.rest.now < length tokens.old.rest.now) }
     {
-        let first = tokens.name()?;
-        let left = self.end(tokens, first)?;
+        let (first, left) = self.end(tokens)?;
         tokens.sign(Sign::DashDash)?;
-        let second = tokens.name()?;
-        let right = self.end(tokens, second)?;
+        let (_, right) = self.end(tokens)?;
         tokens.sign(Sign::Semicolon)?;
         Ok(BindEntry {
             left,
@@ -173,26 +224,40 @@ impl Source<'_> {
         })
     }
 
-    /// `[ NAME [ "[" expr "]" ] "." ] NAME [ "[" expr "]" ]`, whose first name is taken already.
-    fn end(&self, tokens: &mut Tokens<'_>, first: Token) -> Result<PortRef, Stop>
-        ensures shorter { OnOk result (length tokens.new.rest.now ≤ length tokens.old.rest.now) }
+    /// `[ NAME [ "[" expr "]" ] "." ] NAME [ "[" expr "]" ]`, with its first token.
+    #[tactic(auto, unfolding(crate::specs::Reading::bind_end, crate::specs::Reading::after))]
+    fn end(&self, tokens: &mut Tokens<'_>) -> Result<(Token, PortRef), Stop>
+        ensures reads { Reads (λ p. (p.0, end_of p.1)) (reading.bind_end self.now.text.now 32 tokens.old.rest.now) result tokens.new.rest.now }
+        ensures shorter { OnOk result (length tokens.new.rest.now < length tokens.old.rest.now) }
     {
-        let index = self.index(tokens)?;
-        if !tokens.eat_sign(Sign::Dot) {
-            return Ok(PortRef {
+        let (first, index) = self.port_end(tokens)?;
+        if !tokens.eat(Sign::Dot) {
+            let end = PortRef {
                 inst: None,
                 inst_index: None,
                 port: self.spelling(first)?,
                 port_index: index,
-            });
+            };
+            return Ok((first, end));
         }
-        let port = self.name(tokens)?;
-        let port_index = self.index(tokens)?;
-        Ok(PortRef {
+        let (port, port_index) = self.port_end(tokens)?;
+        let end = PortRef {
             inst: Some(self.spelling(first)?),
             inst_index: index,
-            port,
+            port: self.spelling(port)?,
             port_index,
-        })
+        };
+        Ok((first, end))
+    }
+
+    /// `NAME [ "[" expr "]" ]`
+    #[tactic(auto, unfolding(crate::specs::Reading::port_end))]
+    fn port_end(&self, tokens: &mut Tokens<'_>) -> Result<(Token, Option<Expr>), Stop>
+        ensures reads { Reads (λ p. (p.0, option_map expr_of p.1)) (reading.port_end self.now.text.now 32 tokens.old.rest.now) result tokens.new.rest.now }
+        ensures shorter { OnOk result (length tokens.new.rest.now < length tokens.old.rest.now) }
+    {
+        let name = tokens.name()?;
+        let index = self.index(tokens)?;
+        Ok((name, index))
     }
 }

@@ -1,8 +1,16 @@
-use Rattle.std.proofs.Common.{◌<◌, length}
+use Rattle.std.proofs.Common.{◌<◌, length, map, [], ◌∷◌}
+use Rattle.darwin_lexer.specs.declared.token.TokenKind.TheVariants as kinds
+use Rattle.darwin_parser.specs.Tree.{inst, stmt_of}
+use Rattle.darwin_parser.specs.Reading as reading
+use Rattle.darwin_parser.specs.Reading.{sees, pushed, expect, ◌>>◌, ◌>>=◌, pure}
+use Rattle.darwin_parser.proofs.Loops.{Turning}
 use Rattle.darwin_parser.proofs.source.Source.instances.Given as goal
 
-abbrev pub invariant-loop-body : goal.invariant-loop-body
-invariant-loop-body l = length l.tokens.rest.now < length l.fn.tokens.rest.now
+abbrev pub invariant-more : goal.invariant-more
+invariant-more l = record {
+  turning : Turning (sees kinds.Name) pushed (reading.instentry l.self.text.now 32 >>= (λ e. pure (inst e))) (reading.instances l.self.text.now 32 l.fn.tokens.rest.now) (map stmt_of l.stmts.items) l.tokens.rest.now;
+  shorter : length l.tokens.rest.now < length l.fn.tokens.rest.now
+}
 
-abbrev pub decreases-loop-body : goal.decreases-loop-body
-decreases-loop-body l = length l.tokens.rest.now
+abbrev pub decreases-more : goal.decreases-more
+decreases-more l = length l.tokens.rest.now

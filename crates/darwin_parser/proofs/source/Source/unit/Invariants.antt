@@ -1,8 +1,17 @@
-use Rattle.std.proofs.Common.{◌≤◌, length}
+use Rattle.std.proofs.Common.{◌≤◌, length, map, [], ◌∷◌}
+use Rattle.darwin_lexer.specs.declared.token.TokenKind.TheVariants as kinds
+use Rattle.darwin_lexer.specs.declared.token.Keyword.TheVariants as words
+use Rattle.darwin_parser.specs.Tree.{component_of}
+use Rattle.darwin_parser.specs.Reading as reading
+use Rattle.darwin_parser.specs.Reading.{sees, pushed, expect, ◌>>◌, ◌>>=◌, pure}
+use Rattle.darwin_parser.proofs.Loops.{Turning}
 use Rattle.darwin_parser.proofs.source.Source.unit.Given as goal
 
-abbrev pub invariant-loop-components : goal.invariant-loop-components
-invariant-loop-components l = length l.tokens.rest.now ≤ length l.fn.tokens.rest.now
+abbrev pub invariant-more : goal.invariant-more
+invariant-more l = record {
+  turning : Turning (sees (kinds.Word words.Component)) pushed (reading.component l.self.text.now 32 16) (reading.repeated (sees (kinds.Word words.Component)) pushed (reading.component l.self.text.now 32 16) [] l.fn.tokens.rest.now) (map component_of l.components.items) l.tokens.rest.now;
+  shorter : length l.tokens.rest.now ≤ length l.fn.tokens.rest.now
+}
 
-abbrev pub decreases-loop-components : goal.decreases-loop-components
-decreases-loop-components l = length l.tokens.rest.now
+abbrev pub decreases-more : goal.decreases-more
+decreases-more l = length l.tokens.rest.now
