@@ -1,5 +1,5 @@
 -- A body as a list of statements, and as the row that a statement keeps.
-use Rattle.std.proofs.Common.{◌≡◌, ℕ, List, [], ◌∷◌, map, Vec, Global, refl, ap, sym, ◌∙◌}
+use Rattle.std.proofs.Common.{◌≡◌, List, [], ◌∷◌, map, Vec, Global, refl, ap, ◌∙◌}
 use mathlib.Core.Former.{Count}
 use Rattle.darwin_lexer.specs.declared.token.At.{At}
 use Rattle.darwin_parser.specs.declared.tree.Expr as code_expr

@@ -2,3 +2,10 @@ pub mod Ranks
 pub mod Loops
 pub mod Deeper
 pub mod Bodies
+pub mod KindSets
+pub mod Exact
+pub mod OneToken
+pub mod Repeats
+pub mod Productions
+pub mod Theorems
+pub mod Answered

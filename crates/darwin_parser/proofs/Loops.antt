@@ -1,7 +1,6 @@
 -- A loop beside the recursion that says what it reads: the turns so far and those to come make the whole.
-use Rattle.std.proofs.Common.{◌≡◌, ◌≢◌, ℕ, zero, suc, ◌+◌, ◌<◌, ◌≤◌, Bool, true, false, cond, List, [], ◌∷◌, length, Result, Ok, Err, refl, ap, sym, subst, ◌∙◌, arith, drop}
+use Rattle.std.proofs.Common.{◌≡◌, ◌≢◌, ℕ, zero, suc, ◌<◌, ◌≤◌, Bool, true, false, List, [], ◌∷◌, length, Result, Ok, Err, refl, ap, sym, subst, ◌∙◌, arith, drop}
 use Rattle.std.specs.Result.{IsErrAnd}
-use Rattle.std.proofs.lemmas.Result.{err_from_is_err_and}
 use Rattle.darwin_lexer.specs.declared.token.Token.{Token}
 use Rattle.darwin_lexer.specs.declared.token.TokenKind.{TokenKind}
 use Rattle.darwin_lexer.specs.declared.token.TokenKind.TheVariants as kinds
@@ -9,7 +8,7 @@ use Rattle.darwin_lexer.specs.declared.token.Sign.TheVariants.{Comma}
 use Rattle.darwin_parser.specs.declared.cursor.Stop.{Stop}
 use Rattle.darwin_parser.specs.declared.cursor.Stop.TheVariants.{Expected, NoMemory}
 use Rattle.darwin_parser.specs.declared.cursor.Level.{Level}
-use Rattle.darwin_parser.specs.Reading.{operator_at, sees_operator, at_end, Reader, Outcome, Reads, and_then, choose, turns, repeated, turns_up_to, up_to, sees, after, after_or, expect, pure, ◌>>=◌, ◌>>◌}
+use Rattle.darwin_parser.specs.Reading.{operator_at, sees_operator, at_end, Reader, Outcome, Reads, and_then, turns, turns_up_to, sees, after, expect, ◌>>=◌, ◌>>◌}
 
 abbrev pub comma : TokenKind
 comma = kinds.Sign Comma
@@ -141,7 +140,7 @@ module _ {S A : Type 0} {close : TokenKind} {step : S → A → S} {p : Reader A
   next_up_to {rest = rest} t e shorter same =
       let is : now ≡ tokens = now_is ∙ after_not close tokens t in
       subst (λ x. TurningUpTo close step p whole x rest) (sym same)
-        (next_up_to_at close step p h.bound s tokens whole _ _ t (ap p (sym is) ∙ e) (subst (λ ts. length rest < length ts) is shorter) h.enough h.same)
+      (next_up_to_at close step p h.bound s tokens whole _ _ t (ap p (sym is) ∙ e) (subst (λ ts. length rest < length ts) is shorter) h.enough h.same)
 
   pub stops_up_to : sees close tokens ≡ true → whole ≡ Ok (s, now)
   stops_up_to t = stop_up_to_at close step p h.bound s tokens whole t h.enough h.same ∙ ap (λ ts. Ok (s, ts)) (sym (now_is ∙ after_is close tokens t))

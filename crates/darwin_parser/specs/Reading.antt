@@ -7,9 +7,7 @@ use Rattle.darwin_lexer.specs.declared.token.At.{At}
 use Rattle.darwin_lexer.specs.declared.token.Token.{Token}
 use Rattle.darwin_lexer.specs.declared.token.TokenKind.{TokenKind}
 use Rattle.darwin_lexer.specs.declared.token.TokenKind.TheVariants as kinds
-use Rattle.darwin_lexer.specs.declared.token.Keyword.{Keyword}
 use Rattle.darwin_lexer.specs.declared.token.Keyword.TheVariants as words
-use Rattle.darwin_lexer.specs.declared.token.Sign.{Sign}
 use Rattle.darwin_lexer.specs.declared.token.Sign.TheVariants as signs
 use Rattle.darwin_parser.specs.declared.cursor.Stop.{Stop}
 use Rattle.darwin_parser.specs.declared.cursor.Stop.TheVariants.{Expected, TooNested, NoMemory}
@@ -18,7 +16,7 @@ use Rattle.darwin_parser.specs.declared.cursor.Level.TheVariants as levels
 use Rattle.darwin_parser.specs.declared.tree.Op.{Op}
 use Rattle.darwin_parser.specs.declared.tree.Side.{Side}
 use Rattle.darwin_parser.specs.declared.tree.Side.TheVariants as sides
-use Rattle.darwin_parser.specs.Tree.{Name, Expr, num, var, neg, op, PortDecl, ArrayDecl, InstEntry, single, element, PortRef, BindEntry, Stmt, inst, bind, forall, when, Stmts, Component, Tree}
+use Rattle.darwin_parser.specs.Tree.{Name, Expr, num, var, neg, PortDecl, ArrayDecl, InstEntry, single, element, PortRef, BindEntry, Stmt, inst, bind, forall, when, Component, Tree}
 use Rattle.darwin_parser.specs.Grammar.{bytes_of, operation, with_right, body_of, Item, ports, arrays, statements, Parts, no_parts, with_item, component_of, side_word}
 
 -- ---- readers
@@ -178,11 +176,11 @@ sees_nested tokens = sees (kinds.Sign signs.OpenParen) tokens || sees (kinds.Sig
 
 unfoldable pub nested_over : Reader Expr → Reader Expr
 nested_over factor =
-  after_or (kinds.Sign signs.Minus) (do e ← factor; pure (neg e)) (do
-    expect (kinds.Sign signs.OpenParen)
-    e ← expr_over factor
-    expect (kinds.Sign signs.CloseParen)
-    pure e)
+    after_or (kinds.Sign signs.Minus) (do e ← factor; pure (neg e)) (do
+      expect (kinds.Sign signs.OpenParen)
+      e ← expr_over factor
+      expect (kinds.Sign signs.CloseParen)
+      pure e)
 
 module _ (text : List ℕ) where
   unfoldable pub name : Reader Name
@@ -295,7 +293,7 @@ module _ (text : List ℕ) (operands : ℕ) where
   bind_end = do
     first ← port_end
     after_or (kinds.Sign signs.Dot) (inner_end first)
-      (pure (first.0, record { inst = None; inst_index = None; port = bytes_of text first.0; port_index = first.1 }))
+        (pure (first.0, record { inst = None; inst_index = None; port = bytes_of text first.0; port_index = first.1 }))
 
   unfoldable pub bindentry : Reader BindEntry
   bindentry = do

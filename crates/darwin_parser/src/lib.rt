@@ -11,7 +11,7 @@ mod statements;
 mod tree;
 
 pub use error::ParseError;
-pub use parsing::parse;
+pub use parsing::{one_tree, parse};
 pub use tree::{
     ArrayDecl, BindEntry, Component, Expr, InstEntry, Op, PortDecl, PortRef, Side, Stmt, Unit,
 };

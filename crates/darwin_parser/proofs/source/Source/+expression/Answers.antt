@@ -1,4 +1,4 @@
-use Rattle.std.proofs.Common.{◌<◌, length, arith, ap, sym, subst, ◌∙◌}
+use Rattle.std.proofs.Common.{arith, sym, subst, ◌∙◌}
 use Rattle.darwin_parser.specs.Tree.{expr_of}
 use Rattle.darwin_parser.specs.Reading.{Reads}
 use Rattle.darwin_parser.proofs.Loops.{passes_on, next, stops, fails, operator_some}

@@ -30,7 +30,7 @@ decreases-nested_over l = 18 * l.nesting + 17
 abbrev pub invariant-chain-more : goal.invariant-chain-more
 invariant-chain-more l = let operand = operand_over (factor l.self.text.now l.nesting) l.level in record {
   turning : Turning (sees_operator l.level) with_right (next_operand l.level operand) (chain l.level operand l.fn.tokens.rest.now) (expr_of l.left) l.tokens.rest.now;
-  shorter : length l.tokens.rest.now < length l.fn.tokens.rest.now
+  shorter : length l.tokens.rest.now < length l.fn.tokens.rest.now;
 }
 
 abbrev pub decreases-chain-more : goal.decreases-chain-more

@@ -1,4 +1,4 @@
-use Rattle.std.proofs.Common.{◌<◌, length, map, Ok, arith, ap, sym, subst, ◌∙◌}
+use Rattle.std.proofs.Common.{map, Ok, arith, ap, sym, subst, ◌∙◌}
 use Rattle.std.proofs.lemmas.Grind.{common_steps}
 use Rattle.darwin_parser.specs.Tree.{stmt_of}
 use Rattle.darwin_parser.specs.Reading as reading
@@ -39,14 +39,14 @@ block_body-returns-clause-reads t c = stops_up_to c.more.invariant.turning c.eat
 pub forall-returns-clause-reads : goal.forall-returns-clause-reads
 unfolding reading.forall_over
 forall-returns-clause-reads t c = rw (
-      c.in_ok-at.ensures.reads,
-      c.in_ok-var.ensures.reads,
-      c.in_ok-sign.ensures.reads,
-      c.in_ok-low.ensures.reads,
-      c.in_ok-sign-2.ensures.reads,
-      c.in_ok-high.ensures.reads,
-      c.in_ok-body.ensures.reads,
-    ) (ap (λ s. Ok (s, c.body.new.tokens.rest.now)) (sym (forall_body c.in_ok-var.var c.in_ok-low.low c.in_ok-high.high c.in_ok-body.body c.in_ok-at.field-0.at)))
+  c.in_ok-at.ensures.reads,
+  c.in_ok-var.ensures.reads,
+  c.in_ok-sign.ensures.reads,
+  c.in_ok-low.ensures.reads,
+  c.in_ok-sign-2.ensures.reads,
+  c.in_ok-high.ensures.reads,
+  c.in_ok-body.ensures.reads,
+) (ap (λ s. Ok (s, c.body.new.tokens.rest.now)) (sym (forall_body c.in_ok-var.var c.in_ok-low.low c.in_ok-high.high c.in_ok-body.body c.in_ok-at.field-0.at)))
 
 pub when-returns-clause-reads : goal.when-returns-clause-reads
 unfolding reading.when_over

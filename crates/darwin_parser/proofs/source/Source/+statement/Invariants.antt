@@ -1,4 +1,4 @@
-use Rattle.std.proofs.Common.{◌+◌, ◌*◌, ◌≤◌, [], length, map}
+use Rattle.std.proofs.Common.{◌+◌, ◌*◌, ◌≤◌, length, map}
 use Rattle.darwin_lexer.specs.declared.token.TokenKind.TheVariants as kinds
 use Rattle.darwin_lexer.specs.declared.token.Sign.TheVariants as signs
 use Rattle.darwin_parser.specs.Tree.{stmt_of}
@@ -30,7 +30,7 @@ decreases-block_body l = 8 * l.nesting + 2
 abbrev pub invariant-block_body-more : goal.invariant-block_body-more
 invariant-block_body-more l = record {
   turning : TurningUpTo (kinds.Sign signs.CloseBrace) appended (statement l.self.text.now 32 l.nesting) (block_body (statement l.self.text.now 32 l.nesting) l.fn.tokens.rest.now) (map stmt_of l.body.items) l.tokens.rest.now;
-  shorter : length l.tokens.rest.now ≤ length l.fn.tokens.rest.now
+  shorter : length l.tokens.rest.now ≤ length l.fn.tokens.rest.now;
 }
 
 abbrev pub decreases-block_body-more : goal.decreases-block_body-more

@@ -7,7 +7,7 @@ pub returns-in_err-array-2-clause-reads : goal.returns-in_err-array-2-clause-rea
 returns-in_err-array-2-clause-reads c =
     let e = sym c.sees.ensures ∙ c.more-test.true in
     passes_on _ _ _ c.from_residual-in_err-array-2.result c.from_residual-in_err-array-2.ensures.1
-      (λ ne. fails c.more.invariant.turning e (sees_some _ _ e) (c.in_err-array-2.ensures.reads ne))
+    (λ ne. fails c.more.invariant.turning e (sees_some _ _ e) (c.in_err-array-2.ensures.reads ne))
 
 pub more-preserved : goal.more-preserved
 more-preserved c = record {

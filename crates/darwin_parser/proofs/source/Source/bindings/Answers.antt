@@ -10,7 +10,7 @@ pub returns-in_err-binding-2-clause-reads : goal.returns-in_err-binding-2-clause
 returns-in_err-binding-2-clause-reads c =
     let e = sym c.sees.ensures ∙ c.more-test.true in
     passes_on _ _ _ c.from_residual-in_err-binding-2.result c.from_residual-in_err-binding-2.ensures.1
-      (λ ne. fails c.more.invariant.turning e (sees_some _ _ e) (ap (λ o. and_then o (λ e. pure (bind e))) (c.in_err-binding-2.ensures.reads ne)))
+    (λ ne. fails c.more.invariant.turning e (sees_some _ _ e) (ap (λ o. and_then o (λ e. pure (bind e))) (c.in_err-binding-2.ensures.reads ne)))
 
 pub more-preserved : goal.more-preserved
 more-preserved c = record {
@@ -28,7 +28,7 @@ more-init c = record {
     bound = length c.binding.new.tokens.rest.now;
     enough = omega arith;
     same = sym (rw (c.in_ok-word.ensures.reads, c.in_ok-binding.ensures.reads)
-      (ap (λ ss. turns (sees kinds.Name) pushed (bindentry c.args.self.now.text.now 32 >>= (λ b. pure (bind b))) (length c.binding.new.tokens.rest.now) ss c.binding.new.tokens.rest.now) (grind (arith, common_steps))));
+        (ap (λ ss. turns (sees kinds.Name) pushed (bindentry c.args.self.now.text.now 32 >>= (λ b. pure (bind b))) (length c.binding.new.tokens.rest.now) ss c.binding.new.tokens.rest.now) (grind (arith, common_steps))));
   };
   shorter = omega (arith, c.in_ok-word.ensures.shorter, c.in_ok-binding.ensures.shorter);
 }

@@ -1,4 +1,4 @@
-use Rattle.std.proofs.Common.{◌<◌, length, map, [], ◌∷◌}
+use Rattle.std.proofs.Common.{◌<◌, length, map}
 use Rattle.darwin_lexer.specs.declared.token.TokenKind.TheVariants as kinds
 use Rattle.darwin_parser.specs.Tree.{bind, stmt_of}
 use Rattle.darwin_parser.specs.Reading as reading
@@ -9,7 +9,7 @@ use Rattle.darwin_parser.proofs.source.Source.bindings.Given as goal
 abbrev pub invariant-more : goal.invariant-more
 invariant-more l = record {
   turning : Turning (sees kinds.Name) pushed (reading.bindentry l.self.text.now 32 >>= (λ b. pure (bind b))) (reading.bindings l.self.text.now 32 l.fn.tokens.rest.now) (map stmt_of l.stmts.items) l.tokens.rest.now;
-  shorter : length l.tokens.rest.now < length l.fn.tokens.rest.now
+  shorter : length l.tokens.rest.now < length l.fn.tokens.rest.now;
 }
 
 abbrev pub decreases-more : goal.decreases-more

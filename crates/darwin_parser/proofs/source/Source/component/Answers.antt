@@ -1,4 +1,4 @@
-use Rattle.std.proofs.Common.{List, map, Ok, Result, ap}
+use Rattle.std.proofs.Common.{map, Ok, ap}
 use Rattle.darwin_parser.specs.Tree.{Stmts, Component, port_of, array_of}
 use Rattle.darwin_parser.specs.Reading as reading
 use Rattle.darwin_parser.specs.Reading.{Outcome}
@@ -8,12 +8,15 @@ use Rattle.darwin_parser.proofs.source.Source.component.Goals as goal
 pub returns-clause-reads : goal.returns-clause-reads
 unfolding reading.component
 returns-clause-reads c =
-    let with_body : Stmts → Outcome Component = λ body. Ok (record {
-      name = c.in_ok-name.name;
-      at = c.in_ok-at.field-0.at;
-      params = c.in_ok-params.params.items;
-      ports = map port_of c.in_ok-ports.field-0.ports.items;
-      arrays = map array_of c.in_ok-ports.field-0.arrays.items;
-      body = body;
-    }, c.parts.new.tokens.rest.now) in
+    let with_body : Stmts → Outcome Component = λ body. Ok (
+      record {
+        name = c.in_ok-name.name;
+        at = c.in_ok-at.field-0.at;
+        params = c.in_ok-params.params.items;
+        ports = map port_of c.in_ok-ports.field-0.ports.items;
+        arrays = map array_of c.in_ok-ports.field-0.arrays.items;
+        body = body;
+      },
+      c.parts.new.tokens.rest.now,
+    ) in
     rw (c.in_ok-at.ensures.reads, c.in_ok-name.ensures.reads, c.in_ok-params.ensures.reads, c.in_ok-sign.ensures.reads, c.in_ok-ports.ensures.reads) (ap with_body (stmts_is c.in_ok-ports.field-0.body.items))

@@ -9,7 +9,7 @@ pub returns-in_err-instance-2-clause-reads : goal.returns-in_err-instance-2-clau
 returns-in_err-instance-2-clause-reads c =
     let e = sym c.sees.ensures ∙ c.more-test.true in
     passes_on _ _ _ c.from_residual-in_err-instance-2.result c.from_residual-in_err-instance-2.ensures.1
-      (λ ne. fails c.more.invariant.turning e (sees_some _ _ e) (ap (λ o. and_then o (λ e. pure (inst e))) (c.in_err-instance-2.ensures.reads ne)))
+    (λ ne. fails c.more.invariant.turning e (sees_some _ _ e) (ap (λ o. and_then o (λ e. pure (inst e))) (c.in_err-instance-2.ensures.reads ne)))
 
 pub more-preserved : goal.more-preserved
 more-preserved c = record {

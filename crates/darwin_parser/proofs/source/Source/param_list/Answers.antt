@@ -11,7 +11,7 @@ returns-in_err-param-2-clause-reads c = passes_on _ _ _ c.from_residual-in_err-p
 pub more-preserved : goal.more-preserved
 more-preserved c = record {
   turning = next_after comma (reading.param c.args.self.now.text.now) c.more.invariant.turning c.eat.ensures.rest (sym c.eat.ensures.found ∙ c.more-test.true) c.in_ok-param-2.ensures.reads c.in_ok-param-2.ensures.shorter
-    (grind (arith, common_steps));
+      (grind (arith, common_steps));
   shorter = omega (arith, c.in_ok-param-2.ensures.shorter);
 }
 

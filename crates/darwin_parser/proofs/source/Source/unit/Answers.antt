@@ -9,7 +9,7 @@ unfolding unit
 returns-in_err-component c =
     let e = sym c.sees_word.ensures ∙ c.more-test.true in
     passes_on _ _ _ c.from_residual.result c.from_residual.ensures.1
-      (λ ne. ap (λ o. and_then o at_end) (fails c.more.invariant.turning e (sees_some _ _ e) (c.in_err-component.ensures.reads ne)))
+    (λ ne. ap (λ o. and_then o at_end) (fails c.more.invariant.turning e (sees_some _ _ e) (c.in_err-component.ensures.reads ne)))
 
 pub more-preserved : goal.more-preserved
 more-preserved c = record {

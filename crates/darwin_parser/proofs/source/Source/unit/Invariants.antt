@@ -1,4 +1,4 @@
-use Rattle.std.proofs.Common.{◌≤◌, length, map, [], ◌∷◌}
+use Rattle.std.proofs.Common.{◌≤◌, length, map, []}
 use Rattle.darwin_lexer.specs.declared.token.TokenKind.TheVariants as kinds
 use Rattle.darwin_lexer.specs.declared.token.Keyword.TheVariants as words
 use Rattle.darwin_parser.specs.Tree.{component_of}
@@ -10,7 +10,7 @@ use Rattle.darwin_parser.proofs.source.Source.unit.Given as goal
 abbrev pub invariant-more : goal.invariant-more
 invariant-more l = record {
   turning : Turning (sees (kinds.Word words.Component)) pushed (reading.component l.self.text.now 32 16) (reading.repeated (sees (kinds.Word words.Component)) pushed (reading.component l.self.text.now 32 16) [] l.fn.tokens.rest.now) (map component_of l.components.items) l.tokens.rest.now;
-  shorter : length l.tokens.rest.now ≤ length l.fn.tokens.rest.now
+  shorter : length l.tokens.rest.now ≤ length l.fn.tokens.rest.now;
 }
 
 abbrev pub decreases-more : goal.decreases-more
