@@ -15,6 +15,7 @@ pub const MAX_TEXT: usize = 1_048_576;
 pub fn lex(alloc: Global, text: &[u8]) -> Result<Vec<Token>, LexError>
     requires { length text.now ≤ MAX_TEXT }
     ensures tokens { IfOk result (λ found. IsTokens text.now found.items) }
+    ensures few { IfOk result (λ found. length found.items ≤ length text.now) }
     ensures whenever { (tokens : List Token) → IsTokens text.now tokens
         → IsOkAnd result (λ found. found.items ≡ tokens) ⊎ IsErrOf result LexError.NoMemory }
 

@@ -7,6 +7,7 @@ abbrev pub invariant-pieces : goal.invariant-pieces
 invariant-pieces l = record {
   parted : Parts l.text 0 l.start l.tokens.items;
   within : l.start ≤ length l.text;
+  few : length l.tokens.items ≤ l.start;
   place : l.at ≡ place_of l.text l.start;
   line : l.at.line ≤ l.start + 1;
   column : l.at.column ≤ l.start + 1;
