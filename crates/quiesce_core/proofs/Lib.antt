@@ -7,3 +7,4 @@ pub mod Places
 pub mod Soundness
 pub mod SettledLemmas
 pub mod RestLemmas
+pub mod GraphLemmas

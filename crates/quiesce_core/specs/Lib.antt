@@ -17,3 +17,4 @@ pub mod Machine
 pub mod WordFields
 pub mod Open
 pub mod Counted
+pub mod Start

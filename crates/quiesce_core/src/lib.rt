@@ -14,6 +14,7 @@ mod open;
 mod reach;
 mod rest;
 mod rules;
+mod starting;
 mod state;
 mod tables;
 mod word;

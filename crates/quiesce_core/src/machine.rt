@@ -1,7 +1,10 @@
 //! The change machine: a state that events lead on, each where its rules hold.
 
 ghost use Rattle.std.specs.Prelude.{◌≡◌, ◌+◌, ◌<◌, ◌≤◌, ◌↔◌, ◌-◌, ◌^◌, ℕ, min, false, true, length, option_map, IfOk, IsTrue, OnOk, OnErr, SomeIff};
-ghost use Rattle.config_graph.specs.declared.TheConstants.{MAX_NODES};
+ghost use Rattle.config_graph.specs.declared.TheConstants.{MAX_NODES, MAX_PORTS};
+ghost use Rattle.config_graph.specs.Graph.{ports};
+ghost use Rattle.config_graph.specs.Sound.{Sound};
+ghost use Rattle.quiesce_core.specs.Start.{started};
 ghost use Rattle.quiesce_core.specs.State as state;
 ghost use Rattle.quiesce_core.specs.Rules.{denial, is_settled, last_serial};
 ghost use Rattle.quiesce_core.specs.Settled.{Settled};
@@ -17,7 +20,7 @@ use crate::event::Event;
 use crate::rules::LAST_SERIAL;
 use crate::state::OpenTxn;
 use crate::tables::Tables;
-use config_graph::{Made, NoMemory, Node};
+use config_graph::{Graph, Made, NoMemory, Node};
 use std::alloc::Global;
 use std::marker::Model;
 
@@ -48,6 +51,18 @@ impl Core {
             tables: Tables::new(alloc),
             spare: 0,
         }
+    }
+
+    /// The system that was started as the graph says: its nodes are in slots 0, 1 and on, their ports numbered in that order,
+    /// linked, open and idle.
+    pub fn of(alloc: Global, graph: &Graph) -> Result<Core, NoMemory>
+        requires sound { Sound graph.now }
+        requires few_nodes { length graph.now.nodes ≤ MAX_NODES }
+        requires few_ports { length (ports graph.now.nodes) ≤ MAX_PORTS }
+        ensures { IfOk result (λ c. c ≡ record { state = started graph.now; spare = 0 }) }
+    {
+        let tables = Tables::of(alloc, graph)?;
+        Ok(Core { tables, spare: 0 })
     }
 
     /// Takes the memory for so many nodes more.

@@ -1,0 +1,218 @@
+-- A system that was started as a sound graph says is well formed.
+use Rattle.std.proofs.Common.{◌≡◌, ℕ, zero, suc, ◌+◌, ◌-◌, ◌<◌, ◌≤◌, Bool, true, false, not, eqb, ◌||◌, List, [], ◌∷◌, length, map, take, get_or, Some, None, refl, sym, ap, ◌∙◌, subst, ⊎_elim, arith, add-zero}
+use Rattle.std.specs.Prelude.{slice_get, option_map, sum_by}
+use Rattle.std.specs.List.{enumerate_from}
+use Rattle.std.specs.Option.{option_map_or}
+use Rattle.std.proofs.lemmas.Bool.{both_ways, cases_Bool, cases_lt, eqb-true, eq-eqb, or_cases, or_left, or_right, false_from_ne_true, not_from_false}
+use Rattle.std.proofs.lemmas.Option.{slice_get_within, get_or_from_slice_get, slice_get_past}
+use Rattle.std.proofs.lemmas.List.{length-map, get_or_past}
+use Rattle.std.proofs.lemmas.List.Sums.{sum_by-cons, sum_by_more}
+use Rattle.config_graph.specs.Kinds.{row, is_depended_on}
+use Rattle.config_graph.specs.Graph.{Configuration as Graph, first_port, ports, target_of, requires_of, requires_at, provides_at, provides_of}
+use Rattle.config_graph.specs.Cycles as cycles
+use Rattle.config_graph.specs.Sound.{Sound}
+use Rattle.config_graph.specs.declared.node.Node.{Node}
+use Rattle.config_graph.specs.declared.node.Port.{Port}
+use Rattle.config_graph.specs.declared.node.Target.{Target}
+use Rattle.config_graph.proofs.LinkLemmas.{get-ports, port_number-place, require_within, target_within}
+use Rattle.config_graph.proofs.NumberingLemmas.{length-ports}
+use Rattle.quiesce_core.specs.declared.state.Slot.{Slot}
+use Rattle.quiesce_core.specs.declared.state.Gate.{Gate}
+use Rattle.quiesce_core.specs.State.{Configuration, fresh_gate, fresh_exchange, slot, gate, target}
+use Rattle.quiesce_core.specs.Reach.{IsPortOf, Leads, can_walk, has_no_cycle}
+use Rattle.quiesce_core.specs.WellFormed.{StandInARow, IsWithinBounds, IsSound, IsWellFormed}
+use Rattle.quiesce_core.specs.Start.{slot_of, gate_of, free, unused, started}
+use Rattle.quiesce_core.proofs.Lists.{range_all, count_in, count_in-le, count_in_rises}
+use Rattle.quiesce_core.proofs.Cycles.{walk_from, walker_made, map_or_at}
+
+-- look-ups in a list that was mapped
+
+get_mapped : {A B : Type 0} (f : A → B) (xs : List A) (i : ℕ) → slice_get (map f xs) i ≡ option_map f (slice_get xs i)
+get_mapped f [] i = refl
+get_mapped f (x ∷ xs) zero = refl
+get_mapped f (x ∷ xs) (suc i) = get_mapped f xs i
+
+pub get_numbered : {A : Type 0} (k : ℕ) (xs : List A) (i : ℕ) (x : A) → slice_get xs i ≡ Some x → slice_get (enumerate_from k xs) i ≡ Some (k + i, x)
+get_numbered k [] i x h = absurd (cc)
+get_numbered k (y ∷ xs) zero x h = let e : y ≡ x = cc in rw (add-zero, e) refl
+get_numbered k (y ∷ xs) (suc i) x h = get_numbered (k + 1) xs i x h ∙ ap (λ j. Some (j, x)) (omega arith)
+
+pub length-numbered_from : {A : Type 0} (k : ℕ) (xs : List A) → length (enumerate_from k xs) ≡ length xs
+length-numbered_from k [] = refl
+length-numbered_from k (x ∷ xs) = ap suc (length-numbered_from (k + 1) xs)
+
+-- where a list has a member
+pub there : {A : Type 0} (xs : List A) (i : ℕ) → i < length xs → (x : A) × (slice_get xs i ≡ Some x)
+there [] i h = absurd (omega arith)
+there (x ∷ xs) zero h = (x, refl)
+there (x ∷ xs) (suc i) h = there xs i (omega arith)
+
+pub sum_taken : {A : Type 0} (f : A → ℕ) (xs : List A) (i : ℕ) (x : A) → slice_get xs i ≡ Some x → sum_by f (take i xs) + f x ≤ sum_by f xs
+sum_taken f [] i x h = absurd (cc)
+sum_taken f (y ∷ xs) zero x h =
+    let e : y ≡ x = cc in
+    rw (sum_by-cons f y xs) (subst (λ z. 0 + f z ≤ f y + sum_by f xs) e (omega arith))
+sum_taken f (y ∷ xs) (suc i) x h =
+    rw (sum_by-cons f y (take i xs), sum_by-cons f y xs) (omega (arith, sum_taken f xs i x h))
+
+way_on : (g : Graph) (i j k : ℕ) → cycles.Way g i j → cycles.Leads g j k → cycles.Way g i k
+way_on g _ _ k (cycles.step l) next = cycles.onward l (cycles.step next)
+way_on g _ _ k (cycles.onward l w) next = cycles.onward l (way_on g _ _ k w next)
+
+-- A walk of more steps than there are nodes comes back to a node that it passed.
+comes_back : (c : Configuration) (g : Graph) → ((n m : ℕ) → Leads c n m → cycles.Leads g n m) → (passed : ℕ → Bool) (k n : ℕ) → ((v : ℕ) → passed v ≡ true → cycles.Way g v n)
+    → can_walk c k n ≡ true → length c.slots < count_in passed 0 (length c.slots) + k → (i : ℕ) × cycles.Way g i i
+comes_back c g same passed zero n ways h many = absurd (omega (arith, count_in-le passed 0 (length c.slots)))
+comes_back c g same passed (suc k) n ways h many = ⊎_elim
+    (λ (yes_ : passed n ≡ true). (n, ways n yes_))
+    (λ (no_ : passed n ≡ false).
+    let w = walk_from c k n h in
+    let lead = same n w.to w.leads in
+    let now : ℕ → Bool = λ i. passed i || eqb i n in
+    let grows : count_in passed 0 (length c.slots) < count_in (λ i. passed i || eqb i n) 0 (length c.slots) =
+    count_in_rises passed (λ i. passed i || eqb i n) 0 (length c.slots) n (λ j e. or_left (passed j) (eqb j n) e) (omega arith) (omega (arith, walker_made c k n h))
+    no_ (or_right (passed n) (eqb n n) (eq-eqb n n refl)) in
+    comes_back c g same (λ i. passed i || eqb i n) k w.to
+    (λ v e. ⊎_elim (λ (before : passed v ≡ true). way_on g v n w.to (ways v before) lead)
+    (λ (here : eqb v n ≡ true). subst (λ i. cycles.Way g i w.to) (sym (eqb-true v n here)) (cycles.step lead)) (or_cases (passed v) (eqb v n) e))
+    w.walks (omega arith))
+    (cases_Bool (passed n))
+
+module _ (g : Graph) (sound : Sound g) (few_nodes : length g.nodes ≤ 1023) (few_ports : length (ports g.nodes) ≤ 4096) where
+  slot_made : (n : ℕ) (node : Node) → slice_get g.nodes n ≡ Some node → slot (started g).config n ≡ Some (slot_of g.nodes (n, node))
+  slot_made n node e =
+      get_mapped (slot_of g.nodes) (enumerate_from 0 g.nodes) n ∙ ap (λ o. option_map (slot_of g.nodes) o) (get_numbered 0 g.nodes n node e)
+      ∙ ap (λ i. Some (slot_of g.nodes (i, node))) (omega arith)
+
+  slots_length : length (started g).config.slots ≡ length g.nodes
+  slots_length = length-map (enumerate_from 0 g.nodes) (slot_of g.nodes) ∙ length-numbered_from 0 g.nodes
+
+  gates_length : length (started g).config.gates ≡ length (ports g.nodes)
+  gates_length = length-map (ports g.nodes) (gate_of g)
+
+  gate_made : (p : ℕ) (q : Port) → slice_get (ports g.nodes) p ≡ Some q → gate (started g).config p ≡ gate_of g q
+  gate_made p q e =
+      get_or_from_slice_get (map (gate_of g) (ports g.nodes)) p (gate_of g q) fresh_gate
+      (get_mapped (gate_of g) (ports g.nodes) p ∙ ap (λ o. option_map (gate_of g) o) e)
+
+  -- what a made slot holds
+  slot_was : (n : ℕ) (m : Slot) → slot (started g).config n ≡ Some m → (node : Node) × (slice_get g.nodes n ≡ Some node) × (m ≡ slot_of g.nodes (n, node))
+  slot_was n m e =
+      let within : n < length g.nodes = omega (arith, slice_get_within (started g).config.slots n m e, slots_length) in
+      let w = there g.nodes n within in
+      (w.0, w.1, cc (e, slot_made n w.0 w.1))
+
+  requires_there : (n : ℕ) (node : Node) → slice_get g.nodes n ≡ Some node → requires_at g.nodes n ≡ requires_of node
+  requires_there n node e = map_or_at requires_of (slice_get g.nodes n) 0 node e
+
+  gate_in_row : (n : ℕ) (node : Node) (r : ℕ) → slice_get g.nodes n ≡ Some node → r < requires_of node → gate (started g).config (first_port g.nodes n + r) ≡ gate_of g (record { node = n; require = r })
+  gate_in_row n node r e h =
+      gate_made (first_port g.nodes n + r) (record { node = n; require = r }) (get-ports g.nodes n r (subst (λ k. r < k) (sym (requires_there n node e)) h))
+
+  leads_there : (n m : ℕ) → Leads (started g).config n m → cycles.Leads g n m
+  leads_there n m l =
+      let was = slot_was n l.owned.node l.owned.made in
+      let node = was.0 in
+      let first : l.owned.node.first_port ≡ first_port g.nodes n = ap (λ (s : Slot). s.first_port) was.2 in
+      let size : length (row l.owned.node.node.kind).requires_ ≡ requires_of node = ap (λ (s : Slot). length (row s.node.kind).requires_) was.2 in
+      let at : first_port g.nodes n + (l.port - first_port g.nodes n) ≡ l.port = omega (arith, l.owned.from, first) in
+      let within : l.port - first_port g.nodes n < requires_of node = omega (arith, l.owned.from, l.owned.below, first, size) in
+      let here : gate (started g).config l.port ≡ gate_of g (record { node = n; require = l.port - first_port g.nodes n }) =
+      sym (ap (λ i. gate (started g).config i) at) ∙ gate_in_row n node (l.port - first_port g.nodes n) was.1 within in
+      record {
+        require = l.port - first_port g.nodes n;
+        provide = l.provide;
+        linked = sym (ap (λ (h : Gate). h.target) here) ∙ l.linked;
+        depended =
+            map_or_at (λ (k : Node). is_depended_on k.kind (l.port - first_port g.nodes n)) (slice_get g.nodes n) false node was.1
+            ∙ sym (ap (λ (h : Gate). is_depended_on node.kind h.require) here)
+            ∙ sym (map_or_at (λ (k : Slot). is_depended_on k.node.kind (gate (started g).config l.port).require) (slot (started g).config n) false (slot_of g.nodes (n, node)) (slot_made n node was.1))
+            ∙ l.depended;
+      }
+
+  no_cycle_started : has_no_cycle (started g).config ≡ true
+  unfolding has_no_cycle
+  no_cycle_started =
+      range_all (λ n. not (can_walk (started g).config (suc (length (started g).config.slots)) n)) 0 (length (started g).config.slots) (λ n l u.
+      not_from_false (can_walk (started g).config (suc (length (started g).config.slots)) n)
+      (false_from_ne_true (can_walk (started g).config (suc (length (started g).config.slots)) n) (λ h.
+      let w = comes_back (started g).config g leads_there (λ _. false) (suc (length (started g).config.slots)) n (λ v e. absurd (both_ways false refl e)) h (omega arith) in
+      sound.no_cycle w.0 w.1)))
+
+  target_was : (p : ℕ) (t : Target) → target (started g).config p ≡ Some t → (q : Port) × (slice_get (ports g.nodes) p ≡ Some q) × (target_of g.links q.node q.require ≡ Some t)
+  target_was p t e = ⊎_elim
+      (λ (within : p < length (ports g.nodes)).
+      let q = there (ports g.nodes) p within in
+      (q.0, q.1, sym (ap (λ (h : Gate). h.target) (gate_made p q.0 q.1)) ∙ e))
+      (λ (past : length (ports g.nodes) ≤ p).
+      let none_ : target (started g).config p ≡ None = ap (λ (h : Gate). h.target) (get_or_past (started g).config.gates p fresh_gate (omega (arith, gates_length))) in
+      absurd (cc (none_, e)))
+      (cases_lt p (length (ports g.nodes)))
+
+  sound_started : IsSound (started g).config
+  sound_started = record {
+    few_nodes = omega (arith, slots_length, few_nodes);
+    few_ports = omega (arith, gates_length, few_ports);
+    rows = λ n m e.
+        let was = slot_was n m e in
+        subst (λ s. StandInARow (started g).config n s) (sym was.2) (record {
+          within = omega (arith, sum_taken requires_of g.nodes n was.0 was.1, length-ports g.nodes, gates_length);
+          owned = λ r h. ap (λ (x : Gate). x.owner) (gate_in_row n was.0 r was.1 h);
+          in_order = λ r h. ap (λ (x : Gate). x.require) (gate_in_row n was.0 r was.1 h);
+        });
+    ports = λ p h.
+        let q = there (ports g.nodes) p (omega (arith, gates_length)) in
+        let within : q.0.require < requires_at g.nodes q.0.node = require_within g.nodes p q.0 q.1 in
+        let node = there g.nodes q.0.node (requires_made q.0.node q.0.require within) in
+        let place : p ≡ first_port g.nodes q.0.node + q.0.require = port_number-place g.nodes p q.0 q.1 in
+        let size : requires_at g.nodes q.0.node ≡ requires_of node.0 = requires_there q.0.node node.0 node.1 in
+        subst (λ n. IsPortOf (started g).config n p) (sym (ap (λ (x : Gate). x.owner) (gate_made p q.0 q.1))) (record {
+          node = slot_of g.nodes (q.0.node, node.0);
+          made = slot_made q.0.node node.0 node.1;
+          from = omega (arith, place);
+          below = omega (arith, place, size, within);
+        });
+    targets = λ p t e.
+        let was = target_was p t e in
+        let within : t.provide < provides_at g.nodes t.node = target_within g.nodes g.links was.0.node was.0.require t sound.within was.2 in
+        let node = there g.nodes t.node (provides_made t.node t.provide within) in
+        record {
+          live = map_or_at (λ (m : Slot). m.live) (slot (started g).config t.node) false (slot_of g.nodes (t.node, node.0)) (slot_made t.node node.0 node.1);
+          provided = subst (λ k. t.provide < k)
+              (map_or_at provides_of (slice_get g.nodes t.node) 0 node.0 node.1
+              ∙ sym (map_or_at (λ (m : Slot). length (row m.node.kind).provides) (slot (started g).config t.node) 0 (slot_of g.nodes (t.node, node.0)) (slot_made t.node node.0 node.1))) within;
+        };
+    no_cycle = no_cycle_started;
+  }
+    where
+      made_if : (f : Node → ℕ) (n r : ℕ) → r < option_map_or f (slice_get g.nodes n) 0 → n < length g.nodes
+      made_if f n r h = ⊎_elim (λ (l : n < length g.nodes). l)
+          (λ (past : length g.nodes ≤ n). absurd (omega (arith, ap (λ o. option_map_or f o 0) (slice_get_past g.nodes n past), h))) (cases_lt n (length g.nodes))
+
+      requires_made : (n r : ℕ) → r < requires_at g.nodes n → n < length g.nodes
+      requires_made n r h = made_if requires_of n r h
+
+      provides_made : (n r : ℕ) → r < provides_at g.nodes n → n < length g.nodes
+      provides_made n r h = made_if provides_of n r h
+
+  pub well_formed_started : IsWellFormed (started g)
+  well_formed_started = record {
+    sound = sound_started;
+    services = length-map g.nodes free ∙ sym slots_length;
+    exchanges = length-map (ports g.nodes) unused ∙ sym gates_length;
+    bounds = λ p. bounds_unused (ports g.nodes) p;
+  }
+    where
+      bounds_unused : (ps : List Port) (p : ℕ) → IsWithinBounds (get_or (map unused ps) p fresh_exchange)
+      bounds_unused [] p = record { serial = omega arith; value = omega arith }
+      bounds_unused (q ∷ ps) zero = record { serial = omega arith; value = omega arith }
+      bounds_unused (q ∷ ps) (suc p) = bounds_unused ps p
+
+-- the first port after one node more
+pub first_port_more : (nodes : List Node) (i : ℕ) (n : Node) → slice_get nodes i ≡ Some n → first_port nodes i + requires_of n ≡ first_port nodes (i + 1)
+first_port_more nodes i n e =
+    ap (λ x. first_port nodes i + requires_of x) (sym (get_or_from_slice_get nodes i n n e))
+    ∙ sym (sum_by_more requires_of nodes i n (slice_get_within nodes i n e))
+
+pub first_port_fits : (nodes : List Node) (i : ℕ) (n : Node) → slice_get nodes i ≡ Some n → first_port nodes i + requires_of n ≤ length (ports nodes)
+first_port_fits nodes i n e = subst (λ k. first_port nodes i + requires_of n ≤ k) (sym (length-ports nodes)) (sum_taken requires_of nodes i n e)

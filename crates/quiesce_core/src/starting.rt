@@ -1,0 +1,88 @@
+//! The tables of a system as it starts.
+
+ghost use Rattle.std.specs.Prelude.{◌≡◌, ◌≤◌, length, map, IfOk};
+ghost use Rattle.std.specs.List.{enumerate_from};
+ghost use Rattle.config_graph.specs.Graph.{ports};
+ghost use Rattle.quiesce_core.specs.Start as start;
+ghost use Rattle.quiesce_core.specs.Tables.{state_of};
+
+use crate::state::{Exchange, Gate, Service, Slot};
+use crate::tables::{FRESH_EXCHANGE, Tables};
+use config_graph::{Graph, NoMemory, Node};
+use std::alloc::Global;
+
+fn list_slots(alloc: Global, nodes: &[Node]) -> Result<Vec<Slot>, NoMemory>
+    requires { length (ports nodes.now) ≤ 4096 }
+    ensures { IfOk result (λ v. v.items ≡ map (start.slot_of nodes.now) (enumerate_from 0 nodes.now)) }
+{
+    let mut slots = Vec::with_capacity(alloc, nodes.len())?;
+    let mut first_port = 0u32;
+    for node in nodes {
+        let requires_ = node.kind.requires_();
+        let slot = Slot {
+            node: node.try_clone()?,
+            first_port,
+            from: None,
+            live: true,
+        };
+        slots.push(slot)?;
+        first_port += requires_;
+    }
+    Ok(slots)
+}
+
+fn list_gates(alloc: Global, graph: &Graph) -> Result<Vec<Gate>, NoMemory>
+    ensures { IfOk result (λ v. v.items ≡ map (start.gate_of graph.now) (ports graph.now.nodes)) }
+{
+    let mut gates = Vec::with_capacity(alloc, graph.port_count() as usize)?;
+    for number in 0..graph.port_count() {
+        let port = graph.port(number);
+        let gate = Gate {
+            owner: port.node,
+            require: port.require,
+            closed: false,
+            target: graph.target(port.node, port.require),
+        };
+        gates.push(gate)?;
+    }
+    Ok(gates)
+}
+
+fn list_services(alloc: Global, nodes: &[Node]) -> Result<Vec<Option<Service>>, NoMemory>
+    ensures { IfOk result (λ v. v.items ≡ map start.free nodes.now) }
+{
+    let mut services = Vec::with_capacity(alloc, nodes.len())?;
+    for _node in nodes {
+        services.push(None)?;
+    }
+    Ok(services)
+}
+
+fn list_exchanges(alloc: Global, graph: &Graph) -> Result<Vec<Exchange>, NoMemory>
+    ensures { IfOk result (λ v. v.items ≡ map start.unused (ports graph.now.nodes)) }
+{
+    let mut exchanges = Vec::with_capacity(alloc, graph.port_count() as usize)?;
+    for _number in 0..graph.port_count() {
+        exchanges.push(FRESH_EXCHANGE)?;
+    }
+    Ok(exchanges)
+}
+
+impl Tables {
+    /// The tables of a system that was started as the graph says.
+    pub fn of(alloc: Global, graph: &Graph) -> Result<Tables, NoMemory>
+        requires { length (ports graph.now.nodes) ≤ 4096 }
+        ensures { IfOk result (λ t. state_of t ≡ start.started graph.now) }
+    {
+        let slots = list_slots(alloc, graph.nodes())?;
+        let services = list_services(alloc, graph.nodes())?;
+        let gates = list_gates(alloc, graph)?;
+        let exchanges = list_exchanges(alloc, graph)?;
+        Ok(Tables {
+            slots,
+            services,
+            gates,
+            exchanges,
+        })
+    }
+}
