@@ -1,1 +1,6 @@
 pub mod Scope
+pub mod Places
+pub mod Primitive
+pub mod Faults
+pub mod Check
+pub mod Within

@@ -2,6 +2,16 @@
 //! are too few or too many, and primitive components that are no node kind.
 #![tactic(auto)]
 
+mod checking;
+mod declared;
+mod directory;
+mod entries;
 mod error;
+mod instances;
+mod named;
+mod names;
+mod primitive;
+mod refusal;
 
+pub use checking::{Checked, check};
 pub use error::TypeError;

@@ -1,0 +1,9 @@
+use Rattle.std.proofs.Common.{◌≤◌}
+use Rattle.darwin_parser.specs.declared.tree.Expr.{size-Expr}
+use Rattle.darwin_types.proofs.declared.Declared.+check_value.Given as goal
+
+abbrev pub decreases-check_value : goal.decreases-check_value
+decreases-check_value l = goal.size-check_value l
+
+abbrev pub invariant-loop-rest : goal.invariant-loop-rest
+invariant-loop-rest l = size-Expr l.rest ≤ size-Expr l.value
