@@ -1,2 +1,8 @@
+pub mod IntegerLemmas
+pub mod ReachedLemmas
 mod Rows
+pub mod Sizes
 pub mod SpineLemmas
+pub mod TellsLemmas
+pub mod TreeLemmas
+pub mod WalksLemmas

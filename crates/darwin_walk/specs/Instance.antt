@@ -32,11 +32,14 @@ pub record Child : Type 0 where
   pub arguments : Option (List ℤ)
   pub at : At
 
+abbrev pub values : List Expr → Env → List Value
+values es env = map (λ e. value e env) es
+
 -- the values of the arguments of an element: those of its own list, an empty one too, with all variables in sight,
 -- and else those of the array's, which see the parameters alone
 abbrev pub element_arguments : Env → ArrayDecl → Option (List Expr) → Env → List Value
-element_arguments parameters array (Some args) env = map (λ e. value e env) args
-element_arguments parameters array None env = option_map_or (map (λ e. value e parameters)) array.args []
+element_arguments parameters array (Some args) env = values args env
+element_arguments parameters array None env = option_map_or (λ args. values args parameters) array.args []
 
 -- the element that an index names, where it has a value: also one that the array doesn't have
 abbrev pub element_child : Option ArrayDecl → Value → (ArrayDecl → List Value) → At → List Child
@@ -54,7 +57,7 @@ children_of c parameters (made (single name component args at) env) =
     record {
       segment = record { name = name; index = None };
       component = component;
-      arguments = integers (map (λ e. value e env) args);
+      arguments = integers (values args env);
       at = at;
     } ∷ []
 children_of c parameters (made (element name index args at) env) =
@@ -109,6 +112,10 @@ bindings_of _ = []
 abbrev pub bindings : Component → Env → List Binding
 bindings c parameters = flat_map bindings_of (reached c parameters)
 
+-- the sizes of the ports, in order, for those that have one; none where it has no value
+abbrev pub port_sizes : Component → Env → List (Option (Option ℤ))
+port_sizes c parameters = map (λ p. index_value p.size parameters) c.ports
+
 -- ---- faults
 
 abbrev pub value_fault : At → Value → List Fault
@@ -121,23 +128,25 @@ abbrev pub index_fault : At → Value → Value → List Fault
 index_fault at (integer size) (integer i) = if int_le (pos 0) i && int_lt i size then [] else BadIndex at ∷ []
 index_fault at _ _ = []
 
--- the same, where the index is of an array of instances
-abbrev pub array_fault : Component → Env → Name → At → Value → List Fault
-array_fault c parameters name at i = option_map_or (λ array. index_fault at (value array.size parameters) i) (array_named c name) []
+-- the faults of an index of an instance: that it has no value, or that it isn't one of the array of the name
+abbrev pub element_faults : Component → Env → Name → At → Value → List Fault
+element_faults c parameters name at i =
+    value_fault at i ++ option_map_or (λ array. index_fault at (value array.size parameters) i) (array_named c name) []
+
+abbrev pub inner_faults : Component → Env → At → Option Name → Option Expr → Env → List Fault
+inner_faults c parameters at (Some name) (Some i) env = element_faults c parameters name at (value i env)
+inner_faults c parameters at _ _ env = []
 
 abbrev pub end_faults : Component → Env → At → PortRef → Env → List Fault
-end_faults c parameters at e env = instance_faults e.inst e.inst_index ++ option_map_or (λ i. value_fault at (value i env)) e.port_index []
-  where
-    instance_faults : Option Name → Option Expr → List Fault
-    instance_faults (Some name) (Some i) = value_fault at (value i env) ++ array_fault c parameters name at (value i env)
-    instance_faults _ _ = []
+end_faults c parameters at e env =
+    inner_faults c parameters at e.inst e.inst_index env ++ option_map_or (λ i. value_fault at (value i env)) e.port_index []
 
 abbrev pub faults_of : Component → Env → Reached → List Fault
 faults_of c parameters (valued e env at) = value_fault at (value e env)
 faults_of c parameters turn = []
-faults_of c parameters (made (single name component args at) env) = flat_map (λ e. value_fault at (value e env)) args
+faults_of c parameters (made (single name component args at) env) = flat_map (value_fault at) (values args env)
 faults_of c parameters (made (element name index args at) env) =
-    value_fault at (value index env) ++ array_fault c parameters name at (value index env)
+    element_faults c parameters name at (value index env)
     ++ option_map_or (λ array. flat_map (value_fault at) (element_arguments parameters array args env)) (array_named c name) []
 faults_of c parameters (bound b env) = end_faults c parameters b.at b.left env ++ end_faults c parameters b.at b.right env
 

@@ -1,4 +1,6 @@
 pub mod Instance
 pub mod Reached
+pub mod Scope
 pub mod Spine
 pub mod Value
+pub mod Walked

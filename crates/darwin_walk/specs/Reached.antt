@@ -1,8 +1,9 @@
 -- What is reached in one instance of a component: the expressions that are valued, the turns of `forall`, and the
 -- entries of instances and bindings, each with the variables round it. A statement is reached where the variables
 -- round it have values of their ranges and each `when` round it is true.
-use Rattle.std.specs.Prelude.{ℕ, zero, suc, Bool, false, ℤ, pos, ◌+ℤ◌, cond, List, [], ◌∷◌, ◌++◌, map, sum_by, Option, Some, None}
+use Rattle.std.specs.Prelude.{ℕ, zero, suc, Bool, false, ℤ, pos, ◌+ℤ◌, cond, List, [], ◌∷◌, ◌++◌, map, sum_by}
 use Rattle.std.specs.List.{flat_map}
+use Rattle.std.specs.Option.{option_map_or}
 use Rattle.std.specs.Int.{int_gap}
 use Rattle.darwin_lexer.specs.declared.token.At.{At}
 use Rattle.darwin_parser.specs.Tree.{Name, Expr, PortDecl, ArrayDecl, InstEntry, BindEntry, Stmt, inst, bind, forall, when, Stmts, end, then, Component}
@@ -21,9 +22,13 @@ abbrev pub integers_from : ℤ → ℕ → List ℤ
 integers_from a zero = []
 integers_from a (suc n) = a ∷ integers_from (a +ℤ pos 1) n
 
--- the integers from one end of a range to the other; none where the second lies below the first
+-- the integers from a to b; none where b lies below a
+abbrev pub integers_to : ℤ → ℤ → List ℤ
+integers_to a b = integers_from a (int_gap a (b +ℤ pos 1))
+
+-- the integers of a range
 abbrev pub range : Value → Value → List ℤ
-range (integer a) (integer b) = integers_from a (int_gap a (b +ℤ pos 1))
+range (integer a) (integer b) = integers_to a b
 range _ _ = []
 
 -- whether the test of a `when` lets its body be reached
@@ -49,11 +54,7 @@ abbrev mutual
 
 -- the size of a port that has one, and of an array: valued once an instance, whether it is used or not
 abbrev pub port_size : Env → PortDecl → List Reached
-port_size env p = size_of p.size
-  where
-    size_of : Option Expr → List Reached
-    size_of None = []
-    size_of (Some size) = valued size env p.at ∷ []
+port_size env p = option_map_or (λ size. valued size env p.at ∷ []) p.size []
 
 abbrev pub array_size : Env → ArrayDecl → Reached
 array_size env a = valued a.size env a.at
@@ -71,3 +72,7 @@ weight (bound _ _) = 1
 
 abbrev pub count : Component → Env → ℕ
 count c env = sum_by weight (reached c env)
+
+-- what the turns of a `forall` over these integers reach
+abbrev pub turns : Stmts → Env → Name → List ℤ → List Reached
+turns body env name = flat_map (λ i. turn ∷ reached_in body (with_variable env name i))

@@ -1,6 +1,10 @@
 //! The faults of elaboration that one instance shows.
 
+ghost use Rattle.std.specs.Prelude.{◌≡◌};
+
 use darwin_lexer::At;
+use std::alloc::{AllocError, AllocFailed};
+use thiserror::Error;
 
 /// A fault that an instance shows, with the place of the statement or declaration in which it stands.
 #[derive(Clone, Copy, Debug, PartialEq, Eq)]
@@ -11,4 +15,37 @@ pub enum Fault {
     ZeroDivisor(At),
     /// An index of an array of instances isn't from 0 to the size less 1.
     BadIndex(At),
+}
+
+/// Why an instance can't be walked.
+#[derive(Clone, Copy, Debug, Error)]
+pub enum WalkError {
+    /// The instance shows this fault.
+    #[error("an instance has a fault")]
+    Fault(Fault),
+    /// The instance takes more turns and reaches more entries than there is room for.
+    #[error("too many turns and entries are reached")]
+    TooMany,
+    #[error("no memory")]
+    NoMemory,
+}
+
+impl From<AllocError> for WalkError {
+    ghost use Rattle.darwin_walk.specs.declared.fault.WalkError.TheVariants.{NoMemory};
+
+    ghost from_gives = { λ _ e. e ≡ NoMemory };
+
+    fn from(_error: AllocError) -> WalkError {
+        WalkError::NoMemory
+    }
+}
+
+impl<T: Drop> From<AllocFailed<T>> for WalkError {
+    ghost use Rattle.darwin_walk.specs.declared.fault.WalkError.TheVariants.{NoMemory};
+
+    ghost from_gives = { λ _ e. e ≡ NoMemory };
+
+    fn from(_failed: AllocFailed<T>) -> WalkError {
+        WalkError::NoMemory
+    }
 }

@@ -2,7 +2,13 @@
 #![tactic(auto)]
 
 mod fault;
+mod instance;
+mod scope;
 mod valuing;
+mod walked;
+mod walking;
 
-pub use fault::Fault;
+pub use fault::{Fault, WalkError};
+pub use instance::walk;
 pub use valuing::{ValueError, Variable, value};
+pub use walked::{Binding, Child, End, Segment, Walked};

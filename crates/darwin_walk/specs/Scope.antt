@@ -1,0 +1,75 @@
+-- What the statements of an instance see, as the definitions speak of it.
+use Rattle.std.specs.Prelude.{◌≡◌, List, map, Some, None, All, MatchOption, FitsSigned, ◌+◌, ◌<◌, [], ◌∷◌, Option, option_map, Result, sum_by}
+use Rattle.std.specs.List.{flat_map}
+use Rattle.std.specs.Option.{option_map_or, option_to_list}
+use Rattle.std.specs.Int.{w32}
+use Rattle.darwin_parser.specs.declared.tree.Expr as code_expr
+use Rattle.darwin_parser.specs.Tree.{Name, Expr, PortDecl, ArrayDecl, Component, expr_of, array_of, component_of}
+use Rattle.darwin_types.specs.Scope.{array_named}
+use Rattle.darwin_walk.specs.Value.{Value, Env, value, integer}
+use Rattle.darwin_walk.specs.Spine.{env_of}
+use Rattle.darwin_walk.specs.Reached.{Reached, weight}
+use Rattle.darwin_walk.specs.Instance.{children_of, bindings_of, value_fault, faults_of}
+use Rattle.darwin_walk.specs.Walked.{Tells, Adds, child_of, binding_of}
+use Rattle.darwin_walk.specs.declared.fault.Fault.{Fault}
+use Rattle.darwin_walk.specs.declared.fault.WalkError.{WalkError}
+use Rattle.darwin_walk.specs.declared.walked.Child as code_child
+use Rattle.darwin_walk.specs.declared.walked.Binding as code_binding
+use Rattle.darwin_walk.specs.declared.walked.Walked.{Walked}
+use Rattle.darwin_walk.specs.declared.scope.Array.{Array}
+use Rattle.darwin_walk.specs.declared.scope.Place.{Place}
+use Rattle.darwin_walk.specs.declared.scope.Scope.{Scope}
+
+abbrev pub exprs_of : List code_expr.Expr → List Expr
+exprs_of = map expr_of
+
+-- the instance, as the definitions speak of it
+abbrev pub component_at : Scope → Component
+component_at s = component_of s.component.now
+
+abbrev pub parameters_at : Scope → Env
+parameters_at s = env_of s.parameters.now
+
+-- the array has this size
+abbrev pub HasSize : Env → Array → Type 0
+HasSize parameters a = value (expr_of a.decl.now.size) parameters ≡ integer a.size
+
+-- the faults of the sizes of ports and of arrays
+abbrev pub port_faults : Env → List PortDecl → List Fault
+port_faults parameters = flat_map (λ p. option_map_or (λ e. value_fault p.at (value e parameters)) p.size [])
+
+abbrev pub array_faults : Env → List ArrayDecl → List Fault
+array_faults parameters = flat_map (λ a. value_fault a.at (value a.size parameters))
+
+-- the arrays are those of the component, with their sizes
+pub record IsScope (s : Scope) : Type 0 where
+  pub arrays : map (λ a. array_of a.decl.now) s.arrays.now ≡ (component_at s).arrays
+  pub sizes : All (HasSize (parameters_at s)) s.arrays.now
+
+-- the array of a name
+pub record IsArray (s : Scope) (name : Name) (a : Array) : Type 0 where
+  pub is_named : array_named (component_at s) name ≡ Some (array_of a.decl.now)
+  pub is_size : HasSize (parameters_at s) a
+
+-- the place of an index of this value in the array of the name, where there is one
+pub record IsPlace (s : Scope) (name : Name) (v : Value) (p : Place) : Type 0 where
+  pub is_index : v ≡ integer p.index
+  pub fits : FitsSigned w32 p.index
+  pub is_array : MatchOption p.array (array_named (component_at s) name ≡ None) (λ a. IsArray s name a)
+
+-- an answer gives the instance that an entry makes, if it makes one
+abbrev pub Gives : Scope → Reached → Result (Option code_child.Child) WalkError → Type 0
+Gives s entry =
+    Tells (faults_of (component_at s) (parameters_at s) entry) ⊥
+    (λ child. children_of (component_at s) (parameters_at s) entry ≡ option_to_list (option_map child_of child))
+
+-- an answer gives the binding of an entry
+abbrev pub Binds : Scope → Reached → Result code_binding.Binding WalkError → Type 0
+Binds s entry =
+    Tells (faults_of (component_at s) (parameters_at s) entry) ⊥ (λ b. bindings_of entry ≡ binding_of b ∷ [])
+
+-- an answer tells of all this that is reached, and has added it where it has no fault
+abbrev pub Walks : Scope → List Reached → Walked → Walked → Result (Unit {0}) WalkError → Type 0
+Walks s more old new =
+    Tells (flat_map (faults_of (component_at s) (parameters_at s)) more) (s.room < old.count + sum_by weight more)
+    (λ _. Adds (component_at s) (parameters_at s) s.room more old new)

@@ -1,0 +1,121 @@
+//! The walk of an instance.
+
+ghost use Rattle.std.specs.Prelude.{◌≡◌, ◌≤◌, ◌<◌, [], Some, map, All, IfOk, Contains};
+ghost use Rattle.std.specs.List.{flat_map};
+ghost use Rattle.darwin_parser.specs.Tree.{component_of, array_of, port_of};
+ghost use Rattle.darwin_walk.specs.Value.{parameters};
+ghost use Rattle.darwin_walk.specs.Spine.{env_of};
+ghost use Rattle.darwin_walk.specs.Reached.{count};
+ghost use Rattle.darwin_walk.specs.Instance.{index_value, port_sizes, children, bindings, faults};
+ghost use Rattle.darwin_walk.specs.Walked.{Tells, IsWalked, child_of, binding_of};
+ghost use Rattle.darwin_walk.specs.Scope.{HasSize, array_faults, port_faults};
+ghost use Rattle.darwin_walk.specs.declared.fault.Fault.{Fault as ShownFault};
+
+use crate::scope::{Array, Scope, index_at, value_at};
+use crate::valuing::Variable;
+use crate::walked::Walked;
+use crate::walking::statements;
+use crate::{Fault, WalkError};
+use darwin_parser::{ArrayDecl, Component, PortDecl};
+use std::alloc::{AllocError, Global};
+
+/// Walks an instance of the component with these arguments: values all that is reached in it, and lists
+/// the instances that it makes and its bindings. It goes on while no more turns and entries are counted
+/// than there is room for, so a `forall` over all integers is refused after as many turns.
+pub fn walk<'a>(
+    alloc: Global,
+    component: &'a Component,
+    arguments: &[i32],
+    room: u64,
+) -> Result<Walked<'a>, WalkError>
+    ensures no_fault { IfOk result (λ _. faults (component_of component.now) (parameters (component_of component.now) arguments.now) ≡ []) }
+    ensures sizes { IfOk result (λ w. map Some w.port_sizes.items ≡ port_sizes (component_of component.now) (parameters (component_of component.now) arguments.now)) }
+    ensures children { IfOk result (λ w. map child_of w.children.items ≡ children (component_of component.now) (parameters (component_of component.now) arguments.now)) }
+    ensures bindings { IfOk result (λ w. map binding_of w.bindings.items ≡ bindings (component_of component.now) (parameters (component_of component.now) arguments.now)) }
+    ensures count { IfOk result (λ w. w.count ≡ count (component_of component.now) (parameters (component_of component.now) arguments.now)) }
+    ensures within { IfOk result (λ w. w.count ≤ room) }
+
+    // The fault that is named is one of the instance's, and all else that is refused is too much.
+    ensures fault { (f : ShownFault) → result ≡ Err (WalkError.Fault f) → Contains (faults (component_of component.now) (parameters (component_of component.now) arguments.now)) f }
+    ensures too_many { result ≡ Err WalkError.TooMany → room < count (component_of component.now) (parameters (component_of component.now) arguments.now) }
+{
+    let parameters = parameters_of(alloc, component, arguments)?;
+    walk_with(alloc, component, &parameters, room)
+}
+
+/// The walk, where the parameters have these values.
+fn walk_with<'a>(
+    alloc: Global,
+    component: &'a Component,
+    parameters: &[Variable<'a>],
+    room: u64,
+) -> Result<Walked<'a>, WalkError>
+    ensures { Tells (faults (component_of component.now) (env_of parameters.now)) (room < count (component_of component.now) (env_of parameters.now)) (IsWalked (component_of component.now) (env_of parameters.now) room) result }
+{
+    let port_sizes = port_sizes_of(alloc, &component.ports, parameters)?;
+    let arrays = sized(alloc, &component.arrays, parameters)?;
+    let scope = Scope {
+        alloc,
+        component,
+        parameters,
+        arrays: &arrays,
+        room,
+    };
+    let mut walked = Walked {
+        port_sizes,
+        children: Vec::new(alloc),
+        bindings: Vec::new(alloc),
+        count: 0,
+    };
+    statements(&scope, parameters, &mut walked, &component.body)?;
+    Ok(walked)
+}
+
+/// The parameters with the values of the arguments.
+fn parameters_of<'a>(
+    alloc: Global,
+    component: &'a Component,
+    arguments: &[i32],
+) -> Result<Vec<Variable<'a>>, AllocError>
+    ensures { IfOk result (λ vs. env_of vs.items ≡ parameters (component_of component.now) arguments.now) }
+{
+    let mut variables = Vec::new(alloc);
+    for (name, value) in component.params.iter().zip(arguments) {
+        variables.push(Variable {
+            name,
+            value: *value,
+        })?;
+    }
+    Ok(variables)
+}
+
+/// The sizes of the ports that have one.
+fn port_sizes_of(
+    alloc: Global,
+    ports: &[PortDecl],
+    parameters: &[Variable],
+) -> Result<Vec<Option<i32>>, WalkError>
+    ensures { Tells (port_faults (env_of parameters.now) (map port_of ports.now)) ⊥ (λ sizes. map Some sizes.items ≡ map (λ p. index_value p.size (env_of parameters.now)) (map port_of ports.now)) result }
+{
+    let mut sizes = Vec::new(alloc);
+    for port in ports {
+        sizes.push(index_at(alloc, &port.size, parameters, port.at)?)?;
+    }
+    Ok(sizes)
+}
+
+/// The arrays with their sizes.
+fn sized<'a>(
+    alloc: Global,
+    arrays: &'a [ArrayDecl],
+    parameters: &[Variable],
+) -> Result<Vec<Array<'a>>, WalkError>
+    ensures { Tells (array_faults (env_of parameters.now) (map array_of arrays.now)) ⊥ (λ xs. (map (λ a. array_of a.decl.now) xs.items ≡ map array_of arrays.now) × All (HasSize (env_of parameters.now)) xs.items) result }
+{
+    let mut with_sizes = Vec::new(alloc);
+    for decl in arrays {
+        let size = value_at(alloc, &decl.size, parameters, decl.at)?;
+        with_sizes.push(Array { decl, size })?;
+    }
+    Ok(with_sizes)
+}

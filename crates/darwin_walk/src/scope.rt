@@ -1,0 +1,178 @@
+//! What the statements of an instance see, and what their expressions and indexes are worth there.
+
+ghost use Rattle.std.specs.Prelude.{◌≡◌, MatchOption, FitsSigned, int_le, int_lt, pos, ◌&&◌, [], option_map};
+ghost use Rattle.std.specs.Option.{option_map_or};
+ghost use Rattle.std.specs.List.{flat_map};
+ghost use Rattle.std.specs.Int.{w32};
+ghost use Rattle.darwin_parser.specs.Tree.{expr_of, component_of, end_of as ref_of};
+ghost use Rattle.darwin_types.specs.Scope.{array_named};
+ghost use Rattle.darwin_walk.specs.Value.{value as value_of, integer};
+ghost use Rattle.darwin_walk.specs.Spine.{env_of};
+ghost use Rattle.darwin_walk.specs.Instance.{values as values_of, integers, value_fault, element_faults, inner_faults, inner_value, index_value, end_faults, end_value};
+ghost use Rattle.darwin_walk.specs.Walked.{Tells, segment_of, end_of};
+ghost use Rattle.darwin_walk.specs.Scope.{IsScope, IsArray, IsPlace, exprs_of};
+
+use crate::valuing::{ValueError, Variable, value};
+use crate::walked::{End, Segment};
+use crate::{Fault, WalkError};
+use config_graph::Text;
+use darwin_lexer::At;
+use darwin_parser::{ArrayDecl, Component, Expr, PortRef};
+use std::alloc::Global;
+
+/// An array with its size.
+#[derive(Clone, Copy)]
+pub(crate) struct Array<'a> {
+    pub decl: &'a ArrayDecl,
+    pub size: i32,
+}
+
+/// An instance: its component, its parameters and its arrays, and how much may be counted.
+#[derive(Clone, Copy)]
+pub(crate) struct Scope<'a, 'b> {
+    pub alloc: Global,
+    pub component: &'a Component,
+    pub parameters: &'b [Variable<'a>],
+    pub arrays: &'b [Array<'a>],
+    pub room: u64,
+}
+
+impl Array<'_> {
+    /// Whether the array has an element of this index.
+    pub fn has(&self, index: i32) -> bool
+        ensures { result ≡ (int_le (pos 0) index && int_lt index self.now.size) }
+    {
+        0 <= index && index < self.size
+    }
+}
+
+/// The array of the name.
+pub(crate) fn array_at<'a>(scope: &Scope<'a, '_>, name: &Text) -> Option<Array<'a>>
+    requires { IsScope scope.now }
+    ensures { MatchOption result (array_named (component_of scope.now.component.now) name.now ≡ None) (λ a. IsArray scope.now name.now a) }
+{
+    for array in scope.arrays {
+        if name.as_bytes() == array.decl.name.as_bytes() {
+            return Some(*array);
+        }
+    }
+    None
+}
+
+/// What the expression is worth, for the statement or declaration at the place.
+pub(crate) fn value_at(
+    alloc: Global,
+    expr: &Expr,
+    env: &[Variable],
+    at: At,
+) -> Result<i32, WalkError>
+    ensures { Tells (value_fault at (value_of (expr_of expr.now) (env_of env.now))) ⊥ (λ z. (value_of (expr_of expr.now) (env_of env.now) ≡ integer z) × FitsSigned w32 z) result }
+{
+    match value(alloc, expr, env) {
+        Ok(z) => Ok(z),
+        Err(ValueError::OutOfRange) => Err(WalkError::Fault(Fault::OutOfRange(at))),
+        Err(ValueError::ZeroDivisor) => Err(WalkError::Fault(Fault::ZeroDivisor(at))),
+        Err(ValueError::NoMemory) => Err(WalkError::NoMemory),
+    }
+}
+
+/// What the expressions are worth, all of them.
+pub(crate) fn values_at(
+    alloc: Global,
+    exprs: &[Expr],
+    env: &[Variable],
+    at: At,
+) -> Result<Vec<i32>, WalkError>
+    ensures { Tells (flat_map (value_fault at) (values_of (exprs_of exprs.now) (env_of env.now))) ⊥ (λ zs. integers (values_of (exprs_of exprs.now) (env_of env.now)) ≡ Some zs.items) result }
+{
+    let mut worths = Vec::new(alloc);
+    for expr in exprs {
+        worths.push(value_at(alloc, expr, env, at)?)?;
+    }
+    Ok(worths)
+}
+
+/// An index, and the array in which it is one.
+#[derive(Clone, Copy)]
+pub(crate) struct Place<'a> {
+    pub index: i32,
+    pub array: Option<Array<'a>>,
+}
+
+/// The index of an instance of the name, which is one of its array where it has one.
+pub(crate) fn element_at<'a>(
+    scope: &Scope<'a, '_>,
+    name: &Text,
+    index: &Expr,
+    env: &[Variable],
+    at: At,
+) -> Result<Place<'a>, WalkError>
+    requires { IsScope scope.now }
+    ensures { Tells (element_faults (component_of scope.now.component.now) (env_of scope.now.parameters.now) name.now at (value_of (expr_of index.now) (env_of env.now))) ⊥ (IsPlace scope.now name.now (value_of (expr_of index.now) (env_of env.now))) result }
+{
+    let index = value_at(scope.alloc, index, env, at)?;
+    let array = array_at(scope, name);
+    if array.is_none_or(|a| a.has(index)) {
+        Ok(Place { index, array })
+    } else {
+        Err(WalkError::Fault(Fault::BadIndex(at)))
+    }
+}
+
+/// The instance within that an end names, if it names one.
+fn inner_at<'a>(
+    scope: &Scope<'a, '_>,
+    name: &'a Option<Text>,
+    index: &Option<Expr>,
+    env: &[Variable],
+    at: At,
+) -> Result<Option<Segment<'a>>, WalkError>
+    requires { IsScope scope.now }
+    ensures { Tells (inner_faults (component_of scope.now.component.now) (env_of scope.now.parameters.now) at name.now (option_map expr_of index.now) (env_of env.now)) ⊥ (λ s. inner_value name.now (option_map expr_of index.now) (env_of env.now) ≡ Some (option_map segment_of s)) result }
+{
+    match (name, index) {
+        (None, _) => Ok(None),
+        (Some(name), None) => Ok(Some(Segment { name, index: None })),
+        (Some(name), Some(index)) => {
+            let place = element_at(scope, name, index, env, at)?;
+            Ok(Some(Segment {
+                name,
+                index: Some(place.index),
+            }))
+        }
+    }
+}
+
+/// An index that may be left out.
+pub(crate) fn index_at(
+    alloc: Global,
+    index: &Option<Expr>,
+    env: &[Variable],
+    at: At,
+) -> Result<Option<i32>, WalkError>
+    ensures { Tells (option_map_or (λ i. value_fault at (value_of (expr_of i) (env_of env.now))) index.now []) ⊥ (λ i. index_value (option_map expr_of index.now) (env_of env.now) ≡ Some i) result }
+{
+    match index {
+        None => Ok(None),
+        Some(index) => Ok(Some(value_at(alloc, index, env, at)?)),
+    }
+}
+
+/// An end of a binding, with the values of its indexes.
+pub(crate) fn end_at<'a>(
+    scope: &Scope<'a, '_>,
+    end: &'a PortRef,
+    env: &[Variable],
+    at: At,
+) -> Result<End<'a>, WalkError>
+    requires { IsScope scope.now }
+    ensures { Tells (end_faults (component_of scope.now.component.now) (env_of scope.now.parameters.now) at (ref_of end.now) (env_of env.now)) ⊥ (λ e. end_value (ref_of end.now) (env_of env.now) ≡ Some (end_of e)) result }
+{
+    let inner = inner_at(scope, &end.inst, &end.inst_index, env, at)?;
+    let index = index_at(scope.alloc, &end.port_index, env, at)?;
+    Ok(End {
+        inner,
+        port: &end.port,
+        index,
+    })
+}
