@@ -4,6 +4,8 @@
 mod fault;
 mod instance;
 mod scope;
+#[cfg(test)]
+mod tests;
 mod valuing;
 mod walked;
 mod walking;

@@ -1,5 +1,5 @@
 -- The faults of an elaboration: the set of those that hold. Where it is empty the elaboration is the graph.
-use Rattle.std.specs.Prelude.{◌≡◌, ◌≢◌, ◌<◌, ℕ, true, ◌&&◌, ◌||◌, not, ℤ, pos, int_le, int_lt, List, [], ◌∷◌, ◌++◌, length, min, Option, Some, None, if◌then◌else◌, Contains}
+use Rattle.std.specs.Prelude.{◌≡◌, ◌≢◌, ◌<◌, ℕ, true, ◌&&◌, ◌||◌, not, ℤ, pos, int_le, int_lt, List, [], ◌∷◌, ◌++◌, length, min, Option, Some, None, if◌then◌else◌, Contains, slice_get}
 use Rattle.std.specs.List.{flat_map, list_all}
 use Rattle.std.specs.Option.{option_map_or}
 use Rattle.darwin_lexer.specs.declared.token.At.{At}
@@ -13,7 +13,9 @@ use Rattle.darwin_walk.specs.declared.fault.Fault.TheVariants as shown
 use Rattle.elaborator.specs.Paths.{Path, end_bytes}
 use Rattle.elaborator.specs.Instances.{Instance, top_instance, Inst, is_expanded, children_in, instance_of, total, paths_made}
 use Rattle.elaborator.specs.Bindings.{Named, named, Pair, pair_of, pairs_in, bindings_in}
-use Rattle.elaborator.specs.Graph.{IsFirstOnCycle}
+use Rattle.config_graph.specs.Graph.{Configuration}
+use Rattle.config_graph.specs.Cycles.{FirstOnCycle}
+use Rattle.elaborator.specs.Graph.{IsElab}
 use Rattle.elaborator.specs.declared.error.ElabError.{ElabError}
 use Rattle.elaborator.specs.declared.error.ElabError.TheVariants as error
 
@@ -108,7 +110,7 @@ pub data Faults (tree : Tree) (name : Name) (arguments : List ℤ) : ElabError �
       → Faults tree name arguments (error.TooDeep i.path)
   -- more than 65,536 turns are taken and entries reached
   too_many : (top : Instance) → top_instance tree name arguments ≡ Some top → 65536 < total tree top → Faults tree name arguments error.TooMany
-  -- nodes depend on themselves; the first by its path is named
+  -- nodes lie on cycles of depended-on links; the first by its path is named
   depends_cycle :
-      (top : Instance) (n : Node) → top_instance tree name arguments ≡ Some top → IsFirstOnCycle tree top n
-      → Faults tree name arguments (error.DependsCycle n.path)
+    (top : Instance) (g : Configuration) (i : ℕ) (n : Node) → top_instance tree name arguments ≡ Some top → IsElab tree top g
+    → FirstOnCycle g i → slice_get g.nodes i ≡ Some n → Faults tree name arguments (error.DependsCycle n.path)

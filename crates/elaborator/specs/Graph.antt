@@ -1,9 +1,6 @@
 -- The graph of an elaboration: its nodes are the instances of primitive components, and a requirement of a node is
 -- linked to a provision of a node where a list of bindings leads from the one to the other.
-use Rattle.std.specs.Prelude.{◌≡◌, ◌≢◌, ◌↔◌, ℕ, true, ℤ, pos, negsuc, List, Option, Some, None, option_map, slice_get, if◌then◌else◌, Contains, AllPairs}
-use Rattle.std.specs.Ordering.{nat_cmp}
-use Rattle.std.specs.Cmp.Lexicographic.{slice_cmp}
-use Rattle.std.specs.declared.cmp.Ordering.TheVariants.{Less}
+use Rattle.std.specs.Prelude.{◌≡◌, ◌↔◌, ℕ, ℤ, pos, negsuc, List, Option, Some, None, option_map, slice_get, if◌then◌else◌, Contains}
 use Rattle.darwin_parser.specs.declared.tree.Side.{Side}
 use Rattle.darwin_parser.specs.declared.tree.Side.TheVariants.{Provide, Require}
 use Rattle.darwin_parser.specs.Tree.{Name, Tree}
@@ -11,7 +8,8 @@ use Rattle.darwin_types.specs.Scope.{is_primitive}
 use Rattle.config_graph.specs.declared.kind.Kind.{Kind}
 use Rattle.config_graph.specs.declared.node.Node.{Node}
 use Rattle.config_graph.specs.declared.node.Link.{Link}
-use Rattle.config_graph.specs.Kinds.{kind_named, row, is_depended_on, Provision}
+use Rattle.config_graph.specs.Kinds.{kind_named, row, Provision}
+use Rattle.config_graph.specs.Graph.{Configuration, PathsRise, in_port_order}
 use Rattle.elaborator.specs.Instances.{Instance, Inst}
 use Rattle.elaborator.specs.Bindings.{Port, Leads}
 
@@ -55,23 +53,10 @@ pub record IsLink (tree : Tree) (top : Instance) (nodes : List Node) (l : Link) 
   pub is_to : slice_get nodes l.to ≡ Some to
   pub linked : Linked tree top from l.require to l.provide
 
--- the nodes and links of the elaboration with this top
-pub record IsElab (tree : Tree) (top : Instance) (nodes : List Node) (links : List Link) : Type 0 where
-  -- the nodes stand in the order of their paths, byte by byte
-  pub paths_rise : AllPairs (λ m n. slice_cmp nat_cmp m.path n.path ≡ Less) nodes
-  pub nodes_are : (n : Node) → Contains nodes n ↔ IsNode tree top n
-  pub links_are : (l : Link) → Contains links l ↔ IsLink tree top nodes l
-
--- the first node depends on the second: a requirement on which one of its provisions depends is linked there
-pub data DependsOn (tree : Tree) (top : Instance) (a b : Node) : Type 0 where
-  depends : (require provide : ℕ) → is_depended_on a.kind require ≡ true → Linked tree top a require b provide → DependsOn tree top a b
-
--- the same through any number of nodes between
-pub data DependsOnAll (tree : Tree) (top : Instance) : Node → Node → Type 0 where
-  at_once : (a b : Node) → DependsOn tree top a b → DependsOnAll tree top a b
-  through : (a b c : Node) → DependsOn tree top a b → DependsOnAll tree top b c → DependsOnAll tree top a c
-
--- the first, by the bytes of its path, of the nodes that depend on themselves
-pub record IsFirstOnCycle (tree : Tree) (top : Instance) (n : Node) : Type 0 where
-  pub on_cycle : DependsOnAll tree top n n
-  pub first : (m : Node) → DependsOnAll tree top m m → slice_cmp nat_cmp m.path n.path ≢ Less
+-- the graph of the elaboration with this top: nodes stand in the order of their paths, byte by byte, and links in that of
+-- their ports, so there is no other
+pub record IsElab (tree : Tree) (top : Instance) (g : Configuration) : Type 0 where
+  pub paths_rise : PathsRise g.nodes
+  pub nodes_are : (n : Node) → Contains g.nodes n ↔ IsNode tree top n
+  pub links_are : (l : Link) → Contains g.links l ↔ IsLink tree top g.nodes l
+  pub in_order : in_port_order g.nodes g.links ≡ g.links
