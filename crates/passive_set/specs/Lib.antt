@@ -1,0 +1,5 @@
+pub mod DirectSet
+pub mod Feeding
+pub mod Marks
+pub mod PortSets
+pub mod Ports
