@@ -6,6 +6,7 @@ use Rattle.darwin_lexer.specs.declared.token.TokenKind.{TokenKind}
 use Rattle.darwin_lexer.specs.declared.token.TokenKind.TheVariants as kinds
 use Rattle.darwin_lexer.specs.declared.token.Keyword.TheVariants as words
 use Rattle.darwin_lexer.specs.declared.token.Sign.TheVariants as signs
+use Rattle.darwin_lexer.specs.Tokens.{bytes_of}
 use Rattle.darwin_parser.specs.declared.cursor.Level.TheVariants as levels
 use Rattle.darwin_lexer.specs.declared.token.At.{At}
 use Rattle.darwin_parser.specs.declared.tree.Side.{Side}
@@ -29,7 +30,7 @@ deeper i (suc n) = suc (deeper i n)
 
 pub exact_name : (text : List ℕ) → Exact (kinds.Name ∷ []) false [] (λ i. grammar.name text) (reading.name text)
 unfolding grammar.name reading.name
-exact_name text = exact_seq (exact_plain kinds.Name refl) (λ t. exact_done (grammar.bytes_of text t)) refl
+exact_name text = exact_seq (exact_plain kinds.Name refl) (λ t. exact_done (bytes_of text t)) refl
 
 pub exact_simple : (text : List ℕ) → Exact (kinds.Number 0 ∷ kinds.Name ∷ []) false [] (λ i. grammar.simple text) (reading.simple text)
 unfolding grammar.simple reading.simple
@@ -243,7 +244,7 @@ exact_note : (text : List ℕ) → Exact (kinds.Name ∷ kinds.Word words.Int �
 unfolding grammar.note reading.note
 exact_note text = exact_wide (exact_seq
     (exact_sees kinds.Name refl (exact_plain kinds.Name refl) (exact_sees (kinds.Word words.Int) refl (exact_plain (kinds.Word words.Int) refl) (exact_plain comma refl) refl) refl)
-    (λ t. exact_done (grammar.bytes_of text t)) refl) refl
+    (λ t. exact_done (bytes_of text t)) refl) refl
 
 exact_notes : (text : List ℕ) → Exact (kinds.Sign signs.Less ∷ []) false [] (λ i. grammar.notes text) (reading.note_list text)
 unfolding grammar.notes reading.note_list
@@ -302,9 +303,9 @@ module _ (text : List ℕ) (e : ℕ) where
   unfolding grammar.instentry reading.instentry reading.single_after reading.element_after
   exact_instentry = exact_wide (exact_shared (exact_seq (exact_plain kinds.Name refl) (λ t. exact_after (kinds.Sign signs.Colon) (reading.single_after text e t) refl
       (exact_seq (exact_plain (kinds.Sign signs.Colon) refl) (λ _. exact_seq (exact_name text) (λ component. exact_seq exact_args
-      (λ given. exact_seq (exact_plain (kinds.Sign signs.Semicolon) refl) (λ _. exact_done (single (grammar.bytes_of text t) component (unwrap_or given []) t.at)) refl) refl) refl) refl)
+      (λ given. exact_seq (exact_plain (kinds.Sign signs.Semicolon) refl) (λ _. exact_done (single (bytes_of text t) component (unwrap_or given []) t.at)) refl) refl) refl) refl)
       (exact_seq exact_bracketed (λ index. exact_seq exact_args
-      (λ given. exact_seq (exact_plain (kinds.Sign signs.Semicolon) refl) (λ _. exact_done (element (grammar.bytes_of text t) index given t.at)) refl) refl) refl)
+      (λ given. exact_seq (exact_plain (kinds.Sign signs.Semicolon) refl) (λ _. exact_done (element (bytes_of text t) index given t.at)) refl) refl) refl)
       refl) refl)) refl
 
   exact_port_end : Exact (kinds.Name ∷ []) false (kinds.Sign signs.OpenBracket ∷ []) (λ i. grammar.port_end text (deeper i e)) (reading.port_end text e)
@@ -315,8 +316,8 @@ module _ (text : List ℕ) (e : ℕ) where
   unfolding grammar.bind_end reading.bind_end
   exact_bind_end = exact_wide (exact_shared (exact_seq exact_port_end (λ first. exact_other (exact_after (kinds.Sign signs.Dot) (reading.inner_end text e first) refl
       (exact_seq (exact_plain (kinds.Sign signs.Dot) refl) (λ _. exact_seq exact_port_end
-      (λ port. exact_done (first.0, record { inst = Some (grammar.bytes_of text first.0); inst_index = first.1; port = grammar.bytes_of text port.0; port_index = port.1 })) refl) refl)
-      (exact_done (first.0, record { inst = None; inst_index = None; port = grammar.bytes_of text first.0; port_index = first.1 })) refl)) refl)) refl
+      (λ port. exact_done (first.0, record { inst = Some (bytes_of text first.0); inst_index = first.1; port = bytes_of text port.0; port_index = port.1 })) refl) refl)
+      (exact_done (first.0, record { inst = None; inst_index = None; port = bytes_of text first.0; port_index = first.1 })) refl)) refl)) refl
 
   exact_bindentry : Exact (kinds.Name ∷ []) false [] (λ i. grammar.bindentry text (deeper i e)) (reading.bindentry text e)
   unfolding grammar.bindentry reading.bindentry
@@ -566,7 +567,7 @@ module _ (text : List ℕ) (e : ℕ) where
   unfolding grammar.arrayentry reading.arrayentry
   exact_arrayentry = exact_wide (exact_seq (exact_plain kinds.Name refl) (λ t. exact_seq (exact_bracketed text e) (λ size. exact_seq (exact_plain (kinds.Sign signs.Colon) refl)
       (λ _. exact_seq (exact_name text) (λ component. exact_seq (exact_args text e) (λ given. exact_seq (exact_plain (kinds.Sign signs.Semicolon) refl)
-      (λ _. exact_done (record { name = grammar.bytes_of text t; size = size; component = component; args = given; at = t.at })) refl) refl) refl) refl) refl) refl) refl
+      (λ _. exact_done (record { name = bytes_of text t; size = size; component = component; args = given; at = t.at })) refl) refl) refl) refl) refl) refl) refl
 
   exact_array_list : Exact (kinds.Word words.Array ∷ []) false (kinds.Name ∷ []) (λ i. grammar.array_list text (deeper i e)) (reading.array_list text e)
   unfolding grammar.array_list reading.array_list

@@ -10,6 +10,7 @@ use Rattle.darwin_lexer.specs.declared.token.Keyword.{Keyword}
 use Rattle.darwin_lexer.specs.declared.token.Keyword.TheVariants as words
 use Rattle.darwin_lexer.specs.declared.token.Sign.{Sign}
 use Rattle.darwin_lexer.specs.declared.token.Sign.TheVariants as signs
+use Rattle.darwin_lexer.specs.Tokens.{bytes_of}
 use Rattle.darwin_parser.specs.declared.cursor.Level.{Level}
 use Rattle.darwin_parser.specs.declared.cursor.Level.TheVariants as levels
 use Rattle.darwin_parser.specs.declared.tree.Op.{Op}
@@ -18,10 +19,6 @@ use Rattle.darwin_parser.specs.declared.tree.Side.{Side}
 use Rattle.darwin_parser.specs.declared.tree.Side.TheVariants as sides
 use Rattle.darwin_parser.specs.Tree.{Name, Expr, num, var, neg, op, PortDecl, ArrayDecl, InstEntry, single, element, PortRef, BindEntry, Stmt, inst, bind, forall, when, Stmts, end, then, Component, Tree}
 use Rattle.darwin_parser.specs.Language.{Lang, give, token, ◌>>=◌, ◌>>◌, ◌or◌, optional, many, some, separated}
-
--- the bytes of a token's span
-abbrev pub bytes_of : List ℕ → Token → List ℕ
-bytes_of text t = take (t.end - t.start) (drop t.start text)
 
 abbrev pub word : Keyword → Lang Token
 word w = token (kinds.Word w)

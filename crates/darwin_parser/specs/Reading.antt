@@ -9,6 +9,7 @@ use Rattle.darwin_lexer.specs.declared.token.TokenKind.{TokenKind}
 use Rattle.darwin_lexer.specs.declared.token.TokenKind.TheVariants as kinds
 use Rattle.darwin_lexer.specs.declared.token.Keyword.TheVariants as words
 use Rattle.darwin_lexer.specs.declared.token.Sign.TheVariants as signs
+use Rattle.darwin_lexer.specs.Tokens.{bytes_of}
 use Rattle.darwin_parser.specs.declared.cursor.Stop.{Stop}
 use Rattle.darwin_parser.specs.declared.cursor.Stop.TheVariants.{Expected, TooNested, NoMemory}
 use Rattle.darwin_parser.specs.declared.cursor.Level.{Level}
@@ -17,7 +18,7 @@ use Rattle.darwin_parser.specs.declared.tree.Op.{Op}
 use Rattle.darwin_parser.specs.declared.tree.Side.{Side}
 use Rattle.darwin_parser.specs.declared.tree.Side.TheVariants as sides
 use Rattle.darwin_parser.specs.Tree.{Name, Expr, num, var, neg, PortDecl, ArrayDecl, InstEntry, single, element, PortRef, BindEntry, Stmt, inst, bind, forall, when, Component, Tree}
-use Rattle.darwin_parser.specs.Grammar.{bytes_of, operation, with_right, body_of, Item, ports, arrays, statements, Parts, no_parts, with_item, component_of, side_word}
+use Rattle.darwin_parser.specs.Grammar.{operation, with_right, body_of, Item, ports, arrays, statements, Parts, no_parts, with_item, component_of, side_word}
 
 -- ---- readers
 

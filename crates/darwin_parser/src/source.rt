@@ -1,7 +1,7 @@
 //! What every rule needs: memory, and the text in which names stand.
 
 ghost use Rattle.std.specs.Prelude.{◌≡◌, ◌<◌, length, IfOk, OnOk};
-ghost use Rattle.darwin_parser.specs.Grammar.{bytes_of};
+ghost use Rattle.darwin_lexer.specs.Tokens.{bytes_of};
 ghost use Rattle.darwin_parser.specs.Reading as reading;
 ghost use Rattle.darwin_parser.specs.Reading.{Reads};
 

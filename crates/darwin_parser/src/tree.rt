@@ -102,12 +102,32 @@ pub struct PortRef {
 }
 
 /// An expression over integers.
-#[derive(Debug, Drop)]
+#[derive(Debug)]
 pub enum Expr {
     Num(u32),
     Var(Text),
     Neg(Box<Expr>),
     Op(Op, Box<Expr>, Box<Expr>),
+}
+
+impl Drop for Expr {
+    /// A chain is as deep on its left as it is long, so left sides are dropped in a loop.
+    fn drop(mut self) {
+        loop {
+            match self {
+                Expr::Num(_) => return,
+                Expr::Var(name) => {
+                    drop(name);
+                    return;
+                }
+                Expr::Neg(inner) => self = Box::into_inner(inner),
+                Expr::Op(_, left, right) => {
+                    drop(right);
+                    self = Box::into_inner(left);
+                }
+            }
+        }
+    }
 }
 
 /// An operation on two sides.
