@@ -1,5 +1,12 @@
 pub mod Bindings
+pub mod Chains
+pub mod Expanded
+pub mod Expansion
 pub mod Faults
 pub mod Graph
+pub mod Index
 pub mod Instances
+pub mod Nodes
+pub mod Order
 pub mod Paths
+pub mod Ports

@@ -1,6 +1,12 @@
 //! Elaboration: from a description to its graph of nodes and links.
 #![tactic(auto)]
 
+mod chains;
 mod error;
+mod instance;
+mod nodes;
+mod pairs;
+mod paths;
+mod ports;
 
 pub use error::ElabError;

@@ -1,0 +1,178 @@
+-- The nodes of the instances in the order of their paths, one after another.
+use Rattle.std.proofs.Common.{◌≡◌, ◌≢◌, ◌∙◌, ℕ, ◌+◌, ◌<◌, ◌≤◌, Bool, true, false, cond, List, [], ◌∷◌, ◌++◌, Option, Some, None, length, get_or, set, refl, ap, sym, subst, inl, inr, ◌⊎◌, arith}
+use Rattle.std.specs.List.{slice_get}
+use Rattle.std.specs.Option.{option_map}
+use Rattle.std.specs.Ordering.{nat_cmp}
+use Rattle.std.specs.Cmp.Lexicographic.{slice_cmp}
+use Rattle.std.specs.declared.cmp.Ordering.TheVariants.{Less}
+use Rattle.std.proofs.lemmas.Bool.{false≢true}
+use Rattle.std.proofs.lemmas.Bool.Decides.{eqb_tells}
+use Rattle.std.proofs.lemmas.List.{length_push, length-set}
+use Rattle.std.proofs.lemmas.List.Quantifiers.{all_pairs_push}
+use Rattle.std.proofs.lemmas.Option.{slice_get-get_or, slice_get_within, same_Some, none-some}
+use Rattle.config_graph.specs.declared.kind.Kind.{Kind}
+use Rattle.config_graph.specs.declared.node.Node.{Node}
+use Rattle.config_graph.specs.Kinds.{kind_named}
+use Rattle.config_graph.specs.Graph.{PathsRise}
+use Rattle.darwin_types.specs.Scope.{is_primitive}
+use Rattle.elaborator.specs.Instances.{Instance}
+use Rattle.elaborator.specs.Graph.{node_of, natural}
+use Rattle.elaborator.specs.Expanded.{Expanded, Numbered, IsExpanded}
+use Rattle.elaborator.specs.Order.{IsInOrder}
+use Rattle.elaborator.specs.Nodes.{AreNodes, AreFirstNodes}
+use Rattle.elaborator.specs.declared.nodes.Nodes.{Nodes}
+use Rattle.elaborator.proofs.Lists.{slice_get-front, slice_get-last, slice_get-push_cases, slice_get-set_same, slice_get-set_cases, slice_get-set_other, option_map_some}
+use Rattle.elaborator.proofs.IndexLemmas.{same_numbered}
+
+-- what an instance that is a node is
+pub record IsNodeOf (i : Instance) (n : Node) : Type 0 where
+  pub kind : Kind
+  pub primitive : is_primitive i.component ≡ true
+  pub named : kind_named i.component.name ≡ Some kind
+  pub is_node : n ≡ record { path = i.path; kind = kind; arg = option_map (λ v. natural v.value) (slice_get i.env 0) }
+
+pub node_parts : (i : Instance) (n : Node) → node_of i ≡ Some n → IsNodeOf i n
+node_parts i n is = by_test (is_primitive i.component) refl is
+  where
+    node : Kind → Node
+    node kind = record { path = i.path; kind = kind; arg = option_map (λ v. natural v.value) (slice_get i.env 0) }
+
+    by_test : (b : Bool) → is_primitive i.component ≡ b → cond b (option_map node (kind_named i.component.name)) None ≡ Some n → IsNodeOf i n
+    by_test true primitive is =
+        let w = option_map_some node (kind_named i.component.name) n is in record { kind = w.0; primitive = primitive; named = w.1; is_node = sym w.2 }
+    by_test false primitive is = absurd (none-some n is)
+
+pub node_path : (i : Instance) (n : Node) → node_of i ≡ Some n → n.path ≡ i.path
+node_path i n is = ap (λ (m : Node). m.path) (node_parts i n is).is_node
+
+-- the start
+pub first_nodes-none :
+    (e : Expanded) (order : List ℕ) (n : Nodes) → n.nodes.items ≡ [] → n.instances.items ≡ [] → ((k a : ℕ) → slice_get n.places.items k ≡ Some (Some a) → ⊥)
+    → length n.places.items ≡ length e.made → AreFirstNodes e order 0 n
+first_nodes-none e order n no_nodes no_instances no_places placed =
+    let nothing = λ (a : ℕ) (node : Node) (at : slice_get n.nodes.items a ≡ Some node). none-some node (sym (ap (λ xs. slice_get xs a) no_nodes) ∙ at) in
+    record {
+      paths_rise = λ i j d lt within. absurd (omega (arith, within, ap length no_nodes));
+      below = λ a b m node i at from at_b is. absurd (nothing a node at);
+      node_at = λ a node at. absurd (nothing a node at);
+      place_at = λ b k i node lt at is is_node. absurd (omega (arith, lt));
+      placed = λ k a at. absurd (no_places k a at);
+      all_placed = placed;
+      same_length = ap length no_instances ∙ sym (ap length no_nodes);
+      few = omega (arith, ap length no_nodes);
+    }
+
+-- an instance that is no node
+pub first_nodes-skip :
+    (e : Expanded) (order : List ℕ) (n : Nodes) (first m : ℕ) (i : Instance) → AreFirstNodes e order first n → slice_get order first ≡ Some m → Numbered e m i
+    → node_of i ≡ None → AreFirstNodes e order (first + 1) n
+first_nodes-skip e order n first m i so_far at numbered none = record {
+  paths_rise = so_far.paths_rise;
+  below = λ a b k node j at_a from at_b is. so_far.below a b k node j at_a (omega (arith, from)) at_b is;
+  node_at = so_far.node_at;
+  place_at = λ b k j node lt at_b is is_node.
+      elim (eqb_tells b first) [
+        | inl same ↦
+            let number : k ≡ m = same_Some k m (sym at_b ∙ ap (slice_get order) same.1 ∙ at) in
+            let one = same_numbered e m j i (subst (λ x. Numbered e x j) number is) numbered in
+            absurd (none-some node (sym none ∙ ap node_of (sym one) ∙ is_node))
+        | inr other ↦ so_far.place_at b k j node (omega (arith, lt, other.1)) at_b is is_node
+      ];
+  placed = so_far.placed;
+  all_placed = so_far.all_placed;
+  same_length = so_far.same_length;
+  few = omega (arith, so_far.few);
+}
+
+-- an instance that is a node
+pub first_nodes-push :
+    (e : Expanded) (order : List ℕ) (old new : Nodes) (first m : ℕ) (i : Instance) (node : Node) → IsInOrder e order → AreFirstNodes e order first old
+    → slice_get order first ≡ Some m → Numbered e m i → node_of i ≡ Some node → new.nodes.items ≡ old.nodes.items ++ node ∷ []
+    → new.instances.items ≡ old.instances.items ++ m ∷ [] → new.places.items ≡ set old.places.items m (Some (length old.nodes.items))
+    → AreFirstNodes e order (first + 1) new
+first_nodes-push e order old new first m i node in_order so_far at numbered is_node nodes instances places = record {
+  paths_rise = subst PathsRise (sym nodes) (all_pairs_push (λ (x y : Node). slice_cmp nat_cmp x.path y.path ≡ Less) old.nodes.items node so_far.paths_rise (λ k d within.
+      subst (λ p. slice_cmp nat_cmp (get_or old.nodes.items k d).path p ≡ Less) (sym path) (so_far.below k first m (get_or old.nodes.items k d) i (slice_get-get_or old.nodes.items k d within) (omega arith) at numbered)));
+  below = λ a b k x j at_a from at_b is.
+      elim (node_cases a x at_a) [
+        | inl there ↦ so_far.below a b k x j there (omega (arith, from)) at_b is
+        | inr last ↦ subst (λ y. slice_cmp nat_cmp y j.path ≡ Less) (sym path ∙ ap (λ (y : Node). y.path) last.1) (in_order.rising first b m k i j (omega (arith, from)) at at_b numbered is)
+      ];
+  node_at = λ a x at_a.
+      elim (node_cases a x at_a) [
+        | inl there ↦
+            let w = so_far.node_at a x there in
+            (w.0, w.1, instance_kept a w.0 w.2, w.3, w.4)
+        | inr last ↦ (m, i, ap (slice_get new.instances.items) last.0 ∙ instance_last, numbered, is_node ∙ ap Some last.1)
+      ];
+  place_at = λ b k j x lt at_b is is_x.
+      elim (eqb_tells k m) [
+        | inl same ↦
+            let one = same_numbered e m j i (subst (λ y. Numbered e y j) same.1 is) numbered in
+            let x_is : node ≡ x = same_Some node x (sym is_node ∙ ap node_of (sym one) ∙ is_x) in
+            (length old.nodes.items, node_last ∙ ap Some x_is, ap (slice_get new.places.items) same.1 ∙ place_set)
+        | inr other ↦
+            let earlier : b < first = before b k lt at_b other.1 in
+            let w = so_far.place_at b k j x earlier at_b is is_x in
+            (w.0, node_kept w.0 x w.1, ap (λ ps. slice_get ps k) places ∙ slice_get-set_other old.places.items m (Some (length old.nodes.items)) k other.1 ∙ w.2)
+      ];
+  placed = λ k a at_k.
+      elim (slice_get-set_cases old.places.items m (Some (length old.nodes.items)) k (Some a) (sym (ap (λ ps. slice_get ps k) places) ∙ at_k)) [
+        | inl same ↦
+            let place : length old.nodes.items ≡ a = same_Some _ a same.1 in
+            (node, i, subst (λ y. slice_get new.nodes.items y ≡ Some node) place node_last, subst (λ y. Numbered e y i) (sym same.0) numbered, is_node)
+        | inr there ↦ let w = so_far.placed k a there in (w.0, w.1, node_kept a w.0 w.2, w.3, w.4)
+      ];
+  all_placed = ap length places ∙ length-set old.places.items m (Some (length old.nodes.items)) ∙ so_far.all_placed;
+  same_length = ap length instances ∙ length_push old.instances.items m ∙ ap (λ y. y + 1) so_far.same_length ∙ sym (ap length nodes ∙ length_push old.nodes.items node);
+  few = omega (arith, so_far.few, ap length nodes, length_push old.nodes.items node);
+}
+  where
+    path : node.path ≡ i.path
+    path = node_path i node is_node
+
+    node_cases : (a : ℕ) (x : Node) → slice_get new.nodes.items a ≡ Some x → (slice_get old.nodes.items a ≡ Some x) ⊎ ((a ≡ length old.nodes.items) × (node ≡ x))
+    node_cases a x at_a = slice_get-push_cases old.nodes.items node a x (sym (ap (λ xs. slice_get xs a) nodes) ∙ at_a)
+
+    node_kept : (a : ℕ) (x : Node) → slice_get old.nodes.items a ≡ Some x → slice_get new.nodes.items a ≡ Some x
+    node_kept a x there = ap (λ xs. slice_get xs a) nodes ∙ slice_get-front old.nodes.items (node ∷ []) a x there
+
+    node_last : slice_get new.nodes.items (length old.nodes.items) ≡ Some node
+    node_last = ap (λ xs. slice_get xs (length old.nodes.items)) nodes ∙ slice_get-last old.nodes.items node
+
+    instance_kept : (a k : ℕ) → slice_get old.instances.items a ≡ Some k → slice_get new.instances.items a ≡ Some k
+    instance_kept a k there = ap (λ xs. slice_get xs a) instances ∙ slice_get-front old.instances.items (m ∷ []) a k there
+
+    instance_last : slice_get new.instances.items (length old.nodes.items) ≡ Some m
+    instance_last = ap (λ xs. slice_get xs (length old.nodes.items)) instances ∙ ap (slice_get (old.instances.items ++ m ∷ [])) (sym so_far.same_length) ∙ slice_get-last old.instances.items m
+
+    place_set : slice_get new.places.items m ≡ Some (Some (length old.nodes.items))
+    place_set = ap (λ ps. slice_get ps m) places ∙ slice_get-set_same old.places.items m (Some (length old.nodes.items)) (omega (arith, so_far.all_placed, slice_get_within e.made m _ numbered.is_at))
+
+    before : (b k : ℕ) → b < first + 1 → slice_get order b ≡ Some k → k ≢ m → b < first
+    before b k lt at_b other =
+        elim (eqb_tells b first) [
+          | inl same ↦ absurd (other (same_Some k m (sym at_b ∙ ap (slice_get order) same.1 ∙ at)))
+          | inr differs ↦ omega (arith, lt, differs.1)
+        ]
+
+-- the end
+pub nodes-all :
+    (e : Expanded) → IsExpanded e → (order : List ℕ) (n : Nodes) (first : ℕ) → IsInOrder e order → length order ≤ first → first ≤ length order → AreFirstNodes e order first n → AreNodes e n
+nodes-all e expanded order n first in_order all no_more so_far = record {
+  paths_rise = so_far.paths_rise;
+  node_at = so_far.node_at;
+  place_at = λ k i node numbered is_node. by_maker numbered.maker k i node numbered.is_at is_node;
+  placed = so_far.placed;
+  all_placed = so_far.all_placed;
+  same_length = so_far.same_length;
+  few = omega (arith, so_far.few, in_order.few, no_more);
+}
+  where
+    by_maker :
+        (maker : Option ℕ) (k : ℕ) (i : Instance) (node : Node) → slice_get e.made k ≡ Some (record { instance = i; maker = maker }) → node_of i ≡ Some node
+        → (a : ℕ) × (slice_get n.nodes.items a ≡ Some node) × (slice_get n.places.items k ≡ Some (Some a))
+    by_maker None k i node at is_node = absurd (false≢true (sym (expanded.composite_top k i at) ∙ (node_parts i node is_node).primitive))
+    by_maker (Some m) k i node at is_node =
+        let w = in_order.all m k i at in
+        so_far.place_at w.0 k i node (omega (arith, all, slice_get_within order w.0 k w.1)) w.1 (record { maker = Some m; is_at = at }) is_node

@@ -1,0 +1,6 @@
+use Rattle.elaborator.specs.Expansion.{seen}
+use Rattle.elaborator.specs.Nodes.{AreFirstNodes}
+use Rattle.elaborator.proofs.nodes.nodes_of.Given as goal
+
+abbrev pub invariant-loop-number : goal.invariant-loop-number
+invariant-loop-number l = AreFirstNodes (seen l.fn.expansion) l.number-items l.number-index l.nodes

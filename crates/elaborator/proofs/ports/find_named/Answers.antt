@@ -1,0 +1,39 @@
+use Rattle.std.proofs.Common.{◌∙◌, ap, Some, refl, arith}
+use Rattle.std.specs.Str.{bytes_eq}
+use Rattle.std.proofs.lemmas.List.{length-map}
+use Rattle.std.proofs.lemmas.Option.{slice_get_read}
+use Rattle.std.proofs.lemmas.List.Quantifiers.{position-Some}
+use Rattle.darwin_parser.specs.Tree.{port_of}
+use Rattle.darwin_walk.specs.Walked.{end_of}
+use Rattle.elaborator.specs.Expansion.{seen, instance_in}
+use Rattle.elaborator.proofs.PortLemmas.{instance_numbered, stands_numbered, numbered_within, same_instance, place_found, named-no_port, named_found}
+use Rattle.elaborator.proofs.ports.find_named.Goals as goal
+
+pub instance-requires-clause-within : goal.instance-requires-clause-within
+instance-requires-clause-within c =
+    let e = seen c.args.expansion.now in
+    let here = instance_numbered e c.args.number c.requires.within in
+    let w = rw c.in-Some.is at (c.in_ok-instance.ensures here.0 here.1) in
+    numbered_within e c.in-Some.instance w.0 (stands_numbered e c.args.number _ c.in-Some.instance w.0 w.2)
+
+pub returns-in_default-port_place : goal.returns-in_default-port_place
+returns-in_default-port_place c = λ i at.
+    let e = c.args.expansion.now in
+    let x = c.instance.result.now in
+    let w = rw c.in-Some.is at (c.in_ok-instance.ensures i at) in
+    let same = same_instance e c.in-Some.instance x w.0 c.instance.ensures.made (stands_numbered (seen e) c.args.number _ c.in-Some.instance w.0 w.2) in
+    let place = place_found c.args.end.port.now c.as_bytes.result.now x.component.now.ports.items c.as_slice.result.now c.port_place.result c.port_place.ensures c.as_bytes.ensures c.as_slice.ensures.value in
+    named-no_port (seen e).tree i (instance_in x) (end_of c.args.end) (w.1 ∙ ap Some same) (place ∙ c.in_default-port_place.is)
+
+pub returns : goal.returns
+returns c = λ i at.
+    let e = c.args.expansion.now in
+    let x = c.instance.result.now in
+    let w = rw c.in-Some.is at (c.in_ok-instance.ensures i at) in
+    let place = place_found c.args.end.port.now c.as_bytes.result.now x.component.now.ports.items c.as_slice.result.now c.port_place.result c.port_place.ensures c.as_bytes.ensures c.as_slice.ensures.value in
+    let port = c.in-Some-port_place.port in
+    let items = x.component.now.ports.items in
+    let is_place = place ∙ c.in-Some-port_place.is in
+    let within = (position-Some (λ p. bytes_eq c.args.end.port.now p.name) (instance_in x).component.ports port (port_of c.index.result.now) is_place).0 in
+    let stands = slice_get_read items _ port c.index.result.now refl (omega (arith, length-map items port_of, within)) c.index.ensures in
+    named_found e c.args.number c.in-Some.instance port i w.0 x c.args.end c.index.result c.is_some.result w.1 w.2 c.instance.ensures.made is_place stands c.is_some.ensures

@@ -1,0 +1,42 @@
+-- What holds of an expansion as the code keeps it.
+use Rattle.std.specs.Prelude.{◌≡◌, ℕ, ◌+◌, ◌<◌, ◌≤◌, Option, Some, length, map, slice_get, IsSome}
+use Rattle.std.specs.Map.{lookup}
+use Rattle.std.specs.Ordering.{nat_cmp, is_eq}
+use Rattle.std.specs.Cmp.Lexicographic.{slice_cmp}
+use Rattle.elaborator.specs.Paths.{Path}
+use Rattle.elaborator.specs.Bindings.{bindings_in}
+use Rattle.std.specs.BTreeMap.{btree_map_len}
+use Rattle.darwin_types.specs.Scope.{is_primitive}
+use Rattle.darwin_parser.specs.Tree.{component_of, tree_of}
+use Rattle.darwin_walk.specs.Spine.{env_of}
+use Rattle.darwin_walk.specs.Walked.{binding_of}
+use Rattle.elaborator.specs.Instances as pure
+use Rattle.elaborator.specs.Expanded.{Made, Expanded, IsExpanded}
+use Rattle.elaborator.specs.declared.instance.Instance.{Instance}
+use Rattle.elaborator.specs.declared.instance.Expansion.{Expansion}
+
+abbrev pub instance_in : Instance → pure.Instance
+instance_in i = record { path = i.path; depth = i.depth; component = component_of i.component.now; env = env_of i.env.items }
+
+abbrev pub made_of : Instance → Made
+made_of i = record { instance = instance_in i; maker = i.maker }
+
+-- the instances of an expansion
+abbrev pub seen : Expansion → Expanded
+seen e = record { tree = tree_of e.unit.now; made = map made_of e.instances.items }
+
+-- the number that stands under a path
+abbrev pub number_at : Expansion → Path → Option ℕ
+number_at e path = lookup (λ p. is_eq (slice_cmp nat_cmp path p.items)) e.numbers.entries
+
+-- the instances have their bindings, and each but the top is found by its path
+pub record IsKept (e : Expansion) : Type 0 where
+  pub is_expanded : IsExpanded (seen e)
+  pub few : length e.instances.items ≤ 65537
+  -- each but the top has an entry
+  pub counted : btree_map_len e.numbers + 1 ≡ length e.instances.items
+  pub primitive : (n : ℕ) (i : Instance) → slice_get e.instances.items n ≡ Some i → i.is_primitive ≡ is_primitive (component_of i.component.now)
+  pub bindings : (n : ℕ) (i : Instance) → slice_get e.instances.items n ≡ Some i → map binding_of i.bindings.items ≡ bindings_in (instance_in i)
+  pub found : (n : ℕ) (i : Instance) → slice_get e.instances.items n ≡ Some i → IsSome i.maker → number_at e i.path ≡ Some n
+  pub told : (n : ℕ) (path : Path) (i : Instance) → number_at e path ≡ Some n → slice_get e.instances.items n ≡ Some i → i.path ≡ path
+  pub within : (n : ℕ) (path : Path) → number_at e path ≡ Some n → n < length e.instances.items

@@ -1,0 +1,77 @@
+//! The instances of an elaboration, by number.
+
+ghost use Rattle.std.specs.Prelude.{◌≡◌, ◌<◌, length, map, slice_get, Some};
+ghost use Rattle.elaborator.specs.Expanded.{IsChild};
+
+use config_graph::Text;
+use darwin_parser::{Component, Unit};
+use darwin_walk::{Binding, Variable};
+use std::collections::BTreeMap;
+
+/// An instance of the elaboration.
+#[derive(Drop)]
+pub struct Instance<'a> {
+    pub path: Text,
+    /// How many instances it lies within.
+    pub depth: u32,
+    /// The number of the instance in which it was made; the top has none.
+    pub maker: Option<u32>,
+    pub component: &'a Component,
+    /// Whether the component is primitive, so that the instance is a node.
+    pub is_primitive: bool,
+    /// The values of its parameters.
+    pub env: Vec<Variable<'a>>,
+    /// The bindings that are reached in it.
+    pub bindings: Vec<Binding<'a>>,
+}
+
+/// All instances of an elaboration, the top first.
+#[derive(Drop)]
+pub struct Expansion<'a> {
+    pub unit: &'a Unit,
+    pub instances: Vec<Instance<'a>>,
+    /// The number of each instance but the top, by its path.
+    pub numbers: BTreeMap<Vec<u8>, u32>,
+}
+
+impl<'a> Expansion<'a> {
+    ghost use Rattle.darwin_parser.specs.Tree.{component_of};
+    ghost use Rattle.darwin_types.specs.Scope.{is_primitive};
+    ghost use Rattle.elaborator.specs.Bindings.{bindings_in};
+    ghost use Rattle.elaborator.specs.Expansion.{seen, made_of, instance_in, IsKept};
+    ghost use Rattle.darwin_walk.specs.Walked.{binding_of};
+
+    /// How many instances there are.
+    pub fn len(&self) -> u32
+        requires { IsKept self.now }
+        ensures { result ≡ length (seen self.now).made }
+    {
+        self.instances.len() as u32
+    }
+
+    /// The instance of this number.
+    pub fn instance(&self, number: u32) -> &Instance<'a>
+        requires within { number < length (seen self.now).made }
+        requires kept { IsKept self.now }
+        ensures made { slice_get (seen self.now).made number ≡ Some (made_of result.now) }
+        ensures bindings { map binding_of result.now.bindings.items ≡ bindings_in (instance_in result.now) }
+        ensures primitive { result.now.is_primitive ≡ is_primitive (component_of result.now.component.now) }
+    {
+        &self.instances[number as usize]
+    }
+
+    /// The number of the instance of this path among those made in an instance.
+    pub fn child(&self, maker: u32, path: &[u8]) -> Option<u32>
+        requires { IsKept self.now }
+        ensures { IsChild (seen self.now) maker path.now result }
+    {
+        let Some(number) = self.numbers.get(path).copied() else {
+            return None;
+        };
+        if self.instances[number as usize].maker == Some(maker) {
+            Some(number)
+        } else {
+            None
+        }
+    }
+}

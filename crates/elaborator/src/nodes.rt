@@ -1,0 +1,105 @@
+//! The nodes of an elaboration: its instances of primitive components.
+
+ghost use Rattle.std.specs.Prelude.{◌≡◌, ◌<◌, ◌≤◌, [], ◌∷◌, ◌++◌, length, slice_set, IfOk, OnOk, Some};
+ghost use Rattle.std.specs.BTreeMap.{values, IsOrdered};
+ghost use Rattle.std.specs.Ordering.{nat_cmp};
+ghost use Rattle.std.specs.Cmp.Lexicographic.{slice_cmp};
+ghost use Rattle.darwin_parser.specs.Tree.{component_of};
+ghost use Rattle.darwin_types.specs.Scope.{is_primitive};
+ghost use Rattle.elaborator.specs.Graph.{node_of, natural};
+ghost use Rattle.elaborator.specs.Expanded.{Numbered};
+ghost use Rattle.elaborator.specs.Expansion.{seen, instance_in, IsKept};
+ghost use Rattle.elaborator.specs.Nodes.{AreNodes};
+ghost use Rattle.elaborator.specs.Order.{IsInOrder};
+
+use crate::instance::{Expansion, Instance};
+use config_graph::{Node, kind_of};
+use std::alloc::{AllocError, Global};
+use std::collections::BTreeMap;
+
+/// Nodes in the order of their paths, and which instance each of them is.
+#[derive(Drop)]
+pub struct Nodes {
+    pub nodes: Vec<Node>,
+    /// The number of the instance that each node is.
+    pub instances: Vec<u32>,
+    /// The place of the node that each instance is; a composite one is none.
+    pub places: Vec<Option<u32>>,
+}
+
+/// The nodes of an expansion.
+pub fn nodes_of(alloc: Global, expansion: &Expansion) -> Result<Nodes, AllocError>
+    requires { IsKept expansion.now }
+    ensures { IfOk result (AreNodes (seen expansion.now)) }
+{
+    let order = in_path_order(alloc, expansion)?;
+    let mut nodes = Nodes {
+        nodes: Vec::new(alloc),
+        instances: Vec::new(alloc),
+        places: vec![in alloc; None; expansion.instances.len()]?,
+    };
+    for number in &order {
+        if let Some(node) = node_of(expansion.instance(*number))? {
+            nodes.add(node, *number)?;
+        }
+    }
+    Ok(nodes)
+}
+
+/// The numbers of all instances but the top, in the order of their paths.
+fn in_path_order(alloc: Global, expansion: &Expansion) -> Result<Vec<u32>, AllocError>
+    requires { IsKept expansion.now }
+    ensures { IfOk result (λ order. IsInOrder (seen expansion.now) order.items) }
+{
+    values_of(alloc, &expansion.numbers)
+}
+
+fn values_of(alloc: Global, numbers: &BTreeMap<Vec<u8>, u32>) -> Result<Vec<u32>, AllocError>
+    ensures items { IfOk result (λ all. all.items ≡ values numbers.now) }
+    ensures ordered { OnOk result (IsOrdered (λ p q. slice_cmp nat_cmp p.items q.items) numbers.now) }
+{
+    numbers.values().copied().collect(alloc)
+}
+
+impl Nodes {
+    /// Adds the node that an instance is.
+    fn add(&mut self, node: Node, number: u32) -> Result<(), AllocError>
+        requires few { length self.old.nodes.items < 65536 }
+        requires within { number < length self.old.places.items }
+        ensures nodes { OnOk result (self.new.nodes.items ≡ self.old.nodes.items ++ node ∷ []) }
+        ensures instances { OnOk result (self.new.instances.items ≡ self.old.instances.items ++ number ∷ []) }
+        ensures places { OnOk result (self.new.places.items ≡ slice_set self.old.places.items number (Some (length self.old.nodes.items))) }
+    {
+        let place = self.nodes.len() as u32;
+        self.nodes.push(node)?;
+        self.instances.push(number)?;
+        self.places[number as usize] = Some(place);
+        Ok(())
+    }
+}
+
+/// The node that an instance is; one of a composite component is none.
+fn node_of(instance: &Instance) -> Result<Option<Node>, AllocError>
+    requires { instance.now.is_primitive ≡ is_primitive (component_of instance.now.component.now) }
+    ensures { IfOk result (λ node. node ≡ node_of (instance_in instance.now)) }
+{
+    if !instance.is_primitive {
+        return Ok(None);
+    }
+    let Some(kind) = kind_of(instance.component.name.as_bytes()) else {
+        return Ok(None);
+    };
+    let path = instance.path.try_clone()?;
+    let arg = match instance.env.first() {
+        None => None,
+        Some(variable) => Some(natural(variable.value)),
+    };
+    Ok(Some(Node { path, kind, arg }))
+}
+
+/// An argument of a kind, which is 0 or more.
+fn natural(value: i32) -> u32
+    ensures { result ≡ natural value }
+{
+    u32::try_from(value).unwrap_or(0)
+}

@@ -1,0 +1,53 @@
+//! Paths of instances, and ends of bindings as faults name them.
+
+ghost use Rattle.std.specs.Prelude.{◌≡◌, ◌++◌, IfOk, OnOk};
+ghost use Rattle.elaborator.specs.Paths.{index_bytes, segment_bytes, within, end_bytes};
+ghost use Rattle.darwin_walk.specs.Walked.{segment_of, end_of};
+
+use darwin_walk::{End, Segment};
+use std::alloc::{AllocError, Global};
+
+/// Adds an index in brackets, where there is one.
+fn push_index(alloc: Global, out: &mut Vec<u8>, index: Option<i32>) -> Result<(), AllocError>
+    ensures { OnOk result (out.new.items ≡ out.old.items ++ index_bytes index) }
+{
+    if let Some(index) = index {
+        let written = format!(in alloc; "[{index}]")?;
+        out.extend_from_slice(written.as_bytes())?;
+    }
+    Ok(())
+}
+
+/// Adds the segment of a path.
+fn push_segment(alloc: Global, out: &mut Vec<u8>, segment: Segment) -> Result<(), AllocError>
+    ensures { OnOk result (out.new.items ≡ out.old.items ++ segment_bytes (segment_of segment.entry)) }
+{
+    out.extend_from_slice(segment.name.as_bytes())?;
+    push_index(alloc, out, segment.index)
+}
+
+/// The path of the instance of a segment within the instance of a path.
+pub fn path_within(alloc: Global, path: &[u8], segment: Segment) -> Result<Vec<u8>, AllocError>
+    ensures { IfOk result (λ made. made.items ≡ within path.now (segment_of segment.entry)) }
+{
+    let mut made = Vec::from_slice(alloc, path)?;
+    if !path.is_empty() {
+        made.push(b'.')?;
+    }
+    push_segment(alloc, &mut made, segment)?;
+    Ok(made)
+}
+
+/// An end of a binding, as a fault names it.
+pub fn name_of_end(alloc: Global, end: End) -> Result<Vec<u8>, AllocError>
+    ensures { IfOk result (λ name. name.items ≡ end_bytes (end_of end.entry)) }
+{
+    let mut name = Vec::new(alloc);
+    if let Some(segment) = end.inner {
+        push_segment(alloc, &mut name, segment)?;
+        name.push(b'.')?;
+    }
+    name.extend_from_slice(end.port.as_bytes())?;
+    push_index(alloc, &mut name, end.index)?;
+    Ok(name)
+}

@@ -1,0 +1,154 @@
+//! The ports that ends of bindings name.
+
+ghost use Rattle.std.specs.Prelude.{◌≡◌, ◌<◌, ◌↔◌, [], ◌∷◌, length, option_map, position, bytes_eq, IfOk, IsTrue, Some, if◌then◌else◌};
+ghost use Rattle.darwin_lexer.specs.declared.token.At.{At as Place};
+ghost use Rattle.darwin_parser.specs.Tree.{port_of};
+ghost use Rattle.darwin_walk.specs.Walked.{segment_of, end_of};
+ghost use Rattle.darwin_walk.specs.declared.fault.Fault.TheVariants.{BadIndex};
+ghost use Rattle.elaborator.specs.Instances.{Instance};
+ghost use Rattle.elaborator.specs.Bindings.{named, is_form};
+ghost use Rattle.elaborator.specs.Expanded.{Numbered};
+ghost use Rattle.elaborator.specs.Expansion.{seen, IsKept};
+ghost use Rattle.elaborator.specs.Ports.{Standing, Names, bad_index};
+
+use crate::chains::PortId;
+use crate::instance::Expansion;
+use crate::paths::path_within;
+use darwin_parser::{PortDecl, Side};
+use darwin_walk::{End, Segment, ValueError, value};
+use std::alloc::{AllocError, Global};
+
+/// The port that an end of a binding names.
+#[derive(Clone, Copy)]
+pub struct Named<'a> {
+    /// Whether it is a port of an instance within.
+    pub is_inner: bool,
+    pub id: PortId,
+    pub decl: &'a PortDecl,
+}
+
+/// The number of the instance in which the port of an end stands: one right within this instance, or
+/// this one.
+fn instance_at(
+    alloc: Global,
+    expansion: &Expansion,
+    number: u32,
+    inner: Option<Segment>,
+) -> Result<Option<u32>, AllocError>
+    requires within { number < length (seen expansion.now).made }
+    requires kept { IsKept expansion.now }
+    ensures { (i : Instance) → Numbered (seen expansion.now) number i
+        → IfOk result (Standing (seen expansion.now) number i (option_map segment_of inner.entry)) }
+{
+    match inner {
+        None => Ok(Some(number)),
+        Some(segment) => {
+            let path = path_within(alloc, expansion.instance(number).path.as_bytes(), segment)?;
+            Ok(expansion.child(number, path.as_slice()))
+        }
+    }
+}
+
+/// What an end of a binding of this instance names.
+pub fn find_named<'a>(
+    alloc: Global,
+    expansion: &Expansion<'a>,
+    number: u32,
+    end: End<'a>,
+) -> Result<Option<Named<'a>>, AllocError>
+    requires within { number < length (seen expansion.now).made }
+    requires kept { IsKept expansion.now }
+    ensures { (i : Instance) → Numbered (seen expansion.now) number i
+        → IfOk result (Names (seen expansion.now) number (named (seen expansion.now).tree i (end_of end.entry))) }
+{
+    let Some(instance) = instance_at(alloc, expansion, number, end.inner)? else {
+        return Ok(None);
+    };
+    let component = expansion.instance(instance).component;
+    let Some(port) = port_place(component.ports.as_slice(), end.port.as_bytes()) else {
+        return Ok(None);
+    };
+    Ok(Some(Named {
+        is_inner: end.inner.is_some(),
+        id: PortId {
+            instance,
+            port,
+            index: end.index,
+        },
+        decl: &component.ports[port],
+    }))
+}
+
+/// The place of the first port with the name.
+pub fn port_place(ports: &[PortDecl], name: &[u8]) -> Option<usize>
+    ensures { result ≡ position (λ p. bytes_eq name.now p.name) ports.now }
+{
+    ports.iter().position(|port| name == port.name.as_bytes())
+}
+
+impl Named<'_> {
+    ghost use Rattle.elaborator.specs.Bindings.{is_indexed, may_lead};
+    ghost use Rattle.elaborator.specs.Ports.{named_of, NotesDifferIn};
+
+    /// An index stands exactly where the port has a size.
+    fn is_indexed(&self) -> bool
+        ensures { (i : Instance) → result ≡ is_indexed (named_of i self.now) }
+    {
+        self.decl.size.is_some() == self.id.index.is_some()
+    }
+
+    /// Whether this port may be bound to that one as their source.
+    pub fn may_lead(&self, target: &Named) -> bool
+        ensures { (i j : Instance) → result ≡ may_lead (named_of i self.now) (named_of j target.now) }
+    {
+        self.is_indexed()
+            && target.is_indexed()
+            && is_form(
+                self.is_inner,
+                self.decl.side,
+                target.is_inner,
+                target.decl.side,
+            )
+    }
+
+    /// Whether the index isn't from 0 to the size less 1.
+    pub fn has_bad_index(&self, alloc: Global, expansion: &Expansion) -> Result<bool, AllocError>
+        requires within { self.now.id.instance < length (seen expansion.now).made }
+        requires kept { IsKept expansion.now }
+        ensures { (i : Instance) → Numbered (seen expansion.now) self.now.id.instance i
+            → IfOk result (λ bad. (at : Place) → bad_index at (named_of i self.now) ≡ (if bad then BadIndex at ∷ [] else [])) }
+    {
+        let (Some(size), Some(index)) = (&self.decl.size, self.id.index) else {
+            return Ok(false);
+        };
+        let env = expansion.instance(self.id.instance).env.as_slice();
+        match value(alloc, size, env) {
+            Ok(size) => Ok(!(0 <= index && index < size)),
+            Err(ValueError::NoMemory) => Err(AllocError),
+            Err(_) => Ok(false),
+        }
+    }
+
+    /// Whether both ports have a note and the notes differ.
+    pub fn differs_in_note(&self, other: &Named) -> bool
+        ensures { IsTrue result ↔ NotesDifferIn (port_of self.now.decl.now) (port_of other.now.decl.now) }
+    {
+        match (&self.decl.note, &other.decl.note) {
+            (Some(note), Some(others)) => note != others,
+            _ => false,
+        }
+    }
+}
+
+/// Whether a port may be bound to another: an inner requirement to an inner provision or an outer
+/// requirement, and an outer provision to an inner provision.
+fn is_form(source_inner: bool, source: Side, target_inner: bool, target: Side) -> bool
+    ensures { result ≡ is_form source_inner source target_inner target }
+{
+    match (source_inner, source, target_inner, target) {
+        (true, Side::Require, true, Side::Provide) => true,
+        (true, Side::Require, false, Side::Require) => true,
+        (false, Side::Provide, true, Side::Provide) => true,
+        _ => false,
+    }
+}
