@@ -1,6 +1,6 @@
 -- Walks along links that a service may use, and ranks that fall along them.
 use Rattle.std.proofs.Common.{◌≡◌, ℕ, zero, suc, ◌+◌, ◌<◌, ◌≤◌, Bool, true, false, cond, eqb, not, ◌&&◌, List, [], length, Option, Some, None, refl, sym, ap, ◌∙◌, subst, inl, inr, ⊎_elim, arith}
-use Rattle.std.specs.Prelude.{nat_lt, slice_get}
+use Rattle.std.specs.Prelude.{nat_lt, slice_get, ◌↔◌}
 use Rattle.std.specs.List.{list_any, list_all, range_with_len}
 use Rattle.std.specs.Option.{option_map_or}
 use Rattle.std.proofs.lemmas.Bool.{and_parts, and_from, both_ways, cases_Bool, cases_lt, false_from_ne_true, ltb-true, lt-ltb, le-ltb, eqb-true, eq-eqb, not-true, not_from_false}
@@ -188,3 +188,6 @@ of_all_in c n test (Some m) e h =
 
 pub of_all : (c : Configuration) (n : ℕ) (test : ℕ → Bool) → ((p : ℕ) → IsPortOf c n p → test p ≡ true) → list_all test (ports_of c n) ≡ true
 of_all c n test h = of_all_in c n test (slot c n) refl h
+
+pub cycles_are_found : (c : Configuration) → (has_no_cycle c ≡ true) ↔ HasNoCycle c
+cycles_are_found c = (ranked_if_no_cycle c, no_cycle_if_ranked c)

@@ -1,6 +1,6 @@
 -- Where no rule fails each holds, and the other way round.
 use Rattle.std.proofs.Common.{◌≡◌, ℕ, Bool, true, false, cond, List, [], ◌∷◌, Option, Some, None, refl, sym, ap, ◌∙◌, ⊎_elim}
-use Rattle.std.specs.Prelude.{⊤}
+use Rattle.std.specs.Prelude.{⊤, ◌↔◌}
 use Rattle.std.proofs.lemmas.Bool.{cases_Bool}
 use Rattle.quiesce_core.specs.declared.event.Event.{Event}
 use Rattle.quiesce_core.specs.declared.event.Event.TheVariants.{Begin, Call, Take, Give, End, More, Ask, Hear, Miss, Close, Reopen, Make, Link, Unlink, Remove}
@@ -76,3 +76,6 @@ allowed s (Make n node from) h = none_fails (rules_at s (Make n node from)) (h.r
 allowed s (Link p n x) h = none_fails (rules_at s (Link p n x)) (h.live, (h.unlinked, (h.provision, (h.settled, (h.no_cycle, tt)))))
 allowed s (Unlink p) h = none_fails (rules_at s (Unlink p)) (h.live, (h.linked, (h.settled, tt)))
 allowed s (Remove n) h = none_fails (rules_at s (Remove n)) (h.live, (h.settled, (h.apart, tt)))
+
+pub legal_events : (s : State) (e : Event) → (denial s e ≡ None) ↔ Legal s e
+legal_events s e = (legal s e, allowed s e)

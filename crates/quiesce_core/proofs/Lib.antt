@@ -8,3 +8,5 @@ pub mod Soundness
 pub mod SettledLemmas
 pub mod RestLemmas
 pub mod GraphLemmas
+pub mod RunLemmas
+pub mod WordLemmas

@@ -92,3 +92,6 @@ if_settled s n h =
 
 pub settled_iff : (s : State) → IsSound s.config → (n : ℕ) (b : Bool) → b ≡ is_settled s n → (b ≡ true) ↔ Settled s n
 settled_iff s sound n b e = ((λ h. settled_if s sound n (sym e ∙ h)), (λ h. e ∙ if_settled s n h))
+
+pub reach_is_found : (c : Configuration) → IsSound c → (n p : ℕ) → (reaches c n p ≡ true) ↔ Reaches c n p
+reach_is_found c sound n p = (reaches_sound c n p, reaches_complete c sound n p)

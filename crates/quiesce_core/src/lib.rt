@@ -8,6 +8,7 @@ mod effect;
 mod error;
 mod event;
 mod known;
+mod laws;
 mod machine;
 mod making;
 mod open;
@@ -17,11 +18,16 @@ mod rules;
 mod starting;
 mod state;
 mod tables;
+#[cfg(test)]
+mod tests;
 mod word;
 
 pub use error::CoreError;
 pub use event::Event;
 pub use known::Served;
+pub use laws::{
+    cycles_are_found, each_rule_holds, reach_is_found, runs_are_well_formed, words_decode,
+};
 pub use machine::Core;
 pub use state::{Exchange, Gate, OpenTxn, Phase, Service, Slot, Stage};
 pub use word::Word;

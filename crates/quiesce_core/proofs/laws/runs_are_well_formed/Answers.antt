@@ -1,0 +1,5 @@
+use Rattle.quiesce_core.proofs.RunLemmas.{runs_are_well_formed}
+use Rattle.quiesce_core.proofs.laws.runs_are_well_formed.Goals as goal
+
+pub returns : goal.returns
+returns c es h = runs_are_well_formed es h

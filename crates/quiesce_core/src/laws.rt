@@ -1,0 +1,42 @@
+//! Laws of the machine: what holds of every state, or of the state after every run.
+
+ghost use Rattle.std.specs.Prelude.{◌≡◌, ◌↔◌, ℕ, true, List, IsTrue};
+ghost use Rattle.quiesce_core.specs.declared.event.Event.{Event};
+ghost use Rattle.quiesce_core.specs.State.{Configuration, State};
+ghost use Rattle.quiesce_core.specs.Rules.{denial};
+ghost use Rattle.quiesce_core.specs.Legal.{Legal};
+ghost use Rattle.quiesce_core.specs.Reach.{HasNoCycle, Reaches, has_no_cycle, reaches};
+ghost use Rattle.quiesce_core.specs.Runs.{IsRun, state_after};
+ghost use Rattle.quiesce_core.specs.WordFields.{FitsWord};
+ghost use Rattle.quiesce_core.specs.Words.{pack, unpack};
+ghost use Rattle.quiesce_core.specs.declared.word.Word.{Word};
+ghost use Rattle.quiesce_core.specs.WellFormed.{IsSound, IsWellFormed};
+
+/// An event is denied by no rule exactly where each of its rules holds.
+#[tactic(auto, using(crate::proofs::LegalLemmas::legal_events))]
+pub fn each_rule_holds()
+    ensures { (s : State) (e : Event) → (denial s e ≡ None) ↔ Legal s e }
+{}
+
+/// The test for cycles finds one exactly where no rank falls along all links that a service may use.
+#[tactic(auto, using(crate::proofs::Cycles::cycles_are_found))]
+pub fn cycles_are_found()
+    ensures { (c : Configuration) → IsTrue (has_no_cycle c) ↔ HasNoCycle c }
+{}
+
+/// Where there is no cycle, the test that a port reaches a node finds exactly the least set that holds what is linked to the
+/// node, and what is linked to a provision that depends on a port of the set.
+#[tactic(auto, using(crate::proofs::SettledLemmas::reach_is_found))]
+pub fn reach_is_found()
+    ensures { (c : Configuration) → IsSound c → (n p : ℕ) → IsTrue (reaches c n p) ↔ Reaches c n p }
+{}
+
+/// After every run the state is well formed.
+pub fn runs_are_well_formed()
+    ensures { (es : List Event) → IsRun es → IsWellFormed (state_after es) }
+{}
+
+/// A number spells the fields that it was packed from.
+pub fn words_decode()
+    ensures { (w : Word) → FitsWord w → unpack (pack w) ≡ w }
+{}

@@ -1,0 +1,527 @@
+//! Worked rows: words, transactions and rests in a line of a source, a map and a sink, and a refusal by each rule.
+
+use crate::{Core, CoreError, Event, OpenTxn, Stage};
+use Op::{
+    Ask, Begin, Call, Close, End, Give, Hear, Link, Miss, More, Remove, Reopen, Take, Unlink,
+};
+use config_graph::{Graph, Kind, Node, Text};
+use std::alloc::Global;
+use std::process::Abort;
+use std::test::Fail;
+
+#[derive(Clone, Copy)]
+enum Op {
+    Begin,
+    Call,
+    Take,
+    Give,
+    End,
+    More,
+    Ask,
+    Hear,
+    Miss,
+    Close,
+    Reopen,
+    Link,
+    Unlink,
+    Remove,
+}
+
+/// An event, with a port, a serial and a value, or a port and the node to which it is linked, or a node.
+type Step = (Op, u32, u32, u32);
+
+fn event(step: &Step) -> Event {
+    let (op, port, serial, value) = *step;
+    match op {
+        Begin => Event::Begin {
+            port,
+            serial,
+            value,
+        },
+        Call => Event::Call {
+            port,
+            serial,
+            value,
+        },
+        Take => Event::Take {
+            port,
+            serial,
+            value,
+        },
+        Give => Event::Give {
+            port,
+            serial,
+            value,
+        },
+        End => Event::End {
+            port,
+            serial,
+            value,
+        },
+        More => Event::More {
+            port,
+            serial,
+            value,
+        },
+        Ask => Event::Ask {
+            port,
+            serial,
+            value,
+        },
+        Hear => Event::Hear {
+            port,
+            serial,
+            value,
+        },
+        Miss => Event::Miss { port },
+        Close => Event::Close { port },
+        Reopen => Event::Reopen { port },
+        Link => Event::Link {
+            port,
+            node: serial,
+            provide: value,
+        },
+        Unlink => Event::Unlink { port },
+        Remove => Event::Remove { node: port },
+    }
+}
+
+/// Each event happens.
+fn happens(rt: &impl Abort, core: &mut Core, steps: &[Step]) {
+    for step in steps {
+        assert_eq!(rt; core.apply(&event(step)), Ok(()));
+    }
+}
+
+/// Each event happens but the last, which the rule denies.
+fn denied(rt: &impl Abort, mut core: Core, steps: &[Step], rule: u32) {
+    if let Some((last, before)) = steps.split_last() {
+        happens(rt, &mut core, before);
+        assert_eq!(rt; core.apply(&event(last)), Err(CoreError::Denied { rule }));
+    }
+}
+
+fn make(
+    alloc: Global,
+    slot: u32,
+    path: &[u8],
+    kind: Kind,
+    arg: Option<u32>,
+) -> Result<Event, Fail> {
+    let path = Text::from_bytes(alloc, path)?;
+    let node = Node { path, kind, arg };
+    let from = None;
+    Ok(Event::Make { slot, node, from })
+}
+
+/// A core with these nodes, and then these events.
+fn system(
+    rt: &impl Abort,
+    alloc: Global,
+    nodes: &[(&[u8], Kind, Option<u32>)],
+    steps: &[Step],
+) -> Result<Core, Fail> {
+    let mut core = Core::empty(alloc);
+    for (path, kind, arg) in nodes {
+        let slot = core.made().nodes;
+        assert_eq!(rt; core.apply(&make(alloc, slot, path, *kind, *arg)?), Ok(()));
+    }
+    happens(rt, &mut core, steps);
+    Ok(core)
+}
+
+/// Node 0 is a map that leads to a sink, node 2, and node 1 a source that leads to the map.
+fn line(rt: &impl Abort, alloc: Global) -> Result<Core, Fail> {
+    let nodes: [(&[u8], Kind, Option<u32>); 3] = [
+        (b"m", Kind::Map, Some(10)),
+        (b"s", Kind::Source, Some(3)),
+        (b"t", Kind::Sink, None),
+    ];
+    system(
+        rt,
+        alloc,
+        &nodes,
+        &[
+            (Link, 0, 2, 0),
+            (Link, 1, 0, 0),
+            (Reopen, 0, 0, 0),
+            (Reopen, 1, 0, 0),
+        ],
+    )
+}
+
+/// Node 0 asks node 1, which sends intermediate replies.
+fn two(rt: &impl Abort, alloc: Global) -> Result<Core, Fail> {
+    let nodes: [(&[u8], Kind, Option<u32>); 2] = [
+        (b"a", Kind::Asker, Some(2)),
+        (b"d", Kind::Adder, None),
+    ];
+    system(rt, alloc, &nodes, &[(Link, 0, 1, 0), (Reopen, 0, 0, 0)])
+}
+
+/// Node 0 leads to a branch, node 1, whose two ports lead to an account, as does that of node 3.
+fn bank(rt: &impl Abort, alloc: Global) -> Result<Core, Fail> {
+    let nodes: [(&[u8], Kind, Option<u32>); 4] = [
+        (b"w", Kind::Teller, Some(3)),
+        (b"r", Kind::Branch, None),
+        (b"a", Kind::Account, Some(100)),
+        (b"x", Kind::Source, Some(1)),
+    ];
+    let steps = [
+        (Link, 0, 1, 0),
+        (Link, 1, 2, 0),
+        (Link, 2, 2, 0),
+        (Link, 3, 2, 0),
+        (Reopen, 0, 0, 0),
+        (Reopen, 3, 0, 0),
+    ];
+    system(rt, alloc, &nodes, &steps)
+}
+
+/// Two maps, of which the second would lead to the first.
+fn ring(rt: &impl Abort, alloc: Global) -> Result<Core, Fail> {
+    let nodes: [(&[u8], Kind, Option<u32>); 2] = [
+        (b"a", Kind::Map, Some(1)),
+        (b"b", Kind::Map, Some(1)),
+    ];
+    system(rt, alloc, &nodes, &[(Link, 0, 1, 0)])
+}
+
+const LINE: [(&[Step], u32); 40] = [
+    (&[(Begin, 2, 1, 1)], 1),
+    (&[(Close, 1, 0, 0), (Begin, 1, 1, 1)], 2),
+    (
+        &[
+            (Close, 1, 0, 0),
+            (Unlink, 1, 0, 0),
+            (Reopen, 1, 0, 0),
+            (Begin, 1, 1, 1),
+        ],
+        3,
+    ),
+    (&[(Begin, 1, 1, 1), (Begin, 1, 2, 1)], 4),
+    (&[(Begin, 1, 2, 1)], 5),
+    (&[(Begin, 1, 1, 16_777_216)], 6),
+    (&[(Call, 2, 1, 1)], 1),
+    (&[(Call, 0, 1, 1)], 7),
+    (
+        &[
+            (Begin, 1, 1, 1),
+            (Take, 1, 1, 1),
+            (Call, 0, 1, 11),
+            (Take, 0, 1, 11),
+            (Give, 0, 1, 1),
+            (End, 0, 1, 1),
+            (Call, 0, 2, 1),
+        ],
+        8,
+    ),
+    (
+        &[
+            (Close, 0, 0, 0),
+            (Close, 1, 0, 0),
+            (Unlink, 0, 0, 0),
+            (Reopen, 1, 0, 0),
+            (Begin, 1, 1, 1),
+            (Take, 1, 1, 1),
+            (Call, 0, 1, 11),
+        ],
+        3,
+    ),
+    (&[(Begin, 1, 1, 1), (Take, 1, 1, 1), (Call, 0, 2, 11)], 5),
+    (
+        &[(Begin, 1, 1, 1), (Take, 1, 1, 1), (Call, 0, 1, 16_777_216)],
+        6,
+    ),
+    (&[(Miss, 2, 0, 0)], 1),
+    (&[(Miss, 0, 0, 0)], 7),
+    (
+        &[
+            (Begin, 1, 1, 1),
+            (Take, 1, 1, 1),
+            (Call, 0, 1, 11),
+            (Take, 0, 1, 11),
+            (Give, 0, 1, 1),
+            (End, 0, 1, 1),
+            (Miss, 0, 0, 0),
+        ],
+        8,
+    ),
+    (&[(Begin, 1, 1, 1), (Take, 1, 1, 1), (Miss, 0, 0, 0)], 9),
+    (&[(Take, 2, 1, 1)], 1),
+    (&[(Take, 1, 1, 1)], 10),
+    (&[(Begin, 1, 1, 1), (Take, 1, 1, 1), (Take, 1, 1, 1)], 11),
+    (&[(Begin, 1, 1, 1), (Take, 1, 1, 2)], 13),
+    (&[(Give, 2, 1, 1)], 1),
+    (&[(Begin, 1, 1, 1), (Give, 1, 1, 1)], 14),
+    (&[(Begin, 1, 1, 1), (Take, 1, 1, 1), (Give, 1, 2, 1)], 15),
+    (
+        &[
+            (Begin, 1, 1, 1),
+            (Take, 1, 1, 1),
+            (Call, 0, 1, 11),
+            (Give, 1, 1, 1),
+        ],
+        16,
+    ),
+    (
+        &[(Begin, 1, 1, 1), (Take, 1, 1, 1), (Give, 1, 1, 16_777_216)],
+        6,
+    ),
+    (&[(End, 2, 1, 1)], 1),
+    (&[(Begin, 1, 1, 1), (End, 1, 1, 1)], 17),
+    (
+        &[
+            (Begin, 1, 1, 1),
+            (Take, 1, 1, 1),
+            (Give, 1, 1, 5),
+            (End, 1, 1, 6),
+        ],
+        13,
+    ),
+    (&[(Close, 2, 0, 0)], 1),
+    (&[(Reopen, 2, 0, 0)], 1),
+    (&[(Link, 2, 0, 0)], 1),
+    (&[(Link, 1, 0, 0)], 20),
+    (&[(Close, 1, 0, 0), (Unlink, 1, 0, 0), (Link, 1, 1, 0)], 21),
+    (
+        &[
+            (Close, 1, 0, 0),
+            (Unlink, 1, 0, 0),
+            (Reopen, 1, 0, 0),
+            (Link, 1, 0, 0),
+        ],
+        22,
+    ),
+    (&[(Unlink, 2, 0, 0)], 1),
+    (&[(Close, 1, 0, 0), (Unlink, 1, 0, 0), (Unlink, 1, 0, 0)], 3),
+    (
+        &[
+            (Begin, 1, 1, 1),
+            (Take, 1, 1, 1),
+            (Call, 0, 1, 11),
+            (Close, 1, 0, 0),
+            (Close, 0, 0, 0),
+            (Unlink, 0, 0, 0),
+        ],
+        22,
+    ),
+    (&[(Remove, 3, 0, 0)], 24),
+    (&[(Remove, 0, 0, 0)], 22),
+    (
+        &[
+            (Close, 0, 0, 0),
+            (Close, 1, 0, 0),
+            (Unlink, 1, 0, 0),
+            (Link, 1, 0, 0),
+            (Remove, 2, 0, 0),
+        ],
+        25,
+    ),
+];
+
+const TWO: [(&[Step], u32); 16] = [
+    (&[(More, 1, 1, 1)], 1),
+    (&[(Begin, 0, 1, 5), (More, 0, 1, 5)], 14),
+    (
+        &[
+            (Begin, 0, 1, 5),
+            (Take, 0, 1, 5),
+            (More, 0, 1, 5),
+            (More, 0, 1, 5),
+        ],
+        29,
+    ),
+    (&[(Begin, 0, 1, 5), (Take, 0, 1, 5), (More, 0, 2, 5)], 15),
+    (
+        &[
+            (Begin, 0, 1, 5),
+            (Take, 0, 1, 5),
+            (More, 0, 1, 5),
+            (Ask, 0, 1, 1),
+            (Hear, 0, 1, 1),
+            (More, 0, 1, 5),
+        ],
+        28,
+    ),
+    (
+        &[(Begin, 0, 1, 5), (Take, 0, 1, 5), (More, 0, 1, 16_777_216)],
+        6,
+    ),
+    (
+        &[
+            (Begin, 0, 1, 5),
+            (Take, 0, 1, 5),
+            (More, 0, 1, 5),
+            (Give, 0, 1, 5),
+        ],
+        29,
+    ),
+    (&[(Ask, 1, 1, 1)], 1),
+    (&[(Begin, 0, 1, 5), (Ask, 0, 1, 1)], 27),
+    (
+        &[
+            (Begin, 0, 1, 5),
+            (Take, 0, 1, 5),
+            (More, 0, 1, 5),
+            (Ask, 0, 2, 1),
+        ],
+        15,
+    ),
+    (
+        &[
+            (Begin, 0, 1, 5),
+            (Take, 0, 1, 5),
+            (More, 0, 1, 5),
+            (Ask, 0, 1, 16_777_216),
+        ],
+        6,
+    ),
+    (&[(Hear, 1, 1, 1)], 1),
+    (
+        &[
+            (Begin, 0, 1, 5),
+            (Take, 0, 1, 5),
+            (More, 0, 1, 5),
+            (Hear, 0, 1, 5),
+        ],
+        10,
+    ),
+    (&[(Begin, 0, 1, 5), (Hear, 0, 1, 5)], 14),
+    (&[(Begin, 0, 1, 5), (Take, 0, 1, 5), (Hear, 0, 1, 5)], 30),
+    (
+        &[
+            (Begin, 0, 1, 5),
+            (Take, 0, 1, 5),
+            (More, 0, 1, 5),
+            (Ask, 0, 1, 1),
+            (Hear, 0, 1, 2),
+        ],
+        13,
+    ),
+];
+
+const BANK: [(&[Step], u32); 3] = [
+    (
+        &[
+            (Begin, 0, 1, 1),
+            (Take, 0, 1, 1),
+            (Call, 1, 1, 3),
+            (Call, 1, 2, 3),
+        ],
+        4,
+    ),
+    (
+        &[
+            (Begin, 0, 1, 1),
+            (Take, 0, 1, 1),
+            (Call, 1, 1, 3),
+            (Miss, 1, 0, 0),
+        ],
+        4,
+    ),
+    (
+        &[
+            (Begin, 0, 1, 1),
+            (Take, 0, 1, 1),
+            (Call, 1, 1, 3),
+            (Begin, 3, 1, 1),
+            (Take, 1, 1, 3),
+            (Take, 3, 1, 1),
+        ],
+        12,
+    ),
+];
+
+#[test]
+fn rules_deny(rt: HostRuntime) -> Result<(), Fail> {
+    for (steps, rule) in LINE {
+        denied(&rt, line(&rt, rt.alloc())?, steps, rule);
+    }
+    for (steps, rule) in TWO {
+        denied(&rt, two(&rt, rt.alloc())?, steps, rule);
+    }
+    for (steps, rule) in BANK {
+        denied(&rt, bank(&rt, rt.alloc())?, steps, rule);
+    }
+    denied(&rt, ring(&rt, rt.alloc())?, &[(Link, 1, 0, 0)], 23);
+    Ok(())
+}
+
+#[test]
+fn rules_deny_nodes(rt: HostRuntime) -> Result<(), Fail> {
+    let mut core = line(&rt, rt.alloc())?;
+    let late = make(rt.alloc(), 4, b"n", Kind::Sink, None)?;
+    assert_eq!(rt; core.apply(&late), Err(CoreError::Denied { rule: 18 }));
+    let same_path = make(rt.alloc(), 3, b"m", Kind::Sink, None)?;
+    assert_eq!(rt; core.apply(&same_path), Err(CoreError::Denied { rule: 19 }));
+    let node = Node {
+        path: Text::from_bytes(rt.alloc(), b"n")?,
+        kind: Kind::Map,
+        arg: Some(1),
+    };
+    let from = Some(0);
+    let of_live = Event::Make {
+        slot: 3,
+        node,
+        from,
+    };
+    assert_eq!(rt; core.apply(&of_live), Err(CoreError::Denied { rule: 26 }));
+    Ok(())
+}
+
+#[test]
+fn words_and_rests(rt: HostRuntime) -> Result<(), Fail> {
+    let mut core = line(&rt, rt.alloc())?;
+    happens(&rt, &mut core, &[(Begin, 1, 1, 1)]);
+    assert_eq!(rt; core.made().ports, 2);
+    assert_eq!(rt; core.word(1), 0x2004_0000_0100_0001);
+    assert_eq!(rt; core.rest(), 7);
+    happens(&rt, &mut core, &[(Take, 1, 1, 1), (Call, 0, 1, 11)]);
+    assert_eq!(rt; core.made().ports, 2);
+    assert_eq!(rt; core.word(0), 0x300c_0000_0100_000b);
+    assert_eq!(rt; core.next_serial(0), Some(2));
+    assert_eq!(rt; core.rest(), 5);
+    Ok(())
+}
+
+#[test]
+fn all_come_to_rest(rt: HostRuntime) -> Result<(), Fail> {
+    let mut core = line(&rt, rt.alloc())?;
+    happens(
+        &rt,
+        &mut core,
+        &[
+            (Begin, 1, 1, 1),
+            (Close, 0, 0, 0),
+            (Close, 1, 0, 0),
+            (Take, 1, 1, 1),
+        ],
+    );
+    assert_eq!(rt; core.rest(), 6);
+    let root = OpenTxn {
+        port: 1,
+        serial: 1,
+        root: true,
+        stage: Stage::Taken,
+    };
+    assert_eq!(rt; core.open_txns()?.as_slice(), [root].as_slice());
+    happens(
+        &rt,
+        &mut core,
+        &[
+            (Call, 0, 1, 11),
+            (Take, 0, 1, 11),
+            (Give, 0, 1, 1),
+            (End, 0, 1, 1),
+            (Give, 1, 1, 1),
+            (End, 1, 1, 1),
+        ],
+    );
+    assert_eq!(rt; core.rest(), 0);
+    for node in 0..3 {
+        assert!(rt; core.is_live(node));
+        assert!(rt; core.settled(node));
+    }
+    Ok(())
+}
