@@ -1,5 +1,5 @@
 -- What the list of the ports that are linked to a provision tells: which ports they are, and that their numbers rise.
-use Rattle.std.proofs.Common.{◌≡◌, ◌⊎◌, ◌↔◌, ℕ, zero, suc, ◌+◌, ◌<◌, ◌≤◌, Bool, true, false, cond, ◌&&◌, eqb, List, [], ◌∷◌, ◌++◌, length, get_or, map, Option, Some, None, slice_get, option_map, refl, sym, ◌∙◌, ap, subst, inl, inr, arith, find, filter, filter_map, Contains, add-one, zero-add}
+use Rattle.std.proofs.Common.{◌≡◌, ◌⊎◌, ◌↔◌, ℕ, zero, suc, ◌+◌, ◌<◌, ◌≤◌, Bool, true, false, cond, ◌&&◌, eqb, List, [], ◌∷◌, length, get_or, map, Option, Some, None, slice_get, option_map, refl, sym, ◌∙◌, ap, subst, inl, inr, arith, find, filter, filter_map, Contains, add-one, zero-add}
 use Rattle.std.specs.Prelude.{All}
 use Rattle.std.specs.List.Sorted.{IsStrictlyIncreasing}
 use Rattle.std.specs.List.{cons_option}
@@ -11,6 +11,9 @@ use Rattle.config_graph.specs.declared.node.Port.{Port}
 use Rattle.config_graph.specs.declared.node.Target.{Target}
 use Rattle.config_graph.specs.declared.node.Link.{Link}
 use Rattle.config_graph.proofs.LinkLemmas.{begins_apart, begins_here, begins_there, both_true, Contains-find, find_passes, get-ports, port_number-place}
+use Rattle.std.proofs.lemmas.List.{length-map}
+use Rattle.std.proofs.lemmas.List.Sums.{length-filter, count_by-le-length}
+use Rattle.config_graph.proofs.NumberingLemmas.{port_below}
 use Rattle.config_graph.proofs.OrderLemmas.{All-ordered, one_link-in_order}
 
 -- an element of a list is its first or one of the rest
@@ -105,6 +108,20 @@ module _ (g : Configuration) (graph : IsGraph g) where
           ap (λ b. b && eqb l.provide x) (eq-eqb l.to n (ap (λ (t : Target). t.node) target)) ∙ eq-eqb l.provide x (ap (λ (t : Target). t.provide) target) in
           subst (Contains (incoming_ports g n x)) (λ j. port_number g.nodes (place.0 j) (place.1 j)) (map_filter_in number (ends_at n x) g.links l (Contains-find (begins_at i r) g.links l e) ends)
 
+-- the list has numbers of ports
+pub incoming-within : (g : Configuration) → IsGraph g → (n x : ℕ) → All (λ q. q < length (ports g.nodes)) (incoming_ports g n x)
+incoming-within g graph n x k d low =
+    let num : Link → ℕ = λ l. port_number g.nodes l.from l.require in
+    let m = in_map_filter num (ends_at n x) g.links (get_or (incoming_ports g n x) k d) (Contains-get_or (incoming_ports g n x) k d low) in
+    let l = m.0 in
+    rw (← m.3) (port_below g.nodes l.from l.require (within_of g graph l m.1).begins)
+
+-- the list is no longer than that of all links
+pub incoming-length : (g : Configuration) (n x : ℕ) → length (incoming_ports g n x) ≤ length g.links
+incoming-length g n x =
+    let num : Link → ℕ = λ l. port_number g.nodes l.from l.require in
+    rw (length-map, length-filter) (count_by-le-length (ends_at n x) g.links)
+
 -- each number of the list is at least k and above the one before it
 RisesFrom : ℕ → List ℕ → Type 0
 RisesFrom k [] = Unit {0}
@@ -156,7 +173,7 @@ incoming-rising g graph n x =
     (λ j. port_number g.nodes (there.0 j) (there.1 j)) ∙ sym at ∙ sym (zero-add q) in
     subst (λ ls. IsStrictlyIncreasing (map num (filter (ends_at n x) ls))) graph.in_order (RisesFrom-increasing 0 (map num (filter (ends_at n x) (in_port_order g.nodes g.links))) (rises f num (ends_at n x) (ports g.nodes) 0 placed))
 
-Contains-filter_map : {A B : Type 0} (f : A → Option B) (xs : List A) (q : ℕ) (a : A) (b : B) → slice_get xs q ≡ Some a → f a ≡ Some b → Contains (filter_map f xs) b
+pub Contains-filter_map : {A B : Type 0} (f : A → Option B) (xs : List A) (q : ℕ) (a : A) (b : B) → slice_get xs q ≡ Some a → f a ≡ Some b → Contains (filter_map f xs) b
 Contains-filter_map f [] q a b h e = cc
 Contains-filter_map {B = B} f (x ∷ xs) zero a b h e =
     let same : x ≡ a = cc in

@@ -6,3 +6,5 @@ pub mod OrderLemmas
 pub mod SameLemmas
 pub mod TextLemmas
 pub mod IncomingLemmas
+pub mod CycleLemmas
+pub mod SearchLemmas

@@ -9,7 +9,7 @@ use Rattle.config_graph.specs.Graph.{Configuration, requires_of}
 use Rattle.config_graph.specs.GraphText.{graph_text, node_line, node_lines, port_line, port_lines}
 use Rattle.config_graph.specs.declared.node.Node.{Node}
 
-range_more : (a n : ℕ) → range_with_len a (suc n) ≡ range_with_len a n ++ (a + n) ∷ []
+pub range_more : (a n : ℕ) → range_with_len a (suc n) ≡ range_with_len a n ++ (a + n) ∷ []
 range_more a zero = let e : a ≡ a + 0 = omega arith in ap (λ x. x ∷ []) e
 range_more a (suc n) =
     let shift : (a + 1) + n ≡ a + suc n = omega arith in

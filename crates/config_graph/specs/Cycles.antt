@@ -1,10 +1,11 @@
 -- Ways along depended-on links, and cycles of them. A port of a node is depended on where some provision of the node's kind
 -- depends on it, so that serving a transaction there may begin one at the port.
-use Rattle.std.specs.Prelude.{◌≡◌, ℕ, ◌<◌, Bool, false, IsTrue, List, Some, slice_get}
+use Rattle.std.specs.Prelude.{◌≡◌, ℕ, ◌<◌, Bool, false, IsTrue, if◌then◌else◌, List, Option, Some, None, option_map, slice_get}
 use Rattle.std.specs.Option.{option_map_or}
 use Rattle.config_graph.specs.Kinds.{depends_on, is_depended_on}
 use Rattle.config_graph.specs.Graph.{Configuration, target_of}
 use Rattle.config_graph.specs.declared.node.Node.{Node}
+use Rattle.config_graph.specs.declared.node.Target.{Target}
 
 -- a requirement of node i is linked to a provision of node j
 abbrev pub IsLinked : Configuration → ℕ → ℕ → ℕ → ℕ → Type 0
@@ -40,3 +41,8 @@ NoCycle g = (i : ℕ) → ¬ OnCycle g i
 pub record FirstOnCycle (g : Configuration) (i : ℕ) : Type 0 where
   pub on_cycle : OnCycle g i
   pub first : (j : ℕ) → j < i → ¬ OnCycle g j
+
+-- the node to which a port leads, where it is depended on and linked
+abbrev pub leads_by : Configuration → ℕ → ℕ → Option ℕ
+leads_by g i require =
+    if is_depended_at g.nodes i require then option_map (λ (t : Target). t.node) (target_of g.links i require) else None

@@ -5,4 +5,5 @@ pub mod Indexes
 pub mod Kinds
 pub mod Numbering
 pub mod Reach
+pub mod Search
 pub mod Sound

@@ -142,6 +142,7 @@ impl Graph {
         requires { provide < provides_at self.now.nodes node }
         ensures ports { result.now ≡ incoming_ports self.now node provide }
         ensures rising { IsStrictlyIncreasing result.now }
+        ensures within { All (λ port. port < length (ports self.now.nodes)) result.now }
         ensures linked { (i r : ℕ) → r < requires_at self.now.nodes i
             → (Contains result.now (port_number self.now.nodes i r)
             ↔ (target_of self.now.links i r ≡ Some (record { node = node; provide = provide }))) }

@@ -1,7 +1,7 @@
 //! The kinds of nodes: what each provides and requires, as a table.
 
 ghost use Rattle.std.specs.Prelude.{◌≡◌, ◌<◌, length, is_some, slice_get, option_map, IfSome, Some};
-ghost use Rattle.config_graph.specs.Kinds.{row, kinds, kind_named, depends_on, calls_of, mores_of, Provision};
+ghost use Rattle.config_graph.specs.Kinds.{row, kinds, kind_named, depends_on, is_depended_on, calls_of, mores_of, Provision};
 ghost use Rattle.config_graph.specs.declared.kind.Kind.{Kind};
 
 /// What a node does. The work of each kind is built in.
@@ -124,6 +124,17 @@ impl Kind {
         match self {
             Kind::Place | Kind::Branch => provide == 0 && require < 2,
             Kind::Map => provide == 0 && require == 0,
+            _ => false,
+        }
+    }
+
+    /// Whether a service by some provision may call this requirement.
+    pub fn is_depended_on(self, require: u32) -> bool
+        ensures { result ≡ is_depended_on self require }
+    {
+        match self {
+            Kind::Place | Kind::Branch => require < 2,
+            Kind::Map => require == 0,
             _ => false,
         }
     }

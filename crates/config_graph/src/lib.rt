@@ -1,15 +1,19 @@
 //! Configurations as graphs: node kinds, nodes, links, and the graph text.
 #![tactic(auto)]
 
+mod cycles;
 mod graph;
 mod indexes;
 mod kind;
 mod list;
 mod node;
 mod numbering;
+#[cfg(test)]
+mod tests;
 mod text;
 mod writing;
 
+pub use cycles::first_on_cycle;
 pub use graph::{Graph, same};
 pub use kind::{Kind, kind_of, kinds_have_their_names};
 pub use list::List;

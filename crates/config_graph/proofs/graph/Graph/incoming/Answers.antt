@@ -3,7 +3,7 @@ use Rattle.std.proofs.Math.ListN.{get_or-map}
 use Rattle.config_graph.specs.Graph.{IsGraph, provides_at, incoming_ports}
 use Rattle.config_graph.specs.Indexes.{graph_in}
 use Rattle.config_graph.specs.Numbering.{provisions}
-use Rattle.config_graph.proofs.IncomingLemmas.{incoming-linked, incoming-rising}
+use Rattle.config_graph.proofs.IncomingLemmas.{incoming-linked, incoming-rising, incoming-within}
 use Rattle.config_graph.proofs.LinkLemmas.{get-provisions, table_read}
 use Rattle.config_graph.proofs.graph.Graph.incoming.Goals as goal
 use Rattle.config_graph.proofs.graph.Graph.incoming.Goals.{After-as_slice}
@@ -28,6 +28,9 @@ returns-clause-ports c = lists c
 
 pub returns-clause-rising : goal.returns-clause-rising
 returns-clause-rising c = rw (lists c) (incoming-rising c.args.self.now (is_graph c) c.args.node c.args.provide)
+
+pub returns-clause-within : goal.returns-clause-within
+returns-clause-within c = rw (lists c) (incoming-within c.args.self.now (is_graph c) c.args.node c.args.provide)
 
 pub returns-clause-linked : goal.returns-clause-linked
 returns-clause-linked c = rw (lists c) (incoming-linked c.args.self.now (is_graph c) c.args.node c.args.provide)

@@ -1,0 +1,32 @@
+-- A search for all nodes to which ways lead: those that were seen, as a bit a node, and the list of them in the order in which
+-- they were seen.
+use Rattle.std.specs.Prelude.{◌≡◌, ℕ, Bool, true, false, List, [], ◌∷◌, ◌++◌, filter_map, if◌then◌else◌, slice_index_or, slice_set}
+use Rattle.std.specs.List.{range_with_len}
+use Rattle.config_graph.specs.Graph.{Configuration, requires_at}
+use Rattle.config_graph.specs.Cycles.{leads_by}
+
+-- the bit of node i is set
+abbrev pub Has : List Bool → ℕ → Type 0
+Has bits i = slice_index_or bits i false ≡ true
+
+pub record Seen : Type 0 where
+  pub bits : List Bool
+  pub reached : List ℕ
+
+abbrev pub seen_of : List Bool → List ℕ → Seen
+seen_of bits reached = record { bits = bits; reached = reached }
+
+-- after node j is seen
+abbrev pub see : ℕ → Seen → Seen
+see j s = if slice_index_or s.bits j true then s else record { bits = slice_set s.bits j true; reached = s.reached ++ j ∷ [] }
+
+abbrev pub see_all : List ℕ → Seen → Seen
+see_all [] s = s
+see_all (j ∷ js) s = see_all js (see j s)
+
+-- the nodes to which a node leads by its first ports, and by all of them
+abbrev pub successors_by : Configuration → ℕ → ℕ → List ℕ
+successors_by g i count = filter_map (leads_by g i) (range_with_len 0 count)
+
+abbrev pub successors : Configuration → ℕ → List ℕ
+successors g i = successors_by g i (requires_at g.nodes i)
