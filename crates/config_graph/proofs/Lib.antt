@@ -8,3 +8,4 @@ pub mod TextLemmas
 pub mod IncomingLemmas
 pub mod CycleLemmas
 pub mod SearchLemmas
+pub mod TextLawLemmas

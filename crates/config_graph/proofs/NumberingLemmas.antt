@@ -1,7 +1,7 @@
 -- Lemmas on what is numbered through a list of nodes: each node n has f n places, and they are numbered in a row.
 use Rattle.std.proofs.Common.{◌≡◌, ℕ, zero, suc, ◌+◌, ◌-◌, ◌<◌, ◌≤◌, List, [], ◌∷◌, ◌++◌, map, length, take, Some, slice_get, refl, sym, ◌∙◌, ap, inl, inr, arith, length-append, append_assoc, append-nil, add-zero, sum_by}
 use Rattle.std.specs.Prelude.{flat_map}
-use Rattle.std.proofs.Common.{get_or, lit≤, length-take}
+use Rattle.std.proofs.Common.{Option, None, get_or, lit≤, length-take}
 use Rattle.std.proofs.lemmas.List.{take_more, take_all}
 use Rattle.config_graph.specs.Kinds.{row}
 use Rattle.config_graph.specs.Graph.{requires_of, provides_of, requires_at, provides_at, ports, ports_of, first_port, port_number}
@@ -148,6 +148,13 @@ one_provision Branch = lit≤ tt
 one_provision Account = lit≤ tt
 one_provision Asker = lit≤ tt
 one_provision Adder = lit≤ tt
+
+pub provides_at-le : (nodes : List Node) (i : ℕ) → provides_at nodes i ≤ 1
+provides_at-le nodes i = by (slice_get nodes i)
+  where
+    by : (o : Option Node) → option_map_or provides_of o 0 ≤ 1
+    by None = omega arith
+    by (Some n) = one_provision n.kind
 
 -- so there are no more provisions than nodes
 pub first_provision-le : (nodes : List Node) (i : ℕ) → first_provision nodes i ≤ i

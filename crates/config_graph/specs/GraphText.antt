@@ -1,5 +1,5 @@
 -- The text of a graph: a line for each node, and below it a line for each of its requirements.
-use Rattle.std.specs.Prelude.{ℕ, List, [], ◌++◌, flat_map, Option, Some, None, slice_get, unwrap_or, codes, decimal}
+use Rattle.std.specs.Prelude.{ℕ, List, [], ◌++◌, flat_map, Option, Some, None, slice_get, unwrap_or, codes, decimal, ◌≢◌, All}
 use Rattle.std.specs.List.{enumerate_from, range_with_len}
 use Rattle.std.specs.Option.{option_map_or}
 use Rattle.config_graph.specs.Kinds.{Provision, row}
@@ -14,6 +14,10 @@ require_name k require = unwrap_or (slice_get (row k).requires_ require) []
 
 abbrev pub provide_name : Kind → ℕ → List ℕ
 provide_name k provide = option_map_or (λ (p : Provision). p.name) (slice_get (row k).provides provide) []
+
+-- a text that holds no space and no line feed
+abbrev pub IsOneWord : List ℕ → Type 0
+IsOneWord text = All (λ b. (b ≢ 32) × (b ≢ 10)) text
 
 -- `KIND(ARG)`, as `map(10)` or `sink()`; the argument is in decimal
 abbrev pub kind_text : Kind → Option ℕ → List ℕ

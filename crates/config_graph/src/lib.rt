@@ -19,7 +19,7 @@ pub use kind::{Kind, kind_of, kinds_have_their_names};
 pub use list::List;
 pub use node::{Link, Made, Node, Port, Target};
 pub use text::Text;
-pub use writing::graph_text;
+pub use writing::{graph_text, texts_tell_sound_graphs};
 
 /// Memory ran out. Nothing else is wrong, and arguments are as before.
 pub type NoMemory = std::alloc::AllocError;

@@ -1,9 +1,10 @@
 //! The text of a graph.
 
-ghost use Rattle.std.specs.Prelude.{◌≡◌, ◌++◌, ◌<◌, slice_get, IfOk, OnOk};
+ghost use Rattle.std.specs.Prelude.{◌≡◌, ◌++◌, ◌<◌, slice_get, All, IfOk, OnOk};
 ghost use Rattle.std.specs.Option.{ForSome};
-ghost use Rattle.config_graph.specs.Graph.{provides_at, requires_of};
-ghost use Rattle.config_graph.specs.GraphText.{graph_text, kind_text, node_line, port_line, port_lines, target_text};
+ghost use Rattle.config_graph.specs.Graph.{Configuration, provides_at, requires_of};
+ghost use Rattle.config_graph.specs.Sound.{Sound};
+ghost use Rattle.config_graph.specs.GraphText.{IsOneWord, graph_text, kind_text, node_line, port_line, port_lines, target_text};
 
 use crate::{Graph, Kind, NoMemory, Node, Target};
 use std::alloc::Global;
@@ -19,6 +20,13 @@ pub fn graph_text(alloc: Global, graph: &Graph) -> Result<Vec<u8>, NoMemory>
     }
     Ok(text)
 }
+
+/// A law: where the paths of two sound graphs hold no space and no line feed, the graphs are equal if their texts are.
+pub fn texts_tell_sound_graphs()
+    ensures { (a b : Configuration) → Sound a → Sound b
+        → All (λ n. IsOneWord n.path) a.nodes → All (λ n. IsOneWord n.path) b.nodes
+        → graph_text a ≡ graph_text b → a ≡ b }
+{}
 
 /// `node PATH KIND(ARG)`
 fn write_node(alloc: Global, text: &mut Vec<u8>, node: &Node) -> Result<(), NoMemory>
