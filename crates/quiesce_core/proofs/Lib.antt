@@ -8,5 +8,6 @@ pub mod Soundness
 pub mod SettledLemmas
 pub mod RestLemmas
 pub mod GraphLemmas
-pub mod RunLemmas
 pub mod WordLemmas
+pub mod TrafficLemmas
+pub mod RunLemmas

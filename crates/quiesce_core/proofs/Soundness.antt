@@ -35,18 +35,18 @@ no_cycle_fewer c d h old =
 
 -- A gate is put at a port that was made, with the same owner and requirement.
 module _ (c : Configuration) (p : ℕ) (g : Gate) (made : p < length c.gates) (same_owner : g.owner ≡ owner c p) (same_require : g.require ≡ (gate c p).require) where
-  put_here : gate (with_gate c p g) p ≡ g
+  pub put_here : gate (with_gate c p g) p ≡ g
   put_here = get_or-set_same c.gates p g fresh_gate made
 
-  put_elsewhere : (q : ℕ) → (q ≡ p → ⊥) → gate (with_gate c p g) q ≡ gate c q
+  pub put_elsewhere : (q : ℕ) → (q ≡ p → ⊥) → gate (with_gate c p g) q ≡ gate c q
   put_elsewhere q ne = get_or-set_other c.gates p q g fresh_gate ne
 
-  put_owner : (q : ℕ) → owner (with_gate c p g) q ≡ owner c q
+  pub put_owner : (q : ℕ) → owner (with_gate c p g) q ≡ owner c q
   put_owner q = ⊎_elim
       (λ (same : q ≡ p). ap (λ i. owner (with_gate c p g) i) same ∙ ap (λ (h : Gate). h.owner) put_here ∙ same_owner ∙ sym (ap (λ i. owner c i) same))
       (λ (other : q ≡ p → ⊥). ap (λ (h : Gate). h.owner) (put_elsewhere q other)) (cases_eq q p)
 
-  put_require : (q : ℕ) → (gate (with_gate c p g) q).require ≡ (gate c q).require
+  pub put_require : (q : ℕ) → (gate (with_gate c p g) q).require ≡ (gate c q).require
   put_require q = ⊎_elim
       (λ (same : q ≡ p). ap (λ i. (gate (with_gate c p g) i).require) same ∙ ap (λ (h : Gate). h.require) put_here ∙ same_require ∙ sym (ap (λ i. (gate c i).require) same))
       (λ (other : q ≡ p → ⊥). ap (λ (h : Gate). h.require) (put_elsewhere q other)) (cases_eq q p)
@@ -121,10 +121,10 @@ module _ (c : Configuration) (n : ℕ) (old : Slot) (there : slot c n ≡ Some o
   without : Configuration
   without = record c { slots = set c.slots n (record old { live = false }) }
 
-  here_gone : slice_get (set c.slots n (record old { live = false })) n ≡ Some (record old { live = false })
+  pub here_gone : slice_get (set c.slots n (record old { live = false })) n ≡ Some (record old { live = false })
   here_gone = slice_get_set_same c.slots n (record old { live = false }) (slice_get_within c.slots n old there)
 
-  slot_elsewhere : (k : ℕ) → (k ≡ n → ⊥) → slice_get (set c.slots n (record old { live = false })) k ≡ slot c k
+  pub slot_elsewhere : (k : ℕ) → (k ≡ n → ⊥) → slice_get (set c.slots n (record old { live = false })) k ≡ slot c k
   slot_elsewhere k ne = slice_get_set_other c.slots n k (record old { live = false }) ne
 
   port_stays : (k q : ℕ) → IsPortOf c k q → IsPortOf without k q
@@ -155,7 +155,7 @@ module _ (c : Configuration) (n : ℕ) (old : Slot) (there : slot c n ≡ Some o
       (λ (other : k ≡ n → ⊥). record { node = o.node; made = sym (slot_elsewhere k other) ∙ o.made; from = o.from; below = o.below })
       (cases_eq k n)
 
-  kind_stays : {A : Type 0} (f : Slot → A) (d : A) → f (record old { live = false }) ≡ f old → (k : ℕ)
+  pub kind_stays : {A : Type 0} (f : Slot → A) (d : A) → f (record old { live = false }) ≡ f old → (k : ℕ)
       → option_map_or f (slice_get (set c.slots n (record old { live = false })) k) d ≡ option_map_or f (slot c k) d
   kind_stays f d e k = ⊎_elim
       (λ (same : k ≡ n).
@@ -213,15 +213,15 @@ module _ (c : Configuration) (s : IsSound c) (node : Node) (from : Option ℕ) (
   grown : Configuration
   grown = with_node c node from
 
-  old_gate : (q : ℕ) → q < length c.gates → gate (with_node c node from) q ≡ gate c q
+  pub old_gate : (q : ℕ) → q < length c.gates → gate (with_node c node from) q ≡ gate c q
   old_gate q h = get_or_append_left c.gates (new_gates (length c.slots) (length (row node.kind).requires_)) fresh_gate q h
 
-  new_gate : (i : ℕ) → i < length (row node.kind).requires_ → gate (with_node c node from) (length c.gates + i) ≡ record { owner = length c.slots; require = i; closed = true; target = None }
+  pub new_gate : (i : ℕ) → i < length (row node.kind).requires_ → gate (with_node c node from) (length c.gates + i) ≡ record { owner = length c.slots; require = i; closed = true; target = None }
   new_gate i h =
       get_or-append-add c.gates (new_gates (length c.slots) (length (row node.kind).requires_)) i fresh_gate
       ∙ get_or-map-range_with_len (λ r. record { owner = length c.slots; require = r; closed = true; target = None }) 0 (length (row node.kind).requires_) i i fresh_gate h (omega arith)
 
-  grown_length : length (with_node c node from).gates ≡ length c.gates + length (row node.kind).requires_
+  pub grown_length : length (with_node c node from).gates ≡ length c.gates + length (row node.kind).requires_
   grown_length =
       length-append c.gates (new_gates (length c.slots) (length (row node.kind).requires_))
       ∙ ap (λ k. length c.gates + k) (length-map-range_with_len (λ r. record { owner = length c.slots; require = r; closed = true; target = None }) 0 (length (row node.kind).requires_))
@@ -240,10 +240,10 @@ module _ (c : Configuration) (s : IsSound c) (node : Node) (from : Option ℕ) (
       (cases_lt q (length c.gates + length (row node.kind).requires_)))
       (cases_lt q (length c.gates))
 
-  old_slot : (n : ℕ) → n < length c.slots → slot (with_node c node from) n ≡ slot c n
+  pub old_slot : (n : ℕ) → n < length c.slots → slot (with_node c node from) n ≡ slot c n
   old_slot n h = slice_get_front c.slots (record { node = node; first_port = length c.gates; from = from; live = true } ∷ []) n h
 
-  last_slot : slot (with_node c node from) (length c.slots) ≡ Some (record { node = node; first_port = length c.gates; from = from; live = true })
+  pub last_slot : slot (with_node c node from) (length c.slots) ≡ Some (record { node = node; first_port = length c.gates; from = from; live = true })
   last_slot = slice_get_last c.slots (record { node = node; first_port = length c.gates; from = from; live = true })
 
   leads_before : (n m : ℕ) → Leads (with_node c node from) n m → Leads c n m
@@ -317,7 +317,7 @@ target_services : (xs : List (Option Service)) (o : Option Target) (v : Option S
 target_services xs None v = refl
 target_services xs (Some t) v = length-set xs t.node v
 
-apart_from : (s : State) (n : ℕ) → is_apart s.config n ≡ true → (q : ℕ) (t : Target) → target s.config q ≡ Some t → t.node ≡ n → ⊥
+pub apart_from : (s : State) (n : ℕ) → is_apart s.config n ≡ true → (q : ℕ) (t : Target) → target s.config q ≡ Some t → t.node ≡ n → ⊥
 apart_from s n h q t e same =
     let none_leads = (and_parts (list_all (λ p. is_none (target s.config p)) (ports_of s.config n))
     (list_all (λ p. option_map_or (λ (t : Target). not (t.node == n)) (target s.config p) true) (range_with_len 0 (length s.config.gates))) h).1 in

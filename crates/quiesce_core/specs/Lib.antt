@@ -18,3 +18,4 @@ pub mod WordFields
 pub mod Open
 pub mod Counted
 pub mod Start
+pub mod Traffic

@@ -10,6 +10,7 @@ ghost use Rattle.quiesce_core.specs.Runs.{IsRun, state_after};
 ghost use Rattle.quiesce_core.specs.WordFields.{FitsWord};
 ghost use Rattle.quiesce_core.specs.Words.{pack, unpack};
 ghost use Rattle.quiesce_core.specs.declared.word.Word.{Word};
+ghost use Rattle.quiesce_core.specs.Traffic.{IsConsistent};
 ghost use Rattle.quiesce_core.specs.WellFormed.{IsSound, IsWellFormed};
 
 /// An event is denied by no rule exactly where each of its rules holds.
@@ -34,6 +35,13 @@ pub fn reach_is_found()
 /// After every run the state is well formed.
 pub fn runs_are_well_formed()
     ensures { (es : List Event) → IsRun es → IsWellFormed (state_after es) }
+{}
+
+/// After every run the traffic is consistent: a port that is asked, in more or answered is linked; what a node services is linked
+/// to it and asked or in more; the owner of a consequent port services the port that it belongs to; and the ports of removed
+/// nodes are closed and unlinked.
+pub fn runs_are_consistent()
+    ensures { (es : List Event) → IsRun es → IsConsistent (state_after es) }
 {}
 
 /// A number spells the fields that it was packed from.

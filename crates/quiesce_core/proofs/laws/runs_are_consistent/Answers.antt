@@ -1,0 +1,5 @@
+use Rattle.quiesce_core.proofs.RunLemmas.{runs_are_consistent}
+use Rattle.quiesce_core.proofs.laws.runs_are_consistent.Goals as goal
+
+pub returns : goal.returns
+returns c es h = runs_are_consistent es h
