@@ -112,5 +112,5 @@ pub data Faults (tree : Tree) (name : Name) (arguments : List ℤ) : ElabError �
   too_many : (top : Instance) → top_instance tree name arguments ≡ Some top → 65536 < total tree top → Faults tree name arguments error.TooMany
   -- nodes lie on cycles of depended-on links; the first by its path is named
   depends_cycle :
-    (top : Instance) (g : Configuration) (i : ℕ) (n : Node) → top_instance tree name arguments ≡ Some top → IsElab tree top g
-    → FirstOnCycle g i → slice_get g.nodes i ≡ Some n → Faults tree name arguments (error.DependsCycle n.path)
+      (top : Instance) (g : Configuration) (i : ℕ) (n : Node) → top_instance tree name arguments ≡ Some top → IsElab tree top g
+      → FirstOnCycle g i → slice_get g.nodes i ≡ Some n → Faults tree name arguments (error.DependsCycle n.path)
