@@ -1,11 +1,11 @@
 -- The bodies of statements as lists.
-use Rattle.std.proofs.Common.{◌≡◌, ℕ, List, [], ◌∷◌, refl, ap, sym, ◌∙◌, Vec, Global, rules}
+use Rattle.std.proofs.Common.{◌≡◌, ℕ, List, refl, ap, Vec, Global, rules}
 use Rattle.darwin_lexer.specs.declared.token.At.{At}
 use Rattle.darwin_parser.specs.declared.tree.Expr as code_expr
 use Rattle.darwin_parser.specs.declared.tree.Stmt as code
 use Rattle.darwin_parser.specs.declared.tree.Stmt.{items-the_row-Stmt}
 use Rattle.darwin_parser.specs.declared.tree.Stmt.TheViews.{the_lemmas}
-use Rattle.darwin_parser.specs.Tree.{Name, expr_of, stmt_of, stmts_of, row_of}
+use Rattle.darwin_parser.specs.Tree.{expr_of, stmt_of, stmts_of, row_of}
 use Rattle.darwin_parser.specs.Tree.Stmts.{then}
 use Rattle.darwin_parser.specs.Tree.Stmt.{forall, when}
 

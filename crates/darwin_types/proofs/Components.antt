@@ -1,28 +1,35 @@
 -- Look-ups of components and their ports, by places in an index of names.
-use Rattle.std.proofs.Common.{◌≡◌, ℕ, ◌+◌, ◌<◌, Bool, true, false, not, List, [], ◌∷◌, ◌++◌, length, map, get_or, position, Option, Some, None, option_map, is_some, is_none, slice_get, bytes_eq, refl, ap, sym, subst, ◌∙◌, arith}
-use Rattle.std.specs.List.{find, list_any}
+use Rattle.std.proofs.Common.{◌≡◌, ℕ, ◌<◌, false, not, List, length, map, get_or, position, Option, Some, None, option_map, is_some, is_none, slice_get, bytes_eq, refl, ap, sym, ◌∙◌, arith}
+use Rattle.std.specs.List.{find}
 use Rattle.std.specs.Option.{option_and_then, option_map_or}
 use Rattle.std.proofs.lemmas.List.{length-map}
-use Rattle.std.proofs.lemmas.Option.{slice_get-map}
+use Rattle.std.proofs.lemmas.Option.{slice_get-map, slice_get_read}
 use Rattle.darwin_parser.specs.declared.tree.Component as code
-use Rattle.darwin_parser.specs.Tree.{Name, Component, component_of, port_of}
-use Rattle.darwin_types.specs.Scope.{has, component_named, port_named, lacks_port, params_of_named}
-use Rattle.darwin_types.specs.Check.{components_of, names_of_components, names_of_ports, names_in_component}
+use Rattle.darwin_parser.specs.Tree.{Name, component_of, port_of, array_of}
+use Rattle.darwin_types.specs.Scope.{has, component_named, port_named, array_named, lacks_port, params_of_named}
+use Rattle.darwin_types.specs.Check.{components_of, names_of_components, names_of_ports, names_in_component, names_of_arrays}
 use Rattle.darwin_types.proofs.Lists.{find-map, find-position, position-map, list_any-map, is_some-find, is_none-is_some, map-map}
 
--- the component at the place at which its name is found
-pub component_named-position : (cs : List code.Component) (name : Name) → component_named (components_of cs) name ≡ option_map component_of (option_and_then (slice_get cs) (position (bytes_eq name) (names_of_components cs)))
-component_named-position cs name =
-    find-map (λ c. bytes_eq name c.name) component_of cs ∙ ap (option_map component_of) (find-position (λ (c : code.Component). bytes_eq name c.name) cs ∙ ap (option_and_then (slice_get cs)) (sym (position-map (bytes_eq name) (λ (c : code.Component). c.name) cs)))
+-- what has a name, at the place at which an index of the names has it
+named_at : {A B : Type 0} (f : A → B) (name_of : B → Name) (xs : List A) (name : Name) (place : Option ℕ) → place ≡ position (bytes_eq name) (map (λ x. name_of (f x)) xs) → find (λ b. bytes_eq name (name_of b)) (map f xs) ≡ option_map f (option_and_then (slice_get xs) place)
+named_at f name_of xs name place is =
+    find-map (λ b. bytes_eq name (name_of b)) f xs ∙ ap (option_map f) (find-position (λ x. bytes_eq name (name_of (f x))) xs ∙ ap (option_and_then (slice_get xs)) (sym (is ∙ position-map (bytes_eq name) (λ x. name_of (f x)) xs)))
 
--- a component with this place
-pub component_named-at : (cs : List code.Component) (name : Name) (place : Option ℕ) → place ≡ position (bytes_eq name) (names_of_components cs) → component_named (components_of cs) name ≡ option_map component_of (option_and_then (slice_get cs) place)
-component_named-at cs name place is = component_named-position cs name ∙ ap (λ p. option_map component_of (option_and_then (slice_get cs) p)) (sym is)
+component_named-at : (cs : List code.Component) (name : Name) (place : Option ℕ) → place ≡ position (bytes_eq name) (names_of_components cs) → component_named (components_of cs) name ≡ option_map component_of (option_and_then (slice_get cs) place)
+component_named-at cs name place is = named_at component_of (λ c. c.name) cs name place is
+
+pub array_named-at : (c : code.Component) (name : Name) (place : Option ℕ) → place ≡ position (bytes_eq name) (names_of_arrays c) → array_named (component_of c) name ≡ option_map array_of (option_and_then (slice_get c.arrays.items) place)
+array_named-at c name place is = named_at array_of (λ a. a.name) c.arrays.items name place is
 
 -- whether a component has a port with the name
 pub is_some-port_named : (c : code.Component) (port : Name) → is_some (port_named (component_of c) port) ≡ has (names_in_component c) port
 is_some-port_named c port =
     is_some-find (λ p. bytes_eq port p.name) (map port_of c.ports.items) ∙ list_any-map (λ p. bytes_eq port p.name) port_of c.ports.items ∙ sym (list_any-map (bytes_eq port) (λ p. p.name) c.ports.items)
+
+-- whether a component has an array with the name
+pub is_some-array_named : (c : code.Component) (name : Name) → is_some (array_named (component_of c) name) ≡ has (names_of_arrays c) name
+is_some-array_named c name =
+    is_some-find (λ a. bytes_eq name a.name) (map array_of c.arrays.items) ∙ list_any-map (λ a. bytes_eq name a.name) array_of c.arrays.items ∙ sym (list_any-map (bytes_eq name) (λ a. a.name) c.arrays.items)
 
 lacks_port-found : (o : Option code.Component) (ns : List Name) (port : Name) → option_map names_in_component o ≡ Some ns → option_map_or (λ c. is_none (port_named c port)) (option_map component_of o) false ≡ not (has ns port)
 lacks_port-found None ns port h = cc
@@ -52,3 +59,15 @@ lacks_port-none cs component port place = ap (λ o. option_map_or (λ c. is_none
 
 pub names_of_components-pure : (cs : List code.Component) → map (λ c. c.name) (components_of cs) ≡ names_of_components cs
 names_of_components-pure cs = map-map (λ c. c.name) component_of cs
+
+pub within_arrays : (c : code.Component) (names : List Name) (i : ℕ) → names ≡ names_of_arrays c → i < length names → i < length c.arrays.items
+within_arrays c names i named within = omega (arith, ap length named ∙ length-map c.arrays.items (λ a. a.name))
+
+-- the index of the ports of the component at a place
+pub ports_at : (cs : List code.Component) (ports : List (List Name)) (i : ℕ) (c : code.Component) (names : List Name) → ports ≡ names_of_ports cs → i < length cs → c ≡ get_or cs i c → names ≡ get_or ports i names → names ≡ names_in_component c
+ports_at cs ports i c names are within is read =
+    let longer : i < length ports = omega (arith, ap length are ∙ length-map cs names_in_component) in
+    let found = slice_get_read ports (length ports) i names refl longer read in
+    let wanted = ap (λ ps. slice_get ps i) are ∙ slice_get-map names_in_component cs i ∙ ap (option_map names_in_component) (slice_get_read cs (length cs) i c refl within is) in
+    let same : Some names ≡ Some (names_in_component c) = sym found ∙ wanted in
+    cc

@@ -1,7 +1,7 @@
 -- What a check answers of a part, from what checks of smaller parts answered.
-use Rattle.std.proofs.Common.{◌≡◌, ℕ, Bool, true, false, List, [], ◌∷◌, ◌++◌, ◌+◌, ◌<◌, ◌≤◌, length, get_or, take, drop, map, Result, Ok, Err, refl, ap, sym, subst, ◌∙◌, arith}
+use Rattle.std.proofs.Common.{◌≡◌, ℕ, true, false, List, [], ◌∷◌, ◌++◌, ◌+◌, ◌<◌, ◌≤◌, length, get_or, take, drop, map, Result, Ok, Err, ap, sym, subst, ◌∙◌}
 use Rattle.std.specs.List.{Contains, filter, flat_map}
-use Rattle.std.proofs.lemmas.List.{drop_more, drop_all}
+use Rattle.std.proofs.lemmas.List.{drop_more, drop_all, append-nil}
 use Rattle.std.proofs.lemmas.List.Elements.{Contains-append_left, Contains-append_right}
 use Rattle.darwin_parser.specs.Tree.{Name}
 use Rattle.darwin_types.specs.Scope.{has}
@@ -61,3 +61,15 @@ flat_map-done f g xs i whole past rest = rest ∙ ap (λ ys. flat_map f (map g y
 -- two parts without a fault
 pub none-append : (fs gs : List TypeError) → fs ≡ [] → gs ≡ [] → fs ++ gs ≡ []
 none-append fs gs p q = ap (λ xs. xs ++ gs) p ∙ q
+
+-- a part is what it was with nothing after it
+pub Judges_alone : {T : Type 0} (fs : List TypeError) (r : Result T TypeError) → Judges fs r → Judges (fs ++ []) r
+Judges_alone fs r h = subst (λ gs. Judges gs r) (sym (append-nil fs)) h
+
+-- the last of two parts, where the first has no fault
+pub Judges_after : {T : Type 0} (fs gs : List TypeError) (r : Result T TypeError) → fs ≡ [] → Judges gs r → Judges (fs ++ gs) r
+Judges_after fs gs r none h = subst (λ hs. Judges (hs ++ gs) r) (sym none) h
+
+-- what is returned where a part refuses
+pub Judges_exit : {T : Type 0} (fs : List TypeError) (r : Result T TypeError) (y e : TypeError) → r ≡ Err y → y ≡ e → Refuses fs e → Judges fs r
+Judges_exit fs r y e is same h = subst (Judges fs) (sym is) (subst (Refuses fs) (sym same) h)

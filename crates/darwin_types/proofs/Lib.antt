@@ -5,3 +5,9 @@ pub mod Judged
 pub mod Components
 pub mod Values
 pub mod Bodies
+pub mod PlaceFaults
+pub mod EntryPlaces
+pub mod Found
+pub mod Sound
+pub mod Complete
+pub mod Verdict

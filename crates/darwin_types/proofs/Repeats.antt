@@ -1,7 +1,8 @@
 -- Names that stand twice in a list of names.
-use Rattle.std.proofs.Common.{◌≡◌, ℕ, ◌+◌, ◌<◌, ◌≤◌, Bool, true, false, cond, ◌||◌, List, [], ◌∷◌, ◌++◌, length, map, take, drop, get_or, bytes_eq, nat_le, refl, ap, sym, subst, zero-add, ◌∙◌, arith}
-use Rattle.std.specs.List.{Contains, count_by, sum_by, list_any, filter}
-use Rattle.std.proofs.lemmas.Bool.{false≢true, true≢false, le-leb, lt-leb, leb-false}
+use Rattle.std.proofs.Common.{◌≡◌, ℕ, ◌+◌, ◌≤◌, Bool, true, false, cond, ◌||◌, List, [], ◌∷◌, ◌++◌, bytes_eq, nat_le, refl, ap, sym, subst, zero-add, ◌∙◌, arith}
+use Rattle.std.specs.List.{Contains, count_by, list_any, filter}
+use Rattle.std.proofs.lemmas.Bool.{false≢true, true≢false, le-leb, lt-leb, leb-false, leb-true}
+use Rattle.std.proofs.lemmas.Map.Views.{Contains-from_any}
 use Rattle.std.proofs.lemmas.List.Sums.{sum_by-append}
 use Rattle.std.proofs.lemmas.Slice.Eq.{bytes_eq-Decides}
 use Rattle.darwin_parser.specs.Tree.{Name}
@@ -60,3 +61,11 @@ is_repeated-there xs ys y there =
 pub filter-none : {A : Type 0} (p : A → Bool) (xs : List A) → ((x : A) → p x ≡ false) → filter p xs ≡ []
 filter-none p [] h = refl
 filter-none p (x ∷ xs) h = rw (h x) (filter-none p xs h)
+
+-- a name that stands twice stands there
+pub repeated_there : (xs : List Name) (x : Name) → is_repeated xs x ≡ true → Contains xs x
+repeated_there xs x h = Contains-from_any same_bytes x xs (some_there (has xs x) refl)
+  where
+    some_there : (b : Bool) → has xs x ≡ b → has xs x ≡ true
+    some_there true e = e
+    some_there false e = absurd (omega (arith, count_by-none (bytes_eq x) xs e, leb-true 2 (count_by (bytes_eq x) xs) h))

@@ -1,5 +1,5 @@
 -- The faults of each part of a description as lists, and what a check of a part answers of them.
-use Rattle.std.specs.Prelude.{◌≡◌, ◌≢◌, ℕ, Bool, false, List, [], ◌∷◌, ◌++◌, Option, Some, None, Result, Ok, Err, Contains, map, length, not, ◌||◌, ◌==◌, if◌then◌else◌, bytes_eq, is_some, is_none, ◌&&◌, filter, unwrap_or}
+use Rattle.std.specs.Prelude.{◌≡◌, ◌≢◌, ℕ, Bool, false, List, [], ◌∷◌, ◌++◌, Option, Some, None, Result, Ok, Err, Contains, map, length, not, ◌==◌, if◌then◌else◌, bytes_eq, is_some, ◌&&◌, filter, unwrap_or}
 use Rattle.std.specs.Map.{lookup}
 use Rattle.std.specs.Option.{option_map_or, option_or}
 use Rattle.std.specs.List.{flat_map}
@@ -8,7 +8,7 @@ use Rattle.darwin_parser.specs.Tree.{Name, Tree, Component, ArrayDecl, InstEntry
 use Rattle.darwin_parser.specs.Tree.InstEntry.{single, element}
 use Rattle.darwin_types.specs.declared.error.TypeError.{TypeError}
 use Rattle.darwin_types.specs.declared.error.TypeError.TheVariants.{TwoComponents, TwoNames, UnknownName, UnknownComponent, ArgCount, UnknownKind, KindPorts, NoMemory}
-use Rattle.darwin_types.specs.Scope.{has, is_primitive, component_named, port_named, array_named, instance_component, params_of_named, lacks_port}
+use Rattle.darwin_types.specs.Scope.{has, is_primitive, port_named, array_named, instance_component, params_of_named, lacks_port}
 use Rattle.config_graph.specs.Kinds.{kind_named}
 use Rattle.darwin_types.specs.Primitive.{is_like_kind}
 use Rattle.darwin_types.specs.Places.{Place, value, variable, entry, binding_end, names_of, array_places, port_places, body_places}
@@ -39,7 +39,7 @@ is_first_like c name component = option_map_or (bytes_eq component) (instance_co
 
 abbrev pub clash_faults : Component → Name → Name → List TypeError
 clash_faults c name component =
-    unless (is_none (array_named c name) && is_first_like c name component) (TwoNames c.name name)
+    unless (not (is_some (array_named c name)) && is_first_like c name component) (TwoNames c.name name)
 
 -- of an instance with this name, component and number of arguments
 abbrev pub call_faults : Tree → Component → Name → Name → ℕ → List TypeError
@@ -141,10 +141,14 @@ array_name_faults c = repeat_faults (TwoNames c.name) (map (λ a. a.name) c.arra
 abbrev pub kind_faults : Component → List TypeError
 kind_faults c = if is_primitive c then primitive_faults c else []
 
+-- of a component's places, of its arrays, and of it as a kind
+abbrev pub declared_faults : Tree → Component → List TypeError
+declared_faults t c =
+    places_faults t c (flat_map (port_places c.params) c.ports) ++ (arrays_faults t c c.params c.arrays ++ (places_faults t c (body_places c.params c.body) ++ kind_faults c))
+
 -- of a component but for its ports' names
 abbrev pub component_faults : Tree → Component → List TypeError
-component_faults t c =
-    param_faults c ++ array_name_faults c ++ places_faults t c (flat_map (port_places c.params) c.ports) ++ arrays_faults t c c.params c.arrays ++ places_faults t c (body_places c.params c.body) ++ kind_faults c
+component_faults t c = param_faults c ++ (array_name_faults c ++ declared_faults t c)
 
 -- of a description
 abbrev pub unit_faults : Tree → List TypeError

@@ -1,13 +1,16 @@
 -- The faults of a description: names that stand for two things or for nothing, and arguments too few or too many.
 -- Values (parameters and the variables of `forall`s), ports, and instances with arrays are three classes of names.
-use Rattle.std.specs.Prelude.{◌≡◌, ◌≢◌, ℕ, Bool, true, false, List, [], ◌∷◌, Option, Some, None, Contains, map, count_by, length, min, nat_le, bytes_eq, IsSome}
+use Rattle.std.specs.Prelude.{◌≡◌, ◌≢◌, ℕ, Bool, true, false, List, Option, Some, None, Contains, map, count_by, length, min, nat_le, bytes_eq, IsSome}
 use Rattle.darwin_lexer.specs.declared.token.At.{At}
 use Rattle.darwin_parser.specs.Tree.{Name, Tree, Component, InstEntry, PortRef, Expr}
-use Rattle.darwin_parser.specs.Tree.InstEntry.{single, element}
+use Rattle.darwin_parser.specs.Tree.InstEntry.{element}
 use Rattle.darwin_types.specs.declared.error.TypeError.{TypeError}
 use Rattle.darwin_types.specs.declared.error.TypeError.TheVariants.{TwoComponents, TwoNames, UnknownName, UnknownComponent, ArgCount, UnknownKind, KindPorts}
 use Rattle.darwin_types.specs.Scope.{has, component_named, entries_of, is_primitive, port_named, array_named, singles_of, instances_of, instance_component, Made, made_by}
-use Rattle.darwin_types.specs.Places.{Place, value, variable, entry, binding_end, names_of, places}
+use Rattle.config_graph.specs.declared.kind.Kind.{Kind}
+use Rattle.config_graph.specs.Kinds.{kind_named}
+use Rattle.darwin_types.specs.Primitive.{is_like_kind}
+use Rattle.darwin_types.specs.Places.{value, variable, binding_end, names_of, places}
 
 -- whether two of the names are this one
 abbrev pub is_repeated : List Name → Name → Bool
@@ -33,8 +36,14 @@ pub data FaultIn (t : Tree) (c : Component) : TypeError → Type 0 where
   unknown_outer_port : (e : PortRef) → Contains (places c) (binding_end e) → e.inst ≡ None → port_named c e.port ≡ None → FaultIn t c (UnknownName c.name e.port)
   unknown_component : (x k : Name) → Contains (instances_of c) (x, k) → component_named t k ≡ None → FaultIn t c (UnknownComponent c.name k)
   arg_count : (e : InstEntry) (m : Made) (d : Component) → Contains (entries_of c.body) e → made_by c e ≡ Some m → component_named t m.component ≡ Some d → length m.args ≢ length d.params → FaultIn t c (ArgCount c.name m.name (carried (length d.params)) (carried (length m.args)))
+  unknown_kind : is_primitive c ≡ true → kind_named c.name ≡ None → FaultIn t c (UnknownKind c.name)
+  kind_ports : (k : Kind) → is_primitive c ≡ true → kind_named c.name ≡ Some k → is_like_kind k c ≡ false → FaultIn t c (KindPorts c.name)
 
 -- the faults that stand in a description
 pub data Fault (t : Tree) : TypeError → Type 0 where
   two_components : (x : Name) → is_repeated (map (λ c. c.name) t) x ≡ true → Fault t (TwoComponents x)
   within : (c : Component) (e : TypeError) → Contains t c → FaultIn t c e → Fault t e
+
+-- no fault stands in the description
+abbrev pub NoFault : Tree → Type 0
+NoFault t = (e : TypeError) → Fault t e → ⊥

@@ -1,6 +1,6 @@
 -- The places of a component where a name is used or given: each expression and each variable of a `forall` with the
 -- names of values round it, each `inst` entry, and each end of a binding.
-use Rattle.std.specs.Prelude.{ℕ, List, [], ◌∷◌, ◌++◌, Option, map, unwrap_or}
+use Rattle.std.specs.Prelude.{List, [], ◌∷◌, ◌++◌, Option, map, unwrap_or}
 use Rattle.std.specs.List.{flat_map}
 use Rattle.std.specs.Option.{option_to_list}
 use Rattle.darwin_parser.specs.Tree.{Name, Component, PortDecl, ArrayDecl, InstEntry, PortRef, Expr, Stmt, Stmts}
@@ -48,7 +48,7 @@ abbrev mutual
   stmt_places scope (bind b) = end_places scope b.left ++ end_places scope b.right
   -- the range doesn't see the variable
   stmt_places scope (forall x low high body at) =
-      variable scope x ∷ value scope low ∷ value scope high ∷ body_places (scope ++ x ∷ []) body
+      value scope low ∷ value scope high ∷ variable scope x ∷ body_places (scope ++ x ∷ []) body
   stmt_places scope (when test body at) = value scope test ∷ body_places scope body
 
   -- the places of a list of statements

@@ -1,5 +1,5 @@
 -- Primitive components as node kinds.
-use Rattle.std.specs.Prelude.{ℕ, Bool, true, false, List, ◌∷◌, [], map, length, ◌==◌, ◌&&◌, bytes_eq, is_none, is_some, cond}
+use Rattle.std.specs.Prelude.{ℕ, Bool, true, false, List, map, length, ◌==◌, ◌&&◌, bytes_eq, is_none, is_some, cond}
 use Rattle.std.specs.List.{list_any, list_all}
 use Rattle.config_graph.specs.declared.kind.Kind.{Kind}
 use Rattle.config_graph.specs.Kinds.{row}
@@ -20,17 +20,25 @@ abbrev pub ports_of_kind : Kind → Side → List Name
 ports_of_kind k Provide = map (λ p. p.name) (row k).provides
 ports_of_kind k Require = (row k).requires_
 
--- whether a component has a port of this name on this side
-abbrev pub has_port : Component → Side → Name → Bool
-has_port c side name = list_any (λ p. same_side p.side side && bytes_eq p.name name) c.ports
+-- whether a port is on this side and has this name
+abbrev pub is_port : Side → Name → PortDecl → Bool
+is_port side name p = same_side p.side side && bytes_eq p.name name
+
+-- whether one of the ports is on this side and has this name
+abbrev pub has_port : List PortDecl → Side → Name → Bool
+has_port ports side name = list_any (is_port side name) ports
+
+-- whether a port is one of the kind's, and no port array
+abbrev pub is_port_of : Kind → PortDecl → Bool
+is_port_of k p = is_none p.size && has (ports_of_kind k p.side) p.name
 
 -- whether each port of a component is one of its kind's, and no port array
 abbrev pub has_only_ports_of : Kind → Component → Bool
-has_only_ports_of k c = list_all (λ p. is_none p.size && has (ports_of_kind k p.side) p.name) c.ports
+has_only_ports_of k c = list_all (is_port_of k) c.ports
 
 -- whether a component has each port that a kind has on a side
 abbrev pub has_ports_on : Side → Kind → Component → Bool
-has_ports_on side k c = list_all (has_port c side) (ports_of_kind k side)
+has_ports_on side k c = list_all (has_port c.ports side) (ports_of_kind k side)
 
 -- how many parameters a component of a kind has
 abbrev pub params_of_kind : Kind → ℕ
@@ -40,8 +48,14 @@ abbrev pub is_end : Stmts → Bool
 is_end end = true
 is_end (then s rest) = false
 
--- whether a component is declared as the kind: its ports but for their order and their notes, none of them an array,
--- its number of parameters, and neither an array nor a statement
+-- whether a component has a kind's ports, whatever their order and their notes
+abbrev pub has_ports_of : Kind → Component → Bool
+has_ports_of k c = has_only_ports_of k c && has_ports_on Provide k c && has_ports_on Require k c
+
+-- whether a component has a kind's number of parameters, and neither an array nor a statement
+abbrev pub is_bare : Kind → Component → Bool
+is_bare k c = length c.params == params_of_kind k && length c.arrays == 0 && is_end c.body
+
+-- whether a component is declared as the kind
 abbrev pub is_like_kind : Kind → Component → Bool
-is_like_kind k c =
-    length c.params == params_of_kind k && length c.arrays == 0 && is_end c.body && has_only_ports_of k c && has_ports_on Provide k c && has_ports_on Require k c
+is_like_kind k c = is_bare k c && has_ports_of k c

@@ -1,44 +1,43 @@
 //! The check of a description.
 
-ghost use Rattle.std.specs.Prelude.{◌≡◌, IfOk};
-ghost use Rattle.darwin_types.specs.Scope.{is_primitive as is_primitive_component};
-ghost use Rattle.darwin_parser.specs.Tree.{component_of};
-ghost use Rattle.darwin_types.specs.Check.{Judges, components_of, unit_faults, component_faults, kind_faults, param_faults, array_name_faults, names_of_arrays, names_in_component};
+ghost use Rattle.std.specs.Prelude.{◌≡◌, ◌≢◌, IfOk, IsErrOf};
+ghost use Rattle.darwin_parser.specs.Tree.{component_of, tree_of};
+ghost use Rattle.darwin_types.specs.declared.error.TypeError.{TypeError};
+ghost use Rattle.darwin_types.specs.declared.error.TypeError.TheVariants.{NoMemory};
+ghost use Rattle.darwin_types.specs.Faults.{Fault, NoFault};
+ghost use Rattle.darwin_types.specs.Checked.{description, Takes};
+ghost use Rattle.darwin_types.specs.Check.{Judges, components_of, unit_faults, component_faults, param_faults, array_name_faults, names_of_arrays, names_in_component};
 
 use crate::TypeError;
+use crate::checked::Checked;
 use crate::declared::Declared;
 use crate::directory::Directory;
 use crate::entries::add_entries;
 use crate::instances::instances_of;
 use crate::names::{Names, distinct};
-use crate::primitive::check_primitive;
 use darwin_parser::{Component, Unit};
 use std::alloc::Global;
 
-/// A description without a fault.
-#[derive(Debug, Drop)]
-pub struct Checked {
-    unit: Unit,
-}
-
-impl Checked {
-    /// The syntax tree.
-    pub fn unit(&self) -> &Unit {
-        &self.unit
-    }
-}
-
-/// Checks a description, and takes it where it has no fault.
+/// Checks a description, and takes it where it has no fault. Time grows with the length of the description.
 ///
 /// # Errors
 ///
-/// Where several faults stand any one may be named.
-pub fn check(alloc: Global, unit: Unit) -> Result<Checked, TypeError> {
+/// A fault that stands; where several stand any one may be named.
+pub fn check(alloc: Global, unit: Unit) -> Result<Checked, TypeError>
+    // What is taken is this description, no fault stands in it, and each description without one is taken.
+    ensures unit { IfOk result (λ c. description c ≡ tree_of unit) }
+    ensures no_fault { IfOk result (λ c. NoFault (tree_of unit)) }
+    ensures every_unit { NoFault (tree_of unit) → Takes result (tree_of unit) }
+    // A fault that is named stands.
+    ensures fault { (e : TypeError) → IsErrOf result e → e ≢ NoMemory → Fault (tree_of unit) e }
+{
     check_components(alloc, unit.components.as_slice())?;
     Ok(Checked { unit })
 }
 
-fn check_components(alloc: Global, components: &[Component]) -> Result<(), TypeError> {
+fn check_components(alloc: Global, components: &[Component]) -> Result<(), TypeError>
+    ensures { Judges (unit_faults (components_of components.now)) result }
+{
     let directory = Directory::of(alloc, components)?;
     for index in 0..components.len() {
         check_component(
@@ -59,6 +58,9 @@ fn check_component<'d, 'a>(
     ports: &'d Names<'a>,
 ) -> Result<(), TypeError>
     requires { ports.now ≡ names_in_component component.now }
+    ensures { Judges
+        (component_faults (components_of directory.now.components.now) (component_of component.now))
+        result }
 {
     let mut scope = params_of(alloc, component)?;
     let arrays = arrays_of(alloc, component)?;
@@ -72,19 +74,7 @@ fn check_component<'d, 'a>(
         arrays,
         instances,
     };
-    declared.check_ports(&scope)?;
-    declared.check_arrays(&scope)?;
-    declared.check_body(&mut scope, component.body.as_slice())?;
-    check_kind(component, entries.is_empty())
-}
-
-/// A component that is primitive where it has no entry.
-fn check_kind(component: &Component, is_primitive: bool) -> Result<(), TypeError> {
-    if is_primitive {
-        check_primitive(component)
-    } else {
-        Ok(())
-    }
+    declared.check(&mut scope, entries.is_empty())
 }
 
 /// The parameters of a component by name.

@@ -2,6 +2,7 @@
 //! are too few or too many, and primitive components that are no node kind.
 #![tactic(auto)]
 
+mod checked;
 mod checking;
 mod declared;
 mod directory;
@@ -13,5 +14,6 @@ mod names;
 mod primitive;
 mod refusal;
 
-pub use checking::{Checked, check};
+pub use checked::Checked;
+pub use checking::check;
 pub use error::TypeError;

@@ -1,5 +1,5 @@
 use Rattle.std.proofs.Common.{◌≡◌, ◌++◌, OnOk, map, sym, subst, ap, ◌∙◌}
-use Rattle.darwin_parser.specs.Tree.{expr_of, stmt_of, entry_of}
+use Rattle.darwin_parser.specs.Tree.{stmt_of, entry_of}
 use Rattle.darwin_types.specs.Scope.{entries_of_stmt}
 use Rattle.darwin_types.proofs.Bodies.{stmt_of_forall, stmt_of_when}
 use Rattle.darwin_types.proofs.entries.+entries.Goals as goal

@@ -1,4 +1,4 @@
-use Rattle.std.proofs.Common.{◌≡◌, Bool, true, false, not, sym, ap, subst, ◌∙◌, map, take, option_map, [], ◌∷◌, ◌++◌}
+use Rattle.std.proofs.Common.{◌≡◌, false, not, sym, ap, subst, ◌∙◌, map, take, option_map, [], ◌∷◌, ◌++◌}
 use Rattle.std.specs.Bool.{OnTrue}
 use Rattle.std.proofs.lemmas.List.{take_all}
 use Rattle.darwin_types.specs.Check.{repeat_fault, repeat_faults}

@@ -3,7 +3,7 @@ use Rattle.std.specs.List.{flat_map}
 use Rattle.std.proofs.lemmas.Result.{err_from_is_err_and}
 use Rattle.darwin_parser.specs.Tree.{component_of}
 use Rattle.darwin_types.specs.declared.error.TypeError.TheVariants.{TwoComponents}
-use Rattle.darwin_types.specs.Check.{Refuses, repeat_faults, port_faults, components_of, names_of_components}
+use Rattle.darwin_types.specs.Check.{Refuses, repeat_faults, port_faults, components_of}
 use Rattle.darwin_types.proofs.Components.{names_of_components-pure}
 use Rattle.darwin_types.proofs.Judged.{Refuses-left, Refuses-right, Refuses-at, flat_map-done, none-append}
 use Rattle.darwin_types.proofs.directory.Directory.of.Goals as goal

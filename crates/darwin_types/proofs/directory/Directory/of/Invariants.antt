@@ -1,4 +1,4 @@
-use Rattle.std.proofs.Common.{◌≡◌, [], take, drop}
+use Rattle.std.proofs.Common.{◌≡◌, take, drop}
 use Rattle.std.specs.List.{flat_map}
 use Rattle.darwin_types.specs.Check.{components_of, port_faults, names_of_ports}
 use Rattle.darwin_types.proofs.directory.Directory.of.Given as goal

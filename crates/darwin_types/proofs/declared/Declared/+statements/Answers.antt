@@ -1,0 +1,123 @@
+use Rattle.std.proofs.Common.{sym, subst, ap, ◌∙◌, ◌++◌, take, drop, length, ◌-◌, ◌+◌}
+use Rattle.std.proofs.lemmas.List.{drop_all}
+use Rattle.std.proofs.lemmas.Result.{err_from_is_err_and}
+use Rattle.darwin_parser.specs.Tree.{expr_of, stmt_of, stmts_of}
+use Rattle.darwin_types.specs.Places.{stmt_places, body_places}
+use Rattle.darwin_types.specs.Check.{Judges, Refuses, value_faults, places_faults}
+use Rattle.darwin_types.specs.Within.{tree_in, component_in}
+use Rattle.darwin_types.proofs.Bodies.{stmt_of_forall, stmt_of_when}
+use Rattle.darwin_types.proofs.Lists.{take_pushed}
+use Rattle.darwin_types.proofs.PlaceFaults.{body_faults-drop}
+use Rattle.darwin_types.proofs.Judged.{Judges_exit, Judges_after, Refuses-left, Refuses-right, none-append}
+use Rattle.darwin_types.proofs.declared.Declared.+statements.Goals as goal
+
+pub check_body-returns-in_err-check_stmt-clause-judged : goal.check_body-returns-in_err-check_stmt-clause-judged
+check_body-returns-in_err-check_stmt-clause-judged t c =
+    let p = err_from_is_err_and c.from_residual.result c.from_residual.ensures.1 in
+    let tree = tree_in c.args.self.now in
+    let k = component_in c.args.self.now in
+    let e = c.in_err-check_stmt.field-0.0 in
+    let rest = c.loop-stmt.invariant.rest ∙ body_faults-drop tree k c.args.scope.now c.args.body.now c.loop-stmt.stmt-index c.stmt-item.result c.loop-stmt-test.true c.stmt-item.is in
+    Judges_exit _ _ p.0 _ p.1 p.2 (subst (λ fs. Refuses fs e) (sym rest) (Refuses-left _ _ e (rw c.loop-stmt.invariant.scope_kept at c.in_err-check_stmt.ensures.judged)))
+
+pub check_body-loop-stmt-preserved : goal.check_body-loop-stmt-preserved
+check_body-loop-stmt-preserved t c =
+    let tree = tree_in c.args.self.now in
+    let k = component_in c.args.self.now in
+    let i = c.loop-stmt.stmt-index in
+    let body = c.args.body.now in
+    let left = body_faults-drop tree k c.args.scope.now body i c.stmt-item.result c.loop-stmt-test.true c.stmt-item.is in
+    let none = rw c.loop-stmt.invariant.scope_kept at c.in_ok-check_stmt.ensures.judged in
+    record {
+      scope_kept = c.in_ok-check_stmt.ensures.scope_kept ∙ c.loop-stmt.invariant.scope_kept;
+      rest = c.loop-stmt.invariant.rest ∙ left ∙ ap (λ fs. fs ++ places_faults tree k (body_places c.args.scope.now (stmts_of (drop (i + 1) body)))) none;
+    }
+
+pub check_body-returns-clause-judged : goal.check_body-returns-clause-judged
+check_body-returns-clause-judged t c =
+    let tree = tree_in c.args.self.now in
+    let k = component_in c.args.self.now in
+    c.loop-stmt.invariant.rest ∙ ap (λ b. places_faults tree k (body_places c.args.scope.now (stmts_of b))) (drop_all c.loop-stmt.stmt-index c.args.body.now c.loop-stmt-test.false)
+
+pub check_stmt-returns-in_err-check_value-in-Forall-clause-judged : goal.check_stmt-returns-in_err-check_value-in-Forall-clause-judged
+check_stmt-returns-in_err-check_value-in-Forall-clause-judged t c =
+    let p = err_from_is_err_and c.from_residual.result c.from_residual.ensures.1 in
+    let tree = tree_in c.args.self.now in
+    let k = component_in c.args.self.now in
+    let w = c.in-Forall in
+    let e = c.in_err-check_value-in-Forall.field-0.0 in
+    let is = ap stmt_of w.is ∙ stmt_of_forall w.var w.low w.high w.body w.at in
+    Judges_exit _ _ p.0 _ p.1 p.2 (subst (λ v. Refuses (places_faults tree k (stmt_places c.args.scope.now v)) e) (sym is) (Refuses-left _ _ e c.in_err-check_value-in-Forall.ensures))
+
+pub check_stmt-returns-in_err-check_value-in-Forall-2-clause-judged : goal.check_stmt-returns-in_err-check_value-in-Forall-2-clause-judged
+check_stmt-returns-in_err-check_value-in-Forall-2-clause-judged t c =
+    let r = c.from_residual-in_err-check_value-in-Forall-2 in
+    let p = err_from_is_err_and r.result r.ensures.1 in
+    let tree = tree_in c.args.self.now in
+    let k = component_in c.args.self.now in
+    let w = c.in-Forall in
+    let e = c.in_err-check_value-in-Forall-2.field-0.0 in
+    let is = ap stmt_of w.is ∙ stmt_of_forall w.var w.low w.high w.body w.at in
+    let low = value_faults k c.args.scope.now (expr_of w.low) in
+    Judges_exit _ _ p.0 _ p.1 p.2 (subst (λ v. Refuses (places_faults tree k (stmt_places c.args.scope.now v)) e) (sym is) (Refuses-right low _ e (Refuses-left _ _ e c.in_err-check_value-in-Forall-2.ensures)))
+
+pub check_stmt-returns-in_ok-check_value-in-Forall-2-clause-judged : goal.check_stmt-returns-in_ok-check_value-in-Forall-2-clause-judged
+check_stmt-returns-in_ok-check_value-in-Forall-2-clause-judged t c =
+    let tree = tree_in c.args.self.now in
+    let k = component_in c.args.self.now in
+    let w = c.in-Forall in
+    let r = c.check_turns.result in
+    let is = ap stmt_of w.is ∙ stmt_of_forall w.var w.low w.high w.body w.at in
+    let low = value_faults k c.args.scope.now (expr_of w.low) in
+    let high = value_faults k c.args.scope.now (expr_of w.high) in
+    subst (λ v. Judges (places_faults tree k (stmt_places c.args.scope.now v)) r) (sym is) (Judges_after low _ r c.in_ok-check_value-in-Forall.ensures (Judges_after high _ r c.in_ok-check_value-in-Forall-2.ensures (rw c.as_slice.ensures.value at c.check_turns.ensures.judged)))
+
+pub check_stmt-returns-in_err-check_value-in-When-clause-judged : goal.check_stmt-returns-in_err-check_value-in-When-clause-judged
+check_stmt-returns-in_err-check_value-in-When-clause-judged t c =
+    let r = c.from_residual-in_err-check_value-in-When in
+    let p = err_from_is_err_and r.result r.ensures.1 in
+    let tree = tree_in c.args.self.now in
+    let k = component_in c.args.self.now in
+    let w = c.in-When in
+    let e = c.in_err-check_value-in-When.field-0.0 in
+    let is = ap stmt_of w.is ∙ stmt_of_when w.test w.body w.at in
+    Judges_exit _ _ p.0 _ p.1 p.2 (subst (λ v. Refuses (places_faults tree k (stmt_places c.args.scope.now v)) e) (sym is) (Refuses-left _ _ e c.in_err-check_value-in-When.ensures))
+
+pub check_stmt-returns-in_ok-check_value-in-When-clause-judged : goal.check_stmt-returns-in_ok-check_value-in-When-clause-judged
+check_stmt-returns-in_ok-check_value-in-When-clause-judged t c =
+    let tree = tree_in c.args.self.now in
+    let k = component_in c.args.self.now in
+    let w = c.in-When in
+    let r = c.check_body.result in
+    let is = ap stmt_of w.is ∙ stmt_of_when w.test w.body w.at in
+    let test = value_faults k c.args.scope.now (expr_of w.test) in
+    subst (λ v. Judges (places_faults tree k (stmt_places c.args.scope.now v)) r) (sym is) (Judges_after test _ r c.in_ok-check_value-in-When.ensures (rw c.as_slice-in-When.ensures.value at c.check_body.ensures.judged))
+
+pub check_stmt-returns-in-Inst-clause-judged : goal.check_stmt-returns-in-Inst-clause-judged
+check_stmt-returns-in-Inst-clause-judged t c =
+    let d = c.args.self.now in
+    subst (λ v. Judges (places_faults (tree_in d) (component_in d) (stmt_places c.args.scope.now (stmt_of v))) c.check_entry.result) (sym c.in-Inst.is) c.check_entry.ensures
+
+pub check_stmt-returns-in-Bind-clause-judged : goal.check_stmt-returns-in-Bind-clause-judged
+check_stmt-returns-in-Bind-clause-judged t c =
+    let d = c.args.self.now in
+    subst (λ v. Judges (places_faults (tree_in d) (component_in d) (stmt_places c.args.scope.now (stmt_of v))) c.check_binding.result) (sym c.in-Bind.is) c.check_binding.ensures
+
+pub check_turns-returns-in_err-enter-clause-judged : goal.check_turns-returns-in_err-enter-clause-judged
+check_turns-returns-in_err-enter-clause-judged t c =
+    let p = err_from_is_err_and c.from_residual.result c.from_residual.ensures.1 in
+    Judges_exit _ _ p.0 _ p.1 p.2 (Refuses-left _ _ _ c.in_err-enter.ensures.judged)
+
+pub check_turns-returns-in_err-check_body-clause-judged : goal.check_turns-returns-in_err-check_body-clause-judged
+check_turns-returns-in_err-check_body-clause-judged t c =
+    let r = c.from_residual-in_err-check_body in
+    let p = err_from_is_err_and r.result r.ensures.1 in
+    Judges_exit _ _ p.0 _ p.1 p.2 (Refuses-right _ _ _ (rw c.in_ok-enter.ensures.added at c.in_err-check_body.ensures.judged))
+
+pub check_turns-returns-clause-judged : goal.check_turns-returns-clause-judged
+check_turns-returns-clause-judged t c =
+    none-append _ _ c.in_ok-enter.ensures.judged (rw c.in_ok-enter.ensures.added at c.in_ok-check_body.ensures.judged)
+
+pub check_turns-returns-clause-scope_kept : goal.check_turns-returns-clause-scope_kept
+check_turns-returns-clause-scope_kept t c =
+    c.remove_last.ensures ∙ ap (λ ns. take (length ns - 1) ns) (c.in_ok-check_body.ensures.scope_kept ∙ c.in_ok-enter.ensures.added) ∙ take_pushed c.args.scope.now c.args.variable.now
