@@ -1,10 +1,13 @@
+pub mod AllLinksLemmas
 pub mod AnswerLemmas
 pub mod BoundLemmas
+pub mod BuildLemmas
 pub mod ChainLemmas
 pub mod ChildLemmas
 pub mod FollowLemmas
 pub mod IndexLemmas
 pub mod InstanceLemmas
+pub mod LinkLemmas
 pub mod Lists
 pub mod NodeLemmas
 pub mod OrderLemmas
@@ -12,4 +15,6 @@ pub mod PairLemmas
 pub mod PortLemmas
 pub mod RankLemmas
 mod Rows
+pub mod TargetLemmas
+pub mod UniqueLemmas
 pub mod WholeLemmas

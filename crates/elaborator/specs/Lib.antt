@@ -1,4 +1,5 @@
 pub mod Bindings
+pub mod Built
 pub mod Chains
 pub mod Expanded
 pub mod Expansion
@@ -6,6 +7,7 @@ pub mod Faults
 pub mod Graph
 pub mod Index
 pub mod Instances
+pub mod Links
 pub mod Nodes
 pub mod Order
 pub mod Paths

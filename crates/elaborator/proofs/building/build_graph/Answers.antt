@@ -1,0 +1,16 @@
+use Rattle.elaborator.specs.Expansion.{seen}
+use Rattle.elaborator.specs.Index.{BindingFault}
+use Rattle.elaborator.specs.Built.{BuildFault}
+use Rattle.elaborator.specs.Built.BuildFault.{in_bindings}
+use Rattle.elaborator.proofs.AnswerLemmas.{passed_on}
+use Rattle.elaborator.proofs.BuildLemmas.{built}
+use Rattle.elaborator.proofs.building.build_graph.Goals as goal
+
+pub returns-in_err-targets : goal.returns-in_err-targets
+returns-in_err-targets c = λ top is_of.
+    let e = seen c.args.expansion.now in
+    passed_on _ (BindingFault e) (BuildFault e top) _ c.from_residual.result c.from_residual.ensures.1 c.in_err-targets.ensures (λ f fault. in_bindings f fault)
+
+pub returns : goal.returns
+returns c = λ top is_of.
+    built (seen c.args.expansion.now) top c.in_ok-graph.graph c.without_cycle.result c.in_ok-targets.ensures.no_fault (c.in_ok-graph.ensures top is_of) c.without_cycle.ensures

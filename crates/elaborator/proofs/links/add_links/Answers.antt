@@ -1,0 +1,33 @@
+use Rattle.std.proofs.Common.{◌+◌, ◌≤◌, sym, ap, subst, arith}
+use Rattle.std.specs.Option.{option_map_or}
+use Rattle.config_graph.specs.Graph.{requires_of, requires_at}
+use Rattle.elaborator.specs.Expansion.{seen}
+use Rattle.elaborator.specs.Links.{AreFirstLinks}
+use Rattle.elaborator.proofs.LinkLemmas.{value_read}
+use Rattle.elaborator.proofs.AllLinksLemmas.{first_links-skip, first_links-push, first_links-node}
+use Rattle.elaborator.proofs.links.add_links.Goals as goal
+use Rattle.elaborator.proofs.links.add_links.Goals.{in-Some+in_ok-push, in_default}
+
+pub loop-require-preserved : goal.loop-require-preserved
+loop-require-preserved c = λ top is_of first.
+    let tree = (seen c.args.expansion.now).tree in
+    let nodes = c.args.nodes.now.nodes.items in
+    let from = c.args.from in
+    let require = c.loop-require.require in
+    let so_far = c.loop-require.invariant top is_of first in
+    elim c.match-target_of.branch [
+      | in-Some+in_ok-push w ↦
+          let is_target = rw w.in-Some.is at (c.target_of.ensures top is_of) in
+          subst (λ ls. AreFirstLinks tree top nodes from (require + 1) ls.items) (sym w.links-is) (first_links-push tree top nodes from require c.loop-require.links.items w.push.new.self.items w.in-Some.target so_far is_target w.in_ok-push.ensures.items)
+      | in_default w ↦
+          let none = rw w.in_default.is at (c.target_of.ensures top is_of) in
+          subst (λ ls. AreFirstLinks tree top nodes from (require + 1) ls.items) (sym w.links-is) (first_links-skip tree top nodes from require c.loop-require.links.items so_far none)
+    ]
+
+pub returns : goal.returns
+returns c = λ top is_of first.
+    let nodes = c.args.nodes.now.nodes.items in
+    let node = c.index.result.now in
+    let stands = value_read nodes c.args.from node c.requires.within c.index.ensures in
+    let all : requires_at nodes c.args.from ≤ c.loop-require.require = omega (arith, ap (λ o. option_map_or requires_of o 0) stands, c.requires_-require-end.ensures, c.loop-require-test.false) in
+    first_links-node (seen c.args.expansion.now).tree top nodes c.args.from c.loop-require.require c.loop-require.links.items all (c.loop-require.invariant top is_of first)

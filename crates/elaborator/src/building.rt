@@ -1,0 +1,56 @@
+//! From the instances of an elaboration to its graph.
+
+ghost use Rattle.std.specs.Prelude.{◌≡◌, IfOk};
+ghost use Rattle.config_graph.specs.Cycles.{NoCycle};
+ghost use Rattle.elaborator.specs.Instances.{Instance};
+ghost use Rattle.elaborator.specs.Graph.{IsElab};
+ghost use Rattle.elaborator.specs.Expanded.{IsOf};
+ghost use Rattle.elaborator.specs.Expansion.{seen, IsKept};
+ghost use Rattle.elaborator.specs.Index.{Answers, IsIndexed};
+ghost use Rattle.elaborator.specs.Built.{CycleFault, BuildFault, IsBuilt};
+
+use crate::ElabError;
+use crate::chains::Targets;
+use crate::instance::Expansion;
+use crate::links::links_of;
+use crate::nodes::{Nodes, nodes_of};
+use crate::pairs::index_bindings;
+use config_graph::{Graph, first_on_cycle};
+use std::alloc::{AllocError, Global};
+
+/// The graph of an expansion.
+pub fn build_graph(alloc: Global, expansion: &Expansion) -> Result<Graph, ElabError>
+    requires kept { IsKept expansion.now }
+    requires of_top { (top : Instance) × IsOf (seen expansion.now) top }
+    ensures { (top : Instance) → IsOf (seen expansion.now) top
+        → Answers (IsBuilt (seen expansion.now) top) (BuildFault (seen expansion.now) top) result }
+{
+    let targets = index_bindings(alloc, expansion)?;
+    let graph = join(alloc, expansion, &targets)?;
+    without_cycle(alloc, graph)
+}
+
+/// The nodes of an expansion, linked by its bindings.
+fn join(alloc: Global, expansion: &Expansion, targets: &Targets) -> Result<Graph, AllocError>
+    requires kept { IsKept expansion.now }
+    requires of_top { (top : Instance) × IsOf (seen expansion.now) top }
+    requires indexed { IsIndexed (seen expansion.now) targets.now }
+    ensures { (top : Instance) → IsOf (seen expansion.now) top
+        → IfOk result (IsElab (seen expansion.now).tree top) }
+{
+    let nodes = nodes_of(alloc, expansion)?;
+    let links = links_of(alloc, expansion, &nodes, targets)?;
+    let Nodes { nodes, .. } = nodes;
+    let graph = Graph::build(alloc, nodes, links)?;
+    Ok(graph)
+}
+
+/// The graph, where no node depends on itself.
+fn without_cycle(alloc: Global, graph: Graph) -> Result<Graph, ElabError>
+    ensures { Answers (λ g. (g ≡ graph) × NoCycle g) (CycleFault graph) result }
+{
+    match first_on_cycle(alloc, &graph)? {
+        None => Ok(graph),
+        Some(node) => Err(ElabError::DependsCycle(graph.node(node).path.try_clone()?)),
+    }
+}
