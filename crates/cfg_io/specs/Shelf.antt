@@ -18,11 +18,11 @@ failed_after (Err NoMemory) name failed = failed
 
 -- what a fetch may answer where it is told that the name holds `file`: the bytes of a file that keeps the limit, `TooLong` of a file
 -- that doesn't, and nothing but `Failed` and `NoMemory` where there is no file
-abbrev pub Answers : Option (List ℕ) → ℕ → Result (Vec ℕ) ShelfError → Type 0
-Answers file limit (Ok bytes) = (file ≡ Some bytes.items) × (length bytes.items ≤ limit)
-Answers file limit (Err Failed) = Unit {0}
-Answers file limit (Err (TooLong _)) = IsSomeAnd file (λ bytes. limit < length bytes)
-Answers file limit (Err NoMemory) = Unit {0}
+abbrev pub MayAnswer : Option (List ℕ) → ℕ → Result (Vec ℕ) ShelfError → Type 0
+MayAnswer file limit (Ok bytes) = (file ≡ Some bytes.items) × (length bytes.items ≤ limit)
+MayAnswer file limit (Err Failed) = Unit {0}
+MayAnswer file limit (Err (TooLong _)) = IsSomeAnd file (λ bytes. limit < length bytes)
+MayAnswer file limit (Err NoMemory) = Unit {0}
 
 -- `TooLong` carries the limit of the call
 abbrev pub CarriesLimit : {A : Type 0} → Result A ShelfError → ℕ → Type 0

@@ -33,7 +33,7 @@ pub use out_sink::OutSink;
 pub use shelf::{Shelf, ShelfError};
 pub use sink::{Sink, SinkFailed, Stopped, write_all};
 
-/// Memory ran out. Nothing else is wrong, and arguments are as before.
+/// Memory ran out. Nothing else is wrong: what was lent is as before, and what was handed over is gone.
 pub type NoMemory = std::alloc::AllocError;
 
 #[cfg(test)]

@@ -1,7 +1,7 @@
 //! A shelf in memory.
 
 ghost use Rattle.std.specs.Prelude.{◌≡◌, ◌≢◌, ◌≤◌, ◌+◌, ◌++◌, ◌∷◌, [], ℕ, List, Some, IfOk, OnOk, OnErr, Err, min, vec_len};
-ghost use Rattle.cfg_io.specs.Shelf.{Answers, CarriesLimit, failed_after};
+ghost use Rattle.cfg_io.specs.Shelf.{CarriesLimit, MayAnswer, failed_after};
 ghost use Rattle.cfg_io.specs.Store.{FailsExactly, MustFail, look_up};
 
 use crate::NoMemory;
@@ -77,7 +77,7 @@ impl MemShelf {
     fn answer(&self, name: &str, limit: u32) -> Result<Vec<u8>, ShelfError>
         ensures within { IfOk result (λ bytes. vec_len bytes ≤ limit) }
         ensures carries { CarriesLimit result limit }
-        ensures told { Answers (look_up self.now.files name.now) limit result }
+        ensures told { MayAnswer (look_up self.now.files name.now) limit result }
         ensures fails { FailsExactly (MustFail self.now name.now) result }
     {
         if self.failing.contains(&self.next) {
@@ -101,7 +101,7 @@ impl Shelf for MemShelf {
     fn fetch(&mut self, name: &str, limit: u32) -> Result<Vec<u8>, ShelfError>
         ensures within { IfOk result (λ bytes. vec_len bytes ≤ limit) }
         ensures carries { CarriesLimit result limit }
-        ensures told { Answers (look_up self.old.files name.now) limit result }
+        ensures told { MayAnswer (look_up self.old.files name.now) limit result }
         ensures noted { self.new.failed ≡ failed_after result name.now self.old.failed }
         ensures kept { self.new.files ≡ self.old.files }
 

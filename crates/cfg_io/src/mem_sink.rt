@@ -65,6 +65,7 @@ impl Sink for MemSink {
         // A piece is taken as far as the room goes, and refused only where there is none.
         ensures fills { IfOk result (λ count. count ≡ min (length piece.now) self.old.room) }
         ensures uses { IfOk result (λ count. self.new.room ≡ self.old.room - count) }
+        ensures counted { OnErr result (self.new.faults ≡ min (self.old.faults + 1) u64.MAX) }
         ensures full { OnErr result ((self.old.room ≡ 0) × (0 < length piece.now)) }
         ensures stays_full { OnErr result (self.new.room ≡ self.old.room) }
     {

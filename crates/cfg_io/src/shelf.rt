@@ -14,6 +14,7 @@ pub enum ShelfError {
     /// The file has more bytes than the limit of the call.
     #[error("the file has more than {limit} bytes")]
     TooLong { limit: u32 },
+    /// Memory ran out. The shelf is as it was.
     #[error("no memory")]
     NoMemory,
 }
@@ -42,7 +43,7 @@ impl<T: Drop> From<AllocFailed<T>> for ShelfError {
 
 /// A place from which files are fetched by name.
 pub trait Shelf {
-    ghost use Rattle.cfg_io.specs.Shelf.{Files, Answers, CarriesLimit, failed_after};
+    ghost use Rattle.cfg_io.specs.Shelf.{CarriesLimit, Files, MayAnswer, failed_after};
 
     /// The names on which it failed, in order: its length is the shelf's count of faults.
     ghost failed: { Self → List (List ℕ) };
@@ -54,7 +55,7 @@ pub trait Shelf {
     fn fetch(&mut self, name: &str, limit: u32) -> Result<Vec<u8>, ShelfError>
         ensures within { IfOk result (λ bytes. vec_len bytes ≤ limit) }
         ensures carries { CarriesLimit result limit }
-        ensures told { IfSome (files self.old) (λ holds. Answers (holds name.now) limit result) }
+        ensures told { IfSome (files self.old) (λ holds. MayAnswer (holds name.now) limit result) }
         ensures noted { failed self.new ≡ failed_after result name.now (failed self.old) }
         ensures kept { files self.new ≡ files self.old };
 }

@@ -6,8 +6,11 @@ ghost use Rattle.cfg_io.specs.Sink.{with_bytes};
 ghost use Rattle.cfg_io.specs.declared.tests.Outcome.{Outcome};
 
 use super::*;
-use std::fs;
+use std::cell::{Cell, RefCell};
+use std::fmt::Display;
+use std::io::ErrorKind;
 use std::test::Fail;
+use std::{fs, io};
 
 #[derive(Clone, Copy, Debug, PartialEq, Eq)]
 enum Outcome {
@@ -96,10 +99,11 @@ fn reads_files_and_writes_out(rt: HostRuntime) -> Result<(), Fail> {
     let path = "cfg_io_test_file";
     fs::write(&rt, path, "four")?;
     let mut shelf = FileShelf::new(&rt, rt.alloc());
-    let fits = shelf.fetch(path, 4)?;
-    assert_eq!(rt; fits.as_slice(), b"four".as_slice());
-    assert!(rt; matches!(shelf.fetch(path, 3), Err(ShelfError::TooLong { limit: 3 })));
+    let fits = shelf.fetch(path, 4);
+    let longer = shelf.fetch(path, 3);
     fs::remove_file(&rt, path)?;
+    assert_eq!(rt; fits?.as_slice(), b"four".as_slice());
+    assert!(rt; matches!(longer, Err(ShelfError::TooLong { limit: 3 })));
     assert!(rt; matches!(shelf.fetch(path, 4), Err(ShelfError::Failed)));
     assert!(rt; matches!(shelf.fetch(".", 4), Err(ShelfError::Failed)));
     assert!(rt;
@@ -109,5 +113,55 @@ fn reads_files_and_writes_out(rt: HostRuntime) -> Result<(), Fail> {
         )
     );
     assert_eq!(rt; write_all(&mut OutSink::new(&rt), b"out\n"), Ok(()));
+    Ok(())
+}
+
+// A standard output that takes two bytes, is interrupted, takes three more, and then takes nothing.
+#[derive(Drop)]
+struct ShortOutput {
+    turn: Cell<u32>,
+    taken: RefCell<Vec<u8>>,
+}
+
+impl Print for ShortOutput {
+    fn print<D: Display + Drop>(&self, _value: D) -> io::Result<()> {
+        Err(io::Error::from(ErrorKind::Unsupported))
+    }
+
+    fn println<D: Display + Drop>(&self, _value: D) -> io::Result<()> {
+        Err(io::Error::from(ErrorKind::Unsupported))
+    }
+
+    fn write_all(&self, _bytes: &[u8]) -> io::Result<()> {
+        Err(io::Error::from(ErrorKind::Unsupported))
+    }
+
+    fn write_some(&self, bytes: &[u8]) -> io::Result<usize> {
+        let turn = self.turn.get();
+        self.turn.set(turn.saturating_add(1));
+        let most = match turn {
+            0 => 2,
+            1 => return Err(io::Error::from(ErrorKind::Interrupted)),
+            2 => 3,
+            _ => 0,
+        };
+        let count = bytes.len().min(most);
+        let Ok(mut taken) = self.taken.try_borrow_mut() else {
+            return Err(io::Error::from(ErrorKind::ResourceBusy));
+        };
+        taken.extend_from_slice(&bytes[..count])?;
+        Ok(count)
+    }
+}
+
+#[test]
+fn what_goes_out_is_the_front_that_is_told(rt: HostRuntime) -> Result<(), Fail> {
+    let output = ShortOutput {
+        turn: Cell::new(0),
+        taken: RefCell::new(Vec::new(rt.alloc())),
+    };
+    let stopped = write_all(&mut OutSink::new(&output), b"abcdefgh");
+    assert_eq!(rt; stopped, Err(Stopped { written: 5 }));
+    assert_eq!(rt; output.taken.into_inner().as_slice(), b"abcde".as_slice());
     Ok(())
 }
