@@ -13,7 +13,7 @@ use std::marker::Model;
 
 /// A configuration. Contracts see its nodes, in the order of their paths, and its links, in the order of their ports.
 ///
-/// Look-ups take constant time and no memory.
+/// All look-ups but `index_of` take constant time; `index_of` hashes the path. None takes memory.
 #[derive(Debug, Drop)]
 pub struct Graph {
     nodes: Numbering,
@@ -36,7 +36,8 @@ impl Model for Graph {
 }
 
 impl Graph {
-    /// The graph of these nodes and links. Time grows with their number alone.
+    /// The graph of these nodes and links. Time grows with their number and the bytes of the paths, where
+    /// hashes don't collide. Where memory runs out, both lists are gone.
     pub fn build(alloc: Global, nodes: Vec<Node>, links: Vec<Link>) -> Result<Graph, NoMemory>
         requires paths_rise { PathsRise nodes.items }
         requires within { All (IsWithin nodes.items) links.items }

@@ -21,7 +21,8 @@ pub use node::{Link, Made, Node, Port, Target};
 pub use text::Text;
 pub use writing::{graph_text, texts_tell_sound_graphs};
 
-/// Memory ran out. Nothing else is wrong, and arguments are as before.
+/// Memory ran out. Nothing else is wrong: what was lent is as before, and what was handed over, as the
+/// lists of [`Graph::build`], is gone.
 pub type NoMemory = std::alloc::AllocError;
 
 /// How many nodes one run makes at most.
