@@ -1,6 +1,6 @@
 -- The grammar of descriptions, one definition a production: which tokens spell which tree. The numbers say how deep operands and
 -- statements may nest. Chains of one level group to the left, comparisons don't chain, and a place is that of the first token.
-use Rattle.std.specs.Prelude.{◌≡◌, ℕ, zero, suc, ◌-◌, List, [], ◌∷◌, ◌++◌, Option, Some, None, fold, take, drop, unwrap_or}
+use Rattle.std.specs.Prelude.{◌≡◌, ℕ, zero, suc, List, [], ◌∷◌, ◌++◌, Option, Some, None, fold, unwrap_or}
 use Rattle.std.specs.List.{flat_map}
 use Rattle.darwin_lexer.specs.declared.token.At.{At}
 use Rattle.darwin_lexer.specs.declared.token.Token.{Token}
@@ -167,9 +167,9 @@ abbrev pub no_parts : Parts
 no_parts = record { ports = []; arrays = []; body = [] }
 
 abbrev pub with_item : Parts → Item → Parts
-with_item parts (ports ps) = record parts { ports = parts.ports ++ ps }
-with_item parts (arrays ars) = record parts { arrays = parts.arrays ++ ars }
-with_item parts (statements ss) = record parts { body = parts.body ++ ss }
+with_item parts (ports more) = record parts { ports = parts.ports ++ more }
+with_item parts (arrays more) = record parts { arrays = parts.arrays ++ more }
+with_item parts (statements more) = record parts { body = parts.body ++ more }
 
 abbrev pub side_word : Side → Keyword
 side_word sides.Provide = words.Provide
@@ -184,7 +184,7 @@ unfoldable pub block_body : Lang (List Stmt) → Lang (List Stmt)
 block_body statement = do
   all ← many statement
   sign signs.CloseBrace
-  give (flat_map (λ ss. ss) all)
+  give (flat_map (λ list. list) all)
 
 -- body = "{" { statement } "}" | statement
 unfoldable pub body_over : Lang (List Stmt) → Lang (List Stmt)
@@ -297,16 +297,16 @@ module _ (text : List ℕ) (operands : ℕ) where
   port side at = do
     x ← name text
     size ← optional bracketed
-    ns ← optional (notes text)
-    give (record { side = side; name = x; size = size; note = ns; at = at })
+    noted ← optional (notes text)
+    give (record { side = side; name = x; size = size; note = noted; at = at })
 
   -- ports = ("provide" | "require") port {"," port} ";"
   unfoldable pub port_list : Side → Lang (List PortDecl)
   port_list side = do
     t ← word (side_word side)
-    ps ← separated (port side t.at)
+    all ← separated (port side t.at)
     sign signs.Semicolon
-    give ps
+    give all
 
   -- arrayentry = NAME "[" expr "]" ":" NAME [ args ] ";"
   unfoldable pub arrayentry : Lang ArrayDecl
@@ -328,10 +328,10 @@ module _ (text : List ℕ) (operands : ℕ) where
   -- item = ports | arrays | statement
   unfoldable pub item : ℕ → Lang Item
   item statements_nested =
-      (do ps ← port_list sides.Provide; give (ports ps))
-      or (do ps ← port_list sides.Require; give (ports ps))
-      or (do ars ← array_list; give (arrays ars))
-      or (do ss ← statement statements_nested; give (statements ss))
+      (do all ← port_list sides.Provide; give (ports all))
+      or (do all ← port_list sides.Require; give (ports all))
+      or (do all ← array_list; give (arrays all))
+      or (do all ← statement statements_nested; give (statements all))
 
   -- { item } "}"
   unfoldable pub parts : ℕ → Lang Parts
@@ -345,10 +345,10 @@ module _ (text : List ℕ) (operands : ℕ) where
   component statements_nested = do
     t ← word words.Component
     x ← name text
-    ps ← params text
+    parameters ← params text
     sign signs.OpenBrace
-    ps' ← parts statements_nested
-    give (component_of t x ps ps')
+    inside ← parts statements_nested
+    give (component_of t x parameters inside)
 
 -- unit = { component }, with operands in at most so many parentheses and minus signs, and statements in at most so many bodies
 unfoldable pub IsUnitWithin : ℕ → ℕ → List ℕ → List Token → Tree → Type 0

@@ -15,8 +15,8 @@ use darwin_lexer::Token;
 use std::alloc::Global;
 
 /// The syntax tree of a description, from the tokens of its text. It is read by descent with one
-/// token of lookahead, in time that grows with the number of tokens. A refusal names the first token
-/// that can't stand where it does.
+/// token of lookahead, and each token is taken once. A refusal names the first token that can't stand
+/// where it does.
 pub fn parse(alloc: Global, text: &[u8], tokens: &[Token]) -> Result<Unit, ParseError>
     requires few { length tokens.now < 2 ^ 32 }
     // What is read is a unit of the grammar, and each unit is read.

@@ -327,6 +327,7 @@ fn nesting_has_limits(rt: HostRuntime) -> Result<(), Fail> {
         ("component X { inst a[-", "(", 32, "1", "too nested 38"),
         ("component X { inst a[", "(", 32, "]", "expected 38"),
         ("component X { ", "when 1 ", 16, "}", "expected 35"),
+        ("component X { ] ", "when 1 ", 17, entry, "expected 3"),
     ] {
         let found = repeated(rt.alloc(), front, piece, times, end)?;
         assert_eq!(rt; found.as_str(), wanted, "{front}{piece}{end}");
@@ -347,9 +348,13 @@ fn the_seventeenth_level_stands_at_its_word(rt: HostRuntime) -> Result<(), Fail>
     let bytes = text.as_str().as_bytes();
     assert!(rt; bytes.len() <= MAX_TEXT);
     let tokens = lex(rt.alloc(), bytes)?;
-    let seventeenth = tokens.get(35).ok_or("too few tokens")?;
+    let refused = match parse(rt.alloc(), bytes, tokens.as_slice()) {
+        Err(ParseError::TooNested(n)) => n,
+        _ => 0,
+    };
+    let token = tokens.get(refused as usize).ok_or("no such token")?;
     assert_eq!(rt;
-        seventeenth.at,
+        token.at,
         At {
             line: 1,
             column: 127
@@ -395,19 +400,25 @@ fn the_first_token_that_cant_stand_is_refused(rt: HostRuntime) -> Result<(), Fai
         ("component X { provide p, ;", "expected 6"),
         ("component X { provide p[]", "expected 6"),
         ("component X { provide p[1;", "expected 7"),
+        ("component X { provide p[1] q", "expected 8"),
         ("component X { provide p<>", "expected 6"),
         ("component X { provide p<1", "expected 6"),
         ("component X { provide p<a when", "expected 7"),
         ("component X { provide p<a, int", "expected 9"),
         ("component X { array ;", "expected 4"),
         ("component X { array a;", "expected 5"),
+        ("component X { array a[1] c", "expected 8"),
         ("component X { array a[1];", "expected 8"),
+        ("component X { array a[1]:;", "expected 9"),
+        ("component X { array a[1]:c; 1", "expected 11"),
         ("component X { array a[1]:c(1,);", "expected 13"),
         ("component X { inst ;", "expected 4"),
         ("component X { inst a;", "expected 5"),
         ("component X { inst a:;", "expected 6"),
         ("component X { inst a:c(;", "expected 8"),
         ("component X { inst a:c; 1", "expected 8"),
+        ("component X { inst a:c() x", "expected 9"),
+        ("component X { inst a[1] x", "expected 8"),
         ("component X { inst a[1<2<3];", "expected 9"),
         ("component X { inst a[1+];", "expected 8"),
         ("component X { inst a[(1];", "expected 8"),
@@ -417,6 +428,8 @@ fn the_first_token_that_cant_stand_is_refused(rt: HostRuntime) -> Result<(), Fai
         ("component X { bind a.b.c", "expected 7"),
         ("component X { bind a--;", "expected 6"),
         ("component X { bind a--b", "expected 7"),
+        ("component X { bind a--b; 1", "expected 8"),
+        ("component X { bind a[1;", "expected 7"),
         ("component X { forall ;", "expected 4"),
         ("component X { forall i 0", "expected 5"),
         ("component X { forall i:0 1", "expected 7"),
