@@ -1,0 +1,8 @@
+pub mod NodeLemmas
+pub mod SelectsLemmas
+pub mod DifferenceLemmas
+pub mod TextLemmas
+pub mod MoveLemmas
+pub mod PlanningLemmas
+pub mod ApplyingLemmas
+pub mod RefusalLemmas

@@ -1,0 +1,11 @@
+use Rattle.change_plan.specs.PlanText.{node_line}
+use Rattle.change_plan.proofs.TextLemmas.{lines_all, lines_more}
+use Rattle.change_plan.proofs.writing.write_nodes.Goals as goal
+
+pub loop-node-preserved : goal.loop-node-preserved
+loop-node-preserved c =
+    lines_more (node_line c.args.word.now c.args.graph.now) c.args.nodes.now c.args.text.now.items _ _ c.loop-node.node-index _ c.loop-node-test.true c.loop-node.invariant c.in_ok-write_node.ensures
+
+pub returns : goal.returns
+returns c =
+    lines_all (node_line c.args.word.now c.args.graph.now) c.args.nodes.now c.args.text.now.items _ c.loop-node.node-index c.loop-node-test.false c.loop-node.invariant

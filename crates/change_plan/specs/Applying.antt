@@ -1,0 +1,53 @@
+-- What is there after a plan's steps: nodes as they are, by path, kind and argument, and connections between such nodes.
+use Rattle.std.specs.Prelude.{◌≡◌, ◌<◌, ◌⊎◌, ◌↔◌, ℕ, List, Some, slice_get, Contains}
+use Rattle.config_graph.specs.Graph.{Configuration, requires_at, target_of}
+use Rattle.config_graph.specs.Reach.{Enlarged}
+use Rattle.config_graph.specs.declared.node.Link.{Link}
+use Rattle.config_graph.specs.declared.node.Node.{Node}
+use Rattle.change_plan.specs.Differences.{GoneLinks, GoneNodes, GonePorts, IsTwin, port_of}
+use Rattle.change_plan.specs.Touched.{IsTouched, SameTarget}
+use Rattle.change_plan.specs.declared.plan_data.Plan.{Plan}
+
+-- a node's requirement is connected to a node's provision
+pub record Connection : Type 0 where
+  pub from : Node
+  pub require : ℕ
+  pub to : Node
+  pub provide : ℕ
+
+-- a link of g makes a connection
+pub record Connects (g : Configuration) (l : Link) (c : Connection) : Type 0 where
+  pub from : slice_get g.nodes l.from ≡ Some c.from
+  pub require : l.require ≡ c.require
+  pub to : slice_get g.nodes l.to ≡ Some c.to
+  pub provide : l.provide ≡ c.provide
+
+abbrev pub IsConnected : Configuration → Connection → Type 0
+IsConnected g c = (l : Link) × Contains g.links l × Connects g l c
+
+-- one of these places of g has the node
+abbrev pub IsListed : Configuration → List ℕ → Node → Type 0
+IsListed g places n = (i : ℕ) × Contains places i × (slice_get g.nodes i ≡ Some n)
+
+-- the steps of a plan between two configurations
+pub record IsPlan (old new : Configuration) (p : Plan) : Type 0 where
+  pub unlink : GonePorts old new p.unlink
+  pub remove : GoneNodes old new p.remove
+  pub create : GoneNodes new old p.create
+  pub link : GoneLinks new old p.link
+  pub freeze : (i : ℕ) → Contains p.freeze i ↔ Enlarged old (IsTouched old new) i
+
+-- a node that was there and isn't removed, or that is created
+abbrev pub NodeAfter : Configuration → Configuration → Plan → Node → Type 0
+NodeAfter old new p n = (Contains old.nodes n × (¬ IsListed old p.remove n)) ⊎ IsListed new p.create n
+
+-- a connection that was there and isn't unlinked, or that is linked
+abbrev pub ConnectionAfter : Configuration → Configuration → Plan → Connection → Type 0
+ConnectionAfter old new p c =
+    ((l : Link) × Contains old.links l × Connects old l c × (¬ Contains p.unlink (port_of l))) ⊎ ((l : Link) × Contains p.link l × Connects new l c)
+
+-- node i of the old configuration is in the new one, and there each of its ports has the same target
+pub record KeepsItsLinks (old new : Configuration) (i : ℕ) : Type 0 where
+  pub twin : ℕ
+  pub stays : IsTwin old new i twin
+  pub same : (r : ℕ) → r < requires_at old.nodes i → SameTarget old new (target_of old.links i r) (target_of new.links twin r)

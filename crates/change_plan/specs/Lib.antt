@@ -1,0 +1,9 @@
+pub mod Applying
+pub mod Differences
+pub mod Moves
+pub mod Noted
+pub mod PlanText
+pub mod PlanWithin
+pub mod Refusals
+pub mod Selects
+pub mod Touched

@@ -1,0 +1,18 @@
+-- What is kept of the moves that were looked at: for each node of the old configuration whether its state goes on, and for each
+-- of the new one from where a state comes.
+use Rattle.std.specs.Prelude.{◌≡◌, ◌↔◌, ℕ, Bool, true, false, List, Option, Some, None, length, All}
+use Rattle.std.specs.List.{slice_index_or}
+use Rattle.config_graph.specs.Graph.{Configuration}
+use Rattle.change_plan.specs.Moves.{IsFit, IsShift}
+use Rattle.change_plan.specs.declared.plan_data.Move.{Move}
+
+-- the state of node i goes on in one of these moves
+abbrev pub GoesOn : Configuration → Configuration → List Move → ℕ → Type 0
+GoesOn old new moves i = (j : ℕ) × IsShift old new moves (record { old = i; new = j })
+
+pub record IsNoted (old new : Configuration) (moves : List Move) (sources : List Bool) (targets : List (Option ℕ)) : Type 0 where
+  pub fit : All (IsFit old new) moves
+  pub sources_length : length sources ≡ length old.nodes
+  pub targets_length : length targets ≡ length new.nodes
+  pub sources_are : (i : ℕ) → (slice_index_or sources i false ≡ true) ↔ GoesOn old new moves i
+  pub targets_are : (i j : ℕ) → (slice_index_or targets j None ≡ Some i) ↔ IsShift old new moves (record { old = i; new = j })

@@ -1,0 +1,87 @@
+-- Why there is no plan: the first move in order that can't be made, and in it the first of its faults; or else too many nodes
+-- or ports.
+use Rattle.std.specs.Prelude.{◌≡◌, ◌<◌, ◌≤◌, ◌+◌, ◌⊎◌, ℕ, List, Some, Result, Ok, Err, length, slice_get, sum_by, take}
+use Rattle.config_graph.specs.Graph.{Configuration, requires_at}
+use Rattle.config_graph.specs.declared.node.Made.{Made}
+use Rattle.change_plan.specs.Differences.{GoneNodes}
+use Rattle.change_plan.specs.Moves.{IsFit, IsPathGone, Leads, MayMoveAll, MovesFrom, MovesTo}
+use Rattle.change_plan.specs.declared.error.PlanError.{PlanError}
+use Rattle.change_plan.specs.declared.error.PlanError.TheVariants.{NotRemoved, NotCreated, KindsDiffer, MovedTwice, NodesFull, PortsFull, NoMemory}
+use Rattle.change_plan.specs.declared.plan_data.Move.{Move}
+
+-- the move leads from a removed node to a created one of another kind
+pub record KindsDifferIn (old new : Configuration) (m : Move) : Type 0 where
+  pub source : ℕ
+  pub target : ℕ
+  pub leads : Leads old new m source target
+  pub differ : ¬ (leads.removed.node.kind ≡ leads.created.node.kind)
+
+-- a path of the move that a move before it has at the same end; the source comes first
+abbrev pub Repeats : List Move → Move → List ℕ → Type 0
+Repeats before m path =
+    ((path ≡ m.from) × MovesFrom before m.from) ⊎ ((path ≡ m.to) × (¬ MovesFrom before m.from) × MovesTo before m.to)
+
+-- what is at fault with a move
+abbrev pub MoveFault : Configuration → Configuration → List Move → Move → PlanError → Type 0
+MoveFault old new before m (NotRemoved path) = (path ≡ m.from) × (¬ IsPathGone old new m.from)
+MoveFault old new before m (NotCreated path) =
+    (path ≡ m.to) × IsPathGone old new m.from × (¬ IsPathGone new old m.to)
+MoveFault old new before m (KindsDiffer from to) = (from ≡ m.from) × (to ≡ m.to) × KindsDifferIn old new m
+MoveFault old new before m (MovedTwice path) = IsFit old new m × Repeats before m path
+MoveFault old new before m (NodesFull made wanted) = ⊥
+MoveFault old new before m (PortsFull made wanted) = ⊥
+MoveFault old new before m NoMemory = ⊥
+
+-- the first move that can't be made, with its fault
+pub record FirstFault (old new : Configuration) (moves : List Move) (e : PlanError) : Type 0 where
+  pub count : ℕ
+  pub move : Move
+  pub at : slice_get moves count ≡ Some move
+  pub before : MayMoveAll old new moves count
+  pub fault : MoveFault old new (take count moves) move e
+
+-- how many nodes and ports are to be created
+pub record IsWanted (old new : Configuration) (nodes ports : ℕ) : Type 0 where
+  pub created : List ℕ
+  pub gone : GoneNodes new old created
+  pub nodes_are : nodes ≡ length created
+  pub ports_are : ports ≡ sum_by (requires_at new.nodes) created
+
+-- one run makes at most so many nodes and ports
+abbrev pub nodes_limit : ℕ
+nodes_limit = 1023
+
+abbrev pub ports_limit : ℕ
+ports_limit = 4096
+
+-- how many were made, and how many are wanted, carried by a refusal
+pub record IsFullOf (limit made wanted carried_made carried_wanted : ℕ) : Type 0 where
+  pub made_is : carried_made ≡ made
+  pub wanted_is : carried_wanted ≡ wanted
+  pub full : limit < made + wanted
+
+-- what there is no room for
+abbrev pub RoomFault : Made → ℕ → ℕ → PlanError → Type 0
+RoomFault made nodes ports (NodesFull m w) = IsFullOf nodes_limit made.nodes nodes m w
+RoomFault made nodes ports (PortsFull m w) =
+    (made.nodes + nodes ≤ nodes_limit) × IsFullOf ports_limit made.ports ports m w
+RoomFault made nodes ports e = ⊥
+
+-- why these can't be planned
+abbrev pub IsRefusal : Configuration → Configuration → List Move → Made → PlanError → Type 0
+IsRefusal old new moves made e =
+    FirstFault old new moves e ⊎ (MayMoveAll old new moves (length moves) × ((nodes : ℕ) × (ports : ℕ) × IsWanted old new nodes ports × RoomFault made nodes ports e))
+
+-- nothing stands against a plan
+pub record CanPlan (old new : Configuration) (moves : List Move) (made : Made) : Type 0 where
+  pub may_move : MayMoveAll old new moves (length moves)
+  pub nodes : ℕ
+  pub ports : ℕ
+  pub wanted : IsWanted old new nodes ports
+  pub nodes_fit : made.nodes + nodes ≤ nodes_limit
+  pub ports_fit : made.ports + ports ≤ ports_limit
+
+-- the answer is this refusal, unless memory ran out
+abbrev pub Refuses : {T : Type 0} → Result T PlanError → PlanError → Type 0
+Refuses (Ok plan) refusal = ⊥
+Refuses (Err e) refusal = (e ≡ NoMemory) ⊎ (e ≡ refusal)

@@ -1,0 +1,17 @@
+//! Plans: which nodes and links a change takes away and makes, and which nodes it freezes meanwhile.
+#![tactic(auto)]
+
+mod differences;
+mod error;
+mod laws;
+mod moving;
+mod plan_data;
+mod planning;
+mod touching;
+mod writing;
+
+pub use error::PlanError;
+pub use laws::{a_plan_leads_to_the_new_graph, what_is_not_frozen_keeps_its_links};
+pub use plan_data::{Move, OldPort, Plan, Shift};
+pub use planning::plan;
+pub use writing::plan_text;
