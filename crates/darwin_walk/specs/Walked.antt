@@ -1,5 +1,5 @@
 -- What a walk of an instance gives, as the definitions speak of it.
-use Rattle.std.specs.Prelude.{◌≡◌, ◌++◌, ℕ, ◌+◌, ◌≤◌, List, [], map, sum_by, Some, option_map, Result, Ok, Err, Contains}
+use Rattle.std.specs.Prelude.{◌≡◌, ◌++◌, ℕ, ◌+◌, ◌≤◌, List, [], map, length, sum_by, Some, option_map, Result, Ok, Err, Contains}
 use Rattle.std.specs.List.{flat_map}
 use Rattle.darwin_parser.specs.Tree.{Component}
 use Rattle.darwin_walk.specs.Value.{Env}
@@ -55,3 +55,5 @@ pub record IsWalked (c : Component) (parameters : Env) (room : ℕ) (w : Walked)
   pub bindings : map binding_of w.bindings.items ≡ pure.bindings c parameters
   pub count : w.count ≡ count c parameters
   pub within : w.count ≤ room
+  -- each instance is of an entry that is counted
+  pub few : length w.children.items ≤ w.count

@@ -19,31 +19,26 @@ use crate::{Fault, WalkError};
 use darwin_parser::{ArrayDecl, Component, PortDecl};
 use std::alloc::{AllocError, Global};
 
-/// Walks an instance of the component with these arguments: values all that is reached in it, and lists
-/// the instances that it makes and its bindings. It goes on while no more turns and entries are counted
-/// than there is room for, so a `forall` over all integers is refused after as many turns.
+/// Walks an instance of the component whose parameters have these values: values all that is reached in
+/// it, and lists the instances that it makes and its bindings. It goes on while no more turns and entries
+/// are counted than there is room for, so a `forall` over all integers is refused after as many turns.
 pub fn walk<'a>(
     alloc: Global,
     component: &'a Component,
-    arguments: &[i32],
+    parameters: &[Variable<'a>],
     room: u64,
 ) -> Result<Walked<'a>, WalkError>
-    ensures no_fault { IfOk result (λ _. faults (component_of component.now) (parameters (component_of component.now) arguments.now) ≡ []) }
-    ensures sizes { IfOk result (λ w. map Some w.port_sizes.items ≡ port_sizes (component_of component.now) (parameters (component_of component.now) arguments.now)) }
-    ensures children { IfOk result (λ w. map child_of w.children.items ≡ children (component_of component.now) (parameters (component_of component.now) arguments.now)) }
-    ensures bindings { IfOk result (λ w. map binding_of w.bindings.items ≡ bindings (component_of component.now) (parameters (component_of component.now) arguments.now)) }
-    ensures count { IfOk result (λ w. w.count ≡ count (component_of component.now) (parameters (component_of component.now) arguments.now)) }
-    ensures within { IfOk result (λ w. w.count ≤ room) }
+    ensures no_fault { IfOk result (λ _. faults (component_of component.now) (env_of parameters.now) ≡ []) }
+    ensures walked { IfOk result (IsWalked (component_of component.now) (env_of parameters.now) room) }
 
     // The fault that is named is one of the instance's, and all else that is refused is too much.
-    ensures fault { (f : ShownFault) → result ≡ Err (WalkError.Fault f) → Contains (faults (component_of component.now) (parameters (component_of component.now) arguments.now)) f }
-    ensures too_many { result ≡ Err WalkError.TooMany → room < count (component_of component.now) (parameters (component_of component.now) arguments.now) }
+    ensures fault { (f : ShownFault) → result ≡ Err (WalkError.Fault f) → Contains (faults (component_of component.now) (env_of parameters.now)) f }
+    ensures too_many { result ≡ Err WalkError.TooMany → room < count (component_of component.now) (env_of parameters.now) }
 {
-    let parameters = parameters_of(alloc, component, arguments)?;
-    walk_with(alloc, component, &parameters, room)
+    walk_with(alloc, component, parameters, room)
 }
 
-/// The walk, where the parameters have these values.
+/// What a walk tells.
 fn walk_with<'a>(
     alloc: Global,
     component: &'a Component,
@@ -71,8 +66,8 @@ fn walk_with<'a>(
     Ok(walked)
 }
 
-/// The parameters with the values of the arguments.
-fn parameters_of<'a>(
+/// The parameters of a component, with the values of the arguments.
+pub fn parameters_of<'a>(
     alloc: Global,
     component: &'a Component,
     arguments: &[i32],

@@ -11,6 +11,6 @@ mod walked;
 mod walking;
 
 pub use fault::{Fault, WalkError};
-pub use instance::walk;
+pub use instance::{parameters_of, walk};
 pub use valuing::{ValueError, Variable, value};
 pub use walked::{Binding, Child, End, Segment, Walked};

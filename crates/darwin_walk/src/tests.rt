@@ -2,7 +2,7 @@
 
 ghost use Rattle.std.specs.Prelude.{◌≤◌, length};
 
-use crate::walk;
+use crate::{parameters_of, walk};
 use darwin_lexer::lex;
 use darwin_parser::{Unit, parse};
 use std::alloc::Global;
@@ -24,7 +24,8 @@ const SIZES: &[u8] = b"component X(int n) {
 fn sizes_have_their_values(rt: HostRuntime) -> Result<(), Fail> {
     let unit = unit_of(rt.alloc(), SIZES)?;
     let component = unit.components.first().ok_or("no component")?;
-    let walked = walk(rt.alloc(), component, &[-7], 0)?;
+    let parameters = parameters_of(rt.alloc(), component, &[-7])?;
+    let walked = walk(rt.alloc(), component, &parameters, 0)?;
     let wanted = [
         Some(-2147483648),
         Some(0),
@@ -53,7 +54,8 @@ const ROW: &[u8] = b"component Row(int n) {
 fn a_component_is_walked(rt: HostRuntime) -> Result<(), Fail> {
     let unit = unit_of(rt.alloc(), ROW)?;
     let component = unit.components.first().ok_or("no component")?;
-    let walked = walk(rt.alloc(), component, &[3], 9)?;
+    let parameters = parameters_of(rt.alloc(), component, &[3])?;
+    let walked = walk(rt.alloc(), component, &parameters, 9)?;
     assert_eq!(rt; walked.count, 9);
     let mut made = Vec::new(rt.alloc());
     for child in &walked.children {
