@@ -4,17 +4,26 @@ pub mod BoundLemmas
 pub mod BuildLemmas
 pub mod ChainLemmas
 pub mod ChildLemmas
+pub mod ExpandLemmas
 pub mod FollowLemmas
+pub mod GrowthLemmas
 pub mod IndexLemmas
 pub mod InstanceLemmas
+pub mod JudgesLemmas
+pub mod LawLemmas
 pub mod LinkLemmas
 pub mod Lists
+pub mod MakingLemmas
+pub mod MappedLemmas
 pub mod NodeLemmas
+pub mod OpeningLemmas
 pub mod OrderLemmas
 pub mod PairLemmas
+pub mod Places
 pub mod PortLemmas
 pub mod RankLemmas
 mod Rows
+pub mod SpreadLemmas
 pub mod TargetLemmas
 pub mod UniqueLemmas
 pub mod WholeLemmas

@@ -25,7 +25,7 @@ use Rattle.elaborator.proofs.Lists.{option_map_some}
 use Rattle.elaborator.proofs.ChildLemmas.{numbered}
 use Rattle.elaborator.proofs.PortLemmas.{same_instance}
 
-abbrev path_cmp : Vec ℕ → Vec ℕ → Ordering
+abbrev pub path_cmp : Vec ℕ → Vec ℕ → Ordering
 path_cmp p q = slice_cmp nat_cmp p.items q.items
 
 path_cmp_total : IsTotalOrder path_cmp

@@ -7,7 +7,7 @@ use Rattle.darwin_parser.specs.declared.tree.Side.TheVariants.{Provide, Require}
 use Rattle.darwin_parser.specs.Tree.{Name, Expr, num, single, inst, bind, end, then, Component, Stmt, Stmts, PortDecl, PortRef, Tree}
 use Rattle.config_graph.specs.declared.kind.Kind.TheVariants.{Source, Sink}
 use Rattle.elaborator.specs.Paths.{Path, end_bytes}
-use Rattle.elaborator.specs.Instances.{Instance, family, instances, total, top_instance}
+use Rattle.elaborator.specs.Instances.{Instance, levels, instances, total, top_instance}
 use Rattle.elaborator.specs.Bindings.{Port, pairs_in}
 use Rattle.elaborator.specs.Graph.{node_of}
 
@@ -50,12 +50,12 @@ loop_is_top = refl
 -- the top and one of each depth up to 33
 loop_depths : map (λ i. i.depth) (instances (Loop ∷ []) loop_top) ≡ 0 ∷ 1 ∷ 2 ∷ 3 ∷ 4 ∷ 5 ∷ 6 ∷ 7 ∷ 8 ∷ 9 ∷ 10 ∷ 11 ∷ 12 ∷ 13 ∷ 14 ∷ 15 ∷ 16
     ∷ 17 ∷ 18 ∷ 19 ∷ 20 ∷ 21 ∷ 22 ∷ 23 ∷ 24 ∷ 25 ∷ 26 ∷ 27 ∷ 28 ∷ 29 ∷ 30 ∷ 31 ∷ 32 ∷ 33 ∷ []
-unfolding family Loop
+unfolding levels Loop
 loop_depths = refl
 
 -- nothing is counted in the deepest
 loop_count : total (Loop ∷ []) loop_top ≡ 33
-unfolding family Loop
+unfolding levels Loop
 loop_count = refl
 
 -- ---- one source bound to two ends
@@ -92,15 +92,15 @@ abbrev twice_top : Instance
 twice_top = record { path = []; depth = 0; component = Top; env = [] }
 
 twice_paths :
-    map (λ i. i.path) (instances twice twice_top) ≡ [] ∷ codes "p" ∷ codes "p.s" ∷ codes "t" ∷ codes "u" ∷ []
-unfolding family source sink Box Top
+    map (λ i. i.path) (instances twice twice_top) ≡ [] ∷ codes "p" ∷ codes "t" ∷ codes "u" ∷ codes "p.s" ∷ []
+unfolding levels source sink Box Top
 twice_paths = refl
 
 twice_nodes :
     map node_of (instances twice twice_top)
-    ≡ None ∷ None ∷ Some (record { path = codes "p.s"; kind = Source; arg = Some 1 })
-    ∷ Some (record { path = codes "t"; kind = Sink; arg = None }) ∷ Some (record { path = codes "u"; kind = Sink; arg = None }) ∷ []
-unfolding family source sink Box Top
+    ≡ None ∷ None ∷ Some (record { path = codes "t"; kind = Sink; arg = None })
+    ∷ Some (record { path = codes "u"; kind = Sink; arg = None }) ∷ Some (record { path = codes "p.s"; kind = Source; arg = Some 1 }) ∷ []
+unfolding levels source sink Box Top
 twice_nodes = refl
 
 abbrev port_of : Path → ℕ → Side → Name → Port

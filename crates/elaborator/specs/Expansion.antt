@@ -1,5 +1,5 @@
 -- What holds of an expansion as the code keeps it.
-use Rattle.std.specs.Prelude.{◌≡◌, ℕ, ◌+◌, ◌<◌, ◌≤◌, Option, Some, length, map, slice_get, IsSome}
+use Rattle.std.specs.Prelude.{◌≡◌, ℕ, ◌+◌, ◌<◌, ◌≤◌, List, Option, Some, length, map, slice_get, IsSome}
 use Rattle.std.specs.Map.{lookup}
 use Rattle.std.specs.Ordering.{nat_cmp, is_eq}
 use Rattle.std.specs.Cmp.Lexicographic.{slice_cmp}
@@ -7,13 +7,18 @@ use Rattle.elaborator.specs.Paths.{Path}
 use Rattle.elaborator.specs.Bindings.{bindings_in}
 use Rattle.std.specs.BTreeMap.{btree_map_len}
 use Rattle.darwin_types.specs.Scope.{is_primitive}
-use Rattle.darwin_parser.specs.Tree.{component_of, tree_of}
+use Rattle.darwin_parser.specs.declared.tree.Component as code_component
+use Rattle.darwin_parser.specs.Tree.{Tree, component_of, tree_of}
 use Rattle.darwin_walk.specs.Spine.{env_of}
 use Rattle.darwin_walk.specs.Walked.{binding_of}
 use Rattle.elaborator.specs.Instances as pure
 use Rattle.elaborator.specs.Expanded.{Made, Expanded, IsExpanded}
 use Rattle.elaborator.specs.declared.instance.Instance.{Instance}
 use Rattle.elaborator.specs.declared.instance.Expansion.{Expansion}
+
+-- a description, from its components
+abbrev pub tree_at : List code_component.Component → Tree
+tree_at = map component_of
 
 abbrev pub instance_in : Instance → pure.Instance
 instance_in i = record { path = i.path; depth = i.depth; component = component_of i.component.now; env = env_of i.env.items }

@@ -1,5 +1,5 @@
 -- The faults of an elaboration: the set of those that hold. Where it is empty the elaboration is the graph.
-use Rattle.std.specs.Prelude.{◌≡◌, ◌≢◌, ◌<◌, ℕ, true, ◌&&◌, ◌||◌, not, ℤ, pos, int_le, int_lt, List, [], ◌∷◌, ◌++◌, length, min, Option, Some, None, if◌then◌else◌, Contains, slice_get}
+use Rattle.std.specs.Prelude.{Bool, ◌≡◌, ◌≢◌, ◌<◌, ℕ, true, ◌&&◌, not, ℤ, pos, int_le, int_lt, List, [], ◌∷◌, ◌++◌, length, min, Option, Some, None, if◌then◌else◌, Contains, slice_get}
 use Rattle.std.specs.List.{flat_map, list_all}
 use Rattle.std.specs.Option.{option_map_or}
 use Rattle.darwin_lexer.specs.declared.token.At.{At}
@@ -7,11 +7,11 @@ use Rattle.darwin_parser.specs.Tree.{Name, Tree, Component, Expr}
 use Rattle.darwin_types.specs.Scope.{component_named, is_primitive}
 use Rattle.config_graph.specs.declared.node.Node.{Node}
 use Rattle.darwin_walk.specs.Value.{integer, value}
-use Rattle.darwin_walk.specs.Instance.{Child, End, Binding, index_fault, faults}
+use Rattle.darwin_walk.specs.Instance.{Child, End, Binding, index_fault, children, faults}
 use Rattle.darwin_walk.specs.declared.fault.Fault.{Fault}
 use Rattle.darwin_walk.specs.declared.fault.Fault.TheVariants as shown
 use Rattle.elaborator.specs.Paths.{Path, end_bytes}
-use Rattle.elaborator.specs.Instances.{Instance, top_instance, Inst, is_expanded, children_in, instance_of, total, paths_made}
+use Rattle.elaborator.specs.Instances.{Instance, top_instance, Inst, is_expanded, total, paths_in}
 use Rattle.elaborator.specs.Bindings.{Named, named, Pair, pair_of, pairs_in, bindings_in}
 use Rattle.config_graph.specs.Graph.{Configuration}
 use Rattle.config_graph.specs.Cycles.{FirstOnCycle}
@@ -24,14 +24,16 @@ abbrev pub capped : ℕ → ℕ
 capped n = min n 4294967295
 
 -- the arguments of an instance of a primitive component are from 0 to 16,777,215
-abbrev pub kind_faults : Tree → Instance → Child → List Fault
-kind_faults tree i child = option_map_or faults_at (instance_of tree i child) []
-  where
-    faults_at : Instance → List Fault
-    faults_at j =
-        if not (is_primitive j.component) || list_all (λ v. int_le (pos 0) v.value && int_lt v.value (pos 16777216)) j.env
-        then []
-        else shown.OutOfRange child.at ∷ []
+abbrev pub is_kind_argument : ℤ → Bool
+is_kind_argument z = int_le (pos 0) z && int_lt z (pos 16777216)
+
+abbrev pub kind_faults : Tree → Child → List Fault
+kind_faults tree child =
+    option_map_or
+    (λ c. option_map_or
+    (λ zs. if is_primitive c && not (list_all is_kind_argument zs) then shown.OutOfRange child.at ∷ [] else [])
+    child.arguments [])
+    (component_named tree child.component) []
 
 -- an index of a port isn't from 0 to the size less 1
 abbrev pub port_faults : Tree → Instance → At → End → List Fault
@@ -44,13 +46,14 @@ port_faults tree i at e = option_map_or faults_at (named tree i e) []
     faults_at : Named → List Fault
     faults_at x = indexed x.instance x.decl.size x.index
 
--- the faults of values and indexes in an instance
+-- the faults of values and of indexes of instances, in an instance
+abbrev pub own_faults : Tree → Instance → List Fault
+own_faults tree i = if is_expanded i then faults i.component i.env ++ flat_map (kind_faults tree) (children i.component i.env) else []
+
+-- those, and the faults of indexes of ports
 abbrev pub faults_in : Tree → Instance → List Fault
 faults_in tree i =
-    if is_expanded i
-    then faults i.component i.env ++ flat_map (kind_faults tree i) (children_in i)
-    ++ flat_map (λ b. port_faults tree i b.at b.left ++ port_faults tree i b.at b.right) (bindings_in i)
-    else []
+    own_faults tree i ++ flat_map (λ b. port_faults tree i b.at b.left ++ port_faults tree i b.at b.right) (bindings_in i)
 
 -- the notes of two ports differ, where both have one
 pub data NotesDiffer (x y : Option Named) : Type 0 where
@@ -85,10 +88,13 @@ pub data Faults (tree : Tree) (name : Name) (arguments : List ℤ) : ElabError �
   bad_index :
       (top i : Instance) (at : At) → top_instance tree name arguments ≡ Some top → Inst tree top i
       → Contains (faults_in tree i) (shown.BadIndex at) → Faults tree name arguments (error.BadIndex i.path at)
-  -- two reached entries make the instance of a path
+  -- two reached entries make the instance of a path: two of one instance, or one each of two
   two_instances :
-      (top : Instance) (path : Path) → top_instance tree name arguments ≡ Some top → Twice (paths_made tree top) path
+      (top i : Instance) (path : Path) → top_instance tree name arguments ≡ Some top → Inst tree top i → Twice (paths_in tree i) path
       → Faults tree name arguments (error.TwoInstances path)
+  two_apart :
+      (top i j : Instance) (path : Path) → top_instance tree name arguments ≡ Some top → Inst tree top i → Inst tree top j → i ≢ j
+      → Contains (paths_in tree i) path → Contains (paths_in tree j) path → Faults tree name arguments (error.TwoInstances path)
   -- in an instance one source is bound to two different ends
   bound_twice :
       (top i : Instance) (p q : Pair) → top_instance tree name arguments ≡ Some top → Inst tree top i

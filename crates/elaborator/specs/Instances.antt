@@ -1,6 +1,6 @@
 -- The instances of an elaboration: the top, and below each instance those that the entries reached in it make. Nothing
 -- is reached in an instance of a primitive component, which is a node, nor in one of depth 33, which is too deep.
-use Rattle.std.specs.Prelude.{ℕ, zero, suc, Bool, ◌&&◌, not, nat_lt, ℤ, List, [], ◌∷◌, map, length, sum_by, Option, Some, None, option_map, option_and_then, if◌then◌else◌, ◌==◌, Contains}
+use Rattle.std.specs.Prelude.{ℕ, zero, suc, Bool, ◌&&◌, not, nat_lt, ℤ, List, [], ◌∷◌, ◌++◌, length, sum_by, Option, Some, None, option_map, option_and_then, if◌then◌else◌, ◌==◌, Contains}
 use Rattle.std.specs.List.{flat_map, filter_map}
 use Rattle.darwin_parser.specs.Tree.{Name, Tree, Component}
 use Rattle.darwin_types.specs.Scope.{component_named, is_primitive}
@@ -40,16 +40,12 @@ child_path i child = within i.path child.segment
 
 -- the instance that an entry makes within another; it makes none where an argument has no value
 abbrev pub instance_of : Tree → Instance → Child → Option Instance
-instance_of tree i child = option_and_then (λ c. option_map (λ arguments. instance c arguments) child.arguments) (component_named tree child.component)
-  where
-    instance : Component → List ℤ → Instance
-    instance c arguments =
-        record {
-          path = child_path i child;
-          depth = suc i.depth;
-          component = c;
-          env = parameters c arguments;
-        }
+instance_of tree i child =
+    option_and_then
+    (λ c. option_map
+    (λ arguments. record { path = child_path i child; depth = suc i.depth; component = c; env = parameters c arguments })
+    child.arguments)
+    (component_named tree child.component)
 
 -- the instances right below an instance
 abbrev pub made_in : Tree → Instance → List Instance
@@ -61,14 +57,14 @@ pub data Inst (tree : Tree) (top : Instance) : Instance → Type 0 where
   at_top : Inst tree top top
   below : (i j : Instance) → Inst tree top i → Contains (made_in tree i) j → Inst tree top j
 
--- the same as a list: an instance and all below it, as many levels down as are said
-unfoldable pub family : Tree → ℕ → Instance → List Instance
-family tree zero i = i ∷ []
-family tree (suc levels) i = i ∷ flat_map (family tree levels) (made_in tree i)
+-- these instances, and as many levels of those that they make as are said
+unfoldable pub levels : Tree → ℕ → List Instance → List Instance
+levels tree zero is = is
+levels tree (suc n) is = is ++ levels tree n (flat_map (made_in tree) is)
 
--- all instances with this top, which has depth 0: those that lie deepest have depth 33
+-- all instances as a list, level by level: none lies deeper than 33
 abbrev pub instances : Tree → Instance → List Instance
-instances tree top = family tree 33 top
+instances tree top = levels tree 33 (top ∷ [])
 
 -- how many turns are taken and entries reached in an instance
 abbrev pub count_in : Instance → ℕ
@@ -78,6 +74,10 @@ count_in i = if is_expanded i then count i.component i.env else 0
 abbrev pub total : Tree → Instance → ℕ
 total tree top = sum_by count_in (instances tree top)
 
--- the paths of all instances that reached entries make, whether or not their arguments have values
-abbrev pub paths_made : Tree → Instance → List Path
-paths_made tree top = flat_map (λ i. map (child_path i) (children_in i)) (instances tree top)
+-- the path of the instance that an entry makes within another, also where an argument has no value
+abbrev pub path_of : Tree → Instance → Child → Option Path
+path_of tree i child = option_map (λ c. child_path i child) (component_named tree child.component)
+
+-- the paths that entries reached in an instance make
+abbrev pub paths_in : Tree → Instance → List Path
+paths_in tree i = filter_map (path_of tree i) (children_in i)

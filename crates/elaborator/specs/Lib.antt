@@ -5,10 +5,13 @@ pub mod Expanded
 pub mod Expansion
 pub mod Faults
 pub mod Graph
+pub mod Grown
+pub mod Growth
 pub mod Index
 pub mod Instances
 pub mod Links
 pub mod Nodes
+pub mod Opening
 pub mod Order
 pub mod Paths
 pub mod Ports

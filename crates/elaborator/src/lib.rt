@@ -3,12 +3,18 @@
 
 mod building;
 mod chains;
+mod directory;
 mod error;
+mod growing;
 mod instance;
+mod laws;
 mod links;
+mod making;
 mod nodes;
+mod opening;
 mod pairs;
 mod paths;
 mod ports;
 
 pub use error::ElabError;
+pub use laws::{an_instance_is_told_by_its_path, instances_are_those_of_the_list};

@@ -1,0 +1,478 @@
+-- What an expansion tells: the faults that it finds, and the whole where there are none.
+use Rattle.std.proofs.Common.{◌≡◌, ◌≢◌, ◌∙◌, inl, inr, ℕ, zero, suc, ◌+◌, ◌<◌, ◌≤◌, false, List, [], ◌∷◌, ◌++◌, length, length-append, length-set, set, map, All, Option, Some, None, Result, Ok, Err, refl, sym, ap, subst, arith}
+use Rattle.std.specs.List.{Contains, slice_get}
+use Rattle.std.specs.Option.{IsSome}
+use Rattle.std.specs.Map.{lookup}
+use Rattle.std.specs.Ordering.{nat_cmp, is_eq}
+use Rattle.std.specs.Cmp.Lexicographic.{slice_cmp}
+use Rattle.std.proofs.Math.Seq.{map-set_same}
+use Rattle.std.proofs.lemmas.Option.{none-some, same_Some, get_or_from_slice_get}
+use Rattle.std.proofs.lemmas.List.{length-map, map-append}
+use Rattle.std.proofs.lemmas.List.Elements.{All-head, All-tail}
+use Rattle.darwin_parser.specs.Tree.{Tree, tree_of, component_of}
+use Rattle.darwin_parser.specs.declared.tree.Unit.{Unit as Description}
+use Rattle.darwin_types.specs.Scope.{is_primitive}
+use Rattle.elaborator.specs.Paths.{Path}
+use Rattle.elaborator.specs.Instances.{Instance, made_in, paths_in, Inst, count_in, total}
+use Rattle.elaborator.specs.Faults.{own_faults, Twice}
+use Rattle.elaborator.specs.Expanded.{Made, Numbered, NumberedIn, IsExpanded, IsOf}
+use Rattle.elaborator.specs.Expansion.{made_of, instance_in, seen, number_at, IsKept}
+use Rattle.elaborator.specs.Opening.{Names, Judges, IsNoted, IsFound}
+use Rattle.elaborator.specs.Bindings.{bindings_in}
+use Rattle.darwin_walk.specs.Walked.{binding_of}
+use Rattle.elaborator.specs.Index.{Answers}
+use Rattle.elaborator.specs.declared.opening.Found.{Found}
+use Rattle.elaborator.specs.Growth.{IsTop, GrowthFault, IsClear, IsWhole}
+use Rattle.elaborator.specs.Growth.GrowthFault.{out_of_range, zero_divisor, bad_index, two_instances, two_apart, too_deep, too_many}
+use Rattle.elaborator.specs.Grown.{made_by, IsOpened, IsGrown, IsMapped, IsGrowth, IsSpread, IsClash, IsTold}
+use Rattle.elaborator.specs.declared.instance.Instance as code
+use Rattle.elaborator.specs.declared.growing.Growth.{Growth}
+use Rattle.elaborator.specs.declared.instance.Expansion.{Expansion}
+use Rattle.elaborator.specs.declared.error.ElabError.{ElabError}
+use Rattle.elaborator.specs.declared.error.ElabError.TheVariants as error
+use Rattle.elaborator.proofs.Lists.{Contains-map, Contains-from_map, slice_get-set_cases, slice_get-set_same, slice_get-set_other}
+use Rattle.elaborator.proofs.WholeLemmas.{Contains-at}
+use Rattle.elaborator.proofs.Places.{slice_get-append_cases, slice_get-below, slice_get-before, slice_get-behind, slice_get-map_some, slice_get-map_at, twice_at}
+use Rattle.elaborator.proofs.GrowthLemmas.{AreApart, same_made, earlier_or_same, grown-top, grown-open, grown-sound, grown-complete, grown-distinct, once-made}
+use Rattle.elaborator.proofs.SpreadLemmas.{total-within, spread-top, spread-open, total-above, depth-next}
+
+-- ---- faults
+
+-- what is named in an instance of the elaboration is a fault
+pub named-fault :
+    (tree : Tree) (top i : Instance) (many : Type 0) (e : ElabError) → Inst tree top i → Names i.path (own_faults tree i) many e → (many → 65536 < total tree top)
+    → e ≢ error.NoMemory → GrowthFault tree top e
+named-fault tree top i many (error.OutOfRange p at) inst names more other =
+    subst (λ q. GrowthFault tree top (error.OutOfRange q at)) (sym names.0) (out_of_range i at inst names.1)
+named-fault tree top i many (error.ZeroDivisor p at) inst names more other =
+    subst (λ q. GrowthFault tree top (error.ZeroDivisor q at)) (sym names.0) (zero_divisor i at inst names.1)
+named-fault tree top i many (error.BadIndex p at) inst names more other =
+    subst (λ q. GrowthFault tree top (error.BadIndex q at)) (sym names.0) (bad_index i at inst names.1)
+named-fault tree top i many error.TooMany inst names more other = too_many (more names)
+named-fault tree top i many error.NoMemory inst names more other = absurd (other refl)
+named-fault tree top i many (error.NoTop _) inst names more other = absurd names
+named-fault tree top i many (error.TopArgs _ _) inst names more other = absurd names
+named-fault tree top i many (error.TwoInstances _) inst names more other = absurd names
+named-fault tree top i many (error.BoundTwice _ _) inst names more other = absurd names
+named-fault tree top i many (error.BadBinding _ _) inst names more other = absurd names
+named-fault tree top i many (error.Annotation _ _) inst names more other = absurd names
+named-fault tree top i many (error.TooDeep _) inst names more other = absurd names
+named-fault tree top i many (error.DependsCycle _) inst names more other = absurd names
+named-fault tree top i many (error.TopIsKind _) inst names more other = absurd names
+
+its_path : Instance → Path
+its_path i = i.path
+
+-- a path that an instance makes
+makes_path :
+    (tree : Tree) (i j : Instance) (path : Path) → paths_in tree i ≡ map (λ (x : Instance). x.path) (made_in tree i) → Contains (made_in tree i) j → j.path ≡ path
+    → Contains (paths_in tree i) path
+makes_path tree i j path paths has is =
+    subst (λ ps. Contains ps path) (sym paths) (subst (Contains (map (λ (x : Instance). x.path) (made_in tree i))) is (Contains-map (λ (x : Instance). x.path) (made_in tree i) j has))
+
+-- two instances of one path, the second made in the instance at hand
+pub clash-fault :
+    (tree : Tree) (top : Instance) (made : List Made) (k : ℕ) (y : Made) (all : List code.Instance) (path : Path)
+    → IsGrown tree top made k → top.depth ≡ 0 → AreApart made → slice_get made k ≡ Some y → paths_in tree y.instance ≡ map (λ (x : Instance). x.path) (made_in tree y.instance)
+    → map made_of all ≡ made ++ map (made_by k) (made_in tree y.instance) → IsClash all (length made) path → GrowthFault tree top (error.TwoInstances path)
+clash-fault tree top made k y all path grown shallow apart at paths is clash =
+    elim (slice_get-append_cases made more clash.second (made_of clash.other) (in_all clash.second clash.other clash.other_at)) [
+      | inl early ↦ absurd (omega (arith, clash.later, slice_get-below made clash.second _ early))
+      | inr second ↦
+          let other = slice_get-map_some (made_by k) (made_in tree y.instance) second.0 (made_of clash.other) second.2 in
+          let other_path : other.0.path ≡ path = ap (λ (z : Made). z.instance.path) other.2 ∙ clash.other_path in
+          elim (slice_get-append_cases made more clash.first (made_of clash.one) (in_all clash.first clash.one clash.one_at)) [
+            | inl early ↦
+                let w = maker clash.first clash.made early in
+                let z = w.1.instance in
+                two_apart z y.instance path (grown-sound tree top made k grown w.0 w.1 w.3) (grown-sound tree top made k grown k y at)
+                (λ same. absurd (omega (arith, w.2, grown-distinct tree top made k grown shallow apart w.0 k w.1 y w.3 at (ap (λ (i : Instance). i.path) same) (ap (λ (i : Instance). i.depth) same))))
+                (makes_path tree z (instance_in clash.one) path (grown.clear w.0 w.1 w.2 w.3).paths w.4 clash.one_path)
+                (makes_path tree y.instance other.0 path paths (Contains-at _ second.0 other.0 other.1) other_path)
+            | inr first ↦
+                let one = slice_get-map_some (made_by k) (made_in tree y.instance) first.0 (made_of clash.one) first.2 in
+                let one_path : one.0.path ≡ path = ap (λ (z : Made). z.instance.path) one.2 ∙ clash.one_path in
+                two_instances y.instance path (grown-sound tree top made k grown k y at)
+                (subst (λ ps. Twice ps path) (sym paths)
+                (twice_at (map (λ (x : Instance). x.path) (made_in tree y.instance)) first.0 second.0 path (omega (arith, first.1, second.1, clash.in_order))
+                (slice_get-map_at (λ (x : Instance). x.path) (made_in tree y.instance) first.0 one.0 one.1 ∙ ap Some one_path)
+                (slice_get-map_at (λ (x : Instance). x.path) (made_in tree y.instance) second.0 other.0 other.1 ∙ ap Some other_path)))
+          ]
+    ]
+  where
+    more : List Made
+    more = map (made_by k) (made_in tree y.instance)
+
+    in_all : (a : ℕ) (x : code.Instance) → slice_get all a ≡ Some x → slice_get (made ++ map (made_by k) (made_in tree y.instance)) a ≡ Some (made_of x)
+    in_all a x there = ap (λ xs. slice_get xs a) (sym is) ∙ slice_get-map_at made_of all a x there
+
+    maker :
+        (n : ℕ) → 0 < n → slice_get made n ≡ Some (made_of clash.one)
+        → (m : ℕ) × (z : Made) × (m < k) × (slice_get made m ≡ Some z) × Contains (made_in tree z.instance) (instance_in clash.one)
+    maker zero lt there = absurd (omega (arith, lt))
+    maker (suc n) lt there = let w = grown.maker n (made_of clash.one) there in (w.0, w.1, w.4, w.5, w.6)
+
+-- ---- the whole
+
+pub apart-mapped : (e : Expansion) → IsMapped e → AreApart (map made_of e.instances.items)
+apart-mapped e mapped m n x y positive positive' at at' same =
+    let v = slice_get-map_some made_of e.instances.items m x at in
+    let w = slice_get-map_some made_of e.instances.items n y at' in
+    let paths : v.0.path ≡ w.0.path = ap (λ (z : Made). z.instance.path) v.2 ∙ same ∙ ap (λ (z : Made). z.instance.path) (sym w.2) in
+    same_Some m n (sym (mapped.found m v.0 positive v.1) ∙ ap (number_at e) paths ∙ mapped.found n w.0 positive' w.1)
+
+pub whole-expanded :
+    (top : Instance) (g : Growth) → IsGrowth top g → top.depth ≡ 0 → is_primitive top.component ≡ false → g.opened ≡ length g.expansion.instances.items
+    → IsExpanded (seen g.expansion)
+whole-expanded top g growth shallow composite all =
+    record {
+      made_below = λ m n i j at at'. below_maker n m i j at at';
+      below_made = λ m i j at has.
+          growth.grown.below m _ j (within m _ at.is_at) at.is_at has;
+      distinct = λ m n i j at at' same level. distinct m n _ _ at.is_at at'.is_at same level;
+      one_path = λ a b m n i j at at' same. one_path m n a b i j at at' same;
+      shallow = λ n i at. (growth.grown.clear n _ (within n _ at.is_at) at.is_at).shallow;
+      composite_top = λ n i at. top_only n i at;
+    }
+  where
+    within : (n : ℕ) (x : Made) → slice_get (map made_of g.expansion.instances.items) n ≡ Some x → n < g.opened
+    within n x at = omega (arith, all, slice_get-below _ n x at, length-map g.expansion.instances.items made_of)
+
+    distinct : (m n : ℕ) (x y : Made) → slice_get (map made_of g.expansion.instances.items) m ≡ Some x → slice_get (map made_of g.expansion.instances.items) n ≡ Some y → x.instance.path ≡ y.instance.path → x.instance.depth ≡ y.instance.depth → m ≡ n
+    distinct = grown-distinct (tree_of g.expansion.unit.now) top (map made_of g.expansion.instances.items) g.opened growth.grown shallow (apart-mapped g.expansion growth.mapped)
+
+    not_top : (m : ℕ) (i : Instance) → NumberedIn (seen g.expansion) m 0 i → ⊥
+    not_top m i at = none-some m (ap (λ (z : Made). z.maker) (same_made _ 0 _ _ growth.grown.first at))
+
+    below_maker : (n m : ℕ) (i j : Instance) → Numbered (seen g.expansion) m i → NumberedIn (seen g.expansion) m n j → Contains (made_in (tree_of g.expansion.unit.now) i) j
+    below_maker zero m i j at at' = absurd (not_top m j at')
+    below_maker (suc n) m i j at at' =
+        let w = growth.grown.maker n _ at' in
+        let number : m ≡ w.0 = same_Some m w.0 w.2 in
+        let one = same_made _ w.0 w.1 _ w.5 (subst (λ a. slice_get (map made_of g.expansion.instances.items) a ≡ Some (record { instance = i; maker = at.maker })) number at.is_at) in
+        subst (λ (z : Made). Contains (made_in (tree_of g.expansion.unit.now) z.instance) j) one w.6
+
+    one_path : (m n a b : ℕ) (i j : Instance) → NumberedIn (seen g.expansion) a m i → NumberedIn (seen g.expansion) b n j → i.path ≡ j.path → m ≡ n
+    one_path zero n a b i j at at' same = absurd (not_top a i at)
+    one_path (suc m) zero a b i j at at' same = absurd (not_top b j at')
+    one_path (suc m) (suc n) a b i j at at' same = apart-mapped g.expansion growth.mapped (suc m) (suc n) _ _ (omega arith) (omega arith) at at' same
+
+    top_only : (n : ℕ) (i : Instance) → slice_get (map made_of g.expansion.instances.items) n ≡ Some (record { instance = i; maker = None }) → is_primitive i.component ≡ false
+    top_only zero i at = ap (λ (z : Made). is_primitive z.instance.component) (sym (same_made _ 0 _ _ growth.grown.first at)) ∙ composite
+    top_only (suc n) i at = let w = growth.grown.maker n _ at in absurd (none-some w.0 w.2)
+
+-- each instance of the elaboration is there, and opened
+standing :
+    (top : Instance) (g : Growth) → IsGrowth top g → g.opened ≡ length g.expansion.instances.items → (i : Instance) → Inst (tree_of g.expansion.unit.now) top i
+    → (n : ℕ) × (x : Made) × (n < g.opened) × (slice_get (map made_of g.expansion.instances.items) n ≡ Some x) × (x.instance ≡ i)
+standing top g growth all i inst =
+    let made = map made_of g.expansion.instances.items in
+    let number : g.opened ≡ length made = all ∙ sym (length-map g.expansion.instances.items made_of) in
+    let w = grown-complete (tree_of g.expansion.unit.now) top made (subst (IsGrown (tree_of g.expansion.unit.now) top made) number growth.grown) i inst in
+    (w.0, w.1, omega (arith, number, slice_get-below made w.0 w.1 w.2), w.2, w.3)
+
+is_opened :
+    (top : Instance) (g : Growth) → IsGrowth top g → g.opened ≡ length g.expansion.instances.items → (i : Instance) → Inst (tree_of g.expansion.unit.now) top i
+    → IsOpened (tree_of g.expansion.unit.now) i
+is_opened top g growth all i inst =
+    let w = standing top g growth all i inst in
+    subst (IsOpened (tree_of g.expansion.unit.now)) w.4 (growth.grown.clear w.0 w.1 w.2 w.3)
+
+-- what an instance makes at a path has a number
+made_at :
+    (top : Instance) (g : Growth) → IsGrowth top g → g.opened ≡ length g.expansion.instances.items → (i : Instance) (path : Path)
+    → Inst (tree_of g.expansion.unit.now) top i → Contains (paths_in (tree_of g.expansion.unit.now) i) path
+    → (m : ℕ) × (n : ℕ) × (x : Made) × (y : Made) × (slice_get (map made_of g.expansion.instances.items) m ≡ Some x) × (x.instance ≡ i)
+    × (slice_get (map made_of g.expansion.instances.items) (suc n) ≡ Some y) × (y.maker ≡ Some m) × (y.instance.path ≡ path)
+made_at top g growth all i path inst has =
+    let tree = tree_of g.expansion.unit.now in
+    let w = standing top g growth all i inst in
+    let from = Contains-from_map (λ (x : Instance). x.path) (made_in tree i) path (subst (λ ps. Contains ps path) (is_opened top g growth all i inst).paths has) in
+    let b = growth.grown.below w.0 w.1 from.0 w.2 w.3 (subst (λ z. Contains (made_in tree z) from.0) (sym w.4) from.1) in
+    later b.0 w.0 w.1 from.0 w.3 w.4 b.1 from.2
+  where
+    later :
+        (n m : ℕ) (x : Made) (j : Instance) → slice_get (map made_of g.expansion.instances.items) m ≡ Some x → x.instance ≡ i
+        → slice_get (map made_of g.expansion.instances.items) n ≡ Some (made_by m j) → path ≡ j.path
+        → (m : ℕ) × (n : ℕ) × (x : Made) × (y : Made) × (slice_get (map made_of g.expansion.instances.items) m ≡ Some x) × (x.instance ≡ i)
+        × (slice_get (map made_of g.expansion.instances.items) (suc n) ≡ Some y) × (y.maker ≡ Some m) × (y.instance.path ≡ path)
+    later zero m x j at is there same = absurd (none-some m (ap (λ (z : Made). z.maker) (same_made _ 0 _ _ growth.grown.first there)))
+    later (suc n) m x j at is there same = (m, n, x, made_by m j, at, is, there, refl, sym same)
+
+pub whole-clear :
+    (top : Instance) (g : Growth) → IsGrowth top g → g.opened ≡ length g.expansion.instances.items → IsClear (tree_of g.expansion.unit.now) top
+whole-clear top g growth all =
+    record {
+      no_fault = λ i inst. (is_opened top g growth all i inst).no_fault;
+      once = λ i path inst. (is_opened top g growth all i inst).once path;
+      apart = λ i j path inst inst' has has'.
+          let made = map made_of g.expansion.instances.items in
+          let v = made_at top g growth all i path inst has in
+          let w = made_at top g growth all j path inst' has' in
+          let number = apart-mapped g.expansion growth.mapped (suc v.1) (suc w.1) v.3 w.3 (omega arith) (omega arith) v.6 w.6 (v.8 ∙ sym w.8) in
+          let one = same_made made (suc w.1) v.3 w.3 (subst (λ n. slice_get made n ≡ Some v.3) number v.6) w.6 in
+          let maker : v.0 ≡ w.0 = same_Some v.0 w.0 (sym v.7 ∙ ap (λ (z : Made). z.maker) one ∙ w.7) in
+          sym v.5 ∙ ap (λ (z : Made). z.instance) (same_made made w.0 v.2 w.2 (subst (λ n. slice_get made n ≡ Some v.2) maker v.4) w.4) ∙ w.5;
+      shallow = λ i inst. (is_opened top g growth all i inst).shallow;
+      few =
+          total-within (tree_of g.expansion.unit.now) top (map instance_in g.expansion.instances.items) g.room
+          (subst (λ n. IsSpread (tree_of g.expansion.unit.now) top (map instance_in g.expansion.instances.items) n g.room) (all ∙ sym (length-map g.expansion.instances.items instance_in)) growth.spread);
+    }
+
+pub whole-kept :
+    (top : Instance) (g : Growth) → IsGrowth top g → top.depth ≡ 0 → is_primitive top.component ≡ false → g.opened ≡ length g.expansion.instances.items
+    → IsKept g.expansion
+whole-kept top g growth shallow composite all =
+    record {
+      is_expanded = whole-expanded top g growth shallow composite all;
+      few = omega (arith, growth.few);
+      counted = growth.mapped.counted;
+      primitive = λ n i at. growth.told n i at;
+      bindings = λ n i at. growth.bindings n i (omega (arith, all, slice_get-below _ n i at)) at;
+      found = λ n i at made. found n i at made;
+      told = λ n path i is at.
+          let w = growth.mapped.told n path is in
+          ap (λ (x : code.Instance). x.path) (same_Some i w.0 (sym at ∙ w.1)) ∙ w.2;
+      within = λ n path is.
+          let w = growth.mapped.told n path is in
+          slice_get-below g.expansion.instances.items n w.0 w.1;
+    }
+  where
+    found : (n : ℕ) (i : code.Instance) → slice_get g.expansion.instances.items n ≡ Some i → IsSome i.maker → number_at g.expansion i.path ≡ Some n
+    found zero i at made =
+        let none : i.maker ≡ None = ap (λ (z : Made). z.maker) (sym (same_made _ 0 _ _ growth.grown.first (slice_get-map_at made_of g.expansion.instances.items 0 i at))) in
+        absurd (not_none i.maker none made)
+      where
+        not_none : (o : Option ℕ) → o ≡ None → IsSome o → ⊥
+        not_none o none some = cc
+    found (suc n) i at made = growth.mapped.found (suc n) i (omega arith) at
+
+pub whole-of : (top : Instance) (g : Growth) → IsGrowth top g → g.opened ≡ length g.expansion.instances.items → IsOf (seen g.expansion) top
+whole-of top g growth all =
+    record {
+      sound = λ n i at. grown-sound _ top _ g.opened growth.grown n _ at.is_at;
+      complete = λ i inst.
+          let w = standing top g growth all i inst in
+          (w.0, record { maker = w.1.maker; is_at = w.3 ∙ ap (λ j. Some (record { instance = j; maker = w.1.maker })) w.4 });
+    }
+
+pub whole :
+    (unit : Description) (top : code.Instance) (g : Growth) → IsTop top → tree_of g.expansion.unit.now ≡ tree_of unit → IsGrowth (instance_in top) g
+    → length g.expansion.instances.items ≤ g.opened → IsWhole unit top g.expansion
+whole unit top g is_top same growth all_opened =
+    let all : g.opened ≡ length g.expansion.instances.items = omega (arith, all_opened, growth.within) in
+    record {
+      kept = whole-kept (instance_in top) g growth is_top.depth is_top.composite all;
+      same_tree = same;
+      is_of = whole-of (instance_in top) g growth all;
+      clear = subst (λ tree. IsClear tree (instance_in top)) same (whole-clear (instance_in top) g growth all);
+    }
+
+-- the top alone
+pub growth-top :
+    (top : code.Instance) (g : Growth) → IsTop top → g.expansion.instances.items ≡ top ∷ [] → g.opened ≡ 0 → g.room ≡ 65536 → g.expansion.numbers.entries ≡ []
+    → IsGrowth (instance_in top) g
+growth-top top g is_top alone none_opened all_room empty =
+    record {
+      at_top = is_top.depth;
+      grown =
+          subst (λ is. IsGrown tree (instance_in top) (map made_of is) g.opened) (sym alone)
+          (subst (IsGrown tree (instance_in top) (made_of top ∷ [])) (sym none_opened)
+          (subst (λ maker. IsGrown tree (instance_in top) (record { instance = instance_in top; maker = maker } ∷ []) 0) (sym is_top.unmade) (grown-top tree (instance_in top))));
+      spread =
+          subst (λ is. IsSpread tree (instance_in top) (map instance_in is) g.opened g.room) (sym alone)
+          (subst (λ n. IsSpread tree (instance_in top) (instance_in top ∷ []) n g.room) (sym none_opened)
+          (subst (IsSpread tree (instance_in top) (instance_in top ∷ []) 0) (sym all_room) (spread-top tree (instance_in top) is_top.depth)));
+      mapped =
+          record {
+            counted = omega (arith, ap length empty, ap length alone);
+            found = λ n i positive at. absurd (alone_at n i positive (ap (λ is. slice_get is n) (sym alone) ∙ at));
+            told = λ n path is. absurd (none-some n (ap (λ es. lookup (λ p. is_eq (slice_cmp nat_cmp path p.items)) es) (sym empty) ∙ is));
+          };
+      told = λ n i at. told n i (ap (λ is. slice_get is n) (sym alone) ∙ at);
+      bindings = λ n i lt at. absurd (omega (arith, lt, none_opened));
+      few = omega (arith, ap length alone, all_room);
+      within = omega (arith, none_opened);
+    }
+  where
+    tree : Tree
+    tree = tree_of g.expansion.unit.now
+
+    alone_at : (n : ℕ) (i : code.Instance) → 0 < n → slice_get (top ∷ []) n ≡ Some i → ⊥
+    alone_at zero i positive at = absurd (omega (arith, positive))
+    alone_at (suc n) i positive at = none-some i at
+
+    told : (n : ℕ) (i : code.Instance) → slice_get (top ∷ []) n ≡ Some i → i.is_primitive ≡ is_primitive (component_of i.component.now)
+    told zero i at = subst (λ (j : code.Instance). j.is_primitive ≡ is_primitive (component_of j.component.now)) (same_Some top i at) (is_top.noted ∙ sym is_top.composite)
+    told (suc n) i at = absurd (none-some i at)
+
+-- ---- the next instance
+
+made_next : (g : Growth) (next : code.Instance) → slice_get g.expansion.instances.items g.opened ≡ Some next → slice_get (map made_of g.expansion.instances.items) g.opened ≡ Some (made_of next)
+made_next g next at = slice_get-map_at made_of g.expansion.instances.items g.opened next at
+
+seen_next : (g : Growth) (next : code.Instance) → slice_get g.expansion.instances.items g.opened ≡ Some next → slice_get (map instance_in g.expansion.instances.items) g.opened ≡ Some (instance_in next)
+seen_next g next at = slice_get-map_at instance_in g.expansion.instances.items g.opened next at
+
+next_inst :
+    (top : Instance) (g : Growth) (next : code.Instance) → IsGrowth top g → slice_get g.expansion.instances.items g.opened ≡ Some next
+    → Inst (tree_of g.expansion.unit.now) top (instance_in next)
+next_inst top g next growth at = grown-sound (tree_of g.expansion.unit.now) top _ g.opened growth.grown g.opened (made_of next) (made_next g next at)
+
+-- it is too deep
+pub deep-fault :
+    (top : Instance) (g : Growth) (next : code.Instance) (path : Path) → IsGrowth top g → slice_get g.expansion.instances.items g.opened ≡ Some next → 33 ≤ next.depth
+    → path ≡ next.path → GrowthFault (tree_of g.expansion.unit.now) top (error.TooDeep path)
+deep-fault top g next path growth at deep is =
+    subst (λ p. GrowthFault (tree_of g.expansion.unit.now) top (error.TooDeep p)) (sym is)
+    (too_deep (instance_in next) (next_inst top g next growth at)
+    (omega (arith, deep, depth-next (tree_of g.expansion.unit.now) top _ g.opened g.room (instance_in next) growth.spread (seen_next g next at))))
+
+-- it is opened
+pub judged-next :
+    (top : Instance) (g : Growth) (next : code.Instance) (P : Found → Type 0) (r : Result Found ElabError) → IsGrowth top g → slice_get g.expansion.instances.items g.opened ≡ Some next
+    → next.depth < 33 → Judges next.path (own_faults (tree_of g.expansion.unit.now) (instance_in next)) (g.room < count_in (instance_in next)) P r
+    → Answers (λ f. (next.depth < 33) × (own_faults (tree_of g.expansion.unit.now) (instance_in next) ≡ []) × P f) (GrowthFault (tree_of g.expansion.unit.now) top) r
+judged-next top g next P (Ok f) growth at shallow told = (shallow, told.0, told.1)
+judged-next top g next P (Err e) growth at shallow told = λ other.
+    named-fault (tree_of g.expansion.unit.now) top (instance_in next) _ e (next_inst top g next growth at) told
+    (λ many. total-above (tree_of g.expansion.unit.now) top _ g.opened g.room (instance_in next) growth.spread (seen_next g next at) many) other
+
+-- ---- the next instance is opened
+
+noted_made : (k : ℕ) (js : List code.Instance) → All (IsNoted (Some k)) js → map made_of js ≡ map (made_by k) (map instance_in js)
+noted_made k [] noted = refl
+noted_made k (j ∷ js) noted =
+    ap (λ maker. record { instance = instance_in j; maker = maker } ∷ map made_of js) (All-head (IsNoted (Some k)) j js noted).maker_is
+    ∙ ap (λ is. made_by k (instance_in j) ∷ is) (noted_made k js (All-tail (IsNoted (Some k)) j js noted))
+
+noted_at : (maker : Option ℕ) (js : List code.Instance) (a : ℕ) (j : code.Instance) → All (IsNoted maker) js → slice_get js a ≡ Some j → IsNoted maker j
+noted_at maker js a j noted at = subst (IsNoted maker) (get_or_from_slice_get js a j j at) (noted a j (slice_get-below js a j at))
+
+-- the instance with its bindings in the place of the one that was read, and behind all those that it makes
+pub all_made :
+    (tree : Tree) (items js : List code.Instance) (k : ℕ) (x y : code.Instance) → slice_get items k ≡ Some x → made_of y ≡ made_of x
+    → map instance_in js ≡ made_in tree (instance_in x) → All (IsNoted (Some k)) js
+    → map made_of (set items k y ++ js) ≡ map made_of items ++ map (made_by k) (made_in tree (instance_in x))
+all_made tree items js k x y at same made noted =
+    map-append made_of (set items k y) js
+    ∙ ap (λ is. is ++ map made_of js) (map-set_same made_of items k y x (same ∙ ap made_of (sym (get_or_from_slice_get items k x x at))))
+    ∙ ap (λ is. map made_of items ++ is) (noted_made k js noted ∙ ap (map (made_by k)) made)
+
+-- two instances of one path
+pub clash-next :
+    (top : Instance) (g : Growth) (x y : code.Instance) (f : Found) (path : Path) → IsGrowth top g → slice_get g.expansion.instances.items g.opened ≡ Some x
+    → made_of y ≡ made_of x → IsFound (tree_of g.expansion.unit.now) (instance_in x) g.opened g.room f
+    → IsClash (set g.expansion.instances.items g.opened y ++ f.made.items) (length (set g.expansion.instances.items g.opened y)) path
+    → GrowthFault (tree_of g.expansion.unit.now) top (error.TwoInstances path)
+clash-next top g x y f path growth at same found clash =
+    let items = g.expansion.instances.items in
+    let lengths : length (set items g.opened y) ≡ length (map made_of items) = length-set items g.opened y ∙ sym (length-map items made_of) in
+    clash-fault (tree_of g.expansion.unit.now) top (map made_of items) g.opened (made_of x) (set items g.opened y ++ f.made.items) path
+    growth.grown growth.at_top (apart-mapped g.expansion growth.mapped) (made_next g x at) found.paths
+    (all_made (tree_of g.expansion.unit.now) items f.made.items g.opened x y at same found.made found.noted)
+    (subst (λ n. IsClash (set items g.opened y ++ f.made.items) n path) lengths clash)
+
+-- the next instance x is now y, with its bindings, and the instances that it makes are added
+pub record IsNext (top : Instance) (g : Growth) (x y : code.Instance) (f : Found) (new : Growth) : Type 0 where
+  pub growth : IsGrowth top g
+  pub at : slice_get g.expansion.instances.items g.opened ≡ Some x
+  pub same : made_of y ≡ made_of x
+  pub told : IsTold y
+  pub bound : map binding_of y.bindings.items ≡ bindings_in (instance_in y)
+  pub shallow : x.depth < 33
+  pub faultless : own_faults (tree_of g.expansion.unit.now) (instance_in x) ≡ []
+  pub found : IsFound (tree_of g.expansion.unit.now) (instance_in x) g.opened g.room f
+  pub same_unit : new.expansion.unit ≡ g.expansion.unit
+  pub grown : new.expansion.instances.items ≡ set g.expansion.instances.items g.opened y ++ f.made.items
+  pub mapped : IsMapped new.expansion
+  pub opened : new.opened ≡ g.opened + 1
+  pub room : f.count + new.room ≡ g.room
+
+module _ (top : Instance) (g new : Growth) (x y : code.Instance) (f : Found) (s : IsNext top g x y f new) where
+  abbrev tree : Tree
+  tree = tree_of g.expansion.unit.now
+
+  abbrev items : List code.Instance
+  items = g.expansion.instances.items
+
+  abbrev next : Instance
+  next = instance_in x
+
+  within : g.opened < length items
+  within = slice_get-below items g.opened x s.at
+
+  lengths : length new.expansion.instances.items ≡ length items + length f.made.items
+  lengths = omega (arith, ap length s.grown, length-append (set items g.opened y) f.made.items, length-set items g.opened y)
+
+  all : map made_of new.expansion.instances.items ≡ map made_of items ++ map (made_by g.opened) (made_in tree next)
+  all = ap (map made_of) s.grown ∙ all_made tree items f.made.items g.opened x y s.at s.same s.found.made s.found.noted
+
+  all_seen : map instance_in new.expansion.instances.items ≡ map instance_in items ++ made_in tree next
+  all_seen =
+      ap (map instance_in) s.grown ∙ map-append instance_in (set items g.opened y) f.made.items
+      ∙ ap (λ is. is ++ map instance_in f.made.items)
+      (map-set_same instance_in items g.opened y x (ap (λ (z : Made). z.instance) s.same ∙ ap instance_in (sym (get_or_from_slice_get items g.opened x x s.at))))
+      ∙ ap (λ is. map instance_in items ++ is) s.found.made
+
+  opened_next : IsOpened tree next
+  opened_next =
+      record {
+        no_fault = s.faultless;
+        once =
+            once-made tree next (map made_of items ++ map (made_by g.opened) (made_in tree next)) g.opened (length (map made_of items))
+            (omega (arith, within, length-map items made_of)) s.found.paths
+            (λ a j there. slice_get-behind (map made_of items) (map (made_by g.opened) (made_in tree next)) a _ (slice_get-map_at (made_by g.opened) _ a j there))
+            (subst AreApart all (apart-mapped new.expansion s.mapped));
+        paths = s.found.paths;
+        shallow = s.shallow;
+      }
+
+  grown_next : IsGrown tree top (map made_of new.expansion.instances.items) new.opened
+  grown_next =
+      subst (λ is. IsGrown tree top is new.opened) (sym all)
+      (subst (IsGrown tree top (map made_of items ++ map (made_by g.opened) (made_in tree next))) (sym s.opened)
+      (grown-open tree top (map made_of items) g.opened (made_of x) s.growth.grown (made_next g x s.at) opened_next))
+
+  spread_next : IsSpread tree top (map instance_in new.expansion.instances.items) new.opened new.room
+  spread_next =
+      subst (λ is. IsSpread tree top is new.opened new.room) (sym all_seen)
+      (subst (λ n. IsSpread tree top (map instance_in items ++ made_in tree next) n new.room) (sym s.opened)
+      (spread-open tree top (map instance_in items) g.opened g.room new.room next s.growth.spread (seen_next g x s.at) (ap (λ n. n + new.room) (sym s.found.count) ∙ s.room)))
+
+  told_next : (n : ℕ) (i : code.Instance) → slice_get new.expansion.instances.items n ≡ Some i → IsTold i
+  told_next n i there =
+      elim (slice_get-append_cases (set items g.opened y) f.made.items n i (ap (λ is. slice_get is n) (sym s.grown) ∙ there)) [
+        | inl front ↦
+            elim (slice_get-set_cases items g.opened y n i front) [
+              | inl here ↦ subst IsTold here.1 s.told
+              | inr other ↦ s.growth.told n i other
+            ]
+        | inr behind ↦ (noted_at (Some g.opened) f.made.items behind.0 i s.found.noted behind.2).primitive
+      ]
+
+  bound_next : (n : ℕ) (i : code.Instance) → n < new.opened → slice_get new.expansion.instances.items n ≡ Some i → map binding_of i.bindings.items ≡ bindings_in (instance_in i)
+  bound_next n i lt there =
+      let front =
+      slice_get-before (set items g.opened y) f.made.items n i (omega (arith, lt, s.opened, within, length-set items g.opened y))
+      (ap (λ is. slice_get is n) (sym s.grown) ∙ there) in
+      elim (earlier_or_same n g.opened (omega (arith, lt, s.opened))) [
+        | inl before ↦ s.growth.bindings n i before (sym (slice_get-set_other items g.opened y n (λ same. absurd (omega (arith, before, same)))) ∙ front)
+        | inr here ↦
+            subst (λ (z : code.Instance). map binding_of z.bindings.items ≡ bindings_in (instance_in z))
+            (same_Some y i (sym (slice_get-set_same items g.opened y within) ∙ ap (slice_get (set items g.opened y)) (sym here) ∙ front)) s.bound
+      ]
+
+  -- all that holds goes on to hold
+  pub growth-next : IsGrowth top new
+  growth-next =
+      record {
+        at_top = s.growth.at_top;
+        grown = subst (λ u. IsGrown (tree_of u) top (map made_of new.expansion.instances.items) new.opened) (sym (ap (λ r. r.now) s.same_unit)) grown_next;
+        spread = subst (λ u. IsSpread (tree_of u) top (map instance_in new.expansion.instances.items) new.opened new.room) (sym (ap (λ r. r.now) s.same_unit)) spread_next;
+        mapped = s.mapped;
+        told = told_next;
+        bindings = bound_next;
+        few = omega (arith, s.growth.few, s.room, s.found.few, lengths);
+        within = omega (arith, within, s.opened, lengths);
+      }

@@ -1,0 +1,89 @@
+use Rattle.std.proofs.Common.{◌≡◌, ◌++◌, refl, sym, subst, set, length, length-set, arith}
+use Rattle.std.proofs.lemmas.Option.{slice_get_read}
+use Rattle.darwin_parser.specs.Tree.{tree_of}
+use Rattle.elaborator.specs.Paths.{Path}
+use Rattle.elaborator.specs.Growth.{GrowthFault}
+use Rattle.elaborator.specs.Grown.{IsClash}
+use Rattle.elaborator.specs.declared.error.ElabError.TheVariants.{TwoInstances}
+use Rattle.elaborator.proofs.AnswerLemmas.{passed_on}
+use Rattle.elaborator.proofs.MappedLemmas.{mapped-set}
+use Rattle.elaborator.proofs.Places.{slice_get-there}
+use Rattle.elaborator.proofs.ExpandLemmas.{clash-next, growth-next}
+use Rattle.elaborator.proofs.growing.Growth.open_next.Goals as goal
+
+pub returns-in_err-found : goal.returns-in_err-found
+returns-in_err-found c = λ top growth.
+    let g = c.args.self.now in
+    let next = slice_get-there g.expansion.instances.items g.opened c.requires.within in
+    passed_on _ (GrowthFault (tree_of g.expansion.unit.now) top) _ _ c.from_residual.result c.from_residual.ensures.1
+    (c.in_err-found.ensures top next.0 growth next.1) (λ f cause. cause)
+
+pub add_all-requires-clause-mapped : goal.add_all-requires-clause-mapped
+add_all-requires-clause-mapped c =
+    let g = c.args.self.now in
+    let x = c.index_mut.result.now in
+    let at = slice_get_read g.expansion.instances.items _ g.opened x refl c.requires.within c.index_mut.ensures.value in
+    mapped-set g.expansion _ g.opened x (record x { bindings = c.in_ok-found.found.bindings }) c.requires.growth.1.mapped at refl refl refl
+
+pub add_all-requires-clause-few : goal.add_all-requires-clause-few
+add_all-requires-clause-few c =
+    let g = c.args.self.now in
+    let x = c.index_mut.result.now in
+    let at = slice_get_read g.expansion.instances.items _ g.opened x refl c.requires.within c.index_mut.ensures.value in
+    let found = (c.in_ok-found.ensures c.requires.growth.0 x c.requires.growth.1 at).2 in
+    omega (
+      arith,
+      found.few,
+      found.within,
+      c.requires.growth.1.few,
+      length-set g.expansion.instances.items g.opened (record x { bindings = c.in_ok-found.found.bindings }),
+    )
+
+pub returns-in_err-add_all : goal.returns-in_err-add_all
+returns-in_err-add_all c = λ top growth.
+    let g = c.args.self.now in
+    let x = c.index_mut.result.now in
+    let y = record x { bindings = c.in_ok-found.found.bindings } in
+    let items = set g.expansion.instances.items g.opened y in
+    let at = slice_get_read g.expansion.instances.items _ g.opened x refl c.requires.within c.index_mut.ensures.value in
+    let found = (c.in_ok-found.ensures top x growth at).2 in
+    passed_on _ (λ f. (path : Path) × (f ≡ TwoInstances path) × IsClash (items ++ c.in_ok-found.found.made.items) (length items) path) _ _
+    c.from_residual-in_err-add_all.result c.from_residual-in_err-add_all.ensures.1 c.in_err-add_all.ensures
+    (λ f cause.
+    subst (GrowthFault (tree_of g.expansion.unit.now) top) (sym cause.1)
+    (clash-next top g x y c.in_ok-found.found cause.0 growth at refl found cause.2))
+
+pub overflow_sub-self : goal.overflow_sub-self
+overflow_sub-self c =
+    let g = c.args.self.now in
+    let x = c.index_mut.result.now in
+    let at = slice_get_read g.expansion.instances.items _ g.opened x refl c.requires.within c.index_mut.ensures.value in
+    (c.in_ok-found.ensures c.requires.growth.0 x c.requires.growth.1 at).2.within
+
+pub returns : goal.returns
+returns c = λ top growth.
+    let g = c.args.self.now in
+    let x = c.index_mut.result.now in
+    let y = record x { bindings = c.in_ok-found.found.bindings } in
+    let at = slice_get_read g.expansion.instances.items _ g.opened x refl c.requires.within c.index_mut.ensures.value in
+    let shown = c.in_ok-found.ensures top x growth at in
+    let extended = c.in_ok-add_all.ensures in (
+      extended.same_unit,
+      refl,
+      growth-next top g _ x y c.in_ok-found.found
+          (record {
+            growth = growth;
+            at = at;
+            same = refl;
+            told = growth.told g.opened x at;
+            bound = shown.2.bindings;
+            shallow = shown.0;
+            faultless = shown.1;
+            found = shown.2;
+            same_unit = extended.same_unit;
+            grown = extended.instances;
+            mapped = extended.mapped;
+            opened = refl;
+            room = omega (arith, shown.2.within);
+          }),
+    )

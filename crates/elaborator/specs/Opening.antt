@@ -1,0 +1,68 @@
+-- What is found in an instance when it is opened, and what an answer tells of it.
+use Rattle.std.specs.Prelude.{◌≡◌, ◌≤◌, ℕ, List, [], map, length, Some, Option, option_map, IfSome, All, Contains, Result, Ok, Err, Vec}
+use Rattle.std.specs.List.{filter_map}
+use Rattle.std.specs.Global.{Global}
+use Rattle.darwin_parser.specs.Tree.{Tree, component_of}
+use Rattle.darwin_types.specs.Scope.{is_primitive}
+use Rattle.darwin_walk.specs.Instance.{Child}
+use Rattle.darwin_walk.specs.Walked.{binding_of}
+use Rattle.darwin_walk.specs.declared.fault.Fault.{Fault}
+use Rattle.darwin_walk.specs.declared.fault.Fault.TheVariants as shown
+use Rattle.darwin_walk.specs.declared.fault.WalkError.{WalkError}
+use Rattle.darwin_walk.specs.declared.fault.WalkError.TheVariants as walk
+use Rattle.elaborator.specs.Paths.{Path}
+use Rattle.elaborator.specs.Instances.{Instance, instance_of, made_in, paths_in, count_in}
+use Rattle.elaborator.specs.Bindings.{bindings_in}
+use Rattle.elaborator.specs.Expansion.{instance_in}
+use Rattle.elaborator.specs.declared.instance.Instance as code
+use Rattle.elaborator.specs.declared.opening.Found.{Found}
+use Rattle.elaborator.specs.declared.error.ElabError.{ElabError}
+use Rattle.elaborator.specs.declared.error.ElabError.TheVariants as error
+
+-- an error names one of these faults, in the instance of the path, or that too much is counted
+abbrev pub Names : Path → List Fault → Type 0 → ElabError → Type 0
+Names path fs too_many (error.OutOfRange p at) = (p ≡ path) × Contains fs (shown.OutOfRange at)
+Names path fs too_many (error.ZeroDivisor p at) = (p ≡ path) × Contains fs (shown.ZeroDivisor at)
+Names path fs too_many (error.BadIndex p at) = (p ≡ path) × Contains fs (shown.BadIndex at)
+Names path fs too_many error.TooMany = too_many
+Names path fs too_many error.NoMemory = Unit {0}
+Names path fs too_many _ = ⊥
+
+-- an answer tells of faults in an instance: that there is none, and this of its value, or that it names one
+abbrev pub Judges : {T : Type 0} → Path → List Fault → Type 0 → (T → Type 0) → Result T ElabError → Type 0
+Judges path fs too_many P (Ok x) = (fs ≡ []) × P x
+Judges path fs too_many P (Err e) = Names path fs too_many e
+
+-- an error of a walk, in the instance of the path
+abbrev pub error_at : Path → WalkError → ElabError
+error_at path (walk.Fault (shown.OutOfRange at)) = error.OutOfRange path at
+error_at path (walk.Fault (shown.ZeroDivisor at)) = error.ZeroDivisor path at
+error_at path (walk.Fault (shown.BadIndex at)) = error.BadIndex path at
+error_at path walk.TooMany = error.TooMany
+error_at path walk.NoMemory = error.NoMemory
+
+-- the instance is noted as made in the one of the number, and as primitive where its component is
+pub record IsNoted (maker : Option ℕ) (i : code.Instance) : Type 0 where
+  pub maker_is : i.maker ≡ maker
+  pub primitive : i.is_primitive ≡ is_primitive (component_of i.component.now)
+
+-- the instance that a child is, if it is one, within the instance of the number
+pub record IsMade (tree : Tree) (i : Instance) (number : ℕ) (child : Child) (made : Option code.Instance) : Type 0 where
+  pub instance : option_map instance_in made ≡ instance_of tree i child
+  pub noted : IfSome made (IsNoted (Some number))
+
+-- the instances that children are, in order
+pub record AreMade (tree : Tree) (i : Instance) (number : ℕ) (children : List Child) (made : Vec code.Instance Global) : Type 0 where
+  pub instances : map instance_in made.items ≡ filter_map (instance_of tree i) children
+  pub noted : All (IsNoted (Some number)) made.items
+
+-- what an instance shows when it is opened
+pub record IsFound (tree : Tree) (i : Instance) (number room : ℕ) (f : Found) : Type 0 where
+  pub bindings : map binding_of f.bindings.items ≡ bindings_in i
+  pub made : map instance_in f.made.items ≡ made_in tree i
+  pub paths : paths_in tree i ≡ map (λ (j : Instance). j.path) (made_in tree i)
+  pub noted : All (IsNoted (Some number)) f.made.items
+  -- each is of an entry that is counted
+  pub few : length f.made.items ≤ f.count
+  pub count : f.count ≡ count_in i
+  pub within : f.count ≤ room
