@@ -88,12 +88,12 @@ first_links-push tree top nodes from require old new t so_far is_target pushed =
     record_of l = record { node = l.to; provide = l.provide }
 
 -- a link begins at a requirement of its node
-begins_within : (tree : Tree) (top : Instance) (nodes : List Node) (l : Link) → IsLink tree top nodes l → l.require < requires_at nodes l.from
+pub begins_within : (tree : Tree) (top : Instance) (nodes : List Node) (l : Link) → IsLink tree top nodes l → l.require < requires_at nodes l.from
 begins_within tree top nodes l is =
     let within = slice_get_within (row is.from.kind).requires_ l.require is.linked.required is.linked.requires_it in
     omega (arith, within, ap (λ o. option_map_or requires_of o 0) is.is_from)
 
-ends_within : (tree : Tree) (top : Instance) (nodes : List Node) (l : Link) → IsLink tree top nodes l → l.provide < provides_at nodes l.to
+pub ends_within : (tree : Tree) (top : Instance) (nodes : List Node) (l : Link) → IsLink tree top nodes l → l.provide < provides_at nodes l.to
 ends_within tree top nodes l is =
     let within = slice_get_within (row is.to.kind).provides l.provide is.linked.provided is.linked.provides_it in
     omega (arith, within, ap (λ o. option_map_or provides_of o 0) is.is_to)

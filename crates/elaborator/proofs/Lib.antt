@@ -1,10 +1,12 @@
 pub mod AllLinksLemmas
 pub mod AnswerLemmas
+pub mod ArgumentLemmas
 pub mod BoundLemmas
 pub mod BuildLemmas
 pub mod ChainLemmas
 pub mod ChildLemmas
 pub mod ExpandLemmas
+pub mod ElaborationLemmas
 pub mod FollowLemmas
 pub mod GrowthLemmas
 pub mod IndexLemmas
@@ -24,6 +26,8 @@ pub mod PortLemmas
 pub mod RankLemmas
 mod Rows
 pub mod SpreadLemmas
+pub mod SingleLemmas
+pub mod SoundLemmas
 pub mod TargetLemmas
 pub mod UniqueLemmas
 pub mod WholeLemmas

@@ -1,6 +1,7 @@
 pub mod Bindings
 pub mod Built
 pub mod Chains
+pub mod Elaboration
 pub mod Expanded
 pub mod Expansion
 pub mod Faults

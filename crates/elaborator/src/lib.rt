@@ -4,6 +4,7 @@
 mod building;
 mod chains;
 mod directory;
+mod elaborating;
 mod error;
 mod growing;
 mod instance;
@@ -16,5 +17,6 @@ mod pairs;
 mod paths;
 mod ports;
 
+pub use elaborating::elaborate;
 pub use error::ElabError;
-pub use laws::{an_instance_is_told_by_its_path, instances_are_those_of_the_list};
+pub use laws::{one_graph, one_provision};

@@ -1,0 +1,245 @@
+-- From what the parts of an elaboration tell to the faults of the whole.
+use Rattle.std.proofs.Common.{◌≡◌, ◌≢◌, ◌∙◌, Result, Ok, Err, IfOk, IfErr, ℕ, ◌<◌, Bool, true, false, ◌&&◌, not, eqb, cond, ℤ, List, [], ◌∷◌, ◌++◌, Option, Some, None, length, refl, ap, sym, subst, inl, inr, ◌⊎◌, arith}
+use Rattle.std.specs.List.{Contains, flat_map, slice_get}
+use Rattle.std.specs.Option.{option_and_then, option_map_or}
+use Rattle.std.proofs.lemmas.Bool.{false≢true, eqb-true}
+use Rattle.std.proofs.lemmas.Option.{none-some, same_Some}
+use Rattle.std.proofs.lemmas.List.Elements.{Contains-append_left, Contains-append_right, Contains-append_cases}
+use Rattle.config_graph.specs.declared.node.Node.{Node}
+use Rattle.config_graph.specs.Graph.{Configuration}
+use Rattle.config_graph.specs.Cycles.{NoCycle, FirstOnCycle}
+use Rattle.darwin_lexer.specs.declared.token.At.{At}
+use Rattle.darwin_parser.specs.Tree.{Name, Tree, Component, Expr}
+use Rattle.darwin_types.specs.Scope.{component_named, is_primitive}
+use Rattle.darwin_walk.specs.Value.{Value, integer, out_of_range, zero_divisor, parameters, value}
+use Rattle.darwin_walk.specs.Instance.{End, Binding, index_fault}
+use Rattle.darwin_walk.specs.declared.fault.Fault.{Fault}
+use Rattle.darwin_walk.specs.declared.fault.Fault.TheVariants as shown
+use Rattle.elaborator.specs.Paths.{Path, end_bytes}
+use Rattle.elaborator.specs.Instances.{Instance, top_instance, Inst, total}
+use Rattle.elaborator.specs.Bindings.{Named, named, Pair, pair_of, pairs_in, bindings_in}
+use Rattle.elaborator.specs.Graph.{IsElab}
+use Rattle.elaborator.specs.Faults.{own_faults, port_faults, faults_in, Faults, Faults as fault}
+use Rattle.elaborator.specs.Expanded.{Expanded, Numbered, IsOf}
+use Rattle.elaborator.specs.Index.{Answers, FaultOf, FaultOf as of, Clashes, BindingFault, BindingFault as binding}
+use Rattle.elaborator.specs.Growth.{GrowthFault, GrowthFault as growth, IsClear}
+use Rattle.elaborator.specs.Built.{CycleFault, BuildFault, IsBuilt}
+use Rattle.elaborator.specs.Built.CycleFault.{first_on_cycle}
+use Rattle.elaborator.specs.Built.BuildFault.{in_bindings, in_graph}
+use Rattle.elaborator.specs.Elaboration.{HasNoFault, IsGraphOf}
+use Rattle.elaborator.specs.declared.error.ElabError.{ElabError}
+use Rattle.elaborator.specs.declared.error.ElabError.TheVariants as error
+use Rattle.elaborator.proofs.Lists.{Contains-nil, Contains-one, Contains-flat_map, Contains-from_flat_map}
+use Rattle.elaborator.proofs.SingleLemmas.{IsSingle}
+use Rattle.elaborator.proofs.UniqueLemmas.{one_graph}
+
+-- ---- the top
+
+-- what the top is
+pub record IsTopOf (tree : Tree) (name : Name) (arguments : List ℤ) (top : Instance) : Type 0 where
+  pub component : Component
+  pub named : component_named tree name ≡ Some component
+  pub composite : is_primitive component ≡ false
+  pub params : length component.params ≡ length arguments
+  pub is_top : top ≡ record { path = []; depth = 0; component = component; env = parameters component arguments }
+
+pub top_parts : (tree : Tree) (name : Name) (arguments : List ℤ) (top : Instance) → top_instance tree name arguments ≡ Some top → IsTopOf tree name arguments top
+top_parts tree name arguments top is = by (component_named tree name) refl is
+  where
+    at_top : Component → Instance
+    at_top c = record { path = []; depth = 0; component = c; env = parameters c arguments }
+
+    instance : Component → Option Instance
+    instance c = cond (not (is_primitive c) && eqb (length c.params) (length arguments)) (Some (at_top c)) None
+
+    by_tests : (c : Component) → component_named tree name ≡ Some c → (p q : Bool) → is_primitive c ≡ p → eqb (length c.params) (length arguments) ≡ q → cond (not p && q) (Some (at_top c)) None ≡ Some top → IsTopOf tree name arguments top
+    by_tests c named false true composite same is = record { component = c; named = named; composite = composite; params = eqb-true (length c.params) (length arguments) same; is_top = sym (same_Some (at_top c) top is) }
+    by_tests c named false false composite same is = absurd (none-some top is)
+    by_tests c named true q composite same is = absurd (none-some top is)
+
+    by : (o : Option Component) → component_named tree name ≡ o → option_and_then instance o ≡ Some top → IsTopOf tree name arguments top
+    by None named is = absurd (none-some top is)
+    by (Some c) named is = by_tests c named (is_primitive c) (eqb (length c.params) (length arguments)) refl refl is
+
+-- ---- the faults of port indexes
+
+only_bad_index : (at : At) (size i : Value) (f : Fault) → Contains (index_fault at size i) f → f ≡ shown.BadIndex at
+only_bad_index at size i f there = by size i there
+  where
+    by_test : (b : Bool) → Contains (cond b [] (shown.BadIndex at ∷ [])) f → f ≡ shown.BadIndex at
+    by_test true there = absurd (Contains-nil f there)
+    by_test false there = Contains-one (shown.BadIndex at) f there
+
+    by : (size i : Value) → Contains (index_fault at size i) f → f ≡ shown.BadIndex at
+    by (integer n) (integer z) there = by_test _ there
+    by (integer n) out_of_range there = absurd (Contains-nil f there)
+    by (integer n) zero_divisor there = absurd (Contains-nil f there)
+    by out_of_range i there = absurd (Contains-nil f there)
+    by zero_divisor i there = absurd (Contains-nil f there)
+
+port_fault : (tree : Tree) (i : Instance) (at : At) (e : End) (f : Fault) → Contains (port_faults tree i at e) f → f ≡ shown.BadIndex at
+port_fault tree i at e f there = by (named tree i e) there
+  where
+    indexed : Instance → Option Expr → Option ℤ → List Fault
+    indexed j (Some size) (Some index) = index_fault at (value size j.env) (integer index)
+    indexed j _ _ = []
+
+    by_size : (j : Instance) (size : Option Expr) (index : Option ℤ) → Contains (indexed j size index) f → f ≡ shown.BadIndex at
+    by_size j (Some size) (Some index) there = only_bad_index at (value size j.env) (integer index) f there
+    by_size j (Some size) None there = absurd (Contains-nil f there)
+    by_size j None index there = absurd (Contains-nil f there)
+
+    by : (o : Option Named) → Contains (option_map_or (λ x. indexed x.instance x.decl.size x.index) o []) f → f ≡ shown.BadIndex at
+    by None there = absurd (Contains-nil f there)
+    by (Some x) there = by_size x.instance x.decl.size x.index there
+
+abbrev binding_port_faults : Tree → Instance → Binding → List Fault
+binding_port_faults tree i b = port_faults tree i b.at b.left ++ port_faults tree i b.at b.right
+
+binding_port_fault : (tree : Tree) (i : Instance) (b : Binding) (f : Fault) → Contains (binding_port_faults tree i b) f → f ≡ shown.BadIndex b.at
+binding_port_fault tree i b f there =
+    elim (Contains-append_cases (port_faults tree i b.at b.left) (port_faults tree i b.at b.right) f there) [
+      | inl left ↦ port_fault tree i b.at b.left f left
+      | inr right ↦ port_fault tree i b.at b.right f right
+    ]
+
+-- a fault in an instance is one of its own, or of the index of a port in a binding
+fault_cases : (tree : Tree) (i : Instance) (f : Fault) → Contains (faults_in tree i) f → Contains (own_faults tree i) f ⊎ ((b : Binding) × Contains (bindings_in i) b × Contains (binding_port_faults tree i b) f)
+fault_cases tree i f there =
+    elim (Contains-append_cases (own_faults tree i) (flat_map (binding_port_faults tree i) (bindings_in i)) f there) [
+      | inl own ↦ inl own
+      | inr port ↦ inr (Contains-from_flat_map (binding_port_faults tree i) (bindings_in i) f port)
+    ]
+
+is_own : (tree : Tree) (i : Instance) (f : Fault) → Contains (own_faults tree i) f → Contains (faults_in tree i) f
+is_own tree i f there = Contains-append_left (own_faults tree i) (flat_map (binding_port_faults tree i) (bindings_in i)) f there
+
+is_of_binding : (tree : Tree) (i : Instance) (b : Binding) (f : Fault) → Contains (bindings_in i) b → Contains (binding_port_faults tree i b) f → Contains (faults_in tree i) f
+is_of_binding tree i b f there port = Contains-append_right (own_faults tree i) (flat_map (binding_port_faults tree i) (bindings_in i)) f (Contains-flat_map (binding_port_faults tree i) (bindings_in i) b f there port)
+
+-- ---- a fault that a part names is one of the whole
+
+pub growth_fault : (tree : Tree) (name : Name) (arguments : List ℤ) (top : Instance) → top_instance tree name arguments ≡ Some top → (f : ElabError) → GrowthFault tree top f → Faults tree name arguments f
+growth_fault tree name arguments top is_top _ (growth.out_of_range i at inst there) = fault.out_of_range top i at is_top inst (is_own tree i (shown.OutOfRange at) there)
+growth_fault tree name arguments top is_top _ (growth.zero_divisor i at inst there) = fault.zero_divisor top i at is_top inst (is_own tree i (shown.ZeroDivisor at) there)
+growth_fault tree name arguments top is_top _ (growth.bad_index i at inst there) = fault.bad_index top i at is_top inst (is_own tree i (shown.BadIndex at) there)
+growth_fault tree name arguments top is_top _ (growth.two_instances i path inst again) = fault.two_instances top i path is_top inst again
+growth_fault tree name arguments top is_top _ (growth.two_apart i j path inst inst' apart there there') = fault.two_apart top i j path is_top inst inst' apart there there'
+growth_fault tree name arguments top is_top _ (growth.too_deep i inst deep) = fault.too_deep top i is_top inst deep
+growth_fault tree name arguments top is_top _ (growth.too_many many) = fault.too_many top is_top many
+
+binding_fault : (e : Expanded) (name : Name) (arguments : List ℤ) (top : Instance) → IsOf e top → top_instance e.tree name arguments ≡ Some top → (f : ElabError) → BindingFault e f → Faults e.tree name arguments f
+binding_fault e name arguments top is_of is_top _ (binding.of_binding n i b f at there is) = by f is
+  where
+    inst : Inst e.tree top i
+    inst = is_of.sound n i at
+
+    by : (f : ElabError) → FaultOf e.tree i b f → Faults e.tree name arguments f
+    by _ (of.bad_binding none) = fault.bad_binding top i b is_top inst there none
+    by _ (of.bad_index place port) = fault.bad_index top i place is_top inst (is_of_binding e.tree i b (shown.BadIndex place) there port)
+    by _ (of.annotation notes) = fault.annotation top i b is_top inst there notes
+binding_fault e name arguments top is_of is_top _ (binding.bound_twice n i p at there clash) =
+    fault.bound_twice top i p clash.other is_top (is_of.sound n i at) there clash.is_there clash.same_source clash.other_target
+
+pub build_fault : (e : Expanded) (name : Name) (arguments : List ℤ) (top : Instance) → IsOf e top → top_instance e.tree name arguments ≡ Some top → (f : ElabError) → BuildFault e top f → Faults e.tree name arguments f
+build_fault e name arguments top is_of is_top _ (in_bindings f is) = binding_fault e name arguments top is_of is_top f is
+build_fault e name arguments top is_of is_top _ (in_graph g _ is_elab (first_on_cycle i n first at)) = fault.depends_cycle top g i n is_top is_elab first at
+
+-- ---- where no part has a fault, the whole has none
+
+pub no_fault :
+    (e : Expanded) (name : Name) (arguments : List ℤ) (top : Instance) (g : Configuration) → IsOf e top → top_instance e.tree name arguments ≡ Some top → IsClear e.tree top → IsBuilt e top g
+    → (f : ElabError) → ¬ Faults e.tree name arguments f
+no_fault e name arguments top g is_of is_top clear built = refuted
+  where
+    parts : IsTopOf e.tree name arguments top
+    parts = top_parts e.tree name arguments top is_top
+
+    -- there is one top
+    one : (t : Instance) → top_instance e.tree name arguments ≡ Some t → t ≡ top
+    one t is = same_Some t top (sym is ∙ is_top)
+
+    one_component : (c : Component) → component_named e.tree name ≡ Some c → c ≡ parts.component
+    one_component c named = same_Some c parts.component (sym named ∙ parts.named)
+
+    inst : (t i : Instance) → top_instance e.tree name arguments ≡ Some t → Inst e.tree t i → Inst e.tree top i
+    inst t i is there = subst (λ s. Inst e.tree s i) (one t is) there
+
+    not_own : (i : Instance) (f : Fault) → Inst e.tree top i → Contains (own_faults e.tree i) f → ⊥
+    not_own i f made there = Contains-nil f (subst (λ fs. Contains fs f) (clear.no_fault i made) there)
+
+    of_binding : (i : Instance) (b : Binding) (f : ElabError) → Inst e.tree top i → Contains (bindings_in i) b → FaultOf e.tree i b f → ⊥
+    of_binding i b f made there is = let at = is_of.complete i made in built.no_fault f (binding.of_binding at.0 i b f at.1 there is)
+
+    -- only a bad index is a fault of a port
+    not_of_value : (i : Instance) (f : Fault) → Inst e.tree top i → ((at : At) → f ≡ shown.BadIndex at → ⊥) → Contains (faults_in e.tree i) f → ⊥
+    not_of_value i f made other there =
+        elim (fault_cases e.tree i f there) [
+          | inl own ↦ not_own i f made own
+          | inr port ↦ other port.0.at (binding_port_fault e.tree i port.0 f port.2)
+        ]
+
+    refuted : (f : ElabError) → Faults e.tree name arguments f → ⊥
+    refuted _ (fault.no_top none) = none-some parts.component (sym none ∙ parts.named)
+    refuted _ (fault.top_is_kind c named primitive) = false≢true (sym parts.composite ∙ ap is_primitive (sym (one_component c named)) ∙ primitive)
+    refuted _ (fault.top_args c named differ) = differ (ap (λ (d : Component). length d.params) (one_component c named) ∙ parts.params)
+    refuted _ (fault.out_of_range t i at is made there) = not_of_value i (shown.OutOfRange at) (inst t i is made) (λ place same. cc) there
+    refuted _ (fault.zero_divisor t i at is made there) = not_of_value i (shown.ZeroDivisor at) (inst t i is made) (λ place same. cc) there
+    refuted _ (fault.bad_index t i at is made there) =
+        elim (fault_cases e.tree i (shown.BadIndex at) there) [
+          | inl own ↦ not_own i (shown.BadIndex at) (inst t i is made) own
+          | inr port ↦ of_binding i port.0 (error.BadIndex i.path at) (inst t i is made) port.1 (of.bad_index at port.2)
+        ]
+    refuted _ (fault.two_instances t i path is made again) = clear.once i path (inst t i is made) again
+    refuted _ (fault.two_apart t i j path is made made' apart there there') = apart (clear.apart i j path (inst t i is made) (inst t j is made') there there')
+    refuted _ (fault.bound_twice t i p q is made there there' same other) =
+        let at = is_of.complete i (inst t i is made) in
+        built.no_fault (error.BoundTwice i.path _) (binding.bound_twice at.0 i p at.1 there (record { other = q; is_there = there'; same_source = same; other_target = other }))
+    refuted _ (fault.bad_binding t i b is made there none) = of_binding i b (error.BadBinding i.path b.at) (inst t i is made) there (of.bad_binding none)
+    refuted _ (fault.annotation t i b is made there notes) = of_binding i b (error.Annotation i.path b.at) (inst t i is made) there (of.annotation notes)
+    refuted _ (fault.too_deep t i is made deep) = omega (arith, clear.shallow i (inst t i is made), deep)
+    refuted _ (fault.too_many t is many) = omega (arith, clear.few, subst (λ s. 65536 < total e.tree s) (one t is) many)
+    refuted _ (fault.depends_cycle t h i n is is_elab first at) =
+        let same = one_graph e.tree top h g (subst (λ s. IsElab e.tree s h) (one t is) is_elab) built.is_elab in
+        built.no_cycle i (subst (λ k. FirstOnCycle k i) same first).on_cycle
+
+-- ---- the answer
+
+pub answer-no_fault :
+    (e : Expanded) (tree : Tree) (name : Name) (arguments : List ℤ) (top : Instance) (r : Result Configuration ElabError) → e.tree ≡ tree → IsOf e top
+    → top_instance tree name arguments ≡ Some top → IsClear tree top → Answers (IsBuilt e top) (BuildFault e top) r → IfOk r (λ _. HasNoFault tree name arguments)
+answer-no_fault e tree name arguments top (Ok g) same is_of is_top clear built =
+    subst (λ t. HasNoFault t name arguments) same (no_fault e name arguments top g is_of (subst (λ t. top_instance t name arguments ≡ Some top) (sym same) is_top) (subst (λ t. IsClear t top) (sym same) clear) built)
+answer-no_fault e tree name arguments top (Err f) same is_of is_top clear fault = tt
+
+pub answer-fault :
+    (e : Expanded) (tree : Tree) (name : Name) (arguments : List ℤ) (top : Instance) (r : Result Configuration ElabError) → e.tree ≡ tree → IsOf e top
+    → top_instance tree name arguments ≡ Some top → Answers (IsBuilt e top) (BuildFault e top) r → IfErr r (λ f. f ≢ error.NoMemory → Faults tree name arguments f)
+answer-fault e tree name arguments top (Ok g) same is_of is_top built = tt
+answer-fault e tree name arguments top (Err f) same is_of is_top fault_ = λ other.
+    subst (λ t. Faults t name arguments f) same (build_fault e name arguments top is_of (subst (λ t. top_instance t name arguments ≡ Some top) (sym same) is_top) f (fault_ other))
+
+-- what a refusal names
+pub cause_of : {T : Type 0} (Q : T → Type 0) (C : ElabError → Type 0) (r : Result T ElabError) → Answers Q C r → IfErr r (λ f. f ≢ error.NoMemory → C f)
+cause_of Q C (Ok x) h = tt
+cause_of Q C (Err f) h = h
+
+-- ---- laws
+
+pub one_graph_of : (tree : Tree) (name : Name) (arguments : List ℤ) (g h : Configuration) → IsGraphOf tree name arguments g → IsGraphOf tree name arguments h → g ≡ h
+one_graph_of tree name arguments g h a b =
+    one_graph tree b.top g h (subst (λ t. IsElab tree t g) (same_Some a.top b.top (sym a.is_top ∙ b.is_top)) a.is_elab) b.is_elab
+
+pub single_of :
+    (tree : Tree) (name : Name) (arguments : List ℤ) (top : Instance) → top_instance tree name arguments ≡ Some top → ((path : Path) → ¬ Faults tree name arguments (error.TwoInstances path))
+    → ((path : Path) (end_ : Path) → ¬ Faults tree name arguments (error.BoundTwice path end_)) → IsSingle tree top
+single_of tree name arguments top is_top once bound_once = record {
+  depth = ap (λ (i : Instance). i.depth) parts.is_top;
+  composite = ap (λ (i : Instance). is_primitive i.component) parts.is_top ∙ parts.composite;
+  once = λ i path inst again. once path (fault.two_instances top i path is_top inst again);
+  apart = λ i j path inst inst' there there' differ. once path (fault.two_apart top i j path is_top inst inst' differ there there');
+  bound_once = λ i p q inst there there' same differ. bound_once i.path (end_bytes p.end) (fault.bound_twice top i p q is_top inst there there' same differ);
+}
+  where
+    parts : IsTopOf tree name arguments top
+    parts = top_parts tree name arguments top is_top

@@ -1,0 +1,89 @@
+//! Elaboration of a description.
+
+ghost use Rattle.std.specs.Prelude.{◌≡◌, ◌≢◌, IfErr, IfOk, Some};
+ghost use Rattle.config_graph.specs.Sound.{Sound};
+ghost use Rattle.darwin_parser.specs.Tree.{tree_of, component_of};
+ghost use Rattle.darwin_types.specs.Checked.{description};
+ghost use Rattle.darwin_walk.specs.Value.{parameters};
+ghost use Rattle.darwin_walk.specs.Spine.{env_of};
+ghost use Rattle.elaborator.specs.Instances.{top_instance};
+ghost use Rattle.elaborator.specs.Expansion.{instance_in};
+ghost use Rattle.elaborator.specs.Index.{Answers};
+ghost use Rattle.elaborator.specs.Growth.{IsTop};
+ghost use Rattle.elaborator.specs.Faults.{Faults, capped};
+ghost use Rattle.elaborator.specs.Elaboration.{HasNoFault, IsGraphOf};
+ghost use Rattle.elaborator.specs.declared.error.ElabError.TheVariants.{NoMemory};
+
+use crate::ElabError;
+use crate::building::build_graph;
+use crate::directory::{find, is_primitive};
+use crate::growing::expand;
+use crate::instance::Instance;
+use config_graph::{Graph, Text};
+use darwin_parser::{Component, Unit};
+use darwin_types::Checked;
+use darwin_walk::parameters_of;
+use std::alloc::Global;
+
+/// The graph of a description: its nodes are the instances of primitive components below an instance of
+/// the component `top`, whose parameters have the values `args`, and links are where bindings lead from a
+/// requirement of a node to a provision of one.
+///
+/// # Errors
+///
+/// Each of `ElabError` comes where its fault holds. Where several hold any one may be named.
+pub fn elaborate(
+    alloc: Global,
+    checked: &Checked,
+    top: &[u8],
+    args: &[i32],
+) -> Result<Graph, ElabError>
+    ensures no_fault { IfOk result (λ _. HasNoFault (description checked.now) top.now args.now) }
+    ensures graph { IfOk result (λ g. IsGraphOf (description checked.now) top.now args.now g) }
+    ensures sound { IfOk result (λ g. Sound g) }
+    ensures fault { IfErr result (λ f. f ≢ NoMemory → Faults (description checked.now) top.now args.now f) }
+{
+    let unit = checked.unit();
+    let instance = top_of(alloc, unit, top, args)?;
+    let expansion = expand(alloc, unit, instance)?;
+    build_graph(alloc, &expansion)
+}
+
+/// The instance at the top.
+fn top_of<'a>(
+    alloc: Global,
+    unit: &'a Unit,
+    name: &[u8],
+    args: &[i32],
+) -> Result<Instance<'a>, ElabError>
+    ensures { Answers (λ i. IsTop i × (top_instance (tree_of unit.now) name.now args.now ≡ Some (instance_in i))) (Faults (tree_of unit.now) name.now args.now) result }
+{
+    let Some(component) = find(unit.components.as_slice(), name) else {
+        return Err(ElabError::NoTop(Text::from_bytes(alloc, name)?));
+    };
+    if is_primitive(component) {
+        return Err(ElabError::TopIsKind(Text::from_bytes(alloc, name)?));
+    }
+    if component.params.len() != args.len() {
+        return Err(ElabError::TopArgs {
+            wanted: capped(component.params.len()),
+            given: capped(args.len()),
+        });
+    }
+    Ok(Instance {
+        path: Text::from_bytes(alloc, b"")?,
+        depth: 0,
+        maker: None,
+        component,
+        is_primitive: false,
+        env: parameters_of(alloc, component, args)?,
+        bindings: Vec::new(alloc),
+    })
+}
+
+/// A number as an error carries it.
+fn capped(number: usize) -> u32
+    ensures { result ≡ capped number }
+{
+    u32::try_from(number).unwrap_or(u32::MAX)
+}
