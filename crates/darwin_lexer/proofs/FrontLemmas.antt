@@ -18,7 +18,7 @@ use Rattle.darwin_lexer.specs.Words.{begins_name, continues_name, is_blank, sign
 use Rattle.darwin_lexer.specs.Fronts.{through_close, line_comment, closed_or_open, block_comment, name, number, sign, sign_or_bad, IsWithin, front_of}
 
 -- What begins with some bytes has as many at least.
-starts_long : (text front : List ℕ) → starts_with nat_eq text front ≡ true → length front ≤ length text
+pub starts_long : (text front : List ℕ) → starts_with nat_eq text front ≡ true → length front ≤ length text
 starts_long text front begins = front_fits text front _ ((starts_is Decides-eqb text front _ refl).0 begins)
 
 map_more : (k : ℕ) (o : Option ℕ) → option_map (λ n. k + n) (option_map suc o) ≡ option_map (λ n. k + 1 + n) o

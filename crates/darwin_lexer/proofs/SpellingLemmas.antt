@@ -17,9 +17,11 @@ use Rattle.darwin_lexer.specs.declared.token.Sign.TheVariants as variants
 use Rattle.darwin_lexer.specs.declared.token.TokenKind.{TokenKind}
 use Rattle.darwin_lexer.specs.declared.token.TokenKind.TheVariants as kinds
 use Rattle.darwin_lexer.specs.Words.{begins_name, continues_name, is_blank, keyword_bytes, keywords, keyword_of, kind_or_name, word_kind, sign_at, sign_bytes, signs, two_byte_signs, one_byte_signs}
-use Rattle.darwin_lexer.specs.Fronts.{through_close, line_comment, closed_or_open, block_comment, name, number, sign, sign_or_bad, front_of}
-use Rattle.darwin_lexer.proofs.FrontLemmas.{prefix_within, find_passes}
-use Rattle.darwin_lexer.specs.Spelling.{Spells, opens_line_comment, opens_block_comment, closes_at, Means}
+use Rattle.darwin_lexer.specs.declared.front.Front.TheVariants.{Gap, Broken}
+use Rattle.darwin_lexer.specs.declared.front.Fault.TheVariants.{OpenComment}
+use Rattle.darwin_lexer.specs.Fronts.{through_close, closed_or_open, block_comment, name, number, sign, sign_or_bad, front_of}
+use Rattle.darwin_lexer.proofs.FrontLemmas.{prefix_within, find_passes, starts_long}
+use Rattle.darwin_lexer.specs.Spelling.{Spells, KeepsLimit, IsLongest, opens_line_comment, opens_block_comment, closes_at, IsLineComment, IsBlockComment, NeverCloses, Means}
 
 -- searches of a table
 
@@ -57,7 +59,7 @@ short_or_fails test variants.EqEq all = inr all.1.1.1.1.0
 short_or_fails test variants.NotEq all = inr all.1.1.1.1.1.0
 short_or_fails test _ all = inl (lit≤ tt)
 
-sign_length : (sign : Sign) → (0 < length (sign_bytes sign)) × (length (sign_bytes sign) ≤ 2)
+pub sign_length : (sign : Sign) → (0 < length (sign_bytes sign)) × (length (sign_bytes sign) ≤ 2)
 sign_length variants.OpenBrace = (lit< tt, lit≤ tt)
 sign_length _ = (lit< tt, lit≤ tt)
 
@@ -70,44 +72,48 @@ keyword_letters : (keyword : Keyword) → (begins_name (get_or (keyword_bytes ke
 keyword_letters words.Component = (refl, refl)
 keyword_letters _ = (refl, refl)
 
+keyword_short : (keyword : Keyword) → length (keyword_bytes keyword) ≤ 9
+keyword_short words.Component = lit≤ tt
+keyword_short _ = lit≤ tt
+
 pub digit_is_no_letter : (byte : ℕ) → begins_name byte ≡ true → is_ascii_digit byte ≡ true → ⊥
 digit_is_no_letter byte letter digit = grind (arith, nat_tests)
 
 -- what a token's bytes are like: letters, digits or a sign
 
-abbrev Letters : List ℕ → Type 0
+abbrev pub Letters : List ℕ → Type 0
 Letters bytes = (begins_name (get_or bytes 0 0) ≡ true) × AllPass continues_name bytes
 
-abbrev Digits : List ℕ → Type 0
+abbrev pub Digits : List ℕ → Type 0
 Digits bytes = (0 < length bytes) × AllPass is_ascii_digit bytes
 
-abbrev Signed : List ℕ → Type 0
+abbrev pub Signed : List ℕ → Type 0
 Signed bytes = (sign : Sign) × (bytes ≡ sign_bytes sign)
 
-spelled_as : (kind : TokenKind) (bytes : List ℕ) → Spells kind bytes → Letters bytes ⊎ (Digits bytes ⊎ Signed bytes)
+pub spelled_as : (kind : TokenKind) (bytes : List ℕ) → Spells kind bytes → Letters bytes ⊎ (Digits bytes ⊎ Signed bytes)
 spelled_as kinds.Name bytes is = inl (is.begins, is.goes_on)
 spelled_as (kinds.Number value) bytes is = inr (inl (is.some, is.digits))
 spelled_as (kinds.Word keyword) bytes is = inl (subst Letters (sym is) ((keyword_letters keyword).0, AllPass-from_list_all continues_name (keyword_bytes keyword) (keyword_letters keyword).1))
 spelled_as (kinds.Sign sign) bytes is = inr (inr (sign, is))
 
-letters_first : (n : ℕ) (text : List ℕ) → Letters (take n text) → begins_name (get_or text 0 0) ≡ true
+pub letters_first : (n : ℕ) (text : List ℕ) → Letters (take n text) → begins_name (get_or text 0 0) ≡ true
 letters_first zero text is = absurd (false≢true is.0)
 letters_first (suc n) [] is = is.0
 letters_first (suc n) (byte ∷ text) is = is.0
 
-digits_first : (n : ℕ) (text : List ℕ) → Digits (take n text) → is_ascii_digit (get_or text 0 0) ≡ true
+pub digits_first : (n : ℕ) (text : List ℕ) → Digits (take n text) → is_ascii_digit (get_or text 0 0) ≡ true
 digits_first zero text is = absurd (omega (arith, is.0))
 digits_first (suc n) [] is = absurd (omega (arith, is.0))
 digits_first (suc n) (byte ∷ text) is = is.1 0 0 is.0
 
-sign_first : (n : ℕ) (text : List ℕ) (sign : Sign) → take n text ≡ sign_bytes sign → get_or text 0 0 ≡ get_or (sign_bytes sign) 0 0
+pub sign_first : (n : ℕ) (text : List ℕ) (sign : Sign) → take n text ≡ sign_bytes sign → get_or text 0 0 ≡ get_or (sign_bytes sign) 0 0
 sign_first zero text sign is = absurd (omega (arith, ap length is, (sign_length sign).0))
 sign_first (suc n) [] sign is = absurd (omega (arith, ap length is, (sign_length sign).0))
 sign_first (suc n) (byte ∷ text) sign is = ap (λ l. get_or l 0 0) is
 
 -- runs of bytes that pass a test
 
-run_passes : (test : ℕ → Bool) (text : List ℕ) (n : ℕ) → n ≤ prefix_len test text → AllPass test (take n text)
+pub run_passes : (test : ℕ → Bool) (text : List ℕ) (n : ℕ) → n ≤ prefix_len test text → AllPass test (take n text)
 run_passes test text n short k d within =
     let some : n ≤ length text = omega (arith, prefix_len-le-length test text) in
     let below : k < n = omega (arith, length-take-le n text some) in
@@ -125,17 +131,24 @@ run_over test text more longer within all =
 abbrev is_word : List ℕ → Keyword → Bool
 is_word word keyword = bytes_eq (keyword_bytes keyword) word
 
-word_spelled : (word : List ℕ) → Letters word → length word ≤ 64 → Spells (word_kind word) word
-word_spelled word letters short = go (keyword_of word) refl
+pub found_is : (word : List ℕ) (keyword : Keyword) → keyword_of word ≡ Some keyword → word ≡ keyword_bytes keyword
+found_is word keyword is = sym ((bytes_eq-Decides (keyword_bytes keyword) word).0 (subst (λ o. IfSome o (λ k. is_word word k ≡ true)) is (find_passes (is_word word) keywords)))
+
+-- Letters spell the keyword that has them, or else a name.
+pub word_spelled : (word : List ℕ) → Letters word → Spells (word_kind word) word
+word_spelled word letters = go (keyword_of word) refl
   where
     go : (found : Option Keyword) → keyword_of word ≡ found → Spells (kind_or_name found) word
     go None is = record {
       begins = letters.0;
       goes_on = letters.1;
-      short = short;
       own = λ keyword same. false≢true (sym (keyword_fails (is_word word) keyword (all_fail (is_word word) keywords is)) ∙ (bytes_eq-Decides (keyword_bytes keyword) word).1 (sym same));
     }
-    go (Some keyword) is = sym ((bytes_eq-Decides (keyword_bytes keyword) word).0 (subst (λ o. IfSome o (λ k. is_word word k ≡ true)) is (find_passes (is_word word) keywords)))
+    go (Some keyword) is = found_is word keyword is
+
+word_keeps : (found : Option Keyword) (n : ℕ) → n ≤ 64 → KeepsLimit (kind_or_name found) n
+word_keeps None n short = short
+word_keeps (Some keyword) n short = tt
 
 word_longest : (text : List ℕ) (other : TokenKind) (more : ℕ) → begins_name (get_or text 0 0) ≡ true → prefix_len continues_name text < more → more ≤ length text → Spells other (take more text) → ⊥
 word_longest text other more begins longer within is = ⊎_elim
@@ -146,23 +159,37 @@ word_longest text other more begins longer within is = ⊎_elim
     others)
     (spelled_as other (take more text) is)
 
-at_most : (n most : ℕ) → nat_le n most ≡ true → n ≤ most
+pub at_most : (n most : ℕ) → nat_le n most ≡ true → n ≤ most
 at_most n most is = grind (arith, nat_tests)
 
-above : (n most : ℕ) → nat_le n most ≡ false → most < n
+pub above : (n most : ℕ) → nat_le n most ≡ false → most < n
 above n most is = grind (arith, nat_tests)
 
-name_means : (first : ℕ) (rest : List ℕ) → begins_name first ≡ true → Means (first ∷ rest) (name (first ∷ rest))
-name_means first rest begins =
+name_means : (first : ℕ) (rest : List ℕ) → begins_name first ≡ true → opens_line_comment (first ∷ rest) ≡ false → opens_block_comment (first ∷ rest) ≡ false → Means (first ∷ rest) (name (first ∷ rest))
+name_means first rest begins no_line no_block =
     let text : List ℕ = first ∷ rest in
     let n : ℕ = prefix_len continues_name text in
     let within = prefix_within continues_name first rest (ap (λ b. b || is_ascii_digit first) begins) in
-    cond_both (nat_le n 64) _ _ (Means text)
-    (λ short. record {
-      spelled = word_spelled (take n text) (ap begins_name (get_or-take n text 0 0 within.0) ∙ begins, run_passes continues_name text n (omega arith)) (omega (arith, length-take-le n text within.1, at_most n 64 short));
+    let letters : Letters (take n text) = (ap begins_name (get_or-take n text 0 0 within.0) ∙ begins, run_passes continues_name text n (omega arith)) in
+    let longest : (kind : TokenKind) → Spells kind (take n text) → IsLongest text kind n =
+    λ kind spelled. record {
+      no_line_comment = no_line;
+      no_block_comment = no_block;
+      within = within.1;
+      spelled = spelled;
       longest = λ other more longer fits is. word_longest text other more begins longer fits is;
+    } in
+    cond_both (nat_le n 64) _ _ (Means text)
+    (λ short. (longest _ (word_spelled (take n text) letters), word_keeps (keyword_of (take n text)) n (at_most n 64 short)))
+    (λ long. record {
+      n = n;
+      token = longest kinds.Name (record {
+        begins = letters.0;
+        goes_on = letters.1;
+        own = λ keyword same. omega (arith, ap length same, keyword_short keyword, length-take-le n text within.1, above n 64 long);
+      });
+      long = above n 64 long;
     })
-    (λ long. record { begins = begins; more = omega (arith, above n 64 long, within.1); goes_on = run_passes continues_name text 65 (omega (arith, above n 64 long)) })
 
 -- numbers
 
@@ -175,19 +202,23 @@ number_longest text other more digit longer within is = ⊎_elim
     others)
     (spelled_as other (take more text) is)
 
-number_means : (first : ℕ) (rest : List ℕ) → is_ascii_digit first ≡ true → Means (first ∷ rest) (number (first ∷ rest))
-number_means first rest digit =
+number_means : (first : ℕ) (rest : List ℕ) → is_ascii_digit first ≡ true → opens_line_comment (first ∷ rest) ≡ false → opens_block_comment (first ∷ rest) ≡ false → Means (first ∷ rest) (number (first ∷ rest))
+number_means first rest digit no_line no_block =
     let text : List ℕ = first ∷ rest in
     let n : ℕ = prefix_len is_ascii_digit text in
     let value : ℕ = digits_value 10 (take n text) in
     let within = prefix_within is_ascii_digit first rest digit in
-    let all = run_passes is_ascii_digit text n (omega arith) in
-    cond_both (nat_le value 2147483647) _ _ (Means text)
-    (λ small. record {
-      spelled = record { some = omega (arith, length-take-le n text within.1, within.0); digits = all; written = refl; small = at_most value 2147483647 small };
+    let token : IsLongest text (kinds.Number value) n =
+    record {
+      no_line_comment = no_line;
+      no_block_comment = no_block;
+      within = within.1;
+      spelled = record { some = omega (arith, length-take-le n text within.1, within.0); digits = run_passes is_ascii_digit text n (omega arith); written = refl };
       longest = λ other more longer fits is. number_longest text other more digit longer fits is;
-    })
-    (λ great. record { n = n; within = within.1; digits = all; all = λ shorter. prefix_len_stops is_ascii_digit text 0 shorter; great = above value 2147483647 great })
+    } in
+    cond_both (nat_le value 2147483647) _ _ (Means text)
+    (λ small. (token, at_most value 2147483647 small))
+    (λ great. record { value = value; n = n; token = token; big = above value 2147483647 great })
 
 -- signs
 
@@ -219,11 +250,12 @@ sign_longest text sign other found begins = go (find (fits text) two_byte_signs)
         let long : 2 ≤ length (sign_bytes two) = subst (λ o. IfSome o (λ s. 2 ≤ length (sign_bytes s))) is (find_among (λ s. 2 ≤ length (sign_bytes s)) (fits text) two_byte_signs (lit≤ tt, (lit≤ tt, (lit≤ tt, (lit≤ tt, (lit≤ tt, (lit≤ tt, tt))))))) in
         omega (arith, (sign_length other).1, ap (λ s. length (sign_bytes s)) same)
 
-sign_means : (text : List ℕ) → is_blank (get_or text 0 0) ≡ false → opens_line_comment text ≡ false → opens_block_comment text ≡ false → begins_name (get_or text 0 0) ≡ false → is_ascii_digit (get_or text 0 0) ≡ false → Means text (sign text)
-sign_means text no_blank no_line no_block no_letter no_digit = go (sign_at text) refl
+sign_means : (text : List ℕ) → 0 < length text → is_blank (get_or text 0 0) ≡ false → opens_line_comment text ≡ false → opens_block_comment text ≡ false → begins_name (get_or text 0 0) ≡ false → is_ascii_digit (get_or text 0 0) ≡ false → Means text (sign text)
+sign_means text some no_blank no_line no_block no_letter no_digit = go (sign_at text) refl
   where
     go : (found : Option Sign) → sign_at text ≡ found → Means text (sign_or_bad found)
     go None is = record {
+      some = some;
       no_blank = no_blank;
       no_line_comment = no_line;
       no_block_comment = no_block;
@@ -233,25 +265,29 @@ sign_means text no_blank no_line no_block no_letter no_digit = go (sign_at text)
           false≢true (sym fails ∙ sign_starts text n signed.0 signed.1);
     }
     go (Some found) is =
-        let begins : fits text found ≡ true = subst (λ o. IfSome o (λ s. fits text s ≡ true)) is (find_passes (fits text) signs) in
-        record {
-          spelled = ap (λ l. take (length (sign_bytes found)) l) ((starts_is Decides-eqb text (sign_bytes found) _ refl).0 begins) ∙ take-append_seam (sign_bytes found) (drop (length (sign_bytes found)) text);
-          longest = λ other more longer within spelled.
-              let signed = only_sign text other more no_letter no_digit spelled in
-              let most = sign_longest text found signed.0 is (sign_starts text more signed.0 signed.1) in
-              omega (arith, most, ap length signed.1, length-take-le more text within);
-        }
+        let begins : fits text found ≡ true = subst (λ o. IfSome o (λ s. fits text s ≡ true)) is (find_passes (fits text) signs) in (
+          record {
+            no_line_comment = no_line;
+            no_block_comment = no_block;
+            within = starts_long text (sign_bytes found) begins;
+            spelled = ap (λ l. take (length (sign_bytes found)) l) ((starts_is Decides-eqb text (sign_bytes found) _ refl).0 begins) ∙ take-append_seam (sign_bytes found) (drop (length (sign_bytes found)) text);
+            longest = λ other more longer within spelled.
+                let signed = only_sign text other more no_letter no_digit spelled in
+                let most = sign_longest text found signed.0 is (sign_starts text more signed.0 signed.1) in
+                omega (arith, most, ap length signed.1, length-take-le more text within);
+          },
+          tt,
+        )
 
 -- comments
 
 is_line_feed : (byte : ℕ) → not (eqb byte 10) ≡ false → byte ≡ 10
 is_line_feed byte stops = grind (arith, nat_tests)
 
-line_means : (first : ℕ) (rest : List ℕ) → opens_line_comment (first ∷ rest) ≡ true → Means (first ∷ rest) (line_comment (first ∷ rest))
-line_means first rest opens =
-    let text : List ℕ = first ∷ rest in
+pub line_is : (text : List ℕ) → opens_line_comment text ≡ true → IsLineComment text (prefix_len (λ byte. not (eqb byte 10)) text)
+line_is text opens =
     let test : ℕ → Bool = λ byte. not (eqb byte 10) in
-    inr (inl (record { within = prefix_len-le-length test text; opens = opens; one_line = run_passes test text (prefix_len test text) (omega arith); to_its_end = λ shorter. is_line_feed (get_or text (prefix_len test text) 0) (prefix_len_stops test text 0 shorter) }))
+    record { within = prefix_len-le-length test text; opens = opens; one_line = run_passes test text (prefix_len test text) (omega arith); to_its_end = λ shorter. is_line_feed (get_or text (prefix_len test text) 0) (prefix_len_stops test text 0 shorter) }
 
 -- where the first `*/` of a text ends, if it has one
 abbrev Closes : List ℕ → Option ℕ → Type 0
@@ -278,35 +314,48 @@ close_means (byte ∷ text) = cond_both (starts_with nat_eq (byte ∷ text) (cod
     (λ begins. (lit≤ tt, begins, λ offset short. absurd (omega arith)))
     (λ later. closes_next byte text (through_close text) later (close_means text))
 
-block_means : (text : List ℕ) → opens_block_comment text ≡ true → Means text (block_comment text)
-block_means text opens = go (through_close (drop 2 text)) (close_means (drop 2 text))
-  where
-    shifted : (offset : ℕ) → closes_at (drop 2 text) offset ≡ closes_at text (2 + offset)
-    shifted offset = ap (λ l. starts_with nat_eq l (codes "*/")) (drop-drop offset 2 text)
+shifted : (text : List ℕ) (offset : ℕ) → closes_at (drop 2 text) offset ≡ closes_at text (2 + offset)
+shifted text offset = ap (λ l. starts_with nat_eq l (codes "*/")) (drop-drop offset 2 text)
 
-    go : (o : Option ℕ) → Closes (drop 2 text) o → Means text (closed_or_open o)
-    go None never = record {
-      opens = opens;
-      never = λ offset behind.
-          let there : 2 + (offset - 2) ≡ offset = omega arith in
-          subst (λ k. closes_at text k ≡ false) there (sym (shifted (offset - 2)) ∙ never (offset - 2));
-    }
-    go (Some n) closes = inr (inr (record {
-      opens = opens;
-      after = omega (arith, closes.0);
-      closes = let there : 2 + (n - 2) ≡ 2 + n - 2 = omega (arith, closes.0) in subst (λ k. closes_at text k ≡ true) there (sym (shifted (n - 2)) ∙ closes.1);
-      first = λ offset behind short.
-          let there : 2 + (offset - 2) ≡ offset = omega arith in
-          subst (λ k. closes_at text k ≡ false) there (sym (shifted (offset - 2)) ∙ closes.2 (offset - 2) (omega arith));
-    }))
+never_is : (text : List ℕ) → opens_block_comment text ≡ true → Closes (drop 2 text) None → NeverCloses text
+never_is text opens never = record {
+  opens = opens;
+  never = λ offset behind.
+      let there : 2 + (offset - 2) ≡ offset = omega arith in
+      subst (λ k. closes_at text k ≡ false) there (sym (shifted text (offset - 2)) ∙ never (offset - 2));
+}
+
+block_is : (text : List ℕ) (n : ℕ) → opens_block_comment text ≡ true → Closes (drop 2 text) (Some n) → IsBlockComment text (2 + n)
+block_is text n opens closes = record {
+  opens = opens;
+  after = omega (arith, closes.0);
+  closes = let there : 2 + (n - 2) ≡ 2 + n - 2 = omega (arith, closes.0) in subst (λ k. closes_at text k ≡ true) there (sym (shifted text (n - 2)) ∙ closes.1);
+  first = λ offset behind short.
+      let there : 2 + (offset - 2) ≡ offset = omega arith in
+      subst (λ k. closes_at text k ≡ false) there (sym (shifted text (offset - 2)) ∙ closes.2 (offset - 2) (omega arith));
+}
+
+-- A text that begins with `/*` is such a comment, or is open.
+pub block_or_open : (text : List ℕ) → opens_block_comment text ≡ true → ((n : ℕ) × IsBlockComment text n × (block_comment text ≡ Gap n)) ⊎ (NeverCloses text × (block_comment text ≡ Broken OpenComment))
+block_or_open text opens = go (through_close (drop 2 text)) refl (close_means (drop 2 text))
+  where
+    go : (o : Option ℕ) → through_close (drop 2 text) ≡ o → Closes (drop 2 text) (through_close (drop 2 text)) → ((n : ℕ) × IsBlockComment text n × (block_comment text ≡ Gap n)) ⊎ (NeverCloses text × (block_comment text ≡ Broken OpenComment))
+    go None is closes = inr (never_is text opens (subst (Closes (drop 2 text)) is closes), ap closed_or_open is)
+    go (Some n) is closes = inl (2 + n, block_is text n opens (subst (Closes (drop 2 text)) is closes), ap closed_or_open is)
+
+block_means : (text : List ℕ) → opens_block_comment text ≡ true → Means text (block_comment text)
+block_means text opens = ⊎_elim
+    (λ closed. subst (Means text) (sym closed.2) (inr (inr closed.1)))
+    (λ open_one. subst (Means text) (sym open_one.1) open_one.0)
+    (block_or_open text opens)
 
 pub front_means : (text : List ℕ) → Means text (front_of text)
 front_means [] = refl
 front_means (first ∷ rest) =
     let text : List ℕ = first ∷ rest in
     cond_both (is_blank first) _ _ (Means text) (λ blank. inl (refl, blank))
-    (λ no_blank. cond_both (opens_line_comment text) _ _ (Means text) (line_means first rest)
+    (λ no_blank. cond_both (opens_line_comment text) _ _ (Means text) (λ opens. inr (inl (line_is text opens)))
     (λ no_line. cond_both (opens_block_comment text) _ _ (Means text) (block_means text)
-    (λ no_block. cond_both (begins_name first) _ _ (Means text) (name_means first rest)
-    (λ no_letter. cond_both (is_ascii_digit first) _ _ (Means text) (number_means first rest)
-    (λ no_digit. sign_means text no_blank no_line no_block no_letter no_digit)))))
+    (λ no_block. cond_both (begins_name first) _ _ (Means text) (λ begins. name_means first rest begins no_line no_block)
+    (λ no_letter. cond_both (is_ascii_digit first) _ _ (Means text) (λ digit. number_means first rest digit no_line no_block)
+    (λ no_digit. sign_means text (omega arith) no_blank no_line no_block no_letter no_digit)))))

@@ -4,6 +4,7 @@ use Rattle.std.specs.List.{starts_with, AllPass}
 use Rattle.std.specs.Char.{is_ascii_digit}
 use Rattle.std.specs.Str.Parse.{digits_value}
 use Rattle.darwin_lexer.specs.declared.token.Keyword.{Keyword}
+use Rattle.darwin_lexer.specs.declared.token.At.{At}
 use Rattle.darwin_lexer.specs.declared.token.Token.{Token}
 use Rattle.darwin_lexer.specs.declared.token.TokenKind.{TokenKind}
 use Rattle.darwin_lexer.specs.declared.token.TokenKind.TheVariants.{Name, Number, Word, Sign}
@@ -14,37 +15,45 @@ use Rattle.darwin_lexer.specs.declared.front.Fault.TheVariants.{BadByte, OpenCom
 use Rattle.darwin_lexer.specs.Places.{place_of}
 use Rattle.darwin_lexer.specs.Words.{is_blank, begins_name, continues_name, keyword_bytes, sign_bytes}
 
--- a letter or `_`, then letters, digits and `_`, at most 64 bytes, and no keyword
+-- a letter or `_`, then letters, digits and `_`, and no keyword
 pub record SpellsName (bytes : List ℕ) : Type 0 where
   pub begins : begins_name (slice_index bytes 0) ≡ true
   pub goes_on : AllPass continues_name bytes
-  pub short : length bytes ≤ 64
   pub own : (keyword : Keyword) → bytes ≢ keyword_bytes keyword
 
--- digits that write a number, at most 2,147,483,647
+-- digits that write a number
 pub record SpellsNumber (bytes : List ℕ) (value : ℕ) : Type 0 where
   pub some : 0 < length bytes
   pub digits : AllPass is_ascii_digit bytes
   pub written : value ≡ digits_value 10 bytes
-  pub small : value ≤ 2147483647
 
--- These bytes are a token of this kind.
+-- These bytes are a token of this kind, however long its name or great its number.
 abbrev pub Spells : TokenKind → List ℕ → Type 0
 Spells Name bytes = SpellsName bytes
 Spells (Number value) bytes = SpellsNumber bytes value
 Spells (Word keyword) bytes = bytes ≡ keyword_bytes keyword
 Spells (Sign sign) bytes = bytes ≡ sign_bytes sign
 
--- The first n bytes of a text are a token of this kind, and no more bytes of it are a token of any kind.
-pub record IsLongest (text : List ℕ) (kind : TokenKind) (n : ℕ) : Type 0 where
-  pub spelled : Spells kind (take n text)
-  pub longest : (other : TokenKind) (more : ℕ) → n < more → more ≤ length text → Spells other (take more text) → ⊥
+-- A name has at most 64 bytes, and a number is at most 2,147,483,647.
+abbrev pub KeepsLimit : TokenKind → ℕ → Type 0
+KeepsLimit Name n = n ≤ 64
+KeepsLimit (Number value) n = value ≤ 2147483647
+KeepsLimit (Word keyword) n = Unit {0}
+KeepsLimit (Sign sign) n = Unit {0}
 
 abbrev pub opens_line_comment : List ℕ → Bool
 opens_line_comment text = starts_with nat_eq text (codes "//")
 
 abbrev pub opens_block_comment : List ℕ → Bool
 opens_block_comment text = starts_with nat_eq text (codes "/*")
+
+-- No comment begins a text, its first n bytes are a token of this kind, and no more bytes of it are a token of any kind.
+pub record IsLongest (text : List ℕ) (kind : TokenKind) (n : ℕ) : Type 0 where
+  pub no_line_comment : opens_line_comment text ≡ false
+  pub no_block_comment : opens_block_comment text ≡ false
+  pub within : n ≤ length text
+  pub spelled : Spells kind (take n text)
+  pub longest : (other : TokenKind) (more : ℕ) → n < more → more ≤ length text → Spells other (take more text) → ⊥
 
 -- A `*/` stands at this offset.
 abbrev pub closes_at : List ℕ → ℕ → Bool
@@ -68,8 +77,9 @@ pub record IsBlockComment (text : List ℕ) (n : ℕ) : Type 0 where
 abbrev pub IsGap : List ℕ → ℕ → Type 0
 IsGap text n = ((n ≡ 1) × (is_blank (slice_index text 0) ≡ true)) ⊎ (IsLineComment text n ⊎ IsBlockComment text n)
 
--- No token, blank or comment begins a text.
+-- No token, blank or comment begins a text that isn't empty.
 pub record BeginsNothing (text : List ℕ) : Type 0 where
+  pub some : 0 < length text
   pub no_blank : is_blank (slice_index text 0) ≡ false
   pub no_line_comment : opens_line_comment text ≡ false
   pub no_block_comment : opens_block_comment text ≡ false
@@ -80,31 +90,34 @@ pub record NeverCloses (text : List ℕ) : Type 0 where
   pub opens : opens_block_comment text ≡ true
   pub never : (offset : ℕ) → 2 ≤ offset → closes_at text offset ≡ false
 
--- A text begins as a name does, and goes on too long.
-pub record IsTooLong (text : List ℕ) : Type 0 where
-  pub begins : begins_name (slice_index text 0) ≡ true
-  pub more : 64 < length text
-  pub goes_on : AllPass continues_name (take 65 text)
-
--- All digits at the front of a text write too great a number.
-pub record IsTooGreat (text : List ℕ) : Type 0 where
+-- The longest token at the front of a text is a name of more than 64 bytes.
+pub record IsLongName (text : List ℕ) : Type 0 where
   pub n : ℕ
-  pub within : n ≤ length text
-  pub digits : AllPass is_ascii_digit (take n text)
-  pub all : n < length text → is_ascii_digit (slice_index text n) ≡ false
-  pub great : 2147483647 < digits_value 10 (take n text)
+  pub token : IsLongest text Name n
+  pub long : 64 < n
+
+-- The longest token at the front of a text is a number above 2,147,483,647.
+pub record IsBigNumber (text : List ℕ) : Type 0 where
+  pub value : ℕ
+  pub n : ℕ
+  pub token : IsLongest text (Number value) n
+  pub big : 2147483647 < value
 
 abbrev pub IsFault : List ℕ → Fault → Type 0
 IsFault text BadByte = BeginsNothing text
 IsFault text OpenComment = NeverCloses text
-IsFault text LongName = IsTooLong text
-IsFault text BigNumber = IsTooGreat text
+IsFault text LongName = IsLongName text
+IsFault text BigNumber = IsBigNumber text
+
+-- The first n bytes of a text are its longest token, of this kind, and within the limits.
+abbrev pub IsToken : List ℕ → TokenKind → ℕ → Type 0
+IsToken text kind n = IsLongest text kind n × KeepsLimit kind n
 
 -- what a front says of its text
 abbrev pub Means : List ℕ → Front → Type 0
 Means text End = text ≡ []
 Means text (Gap n) = IsGap text n
-Means text (Lexeme kind n) = IsLongest text kind n
+Means text (Lexeme kind n) = IsToken text kind n
 Means text (Broken fault) = IsFault text fault
 
 -- From one offset to another only blanks and comments stand.
@@ -118,10 +131,18 @@ pub record Stands (text : List ℕ) (from : ℕ) (token : Token) : Type 0 where
   pub behind : from ≤ token.start
   pub some : token.start < token.end
   pub within : token.end ≤ length text
-  pub longest : IsLongest (drop token.start text) token.kind (token.end - token.start)
+  pub longest : IsToken (drop token.start text) token.kind (token.end - token.start)
   pub place : token.at ≡ place_of text token.start
 
--- Tokens stand one behind the other, and only blanks and comments follow the last.
-abbrev pub InOrder : List ℕ → ℕ → List Token → Type 0
-InOrder text from [] = OnlyGaps text from (length text)
-InOrder text from (token ∷ tokens) = Stands text from token × InOrder text token.end tokens
+-- Tokens stand one behind the other between two offsets, and only blanks and comments follow the last.
+abbrev pub InOrder : List ℕ → ℕ → ℕ → List Token → Type 0
+InOrder text from to [] = OnlyGaps text from to
+InOrder text from to (token ∷ tokens) = Stands text from token × InOrder text token.end to tokens
+
+-- Behind tokens in order a text is at fault, at this place.
+pub record FaultStands (text : List ℕ) (fault : Fault) (at : At) : Type 0 where
+  pub offset : ℕ
+  pub tokens : List Token
+  pub before : InOrder text 0 offset tokens
+  pub broken : IsFault (drop offset text) fault
+  pub place : at ≡ place_of text offset

@@ -1,6 +1,9 @@
 //! The keywords and the signs with their bytes, as two tables.
 
-use crate::token::{Keyword, Sign};
+ghost use Rattle.std.specs.Prelude.{◌≡◌};
+ghost use Rattle.darwin_lexer.specs.Words.{keyword_bytes, keyword_of, sign_at, sign_bytes, word_kind};
+
+use crate::token::{Keyword, Sign, TokenKind};
 
 pub const KEYWORDS: [Keyword; 11] = [
     Keyword::Component,
@@ -44,11 +47,8 @@ pub const SIGNS: [Sign; 23] = [
 ];
 
 impl Keyword {
-    ghost use Rattle.std.specs.Prelude.{◌≡◌};
-    ghost use Rattle.darwin_lexer.specs.Words.{keyword_bytes};
-
     /// The keyword's bytes.
-    pub fn bytes(self) -> &'static [u8]
+    pub(crate) fn bytes(self) -> &'static [u8]
         ensures { result.now ≡ keyword_bytes self }
     {
         match self {
@@ -68,11 +68,8 @@ impl Keyword {
 }
 
 impl Sign {
-    ghost use Rattle.std.specs.Prelude.{◌≡◌};
-    ghost use Rattle.darwin_lexer.specs.Words.{sign_bytes};
-
     /// The sign's bytes.
-    pub fn bytes(self) -> &'static [u8]
+    pub(crate) fn bytes(self) -> &'static [u8]
         ensures { result.now ≡ sign_bytes self }
     {
         match self {
@@ -102,11 +99,6 @@ impl Sign {
         }
     }
 }
-
-ghost use Rattle.std.specs.Prelude.{◌≡◌};
-ghost use Rattle.darwin_lexer.specs.Words.{keyword_of, word_kind, sign_at};
-
-use crate::token::TokenKind;
 
 /// The keyword with these bytes.
 fn keyword_of(word: &[u8]) -> Option<Keyword>
