@@ -18,7 +18,8 @@ use crate::names::{Names, distinct};
 use darwin_parser::{Component, Unit};
 use std::alloc::Global;
 
-/// Checks a description, and takes it where it has no fault. Time grows with the length of the description.
+/// Checks a description, and takes it where it has no fault. Time grows with the length of the
+/// description, where hashes don't collide. A refused description is gone.
 ///
 /// # Errors
 ///

@@ -13,6 +13,8 @@ mod named;
 mod names;
 mod primitive;
 mod refusal;
+#[cfg(test)]
+mod tests;
 
 pub use checked::Checked;
 pub use checking::check;
