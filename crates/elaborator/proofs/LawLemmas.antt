@@ -1,11 +1,26 @@
--- The instances as a relation and as a list.
-use Rattle.std.proofs.Common.{◌≡◌, ◌∙◌, inl, inr, ℕ, zero, suc, ◌+◌, List, [], ◌∷◌, ◌++◌, sym, ap, subst, arith, ◌↔◌}
-use Rattle.std.specs.List.{Contains, flat_map}
+-- Laws of the instances: as a relation and as a list, and how they are told.
+use Rattle.std.proofs.Common.{◌≡◌, ◌≢◌, ◌==◌, ◌∙◌, ◌⊎◌, inl, inr, ℕ, ℤ, zero, suc, ◌+◌, ◌<◌, Bool, true, false, ◌&&◌, not, if◌then◌else◌, List, [], ◌∷◌, ◌++◌, length, Option, Some, None, refl, sym, ap, subst, arith, ◌↔◌}
+use Rattle.std.specs.List.{Contains, flat_map, filter_map, cons_option, slice_get}
+use Rattle.std.specs.Option.{option_map, option_and_then}
+use Rattle.std.specs.Str.{bytes_eq}
+use Rattle.std.proofs.lemmas.Bool.{cases_Bool, cases_order, false≢true}
+use Rattle.std.proofs.lemmas.Slice.Eq.{bytes_eq-Decides}
+use Rattle.std.proofs.lemmas.Option.{none-some, same_Some}
 use Rattle.std.proofs.lemmas.List.Elements.{Contains-append_left, Contains-append_right, Contains-append_cases}
-use Rattle.darwin_parser.specs.Tree.{Tree}
-use Rattle.elaborator.specs.Instances.{Instance, made_in, levels, instances, Inst}
+use Rattle.config_graph.proofs.IncomingLemmas.{Contains-filter_map}
+use Rattle.darwin_parser.specs.Tree.{Name, Tree, Component}
+use Rattle.darwin_types.specs.Scope.{component_named, is_primitive}
+use Rattle.darwin_walk.specs.Value.{parameters}
+use Rattle.darwin_walk.specs.Instance.{Child}
+use Rattle.elaborator.specs.Paths.{Path}
+use Rattle.elaborator.specs.Instances.{Instance, top_instance, children_in, child_path, instance_of, path_of, made_in, paths_in, levels, instances, Inst}
 use Rattle.elaborator.specs.Instances.Inst.{at_top, below}
-use Rattle.elaborator.proofs.Lists.{Contains-here, Contains-one, Contains-flat_map, Contains-from_flat_map}
+use Rattle.elaborator.specs.Faults.{Faults, Twice}
+use Rattle.elaborator.specs.Faults.Faults.{two_instances, two_apart}
+use Rattle.elaborator.specs.declared.error.ElabError.TheVariants as error
+use Rattle.elaborator.proofs.Lists.{Contains-here, Contains-one, Contains-flat_map, Contains-from_flat_map, Contains-from_filter_map, made_of_two}
+use Rattle.elaborator.proofs.WholeLemmas.{at_some_place}
+use Rattle.elaborator.proofs.Places.{twice_at, twice_there}
 use Rattle.elaborator.proofs.ChildLemmas.{depth-made}
 use Rattle.elaborator.proofs.SpreadLemmas.{levels-suc, levels-zero, levels-front, shallow-maker}
 
@@ -58,3 +73,133 @@ listed tree top _ shallow (below i j inst made) =
 pub instances-listed : (tree : Tree) (top i : Instance) → top.depth ≡ 0 → Inst tree top i ↔ Contains (instances tree top) i
 instances-listed tree top i shallow =
     (listed tree top i shallow, levels-sound tree top 33 (top ∷ []) (λ j has. subst (Inst tree top) (sym (Contains-one top j has)) at_top) i)
+
+-- ---- an instance is told by its path
+
+twice_front : {A : Type 0} (y : A) (xs : List A) → Contains xs y → Twice (y ∷ xs) y
+twice_front y xs has = let w = at_some_place xs y has in twice_at (y ∷ xs) 0 (suc w.0) y (omega arith) refl w.1
+
+-- two places of a list give two of what is listed
+twice-filter_map :
+    {A B : Type 0} (h : A → Option B) (xs : List A) (a b : ℕ) (x z : A) (y : B)
+    → a < b → slice_get xs a ≡ Some x → slice_get xs b ≡ Some z → h x ≡ Some y → h z ≡ Some y → Twice (filter_map h xs) y
+twice-filter_map h [] a b x z y lt at at' is is' = absurd (none-some x at)
+twice-filter_map h (v ∷ xs) a zero x z y lt at at' is is' = absurd (omega (arith, lt))
+twice-filter_map h (v ∷ xs) zero (suc b) x z y lt at at' is is' =
+    subst (λ o. Twice (cons_option o (filter_map h xs)) y) (sym is ∙ ap h (sym (same_Some v x at)))
+    (twice_front y (filter_map h xs) (Contains-filter_map h xs b z y at' is'))
+twice-filter_map {B = B} h (v ∷ xs) (suc a) (suc b) x z y lt at at' is is' = behind (h v) (twice-filter_map h xs a b x z y (omega (arith, lt)) at at' is is')
+  where
+    behind : (o : Option B) → Twice (filter_map h xs) y → Twice (cons_option o (filter_map h xs)) y
+    behind None two = two
+    behind (Some w) two = twice_there w (filter_map h xs) y two
+
+-- the entry that makes an instance
+made_child : (tree : Tree) (a i : Instance) → Contains (made_in tree a) i → (n : ℕ) × (c : Child) × (slice_get (children_in a) n ≡ Some c) × (instance_of tree a c ≡ Some i)
+made_child tree a i made =
+    let w = Contains-from_filter_map (instance_of tree a) (children_in a) i made in
+    let place = at_some_place (children_in a) w.0 w.1 in
+    (place.0, w.0, place.1, w.2)
+
+its_path : (tree : Tree) (a i : Instance) (c : Child) → instance_of tree a c ≡ Some i → path_of tree a c ≡ Some i.path
+its_path tree a i c is =
+    let parts = made_of_two (λ component args. record { path = child_path a c; depth = suc a.depth; component = component; env = parameters component args }) (component_named tree c.component) c.arguments i is in
+    ap (option_map (λ component. child_path a c)) parts.2 ∙ ap (λ (x : Instance). Some x.path) parts.4
+
+path_made : (tree : Tree) (a i : Instance) → Contains (made_in tree a) i → Contains (paths_in tree a) i.path
+path_made tree a i made =
+    let w = made_child tree a i made in
+    Contains-filter_map (path_of tree a) (children_in a) w.0 w.1 i.path w.2 (its_path tree a i w.1 w.3)
+
+-- no two entries make the instance of one path
+pub record IsSingle (tree : Tree) (top : Instance) : Type 0 where
+  pub once : (a : Instance) (path : Path) → Inst tree top a → ¬ Twice (paths_in tree a) path
+  pub apart : (a b : Instance) (path : Path) → Inst tree top a → Inst tree top b → a ≢ b → Contains (paths_in tree a) path → ¬ Contains (paths_in tree b) path
+
+-- two instances of one path that are made in one instance are one
+one_made :
+    (tree : Tree) (top : Instance) → IsSingle tree top → (a i j : Instance) → Inst tree top a → Contains (made_in tree a) i → Contains (made_in tree a) j → i.path ≡ j.path
+    → i ≡ j
+one_made tree top single a i j inst made made' same =
+    let v = made_child tree a i made in
+    let w = made_child tree a j made' in
+    let path = its_path tree a i v.1 v.3 in
+    let path' = its_path tree a j w.1 w.3 ∙ ap Some (sym same) in
+    elim (cases_order v.0 w.0) [
+      | inl one ↦
+          let child = same_Some v.1 w.1 (sym v.2 ∙ ap (slice_get (children_in a)) one ∙ w.2) in
+          same_Some i j (sym v.3 ∙ ap (instance_of tree a) child ∙ w.3)
+      | inr two ↦ elim two [
+        | inl before ↦ absurd (single.once a i.path inst (twice-filter_map (path_of tree a) (children_in a) v.0 w.0 v.1 w.1 i.path before v.2 w.2 path path'))
+        | inr behind ↦ absurd (single.once a i.path inst (twice-filter_map (path_of tree a) (children_in a) w.0 v.0 w.1 v.1 i.path behind w.2 v.2 path' path))
+      ]
+    ]
+
+-- two instances of one path are made in instances of one path and depth
+one_maker :
+    (tree : Tree) (top : Instance) → IsSingle tree top → (a b i j : Instance) → Inst tree top a → Inst tree top b → Contains (made_in tree a) i → Contains (made_in tree b) j
+    → i.path ≡ j.path → (a.path ≡ b.path) × (a.depth ≡ b.depth)
+one_maker tree top single a b i j inst inst' made made' same = (
+  elim (cases_Bool (bytes_eq a.path b.path)) [
+    | inl is ↦ (bytes_eq-Decides a.path b.path).0 is
+    | inr differ ↦ absurd (other (λ one. false≢true (sym differ ∙ (bytes_eq-Decides a.path b.path).1 (ap (λ (x : Instance). x.path) one))))
+  ],
+  elim (cases_order a.depth b.depth) [
+    | inl is ↦ is
+    | inr differ ↦ absurd (other (λ one. unequal a.depth b.depth differ (ap (λ (x : Instance). x.depth) one)))
+  ],
+)
+  where
+    other : (a ≡ b → ⊥) → ⊥
+    other differ = single.apart a b i.path inst inst' differ (path_made tree a i made) (subst (Contains (paths_in tree b)) (sym same) (path_made tree b j made'))
+
+    unequal : (m n : ℕ) → (m < n) ⊎ (n < m) → m ≡ n → ⊥
+    unequal m n (inl lt) is = omega (arith, lt, is)
+    unequal m n (inr lt) is = omega (arith, lt, is)
+
+told-by_level :
+    (tree : Tree) (top : Instance) → IsSingle tree top → top.depth ≡ 0 → (i : Instance) → Inst tree top i → (j : Instance) → Inst tree top j
+    → i.path ≡ j.path → i.depth ≡ j.depth → i ≡ j
+told-by_level tree top single shallow _ at_top _ at_top same level = refl
+told-by_level tree top single shallow _ at_top _ (below b j inst made) same level = absurd (omega (arith, shallow, level, depth-made tree b j made))
+told-by_level tree top single shallow _ (below a i inst made) _ at_top same level = absurd (omega (arith, shallow, level, depth-made tree a i made))
+told-by_level tree top single shallow _ (below a i inst made) _ (below b j inst' made') same level =
+    let maker = one_maker tree top single a b i j inst inst' made made' same in
+    let one = told-by_level tree top single shallow a inst b inst' maker.0 maker.1 in
+    one_made tree top single a i j inst made (subst (λ x. Contains (made_in tree x) j) (sym one) made') same
+
+told-below :
+    (tree : Tree) (top : Instance) → IsSingle tree top → top.depth ≡ 0 → (i : Instance) → Inst tree top i → (j : Instance) → Inst tree top j
+    → 0 < i.depth → 0 < j.depth → i.path ≡ j.path → i ≡ j
+told-below tree top single shallow _ at_top j other deep deep' same = absurd (omega (arith, deep, shallow))
+told-below tree top single shallow _ (below a i inst made) _ at_top deep deep' same = absurd (omega (arith, deep', shallow))
+told-below tree top single shallow _ (below a i inst made) _ (below b j inst' made') deep deep' same =
+    let maker = one_maker tree top single a b i j inst inst' made made' same in
+    let one = told-by_level tree top single shallow a inst b inst' maker.0 maker.1 in
+    one_made tree top single a i j inst made (subst (λ x. Contains (made_in tree x) j) (sym one) made') same
+
+pub top_depth : (tree : Tree) (name : Name) (arguments : List ℤ) (top : Instance) → top_instance tree name arguments ≡ Some top → top.depth ≡ 0
+top_depth tree name arguments top is = found (component_named tree name) is
+  where
+    found :
+        (o : Option Component)
+        → option_and_then (λ (c : Component). if not (is_primitive c) && (length c.params == length arguments) then Some (record { path = []; depth = 0; component = c; env = parameters c arguments }) else None) o ≡ Some top
+        → top.depth ≡ 0
+    found None at = absurd (none-some top at)
+    found (Some c) at = by (not (is_primitive c) && (length c.params == length arguments)) at
+      where
+        by : (b : Bool) → (if b then Some (record { path = []; depth = 0; component = c; env = parameters c arguments }) else None) ≡ Some top → top.depth ≡ 0
+        by true at = ap (λ (x : Instance). x.depth) (sym (same_Some _ top at))
+        by false at = absurd (none-some top at)
+
+-- where no two entries make one instance, one that isn't the top is told by its path
+pub told-by_path :
+    (tree : Tree) (name : Name) (arguments : List ℤ) (top : Instance) → top_instance tree name arguments ≡ Some top
+    → ((path : Path) → ¬ Faults tree name arguments (error.TwoInstances path))
+    → (i j : Instance) → Inst tree top i → Inst tree top j → 0 < i.depth → 0 < j.depth → i.path ≡ j.path → i ≡ j
+told-by_path tree name arguments top is none i j inst other deep deep' same =
+    told-below tree top
+    (record {
+      once = λ a path there two. none path (two_instances top a path is there two);
+      apart = λ a b path there there' differ has has'. none path (two_apart top a b path is there there' differ has has');
+    }) (top_depth tree name arguments top is) i inst j other deep deep' same

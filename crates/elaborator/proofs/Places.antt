@@ -59,7 +59,7 @@ split_at [] a x at = absurd (none-some x at)
 split_at (y ∷ xs) zero x at = ([], xs, ap (λ z. z ∷ xs) (same_Some y x at))
 split_at (y ∷ xs) (suc a) x at = let w = split_at xs a x at in (y ∷ w.0, w.1, ap (λ zs. y ∷ zs) w.2)
 
-twice_there : {A : Type 0} (y : A) (xs : List A) (x : A) → Twice xs x → Twice (y ∷ xs) x
+pub twice_there : {A : Type 0} (y : A) (xs : List A) (x : A) → Twice xs x → Twice (y ∷ xs) x
 twice_there y xs x (twice before between after is) = twice (y ∷ before) between after (ap (λ zs. y ∷ zs) is)
 
 pub twice_at : {A : Type 0} (xs : List A) (a b : ℕ) (x : A) → a < b → slice_get xs a ≡ Some x → slice_get xs b ≡ Some x → Twice xs x

@@ -1,15 +1,28 @@
 //! Laws of elaborations, each as the contract of a function that does nothing.
 
-ghost use Rattle.std.specs.Prelude.{◌≡◌, ◌≢◌, ℕ, ℤ, List, Some};
+ghost use Rattle.std.specs.Prelude.{◌≡◌, ◌≢◌, ◌<◌, ◌↔◌, ℕ, ℤ, List, Some, Contains};
 ghost use Rattle.config_graph.specs.Graph.{Configuration};
 ghost use Rattle.config_graph.specs.declared.node.Node.{Node};
 ghost use Rattle.darwin_parser.specs.Tree.{Name, Tree};
 ghost use Rattle.elaborator.specs.Paths.{Path};
-ghost use Rattle.elaborator.specs.Instances.{Instance, top_instance};
+ghost use Rattle.elaborator.specs.Instances.{Instance, Inst, instances, top_instance};
 ghost use Rattle.elaborator.specs.Graph.{Linked};
 ghost use Rattle.elaborator.specs.Faults.{Faults};
 ghost use Rattle.elaborator.specs.Elaboration.{IsGraphOf};
 ghost use Rattle.elaborator.specs.declared.error.ElabError.TheVariants.{BoundTwice, TwoInstances};
+
+/// The instances of an elaboration are those of its list, over which the count is a sum.
+pub fn instances_are_those_of_the_list()
+    ensures { (tree : Tree) (top i : Instance) → top.depth ≡ 0 → Inst tree top i ↔ Contains (instances tree top) i }
+{}
+
+/// Where no path is made twice, an instance that isn't the top is told by its path, with its component
+/// and the values of its parameters.
+pub fn an_instance_is_told_by_its_path()
+    ensures { (tree : Tree) (name : Name) (arguments : List ℤ) (top : Instance) → top_instance tree name arguments ≡ Some top
+        → ((path : Path) → ¬ Faults tree name arguments (TwoInstances path))
+        → (i j : Instance) → Inst tree top i → Inst tree top j → 0 < i.depth → 0 < j.depth → i.path ≡ j.path → i ≡ j }
+{}
 
 /// A description has one graph at most with this top and these arguments.
 pub fn one_graph()

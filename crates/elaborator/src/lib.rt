@@ -19,4 +19,6 @@ mod ports;
 
 pub use elaborating::elaborate;
 pub use error::ElabError;
-pub use laws::{one_graph, one_provision};
+pub use laws::{
+    an_instance_is_told_by_its_path, instances_are_those_of_the_list, one_graph, one_provision,
+};

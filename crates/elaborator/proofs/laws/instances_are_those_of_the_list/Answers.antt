@@ -1,0 +1,5 @@
+use Rattle.elaborator.proofs.LawLemmas.{instances-listed}
+use Rattle.elaborator.proofs.laws.instances_are_those_of_the_list.Goals as goal
+
+pub returns : goal.returns
+returns c = λ tree top i shallow. instances-listed tree top i shallow
