@@ -1,15 +1,14 @@
 -- The argument of a node: it is there exactly where the kind has one, since an entry that makes an instance has as many
 -- arguments as the component has parameters.
-use Rattle.std.proofs.Common.{◌≡◌, ◌≢◌, ◌∙◌, ℕ, zero, suc, ◌<◌, ◌^◌, Bool, true, false, ◌&&◌, not, eqb, ltb, cond, ℤ, pos, negsuc, List, [], ◌∷◌, ◌++◌, Option, Some, None, length, map, refl, ap, sym, subst, inl, inr, arith, IfSome}
-use Rattle.std.specs.List.{Contains, flat_map, list_all, slice_get, zip}
-use Rattle.std.specs.Option.{is_some, option_map, option_or, option_map_or, unwrap_or}
-use Rattle.std.proofs.lemmas.Bool.{false≢true, eqb-true, ltb-true}
+use Rattle.std.proofs.Common.{◌≡◌, ◌∙◌, suc, Bool, true, false, cond, ℤ, List, [], ◌∷◌, ◌++◌, Option, Some, None, length, map, refl, ap, sym, subst, inl, inr, arith}
+use Rattle.std.specs.List.{Contains, flat_map, zip}
+use Rattle.std.specs.Option.{option_map, option_or, option_map_or, unwrap_or}
 use Rattle.std.proofs.lemmas.List.{length-map}
 use Rattle.std.proofs.lemmas.Option.{none-some, same_Some}
 use Rattle.std.proofs.lemmas.Slice.Zip.{length-zip}
 use Rattle.std.proofs.lemmas.List.Elements.{Contains-append_left, Contains-append_right, Contains-append_cases}
 use Rattle.darwin_lexer.specs.declared.token.At.{At}
-use Rattle.darwin_parser.specs.Tree.{Name, Tree, Component, Expr, PortDecl, ArrayDecl, InstEntry, Stmt, Stmts}
+use Rattle.darwin_parser.specs.Tree.{Name, Component, Expr, PortDecl, ArrayDecl, InstEntry, Stmt, Stmts}
 use Rattle.darwin_parser.specs.Tree.InstEntry.{single, element}
 use Rattle.darwin_parser.specs.Tree.Stmt.{inst, bind, forall, when}
 use Rattle.darwin_parser.specs.Tree.Stmts.{end, then}
@@ -17,7 +16,7 @@ use Rattle.darwin_types.specs.Scope.{array_named, entries_of, entries_of_stmt, M
 use Rattle.darwin_walk.specs.Value.{Value, integer, out_of_range, zero_divisor, Variable, Env, parameters, value}
 use Rattle.darwin_walk.specs.Reached.{Reached, valued, turn, made, bound, range, holds, with_variable, reached_by, reached_in, port_size, array_size, reached}
 use Rattle.darwin_walk.specs.Instance.{Child, integers, values, element_arguments, element_child, children_of, children}
-use Rattle.elaborator.proofs.Lists.{Contains-here, Contains-there, Contains-one, Contains-nil, Contains-cons_cases, Contains-map, Contains-from_map, Contains-flat_map, Contains-from_flat_map, option_map_some}
+use Rattle.elaborator.proofs.Lists.{Contains-here, Contains-one, Contains-nil, Contains-cons_cases, Contains-from_map, Contains-from_flat_map, option_map_some}
 
 -- ---- an entry that is reached stands in the body
 

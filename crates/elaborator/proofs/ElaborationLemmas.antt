@@ -1,13 +1,12 @@
 -- From what the parts of an elaboration tell to the faults of the whole.
-use Rattle.std.proofs.Common.{◌≡◌, ◌≢◌, ◌∙◌, Result, Ok, Err, IfOk, IfErr, ℕ, ◌<◌, Bool, true, false, ◌&&◌, not, eqb, cond, ℤ, List, [], ◌∷◌, ◌++◌, Option, Some, None, length, refl, ap, sym, subst, inl, inr, ◌⊎◌, arith}
-use Rattle.std.specs.List.{Contains, flat_map, slice_get}
+use Rattle.std.proofs.Common.{◌≡◌, ◌≢◌, ◌∙◌, Result, Ok, Err, IfOk, IfErr, ◌<◌, Bool, true, false, ◌&&◌, not, eqb, cond, ℤ, List, [], ◌∷◌, ◌++◌, Option, Some, None, length, refl, ap, sym, subst, inl, inr, ◌⊎◌, arith}
+use Rattle.std.specs.List.{Contains, flat_map}
 use Rattle.std.specs.Option.{option_and_then, option_map_or}
 use Rattle.std.proofs.lemmas.Bool.{false≢true, eqb-true}
 use Rattle.std.proofs.lemmas.Option.{none-some, same_Some}
 use Rattle.std.proofs.lemmas.List.Elements.{Contains-append_left, Contains-append_right, Contains-append_cases}
-use Rattle.config_graph.specs.declared.node.Node.{Node}
 use Rattle.config_graph.specs.Graph.{Configuration}
-use Rattle.config_graph.specs.Cycles.{NoCycle, FirstOnCycle}
+use Rattle.config_graph.specs.Cycles.{FirstOnCycle}
 use Rattle.darwin_lexer.specs.declared.token.At.{At}
 use Rattle.darwin_parser.specs.Tree.{Name, Tree, Component, Expr}
 use Rattle.darwin_types.specs.Scope.{component_named, is_primitive}
@@ -17,20 +16,20 @@ use Rattle.darwin_walk.specs.declared.fault.Fault.{Fault}
 use Rattle.darwin_walk.specs.declared.fault.Fault.TheVariants as shown
 use Rattle.elaborator.specs.Paths.{Path, end_bytes}
 use Rattle.elaborator.specs.Instances.{Instance, top_instance, Inst, total}
-use Rattle.elaborator.specs.Bindings.{Named, named, Pair, pair_of, pairs_in, bindings_in}
+use Rattle.elaborator.specs.Bindings.{Named, named, bindings_in}
 use Rattle.elaborator.specs.Graph.{IsElab}
 use Rattle.elaborator.specs.Faults.{own_faults, port_faults, faults_in, Faults, Faults as fault}
-use Rattle.elaborator.specs.Expanded.{Expanded, Numbered, IsOf}
-use Rattle.elaborator.specs.Index.{Answers, FaultOf, FaultOf as of, Clashes, BindingFault, BindingFault as binding}
+use Rattle.elaborator.specs.Expanded.{Expanded, IsOf}
+use Rattle.elaborator.specs.Index.{Answers, FaultOf, FaultOf as of, BindingFault, BindingFault as binding}
 use Rattle.elaborator.specs.Growth.{GrowthFault, GrowthFault as growth, IsClear}
-use Rattle.elaborator.specs.Built.{CycleFault, BuildFault, IsBuilt}
+use Rattle.elaborator.specs.Built.{BuildFault, IsBuilt}
 use Rattle.elaborator.specs.Built.CycleFault.{first_on_cycle}
 use Rattle.elaborator.specs.Built.BuildFault.{in_bindings, in_graph}
 use Rattle.elaborator.specs.Elaboration.{HasNoFault, IsGraphOf}
 use Rattle.elaborator.specs.declared.error.ElabError.{ElabError}
 use Rattle.elaborator.specs.declared.error.ElabError.TheVariants as error
 use Rattle.elaborator.proofs.Lists.{Contains-nil, Contains-one, Contains-flat_map, Contains-from_flat_map}
-use Rattle.elaborator.proofs.SingleLemmas.{IsSingle}
+use Rattle.elaborator.proofs.SingleLemmas.{IsBoundOnce}
 use Rattle.elaborator.proofs.UniqueLemmas.{one_graph}
 
 -- ---- the top
@@ -230,15 +229,17 @@ pub one_graph_of : (tree : Tree) (name : Name) (arguments : List ℤ) (g h : Con
 one_graph_of tree name arguments g h a b =
     one_graph tree b.top g h (subst (λ t. IsElab tree t g) (same_Some a.top b.top (sym a.is_top ∙ b.is_top)) a.is_elab) b.is_elab
 
-pub single_of :
+pub bound_once :
     (tree : Tree) (name : Name) (arguments : List ℤ) (top : Instance) → top_instance tree name arguments ≡ Some top → ((path : Path) → ¬ Faults tree name arguments (error.TwoInstances path))
-    → ((path : Path) (end_ : Path) → ¬ Faults tree name arguments (error.BoundTwice path end_)) → IsSingle tree top
-single_of tree name arguments top is_top once bound_once = record {
+    → ((path name_of_end : Path) → ¬ Faults tree name arguments (error.BoundTwice path name_of_end)) → IsBoundOnce tree top
+bound_once tree name arguments top is_top made_once none = record {
   depth = ap (λ (i : Instance). i.depth) parts.is_top;
   composite = ap (λ (i : Instance). is_primitive i.component) parts.is_top ∙ parts.composite;
-  once = λ i path inst again. once path (fault.two_instances top i path is_top inst again);
-  apart = λ i j path inst inst' there there' differ. once path (fault.two_apart top i j path is_top inst inst' differ there there');
-  bound_once = λ i p q inst there there' same differ. bound_once i.path (end_bytes p.end) (fault.bound_twice top i p q is_top inst there there' same differ);
+  single = record {
+    once = λ i path inst again. made_once path (fault.two_instances top i path is_top inst again);
+    apart = λ i j path inst inst' differ there there'. made_once path (fault.two_apart top i j path is_top inst inst' differ there there');
+  };
+  once = λ i p q inst there there' same differ. none i.path (end_bytes p.end) (fault.bound_twice top i p q is_top inst there there' same differ);
 }
   where
     parts : IsTopOf tree name arguments top

@@ -106,7 +106,7 @@ its_path tree a i c is =
     let parts = made_of_two (λ component args. record { path = child_path a c; depth = suc a.depth; component = component; env = parameters component args }) (component_named tree c.component) c.arguments i is in
     ap (option_map (λ component. child_path a c)) parts.2 ∙ ap (λ (x : Instance). Some x.path) parts.4
 
-path_made : (tree : Tree) (a i : Instance) → Contains (made_in tree a) i → Contains (paths_in tree a) i.path
+pub path_made : (tree : Tree) (a i : Instance) → Contains (made_in tree a) i → Contains (paths_in tree a) i.path
 path_made tree a i made =
     let w = made_child tree a i made in
     Contains-filter_map (path_of tree a) (children_in a) w.0 w.1 i.path w.2 (its_path tree a i w.1 w.3)
@@ -157,7 +157,7 @@ one_maker tree top single a b i j inst inst' made made' same = (
     unequal m n (inl lt) is = omega (arith, lt, is)
     unequal m n (inr lt) is = omega (arith, lt, is)
 
-told-by_level :
+pub told-by_level :
     (tree : Tree) (top : Instance) → IsSingle tree top → top.depth ≡ 0 → (i : Instance) → Inst tree top i → (j : Instance) → Inst tree top j
     → i.path ≡ j.path → i.depth ≡ j.depth → i ≡ j
 told-by_level tree top single shallow _ at_top _ at_top same level = refl
@@ -168,7 +168,7 @@ told-by_level tree top single shallow _ (below a i inst made) _ (below b j inst'
     let one = told-by_level tree top single shallow a inst b inst' maker.0 maker.1 in
     one_made tree top single a i j inst made (subst (λ x. Contains (made_in tree x) j) (sym one) made') same
 
-told-below :
+pub told-below :
     (tree : Tree) (top : Instance) → IsSingle tree top → top.depth ≡ 0 → (i : Instance) → Inst tree top i → (j : Instance) → Inst tree top j
     → 0 < i.depth → 0 < j.depth → i.path ≡ j.path → i ≡ j
 told-below tree top single shallow _ at_top j other deep deep' same = absurd (omega (arith, deep, shallow))

@@ -1,11 +1,10 @@
 -- The graph of an elaboration is sound: nodes have their kinds' arguments, and links are within.
-use Rattle.std.proofs.Common.{◌≡◌, ◌∙◌, Result, Ok, Err, IfOk, ℕ, suc, ◌<◌, ◌^◌, Bool, true, false, ◌&&◌, not, eqb, cond, ℤ, pos, negsuc, List, [], ◌∷◌, ◌++◌, Option, Some, None, length, get_or, map, refl, ap, sym, subst, inl, inr, arith, IfSome}
-use Rattle.std.specs.List.{Contains, All, flat_map, list_all, slice_get, zip}
+use Rattle.std.proofs.Common.{◌≡◌, ◌∙◌, Result, Ok, Err, IfOk, suc, ◌<◌, ◌^◌, Bool, true, false, ◌&&◌, not, eqb, cond, ℤ, pos, negsuc, List, [], ◌∷◌, ◌++◌, Some, length, get_or, map, refl, ap, sym, subst, inl, inr, arith, IfSome}
+use Rattle.std.specs.List.{Contains, flat_map, list_all, slice_get, zip}
 use Rattle.std.specs.Prelude.{int_le}
-use Rattle.std.specs.Option.{is_some, option_map, option_map_or, unwrap_or}
+use Rattle.std.specs.Option.{is_some, option_map, option_map_or}
 use Rattle.std.proofs.lemmas.Bool.{false≢true, eqb-true, ltb-true}
 use Rattle.std.proofs.lemmas.Bool.Decides.{eqb_tells}
-use Rattle.std.proofs.lemmas.Option.{none-some, same_Some}
 use Rattle.std.proofs.lemmas.List.Elements.{Contains-append_right, Contains-get_or}
 use Rattle.config_graph.specs.declared.kind.Kind.{Kind}
 use Rattle.config_graph.specs.declared.node.Node.{Node}
@@ -23,7 +22,7 @@ use Rattle.darwin_walk.specs.Instance.{Child, children, faults}
 use Rattle.darwin_walk.specs.declared.fault.Fault as walk
 use Rattle.darwin_walk.specs.declared.fault.Fault.TheVariants as shown
 use Rattle.elaborator.specs.Instances.{Instance, top_instance, is_expanded, child_path, children_in, instance_of, made_in, Inst, at_top, below}
-use Rattle.elaborator.specs.Graph.{natural, node_of, IsNode, IsElab}
+use Rattle.elaborator.specs.Graph.{natural, node_of, IsElab}
 use Rattle.elaborator.specs.Faults.{is_kind_argument, kind_faults, own_faults}
 use Rattle.elaborator.specs.Expanded.{Expanded}
 use Rattle.elaborator.specs.Growth.{IsClear}

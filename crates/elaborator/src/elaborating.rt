@@ -2,10 +2,8 @@
 
 ghost use Rattle.std.specs.Prelude.{◌≡◌, ◌≢◌, IfErr, IfOk, Some};
 ghost use Rattle.config_graph.specs.Sound.{Sound};
-ghost use Rattle.darwin_parser.specs.Tree.{tree_of, component_of};
+ghost use Rattle.darwin_parser.specs.Tree.{tree_of};
 ghost use Rattle.darwin_types.specs.Checked.{description};
-ghost use Rattle.darwin_walk.specs.Value.{parameters};
-ghost use Rattle.darwin_walk.specs.Spine.{env_of};
 ghost use Rattle.elaborator.specs.Instances.{top_instance};
 ghost use Rattle.elaborator.specs.Expansion.{instance_in};
 ghost use Rattle.elaborator.specs.Index.{Answers};
@@ -20,7 +18,7 @@ use crate::directory::{find, is_primitive};
 use crate::growing::expand;
 use crate::instance::Instance;
 use config_graph::{Graph, Text};
-use darwin_parser::{Component, Unit};
+use darwin_parser::Unit;
 use darwin_types::Checked;
 use darwin_walk::parameters_of;
 use std::alloc::Global;

@@ -1,6 +1,6 @@
 //! Laws of elaborations, each as the contract of a function that does nothing.
 
-ghost use Rattle.std.specs.Prelude.{◌≡◌, ◌≢◌, ◌<◌, ◌↔◌, ℕ, ℤ, List, Some, Contains};
+ghost use Rattle.std.specs.Prelude.{◌≡◌, ◌<◌, ◌↔◌, ℕ, ℤ, List, Some, Contains};
 ghost use Rattle.config_graph.specs.Graph.{Configuration};
 ghost use Rattle.config_graph.specs.declared.node.Node.{Node};
 ghost use Rattle.darwin_parser.specs.Tree.{Name, Tree};
@@ -34,8 +34,8 @@ pub fn one_graph()
 pub fn one_provision()
     ensures { (tree : Tree) (name : Name) (arguments : List ℤ) (top : Instance) (a b c : Node) (require provide other : ℕ)
         → top_instance tree name arguments ≡ Some top
-        → ((path : Path) → Faults tree name arguments (TwoInstances path) → ⊥)
-        → ((path : Path) (end_ : Path) → Faults tree name arguments (BoundTwice path end_) → ⊥)
+        → ((path : Path) → ¬ Faults tree name arguments (TwoInstances path))
+        → ((path name_of_end : Path) → ¬ Faults tree name arguments (BoundTwice path name_of_end))
         → Linked tree top a require b provide → Linked tree top a require c other
-        → (b ≢ c → ⊥) × (provide ≡ other) }
+        → (b ≡ c) × (provide ≡ other) }
 {}

@@ -1,5 +1,4 @@
 use Rattle.std.proofs.Common.{◌≢◌, IfErr, IfOk, sym, subst}
-use Rattle.config_graph.specs.Sound.{Sound}
 use Rattle.darwin_parser.specs.Tree.{tree_of}
 use Rattle.darwin_types.specs.Faults.{NoFault}
 use Rattle.elaborator.specs.Expansion.{instance_in, seen}
