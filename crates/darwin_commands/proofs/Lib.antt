@@ -1,1 +1,5 @@
 pub mod Asking
+pub mod Ending
+pub mod Flattening
+pub mod Readings
+pub mod Refusing

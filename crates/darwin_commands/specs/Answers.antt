@@ -1,11 +1,18 @@
 -- What the program answers: a status and a text, by its words and by what its fetches gave.
-use Rattle.std.specs.Prelude.{◌≡◌, ◌≤◌, ◌<◌, ℕ, List, [], ◌∷◌, ◌++◌, Option, Some, None, IsSomeAnd, length, take, codes}
+use Rattle.std.specs.Prelude.{◌≡◌, ◌≤◌, ◌<◌, ℕ, ℤ, List, [], ◌∷◌, ◌++◌, Option, Some, None, IsSomeAnd, length, take, codes}
 use Rattle.std.specs.List.{AllByRecursion, flat_map}
 use Rattle.cfg_io.specs.Shelf.{Files}
 use Rattle.cfg_io.specs.Sink.{with_bytes}
 use Rattle.cfg_io.specs.Count.{Rose}
 use Rattle.darwin_commands.specs.declared.status.Status.{Status}
 use Rattle.darwin_commands.specs.declared.status.Status.TheVariants.{WriteFault}
+use Rattle.darwin_commands.specs.declared.status.Status.TheVariants as status
+use Rattle.darwin_commands.specs.declared.TheConstants.{HELP, VERSION}
+use Rattle.config_graph.specs.Graph.{Configuration}
+use Rattle.config_graph.specs.GraphText.{graph_text}
+use Rattle.darwin_commands.specs.Words.{Command, help, version, flat, Asks}
+use Rattle.darwin_commands.specs.Lines.{read_fault_line, description_line}
+use Rattle.darwin_commands.specs.Descriptions.{HasGraph, Refuses}
 
 -- what a fetch gave
 pub data Given : Type 0 where
@@ -51,3 +58,46 @@ Gave (Some files) fetch = IsWithin fetch.limit fetch.given × Holds (files fetch
 pub data Written (status : Status) (text : List ℕ) (taken taken' : Option (List ℕ)) (faults faults' : ℕ) : Status → Type 0 where
   whole : taken' ≡ with_bytes taken text → faults' ≡ faults → Written status text taken taken' faults faults' status
   stopped : (n : ℕ) → n < length text → taken' ≡ with_bytes taken (take n text) → Rose faults faults' → Written status text taken taken' faults faults' WriteFault
+
+-- the most bytes of a description
+abbrev pub description_limit : ℕ
+description_limit = 1048576
+
+abbrev pub fetch_of : List ℕ → Given → Fetch
+fetch_of file given = record { name = file; limit = description_limit; given = given }
+
+-- What `flat` answers for a component of a description and its arguments, by what the fetch of the file gave.
+pub data FlatAnswers (file top : List ℕ) (args : List ℤ) : Given → Status → List ℕ → Type 0 where
+  cannot_read : FlatAnswers file top args failed status.ReadFault (read_fault_line file)
+  is_too_long : FlatAnswers file top args too_long status.Description (description_line file (codes "TooLong" ∷ []))
+  refused :
+      (text : List ℕ) (words : List (List ℕ)) → Refuses text top args words
+      → FlatAnswers file top args (held text) status.Description (description_line file words)
+  flattened :
+      (text : List ℕ) (graph : Configuration) → HasGraph text top args graph
+      → FlatAnswers file top args (held text) status.Ok (graph_text graph)
+
+-- fetches that words may make before memory runs out: of the files that they name alone
+pub data MayFetch (words : List (List ℕ)) : List Fetch → Type 0 where
+  nothing : MayFetch words []
+  description : (file top : List ℕ) (args : List ℤ) (given : Given) → Asks words (flat file top args) → MayFetch words (fetch_of file given ∷ [])
+
+-- the text and the status of words with these fetches, one case a command
+pub data Answers (words : List (List ℕ)) : List Fetch → Status → List ℕ → Type 0 where
+  no_form : ((command : Command) → Asks words command → ⊥) → Answers words [] status.Usage (codes "usage" ++ 10 ∷ [])
+  helped : Asks words help → Answers words [] status.Ok HELP.now
+  versioned : Asks words version → Answers words [] status.Ok VERSION.now
+  flat_answered :
+      (file top : List ℕ) (args : List ℤ) (given : Given) (own : Status) (text : List ℕ) → Asks words (flat file top args)
+      → FlatAnswers file top args given own text → Answers words (fetch_of file given ∷ []) own text
+  no_memory : (fetches : List Fetch) → MayFetch words fetches → Answers words fetches status.NoMemory (codes "no memory" ++ 10 ∷ [])
+
+-- What a run does: by some fetches, whose failures the shelf notes and which gave what its files hold, it has an answer, and writes it.
+pub record Runs (words : List (List ℕ)) (files : Option Files) (failures failures' : List (List ℕ)) (taken taken' : Option (List ℕ)) (faults faults' : ℕ) (result : Status) : Type 0 where
+  pub fetches : List Fetch
+  pub own : Status
+  pub text : List ℕ
+  pub answers : Answers words fetches own text
+  pub noted : failures' ≡ failures ++ failed_names fetches
+  pub told : AllByRecursion (Gave files) fetches
+  pub written : Written own text taken taken' faults faults' result

@@ -1,4 +1,8 @@
 pub mod Answers
+pub mod DescriptionFaults
+pub mod Descriptions
+pub mod Fetching
 pub mod Lines
-pub mod Words
+pub mod Outcomes
 pub mod Requests
+pub mod Words

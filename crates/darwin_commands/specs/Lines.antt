@@ -5,8 +5,8 @@ use Rattle.std.specs.List.{flat_map}
 use Rattle.darwin_lexer.specs.declared.token.At.{At}
 use Rattle.darwin_lexer.specs.declared.token.LexError.{LexError}
 use Rattle.darwin_lexer.specs.declared.token.LexError.TheVariants as lexing
-use Rattle.darwin_parser.specs.declared.error.ParseError.{ParseError}
-use Rattle.darwin_parser.specs.declared.error.ParseError.TheVariants as parsing
+use Rattle.darwin_types.specs.declared.error.TypeError.{TypeError}
+use Rattle.darwin_types.specs.declared.error.TypeError.TheVariants as checking
 use Rattle.elaborator.specs.declared.error.ElabError.{ElabError}
 use Rattle.elaborator.specs.declared.error.ElabError.TheVariants as elaborating
 
@@ -27,11 +27,22 @@ lex_words (lexing.LongName at) = codes "LongName" ∷ place_word at ∷ []
 lex_words (lexing.BigNumber at) = codes "BigNumber" ∷ place_word at ∷ []
 lex_words lexing.NoMemory = []
 
--- A fault of the grammar shows the place of its token, not the token's number.
-abbrev pub parse_words : ParseError → At → List (List ℕ)
-parse_words (parsing.Expected n) at = codes "Expected" ∷ place_word at ∷ []
-parse_words (parsing.TooNested n) at = codes "TooNested" ∷ place_word at ∷ []
-parse_words parsing.NoMemory at = []
+-- Faults of the grammar show the place of the token.
+abbrev pub expected_words : At → List (List ℕ)
+expected_words at = codes "Expected" ∷ place_word at ∷ []
+
+abbrev pub too_nested_words : At → List (List ℕ)
+too_nested_words at = codes "TooNested" ∷ place_word at ∷ []
+
+abbrev pub check_words : TypeError → List (List ℕ)
+check_words (checking.TwoComponents name) = codes "TwoComponents" ∷ name ∷ []
+check_words (checking.TwoNames component name) = codes "TwoNames" ∷ component ∷ name ∷ []
+check_words (checking.UnknownName component name) = codes "UnknownName" ∷ component ∷ name ∷ []
+check_words (checking.UnknownComponent component name) = codes "UnknownComponent" ∷ component ∷ name ∷ []
+check_words (checking.ArgCount component name wanted given) = codes "ArgCount" ∷ component ∷ name ∷ decimal wanted ∷ decimal given ∷ []
+check_words (checking.UnknownKind name) = codes "UnknownKind" ∷ name ∷ []
+check_words (checking.KindPorts name) = codes "KindPorts" ∷ name ∷ []
+check_words checking.NoMemory = []
 
 abbrev pub elaborate_words : ElabError → List (List ℕ)
 elaborate_words (elaborating.NoTop name) = codes "NoTop" ∷ name ∷ []

@@ -1,5 +1,4 @@
 -- The command that a request of the program stands for.
-use Rattle.std.specs.Prelude.{ℕ, ℤ, List}
 use Rattle.darwin_commands.specs.declared.words.Request.{Request}
 use Rattle.darwin_commands.specs.declared.words.Request.TheVariants as request
 use Rattle.darwin_commands.specs.Words.{Command, help, version, flat}

@@ -2,8 +2,20 @@
 #![tactic(auto)]
 
 mod answer;
+mod commands;
+mod description;
+mod fetching;
+mod flat;
 mod lines;
+mod places;
 mod status;
 mod words;
 
+pub use commands::still;
 pub use status::Status;
+
+/// What `--help` writes: the commands with their forms.
+const HELP: &str = "darwin_run --help\ndarwin_run --version\ndarwin_run flat FILE NAME INT*\n";
+
+/// What `--version` writes.
+const VERSION: &str = "darwin_run 0.1.0\n";

@@ -1,13 +1,16 @@
 //! The lines that refuse.
 
-ghost use Rattle.std.specs.Prelude.{◌≡◌, ◌++◌, ◌∷◌, [], OnOk, decimal};
+ghost use Rattle.std.specs.Prelude.{◌≡◌, ◌++◌, ◌∷◌, [], IfOk, OnOk, codes, decimal};
 ghost use Rattle.darwin_commands.specs.Lines as lines;
+ghost use Rattle.darwin_commands.specs.DescriptionFaults.{fault_words};
 
+use crate::description::DescriptionFault;
 use config_graph::{NoMemory, Text};
 use darwin_lexer::{At, LexError};
-use darwin_parser::ParseError;
+use darwin_types::TypeError;
 use elaborator::ElabError;
 use itoa::Buffer;
+use std::alloc::Global;
 
 /// Writes a place, as LINE:COLUMN, after a space.
 fn push_place(line: &mut Vec<u8>, at: At) -> Result<(), NoMemory>
@@ -40,7 +43,7 @@ fn push_path(line: &mut Vec<u8>, path: &Text) -> Result<(), NoMemory>
 }
 
 /// Writes the name of a fault and its place.
-fn push_placed(line: &mut Vec<u8>, name: &[u8], at: At) -> Result<(), NoMemory>
+pub fn push_placed(line: &mut Vec<u8>, name: &[u8], at: At) -> Result<(), NoMemory>
     ensures { OnOk result (line.new.items ≡ line.old.items ++ lines.spaced (name.now ∷ lines.place_word at ∷ [])) }
 {
     push_word(line, name)?;
@@ -66,17 +69,6 @@ pub fn push_lex_fault(line: &mut Vec<u8>, fault: &LexError) -> Result<(), NoMemo
         LexError::LongName(at) => push_placed(line, b"LongName", *at),
         LexError::BigNumber(at) => push_placed(line, b"BigNumber", *at),
         LexError::NoMemory => Ok(()),
-    }
-}
-
-/// Writes a fault of the grammar, with the place of its token.
-pub fn push_parse_fault(line: &mut Vec<u8>, fault: &ParseError, at: At) -> Result<(), NoMemory>
-    ensures { OnOk result (line.new.items ≡ line.old.items ++ lines.spaced (lines.parse_words fault.now at)) }
-{
-    match fault {
-        ParseError::Expected(_) => push_placed(line, b"Expected", at),
-        ParseError::TooNested(_) => push_placed(line, b"TooNested", at),
-        ParseError::NoMemory => Ok(()),
     }
 }
 
@@ -113,6 +105,61 @@ fn push_named(line: &mut Vec<u8>, name: &[u8], what: &Text) -> Result<(), NoMemo
     push_word(line, what.as_bytes())
 }
 
+/// Writes the name of a fault, that of a component, and a name in it.
+fn push_named_in(
+    line: &mut Vec<u8>,
+    name: &[u8],
+    component: &Text,
+    what: &Text,
+) -> Result<(), NoMemory>
+    ensures { OnOk result (line.new.items ≡ line.old.items ++ lines.spaced (name.now ∷ component.now ∷ what.now ∷ [])) }
+{
+    push_named(line, name, component)?;
+    push_word(line, what.as_bytes())
+}
+
+/// Writes two numbers, each after a space.
+fn push_numbers(line: &mut Vec<u8>, wanted: u32, given: u32) -> Result<(), NoMemory>
+    ensures { OnOk result (line.new.items ≡ line.old.items ++ lines.spaced (decimal wanted ∷ decimal given ∷ [])) }
+{
+    push_number(line, wanted)?;
+    push_number(line, given)
+}
+
+/// Writes a fault of the names of a description.
+pub fn push_check_fault(line: &mut Vec<u8>, fault: &TypeError) -> Result<(), NoMemory>
+    ensures { OnOk result (line.new.items ≡ line.old.items ++ lines.spaced (lines.check_words fault.now)) }
+{
+    match fault {
+        TypeError::TwoComponents(name) => push_named(line, b"TwoComponents", name),
+        TypeError::TwoNames(component, name) => push_named_in(line, b"TwoNames", component, name),
+        TypeError::UnknownName(component, name) => push_named_in(
+            line,
+            b"UnknownName",
+            component,
+            name,
+        ),
+        TypeError::UnknownComponent(component, name) => push_named_in(
+            line,
+            b"UnknownComponent",
+            component,
+            name,
+        ),
+        TypeError::ArgCount {
+            component,
+            name,
+            wanted,
+            given,
+        } => {
+            push_named_in(line, b"ArgCount", component, name)?;
+            push_numbers(line, *wanted, *given)
+        }
+        TypeError::UnknownKind(name) => push_named(line, b"UnknownKind", name),
+        TypeError::KindPorts(name) => push_named(line, b"KindPorts", name),
+        TypeError::NoMemory => Ok(()),
+    }
+}
+
 /// Writes a fault of the elaboration.
 pub fn push_elaborate_fault(line: &mut Vec<u8>, fault: &ElabError) -> Result<(), NoMemory>
     ensures { OnOk result (line.new.items ≡ line.old.items ++ lines.spaced (lines.elaborate_words fault.now)) }
@@ -137,4 +184,62 @@ pub fn push_elaborate_fault(line: &mut Vec<u8>, fault: &ElabError) -> Result<(),
         ElabError::DependsCycle(path) => push_pathed(line, b"DependsCycle", path),
         ElabError::NoMemory => Ok(()),
     }
+}
+
+/// Writes what names a fault of a description, each word after a space.
+fn push_fault(line: &mut Vec<u8>, fault: &DescriptionFault) -> Result<(), NoMemory>
+    ensures { OnOk result (line.new.items ≡ line.old.items ++ lines.spaced (fault_words fault.now)) }
+{
+    match fault {
+        DescriptionFault::NoMemory => Ok(()),
+        DescriptionFault::Lex(fault) => push_lex_fault(line, fault),
+        DescriptionFault::Expected(at) => push_placed(line, b"Expected", *at),
+        DescriptionFault::TooNested(at) => push_placed(line, b"TooNested", *at),
+        DescriptionFault::Check(fault) => push_check_fault(line, fault),
+        DescriptionFault::Elaborate(fault) => push_elaborate_fault(line, fault),
+    }
+}
+
+/// The line of a description with a fault.
+pub fn description_line(
+    alloc: Global,
+    file: &str,
+    fault: &DescriptionFault,
+) -> Result<Vec<u8>, NoMemory>
+    ensures { IfOk result (λ line. line.items ≡ lines.description_line file.now (fault_words fault.now)) }
+{
+    let mut line = begun(alloc, file)?;
+    push_fault(&mut line, fault)?;
+    line.extend_from_slice(b"\n")?;
+    Ok(line)
+}
+
+/// The line of a description that is too long.
+pub fn too_long_line(alloc: Global, file: &str) -> Result<Vec<u8>, NoMemory>
+    ensures { IfOk result (λ line. line.items ≡ lines.description_line file.now (codes "TooLong" ∷ [])) }
+{
+    let mut line = begun(alloc, file)?;
+    push_word(&mut line, b"TooLong")?;
+    line.extend_from_slice(b"\n")?;
+    Ok(line)
+}
+
+/// The line of a file that can't be read.
+pub fn read_fault_line(alloc: Global, file: &str) -> Result<Vec<u8>, NoMemory>
+    ensures { IfOk result (λ line. line.items ≡ lines.read_fault_line file.now) }
+{
+    let mut line = Vec::from_slice(alloc, b"read fault ")?;
+    line.extend_from_slice(file.as_bytes())?;
+    line.extend_from_slice(b"\n")?;
+    Ok(line)
+}
+
+/// A line that names a description.
+fn begun(alloc: Global, file: &str) -> Result<Vec<u8>, NoMemory>
+    ensures { IfOk result (λ line. line.items ≡ codes "description " ++ file.now ++ codes ":") }
+{
+    let mut line = Vec::from_slice(alloc, b"description ")?;
+    line.extend_from_slice(file.as_bytes())?;
+    line.extend_from_slice(b":")?;
+    Ok(line)
 }

@@ -1,5 +1,5 @@
 -- Fewer than two words are no file and no component.
-use Rattle.std.proofs.Common.{◌<◌, List, ℕ, length, map, string_bytes, arith}
+use Rattle.std.proofs.Common.{map, string_bytes, arith}
 use Rattle.std.proofs.lemmas.List.{length-map}
 use Rattle.darwin_commands.proofs.Asking.{too_few}
 use Rattle.darwin_commands.proofs.words.read_flat.Goals as goal

@@ -1,0 +1,29 @@
+-- Faults of a description as the program has them, and the words that name them.
+use Rattle.std.specs.Prelude.{◌≡◌, ℕ, ℤ, Bool, true, false, List, []}
+use Rattle.darwin_lexer.specs.declared.token.LexError.TheVariants as lexing
+use Rattle.darwin_types.specs.declared.error.TypeError.TheVariants as checking
+use Rattle.elaborator.specs.declared.error.ElabError.TheVariants as elaborating
+use Rattle.darwin_commands.specs.declared.description.DescriptionFault.{DescriptionFault}
+use Rattle.darwin_commands.specs.declared.description.DescriptionFault.TheVariants as fault
+use Rattle.darwin_commands.specs.Lines.{lex_words, expected_words, too_nested_words, check_words, elaborate_words}
+use Rattle.darwin_commands.specs.Descriptions.{Refuses}
+
+abbrev pub fault_words : DescriptionFault → List (List ℕ)
+fault_words fault.NoMemory = []
+fault_words (fault.Lex e) = lex_words e
+fault_words (fault.Expected at) = expected_words at
+fault_words (fault.TooNested at) = too_nested_words at
+fault_words (fault.Check e) = check_words e
+fault_words (fault.Elaborate e) = elaborate_words e
+
+-- whether it is want of memory, and no fault of the description
+abbrev pub is_no_memory : DescriptionFault → Bool
+is_no_memory fault.NoMemory = true
+is_no_memory (fault.Lex lexing.NoMemory) = true
+is_no_memory (fault.Check checking.NoMemory) = true
+is_no_memory (fault.Elaborate elaborating.NoMemory) = true
+is_no_memory _ = false
+
+-- a fault refuses the description of which the component of a name is wanted, unless it is want of memory
+abbrev pub MayRefuse : List ℕ → List ℕ → List ℤ → DescriptionFault → Type 0
+MayRefuse text name args f = is_no_memory f ≡ false → Refuses text name args (fault_words f)

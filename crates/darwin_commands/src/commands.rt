@@ -1,0 +1,95 @@
+//! All commands that run on one thread.
+
+ghost use Rattle.std.specs.Prelude.{◌≡◌, ◌≢◌, ◌≤◌, ◌∷◌, ◌++◌, [], codes, ℕ, ℤ, List, Some, length, map, string_bytes};
+ghost use Rattle.cfg_io.specs.Count.{Rose};
+ghost use Rattle.cfg_io.specs.Shelf.{Files};
+ghost use Rattle.config_graph.specs.Graph.{Configuration};
+ghost use Rattle.darwin_commands.specs.Answers.{Runs, Written, description_limit};
+ghost use Rattle.darwin_commands.specs.Descriptions.{HasGraph};
+ghost use Rattle.darwin_commands.specs.Outcomes.{HasNoForm, NamesFile, Ends, Flattened, Refused};
+ghost use Rattle.darwin_commands.specs.declared.status.Status.TheVariants.{Usage, ReadFault, WriteFault, Description};
+ghost use Rattle.darwin_commands.specs.Words.{Asks, flat as flat_command};
+
+use crate::answer::write;
+use crate::fetching::fetch_description;
+use crate::flat::flat;
+use crate::status::Status;
+use crate::words::{Request, read_words};
+use crate::{HELP, VERSION};
+use cfg_io::{Shelf, Sink};
+use std::alloc::Global;
+
+/// Does what the words ask for, with files from the shelf, and writes to the sink: a graph text, or one line that refuses. It
+/// always returns.
+pub fn still<H: Shelf, K: Sink>(
+    alloc: Global,
+    words: &[String],
+    shelf: &mut H,
+    out: &mut K,
+) -> Status
+    // The fetches, the answer and what was written of it.
+    ensures runs { Runs (map string_bytes words.now) (H.files shelf.old) (H.failed shelf.old) (H.failed shelf.new) (K.taken out.old) (K.taken out.new) (K.faults out.old) (K.faults out.new) result }
+    // Usage, exactly where the words have none of the forms.
+    ensures usage { result ≡ Usage → HasNoForm (map string_bytes words.now) }
+    ensures every_usage { HasNoForm (map string_bytes words.now) → Ends result Usage }
+    // ReadFault, exactly where a fetch failed; the file is one that the words name.
+    ensures read_fault { result ≡ ReadFault → (file : List ℕ) × NamesFile (map string_bytes words.now) file × (H.failed shelf.new ≡ H.failed shelf.old ++ file ∷ []) }
+    ensures every_read_fault { H.failed shelf.new ≢ H.failed shelf.old → Ends result ReadFault }
+    // WriteFault, exactly where a put failed.
+    ensures write_fault { result ≡ WriteFault → Rose (K.faults out.old) (K.faults out.new) }
+    ensures every_write_fault { result ≢ WriteFault → K.faults out.new ≡ K.faults out.old }
+    // Of `flat`: the text of the graph, or the line of a fault that holds.
+    ensures flattened { (file top : List ℕ) (args : List ℤ) → Asks (map string_bytes words.now) (flat_command file top args) → result ≡ Status.Ok
+        → Flattened (H.files shelf.old) file top args (K.taken out.old) (K.taken out.new) }
+    ensures refused { result ≡ Description → (file top : List ℕ) × (args : List ℤ) × Asks (map string_bytes words.now) (flat_command file top args)
+        × Refused (H.files shelf.old) file top args (K.taken out.old) (K.taken out.new) }
+    // A description that has a graph is flattened, where nothing fails and there is memory.
+    ensures complete { (file top : List ℕ) (args : List ℤ) (files : Files) (text : List ℕ) (graph : Configuration)
+        → Asks (map string_bytes words.now) (flat_command file top args) → H.files shelf.old ≡ Some files → files file ≡ Some text
+        → length text ≤ description_limit → HasGraph text top args graph → H.failed shelf.new ≡ H.failed shelf.old → Ends result Status.Ok }
+{
+    run(alloc, words, shelf, out)
+}
+
+/// The same, as one clause.
+fn run<H: Shelf, K: Sink>(alloc: Global, words: &[String], shelf: &mut H, out: &mut K) -> Status
+    ensures { Runs (map string_bytes words.now) (H.files shelf.old) (H.failed shelf.old) (H.failed shelf.new) (K.taken out.old) (K.taken out.new) (K.faults out.old) (K.faults out.new) result }
+{
+    match read_words(alloc, words) {
+        Ok(None) => write(out, Status::Usage, b"usage\n"),
+        Ok(Some(Request::Help)) => write(out, Status::Ok, HELP.as_bytes()),
+        Ok(Some(Request::Version)) => write(out, Status::Ok, VERSION.as_bytes()),
+        Ok(Some(Request::Flat { file, top, args })) => {
+            run_flat(alloc, shelf, out, file, top, args.as_slice())
+        }
+        Err(_) => no_memory(out),
+    }
+}
+
+/// Writes that memory ran out.
+fn no_memory<K: Sink>(out: &mut K) -> Status
+    ensures { Written Status.NoMemory (codes "no memory" ++ 10 ∷ []) (K.taken out.old) (K.taken out.new) (K.faults out.old) (K.faults out.new) result }
+{
+    write(out, Status::NoMemory, b"no memory\n")
+}
+
+/// Fetches a description, and writes the graph of one of its components or the line that refuses it.
+fn run_flat<H: Shelf, K: Sink>(
+    alloc: Global,
+    shelf: &mut H,
+    out: &mut K,
+    file: &str,
+    top: &str,
+    args: &[i32],
+) -> Status
+    ensures { (words : List (List ℕ)) → Asks words (flat_command file.now top.now args.now)
+        → Runs words (H.files shelf.old) (H.failed shelf.old) (H.failed shelf.new) (K.taken out.old) (K.taken out.new) (K.faults out.old) (K.faults out.new) result }
+{
+    match fetch_description(shelf, file) {
+        Ok(fetched) => match flat(alloc, file, top, args, fetched) {
+            Ok(answer) => write(out, answer.status, answer.text.as_slice()),
+            Err(_) => no_memory(out),
+        },
+        Err(_) => no_memory(out),
+    }
+}

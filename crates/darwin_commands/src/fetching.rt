@@ -1,0 +1,32 @@
+//! Fetches of descriptions.
+
+ghost use Rattle.std.specs.Prelude.{◌≤◌, vec_len};
+ghost use Rattle.darwin_commands.specs.Fetching.{Fetches, given_of};
+
+use cfg_io::{Shelf, ShelfError};
+use config_graph::NoMemory;
+use darwin_lexer::MAX_TEXT;
+use std::alloc::AllocError;
+
+/// The most bytes of a description.
+const DESCRIPTION_LIMIT: u32 = MAX_TEXT as u32;
+
+/// What a fetch of a description gave.
+#[derive(Debug, Drop)]
+pub enum Fetched {
+    Held(Vec<u8>),
+    TooLong,
+    Failed,
+}
+
+/// Fetches the description of this name.
+pub fn fetch_description<H: Shelf>(shelf: &mut H, file: &str) -> Result<Fetched, NoMemory>
+    ensures { Fetches (H.files shelf.old) file.now (H.failed shelf.old) (H.failed shelf.new) result }
+{
+    match shelf.fetch(file, DESCRIPTION_LIMIT) {
+        Ok(text) => Ok(Fetched::Held(text)),
+        Err(ShelfError::Failed) => Ok(Fetched::Failed),
+        Err(ShelfError::TooLong { .. }) => Ok(Fetched::TooLong),
+        Err(ShelfError::NoMemory) => Err(AllocError),
+    }
+}

@@ -1,0 +1,80 @@
+//! The descriptions of the rows.
+
+/// A source, a map and a sink in a line.
+pub const LINE: &str = "component source(int n) { require out; }
+component map(int k) { provide in; require next; }
+component sink { provide in; }
+component Line(int n, int k) {
+  inst s:source(n); m:map(k); t:sink;
+  bind s.out -- m.in; m.next -- t.in;
+}
+";
+
+/// A composite component with an array of maps, between a source and a sink.
+pub const PIPE: &str = "component source(int n) { require out; }
+component map(int k) { provide in; require next; }
+component sink { provide in; }
+component Pipe(int n) {
+  provide in; require out;
+  array F[n]:map(1);
+  forall k:0..n-1 {
+    inst F[k];
+    when k < n-1 bind F[k].next -- F[k+1].in;
+  }
+  bind in -- F[0].in; F[n-1].next -- out;
+}
+component Main(int n) {
+  inst s:source(2); p:Pipe(n); t:sink;
+  bind s.out -- p.in; p.out -- t.in;
+}
+";
+
+/// An array with an element outside its turns.
+pub const ROW: &str = "component sink { provide in; }
+component Row(int n) {
+  array A[n]:sink;
+  forall i:0..n-1 inst A[i];
+  inst A[0];
+}
+";
+
+/// An outer requirement that is bound twice.
+pub const TWICE: &str = "component source(int n) { require out; }
+component sink { provide in; }
+component Box { require out; inst s:source(1); bind s.out -- out; }
+component Top { inst p:Box; t:sink; u:sink; bind p.out -- t.in; p.out -- u.in; }
+";
+
+/// Turns without a statement.
+pub const TURNS: &str =
+    "component sink { provide in; } component Turns(int n) { inst t:sink; forall i:1..n { } }";
+
+/// Two notes that differ.
+pub const TWO: &str = "component source(int n) { require out <item>; }
+component sink { provide in <word>; }
+component Two { inst s:source(1); t:sink; bind s.out -- t.in; }
+";
+
+/// The same without the second note.
+pub const ONE_NOTE: &str = "component source(int n) { require out <item>; }
+component sink { provide in; }
+component Two { inst s:source(1); t:sink; bind s.out -- t.in; }
+";
+
+/// One sink.
+pub const ONE: &str = "component sink { provide in; } component One { inst t:sink; }";
+
+/// A component that holds instances of itself without end.
+pub const LOOP: &str = "component Loop { inst a:Loop; }";
+
+/// Two maps in a ring.
+pub const RING: &str = "component map(int k) { provide in; require next; } component Ring { inst a:map(1); b:map(2); bind a.next -- b.in; b.next -- a.in; }";
+
+/// A source that feeds a sink through a buffer; one binding has its provision first.
+pub const SMALL: &str = "component source(int n) { require out; } component buffer(int cap) { provide in; require next; } component sink { provide in; } component L { inst s:source(3); b:buffer(2); t:sink; bind s.out -- b.in; t.in -- b.next; }";
+
+/// The same with a port that the sink lacks.
+pub const SMALL_REFUSED: &str = "component source(int n) { require out; } component buffer(int cap) { provide in; require next; } component sink { provide in; } component L { inst s:source(3); b:buffer(2); t:sink; bind s.out -- b.in; t.out -- b.next; }";
+
+/// One `when` too many.
+pub const NESTED: &str = "component X { when 1 when 1 when 1 when 1 when 1 when 1 when 1 when 1 when 1 when 1 when 1 when 1 when 1 when 1 when 1 when 1 when 1 inst a:sink; }";

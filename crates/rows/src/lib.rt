@@ -1,0 +1,9 @@
+//! Worked rows: runs of the commands over files in memory, with the texts and statuses that must come.
+#![tactic(auto)]
+
+#[cfg(test)]
+mod descriptions;
+#[cfg(test)]
+mod flat;
+#[cfg(test)]
+mod running;
