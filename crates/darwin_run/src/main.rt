@@ -1,12 +1,10 @@
 //! `darwin_run`: the commands over real files and standard output.
 #![tactic(auto)]
 
-use std::env;
-use std::io;
-use std::process::ExitCode;
-
 use cfg_io::{FileShelf, OutSink};
 use darwin_commands::still;
+use std::process::ExitCode;
+use std::{env, io};
 
 /// The words of the command line, without the program's name.
 fn words(rt: &HostRuntime) -> io::Result<Vec<String>> {

@@ -68,13 +68,17 @@ pub const ONE: &str = "component sink { provide in; } component One { inst t:sin
 pub const LOOP: &str = "component Loop { inst a:Loop; }";
 
 /// Two maps in a ring.
-pub const RING: &str = "component map(int k) { provide in; require next; } component Ring { inst a:map(1); b:map(2); bind a.next -- b.in; b.next -- a.in; }";
+pub const RING: &str =
+    "component map(int k) { provide in; require next; } component Ring { inst a:map(1); b:map(2); bind a.next -- b.in; b.next -- a.in; }";
 
 /// A source that feeds a sink through a buffer; one binding has its provision first.
-pub const SMALL: &str = "component source(int n) { require out; } component buffer(int cap) { provide in; require next; } component sink { provide in; } component L { inst s:source(3); b:buffer(2); t:sink; bind s.out -- b.in; t.in -- b.next; }";
+pub const SMALL: &str =
+    "component source(int n) { require out; } component buffer(int cap) { provide in; require next; } component sink { provide in; } component L { inst s:source(3); b:buffer(2); t:sink; bind s.out -- b.in; t.in -- b.next; }";
 
 /// The same with a port that the sink lacks.
-pub const SMALL_REFUSED: &str = "component source(int n) { require out; } component buffer(int cap) { provide in; require next; } component sink { provide in; } component L { inst s:source(3); b:buffer(2); t:sink; bind s.out -- b.in; t.out -- b.next; }";
+pub const SMALL_REFUSED: &str =
+    "component source(int n) { require out; } component buffer(int cap) { provide in; require next; } component sink { provide in; } component L { inst s:source(3); b:buffer(2); t:sink; bind s.out -- b.in; t.out -- b.next; }";
 
 /// One `when` too many.
-pub const NESTED: &str = "component X { when 1 when 1 when 1 when 1 when 1 when 1 when 1 when 1 when 1 when 1 when 1 when 1 when 1 when 1 when 1 when 1 when 1 inst a:sink; }";
+pub const NESTED: &str =
+    "component X { when 1 when 1 when 1 when 1 when 1 when 1 when 1 when 1 when 1 when 1 when 1 when 1 when 1 when 1 when 1 when 1 when 1 inst a:sink; }";

@@ -1,11 +1,10 @@
 //! How a row is run.
 
-use std::process::Abort;
-use std::alloc::Global;
-use std::test::Fail;
-
 use cfg_io::{MemShelf, MemSink};
 use darwin_commands::still;
+use std::alloc::Global;
+use std::process::Abort;
+use std::test::Fail;
 
 /// A run over one file in memory, and what must come of it.
 pub struct Row {
