@@ -1,0 +1,5 @@
+pub mod Finding
+pub mod Statements
+pub mod Children
+pub mod Instances
+pub mod Joining
