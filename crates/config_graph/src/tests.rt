@@ -3,8 +3,8 @@
 ghost use Rattle.std.specs.Prelude.{◌≡◌, ◌⊎◌, IfOk};
 
 use crate::{
-    Graph, Kind, Link, NoMemory, Node, Port, Target, Text, first_on_cycle, graph_text, kind_of,
-    same,
+    Graph, Kind, Link, List, NoMemory, Node, Port, Target, Text, first_on_cycle, graph_text,
+    kind_of, same,
 };
 use std::alloc::Global;
 use std::test::Fail;
@@ -148,5 +148,13 @@ fn a_map_in_a_circle_is_on_a_cycle_and_a_buffer_is_not(rt: HostRuntime) -> Resul
     assert_eq!(rt; first_on_cycle(rt.alloc(), &map)?, Some(0));
     let buffer = linked_to_itself(rt.alloc(), Kind::Buffer)?;
     assert_eq!(rt; first_on_cycle(rt.alloc(), &buffer)?, None);
+    Ok(())
+}
+
+#[test]
+fn a_list_holds_its_items(rt: HostRuntime) -> Result<(), Fail> {
+    let list: List<u32> = List::of(vec![in rt.alloc(); 7, 5, 7]?);
+    assert_eq!(rt; list.items(), [7, 5, 7].as_slice());
+    assert_eq!(rt; list.into_vec().as_slice(), [7, 5, 7].as_slice());
     Ok(())
 }
