@@ -1,0 +1,166 @@
+"""The forms of what the program writes, one for each status, and what else must hold of a text of that form."""
+import re
+
+from descriptions import KINDS
+
+NAME = rb"[A-Za-z_][A-Za-z_0-9]{0,63}"
+PATH = rb"(?:%s(?:\[\d+\])?)(?:\.%s(?:\[\d+\])?)*" % (NAME, NAME)
+WHERE = rb"(?:\.|%s)" % PATH
+PLACE = rb"(\d+):(\d+)"
+NUMBER = rb"\d+"
+END = rb"(?:%s(?:\[\d+\])?\.)?%s(?:\[-?\d+\])?" % (NAME, NAME)
+
+# The faults of a description with what they carry.
+DESCRIPTION = {
+    b"TooLong": b"",
+    b"BadByte": b" " + PLACE,
+    b"OpenComment": b" " + PLACE,
+    b"LongName": b" " + PLACE,
+    b"BigNumber": b" " + PLACE,
+    b"Expected": b" " + PLACE,
+    b"TooNested": b" " + PLACE,
+    b"TwoComponents": b" " + NAME,
+    b"TwoNames": b" %s %s" % (NAME, NAME),
+    b"UnknownName": b" %s %s" % (NAME, NAME),
+    b"UnknownComponent": b" %s %s" % (NAME, NAME),
+    b"ArgCount": b" %s %s %s %s" % (NAME, NAME, NUMBER, NUMBER),
+    b"UnknownKind": b" " + NAME,
+    b"KindPorts": b" " + NAME,
+    b"NoTop": b" " + NAME,
+    b"TopIsKind": b" " + NAME,
+    b"TopArgs": b" %s %s" % (NUMBER, NUMBER),
+    b"OutOfRange": b" %s %s" % (WHERE, PLACE),
+    b"ZeroDivisor": b" %s %s" % (WHERE, PLACE),
+    b"BadIndex": b" %s %s" % (WHERE, PLACE),
+    b"TwoInstances": b" " + WHERE,
+    b"BoundTwice": b" %s %s" % (WHERE, END),
+    b"BadBinding": b" %s %s" % (WHERE, PLACE),
+    b"Annotation": b" %s %s" % (WHERE, PLACE),
+    b"TooDeep": b" " + WHERE,
+    b"TooMany": b"",
+    b"DependsCycle": b" " + WHERE,
+    b"NodesFull": b" %s %s" % (NUMBER, NUMBER),
+    b"PortsFull": b" %s %s" % (NUMBER, NUMBER),
+}
+
+# The faults of an event file.
+EVENTS = {
+    b"TooLong": b"",
+    b"BadLine": b" " + NUMBER,
+    b"NumberTooBig": b" " + NUMBER,
+    b"Order": b" " + NUMBER,
+    b"NoStart": b"",
+}
+
+# The rules of the change machine by their numbers.
+RULES = range(1, 31)
+
+NODE = re.compile(rb"node (%s) ([a-z]+)\((\d*)\)" % PATH)
+PORT = re.compile(rb"port (%s)\.([a-z]+) (?:-|(%s)\.([a-z]+))" % (PATH, PATH))
+REFUSAL = re.compile(rb"description (.*): ([A-Za-z]+)( .*)?\n", re.S)
+SCRIPT = re.compile(rb"script (.*): ([A-Za-z]+)( .*)?\n", re.S)
+DENIED = re.compile(rb"denied ([1-9]\d*) ([1-9]\d*)\n")
+REPLAY = re.compile(
+    rb"events (\d+)\n(?:open \d+ \d+ (?:root|call) (?:waiting|taken|answered)\n)*rest (\d+)\n((?:settled %s\n)*)" % PATH
+)
+FREEZE = re.compile(
+    rb"(?:freeze %s\n)*(?:unlink %s\.[a-z]+\n)*(?:remove %s\n)*(?:create %s [a-z]+\(\d*\)\n)*(?:link %s\.[a-z]+ %s\.[a-z]+\n)*"
+    % (PATH, PATH, PATH, PATH, PATH, PATH)
+)
+
+
+class Bad(Exception):
+    """A text that hasn't the form of its status."""
+
+
+def fault_of(status, text):
+    """The fault that a line names, or the rule of an event that is denied."""
+    if status == 9:
+        return "rule %02d" % int(DENIED.fullmatch(text)[2])
+    form = REFUSAL if status == 2 else SCRIPT
+    return form.fullmatch(text)[2].decode()
+
+
+def fault_names(commands):
+    """All faults that the texts of these commands can have."""
+    names = set(DESCRIPTION) - (set() if {"plan", "replay"} & set(commands) else {b"NodesFull", b"PortsFull"})
+    names |= set(EVENTS) if "replay" in commands else set()
+    rules = ["rule %02d" % rule for rule in RULES] if "replay" in commands else []
+    return sorted(name.decode() for name in names) + rules
+
+
+def want(holds, why):
+    if not holds:
+        raise Bad(why)
+
+
+def graph(text):
+    """The nodes {path: (kind, argument)} and links {(path, requirement): (path, provision) or None} of a graph text."""
+    nodes, links, wanted = {}, {}, []
+    last = None
+    want(text == b"" or text.endswith(b"\n"), "the last line of a graph has no end")
+    for line in text.split(b"\n")[:-1]:
+        found = NODE.fullmatch(line)
+        if found:
+            want(not wanted, "a node hasn't all its ports")
+            path, kind, arg = found[1], found[2].decode(), found[3]
+            want(last is None or last < path, "paths don't rise")
+            want(kind in KINDS, "no such kind")
+            want(KINDS[kind][2] == (arg != b""), "an argument where the kind has none, or none where it has one")
+            want(arg == b"" or str(int(arg)).encode() == arg and int(arg) < 1 << 24, "an argument is out of range")
+            nodes[path] = (kind, arg)
+            last, wanted = path, list(KINDS[kind][1])
+            continue
+        found = PORT.fullmatch(line)
+        want(found, "a line of a graph is no node and no port")
+        want(found[1] == last and wanted and found[2].decode() == wanted.pop(0), "a port of another node, or in another order")
+        links[(found[1], found[2])] = (found[3], found[4]) if found[3] else None
+    want(not wanted, "a node hasn't all its ports")
+    for target in links.values():
+        if target:
+            want(target[0] in nodes, "a port leads to no node")
+            want(target[1].decode() in KINDS[nodes[target[0]][0]][0], "a port leads to no provision")
+    return nodes, links
+
+
+def refusal(text, file, form, faults, lines):
+    """A line that refuses a file, whose places lie in a text of so many lines."""
+    found = form.fullmatch(text)
+    want(found, "no line that refuses a file")
+    want(found[1] == file, "another file is refused")
+    want(found[2] in faults, "no such fault")
+    rest = re.fullmatch(faults[found[2]], found[3] or b"")
+    want(rest, "a fault carries something else")
+    if lines is not None and rest.groups():
+        line, column = int(rest[1]), int(rest[2])
+        want(1 <= line <= len(lines) and 1 <= column <= len(lines[line - 1]) + 1, "a place outside the text")
+
+
+def judge(words, files, status, written):
+    """Raises Bad where what was written hasn't the form of the status."""
+    command = words[0] if words else ""
+    file = words[1].encode("utf-8", "surrogateescape") if len(words) > 1 else b""
+    if status == 0 and command == "flat":
+        graph(written)
+    elif status == 0 and command == "plan":
+        want(FREEZE.fullmatch(written), "no text of a plan")
+    elif status == 0 and command == "replay":
+        want(REPLAY.fullmatch(written), "no text of a replay")
+    elif status == 0:
+        want(words in (["--help"], ["--version"]) and written.endswith(b"\n"), "status 0 of words that have no form")
+    elif status == 1:
+        want(written == b"usage\n", "status 1 without the line usage")
+    elif status == 2:
+        text = files.get(words[1])
+        refusal(written, file, REFUSAL, DESCRIPTION, None if text is None else text.split(b"\n"))
+    elif status == 3:
+        want(command == "replay", "status 3 of a command without such a file")
+        refusal(written, words[2].encode("utf-8", "surrogateescape"), SCRIPT, EVENTS, None)
+    elif status == 4:
+        names = [word.encode("utf-8", "surrogateescape") for word in words[1:3]]
+        want(any(written == b"read fault " + name + b"\n" for name in names), "a fault of another file")
+    elif status == 9:
+        found = DENIED.fullmatch(written)
+        want(command == "replay" and found and 1 <= int(found[2]) <= 30, "no line of a denied event")
+    else:
+        raise Bad("a status that shouldn't come here")
