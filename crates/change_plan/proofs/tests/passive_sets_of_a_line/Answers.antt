@@ -1,4 +1,4 @@
-use Rattle.std.proofs.Common.{◌≡◌, ℕ, zero, suc, ◌<◌, List, [], ◌∷◌, length, slice_index_or, lit<, arith}
+use Rattle.std.proofs.Common.{◌≡◌, ℕ, zero, suc, ◌<◌, [], ◌∷◌, slice_index_or, lit<, arith}
 use Rattle.change_plan.proofs.tests.passive_sets_of_a_line.Goals as goal
 
 -- the one node asked for is the last of three

@@ -1,4 +1,4 @@
-use Rattle.std.proofs.Common.{◌≡◌, ◌⊎◌, ◌<◌, ◌^◌, ℕ, zero, suc, List, [], ◌∷◌, Some, length, All, lit<, refl, sym, ◌∙◌, subst, arith, inl, inr}
+use Rattle.std.proofs.Common.{◌≡◌, ◌⊎◌, ◌<◌, ◌^◌, zero, suc, List, [], ◌∷◌, Some, length, All, lit<, sym, ◌∙◌, subst, arith, inl, inr}
 use Rattle.std.specs.Prelude.{codes}
 use Rattle.config_graph.specs.Graph.{IsWithin, PathsRise, ports}
 use Rattle.config_graph.specs.declared.kind.Kind.{Kind}

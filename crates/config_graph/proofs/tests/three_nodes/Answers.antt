@@ -1,6 +1,6 @@
-use Rattle.std.proofs.Common.{◌≡◌, ◌<◌, ◌≤◌, ◌^◌, ℕ, zero, suc, List, [], ◌∷◌, Some, None, length, All, lit<, refl, sym, ◌∙◌, subst, arith}
+use Rattle.std.proofs.Common.{◌≡◌, zero, suc, List, [], ◌∷◌, Some, None, All, lit<, refl, sym, ◌∙◌, subst, arith}
 use Rattle.std.specs.Prelude.{codes}
-use Rattle.config_graph.specs.Graph.{IsWithin, OneLinkAPort, PathsRise, ports}
+use Rattle.config_graph.specs.Graph.{IsWithin, PathsRise}
 use Rattle.config_graph.specs.declared.kind.Kind.TheVariants.{Map, Source, Sink}
 use Rattle.config_graph.specs.declared.node.Node.{Node}
 use Rattle.config_graph.specs.declared.node.Link.{Link}
