@@ -1,5 +1,5 @@
 -- The integers of a range, the first taken off.
-use Rattle.std.proofs.Common.{◌≡◌, zero, suc, ℤ, pos, negsuc, ◌+ℤ◌, ◌≤ℤ◌, ◌∷◌, ap, arith}
+use Rattle.std.proofs.Common.{◌≡◌, ◌∙◌, ℕ, zero, suc, ◌+◌, ℤ, pos, negsuc, ◌+ℤ◌, ◌-ℤ◌, ◌≤ℤ◌, ◌<ℤ◌, ◌∷◌, length, refl, ap, arith}
 use Rattle.std.proofs.Math.IntN.{suc_ℤ, +ℤ_one}
 use Rattle.std.proofs.lemmas.Int.{ints}
 use Rattle.std.specs.Int.{int_gap}
@@ -20,3 +20,31 @@ gap-one a b le = rw (+ℤ_one a, +ℤ_one b) (gap-suc_ℤ a b le)
 
 pub integers_to-first : (a b : ℤ) → a ≤ℤ b → integers_to a b ≡ a ∷ integers_to (a +ℤ pos 1) b
 integers_to-first a b le = ap (integers_from a) (gap-one a b le)
+
+length-integers_from : (a : ℤ) (n : ℕ) → length (integers_from a n) ≡ n
+length-integers_from a zero = refl
+length-integers_from a (suc n) = ap suc (length-integers_from (a +ℤ pos 1) n)
+
+gap-length : (a b : ℤ) → a ≤ℤ b → pos (int_gap a (suc_ℤ b)) ≡ b -ℤ a +ℤ pos 1
+gap-length (pos a) (pos b) le = omega (arith, ints)
+gap-length (pos a) (negsuc b) le = absurd (omega (arith, ints))
+gap-length (negsuc a) (pos b) le = omega (arith, ints)
+gap-length (negsuc a) (negsuc zero) le = omega (arith, ints)
+gap-length (negsuc a) (negsuc (suc b)) le = omega (arith, ints)
+
+-- how many integers a range has
+pub integers_to-length : (a b : ℤ) → a ≤ℤ b → pos (length (integers_to a b)) ≡ b -ℤ a +ℤ pos 1
+integers_to-length a b le =
+    ap pos (length-integers_from a (int_gap a (b +ℤ pos 1)) ∙ ap (int_gap a) (+ℤ_one b)) ∙ gap-length a b le
+
+gap-none : (a b : ℤ) → b <ℤ a → int_gap a (suc_ℤ b) ≡ 0
+gap-none (pos a) (pos b) lt = omega (arith, ints)
+gap-none (pos a) (negsuc zero) lt = omega (arith, ints)
+gap-none (pos a) (negsuc (suc b)) lt = refl
+gap-none (negsuc a) (pos b) lt = absurd (omega (arith, ints))
+gap-none (negsuc a) (negsuc zero) lt = absurd (omega (arith, ints))
+gap-none (negsuc a) (negsuc (suc b)) lt = omega (arith, ints)
+
+pub integers_to-none : (a b : ℤ) → b <ℤ a → length (integers_to a b) ≡ 0
+integers_to-none a b lt =
+    length-integers_from a (int_gap a (b +ℤ pos 1)) ∙ ap (int_gap a) (+ℤ_one b) ∙ gap-none a b lt

@@ -1,11 +1,11 @@
 -- The walk of one part after another.
-use Rattle.std.proofs.Common.{◌≡◌, ◌∙◌, ℕ, ◌+◌, ◌<◌, List, [], ◌∷◌, ◌++◌, map, sum_by, Result, Ok, Err, refl, sym, ap, append_assoc, append-nil, ℤ, Bool, cond, IsErrAnd, FitsSigned, arith}
+use Rattle.std.proofs.Common.{◌≡◌, ◌∙◌, ℕ, ◌+◌, ◌<◌, ◌≤◌, length, List, [], ◌∷◌, ◌++◌, map, sum_by, Result, Ok, Err, refl, sym, ap, append_assoc, append-nil, ℤ, Bool, cond, IsErrAnd, FitsSigned, arith}
 use Rattle.std.proofs.lemmas.List.{map-append}
 use Rattle.std.specs.Int.{w32, cast_signed, cast_unsigned}
 use Rattle.std.proofs.lemmas.Int.{to_z-of_z}
 use Rattle.std.specs.List.{flat_map}
 use Rattle.std.proofs.lemmas.Grind.{flat_map-append}
-use Rattle.std.proofs.lemmas.List.Sums.{sum_by-append}
+use Rattle.std.proofs.lemmas.List.Sums.{sum_by-append, sum_by-cons}
 use Rattle.std.proofs.lemmas.List.Elements.{Contains-append_left, Contains-append_right}
 use Rattle.darwin_lexer.specs.declared.token.At.{At}
 use Rattle.darwin_parser.specs.Tree.{Name, Expr, Stmt, Stmts, forall, when, Component}
@@ -156,6 +156,26 @@ pub Walks-turn-many :
     → Stops [] (s.room < old.count + 1) e → Walks s (turns body env name (z ∷ zs)) old new (Err e)
 Walks-turn-many s body env name z zs old new e stops =
     Walks-stop s (turn ∷ []) (reached_in body (with_variable env name z) ++ turns body env name zs) old new new e stops
+
+-- each turn counts
+turns-weight : (body : Stmts) (env : Env) (name : Name) (zs : List ℤ) → length zs ≤ sum_by weight (turns body env name zs)
+turns-weight body env name [] = omega arith
+turns-weight body env name (z ∷ zs) =
+    omega (
+      arith,
+      sum_by-append weight (turn ∷ reached_in body (with_variable env name z)) (turns body env name zs),
+      sum_by-cons weight turn (reached_in body (with_variable env name z)),
+      turns-weight body env name zs,
+    )
+
+-- no room is left for as many turns
+pub Walks-turns-many :
+    (s : Scope) (body : Stmts) (env : Env) (name : Name) (zs : List ℤ) (old new : Walked) (e : WalkError)
+    → Stops [] (s.room < old.count + length zs) e → Walks s (turns body env name zs) old new (Err e)
+Walks-turns-many s body env name zs old new (error.Fault f) stops =
+    Contains-append_left [] (flat_map (faults_of (component_at s) (parameters_at s)) (turns body env name zs)) f stops
+Walks-turns-many s body env name zs old new error.TooMany stops = omega (arith, stops, turns-weight body env name zs)
+Walks-turns-many s body env name zs old new error.NoMemory stops = tt
 
 -- the variables in a turn
 pub env_of-push :

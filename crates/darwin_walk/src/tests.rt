@@ -2,7 +2,7 @@
 
 ghost use Rattle.std.specs.Prelude.{◌≤◌, length};
 
-use crate::{parameters_of, walk};
+use crate::{WalkError, parameters_of, walk};
 use darwin_lexer::lex;
 use darwin_parser::{Unit, parse};
 use std::alloc::Global;
@@ -82,5 +82,20 @@ fn a_component_is_walked(rt: HostRuntime) -> Result<(), Fail> {
         ends.as_slice(),
         [(Some(0), Some(1)), (Some(1), Some(2))].as_slice()
     );
+    Ok(())
+}
+
+const WIDE: &[u8] = b"component Wide(int n) {
+  forall i:-2147483647-1..2147483647 { }
+  forall i:0..1 forall j:0..n { }
+}";
+
+#[test]
+fn a_range_without_room_is_refused(rt: HostRuntime) -> Result<(), Fail> {
+    let unit = unit_of(rt.alloc(), WIDE)?;
+    let component = unit.components.first().ok_or("no component")?;
+    let parameters = parameters_of(rt.alloc(), component, &[1])?;
+    let walked = walk(rt.alloc(), component, &parameters, 65536);
+    assert!(rt; matches!(walked, Err(WalkError::TooMany)));
     Ok(())
 }

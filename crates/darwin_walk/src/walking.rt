@@ -1,6 +1,6 @@
 //! The walk of one instance: statement by statement, with the variables round it.
 
-ghost use Rattle.std.specs.Prelude.{◌≡◌, ◌+◌, ◌<◌, [], ◌∷◌, ◌++◌, Some, option_map, cond, negsuc, pos, ◌≤ℤ◌, FitsSigned, IfSome, MatchOption};
+ghost use Rattle.std.specs.Prelude.{◌≡◌, ◌+◌, ◌<◌, [], ◌∷◌, ◌++◌, Some, option_map, cond, negsuc, pos, ◌≤ℤ◌, FitsSigned, IfSome, MatchOption, length};
 ghost use Rattle.std.specs.Int.{w32};
 ghost use Rattle.std.specs.List.{flat_map};
 ghost use Rattle.darwin_parser.specs.Tree.{array_of, entry_of, element, binding_of as bind_of, stmt_of, stmts_of, expr_of};
@@ -182,6 +182,27 @@ impl Integers {
         self.low += 1;
         Some(value)
     }
+
+    /// How many they are.
+    fn count(&self) -> u64
+        ensures { result ≡ length (integers_to self.now.low self.now.high) }
+    {
+        if self.high < self.low {
+            0
+        } else {
+            (self.high - self.low + 1) as u64
+        }
+    }
+}
+
+/// Refuses as many turns as there is no room for: each counts, whatever it reaches.
+fn check_room(left: &Integers, walked: &Walked, room: u64) -> Result<(), WalkError>
+    ensures { Tells [] (room < walked.now.count + length (integers_to left.now.low left.now.high)) (λ _. Unit {0}) result }
+{
+    if left.count() > room.saturating_sub(walked.count) {
+        return Err(WalkError::TooMany);
+    }
+    Ok(())
 }
 
 /// The integers of a range.
@@ -222,6 +243,7 @@ fn turn_all<'a>(
     requires { IsScope scope.now }
     ensures { Walks scope.now (turns (stmts_of body.now) (env_of env.now) name.now (integers_to left.low left.high)) walked.old walked.new result }
 {
+    check_room(&left, walked, scope.room)?;
     let mut inner = Vec::from_slice(scope.alloc, env)?;
     while let Some(value) = left.take_next() {
         count_one(walked, scope.room)?;

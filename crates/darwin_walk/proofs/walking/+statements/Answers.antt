@@ -7,7 +7,7 @@ use Rattle.darwin_walk.specs.Spine.{env_of}
 use Rattle.darwin_walk.specs.Reached.{integers_to, turns, with_variable, reached_by, reached_in}
 use Rattle.darwin_walk.proofs.TreeLemmas.{stmt_of-Forall, stmt_of-When}
 use Rattle.darwin_walk.proofs.Sizes.{stmt_size, stmts_size, stmts_of-drop, stmt_size-below}
-use Rattle.darwin_walk.proofs.WalksLemmas.{Walks-exit, Walks-append, Walks-stop, Walks-none, Walks-turn, Walks-turn-stop, Walks-turn-many, Walks-forall, Walks-forall-stop, Walks-when, env_of-push}
+use Rattle.darwin_walk.proofs.WalksLemmas.{Walks-exit, Walks-append, Walks-stop, Walks-none, Walks-turn, Walks-turn-stop, Walks-turn-many, Walks-turns-many, Walks-forall, Walks-forall-stop, Walks-when, env_of-push}
 use Rattle.darwin_walk.proofs.walking.+statements.Goals as goal
 
 pub statement-returns-in_err-all-in-Forall : goal.statement-returns-in_err-all-in-Forall
@@ -111,6 +111,15 @@ turn_all-loop-value-preserved t c =
           new r c.in_ok-count_one.ensures.1.0 c.in_ok-count_one.ensures.1.1 (rw env at c.in_ok-statements.ensures) after));
       same = grind (arith, common_steps, c.pop.ensures.rest, c.in_ok-push.ensures.items, c.loop-value.invariant.same);
     }
+
+pub turn_all-returns-in_err-check_room : goal.turn_all-returns-in_err-check_room
+turn_all-returns-in_err-check_room t c =
+    let e = c.in_err-check_room.field-0.0 in
+    let zs = integers_to c.args.left.low c.args.left.high in
+    Walks-exit c.args.scope.now (turns (stmts_of c.args.body.now) (env_of c.args.env.now) c.args.name.now zs)
+    c.args.walked.now c.args.walked.now e _ c.from_residual.ensures.1
+    (Walks-turns-many c.args.scope.now (stmts_of c.args.body.now) (env_of c.args.env.now) c.args.name.now zs
+    c.args.walked.now c.args.walked.now e c.in_err-check_room.ensures)
 
 pub turn_all-returns-in_err-count_one : goal.turn_all-returns-in_err-count_one
 turn_all-returns-in_err-count_one t c =
