@@ -1,4 +1,5 @@
 pub mod IntegerLemmas
+pub mod NamedLemmas
 pub mod ReachedLemmas
 mod Rows
 pub mod Sizes

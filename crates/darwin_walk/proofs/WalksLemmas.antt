@@ -178,9 +178,17 @@ Walks-turns-many s body env name zs old new error.TooMany stops = omega (arith, 
 Walks-turns-many s body env name zs old new error.NoMemory stops = tt
 
 -- the variables in a turn
-pub env_of-push :
+env_of-push :
     (env inner pushed : List code.Variable) (v : code.Variable) (z : ℤ)
     → inner ≡ env → pushed ≡ inner ++ v ∷ [] → v.value ≡ cast_signed w32 (cast_unsigned w32 z) → FitsSigned w32 z
     → env_of pushed ≡ with_variable (env_of env) v.name.now z
 env_of-push env inner pushed v z same is value fits =
     rw (is, same, map-append, value, to_z-of_z w32 z fits)
+
+-- the same, where there are parameters round them
+pub env_at-push :
+    (parameters : Env) (env inner pushed seen : List code.Variable) (v : code.Variable) (z : ℤ)
+    → inner ≡ env → pushed ≡ inner ++ v ∷ [] → seen ≡ pushed → v.value ≡ cast_signed w32 (cast_unsigned w32 z) → FitsSigned w32 z
+    → parameters ++ env_of seen ≡ with_variable (parameters ++ env_of env) v.name.now z
+env_at-push parameters env inner pushed seen v z same is sees value fits =
+    ap (λ xs. parameters ++ xs) (env_of-push env inner seen v z same (sees ∙ is) value fits) ∙ sym (append_assoc parameters (env_of env) _)

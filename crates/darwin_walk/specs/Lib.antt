@@ -1,3 +1,5 @@
+pub mod Environment
+pub mod Finds
 pub mod Instance
 pub mod Reached
 pub mod Scope

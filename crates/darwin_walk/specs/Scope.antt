@@ -1,13 +1,14 @@
 -- What the statements of an instance see, as the definitions speak of it.
-use Rattle.std.specs.Prelude.{◌≡◌, List, map, Some, None, All, MatchOption, FitsSigned, ◌+◌, ◌<◌, [], ◌∷◌, Option, option_map, Result, sum_by}
+use Rattle.std.specs.Prelude.{◌≡◌, List, map, Some, None, bytes_eq, MatchOption, FitsSigned, ◌+◌, ◌<◌, [], ◌∷◌, Option, option_map, Result, sum_by}
 use Rattle.std.specs.List.{flat_map}
+use Rattle.std.specs.Map.{lookup}
 use Rattle.std.specs.Option.{option_map_or, option_to_list}
 use Rattle.std.specs.Int.{w32}
 use Rattle.darwin_parser.specs.declared.tree.Expr as code_expr
 use Rattle.darwin_parser.specs.Tree.{Name, Expr, PortDecl, ArrayDecl, Component, expr_of, array_of, component_of}
 use Rattle.darwin_types.specs.Scope.{array_named}
 use Rattle.darwin_walk.specs.Value.{Value, Env, value, integer}
-use Rattle.darwin_walk.specs.Spine.{env_of}
+use Rattle.darwin_walk.specs.Environment.{env_at}
 use Rattle.darwin_walk.specs.Reached.{Reached, weight}
 use Rattle.darwin_walk.specs.Instance.{children_of, bindings_of, value_fault, faults_of}
 use Rattle.darwin_walk.specs.Walked.{Tells, Adds, child_of, binding_of}
@@ -28,7 +29,7 @@ abbrev pub component_at : Scope → Component
 component_at s = component_of s.component.now
 
 abbrev pub parameters_at : Scope → Env
-parameters_at s = env_of s.parameters.now
+parameters_at s = env_at s.parameters.now
 
 -- the array has this size
 abbrev pub HasSize : Env → Array → Type 0
@@ -41,21 +42,24 @@ port_faults parameters = flat_map (λ p. option_map_or (λ e. value_fault p.at (
 abbrev pub array_faults : Env → List ArrayDecl → List Fault
 array_faults parameters = flat_map (λ a. value_fault a.at (value a.size parameters))
 
--- the arrays are those of the component, with their sizes
-pub record IsScope (s : Scope) : Type 0 where
-  pub arrays : map (λ a. array_of a.decl.now) s.arrays.now ≡ (component_at s).arrays
-  pub sizes : All (HasSize (parameters_at s)) s.arrays.now
-
 -- the array of a name
 pub record IsArray (s : Scope) (name : Name) (a : Array) : Type 0 where
   pub is_named : array_named (component_at s) name ≡ Some (array_of a.decl.now)
   pub is_size : HasSize (parameters_at s) a
 
+-- what a name finds is the array of the name, where there is one
+abbrev pub ArrayAt : Scope → Name → Option Array → Type 0
+ArrayAt s name a = MatchOption a (array_named (component_at s) name ≡ None) (λ a. IsArray s name a)
+
+-- the arrays are found by their names
+abbrev pub IsScope : Scope → Type 0
+IsScope s = (name : Name) → ArrayAt s name (lookup (λ k. bytes_eq name k.now) s.arrays.now.entries)
+
 -- the place of an index of this value in the array of the name, where there is one
 pub record IsPlace (s : Scope) (name : Name) (v : Value) (p : Place) : Type 0 where
   pub is_index : v ≡ integer p.index
   pub fits : FitsSigned w32 p.index
-  pub is_array : MatchOption p.array (array_named (component_at s) name ≡ None) (λ a. IsArray s name a)
+  pub is_array : ArrayAt s name p.array
 
 -- an answer gives the instance that an entry makes, if it makes one
 abbrev pub Gives : Scope → Reached → Result (Option code_child.Child) WalkError → Type 0

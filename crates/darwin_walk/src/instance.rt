@@ -5,12 +5,15 @@ ghost use Rattle.std.specs.List.{flat_map};
 ghost use Rattle.darwin_parser.specs.Tree.{component_of, array_of, port_of};
 ghost use Rattle.darwin_walk.specs.Value.{parameters};
 ghost use Rattle.darwin_walk.specs.Spine.{env_of};
+ghost use Rattle.darwin_walk.specs.Environment.{env_at};
 ghost use Rattle.darwin_walk.specs.Reached.{count};
 ghost use Rattle.darwin_walk.specs.Instance.{index_value, port_sizes, children, bindings, faults};
 ghost use Rattle.darwin_walk.specs.Walked.{Tells, IsWalked, child_of, binding_of};
 ghost use Rattle.darwin_walk.specs.Scope.{HasSize, array_faults, port_faults};
 ghost use Rattle.darwin_walk.specs.declared.fault.Fault.{Fault as ShownFault};
 
+use crate::environment::Environment;
+use crate::named::by_name;
 use crate::scope::{Array, Scope, index_at, value_at};
 use crate::valuing::Variable;
 use crate::walked::Walked;
@@ -21,7 +24,7 @@ use std::alloc::{AllocError, Global};
 
 /// Walks an instance of the component whose parameters have these values: values all that is reached in
 /// it, and lists the instances that it makes and its bindings. It goes on while no more turns and entries
-/// are counted than there is room for, so a `forall` over all integers is refused after as many turns.
+/// are counted than there is room for; a `forall` over more integers is refused before its first turn.
 pub fn walk<'a>(
     alloc: Global,
     component: &'a Component,
@@ -47,12 +50,31 @@ fn walk_with<'a>(
 ) -> Result<Walked<'a>, WalkError>
     ensures { Tells (faults (component_of component.now) (env_of parameters.now)) (room < count (component_of component.now) (env_of parameters.now)) (IsWalked (component_of component.now) (env_of parameters.now) room) result }
 {
-    let port_sizes = port_sizes_of(alloc, &component.ports, parameters)?;
-    let arrays = sized(alloc, &component.arrays, parameters)?;
+    let index = by_name(alloc, parameters)?;
+    let env = Environment {
+        parameters,
+        by_name: &index,
+        variables: &[],
+    };
+    walk_within(alloc, component, &env, room)
+}
+
+/// What a walk tells where the parameters are indexed.
+fn walk_within<'a>(
+    alloc: Global,
+    component: &'a Component,
+    env: &Environment<'a, '_>,
+    room: u64,
+) -> Result<Walked<'a>, WalkError>
+    ensures { Tells (faults (component_of component.now) (env_at env.now)) (room < count (component_of component.now) (env_at env.now)) (IsWalked (component_of component.now) (env_at env.now) room) result }
+{
+    let port_sizes = port_sizes_of(alloc, &component.ports, env)?;
+    let arrays = sized(alloc, &component.arrays, env)?;
+    let arrays = by_name(alloc, &arrays)?;
     let scope = Scope {
         alloc,
         component,
-        parameters,
+        parameters: env,
         arrays: &arrays,
         room,
     };
@@ -62,7 +84,7 @@ fn walk_with<'a>(
         bindings: Vec::new(alloc),
         count: 0,
     };
-    statements(&scope, parameters, &mut walked, &component.body)?;
+    statements(&scope, env, &mut walked, &component.body)?;
     Ok(walked)
 }
 
@@ -88,13 +110,13 @@ pub fn parameters_of<'a>(
 fn port_sizes_of(
     alloc: Global,
     ports: &[PortDecl],
-    parameters: &[Variable],
+    env: &Environment,
 ) -> Result<Vec<Option<i32>>, WalkError>
-    ensures { Tells (port_faults (env_of parameters.now) (map port_of ports.now)) ⊥ (λ sizes. map Some sizes.items ≡ map (λ p. index_value p.size (env_of parameters.now)) (map port_of ports.now)) result }
+    ensures { Tells (port_faults (env_at env.now) (map port_of ports.now)) ⊥ (λ sizes. map Some sizes.items ≡ map (λ p. index_value p.size (env_at env.now)) (map port_of ports.now)) result }
 {
     let mut sizes = Vec::new(alloc);
     for port in ports {
-        sizes.push(index_at(alloc, &port.size, parameters, port.at)?)?;
+        sizes.push(index_at(alloc, &port.size, env, port.at)?)?;
     }
     Ok(sizes)
 }
@@ -103,13 +125,13 @@ fn port_sizes_of(
 fn sized<'a>(
     alloc: Global,
     arrays: &'a [ArrayDecl],
-    parameters: &[Variable],
+    env: &Environment,
 ) -> Result<Vec<Array<'a>>, WalkError>
-    ensures { Tells (array_faults (env_of parameters.now) (map array_of arrays.now)) ⊥ (λ xs. (map (λ a. array_of a.decl.now) xs.items ≡ map array_of arrays.now) × All (HasSize (env_of parameters.now)) xs.items) result }
+    ensures { Tells (array_faults (env_at env.now) (map array_of arrays.now)) ⊥ (λ xs. (map (λ a. array_of a.decl.now) xs.items ≡ map array_of arrays.now) × All (HasSize (env_at env.now)) xs.items) result }
 {
     let mut with_sizes = Vec::new(alloc);
     for decl in arrays {
-        let size = value_at(alloc, &decl.size, parameters, decl.at)?;
+        let size = value_at(alloc, &decl.size, env, decl.at)?;
         with_sizes.push(Array { decl, size })?;
     }
     Ok(with_sizes)

@@ -1,8 +1,10 @@
 //! Elaboration of one instance: what expressions are worth, and what an instance of a component reaches.
 #![tactic(auto)]
 
+mod environment;
 mod fault;
 mod instance;
+mod named;
 mod scope;
 #[cfg(test)]
 mod tests;

@@ -7,17 +7,20 @@ ghost use Rattle.std.specs.Int.{w32};
 ghost use Rattle.darwin_parser.specs.Tree.{expr_of, component_of, end_of as ref_of};
 ghost use Rattle.darwin_types.specs.Scope.{array_named};
 ghost use Rattle.darwin_walk.specs.Value.{value as value_of, integer};
-ghost use Rattle.darwin_walk.specs.Spine.{env_of};
+ghost use Rattle.darwin_walk.specs.Environment.{env_at};
 ghost use Rattle.darwin_walk.specs.Instance.{values as values_of, integers, value_fault, element_faults, inner_faults, inner_value, index_value, end_faults, end_value};
 ghost use Rattle.darwin_walk.specs.Walked.{Tells, segment_of, end_of};
 ghost use Rattle.darwin_walk.specs.Scope.{IsScope, IsArray, IsPlace, exprs_of};
 
-use crate::valuing::{ValueError, Variable, value};
+use crate::environment::Environment;
+use crate::named::Named;
+use crate::valuing::{ValueError, worth};
 use crate::walked::{End, Segment};
 use crate::{Fault, WalkError};
 use config_graph::Text;
 use darwin_lexer::At;
 use darwin_parser::{ArrayDecl, Component, Expr, PortRef};
+use indexmap::IndexMap;
 use std::alloc::Global;
 
 /// An array with its size.
@@ -27,14 +30,22 @@ pub(crate) struct Array<'a> {
     pub size: i32,
 }
 
-/// An instance: its component, its parameters and its arrays, and how much may be counted.
+/// An instance: its component, its parameters, an index of its arrays, and how much may be counted.
 #[derive(Clone, Copy)]
 pub(crate) struct Scope<'a, 'b> {
     pub alloc: Global,
     pub component: &'a Component,
-    pub parameters: &'b [Variable<'a>],
-    pub arrays: &'b [Array<'a>],
+    pub parameters: &'b Environment<'a, 'b>,
+    pub arrays: &'b IndexMap<&'a [u8], Array<'a>>,
     pub room: u64,
+}
+
+impl<'a> Named<'a> for Array<'a> {
+    ghost name_of = { λ a. a.decl.now.name };
+
+    fn name(&self) -> &'a [u8] {
+        self.decl.name.as_bytes()
+    }
 }
 
 impl Array<'_> {
@@ -51,24 +62,19 @@ pub(crate) fn array_at<'a>(scope: &Scope<'a, '_>, name: &Text) -> Option<Array<'
     requires { IsScope scope.now }
     ensures { MatchOption result (array_named (component_of scope.now.component.now) name.now ≡ None) (λ a. IsArray scope.now name.now a) }
 {
-    for array in scope.arrays {
-        if name.as_bytes() == array.decl.name.as_bytes() {
-            return Some(*array);
-        }
-    }
-    None
+    scope.arrays.get(name.as_bytes()).copied()
 }
 
 /// What the expression is worth, for the statement or declaration at the place.
 pub(crate) fn value_at(
     alloc: Global,
     expr: &Expr,
-    env: &[Variable],
+    env: &Environment,
     at: At,
 ) -> Result<i32, WalkError>
-    ensures { Tells (value_fault at (value_of (expr_of expr.now) (env_of env.now))) ⊥ (λ z. (value_of (expr_of expr.now) (env_of env.now) ≡ integer z) × FitsSigned w32 z) result }
+    ensures { Tells (value_fault at (value_of (expr_of expr.now) (env_at env.now))) ⊥ (λ z. (value_of (expr_of expr.now) (env_at env.now) ≡ integer z) × FitsSigned w32 z) result }
 {
-    match value(alloc, expr, env) {
+    match worth(alloc, expr, env) {
         Ok(z) => Ok(z),
         Err(ValueError::OutOfRange) => Err(WalkError::Fault(Fault::OutOfRange(at))),
         Err(ValueError::ZeroDivisor) => Err(WalkError::Fault(Fault::ZeroDivisor(at))),
@@ -80,10 +86,10 @@ pub(crate) fn value_at(
 pub(crate) fn values_at(
     alloc: Global,
     exprs: &[Expr],
-    env: &[Variable],
+    env: &Environment,
     at: At,
 ) -> Result<Vec<i32>, WalkError>
-    ensures { Tells (flat_map (value_fault at) (values_of (exprs_of exprs.now) (env_of env.now))) ⊥ (λ zs. integers (values_of (exprs_of exprs.now) (env_of env.now)) ≡ Some zs.items) result }
+    ensures { Tells (flat_map (value_fault at) (values_of (exprs_of exprs.now) (env_at env.now))) ⊥ (λ zs. integers (values_of (exprs_of exprs.now) (env_at env.now)) ≡ Some zs.items) result }
 {
     let mut worths = Vec::new(alloc);
     for expr in exprs {
@@ -104,11 +110,11 @@ pub(crate) fn element_at<'a>(
     scope: &Scope<'a, '_>,
     name: &Text,
     index: &Expr,
-    env: &[Variable],
+    env: &Environment,
     at: At,
 ) -> Result<Place<'a>, WalkError>
     requires { IsScope scope.now }
-    ensures { Tells (element_faults (component_of scope.now.component.now) (env_of scope.now.parameters.now) name.now at (value_of (expr_of index.now) (env_of env.now))) ⊥ (IsPlace scope.now name.now (value_of (expr_of index.now) (env_of env.now))) result }
+    ensures { Tells (element_faults (component_of scope.now.component.now) (env_at scope.now.parameters.now) name.now at (value_of (expr_of index.now) (env_at env.now))) ⊥ (IsPlace scope.now name.now (value_of (expr_of index.now) (env_at env.now))) result }
 {
     let index = value_at(scope.alloc, index, env, at)?;
     let array = array_at(scope, name);
@@ -124,11 +130,11 @@ fn inner_at<'a>(
     scope: &Scope<'a, '_>,
     name: &'a Option<Text>,
     index: &Option<Expr>,
-    env: &[Variable],
+    env: &Environment,
     at: At,
 ) -> Result<Option<Segment<'a>>, WalkError>
     requires { IsScope scope.now }
-    ensures { Tells (inner_faults (component_of scope.now.component.now) (env_of scope.now.parameters.now) at name.now (option_map expr_of index.now) (env_of env.now)) ⊥ (λ s. inner_value name.now (option_map expr_of index.now) (env_of env.now) ≡ Some (option_map segment_of s)) result }
+    ensures { Tells (inner_faults (component_of scope.now.component.now) (env_at scope.now.parameters.now) at name.now (option_map expr_of index.now) (env_at env.now)) ⊥ (λ s. inner_value name.now (option_map expr_of index.now) (env_at env.now) ≡ Some (option_map segment_of s)) result }
 {
     match (name, index) {
         (None, _) => Ok(None),
@@ -147,10 +153,10 @@ fn inner_at<'a>(
 pub(crate) fn index_at(
     alloc: Global,
     index: &Option<Expr>,
-    env: &[Variable],
+    env: &Environment,
     at: At,
 ) -> Result<Option<i32>, WalkError>
-    ensures { Tells (option_map_or (λ i. value_fault at (value_of (expr_of i) (env_of env.now))) index.now []) ⊥ (λ i. index_value (option_map expr_of index.now) (env_of env.now) ≡ Some i) result }
+    ensures { Tells (option_map_or (λ i. value_fault at (value_of (expr_of i) (env_at env.now))) index.now []) ⊥ (λ i. index_value (option_map expr_of index.now) (env_at env.now) ≡ Some i) result }
 {
     match index {
         None => Ok(None),
@@ -162,11 +168,11 @@ pub(crate) fn index_at(
 pub(crate) fn end_at<'a>(
     scope: &Scope<'a, '_>,
     end: &'a PortRef,
-    env: &[Variable],
+    env: &Environment,
     at: At,
 ) -> Result<End<'a>, WalkError>
     requires { IsScope scope.now }
-    ensures { Tells (end_faults (component_of scope.now.component.now) (env_of scope.now.parameters.now) at (ref_of end.now) (env_of env.now)) ⊥ (λ e. end_value (ref_of end.now) (env_of env.now) ≡ Some (end_of e)) result }
+    ensures { Tells (end_faults (component_of scope.now.component.now) (env_at scope.now.parameters.now) at (ref_of end.now) (env_at env.now)) ⊥ (λ e. end_value (ref_of end.now) (env_at env.now) ≡ Some (end_of e)) result }
 {
     let inner = inner_at(scope, &end.inst, &end.inst_index, env, at)?;
     let index = index_at(scope.alloc, &end.port_index, env, at)?;

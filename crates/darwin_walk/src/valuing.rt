@@ -3,9 +3,12 @@
 ghost use Rattle.std.specs.Prelude.{◌≡◌, ◌-ℤ◌, pos, IfOk, FitsSigned};
 ghost use Rattle.std.specs.Int.{w32};
 ghost use Rattle.darwin_parser.specs.Tree.{expr_of};
-ghost use Rattle.darwin_walk.specs.Value.{value as value_of, operation, operated, decided, exact, integer, value_of_name, is_true as truly, truth as truth_of};
+ghost use Rattle.darwin_walk.specs.Value.{value as value_of, operation, operated, decided, exact, integer, is_true as truly, truth as truth_of};
+ghost use Rattle.darwin_walk.specs.Environment.{env_at};
 ghost use Rattle.darwin_walk.specs.Spine.{Says, env_of, IsOperand, IsSpine};
 
+use crate::environment::Environment;
+use crate::named::by_name;
 use config_graph::Text;
 use darwin_parser::{Expr, Op};
 use std::alloc::{AllocError, AllocFailed, Global};
@@ -65,11 +68,27 @@ struct Spine<'a> {
     pending: Vec<Pending<'a>>,
 }
 
-/// What the expression is worth where the variables have these values. A chain of operations is gone
-/// through in a loop, so the recursion goes as deep as parentheses and signs do.
-#[cycle(value)]
+/// What the expression is worth where the variables have these values. Each name is looked for among
+/// all of them.
 pub fn value(alloc: Global, expr: &Expr, env: &[Variable]) -> Result<i32, ValueError>
     ensures says { Says result (value_of (expr_of expr.now) (env_of env.now)) }
+    ensures fits { IfOk result (λ z. FitsSigned w32 z) }
+{
+    let parameters: &[Variable] = &[];
+    let none = by_name(alloc, parameters)?;
+    let env = Environment {
+        parameters,
+        by_name: &none,
+        variables: env,
+    };
+    worth(alloc, expr, &env)
+}
+
+/// What the expression is worth in an environment. A chain of operations is gone through in a loop, so
+/// the recursion goes as deep as parentheses and signs do.
+#[cycle(worth)]
+pub(crate) fn worth(alloc: Global, expr: &Expr, env: &Environment) -> Result<i32, ValueError>
+    ensures says { Says result (value_of (expr_of expr.now) (env_at env.now)) }
     ensures fits { IfOk result (λ z. FitsSigned w32 z) }
 {
     let mut spine = spine_of(alloc, expr)?;
@@ -81,36 +100,36 @@ pub fn value(alloc: Global, expr: &Expr, env: &[Variable]) -> Result<i32, ValueE
 }
 
 /// What an expression that is no operation on two sides is worth.
-#[cycle(value)]
-fn operand(alloc: Global, expr: &Expr, env: &[Variable]) -> Result<i32, ValueError>
+#[cycle(worth)]
+fn operand(alloc: Global, expr: &Expr, env: &Environment) -> Result<i32, ValueError>
     requires { IsOperand (expr_of expr.now) }
-    ensures says { Says result (value_of (expr_of expr.now) (env_of env.now)) }
+    ensures says { Says result (value_of (expr_of expr.now) (env_at env.now)) }
     ensures fits { IfOk result (λ z. FitsSigned w32 z) }
 {
     match expr {
         Expr::Num(n) => literal(*n),
-        Expr::Var(name) => Ok(named_value(name, env)),
-        Expr::Neg(inner) => negated(value(alloc, inner, env)?),
+        Expr::Var(name) => Ok(env.value_of(name)),
+        Expr::Neg(inner) => negated(worth(alloc, inner, env)?),
         Expr::Op(_, _, _) => unreachable!(),
     }
 }
 
 /// The operation on a left side that has a value.
-#[cycle(value)]
+#[cycle(worth)]
 fn operation_on(
     alloc: Global,
     op: Op,
     left: i32,
     right: &Expr,
-    env: &[Variable],
+    env: &Environment,
 ) -> Result<i32, ValueError>
-    ensures says { Says result (operation op (integer left) (value_of (expr_of right.now) (env_of env.now))) }
+    ensures says { Says result (operation op (integer left) (value_of (expr_of right.now) (env_at env.now))) }
     ensures fits { IfOk result (λ z. FitsSigned w32 z) }
 {
     if is_decided(op, left) {
         Ok(truth(is_true(left)))
     } else {
-        operate(op, left, value(alloc, right, env)?)
+        operate(op, left, worth(alloc, right, env)?)
     }
 }
 
@@ -125,18 +144,6 @@ fn spine_of(alloc: Global, expr: &Expr) -> Result<Spine<'_>, AllocError>
         first = left;
     }
     Ok(Spine { first, pending })
-}
-
-/// The value of a variable, or 0 where none has the name.
-fn named_value(name: &Text, env: &[Variable]) -> i32
-    ensures { result ≡ value_of_name (env_of env.now) name.now }
-{
-    for v in env {
-        if name.as_bytes() == v.name.as_bytes() {
-            return v.value;
-        }
-    }
-    0
 }
 
 /// Whether a value is taken as true.

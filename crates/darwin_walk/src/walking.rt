@@ -5,13 +5,14 @@ ghost use Rattle.std.specs.Int.{w32};
 ghost use Rattle.std.specs.List.{flat_map};
 ghost use Rattle.darwin_parser.specs.Tree.{array_of, entry_of, element, binding_of as bind_of, stmt_of, stmts_of, expr_of};
 ghost use Rattle.darwin_walk.specs.Value.{value as value_of};
-ghost use Rattle.darwin_walk.specs.Spine.{env_of};
+ghost use Rattle.darwin_walk.specs.Environment.{env_at};
 ghost use Rattle.darwin_walk.specs.Reached.{made, bound, turns, range, integers_to, holds as test_holds, reached_by, reached_in};
 ghost use Rattle.darwin_walk.specs.Instance.{element_arguments, value_fault, integers};
 ghost use Rattle.darwin_walk.specs.Walked.{Tells};
 ghost use Rattle.darwin_walk.specs.Scope.{IsScope, Gives, Binds, Walks, parameters_at, exprs_of};
 
 use crate::WalkError;
+use crate::environment::Environment;
 use crate::scope::{Array, Scope, element_at, end_at, value_at, values_at};
 use crate::valuing::Variable;
 use crate::walked::{Binding, Child, Segment, Walked};
@@ -36,10 +37,10 @@ fn element_arguments_at<'a>(
     scope: &Scope<'a, '_>,
     array: &Array<'a>,
     args: &Option<Vec<Expr>>,
-    env: &[Variable<'a>],
+    env: &Environment<'a, '_>,
     at: At,
 ) -> Result<Vec<i32>, WalkError>
-    ensures { Tells (flat_map (value_fault at) (element_arguments (parameters_at scope.now) (array_of array.now.decl.now) (option_map (λ l. exprs_of l.items) args.now) (env_of env.now))) ⊥ (λ zs. integers (element_arguments (parameters_at scope.now) (array_of array.now.decl.now) (option_map (λ l. exprs_of l.items) args.now) (env_of env.now)) ≡ Some zs.items) result }
+    ensures { Tells (flat_map (value_fault at) (element_arguments (parameters_at scope.now) (array_of array.now.decl.now) (option_map (λ l. exprs_of l.items) args.now) (env_at env.now))) ⊥ (λ zs. integers (element_arguments (parameters_at scope.now) (array_of array.now.decl.now) (option_map (λ l. exprs_of l.items) args.now) (env_at env.now)) ≡ Some zs.items) result }
 {
     match (args, &array.decl.args) {
         (Some(own), _) => values_at(scope.alloc, own, env, at),
@@ -51,14 +52,14 @@ fn element_arguments_at<'a>(
 /// The instance that the entry of an element makes; none where there is no such array.
 fn element_child<'a>(
     scope: &Scope<'a, '_>,
-    env: &[Variable<'a>],
+    env: &Environment<'a, '_>,
     name: &Text,
     index: &Expr,
     args: &Option<Vec<Expr>>,
     at: At,
 ) -> Result<Option<Child<'a>>, WalkError>
     requires { IsScope scope.now }
-    ensures { Gives scope.now (made (element name.now (expr_of index.now) (option_map (λ l. exprs_of l.items) args.now) at) (env_of env.now)) result }
+    ensures { Gives scope.now (made (element name.now (expr_of index.now) (option_map (λ l. exprs_of l.items) args.now) at) (env_at env.now)) result }
 {
     let place = element_at(scope, name, index, env, at)?;
     let Some(array) = place.array else {
@@ -80,11 +81,11 @@ fn element_child<'a>(
 /// The instance that an entry makes.
 fn child_at<'a>(
     scope: &Scope<'a, '_>,
-    env: &[Variable<'a>],
+    env: &Environment<'a, '_>,
     entry: &'a InstEntry,
 ) -> Result<Option<Child<'a>>, WalkError>
     requires { IsScope scope.now }
-    ensures { Gives scope.now (made (entry_of entry.now) (env_of env.now)) result }
+    ensures { Gives scope.now (made (entry_of entry.now) (env_at env.now)) result }
 {
     match entry {
         InstEntry::Single {
@@ -114,11 +115,11 @@ fn child_at<'a>(
 /// The binding of an entry, with the values of its indexes.
 fn binding_at<'a>(
     scope: &Scope<'a, '_>,
-    env: &[Variable<'a>],
+    env: &Environment<'a, '_>,
     entry: &'a BindEntry,
 ) -> Result<Binding<'a>, WalkError>
     requires { IsScope scope.now }
-    ensures { Binds scope.now (bound (bind_of entry.now) (env_of env.now)) result }
+    ensures { Binds scope.now (bound (bind_of entry.now) (env_at env.now)) result }
 {
     let left = end_at(scope, &entry.left, env, entry.at)?;
     let right = end_at(scope, &entry.right, env, entry.at)?;
@@ -131,12 +132,12 @@ fn binding_at<'a>(
 
 fn inst<'a>(
     scope: &Scope<'a, '_>,
-    env: &[Variable<'a>],
+    env: &Environment<'a, '_>,
     walked: &mut Walked<'a>,
     entry: &'a InstEntry,
 ) -> Result<(), WalkError>
     requires { IsScope scope.now }
-    ensures { Walks scope.now (made (entry_of entry.now) (env_of env.now) ∷ []) walked.old walked.new result }
+    ensures { Walks scope.now (made (entry_of entry.now) (env_at env.now) ∷ []) walked.old walked.new result }
 {
     count_one(walked, scope.room)?;
     if let Some(child) = child_at(scope, env, entry)? {
@@ -147,12 +148,12 @@ fn inst<'a>(
 
 fn bind<'a>(
     scope: &Scope<'a, '_>,
-    env: &[Variable<'a>],
+    env: &Environment<'a, '_>,
     walked: &mut Walked<'a>,
     entry: &'a BindEntry,
 ) -> Result<(), WalkError>
     requires { IsScope scope.now }
-    ensures { Walks scope.now (bound (bind_of entry.now) (env_of env.now) ∷ []) walked.old walked.new result }
+    ensures { Walks scope.now (bound (bind_of entry.now) (env_at env.now) ∷ []) walked.old walked.new result }
 {
     count_one(walked, scope.room)?;
     let binding = binding_at(scope, env, entry)?;
@@ -210,10 +211,10 @@ fn integers_at(
     alloc: Global,
     low: &Expr,
     high: &Expr,
-    env: &[Variable],
+    env: &Environment,
     at: At,
 ) -> Result<Integers, WalkError>
-    ensures { Tells (value_fault at (value_of (expr_of low.now) (env_of env.now)) ++ value_fault at (value_of (expr_of high.now) (env_of env.now))) ⊥ (λ e. range (value_of (expr_of low.now) (env_of env.now)) (value_of (expr_of high.now) (env_of env.now)) ≡ integers_to e.low e.high) result }
+    ensures { Tells (value_fault at (value_of (expr_of low.now) (env_at env.now)) ++ value_fault at (value_of (expr_of high.now) (env_at env.now))) ⊥ (λ e. range (value_of (expr_of low.now) (env_at env.now)) (value_of (expr_of high.now) (env_at env.now)) ≡ integers_to e.low e.high) result }
 {
     let low = value_at(alloc, low, env, at)?;
     let high = value_at(alloc, high, env, at)?;
@@ -224,8 +225,8 @@ fn integers_at(
 }
 
 /// Whether a test is true.
-fn test_at(alloc: Global, test: &Expr, env: &[Variable], at: At) -> Result<bool, WalkError>
-    ensures { Tells (value_fault at (value_of (expr_of test.now) (env_of env.now))) ⊥ (λ b. test_holds (value_of (expr_of test.now) (env_of env.now)) ≡ b) result }
+fn test_at(alloc: Global, test: &Expr, env: &Environment, at: At) -> Result<bool, WalkError>
+    ensures { Tells (value_fault at (value_of (expr_of test.now) (env_at env.now))) ⊥ (λ b. test_holds (value_of (expr_of test.now) (env_at env.now)) ≡ b) result }
 {
     Ok(value_at(alloc, test, env, at)? != 0)
 }
@@ -234,22 +235,27 @@ fn test_at(alloc: Global, test: &Expr, env: &[Variable], at: At) -> Result<bool,
 #[cycle(statements)]
 fn turn_all<'a>(
     scope: &Scope<'a, '_>,
-    env: &[Variable<'a>],
+    env: &Environment<'a, '_>,
     walked: &mut Walked<'a>,
     name: &'a Text,
     mut left: Integers,
     body: &'a [Stmt],
 ) -> Result<(), WalkError>
     requires { IsScope scope.now }
-    ensures { Walks scope.now (turns (stmts_of body.now) (env_of env.now) name.now (integers_to left.low left.high)) walked.old walked.new result }
+    ensures { Walks scope.now (turns (stmts_of body.now) (env_at env.now) name.now (integers_to left.low left.high)) walked.old walked.new result }
 {
     check_room(&left, walked, scope.room)?;
-    let mut inner = Vec::from_slice(scope.alloc, env)?;
+    let mut variables = Vec::from_slice(scope.alloc, env.variables)?;
     while let Some(value) = left.take_next() {
         count_one(walked, scope.room)?;
-        inner.push(Variable { name, value })?;
-        statements(scope, &inner, walked, body)?;
-        let _ = inner.pop();
+        variables.push(Variable { name, value })?;
+        let within = Environment {
+            parameters: env.parameters,
+            by_name: env.by_name,
+            variables: &variables,
+        };
+        statements(scope, &within, walked, body)?;
+        let _ = variables.pop();
     }
     Ok(())
 }
@@ -257,13 +263,13 @@ fn turn_all<'a>(
 #[cycle(statements)]
 fn when<'a>(
     scope: &Scope<'a, '_>,
-    env: &[Variable<'a>],
+    env: &Environment<'a, '_>,
     walked: &mut Walked<'a>,
     holds: bool,
     body: &'a [Stmt],
 ) -> Result<(), WalkError>
     requires { IsScope scope.now }
-    ensures { Walks scope.now (cond holds (reached_in (stmts_of body.now) (env_of env.now)) []) walked.old walked.new result }
+    ensures { Walks scope.now (cond holds (reached_in (stmts_of body.now) (env_at env.now)) []) walked.old walked.new result }
 {
     if holds {
         statements(scope, env, walked, body)
@@ -275,12 +281,12 @@ fn when<'a>(
 #[cycle(statements)]
 fn statement<'a>(
     scope: &Scope<'a, '_>,
-    env: &[Variable<'a>],
+    env: &Environment<'a, '_>,
     walked: &mut Walked<'a>,
     stmt: &'a Stmt,
 ) -> Result<(), WalkError>
     requires { IsScope scope.now }
-    ensures { Walks scope.now (reached_by (stmt_of stmt.now) (env_of env.now)) walked.old walked.new result }
+    ensures { Walks scope.now (reached_by (stmt_of stmt.now) (env_at env.now)) walked.old walked.new result }
 {
     match stmt {
         Stmt::Inst(entry) => inst(scope, env, walked, entry),
@@ -305,12 +311,12 @@ fn statement<'a>(
 #[cycle(statements)]
 pub(crate) fn statements<'a>(
     scope: &Scope<'a, '_>,
-    env: &[Variable<'a>],
+    env: &Environment<'a, '_>,
     walked: &mut Walked<'a>,
     body: &'a [Stmt],
 ) -> Result<(), WalkError>
     requires { IsScope scope.now }
-    ensures { Walks scope.now (reached_in (stmts_of body.now) (env_of env.now)) walked.old walked.new result }
+    ensures { Walks scope.now (reached_in (stmts_of body.now) (env_at env.now)) walked.old walked.new result }
 {
     for stmt in body {
         statement(scope, env, walked, stmt)?;

@@ -2,7 +2,7 @@ use Rattle.std.proofs.Common.{◌≡◌, List, [], Option, Some, None, option_ma
 use Rattle.std.specs.Option.{option_map_or}
 use Rattle.darwin_parser.specs.Tree.{port_of, expr_of}
 use Rattle.darwin_walk.specs.Value.{value}
-use Rattle.darwin_walk.specs.Spine.{env_of}
+use Rattle.darwin_walk.specs.Environment.{env_at}
 use Rattle.darwin_walk.specs.Instance.{value_fault}
 use Rattle.darwin_walk.proofs.TellsLemmas.{Contains-from, Stops-within, Tells-exit}
 use Rattle.darwin_walk.proofs.instance.port_sizes_of.Goals as goal
@@ -16,6 +16,6 @@ returns-in_err-index_at c =
     Tells-exit _ _ _ _ _ c.from_residual.ensures.1
     (Stops-within _ _ _ ⊥ _ c.in_err-index_at.field-0.0 c.in_err-index_at.ensures c.loop-port.invariant.no_faults
     (λ f has.
-    Contains-from (λ p. option_map_or (λ e. value_fault p.at (value e (env_of c.args.parameters.now))) p.size []) port_of _ _ _ f
-    c.loop-port-test.true c.port-item.is (rw (through (λ e. value_fault c.port-item.result.at (value e (env_of c.args.parameters.now))) expr_of c.port-item.result.size) has))
+    Contains-from (λ p. option_map_or (λ e. value_fault p.at (value e (env_at c.args.env.now))) p.size []) port_of _ _ _ f
+    c.loop-port-test.true c.port-item.is (rw (through (λ e. value_fault c.port-item.result.at (value e (env_at c.args.env.now))) expr_of c.port-item.result.size) has))
     (λ h. h))

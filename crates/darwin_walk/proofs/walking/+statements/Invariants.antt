@@ -1,6 +1,6 @@
 use Rattle.std.proofs.Common.{◌≡◌, ◌+◌, ◌*◌, drop, length, Result}
 use Rattle.darwin_parser.specs.Tree.{stmt_of, stmts_of}
-use Rattle.darwin_walk.specs.Spine.{env_of}
+use Rattle.darwin_walk.specs.Environment.{env_at}
 use Rattle.darwin_walk.specs.Reached.{integers_to, turns, reached_in}
 use Rattle.darwin_walk.specs.Scope.{Walks}
 use Rattle.darwin_walk.specs.declared.walked.Walked.{Walked}
@@ -12,8 +12,8 @@ use Rattle.darwin_walk.proofs.walking.+statements.Given as goal
 abbrev pub invariant-statements-loop-stmt : goal.invariant-statements-loop-stmt
 invariant-statements-loop-stmt l =
     (new : Walked) (r : Result (Unit {0}) WalkError)
-    → Walks l.scope (reached_in (stmts_of (drop l.stmt-index l.body)) (env_of l.env)) l.walked new r
-    → Walks l.scope (reached_in (stmts_of l.body) (env_of l.env)) l.fn.walked new r
+    → Walks l.scope (reached_in (stmts_of (drop l.stmt-index l.body)) (env_at l.env)) l.walked new r
+    → Walks l.scope (reached_in (stmts_of l.body) (env_at l.env)) l.fn.walked new r
 
 -- what is told of the turns that are left, is told of all
 abbrev pub invariant-turn_all-loop-value : goal.invariant-turn_all-loop-value
@@ -21,9 +21,9 @@ invariant-turn_all-loop-value l =
     record {
       rest :
           (new : Walked) (r : Result (Unit {0}) WalkError)
-          → Walks l.scope (turns (stmts_of l.body) (env_of l.env) l.name (integers_to l.left.low l.left.high)) l.walked new r
-          → Walks l.scope (turns (stmts_of l.body) (env_of l.env) l.name (integers_to l.fn.left.low l.fn.left.high)) l.fn.walked new r;
-      same : l.inner.items ≡ l.env;
+          → Walks l.scope (turns (stmts_of l.body) (env_at l.env) l.name (integers_to l.left.low l.left.high)) l.walked new r
+          → Walks l.scope (turns (stmts_of l.body) (env_at l.env) l.name (integers_to l.fn.left.low l.fn.left.high)) l.fn.walked new r;
+      same : l.variables.items ≡ l.env.variables.now;
     }
 
 abbrev pub decreases-turn_all-loop-value : goal.decreases-turn_all-loop-value

@@ -3,7 +3,7 @@ use Rattle.std.proofs.Math.IntN.{nat_abs}
 use Rattle.std.specs.Int.{w64, cast_signed, cast_unsigned}
 use Rattle.std.proofs.lemmas.Int.{to_z-of_z, ints}
 use Rattle.darwin_walk.specs.Reached.{integers_to}
-use Rattle.darwin_walk.proofs.IntegerLemmas.{integers_to-length, integers_to-none}
+use Rattle.darwin_walk.proofs.IntegerLemmas.{integers_to-length}
 use Rattle.darwin_walk.proofs.walking.Integers.count.Goals as goal
 
 -- the ends and their difference fit their type

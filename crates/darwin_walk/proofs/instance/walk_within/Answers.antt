@@ -1,14 +1,15 @@
-use Rattle.std.proofs.Common.{◌≡◌, ◌+◌, ◌<◌, map, sum_by, refl, ap, arith}
+use Rattle.std.proofs.Common.{◌≡◌, ◌∙◌, ◌+◌, ◌<◌, map, sum_by, refl, ap, arith}
 use Rattle.darwin_parser.specs.Tree.{component_of, port_of, array_of, stmts_of}
-use Rattle.darwin_walk.specs.Spine.{env_of}
+use Rattle.darwin_walk.specs.Environment.{env_at}
 use Rattle.darwin_walk.specs.Reached.{reached_in, weight}
 use Rattle.darwin_walk.proofs.TellsLemmas.{Stops-grow, Tells-exit}
 use Rattle.darwin_walk.proofs.ReachedLemmas.{faults-none, faults-ports, faults-arrays, faults-body, count-body, IsWalked-body}
-use Rattle.darwin_walk.proofs.instance.walk_with.Goals as goal
+use Rattle.darwin_walk.proofs.NamedLemmas.{IsScope-found}
+use Rattle.darwin_walk.proofs.instance.walk_within.Goals as goal
 
 pub returns-in_err-port_sizes : goal.returns-in_err-port_sizes
 returns-in_err-port_sizes c =
-    let p = env_of c.args.parameters.now in
+    let p = env_at c.args.env.now in
     let component = component_of c.args.component.now in
     Tells-exit _ _ _ _ _ c.from_residual.ensures.1
     (Stops-grow _ _ ⊥ _ c.in_err-port_sizes.field-0.0 c.in_err-port_sizes.ensures
@@ -16,7 +17,7 @@ returns-in_err-port_sizes c =
 
 pub returns-in_err-arrays : goal.returns-in_err-arrays
 returns-in_err-arrays c =
-    let p = env_of c.args.parameters.now in
+    let p = env_at c.args.env.now in
     let component = component_of c.args.component.now in
     Tells-exit _ _ _ _ _ c.from_residual-in_err-arrays.ensures.1
     (Stops-grow _ _ ⊥ _ c.in_err-arrays.field-0.0 c.in_err-arrays.ensures
@@ -24,7 +25,7 @@ returns-in_err-arrays c =
 
 pub returns-in_err-statements : goal.returns-in_err-statements
 returns-in_err-statements c =
-    let p = env_of c.args.parameters.now in
+    let p = env_at c.args.env.now in
     let component = component_of c.args.component.now in
     let body = stmts_of c.deref-4.result.now in
     let is : body ≡ component.body = ap stmts_of c.deref-4.ensures.value in
@@ -35,7 +36,7 @@ returns-in_err-statements c =
 
 pub returns : goal.returns
 returns c =
-    let p = env_of c.args.parameters.now in
+    let p = env_at c.args.env.now in
     let component = component_of c.args.component.now in
     let told = rw c.deref-4.ensures.value at c.in_ok-statements.ensures in (
       faults-none component p (rw c.deref.ensures.value at c.in_ok-port_sizes.ensures.0) (rw c.deref-2.ensures.value at c.in_ok-arrays.ensures.0)
@@ -43,3 +44,8 @@ returns c =
       IsWalked-body component p c.args.room _ _ (rw c.deref.ensures.value at c.in_ok-port_sizes.ensures.1) c.new.ensures.items c.new-2.ensures.items
           refl told.1,
     )
+
+pub statements-requires : goal.statements-requires
+statements-requires c =
+    IsScope-found _ c.in_ok-arrays.arrays.items (c.in_ok-arrays.ensures.1.0 ∙ ap (map array_of) c.deref-2.ensures.value)
+    c.in_ok-arrays.ensures.1.1 (rw c.deref-3.ensures.value at c.in_ok-arrays-2.ensures)
