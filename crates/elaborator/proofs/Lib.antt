@@ -13,6 +13,7 @@ pub mod IndexLemmas
 pub mod InstanceLemmas
 pub mod JudgesLemmas
 pub mod LawLemmas
+pub mod LinkLawLemmas
 pub mod LinkLemmas
 pub mod Lists
 pub mod MakingLemmas

@@ -81,7 +81,7 @@ both_true true false is = absurd (false≢true is)
 both_true false b is = absurd (false≢true is)
 
 -- the link of a port is in the list, and begins there
-link_found : (links : List Link) (i r : ℕ) (l : Link) → link_at links i r ≡ Some l → Contains links l × (l.from ≡ i) × (l.require ≡ r)
+pub link_found : (links : List Link) (i r : ℕ) (l : Link) → link_at links i r ≡ Some l → Contains links l × (l.from ≡ i) × (l.require ≡ r)
 link_found links i r l found =
     let w = find-some (begins_at i r) links l found in
     let at = both_true (eqb l.from i) (eqb l.require r) w.1 in

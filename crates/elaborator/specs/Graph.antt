@@ -60,3 +60,25 @@ pub record IsElab (tree : Tree) (top : Instance) (g : Configuration) : Type 0 wh
   pub nodes_are : (n : Node) → Contains g.nodes n ↔ IsNode tree top n
   pub links_are : (l : Link) → Contains g.links l ↔ IsLink tree top g.nodes l
   pub in_order : in_port_order g.nodes g.links ≡ g.links
+
+-- the port that a requirement of the node at a place is
+pub record IsRequirementAt (tree : Tree) (top : Instance) (nodes : List Node) (place require : ℕ) (x : Port) : Type 0 where
+  pub node : Node
+  pub instance : Instance
+  pub name : Name
+  pub stands : slice_get nodes place ≡ Some node
+  pub is_instance : Inst tree top instance
+  pub is_node : node_of instance ≡ Some node
+  pub requires_it : slice_get (row node.kind).requires_ require ≡ Some name
+  pub is_port : x ≡ port_at instance Require name
+
+-- the port that a provision of the node at a place is
+pub record IsProvisionAt (tree : Tree) (top : Instance) (nodes : List Node) (place provide : ℕ) (x : Port) : Type 0 where
+  pub node : Node
+  pub instance : Instance
+  pub provision : Provision
+  pub stands : slice_get nodes place ≡ Some node
+  pub is_instance : Inst tree top instance
+  pub is_node : node_of instance ≡ Some node
+  pub provides_it : slice_get (row node.kind).provides provide ≡ Some provision
+  pub is_port : x ≡ port_at instance Provide provision.name

@@ -2,11 +2,13 @@
 
 ghost use Rattle.std.specs.Prelude.{◌≡◌, ◌<◌, ◌↔◌, ℕ, ℤ, List, Some, Contains};
 ghost use Rattle.config_graph.specs.Graph.{Configuration};
+ghost use Rattle.config_graph.specs.declared.node.Link.{Link};
 ghost use Rattle.config_graph.specs.declared.node.Node.{Node};
 ghost use Rattle.darwin_parser.specs.Tree.{Name, Tree};
 ghost use Rattle.elaborator.specs.Paths.{Path};
 ghost use Rattle.elaborator.specs.Instances.{Instance, Inst, instances, top_instance};
-ghost use Rattle.elaborator.specs.Graph.{Linked};
+ghost use Rattle.elaborator.specs.Bindings.{Port, Leads};
+ghost use Rattle.elaborator.specs.Graph.{Linked, IsRequirementAt, IsProvisionAt};
 ghost use Rattle.elaborator.specs.Faults.{Faults};
 ghost use Rattle.elaborator.specs.Elaboration.{IsGraphOf};
 ghost use Rattle.elaborator.specs.declared.error.ElabError.TheVariants.{BoundTwice, TwoInstances};
@@ -38,4 +40,15 @@ pub fn one_provision()
         → ((path name_of_end : Path) → ¬ Faults tree name arguments (BoundTwice path name_of_end))
         → Linked tree top a require b provide → Linked tree top a require c other
         → (b ≡ c) × (provide ≡ other) }
+{}
+
+/// Each link of a graph leads from a requirement to a provision that a list of bindings joins, and no two
+/// links leave one requirement.
+pub fn links_join_what_bindings_do()
+    ensures joined { (tree : Tree) (name : Name) (arguments : List ℤ) (top : Instance) (g : Configuration) (l : Link)
+        → top_instance tree name arguments ≡ Some top → IsGraphOf tree name arguments g → Contains g.links l
+        → (x y : Port) × IsRequirementAt tree top g.nodes l.from l.require x × IsProvisionAt tree top g.nodes l.to l.provide y × Leads tree top x y }
+    ensures one_a_requirement { (tree : Tree) (name : Name) (arguments : List ℤ) (g : Configuration) (k l : Link)
+        → IsGraphOf tree name arguments g → Contains g.links k → Contains g.links l
+        → k.from ≡ l.from → k.require ≡ l.require → k ≡ l }
 {}

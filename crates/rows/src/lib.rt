@@ -4,6 +4,8 @@
 #[cfg(test)]
 mod descriptions;
 #[cfg(test)]
+mod elaborating;
+#[cfg(test)]
 mod flat;
 #[cfg(test)]
 mod running;
