@@ -139,18 +139,18 @@ whole-expanded top g growth shallow composite all =
     within n x at = omega (arith, all, slice_get-below _ n x at, length-map g.expansion.instances.items made_of)
 
     distinct : (m n : ℕ) (x y : Made) → slice_get (map made_of g.expansion.instances.items) m ≡ Some x → slice_get (map made_of g.expansion.instances.items) n ≡ Some y → x.instance.path ≡ y.instance.path → x.instance.depth ≡ y.instance.depth → m ≡ n
-    distinct = grown-distinct (tree_of g.expansion.unit.now) top (map made_of g.expansion.instances.items) g.opened growth.grown shallow (apart-mapped g.expansion growth.mapped)
+    distinct = grown-distinct (tree_of g.expansion.directory.unit.now) top (map made_of g.expansion.instances.items) g.opened growth.grown shallow (apart-mapped g.expansion growth.mapped)
 
     not_top : (m : ℕ) (i : Instance) → NumberedIn (seen g.expansion) m 0 i → ⊥
     not_top m i at = none-some m (ap (λ (z : Made). z.maker) (same_made _ 0 _ _ growth.grown.first at))
 
-    below_maker : (n m : ℕ) (i j : Instance) → Numbered (seen g.expansion) m i → NumberedIn (seen g.expansion) m n j → Contains (made_in (tree_of g.expansion.unit.now) i) j
+    below_maker : (n m : ℕ) (i j : Instance) → Numbered (seen g.expansion) m i → NumberedIn (seen g.expansion) m n j → Contains (made_in (tree_of g.expansion.directory.unit.now) i) j
     below_maker zero m i j at at' = absurd (not_top m j at')
     below_maker (suc n) m i j at at' =
         let w = growth.grown.maker n _ at' in
         let number : m ≡ w.0 = same_Some m w.0 w.2 in
         let one = same_made _ w.0 w.1 _ w.5 (subst (λ a. slice_get (map made_of g.expansion.instances.items) a ≡ Some (record { instance = i; maker = at.maker })) number at.is_at) in
-        subst (λ (z : Made). Contains (made_in (tree_of g.expansion.unit.now) z.instance) j) one w.6
+        subst (λ (z : Made). Contains (made_in (tree_of g.expansion.directory.unit.now) z.instance) j) one w.6
 
     one_path : (m n a b : ℕ) (i j : Instance) → NumberedIn (seen g.expansion) a m i → NumberedIn (seen g.expansion) b n j → i.path ≡ j.path → m ≡ n
     one_path zero n a b i j at at' same = absurd (not_top a i at)
@@ -163,29 +163,29 @@ whole-expanded top g growth shallow composite all =
 
 -- each instance of the elaboration is there, and opened
 standing :
-    (top : Instance) (g : Growth) → IsGrowth top g → g.opened ≡ length g.expansion.instances.items → (i : Instance) → Inst (tree_of g.expansion.unit.now) top i
+    (top : Instance) (g : Growth) → IsGrowth top g → g.opened ≡ length g.expansion.instances.items → (i : Instance) → Inst (tree_of g.expansion.directory.unit.now) top i
     → (n : ℕ) × (x : Made) × (n < g.opened) × (slice_get (map made_of g.expansion.instances.items) n ≡ Some x) × (x.instance ≡ i)
 standing top g growth all i inst =
     let made = map made_of g.expansion.instances.items in
     let number : g.opened ≡ length made = all ∙ sym (length-map g.expansion.instances.items made_of) in
-    let w = grown-complete (tree_of g.expansion.unit.now) top made (subst (IsGrown (tree_of g.expansion.unit.now) top made) number growth.grown) i inst in
+    let w = grown-complete (tree_of g.expansion.directory.unit.now) top made (subst (IsGrown (tree_of g.expansion.directory.unit.now) top made) number growth.grown) i inst in
     (w.0, w.1, omega (arith, number, slice_get-below made w.0 w.1 w.2), w.2, w.3)
 
 is_opened :
-    (top : Instance) (g : Growth) → IsGrowth top g → g.opened ≡ length g.expansion.instances.items → (i : Instance) → Inst (tree_of g.expansion.unit.now) top i
-    → IsOpened (tree_of g.expansion.unit.now) i
+    (top : Instance) (g : Growth) → IsGrowth top g → g.opened ≡ length g.expansion.instances.items → (i : Instance) → Inst (tree_of g.expansion.directory.unit.now) top i
+    → IsOpened (tree_of g.expansion.directory.unit.now) i
 is_opened top g growth all i inst =
     let w = standing top g growth all i inst in
-    subst (IsOpened (tree_of g.expansion.unit.now)) w.4 (growth.grown.clear w.0 w.1 w.2 w.3)
+    subst (IsOpened (tree_of g.expansion.directory.unit.now)) w.4 (growth.grown.clear w.0 w.1 w.2 w.3)
 
 -- what an instance makes at a path has a number
 made_at :
     (top : Instance) (g : Growth) → IsGrowth top g → g.opened ≡ length g.expansion.instances.items → (i : Instance) (path : Path)
-    → Inst (tree_of g.expansion.unit.now) top i → Contains (paths_in (tree_of g.expansion.unit.now) i) path
+    → Inst (tree_of g.expansion.directory.unit.now) top i → Contains (paths_in (tree_of g.expansion.directory.unit.now) i) path
     → (m : ℕ) × (n : ℕ) × (x : Made) × (y : Made) × (slice_get (map made_of g.expansion.instances.items) m ≡ Some x) × (x.instance ≡ i)
     × (slice_get (map made_of g.expansion.instances.items) (suc n) ≡ Some y) × (y.maker ≡ Some m) × (y.instance.path ≡ path)
 made_at top g growth all i path inst has =
-    let tree = tree_of g.expansion.unit.now in
+    let tree = tree_of g.expansion.directory.unit.now in
     let w = standing top g growth all i inst in
     let from = Contains-from_map (λ (x : Instance). x.path) (made_in tree i) path (subst (λ ps. Contains ps path) (is_opened top g growth all i inst).paths has) in
     let b = growth.grown.below w.0 w.1 from.0 w.2 w.3 (subst (λ z. Contains (made_in tree z) from.0) (sym w.4) from.1) in
@@ -200,7 +200,7 @@ made_at top g growth all i path inst has =
     later (suc n) m x j at is there same = (m, n, x, made_by m j, at, is, there, refl, sym same)
 
 pub whole-clear :
-    (top : Instance) (g : Growth) → IsGrowth top g → g.opened ≡ length g.expansion.instances.items → IsClear (tree_of g.expansion.unit.now) top
+    (top : Instance) (g : Growth) → IsGrowth top g → g.opened ≡ length g.expansion.instances.items → IsClear (tree_of g.expansion.directory.unit.now) top
 whole-clear top g growth all =
     record {
       no_fault = λ i inst. (is_opened top g growth all i inst).no_fault;
@@ -215,8 +215,8 @@ whole-clear top g growth all =
           sym v.5 ∙ ap (λ (z : Made). z.instance) (same_made made w.0 v.2 w.2 (subst (λ n. slice_get made n ≡ Some v.2) maker v.4) w.4) ∙ w.5;
       shallow = λ i inst. (is_opened top g growth all i inst).shallow;
       few =
-          total-within (tree_of g.expansion.unit.now) top (map instance_in g.expansion.instances.items) g.room
-          (subst (λ n. IsSpread (tree_of g.expansion.unit.now) top (map instance_in g.expansion.instances.items) n g.room) (all ∙ sym (length-map g.expansion.instances.items instance_in)) growth.spread);
+          total-within (tree_of g.expansion.directory.unit.now) top (map instance_in g.expansion.instances.items) g.room
+          (subst (λ n. IsSpread (tree_of g.expansion.directory.unit.now) top (map instance_in g.expansion.instances.items) n g.room) (all ∙ sym (length-map g.expansion.instances.items instance_in)) growth.spread);
     }
 
 pub whole-kept :
@@ -257,7 +257,7 @@ whole-of top g growth all =
     }
 
 pub whole :
-    (unit : Description) (top : code.Instance) (g : Growth) → IsTop top → tree_of g.expansion.unit.now ≡ tree_of unit → IsGrowth (instance_in top) g
+    (unit : Description) (top : code.Instance) (g : Growth) → IsTop top → tree_of g.expansion.directory.unit.now ≡ tree_of unit → IsGrowth (instance_in top) g
     → length g.expansion.instances.items ≤ g.opened → IsWhole unit top g.expansion
 whole unit top g is_top same growth all_opened =
     let all : g.opened ≡ length g.expansion.instances.items = omega (arith, all_opened, growth.within) in
@@ -296,7 +296,7 @@ growth-top top g is_top alone none_opened all_room empty =
     }
   where
     tree : Tree
-    tree = tree_of g.expansion.unit.now
+    tree = tree_of g.expansion.directory.unit.now
 
     alone_at : (n : ℕ) (i : code.Instance) → 0 < n → slice_get (top ∷ []) n ≡ Some i → ⊥
     alone_at zero i positive at = absurd (omega (arith, positive))
@@ -316,27 +316,27 @@ seen_next g next at = slice_get-map_at instance_in g.expansion.instances.items g
 
 next_inst :
     (top : Instance) (g : Growth) (next : code.Instance) → IsGrowth top g → slice_get g.expansion.instances.items g.opened ≡ Some next
-    → Inst (tree_of g.expansion.unit.now) top (instance_in next)
-next_inst top g next growth at = grown-sound (tree_of g.expansion.unit.now) top _ g.opened growth.grown g.opened (made_of next) (made_next g next at)
+    → Inst (tree_of g.expansion.directory.unit.now) top (instance_in next)
+next_inst top g next growth at = grown-sound (tree_of g.expansion.directory.unit.now) top _ g.opened growth.grown g.opened (made_of next) (made_next g next at)
 
 -- it is too deep
 pub deep-fault :
     (top : Instance) (g : Growth) (next : code.Instance) (path : Path) → IsGrowth top g → slice_get g.expansion.instances.items g.opened ≡ Some next → 33 ≤ next.depth
-    → path ≡ next.path → GrowthFault (tree_of g.expansion.unit.now) top (error.TooDeep path)
+    → path ≡ next.path → GrowthFault (tree_of g.expansion.directory.unit.now) top (error.TooDeep path)
 deep-fault top g next path growth at deep is =
-    subst (λ p. GrowthFault (tree_of g.expansion.unit.now) top (error.TooDeep p)) (sym is)
+    subst (λ p. GrowthFault (tree_of g.expansion.directory.unit.now) top (error.TooDeep p)) (sym is)
     (too_deep (instance_in next) (next_inst top g next growth at)
-    (omega (arith, deep, depth-next (tree_of g.expansion.unit.now) top _ g.opened g.room (instance_in next) growth.spread (seen_next g next at))))
+    (omega (arith, deep, depth-next (tree_of g.expansion.directory.unit.now) top _ g.opened g.room (instance_in next) growth.spread (seen_next g next at))))
 
 -- it is opened
 pub judged-next :
     (top : Instance) (g : Growth) (next : code.Instance) (P : Found → Type 0) (r : Result Found ElabError) → IsGrowth top g → slice_get g.expansion.instances.items g.opened ≡ Some next
-    → next.depth < 33 → Judges next.path (own_faults (tree_of g.expansion.unit.now) (instance_in next)) (g.room < count_in (instance_in next)) P r
-    → Answers (λ f. (next.depth < 33) × (own_faults (tree_of g.expansion.unit.now) (instance_in next) ≡ []) × P f) (GrowthFault (tree_of g.expansion.unit.now) top) r
+    → next.depth < 33 → Judges next.path (own_faults (tree_of g.expansion.directory.unit.now) (instance_in next)) (g.room < count_in (instance_in next)) P r
+    → Answers (λ f. (next.depth < 33) × (own_faults (tree_of g.expansion.directory.unit.now) (instance_in next) ≡ []) × P f) (GrowthFault (tree_of g.expansion.directory.unit.now) top) r
 judged-next top g next P (Ok f) growth at shallow told = (shallow, told.0, told.1)
 judged-next top g next P (Err e) growth at shallow told = λ other.
-    named-fault (tree_of g.expansion.unit.now) top (instance_in next) _ e (next_inst top g next growth at) told
-    (λ many. total-above (tree_of g.expansion.unit.now) top _ g.opened g.room (instance_in next) growth.spread (seen_next g next at) many) other
+    named-fault (tree_of g.expansion.directory.unit.now) top (instance_in next) _ e (next_inst top g next growth at) told
+    (λ many. total-above (tree_of g.expansion.directory.unit.now) top _ g.opened g.room (instance_in next) growth.spread (seen_next g next at) many) other
 
 -- ---- the next instance is opened
 
@@ -362,15 +362,15 @@ all_made tree items js k x y at same made noted =
 -- two instances of one path
 pub clash-next :
     (top : Instance) (g : Growth) (x y : code.Instance) (f : Found) (path : Path) → IsGrowth top g → slice_get g.expansion.instances.items g.opened ≡ Some x
-    → made_of y ≡ made_of x → IsFound (tree_of g.expansion.unit.now) (instance_in x) g.opened g.room f
+    → made_of y ≡ made_of x → IsFound (tree_of g.expansion.directory.unit.now) (instance_in x) g.opened g.room f
     → IsClash (set g.expansion.instances.items g.opened y ++ f.made.items) (length (set g.expansion.instances.items g.opened y)) path
-    → GrowthFault (tree_of g.expansion.unit.now) top (error.TwoInstances path)
+    → GrowthFault (tree_of g.expansion.directory.unit.now) top (error.TwoInstances path)
 clash-next top g x y f path growth at same found clash =
     let items = g.expansion.instances.items in
     let lengths : length (set items g.opened y) ≡ length (map made_of items) = length-set items g.opened y ∙ sym (length-map items made_of) in
-    clash-fault (tree_of g.expansion.unit.now) top (map made_of items) g.opened (made_of x) (set items g.opened y ++ f.made.items) path
+    clash-fault (tree_of g.expansion.directory.unit.now) top (map made_of items) g.opened (made_of x) (set items g.opened y ++ f.made.items) path
     growth.grown growth.at_top (apart-mapped g.expansion growth.mapped) (made_next g x at) found.paths
-    (all_made (tree_of g.expansion.unit.now) items f.made.items g.opened x y at same found.made found.noted)
+    (all_made (tree_of g.expansion.directory.unit.now) items f.made.items g.opened x y at same found.made found.noted)
     (subst (λ n. IsClash (set items g.opened y ++ f.made.items) n path) lengths clash)
 
 -- the next instance x is now y, with its bindings, and the instances that it makes are added
@@ -381,9 +381,9 @@ pub record IsNext (top : Instance) (g : Growth) (x y : code.Instance) (f : Found
   pub told : IsTold y
   pub bound : map binding_of y.bindings.items ≡ bindings_in (instance_in y)
   pub shallow : x.depth < 33
-  pub faultless : own_faults (tree_of g.expansion.unit.now) (instance_in x) ≡ []
-  pub found : IsFound (tree_of g.expansion.unit.now) (instance_in x) g.opened g.room f
-  pub same_unit : new.expansion.unit ≡ g.expansion.unit
+  pub faultless : own_faults (tree_of g.expansion.directory.unit.now) (instance_in x) ≡ []
+  pub found : IsFound (tree_of g.expansion.directory.unit.now) (instance_in x) g.opened g.room f
+  pub same_unit : new.expansion.directory.unit ≡ g.expansion.directory.unit
   pub grown : new.expansion.instances.items ≡ set g.expansion.instances.items g.opened y ++ f.made.items
   pub mapped : IsMapped new.expansion
   pub opened : new.opened ≡ g.opened + 1
@@ -391,7 +391,7 @@ pub record IsNext (top : Instance) (g : Growth) (x y : code.Instance) (f : Found
 
 module _ (top : Instance) (g new : Growth) (x y : code.Instance) (f : Found) (s : IsNext top g x y f new) where
   abbrev tree : Tree
-  tree = tree_of g.expansion.unit.now
+  tree = tree_of g.expansion.directory.unit.now
 
   abbrev items : List code.Instance
   items = g.expansion.instances.items

@@ -18,6 +18,7 @@ pub mod LinkLemmas
 pub mod Lists
 pub mod MakingLemmas
 pub mod MappedLemmas
+pub mod NamingLemmas
 pub mod NodeLemmas
 pub mod OpeningLemmas
 pub mod OrderLemmas

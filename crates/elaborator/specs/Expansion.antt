@@ -28,7 +28,7 @@ made_of i = record { instance = instance_in i; maker = i.maker }
 
 -- the instances of an expansion
 abbrev pub seen : Expansion → Expanded
-seen e = record { tree = tree_of e.unit.now; made = map made_of e.instances.items }
+seen e = record { tree = tree_of e.directory.unit.now; made = map made_of e.instances.items }
 
 -- the number that stands under a path
 abbrev pub number_at : Expansion → Path → Option ℕ

@@ -64,8 +64,8 @@ IsTold i = i.is_primitive ≡ is_primitive (component_of i.component.now)
 -- what holds while instances are opened
 pub record IsGrowth (top : Instance) (g : Growth) : Type 0 where
   pub at_top : top.depth ≡ 0
-  pub grown : IsGrown (tree_of g.expansion.unit.now) top (map made_of g.expansion.instances.items) g.opened
-  pub spread : IsSpread (tree_of g.expansion.unit.now) top (map instance_in g.expansion.instances.items) g.opened g.room
+  pub grown : IsGrown (tree_of g.expansion.directory.unit.now) top (map made_of g.expansion.instances.items) g.opened
+  pub spread : IsSpread (tree_of g.expansion.directory.unit.now) top (map instance_in g.expansion.instances.items) g.opened g.room
   pub mapped : IsMapped g.expansion
   pub told : (n : ℕ) (i : code.Instance) → slice_get g.expansion.instances.items n ≡ Some i → IsTold i
   pub bindings :
@@ -77,7 +77,7 @@ pub record IsGrowth (top : Instance) (g : Growth) : Type 0 where
 -- instances are added to an expansion
 pub record IsExtended (old : Expansion) (made : List code.Instance) (new : Expansion) : Type 0 where
   pub instances : new.instances.items ≡ old.instances.items ++ made
-  pub same_unit : new.unit ≡ old.unit
+  pub same_unit : new.directory.unit ≡ old.directory.unit
   pub mapped : IsMapped new
 
 -- two instances, neither of which is the top, have one path; the second is not among the first so many

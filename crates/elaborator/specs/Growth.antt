@@ -46,6 +46,6 @@ pub record IsClear (tree : Tree) (top : Instance) : Type 0 where
 -- all instances of a description with this top, where none of the faults holds
 pub record IsWhole (unit : Description) (top : code.Instance) (e : Expansion) : Type 0 where
   pub kept : IsKept e
-  pub same_tree : tree_of e.unit.now ≡ tree_of unit
+  pub same_tree : tree_of e.directory.unit.now ≡ tree_of unit
   pub is_of : IsOf (seen e) (instance_in top)
   pub clear : IsClear (tree_of unit) (instance_in top)

@@ -11,6 +11,7 @@ pub mod Growth
 pub mod Index
 pub mod Instances
 pub mod Links
+pub mod Naming
 pub mod Nodes
 pub mod Opening
 pub mod Order

@@ -1,22 +1,51 @@
 //! The components of a description by name.
 
-ghost use Rattle.std.specs.Prelude.{◌≡◌, ◌==◌, [], None, Some, MatchOption, length};
-ghost use Rattle.darwin_parser.specs.Tree.{component_of, stmt_of, stmts_of};
+ghost use Rattle.std.specs.Prelude.{◌≡◌, ◌==◌, [], None, Some, MatchOption, IfOk, length};
+ghost use Rattle.darwin_parser.specs.Tree.{component_of, stmt_of, stmts_of, tree_of};
 ghost use Rattle.darwin_types.specs.Scope.{component_named, is_primitive as is_primitive_component, entries_of, entries_of_stmt};
-ghost use Rattle.elaborator.specs.Expansion.{tree_at};
+ghost use Rattle.elaborator.specs.Naming.{Indexes};
 
-use darwin_parser::{Component, Stmt};
+use crate::name_index::NameIndex;
+use darwin_parser::{Component, Stmt, Unit};
+use std::alloc::{AllocError, Global};
 
-/// The first component with the name.
-pub(crate) fn find<'a>(components: &'a [Component], name: &[u8]) -> Option<&'a Component>
-    ensures { MatchOption result (component_named (tree_at components.now) name.now ≡ None) (λ c. component_named (tree_at components.now) name.now ≡ Some (component_of c.now)) }
-{
-    for component in components {
-        if name == component.name.as_bytes() {
-            return Some(component);
-        }
+/// The components of a description by name. Where two have one name the first counts.
+#[derive(Drop)]
+pub struct Directory<'a> {
+    pub unit: &'a Unit,
+    places: NameIndex<'a>,
+    ghost indexed: { Indexes (λ c. c.name) places unit.now.components.items },
+}
+
+impl<'a> Directory<'a> {
+    /// Indexes the components of a description.
+    pub fn of(alloc: Global, unit: &'a Unit) -> Result<Directory<'a>, AllocError>
+        ensures { IfOk result (λ d. d.unit ≡ unit.entry) }
+    {
+        let places = index_components(alloc, unit.components.as_slice())?;
+        Ok(Directory { unit, places })
     }
-    None
+
+    /// The component with the name.
+    pub fn find(&self, name: &[u8]) -> Option<&'a Component>
+        ensures { MatchOption result (component_named (tree_of self.now.unit.now) name.now ≡ None) (λ c. component_named (tree_of self.now.unit.now) name.now ≡ Some (component_of c.now)) }
+    {
+        let place = self.places.place(name)?;
+        Some(&self.unit.components[place])
+    }
+}
+
+fn index_components<'a>(
+    alloc: Global,
+    components: &'a [Component],
+) -> Result<NameIndex<'a>, AllocError>
+    ensures { IfOk result (λ index. Indexes (λ c. c.name) index components.now) }
+{
+    let mut index = NameIndex::new(alloc);
+    for place in 0..components.len() {
+        index.add(components[place].name.as_bytes(), place)?;
+    }
+    Ok(index)
 }
 
 /// Whether the component has no `inst` entry.

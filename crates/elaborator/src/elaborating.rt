@@ -14,11 +14,10 @@ ghost use Rattle.elaborator.specs.declared.error.ElabError.TheVariants.{NoMemory
 
 use crate::ElabError;
 use crate::building::build_graph;
-use crate::directory::{find, is_primitive};
+use crate::directory::{Directory, is_primitive};
 use crate::growing::expand;
 use crate::instance::Instance;
 use config_graph::{Graph, Text};
-use darwin_parser::Unit;
 use darwin_types::Checked;
 use darwin_walk::parameters_of;
 use std::alloc::Global;
@@ -42,21 +41,22 @@ pub fn elaborate(
     ensures fault { IfErr result (λ f. f ≢ NoMemory → Faults (description checked.now) top.now args.now f) }
 {
     let unit = checked.unit();
-    let instance = top_of(alloc, unit, top, args)?;
-    let expansion = expand(alloc, unit, instance)?;
+    let directory = Directory::of(alloc, unit)?;
+    let instance = top_of(alloc, &directory, top, args)?;
+    let expansion = expand(alloc, directory, instance)?;
     build_graph(alloc, &expansion)
 }
 
 /// The instance at the top.
 fn top_of<'a>(
     alloc: Global,
-    unit: &'a Unit,
+    directory: &Directory<'a>,
     name: &[u8],
     args: &[i32],
 ) -> Result<Instance<'a>, ElabError>
-    ensures { Answers (λ i. IsTop i × (top_instance (tree_of unit.now) name.now args.now ≡ Some (instance_in i))) (Faults (tree_of unit.now) name.now args.now) result }
+    ensures { Answers (λ i. IsTop i × (top_instance (tree_of directory.now.unit.now) name.now args.now ≡ Some (instance_in i))) (Faults (tree_of directory.now.unit.now) name.now args.now) result }
 {
-    let Some(component) = find(unit.components.as_slice(), name) else {
+    let Some(component) = directory.find(name) else {
         return Err(ElabError::NoTop(Text::from_bytes(alloc, name)?));
     };
     if is_primitive(component) {

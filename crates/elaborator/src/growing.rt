@@ -14,9 +14,9 @@ ghost use Rattle.elaborator.specs.declared.instance.Instance as shown;
 ghost use Rattle.elaborator.specs.declared.error.ElabError.TheVariants.{TwoInstances};
 
 use crate::ElabError;
+use crate::directory::Directory;
 use crate::instance::{Expansion, Instance};
 use crate::opening::{Found, open_instance};
-use darwin_parser::Unit;
 use std::alloc::{AllocError, Global};
 use std::collections::BTreeMap;
 
@@ -37,13 +37,13 @@ pub(crate) struct Growth<'a> {
 /// All instances of a description with this top.
 pub(crate) fn expand<'a>(
     alloc: Global,
-    unit: &'a Unit,
+    directory: Directory<'a>,
     top: Instance<'a>,
 ) -> Result<Expansion<'a>, ElabError>
     requires { IsTop top }
-    ensures { Answers (IsWhole unit.now top.entry) (GrowthFault (tree_of unit.now) (instance_in top.entry)) result }
+    ensures { Answers (IsWhole directory.entry.unit.now top.entry) (GrowthFault (tree_of directory.entry.unit.now) (instance_in top.entry)) result }
 {
-    let mut growth = top_alone(alloc, unit, top)?;
+    let mut growth = top_alone(alloc, directory, top)?;
     while (growth.opened as usize) < growth.expansion.instances.len() {
         growth.open_next(alloc)?;
     }
@@ -51,14 +51,18 @@ pub(crate) fn expand<'a>(
 }
 
 /// The top, which isn't opened yet.
-fn top_alone<'a>(alloc: Global, unit: &'a Unit, top: Instance<'a>) -> Result<Growth<'a>, AllocError>
+fn top_alone<'a>(
+    alloc: Global,
+    directory: Directory<'a>,
+    top: Instance<'a>,
+) -> Result<Growth<'a>, AllocError>
     requires { IsTop top }
-    ensures { IfOk result (λ growth. (growth.expansion.unit ≡ unit.entry) × IsGrowth (instance_in top.entry) growth) }
+    ensures { IfOk result (λ growth. (growth.expansion.directory.unit ≡ directory.entry.unit) × IsGrowth (instance_in top.entry) growth) }
 {
     let mut instances = Vec::new(alloc);
     instances.push(top)?;
     let expansion = Expansion {
-        unit,
+        directory,
         instances,
         numbers: BTreeMap::new(alloc),
     };
@@ -75,8 +79,8 @@ impl<'a> Growth<'a> {
         requires within { self.old.opened < length self.old.expansion.instances.items }
         requires growth { (top : PureInstance) × IsGrowth top self.old }
         ensures { (top : PureInstance) → IsGrowth top self.old
-            → Answers (λ _. (self.new.expansion.unit ≡ self.old.expansion.unit) × (self.new.opened ≡ self.old.opened + 1) × IsGrowth top self.new)
-            (GrowthFault (tree_of self.old.expansion.unit.now) top) result }
+            → Answers (λ _. (self.new.expansion.directory.unit ≡ self.old.expansion.directory.unit) × (self.new.opened ≡ self.old.opened + 1) × IsGrowth top self.new)
+            (GrowthFault (tree_of self.old.expansion.directory.unit.now) top) result }
     {
         let found = self.find_next(alloc)?;
         let number = self.opened as usize;
@@ -93,16 +97,21 @@ impl<'a> Growth<'a> {
         requires growth { (top : PureInstance) × IsGrowth top self.now }
         ensures { (top : PureInstance) (next : shown.Instance) → IsGrowth top self.now
             → slice_get self.now.expansion.instances.items self.now.opened ≡ Some next
-            → Answers (λ found. (next.depth < 33) × (own_faults (tree_of self.now.expansion.unit.now) (instance_in next) ≡ [])
-            × IsFound (tree_of self.now.expansion.unit.now) (instance_in next) self.now.opened self.now.room found)
-            (GrowthFault (tree_of self.now.expansion.unit.now) top) result }
+            → Answers (λ found. (next.depth < 33) × (own_faults (tree_of self.now.expansion.directory.unit.now) (instance_in next) ≡ [])
+            × IsFound (tree_of self.now.expansion.directory.unit.now) (instance_in next) self.now.opened self.now.room found)
+            (GrowthFault (tree_of self.now.expansion.directory.unit.now) top) result }
     {
         let next = &self.expansion.instances[self.opened as usize];
         if next.depth >= TOO_DEEP {
             return Err(ElabError::TooDeep(next.path.try_clone()?));
         }
-        let components = self.expansion.unit.components.as_slice();
-        open_instance(alloc, components, next, self.opened, self.room)
+        open_instance(
+            alloc,
+            &self.expansion.directory,
+            next,
+            self.opened,
+            self.room,
+        )
     }
 }
 

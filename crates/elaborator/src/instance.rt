@@ -3,8 +3,9 @@
 ghost use Rattle.std.specs.Prelude.{◌≡◌, ◌<◌, length, map, slice_get, Some};
 ghost use Rattle.elaborator.specs.Expanded.{IsChild};
 
+use crate::directory::Directory;
 use config_graph::Text;
-use darwin_parser::{Component, Unit};
+use darwin_parser::Component;
 use darwin_walk::{Binding, Variable};
 use std::collections::BTreeMap;
 
@@ -28,7 +29,7 @@ pub struct Instance<'a> {
 /// All instances of an elaboration, the top first.
 #[derive(Drop)]
 pub struct Expansion<'a> {
-    pub unit: &'a Unit,
+    pub directory: Directory<'a>,
     pub instances: Vec<Instance<'a>>,
     /// The number of each instance but the top, by its path.
     pub numbers: BTreeMap<Vec<u8>, u32>,

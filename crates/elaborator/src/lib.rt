@@ -11,6 +11,7 @@ mod instance;
 mod laws;
 mod links;
 mod making;
+mod name_index;
 mod nodes;
 mod opening;
 mod pairs;

@@ -2,17 +2,17 @@
 
 ghost use Rattle.std.specs.Prelude.{◌≡◌, ◌<◌, map};
 ghost use Rattle.std.specs.List.{flat_map, list_all};
+ghost use Rattle.darwin_parser.specs.Tree.{tree_of};
 ghost use Rattle.darwin_walk.specs.Walked.{child_of};
 ghost use Rattle.elaborator.specs.Faults.{kind_faults, is_kind_argument};
-ghost use Rattle.elaborator.specs.Expansion.{instance_in, tree_at};
+ghost use Rattle.elaborator.specs.Expansion.{instance_in};
 ghost use Rattle.elaborator.specs.Opening.{IsMade, AreMade, Judges};
 
 use crate::ElabError;
-use crate::directory::{find, is_primitive};
+use crate::directory::{Directory, is_primitive};
 use crate::instance::Instance;
 use crate::paths::path_within;
 use config_graph::Text;
-use darwin_parser::Component;
 use darwin_walk::{Child, parameters_of};
 use std::alloc::Global;
 
@@ -29,15 +29,15 @@ fn are_kind_arguments(arguments: &[i32]) -> bool
 /// The instance that a child is within the instance of a number; none where its component isn't there.
 fn make<'a>(
     alloc: Global,
-    components: &'a [Component],
+    directory: &Directory<'a>,
     within: &Instance<'a>,
     number: u32,
     child: &Child<'a>,
 ) -> Result<Option<Instance<'a>>, ElabError>
     requires { within.now.depth < 33 }
-    ensures { Judges within.now.path (kind_faults (tree_at components.now) (child_of child.now)) ⊥ (IsMade (tree_at components.now) (instance_in within.now) number (child_of child.now)) result }
+    ensures { Judges within.now.path (kind_faults (tree_of directory.now.unit.now) (child_of child.now)) ⊥ (IsMade (tree_of directory.now.unit.now) (instance_in within.now) number (child_of child.now)) result }
 {
-    let Some(component) = find(components, child.component.as_bytes()) else {
+    let Some(component) = directory.find(child.component.as_bytes()) else {
         return Ok(None);
     };
     let is_primitive = is_primitive(component);
@@ -59,17 +59,17 @@ fn make<'a>(
 /// The instances that children are, in order.
 pub(crate) fn make_all<'a>(
     alloc: Global,
-    components: &'a [Component],
+    directory: &Directory<'a>,
     within: &Instance<'a>,
     number: u32,
     children: &[Child<'a>],
 ) -> Result<Vec<Instance<'a>>, ElabError>
     requires { within.now.depth < 33 }
-    ensures { Judges within.now.path (flat_map (kind_faults (tree_at components.now)) (map child_of children.now)) ⊥ (AreMade (tree_at components.now) (instance_in within.now) number (map child_of children.now)) result }
+    ensures { Judges within.now.path (flat_map (kind_faults (tree_of directory.now.unit.now)) (map child_of children.now)) ⊥ (AreMade (tree_of directory.now.unit.now) (instance_in within.now) number (map child_of children.now)) result }
 {
     let mut made = Vec::new(alloc);
     for child in children {
-        if let Some(instance) = make(alloc, components, within, number, child)? {
+        if let Some(instance) = make(alloc, directory, within, number, child)? {
             made.push(instance)?;
         }
     }

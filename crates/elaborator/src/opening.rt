@@ -1,7 +1,7 @@
 //! What is found in an instance when its statements are walked.
 
 ghost use Rattle.std.specs.Prelude.{◌≡◌, ◌<◌, ◌⊎◌};
-ghost use Rattle.darwin_parser.specs.Tree.{component_of};
+ghost use Rattle.darwin_parser.specs.Tree.{component_of, tree_of};
 ghost use Rattle.darwin_walk.specs.Reached.{count};
 ghost use Rattle.darwin_walk.specs.Instance.{faults};
 ghost use Rattle.darwin_walk.specs.Walked.{IsWalked};
@@ -9,14 +9,14 @@ ghost use Rattle.elaborator.specs.Instances.{count_in};
 ghost use Rattle.elaborator.specs.Faults.{own_faults};
 ghost use Rattle.darwin_types.specs.Scope.{is_primitive};
 ghost use Rattle.darwin_walk.specs.Spine.{env_of};
-ghost use Rattle.elaborator.specs.Expansion.{instance_in, tree_at};
+ghost use Rattle.elaborator.specs.Expansion.{instance_in};
 ghost use Rattle.elaborator.specs.Opening.{error_at, IsFound, Judges};
 
 use crate::ElabError;
+use crate::directory::Directory;
 use crate::instance::Instance;
 use crate::making::make_all;
 use config_graph::Text;
-use darwin_parser::Component;
 use darwin_walk::{Binding, Fault, WalkError, Walked, walk};
 use std::alloc::Global;
 
@@ -32,14 +32,14 @@ pub(crate) struct Found<'a> {
 /// Opens the instance of a number, where so much may still be counted. Nothing is found in a node.
 pub(crate) fn open_instance<'a>(
     alloc: Global,
-    components: &'a [Component],
+    directory: &Directory<'a>,
     instance: &Instance<'a>,
     number: u32,
     room: u64,
 ) -> Result<Found<'a>, ElabError>
     requires depth { instance.now.depth < 33 }
     requires primitive { instance.now.is_primitive ≡ is_primitive (component_of instance.now.component.now) }
-    ensures { Judges instance.now.path (own_faults (tree_at components.now) (instance_in instance.now)) (room < count_in (instance_in instance.now)) (IsFound (tree_at components.now) (instance_in instance.now) number room) result }
+    ensures { Judges instance.now.path (own_faults (tree_of directory.now.unit.now) (instance_in instance.now)) (room < count_in (instance_in instance.now)) (IsFound (tree_of directory.now.unit.now) (instance_in instance.now) number room) result }
 {
     if instance.is_primitive {
         return Ok(Found {
@@ -51,7 +51,7 @@ pub(crate) fn open_instance<'a>(
     let walked = walk_in(alloc, instance, room)?;
     let made = make_all(
         alloc,
-        components,
+        directory,
         instance,
         number,
         walked.children.as_slice(),

@@ -1,4 +1,4 @@
-use Rattle.std.proofs.Common.{◌≢◌, IfErr, IfOk, sym, subst}
+use Rattle.std.proofs.Common.{◌≢◌, ◌∙◌, IfErr, IfOk, ap, sym, subst}
 use Rattle.darwin_parser.specs.Tree.{tree_of}
 use Rattle.darwin_types.specs.Faults.{NoFault}
 use Rattle.elaborator.specs.Expansion.{instance_in, seen}
@@ -13,34 +13,34 @@ use Rattle.elaborator.proofs.elaborating.elaborate.Goals as goal
 
 pub returns-in_err-expansion-clause-fault : goal.returns-in_err-expansion-clause-fault
 returns-in_err-expansion-clause-fault c =
-    let tree = tree_of c.unit-unit.result.now in
+    let tree = tree_of c.in_ok-directory.directory.unit.now in
     let name = c.args.top.now in
     let arguments = c.args.args.now in
     let top = instance_in c.in_ok-instance.instance in
     let r = c.from_residual-in_err-expansion.result in
     let is_top = c.in_ok-instance.ensures.1 in
-    subst (λ t. IfErr r (λ f. f ≢ NoMemory → Faults t name arguments f)) c.unit-unit.ensures.unit (cause_of (λ _. ⊥) (Faults tree name arguments) r (passed_on (λ _. ⊥) (GrowthFault tree top) (Faults tree name arguments) _ r c.from_residual-in_err-expansion.ensures.1 c.in_err-expansion.ensures (growth_fault tree name arguments top is_top)))
+    subst (λ t. IfErr r (λ f. f ≢ NoMemory → Faults t name arguments f)) (ap (λ u. tree_of u.now) c.in_ok-directory.ensures ∙ c.unit-unit.ensures.unit) (cause_of (λ _. ⊥) (Faults tree name arguments) r (passed_on (λ _. ⊥) (GrowthFault tree top) (Faults tree name arguments) _ r c.from_residual-in_err-expansion.ensures.1 c.in_err-expansion.ensures (growth_fault tree name arguments top is_top)))
 
 pub returns-clause-no_fault : goal.returns-clause-no_fault
 returns-clause-no_fault c =
     let e = seen c.in_ok-expansion.expansion in
-    let tree = tree_of c.unit-unit.result.now in
+    let tree = tree_of c.in_ok-directory.directory.unit.now in
     let top = instance_in c.in_ok-instance.instance in
     let whole = c.in_ok-expansion.ensures in
-    subst (λ t. IfOk c.build_graph.result (λ _. HasNoFault t c.args.top.now c.args.args.now)) c.unit-unit.ensures.unit (answer-no_fault e tree c.args.top.now c.args.args.now top c.build_graph.result whole.same_tree whole.is_of c.in_ok-instance.ensures.1 whole.clear (c.build_graph.ensures top whole.is_of))
+    subst (λ t. IfOk c.build_graph.result (λ _. HasNoFault t c.args.top.now c.args.args.now)) (ap (λ u. tree_of u.now) c.in_ok-directory.ensures ∙ c.unit-unit.ensures.unit) (answer-no_fault e tree c.args.top.now c.args.args.now top c.build_graph.result whole.same_tree whole.is_of c.in_ok-instance.ensures.1 whole.clear (c.build_graph.ensures top whole.is_of))
 
 pub returns-clause-sound : goal.returns-clause-sound
 returns-clause-sound c =
     let e = seen c.in_ok-expansion.expansion in
-    let tree = tree_of c.unit-unit.result.now in
+    let tree = tree_of c.in_ok-directory.directory.unit.now in
     let top = instance_in c.in_ok-instance.instance in
     let whole = c.in_ok-expansion.ensures in
-    answer-sound e tree c.args.top.now c.args.args.now top c.build_graph.result whole.same_tree (subst NoFault (sym c.unit-unit.ensures.unit) c.unit-unit.ensures.no_fault) c.in_ok-instance.ensures.1 whole.clear (c.build_graph.ensures top whole.is_of)
+    answer-sound e tree c.args.top.now c.args.args.now top c.build_graph.result whole.same_tree (subst NoFault (sym (ap (λ u. tree_of u.now) c.in_ok-directory.ensures ∙ c.unit-unit.ensures.unit)) c.unit-unit.ensures.no_fault) c.in_ok-instance.ensures.1 whole.clear (c.build_graph.ensures top whole.is_of)
 
 pub returns-clause-fault : goal.returns-clause-fault
 returns-clause-fault c =
     let e = seen c.in_ok-expansion.expansion in
-    let tree = tree_of c.unit-unit.result.now in
+    let tree = tree_of c.in_ok-directory.directory.unit.now in
     let top = instance_in c.in_ok-instance.instance in
     let whole = c.in_ok-expansion.ensures in
-    subst (λ t. IfErr c.build_graph.result (λ f. f ≢ NoMemory → Faults t c.args.top.now c.args.args.now f)) c.unit-unit.ensures.unit (answer-fault e tree c.args.top.now c.args.args.now top c.build_graph.result whole.same_tree whole.is_of c.in_ok-instance.ensures.1 (c.build_graph.ensures top whole.is_of))
+    subst (λ t. IfErr c.build_graph.result (λ f. f ≢ NoMemory → Faults t c.args.top.now c.args.args.now f)) (ap (λ u. tree_of u.now) c.in_ok-directory.ensures ∙ c.unit-unit.ensures.unit) (answer-fault e tree c.args.top.now c.args.args.now top c.build_graph.result whole.same_tree whole.is_of c.in_ok-instance.ensures.1 (c.build_graph.ensures top whole.is_of))

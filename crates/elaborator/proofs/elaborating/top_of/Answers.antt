@@ -1,7 +1,5 @@
-use Rattle.std.proofs.Common.{◌≡◌, ◌≢◌, ◌∙◌, ℕ, None, Some, length, ap, sym, subst, arith}
+use Rattle.std.proofs.Common.{◌≡◌, ◌≢◌, ◌∙◌, ℕ, length, ap, sym, subst, arith}
 use Rattle.darwin_parser.specs.Tree.{tree_of, component_of}
-use Rattle.darwin_types.specs.Scope.{component_named}
-use Rattle.elaborator.specs.Expansion.{tree_at}
 use Rattle.elaborator.specs.Faults.{Faults, capped}
 use Rattle.elaborator.specs.Faults.Faults.{no_top, top_is_kind, top_args}
 use Rattle.elaborator.specs.declared.error.ElabError.TheVariants as error
@@ -9,18 +7,18 @@ use Rattle.elaborator.proofs.elaborating.top_of.Goals as goal
 
 pub returns-in_default : goal.returns-in_default
 returns-in_default c = λ other.
-    subst (λ name. Faults (tree_of c.args.unit.now) c.args.name.now c.args.args.now (error.NoTop name)) (sym c.in_ok-from_bytes.ensures) (no_top (subst (λ cs. component_named (tree_at cs) c.args.name.now ≡ None) c.as_slice.ensures.value c.in_default.ensures))
+    subst (λ name. Faults (tree_of c.args.directory.now.unit.now) c.args.name.now c.args.args.now (error.NoTop name)) (sym c.in_ok-from_bytes.ensures) (no_top c.in_default.ensures)
 
 pub returns-then-is_primitive : goal.returns-then-is_primitive
 returns-then-is_primitive c = λ other.
     let component = component_of c.in-Some.component.now in
-    subst (λ name. Faults (tree_of c.args.unit.now) c.args.name.now c.args.args.now (error.TopIsKind name)) (sym c.in_ok-from_bytes-2.ensures) (top_is_kind component (subst (λ cs. component_named (tree_at cs) c.args.name.now ≡ Some component) c.as_slice.ensures.value c.in-Some.ensures) (sym c.is_primitive.ensures ∙ c.if-is_primitive.true))
+    subst (λ name. Faults (tree_of c.args.directory.now.unit.now) c.args.name.now c.args.args.now (error.TopIsKind name)) (sym c.in_ok-from_bytes-2.ensures) (top_is_kind component c.in-Some.ensures (sym c.is_primitive.ensures ∙ c.if-is_primitive.true))
 
 pub returns-then-len-args : goal.returns-then-len-args
 returns-then-len-args c = λ other.
     let component = component_of c.in-Some.component.now in
-    let named = subst (λ cs. component_named (tree_at cs) c.args.name.now ≡ Some component) c.as_slice.ensures.value c.in-Some.ensures in
+    let named = c.in-Some.ensures in
     let differ : length component.params ≢ length c.args.args.now = λ same. grind (arith, same, c.len.ensures, c.if-len-args.true) in
     let wanted : c.capped.result ≡ capped (length component.params) = c.capped.ensures ∙ ap capped (omega (arith, c.len-then-len-args.ensures, c.in-Some.component.now.params.ok.0)) in
-    let fault : ℕ → ℕ → Type 0 = λ w g. Faults (tree_of c.args.unit.now) c.args.name.now c.args.args.now (error.TopArgs w g) in
+    let fault : ℕ → ℕ → Type 0 = λ w g. Faults (tree_of c.args.directory.now.unit.now) c.args.name.now c.args.args.now (error.TopArgs w g) in
     subst (λ w. fault w c.capped-then-len-args.result) (sym wanted) (subst (fault (capped (length component.params))) (sym c.capped-then-len-args.ensures) (top_args component named differ))

@@ -18,5 +18,5 @@ loop-growth-preserved c =
 pub returns : goal.returns
 returns c =
     let growth = c.loop-growth.invariant.growth in
-    whole c.args.unit.now c.args.top c.loop-growth.growth c.requires c.loop-growth.invariant.same_tree growth
+    whole c.args.directory.unit.now c.args.top c.loop-growth.growth c.requires c.loop-growth.invariant.same_tree growth
     (omega (arith, c.loop-growth-test.false, c.len.ensures, c.loop-growth.growth.expansion.instances.ok.0))

@@ -7,7 +7,7 @@ use Rattle.elaborator.proofs.growing.expand.Given as goal
 abbrev pub invariant-loop-growth : goal.invariant-loop-growth
 invariant-loop-growth l =
     record {
-      same_tree : tree_of l.growth.expansion.unit.now ≡ tree_of l.fn.unit;
+      same_tree : tree_of l.growth.expansion.directory.unit.now ≡ tree_of l.fn.directory.unit.now;
       growth : IsGrowth (instance_in l.fn.top) l.growth;
     }
 

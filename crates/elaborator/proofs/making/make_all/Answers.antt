@@ -1,10 +1,11 @@
 use Rattle.std.proofs.Common.{◌∙◌, ◌++◌, ◌+◌, map, drop, sym, ap, subst, All, Some}
 use Rattle.std.specs.List.{filter_map}
 use Rattle.std.specs.Option.{option_map}
+use Rattle.darwin_parser.specs.Tree.{tree_of}
 use Rattle.darwin_walk.specs.Walked.{child_of}
 use Rattle.elaborator.specs.Instances.{instance_of}
 use Rattle.elaborator.specs.Faults.{kind_faults}
-use Rattle.elaborator.specs.Expansion.{instance_in, tree_at}
+use Rattle.elaborator.specs.Expansion.{instance_in}
 use Rattle.elaborator.specs.Opening.{IsNoted}
 use Rattle.darwin_walk.proofs.TellsLemmas.{Contains-from}
 use Rattle.elaborator.proofs.JudgesLemmas.{Names-grow, Judges-exit}
@@ -14,14 +15,14 @@ use Rattle.elaborator.proofs.making.make_all.Goals.{in-Some+in_ok-push, in_defau
 
 pub returns-in_err-instance : goal.returns-in_err-instance
 returns-in_err-instance c =
-    let tree = tree_at c.args.components.now in
+    let tree = tree_of c.args.directory.now.unit.now in
     Judges-exit _ _ _ _ _ _ c.from_residual.ensures.1
     (Names-grow _ _ _ ⊥ _ c.in_err-instance.field-0.0 c.in_err-instance.ensures
     (λ f has. rw c.loop-child.invariant.no_faults (Contains-from (kind_faults tree) child_of _ _ _ f c.loop-child-test.true c.child-item.is has)) (λ h. h))
 
 pub loop-child-preserved : goal.loop-child-preserved
 loop-child-preserved c =
-    let tree = tree_at c.args.components.now in
+    let tree = tree_of c.args.directory.now.unit.now in
     let make_one = instance_of tree (instance_in c.args.within.now) in
     let children = c.args.children.now in
     let k = c.loop-child.child-index in

@@ -1,7 +1,7 @@
 use Rattle.std.proofs.Common.{◌≡◌, ◌∙◌, ◌<◌, ◌≤◌, refl, ap, subst}
 use Rattle.std.proofs.lemmas.Option.{slice_get_read, get_or_from_slice_get}
-use Rattle.darwin_parser.specs.Tree.{Tree, tree_of}
-use Rattle.elaborator.specs.Expansion.{tree_at, instance_in}
+use Rattle.darwin_parser.specs.Tree.{tree_of}
+use Rattle.elaborator.specs.Expansion.{instance_in}
 use Rattle.elaborator.specs.Faults.{own_faults}
 use Rattle.elaborator.specs.Instances.{count_in}
 use Rattle.elaborator.specs.Opening.{Judges, IsFound}
@@ -24,7 +24,5 @@ pub returns : goal.returns
 returns c = λ top next growth at.
     let g = c.args.self.now in
     let is : c.index-next.result.now ≡ next = c.index-next.ensures ∙ get_or_from_slice_get c.args.self.now.expansion.instances.items c.args.self.now.opened next c.index-next.result.now at in
-    let tree : tree_at c.as_slice-components.result.now ≡ tree_of g.expansion.unit.now = ap tree_at c.as_slice-components.ensures.value in
-    judged-next top g next (IsFound (tree_of g.expansion.unit.now) (instance_in next) g.opened g.room) c.open_instance.result growth at (subst (λ (x : code.Instance). x.depth < 33) is c.if-next-ge-TOO_DEEP.false)
-    (subst (λ (t : Tree). Judges next.path (own_faults t (instance_in next)) (g.room < count_in (instance_in next)) (IsFound t (instance_in next) g.opened g.room) c.open_instance.result) tree
-    (subst (λ (x : code.Instance). Judges x.path (own_faults (tree_at c.as_slice-components.result.now) (instance_in x)) (g.room < count_in (instance_in x)) (IsFound (tree_at c.as_slice-components.result.now) (instance_in x) g.opened g.room) c.open_instance.result) is c.open_instance.ensures))
+    judged-next top g next (IsFound (tree_of g.expansion.directory.unit.now) (instance_in next) g.opened g.room) c.open_instance.result growth at (subst (λ (x : code.Instance). x.depth < 33) is c.if-next-ge-TOO_DEEP.false)
+    (subst (λ (x : code.Instance). Judges x.path (own_faults (tree_of g.expansion.directory.unit.now) (instance_in x)) (g.room < count_in (instance_in x)) (IsFound (tree_of g.expansion.directory.unit.now) (instance_in x) g.opened g.room) c.open_instance.result) is c.open_instance.ensures)

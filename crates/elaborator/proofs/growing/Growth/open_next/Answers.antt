@@ -15,7 +15,7 @@ pub returns-in_err-found : goal.returns-in_err-found
 returns-in_err-found c = λ top growth.
     let g = c.args.self.now in
     let next = slice_get-there g.expansion.instances.items g.opened c.requires.within in
-    passed_on _ (GrowthFault (tree_of g.expansion.unit.now) top) _ _ c.from_residual.result c.from_residual.ensures.1
+    passed_on _ (GrowthFault (tree_of g.expansion.directory.unit.now) top) _ _ c.from_residual.result c.from_residual.ensures.1
     (c.in_err-found.ensures top next.0 growth next.1) (λ f cause. cause)
 
 pub add_all-requires-clause-mapped : goal.add_all-requires-clause-mapped
@@ -50,7 +50,7 @@ returns-in_err-add_all c = λ top growth.
     passed_on _ (λ f. (path : Path) × (f ≡ TwoInstances path) × IsClash (items ++ c.in_ok-found.found.made.items) (length items) path) _ _
     c.from_residual-in_err-add_all.result c.from_residual-in_err-add_all.ensures.1 c.in_err-add_all.ensures
     (λ f cause.
-    subst (GrowthFault (tree_of g.expansion.unit.now) top) (sym cause.1)
+    subst (GrowthFault (tree_of g.expansion.directory.unit.now) top) (sym cause.1)
     (clash-next top g x y c.in_ok-found.found cause.0 growth at refl found cause.2))
 
 pub overflow_sub-self : goal.overflow_sub-self

@@ -16,7 +16,7 @@ returns c =
       instances = c.in_ok-push.ensures.items;
       same_unit = refl;
       mapped =
-          mapped-add e (record { unit = e.unit; instances = c.push.new.self; numbers = c.insert.new.self }) c.args.instance c.in_ok-key.key c.len-number.result
+          mapped-add e (record { directory = e.directory; instances = c.push.new.self; numbers = c.insert.new.self }) c.args.instance c.in_ok-key.key c.len-number.result
           c.requires.mapped c.in_ok-push.ensures.items (c.in_ok-key.ensures.items ∙ c.as_bytes.ensures) (c.len-number.ensures ∙ e.instances.ok.0)
           c.in_ok-insert.ensures.updates (sym c.in_ok-insert.ensures.old ∙ none)
           (c.in_ok-insert.ensures.len ∙ ap (λ b. btree_map_len e.numbers + (if b then 0 else 1)) (sym c.is_some.ensures ∙ c.if-is_some.false));

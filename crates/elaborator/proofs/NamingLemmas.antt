@@ -1,0 +1,118 @@
+-- Indexes of names.
+use Rattle.std.proofs.Common.{◌≡◌, ◌∙◌, ℕ, suc, ◌+◌, ◌<◌, ◌≤◌, Bool, true, false, not, cond, ltb, List, [], ◌∷◌, Option, Some, None, Bor, length, map, drop, get_or, position, bytes_eq, is_some, refl, ap, sym, subst, arith, inl, inr}
+use Rattle.std.specs.List.{position_from, position_or_len, slice_get}
+use Rattle.std.specs.Map.{lookup}
+use Rattle.std.specs.Option.{option_map, option_or}
+use Rattle.std.proofs.lemmas.Bool.{false≢true, lt-ltb, le-ltb, cases_lt}
+use Rattle.std.proofs.lemmas.List.{drop_more, drop_all}
+use Rattle.std.proofs.lemmas.Option.{none-some, same_Some, slice_get-map}
+use Rattle.std.proofs.lemmas.Slice.Eq.{bytes_eq-Decides}
+use Rattle.indexmap.specs.IndexMap.{insert_entry}
+use Rattle.indexmap.proofs.MapLemmas.{insert_entry-absent, absent_from_lookup}
+use Rattle.darwin_parser.specs.declared.tree.Component as code
+use Rattle.darwin_parser.specs.Tree.{Name, component_of}
+use Rattle.darwin_types.specs.Scope.{component_named}
+use Rattle.darwin_types.proofs.Lookups.{lookup-append}
+use Rattle.elaborator.specs.Naming.{place_in, IsAdded, Indexes}
+use Rattle.elaborator.specs.declared.name_index.NameIndex.{NameIndex}
+use Rattle.elaborator.proofs.Lists.{find-no_position, find-position, position-map}
+
+-- a name that the index lacks goes last
+pub added-new :
+    (old new : NameIndex) (name : Bor (List ℕ)) (place : ℕ) → place_in old name.now ≡ None
+    → new.places.entries ≡ insert_entry (λ x y. bytes_eq x.now y.now) old.places.entries name place → IsAdded old new name.now place
+added-new old new name place lacks is x =
+    ap (lookup (λ k. bytes_eq x k.now))
+    (is ∙ insert_entry-absent (λ k l. bytes_eq k.now l.now) name place old.places.entries (absent_from_lookup (λ k. bytes_eq name.now k.now) old.places.entries lacks))
+    ∙ lookup-append (λ k. bytes_eq x k.now) old.places.entries ((name, place) ∷ [])
+
+-- one that it has is kept
+pub added-again : (index : NameIndex) (name : Name) (place : ℕ) → is_some (place_in index name) ≡ true → IsAdded index index name place
+added-again index name place has x = kept (bytes_eq x name) (place_in index x) (λ e. subst (λ y. is_some (place_in index y) ≡ true) (sym ((bytes_eq-Decides x name).0 e)) has)
+  where
+    kept : (b : Bool) (o : Option ℕ) → (b ≡ true → is_some o ≡ true) → o ≡ option_or o (cond b (Some place) None)
+    kept b (Some y) has = refl
+    kept true None has = absurd (false≢true (has refl))
+    kept false None has = refl
+
+-- ---- the places of a list of items
+
+placed : {A : Type 0} (p : A → Bool) (i : ℕ) (xs : List A) → position_from p i xs ≡ cond (ltb (position_or_len p xs) (length xs)) (Some (i + position_or_len p xs)) None
+placed p i [] = refl
+placed {A = A} p i (x ∷ xs) =
+    elim (p x) as (λ b. cond b (Some i) (position_from p (i + 1) xs) ≡ cond (ltb (rest b) (suc (length xs))) (Some (i + rest b)) None) [
+      | true ↦ let same : i + 0 ≡ i = omega arith in rw (lt-ltb 0 (suc (length xs)) (omega arith), same) refl
+      | false ↦
+          placed p (i + 1) xs
+          ∙ elim (cases_lt (position_or_len p xs) (length xs)) [
+            | inl lt ↦
+                let next : i + 1 + position_or_len p xs ≡ i + (1 + position_or_len p xs) = omega arith in
+                rw (lt-ltb (position_or_len p xs) (length xs) lt, lt-ltb (1 + position_or_len p xs) (suc (length xs)) (omega (arith, lt)), next) refl
+            | inr le ↦ rw (le-ltb (position_or_len p xs) (length xs) le, le-ltb (1 + position_or_len p xs) (suc (length xs)) (omega (arith, le))) refl
+          ]
+    ]
+  where
+    rest : Bool → ℕ
+    rest b = cond (not b) (1 + position_or_len p xs) 0
+
+placed_first : {A : Type 0} (p : A → Bool) (xs : List A) → position_from p 0 xs ≡ position p xs
+placed_first p xs =
+    let same : 0 + position_or_len p xs ≡ position_or_len p xs = omega arith in
+    placed p 0 xs ∙ ap (λ k. cond (ltb (position_or_len p xs) (length xs)) (Some k) None) same
+
+-- the index tells of the first so many items, and the others are left
+abbrev pub IndexesFirst : {A : Type 0} → (A → Name) → NameIndex → ℕ → List A → Type 0
+IndexesFirst {A} name_of index i items =
+    (x : Name) → position_from (λ a. bytes_eq x (name_of a)) 0 items ≡ option_or (place_in index x) (position_from (λ a. bytes_eq x (name_of a)) i (drop i items))
+
+pub indexes-none : {A : Type 0} (name_of : A → Name) (index : NameIndex) (items : List A) → ((x : Name) → place_in index x ≡ None) → IndexesFirst name_of index 0 items
+indexes-none name_of index items none x = rw none refl
+
+pub indexes-next :
+    {A : Type 0} (name_of : A → Name) (old new : NameIndex) (i : ℕ) (items : List A) (a : A) → i < length items → a ≡ get_or items i a
+    → IsAdded old new (name_of a) i → IndexesFirst name_of old i items → IndexesFirst name_of new (i + 1) items
+indexes-next {A = A} name_of old new i items a within is added first x =
+    let p : A → Bool = λ b. bytes_eq x (name_of b) in
+    let rest = position_from p (i + 1) (drop (i + 1) items) in
+    first x
+    ∙ ap (λ ys. option_or (place_in old x) (position_from p i ys)) (drop_more items i a within ∙ ap (λ y. y ∷ drop (i + 1) items) (sym is))
+    ∙ either (place_in old x) (bytes_eq x (name_of a)) rest ∙ ap (λ o. option_or o rest) (sym (added x))
+  where
+    either : (o : Option ℕ) (b : Bool) (rest : Option ℕ) → option_or o (cond b (Some i) rest) ≡ option_or (option_or o (cond b (Some i) None)) rest
+    either (Some y) b rest = refl
+    either None true rest = refl
+    either None false rest = refl
+
+pub indexes-all : {A : Type 0} (name_of : A → Name) (index : NameIndex) (i : ℕ) (items : List A) → length items ≤ i → IndexesFirst name_of index i items → Indexes name_of index items
+indexes-all {A = A} name_of index i items all first x =
+    let p : A → Bool = λ b. bytes_eq x (name_of b) in
+    either (place_in index x) ∙ sym (first x ∙ ap (λ ys. option_or (place_in index x) (position_from p i ys)) (drop_all i items all)) ∙ placed_first p items
+  where
+    either : (o : Option ℕ) → o ≡ option_or o None
+    either (Some y) = refl
+    either None = refl
+
+-- ---- components by their names
+
+abbrev pub component_name : code.Component → Name
+component_name c = c.name
+
+pub position_within : {A : Type 0} (p : A → Bool) (xs : List A) (k : ℕ) → position p xs ≡ Some k → k < length xs
+position_within p xs k is = by (position_or_len p xs) (length xs) is
+  where
+    by : (m n : ℕ) → cond (ltb m n) (Some m) None ≡ Some k → k < n
+    by m n is = elim (cases_lt m n) [
+      | inl lt ↦ subst (λ a. a < n) (same_Some m k (rw (lt-ltb m n lt) at is)) lt
+      | inr le ↦ absurd (none-some k (rw (le-ltb m n le) at is))
+    ]
+
+pub component-none : (cs : List code.Component) (name : Name) → position (λ c. bytes_eq name (component_name c)) cs ≡ None → component_named (map component_of cs) name ≡ None
+component-none cs name none =
+    find-no_position (λ c. bytes_eq name c.name) (map component_of cs) (position-map (λ c. bytes_eq name c.name) component_of cs ∙ none)
+
+pub component-at :
+    (cs : List code.Component) (name : Name) (k : ℕ) (x : code.Component) → position (λ c. bytes_eq name (component_name c)) cs ≡ Some k
+    → slice_get cs k ≡ Some x → component_named (map component_of cs) name ≡ Some (component_of x)
+component-at cs name k x is at =
+    find-position (λ c. bytes_eq name c.name) (map component_of cs) k (position-map (λ c. bytes_eq name c.name) component_of cs ∙ is)
+    ∙ slice_get-map component_of cs k ∙ ap (option_map component_of) at

@@ -1,0 +1,17 @@
+-- An index of names: the place of the first item that has a name.
+use Rattle.std.specs.Prelude.{◌≡◌, ℕ, List, Option, Some, None, if◌then◌else◌, position, bytes_eq}
+use Rattle.std.specs.Map.{lookup}
+use Rattle.std.specs.Option.{option_or}
+use Rattle.darwin_parser.specs.Tree.{Name}
+use Rattle.elaborator.specs.declared.name_index.NameIndex.{NameIndex}
+
+abbrev pub place_in : NameIndex → Name → Option ℕ
+place_in index x = lookup (λ k. bytes_eq x k.now) index.places.entries
+
+-- the index has a name more, where it lacked it
+abbrev pub IsAdded : NameIndex → NameIndex → Name → ℕ → Type 0
+IsAdded old new name place = (x : Name) → place_in new x ≡ option_or (place_in old x) (if bytes_eq x name then Some place else None)
+
+-- the index tells of each name the first place in a list of items
+abbrev pub Indexes : {A : Type 0} → (A → Name) → NameIndex → List A → Type 0
+Indexes {A} name_of index items = (x : Name) → place_in index x ≡ position (λ a. bytes_eq x (name_of a)) items
