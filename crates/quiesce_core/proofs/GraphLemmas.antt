@@ -7,10 +7,14 @@ use Rattle.std.proofs.lemmas.Bool.{both_ways, cases_Bool, cases_lt, eqb-true, eq
 use Rattle.std.proofs.lemmas.Option.{slice_get_within, get_or_from_slice_get, slice_get_past}
 use Rattle.std.proofs.lemmas.List.{length-map, get_or_past}
 use Rattle.std.proofs.lemmas.List.Sums.{sum_by-cons, sum_by_more}
+use Rattle.std.specs.Ordering.{nat_cmp}
+use Rattle.std.specs.Cmp.Lexicographic.{slice_cmp}
+use Rattle.std.specs.declared.cmp.Ordering.TheVariants.{Less}
+use Rattle.std.proofs.lemmas.List.Elements.{All-contains}
 use Rattle.config_graph.specs.Kinds.{row, is_depended_on}
 use Rattle.config_graph.specs.Graph.{Configuration as Graph, first_port, ports, target_of, requires_of, requires_at, provides_at, provides_of}
 use Rattle.config_graph.specs.Cycles as cycles
-use Rattle.config_graph.specs.Sound.{Sound}
+use Rattle.config_graph.specs.Sound.{Sound, HasItsArgument}
 use Rattle.config_graph.specs.declared.node.Node.{Node}
 use Rattle.config_graph.specs.declared.node.Port.{Port}
 use Rattle.config_graph.specs.declared.node.Target.{Target}
@@ -21,6 +25,8 @@ use Rattle.quiesce_core.specs.declared.state.Gate.{Gate}
 use Rattle.quiesce_core.specs.State.{Configuration, fresh_gate, fresh_exchange, slot, gate, target}
 use Rattle.quiesce_core.specs.Reach.{IsPortOf, Leads, can_walk, has_no_cycle}
 use Rattle.quiesce_core.specs.WellFormed.{StandInARow, IsWithinBounds, IsSound, IsWellFormed}
+use Rattle.quiesce_core.specs.Named.{AreNamed}
+use Rattle.quiesce_core.proofs.OrderLemmas.{contains_at, irreflexive}
 use Rattle.quiesce_core.specs.Start.{slot_of, gate_of, free, unused, started}
 use Rattle.quiesce_core.proofs.Lists.{range_all, count_in, count_in-le, count_in_rises}
 use Rattle.quiesce_core.proofs.Cycles.{walk_from, walker_made, map_or_at}
@@ -194,6 +200,27 @@ module _ (g : Graph) (sound : Sound g) (few_nodes : length g.nodes ≤ 1023) (fe
 
       provides_made : (n r : ℕ) → r < provides_at g.nodes n → n < length g.nodes
       provides_made n r h = made_if provides_of n r h
+
+  pub named_started : AreNamed (started g).config
+  named_started = record {
+    paths = λ i j m n at_i at_j live_i live_j same.
+        let v = slot_was i m at_i in
+        let w = slot_was j n at_j in
+        let paths : v.0.path ≡ w.0.path = ap (λ (s : Slot). s.node.path) (sym v.2) ∙ same ∙ ap (λ (s : Slot). s.node.path) w.2 in
+        ⊎_elim (λ (before : i < j). absurd (apart i j v.0 w.0 before v.1 w.1 paths))
+        (λ (rest : j ≤ i). ⊎_elim (λ (after : j < i). absurd (apart j i w.0 v.0 after w.1 v.1 (sym paths))) (λ (last : i ≤ j). omega arith) (cases_lt j i))
+        (cases_lt i j);
+    arguments = λ i m at.
+        let w = slot_was i m at in
+        subst (λ (s : Slot). HasItsArgument s.node) (sym w.2) (All-contains HasItsArgument g.nodes w.0 sound.arguments (contains_at g.nodes i w.0 w.1));
+  }
+    where
+      apart : (i j : ℕ) (x y : Node) → i < j → slice_get g.nodes i ≡ Some x → slice_get g.nodes j ≡ Some y → x.path ≡ y.path → ⊥
+      apart i j x y before at_i at_j same =
+          let rises = sound.paths_rise i j x before (slice_get_within g.nodes j y at_j) in
+          irreflexive y.path (subst (λ q. slice_cmp nat_cmp q y.path ≡ Less) same
+          (subst (λ (n : Node). slice_cmp nat_cmp n.path y.path ≡ Less) (get_or_from_slice_get g.nodes i x x at_i)
+          (subst (λ (n : Node). slice_cmp nat_cmp (get_or g.nodes i x).path n.path ≡ Less) (get_or_from_slice_get g.nodes j y x at_j) rises)))
 
   pub well_formed_started : IsWellFormed (started g)
   well_formed_started = record {

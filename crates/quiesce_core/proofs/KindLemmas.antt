@@ -96,3 +96,17 @@ few_mores Account (suc x) = omega arith
 few_mores Asker x = omega arith
 few_mores Adder zero = omega arith
 few_mores Adder (suc x) = omega arith
+
+pub two_requires : (k : Kind) → length (row k).requires_ ≤ 2
+two_requires Philosopher = omega arith
+two_requires Place = omega arith
+two_requires Fork = omega arith
+two_requires Source = omega arith
+two_requires Map = omega arith
+two_requires Buffer = omega arith
+two_requires Sink = omega arith
+two_requires Teller = omega arith
+two_requires Branch = omega arith
+two_requires Account = omega arith
+two_requires Asker = omega arith
+two_requires Adder = omega arith

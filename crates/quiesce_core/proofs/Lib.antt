@@ -11,3 +11,6 @@ pub mod GraphLemmas
 pub mod WordLemmas
 pub mod TrafficLemmas
 pub mod RunLemmas
+pub mod OrderLemmas
+pub mod LiveLemmas
+pub mod NamedLemmas

@@ -19,3 +19,6 @@ pub mod Open
 pub mod Counted
 pub mod Start
 pub mod Traffic
+pub mod Named
+pub mod Live
+pub mod Listed

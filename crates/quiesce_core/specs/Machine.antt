@@ -6,6 +6,7 @@ use Rattle.quiesce_core.specs.declared.tables.Tables.{Tables}
 use Rattle.quiesce_core.specs.State.{State}
 use Rattle.quiesce_core.specs.Tables.{state_of}
 use Rattle.quiesce_core.specs.WellFormed.{IsWellFormed}
+use Rattle.quiesce_core.specs.Named.{AreNamed}
 
 pub record Machine : Type 0 where
   pub state : State
@@ -30,4 +31,5 @@ KeepsRoom old new = (spare : ℕ) → HasRoom old spare → HasRoom new spare
 -- what holds of the tables of a machine with this number in reserve
 pub record IsKept (t : Tables) (spare : ℕ) : Type 0 where
   pub well_formed : IsWellFormed (state_of t)
+  pub named : AreNamed (state_of t).config
   pub room : HasRoom t spare

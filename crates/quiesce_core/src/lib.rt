@@ -9,6 +9,7 @@ mod error;
 mod event;
 mod known;
 mod laws;
+mod live;
 mod machine;
 mod making;
 mod open;

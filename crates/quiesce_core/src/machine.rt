@@ -9,6 +9,7 @@ ghost use Rattle.quiesce_core.specs.State as state;
 ghost use Rattle.quiesce_core.specs.Rules.{denial, is_settled, last_serial};
 ghost use Rattle.quiesce_core.specs.Settled.{Settled};
 ghost use Rattle.quiesce_core.specs.Open.{open_txns};
+ghost use Rattle.quiesce_core.specs.Live.{IsGraphOf};
 ghost use Rattle.quiesce_core.specs.Rest.{rest};
 ghost use Rattle.quiesce_core.specs.Words as words;
 ghost use Rattle.quiesce_core.specs.declared.state.Slot.{Slot};
@@ -189,6 +190,14 @@ impl Core {
         ensures { IfOk result (λ v. v.items ≡ open_txns self.now.state) }
     {
         self.tables.open_txns()
+    }
+
+    /// The graph of the live nodes and their links. What was removed is not in it.
+    pub fn graph(&self) -> Result<Graph, NoMemory>
+        ensures graph { IfOk result (IsGraphOf self.now.state.config) }
+        ensures sound { IfOk result Sound }
+    {
+        self.tables.graph()
     }
 
     /// How many events can still happen, at most, until every open transaction has ended, where nothing is linked: of those

@@ -1,6 +1,7 @@
 use Rattle.std.proofs.Common.{sym, subst, arith}
 use Rattle.quiesce_core.specs.WellFormed.{IsWellFormed}
-use Rattle.quiesce_core.proofs.GraphLemmas.{well_formed_started}
+use Rattle.quiesce_core.specs.Named.{AreNamed}
+use Rattle.quiesce_core.proofs.GraphLemmas.{named_started, well_formed_started}
 use Rattle.quiesce_core.proofs.machine.Core.of.Goals as goal
 
 pub invariant_of-result : goal.invariant_of-result
@@ -8,6 +9,7 @@ invariant_of-result c =
     let tables = c.in_ok-tables.tables in
     record {
       well_formed = subst (λ s. IsWellFormed s) (sym c.in_ok-tables.ensures) (well_formed_started c.args.graph.now c.requires.sound c.requires.few_nodes c.requires.few_ports);
+      named = subst (λ s. AreNamed s.config) (sym c.in_ok-tables.ensures) (named_started c.args.graph.now c.requires.sound c.requires.few_nodes c.requires.few_ports);
       room = record {
         slots = omega (arith, tables.slots.ok.0, tables.slots.ok.1);
         services = omega (arith, tables.services.ok.0, tables.services.ok.1);

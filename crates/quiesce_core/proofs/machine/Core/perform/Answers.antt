@@ -1,6 +1,8 @@
 use Rattle.std.proofs.Common.{sym, subst, ap, ◌∙◌}
 use Rattle.quiesce_core.specs.WellFormed.{IsWellFormed}
 use Rattle.quiesce_core.specs.Rules.{denial}
+use Rattle.quiesce_core.specs.Named.{AreNamed}
+use Rattle.quiesce_core.proofs.NamedLemmas.{named_next}
 use Rattle.quiesce_core.specs.Tables.{state_of}
 use Rattle.quiesce_core.proofs.LegalLemmas.{legal}
 use Rattle.quiesce_core.proofs.Soundness.{well_formed_next}
@@ -8,7 +10,10 @@ use Rattle.quiesce_core.proofs.machine.Core.perform.Goals as goal
 
 pub invariant_of-self : goal.invariant_of-self
 invariant_of-self c =
+    let before = state_of c.self.inside.tables in
+    let holds = legal before c.args.event.now (ap (λ m. denial m.state c.args.event.now) c.self.view_is ∙ c.requires.allowed) in
     record {
-      well_formed = subst (λ s. IsWellFormed s) (sym c.perform.ensures.state) (well_formed_next (state_of c.self.inside.tables) c.args.event.now c.self.invariant.well_formed (legal (state_of c.self.inside.tables) c.args.event.now (ap (λ m. denial m.state c.args.event.now) c.self.view_is ∙ c.requires.allowed)));
+      well_formed = subst (λ s. IsWellFormed s) (sym c.perform.ensures.state) (well_formed_next before c.args.event.now c.self.invariant.well_formed holds);
+      named = subst (λ s. AreNamed s.config) (sym c.perform.ensures.state) (named_next before c.args.event.now c.self.invariant.named holds);
       room = c.perform.ensures.room c.self.inside.spare c.self.invariant.room;
     }

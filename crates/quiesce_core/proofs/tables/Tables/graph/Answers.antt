@@ -1,0 +1,27 @@
+use Rattle.quiesce_core.specs.Tables.{state_of}
+use Rattle.quiesce_core.proofs.LiveLemmas.{AreParts, parts, parts_rise, parts_within, parts_apart, parts_few, parts_are, parts_sound}
+use Rattle.quiesce_core.proofs.tables.Tables.graph.Goals as goal
+use Rattle.quiesce_core.proofs.tables.Tables.graph.Goals.{After-allocator}
+
+built : (c : After-allocator) → AreParts (state_of c.args.self.now).config c.in_ok-nodes.nodes.items c.in_ok-links.links.items
+built c =
+    parts (state_of c.args.self.now).config c.in_ok-order.order.items c.deref.result.now c.deref-2.result.now c.in_ok-places.places.items c.deref-3.result.now c.in_ok-nodes.nodes.items c.in_ok-links.links.items
+    c.in_ok-order.ensures c.deref.ensures.value c.in_ok-places.ensures c.deref-2.ensures.value c.in_ok-nodes.ensures c.deref-3.ensures.value c.in_ok-links.ensures
+
+pub build-requires-clause-paths_rise : goal.build-requires-clause-paths_rise
+build-requires-clause-paths_rise c = parts_rise (state_of c.args.self.now).config c.requires.sound c.requires.named _ _ (built (goal.at.build-requires-clause-paths_rise c).After-allocator)
+
+pub build-requires-clause-within : goal.build-requires-clause-within
+build-requires-clause-within c = parts_within (state_of c.args.self.now).config c.requires.sound c.requires.named _ _ (built (goal.at.build-requires-clause-within c).After-allocator)
+
+pub build-requires-clause-one_link_a_port : goal.build-requires-clause-one_link_a_port
+build-requires-clause-one_link_a_port c = parts_apart (state_of c.args.self.now).config c.requires.sound c.requires.named _ _ (built (goal.at.build-requires-clause-one_link_a_port c).After-allocator)
+
+pub build-requires-clause-few_ports : goal.build-requires-clause-few_ports
+build-requires-clause-few_ports c = parts_few (state_of c.args.self.now).config c.requires.sound c.requires.named _ _ (built (goal.at.build-requires-clause-few_ports c).After-allocator)
+
+pub returns-clause-graph : goal.returns-clause-graph
+returns-clause-graph c = parts_are (state_of c.args.self.now).config c.requires.sound c.requires.named _ _ (built (goal.at.returns-clause-graph c).After-allocator) c.build.result c.build.ensures.graph
+
+pub returns-clause-sound : goal.returns-clause-sound
+returns-clause-sound c = parts_sound (state_of c.args.self.now).config c.requires.sound c.requires.named _ _ (built (goal.at.returns-clause-sound c).After-allocator) c.build.result c.build.ensures.graph
