@@ -14,3 +14,4 @@ pub mod RunLemmas
 pub mod OrderLemmas
 pub mod LiveLemmas
 pub mod NamedLemmas
+pub mod OneGraph

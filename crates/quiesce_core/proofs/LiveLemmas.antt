@@ -382,3 +382,12 @@ module _ (c : Configuration) (sound : IsSound c) (named : AreNamed c) (nodes : L
   parts_sound (Ok g) is =
       subst Sound (sym (is ∙ ap (graph_of nodes) p.are_links)) (graph_sound c sound named p.order p.in_order p.places p.are_places nodes p.are_nodes)
   parts_sound (Err e) is = tt
+
+  pub parts_small : {A : Type 0} (r : Result Graph A) → IfOk r (λ g. g ≡ graph_of nodes links) → IfOk r (λ g. length g.nodes ≤ 1023)
+  parts_small (Ok g) is = omega (arith, ap (λ (h : Graph). length h.nodes) is, p.are_nodes.count, p.in_order.few, sound.few_nodes)
+  parts_small (Err e) is = tt
+
+  pub parts_few_ports : {A : Type 0} (r : Result Graph A) → IfOk r (λ g. g ≡ graph_of nodes links) → IfOk r (λ g. length (ports g.nodes) ≤ 4096)
+  parts_few_ports (Ok g) is =
+      omega (arith, ap (λ (h : Graph). length (ports h.nodes)) is, ports_from 0 nodes, p.are_nodes.count, p.in_order.few, sound.few_nodes)
+  parts_few_ports (Err e) is = tt

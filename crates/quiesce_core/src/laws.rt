@@ -12,6 +12,8 @@ ghost use Rattle.quiesce_core.specs.Words.{pack, unpack};
 ghost use Rattle.quiesce_core.specs.declared.word.Word.{Word};
 ghost use Rattle.quiesce_core.specs.Traffic.{IsConsistent};
 ghost use Rattle.quiesce_core.specs.WellFormed.{IsSound, IsWellFormed};
+ghost use Rattle.quiesce_core.specs.Live.{IsGraphOf};
+ghost use Rattle.config_graph.specs.Graph.{Configuration as Graph};
 
 /// An event is denied by no rule exactly where each of its rules holds.
 #[tactic(auto, using(crate::proofs::LegalLemmas::legal_events))]
@@ -42,6 +44,11 @@ pub fn runs_are_well_formed()
 /// nodes are closed and unlinked.
 pub fn runs_are_consistent()
     ensures { (es : List Event) → IsRun es → IsConsistent (state_after es) }
+{}
+
+/// A configuration has one graph.
+pub fn one_graph()
+    ensures { (c : Configuration) (g h : Graph) → IsGraphOf c g → IsGraphOf c h → g ≡ h }
 {}
 
 /// A number spells the fields that it was packed from.

@@ -27,8 +27,8 @@ pub use error::CoreError;
 pub use event::Event;
 pub use known::Served;
 pub use laws::{
-    cycles_are_found, each_rule_holds, reach_is_found, runs_are_consistent, runs_are_well_formed,
-    words_decode,
+    cycles_are_found, each_rule_holds, one_graph, reach_is_found, runs_are_consistent,
+    runs_are_well_formed, words_decode,
 };
 pub use machine::Core;
 pub use state::{Exchange, Gate, OpenTxn, Phase, Service, Slot, Stage};

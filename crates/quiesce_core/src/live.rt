@@ -4,6 +4,8 @@ ghost use Rattle.std.specs.Prelude.{◌≡◌, ℕ, ◌≤◌, None, length, fil
 ghost use Rattle.std.specs.List.{range_with_len};
 ghost use Rattle.std.specs.Ordering.{nat_cmp};
 ghost use Rattle.std.specs.Cmp.Lexicographic.{slice_cmp};
+ghost use Rattle.config_graph.specs.declared.TheConstants.{MAX_NODES, MAX_PORTS};
+ghost use Rattle.config_graph.specs.Graph.{ports};
 ghost use Rattle.config_graph.specs.Sound.{Sound};
 ghost use Rattle.quiesce_core.specs.State as state;
 ghost use Rattle.quiesce_core.specs.WellFormed.{IsSound};
@@ -115,6 +117,8 @@ impl Tables {
         requires named { AreNamed (state_of self.now).config }
         ensures graph { IfOk result (IsGraphOf (state_of self.now).config) }
         ensures sound { IfOk result Sound }
+        ensures few_nodes { IfOk result (λ g. length g.nodes ≤ MAX_NODES) }
+        ensures few_ports { IfOk result (λ g. length (ports g.nodes) ≤ MAX_PORTS) }
     {
         let order = self.in_path_order()?;
         let places = self.places_in(&order)?;

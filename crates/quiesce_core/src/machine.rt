@@ -192,10 +192,12 @@ impl Core {
         self.tables.open_txns()
     }
 
-    /// The graph of the live nodes and their links. What was removed is not in it.
+    /// The graph of the live nodes and their links. What was removed is not in it. A system can be started as it says.
     pub fn graph(&self) -> Result<Graph, NoMemory>
         ensures graph { IfOk result (IsGraphOf self.now.state.config) }
         ensures sound { IfOk result Sound }
+        ensures few_nodes { IfOk result (λ g. length g.nodes ≤ MAX_NODES) }
+        ensures few_ports { IfOk result (λ g. length (ports g.nodes) ≤ MAX_PORTS) }
     {
         self.tables.graph()
     }

@@ -4,7 +4,7 @@ use crate::{Core, CoreError, Event, OpenTxn, Stage};
 use Op::{
     Ask, Begin, Call, Close, End, Give, Hear, Link, Miss, More, Remove, Reopen, Take, Unlink,
 };
-use config_graph::{Graph, Kind, Node, Text};
+use config_graph::{Graph, Kind, Node, Text, same};
 use std::alloc::Global;
 use std::process::Abort;
 use std::test::Fail;
@@ -523,5 +523,84 @@ fn all_come_to_rest(rt: HostRuntime) -> Result<(), Fail> {
         assert!(rt; core.is_live(node));
         assert!(rt; core.settled(node));
     }
+    Ok(())
+}
+
+#[test]
+fn removes_what_is_apart(rt: HostRuntime) -> Result<(), Fail> {
+    let mut core = line(&rt, rt.alloc())?;
+    happens(
+        &rt,
+        &mut core,
+        &[
+            (Close, 0, 0, 0),
+            (Close, 1, 0, 0),
+            (Unlink, 1, 0, 0),
+            (Link, 1, 0, 0),
+            (Unlink, 0, 0, 0),
+            (Remove, 2, 0, 0),
+        ],
+    );
+    assert_eq!(rt; core.rest(), 0);
+    assert!(rt; !core.is_live(2));
+    for node in 0..2 {
+        assert!(rt; core.is_live(node));
+        assert!(rt; core.settled(node));
+    }
+    let graph = core.graph()?;
+    assert_eq!(rt; graph.node_count(), 2);
+    assert_eq!(rt; graph.links(), [(1, 0, 0, 0)].map(link).as_slice());
+    Ok(())
+}
+
+#[test]
+fn waits_for_a_further_message(rt: HostRuntime) -> Result<(), Fail> {
+    let mut core = two(&rt, rt.alloc())?;
+    happens(
+        &rt,
+        &mut core,
+        &[
+            (Begin, 0, 1, 5),
+            (Take, 0, 1, 5),
+            (More, 0, 1, 5),
+            (Close, 0, 0, 0),
+        ],
+    );
+    let root = OpenTxn {
+        port: 0,
+        serial: 1,
+        root: true,
+        stage: Stage::Taken,
+    };
+    assert_eq!(rt; core.open_txns()?.as_slice(), [root].as_slice());
+    assert_eq!(rt; core.rest(), 4);
+    assert_eq!(rt;
+        core.apply(&event(&(Give, 0, 1, 5))),
+        Err(CoreError::Denied { rule: 29 })
+    );
+    Ok(())
+}
+
+fn link(ends: (u32, u32, u32, u32)) -> config_graph::Link {
+    let (from, require, to, provide) = ends;
+    config_graph::Link {
+        from,
+        require,
+        to,
+        provide,
+    }
+}
+
+#[test]
+fn a_graph_is_in_order(rt: HostRuntime) -> Result<(), Fail> {
+    let graph = bank(&rt, rt.alloc())?.graph()?;
+    let paths: [&[u8]; 4] = [b"a", b"r", b"w", b"x"];
+    for (index, path) in paths.iter().enumerate() {
+        assert_eq!(rt; graph.index_of(path), Some(index as u32));
+    }
+    let links = [(1, 0, 0, 0), (1, 1, 0, 0), (2, 0, 1, 0), (3, 0, 0, 0)].map(link);
+    assert_eq!(rt; graph.links(), links.as_slice());
+    let started = Core::of(rt.alloc(), &graph)?;
+    assert!(rt; same(&started.graph()?, &graph));
     Ok(())
 }

@@ -1,5 +1,5 @@
 use Rattle.quiesce_core.specs.Tables.{state_of}
-use Rattle.quiesce_core.proofs.LiveLemmas.{AreParts, parts, parts_rise, parts_within, parts_apart, parts_few, parts_are, parts_sound}
+use Rattle.quiesce_core.proofs.LiveLemmas.{AreParts, parts, parts_rise, parts_within, parts_apart, parts_few, parts_are, parts_sound, parts_small, parts_few_ports}
 use Rattle.quiesce_core.proofs.tables.Tables.graph.Goals as goal
 use Rattle.quiesce_core.proofs.tables.Tables.graph.Goals.{After-allocator}
 
@@ -25,3 +25,9 @@ returns-clause-graph c = parts_are (state_of c.args.self.now).config c.requires.
 
 pub returns-clause-sound : goal.returns-clause-sound
 returns-clause-sound c = parts_sound (state_of c.args.self.now).config c.requires.sound c.requires.named _ _ (built (goal.at.returns-clause-sound c).After-allocator) c.build.result c.build.ensures.graph
+
+pub returns-clause-few_nodes : goal.returns-clause-few_nodes
+returns-clause-few_nodes c = parts_small (state_of c.args.self.now).config c.requires.sound c.requires.named _ _ (built (goal.at.returns-clause-few_nodes c).After-allocator) c.build.result c.build.ensures.graph
+
+pub returns-clause-few_ports : goal.returns-clause-few_ports
+returns-clause-few_ports c = parts_few_ports (state_of c.args.self.now).config c.requires.sound c.requires.named _ _ (built (goal.at.returns-clause-few_ports c).After-allocator) c.build.result c.build.ensures.graph
