@@ -1,0 +1,237 @@
+-- A settled node is quiescent.
+use Rattle.std.proofs.Common.{◌≡◌, ℕ, ◌<◌, Bool, true, false, not, ◌&&◌, ◌||◌, List, [], ◌∷◌, ◌++◌, append_assoc, length, set, Option, Some, None, refl, sym, ap, ◌∙◌, subst, inl, inr, ⊎_elim}
+use Rattle.std.specs.Prelude.{◌⊎◌, ◌↔◌, ◌==◌, option_map, slice_get}
+use Rattle.std.specs.Option.{option_map_or}
+use Rattle.std.specs.List.{list_any}
+use Rattle.std.proofs.lemmas.Bool.{and_parts, both_ways, cases_eq, eqb-true, eq-eqb, ne_eqb, not-true, or_parts}
+use Rattle.std.proofs.lemmas.List.{append-nil}
+use Rattle.std.proofs.lemmas.List.Folds.{list_any-append}
+use Rattle.config_graph.specs.declared.node.Target.{Target}
+use Rattle.quiesce_core.specs.declared.event.Event.{Event}
+use Rattle.quiesce_core.specs.declared.event.Event.TheVariants.{Begin, Call, Take, Give, End, More, Ask, Hear, Miss, Close, Reopen, Make, Link, Unlink, Remove}
+use Rattle.quiesce_core.specs.State.{Configuration, State, slot, is_live, owner, target}
+use Rattle.quiesce_core.specs.declared.state.Slot.{Slot}
+use Rattle.quiesce_core.specs.Effect.{effect}
+use Rattle.quiesce_core.specs.Legal.{Legal}
+use Rattle.quiesce_core.specs.Reach.{IsPortOf, Reaches}
+use Rattle.quiesce_core.specs.Reach as reach
+use Rattle.quiesce_core.specs.Runs.{IsRun, state_after, is_begin_of, is_end_of, is_open_after, Begun, initiator, target_at_begin}
+use Rattle.quiesce_core.specs.Settled.{Settled, Quiescent, Continues, is_opening}
+use Rattle.quiesce_core.specs.Traffic.{IsConsistent}
+use Rattle.quiesce_core.specs.WellFormed.{IsWellFormed}
+use Rattle.quiesce_core.proofs.Cycles.{map_or_true}
+use Rattle.quiesce_core.proofs.Places.{gate_place}
+use Rattle.quiesce_core.proofs.Soundness.{here_gone, slot_elsewhere}
+use Rattle.quiesce_core.proofs.RunLemmas.{runs_are_well_formed, runs_are_consistent}
+use Rattle.quiescence_laws.specs.Events.{removes}
+use Rattle.quiescence_laws.proofs.Configurations.{busy_made, owner_next}
+use Rattle.quiescence_laws.proofs.Induction.{IsNext, place, further, along, front_runs}
+use Rattle.quiescence_laws.proofs.Opened.{IsGoing, going}
+use Rattle.quiescence_laws.proofs.Stillness.{Concerns, IsStill, not_busy, none_called, none_begun, still_next}
+
+pub still_if : (s : State) (n : ℕ) → Settled s n → IsStill s n
+still_if s n h = record {
+  quiet = λ p c. ⊎_elim (λ (own : IsPortOf s.config n p). h.own p own) (λ (r : Reaches s.config n p). h.reaching p r) c;
+  services_nothing = h.services_nothing;
+}
+
+-- no transaction begins at a port that concerns a still node
+none_begins : (s : State) (e : Event) (n p k : ℕ) → IsWellFormed s → IsConsistent s → Legal s e → IsStill s n → Concerns s.config n p → is_begin_of p k e ≡ true → ⊥
+none_begins s (Begin q j v) n p k w t l h c e =
+    let same = eqb-true q p (and_parts (q == p) (j == k) e).0 in none_begun s n q h (subst (λ i. Concerns s.config n i) (sym same) c) l.opened
+none_begins s (Call q j v) n p k w t l h c e =
+    let same = eqb-true q p (and_parts (q == p) (j == k) e).0 in none_called s n q w t h (subst (λ i. Concerns s.config n i) (sym same) c) l.live l.serves_through
+none_begins s (Miss q) n p k w t l h c e = both_ways false refl e
+none_begins s (Take q j v) n p k w t l h c e = both_ways false refl e
+none_begins s (Give q j v) n p k w t l h c e = both_ways false refl e
+none_begins s (More q j v) n p k w t l h c e = both_ways false refl e
+none_begins s (Ask q j v) n p k w t l h c e = both_ways false refl e
+none_begins s (Hear q j v) n p k w t l h c e = both_ways false refl e
+none_begins s (End q j v) n p k w t l h c e = both_ways false refl e
+none_begins s (Close q) n p k w t l h c e = both_ways false refl e
+none_begins s (Reopen q) n p k w t l h c e = both_ways false refl e
+none_begins s (Make m node from) n p k w t l h c e = both_ways false refl e
+none_begins s (Link q m x) n p k w t l h c e = both_ways false refl e
+none_begins s (Unlink q) n p k w t l h c e = both_ways false refl e
+none_begins s (Remove m) n p k w t l h c e = both_ways false refl e
+
+-- the port of a begin or a call was made
+begun_made : (s : State) (e : Event) (p k : ℕ) → Legal s e → is_begin_of p k e ≡ true → p < length s.config.gates
+begun_made s (Begin q j v) p k l e = subst (λ i. i < length s.config.gates) (eqb-true q p (and_parts (q == p) (j == k) e).0) (gate_place s q l.live)
+begun_made s (Call q j v) p k l e = subst (λ i. i < length s.config.gates) (eqb-true q p (and_parts (q == p) (j == k) e).0) (gate_place s q l.live)
+begun_made s (Miss q) p k l e = absurd (both_ways false refl e)
+begun_made s (Take q j v) p k l e = absurd (both_ways false refl e)
+begun_made s (Give q j v) p k l e = absurd (both_ways false refl e)
+begun_made s (More q j v) p k l e = absurd (both_ways false refl e)
+begun_made s (Ask q j v) p k l e = absurd (both_ways false refl e)
+begun_made s (Hear q j v) p k l e = absurd (both_ways false refl e)
+begun_made s (End q j v) p k l e = absurd (both_ways false refl e)
+begun_made s (Close q) p k l e = absurd (both_ways false refl e)
+begun_made s (Reopen q) p k l e = absurd (both_ways false refl e)
+begun_made s (Make m node from) p k l e = absurd (both_ways false refl e)
+begun_made s (Link q m x) p k l e = absurd (both_ways false refl e)
+begun_made s (Unlink q) p k l e = absurd (both_ways false refl e)
+begun_made s (Remove m) p k l e = absurd (both_ways false refl e)
+
+-- a member of two lists, one behind the other, stands in the first or in the second
+pub record IsEarly (xs before : List Event) (e : Event) : Type 0 where
+  pub rest : List Event
+  pub parts : xs ≡ before ++ e ∷ rest
+
+pub record IsLate (xs ys before : List Event) (e : Event) (after : List Event) : Type 0 where
+  pub middle : List Event
+  pub front : before ≡ xs ++ middle
+  pub parts : ys ≡ middle ++ e ∷ after
+
+stands : (xs ys before : List Event) (e : Event) (after : List Event) → xs ++ ys ≡ before ++ e ∷ after → IsEarly xs before e ⊎ IsLate xs ys before e after
+stands [] ys before e after h = inr (record { middle = before; front = refl; parts = h })
+stands (x ∷ xs) ys [] e after h = let same : x ≡ e = cc in inl (record { rest = xs; parts = ap (λ y. y ∷ xs) same })
+stands (x ∷ xs) ys (y ∷ before) e after h =
+    let same : x ≡ y = cc in
+    let tails : xs ++ ys ≡ before ++ e ∷ after = cc in
+    ⊎_elim
+    (λ (w : IsEarly xs before e). inl (record { rest = w.rest; parts = ap (λ z. z ∷ xs) same ∙ ap (λ zs. y ∷ zs) w.parts }))
+    (λ (w : IsLate xs ys before e after). inr (record { middle = w.middle; front = ap (λ zs. y ∷ zs) w.front ∙ ap (λ z. z ∷ (xs ++ w.middle)) (sym same); parts = w.parts }))
+    (stands xs ys before e after tails)
+
+-- a transaction that was begun in a run and not ended there goes on
+going_in : (es : List Event) (p k : ℕ) (before after : List Event) (e : Event) → IsRun es → es ≡ before ++ e ∷ after → is_begin_of p k e ≡ true → list_any (is_end_of p k) es ≡ false
+    → IsGoing (state_after before) (state_after es) p k
+going_in es p k before after e run parts begins unended =
+    let all_ : list_any (is_end_of p k) (before ++ e ∷ after) ≡ false = sym (ap (λ xs. list_any (is_end_of p k) xs) parts) ∙ unended in
+    let behind = (or_parts (list_any (is_end_of p k) before) (list_any (is_end_of p k) (e ∷ after)) (sym (list_any-append (is_end_of p k) before (e ∷ after)) ∙ all_)).1 in
+    subst (λ xs. IsGoing (state_after before) (state_after xs) p k) (sym parts)
+    (going before after e p k (subst (λ xs. IsRun xs) parts run) begins (or_parts (is_end_of p k e) (list_any (is_end_of p k) after) behind).1)
+
+node_of : (o : Option Target) (n : ℕ) → option_map (λ (t : Target). t.node) o ≡ Some n → (x : ℕ) × (o ≡ Some (record { node = n; provide = x }))
+node_of None n h = absurd (cc)
+node_of (Some t) n h = let same : t.node ≡ n = cc in (t.provide, ap (λ i. Some (record { node = i; provide = t.provide })) same)
+
+-- a port that leads to a node concerns it
+leading : (c : Configuration) (n p : ℕ) → option_map (λ (t : Target). t.node) (target c p) ≡ Some n → Concerns c n p
+leading c n p h = let w = node_of (target c p) n h in inr (reach.direct p w.0 w.1)
+
+module _ (es : List Event) (n : ℕ) (run : IsRun es) (h : Settled (state_after es) n) where
+  -- what is known where an event stands behind the run
+  still_at : (before after : List Event) (e : Event) → Continues es (before ++ e ∷ after) → IsNext (es ++ before) e × IsStill (state_after (es ++ before)) n
+  still_at before after e c =
+      let whole : IsRun ((es ++ before) ++ e ∷ after) = subst (λ xs. IsRun xs) (sym (append_assoc es before (e ∷ after))) c.runs in
+      let closed_ = (or_parts (list_any is_opening before) (list_any is_opening (e ∷ after)) (sym (list_any-append is_opening before (e ∷ after)) ∙ c.closed)).0 in (
+        place (es ++ before) after e whole,
+        along (λ xs. IsStill (state_after xs) n) is_opening
+            (λ xs x here free still. subst (λ s. IsStill s n) (sym here.next) (still_next (state_after xs) x n here.well here.traffic here.legal free still))
+            es before (front_runs (es ++ before) (e ∷ after) whole) closed_ (still_if (state_after es) n h),
+      )
+
+  owner_at : (before after : List Event) (e : Event) (p : ℕ) → Continues es (before ++ e ∷ after) → owner (state_after (es ++ before)).config p ≡ owner (state_after es).config p
+  owner_at before after e p c =
+      let whole : IsRun ((es ++ before) ++ e ∷ after) = subst (λ xs. IsRun xs) (sym (append_assoc es before (e ∷ after))) c.runs in
+      let closed_ = (or_parts (list_any is_opening before) (list_any is_opening (e ∷ after)) (sym (list_any-append is_opening before (e ∷ after)) ∙ c.closed)).0 in
+      along (λ xs. owner (state_after xs).config p ≡ owner (state_after es).config p) is_opening
+      (λ xs x here free same. ap (λ s. owner s.config p) here.next ∙ owner_next (state_after xs) x here.well here.legal p (inl free) ∙ same)
+      es before (front_runs (es ++ before) (e ∷ after) whole) closed_ refl
+
+  none_initiated : (p k : ℕ) (b : Begun es p k) → is_open_after es p k ≡ true → initiator es p k b ≡ n → ⊥
+  none_initiated p k b opened mine =
+      let going_ = going_in es p k b.before b.after b.event run b.parts b.begins (not-true (list_any (is_end_of p k) es) (and_parts (list_any (is_begin_of p k) es) (not (list_any (is_end_of p k) es)) opened).1) in
+      let made = busy_made (state_after es) p (runs_are_consistent es run) going_.opens.busy in
+      let own = subst (λ i. IsPortOf (state_after es).config i p) (going_.owner ∙ mine) ((runs_are_well_formed es run).sound.ports p made) in
+      not_busy (state_after es) n p (still_if (state_after es) n h) (inl own) going_.opens.busy
+
+  none_begins_of : (more_ : List Event) → Continues es more_ → (p k : ℕ) (b : Begun more_ p k) → owner (state_after es).config p ≡ n → ⊥
+  none_begins_of more_ c p k b mine =
+      let cont = subst (λ xs. Continues es xs) b.parts c in
+      let at = still_at b.before b.after b.event cont in
+      let s = state_after (es ++ b.before) in
+      let made = begun_made s b.event p k at.0.legal b.begins in
+      let own = subst (λ i. IsPortOf s.config i p) (owner_at b.before b.after b.event p cont ∙ mine) (at.0.well.sound.ports p made) in
+      none_begins s b.event n p k at.0.well at.0.traffic at.0.legal at.1 (inl own) b.begins
+
+  none_targets : (more_ : List Event) → Continues es more_ → (p k : ℕ) (b : Begun (es ++ more_) p k) → list_any (is_end_of p k) es ≡ false → target_at_begin (es ++ more_) p k b ≡ Some n → ⊥
+  none_targets more_ c p k b unended to = ⊎_elim
+      (λ (w : IsEarly es b.before b.event).
+      let going_ = going_in es p k b.before w.rest b.event run w.parts b.begins unended in
+      not_busy (state_after es) n p (still_if (state_after es) n h)
+      (leading (state_after es).config n p (ap (λ o. option_map (λ (t : Target). t.node) o) going_.target ∙ to)) going_.opens.busy)
+      (λ (w : IsLate es more_ b.before b.event b.after).
+      let at = still_at w.middle b.after b.event (subst (λ xs. Continues es xs) w.parts c) in
+      let s = state_after (es ++ w.middle) in
+      none_begins s b.event n p k at.0.well at.0.traffic at.0.legal at.1
+      (leading s.config n p (sym (ap (λ xs. option_map (λ (t : Target). t.node) (target (state_after xs).config p)) w.front) ∙ to)) b.begins)
+      (stands es more_ b.before b.event b.after b.parts)
+
+  pub quiescent : Quiescent es n
+  quiescent = record {
+    live = h.live;
+    initiated_none = none_initiated;
+    begins_none = none_begins_of;
+    services_nothing = h.services_nothing;
+    targets_none = none_targets;
+  }
+
+-- whether a node is live after an event that opens nothing
+and_true : (b : Bool) → (b && true) ≡ b
+and_true true = refl
+and_true false = refl
+
+live_next : (s : State) (e : Event) (n : ℕ) → Legal s e → is_opening e ≡ false → is_live (effect s e).config n ≡ (is_live s.config n && not (removes n e))
+live_next s (Begin p k v) n l h = sym (and_true (is_live s.config n))
+live_next s (Call p k v) n l h = sym (and_true (is_live s.config n))
+live_next s (Miss p) n l h = sym (and_true (is_live s.config n))
+live_next s (Take p k v) n l h = sym (and_true (is_live s.config n))
+live_next s (Give p k v) n l h = sym (and_true (is_live s.config n))
+live_next s (More p k v) n l h = sym (and_true (is_live s.config n))
+live_next s (Ask p k v) n l h = sym (and_true (is_live s.config n))
+live_next s (Hear p k v) n l h = sym (and_true (is_live s.config n))
+live_next s (End p k v) n l h = sym (and_true (is_live s.config n))
+live_next s (Close p) n l h = sym (and_true (is_live s.config n))
+live_next s (Reopen p) n l h = absurd (both_ways true h refl)
+live_next s (Make m node from) n l h = absurd (both_ways true h refl)
+live_next s (Link p m x) n l h = absurd (both_ways true h refl)
+live_next s (Unlink p) n l h = sym (and_true (is_live s.config n))
+live_next s (Remove m) n l h =
+    let old = map_or_true (λ (x : Slot). x.live) (slot s.config m) l.live in
+    let c = s.config in
+    let after = ap (λ o. option_map_or (λ (x : Slot). x.live) (slice_get (option_map_or (λ (x : Slot). set c.slots m (record x { live = false })) o c.slots) n) false) old.1 in
+    after ∙ ⊎_elim
+    (λ (same : n ≡ m).
+    let gone : option_map_or (λ (x : Slot). x.live) (slice_get (set c.slots m (record old.0 { live = false })) n) false ≡ false =
+    ap (λ i. option_map_or (λ (x : Slot). x.live) (slice_get (set c.slots m (record old.0 { live = false })) i) false) same ∙ ap (λ o. option_map_or (λ (x : Slot). x.live) o false) (here_gone c m old.0 old.1) in
+    let it : (m == n) ≡ true = eq-eqb m n (sym same) in
+    gone ∙ sym (ap (λ b. is_live c n && not b) it ∙ and_false (is_live c n)))
+    (λ (other : n ≡ m → ⊥).
+    let kept : option_map_or (λ (x : Slot). x.live) (slice_get (set c.slots m (record old.0 { live = false })) n) false ≡ is_live c n =
+    ap (λ o. option_map_or (λ (x : Slot). x.live) o false) (slot_elsewhere c m old.0 old.1 n other) in
+    let it : (m == n) ≡ false = ne_eqb m n (λ e. other (sym e)) in
+    kept ∙ sym (ap (λ b. is_live c n && not b) it ∙ and_true (is_live c n)))
+    (cases_eq n m)
+  where
+    and_false : (b : Bool) → (b && false) ≡ false
+    and_false true = refl
+    and_false false = refl
+
+neither : (a b : Bool) → (not a && not b) ≡ not (a || (b || false))
+neither true true = refl
+neither true false = refl
+neither false true = refl
+neither false false = refl
+
+-- a node that is settled after a run is settled as long as no gate is opened, no link is made and it isn't removed
+pub stays_settled : (es more_ : List Event) (n : ℕ) → Settled (state_after es) n → Continues es more_ → Settled (state_after (es ++ more_)) n ↔ (list_any (removes n) more_ ≡ false)
+stays_settled es more_ n h c =
+    let live = further es (λ xs. is_live (state_after (es ++ xs)).config n ≡ not (list_any (removes n) xs)) is_opening
+    (λ xs e here free so_far.
+    ap (λ ys. is_live (state_after ys).config n) (sym (append_assoc es xs (e ∷ []))) ∙ ap (λ s. is_live s.config n) here.next ∙ live_next (state_after (es ++ xs)) e n here.legal free
+    ∙ ap (λ b. b && not (removes n e)) so_far ∙ neither (list_any (removes n) xs) (removes n e) ∙ ap (λ b. not b) (sym (list_any-append (removes n) xs (e ∷ []))))
+    more_ c.runs c.closed (ap (λ ys. is_live (state_after ys).config n) (append-nil es) ∙ h.live) in
+    let still = along (λ xs. IsStill (state_after xs) n) is_opening
+    (λ xs x here free still. subst (λ s. IsStill s n) (sym here.next) (still_next (state_after xs) x n here.well here.traffic here.legal free still))
+    es more_ c.runs c.closed (still_if (state_after es) n h) in (
+      (λ settled. not-true (list_any (removes n) more_) (sym live ∙ settled.live)),
+      (λ unremoved. record {
+        live = live ∙ ap (λ b. not b) unremoved;
+        own = λ p own. still.quiet p (inl own);
+        services_nothing = still.services_nothing;
+        reaching = λ p r. still.quiet p (inr r);
+      }),
+    )

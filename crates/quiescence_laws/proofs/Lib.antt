@@ -1,0 +1,7 @@
+mod Behind
+mod Induction
+mod Configurations
+mod Stillness
+mod Opened
+mod FourConditions
+mod RootLemmas

@@ -1,0 +1,40 @@
+-- Tests of single events.
+use Rattle.std.specs.Prelude.{ℕ, Bool, false, ◌&&◌, ◌==◌}
+use Rattle.quiesce_core.specs.declared.event.Event.{Event}
+use Rattle.quiesce_core.specs.declared.event.Event.TheVariants.{Take, Give, End, More, Ask, Hear, Reopen, Remove}
+
+-- whether an event removes node n
+abbrev pub removes : ℕ → Event → Bool
+removes n (Remove m) = m == n
+removes n _ = false
+
+-- whether it reopens port p
+abbrev pub reopens : ℕ → Event → Bool
+reopens p (Reopen q) = q == p
+reopens p _ = false
+
+-- whether it ends a transaction of port p
+abbrev pub ends_at : ℕ → Event → Bool
+ends_at p (End q j v) = q == p
+ends_at p _ = false
+
+-- whether it is the Take of the transaction of port p with serial k, and so on
+abbrev pub is_take_of : ℕ → ℕ → Event → Bool
+is_take_of p k (Take q j v) = q == p && j == k
+is_take_of p k _ = false
+
+abbrev pub is_give_of : ℕ → ℕ → Event → Bool
+is_give_of p k (Give q j v) = q == p && j == k
+is_give_of p k _ = false
+
+abbrev pub is_more_of : ℕ → ℕ → Event → Bool
+is_more_of p k (More q j v) = q == p && j == k
+is_more_of p k _ = false
+
+abbrev pub is_ask_of : ℕ → ℕ → Event → Bool
+is_ask_of p k (Ask q j v) = q == p && j == k
+is_ask_of p k _ = false
+
+abbrev pub is_hear_of : ℕ → ℕ → Event → Bool
+is_hear_of p k (Hear q j v) = q == p && j == k
+is_hear_of p k _ = false

@@ -1,0 +1,9 @@
+//! Laws of runs of the change machine: why it is enough to close the gates of an enlarged passive set and to wait (Kramer and
+//! Magee, The evolving philosophers problem: dynamic change management, 1990), and in which order the events of a transaction come.
+#![tactic(auto)]
+
+mod quiescence;
+mod roots;
+
+pub use quiescence::{settled_nodes_are_quiescent, settled_nodes_stay_settled};
+pub use roots::roots_at_closed_ports_are_old;

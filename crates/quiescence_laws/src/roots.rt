@@ -1,0 +1,18 @@
+//! What a look at a closed port tells of the time since it was closed.
+
+ghost use Rattle.std.specs.Prelude.{◌≡◌, ℕ, false, List, ◌∷◌, ◌++◌, IsTrue};
+ghost use Rattle.std.specs.List.{list_any};
+ghost use Rattle.quiesce_core.specs.declared.event.Event.{Event};
+ghost use Rattle.quiesce_core.specs.declared.event.Event.TheVariants.{Close};
+ghost use Rattle.quiesce_core.specs.Runs.{IsRun, state_after};
+ghost use Rattle.quiescence_laws.specs.Events.{reopens};
+ghost use Rattle.quiescence_laws.specs.Roots.{has_root};
+
+/// Where a port has an open root and was closed before and not reopened since, the port had this root, open, at every place since
+/// it was closed, and when it was closed.
+pub fn roots_at_closed_ports_are_old()
+    ensures since { (before between after : List Event) (p k : ℕ) → IsRun (before ++ Close p ∷ between ++ after) → list_any (reopens p) (between ++ after) ≡ false →
+        IsTrue (has_root (state_after (before ++ Close p ∷ between ++ after)) p k) → IsTrue (has_root (state_after (before ++ Close p ∷ between)) p k) }
+    ensures when_closed { (before after : List Event) (p k : ℕ) → IsRun (before ++ Close p ∷ after) → list_any (reopens p) after ≡ false →
+        IsTrue (has_root (state_after (before ++ Close p ∷ after)) p k) → IsTrue (has_root (state_after before) p k) }
+{}
