@@ -5,3 +5,4 @@ mod Stillness
 mod Opened
 mod FourConditions
 mod RootLemmas
+mod Serials

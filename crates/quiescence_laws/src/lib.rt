@@ -4,6 +4,8 @@
 
 mod quiescence;
 mod roots;
+mod transactions;
 
 pub use quiescence::{settled_nodes_are_quiescent, settled_nodes_stay_settled};
 pub use roots::roots_at_closed_ports_are_old;
+pub use transactions::ends_make_the_serial;
