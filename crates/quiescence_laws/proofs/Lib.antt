@@ -6,3 +6,5 @@ mod Opened
 mod FourConditions
 mod RootLemmas
 mod Serials
+mod Hearing
+mod CourseLemmas

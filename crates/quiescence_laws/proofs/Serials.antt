@@ -63,7 +63,7 @@ closed n d x y was idle serial one h =
     let e = when_busy n x h was in
     record { count = ap (λ b. n + d + cond b 0 1) idle ∙ omega arith }
 
-next_serial : (s : State) (p k : ℕ) → (k == (exchange s p).serial + 1 && nat_le k 16777215) ≡ true → k ≡ (exchange s p).serial + 1
+pub next_serial : (s : State) (p k : ℕ) → (k == (exchange s p).serial + 1 && nat_le k 16777215) ≡ true → k ≡ (exchange s p).serial + 1
 next_serial s p k h = eqb-true k ((exchange s p).serial + 1) (and_parts (k == (exchange s p).serial + 1) (nat_le k 16777215) h).0
 
 tally_next : (s : State) (e : Event) (p n : ℕ) → IsWellFormed s → IsConsistent s → Legal s e → IsTallied n (exchange s p) → IsTallied (n + cond (ends_at p e) 1 0) (exchange (effect s e) p)
@@ -92,15 +92,19 @@ tally_next s (Link q m x) p n w t l h = none_more n (exchange s p) h
 tally_next s (Unlink q) p n w t l h = none_more n (exchange s p) h
 tally_next s (Remove m) p n w t l h = none_more n (exchange s p) h
 
+pub tallied_next : (p : ℕ) (xs : List Event) (e : Event) → IsNext xs e → IsTallied (count_by (ends_at p) xs) (exchange (state_after xs) p)
+    → IsTallied (count_by (ends_at p) (xs ++ e ∷ [])) (exchange (state_after (xs ++ e ∷ [])) p)
+tallied_next p xs e here h =
+    subst (λ i. IsTallied i (exchange (state_after (xs ++ e ∷ [])) p)) (sym (sum_by_push (λ x. cond (ends_at p x) 1 0) xs e))
+    (subst (λ s. IsTallied (count_by (ends_at p) xs + cond (ends_at p e) 1 0) (exchange s p)) (sym here.next) (tally_next (state_after xs) e p (count_by (ends_at p) xs) here.well here.traffic here.legal h))
+
+pub tallied_empty : (p : ℕ) → IsTallied 0 (exchange (state_after []) p)
+tallied_empty p = record { count = refl }
+
 -- after every run
 pub tallied : (es : List Event) (p : ℕ) → IsRun es → IsTallied (count_by (ends_at p) es) (exchange (state_after es) p)
-tallied es p run =
-    always (λ xs. IsTallied (count_by (ends_at p) xs) (exchange (state_after xs) p))
-    (λ xs e here h.
-    subst (λ i. IsTallied i (exchange (state_after (xs ++ e ∷ [])) p)) (sym (sum_by_push (λ x. cond (ends_at p x) 1 0) xs e))
-    (subst (λ s. IsTallied (count_by (ends_at p) xs + cond (ends_at p e) 1 0) (exchange s p)) (sym here.next) (tally_next (state_after xs) e p (count_by (ends_at p) xs) here.well here.traffic here.legal h)))
-    (record { count = refl }) es run
+tallied es p run = always (λ xs. IsTallied (count_by (ends_at p) xs) (exchange (state_after xs) p)) (tallied_next p) (tallied_empty p) es run
 
 -- an open transaction has a serial above 0
-pub busy_serial : (es : List Event) (p : ℕ) → IsRun es → is_idle (exchange (state_after es) p).phase ≡ false → 1 ≤ (exchange (state_after es) p).serial
-busy_serial es p run busy = omega (arith, when_busy (count_by (ends_at p) es) (exchange (state_after es) p) (tallied es p run) busy)
+pub busy_serial : (n : ℕ) (x : Exchange) → IsTallied n x → is_idle x.phase ≡ false → 1 ≤ x.serial
+busy_serial n x h busy = omega (arith, when_busy n x h busy)

@@ -8,4 +8,4 @@ mod transactions;
 
 pub use quiescence::{settled_nodes_are_quiescent, settled_nodes_stay_settled};
 pub use roots::roots_at_closed_ports_are_old;
-pub use transactions::ends_make_the_serial;
+pub use transactions::{ends_make_the_serial, transactions_keep_their_course};

@@ -1,0 +1,315 @@
+-- The events of a transaction come in the order of its course.
+use Rattle.std.proofs.Common.{◌≡◌, ℕ, ◌+◌, ◌<◌, ◌≤◌, Bool, true, false, cond, not, ◌&&◌, ◌||◌, List, [], ◌∷◌, ◌++◌, length, get_or, set, Option, Some, None, refl, sym, ap, ◌∙◌, subst, ⊎_elim, arith, get_or-set_same, get_or-set_other}
+use Rattle.std.specs.Prelude.{◌==◌, nat_lt, nat_le, is_none, is_some, option_map, option_and_then}
+use Rattle.std.specs.List.{count_by, fold}
+use Rattle.std.specs.Option.{option_map_or}
+use Rattle.std.proofs.lemmas.Bool.{and_parts, both_ways, cases_eq, cases_lt, eqb-true, eq-eqb, ne_eqb, lt-ltb, le-ltb, not-true, or_right, or_left}
+use Rattle.std.proofs.lemmas.List.Sums.{fold_push}
+use Rattle.config_graph.specs.Kinds.{row}
+use Rattle.config_graph.specs.declared.node.Target.{Target}
+use Rattle.quiesce_core.specs.declared.event.Event.{Event}
+use Rattle.quiesce_core.specs.declared.event.Event.TheVariants.{Begin, Call, Take, Give, End, More, Ask, Hear, Miss, Close, Reopen, Make, Link, Unlink, Remove}
+use Rattle.quiesce_core.specs.declared.state.Exchange.{Exchange}
+use Rattle.quiesce_core.specs.declared.state.Service.{Service}
+use Rattle.quiesce_core.specs.declared.state.Phase.{Phase}
+use Rattle.quiesce_core.specs.declared.state.Phase.TheVariants as phase
+use Rattle.quiesce_core.specs.State.{State, fresh_exchange, owner, target, exchange, service, target_service}
+use Rattle.quiesce_core.specs.Phases.{is_idle, is_asked, is_in_more}
+use Rattle.quiesce_core.specs.Effect.{effect}
+use Rattle.quiesce_core.specs.Legal.{Legal}
+use Rattle.quiesce_core.specs.Rules.{is_linked, is_taken}
+use Rattle.quiesce_core.specs.Runs.{IsRun, state_after}
+use Rattle.quiesce_core.specs.Traffic.{IsConsistent}
+use Rattle.quiesce_core.specs.WellFormed.{IsWellFormed}
+use Rattle.quiesce_core.proofs.Places.{exchange_place, target_place}
+use Rattle.quiesce_core.proofs.TrafficLemmas.{asked_busy, more_busy, answered_busy, taken_is}
+use Rattle.quiescence_laws.specs.Events.{ends_at}
+use Rattle.quiescence_laws.specs.Courses.{Course, begun, taken, replied_to, asked, heard, given, closed, course_next, course_after, heard_at, course_in, course_of, course_at}
+use Rattle.quiescence_laws.specs.Courses as course
+use Rattle.quiescence_laws.proofs.Behind.{fresh_behind}
+use Rattle.quiescence_laws.proofs.Configurations.{target_next}
+use Rattle.quiescence_laws.proofs.Induction.{IsNext, always}
+use Rattle.quiescence_laws.proofs.Serials.{IsTallied, next_serial, tallied_next, tallied_empty, busy_serial}
+use Rattle.quiescence_laws.proofs.Stillness.{taken_busy}
+use Rattle.quiescence_laws.proofs.Hearing.{hears, idle_is, asked_is, answered_is, more_is, target_given, call_given, given_here, untaken, idle_unheard, taken_hears, taken_service, taken_heard, others_unheard, others_unheard_after, heard_asked, more_unheard, heard_apart}
+
+-- what is said of one serial
+
+pub course_behind : (n : ℕ) (c : Course) (k : ℕ) → n < k → course_of n c k ≡ course.unbegun
+course_behind n c k h = ap (λ b. cond b course.unbegun (cond (nat_lt k n) course.ended c)) (or_right (k == 0) (nat_lt n k) (lt-ltb n k h))
+
+pub course_zero : (n : ℕ) (c : Course) (k : ℕ) → k ≡ 0 → course_of n c k ≡ course.unbegun
+course_zero n c k h = ap (λ b. cond b course.unbegun (cond (nat_lt k n) course.ended c)) (or_left (k == 0) (nat_lt n k) (eq-eqb k 0 h))
+
+named_serial : (n k : ℕ) → 1 ≤ k → k ≤ n → (k == 0 || nat_lt n k) ≡ false
+named_serial n k one within = ap (λ b. b || nat_lt n k) (ne_eqb k 0 (λ e. omega arith)) ∙ le-ltb n k within
+
+pub course_before : (n : ℕ) (c : Course) (k : ℕ) → 1 ≤ k → k < n → course_of n c k ≡ course.ended
+course_before n c k one h =
+    ap (λ b. cond b course.unbegun (cond (nat_lt k n) course.ended c)) (named_serial n k one (omega arith)) ∙ ap (λ b. cond b course.ended c) (lt-ltb k n h)
+
+pub course_here : (n : ℕ) (c : Course) (k : ℕ) → 1 ≤ n → n ≡ k → course_of n c k ≡ c
+course_here n c k one same =
+    ap (λ b. cond b course.unbegun (cond (nat_lt k n) course.ended c)) (named_serial n k (omega arith) (omega arith)) ∙ ap (λ b. cond b course.ended c) (le-ltb k n (omega arith))
+
+-- the last course matters for the last serial alone
+course_apart : (n : ℕ) (c d : Course) (k : ℕ) → (n ≡ k → ⊥) → course_of n c k ≡ course_of n d k
+course_apart n c d k other = ⊎_elim
+    (λ (h : n < k). course_behind n c k h ∙ sym (course_behind n d k h))
+    (λ (h : k ≤ n).
+    let less : k < n = omega (arith, other) in
+    ap (λ b. cond (k == 0 || nat_lt n k) course.unbegun (cond b course.ended c)) (lt-ltb k n less)
+    ∙ sym (ap (λ b. cond (k == 0 || nat_lt n k) course.unbegun (cond b course.ended d)) (lt-ltb k n less)))
+    (cases_lt n k)
+
+-- an event of the last transaction of a port leads it on
+leads_on : (f : Course → Option Course) (n k : ℕ) (b : Bool) (c d : Course) → 1 ≤ n → f c ≡ Some d → b ≡ (n == k) → cond b (f (course_of n c k)) (Some (course_of n c k)) ≡ Some (course_of n d k)
+leads_on f n k b c d one e is_b = ⊎_elim
+    (λ (same : n ≡ k).
+    ap (λ x. cond x (f (course_of n c k)) (Some (course_of n c k))) (is_b ∙ eq-eqb n k same) ∙ ap f (course_here n c k one same) ∙ e ∙ ap Some (sym (course_here n d k one same)))
+    (λ (other : n ≡ k → ⊥).
+    ap (λ x. cond x (f (course_of n c k)) (Some (course_of n c k))) (is_b ∙ ne_eqb n k other) ∙ ap Some (course_apart n c d k other))
+    (cases_eq n k)
+
+-- a new one is begun
+begins_new : (n j k : ℕ) (b : Bool) → j ≡ n + 1 → b ≡ (j == k) → cond b (begun (course_of n course.ended k)) (Some (course_of n course.ended k)) ≡ Some (course_of j course.waiting k)
+begins_new n j k b next is_b = ⊎_elim
+    (λ (same : j ≡ k).
+    ap (λ x. cond x (begun (course_of n course.ended k)) (Some (course_of n course.ended k))) (is_b ∙ eq-eqb j k same)
+    ∙ ap begun (course_behind n course.ended k (omega arith)) ∙ ap Some (sym (course_here j course.waiting k (omega arith) same)))
+    (λ (other : j ≡ k → ⊥).
+    ap (λ x. cond x (begun (course_of n course.ended k)) (Some (course_of n course.ended k))) (is_b ∙ ne_eqb j k other) ∙ ap Some (unmoved other))
+    (cases_eq j k)
+  where
+    unmoved : (j ≡ k → ⊥) → course_of n course.ended k ≡ course_of j course.waiting k
+    unmoved other = ⊎_elim
+        (λ (h : n < k). course_behind n course.ended k h ∙ sym (course_behind j course.waiting k (omega (arith, other))))
+        (λ (h : k ≤ n). ⊎_elim
+        (λ (zero_ : k ≡ 0). course_zero n course.ended k zero_ ∙ sym (course_zero j course.waiting k zero_))
+        (λ (above : k ≡ 0 → ⊥). ended_within (omega (arith, above)) h ∙ sym (course_before j course.waiting k (omega (arith, above)) (omega arith)))
+        (cases_eq k 0))
+        (cases_lt n k)
+      where
+        ended_within : 1 ≤ k → k ≤ n → course_of n course.ended k ≡ course.ended
+        ended_within one h = ⊎_elim
+            (λ (less : k < n). course_before n course.ended k one less)
+            (λ (ge : n ≤ k). course_here n course.ended k (omega arith) (omega arith))
+            (cases_lt k n)
+
+-- what an event leads a course to
+abbrev StepsTo : State → Event → ℕ → ℕ → Type 0
+StepsTo s e p k = course_next p k (course_at s p k) e ≡ Some (course_at (effect s e) p k)
+
+course_in_same : (f : Phase) (g h : Option Bool) → (is_idle f ≡ false → g ≡ h) → course_in f g ≡ course_in f h
+course_in_same phase.Idle g h e = refl
+course_in_same phase.Asked g h e = ap (λ x. course_in phase.Asked x) (e refl)
+course_in_same phase.Answered g h e = refl
+course_in_same phase.More g h e = refl
+
+-- nothing changes at the port
+course_same : (s s' : State) (p k : ℕ) → exchange s' p ≡ exchange s p → (is_idle (exchange s p).phase ≡ false → heard_at s' p ≡ heard_at s p) → course_at s' p k ≡ course_at s p k
+course_same s s' p k x h =
+    ap (λ (y : Exchange). course_of y.serial (course_in y.phase (heard_at s' p)) k) x
+    ∙ ap (λ c. course_of (exchange s p).serial c k) (course_in_same (exchange s p).phase (heard_at s' p) (heard_at s p) h)
+
+-- an event of another port
+of_another : (f : Course → Option Course) (q p j k : ℕ) (c d : Course) → (p ≡ q → ⊥) → d ≡ c → cond (q == p && j == k) (f c) (Some c) ≡ Some d
+of_another f q p j k c d other same = ap (λ b. cond (b && j == k) (f c) (Some c)) (ne_eqb q p (λ e. other (sym e))) ∙ ap Some (sym same)
+
+its_own : (q j k n : ℕ) → j ≡ n → (q == q && j == k) ≡ (n == k)
+its_own q j k n same = ap (λ b. b && j == k) (eq-eqb q q refl) ∙ ap (λ i. i == k) same
+
+-- an event of the port's last transaction
+of_its_own : (f : Course → Option Course) (s s' : State) (q j k : ℕ) (c d : Course) → 1 ≤ (exchange s q).serial → j ≡ (exchange s q).serial → (exchange s' q).serial ≡ (exchange s q).serial
+    → course_in (exchange s q).phase (heard_at s q) ≡ c → course_in (exchange s' q).phase (heard_at s' q) ≡ d → f c ≡ Some d
+    → cond (q == q && j == k) (f (course_at s q k)) (Some (course_at s q k)) ≡ Some (course_at s' q k)
+of_its_own f s s' q j k c d one serial kept was is e =
+    let n = (exchange s q).serial in
+    ap (λ x. cond (q == q && j == k) (f (course_of n x k)) (Some (course_of n x k))) was
+    ∙ leads_on f n k (q == q && j == k) c d one e (its_own q j k n serial)
+    ∙ ap (λ x. Some (course_of n x k)) (sym is) ∙ ap (λ i. Some (course_of i (course_in (exchange s' q).phase (heard_at s' q)) k)) (sym kept)
+
+none_is : (v : Option Service) → is_none v ≡ true → v ≡ None
+none_is None h = refl
+none_is (Some v) h = absurd (both_ways false refl h)
+
+some_is : (o : Option Target) → is_some o ≡ true → (t : Target) × (o ≡ Some t)
+some_is None h = absurd (both_ways false refl h)
+some_is (Some t) h = (t, refl)
+
+module _ (s : State) (w : IsWellFormed s) (t : IsConsistent s) (positive : (p : ℕ) → is_idle (exchange s p).phase ≡ false → 1 ≤ (exchange s p).serial) where
+  -- an event of one port steps both its own course and those of the others
+  either : (e : Event) (q p k : ℕ) → ((p ≡ q → ⊥) → StepsTo s e p k) → StepsTo s e q k → StepsTo s e p k
+  either e q p k there here = ⊎_elim
+      (λ (same : p ≡ q). subst (λ i. StepsTo s e i k) (sym same) here)
+      (λ (other : p ≡ q → ⊥). there other)
+      (cases_eq p q)
+
+  exchanged : (q : ℕ) (x : Exchange) → q < length s.traffic.exchanges → get_or (set s.traffic.exchanges q x) q fresh_exchange ≡ x
+  exchanged q x within = get_or-set_same s.traffic.exchanges q x fresh_exchange within
+
+  unexchanged : (q p : ℕ) (x : Exchange) → (p ≡ q → ⊥) → get_or (set s.traffic.exchanges q x) p fresh_exchange ≡ exchange s p
+  unexchanged q p x other = get_or-set_other s.traffic.exchanges q p x fresh_exchange other
+
+  new_course : (s' : State) (q j v k : ℕ) (within : Option ℕ) → is_idle (exchange s q).phase ≡ true → j ≡ (exchange s q).serial + 1
+      → exchange s' q ≡ record { phase = phase.Asked; serial = j; value = v; within = within } → heard_at s' q ≡ heard_at s q
+      → cond (q == q && j == k) (begun (course_at s q k)) (Some (course_at s q k)) ≡ Some (course_at s' q k)
+  new_course s' q j v k within idle next x h =
+      let n = (exchange s q).serial in
+      let was : course_in (exchange s q).phase (heard_at s q) ≡ course.ended = ap (λ f. course_in f (heard_at s q)) (idle_is (exchange s q).phase idle) in
+      ap (λ c. cond (q == q && j == k) (begun (course_of n c k)) (Some (course_of n c k))) was
+      ∙ begins_new n j k (q == q && j == k) next (its_own q j k j refl)
+      ∙ ap (λ g. Some (course_of j (course_in phase.Asked g) k)) (sym (h ∙ idle_unheard s q t idle))
+      ∙ ap (λ (y : Exchange). Some (course_of y.serial (course_in y.phase (heard_at s' q)) k)) (sym x)
+
+  begin_steps : (q j v p k : ℕ) → Legal s (Begin q j v) → StepsTo s (Begin q j v) p k
+  begin_steps q j v p k l =
+      let s' = effect s (Begin q j v) in
+      either (Begin q j v) q p k
+      (λ other. of_another begun q p j k (course_at s p k) (course_at s' p k) other (course_same s s' p k (unexchanged q p _ other) (λ busy. refl)))
+      (new_course s' q j v k None l.idle (next_serial s q j l.next_serial) (exchanged q _ (exchange_place s q w l.live)) refl)
+
+  call_steps : (q j v p k : ℕ) → Legal s (Call q j v) → StepsTo s (Call q j v) p k
+  call_steps q j v p k l =
+      let s' = effect s (Call q j v) in
+      either (Call q j v) q p k
+      (λ other. of_another begun q p j k (course_at s p k) (course_at s' p k) other (course_same s s' p k (unexchanged q p _ other) (λ busy. call_given s (owner s.config q) p)))
+      (new_course s' q j v k (option_map (λ (u : Service). u.port) (service s (owner s.config q))) l.idle (next_serial s q j l.next_serial) (exchanged q _ (exchange_place s q w l.live))
+      (call_given s (owner s.config q) q))
+
+  take_steps : (q j v p k : ℕ) → Legal s (Take q j v) → StepsTo s (Take q j v) p k
+  take_steps q j v p k l =
+      let s' = effect s (Take q j v) in
+      let busy = asked_busy (exchange s q).phase l.asked in
+      let to = some_is (target s.config q) (t.linked q busy) in
+      let is_asked_ = asked_is (exchange s q).phase l.asked in
+      let new_ : Service = record { port = q; calls = 0; mores = 0; heard = true } in
+      either (Take q j v) q p k
+      (λ other. of_another taken q p j k (course_at s p k) (course_at s' p k) other (course_same s s' p k refl (λ busy. target_given s q p (Some new_) (λ u e.
+      heard_apart p new_ (λ same. other (sym same))
+      ∙ sym (ap (λ o. hears p o) (sym (ap (λ o. option_and_then (λ (x : Target). service s x.node) o) e) ∙ none_is (target_service s q) l.free))))))
+      (of_its_own taken s s' q j k course.waiting course.serving (positive q busy) (eqb-true j (exchange s q).serial (and_parts (j == (exchange s q).serial) (v == (exchange s q).value) l.message).0) refl
+      (ap (λ f. course_in f (heard_at s q)) is_asked_ ∙ ap (λ g. course_in phase.Asked g) (untaken s q (not-true (is_taken s q) l.untaken)))
+      (ap (λ f. course_in f (heard_at s' q)) is_asked_ ∙ ap (λ g. course_in phase.Asked g) (given_here s q to.0 new_ to.1 (target_place s q to.0 w to.1) refl))
+      refl)
+
+  -- a port in whose service the last message was heard
+  heard_course : (q : ℕ) → is_taken s q ≡ true → option_map_or (λ (w : Service). w.heard) (target_service s q) false ≡ true → course_in (exchange s q).phase (heard_at s q) ≡ course.serving
+  heard_course q is_taken_ heard_ =
+      let u = taken_is s q is_taken_ in
+      let yes_ = sym (taken_heard s q u) ∙ heard_ in
+      ap (λ f. course_in f (heard_at s q)) (heard_asked s q u t yes_) ∙ ap (λ g. course_in phase.Asked g) (taken_hears s q u ∙ ap (λ b. Some b) yes_)
+
+  give_steps : (q j v p k : ℕ) → Legal s (Give q j v) → StepsTo s (Give q j v) p k
+  give_steps q j v p k l =
+      let s' = effect s (Give q j v) in
+      let u = taken_is s q l.taken in
+      let here = exchanged q (record (exchange s q) { phase = phase.Answered; value = v }) (exchange_place s q w l.live) in
+      either (Give q j v) q p k
+      (λ other. of_another given q p j k (course_at s p k) (course_at s' p k) other (course_same s s' p k (unexchanged q p _ other) (λ busy.
+      target_given s q p None (λ x e. sym (others_unheard s q p u (λ same. other (sym same)) x e)))))
+      (of_its_own given s s' q j k course.serving course.answered (positive q (taken_busy s q t l.taken)) (eqb-true j (exchange s q).serial l.serial) (ap (λ (y : Exchange). y.serial) here)
+      (heard_course q l.taken l.heard) (ap (λ (y : Exchange). course_in y.phase (heard_at s' q)) here) refl)
+
+  more_steps : (q j v p k : ℕ) → Legal s (More q j v) → StepsTo s (More q j v) p k
+  more_steps q j v p k l =
+      let s' = effect s (More q j v) in
+      let u = taken_is s q l.taken in
+      let f : Service → Service = λ x. record x { mores = x.mores + 1; heard = false } in
+      let here = exchanged q (record (exchange s q) { phase = phase.More; value = v }) (exchange_place s q w l.live) in
+      either (More q j v) q p k
+      (λ other. of_another replied_to q p j k (course_at s p k) (course_at s' p k) other (course_same s s' p k (unexchanged q p _ other) (λ busy.
+      target_given s q p (option_map f (target_service s q)) (λ x e. others_unheard_after s q p u f (λ y. refl) (λ same. other (sym same)) ∙ sym (others_unheard s q p u (λ same. other (sym same)) x e)))))
+      (of_its_own replied_to s s' q j k course.serving course.replied (positive q (taken_busy s q t l.taken)) (eqb-true j (exchange s q).serial l.serial) (ap (λ (y : Exchange). y.serial) here)
+      (heard_course q l.taken l.heard) (ap (λ (y : Exchange). course_in y.phase (heard_at s' q)) here) refl)
+
+  ask_steps : (q j v p k : ℕ) → Legal s (Ask q j v) → StepsTo s (Ask q j v) p k
+  ask_steps q j v p k l =
+      let s' = effect s (Ask q j v) in
+      let u = taken_is s q (t.taken q l.in_more) in
+      let here = exchanged q (record (exchange s q) { phase = phase.Asked; value = v }) (exchange_place s q w l.live) in
+      either (Ask q j v) q p k
+      (λ other. of_another asked q p j k (course_at s p k) (course_at s' p k) other (course_same s s' p k (unexchanged q p _ other) (λ busy. refl)))
+      (of_its_own asked s s' q j k course.replied course.prompted (positive q (more_busy (exchange s q).phase l.in_more)) (eqb-true j (exchange s q).serial l.serial) (ap (λ (y : Exchange). y.serial) here)
+      (ap (λ f. course_in f (heard_at s q)) (more_is (exchange s q).phase l.in_more))
+      (ap (λ (y : Exchange). course_in y.phase (heard_at s' q)) here ∙ ap (λ g. course_in phase.Asked g) (taken_hears s q u ∙ ap (λ b. Some b) (more_unheard s q u t l.in_more)))
+      refl)
+
+  hear_steps : (q j v p k : ℕ) → Legal s (Hear q j v) → StepsTo s (Hear q j v) p k
+  hear_steps q j v p k l =
+      let s' = effect s (Hear q j v) in
+      let u = taken_is s q l.taken in
+      let f : Service → Service = λ x. record x { heard = true } in
+      let is_asked_ = asked_is (exchange s q).phase l.asked in
+      let no_ : u.serving.heard ≡ false = sym (taken_heard s q u) ∙ not-true (option_map_or (λ (x : Service). x.heard) (target_service s q) false) l.unheard in
+      either (Hear q j v) q p k
+      (λ other. of_another heard q p j k (course_at s p k) (course_at s' p k) other (course_same s s' p k refl (λ busy.
+      target_given s q p (option_map f (target_service s q)) (λ x e. others_unheard_after s q p u f (λ y. refl) (λ same. other (sym same)) ∙ sym (others_unheard s q p u (λ same. other (sym same)) x e)))))
+      (of_its_own heard s s' q j k course.prompted course.serving (positive q (asked_busy (exchange s q).phase l.asked))
+      (eqb-true j (exchange s q).serial (and_parts (j == (exchange s q).serial) (v == (exchange s q).value) l.message).0) refl
+      (ap (λ f. course_in f (heard_at s q)) is_asked_ ∙ ap (λ g. course_in phase.Asked g) (taken_hears s q u ∙ ap (λ b. Some b) no_))
+      (ap (λ f. course_in f (heard_at s' q)) is_asked_
+      ∙ ap (λ o. course_in phase.Asked (option_and_then (λ (x : Target). hears q (get_or (option_map_or (λ (y : Target). set s.traffic.services y.node (option_map f o)) (target s.config q) s.traffic.services) x.node None)) (target s.config q))) (taken_service s q u)
+      ∙ ap (λ g. course_in phase.Asked g) (given_here s q u.to (f u.serving) u.leads (target_place s q u.to w u.leads) u.of_port))
+      refl)
+
+  end_steps : (q j v p k : ℕ) → Legal s (End q j v) → StepsTo s (End q j v) p k
+  end_steps q j v p k l =
+      let s' = effect s (End q j v) in
+      let here = exchanged q (record (exchange s q) { phase = phase.Idle; value = 0; within = None }) (exchange_place s q w l.live) in
+      either (End q j v) q p k
+      (λ other. of_another closed q p j k (course_at s p k) (course_at s' p k) other (course_same s s' p k (unexchanged q p _ other) (λ busy. refl)))
+      (of_its_own closed s s' q j k course.answered course.ended (positive q (answered_busy (exchange s q).phase l.answered))
+      (eqb-true j (exchange s q).serial (and_parts (j == (exchange s q).serial) (v == (exchange s q).value) l.message).0) (ap (λ (y : Exchange). y.serial) here)
+      (ap (λ f. course_in f (heard_at s q)) (answered_is (exchange s q).phase l.answered)) (ap (λ (y : Exchange). course_in y.phase (heard_at s' q)) here) refl)
+
+  -- an event that only the configuration tells
+  config_steps : (e : Event) (p k : ℕ) → Legal s e → exchange (effect s e) p ≡ exchange s p → ((m : ℕ) → service (effect s e) m ≡ service s m) → course_at (effect s e) p k ≡ course_at s p k
+  config_steps e p k l x services = course_same s (effect s e) p k x (λ busy.
+      ap (λ o. option_and_then (λ (u : Target). hears p (service (effect s e) u.node)) o) (target_next s e w t l p busy) ∙ over (target s.config p))
+    where
+      over : (o : Option Target) → option_and_then (λ (u : Target). hears p (service (effect s e) u.node)) o ≡ option_and_then (λ (u : Target). hears p (service s u.node)) o
+      over None = refl
+      over (Some u) = ap (λ v. hears p v) (services u.node)
+
+  pub steps_to : (e : Event) (p k : ℕ) → Legal s e → StepsTo s e p k
+  steps_to (Begin q j v) p k l = begin_steps q j v p k l
+  steps_to (Call q j v) p k l = call_steps q j v p k l
+  steps_to (Take q j v) p k l = take_steps q j v p k l
+  steps_to (Give q j v) p k l = give_steps q j v p k l
+  steps_to (End q j v) p k l = end_steps q j v p k l
+  steps_to (More q j v) p k l = more_steps q j v p k l
+  steps_to (Ask q j v) p k l = ask_steps q j v p k l
+  steps_to (Hear q j v) p k l = hear_steps q j v p k l
+  steps_to (Miss q) p k l = ap Some (sym (course_same s (effect s (Miss q)) p k refl (λ busy. call_given s (owner s.config q) p)))
+  steps_to (Close q) p k l = ap Some (sym (config_steps (Close q) p k l refl (λ m. refl)))
+  steps_to (Reopen q) p k l = ap Some (sym (config_steps (Reopen q) p k l refl (λ m. refl)))
+  steps_to (Make n node from) p k l =
+      ap Some (sym (config_steps (Make n node from) p k l (fresh_behind s.traffic.exchanges fresh_exchange (length (row node.kind).requires_) p) (λ m. fresh_behind s.traffic.services None 1 m)))
+  steps_to (Link q n x) p k l = ap Some (sym (config_steps (Link q n x) p k l refl (λ m. refl)))
+  steps_to (Unlink q) p k l = ap Some (sym (config_steps (Unlink q) p k l refl (λ m. refl)))
+  steps_to (Remove n) p k l = ap Some (sym (config_steps (Remove n) p k l refl (λ m. refl)))
+
+-- what is known of a port and a serial after a run
+record IsOnCourse (es : List Event) (p k : ℕ) : Type 0 where
+  tallied : (q : ℕ) → IsTallied (count_by (ends_at q) es) (exchange (state_after es) q)
+  is : course_after p k es ≡ Some (course_at (state_after es) p k)
+
+-- in every run a transaction keeps to its course, and the state tells it
+pub on_course : (es : List Event) (p k : ℕ) → IsRun es → course_after p k es ≡ Some (course_at (state_after es) p k)
+on_course es p k run =
+    (always (λ xs. IsOnCourse xs p k)
+    (λ xs e here h. record {
+      tallied = λ q. tallied_next q xs e here (h.tallied q);
+      is =
+          fold_push (λ c x. option_and_then (λ d. course_next p k d x) c) (Some course.unbegun) xs e ∙ ap (λ c. option_and_then (λ d. course_next p k d e) c) h.is
+          ∙ steps_to (state_after xs) here.well here.traffic (λ q busy. busy_serial (count_by (ends_at q) xs) (exchange (state_after xs) q) (h.tallied q) busy) e p k here.legal
+          ∙ ap (λ s. Some (course_at s p k)) (sym here.next);
+    })
+    (record { tallied = λ q. tallied_empty q; is = ap Some (sym (none_yet k)) }) es run).is
+  where
+    none_yet : (k : ℕ) → course_of 0 course.ended k ≡ course.unbegun
+    none_yet k = ⊎_elim
+        (λ (h : 0 < k). course_behind 0 course.ended k h)
+        (λ (h : k ≤ 0). course_zero 0 course.ended k (omega arith))
+        (cases_lt 0 k)
