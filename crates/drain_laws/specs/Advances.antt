@@ -1,0 +1,51 @@
+-- The events by which open transactions come nearer to their ends.
+use Rattle.std.specs.Prelude.{ℕ, Bool, true, false, Option, Some, None, option_map}
+use Rattle.quiesce_core.specs.declared.event.Event.{Event}
+use Rattle.quiesce_core.specs.declared.event.Event.TheVariants.{Begin, Call, Take, Give, End, More, Ask, Hear, Miss, Close, Reopen, Make, Link, Unlink, Remove}
+use Rattle.quiesce_core.specs.declared.state.Service.{Service}
+use Rattle.quiesce_core.specs.State.{State, owner, service}
+
+-- whether an event belongs to a transaction that is open: a node's event, but no Begin
+abbrev pub is_advance : Event → Bool
+is_advance (Take p k v) = true
+is_advance (Call p k v) = true
+is_advance (Miss p) = true
+is_advance (Give p k v) = true
+is_advance (End p k v) = true
+is_advance (More p k v) = true
+is_advance (Ask p k v) = true
+is_advance (Hear p k v) = true
+is_advance (Begin p k v) = false
+is_advance (Close p) = false
+is_advance (Reopen p) = false
+is_advance (Make n node from) = false
+is_advance (Link p n x) = false
+is_advance (Unlink p) = false
+is_advance (Remove n) = false
+
+abbrev pub is_link : Event → Bool
+is_link (Link p n x) = true
+is_link _ = false
+
+abbrev pub is_begin : Event → Bool
+is_begin (Begin p k v) = true
+is_begin _ = false
+
+-- The port whose transaction such an event belongs to. A Call or a Miss belongs to the transaction that the caller services: it is
+-- one of the calls that are still to be made there.
+abbrev pub advanced : State → Event → Option ℕ
+advanced s (Take p k v) = Some p
+advanced s (Call p k v) = option_map (λ (w : Service). w.port) (service s (owner s.config p))
+advanced s (Miss p) = option_map (λ (w : Service). w.port) (service s (owner s.config p))
+advanced s (Give p k v) = Some p
+advanced s (End p k v) = Some p
+advanced s (More p k v) = Some p
+advanced s (Ask p k v) = Some p
+advanced s (Hear p k v) = Some p
+advanced s (Begin p k v) = None
+advanced s (Close p) = None
+advanced s (Reopen p) = None
+advanced s (Make n node from) = None
+advanced s (Link p n x) = None
+advanced s (Unlink p) = None
+advanced s (Remove n) = None

@@ -1,0 +1,22 @@
+//! While a transaction is open, some event of an open transaction is possible.
+
+ghost use Rattle.std.specs.Prelude.{◌≡◌, ℕ, true, false, List, None};
+ghost use Rattle.quiesce_core.specs.declared.event.Event.{Event};
+ghost use Rattle.quiesce_core.specs.State.{exchange};
+ghost use Rattle.quiesce_core.specs.Phases.{is_idle};
+ghost use Rattle.quiesce_core.specs.Rules.{denial};
+ghost use Rattle.quiesce_core.specs.Runs.{IsRun, state_after};
+ghost use Rattle.drain_laws.specs.Advances.{is_advance};
+ghost use Rattle.drain_laws.specs.Drain.{Possible};
+
+/// After every run in which a transaction is open, some event of an open transaction is possible.
+pub fn some_event_is_possible()
+    ensures { (es : List Event) → IsRun es → (p : ℕ) → is_idle (exchange (state_after es) p).phase ≡ false → Possible (state_after es) }
+{}
+
+/// So where no event of an open transaction is possible after a run, none is open.
+pub fn none_is_open_where_none_can_advance()
+    ensures { (es : List Event) → IsRun es
+        → ((e : Event) → is_advance e ≡ true → denial (state_after es) e ≡ None → ⊥)
+        → (p : ℕ) → is_idle (exchange (state_after es) p).phase ≡ true }
+{}

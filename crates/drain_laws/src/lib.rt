@@ -1,0 +1,8 @@
+//! Laws of the drain: how many events the open transactions of a system have left, that each of their events brings them nearer
+//! to their ends, and that some event of one is possible while one is open (Kramer and Magee, The evolving philosophers
+//! problem: dynamic change management, 1990: a transaction completes in bounded time).
+#![tactic(auto)]
+
+mod ends;
+
+pub use ends::{none_is_open_where_none_can_advance, some_event_is_possible};
