@@ -1,2 +1,13 @@
 pub mod Busy
 pub mod Onward
+pub mod Sums
+pub mod Weights
+pub mod Writes
+pub mod Greatest
+pub mod Falls
+pub mod Sharing
+pub mod Fewer
+pub mod Changes
+pub mod Sparing
+pub mod Steps
+pub mod Running

@@ -4,5 +4,7 @@
 #![tactic(auto)]
 
 mod ends;
+mod falling;
 
 pub use ends::{none_is_open_where_none_can_advance, some_event_is_possible};
+pub use falling::{rest_falls_by_steps, rest_falls_in_runs};

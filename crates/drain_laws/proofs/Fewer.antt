@@ -1,0 +1,97 @@
+-- A configuration that has no link more than another: nothing leaves more there.
+use Rattle.std.proofs.Common.{◌≡◌, ℕ, zero, suc, ◌+◌, ◌*◌, ◌<◌, ◌≤◌, max, Bool, true, false, cond, [], ◌∷◌, length, Option, Some, None, refl, sym, ap, ◌∙◌, subst, ⊎_elim, arith}
+use Rattle.std.specs.Prelude.{filter}
+use Rattle.std.specs.List.{range_with_len}
+use Rattle.std.specs.Option.{option_map_or}
+use Rattle.std.proofs.Math.Nat.{mul-le-mul_left}
+use Rattle.std.proofs.lemmas.Bool.{both_ways, cases_Bool, false_from_ne_true}
+use Rattle.config_graph.specs.Kinds.{row}
+use Rattle.config_graph.specs.declared.node.Target.{Target}
+use Rattle.quiesce_core.specs.declared.state.Slot.{Slot}
+use Rattle.quiesce_core.specs.State.{Configuration, slot, target, ports_of, depends, calls_allowed, mores_allowed}
+use Rattle.quiesce_core.specs.Reach.{IsPortOf, can_walk, has_no_cycle}
+use Rattle.quiesce_core.specs.Rest.{greatest, full, events_through, call_events}
+use Rattle.quiesce_core.specs.WellFormed.{IsSound}
+use Rattle.quiesce_core.proofs.Cycles.{map_or_at, walk_to, no_walk}
+use Rattle.quiesce_core.proofs.Places.{live_made}
+use Rattle.quiesce_core.proofs.Reaching.{depended_at}
+use Rattle.quiesce_core.proofs.RestLemmas.{full_step}
+
+-- d has the nodes of c, with their kinds and ports, and no link that c hasn't
+pub record HasNoNewLink (c d : Configuration) : Type 0 where
+  pub calls : (m x : ℕ) → m < length c.slots → calls_allowed d m x ≡ calls_allowed c m x
+  pub mores : (m x : ℕ) → m < length c.slots → mores_allowed d m x ≡ mores_allowed c m x
+  pub rows : (m : ℕ) → m < length c.slots → ports_of d m ≡ ports_of c m
+  pub depend : (m x p : ℕ) → m < length c.slots → IsPortOf c m p → depends d m x p ≡ depends c m x p
+  pub targets : (p : ℕ) (t : Target) → target d p ≡ Some t → target c p ≡ Some t
+
+max_le : (a b c d : ℕ) → a ≤ c → b ≤ d → max a b ≤ max c d
+max_le a b c d h l = omega arith
+
+greatest_le : (f g : ℕ → ℕ) (tf tg : ℕ → Bool) (a n : ℕ) → ((p : ℕ) → a ≤ p → p < a + n → tf p ≡ tg p) → ((p : ℕ) → a ≤ p → p < a + n → tg p ≡ true → f p ≤ g p)
+    → greatest f (filter tf (range_with_len a n)) ≤ greatest g (filter tg (range_with_len a n))
+greatest_le f g tf tg a zero same le = omega arith
+greatest_le f g tf tg a (suc n) same le =
+    let later : greatest f (filter tf (range_with_len (a + 1) n)) ≤ greatest g (filter tg (range_with_len (a + 1) n)) =
+    greatest_le f g tf tg (a + 1) n (λ p l u. same p (omega arith) (omega arith)) (λ p l u. le p (omega arith) (omega arith)) in
+    let here : tf a ≡ tg a = same a (omega arith) (omega arith) in
+    ⊎_elim
+    (λ (e : tg a ≡ true).
+    let is = ap (λ b. greatest f (cond b (a ∷ filter tf (range_with_len (a + 1) n)) (filter tf (range_with_len (a + 1) n)))) (here ∙ e) in
+    let was = ap (λ b. greatest g (cond b (a ∷ filter tg (range_with_len (a + 1) n)) (filter tg (range_with_len (a + 1) n)))) e in
+    let at : f a ≤ g a = le a (omega arith) (omega arith) e in
+    omega (arith, is, was, max_le (f a) (greatest f (filter tf (range_with_len (a + 1) n))) (g a) (greatest g (filter tg (range_with_len (a + 1) n))) at later))
+    (λ (e : tg a ≡ false).
+    let is = ap (λ b. greatest f (cond b (a ∷ filter tf (range_with_len (a + 1) n)) (filter tf (range_with_len (a + 1) n)))) (here ∙ e) in
+    let was = ap (λ b. greatest g (cond b (a ∷ filter tg (range_with_len (a + 1) n)) (filter tg (range_with_len (a + 1) n)))) e in
+    omega (arith, is, was, later))
+    (cases_Bool (tg a))
+
+greatest_of : (c : Configuration) (m : ℕ) (f g : ℕ → ℕ) (tf tg : ℕ → Bool) (o : Option Slot) → slot c m ≡ o → ((p : ℕ) → IsPortOf c m p → tf p ≡ tg p) → ((p : ℕ) → IsPortOf c m p → tg p ≡ true → f p ≤ g p)
+    → greatest f (filter tf (option_map_or (λ (k : Slot). range_with_len k.first_port (length (row k.node.kind).requires_)) o []))
+    ≤ greatest g (filter tg (option_map_or (λ (k : Slot). range_with_len k.first_port (length (row k.node.kind).requires_)) o []))
+greatest_of c m f g tf tg None e same le = omega arith
+greatest_of c m f g tf tg (Some k) e same le =
+    greatest_le f g tf tg k.first_port (length (row k.node.kind).requires_)
+    (λ p l u. same p (record { node = k; made = e; from = l; below = u })) (λ p l u. le p (record { node = k; made = e; from = l; below = u }))
+
+through_le : (c d : Configuration) (p : ℕ) → HasNoNewLink c d → ((t : Target) → target c p ≡ Some t → full d t.node t.provide ≤ full c t.node t.provide) → (o : Option Target) → target d p ≡ o
+    → option_map_or (λ (t : Target). full d t.node t.provide) o 0 ≤ option_map_or (λ (t : Target). full c t.node t.provide) (target c p) 0
+through_le c d p h le None e = omega arith
+through_le c d p h le (Some t) e =
+    let was = h.targets p t e in
+    omega (arith, le t was, map_or_at (λ (t : Target). full c t.node t.provide) (target c p) 0 t was)
+
+events_from : (c d : Configuration) → HasNoNewLink c d → (m x : ℕ) → m < length c.slots
+    → ((p : ℕ) (t : Target) → IsPortOf c m p → depends c m x p ≡ true → target c p ≡ Some t → full d t.node t.provide ≤ full c t.node t.provide)
+    → call_events d m x ≤ call_events c m x
+events_from c d h m x made le =
+    subst (λ ps. greatest (events_through d) (filter (depends d m x) ps) ≤ call_events c m x) (sym (h.rows m made))
+    (greatest_of c m (events_through d) (events_through c) (depends d m x) (depends c m x) (slot c m) refl (λ p o. h.depend m x p made o)
+    (λ p o dep. omega (arith, through_le c d p h (λ t e. le p t o dep e) (target d p) refl)))
+
+full_from : (c d : Configuration) → has_no_cycle c ≡ true → has_no_cycle d ≡ true → HasNoNewLink c d → (m x : ℕ) → m < length c.slots
+    → ((p : ℕ) (t : Target) → IsPortOf c m p → depends c m x p ≡ true → target c p ≡ Some t → full d t.node t.provide ≤ full c t.node t.provide)
+    → full d m x ≤ full c m x
+full_from c d ranked ranked' h m x made le =
+    let events : call_events d m x ≤ call_events c m x = events_from c d h m x made le in
+    let is : full d m x ≡ 3 + 3 * mores_allowed c m x + calls_allowed c m x * call_events d m x =
+    full_step d ranked' m x ∙ ap (λ i. 3 + 3 * i + calls_allowed d m x * call_events d m x) (h.mores m x made)
+    ∙ ap (λ i. 3 + 3 * mores_allowed c m x + i * call_events d m x) (h.calls m x made) in
+    let more_ : calls_allowed c m x * call_events d m x ≤ calls_allowed c m x * call_events c m x = mul-le-mul_left (calls_allowed c m x) events in
+    omega (arith, is, full_step c ranked m x, more_)
+
+full_down : (c d : Configuration) → IsSound c → has_no_cycle d ≡ true → HasNoNewLink c d → (k m x : ℕ) → m < length c.slots → can_walk c k m ≡ false → full d m x ≤ full c m x
+full_down c d s ranked h zero m x made short = absurd (both_ways true short refl)
+full_down c d s ranked h (suc k) m x made short =
+    full_from c d s.no_cycle ranked h m x made (λ p t o dep e.
+    full_down c d s ranked h k t.node t.provide (live_made c t.node (s.targets p t e).live) (false_from_ne_true (can_walk c k t.node) (λ walks.
+    both_ways (can_walk c (suc k) m) short
+    (walk_to c k m t.node (record { port = p; provide = t.provide; owned = o; depended = depended_at c m x p dep; linked = e }) walks))))
+
+pub full_fewer : (c d : Configuration) → IsSound c → has_no_cycle d ≡ true → HasNoNewLink c d → (m x : ℕ) → m < length c.slots → full d m x ≤ full c m x
+full_fewer c d s ranked h m x made = full_down c d s ranked h (suc (length c.slots)) m x made (no_walk c s.no_cycle m)
+
+pub events_fewer : (c d : Configuration) → IsSound c → has_no_cycle d ≡ true → HasNoNewLink c d → (m x : ℕ) → m < length c.slots → call_events d m x ≤ call_events c m x
+events_fewer c d s ranked h m x made =
+    events_from c d h m x made (λ p t o dep e. full_fewer c d s ranked h t.node t.provide (live_made c t.node (s.targets p t e).live))
