@@ -11,3 +11,6 @@ pub mod Changes
 pub mod Sparing
 pub mod Steps
 pub mod Running
+pub mod Belonging
+pub mod Carrying
+pub mod Portions

@@ -55,16 +55,14 @@ marked_part s (Link p n x) b w c l h = absurd (both_ways true h refl)
 marked_part s (Unlink p) b w c l h = omega (arith, spares_part s (effect s (Unlink p)) w c (unlink_spares s p w l) b)
 marked_part s (Remove n) b w c l h = omega (arith, spares_part s (effect s (Remove n)) w c (remove_spares s n w l) b)
 
-every : ℕ → Bool
+abbrev pub every : ℕ → Bool
 every p = true
 
-all_rest : (s : State) → rest_where every s ≡ rest s
-unfolding every
+pub all_rest : (s : State) → rest_where every s ≡ rest s
 all_rest s = refl
 
 -- a call is made for a port that is serviced
 all_followed : (s : State) (e : Event) → IsWellFormed s → IsConsistent s → Legal s e → is_begin e ≡ false → (q : ℕ) → followed every s e q ≡ true
-unfolding every
 all_followed s (Begin p k v) w c l h q = absurd (both_ways true h refl)
 all_followed s (Call p k v) w c l h q =
     let at = call_calls s p k v w c l in
@@ -88,7 +86,6 @@ all_followed s (Unlink p) w c l h q = refl
 all_followed s (Remove n) w c l h q = refl
 
 advance_marked : (s : State) (e : Event) → IsWellFormed s → IsConsistent s → Legal s e → is_advance e ≡ true → is_marked every s e ≡ true
-unfolding every
 advance_marked s (Begin p k v) w c l h = absurd (both_ways false refl h)
 advance_marked s (Call p k v) w c l h = calls_of_port s p every (call_calls s p k v w c l)
 advance_marked s (Miss p) w c l h = calls_of_port s p every (miss_calls s p w c l)

@@ -3,8 +3,15 @@
 //! problem: dynamic change management, 1990: a transaction completes in bounded time).
 #![tactic(auto)]
 
+mod bound;
 mod ends;
 mod falling;
+mod parts;
 
+pub use bound::rest_bounds_the_drain;
 pub use ends::{none_is_open_where_none_can_advance, some_event_is_possible};
 pub use falling::{rest_falls_by_steps, rest_falls_in_runs};
+pub use parts::{
+    belongings_are_found, part_falls_by_steps, part_of_one_falls_by_steps,
+    what_is_left_is_of_what_is_open,
+};

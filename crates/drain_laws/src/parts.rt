@@ -1,0 +1,39 @@
+//! The part of what is left that belongs to some transactions and their consequents, by the steps.
+
+ghost use Rattle.std.specs.Prelude.{◌≡◌, ◌↔◌, ℕ, ◌<◌, ◌≤◌, true, false, IsTrue};
+ghost use Rattle.quiesce_core.specs.declared.event.Event.{Event};
+ghost use Rattle.quiesce_core.specs.State.{State};
+ghost use Rattle.quiesce_core.specs.Rest.{rest};
+ghost use Rattle.quiesce_core.specs.Runs.{Step};
+ghost use Rattle.quiesce_core.specs.Traffic.{IsConsistent};
+ghost use Rattle.quiesce_core.specs.WellFormed.{IsWellFormed};
+ghost use Rattle.drain_laws.specs.Advances.{is_link};
+ghost use Rattle.drain_laws.specs.Belongs.{Transactions, Belongs, belongs, is_of, one, open_in, starts};
+ghost use Rattle.drain_laws.specs.Drain.{rest_of};
+
+/// The test whether a port's transaction belongs to a set finds exactly the transactions of the set and their consequents.
+pub fn belongings_are_found()
+    ensures { (set : Transactions) (s : State) → IsWellFormed s → IsConsistent s → (p : ℕ) → IsTrue (belongs set s p) ↔ Belongs set s p }
+{}
+
+/// All of what is left belongs to what is open and its consequents.
+pub fn what_is_left_is_of_what_is_open()
+    ensures { (s : State) → rest_of (open_in s) s ≡ rest s }
+{}
+
+/// The part of what is left that belongs to an open transaction and its consequents, by the steps from a state that is well
+/// formed and consistent: it falls at each event of these, and rises at no event but a Link.
+pub fn part_of_one_falls_by_steps()
+    ensures falls { (s t : State) (e : Event) (p k : ℕ) → IsWellFormed s → IsConsistent s → Step s e t → open_in s p k ≡ true
+        → is_link e ≡ false → is_of (one p k) s e ≡ true → rest_of (one p k) t < rest_of (one p k) s }
+    ensures stays { (s t : State) (e : Event) (p k : ℕ) → IsWellFormed s → IsConsistent s → Step s e t → open_in s p k ≡ true
+        → is_link e ≡ false → rest_of (one p k) t ≤ rest_of (one p k) s }
+{}
+
+/// The same of a set of transactions, as long as no further one of the set is started.
+pub fn part_falls_by_steps()
+    ensures falls { (set : Transactions) (s t : State) (e : Event) → IsWellFormed s → IsConsistent s → Step s e t → starts set e ≡ false
+        → is_link e ≡ false → is_of set s e ≡ true → rest_of set t < rest_of set s }
+    ensures stays { (set : Transactions) (s t : State) (e : Event) → IsWellFormed s → IsConsistent s → Step s e t → starts set e ≡ false
+        → is_link e ≡ false → rest_of set t ≤ rest_of set s }
+{}
