@@ -1,11 +1,13 @@
 -- What each status of a run says, from the one relation of runs.
-use Rattle.std.proofs.Common.{◌≡◌, ◌≢◌, ◌∙◌, inl, inr, ℕ, ℤ, List, [], ◌∷◌, ◌++◌, Option, append-nil, refl, ap}
+use Rattle.std.proofs.Common.{◌≡◌, ◌≢◌, ◌∙◌, inl, inr, ℕ, List, [], ◌∷◌, ◌++◌, Option, append-nil, refl, ap}
 use Rattle.cfg_io.specs.Count.{Rose}
 use Rattle.cfg_io.specs.Shelf.{Files}
 use Rattle.darwin_commands.specs.declared.status.Status.{Status}
 use Rattle.darwin_commands.specs.declared.status.Status.TheVariants as status
-use Rattle.darwin_commands.specs.Words.{help, version, flat}
-use Rattle.darwin_commands.specs.Answers.{Given, Fetch, Written, whole, stopped, FlatAnswers, cannot_read, is_too_long, refused, flattened, Answers, no_form, helped, versioned, flat_answered, no_memory, Runs, failed_names, fetch_of}
+use Rattle.darwin_commands.specs.Words.{help, version}
+use Rattle.darwin_commands.specs.Wanted.{Wanted}
+use Rattle.darwin_commands.proofs.Wanting.{gives_ok, command_for, asks_command}
+use Rattle.darwin_commands.specs.Answers.{Given, Fetch, Written, whole, stopped, DescriptionAnswers, cannot_read, is_too_long, refused, answered, Answers, no_form, helped, versioned, described, no_memory, Runs, failed_names, fetch_of}
 use Rattle.darwin_commands.specs.Outcomes.{HasNoForm, NamesFile, Ends}
 
 -- ---- statuses of answers
@@ -14,45 +16,45 @@ own_usage : (words : List (List ℕ)) (fetches : List Fetch) (own : Status) (tex
 own_usage words _ _ _ (no_form none) is = none
 own_usage words _ _ _ (helped asks) is = cc
 own_usage words _ _ _ (versioned asks) is = cc
-own_usage words _ _ _ (flat_answered file top args given own text asks answer) is = absurd (no_usage given own text answer is)
+own_usage words _ _ _ (described file wanted given own text asks answer) is = absurd (no_usage given own text answer is)
   where
-    no_usage : (given : Given) (own : Status) (text : List ℕ) → FlatAnswers file top args given own text → own ≢ status.Usage
+    no_usage : (given : Given) (own : Status) (text : List ℕ) → DescriptionAnswers file wanted given own text → own ≢ status.Usage
     no_usage _ _ _ cannot_read is = cc
     no_usage _ _ _ is_too_long is = cc
-    no_usage _ _ _ (refused text words refuses) is = cc
-    no_usage _ _ _ (flattened text graph has) is = cc
+    no_usage _ _ _ (refused text why refuses) is = cc
+    no_usage _ _ _ (answered text own written gives) is = cc (gives_ok wanted text own written gives)
 own_usage words _ _ _ (no_memory fetches may) is = cc
 
 own_no_write_fault : (words : List (List ℕ)) (fetches : List Fetch) (own : Status) (text : List ℕ) → Answers words fetches own text → own ≢ status.WriteFault
 own_no_write_fault words _ _ _ (no_form none) is = cc
 own_no_write_fault words _ _ _ (helped asks) is = cc
 own_no_write_fault words _ _ _ (versioned asks) is = cc
-own_no_write_fault words _ _ _ (flat_answered file top args given own text asks answer) is = no_fault given own text answer is
+own_no_write_fault words _ _ _ (described file wanted given own text asks answer) is = no_fault given own text answer is
   where
-    no_fault : (given : Given) (own : Status) (text : List ℕ) → FlatAnswers file top args given own text → own ≢ status.WriteFault
+    no_fault : (given : Given) (own : Status) (text : List ℕ) → DescriptionAnswers file wanted given own text → own ≢ status.WriteFault
     no_fault _ _ _ cannot_read is = cc
     no_fault _ _ _ is_too_long is = cc
-    no_fault _ _ _ (refused text words refuses) is = cc
-    no_fault _ _ _ (flattened text graph has) is = cc
+    no_fault _ _ _ (refused text why refuses) is = cc
+    no_fault _ _ _ (answered text own written gives) is = cc (gives_ok wanted text own written gives)
 own_no_write_fault words _ _ _ (no_memory fetches may) is = cc
 
--- ---- what a status of `flat` says of its fetch
+-- ---- what a status says of the fetch of a description
 
-flat_read_fault :
-    (file top : List ℕ) (args : List ℤ) (given : Given) (own : Status) (text : List ℕ) → FlatAnswers file top args given own text
+read_fault_name :
+    (file : List ℕ) (wanted : Wanted) (given : Given) (own : Status) (text : List ℕ) → DescriptionAnswers file wanted given own text
     → own ≡ status.ReadFault → failed_names (fetch_of file given ∷ []) ≡ file ∷ []
-flat_read_fault file top args _ _ _ cannot_read is = refl
-flat_read_fault file top args _ _ _ is_too_long is = cc
-flat_read_fault file top args _ _ _ (refused text words refuses) is = cc
-flat_read_fault file top args _ _ _ (flattened text graph has) is = cc
+read_fault_name file wanted _ _ _ cannot_read is = refl
+read_fault_name file wanted _ _ _ is_too_long is = cc
+read_fault_name file wanted _ _ _ (refused text why refuses) is = cc
+read_fault_name file wanted _ _ _ (answered text own written gives) is = cc (gives_ok wanted text own written gives)
 
-flat_failed :
-    (file top : List ℕ) (args : List ℤ) (given : Given) (own : Status) (text : List ℕ) → FlatAnswers file top args given own text
+failed_status :
+    (file : List ℕ) (wanted : Wanted) (given : Given) (own : Status) (text : List ℕ) → DescriptionAnswers file wanted given own text
     → failed_names (fetch_of file given ∷ []) ≢ [] → own ≡ status.ReadFault
-flat_failed file top args _ _ _ cannot_read some = refl
-flat_failed file top args _ _ _ is_too_long some = absurd (some refl)
-flat_failed file top args _ _ _ (refused text words refuses) some = absurd (some refl)
-flat_failed file top args _ _ _ (flattened text graph has) some = absurd (some refl)
+failed_status file wanted _ _ _ cannot_read some = refl
+failed_status file wanted _ _ _ is_too_long some = absurd (some refl)
+failed_status file wanted _ _ _ (refused text why refuses) some = absurd (some refl)
+failed_status file wanted _ _ _ (answered text own written gives) some = absurd (some refl)
 
 -- ---- the clauses
 
@@ -71,7 +73,7 @@ module _ (words : List (List ℕ)) (files : Option Files) (failures failures' : 
       own _ _ _ (no_form other) = inl refl
       own _ _ _ (helped asks) = absurd (none help asks)
       own _ _ _ (versioned asks) = absurd (none version asks)
-      own _ _ _ (flat_answered file top args given s text asks answer) = absurd (none (flat file top args) asks)
+      own _ _ _ (described file wanted given s text asks answer) = absurd (none (command_for file wanted) (asks_command words file wanted asks))
       own _ _ _ (no_memory fetches may) = inr (inl refl)
 
       by : (r : Status) → Written run.own run.text taken taken' faults faults' r → Ends r status.Usage
@@ -86,8 +88,8 @@ module _ (words : List (List ℕ)) (files : Option Files) (failures failures' : 
       own _ _ _ (no_form none) is noted = cc
       own _ _ _ (helped asks) is noted = cc
       own _ _ _ (versioned asks) is noted = cc
-      own _ _ _ (flat_answered file top args given s text asks answer) is noted =
-          (file, (top, args, asks), noted ∙ ap (λ names. failures ++ names) (flat_read_fault file top args given s text answer is))
+      own _ _ _ (described file wanted given s text asks answer) is noted =
+          (file, (wanted, asks), noted ∙ ap (λ names. failures ++ names) (read_fault_name file wanted given s text answer is))
       own _ _ _ (no_memory fetches may) is noted = cc
 
       by : (r : Status) → Written run.own run.text taken taken' faults faults' r → r ≡ status.ReadFault → (file : List ℕ) × NamesFile words file × (failures' ≡ failures ++ file ∷ [])
@@ -104,8 +106,8 @@ module _ (words : List (List ℕ)) (files : Option Files) (failures failures' : 
       own _ _ _ (no_form none) noted = absurd (no_names [] noted refl)
       own _ _ _ (helped asks) noted = absurd (no_names [] noted refl)
       own _ _ _ (versioned asks) noted = absurd (no_names [] noted refl)
-      own _ _ _ (flat_answered file top args given s text asks answer) noted =
-          inl (flat_failed file top args given s text answer (no_names (failed_names (fetch_of file given ∷ [])) noted))
+      own _ _ _ (described file wanted given s text asks answer) noted =
+          inl (failed_status file wanted given s text answer (no_names (failed_names (fetch_of file given ∷ [])) noted))
       own _ _ _ (no_memory fetches may) noted = inr (inl refl)
 
       by : (r : Status) → Written run.own run.text taken taken' faults faults' r → Ends r status.ReadFault

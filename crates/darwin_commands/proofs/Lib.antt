@@ -3,3 +3,4 @@ pub mod Ending
 pub mod Flattening
 pub mod Readings
 pub mod Refusing
+pub mod Wanting

@@ -1,5 +1,5 @@
 -- What the program answers: a status and a text, by its words and by what its fetches gave.
-use Rattle.std.specs.Prelude.{◌≡◌, ◌≤◌, ◌<◌, ℕ, ℤ, List, [], ◌∷◌, ◌++◌, Option, Some, None, IsSomeAnd, length, take, codes}
+use Rattle.std.specs.Prelude.{◌≡◌, ◌≤◌, ◌<◌, ℕ, List, [], ◌∷◌, ◌++◌, Option, Some, None, IsSomeAnd, length, take, codes}
 use Rattle.std.specs.List.{AllByRecursion, flat_map}
 use Rattle.cfg_io.specs.Shelf.{Files}
 use Rattle.cfg_io.specs.Sink.{with_bytes}
@@ -8,11 +8,9 @@ use Rattle.darwin_commands.specs.declared.status.Status.{Status}
 use Rattle.darwin_commands.specs.declared.status.Status.TheVariants.{WriteFault}
 use Rattle.darwin_commands.specs.declared.status.Status.TheVariants as status
 use Rattle.darwin_commands.specs.declared.TheConstants.{HELP, VERSION}
-use Rattle.config_graph.specs.Graph.{Configuration}
-use Rattle.config_graph.specs.GraphText.{graph_text}
-use Rattle.darwin_commands.specs.Words.{Command, help, version, flat, Asks}
+use Rattle.darwin_commands.specs.Words.{Command, help, version, Asks}
 use Rattle.darwin_commands.specs.Lines.{read_fault_line, description_line}
-use Rattle.darwin_commands.specs.Descriptions.{HasGraph, Refuses}
+use Rattle.darwin_commands.specs.Wanted.{Wanted, AsksFor, IsRefused, Gives}
 
 -- what a fetch gave
 pub data Given : Type 0 where
@@ -66,30 +64,30 @@ description_limit = 1048576
 abbrev pub fetch_of : List ℕ → Given → Fetch
 fetch_of file given = record { name = file; limit = description_limit; given = given }
 
--- What `flat` answers for a component of a description and its arguments, by what the fetch of the file gave.
-pub data FlatAnswers (file top : List ℕ) (args : List ℤ) : Given → Status → List ℕ → Type 0 where
-  cannot_read : FlatAnswers file top args failed status.ReadFault (read_fault_line file)
-  is_too_long : FlatAnswers file top args too_long status.Description (description_line file (codes "TooLong" ∷ []))
+-- What is answered of a description, by what the fetch of its file gave.
+pub data DescriptionAnswers (file : List ℕ) (wanted : Wanted) : Given → Status → List ℕ → Type 0 where
+  cannot_read : DescriptionAnswers file wanted failed status.ReadFault (read_fault_line file)
+  is_too_long : DescriptionAnswers file wanted too_long status.Description (description_line file (codes "TooLong" ∷ []))
   refused :
-      (text : List ℕ) (words : List (List ℕ)) → Refuses text top args words
-      → FlatAnswers file top args (held text) status.Description (description_line file words)
-  flattened :
-      (text : List ℕ) (graph : Configuration) → HasGraph text top args graph
-      → FlatAnswers file top args (held text) status.Ok (graph_text graph)
+      (text : List ℕ) (words : List (List ℕ)) → IsRefused wanted text words
+      → DescriptionAnswers file wanted (held text) status.Description (description_line file words)
+  answered :
+      (text : List ℕ) (own : Status) (written : List ℕ) → Gives wanted text own written
+      → DescriptionAnswers file wanted (held text) own written
 
 -- fetches that words may make before memory runs out: of the files that they name alone
 pub data MayFetch (words : List (List ℕ)) : List Fetch → Type 0 where
   nothing : MayFetch words []
-  description : (file top : List ℕ) (args : List ℤ) (given : Given) → Asks words (flat file top args) → MayFetch words (fetch_of file given ∷ [])
+  description : (file : List ℕ) (wanted : Wanted) (given : Given) → AsksFor words file wanted → MayFetch words (fetch_of file given ∷ [])
 
--- the text and the status of words with these fetches, one case a command
+-- the text and the status of words with these fetches
 pub data Answers (words : List (List ℕ)) : List Fetch → Status → List ℕ → Type 0 where
   no_form : ((command : Command) → Asks words command → ⊥) → Answers words [] status.Usage (codes "usage" ++ 10 ∷ [])
   helped : Asks words help → Answers words [] status.Ok HELP.now
   versioned : Asks words version → Answers words [] status.Ok VERSION.now
-  flat_answered :
-      (file top : List ℕ) (args : List ℤ) (given : Given) (own : Status) (text : List ℕ) → Asks words (flat file top args)
-      → FlatAnswers file top args given own text → Answers words (fetch_of file given ∷ []) own text
+  described :
+      (file : List ℕ) (wanted : Wanted) (given : Given) (own : Status) (text : List ℕ) → AsksFor words file wanted
+      → DescriptionAnswers file wanted given own text → Answers words (fetch_of file given ∷ []) own text
   no_memory : (fetches : List Fetch) → MayFetch words fetches → Answers words fetches status.NoMemory (codes "no memory" ++ 10 ∷ [])
 
 -- What a run does: by some fetches, whose failures the shelf notes and which gave what its files hold, it has an answer, and writes it.

@@ -6,3 +6,4 @@ pub mod Lines
 pub mod Outcomes
 pub mod Requests
 pub mod Words
+pub mod Wanted

@@ -6,9 +6,10 @@ use Rattle.config_graph.specs.Graph.{Configuration}
 use Rattle.config_graph.specs.GraphText.{graph_text}
 use Rattle.darwin_commands.specs.declared.status.Status.{Status}
 use Rattle.darwin_commands.specs.declared.status.Status.TheVariants as status
-use Rattle.darwin_commands.specs.Words.{Command, flat, Asks}
+use Rattle.darwin_commands.specs.Words.{Command, Asks}
 use Rattle.darwin_commands.specs.Lines.{description_line}
-use Rattle.darwin_commands.specs.Descriptions.{HasGraph, Refuses}
+use Rattle.darwin_commands.specs.Descriptions.{HasGraph}
+use Rattle.darwin_commands.specs.Wanted.{Wanted, AsksFor, IsRefused}
 use Rattle.darwin_commands.specs.Answers.{description_limit}
 
 -- the words ask for nothing
@@ -17,7 +18,7 @@ HasNoForm words = (command : Command) → Asks words command → ⊥
 
 -- the words name the file
 abbrev pub NamesFile : List (List ℕ) → List ℕ → Type 0
-NamesFile words file = (top : List ℕ) × (args : List ℤ) × Asks words (flat file top args)
+NamesFile words file = (wanted : Wanted) × AsksFor words file wanted
 
 -- the status, unless memory ran out or the sink failed
 abbrev pub Ends : Status → Status → Type 0
@@ -43,10 +44,18 @@ pub record Flattened (files : Option Files) (file top : List ℕ) (args : List �
   pub written : taken' ≡ with_bytes taken (graph_text graph)
 
 -- The file is too long, or a fault of what it holds was named; and the line that says so was written.
-pub data Refused (files : Option Files) (file top : List ℕ) (args : List ℤ) (taken taken' : Option (List ℕ)) : Type 0 where
+pub data Refused (files : Option Files) (file : List ℕ) (wanted : Wanted) (taken taken' : Option (List ℕ)) : Type 0 where
   too_long :
       TellsTooLong files file → taken' ≡ with_bytes taken (description_line file (codes "TooLong" ∷ []))
-      → Refused files file top args taken taken'
+      → Refused files file wanted taken taken'
   at_fault :
-      (text : List ℕ) (words : List (List ℕ)) → Tells files file text → length text ≤ description_limit → Refuses text top args words
-      → taken' ≡ with_bytes taken (description_line file words) → Refused files file top args taken taken'
+      (text : List ℕ) (words : List (List ℕ)) → Tells files file text → length text ≤ description_limit → IsRefused wanted text words
+      → taken' ≡ with_bytes taken (description_line file words) → Refused files file wanted taken taken'
+
+-- the file has more bytes than a description may have, or something refuses them
+abbrev pub MustRefuse : Wanted → Option (List ℕ) → Type 0
+MustRefuse wanted file = IsSomeAnd file (λ text. (description_limit < length text) ⊎ ((words : List (List ℕ)) × IsRefused wanted text words))
+
+-- the file has no more bytes than a description may have, and nothing refuses them
+abbrev pub NothingRefuses : Wanted → Option (List ℕ) → Type 0
+NothingRefuses wanted file = IsSomeAnd file (λ text. (length text ≤ description_limit) × ((words : List (List ℕ)) → ¬ IsRefused wanted text words))

@@ -6,7 +6,8 @@ ghost use Rattle.cfg_io.specs.Shelf.{Files};
 ghost use Rattle.config_graph.specs.Graph.{Configuration};
 ghost use Rattle.darwin_commands.specs.Answers.{Runs, Written, description_limit};
 ghost use Rattle.darwin_commands.specs.Descriptions.{HasGraph};
-ghost use Rattle.darwin_commands.specs.Outcomes.{HasNoForm, NamesFile, Ends, Flattened, Refused};
+ghost use Rattle.darwin_commands.specs.Outcomes.{HasNoForm, NamesFile, Ends, Flattened, Refused, MustRefuse, NothingRefuses};
+ghost use Rattle.darwin_commands.specs.Wanted.{Wanted, AsksFor};
 ghost use Rattle.darwin_commands.specs.declared.status.Status.TheVariants.{Usage, ReadFault, WriteFault, Description};
 ghost use Rattle.darwin_commands.specs.Words.{Asks, flat as flat_command};
 
@@ -38,13 +39,18 @@ pub fn still<H: Shelf, K: Sink>(
     // WriteFault, exactly where a put failed.
     ensures write_fault { result ≡ WriteFault → Rose (K.faults out.old) (K.faults out.new) }
     ensures every_write_fault { result ≢ WriteFault → K.faults out.new ≡ K.faults out.old }
-    // Of `flat`: the text of the graph, or the line of a fault that holds.
+    // Of `flat`: the text of the graph.
     ensures flattened { (file top : List ℕ) (args : List ℤ) → Asks (map string_bytes words.now) (flat_command file top args) → result ≡ Status.Ok
         → Flattened (H.files shelf.old) file top args (K.taken out.old) (K.taken out.new) }
-    ensures refused { result ≡ Description → (file top : List ℕ) × (args : List ℤ) × Asks (map string_bytes words.now) (flat_command file top args)
-        × Refused (H.files shelf.old) file top args (K.taken out.old) (K.taken out.new) }
-    // A description that has a graph is flattened, where nothing fails and there is memory.
-    ensures complete { (file top : List ℕ) (args : List ℤ) (files : Files) (text : List ℕ) (graph : Configuration)
+    // Description, exactly where the file is too long or something refuses what it holds; the line names a fault that holds.
+    ensures refused { result ≡ Description → (file : List ℕ) × (wanted : Wanted) × AsksFor (map string_bytes words.now) file wanted
+        × Refused (H.files shelf.old) file wanted (K.taken out.old) (K.taken out.new) }
+    ensures every_refusal { (file : List ℕ) (wanted : Wanted) (files : Files) → AsksFor (map string_bytes words.now) file wanted
+        → H.files shelf.old ≡ Some files → H.failed shelf.new ≡ H.failed shelf.old → MustRefuse wanted (files file) → Ends result Description }
+    // Where nothing refuses the description, the run ends well, and so it does where the component has a graph.
+    ensures complete { (file : List ℕ) (wanted : Wanted) (files : Files) → AsksFor (map string_bytes words.now) file wanted
+        → H.files shelf.old ≡ Some files → H.failed shelf.new ≡ H.failed shelf.old → NothingRefuses wanted (files file) → Ends result Status.Ok }
+    ensures every_graph { (file top : List ℕ) (args : List ℤ) (files : Files) (text : List ℕ) (graph : Configuration)
         → Asks (map string_bytes words.now) (flat_command file top args) → H.files shelf.old ≡ Some files → files file ≡ Some text
         → length text ≤ description_limit → HasGraph text top args graph → H.failed shelf.new ≡ H.failed shelf.old → Ends result Status.Ok }
 {

@@ -1,7 +1,8 @@
 //! The command `flat`.
 
 ghost use Rattle.std.specs.Prelude.{◌≤◌, ℕ, ℤ, List, length, IfOk};
-ghost use Rattle.darwin_commands.specs.Answers.{FlatAnswers, IsWithin, description_limit, held};
+ghost use Rattle.darwin_commands.specs.Answers.{DescriptionAnswers, IsWithin, description_limit, held};
+ghost use Rattle.darwin_commands.specs.Wanted.{its_graph};
 ghost use Rattle.darwin_commands.specs.Fetching.{given_of};
 ghost use Rattle.darwin_commands.specs.DescriptionFaults.{MayRefuse};
 
@@ -22,7 +23,7 @@ pub fn flat(
     fetched: Fetched,
 ) -> Result<Answer, NoMemory>
     requires { IsWithin description_limit (given_of fetched) }
-    ensures { IfOk result (λ answer. FlatAnswers file.now top.now args.now (given_of fetched) answer.status answer.text.items) }
+    ensures { IfOk result (λ answer. DescriptionAnswers file.now (its_graph top.now args.now) (given_of fetched) answer.status answer.text.items) }
 {
     match fetched {
         Fetched::Held(text) => flatten(alloc, file, top, args, text.as_slice()),
@@ -46,7 +47,7 @@ fn flatten(
     text: &[u8],
 ) -> Result<Answer, NoMemory>
     requires { length text.now ≤ description_limit }
-    ensures { IfOk result (λ answer. FlatAnswers file.now top.now args.now (held text.now) answer.status answer.text.items) }
+    ensures { IfOk result (λ answer. DescriptionAnswers file.now (its_graph top.now args.now) (held text.now) answer.status answer.text.items) }
 {
     match graph_of(alloc, text, top.as_bytes(), args) {
         Ok(graph) => Ok(Answer {
@@ -60,7 +61,7 @@ fn flatten(
 /// The line that refuses a description.
 fn refuse(alloc: Global, file: &str, fault: &DescriptionFault) -> Result<Answer, NoMemory>
     ensures { (text top : List ℕ) (args : List ℤ) → MayRefuse text top args fault.now
-        → IfOk result (λ answer. FlatAnswers file.now top args (held text) answer.status answer.text.items) }
+        → IfOk result (λ answer. DescriptionAnswers file.now (its_graph top args) (held text) answer.status answer.text.items) }
 {
     if fault.is_no_memory() {
         return Err(AllocError);

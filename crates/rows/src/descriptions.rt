@@ -82,3 +82,39 @@ pub const SMALL_REFUSED: &str =
 /// One `when` too many.
 pub const NESTED: &str =
     "component X { when 1 when 1 when 1 when 1 when 1 when 1 when 1 when 1 when 1 when 1 when 1 when 1 when 1 when 1 when 1 when 1 when 1 inst a:sink; }";
+
+/// Philosophers, their places and the forks between them, without the fork of one of them.
+pub const TABLE: &str = "component philosopher(int meals) { require dine; }
+component place(int first) { provide dine; require left, right; }
+component fork { provide hold; }
+component Table(int n, int meals, int skip) {
+  array ph[n]:philosopher(meals); pl[n]:place; f[n]:fork;
+  forall i:0..n-1 {
+    inst ph[i]; pl[i](i == 0);
+    bind ph[i].dine -- pl[i].dine;
+    when i != skip {
+      inst f[i];
+      bind pl[i].left -- f[i].hold;
+           pl[(i+n-1) % n].right -- f[i].hold;
+    }
+  }
+}
+";
+
+/// A name of 65 bytes.
+pub const LONG_NAME: &str =
+    "component aaaaaaaaaabbbbbbbbbbccccccccccddddddddddeeeeeeeeeeffffffffffggggg { }";
+
+/// A source in a component of its own.
+pub const DEEP: &str = "component source(int n) { require out; }
+component sink { provide in; }
+component Box(int n) { inst t:sink; s:source(n-1); }
+component Main(int n) { inst p:Box(n); }
+";
+
+/// A test that divides.
+pub const DIVISION: &str = "component sink { provide in; }
+component X(int n) {
+  when 1 / n inst a:sink;
+}
+";

@@ -1,194 +1,70 @@
-//! Rows of `flat`.
+//! Rows of `flat` that write a graph.
 
-use crate::descriptions::{
-    LINE, LOOP, NESTED, ONE, ONE_NOTE, PIPE, RING, ROW, SMALL, SMALL_REFUSED, TURNS, TWICE, TWO,
-};
-use crate::running::{Row, run};
+use crate::descriptions::{LINE, ONE, ONE_NOTE, PIPE, SMALL, TABLE, TURNS};
+use crate::running::{AMPLE, Row, run};
 use std::test::Fail;
 
-const AMPLE: usize = 4_096;
-
-static ROWS: [Row; 22] = [
+static ROWS: [Row<'static>; 8] = [
     Row {
         words: &["flat", "f.dar", "L"],
-        file: "f.dar",
-        text: SMALL,
+        files: &[("f.dar", SMALL)],
         room: AMPLE,
         status: 0,
         written: "node b buffer(2)\nport b.next t.in\nnode s source(3)\nport s.out b.in\nnode t sink()\n",
     },
     Row {
-        words: &["flat", "f.dar", "L"],
-        file: "f.dar",
-        text: SMALL_REFUSED,
-        room: AMPLE,
-        status: 2,
-        written: "description f.dar: UnknownName L out\n",
-    },
-    Row {
         words: &["flat", "f.dar", "One"],
-        file: "f.dar",
-        text: ONE,
+        files: &[("f.dar", ONE)],
         room: AMPLE,
         status: 0,
         written: "node t sink()\n",
     },
     Row {
-        words: &["flat", "f.dar", "X"],
-        file: "f.dar",
-        text: "",
-        room: AMPLE,
-        status: 2,
-        written: "description f.dar: NoTop X\n",
-    },
-    Row {
         words: &["flat", "f.dar", "Main", "3"],
-        file: "f.dar",
-        text: PIPE,
+        files: &[("f.dar", PIPE)],
         room: AMPLE,
         status: 0,
         written: "node p.F[0] map(1)\nport p.F[0].next p.F[1].in\nnode p.F[1] map(1)\nport p.F[1].next p.F[2].in\nnode p.F[2] map(1)\nport p.F[2].next t.in\nnode s source(2)\nport s.out p.F[0].in\nnode t sink()\n",
     },
     Row {
-        words: &["flat", "f.dar", "Row", "0"],
-        file: "f.dar",
-        text: ROW,
-        room: AMPLE,
-        status: 2,
-        written: "description f.dar: BadIndex . 5:8\n",
-    },
-    Row {
-        words: &["flat", "f.dar", "Row", "1"],
-        file: "f.dar",
-        text: ROW,
-        room: AMPLE,
-        status: 2,
-        written: "description f.dar: TwoInstances A[0]\n",
-    },
-    Row {
-        words: &["flat", "f.dar", "Top"],
-        file: "f.dar",
-        text: TWICE,
-        room: AMPLE,
-        status: 2,
-        written: "description f.dar: BoundTwice . p.out\n",
-    },
-    Row {
-        words: &["flat", "f.dar", "Loop"],
-        file: "f.dar",
-        text: LOOP,
-        room: AMPLE,
-        status: 2,
-        written: "description f.dar: TooDeep a.a.a.a.a.a.a.a.a.a.a.a.a.a.a.a.a.a.a.a.a.a.a.a.a.a.a.a.a.a.a.a.a\n",
-    },
-    Row {
         words: &["flat", "f.dar", "Turns", "65535"],
-        file: "f.dar",
-        text: TURNS,
+        files: &[("f.dar", TURNS)],
         room: AMPLE,
         status: 0,
         written: "node t sink()\n",
     },
     Row {
-        words: &["flat", "f.dar", "Turns", "65536"],
-        file: "f.dar",
-        text: TURNS,
-        room: AMPLE,
-        status: 2,
-        written: "description f.dar: TooMany\n",
-    },
-    Row {
         words: &["flat", "f.dar", "Two"],
-        file: "f.dar",
-        text: TWO,
-        room: AMPLE,
-        status: 2,
-        written: "description f.dar: Annotation . 3:48\n",
-    },
-    Row {
-        words: &["flat", "f.dar", "Two"],
-        file: "f.dar",
-        text: ONE_NOTE,
+        files: &[("f.dar", ONE_NOTE)],
         room: AMPLE,
         status: 0,
         written: "node s source(1)\nport s.out t.in\nnode t sink()\n",
     },
     Row {
-        words: &["flat", "f.dar", "Ring"],
-        file: "f.dar",
-        text: RING,
-        room: AMPLE,
-        status: 2,
-        written: "description f.dar: DependsCycle a\n",
-    },
-    Row {
         words: &["flat", "f.dar", "Line", "3", "10"],
-        file: "f.dar",
-        text: LINE,
+        files: &[("f.dar", LINE)],
         room: 7,
         status: 5,
         written: "node m ",
     },
     Row {
-        words: &[],
-        file: "f.dar",
-        text: LINE,
+        words: &["flat", "table.dar", "Table", "2", "1", "0"],
+        files: &[("table.dar", TABLE)],
         room: AMPLE,
-        status: 1,
-        written: "usage\n",
+        status: 0,
+        written: "node f[1] fork()\nnode ph[0] philosopher(1)\nport ph[0].dine pl[0].dine\nnode ph[1] philosopher(1)\nport ph[1].dine pl[1].dine\nnode pl[0] place(1)\nport pl[0].left -\nport pl[0].right f[1].hold\nnode pl[1] place(0)\nport pl[1].left f[1].hold\nport pl[1].right -\n",
     },
     Row {
-        words: &["flat", "none.dar", "X"],
-        file: "f.dar",
-        text: LINE,
+        words: &["flat", "table.dar", "Table", "3", "2", "9"],
+        files: &[("table.dar", TABLE)],
         room: AMPLE,
-        status: 4,
-        written: "read fault none.dar\n",
-    },
-    Row {
-        words: &["flat", "f.dar", "X"],
-        file: "f.dar",
-        text: "component $",
-        room: AMPLE,
-        status: 2,
-        written: "description f.dar: BadByte 1:11\n",
-    },
-    Row {
-        words: &["flat", "f.dar", "X"],
-        file: "f.dar",
-        text: "component sink { provide out; }",
-        room: AMPLE,
-        status: 2,
-        written: "description f.dar: KindPorts sink\n",
-    },
-    Row {
-        words: &["flat", "f.dar", "X"],
-        file: "f.dar",
-        text: "component X {",
-        room: AMPLE,
-        status: 2,
-        written: "description f.dar: Expected 1:14\n",
-    },
-    Row {
-        words: &["flat", "f.dar", "X"],
-        file: "f.dar",
-        text: "component X {\n",
-        room: AMPLE,
-        status: 2,
-        written: "description f.dar: Expected 2:1\n",
-    },
-    Row {
-        words: &["flat", "f.dar", "X"],
-        file: "f.dar",
-        text: NESTED,
-        room: AMPLE,
-        status: 2,
-        written: "description f.dar: TooNested 1:127\n",
+        status: 0,
+        written: "node f[0] fork()\nnode f[1] fork()\nnode f[2] fork()\nnode ph[0] philosopher(2)\nport ph[0].dine pl[0].dine\nnode ph[1] philosopher(2)\nport ph[1].dine pl[1].dine\nnode ph[2] philosopher(2)\nport ph[2].dine pl[2].dine\nnode pl[0] place(1)\nport pl[0].left f[0].hold\nport pl[0].right f[1].hold\nnode pl[1] place(0)\nport pl[1].left f[1].hold\nport pl[1].right f[2].hold\nnode pl[2] place(0)\nport pl[2].left f[2].hold\nport pl[2].right f[0].hold\n",
     },
 ];
 
 #[test]
-fn flat_writes_graphs_and_refusals(rt: HostRuntime) -> Result<(), Fail> {
+fn flat_writes_graphs(rt: HostRuntime) -> Result<(), Fail> {
     for row in &ROWS {
         run(&rt, rt.alloc(), row)?;
     }

@@ -6,6 +6,10 @@ mod descriptions;
 #[cfg(test)]
 mod elaborating;
 #[cfg(test)]
+mod faults;
+#[cfg(test)]
 mod flat;
 #[cfg(test)]
 mod running;
+#[cfg(test)]
+mod words;

@@ -6,20 +6,26 @@ use std::alloc::Global;
 use std::process::Abort;
 use std::test::Fail;
 
-/// A run over one file in memory, and what must come of it.
-pub struct Row {
-    pub words: &'static [&'static str],
-    pub file: &'static str,
-    pub text: &'static str,
+/// Room of a sink that takes every text of the rows.
+pub const AMPLE: usize = 4_096;
+
+/// A run over files in memory, and what must come of it.
+#[derive(Drop)]
+pub struct Row<'a> {
+    pub words: &'a [&'a str],
+    /// Names and texts.
+    pub files: &'a [(&'a str, &'a str)],
     pub room: usize,
     pub status: u8,
-    pub written: &'static str,
+    pub written: &'a str,
 }
 
 /// Runs a row, and stops the test where another text or status comes.
-pub fn run(rt: &impl Abort, alloc: Global, row: &Row) -> Result<(), Fail> {
+pub fn run(rt: &impl Abort, alloc: Global, row: &Row<'_>) -> Result<(), Fail> {
     let mut shelf = MemShelf::new(alloc);
-    shelf.add(row.file, row.text.as_bytes())?;
+    for (name, text) in row.files {
+        shelf.add(name, text.as_bytes())?;
+    }
     let mut sink = MemSink::new(alloc, row.room)?;
     let mut words = Vec::new(alloc);
     for word in row.words {

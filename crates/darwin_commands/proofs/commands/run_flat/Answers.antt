@@ -1,7 +1,8 @@
 -- A run of `flat` fetches one description, and answers by what the fetch gave.
 use Rattle.std.proofs.Common.{[], ◌∷◌, ◌++◌, codes, sym, ◌∙◌, append-nil}
 use Rattle.darwin_commands.specs.declared.status.Status.TheVariants as status
-use Rattle.darwin_commands.specs.Answers.{no_memory, nothing, description, flat_answered, fetch_of, failed_name}
+use Rattle.darwin_commands.specs.Answers.{no_memory, nothing, description, described, fetch_of, failed_name}
+use Rattle.darwin_commands.specs.Wanted.{its_graph}
 use Rattle.darwin_commands.specs.Fetching.{given_of}
 use Rattle.darwin_commands.proofs.commands.run_flat.Goals as goal
 
@@ -23,7 +24,7 @@ returns-in-Ok-flat g c words asks =
       fetches = fetch_of c.args.file.now given ∷ [];
       own = c.in-Ok-flat.answer.status;
       text = c.in-Ok-flat.answer.text.items;
-      answers = flat_answered c.args.file.now c.args.top.now c.args.args.now given c.in-Ok-flat.answer.status c.in-Ok-flat.answer.text.items asks c.in-Ok-flat.ensures;
+      answers = described c.args.file.now (its_graph c.args.top.now c.args.args.now) given c.in-Ok-flat.answer.status c.in-Ok-flat.answer.text.items asks c.in-Ok-flat.ensures;
       noted = rw (append-nil (failed_name (fetch_of c.args.file.now given))) c.in-Ok.ensures.0;
       told = (c.in-Ok.ensures.1, tt);
       written = rw c.as_slice.ensures.value at c.write.ensures;
@@ -36,7 +37,7 @@ returns-in-Err-flat g c words asks =
       fetches = fetch_of c.args.file.now given ∷ [];
       own = status.NoMemory;
       text = codes "no memory" ++ 10 ∷ [];
-      answers = no_memory (fetch_of c.args.file.now given ∷ []) (description c.args.file.now c.args.top.now c.args.args.now given asks);
+      answers = no_memory (fetch_of c.args.file.now given ∷ []) (description c.args.file.now (its_graph c.args.top.now c.args.args.now) given asks);
       noted = rw (append-nil (failed_name (fetch_of c.args.file.now given))) c.in-Ok.ensures.0;
       told = (c.in-Ok.ensures.1, tt);
       written = c.no_memory.ensures;

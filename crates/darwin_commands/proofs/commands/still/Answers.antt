@@ -14,5 +14,7 @@ returns g c = record {
   every_write_fault = ending.every_write_fault _ _ _ _ _ _ _ _ _ c.run.ensures;
   flattened = flattening.flattens _ _ _ _ _ _ _ _ _ c.run.ensures;
   refused = flattening.refuses _ _ _ _ _ _ _ _ _ c.run.ensures;
-  complete = flattening.completes _ _ _ _ _ _ _ _ _ c.run.ensures;
+  every_refusal = λ file wanted files asks telling steady. flattening.must_refuse _ _ _ _ _ _ _ _ _ c.run.ensures file wanted files asks telling steady;
+  complete = λ file wanted files asks telling steady. flattening.completes _ _ _ _ _ _ _ _ _ c.run.ensures file wanted files asks telling steady;
+  every_graph = flattening.every_graph _ _ _ _ _ _ _ _ _ c.run.ensures;
 }

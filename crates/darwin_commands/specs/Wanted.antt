@@ -1,0 +1,24 @@
+-- What a command wants of a description: with which words its bytes are refused, and which status and text they give.
+use Rattle.std.specs.Prelude.{◌≡◌, ℕ, ℤ, List}
+use Rattle.config_graph.specs.Graph.{Configuration}
+use Rattle.config_graph.specs.GraphText.{graph_text}
+use Rattle.darwin_commands.specs.declared.status.Status.{Status}
+use Rattle.darwin_commands.specs.declared.status.Status.TheVariants as status
+use Rattle.darwin_commands.specs.Words.{flat, Asks}
+use Rattle.darwin_commands.specs.Descriptions.{HasGraph, Refuses}
+
+pub data Wanted : Type 0 where
+  -- the graph of a component with these arguments
+  its_graph : (top : List ℕ) (args : List ℤ) → Wanted
+
+-- the words ask for it, of the description in the file of this name
+abbrev pub AsksFor : List (List ℕ) → List ℕ → Wanted → Type 0
+AsksFor words file (its_graph top args) = Asks words (flat file top args)
+
+-- these words say why the bytes are refused
+abbrev pub IsRefused : Wanted → List ℕ → List (List ℕ) → Type 0
+IsRefused (its_graph top args) text words = Refuses text top args words
+
+-- the bytes give this status and text
+abbrev pub Gives : Wanted → List ℕ → Status → List ℕ → Type 0
+Gives (its_graph top args) text own written = (own ≡ status.Ok) × ((graph : Configuration) × HasGraph text top args graph × (written ≡ graph_text graph))

@@ -1,0 +1,158 @@
+//! Rows of words: of each form, and of none.
+
+use crate::descriptions::LINE;
+use crate::running::{AMPLE, Row, run};
+use std::test::Fail;
+
+/// Words, and what they come to where `f.dar` has a line.
+struct Words {
+    words: &'static [&'static str],
+    status: u8,
+    written: &'static str,
+}
+
+static WORDS: [Words; 24] = [
+    Words {
+        words: &[],
+        status: 1,
+        written: "usage\n",
+    },
+    Words {
+        words: &["--help"],
+        status: 0,
+        written: "darwin_run --help\ndarwin_run --version\ndarwin_run flat FILE NAME INT*\n",
+    },
+    Words {
+        words: &["--version"],
+        status: 0,
+        written: "darwin_run 0.1.0\n",
+    },
+    Words {
+        words: &["--help", "x"],
+        status: 1,
+        written: "usage\n",
+    },
+    Words {
+        words: &["--version", "--help"],
+        status: 1,
+        written: "usage\n",
+    },
+    Words {
+        words: &["help"],
+        status: 1,
+        written: "usage\n",
+    },
+    Words {
+        words: &["frob", "f.dar", "Line"],
+        status: 1,
+        written: "usage\n",
+    },
+    Words {
+        words: &["flat"],
+        status: 1,
+        written: "usage\n",
+    },
+    Words {
+        words: &["flat", "f.dar"],
+        status: 1,
+        written: "usage\n",
+    },
+    Words {
+        words: &["flat", "", "Line", "3", "10"],
+        status: 1,
+        written: "usage\n",
+    },
+    Words {
+        words: &["flat", "f.dar", "", "3", "10"],
+        status: 1,
+        written: "usage\n",
+    },
+    Words {
+        words: &["flat", "f.dar", "inst"],
+        status: 1,
+        written: "usage\n",
+    },
+    Words {
+        words: &["flat", "f.dar", "3", "10"],
+        status: 1,
+        written: "usage\n",
+    },
+    Words {
+        words: &[
+            "flat",
+            "f.dar",
+            "aaaaaaaaaabbbbbbbbbbccccccccccddddddddddeeeeeeeeeeffffffffffggggg",
+        ],
+        status: 1,
+        written: "usage\n",
+    },
+    Words {
+        words: &[
+            "flat",
+            "f.dar",
+            "aaaaaaaaaabbbbbbbbbbccccccccccddddddddddeeeeeeeeeeffffffffffgggg",
+        ],
+        status: 2,
+        written: "description f.dar: NoTop aaaaaaaaaabbbbbbbbbbccccccccccddddddddddeeeeeeeeeeffffffffffgggg\n",
+    },
+    Words {
+        words: &["flat", "f.dar", "Line", "+1", "10"],
+        status: 1,
+        written: "usage\n",
+    },
+    Words {
+        words: &["flat", "f.dar", "Line", "-", "10"],
+        status: 1,
+        written: "usage\n",
+    },
+    Words {
+        words: &["flat", "f.dar", "Line", "", "10"],
+        status: 1,
+        written: "usage\n",
+    },
+    Words {
+        words: &["flat", "f.dar", "Line", "--1", "10"],
+        status: 1,
+        written: "usage\n",
+    },
+    Words {
+        words: &["flat", "f.dar", "Line", "3", "1x"],
+        status: 1,
+        written: "usage\n",
+    },
+    Words {
+        words: &["flat", "f.dar", "Line", "2147483648", "10"],
+        status: 1,
+        written: "usage\n",
+    },
+    Words {
+        words: &["flat", "f.dar", "Line", "3", "-2147483649"],
+        status: 1,
+        written: "usage\n",
+    },
+    Words {
+        words: &["flat", "f.dar", "Line", "-0", "00010"],
+        status: 0,
+        written: "node m map(10)\nport m.next t.in\nnode s source(0)\nport s.out m.in\nnode t sink()\n",
+    },
+    Words {
+        words: &["flat", "none.dar", "Line", "3", "10"],
+        status: 4,
+        written: "read fault none.dar\n",
+    },
+];
+
+#[test]
+fn words_have_forms(rt: HostRuntime) -> Result<(), Fail> {
+    for row in &WORDS {
+        let row = Row {
+            words: row.words,
+            files: &[("f.dar", LINE)],
+            room: AMPLE,
+            status: row.status,
+            written: row.written,
+        };
+        run(&rt, rt.alloc(), &row)?;
+    }
+    Ok(())
+}
