@@ -42,7 +42,7 @@ impl Environment<'_, '_> {
     }
 }
 
-/// The value of a name among variables, which are as few as `forall` round a place are.
+/// The value of a name among variables, or 0 where none has it.
 fn value_among(variables: &[Variable], name: &Text) -> i32
     ensures { result ≡ value_of_name (env_of variables.now) name.now }
 {

@@ -23,7 +23,7 @@ pub(crate) fn by_name<'a, T: Named<'a>>(
 ) -> Result<IndexMap<&'a [u8], T>, AllocError>
     ensures { IfOk result (λ index. Finds T.name_of index.entries items.now) }
 {
-    let mut index = IndexMap::new(alloc);
+    let mut index = IndexMap::with_capacity(alloc, items.len())?;
     let mut left = items;
     // From the last on, so that the first of a name comes to stand for it.
     while let Some((item, before)) = left.split_last() {
