@@ -11,7 +11,7 @@ use Rattle.std.proofs.lemmas.List.{length-map, map-append}
 use Rattle.std.proofs.lemmas.List.Elements.{All-head, All-tail}
 use Rattle.darwin_parser.specs.Tree.{Tree, tree_of, component_of}
 use Rattle.darwin_parser.specs.declared.tree.Unit.{Unit as Description}
-use Rattle.darwin_types.specs.Scope.{is_primitive}
+use Rattle.darwin_types.specs.Scope.{component_named, is_primitive}
 use Rattle.elaborator.specs.Paths.{Path}
 use Rattle.elaborator.specs.Instances.{Instance, made_in, paths_in, Inst, count_in, total}
 use Rattle.elaborator.specs.Faults.{own_faults, Twice}
@@ -30,6 +30,7 @@ use Rattle.elaborator.specs.declared.growing.Growth.{Growth}
 use Rattle.elaborator.specs.declared.instance.Expansion.{Expansion}
 use Rattle.elaborator.specs.declared.error.ElabError.{ElabError}
 use Rattle.elaborator.specs.declared.error.ElabError.TheVariants as error
+use Rattle.elaborator.proofs.NamingLemmas.{made_named}
 use Rattle.elaborator.proofs.Lists.{Contains-map, Contains-from_map, slice_get-set_cases, slice_get-set_same, slice_get-set_other}
 use Rattle.elaborator.proofs.WholeLemmas.{Contains-at}
 use Rattle.elaborator.proofs.Places.{slice_get-append_cases, slice_get-below, slice_get-before, slice_get-behind, slice_get-map_some, slice_get-map_at, twice_at}
@@ -122,9 +123,9 @@ apart-mapped e mapped m n x y positive positive' at at' same =
     same_Some m n (sym (mapped.found m v.0 positive v.1) ∙ ap (number_at e) paths ∙ mapped.found n w.0 positive' w.1)
 
 pub whole-expanded :
-    (top : Instance) (g : Growth) → IsGrowth top g → top.depth ≡ 0 → is_primitive top.component ≡ false → g.opened ≡ length g.expansion.instances.items
-    → IsExpanded (seen g.expansion)
-whole-expanded top g growth shallow composite all =
+    (top : Instance) (g : Growth) → IsGrowth top g → top.depth ≡ 0 → component_named (tree_of g.expansion.directory.unit.now) top.component.name ≡ Some top.component
+    → is_primitive top.component ≡ false → g.opened ≡ length g.expansion.instances.items → IsExpanded (seen g.expansion)
+whole-expanded top g growth shallow top_named composite all =
     record {
       made_below = λ m n i j at at'. below_maker n m i j at at';
       below_made = λ m i j at has.
@@ -132,6 +133,7 @@ whole-expanded top g growth shallow composite all =
       distinct = λ m n i j at at' same level. distinct m n _ _ at.is_at at'.is_at same level;
       one_path = λ a b m n i j at at' same. one_path m n a b i j at at' same;
       shallow = λ n i at. (growth.grown.clear n _ (within n _ at.is_at) at.is_at).shallow;
+      named = λ n i at. named n _ at.is_at;
       composite_top = λ n i at. top_only n i at;
     }
   where
@@ -156,6 +158,11 @@ whole-expanded top g growth shallow composite all =
     one_path zero n a b i j at at' same = absurd (not_top a i at)
     one_path (suc m) zero a b i j at at' same = absurd (not_top b j at')
     one_path (suc m) (suc n) a b i j at at' same = apart-mapped g.expansion growth.mapped (suc m) (suc n) _ _ (omega arith) (omega arith) at at' same
+
+    named : (n : ℕ) (x : Made) → slice_get (map made_of g.expansion.instances.items) n ≡ Some x → component_named (tree_of g.expansion.directory.unit.now) x.instance.component.name ≡ Some x.instance.component
+    named zero x at =
+        subst (λ (z : Made). component_named (tree_of g.expansion.directory.unit.now) z.instance.component.name ≡ Some z.instance.component) (same_made _ 0 _ _ growth.grown.first at) top_named
+    named (suc n) x at = let w = growth.grown.maker n x at in made_named (tree_of g.expansion.directory.unit.now) w.1.instance x.instance w.6
 
     top_only : (n : ℕ) (i : Instance) → slice_get (map made_of g.expansion.instances.items) n ≡ Some (record { instance = i; maker = None }) → is_primitive i.component ≡ false
     top_only zero i at = ap (λ (z : Made). is_primitive z.instance.component) (sym (same_made _ 0 _ _ growth.grown.first at)) ∙ composite
@@ -220,11 +227,11 @@ whole-clear top g growth all =
     }
 
 pub whole-kept :
-    (top : Instance) (g : Growth) → IsGrowth top g → top.depth ≡ 0 → is_primitive top.component ≡ false → g.opened ≡ length g.expansion.instances.items
-    → IsKept g.expansion
-whole-kept top g growth shallow composite all =
+    (top : Instance) (g : Growth) → IsGrowth top g → top.depth ≡ 0 → component_named (tree_of g.expansion.directory.unit.now) top.component.name ≡ Some top.component
+    → is_primitive top.component ≡ false → g.opened ≡ length g.expansion.instances.items → IsKept g.expansion
+whole-kept top g growth shallow named composite all =
     record {
-      is_expanded = whole-expanded top g growth shallow composite all;
+      is_expanded = whole-expanded top g growth shallow named composite all;
       few = omega (arith, growth.few);
       counted = growth.mapped.counted;
       primitive = λ n i at. growth.told n i at;
@@ -257,12 +264,12 @@ whole-of top g growth all =
     }
 
 pub whole :
-    (unit : Description) (top : code.Instance) (g : Growth) → IsTop top → tree_of g.expansion.directory.unit.now ≡ tree_of unit → IsGrowth (instance_in top) g
+    (unit : Description) (top : code.Instance) (g : Growth) → IsTop (tree_of unit) top → tree_of g.expansion.directory.unit.now ≡ tree_of unit → IsGrowth (instance_in top) g
     → length g.expansion.instances.items ≤ g.opened → IsWhole unit top g.expansion
 whole unit top g is_top same growth all_opened =
     let all : g.opened ≡ length g.expansion.instances.items = omega (arith, all_opened, growth.within) in
     record {
-      kept = whole-kept (instance_in top) g growth is_top.depth is_top.composite all;
+      kept = whole-kept (instance_in top) g growth is_top.depth (subst (λ tree. component_named tree top.component.now.name ≡ Some (component_of top.component.now)) (sym same) is_top.named) is_top.composite all;
       same_tree = same;
       is_of = whole-of (instance_in top) g growth all;
       clear = subst (λ tree. IsClear tree (instance_in top)) same (whole-clear (instance_in top) g growth all);
@@ -270,9 +277,9 @@ whole unit top g is_top same growth all_opened =
 
 -- the top alone
 pub growth-top :
-    (top : code.Instance) (g : Growth) → IsTop top → g.expansion.instances.items ≡ top ∷ [] → g.opened ≡ 0 → g.room ≡ 65536 → g.expansion.numbers.entries ≡ []
+    (t : Tree) (top : code.Instance) (g : Growth) → IsTop t top → g.expansion.instances.items ≡ top ∷ [] → g.opened ≡ 0 → g.room ≡ 65536 → g.expansion.numbers.entries ≡ []
     → IsGrowth (instance_in top) g
-growth-top top g is_top alone none_opened all_room empty =
+growth-top t top g is_top alone none_opened all_room empty =
     record {
       at_top = is_top.depth;
       grown =

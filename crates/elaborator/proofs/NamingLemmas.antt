@@ -1,21 +1,27 @@
 -- Indexes of names.
-use Rattle.std.proofs.Common.{◌≡◌, ◌∙◌, ℕ, suc, ◌+◌, ◌<◌, ◌≤◌, Bool, true, false, not, cond, ltb, List, [], ◌∷◌, Option, Some, None, Bor, length, map, drop, get_or, position, bytes_eq, is_some, refl, ap, sym, subst, arith, inl, inr}
-use Rattle.std.specs.List.{position_from, position_or_len, slice_get}
+use Rattle.std.proofs.Common.{◌≡◌, ◌∙◌, ℕ, suc, ◌+◌, ◌<◌, ◌≤◌, ℤ, eqb, Bool, true, false, not, cond, ltb, List, [], ◌∷◌, ◌++◌, Option, Some, None, Bor, length, map, take, drop, get_or, position, bytes_eq, is_some, refl, ap, sym, subst, arith, inl, inr}
+use Rattle.std.specs.List.{Contains, position_from, position_or_len, slice_get}
 use Rattle.std.specs.Map.{lookup}
 use Rattle.std.specs.Option.{option_map, option_or}
-use Rattle.std.proofs.lemmas.Bool.{false≢true, lt-ltb, le-ltb, cases_lt}
-use Rattle.std.proofs.lemmas.List.{drop_more, drop_all}
+use Rattle.std.proofs.lemmas.Bool.{false≢true, lt-ltb, le-ltb, cases_lt, eq-eqb}
+use Rattle.std.proofs.lemmas.List.{drop_more, drop_all, length-append, take_more}
 use Rattle.std.proofs.lemmas.Option.{none-some, same_Some, slice_get-map}
 use Rattle.std.proofs.lemmas.Slice.Eq.{bytes_eq-Decides}
 use Rattle.indexmap.specs.IndexMap.{insert_entry}
 use Rattle.indexmap.proofs.MapLemmas.{insert_entry-absent, absent_from_lookup}
 use Rattle.darwin_parser.specs.declared.tree.Component as code
-use Rattle.darwin_parser.specs.Tree.{Name, component_of}
-use Rattle.darwin_types.specs.Scope.{component_named}
+use Rattle.darwin_parser.specs.declared.tree.PortDecl as code_port
+use Rattle.darwin_parser.specs.Tree.{Name, Tree, Component, component_of, port_of}
+use Rattle.darwin_types.specs.Scope.{component_named, is_primitive}
 use Rattle.darwin_types.proofs.Lookups.{lookup-append}
-use Rattle.elaborator.specs.Naming.{place_in, IsAdded, Indexes}
+use Rattle.darwin_walk.specs.Value.{Env, parameters}
+use Rattle.elaborator.specs.Instances.{Instance, top_instance, children_in, child_path, instance_of, made_in}
+use Rattle.elaborator.specs.Naming.{place_in, IsAdded, Indexes, ArePortsIndexed}
+use Rattle.elaborator.specs.Paths.{Path}
+use Rattle.elaborator.specs.Ports.{place_of}
 use Rattle.elaborator.specs.declared.name_index.NameIndex.{NameIndex}
-use Rattle.elaborator.proofs.Lists.{find-no_position, find-position, position-map}
+use Rattle.elaborator.proofs.Lists.{find-no_position, find-position, find-some, position-map, Contains-from_filter_map, made_of_two, slice_get-push_cases}
+use Rattle.elaborator.proofs.Places.{slice_get-there, slice_get-below}
 
 -- a name that the index lacks goes last
 pub added-new :
@@ -116,3 +122,71 @@ pub component-at :
 component-at cs name k x is at =
     find-position (λ c. bytes_eq name c.name) (map component_of cs) k (position-map (λ c. bytes_eq name c.name) component_of cs ∙ is)
     ∙ slice_get-map component_of cs k ∙ ap (option_map component_of) at
+
+-- a component that a name finds is found by its own
+pub named_own : (tree : Tree) (name : Name) (c : Component) → component_named tree name ≡ Some c → component_named tree c.name ≡ Some c
+named_own tree name c named =
+    let passes = (find-some (λ d. bytes_eq name d.name) tree c named).1 in
+    subst (λ n. component_named tree n ≡ Some c) ((bytes_eq-Decides name c.name).0 passes) named
+
+pub made_named : (tree : Tree) (i j : Instance) → Contains (made_in tree i) j → component_named tree j.component.name ≡ Some j.component
+made_named tree i j made =
+    let from = Contains-from_filter_map (instance_of tree i) (children_in i) j made in
+    let child = from.0 in
+    let parts = made_of_two (λ c args. record { path = child_path i child; depth = suc i.depth; component = c; env = parameters c args }) (component_named tree child.component) child.arguments j from.2 in
+    subst (λ (x : Instance). component_named tree x.component.name ≡ Some x.component) parts.4 (named_own tree child.component parts.0 parts.2)
+
+-- ---- ports by their names
+
+abbrev pub port_name : code_port.PortDecl → Name
+port_name p = p.name
+
+-- the port of the name, where the indexes tell the component and its port
+pub port_told :
+    (indexes : List NameIndex) (components : List code.Component) (component name : Name) (k : ℕ) (index : NameIndex) (c : Component)
+    → ArePortsIndexed indexes components → position (λ d. bytes_eq component (component_name d)) components ≡ Some k
+    → slice_get indexes k ≡ Some index → component_named (map component_of components) component ≡ Some c
+    → place_in index name ≡ place_of name c.ports
+port_told indexes components component name k index c ports is at named =
+    let within = position_within (λ d. bytes_eq component (component_name d)) components k is in
+    let d = slice_get-there components k within in
+    let same : component_of d.0 ≡ c = same_Some _ _ (sym (component-at components component k d.0 is d.1) ∙ named) in
+    ports.each k index d.0 at d.1 name ∙ sym (position-map (λ p. bytes_eq name p.name) port_of d.0.ports.items) ∙ ap (λ (x : Component). place_of name x.ports) same
+
+pub ports-none : (components : List code.Component) → ArePortsIndexed [] (take 0 components)
+ports-none components = record { all = refl; each = λ k index c at at'. absurd (none-some index at) }
+
+pub ports-next :
+    (indexes : List NameIndex) (components : List code.Component) (i : ℕ) (index : NameIndex) (c : code.Component) → i < length components
+    → c ≡ get_or components i c → Indexes port_name index c.ports.items → ArePortsIndexed indexes (take i components)
+    → ArePortsIndexed (indexes ++ index ∷ []) (take (i + 1) components)
+ports-next indexes components i index c within is indexed so_far =
+    subst (ArePortsIndexed (indexes ++ index ∷ [])) (sym (take_more components i c within ∙ ap (λ x. take i components ++ x ∷ []) (sym is)))
+    (record {
+      all = length-append indexes (index ∷ []) ∙ ap (λ n. n + 1) so_far.all ∙ sym (length-append (take i components) (c ∷ []));
+      each = λ k x d at at'. each k x d at at';
+    })
+  where
+    each : (k : ℕ) (x : NameIndex) (d : code.Component) → slice_get (indexes ++ index ∷ []) k ≡ Some x → slice_get (take i components ++ c ∷ []) k ≡ Some d → Indexes port_name x d.ports.items
+    each k x d at at' =
+        elim (slice_get-push_cases indexes index k x at) [
+          | inl here ↦
+              elim (slice_get-push_cases (take i components) c k d at') [
+                | inl here' ↦ so_far.each k x d here here'
+                | inr last ↦ absurd (omega (arith, slice_get-below indexes k x here, last.0, so_far.all))
+              ]
+          | inr last ↦
+              elim (slice_get-push_cases (take i components) c k d at') [
+                | inl here' ↦ absurd (omega (arith, slice_get-below (take i components) k d here', last.0, so_far.all))
+                | inr last' ↦ subst (λ y. Indexes port_name y d.ports.items) last.1 (subst (λ (y : code.Component). Indexes port_name index y.ports.items) last'.1 indexed)
+              ]
+        ]
+
+-- the top, from what the code finds
+pub top_is :
+    (tree : Tree) (name : Name) (arguments : List ℤ) (c : Component) (path : Path) (env : Env) → component_named tree name ≡ Some c → is_primitive c ≡ false
+    → length c.params ≡ length arguments → path ≡ [] → env ≡ parameters c arguments
+    → top_instance tree name arguments ≡ Some (record { path = path; depth = 0; component = c; env = env })
+top_is tree name arguments c path env named composite params is_path is_env =
+    let same : eqb (length c.params) (length arguments) ≡ true = eq-eqb (length c.params) (length arguments) params in
+    rw (named, composite, same, is_path, is_env) refl

@@ -8,15 +8,16 @@ use Rattle.std.proofs.lemmas.Slice.Eq.{bytes_eq-Decides, slice_eq-Decides}
 use Rattle.std.proofs.lemmas.Option.{slice_get-map, slice_get_within, same_Some, get_or_from_slice_get}
 use Rattle.std.proofs.lemmas.List.Quantifiers.{position-Some}
 use lib.Pointwise.{pointwise}
-use Rattle.darwin_parser.specs.Tree.{Name, Tree, PortDecl, port_of}
+use Rattle.darwin_parser.specs.Tree.{Name, Tree, Component, PortDecl, port_of}
 use Rattle.darwin_parser.specs.declared.tree.PortDecl as code_port
+use Rattle.darwin_types.specs.Scope.{component_named}
 use Rattle.darwin_walk.specs.Instance.{End}
 use Rattle.darwin_walk.specs.Walked.{segment_of, end_of}
 use Rattle.darwin_walk.specs.declared.walked.End as code_end
 use Rattle.elaborator.specs.Instances.{Instance}
 use Rattle.elaborator.specs.Bindings.{instance_at, named}
 use Rattle.elaborator.specs.Expanded.{Expanded, Made, Numbered}
-use Rattle.elaborator.specs.Expansion.{seen, made_of, instance_in}
+use Rattle.elaborator.specs.Expansion.{seen, made_of, instance_in, IsKept}
 use Rattle.elaborator.specs.Ports.{place_of, Stands, Names, NotesDifferIn}
 use Rattle.elaborator.specs.declared.instance.Instance as code_instance
 use Rattle.elaborator.specs.declared.instance.Expansion.{Expansion}
@@ -101,3 +102,13 @@ named_found e n m k i j x end d inner at stands is place stands_at is_inner =
         first = subst (λ b. place_of b ports ≡ Some k) name place;
       },
     )
+
+-- the place of the port of a name, where an index tells it of the component's name
+pub place_told :
+    (e : Expansion) → IsKept e → (n : ℕ) (x : code_instance.Instance) (component bytes name : Name) (r : Option ℕ)
+    → slice_get (seen e).made n ≡ Some (made_of x) → component ≡ x.component.now.name → bytes ≡ name
+    → ((c : Component) → component_named (seen e).tree component ≡ Some c → r ≡ place_of bytes c.ports)
+    → place_of name (instance_in x).component.ports ≡ r
+place_told e kept n x component bytes name r at same_component same_name told =
+    let named = kept.is_expanded.named n (instance_in x) (record { maker = x.maker; is_at = at }) in
+    ap (λ b. place_of b (instance_in x).component.ports) (sym same_name) ∙ sym (told (instance_in x).component (ap (component_named (seen e).tree) same_component ∙ named))

@@ -1,7 +1,7 @@
 -- The instances of an elaboration by number, from 0, each with the number of the one in which it was made.
 use Rattle.std.specs.Prelude.{◌≡◌, ℕ, ◌<◌, false, List, Option, Some, None, slice_get, Contains, MatchOption, find, Bool, bytes_eq}
 use Rattle.darwin_parser.specs.Tree.{Tree}
-use Rattle.darwin_types.specs.Scope.{is_primitive}
+use Rattle.darwin_types.specs.Scope.{component_named, is_primitive}
 use Rattle.elaborator.specs.Paths.{Path}
 use Rattle.elaborator.specs.Instances.{Instance, made_in, Inst}
 
@@ -33,6 +33,8 @@ pub record IsExpanded (e : Expanded) : Type 0 where
   pub distinct : (m n : ℕ) (i j : Instance) → Numbered e m i → Numbered e n j → i.path ≡ j.path → i.depth ≡ j.depth → m ≡ n
   pub one_path : (a b m n : ℕ) (i j : Instance) → NumberedIn e a m i → NumberedIn e b n j → i.path ≡ j.path → m ≡ n
   pub shallow : (n : ℕ) (i : Instance) → Numbered e n i → i.depth < 33
+  -- an instance is of the component that has the name
+  pub named : (n : ℕ) (i : Instance) → Numbered e n i → component_named e.tree i.component.name ≡ Some i.component
   -- the top is no node
   pub composite_top : (n : ℕ) (i : Instance) → slice_get e.made n ≡ Some (record { instance = i; maker = None }) → is_primitive i.component ≡ false
 

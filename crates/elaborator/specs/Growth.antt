@@ -1,9 +1,9 @@
 -- What an expansion tells: the faults that are found while instances are made, and that none of them holds.
-use Rattle.std.specs.Prelude.{◌≡◌, ◌≢◌, ◌<◌, ◌≤◌, false, [], None, Contains}
+use Rattle.std.specs.Prelude.{◌≡◌, ◌≢◌, ◌<◌, ◌≤◌, false, [], Some, None, Contains}
 use Rattle.darwin_lexer.specs.declared.token.At.{At}
 use Rattle.darwin_parser.specs.Tree.{Tree, component_of, tree_of}
 use Rattle.darwin_parser.specs.declared.tree.Unit.{Unit as Description}
-use Rattle.darwin_types.specs.Scope.{is_primitive}
+use Rattle.darwin_types.specs.Scope.{component_named, is_primitive}
 use Rattle.darwin_walk.specs.declared.fault.Fault.TheVariants as shown
 use Rattle.elaborator.specs.Paths.{Path}
 use Rattle.elaborator.specs.Instances.{Instance, Inst, total, paths_in}
@@ -16,7 +16,8 @@ use Rattle.elaborator.specs.declared.error.ElabError.{ElabError}
 use Rattle.elaborator.specs.declared.error.ElabError.TheVariants as error
 
 -- the instance may stand at the top
-pub record IsTop (i : code.Instance) : Type 0 where
+pub record IsTop (tree : Tree) (i : code.Instance) : Type 0 where
+  pub named : component_named tree i.component.now.name ≡ Some (component_of i.component.now)
   pub unmade : i.maker ≡ None
   pub depth : i.depth ≡ 0
   pub composite : is_primitive (component_of i.component.now) ≡ false

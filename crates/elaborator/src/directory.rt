@@ -1,29 +1,39 @@
 //! The components of a description by name.
 
 ghost use Rattle.std.specs.Prelude.{◌≡◌, ◌==◌, [], None, Some, MatchOption, IfOk, length};
-ghost use Rattle.darwin_parser.specs.Tree.{component_of, stmt_of, stmts_of, tree_of};
+ghost use Rattle.darwin_parser.specs.Tree.{Component as PureComponent, component_of, stmt_of, stmts_of, tree_of};
 ghost use Rattle.darwin_types.specs.Scope.{component_named, is_primitive as is_primitive_component, entries_of, entries_of_stmt};
-ghost use Rattle.elaborator.specs.Naming.{Indexes};
+ghost use Rattle.elaborator.specs.Naming.{Indexes, ArePortsIndexed};
+ghost use Rattle.elaborator.specs.Ports.{place_of};
 
 use crate::name_index::NameIndex;
-use darwin_parser::{Component, Stmt, Unit};
+use darwin_parser::{Component, PortDecl, Stmt, Unit};
 use std::alloc::{AllocError, Global};
 
-/// The components of a description by name. Where two have one name the first counts.
+/// The components of a description by name, and the ports of each by name. Where two have one name the
+/// first counts.
 #[derive(Drop)]
 pub struct Directory<'a> {
     pub unit: &'a Unit,
     places: NameIndex<'a>,
+    ports: Vec<NameIndex<'a>>,
     ghost indexed: { Indexes (λ c. c.name) places unit.now.components.items },
+    ghost with_ports: { ArePortsIndexed ports.items unit.now.components.items },
 }
 
 impl<'a> Directory<'a> {
-    /// Indexes the components of a description.
+    /// Indexes the components of a description, and their ports.
     pub fn of(alloc: Global, unit: &'a Unit) -> Result<Directory<'a>, AllocError>
         ensures { IfOk result (λ d. d.unit ≡ unit.entry) }
     {
-        let places = index_components(alloc, unit.components.as_slice())?;
-        Ok(Directory { unit, places })
+        let components = unit.components.as_slice();
+        let places = index_components(alloc, components)?;
+        let ports = index_all_ports(alloc, components)?;
+        Ok(Directory {
+            unit,
+            places,
+            ports,
+        })
     }
 
     /// The component with the name.
@@ -32,6 +42,14 @@ impl<'a> Directory<'a> {
     {
         let place = self.places.place(name)?;
         Some(&self.unit.components[place])
+    }
+
+    /// The place of the first port with the name in the component of a name.
+    pub fn port_place(&self, component: &[u8], name: &[u8]) -> Option<usize>
+        ensures { (c : PureComponent) → component_named (tree_of self.now.unit.now) component.now ≡ Some c → result ≡ place_of name.now c.ports }
+    {
+        let place = self.places.place(component)?;
+        self.ports[place].place(name)
     }
 }
 
@@ -44,6 +62,29 @@ fn index_components<'a>(
     let mut index = NameIndex::new(alloc);
     for place in 0..components.len() {
         index.add(components[place].name.as_bytes(), place)?;
+    }
+    Ok(index)
+}
+
+fn index_all_ports<'a>(
+    alloc: Global,
+    components: &'a [Component],
+) -> Result<Vec<NameIndex<'a>>, AllocError>
+    ensures { IfOk result (λ ports. ArePortsIndexed ports.items components.now) }
+{
+    let mut ports = Vec::new(alloc);
+    for component in components {
+        ports.push(index_ports(alloc, component.ports.as_slice())?)?;
+    }
+    Ok(ports)
+}
+
+fn index_ports<'a>(alloc: Global, ports: &'a [PortDecl]) -> Result<NameIndex<'a>, AllocError>
+    ensures { IfOk result (λ index. Indexes (λ p. p.name) index ports.now) }
+{
+    let mut index = NameIndex::new(alloc);
+    for place in 0..ports.len() {
+        index.add(ports[place].name.as_bytes(), place)?;
     }
     Ok(index)
 }

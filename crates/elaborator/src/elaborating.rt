@@ -54,7 +54,7 @@ fn top_of<'a>(
     name: &[u8],
     args: &[i32],
 ) -> Result<Instance<'a>, ElabError>
-    ensures { Answers (λ i. IsTop i × (top_instance (tree_of directory.now.unit.now) name.now args.now ≡ Some (instance_in i))) (Faults (tree_of directory.now.unit.now) name.now args.now) result }
+    ensures { Answers (λ i. IsTop (tree_of directory.now.unit.now) i × (top_instance (tree_of directory.now.unit.now) name.now args.now ≡ Some (instance_in i))) (Faults (tree_of directory.now.unit.now) name.now args.now) result }
 {
     let Some(component) = directory.find(name) else {
         return Err(ElabError::NoTop(Text::from_bytes(alloc, name)?));

@@ -40,7 +40,7 @@ pub(crate) fn expand<'a>(
     directory: Directory<'a>,
     top: Instance<'a>,
 ) -> Result<Expansion<'a>, ElabError>
-    requires { IsTop top }
+    requires { IsTop (tree_of directory.unit.now) top }
     ensures { Answers (IsWhole directory.entry.unit.now top.entry) (GrowthFault (tree_of directory.entry.unit.now) (instance_in top.entry)) result }
 {
     let mut growth = top_alone(alloc, directory, top)?;
@@ -56,7 +56,7 @@ fn top_alone<'a>(
     directory: Directory<'a>,
     top: Instance<'a>,
 ) -> Result<Growth<'a>, AllocError>
-    requires { IsTop top }
+    requires { IsTop (tree_of directory.unit.now) top }
     ensures { IfOk result (λ growth. (growth.expansion.directory.unit ≡ directory.entry.unit) × IsGrowth (instance_in top.entry) growth) }
 {
     let mut instances = Vec::new(alloc);

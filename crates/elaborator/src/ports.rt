@@ -65,7 +65,8 @@ pub fn find_named<'a>(
         return Ok(None);
     };
     let component = expansion.instance(instance).component;
-    let Some(port) = port_place(component.ports.as_slice(), end.port.as_bytes()) else {
+    let directory = &expansion.directory;
+    let Some(port) = directory.port_place(component.name.as_bytes(), end.port.as_bytes()) else {
         return Ok(None);
     };
     Ok(Some(Named {

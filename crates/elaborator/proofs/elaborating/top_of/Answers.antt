@@ -1,8 +1,9 @@
-use Rattle.std.proofs.Common.{◌≡◌, ◌≢◌, ◌∙◌, ℕ, length, ap, sym, subst, arith}
+use Rattle.std.proofs.Common.{◌≡◌, ◌≢◌, ◌∙◌, ℕ, length, refl, ap, sym, subst, arith}
 use Rattle.darwin_parser.specs.Tree.{tree_of, component_of}
 use Rattle.elaborator.specs.Faults.{Faults, capped}
 use Rattle.elaborator.specs.Faults.Faults.{no_top, top_is_kind, top_args}
 use Rattle.elaborator.specs.declared.error.ElabError.TheVariants as error
+use Rattle.elaborator.proofs.NamingLemmas.{named_own, top_is}
 use Rattle.elaborator.proofs.elaborating.top_of.Goals as goal
 
 pub returns-in_default : goal.returns-in_default
@@ -22,3 +23,13 @@ returns-then-len-args c = λ other.
     let wanted : c.capped.result ≡ capped (length component.params) = c.capped.ensures ∙ ap capped (omega (arith, c.len-then-len-args.ensures, c.in-Some.component.now.params.ok.0)) in
     let fault : ℕ → ℕ → Type 0 = λ w g. Faults (tree_of c.args.directory.now.unit.now) c.args.name.now c.args.args.now (error.TopArgs w g) in
     subst (λ w. fault w c.capped-then-len-args.result) (sym wanted) (subst (fault (capped (length component.params))) (sym c.capped-then-len-args.ensures) (top_args component named differ))
+
+pub returns : goal.returns
+returns c =
+    let tree = tree_of c.args.directory.now.unit.now in
+    let component = component_of c.in-Some.component.now in
+    let composite = sym c.is_primitive.ensures ∙ c.if-is_primitive.false in
+    let params : length component.params ≡ length c.args.args.now = grind (arith, c.len.ensures, c.if-len-args.false, c.in-Some.component.now.params.ok.0) in (
+      record { named = named_own tree c.args.name.now component c.in-Some.ensures; unmade = refl; depth = refl; composite = composite; noted = refl },
+      top_is tree c.args.name.now c.args.args.now component c.in_ok-from_bytes-3.field-0 _ c.in-Some.ensures composite params c.in_ok-from_bytes-3.ensures c.in_ok-parameters_of.ensures,
+    )

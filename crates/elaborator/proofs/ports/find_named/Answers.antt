@@ -6,7 +6,8 @@ use Rattle.std.proofs.lemmas.List.Quantifiers.{position-Some}
 use Rattle.darwin_parser.specs.Tree.{port_of}
 use Rattle.darwin_walk.specs.Walked.{end_of}
 use Rattle.elaborator.specs.Expansion.{seen, instance_in}
-use Rattle.elaborator.proofs.PortLemmas.{instance_numbered, stands_numbered, numbered_within, same_instance, place_found, named-no_port, named_found}
+use Rattle.elaborator.proofs.NamingLemmas.{position_within}
+use Rattle.elaborator.proofs.PortLemmas.{instance_numbered, stands_numbered, numbered_within, same_instance, place_told, named-no_port, named_found}
 use Rattle.elaborator.proofs.ports.find_named.Goals as goal
 
 pub instance-requires-clause-within : goal.instance-requires-clause-within
@@ -16,13 +17,21 @@ instance-requires-clause-within c =
     let w = rw c.in-Some.is at (c.in_ok-instance.ensures here.0 here.1) in
     numbered_within e c.in-Some.instance w.0 (stands_numbered e c.args.number _ c.in-Some.instance w.0 w.2)
 
+pub index-requires : goal.index-requires
+index-requires c =
+    let e = c.args.expansion.now in
+    let x = c.instance.result.now in
+    let place = place_told e c.requires.kept c.in-Some.instance x c.as_bytes.result.now c.as_bytes-2.result.now c.args.end.port.now c.port_place.result c.instance.ensures.made c.as_bytes.ensures c.as_bytes-2.ensures c.port_place.ensures in
+    let within = position_within _ (instance_in x).component.ports c.in-Some-port_place.port (place ∙ c.in-Some-port_place.is) in
+    omega (arith, length-map x.component.now.ports.items port_of, x.component.now.ports.ok.0, within)
+
 pub returns-in_default-port_place : goal.returns-in_default-port_place
 returns-in_default-port_place c = λ i at.
     let e = c.args.expansion.now in
     let x = c.instance.result.now in
     let w = rw c.in-Some.is at (c.in_ok-instance.ensures i at) in
     let same = same_instance e c.in-Some.instance x w.0 c.instance.ensures.made (stands_numbered (seen e) c.args.number _ c.in-Some.instance w.0 w.2) in
-    let place = place_found c.args.end.port.now c.as_bytes.result.now x.component.now.ports.items c.as_slice.result.now c.port_place.result c.port_place.ensures c.as_bytes.ensures c.as_slice.ensures.value in
+    let place = place_told e c.requires.kept c.in-Some.instance x c.as_bytes.result.now c.as_bytes-2.result.now c.args.end.port.now c.port_place.result c.instance.ensures.made c.as_bytes.ensures c.as_bytes-2.ensures c.port_place.ensures in
     named-no_port (seen e).tree i (instance_in x) (end_of c.args.end) (w.1 ∙ ap Some same) (place ∙ c.in_default-port_place.is)
 
 pub returns : goal.returns
@@ -30,7 +39,7 @@ returns c = λ i at.
     let e = c.args.expansion.now in
     let x = c.instance.result.now in
     let w = rw c.in-Some.is at (c.in_ok-instance.ensures i at) in
-    let place = place_found c.args.end.port.now c.as_bytes.result.now x.component.now.ports.items c.as_slice.result.now c.port_place.result c.port_place.ensures c.as_bytes.ensures c.as_slice.ensures.value in
+    let place = place_told e c.requires.kept c.in-Some.instance x c.as_bytes.result.now c.as_bytes-2.result.now c.args.end.port.now c.port_place.result c.instance.ensures.made c.as_bytes.ensures c.as_bytes-2.ensures c.port_place.ensures in
     let port = c.in-Some-port_place.port in
     let items = x.component.now.ports.items in
     let is_place = place ∙ c.in-Some-port_place.is in
