@@ -1,5 +1,5 @@
 -- A system that was started as a sound graph says is well formed.
-use Rattle.std.proofs.Common.{◌≡◌, ℕ, zero, suc, ◌+◌, ◌-◌, ◌<◌, ◌≤◌, Bool, true, false, not, eqb, ◌||◌, List, [], ◌∷◌, length, map, take, get_or, Some, None, refl, sym, ap, ◌∙◌, subst, ⊎_elim, arith, add-zero}
+use Rattle.std.proofs.Common.{◌≡◌, ℕ, zero, suc, ◌+◌, ◌-◌, ◌<◌, ◌≤◌, Bool, true, false, not, eqb, ◌||◌, List, [], ◌∷◌, length, map, take, get_or, Option, Some, None, refl, sym, ap, ◌∙◌, subst, ⊎_elim, arith, add-zero}
 use Rattle.std.specs.Prelude.{slice_get, option_map, sum_by}
 use Rattle.std.specs.List.{enumerate_from}
 use Rattle.std.specs.Option.{option_map_or}
@@ -12,21 +12,23 @@ use Rattle.std.specs.Cmp.Lexicographic.{slice_cmp}
 use Rattle.std.specs.declared.cmp.Ordering.TheVariants.{Less}
 use Rattle.std.proofs.lemmas.List.Elements.{All-contains}
 use Rattle.config_graph.specs.Kinds.{row, is_depended_on}
-use Rattle.config_graph.specs.Graph.{Configuration as Graph, first_port, ports, target_of, requires_of, requires_at, provides_at, provides_of}
+use Rattle.config_graph.specs.Graph.{Configuration as Graph, IsWithin, begins_at, link_at, port_number, first_port, ports, target_of, requires_of, requires_at, provides_at, provides_of}
 use Rattle.config_graph.specs.Cycles as cycles
 use Rattle.config_graph.specs.Sound.{Sound, HasItsArgument}
 use Rattle.config_graph.specs.declared.node.Node.{Node}
 use Rattle.config_graph.specs.declared.node.Port.{Port}
 use Rattle.config_graph.specs.declared.node.Target.{Target}
-use Rattle.config_graph.proofs.LinkLemmas.{get-ports, port_number-place, require_within, target_within}
+use Rattle.config_graph.proofs.LinkLemmas.{Contains-find, begins_there, find_passes, get-ports, port_number-place, require_within, target_within}
 use Rattle.config_graph.proofs.NumberingLemmas.{length-ports}
 use Rattle.quiesce_core.specs.declared.state.Slot.{Slot}
 use Rattle.quiesce_core.specs.declared.state.Gate.{Gate}
-use Rattle.quiesce_core.specs.State.{Configuration, fresh_gate, fresh_exchange, slot, gate, target}
+use Rattle.quiesce_core.specs.State.{Configuration, fresh_gate, fresh_exchange, slot, gate, owner, target}
 use Rattle.quiesce_core.specs.Reach.{IsPortOf, Leads, can_walk, has_no_cycle}
 use Rattle.quiesce_core.specs.WellFormed.{StandInARow, IsWithinBounds, IsSound, IsWellFormed}
 use Rattle.quiesce_core.specs.Named.{AreNamed}
-use Rattle.quiesce_core.proofs.OrderLemmas.{contains_at, irreflexive}
+use Rattle.quiesce_core.proofs.OrderLemmas.{contains_at, stands_in, irreflexive}
+use Rattle.quiesce_core.specs.Live.{StandsAt, IsLiveLink, IsGraphOf}
+use Rattle.config_graph.specs.declared.node.Link.{Link}
 use Rattle.quiesce_core.specs.Start.{slot_of, gate_of, free, unused, started}
 use Rattle.quiesce_core.proofs.Lists.{range_all, count_in, count_in-le, count_in_rises}
 use Rattle.quiesce_core.proofs.Cycles.{walk_from, walker_made, map_or_at}
@@ -234,6 +236,71 @@ module _ (g : Graph) (sound : Sound g) (few_nodes : length g.nodes ≤ 1023) (fe
       bounds_unused [] p = record { serial = omega arith; value = omega arith }
       bounds_unused (q ∷ ps) zero = record { serial = omega arith; value = omega arith }
       bounds_unused (q ∷ ps) (suc p) = bounds_unused ps p
+
+  -- a node stands at one place
+  one_place : (i j : ℕ) (node : Node) → slice_get g.nodes i ≡ Some node → slice_get g.nodes j ≡ Some node → i ≡ j
+  one_place i j node at_i at_j =
+      named_started.paths i j (slot_of g.nodes (i, node)) (slot_of g.nodes (j, node)) (slot_made i node at_i) (slot_made j node at_j) refl refl refl
+
+  stands_started : (i : ℕ) (node : Node) → slice_get g.nodes i ≡ Some node → StandsAt (started g).config g.nodes i i
+  stands_started i node at = record { made = slot_of g.nodes (i, node); there = slot_made i node at; live = refl; stands = at }
+
+  stood : (n i : ℕ) → StandsAt (started g).config g.nodes n i → n ≡ i
+  stood n i s =
+      let w = slot_was n s.made s.there in
+      let same : w.0 ≡ s.made.node = ap (λ (m : Slot). m.node) (sym w.2) in
+      one_place n i s.made.node (w.1 ∙ ap Some same) s.stands
+
+  link_started : (i r j x : ℕ) → cycles.IsLinked g i r j x → IsLiveLink (started g).config g.nodes i r j x
+  link_started i r j x e = by (link_at g.links i r) refl e
+    where
+      node_at : (f : Node → ℕ) (n k : ℕ) → k < option_map_or f (slice_get g.nodes n) 0 → (node : Node) × (slice_get g.nodes n ≡ Some node)
+      node_at f n k h = there g.nodes n (⊎_elim (λ (l : n < length g.nodes). l)
+          (λ (past : length g.nodes ≤ n). absurd (omega (arith, ap (λ o. option_map_or f o 0) (slice_get_past g.nodes n past), h))) (cases_lt n (length g.nodes)))
+
+      by : (o : Option Link) → link_at g.links i r ≡ o → target_of g.links i r ≡ Some (record { node = j; provide = x }) → IsLiveLink (started g).config g.nodes i r j x
+      by None at e = absurd (cc (ap (λ o. option_map {U = Target} (λ (l : Link). record { node = l.to; provide = l.provide }) o) at, e))
+      by (Some l) at e =
+          let begins = begins_there i r l (find_passes (begins_at i r) g.links l at) in
+          let within = All-contains (IsWithin g.nodes) g.links l sound.within (Contains-find (begins_at i r) g.links l at) in
+          let required : r < requires_at g.nodes i = subst (λ k. k < requires_at g.nodes i) begins.1 (subst (λ k. l.require < requires_at g.nodes k) begins.0 within.begins) in
+          let provided : x < provides_at g.nodes j = target_within g.nodes g.links i r (record { node = j; provide = x }) sound.within e in
+          let from = node_at requires_of i r required in
+          let to = node_at provides_of j x provided in
+          let here = gate_made (port_number g.nodes i r) (record { node = i; require = r }) (get-ports g.nodes i r required) in
+          record {
+            port = port_number g.nodes i r;
+            to = j;
+            leads = ap (λ (h : Gate). h.target) here ∙ e;
+            requirement = ap (λ (h : Gate). h.require) here;
+            from_there = subst (λ k. StandsAt (started g).config g.nodes k i) (sym (ap (λ (h : Gate). h.owner) here)) (stands_started i from.0 from.1);
+            to_there = stands_started j to.0 to.1;
+          }
+
+  link_was : (i r j x : ℕ) → IsLiveLink (started g).config g.nodes i r j x → cycles.IsLinked g i r j x
+  link_was i r j x v =
+      let w = target_was v.port (record { node = v.to; provide = x }) v.leads in
+      let here = gate_made v.port w.0 w.1 in
+      let from : w.0.node ≡ i = sym (ap (λ (h : Gate). h.owner) here) ∙ stood (owner (started g).config v.port) i v.from_there in
+      let require : w.0.require ≡ r = sym (ap (λ (h : Gate). h.require) here) ∙ v.requirement in
+      ap (λ k. target_of g.links k r) (sym from) ∙ ap (λ k. target_of g.links w.0.node k) (sym require) ∙ w.2
+      ∙ ap (λ k. Some (record { node = k; provide = x })) (stood v.to j v.to_there)
+
+  -- the graph of the system is the one that it was started as
+  pub graph_started : IsGraphOf (started g).config g
+  graph_started = record {
+    paths_rise = sound.paths_rise;
+    nodes_are = λ node. (
+      λ h.
+          let a = stands_in g.nodes node h in
+          record { number = a.0; made = slot_of g.nodes (a.0, node); there = slot_made a.0 node a.1; live = refl; is_node = refl },
+      λ v.
+          let w = slot_was v.number v.made v.there in
+          contains_at g.nodes v.number node (w.1 ∙ ap Some (ap (λ (m : Slot). m.node) (sym w.2) ∙ v.is_node)),
+    );
+    links_are = λ i r j x. (link_started i r j x, link_was i r j x);
+    in_order = sound.in_order;
+  }
 
 -- the first port after one node more
 pub first_port_more : (nodes : List Node) (i : ℕ) (n : Node) → slice_get nodes i ≡ Some n → first_port nodes i + requires_of n ≡ first_port nodes (i + 1)

@@ -15,3 +15,4 @@ pub mod OrderLemmas
 pub mod LiveLemmas
 pub mod NamedLemmas
 pub mod OneGraph
+pub mod KnowledgeLemmas

@@ -69,16 +69,16 @@ answered_busy phase.More h = refl
 
 -- look-ups after a write
 
-exchange_here : (s : State) (p : ℕ) (x : Exchange) → p < length s.traffic.exchanges → exchange (with_exchange s p x) p ≡ x
+pub exchange_here : (s : State) (p : ℕ) (x : Exchange) → p < length s.traffic.exchanges → exchange (with_exchange s p x) p ≡ x
 exchange_here s p x h = get_or-set_same s.traffic.exchanges p x fresh_exchange h
 
-exchange_there : (s : State) (p q : ℕ) (x : Exchange) → (q ≡ p → ⊥) → exchange (with_exchange s p x) q ≡ exchange s q
+pub exchange_there : (s : State) (p q : ℕ) (x : Exchange) → (q ≡ p → ⊥) → exchange (with_exchange s p x) q ≡ exchange s q
 exchange_there s p q x ne = get_or-set_other s.traffic.exchanges p q x fresh_exchange ne
 
-service_here : (s : State) (n : ℕ) (v : Option Service) → n < length s.traffic.services → service (with_service s n v) n ≡ v
+pub service_here : (s : State) (n : ℕ) (v : Option Service) → n < length s.traffic.services → service (with_service s n v) n ≡ v
 service_here s n v h = get_or-set_same s.traffic.services n v None h
 
-service_there : (s : State) (n m : ℕ) (v : Option Service) → (m ≡ n → ⊥) → service (with_service s n v) m ≡ service s m
+pub service_there : (s : State) (n m : ℕ) (v : Option Service) → (m ≡ n → ⊥) → service (with_service s n v) m ≡ service s m
 service_there s n m v ne = get_or-set_other s.traffic.services n m v None ne
 
 -- what a taken port's target services
@@ -179,11 +179,11 @@ steps s s' p n k c o = record {
 }
 
 -- no node services an idle or an answered port
-idle_unserved : (s : State) (p : ℕ) → IsConsistent s → is_idle (exchange s p).phase ≡ true → (m : ℕ) (v : Service) → service s m ≡ Some v → v.port ≡ p → ⊥
+pub idle_unserved : (s : State) (p : ℕ) → IsConsistent s → is_idle (exchange s p).phase ≡ true → (m : ℕ) (v : Service) → service s m ≡ Some v → v.port ≡ p → ⊥
 idle_unserved s p k idle m v e same =
     both_ways (is_idle (exchange s v.port).phase) (serving_busy (exchange s v.port).phase (k.serving m v e).busy) (ap (λ i. is_idle (exchange s i).phase) same ∙ idle)
 
-answered_unserved : (s : State) (p : ℕ) → IsConsistent s → is_answered (exchange s p).phase ≡ true → (m : ℕ) (v : Service) → service s m ≡ Some v → v.port ≡ p → ⊥
+pub answered_unserved : (s : State) (p : ℕ) → IsConsistent s → is_answered (exchange s p).phase ≡ true → (m : ℕ) (v : Service) → service s m ≡ Some v → v.port ≡ p → ⊥
 answered_unserved s p k answered m v e same =
     serving_unanswered (exchange s v.port).phase (k.serving m v e).busy (ap (λ i. is_answered (exchange s i).phase) same ∙ answered)
 
@@ -363,18 +363,18 @@ miss_consistent s p w c l =
 
 -- what a port's target services is put where the port leads
 
-put_is : (s : State) (p : ℕ) (t : Target) (v : Option Service) → target s.config p ≡ Some t → with_target_service s p v ≡ with_service s t.node v
+pub put_is : (s : State) (p : ℕ) (t : Target) (v : Option Service) → target s.config p ≡ Some t → with_target_service s p v ≡ with_service s t.node v
 put_is s p t v e =
     ap (λ o. record s { traffic = record s.traffic { services = option_map_or (λ (u : Target). set s.traffic.services u.node v) o s.traffic.services } }) e
 
-target_service_is : (s : State) (p : ℕ) (t : Target) → target s.config p ≡ Some t → target_service s p ≡ service s t.node
+pub target_service_is : (s : State) (p : ℕ) (t : Target) → target s.config p ≡ Some t → target_service s p ≡ service s t.node
 target_service_is s p t e = ap (λ o. option_and_then (λ (u : Target). service s u.node) o) e
 
 none_if : (v : Option Service) → is_none v ≡ true → v ≡ None
 none_if None h = refl
 none_if (Some v) h = absurd (both_ways false refl h)
 
-linked_to : (o : Option Target) → is_some o ≡ true → (t : Target) × (o ≡ Some t)
+pub linked_to : (o : Option Target) → is_some o ≡ true → (t : Target) × (o ≡ Some t)
 linked_to None h = absurd (both_ways false refl h)
 linked_to (Some t) h = (t, refl)
 
@@ -451,7 +451,7 @@ hear_consistent s p k v w c l =
     subst (λ y. IsConsistent y) (sym put) result
 
 -- the one that services a port is the one to which it is linked
-only_target : (s : State) (p : ℕ) (t : Target) → IsConsistent s → target s.config p ≡ Some t → (m : ℕ) (u : Service) → service s m ≡ Some u → u.port ≡ p → m ≡ t.node
+pub only_target : (s : State) (p : ℕ) (t : Target) → IsConsistent s → target s.config p ≡ Some t → (m : ℕ) (u : Service) → service s m ≡ Some u → u.port ≡ p → m ≡ t.node
 only_target s p t c leads m u e same =
     let other = c.serving m u e in
     let on : target s.config p ≡ Some (record { node = m; provide = other.provide }) = ap (λ i. target s.config i) (sym same) ∙ other.linked in
@@ -684,7 +684,7 @@ replicated x zero q = refl
 replicated x (suc k) zero = refl
 replicated x (suc k) (suc q) = replicated x k q
 
-fresh_behind : {A : Type 0} (xs : List A) (x : A) (k q : ℕ) → get_or (xs ++ replicate k x) q x ≡ get_or xs q x
+pub fresh_behind : {A : Type 0} (xs : List A) (x : A) (k q : ℕ) → get_or (xs ++ replicate k x) q x ≡ get_or xs q x
 fresh_behind xs x k q = ⊎_elim
     (λ (within : q < length xs). get_or_append_left xs (replicate k x) x q within)
     (λ (past : length xs ≤ q).

@@ -22,3 +22,4 @@ pub mod Traffic
 pub mod Named
 pub mod Live
 pub mod Listed
+pub mod Knows

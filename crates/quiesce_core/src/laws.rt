@@ -1,19 +1,25 @@
 //! Laws of the machine: what holds of every state, or of the state after every run.
 
-ghost use Rattle.std.specs.Prelude.{◌≡◌, ◌↔◌, ℕ, true, List, IsTrue};
+ghost use Rattle.std.specs.Prelude.{◌≡◌, ◌≤◌, ◌↔◌, ℕ, List, Some, length, IsTrue};
 ghost use Rattle.quiesce_core.specs.declared.event.Event.{Event};
 ghost use Rattle.quiesce_core.specs.State.{Configuration, State};
 ghost use Rattle.quiesce_core.specs.Rules.{denial};
 ghost use Rattle.quiesce_core.specs.Legal.{Legal};
 ghost use Rattle.quiesce_core.specs.Reach.{HasNoCycle, Reaches, has_no_cycle, reaches};
-ghost use Rattle.quiesce_core.specs.Runs.{IsRun, state_after};
+ghost use Rattle.quiesce_core.specs.Runs.{IsRun, doer, done_by, state_after};
+ghost use Rattle.quiesce_core.specs.Effect.{effect};
+ghost use Rattle.quiesce_core.specs.Named.{AreNamed};
+ghost use Rattle.quiesce_core.specs.Start.{started};
+ghost use Rattle.config_graph.specs.Sound.{Sound};
+ghost use Rattle.config_graph.specs.declared.TheConstants.{MAX_NODES, MAX_PORTS};
+ghost use Rattle.quiesce_core.specs.Knows.{Knows};
 ghost use Rattle.quiesce_core.specs.WordFields.{FitsWord};
 ghost use Rattle.quiesce_core.specs.Words.{pack, unpack};
 ghost use Rattle.quiesce_core.specs.declared.word.Word.{Word};
 ghost use Rattle.quiesce_core.specs.Traffic.{IsConsistent};
 ghost use Rattle.quiesce_core.specs.WellFormed.{IsSound, IsWellFormed};
 ghost use Rattle.quiesce_core.specs.Live.{IsGraphOf};
-ghost use Rattle.config_graph.specs.Graph.{Configuration as Graph};
+ghost use Rattle.config_graph.specs.Graph.{Configuration as Graph, ports};
 
 /// An event is denied by no rule exactly where each of its rules holds.
 #[tactic(auto, using(crate::proofs::LegalLemmas::legal_events))]
@@ -49,6 +55,27 @@ pub fn runs_are_consistent()
 /// A configuration has one graph.
 pub fn one_graph()
     ensures { (c : Configuration) (g h : Graph) → IsGraphOf c g → IsGraphOf c h → g ≡ h }
+{}
+
+/// After every run no two live nodes have one path, and each node has its argument.
+pub fn nodes_are_named()
+    ensures { (es : List Event) → IsRun es → AreNamed (state_after es).config }
+{}
+
+/// What nodes do leaves the configuration as it is.
+pub fn node_events_keep_the_configuration()
+    ensures { (s : State) (e : Event) (n : ℕ) → doer s e ≡ Some n → (effect s e).config ≡ s.config }
+{}
+
+/// The graph of a system that was just started is the one that it was started as.
+pub fn a_started_system_has_its_graph()
+    ensures { (g : Graph) → Sound g → length g.nodes ≤ MAX_NODES → length (ports g.nodes) ≤ MAX_PORTS → IsGraphOf (started g).config g }
+{}
+
+/// In every run a node's own events tell it exactly what the state has of it: what it services, and how far each of its ports has
+/// come.
+pub fn nodes_know()
+    ensures { (es : List Event) → IsRun es → (n : ℕ) → Knows (state_after es) n (done_by n es) }
 {}
 
 /// A number spells the fields that it was packed from.

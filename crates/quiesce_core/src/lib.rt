@@ -27,8 +27,9 @@ pub use error::CoreError;
 pub use event::Event;
 pub use known::Served;
 pub use laws::{
-    cycles_are_found, each_rule_holds, one_graph, reach_is_found, runs_are_consistent,
-    runs_are_well_formed, words_decode,
+    a_started_system_has_its_graph, cycles_are_found, each_rule_holds,
+    node_events_keep_the_configuration, nodes_are_named, nodes_know, one_graph, reach_is_found,
+    runs_are_consistent, runs_are_well_formed, words_decode,
 };
 pub use machine::Core;
 pub use state::{Exchange, Gate, OpenTxn, Phase, Service, Slot, Stage};

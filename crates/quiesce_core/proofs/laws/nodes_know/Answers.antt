@@ -1,0 +1,5 @@
+use Rattle.quiesce_core.proofs.RunLemmas.{nodes_know}
+use Rattle.quiesce_core.proofs.laws.nodes_know.Goals as goal
+
+pub returns : goal.returns
+returns c es h n = nodes_know es h n
