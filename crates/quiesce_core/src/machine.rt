@@ -116,6 +116,7 @@ impl Core {
         ensures refused { OnErr result (self.new.state ≡ self.old.state) }
         ensures spare { is_make event.now ≡ false → self.new.spare ≡ self.old.spare }
         ensures made { self.old.spare ≤ self.new.spare + 1 }
+        ensures kept { OnErr result (self.old.spare ≤ self.new.spare) }
     {
         if let Some(rule) = self.denial(event) {
             return Err(CoreError::Denied { rule });
