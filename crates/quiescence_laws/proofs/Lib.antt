@@ -8,3 +8,5 @@ mod RootLemmas
 mod Serials
 mod Hearing
 mod CourseLemmas
+mod Counting
+mod Orders

@@ -8,4 +8,6 @@ mod transactions;
 
 pub use quiescence::{settled_nodes_are_quiescent, settled_nodes_stay_settled};
 pub use roots::roots_at_closed_ports_are_old;
-pub use transactions::{ends_make_the_serial, transactions_keep_their_course};
+pub use transactions::{
+    ends_make_the_serial, fronts_are_runs, open_transactions_are_seen, transactions_come_in_order, transactions_keep_their_course,
+};

@@ -1,13 +1,13 @@
 //! In which order the events of a transaction come, and how many there are.
 
-ghost use Rattle.std.specs.Prelude.{◌≡◌, ℕ, ◌+◌, List, Some, if◌then◌else◌};
+ghost use Rattle.std.specs.Prelude.{◌≡◌, ℕ, ◌+◌, ◌≤◌, not, ◌&&◌, ◌||◌, ◌==◌, nat_lt, nat_le, List, ◌++◌, Some, if◌then◌else◌};
 ghost use Rattle.std.specs.List.{count_by};
 ghost use Rattle.quiesce_core.specs.declared.event.Event.{Event};
 ghost use Rattle.quiesce_core.specs.Phases.{is_idle};
-ghost use Rattle.quiesce_core.specs.Runs.{IsRun, state_after};
+ghost use Rattle.quiesce_core.specs.Runs.{IsRun, state_after, is_begin_of, is_end_of, is_open_after};
 ghost use Rattle.quiesce_core.specs.State.{exchange};
 ghost use Rattle.quiescence_laws.specs.Courses.{course_after, course_at};
-ghost use Rattle.quiescence_laws.specs.Events.{ends_at};
+ghost use Rattle.quiescence_laws.specs.Events.{is_take_of, is_give_of, is_more_of, is_ask_of, is_hear_of, ends_at};
 
 /// In every run the events of a transaction come in the order of its course: a begin or a call, the take, any number of
 /// intermediate replies each with a further message and its hearing, the last reply, the end. None comes twice or where it
@@ -19,4 +19,38 @@ pub fn transactions_keep_their_course()
 /// As many transactions of a port have ended as its serial says, less one where it isn't idle.
 pub fn ends_make_the_serial()
     ensures { (es : List Event) (p : ℕ) → IsRun es → count_by (ends_at p) es + (if is_idle (exchange (state_after es) p).phase then 0 else 1) ≡ (exchange (state_after es) p).serial }
+{}
+
+/// Of each transaction there is at most one take, one last reply and one end, each behind the one before, and exactly those up to
+/// the port's serial have one begin or call. Each intermediate reply is followed by one further message and its hearing, before
+/// the next reply. Since each front of a run is a run, this says in which order they stand.
+pub fn transactions_come_in_order()
+    ensures begun {
+        (es : List Event) (p k : ℕ) → IsRun es →
+            count_by (is_begin_of p k) es ≡ (if nat_le 1 k && nat_le k (exchange (state_after es) p).serial then 1 else 0)
+    }
+    ensures taken { (es : List Event) (p k : ℕ) → IsRun es → count_by (is_take_of p k) es ≤ count_by (is_begin_of p k) es }
+    ensures given { (es : List Event) (p k : ℕ) → IsRun es → count_by (is_give_of p k) es ≤ count_by (is_take_of p k) es }
+    ensures ended { (es : List Event) (p k : ℕ) → IsRun es → count_by (is_end_of p k) es ≤ count_by (is_give_of p k) es }
+
+    ensures replied { (es : List Event) (p k : ℕ) → IsRun es → count_by (is_more_of p k) es ≤ count_by (is_hear_of p k) es + 1 }
+    ensures asked { (es : List Event) (p k : ℕ) → IsRun es → count_by (is_ask_of p k) es ≤ count_by (is_more_of p k) es }
+    ensures heard { (es : List Event) (p k : ℕ) → IsRun es → count_by (is_hear_of p k) es ≤ count_by (is_ask_of p k) es }
+
+    // Once the last reply was given, all that was asked and heard is all that was replied before.
+    ensures all_asked { (es : List Event) (p k : ℕ) → IsRun es → count_by (is_give_of p k) es ≡ 1 → count_by (is_ask_of p k) es ≡ count_by (is_more_of p k) es }
+    ensures all_heard { (es : List Event) (p k : ℕ) → IsRun es → count_by (is_give_of p k) es ≡ 1 → count_by (is_hear_of p k) es ≡ count_by (is_more_of p k) es }
+{}
+
+/// A transaction of a run is open exactly where its port isn't idle and has its serial.
+pub fn open_transactions_are_seen()
+    ensures {
+        (es : List Event) (p k : ℕ) → IsRun es →
+            is_open_after es p k ≡ (not (is_idle (exchange (state_after es) p).phase) && (exchange (state_after es) p).serial == k)
+    }
+{}
+
+/// Each front of a run is a run.
+pub fn fronts_are_runs()
+    ensures { (es more_ : List Event) → IsRun (es ++ more_) → IsRun es }
 {}
