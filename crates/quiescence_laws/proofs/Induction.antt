@@ -20,6 +20,7 @@ StepAt before e = Step (state_after before) e (state_after (before ++ e ∷ []))
 
 -- an event that stands behind a run and may happen there
 pub record IsNext (before : List Event) (e : Event) : Type 0 where
+  pub run : IsRun before
   pub well : IsWellFormed (state_after before)
   pub traffic : IsConsistent (state_after before)
   pub legal : Legal (state_after before) e
@@ -35,27 +36,27 @@ each_parts P before (x ∷ xs) ys h =
 pub front_runs : (xs ys : List Event) → IsRun (xs ++ ys) → IsRun xs
 front_runs xs ys h = (each_parts StepAt [] xs ys h).0
 
-next_at : (before : List Event) (e : Event) → IsWellFormed (state_after before) → IsConsistent (state_after before) → StepAt before e → IsNext before e
-next_at before e w k h = record { well = w; traffic = k; legal = legal (state_after before) e h.allowed; next = h.changed }
+each_snoc : {A : Type 0} (P : List A → A → Type 0) (before xs : List A) (x : A) → EachAfter P before xs → P (before ++ xs) x → EachAfter P before (xs ++ x ∷ [])
+each_snoc P before [] x h p = (subst (λ zs. P zs x) (append-nil before) p, tt)
+each_snoc P before (y ∷ xs) x h p = (h.0, each_snoc P (before ++ y ∷ []) xs x h.1 (subst (λ zs. P zs x) (sym (append_assoc before (y ∷ []) xs)) p))
+
+next_at : (before : List Event) (e : Event) → IsRun before → StepAt before e → IsNext before e
+next_at before e run h = record { run = run; well = runs_are_well_formed before run; traffic = runs_are_consistent before run; legal = legal (state_after before) e h.allowed; next = h.changed }
 
 -- what is known at a place of a run
 pub place : (before after : List Event) (e : Event) → IsRun (before ++ e ∷ after) → IsNext before e
 place before after e h =
-    let parts = each_parts StepAt [] before (e ∷ after) h in
-    next_at before e (runs_are_well_formed before parts.0) (runs_are_consistent before parts.0) parts.1.0
+    let parts = each_parts StepAt [] before (e ∷ after) h in next_at before e parts.0 parts.1.0
 
 module _ (start : List Event) (P : List Event → Type 0) (bars : Event → Bool) (next : (xs : List Event) (e : Event) → IsNext (start ++ xs) e → bars e ≡ false → P xs → P (xs ++ e ∷ [])) where
-  further_from : (xs es : List Event) → EachAfter StepAt (start ++ xs) es → IsWellFormed (state_after (start ++ xs)) → IsConsistent (state_after (start ++ xs)) → list_any bars es ≡ false → P xs → P (xs ++ es)
-  further_from xs [] h w k free p = subst P (sym (append-nil xs)) p
-  further_from xs (e ∷ es) h w k free p =
-      let here = next_at (start ++ xs) e w k h.0 in
+  further_from : (xs es : List Event) → EachAfter StepAt (start ++ xs) es → IsRun (start ++ xs) → list_any bars es ≡ false → P xs → P (xs ++ es)
+  further_from xs [] h run free p = subst P (sym (append-nil xs)) p
+  further_from xs (e ∷ es) h run free p =
       let parts = or_parts (bars e) (list_any bars es) free in
       let more_ = append_assoc start xs (e ∷ []) in
       subst P (append_assoc xs (e ∷ []) es)
-      (further_from (xs ++ e ∷ []) es (subst (λ zs. EachAfter StepAt zs es) more_ h.1)
-      (subst (λ zs. IsWellFormed (state_after zs)) more_ (subst (λ s. IsWellFormed s) (sym here.next) (well_formed_next (state_after (start ++ xs)) e w here.legal)))
-      (subst (λ zs. IsConsistent (state_after zs)) more_ (subst (λ s. IsConsistent s) (sym here.next) (consistent_next (state_after (start ++ xs)) e w k here.legal))) parts.1
-      (next xs e here parts.0 p))
+      (further_from (xs ++ e ∷ []) es (subst (λ zs. EachAfter StepAt zs es) more_ h.1) (subst (λ zs. IsRun zs) more_ (each_snoc StepAt [] (start ++ xs) e run h.0)) parts.1
+      (next xs e (next_at (start ++ xs) e run h.0) parts.0 p))
 
   -- A fact of the further events of a run, told of none of them and kept by each, but for those that are barred: it holds of all
   -- where the run goes on without these.
@@ -63,8 +64,7 @@ module _ (start : List Event) (P : List Event → Type 0) (bars : Event → Bool
   further es h free p =
       let parts = each_parts StepAt [] start es h in
       let same = sym (append-nil start) in
-      further_from [] es (subst (λ zs. EachAfter StepAt zs es) same parts.1) (subst (λ zs. IsWellFormed (state_after zs)) same (runs_are_well_formed start parts.0))
-      (subst (λ zs. IsConsistent (state_after zs)) same (runs_are_consistent start parts.0)) free p
+      further_from [] es (subst (λ zs. EachAfter StepAt zs es) same parts.1) (subst (λ zs. IsRun zs) same parts.0) free p
 
 -- the same of a fact of the whole run
 pub along : (P : List Event → Type 0) (bars : Event → Bool) → ((before : List Event) (e : Event) → IsNext before e → bars e ≡ false → P before → P (before ++ e ∷ [])) → (before es : List Event)

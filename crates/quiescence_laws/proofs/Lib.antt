@@ -1,12 +1,14 @@
-mod Behind
-mod Induction
-mod Configurations
-mod Stillness
-mod Opened
-mod FourConditions
-mod RootLemmas
-mod Serials
-mod Hearing
-mod CourseLemmas
-mod Counting
-mod Orders
+pub mod Behind
+pub mod Induction
+pub mod Configurations
+pub mod Stillness
+pub mod Opened
+pub mod FourConditions
+pub mod RootLemmas
+pub mod Serials
+pub mod Hearing
+pub mod CourseLemmas
+pub mod Counting
+pub mod Orders
+pub mod RootsSeen
+pub mod Strength

@@ -84,14 +84,14 @@ ended_in phase.Asked (Some false) r = refl
 ended_in phase.Answered h r = refl
 ended_in phase.More h r = refl
 
-le_false : (a b : ℕ) → b < a → nat_le a b ≡ false
+pub le_false : (a b : ℕ) → b < a → nat_le a b ≡ false
 le_false a b h = ⊎_elim
     (λ (e : nat_le a b ≡ true). let le = leb-true a b e in absurd (omega arith))
     (λ (e : nat_le a b ≡ false). e)
     (cases_Bool (nat_le a b))
 
 -- of course_of, by the place of the serial
-abbrev was_begun : ℕ → ℕ → Bool
+abbrev pub was_begun : ℕ → ℕ → Bool
 was_begun n k = nat_le 1 k && nat_le k n
 
 abbrev has_ended : ℕ → Bool → ℕ → Bool
@@ -145,7 +145,7 @@ pub ended_count : (es : List Event) (p k : ℕ) → IsRun es → count_by (is_en
 ended_count es p k run = let h = counted es p k run in h.ends ∙ (told_at es p k h.rounds run).ends
 
 -- some member passes exactly where one is counted
-any_counted : (t : Event → Bool) (es : List Event) (b : Bool) → count_by t es ≡ cond b 1 0 → list_any t es ≡ b
+pub any_counted : (t : Event → Bool) (es : List Event) (b : Bool) → count_by t es ≡ cond b 1 0 → list_any t es ≡ b
 any_counted t [] true h = absurd (omega arith)
 any_counted t [] false h = refl
 any_counted t (e ∷ es) b h = ⊎_elim

@@ -1,7 +1,7 @@
 -- Tests of single events.
 use Rattle.std.specs.Prelude.{ℕ, Bool, false, ◌&&◌, ◌==◌}
 use Rattle.quiesce_core.specs.declared.event.Event.{Event}
-use Rattle.quiesce_core.specs.declared.event.Event.TheVariants.{Take, Give, End, More, Ask, Hear, Reopen, Remove}
+use Rattle.quiesce_core.specs.declared.event.Event.TheVariants.{Begin, Take, Give, End, More, Ask, Hear, Reopen, Remove}
 
 -- whether an event removes node n
 abbrev pub removes : ℕ → Event → Bool
@@ -17,6 +17,11 @@ reopens p _ = false
 abbrev pub ends_at : ℕ → Event → Bool
 ends_at p (End q j v) = q == p
 ends_at p _ = false
+
+-- whether it begins a root of port p with serial k
+abbrev pub is_root_of : ℕ → ℕ → Event → Bool
+is_root_of p k (Begin q j v) = q == p && j == k
+is_root_of p k _ = false
 
 -- whether it is the Take of the transaction of port p with serial k, and so on
 abbrev pub is_take_of : ℕ → ℕ → Event → Bool

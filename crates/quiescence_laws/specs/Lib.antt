@@ -1,3 +1,4 @@
 pub mod Events
 pub mod Roots
 pub mod Courses
+pub mod Weaker

@@ -6,8 +6,10 @@ mod quiescence;
 mod roots;
 mod transactions;
 
-pub use quiescence::{settled_nodes_are_quiescent, settled_nodes_stay_settled};
-pub use roots::roots_at_closed_ports_are_old;
+pub use quiescence::{
+    less_than_settled_is_too_weak, settled_nodes_are_quiescent, settled_nodes_stay_settled,
+};
+pub use roots::{open_roots_are_seen, roots_at_closed_ports_are_old};
 pub use transactions::{
     ends_make_the_serial, fronts_are_runs, open_transactions_are_seen, transactions_come_in_order, transactions_keep_their_course,
 };

@@ -6,6 +6,7 @@ ghost use Rattle.quiesce_core.specs.declared.event.Event.{Event};
 ghost use Rattle.quiesce_core.specs.Runs.{IsRun, state_after};
 ghost use Rattle.quiesce_core.specs.Settled.{Settled, Quiescent, Continues};
 ghost use Rattle.quiescence_laws.specs.Events.{removes};
+ghost use Rattle.quiescence_laws.specs.Weaker.{but_own_busy, but_own_open, but_reaching_busy, but_indirect_open, Initiates, Begins, Serves, IsTarget, IsTooWeak};
 
 /// After every run, a settled node is quiescent by the four conditions of Kramer and Magee (1990): none of its own transactions is
 /// open, it begins none however the run goes on, it services none, and none that is open or comes later has it as its target.
@@ -17,4 +18,18 @@ pub fn settled_nodes_are_quiescent()
 /// removed.
 pub fn settled_nodes_stay_settled()
     ensures { (es more_ : List Event) (n : ℕ) → Settled (state_after es) n → Continues es more_ → Settled (state_after (es ++ more_)) n ↔ (list_any (removes n) more_ ≡ false) }
+{}
+
+/// Less than being settled isn't enough: for each of the four conditions there are a run and a node that breaks it, though all but
+/// one part of being settled holds. The last is why the passive set is enlarged by the owners of ports that reach a node over
+/// other nodes.
+pub fn less_than_settled_is_too_weak()
+    ensures none_quiescent {
+        (es : List Event) (n : ℕ) → Quiescent es n → (Initiates es n → ⊥) × (Begins es n → ⊥) × (Serves es n → ⊥) × (IsTarget es n → ⊥)
+    }
+
+    ensures own_ports_idle { IsTooWeak but_own_busy Initiates }
+    ensures own_ports_closed { IsTooWeak but_own_open Begins }
+    ensures reaching_ports_idle { IsTooWeak but_reaching_busy Serves }
+    ensures indirect_ports_closed { IsTooWeak but_indirect_open IsTarget }
 {}

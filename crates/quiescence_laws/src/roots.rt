@@ -6,7 +6,7 @@ ghost use Rattle.quiesce_core.specs.declared.event.Event.{Event};
 ghost use Rattle.quiesce_core.specs.declared.event.Event.TheVariants.{Close};
 ghost use Rattle.quiesce_core.specs.Runs.{IsRun, state_after};
 ghost use Rattle.quiescence_laws.specs.Events.{reopens};
-ghost use Rattle.quiescence_laws.specs.Roots.{has_root};
+ghost use Rattle.quiescence_laws.specs.Roots.{has_root, is_open_root_after};
 
 /// Where a port has an open root and was closed before and not reopened since, the port had this root, open, at every place since
 /// it was closed, and when it was closed.
@@ -15,4 +15,10 @@ pub fn roots_at_closed_ports_are_old()
         IsTrue (has_root (state_after (before ++ Close p ∷ between ++ after)) p k) → IsTrue (has_root (state_after (before ++ Close p ∷ between)) p k) }
     ensures when_closed { (before after : List Event) (p k : ℕ) → IsRun (before ++ Close p ∷ after) → list_any (reopens p) after ≡ false →
         IsTrue (has_root (state_after (before ++ Close p ∷ after)) p k) → IsTrue (has_root (state_after before) p k) }
+{}
+
+/// After every run a port has an open root of a serial exactly where the run begins that root and doesn't end it. So a port's word
+/// tells it.
+pub fn open_roots_are_seen()
+    ensures { (es : List Event) (p k : ℕ) → IsRun es → is_open_root_after es p k ≡ has_root (state_after es) p k }
 {}
