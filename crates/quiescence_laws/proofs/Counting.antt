@@ -1,22 +1,16 @@
 -- How often the events of a transaction stand in a run, by its course.
-use Rattle.std.proofs.Common.{◌≡◌, ℕ, ◌+◌, ◌<◌, ◌≤◌, Bool, true, false, cond, not, ◌&&◌, ◌||◌, List, [], ◌∷◌, ◌++◌, append_assoc, Option, Some, None, refl, sym, ap, ◌∙◌, subst, inl, inr, ⊎_elim, arith}
-use Rattle.std.specs.Prelude.{◌⊎◌, ◌==◌, nat_lt, nat_le, option_and_then}
-use Rattle.std.specs.List.{count_by, list_any, fold}
-use Rattle.std.proofs.lemmas.Bool.{cases_Bool, cases_eq, cases_lt, and_from, both_ways, eq-eqb, ne_eqb, lt-ltb, le-ltb, leb-true, le-leb}
+use Rattle.std.proofs.Common.{◌≡◌, ℕ, ◌+◌, Bool, true, false, cond, ◌&&◌, List, [], ◌∷◌, ◌++◌, append_assoc, Option, Some, None, refl, sym, ap, ◌∙◌, subst, inl, inr, ⊎_elim, arith}
+use Rattle.std.specs.Prelude.{◌⊎◌, ◌==◌, option_and_then}
+use Rattle.std.specs.List.{count_by, fold}
 use Rattle.std.proofs.lemmas.List.{append-nil}
-use Rattle.std.proofs.lemmas.List.Sums.{sum_by_push, sum_by-cons}
+use Rattle.std.proofs.lemmas.List.Sums.{sum_by_push}
 use Rattle.quiesce_core.specs.declared.event.Event.{Event}
 use Rattle.quiesce_core.specs.declared.event.Event.TheVariants.{Begin, Call, Take, Give, End, More, Ask, Hear, Miss, Close, Reopen, Make, Link, Unlink, Remove}
-use Rattle.quiesce_core.specs.declared.state.Phase.{Phase}
-use Rattle.quiesce_core.specs.declared.state.Phase.TheVariants as phase
-use Rattle.quiesce_core.specs.State.{State, exchange}
-use Rattle.quiesce_core.specs.Phases.{is_idle}
-use Rattle.quiesce_core.specs.Runs.{IsRun, state_after, is_begin_of, is_end_of, is_open_after}
-use Rattle.quiescence_laws.specs.Events.{is_take_of, is_give_of, is_more_of, is_ask_of, is_hear_of, ends_at}
+use Rattle.quiesce_core.specs.Runs.{IsRun, state_after, is_begin_of, is_end_of}
+use Rattle.quiescence_laws.specs.Events.{is_take_of, is_give_of, is_more_of, is_ask_of, is_hear_of}
 use Rattle.quiescence_laws.specs.Courses.{Course, begun, taken, replied_to, asked, heard, given, closed, course_next, course_after, heard_at, course_in, course_of, course_at}
 use Rattle.quiescence_laws.specs.Courses as course
-use Rattle.quiescence_laws.proofs.CourseLemmas.{on_course, course_behind, course_zero, course_before, course_here}
-use Rattle.quiescence_laws.proofs.Serials.{tallied, busy_serial}
+use Rattle.quiescence_laws.proofs.CourseLemmas.{on_course}
 
 pub record Counts : Type 0 where
   pub begins : ℕ
@@ -168,50 +162,74 @@ more_by n b h = ap (λ x. n + cond x 1 0) h
 adds_on : (p k : ℕ) (e : Event) (c d : Course) (r : ℕ) → course_next p k c e ≡ Some d → AddsOn p k e c d r
 unfolding ones
 adds_on p k (Begin q j v) c d r h = ⊎_elim
-    (λ (w : ((q == p && j == k) ≡ true) × (begun c ≡ Some d)). record { rounds = r; adds = leads_adds c d course.unbegun course.waiting r r (ones p k (Begin q j v)) (begun_leads c d w.1)
-    (record { begins = more_by 0 (q == p && j == k) w.0; takes = refl; gives = refl; ends = refl; mores = omega arith; asks = omega arith; hears = omega arith }) })
+    (λ (w : ((q == p && j == k) ≡ true) × (begun c ≡ Some d)). record {
+      rounds = r;
+      adds = leads_adds c d course.unbegun course.waiting r r (ones p k (Begin q j v)) (begun_leads c d w.1)
+          (record { begins = more_by 0 (q == p && j == k) w.0; takes = refl; gives = refl; ends = refl; mores = omega arith; asks = omega arith; hears = omega arith });
+    })
     (λ (w : ((q == p && j == k) ≡ false) × (c ≡ d)). stays p k (Begin q j v) c d r w.1
     (record { begins = flag_none (q == p && j == k) w.0; takes = refl; gives = refl; ends = refl; mores = refl; asks = refl; hears = refl }))
     (choose begun (q == p && j == k) c d h)
 adds_on p k (Call q j v) c d r h = ⊎_elim
-    (λ (w : ((q == p && j == k) ≡ true) × (begun c ≡ Some d)). record { rounds = r; adds = leads_adds c d course.unbegun course.waiting r r (ones p k (Call q j v)) (begun_leads c d w.1)
-    (record { begins = more_by 0 (q == p && j == k) w.0; takes = refl; gives = refl; ends = refl; mores = omega arith; asks = omega arith; hears = omega arith }) })
+    (λ (w : ((q == p && j == k) ≡ true) × (begun c ≡ Some d)). record {
+      rounds = r;
+      adds = leads_adds c d course.unbegun course.waiting r r (ones p k (Call q j v)) (begun_leads c d w.1)
+          (record { begins = more_by 0 (q == p && j == k) w.0; takes = refl; gives = refl; ends = refl; mores = omega arith; asks = omega arith; hears = omega arith });
+    })
     (λ (w : ((q == p && j == k) ≡ false) × (c ≡ d)). stays p k (Call q j v) c d r w.1
     (record { begins = flag_none (q == p && j == k) w.0; takes = refl; gives = refl; ends = refl; mores = refl; asks = refl; hears = refl }))
     (choose begun (q == p && j == k) c d h)
 adds_on p k (Take q j v) c d r h = ⊎_elim
-    (λ (w : ((q == p && j == k) ≡ true) × (taken c ≡ Some d)). record { rounds = r; adds = leads_adds c d course.waiting course.serving r r (ones p k (Take q j v)) (taken_leads c d w.1)
-    (record { begins = refl; takes = more_by 0 (q == p && j == k) w.0; gives = refl; ends = refl; mores = omega arith; asks = omega arith; hears = omega arith }) })
+    (λ (w : ((q == p && j == k) ≡ true) × (taken c ≡ Some d)). record {
+      rounds = r;
+      adds = leads_adds c d course.waiting course.serving r r (ones p k (Take q j v)) (taken_leads c d w.1)
+          (record { begins = refl; takes = more_by 0 (q == p && j == k) w.0; gives = refl; ends = refl; mores = omega arith; asks = omega arith; hears = omega arith });
+    })
     (λ (w : ((q == p && j == k) ≡ false) × (c ≡ d)). stays p k (Take q j v) c d r w.1
     (record { begins = refl; takes = flag_none (q == p && j == k) w.0; gives = refl; ends = refl; mores = refl; asks = refl; hears = refl }))
     (choose taken (q == p && j == k) c d h)
 adds_on p k (More q j v) c d r h = ⊎_elim
-    (λ (w : ((q == p && j == k) ≡ true) × (replied_to c ≡ Some d)). record { rounds = r; adds = leads_adds c d course.serving course.replied r r (ones p k (More q j v)) (replied_leads c d w.1)
-    (record { begins = refl; takes = refl; gives = refl; ends = refl; mores = more_by r (q == p && j == k) w.0; asks = omega arith; hears = omega arith }) })
+    (λ (w : ((q == p && j == k) ≡ true) × (replied_to c ≡ Some d)). record {
+      rounds = r;
+      adds = leads_adds c d course.serving course.replied r r (ones p k (More q j v)) (replied_leads c d w.1)
+          (record { begins = refl; takes = refl; gives = refl; ends = refl; mores = more_by r (q == p && j == k) w.0; asks = omega arith; hears = omega arith });
+    })
     (λ (w : ((q == p && j == k) ≡ false) × (c ≡ d)). stays p k (More q j v) c d r w.1
     (record { begins = refl; takes = refl; gives = refl; ends = refl; mores = flag_none (q == p && j == k) w.0; asks = refl; hears = refl }))
     (choose replied_to (q == p && j == k) c d h)
 adds_on p k (Ask q j v) c d r h = ⊎_elim
-    (λ (w : ((q == p && j == k) ≡ true) × (asked c ≡ Some d)). record { rounds = r; adds = leads_adds c d course.replied course.prompted r r (ones p k (Ask q j v)) (asked_leads c d w.1)
-    (record { begins = refl; takes = refl; gives = refl; ends = refl; mores = omega arith; asks = more_by r (q == p && j == k) w.0; hears = omega arith }) })
+    (λ (w : ((q == p && j == k) ≡ true) × (asked c ≡ Some d)). record {
+      rounds = r;
+      adds = leads_adds c d course.replied course.prompted r r (ones p k (Ask q j v)) (asked_leads c d w.1)
+          (record { begins = refl; takes = refl; gives = refl; ends = refl; mores = omega arith; asks = more_by r (q == p && j == k) w.0; hears = omega arith });
+    })
     (λ (w : ((q == p && j == k) ≡ false) × (c ≡ d)). stays p k (Ask q j v) c d r w.1
     (record { begins = refl; takes = refl; gives = refl; ends = refl; mores = refl; asks = flag_none (q == p && j == k) w.0; hears = refl }))
     (choose asked (q == p && j == k) c d h)
 adds_on p k (Hear q j v) c d r h = ⊎_elim
-    (λ (w : ((q == p && j == k) ≡ true) × (heard c ≡ Some d)). record { rounds = r + 1; adds = leads_adds c d course.prompted course.serving r (r + 1) (ones p k (Hear q j v)) (heard_leads c d w.1)
-    (record { begins = refl; takes = refl; gives = refl; ends = refl; mores = omega arith; asks = omega arith; hears = more_by r (q == p && j == k) w.0 }) })
+    (λ (w : ((q == p && j == k) ≡ true) × (heard c ≡ Some d)). record {
+      rounds = r + 1;
+      adds = leads_adds c d course.prompted course.serving r (r + 1) (ones p k (Hear q j v)) (heard_leads c d w.1)
+          (record { begins = refl; takes = refl; gives = refl; ends = refl; mores = omega arith; asks = omega arith; hears = more_by r (q == p && j == k) w.0 });
+    })
     (λ (w : ((q == p && j == k) ≡ false) × (c ≡ d)). stays p k (Hear q j v) c d r w.1
     (record { begins = refl; takes = refl; gives = refl; ends = refl; mores = refl; asks = refl; hears = flag_none (q == p && j == k) w.0 }))
     (choose heard (q == p && j == k) c d h)
 adds_on p k (Give q j v) c d r h = ⊎_elim
-    (λ (w : ((q == p && j == k) ≡ true) × (given c ≡ Some d)). record { rounds = r; adds = leads_adds c d course.serving course.answered r r (ones p k (Give q j v)) (given_leads c d w.1)
-    (record { begins = refl; takes = refl; gives = more_by 0 (q == p && j == k) w.0; ends = refl; mores = omega arith; asks = omega arith; hears = omega arith }) })
+    (λ (w : ((q == p && j == k) ≡ true) × (given c ≡ Some d)). record {
+      rounds = r;
+      adds = leads_adds c d course.serving course.answered r r (ones p k (Give q j v)) (given_leads c d w.1)
+          (record { begins = refl; takes = refl; gives = more_by 0 (q == p && j == k) w.0; ends = refl; mores = omega arith; asks = omega arith; hears = omega arith });
+    })
     (λ (w : ((q == p && j == k) ≡ false) × (c ≡ d)). stays p k (Give q j v) c d r w.1
     (record { begins = refl; takes = refl; gives = flag_none (q == p && j == k) w.0; ends = refl; mores = refl; asks = refl; hears = refl }))
     (choose given (q == p && j == k) c d h)
 adds_on p k (End q j v) c d r h = ⊎_elim
-    (λ (w : ((q == p && j == k) ≡ true) × (closed c ≡ Some d)). record { rounds = r; adds = leads_adds c d course.answered course.ended r r (ones p k (End q j v)) (closed_leads c d w.1)
-    (record { begins = refl; takes = refl; gives = refl; ends = more_by 0 (q == p && j == k) w.0; mores = omega arith; asks = omega arith; hears = omega arith }) })
+    (λ (w : ((q == p && j == k) ≡ true) × (closed c ≡ Some d)). record {
+      rounds = r;
+      adds = leads_adds c d course.answered course.ended r r (ones p k (End q j v)) (closed_leads c d w.1)
+          (record { begins = refl; takes = refl; gives = refl; ends = more_by 0 (q == p && j == k) w.0; mores = omega arith; asks = omega arith; hears = omega arith });
+    })
     (λ (w : ((q == p && j == k) ≡ false) × (c ≡ d)). stays p k (End q j v) c d r w.1
     (record { begins = refl; takes = refl; gives = refl; ends = flag_none (q == p && j == k) w.0; mores = refl; asks = refl; hears = refl }))
     (choose closed (q == p && j == k) c d h)

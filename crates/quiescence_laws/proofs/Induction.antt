@@ -12,8 +12,6 @@ use Rattle.quiesce_core.specs.Traffic.{IsConsistent}
 use Rattle.quiesce_core.specs.WellFormed.{IsWellFormed}
 use Rattle.quiesce_core.proofs.LegalLemmas.{legal}
 use Rattle.quiesce_core.proofs.RunLemmas.{runs_are_well_formed, runs_are_consistent}
-use Rattle.quiesce_core.proofs.Soundness.{well_formed_next}
-use Rattle.quiesce_core.proofs.TrafficLemmas.{consistent_next}
 
 abbrev StepAt : List Event → Event → Type 0
 StepAt before e = Step (state_after before) e (state_after (before ++ e ∷ []))

@@ -12,3 +12,4 @@ pub mod Counting
 pub mod Orders
 pub mod RootsSeen
 pub mod Strength
+pub mod DrainLemmas

@@ -7,14 +7,14 @@ use Rattle.std.proofs.lemmas.List.Sums.{sum_by-cons}
 use Rattle.quiesce_core.specs.declared.event.Event.{Event}
 use Rattle.quiesce_core.specs.declared.state.Phase.{Phase}
 use Rattle.quiesce_core.specs.declared.state.Phase.TheVariants as phase
-use Rattle.quiesce_core.specs.State.{State, exchange}
+use Rattle.quiesce_core.specs.State.{exchange}
 use Rattle.quiesce_core.specs.Phases.{is_idle}
 use Rattle.quiesce_core.specs.Runs.{IsRun, state_after, is_begin_of, is_end_of, is_open_after}
 use Rattle.quiescence_laws.specs.Events.{is_take_of, is_give_of, is_more_of, is_ask_of, is_hear_of, ends_at}
 use Rattle.quiescence_laws.specs.Courses.{Course, heard_at, course_in, course_of, course_at}
 use Rattle.quiescence_laws.specs.Courses as course
 use Rattle.quiescence_laws.proofs.CourseLemmas.{course_behind, course_zero, course_before, course_here}
-use Rattle.quiescence_laws.proofs.Counting.{Counts, table, IsCounted, counted}
+use Rattle.quiescence_laws.proofs.Counting.{Counts, table, counted}
 use Rattle.quiescence_laws.proofs.Serials.{tallied, busy_serial}
 
 -- what each course says of the counts

@@ -1,9 +1,9 @@
 -- A root at a closed port stood there since the port was closed.
-use Rattle.std.proofs.Common.{◌≡◌, ℕ, ◌<◌, ◌≤◌, Bool, true, false, not, ◌&&◌, List, [], ◌∷◌, ◌++◌, append_assoc, length, get_or, set, Option, Some, None, refl, sym, ap, ◌∙◌, subst, ⊎_elim, get_or-set_same, get_or-set_other}
-use Rattle.std.specs.Prelude.{◌==◌, is_none, option_map}
+use Rattle.std.proofs.Common.{◌≡◌, ℕ, ◌<◌, ◌≤◌, Bool, true, false, not, ◌&&◌, ◌||◌, List, [], ◌∷◌, ◌++◌, append_assoc, length, get_or, set, Option, Some, None, refl, sym, ap, ◌∙◌, subst, ⊎_elim, get_or-set_same, get_or-set_other}
+use Rattle.std.specs.Prelude.{◌==◌, is_none, is_some, option_map}
 use Rattle.std.specs.List.{list_any}
 use Rattle.std.specs.Option.{option_map_or}
-use Rattle.std.proofs.lemmas.Bool.{and_parts, and_from, both_ways, cases_eq, cases_lt, eq-eqb, not-true, not_from_false, or_parts}
+use Rattle.std.proofs.lemmas.Bool.{and_parts, and_from, both_ways, cases_eq, cases_lt, eq-eqb, not-true, not_from_false, or_cases, or_parts}
 use Rattle.std.proofs.lemmas.List.{set_past}
 use Rattle.std.proofs.lemmas.List.Folds.{list_any-append}
 use Rattle.config_graph.specs.Kinds.{row}
@@ -46,6 +46,19 @@ root_from : (k : ℕ) (x : Exchange) (f : Phase) (v : ℕ) → is_idle x.phase �
 root_from k x f v busy h =
     let r = root_parts k (record x { phase = f; value = v }) h in
     and_from (not (is_idle x.phase) && x.serial == k) (is_none x.within) (and_from (not (is_idle x.phase)) (x.serial == k) (not_from_false (is_idle x.phase) busy) r.serial) r.alone
+
+-- what is idle or consequent is none
+pub has_no_root : (x : Exchange) (k : ℕ) → (is_idle x.phase || is_some x.within) ≡ true → is_root k x ≡ true → ⊥
+has_no_root x k h r =
+    let root = root_parts k x r in
+    ⊎_elim
+    (λ (idle : is_idle x.phase ≡ true). both_ways (is_idle x.phase) root.busy idle)
+    (λ (called : is_some x.within ≡ true). neither x.within root.alone called)
+    (or_cases (is_idle x.phase) (is_some x.within) h)
+  where
+    neither : (o : Option ℕ) → is_none o ≡ true → is_some o ≡ true → ⊥
+    neither None a b = both_ways false refl b
+    neither (Some q) a b = both_ways false refl a
 
 -- what is put at a port was a root there before, or nothing was put at p
 root_put : (xs : List Exchange) (q p : ℕ) (x : Exchange) (k : ℕ) → (p ≡ q → is_root k x ≡ true → is_root k (get_or xs q fresh_exchange) ≡ true)
@@ -114,11 +127,11 @@ closed_next s (Unlink q) p l free h =
 closed_next s (Remove n) p l free h = h
 
 -- the port is closed, and a root that it has in the later state it had in the earlier
-record IsOld (old s : State) (p k : ℕ) : Type 0 where
-  closed : (gate s.config p).closed ≡ true
-  before : has_root s p k ≡ true → has_root old p k ≡ true
+pub record IsOld (old s : State) (p k : ℕ) : Type 0 where
+  pub closed : (gate s.config p).closed ≡ true
+  pub before : has_root s p k ≡ true → has_root old p k ≡ true
 
-old_further : (before es : List Event) (p k : ℕ) → IsRun (before ++ es) → list_any (reopens p) es ≡ false → (gate (state_after before).config p).closed ≡ true
+pub old_further : (before es : List Event) (p k : ℕ) → IsRun (before ++ es) → list_any (reopens p) es ≡ false → (gate (state_after before).config p).closed ≡ true
     → IsOld (state_after before) (state_after (before ++ es)) p k
 old_further before es p k run free shut =
     along (λ xs. IsOld (state_after before) (state_after xs) p k) (reopens p)

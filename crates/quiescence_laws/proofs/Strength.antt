@@ -1,5 +1,5 @@
 -- Runs after which a node is nearly settled, and not quiescent.
-use Rattle.std.proofs.Common.{◌≡◌, ℕ, true, List, [], ◌∷◌, ◌++◌, Some, None, refl}
+use Rattle.std.proofs.Common.{ℕ, true, List, [], ◌∷◌, ◌++◌, Some, None, refl}
 use Rattle.std.specs.Prelude.{codes}
 use Rattle.config_graph.specs.declared.kind.Kind.TheVariants as kind
 use Rattle.config_graph.specs.declared.node.Node.{Node}
@@ -42,28 +42,79 @@ through = Begin 0 1 0 ∷ Take 0 1 0 ∷ Call 1 1 0 ∷ []
 
 asked_runs : IsRun asked
 unfolding reaches has_no_cycle
-asked_runs =
-    (record { allowed = refl; changed = refl }, (record { allowed = refl; changed = refl }, (record { allowed = refl; changed = refl }, (record { allowed = refl; changed = refl },
-    (record { allowed = refl; changed = refl }, (record { allowed = refl; changed = refl }, tt))))))
+asked_runs = (
+  record { allowed = refl; changed = refl },
+  (
+    record { allowed = refl; changed = refl },
+    (
+      record { allowed = refl; changed = refl },
+      (
+        record { allowed = refl; changed = refl },
+        (record { allowed = refl; changed = refl }, (record { allowed = refl; changed = refl }, tt)),
+      ),
+    ),
+  ),
+)
 
 taken_runs : IsRun taken
 unfolding reaches has_no_cycle
-taken_runs =
-    (record { allowed = refl; changed = refl }, (record { allowed = refl; changed = refl }, (record { allowed = refl; changed = refl }, (record { allowed = refl; changed = refl },
-    (record { allowed = refl; changed = refl }, (record { allowed = refl; changed = refl }, (record { allowed = refl; changed = refl }, tt)))))))
+taken_runs = (
+  record { allowed = refl; changed = refl },
+  (
+    record { allowed = refl; changed = refl },
+    (
+      record { allowed = refl; changed = refl },
+      (
+        record { allowed = refl; changed = refl },
+        (record { allowed = refl; changed = refl }, (record { allowed = refl; changed = refl }, (record { allowed = refl; changed = refl }, tt))),
+      ),
+    ),
+  ),
+)
 
 later_runs : IsRun (pair ++ later)
 unfolding reaches has_no_cycle
-later_runs =
-    (record { allowed = refl; changed = refl }, (record { allowed = refl; changed = refl }, (record { allowed = refl; changed = refl }, (record { allowed = refl; changed = refl },
-    (record { allowed = refl; changed = refl }, tt)))))
+later_runs = (
+  record { allowed = refl; changed = refl },
+  (
+    record { allowed = refl; changed = refl },
+    (
+      record { allowed = refl; changed = refl },
+      (
+        record { allowed = refl; changed = refl },
+        (record { allowed = refl; changed = refl }, tt),
+      ),
+    ),
+  ),
+)
 
 through_runs : IsRun (line ++ through)
 unfolding reaches has_no_cycle
-through_runs =
-    (record { allowed = refl; changed = refl }, (record { allowed = refl; changed = refl }, (record { allowed = refl; changed = refl }, (record { allowed = refl; changed = refl },
-    (record { allowed = refl; changed = refl }, (record { allowed = refl; changed = refl }, (record { allowed = refl; changed = refl }, (record { allowed = refl; changed = refl },
-    (record { allowed = refl; changed = refl }, tt)))))))))
+through_runs = (
+  record { allowed = refl; changed = refl },
+  (
+    record { allowed = refl; changed = refl },
+    (
+      record { allowed = refl; changed = refl },
+      (
+        record { allowed = refl; changed = refl },
+        (
+          record { allowed = refl; changed = refl },
+          (
+            record { allowed = refl; changed = refl },
+            (
+              record { allowed = refl; changed = refl },
+              (
+                record { allowed = refl; changed = refl },
+                (record { allowed = refl; changed = refl }, tt),
+              ),
+            ),
+          ),
+        ),
+      ),
+    ),
+  ),
+)
 
 -- its port is closed, and in a transaction
 pub own_must_be_idle : IsTooWeak but_own_busy Initiates
@@ -125,6 +176,9 @@ indirect_must_be_closed = record {
 
 -- a node of which one of these is true isn't quiescent
 pub none_of_these : (es : List Event) (n : ℕ) → Quiescent es n → (Initiates es n → ⊥) × (Begins es n → ⊥) × (Serves es n → ⊥) × (IsTarget es n → ⊥)
-none_of_these es n h =
-    ((λ w. h.initiated_none w.port w.serial w.begun w.open_ w.initiated), (λ w. h.begins_none w.more_ w.continues w.port w.serial w.begun w.owned),
-    (λ w. let e = w.services in let none_ = h.services_nothing in absurd (cc (e, none_))), (λ w. h.targets_none w.more_ w.continues w.port w.serial w.begun w.later w.led))
+none_of_these es n h = (
+  (λ w. h.initiated_none w.port w.serial w.begun w.open_ w.initiated),
+  (λ w. h.begins_none w.more_ w.continues w.port w.serial w.begun w.owned),
+  (λ w. let e = w.services in let none_ = h.services_nothing in absurd (cc (e, none_))),
+  (λ w. h.targets_none w.more_ w.continues w.port w.serial w.begun w.later w.led),
+)

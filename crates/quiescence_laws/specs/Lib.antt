@@ -2,3 +2,4 @@ pub mod Events
 pub mod Roots
 pub mod Courses
 pub mod Weaker
+pub mod Drained

@@ -2,14 +2,17 @@
 //! Magee, The evolving philosophers problem: dynamic change management, 1990), and in which order the events of a transaction come.
 #![tactic(auto)]
 
+mod draining;
 mod quiescence;
 mod roots;
 mod transactions;
 
+pub use draining::{drained_ports_stay_drained, nodes_with_drained_ports_are_settled};
 pub use quiescence::{
     less_than_settled_is_too_weak, settled_nodes_are_quiescent, settled_nodes_stay_settled,
 };
 pub use roots::{open_roots_are_seen, roots_at_closed_ports_are_old};
 pub use transactions::{
-    ends_make_the_serial, fronts_are_runs, open_transactions_are_seen, transactions_come_in_order, transactions_keep_their_course,
+    ends_make_the_serial, fronts_are_runs, open_transactions_are_seen, transactions_come_in_order,
+    transactions_keep_their_course,
 };

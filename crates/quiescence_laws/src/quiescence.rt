@@ -24,9 +24,7 @@ pub fn settled_nodes_stay_settled()
 /// one part of being settled holds. The last is why the passive set is enlarged by the owners of ports that reach a node over
 /// other nodes.
 pub fn less_than_settled_is_too_weak()
-    ensures none_quiescent {
-        (es : List Event) (n : ℕ) → Quiescent es n → (Initiates es n → ⊥) × (Begins es n → ⊥) × (Serves es n → ⊥) × (IsTarget es n → ⊥)
-    }
+    ensures none_quiescent { (es : List Event) (n : ℕ) → Quiescent es n → (Initiates es n → ⊥) × (Begins es n → ⊥) × (Serves es n → ⊥) × (IsTarget es n → ⊥) }
 
     ensures own_ports_idle { IsTooWeak but_own_busy Initiates }
     ensures own_ports_closed { IsTooWeak but_own_open Begins }

@@ -25,10 +25,8 @@ pub fn ends_make_the_serial()
 /// the port's serial have one begin or call. Each intermediate reply is followed by one further message and its hearing, before
 /// the next reply. Since each front of a run is a run, this says in which order they stand.
 pub fn transactions_come_in_order()
-    ensures begun {
-        (es : List Event) (p k : ℕ) → IsRun es →
-            count_by (is_begin_of p k) es ≡ (if nat_le 1 k && nat_le k (exchange (state_after es) p).serial then 1 else 0)
-    }
+    ensures begun { (es : List Event) (p k : ℕ) → IsRun es →
+        count_by (is_begin_of p k) es ≡ (if nat_le 1 k && nat_le k (exchange (state_after es) p).serial then 1 else 0) }
     ensures taken { (es : List Event) (p k : ℕ) → IsRun es → count_by (is_take_of p k) es ≤ count_by (is_begin_of p k) es }
     ensures given { (es : List Event) (p k : ℕ) → IsRun es → count_by (is_give_of p k) es ≤ count_by (is_take_of p k) es }
     ensures ended { (es : List Event) (p k : ℕ) → IsRun es → count_by (is_end_of p k) es ≤ count_by (is_give_of p k) es }
@@ -44,10 +42,8 @@ pub fn transactions_come_in_order()
 
 /// A transaction of a run is open exactly where its port isn't idle and has its serial.
 pub fn open_transactions_are_seen()
-    ensures {
-        (es : List Event) (p k : ℕ) → IsRun es →
-            is_open_after es p k ≡ (not (is_idle (exchange (state_after es) p).phase) && (exchange (state_after es) p).serial == k)
-    }
+    ensures { (es : List Event) (p k : ℕ) → IsRun es →
+        is_open_after es p k ≡ (not (is_idle (exchange (state_after es) p).phase) && (exchange (state_after es) p).serial == k) }
 {}
 
 /// Each front of a run is a run.

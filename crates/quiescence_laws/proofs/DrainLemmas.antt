@@ -1,0 +1,153 @@
+-- Drained ports stay drained, and a node that only drained ports concern is settled.
+use Rattle.std.proofs.Common.{◌≡◌, ℕ, zero, suc, ◌+◌, ◌<◌, true, false, not, ◌&&◌, ◌||◌, List, ◌++◌, length, Option, Some, None, refl, sym, ap, ◌∙◌, subst, inl, inr, ⊎_elim}
+use Rattle.std.specs.Prelude.{◌==◌, is_none, is_some}
+use Rattle.std.specs.List.{list_any}
+use Rattle.std.proofs.lemmas.Bool.{and_parts, and_from, both_ways, cases_Bool, eq-eqb, not_from_false, or_cases, or_left, or_right}
+use Rattle.config_graph.specs.Kinds.{depends_on, is_depended_on}
+use Rattle.config_graph.specs.declared.node.Target.{Target}
+use Rattle.quiesce_core.specs.declared.event.Event.{Event}
+use Rattle.quiesce_core.specs.declared.state.Service.{Service}
+use Rattle.quiesce_core.specs.declared.state.Slot.{Slot}
+use Rattle.quiesce_core.specs.State.{State, slot, is_live, gate, owner, target, provision, depends, is_depended, exchange, service}
+use Rattle.quiesce_core.specs.Phases.{is_idle}
+use Rattle.quiesce_core.specs.Reach.{IsPortOf, Reaches, Leads, can_walk}
+use Rattle.quiesce_core.specs.Reach as reach
+use Rattle.quiesce_core.specs.Rules.{is_quiet}
+use Rattle.quiesce_core.specs.Runs.{IsRun, state_after}
+use Rattle.quiesce_core.specs.Settled.{Settled}
+use Rattle.quiesce_core.specs.Traffic.{IsServing, IsConsistent}
+use Rattle.quiesce_core.specs.WellFormed.{IsWellFormed}
+use Rattle.quiesce_core.proofs.Cycles.{map_or_at, map_or_true, walk_to}
+use Rattle.quiesce_core.proofs.KindLemmas.{depended_if}
+use Rattle.quiesce_core.proofs.Reaching.{no_walk_plus}
+use Rattle.quiesce_core.proofs.RunLemmas.{runs_are_well_formed, runs_are_consistent}
+use Rattle.quiesce_core.proofs.TrafficLemmas.{serving_busy}
+use Rattle.quiescence_laws.specs.Drained.{is_drained}
+use Rattle.quiescence_laws.specs.Events.{reopens}
+use Rattle.quiescence_laws.specs.Roots.{has_root}
+use Rattle.quiescence_laws.proofs.Configurations.{port_owner, busy_made}
+use Rattle.quiescence_laws.proofs.RootLemmas.{old_further, has_no_root}
+use Rattle.quiescence_laws.proofs.Stillness.{Concerns}
+
+-- idle or consequent, where there is no root
+rootless : (s : State) (p : ℕ) → (has_root s p (exchange s p).serial ≡ true → ⊥) → (is_idle (exchange s p).phase || is_some (exchange s p).within) ≡ true
+rootless s p none_ = ⊎_elim
+    (λ (idle : is_idle (exchange s p).phase ≡ true). or_left (is_idle (exchange s p).phase) (is_some (exchange s p).within) idle)
+    (λ (busy : is_idle (exchange s p).phase ≡ false). or_right (is_idle (exchange s p).phase) (is_some (exchange s p).within) (within (exchange s p).within (λ alone. none_
+    (and_from (not (is_idle (exchange s p).phase) && (exchange s p).serial == (exchange s p).serial) (is_none (exchange s p).within)
+    (and_from (not (is_idle (exchange s p).phase)) ((exchange s p).serial == (exchange s p).serial) (not_from_false (is_idle (exchange s p).phase) busy) (eq-eqb (exchange s p).serial (exchange s p).serial refl))
+    alone))))
+    (cases_Bool (is_idle (exchange s p).phase))
+  where
+    within : (o : Option ℕ) → (is_none o ≡ true → ⊥) → is_some o ≡ true
+    within None h = absurd (h refl)
+    within (Some q) h = refl
+
+pub drained_stays : (es more_ : List Event) (p : ℕ) → IsRun (es ++ more_) → list_any (reopens p) more_ ≡ false → is_drained (state_after es) p ≡ true → is_drained (state_after (es ++ more_)) p ≡ true
+drained_stays es more_ p run free h =
+    let s = state_after es in
+    let s' = state_after (es ++ more_) in
+    let parts = and_parts (gate s.config p).closed (is_idle (exchange s p).phase || is_some (exchange s p).within) h in
+    let old = old_further es more_ p (exchange s' p).serial run free parts.0 in
+    and_from (gate s'.config p).closed (is_idle (exchange s' p).phase || is_some (exchange s' p).within) old.closed
+    (rootless s' p (λ root. has_no_root (exchange s p) (exchange s' p).serial parts.1 (old.before root)))
+
+-- a port that concerns the node and isn't idle, whose owner can walk so many steps
+record Climbs (s : State) (n k : ℕ) : Type 0 where
+  port : ℕ
+  concerns : Concerns s.config n port
+  busy : is_idle (exchange s port).phase ≡ false
+  walks : can_walk s.config k (owner s.config port) ≡ true
+
+module _ (s : State) (n : ℕ) (w : IsWellFormed s) (t : IsConsistent s) (drained : (p : ℕ) → Concerns s.config n p → is_drained s p ≡ true) where
+  -- what is serviced by a node whose port concerns n concerns n, where a provision depends on that port
+  serviced_concerns : (p m : ℕ) (v : Service) (h : IsServing s m v) → owner s.config p ≡ m → p < length s.config.gates → depends s.config m (provision s.config v.port) p ≡ true → Concerns s.config n p
+      → Concerns s.config n v.port
+  serviced_concerns p m v h owned made dep c =
+      let by : provision s.config v.port ≡ h.provide = map_or_at (λ (u : Target). u.provide) (target s.config v.port) 0 (record { node = m; provide = h.provide }) h.linked in
+      ⊎_elim
+      (λ (own : IsPortOf s.config n p).
+      let is_n : m ≡ n = sym owned ∙ port_owner s.config w.sound n p own in
+      inr (reach.direct v.port h.provide (h.linked ∙ ap (λ i. Some (record { node = i; provide = h.provide })) is_n)))
+      (λ (r : Reaches s.config n p).
+      inr (reach.dependent v.port p m h.provide h.linked (subst (λ i. IsPortOf s.config i p) owned (w.sound.ports p made)) (sym (ap (λ x. depends s.config m x p) by) ∙ dep) r))
+      c
+
+  depended : (m x p : ℕ) → depends s.config m x p ≡ true → is_depended s.config m p ≡ true
+  depended m x p h =
+      let k = map_or_true (λ (u : Slot). depends_on u.node.kind x (gate s.config p).require) (slot s.config m) h in
+      map_or_at (λ (u : Slot). is_depended_on u.node.kind (gate s.config p).require) (slot s.config m) false k.0 k.1 ∙ depended_if k.0.node.kind x (gate s.config p).require k.2
+
+  -- what a busy port's transaction belongs to
+  record Above (p : ℕ) : Type 0 where
+    port : ℕ
+    concerns : Concerns s.config n port
+    busy : is_idle (exchange s port).phase ≡ false
+    leads : (x : ℕ) × (target s.config port ≡ Some (record { node = owner s.config p; provide = x }))
+    depended : is_depended s.config (owner s.config p) p ≡ true
+
+  above : (p : ℕ) → Concerns s.config n p → is_idle (exchange s p).phase ≡ false → Above p
+  above p c busy =
+      let parts = and_parts (gate s.config p).closed (is_idle (exchange s p).phase || is_some (exchange s p).within) (drained p c) in
+      ⊎_elim
+      (λ (idle : is_idle (exchange s p).phase ≡ true). absurd (both_ways (is_idle (exchange s p).phase) busy idle))
+      (λ (called : is_some (exchange s p).within ≡ true).
+      let q = some_port (exchange s p).within called in
+      let k = t.consequent p q.0 q.1 in
+      let serving = t.serving (owner s.config p) k.serving k.serviced in
+      let dep : depends s.config (owner s.config p) (provision s.config k.serving.port) p ≡ true = ap (λ i. depends s.config (owner s.config p) (provision s.config i) p) k.of_port ∙ k.depends_on in
+      record {
+        port = k.serving.port;
+        concerns = serviced_concerns p (owner s.config p) k.serving serving refl (busy_made s p t busy) dep c;
+        busy = serving_busy (exchange s k.serving.port).phase serving.busy;
+        leads = (serving.provide, serving.linked);
+        depended = depended (owner s.config p) (provision s.config k.serving.port) p dep;
+      })
+      (or_cases (is_idle (exchange s p).phase) (is_some (exchange s p).within) parts.1)
+    where
+      some_port : (o : Option ℕ) → is_some o ≡ true → (q : ℕ) × (o ≡ Some q)
+      some_port None h = absurd (both_ways false refl h)
+      some_port (Some q) h = (q, refl)
+
+  -- so from a busy port one can climb without end
+  climbs : (k p : ℕ) → Concerns s.config n p → is_idle (exchange s p).phase ≡ false → Climbs s n k
+  climbs zero p c busy = record { port = p; concerns = c; busy = busy; walks = refl }
+  climbs (suc k) p c busy =
+      let below = climbs k p c busy in
+      let up = above below.port below.concerns below.busy in
+      let top = above up.port up.concerns up.busy in
+      record {
+        port = up.port;
+        concerns = up.concerns;
+        busy = up.busy;
+        walks = walk_to s.config k (owner s.config up.port) (owner s.config below.port)
+            (record { port = up.port; provide = up.leads.0; owned = w.sound.ports up.port (busy_made s up.port t up.busy); depended = top.depended; linked = up.leads.1 })
+            below.walks;
+      }
+
+  none_busy : (p : ℕ) → Concerns s.config n p → is_idle (exchange s p).phase ≡ false → ⊥
+  none_busy p c busy =
+      let far = climbs (length s.config.slots + 1) p c busy in
+      both_ways (can_walk s.config (length s.config.slots + 1) (owner s.config far.port)) (no_walk_plus s.config w.sound (owner s.config far.port)) far.walks
+
+  quiet_all : (p : ℕ) → Concerns s.config n p → is_quiet s p ≡ true
+  quiet_all p c =
+      let parts = and_parts (gate s.config p).closed (is_idle (exchange s p).phase || is_some (exchange s p).within) (drained p c) in
+      and_from (gate s.config p).closed (is_idle (exchange s p).phase) parts.0 (⊎_elim
+      (λ (idle : is_idle (exchange s p).phase ≡ true). idle)
+      (λ (busy : is_idle (exchange s p).phase ≡ false). absurd (none_busy p c busy))
+      (cases_Bool (is_idle (exchange s p).phase)))
+
+  services_none : (o : Option Service) → service s n ≡ o → o ≡ None
+  services_none None e = refl
+  services_none (Some v) e =
+      let h = t.serving n v e in absurd (none_busy v.port (inr (reach.direct v.port h.provide h.linked)) (serving_busy (exchange s v.port).phase h.busy))
+
+  pub settled_of : is_live s.config n ≡ true → Settled s n
+  settled_of live = record { live = live; own = λ p own. quiet_all p (inl own); services_nothing = services_none (service s n) refl; reaching = λ p r. quiet_all p (inr r) }
+
+pub settled_if_drained : (es : List Event) (n : ℕ) → IsRun es → is_live (state_after es).config n ≡ true → ((p : ℕ) → IsPortOf (state_after es).config n p → is_drained (state_after es) p ≡ true)
+    → ((p : ℕ) → Reaches (state_after es).config n p → is_drained (state_after es) p ≡ true) → Settled (state_after es) n
+settled_if_drained es n run live own reaching =
+    settled_of (state_after es) n (runs_are_well_formed es run) (runs_are_consistent es run)
+    (λ p c. ⊎_elim (λ (o : IsPortOf (state_after es).config n p). own p o) (λ (r : Reaches (state_after es).config n p). reaching p r) c) live
