@@ -1,4 +1,4 @@
--- Of each event of the change but Link: nothing more is left of any port.
+-- Of each event of the change: nothing more is left of any port.
 use Rattle.std.proofs.Common.{◌≡◌, ℕ, ◌+◌, ◌-◌, ◌*◌, ◌<◌, ◌≤◌, Bool, true, false, cond, length, Some, refl, sym, ap, ◌∙◌, ⊎_elim, arith}
 use Rattle.std.specs.Prelude.{◌||◌, ◌⊎◌, sum_by}
 use Rattle.std.specs.List.{range_with_len}
@@ -15,7 +15,7 @@ use Rattle.quiesce_core.specs.Rules.{is_taken}
 use Rattle.quiesce_core.specs.Traffic.{IsConsistent}
 use Rattle.quiesce_core.specs.WellFormed.{IsWellFormed}
 use Rattle.quiesce_core.proofs.Places.{live_made}
-use Rattle.quiesce_core.proofs.TrafficLemmas.{taken_is, is_taken_if}
+use Rattle.quiesce_core.proofs.TrafficLemmas.{taken_is, is_taken_if, serving_busy}
 use Rattle.drain_laws.specs.Drain.{left, rest_where}
 use Rattle.drain_laws.proofs.Busy.{busy_phases, busy_target, untaken_if}
 use Rattle.drain_laws.proofs.Fewer.{HasNoNewLink, full_fewer, events_fewer}
@@ -23,8 +23,9 @@ use Rattle.drain_laws.proofs.Sums.{sum_le, sum_longer, masked}
 use Rattle.drain_laws.proofs.Weights.{left_idle, left_answered, left_untaken, left_taken}
 
 -- what an event of the change owes, so that nothing more is left
-pub record Spares (s s' : State) : Type 0 where
-  pub fewer : HasNoNewLink s.config s'.config
+pub record Spares (s s' : State) (Good : ℕ → ℕ → Type 0) : Type 0 where
+  pub fewer : HasNoNewLink s.config s'.config Good
+  pub busy : (q : ℕ) (t : Target) → is_idle (exchange s q).phase ≡ false → target s.config q ≡ Some t → Good t.node t.provide
   pub no_cycle : has_no_cycle s'.config ≡ true
   pub exchanges : (q : ℕ) → exchange s' q ≡ exchange s q
   pub services : (m : ℕ) → service s' m ≡ service s m
@@ -35,7 +36,7 @@ pub record Spares (s s' : State) : Type 0 where
 rest_fewer : (m i c j e e' d : ℕ) → e ≤ e' → 3 * (m - i) + (c - j) * e + d ≤ 3 * (m - i) + (c - j) * e' + d
 rest_fewer m i c j e e' d h = let l : (c - j) * e ≤ (c - j) * e' = mul-le-mul_left (c - j) h in omega arith
 
-module _ (s s' : State) (w : IsWellFormed s) (k : IsConsistent s) (h : Spares s s') where
+module _ (s s' : State) (w : IsWellFormed s) (k : IsConsistent s) (Good : ℕ → ℕ → Type 0) (h : Spares s s' Good) where
   taken_fewer : (q : ℕ) (t : Target) → (is_asked (exchange s q).phase || is_in_more (exchange s q).phase) ≡ true → target s.config q ≡ Some t → target s'.config q ≡ Some t → is_taken s q ≡ true → left s' q ≤ left s q
   taken_fewer q t busy e e' taken =
       let u = taken_is s q taken in
@@ -44,7 +45,7 @@ module _ (s s' : State) (w : IsWellFormed s) (k : IsConsistent s) (h : Spares s 
       let made : t.node < length s.config.slots = live_made s.config t.node (w.sound.targets q t e).live in
       let before = left_taken s q t u.serving busy e serviced u.of_port in
       let after = left_taken s' q t u.serving (ap (λ (x : Exchange). is_asked x.phase || is_in_more x.phase) (h.exchanges q) ∙ busy) e' (h.services t.node ∙ serviced) u.of_port in
-      let events = events_fewer s.config s'.config w.sound h.no_cycle h.fewer t.node t.provide made in
+      let events = events_fewer s.config s'.config w.sound h.no_cycle Good h.fewer t.node t.provide made (h.busy q t (serving_busy (exchange s q).phase busy) e) in
       let is : left s' q ≡ 3 * (mores_allowed s.config t.node t.provide - u.serving.mores)
       + (calls_allowed s.config t.node t.provide - u.serving.calls) * call_events s'.config t.node t.provide + messages_due u.serving (exchange s q).phase =
       after
@@ -72,7 +73,7 @@ module _ (s s' : State) (w : IsWellFormed s) (k : IsConsistent s) (h : Spares s 
       both_ways (is_taken s q) free (is_taken_if s q t.0 v t.1 (sym (h.services t.0.node) ∙ f) same)) in
       let before = left_untaken s q t.0 either_ t.1 free in
       let after = left_untaken s' q t.0 (ap (λ (x : Exchange). is_asked x.phase || is_in_more x.phase) (h.exchanges q) ∙ either_) e' free' in
-      omega (arith, before, after, full_fewer s.config s'.config w.sound h.no_cycle h.fewer t.0.node t.0.provide (live_made s.config t.0.node (w.sound.targets q t.0 t.1).live)))
+      omega (arith, before, after, full_fewer s.config s'.config w.sound h.no_cycle Good h.fewer t.0.node t.0.provide (live_made s.config t.0.node (w.sound.targets q t.0 t.1).live) (h.busy q t.0 busy t.1)))
       (cases_Bool (is_taken s q))
 
   left_fewer : (q : ℕ) → left s' q ≤ left s q

@@ -17,13 +17,14 @@ use Rattle.quiesce_core.proofs.Places.{live_made}
 use Rattle.quiesce_core.proofs.Reaching.{depended_at}
 use Rattle.quiesce_core.proofs.RestLemmas.{full_step}
 
--- d has the nodes of c, with their kinds and ports, and no link that c hasn't
-pub record HasNoNewLink (c d : Configuration) : Type 0 where
+-- d has the nodes of c, with their kinds and ports, and no link that c hasn't at a port through which a good provision goes
+pub record HasNoNewLink (c d : Configuration) (Good : ℕ → ℕ → Type 0) : Type 0 where
   pub calls : (m x : ℕ) → m < length c.slots → calls_allowed d m x ≡ calls_allowed c m x
   pub mores : (m x : ℕ) → m < length c.slots → mores_allowed d m x ≡ mores_allowed c m x
   pub rows : (m : ℕ) → m < length c.slots → ports_of d m ≡ ports_of c m
   pub depend : (m x p : ℕ) → m < length c.slots → IsPortOf c m p → depends d m x p ≡ depends c m x p
-  pub targets : (p : ℕ) (t : Target) → target d p ≡ Some t → target c p ≡ Some t
+  pub targets : (m x p : ℕ) (t : Target) → Good m x → IsPortOf c m p → depends c m x p ≡ true → target d p ≡ Some t → target c p ≡ Some t
+  pub closed : (m x p : ℕ) (t : Target) → Good m x → IsPortOf c m p → depends c m x p ≡ true → target c p ≡ Some t → Good t.node t.provide
 
 max_le : (a b c d : ℕ) → a ≤ c → b ≤ d → max a b ≤ max c d
 max_le a b c d h l = omega arith
@@ -55,43 +56,45 @@ greatest_of c m f g tf tg (Some k) e same le =
     greatest_le f g tf tg k.first_port (length (row k.node.kind).requires_)
     (λ p l u. same p (record { node = k; made = e; from = l; below = u })) (λ p l u. le p (record { node = k; made = e; from = l; below = u }))
 
-through_le : (c d : Configuration) (p : ℕ) → HasNoNewLink c d → ((t : Target) → target c p ≡ Some t → full d t.node t.provide ≤ full c t.node t.provide) → (o : Option Target) → target d p ≡ o
-    → option_map_or (λ (t : Target). full d t.node t.provide) o 0 ≤ option_map_or (λ (t : Target). full c t.node t.provide) (target c p) 0
-through_le c d p h le None e = omega arith
-through_le c d p h le (Some t) e =
-    let was = h.targets p t e in
+through_le : (c d : Configuration) (p : ℕ) → ((t : Target) → target d p ≡ Some t → target c p ≡ Some t) → ((t : Target) → target c p ≡ Some t → full d t.node t.provide ≤ full c t.node t.provide)
+    → (o : Option Target) → target d p ≡ o → option_map_or (λ (t : Target). full d t.node t.provide) o 0 ≤ option_map_or (λ (t : Target). full c t.node t.provide) (target c p) 0
+through_le c d p old le None e = omega arith
+through_le c d p old le (Some t) e =
+    let was = old t e in
     omega (arith, le t was, map_or_at (λ (t : Target). full c t.node t.provide) (target c p) 0 t was)
 
-events_from : (c d : Configuration) → HasNoNewLink c d → (m x : ℕ) → m < length c.slots
-    → ((p : ℕ) (t : Target) → IsPortOf c m p → depends c m x p ≡ true → target c p ≡ Some t → full d t.node t.provide ≤ full c t.node t.provide)
-    → call_events d m x ≤ call_events c m x
-events_from c d h m x made le =
-    subst (λ ps. greatest (events_through d) (filter (depends d m x) ps) ≤ call_events c m x) (sym (h.rows m made))
-    (greatest_of c m (events_through d) (events_through c) (depends d m x) (depends c m x) (slot c m) refl (λ p o. h.depend m x p made o)
-    (λ p o dep. omega (arith, through_le c d p h (λ t e. le p t o dep e) (target d p) refl)))
+module _ (c d : Configuration) (s : IsSound c) (ranked : has_no_cycle d ≡ true) (Good : ℕ → ℕ → Type 0) (h : HasNoNewLink c d Good) where
+  -- where it is so of all that the provision can lead to
+  events_from : (m x : ℕ) → m < length c.slots → Good m x
+      → ((p : ℕ) (t : Target) → IsPortOf c m p → depends c m x p ≡ true → target c p ≡ Some t → full d t.node t.provide ≤ full c t.node t.provide)
+      → call_events d m x ≤ call_events c m x
+  events_from m x made good le =
+      subst (λ ps. greatest (events_through d) (filter (depends d m x) ps) ≤ call_events c m x) (sym (h.rows m made))
+      (greatest_of c m (events_through d) (events_through c) (depends d m x) (depends c m x) (slot c m) refl (λ p o. h.depend m x p made o)
+      (λ p o dep. omega (arith, through_le c d p (λ t e. h.targets m x p t good o dep e) (λ t e. le p t o dep e) (target d p) refl)))
 
-full_from : (c d : Configuration) → has_no_cycle c ≡ true → has_no_cycle d ≡ true → HasNoNewLink c d → (m x : ℕ) → m < length c.slots
-    → ((p : ℕ) (t : Target) → IsPortOf c m p → depends c m x p ≡ true → target c p ≡ Some t → full d t.node t.provide ≤ full c t.node t.provide)
-    → full d m x ≤ full c m x
-full_from c d ranked ranked' h m x made le =
-    let events : call_events d m x ≤ call_events c m x = events_from c d h m x made le in
-    let is : full d m x ≡ 3 + 3 * mores_allowed c m x + calls_allowed c m x * call_events d m x =
-    full_step d ranked' m x ∙ ap (λ i. 3 + 3 * i + calls_allowed d m x * call_events d m x) (h.mores m x made)
-    ∙ ap (λ i. 3 + 3 * mores_allowed c m x + i * call_events d m x) (h.calls m x made) in
-    let more_ : calls_allowed c m x * call_events d m x ≤ calls_allowed c m x * call_events c m x = mul-le-mul_left (calls_allowed c m x) events in
-    omega (arith, is, full_step c ranked m x, more_)
+  full_from : (m x : ℕ) → m < length c.slots → Good m x
+      → ((p : ℕ) (t : Target) → IsPortOf c m p → depends c m x p ≡ true → target c p ≡ Some t → full d t.node t.provide ≤ full c t.node t.provide)
+      → full d m x ≤ full c m x
+  full_from m x made good le =
+      let events : call_events d m x ≤ call_events c m x = events_from m x made good le in
+      let is : full d m x ≡ 3 + 3 * mores_allowed c m x + calls_allowed c m x * call_events d m x =
+      full_step d ranked m x ∙ ap (λ i. 3 + 3 * i + calls_allowed d m x * call_events d m x) (h.mores m x made)
+      ∙ ap (λ i. 3 + 3 * mores_allowed c m x + i * call_events d m x) (h.calls m x made) in
+      let more_ : calls_allowed c m x * call_events d m x ≤ calls_allowed c m x * call_events c m x = mul-le-mul_left (calls_allowed c m x) events in
+      omega (arith, is, full_step c s.no_cycle m x, more_)
 
-full_down : (c d : Configuration) → IsSound c → has_no_cycle d ≡ true → HasNoNewLink c d → (k m x : ℕ) → m < length c.slots → can_walk c k m ≡ false → full d m x ≤ full c m x
-full_down c d s ranked h zero m x made short = absurd (both_ways true short refl)
-full_down c d s ranked h (suc k) m x made short =
-    full_from c d s.no_cycle ranked h m x made (λ p t o dep e.
-    full_down c d s ranked h k t.node t.provide (live_made c t.node (s.targets p t e).live) (false_from_ne_true (can_walk c k t.node) (λ walks.
-    both_ways (can_walk c (suc k) m) short
-    (walk_to c k m t.node (record { port = p; provide = t.provide; owned = o; depended = depended_at c m x p dep; linked = e }) walks))))
+  full_down : (k m x : ℕ) → m < length c.slots → Good m x → can_walk c k m ≡ false → full d m x ≤ full c m x
+  full_down zero m x made good short = absurd (both_ways true short refl)
+  full_down (suc k) m x made good short =
+      full_from m x made good (λ p t o dep e.
+      full_down k t.node t.provide (live_made c t.node (s.targets p t e).live) (h.closed m x p t good o dep e) (false_from_ne_true (can_walk c k t.node) (λ walks.
+      both_ways (can_walk c (suc k) m) short
+      (walk_to c k m t.node (record { port = p; provide = t.provide; owned = o; depended = depended_at c m x p dep; linked = e }) walks))))
 
-pub full_fewer : (c d : Configuration) → IsSound c → has_no_cycle d ≡ true → HasNoNewLink c d → (m x : ℕ) → m < length c.slots → full d m x ≤ full c m x
-full_fewer c d s ranked h m x made = full_down c d s ranked h (suc (length c.slots)) m x made (no_walk c s.no_cycle m)
+  pub full_fewer : (m x : ℕ) → m < length c.slots → Good m x → full d m x ≤ full c m x
+  full_fewer m x made good = full_down (suc (length c.slots)) m x made good (no_walk c s.no_cycle m)
 
-pub events_fewer : (c d : Configuration) → IsSound c → has_no_cycle d ≡ true → HasNoNewLink c d → (m x : ℕ) → m < length c.slots → call_events d m x ≤ call_events c m x
-events_fewer c d s ranked h m x made =
-    events_from c d h m x made (λ p t o dep e. full_fewer c d s ranked h t.node t.provide (live_made c t.node (s.targets p t e).live))
+  pub events_fewer : (m x : ℕ) → m < length c.slots → Good m x → call_events d m x ≤ call_events c m x
+  events_fewer m x made good =
+      events_from m x made good (λ p t o dep e. full_fewer t.node t.provide (live_made c t.node (s.targets p t e).live) (h.closed m x p t good o dep e))

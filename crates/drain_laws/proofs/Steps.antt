@@ -7,7 +7,7 @@ use Rattle.config_graph.specs.declared.node.Target.{Target}
 use Rattle.quiesce_core.specs.declared.event.Event.{Event}
 use Rattle.quiesce_core.specs.declared.event.Event.TheVariants.{Begin, Call, Take, Give, End, More, Ask, Hear, Miss, Close, Reopen, Make, Link, Unlink, Remove}
 use Rattle.quiesce_core.specs.declared.state.Service.{Service}
-use Rattle.quiesce_core.specs.State.{State, target}
+use Rattle.quiesce_core.specs.State.{State, owner, target}
 use Rattle.quiesce_core.specs.Effect.{effect}
 use Rattle.quiesce_core.specs.Legal.{Legal}
 use Rattle.quiesce_core.specs.Rest.{full, rest}
@@ -15,12 +15,12 @@ use Rattle.quiesce_core.specs.Runs.{Step}
 use Rattle.quiesce_core.specs.Traffic.{IsConsistent}
 use Rattle.quiesce_core.specs.WellFormed.{IsWellFormed}
 use Rattle.quiesce_core.proofs.LegalLemmas.{legal}
-use Rattle.drain_laws.specs.Advances.{is_advance, is_begin, is_link}
+use Rattle.drain_laws.specs.Advances.{is_advance, is_begin}
 use Rattle.drain_laws.specs.Drain.{rest_where}
 use Rattle.drain_laws.proofs.Falls.{Calling, Moves, take_falls, hear_falls, ask_falls, end_falls, give_falls, more_falls, miss_calls, miss_falls, call_calls, call_moves, begin_rises}
 use Rattle.drain_laws.proofs.Sharing.{followed, is_marked, falls_part, moves_part, rises_part, rises_all, part_le}
 use Rattle.drain_laws.proofs.Changes.{spares_part}
-use Rattle.drain_laws.proofs.Sparing.{close_spares, reopen_spares, unlink_spares, remove_spares, make_spares}
+use Rattle.drain_laws.proofs.Sparing.{All, Apart, link_spares, close_spares, reopen_spares, unlink_spares, remove_spares, make_spares}
 
 -- a call or a miss is of the port that is serviced
 calls_of_port : (s : State) (p : ℕ) (b : ℕ → Bool) (at : Calling s p) → is_marked b s (Miss p) ≡ b at.serving.port
@@ -37,23 +37,23 @@ call_part s p k v b at moves =
     subst (λ m. cond m 1 0 + rest_where (λ q. cond (q == p) m (b q)) (effect s (Call p k v)) ≤ rest_where b s) (sym (calls_of_port s p b at))
     (moves_part s (effect s (Call p k v)).traffic p at.serving.port b moves)
 
-pub marked_part : (s : State) (e : Event) (b : ℕ → Bool) → IsWellFormed s → IsConsistent s → Legal s e → is_link e ≡ false
+pub marked_part : (s : State) (e : Event) (b : ℕ → Bool) → IsWellFormed s → IsConsistent s → Legal s e
     → cond (is_marked b s e) 1 0 + rest_where (followed b s e) (effect s e) ≤ rest_where b s
-marked_part s (Begin p k v) b w c l h = omega (arith, rises_part s (effect s (Begin p k v)).traffic p b (begin_rises s p k v w c l))
-marked_part s (Call p k v) b w c l h = let at = call_calls s p k v w c l in call_part s p k v b at (call_moves s p k v w c l at)
-marked_part s (Miss p) b w c l h = miss_part s p b (miss_calls s p w c l)
-marked_part s (Take p k v) b w c l h = falls_part s (effect s (Take p k v)).traffic p b (take_falls s p k v w c l)
-marked_part s (Give p k v) b w c l h = falls_part s (effect s (Give p k v)).traffic p b (give_falls s p k v w c l)
-marked_part s (End p k v) b w c l h = falls_part s (effect s (End p k v)).traffic p b (end_falls s p k v w c l)
-marked_part s (More p k v) b w c l h = falls_part s (effect s (More p k v)).traffic p b (more_falls s p k v w c l)
-marked_part s (Ask p k v) b w c l h = falls_part s (effect s (Ask p k v)).traffic p b (ask_falls s p k v w c l)
-marked_part s (Hear p k v) b w c l h = falls_part s (effect s (Hear p k v)).traffic p b (hear_falls s p k v w c l)
-marked_part s (Close p) b w c l h = omega (arith, spares_part s (effect s (Close p)) w c (close_spares s p w l) b)
-marked_part s (Reopen p) b w c l h = omega (arith, spares_part s (effect s (Reopen p)) w c (reopen_spares s p w l) b)
-marked_part s (Make n node from) b w c l h = omega (arith, spares_part s (effect s (Make n node from)) w c (make_spares s n node from w l) b)
-marked_part s (Link p n x) b w c l h = absurd (both_ways true h refl)
-marked_part s (Unlink p) b w c l h = omega (arith, spares_part s (effect s (Unlink p)) w c (unlink_spares s p w l) b)
-marked_part s (Remove n) b w c l h = omega (arith, spares_part s (effect s (Remove n)) w c (remove_spares s n w l) b)
+marked_part s (Begin p k v) b w c l = omega (arith, rises_part s (effect s (Begin p k v)).traffic p b (begin_rises s p k v w c l))
+marked_part s (Call p k v) b w c l = let at = call_calls s p k v w c l in call_part s p k v b at (call_moves s p k v w c l at)
+marked_part s (Miss p) b w c l = miss_part s p b (miss_calls s p w c l)
+marked_part s (Take p k v) b w c l = falls_part s (effect s (Take p k v)).traffic p b (take_falls s p k v w c l)
+marked_part s (Give p k v) b w c l = falls_part s (effect s (Give p k v)).traffic p b (give_falls s p k v w c l)
+marked_part s (End p k v) b w c l = falls_part s (effect s (End p k v)).traffic p b (end_falls s p k v w c l)
+marked_part s (More p k v) b w c l = falls_part s (effect s (More p k v)).traffic p b (more_falls s p k v w c l)
+marked_part s (Ask p k v) b w c l = falls_part s (effect s (Ask p k v)).traffic p b (ask_falls s p k v w c l)
+marked_part s (Hear p k v) b w c l = falls_part s (effect s (Hear p k v)).traffic p b (hear_falls s p k v w c l)
+marked_part s (Close p) b w c l = omega (arith, spares_part s (effect s (Close p)) w c All (close_spares s p w l) b)
+marked_part s (Reopen p) b w c l = omega (arith, spares_part s (effect s (Reopen p)) w c All (reopen_spares s p w l) b)
+marked_part s (Make n node from) b w c l = omega (arith, spares_part s (effect s (Make n node from)) w c All (make_spares s n node from w l) b)
+marked_part s (Link p n x) b w c l = omega (arith, spares_part s (effect s (Link p n x)) w c (Apart s.config (owner s.config p)) (link_spares s p n x w l) b)
+marked_part s (Unlink p) b w c l = omega (arith, spares_part s (effect s (Unlink p)) w c All (unlink_spares s p w l) b)
+marked_part s (Remove n) b w c l = omega (arith, spares_part s (effect s (Remove n)) w c All (remove_spares s n w l) b)
 
 abbrev pub every : ℕ → Bool
 every p = true
@@ -102,43 +102,42 @@ advance_marked s (Link p n x) w c l h = absurd (both_ways false refl h)
 advance_marked s (Unlink p) w c l h = absurd (both_ways false refl h)
 advance_marked s (Remove n) w c l h = absurd (both_ways false refl h)
 
-all_part : (s : State) (e : Event) → IsWellFormed s → IsConsistent s → Legal s e → is_begin e ≡ false → is_link e ≡ false → cond (is_marked every s e) 1 0 + rest (effect s e) ≤ rest s
-all_part s e w c l h n =
-    let part = marked_part s e every w c l n in
+all_part : (s : State) (e : Event) → IsWellFormed s → IsConsistent s → Legal s e → is_begin e ≡ false → cond (is_marked every s e) 1 0 + rest (effect s e) ≤ rest s
+all_part s e w c l h =
+    let part = marked_part s e every w c l in
     let less : rest_where every (effect s e) ≤ rest_where (followed every s e) (effect s e) = part_le (effect s e) every (followed every s e) (λ q busy on. all_followed s e w c l h q) in
     omega (arith, part, less, all_rest s, all_rest (effect s e))
 
-advance_only : (e : Event) → is_advance e ≡ true → (is_begin e ≡ false) × (is_link e ≡ false)
+advance_only : (e : Event) → is_advance e ≡ true → is_begin e ≡ false
 advance_only (Begin p k v) h = absurd (both_ways false refl h)
-advance_only (Link p n x) h = absurd (both_ways false refl h)
-advance_only (Call p k v) h = (refl, refl)
-advance_only (Miss p) h = (refl, refl)
-advance_only (Take p k v) h = (refl, refl)
-advance_only (Give p k v) h = (refl, refl)
-advance_only (End p k v) h = (refl, refl)
-advance_only (More p k v) h = (refl, refl)
-advance_only (Ask p k v) h = (refl, refl)
-advance_only (Hear p k v) h = (refl, refl)
-advance_only (Close p) h = (refl, refl)
-advance_only (Reopen p) h = (refl, refl)
-advance_only (Make n node from) h = (refl, refl)
-advance_only (Unlink p) h = (refl, refl)
-advance_only (Remove n) h = (refl, refl)
+advance_only (Link p n x) h = refl
+advance_only (Call p k v) h = refl
+advance_only (Miss p) h = refl
+advance_only (Take p k v) h = refl
+advance_only (Give p k v) h = refl
+advance_only (End p k v) h = refl
+advance_only (More p k v) h = refl
+advance_only (Ask p k v) h = refl
+advance_only (Hear p k v) h = refl
+advance_only (Close p) h = refl
+advance_only (Reopen p) h = refl
+advance_only (Make n node from) h = refl
+advance_only (Unlink p) h = refl
+advance_only (Remove n) h = refl
 
 -- all of what is left falls at each event of an open transaction
 pub rest_falls : (s s' : State) (e : Event) → IsWellFormed s → IsConsistent s → Step s e s' → is_advance e ≡ true → rest s' + 1 ≤ rest s
 rest_falls s s' e w c step h =
     let l = legal s e step.allowed in
-    let only = advance_only e h in
-    let part = all_part s e w c l only.0 only.1 in
+    let part = all_part s e w c l (advance_only e h) in
     let one : cond (is_marked every s e) 1 0 ≡ 1 = ap {B = ℕ} (λ b. cond b 1 0) (advance_marked s e w c l h) in
     let same : rest s' ≡ rest (effect s e) = ap (λ x. rest x) step.changed in
     omega (arith, part, one, same)
 
--- it rises at none but Begin and Link
-pub rest_stays : (s s' : State) (e : Event) → IsWellFormed s → IsConsistent s → Step s e s' → is_begin e ≡ false → is_link e ≡ false → rest s' ≤ rest s
-rest_stays s s' e w c step h n =
-    let part = all_part s e w c (legal s e step.allowed) h n in
+-- it rises at none but Begin
+pub rest_stays : (s s' : State) (e : Event) → IsWellFormed s → IsConsistent s → Step s e s' → is_begin e ≡ false → rest s' ≤ rest s
+rest_stays s s' e w c step h =
+    let part = all_part s e w c (legal s e step.allowed) h in
     let same : rest s' ≡ rest (effect s e) = ap (λ x. rest x) step.changed in
     omega (arith, part, same)
 

@@ -23,10 +23,6 @@ is_advance (Link p n x) = false
 is_advance (Unlink p) = false
 is_advance (Remove n) = false
 
-abbrev pub is_link : Event → Bool
-is_link (Link p n x) = true
-is_link _ = false
-
 abbrev pub is_begin : Event → Bool
 is_begin (Begin p k v) = true
 is_begin _ = false

@@ -5,17 +5,17 @@ ghost use Rattle.std.specs.List.{list_any};
 ghost use Rattle.quiesce_core.specs.declared.event.Event.{Event};
 ghost use Rattle.quiesce_core.specs.Rest.{rest};
 ghost use Rattle.quiesce_core.specs.Runs.{IsRun, state_after};
-ghost use Rattle.drain_laws.specs.Advances.{is_advance, is_begin, is_link};
+ghost use Rattle.drain_laws.specs.Advances.{is_advance, is_begin};
 ghost use Rattle.drain_laws.specs.Belongs.{open_in};
 ghost use Rattle.drain_laws.specs.Drain.{count_of};
 
-/// From the state after a run on, every list of events with which the run goes on, none of them a Link, has at most as many
-/// events of the transactions that are open there and of their consequents as are left there, whatever else begins.
+/// From the state after a run on, every list of events with which the run goes on has at most as many events of the
+/// transactions that are open there and of their consequents as are left there, whatever else begins or is changed.
 pub fn rest_bounds_the_drain()
-    ensures of_the_open { (es more_ : List Event) → IsRun (es ++ more_) → list_any is_link more_ ≡ false
+    ensures of_the_open { (es more_ : List Event) → IsRun (es ++ more_)
         → count_of (open_in (state_after es)) (state_after es) more_ ≤ rest (state_after es) }
 
     // Where nothing else begins, these are all the events of transactions.
-    ensures all { (es more_ : List Event) → IsRun (es ++ more_) → list_any is_begin more_ ≡ false → list_any is_link more_ ≡ false
+    ensures all { (es more_ : List Event) → IsRun (es ++ more_) → list_any is_begin more_ ≡ false
         → count_by is_advance more_ ≤ rest (state_after es) }
 {}

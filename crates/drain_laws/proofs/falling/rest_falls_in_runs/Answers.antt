@@ -12,9 +12,9 @@ returns-clause-falls c es e run h =
     omega (arith, rest_falls (state_after es) (state_after (es ++ e ∷ [])) e (runs_are_well_formed es w.0) (runs_are_consistent es w.0) w.1 h)
 
 pub returns-clause-stays : goal.returns-clause-stays
-returns-clause-stays c es e run no_begin no_link =
+returns-clause-stays c es e run no_begin =
     let w = last_step es e run in
-    rest_stays (state_after es) (state_after (es ++ e ∷ [])) e (runs_are_well_formed es w.0) (runs_are_consistent es w.0) w.1 no_begin no_link
+    rest_stays (state_after es) (state_after (es ++ e ∷ [])) e (runs_are_well_formed es w.0) (runs_are_consistent es w.0) w.1 no_begin
 
 pub returns-clause-rises : goal.returns-clause-rises
 returns-clause-rises c es p k v to run leads =
