@@ -14,3 +14,4 @@ pub mod Running
 pub mod Belonging
 pub mod Carrying
 pub mod Portions
+pub mod Strength
