@@ -1,0 +1,6 @@
+pub mod TokenLemmas
+pub mod LineLemmas
+pub mod NumberLemmas
+pub mod NameLemmas
+pub mod MakeLemmas
+pub mod EventFileLemmas

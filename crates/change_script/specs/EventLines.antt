@@ -1,0 +1,220 @@
+-- What a line of an event file means, by its tokens.
+use Rattle.std.specs.Prelude.{ℕ, ℤ, Bool, true, ◌&&◌, if◌then◌else◌, List, [], ◌∷◌, ◌++◌, map, codes, bytes_eq, find, Option, Some, None, is_some, option_map, option_copied, Result, Ok, Err}
+use Rattle.std.specs.List.{list_all}
+use Rattle.std.specs.Option.{option_map_or}
+use Rattle.config_graph.specs.declared.kind.Kind.{Kind}
+use Rattle.config_graph.specs.Kinds.{kind_named}
+use Rattle.quiesce_core.specs.declared.event.Event.{Event}
+use Rattle.quiesce_core.specs.declared.event.Event.TheVariants as events
+use Rattle.change_script.specs.declared.verbs.Exchange.{Exchange}
+use Rattle.change_script.specs.declared.verbs.Exchange.TheVariants as exchanges
+use Rattle.change_script.specs.declared.verbs.Single.{Single}
+use Rattle.change_script.specs.declared.verbs.Single.TheVariants as singles
+use Rattle.change_script.specs.declared.verbs.Verb.{Verb}
+use Rattle.change_script.specs.declared.verbs.Verb.TheVariants as verbs
+use Rattle.change_script.specs.declared.event_lines.LineFault.{LineFault}
+use Rattle.change_script.specs.declared.event_lines.LineFault.TheVariants.{Bad, Big}
+use Rattle.change_script.specs.declared.event_lines.Statement.{Statement}
+use Rattle.change_script.specs.declared.event_lines.Statement.TheVariants as statements
+use Rattle.change_script.specs.declared.event_lines.Triple.{Triple}
+use Rattle.change_script.specs.declared.event_lines.MakeLine.{MakeLine}
+use Rattle.change_script.specs.Tokens.{Token, word, opened, closed, comma}
+use Rattle.change_script.specs.Numbers.{is_number, number, number_fits, is_integer, integer, integer_fits}
+use Rattle.change_script.specs.Paths.{is_name, is_path, path_fits}
+
+-- the first word of each line
+abbrev pub exchange_bytes : Exchange → List ℕ
+exchange_bytes exchanges.Begin = codes "begin"
+exchange_bytes exchanges.Call = codes "call"
+exchange_bytes exchanges.Take = codes "take"
+exchange_bytes exchanges.More = codes "more"
+exchange_bytes exchanges.Ask = codes "ask"
+exchange_bytes exchanges.Hear = codes "hear"
+exchange_bytes exchanges.Give = codes "give"
+exchange_bytes exchanges.End = codes "end"
+
+abbrev pub single_bytes : Single → List ℕ
+single_bytes singles.Miss = codes "miss"
+single_bytes singles.Close = codes "close"
+single_bytes singles.Reopen = codes "reopen"
+single_bytes singles.Unlink = codes "unlink"
+single_bytes singles.Remove = codes "remove"
+
+abbrev pub verb_bytes : Verb → List ℕ
+verb_bytes verbs.Start = codes "start"
+verb_bytes (verbs.Exchange exchange) = exchange_bytes exchange
+verb_bytes (verbs.Single single) = single_bytes single
+verb_bytes verbs.Link = codes "link"
+verb_bytes verbs.Make = codes "make"
+
+abbrev pub exchange_verbs : List Verb
+exchange_verbs =
+    verbs.Exchange exchanges.Begin ∷ verbs.Exchange exchanges.Call ∷ verbs.Exchange exchanges.Take ∷ verbs.Exchange exchanges.More ∷
+    verbs.Exchange exchanges.Ask ∷ verbs.Exchange exchanges.Hear ∷ verbs.Exchange exchanges.Give ∷ verbs.Exchange exchanges.End ∷ []
+
+abbrev pub single_verbs : List Verb
+single_verbs = verbs.Single singles.Miss ∷ verbs.Single singles.Close ∷ verbs.Single singles.Reopen ∷ verbs.Single singles.Unlink ∷ verbs.Single singles.Remove ∷ []
+
+abbrev pub all_verbs : List Verb
+all_verbs = verbs.Start ∷ (exchange_verbs ++ (single_verbs ++ (verbs.Link ∷ verbs.Make ∷ [])))
+
+-- the verb of a line that begins with this word
+abbrev pub verb_named : List ℕ → Option Verb
+verb_named name = find (λ verb. bytes_eq (verb_bytes verb) name) all_verbs
+
+-- the value of a word that is a number
+abbrev pub one_number : List ℕ → Result ℕ LineFault
+one_number first = if is_number first then (if number_fits first then Ok (number first) else Err Big) else Err Bad
+
+-- NUM
+abbrev pub single_in : List Token → Result ℕ LineFault
+single_in (word first ∷ []) = one_number first
+single_in _ = Err Bad
+
+-- the values of three words that are numbers
+abbrev pub three_numbers : List ℕ → List ℕ → List ℕ → Result Triple LineFault
+three_numbers first second third =
+    if is_number first && is_number second && is_number third
+    then (if number_fits first && number_fits second && number_fits third
+    then Ok (record { first = number first; second = number second; third = number third })
+    else Err Big)
+    else Err Bad
+
+-- NUM NUM NUM
+abbrev pub triple_in : List Token → Result Triple LineFault
+triple_in (word first ∷ word second ∷ word third ∷ []) = three_numbers first second third
+triple_in _ = Err Bad
+
+-- PORT SERIAL VALUE of an exchange
+abbrev pub exchange_event : Exchange → Triple → Event
+exchange_event exchanges.Begin t = events.Begin t.first t.second t.third
+exchange_event exchanges.Call t = events.Call t.first t.second t.third
+exchange_event exchanges.Take t = events.Take t.first t.second t.third
+exchange_event exchanges.More t = events.More t.first t.second t.third
+exchange_event exchanges.Ask t = events.Ask t.first t.second t.third
+exchange_event exchanges.Hear t = events.Hear t.first t.second t.third
+exchange_event exchanges.Give t = events.Give t.first t.second t.third
+exchange_event exchanges.End t = events.End t.first t.second t.third
+
+-- PORT, or SLOT of a removal
+abbrev pub single_event : Single → ℕ → Event
+single_event singles.Miss port = events.Miss port
+single_event singles.Close port = events.Close port
+single_event singles.Reopen port = events.Reopen port
+single_event singles.Unlink port = events.Unlink port
+single_event singles.Remove slot = events.Remove slot
+
+-- PORT SLOT PROVIDE
+abbrev pub link_event : Triple → Event
+link_event t = events.Link t.first t.second t.third
+
+-- the words of a `make` line
+pub record MakeWords : Type 0 where
+  pub slot : List ℕ
+  pub path : List ℕ
+  pub kind : List ℕ
+  pub arg : Option (List ℕ)
+  pub from : Option (List ℕ)
+
+-- the bytes of the words that the code found
+abbrev pub words_of : MakeLine → MakeWords
+words_of line =
+    record { slot = line.slot.now; path = line.path.now; kind = line.kind.now; arg = option_copied line.arg; from = option_copied line.from }
+
+-- `from` SLOT, or nothing
+abbrev pub source : List Token → Option (Option (List ℕ))
+source [] = Some None
+source (word preposition ∷ word slot ∷ []) = if bytes_eq preposition (codes "from") then Some (Some slot) else None
+source _ = None
+
+abbrev pub make_from : List ℕ → List ℕ → List ℕ → Option (List ℕ) → List Token → Option MakeWords
+make_from slot path kind arg tokens =
+    option_map (λ from. record { slot = slot; path = path; kind = kind; arg = arg; from = from }) (source tokens)
+
+-- KIND's parentheses, empty or round NUM, and then `from` SLOT or nothing
+abbrev pub after_kind : List ℕ → List ℕ → List ℕ → List Token → Option MakeWords
+after_kind slot path kind (opened ∷ closed ∷ rest) = make_from slot path kind None rest
+after_kind slot path kind (opened ∷ word arg ∷ closed ∷ rest) = make_from slot path kind (Some arg) rest
+after_kind slot path kind _ = None
+
+-- SLOT PATH KIND() or SLOT PATH KIND(NUM), and then `from` SLOT or nothing
+abbrev pub make_words : List Token → Option MakeWords
+make_words (word slot ∷ word path ∷ word kind ∷ rest) = after_kind slot path kind rest
+make_words _ = None
+
+-- There is no word, or it passes the test.
+abbrev pub none_or : (List ℕ → Bool) → Option (List ℕ) → Bool
+none_or test words = option_map_or test words true
+
+-- Slots and the argument are numbers, the path is a path, and the kind is one of the kinds, with or without an argument.
+abbrev pub is_make : MakeWords → Bool
+is_make words = is_number words.slot && is_path words.path && is_some (kind_named words.kind) && none_or is_number words.arg && none_or is_number words.from
+
+abbrev pub make_fits : MakeWords → Bool
+make_fits words = number_fits words.slot && path_fits words.path && none_or number_fits words.arg && none_or number_fits words.from
+
+-- a node of this kind is made in the slot
+abbrev pub make_event : MakeWords → Kind → Event
+make_event words kind =
+    events.Make (number words.slot) (record { path = words.path; kind = kind; arg = option_map number words.arg }) (option_map number words.from)
+
+abbrev pub make_of_kind : MakeWords → Option Kind → Result Event LineFault
+make_of_kind words None = Err Bad
+make_of_kind words (Some kind) = if is_make words then (if make_fits words then Ok (make_event words kind) else Err Big) else Err Bad
+
+abbrev pub make_of_words : Option MakeWords → Result Event LineFault
+make_of_words None = Err Bad
+make_of_words (Some words) = make_of_kind words (kind_named words.kind)
+
+abbrev pub make : List Token → Result Event LineFault
+make tokens = make_of_words (make_words tokens)
+
+-- INT {, INT} and the closing parenthesis, with nothing behind it
+abbrev pub more_arguments : List Token → Option (List (List ℕ))
+more_arguments (word first ∷ closed ∷ []) = Some (first ∷ [])
+more_arguments (word first ∷ comma ∷ rest) = option_map (λ words. first ∷ words) (more_arguments rest)
+more_arguments _ = None
+
+-- the same, or the closing parenthesis alone
+abbrev pub arguments : List Token → Option (List (List ℕ))
+arguments (closed ∷ []) = Some []
+arguments tokens = more_arguments tokens
+
+-- the values of integers, where each is in range
+abbrev pub integers : List (List ℕ) → Option (List ℤ)
+integers words = if list_all integer_fits words then Some (map integer words) else None
+
+abbrev pub start_with : List ℕ → Option (List ℤ) → Result Statement LineFault
+start_with name None = Err Big
+start_with name (Some args) = Ok (statements.Start name args)
+
+abbrev pub start_of_words : List ℕ → Option (List (List ℕ)) → Result Statement LineFault
+start_of_words name None = Err Bad
+start_of_words name (Some words) = if is_name name && list_all is_integer words then start_with name (integers words) else Err Bad
+
+-- C(ARGS)
+abbrev pub start : List Token → Result Statement LineFault
+start (word name ∷ opened ∷ rest) = start_of_words name (arguments rest)
+start _ = Err Bad
+
+-- a line that is an event where it has one
+abbrev pub event_line : {A : Type 0} → (A → Event) → Result A LineFault → Result Statement LineFault
+event_line event (Err fault) = Err fault
+event_line event (Ok value) = Ok (statements.Event (event value))
+
+-- what stands behind a verb
+abbrev pub meaning_of : Verb → List Token → Result Statement LineFault
+meaning_of verbs.Start rest = start rest
+meaning_of (verbs.Exchange exchange) rest = event_line (exchange_event exchange) (triple_in rest)
+meaning_of (verbs.Single kind) rest = event_line (single_event kind) (single_in rest)
+meaning_of verbs.Link rest = event_line link_event (triple_in rest)
+meaning_of verbs.Make rest = event_line (λ event. event) (make rest)
+
+abbrev pub meaning_of_named : Option Verb → List Token → Result Statement LineFault
+meaning_of_named None rest = Err Bad
+meaning_of_named (Some verb) rest = meaning_of verb rest
+
+-- a start, an event, or what is wrong; a line of a form, whose words are what the form asks for, has no number above its limit
+abbrev pub meaning : List Token → Result Statement LineFault
+meaning (word name ∷ rest) = meaning_of_named (verb_named name) rest
+meaning _ = Err Bad

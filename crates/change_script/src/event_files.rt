@@ -1,0 +1,95 @@
+//! From a text to an event file.
+
+ghost use Rattle.std.specs.Prelude.{◌≡◌, ◌≢◌, ◌+◌, ◌^◌, ◌<◌, ◌≤◌, length, IfOk, IfErr, IsOkAnd, IsErrOf, ◌⊎◌, Ok, Err};
+ghost use Rattle.change_script.specs.EventFiles.{IsEventFile, IsFirstFault};
+ghost use Rattle.change_script.specs.Reading.{event_at, fault_with, read_events};
+ghost use Rattle.change_script.specs.Lines.{statements_from};
+ghost use Rattle.change_script.specs.Tokens.{tokens};
+ghost use Rattle.change_script.specs.EventLines as of_lines;
+
+use crate::error::ScriptError;
+use crate::event_lines::{LineFault, Statement, meaning};
+use crate::lines::next_statement;
+use config_graph::{List, Text};
+use quiesce_core::Event;
+use std::alloc::Global;
+
+/// The most bytes of a text.
+pub const MAX_TEXT: usize = 1_048_576;
+
+/// What an event file says: which component is started, with which arguments, and what happens then, in order.
+#[derive(Debug, Drop)]
+pub struct EventFile {
+    pub name: Text,
+    pub args: List<i32>,
+    pub events: List<Event>,
+}
+
+/// What the event file with these bytes says, or the first line at fault and what is wrong with it.
+pub fn parse_events(alloc: Global, text: &[u8]) -> Result<EventFile, ScriptError>
+    requires { length text.now ≤ MAX_TEXT }
+    ensures file { IfOk result (λ file. IsEventFile text.now file) }
+    ensures few { IfOk result (λ file. length file.events ≤ length text.now) }
+    ensures fault { IfErr result (λ fault. fault ≢ ScriptError.NoMemory → IsFirstFault text.now fault) }
+    ensures whenever_file { (file : EventFile) → IsEventFile text.now file → IsOkAnd result (λ found. found ≡ file) ⊎ IsErrOf result ScriptError.NoMemory }
+    ensures whenever_fault { (fault : ScriptError) → IsFirstFault text.now fault → IsErrOf result fault ⊎ IsErrOf result ScriptError.NoMemory }
+{
+    let Some(first) = next_statement(text, 1) else {
+        return Err(ScriptError::NoStart);
+    };
+    let (name, args) = match meaning(alloc, first.bytes)? {
+        Ok(Statement::Start { name, args }) => (name, args),
+        Ok(Statement::Event(_)) => return Err(ScriptError::Order(first.number)),
+        Err(fault) => return Err(fault.at(first.number)),
+    };
+    let events = events_of(alloc, first.rest, first.number + 1)?;
+    Ok(EventFile {
+        name,
+        args,
+        events: List::of(events),
+    })
+}
+
+/// The events of the lines of `text`, where `number` is that of its first line.
+fn events_of(alloc: Global, text: &[u8], number: u32) -> Result<Vec<Event>, ScriptError>
+    requires { number + length text.now < 2 ^ 32 }
+    ensures read { IfOk result (λ events. read_events (statements_from number text.now) ≡ Ok events.items) }
+    ensures few { IfOk result (λ events. length events.items ≤ length text.now) }
+    ensures fault { IfErr result (λ fault. fault ≢ ScriptError.NoMemory → read_events (statements_from number text.now) ≡ Err fault) }
+{
+    let mut events = Vec::new(alloc);
+    let mut rest = text;
+    let mut number = number;
+    'events: loop {
+        let Some(line) = next_statement(rest, number) else {
+            return Ok(events);
+        };
+        events.push(event_of(alloc, line.bytes, line.number)?)?;
+        rest = line.rest;
+        number = line.number + 1;
+    }
+}
+
+/// The event of a line behind the first.
+fn event_of(alloc: Global, line: &[u8], number: u32) -> Result<Event, ScriptError>
+    ensures read { IfOk result (λ event. event_at number (of_lines.meaning (tokens line.now)) ≡ Ok event) }
+    ensures fault { IfErr result (λ fault. fault ≢ ScriptError.NoMemory → event_at number (of_lines.meaning (tokens line.now)) ≡ Err fault) }
+{
+    match meaning(alloc, line)? {
+        Ok(Statement::Event(event)) => Ok(event),
+        Ok(Statement::Start { .. }) => Err(ScriptError::Order(number)),
+        Err(fault) => Err(fault.at(number)),
+    }
+}
+
+impl LineFault {
+    /// The refusal that names this fault and the line's number.
+    fn at(self, number: u32) -> ScriptError
+        ensures { result ≡ fault_with number self }
+    {
+        match self {
+            LineFault::Bad => ScriptError::BadLine(number),
+            LineFault::Big => ScriptError::NumberTooBig(number),
+        }
+    }
+}

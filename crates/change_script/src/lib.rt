@@ -1,0 +1,19 @@
+//! Scripts of changes and files of events: their lines, and what each line says.
+#![tactic(auto)]
+
+mod cuts;
+mod error;
+mod event_files;
+mod event_lines;
+mod laws;
+mod lines;
+mod numbers;
+mod paths;
+#[cfg(test)]
+mod tests;
+mod tokens;
+mod verbs;
+
+pub use error::ScriptError;
+pub use event_files::{EventFile, MAX_TEXT, parse_events};
+pub use laws::{names_are_those_of_the_language, one_file_or_one_fault, words_are_longest};

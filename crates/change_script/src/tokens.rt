@@ -1,0 +1,93 @@
+//! The tokens of a line, one after the other from its front.
+
+ghost use Rattle.std.specs.Prelude.{◌≡◌, ◌<◌, ◌≤◌, false, ◌∷◌, [], ℕ, List, length, IsTrue, ◌↔◌, IfNone, IfSome};
+ghost use Rattle.std.specs.List.{list_all, prefix_len};
+ghost use Rattle.change_script.specs.Tokens.{Token, word, sign, tokens, begins_blank, is_blank, is_sign, is_word_byte};
+
+/// The word that comes first in `line`, and what stands behind it; `None` where no word comes first.
+pub fn first_word(line: &[u8]) -> Option<(&[u8], &[u8])>
+    ensures none { IfNone result ((bytes : List ℕ) (more : List Token) → tokens line.now ≡ word bytes ∷ more → ⊥) }
+    ensures found { IfSome result (λ found. tokens line.now ≡ word found.0.now ∷ tokens found.1.now) }
+    ensures shorter { IfSome result (λ found. length found.1.now < length line.now) }
+{
+    let line = without_blanks(line);
+    let len = word_len(line);
+    if len == 0 {
+        return None;
+    }
+    Some((&line[..len], &line[len..]))
+}
+
+/// What stands behind the sign `byte`, where it comes first in `line`.
+pub fn after_sign(line: &[u8], byte: u8) -> Option<&[u8]>
+    requires { IsTrue (is_sign byte) }
+    ensures none { IfNone result ((more : List Token) → tokens line.now ≡ sign byte ∷ more → ⊥) }
+    ensures found { IfSome result (λ rest. tokens line.now ≡ sign byte ∷ tokens rest.now) }
+    ensures shorter { IfSome result (λ rest. length rest.now < length line.now) }
+{
+    let line = without_blanks(line);
+    let Some(&first) = line.first() else {
+        return None;
+    };
+    if first == byte {
+        Some(&line[1..])
+    } else {
+        None
+    }
+}
+
+/// Whether nothing but blanks is left.
+pub fn is_end(line: &[u8]) -> bool
+    ensures { IsTrue result ↔ (tokens line.now ≡ []) }
+{
+    is_all_blank(line)
+}
+
+fn is_all_blank(line: &[u8]) -> bool
+    ensures { result ≡ list_all is_blank line.now }
+{
+    line.iter().all(|byte| is_blank(*byte))
+}
+
+/// `line` from its first byte on that is no blank.
+fn without_blanks(line: &[u8]) -> &[u8]
+    ensures tokens { tokens result.now ≡ tokens line.now }
+    ensures within { length result.now ≤ length line.now }
+    ensures no_blank { begins_blank result.now ≡ false }
+{
+    &line[blanks_len(line)..]
+}
+
+/// How many blanks stand at the front.
+fn blanks_len(line: &[u8]) -> usize
+    ensures len { result ≡ prefix_len is_blank line.now }
+    ensures within { result ≤ length line.now }
+{
+    line.iter().take_while(|byte| is_blank(**byte)).count()
+}
+
+/// How many bytes the word at the front has.
+fn word_len(line: &[u8]) -> usize
+    ensures len { result ≡ prefix_len is_word_byte line.now }
+    ensures within { result ≤ length line.now }
+{
+    line.iter().take_while(|byte| is_word_byte(**byte)).count()
+}
+
+fn is_blank(byte: u8) -> bool
+    ensures { result ≡ is_blank byte }
+{
+    byte == b' ' || byte == b'\t'
+}
+
+fn is_sign(byte: u8) -> bool
+    ensures { result ≡ is_sign byte }
+{
+    byte == b'(' || byte == b')' || byte == b','
+}
+
+fn is_word_byte(byte: u8) -> bool
+    ensures { result ≡ is_word_byte byte }
+{
+    !(is_blank(byte) || is_sign(byte))
+}
