@@ -1,5 +1,5 @@
 """How the scripts of this folder measure: the best wall time of a few runs of the whole program, start-up included, and the
-peak of its resident memory."""
+peak of its resident memory, which is never less than that of the script itself, some 20 MiB."""
 import os
 import subprocess
 import sys

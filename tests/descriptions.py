@@ -269,8 +269,9 @@ def lanes(rng, more):
     )
     calls = []
     top = rng.choice(["Lanes", "Table", "Bank"])
+    many = rng.random() < 0.02
     for _ in range(more):
-        size = rng.randrange(1, 6)
+        size = rng.choice([127, 128, 255, 256, 340, 341, 342]) if many else rng.randrange(1, 6)
         calls.append((top, [str(size), str(rng.randrange(9)), str(rng.randrange(size + 1))]))
     return spaced(rng, lines) + b"\n" + text.encode() + b"\n", calls
 
@@ -411,6 +412,30 @@ def edited_bytes(rng, text):
 
 
 SINK = "component sink { provide in; }\n"
+HOSTILE_LINES = [
+    b"begin " + b"9" * 100000 + b" 1 1",
+    b"x" * 1000000,
+    b"start Top()",
+    b"make 1 " + b"a." * 30000 + b"a sink()",
+    b"make 1 a[4294967296] sink()",
+    b"make 1 " + b"a" * 65 + b" sink()",
+    b"make 1 a sink()from 0",
+    b"make 1 a sink",
+    b"make 1 a nothing()",
+    b"make 1 a map(16777216)",
+    b"begin 0 1",
+    b"begin 0 1 1 1",
+    b"begin 0 1 -1",
+    b"begin\0 0 1 1",
+    b"close 4294967295",
+    b"close 4294967296",
+    b"close 00000000000000000000000",
+    b"\xff",
+    b"(" * 100000,
+    b"\n" * 1048000,
+    b"close 0\n" * 131000,
+    b"close 0\n" * 131073,
+]
 HOSTILE = {
     "deep parentheses": lambda n: SINK + "component Top { inst t:sink; when %s1%s { } }" % ("(" * n, ")" * n),
     "many signs": lambda n: SINK + "component Top { inst t:sink; when %s1 { } }" % ("- " * n),

@@ -55,18 +55,19 @@ def flat_text(graph, file):
 def enlarged(graph, chosen):
     """Those nodes and the owners of all ports that reach one of them."""
     nodes, links = graph
-    found, reached = set(chosen), set()
-    work = [("node", path, None) for path in chosen]
-    while work:
-        what, path, provide = work.pop()
+    found, followed = set(chosen), set(chosen)
+    is_larger = True
+    while is_larger:
+        is_larger = False
         for port, target in links.items():
-            if target is None or port in reached or target[0] != path or provide not in (None, target[1]):
+            if target is None or target[0] not in followed:
                 continue
-            reached.add(port)
+            is_larger = is_larger or port[0] not in found
             found.add(port[0])
-            kind = nodes[port[0]][0]
-            if port[1].decode() in DEPENDS.get(kind, ()):
-                work.append(("provision", port[0], KINDS[kind][0][0].encode()))
+            # no kind has more than one provision
+            if port[1].decode() in DEPENDS.get(nodes[port[0]][0], ()) and port[0] not in followed:
+                followed.add(port[0])
+                is_larger = True
     return found
 
 
@@ -88,7 +89,8 @@ def plan_text(old, new, made):
     unlinked = [port for port, target in old_links.items() if target and not kept(port, target, new_links)]
     linked = [port for port, target in new_links.items() if target and not kept(port, target, old_links)]
     touched = set(removed) | {port[0] for port in unlinked + linked if port[0] in stays}
-    lines = [b"freeze " + path for path in old_nodes if path in enlarged(old, touched)]
+    frozen = enlarged(old, touched)
+    lines = [b"freeze " + path for path in old_nodes if path in frozen]
     lines += [b"unlink " + b".".join(port) for port in unlinked]
     lines += [b"remove " + path for path in removed]
     lines += [b"create " + path + b" " + kind_text(new_nodes[path]) for path in created]
@@ -385,18 +387,59 @@ def wild(rng, machine):
     return (name,) + tuple(number() for _ in range({"link": 3, "close": 1, "reopen": 1, "miss": 1, "unlink": 1, "remove": 1}.get(name, 3)))
 
 
+def near(rng, machine, quiet):
+    """An event with one thing that may not fit."""
+    event = list(candidate(rng, machine, quiet))
+    if event[0] not in NAMES:
+        if event[0] == "make":
+            event[rng.choice([1, 5])] = rng.choice([0, len(machine.nodes), len(machine.nodes) + 1])
+        return tuple(event)
+    at = rng.randrange(4)
+    event[at] = [rng.choice(NAMES), rng.randrange(len(machine.ports) + 1), max(0, event[2] + rng.choice([-1, 1])), rng.choice([0, event[3] ^ 1, M])][at]
+    return tuple(event)
+
+
+def hostile_events(rng, machine):
+    """Events that try a limit: as many nodes as may be and more, many gates, or long runs of one node."""
+    pick = rng.random()
+    if pick < 0.4:
+        kind = rng.choice(["sink", "branch"])
+        return [("make", number, b"q[%d]" % number, kind, b"", None) for number in range(len(machine.nodes), rng.choice([1000, 1023, 1024, 1030]))]
+    if pick < 0.7 and machine.ports:
+        return [(rng.choice(["close", "reopen"]), rng.randrange(len(machine.ports))) for _ in range(5000)]
+    made = []
+    for number in range(500):
+        slot = len(machine.nodes) + number
+        made += [("make", slot, b"q", "account", b"7", slot - 1 if number else None), ("remove", slot)]
+    return made
+
+
+def replayed(machine, made):
+    """The lines of these events, and what `replay` must write of them, as (lines, status, text)."""
+    lines = [line_of(event) for event in made]
+    for number, event in enumerate(made, 1):
+        rule = machine.denial(event)
+        if rule is not None:
+            return lines, 9, b"denied %d %d\n" % (number, rule)
+        machine.apply(event)
+    return lines, 0, machine.text(len(made))
+
+
 def events(rng, graph, count):
     """Event lines over a graph, and what `replay` must write of them, as (lines, status, text)."""
     machine = Machine(graph)
+    if rng.random() < 0.02:
+        return replayed(machine, hostile_events(rng, machine))
     lines, quiet = [], False
     is_wild = rng.random() < 0.4
     for number in range(1, count + 1):
         if rng.random() < 0.02:
             quiet = not quiet
-        event = wild(rng, machine) if is_wild and rng.random() < 0.05 else candidate(rng, machine, quiet)
+        makes = rng.choice([wild, near]) if is_wild and rng.random() < 0.05 else candidate
+        event = wild(rng, machine) if makes == wild else makes(rng, machine, quiet)
         rule = machine.denial(event)
         for _ in range(30):
-            if rule is None or rng.random() < 0.01:
+            if rule is None or makes != candidate or rng.random() < 0.01:
                 break
             event = candidate(rng, machine, quiet)
             rule = machine.denial(event)
