@@ -16,6 +16,8 @@ use Rattle.quiesce_core.specs.Legal.{Legal}
 use Rattle.quiesce_core.specs.Reach.{IsPortOf, Reaches}
 use Rattle.quiesce_core.specs.Reach as reach
 use Rattle.quiesce_core.specs.Runs.{IsRun, state_after, is_begin_of, is_end_of, is_open_after, Begun, initiator, target_at_begin}
+use Rattle.quiesce_core.specs.Rules.{is_settled}
+use Rattle.quiesce_core.proofs.SettledLemmas.{settled_if}
 use Rattle.quiesce_core.specs.Settled.{Settled, Quiescent, Continues, is_opening}
 use Rattle.quiesce_core.specs.Traffic.{IsConsistent}
 use Rattle.quiesce_core.specs.WellFormed.{IsWellFormed}
@@ -41,37 +43,13 @@ none_begins s (Begin q j v) n p k w t l h c e =
     let same = eqb-true q p (and_parts (q == p) (j == k) e).0 in none_begun s n q h (subst (λ i. Concerns s.config n i) (sym same) c) l.opened
 none_begins s (Call q j v) n p k w t l h c e =
     let same = eqb-true q p (and_parts (q == p) (j == k) e).0 in none_called s n q w t h (subst (λ i. Concerns s.config n i) (sym same) c) l.live l.serves_through
-none_begins s (Miss q) n p k w t l h c e = both_ways false refl e
-none_begins s (Take q j v) n p k w t l h c e = both_ways false refl e
-none_begins s (Give q j v) n p k w t l h c e = both_ways false refl e
-none_begins s (More q j v) n p k w t l h c e = both_ways false refl e
-none_begins s (Ask q j v) n p k w t l h c e = both_ways false refl e
-none_begins s (Hear q j v) n p k w t l h c e = both_ways false refl e
-none_begins s (End q j v) n p k w t l h c e = both_ways false refl e
-none_begins s (Close q) n p k w t l h c e = both_ways false refl e
-none_begins s (Reopen q) n p k w t l h c e = both_ways false refl e
-none_begins s (Make m node from) n p k w t l h c e = both_ways false refl e
-none_begins s (Link q m x) n p k w t l h c e = both_ways false refl e
-none_begins s (Unlink q) n p k w t l h c e = both_ways false refl e
-none_begins s (Remove m) n p k w t l h c e = both_ways false refl e
+none_begins s _ n p k w t l h c e = both_ways false refl e
 
 -- the port of a begin or a call was made
 begun_made : (s : State) (e : Event) (p k : ℕ) → Legal s e → is_begin_of p k e ≡ true → p < length s.config.gates
 begun_made s (Begin q j v) p k l e = subst (λ i. i < length s.config.gates) (eqb-true q p (and_parts (q == p) (j == k) e).0) (gate_place s q l.live)
 begun_made s (Call q j v) p k l e = subst (λ i. i < length s.config.gates) (eqb-true q p (and_parts (q == p) (j == k) e).0) (gate_place s q l.live)
-begun_made s (Miss q) p k l e = absurd (both_ways false refl e)
-begun_made s (Take q j v) p k l e = absurd (both_ways false refl e)
-begun_made s (Give q j v) p k l e = absurd (both_ways false refl e)
-begun_made s (More q j v) p k l e = absurd (both_ways false refl e)
-begun_made s (Ask q j v) p k l e = absurd (both_ways false refl e)
-begun_made s (Hear q j v) p k l e = absurd (both_ways false refl e)
-begun_made s (End q j v) p k l e = absurd (both_ways false refl e)
-begun_made s (Close q) p k l e = absurd (both_ways false refl e)
-begun_made s (Reopen q) p k l e = absurd (both_ways false refl e)
-begun_made s (Make m node from) p k l e = absurd (both_ways false refl e)
-begun_made s (Link q m x) p k l e = absurd (both_ways false refl e)
-begun_made s (Unlink q) p k l e = absurd (both_ways false refl e)
-begun_made s (Remove m) p k l e = absurd (both_ways false refl e)
+begun_made s _ p k l e = absurd (both_ways false refl e)
 
 -- a member of two lists, one behind the other, stands in the first or in the second
 pub record IsEarly (xs before : List Event) (e : Event) : Type 0 where
@@ -235,3 +213,7 @@ stays_settled es more_ n h c =
         reaching = λ p r. still.quiet p (inr r);
       }),
     )
+
+-- what rule 22 finds settled is quiescent
+pub quiescent_at : (before : List Event) (n : ℕ) → IsRun before → is_settled (state_after before) n ≡ true → Quiescent before n
+quiescent_at before n run h = quiescent before n run (settled_if (state_after before) (runs_are_well_formed before run).sound n h)

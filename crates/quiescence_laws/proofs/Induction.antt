@@ -1,8 +1,12 @@
 -- What is known at each place of a run, and how a fact goes along a run.
-use Rattle.std.proofs.Common.{◌≡◌, Bool, false, List, [], ◌∷◌, ◌++◌, append_assoc, refl, sym, subst}
+use Rattle.std.proofs.Common.{◌≡◌, ℕ, Bool, true, false, ◌&&◌, List, [], ◌∷◌, ◌++◌, append_assoc, Option, Some, None, refl, sym, ap, ◌∙◌, subst}
+use Rattle.std.specs.Prelude.{is_none}
 use Rattle.std.specs.List.{list_any}
-use Rattle.std.proofs.lemmas.Bool.{or_parts}
+use Rattle.std.proofs.lemmas.Bool.{and_parts, both_ways, or_parts}
 use Rattle.std.proofs.lemmas.List.{append-nil}
+use Rattle.std.proofs.lemmas.List.Sums.{fold_push}
+use Rattle.quiesce_core.specs.Rules.{denial}
+use Rattle.quiesce_core.specs.State.{State, empty}
 use Rattle.quiesce_core.specs.declared.event.Event.{Event}
 use Rattle.quiesce_core.specs.Each.{EachAfter}
 use Rattle.quiesce_core.specs.Effect.{effect}
@@ -86,3 +90,23 @@ always P next start es h = along P unbarred (λ before e here free. next before 
 pub onwards : (P : List Event → Type 0) → ((before : List Event) (e : Event) → IsNext before e → P before → P (before ++ e ∷ [])) → (before es : List Event) → IsRun (before ++ es) → P before
     → P (before ++ es)
 onwards P next before es h p = along P unbarred (λ before e here free. next before e here) before es h (none_barred es) p
+
+-- whether events can be done one after the other
+abbrev pub can_all : State → List Event → Bool
+can_all s [] = true
+can_all s (e ∷ es) = is_none (denial s e) && can_all (effect s e) es
+
+undenied : (o : Option ℕ) → is_none o ≡ true → o ≡ None
+undenied None h = refl
+undenied (Some r) h = absurd (both_ways false refl h)
+
+run_from : (before es : List Event) → can_all (state_after before) es ≡ true → EachAfter StepAt before es
+run_from before [] h = tt
+run_from before (e ∷ es) h =
+    let next = fold_push effect empty before e in
+    let parts = and_parts (is_none (denial (state_after before) e)) (can_all (effect (state_after before) e) es) h in
+    (record { allowed = undenied (denial (state_after before) e) parts.0; changed = next }, run_from (before ++ e ∷ []) es (ap (λ s. can_all s es) next ∙ parts.1))
+
+-- so a run is found by computing
+pub run_if : (es : List Event) → can_all empty es ≡ true → IsRun es
+run_if es h = run_from [] es h

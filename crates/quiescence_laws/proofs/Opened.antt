@@ -77,19 +77,7 @@ begun_at s s' p k q j x same written within h e =
 begins_next : (s : State) (e : Event) (p k : ℕ) → IsWellFormed s → Legal s e → is_begin_of p k e ≡ true → Begins s (effect s e) p k
 begins_next s (Begin q j v) p k w l e = begun_at s (effect s (Begin q j v)) p k q j _ refl refl (exchange_place s q w l.live) (record { busy = refl; serial = refl }) e
 begins_next s (Call q j v) p k w l e = begun_at s (effect s (Call q j v)) p k q j _ refl refl (exchange_place s q w l.live) (record { busy = refl; serial = refl }) e
-begins_next s (Miss q) p k w l e = absurd (both_ways false refl e)
-begins_next s (Take q j v) p k w l e = absurd (both_ways false refl e)
-begins_next s (Give q j v) p k w l e = absurd (both_ways false refl e)
-begins_next s (More q j v) p k w l e = absurd (both_ways false refl e)
-begins_next s (Ask q j v) p k w l e = absurd (both_ways false refl e)
-begins_next s (Hear q j v) p k w l e = absurd (both_ways false refl e)
-begins_next s (End q j v) p k w l e = absurd (both_ways false refl e)
-begins_next s (Close q) p k w l e = absurd (both_ways false refl e)
-begins_next s (Reopen q) p k w l e = absurd (both_ways false refl e)
-begins_next s (Make n node from) p k w l e = absurd (both_ways false refl e)
-begins_next s (Link q n x) p k w l e = absurd (both_ways false refl e)
-begins_next s (Unlink q) p k w l e = absurd (both_ways false refl e)
-begins_next s (Remove n) p k w l e = absurd (both_ways false refl e)
+begins_next s _ p k w l e = absurd (both_ways false refl e)
 
 -- a transaction that was begun in one state is open in another, between the same two nodes
 pub record IsGoing (old s : State) (p k : ℕ) : Type 0 where

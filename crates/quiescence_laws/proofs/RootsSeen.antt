@@ -29,20 +29,7 @@ use Rattle.quiescence_laws.proofs.Stillness.{taken_busy}
 -- a begin of a root is a begin
 root_begins : (p k : ℕ) (e : Event) → is_root_of p k e ≡ true → is_begin_of p k e ≡ true
 root_begins p k (Begin q j v) h = h
-root_begins p k (Call q j v) h = absurd (both_ways false refl h)
-root_begins p k (Miss q) h = absurd (both_ways false refl h)
-root_begins p k (Take q j v) h = absurd (both_ways false refl h)
-root_begins p k (Give q j v) h = absurd (both_ways false refl h)
-root_begins p k (More q j v) h = absurd (both_ways false refl h)
-root_begins p k (Ask q j v) h = absurd (both_ways false refl h)
-root_begins p k (Hear q j v) h = absurd (both_ways false refl h)
-root_begins p k (End q j v) h = absurd (both_ways false refl h)
-root_begins p k (Close q) h = absurd (both_ways false refl h)
-root_begins p k (Reopen q) h = absurd (both_ways false refl h)
-root_begins p k (Make n node from) h = absurd (both_ways false refl h)
-root_begins p k (Link q n x) h = absurd (both_ways false refl h)
-root_begins p k (Unlink q) h = absurd (both_ways false refl h)
-root_begins p k (Remove n) h = absurd (both_ways false refl h)
+root_begins p k _ h = absurd (both_ways false refl h)
 
 root_begun : (p k : ℕ) (es : List Event) → list_any (is_root_of p k) es ≡ true → list_any (is_begin_of p k) es ≡ true
 root_begun p k [] h = absurd (both_ways false refl h)

@@ -8,7 +8,7 @@ use Rattle.quiesce_core.specs.declared.event.Event.TheVariants.{Begin, Call, Tak
 use Rattle.quiesce_core.specs.Reach.{reaches, has_no_cycle}
 use Rattle.quiesce_core.specs.Runs.{IsRun}
 use Rattle.quiesce_core.specs.Settled.{Quiescent}
-use Rattle.quiescence_laws.proofs.Induction.{front_runs}
+use Rattle.quiescence_laws.proofs.Induction.{front_runs, run_if}
 use Rattle.quiescence_laws.specs.Weaker.{but_own_busy, but_own_open, but_reaching_busy, but_indirect_open, Initiates, Begins, Serves, IsTarget, IsTooWeak}
 
 abbrev source : Node
@@ -42,79 +42,19 @@ through = Begin 0 1 0 ∷ Take 0 1 0 ∷ Call 1 1 0 ∷ []
 
 asked_runs : IsRun asked
 unfolding reaches has_no_cycle
-asked_runs = (
-  record { allowed = refl; changed = refl },
-  (
-    record { allowed = refl; changed = refl },
-    (
-      record { allowed = refl; changed = refl },
-      (
-        record { allowed = refl; changed = refl },
-        (record { allowed = refl; changed = refl }, (record { allowed = refl; changed = refl }, tt)),
-      ),
-    ),
-  ),
-)
+asked_runs = run_if asked refl
 
 taken_runs : IsRun taken
 unfolding reaches has_no_cycle
-taken_runs = (
-  record { allowed = refl; changed = refl },
-  (
-    record { allowed = refl; changed = refl },
-    (
-      record { allowed = refl; changed = refl },
-      (
-        record { allowed = refl; changed = refl },
-        (record { allowed = refl; changed = refl }, (record { allowed = refl; changed = refl }, (record { allowed = refl; changed = refl }, tt))),
-      ),
-    ),
-  ),
-)
+taken_runs = run_if taken refl
 
 later_runs : IsRun (pair ++ later)
 unfolding reaches has_no_cycle
-later_runs = (
-  record { allowed = refl; changed = refl },
-  (
-    record { allowed = refl; changed = refl },
-    (
-      record { allowed = refl; changed = refl },
-      (
-        record { allowed = refl; changed = refl },
-        (record { allowed = refl; changed = refl }, tt),
-      ),
-    ),
-  ),
-)
+later_runs = run_if (pair ++ later) refl
 
 through_runs : IsRun (line ++ through)
 unfolding reaches has_no_cycle
-through_runs = (
-  record { allowed = refl; changed = refl },
-  (
-    record { allowed = refl; changed = refl },
-    (
-      record { allowed = refl; changed = refl },
-      (
-        record { allowed = refl; changed = refl },
-        (
-          record { allowed = refl; changed = refl },
-          (
-            record { allowed = refl; changed = refl },
-            (
-              record { allowed = refl; changed = refl },
-              (
-                record { allowed = refl; changed = refl },
-                (record { allowed = refl; changed = refl }, tt),
-              ),
-            ),
-          ),
-        ),
-      ),
-    ),
-  ),
-)
+through_runs = run_if (line ++ through) refl
 
 -- its port is closed, and in a transaction
 pub own_must_be_idle : IsTooWeak but_own_busy Initiates

@@ -9,7 +9,8 @@ mod transactions;
 
 pub use draining::{drained_ports_stay_drained, nodes_with_drained_ports_are_settled};
 pub use quiescence::{
-    less_than_settled_is_too_weak, settled_nodes_are_quiescent, settled_nodes_stay_settled,
+    changes_find_nodes_quiescent, less_than_settled_is_too_weak, settled_nodes_are_quiescent,
+    settled_nodes_stay_settled,
 };
 pub use roots::{open_roots_are_seen, roots_at_closed_ports_are_old};
 pub use transactions::{

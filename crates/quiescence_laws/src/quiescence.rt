@@ -1,9 +1,11 @@
 //! A settled node is quiescent, and stays settled until a gate is opened, a link is made or it is removed.
 
-ghost use Rattle.std.specs.Prelude.{◌≡◌, ◌↔◌, ℕ, false, List, ◌++◌};
+ghost use Rattle.std.specs.Prelude.{◌≡◌, ◌↔◌, ℕ, false, List, ◌∷◌, ◌++◌};
 ghost use Rattle.std.specs.List.{list_any};
 ghost use Rattle.quiesce_core.specs.declared.event.Event.{Event};
+ghost use Rattle.quiesce_core.specs.declared.event.Event.TheVariants.{Link, Unlink, Remove};
 ghost use Rattle.quiesce_core.specs.Runs.{IsRun, state_after};
+ghost use Rattle.quiesce_core.specs.State.{owner};
 ghost use Rattle.quiesce_core.specs.Settled.{Settled, Quiescent, Continues};
 ghost use Rattle.quiescence_laws.specs.Events.{removes};
 ghost use Rattle.quiescence_laws.specs.Weaker.{but_own_busy, but_own_open, but_reaching_busy, but_indirect_open, Initiates, Begins, Serves, IsTarget, IsTooWeak};
@@ -18,6 +20,13 @@ pub fn settled_nodes_are_quiescent()
 /// removed.
 pub fn settled_nodes_stay_settled()
     ensures { (es more_ : List Event) (n : ℕ) → Settled (state_after es) n → Continues es more_ → Settled (state_after (es ++ more_)) n ↔ (list_any (removes n) more_ ≡ false) }
+{}
+
+/// At each link and unlink of a run the port's owner is quiescent, and at each removal the node is.
+pub fn changes_find_nodes_quiescent()
+    ensures linked { (before after : List Event) (p n x : ℕ) → IsRun (before ++ Link p n x ∷ after) → Quiescent before (owner (state_after before).config p) }
+    ensures unlinked { (before after : List Event) (p : ℕ) → IsRun (before ++ Unlink p ∷ after) → Quiescent before (owner (state_after before).config p) }
+    ensures removed { (before after : List Event) (n : ℕ) → IsRun (before ++ Remove n ∷ after) → Quiescent before n }
 {}
 
 /// Less than being settled isn't enough: for each of the four conditions there are a run and a node that breaks it, though all but

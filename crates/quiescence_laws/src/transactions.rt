@@ -21,8 +21,8 @@ pub fn ends_make_the_serial()
     ensures { (es : List Event) (p : ℕ) → IsRun es → count_by (ends_at p) es + (if is_idle (exchange (state_after es) p).phase then 0 else 1) ≡ (exchange (state_after es) p).serial }
 {}
 
-/// Of each transaction there is at most one take, one last reply and one end, each behind the one before, and exactly those up to
-/// the port's serial have one begin or call. Each intermediate reply is followed by one further message and its hearing, before
+/// Of each transaction there is at most one take, one last reply and one end, each behind the one before. Exactly those up to the
+/// port's serial have a begin or a call, and all of them have their end, but for the last where the port isn't idle. Each intermediate reply is followed by one further message and its hearing, before
 /// the next reply. Since each front of a run is a run, this says in which order they stand.
 pub fn transactions_come_in_order()
     ensures begun { (es : List Event) (p k : ℕ) → IsRun es →
@@ -30,6 +30,8 @@ pub fn transactions_come_in_order()
     ensures taken { (es : List Event) (p k : ℕ) → IsRun es → count_by (is_take_of p k) es ≤ count_by (is_begin_of p k) es }
     ensures given { (es : List Event) (p k : ℕ) → IsRun es → count_by (is_give_of p k) es ≤ count_by (is_take_of p k) es }
     ensures ended { (es : List Event) (p k : ℕ) → IsRun es → count_by (is_end_of p k) es ≤ count_by (is_give_of p k) es }
+    ensures ended_exactly { (es : List Event) (p k : ℕ) → IsRun es →
+        count_by (is_end_of p k) es ≡ (if nat_le 1 k && (nat_lt k (exchange (state_after es) p).serial || (k == (exchange (state_after es) p).serial && is_idle (exchange (state_after es) p).phase)) then 1 else 0) }
 
     ensures replied { (es : List Event) (p k : ℕ) → IsRun es → count_by (is_more_of p k) es ≤ count_by (is_hear_of p k) es + 1 }
     ensures asked { (es : List Event) (p k : ℕ) → IsRun es → count_by (is_ask_of p k) es ≤ count_by (is_more_of p k) es }
