@@ -7,12 +7,12 @@ use Rattle.cfg_io.specs.Sink.{with_bytes}
 use Rattle.config_graph.specs.Graph.{Configuration}
 use Rattle.darwin_commands.specs.declared.status.Status.{Status}
 use Rattle.darwin_commands.specs.declared.status.Status.TheVariants as status
-use Rattle.darwin_commands.specs.Words.{flat, Asks}
+use Rattle.darwin_commands.specs.Words.{flat, plan, Asks}
 use Rattle.darwin_commands.specs.Descriptions.{HasGraph}
-use Rattle.darwin_commands.specs.Wanted.{Wanted, its_graph, AsksFor, IsRefused, Gives}
+use Rattle.darwin_commands.specs.Wanted.{Wanted, its_graph, its_plan, AsksFor, IsRefused, Gives}
 use Rattle.darwin_commands.specs.Answers.{Given, held, Fetch, Written, whole, stopped, DescriptionAnswers, cannot_read, is_too_long, refused, answered, Answers, no_form, helped, versioned, described, no_memory, Runs, description_limit, failed_names, fetch_of, Gave}
 use Rattle.darwin_commands.specs.Answers as answers
-use Rattle.darwin_commands.specs.Outcomes.{Ends, Flattened, Refused, too_long, at_fault, Tells, TellsTooLong, MustRefuse, NothingRefuses}
+use Rattle.darwin_commands.specs.Outcomes.{Ends, Flattened, Planned, Refused, too_long, at_fault, Tells, TellsTooLong, MustRefuse, NothingRefuses}
 use Rattle.darwin_commands.proofs.Readings as readings
 use Rattle.darwin_commands.proofs.Wanting.{Described, by_fetch, by_memory, described_by, gives_ok, never_both}
 
@@ -137,6 +137,20 @@ module _ (words : List (List ℕ)) (files : Option Files) (failures failures' : 
         within = w.within;
         has_graph = w.gives.1.1;
         written = w.wrote ∙ ap (with_bytes taken) w.gives.1.2;
+      }
+
+  pub plans :
+      (file top : List ℕ) (args : List ℤ) (to : List ℕ) (to_args : List ℤ) → Asks words (plan file top args to to_args) → result ≡ status.Ok
+      → Planned files file top args to to_args taken taken'
+  plans file top args to to_args asks is =
+      let w = wrote file (its_plan top args to to_args) asks is in
+      record {
+        text = w.text;
+        plan = w.written;
+        told = w.told;
+        within = w.within;
+        has_plan = w.gives.1;
+        written = w.wrote;
       }
 
   -- ---- what Description says

@@ -4,3 +4,5 @@ pub mod Flattening
 pub mod Readings
 pub mod Refusing
 pub mod Wanting
+pub mod Planning
+pub mod Parting

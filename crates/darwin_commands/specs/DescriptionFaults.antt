@@ -1,12 +1,12 @@
 -- Faults of a description as the program has them, and the words that name them.
-use Rattle.std.specs.Prelude.{◌≡◌, ℕ, ℤ, Bool, true, false, List, []}
+use Rattle.std.specs.Prelude.{◌≡◌, ℕ, Bool, true, false, List, []}
 use Rattle.darwin_lexer.specs.declared.token.LexError.TheVariants as lexing
 use Rattle.darwin_types.specs.declared.error.TypeError.TheVariants as checking
 use Rattle.elaborator.specs.declared.error.ElabError.TheVariants as elaborating
+use Rattle.change_plan.specs.declared.error.PlanError.TheVariants as planning
 use Rattle.darwin_commands.specs.declared.description.DescriptionFault.{DescriptionFault}
 use Rattle.darwin_commands.specs.declared.description.DescriptionFault.TheVariants as fault
-use Rattle.darwin_commands.specs.Lines.{lex_words, expected_words, too_nested_words, check_words, elaborate_words}
-use Rattle.darwin_commands.specs.Descriptions.{Refuses}
+use Rattle.darwin_commands.specs.Lines.{lex_words, expected_words, too_nested_words, check_words, elaborate_words, plan_words}
 
 abbrev pub fault_words : DescriptionFault → List (List ℕ)
 fault_words fault.NoMemory = []
@@ -15,6 +15,7 @@ fault_words (fault.Expected at) = expected_words at
 fault_words (fault.TooNested at) = too_nested_words at
 fault_words (fault.Check e) = check_words e
 fault_words (fault.Elaborate e) = elaborate_words e
+fault_words (fault.Plan e) = plan_words e
 
 -- whether it is want of memory, and no fault of the description
 abbrev pub is_no_memory : DescriptionFault → Bool
@@ -22,8 +23,9 @@ is_no_memory fault.NoMemory = true
 is_no_memory (fault.Lex lexing.NoMemory) = true
 is_no_memory (fault.Check checking.NoMemory) = true
 is_no_memory (fault.Elaborate elaborating.NoMemory) = true
+is_no_memory (fault.Plan planning.NoMemory) = true
 is_no_memory _ = false
 
--- a fault refuses the description of which the component of a name is wanted, unless it is want of memory
-abbrev pub MayRefuse : List ℕ → List ℕ → List ℤ → DescriptionFault → Type 0
-MayRefuse text name args f = is_no_memory f ≡ false → Refuses text name args (fault_words f)
+-- the words of a fault are such as refuse, unless it is want of memory
+abbrev pub MayRefuse : (List (List ℕ) → Type 0) → DescriptionFault → Type 0
+MayRefuse Refuse f = is_no_memory f ≡ false → Refuse (fault_words f)

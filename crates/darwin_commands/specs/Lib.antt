@@ -4,6 +4,8 @@ pub mod Descriptions
 pub mod Fetching
 pub mod Lines
 pub mod Outcomes
+pub mod Planning
+pub mod Plans
 pub mod Requests
 pub mod Words
 pub mod Wanted

@@ -9,6 +9,8 @@ use Rattle.darwin_types.specs.declared.error.TypeError.{TypeError}
 use Rattle.darwin_types.specs.declared.error.TypeError.TheVariants as checking
 use Rattle.elaborator.specs.declared.error.ElabError.{ElabError}
 use Rattle.elaborator.specs.declared.error.ElabError.TheVariants as elaborating
+use Rattle.change_plan.specs.declared.error.PlanError.{PlanError}
+use Rattle.change_plan.specs.declared.error.PlanError.TheVariants as planning
 
 abbrev pub place_word : At → List ℕ
 place_word at = decimal at.line ++ codes ":" ++ decimal at.column
@@ -59,6 +61,15 @@ elaborate_words elaborating.TooMany = codes "TooMany" ∷ []
 elaborate_words (elaborating.DependsCycle path) = codes "DependsCycle" ∷ path_word path ∷ []
 elaborate_words (elaborating.TopIsKind name) = codes "TopIsKind" ∷ name ∷ []
 elaborate_words elaborating.NoMemory = []
+
+abbrev pub plan_words : PlanError → List (List ℕ)
+plan_words (planning.NotRemoved path) = codes "NotRemoved" ∷ path_word path ∷ []
+plan_words (planning.NotCreated path) = codes "NotCreated" ∷ path_word path ∷ []
+plan_words (planning.KindsDiffer from to) = codes "KindsDiffer" ∷ path_word from ∷ path_word to ∷ []
+plan_words (planning.MovedTwice path) = codes "MovedTwice" ∷ path_word path ∷ []
+plan_words (planning.NodesFull made wanted) = codes "NodesFull" ∷ decimal made ∷ decimal wanted ∷ []
+plan_words (planning.PortsFull made wanted) = codes "PortsFull" ∷ decimal made ∷ decimal wanted ∷ []
+plan_words planning.NoMemory = []
 
 -- the line of a file that can't be read
 abbrev pub read_fault_line : List ℕ → List ℕ

@@ -9,6 +9,7 @@ use Rattle.darwin_commands.specs.declared.status.Status.TheVariants as status
 use Rattle.darwin_commands.specs.Words.{Command, Asks}
 use Rattle.darwin_commands.specs.Lines.{description_line}
 use Rattle.darwin_commands.specs.Descriptions.{HasGraph}
+use Rattle.darwin_commands.specs.Plans.{HasPlan}
 use Rattle.darwin_commands.specs.Wanted.{Wanted, AsksFor, IsRefused}
 use Rattle.darwin_commands.specs.Answers.{description_limit}
 
@@ -42,6 +43,15 @@ pub record Flattened (files : Option Files) (file top : List ℕ) (args : List �
   pub within : length text ≤ description_limit
   pub has_graph : HasGraph text top args graph
   pub written : taken' ≡ with_bytes taken (graph_text graph)
+
+-- The file holds a description that has a plan from the first component to the second, and its text was written.
+pub record Planned (files : Option Files) (file top : List ℕ) (args : List ℤ) (to : List ℕ) (to_args : List ℤ) (taken taken' : Option (List ℕ)) : Type 0 where
+  pub text : List ℕ
+  pub plan : List ℕ
+  pub told : Tells files file text
+  pub within : length text ≤ description_limit
+  pub has_plan : HasPlan text top args to to_args plan
+  pub written : taken' ≡ with_bytes taken plan
 
 -- The file is too long, or a fault of what it holds was named; and the line that says so was written.
 pub data Refused (files : Option Files) (file : List ℕ) (wanted : Wanted) (taken taken' : Option (List ℕ)) : Type 0 where

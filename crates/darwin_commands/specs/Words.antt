@@ -1,5 +1,5 @@
 -- The words of a command line, and which command they ask for.
-use Rattle.std.specs.Prelude.{◌≡◌, ◌≢◌, ℕ, ℤ, List, [], ◌∷◌, map, codes, slice_index, FitsSigned}
+use Rattle.std.specs.Prelude.{◌≡◌, ◌≢◌, ℕ, ℤ, List, [], ◌∷◌, ◌++◌, map, codes, slice_index, FitsSigned}
 use Rattle.std.specs.Int.{w32}
 use Rattle.std.specs.List.{AllByRecursion}
 use Rattle.std.specs.Str.Parse.{IsNumeral, signed_digits_value, without_leading_sign}
@@ -13,20 +13,26 @@ IsInteger word = (slice_index word 0 ≢ 43) × IsNumeral 10 (without_leading_si
 abbrev pub integer_of : List ℕ → ℤ
 integer_of word = signed_digits_value 10 word
 
+-- the words of a component and its arguments
+abbrev pub IsCall : List (List ℕ) → List ℕ → List ℤ → Type 0
+IsCall words top args = (integers : List (List ℕ)) × (words ≡ top ∷ integers) × IsName top × AllByRecursion IsInteger integers
+    × (args ≡ map integer_of integers)
+
 -- what words may ask for
 pub data Command : Type 0 where
   help : Command
   version : Command
   -- the graph of a component of a file, with these arguments
   flat : (file top : List ℕ) (args : List ℤ) → Command
-
--- the words of a file, a component and its arguments
-abbrev pub NamesTop : List (List ℕ) → List ℕ → List ℕ → List ℤ → Type 0
-NamesTop words file top args = (integers : List (List ℕ)) × (words ≡ file ∷ top ∷ integers) × (file ≢ []) × IsName top
-    × AllByRecursion IsInteger integers × (args ≡ map integer_of integers)
+  -- the plan from the first component to the second
+  plan : (file top : List ℕ) (args : List ℤ) (to : List ℕ) (to_args : List ℤ) → Command
 
 -- the command that the words ask for
 abbrev pub Asks : List (List ℕ) → Command → Type 0
 Asks words help = words ≡ codes "--help" ∷ []
 Asks words version = words ≡ codes "--version" ∷ []
-Asks words (flat file top args) = (rest : List (List ℕ)) × (words ≡ codes "flat" ∷ rest) × NamesTop rest file top args
+Asks words (flat file top args) =
+    (call : List (List ℕ)) × (words ≡ codes "flat" ∷ file ∷ call) × (file ≢ []) × IsCall call top args
+Asks words (plan file top args to to_args) =
+    (call target : List (List ℕ)) × (words ≡ codes "plan" ∷ file ∷ (call ++ codes "--" ∷ target)) × (file ≢ []) × IsCall call top args
+    × IsCall target to to_args

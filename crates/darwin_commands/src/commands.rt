@@ -6,21 +6,22 @@ ghost use Rattle.cfg_io.specs.Shelf.{Files};
 ghost use Rattle.config_graph.specs.Graph.{Configuration};
 ghost use Rattle.darwin_commands.specs.Answers.{Runs, Written, description_limit};
 ghost use Rattle.darwin_commands.specs.Descriptions.{HasGraph};
-ghost use Rattle.darwin_commands.specs.Outcomes.{HasNoForm, NamesFile, Ends, Flattened, Refused, MustRefuse, NothingRefuses};
+ghost use Rattle.darwin_commands.specs.Outcomes.{HasNoForm, NamesFile, Ends, Flattened, Planned, Refused, MustRefuse, NothingRefuses};
 ghost use Rattle.darwin_commands.specs.Wanted.{Wanted, AsksFor};
 ghost use Rattle.darwin_commands.specs.declared.status.Status.TheVariants.{Usage, ReadFault, WriteFault, Description};
-ghost use Rattle.darwin_commands.specs.Words.{Asks, flat as flat_command};
+ghost use Rattle.darwin_commands.specs.Words.{Asks, flat as flat_command, plan as plan_command};
+ghost use Rattle.darwin_commands.specs.Requests.{wanted_of};
 
 use crate::answer::write;
+use crate::describing::describe;
 use crate::fetching::fetch_description;
-use crate::flat::flat;
 use crate::status::Status;
-use crate::words::{Request, read_words};
+use crate::words::{Purpose, Request, read_words};
 use crate::{HELP, VERSION};
 use cfg_io::{Shelf, Sink};
 use std::alloc::Global;
 
-/// Does what the words ask for, with files from the shelf, and writes to the sink: a graph text, or one line that refuses. It
+/// Does what the words ask for, with files from the shelf, and writes to the sink: the text that they ask for, or one line that refuses. It
 /// always returns.
 pub fn still<H: Shelf, K: Sink>(
     alloc: Global,
@@ -39,9 +40,12 @@ pub fn still<H: Shelf, K: Sink>(
     // WriteFault, exactly where a put failed.
     ensures write_fault { result ≡ WriteFault → Rose (K.faults out.old) (K.faults out.new) }
     ensures every_write_fault { result ≢ WriteFault → K.faults out.new ≡ K.faults out.old }
-    // Of `flat`: the text of the graph.
+    // Of `flat` the text of the graph, and of `plan` that of the plan.
     ensures flattened { (file top : List ℕ) (args : List ℤ) → Asks (map string_bytes words.now) (flat_command file top args) → result ≡ Status.Ok
         → Flattened (H.files shelf.old) file top args (K.taken out.old) (K.taken out.new) }
+    ensures planned { (file top : List ℕ) (args : List ℤ) (to : List ℕ) (to_args : List ℤ)
+        → Asks (map string_bytes words.now) (plan_command file top args to to_args) → result ≡ Status.Ok
+        → Planned (H.files shelf.old) file top args to to_args (K.taken out.old) (K.taken out.new) }
     // Description, exactly where the file is too long or something refuses what it holds; the line names a fault that holds.
     ensures refused { result ≡ Description → (file : List ℕ) × (wanted : Wanted) × AsksFor (map string_bytes words.now) file wanted
         × Refused (H.files shelf.old) file wanted (K.taken out.old) (K.taken out.new) }
@@ -65,8 +69,8 @@ fn run<H: Shelf, K: Sink>(alloc: Global, words: &[String], shelf: &mut H, out: &
         Ok(None) => write(out, Status::Usage, b"usage\n"),
         Ok(Some(Request::Help)) => write(out, Status::Ok, HELP.as_bytes()),
         Ok(Some(Request::Version)) => write(out, Status::Ok, VERSION.as_bytes()),
-        Ok(Some(Request::Flat { file, top, args })) => {
-            run_flat(alloc, shelf, out, file, top, args.as_slice())
+        Ok(Some(Request::Describe { file, purpose })) => {
+            run_description(alloc, shelf, out, file, &purpose)
         }
         Err(_) => no_memory(out),
     }
@@ -79,20 +83,19 @@ fn no_memory<K: Sink>(out: &mut K) -> Status
     write(out, Status::NoMemory, b"no memory\n")
 }
 
-/// Fetches a description, and writes the graph of one of its components or the line that refuses it.
-fn run_flat<H: Shelf, K: Sink>(
+/// Fetches a description, and writes what is wanted of it or the line that refuses it.
+fn run_description<H: Shelf, K: Sink>(
     alloc: Global,
     shelf: &mut H,
     out: &mut K,
     file: &str,
-    top: &str,
-    args: &[i32],
+    purpose: &Purpose<'_>,
 ) -> Status
-    ensures { (words : List (List ℕ)) → Asks words (flat_command file.now top.now args.now)
+    ensures { (words : List (List ℕ)) → AsksFor words file.now (wanted_of purpose.now)
         → Runs words (H.files shelf.old) (H.failed shelf.old) (H.failed shelf.new) (K.taken out.old) (K.taken out.new) (K.faults out.old) (K.faults out.new) result }
 {
     match fetch_description(shelf, file) {
-        Ok(fetched) => match flat(alloc, file, top, args, fetched) {
+        Ok(fetched) => match describe(alloc, file, purpose, fetched) {
             Ok(answer) => write(out, answer.status, answer.text.as_slice()),
             Err(_) => no_memory(out),
         },

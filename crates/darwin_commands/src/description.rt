@@ -1,20 +1,22 @@
-//! From the bytes of a description to its graph.
+//! From the bytes of a description to the graphs of its components.
 
 ghost use Rattle.std.specs.Prelude.{◌≡◌, ◌≤◌, ℕ, ℤ, List, length, IfOk, IfErr};
 ghost use Rattle.darwin_lexer.specs.Tokens.{IsTokens};
 ghost use Rattle.darwin_parser.specs.Tree.{tree_of};
-ghost use Rattle.darwin_commands.specs.Descriptions.{IsTree, HasGraph};
+ghost use Rattle.darwin_types.specs.Checked.{description};
+ghost use Rattle.darwin_commands.specs.Descriptions.{IsTree, IsChecked, HasGraph, Refuses};
 ghost use Rattle.darwin_commands.specs.DescriptionFaults.{MayRefuse, is_no_memory};
 
 use crate::places::place_at;
+use change_plan::PlanError;
 use config_graph::Graph;
 use darwin_lexer::{At, LexError, MAX_TEXT, Token, lex};
 use darwin_parser::{ParseError, Unit, parse};
-use darwin_types::{TypeError, check};
+use darwin_types::{Checked, TypeError, check};
 use elaborator::{ElabError, elaborate};
 use std::alloc::Global;
 
-/// Why a description has no graph.
+/// Why a description can't be used.
 #[derive(Debug, Drop)]
 pub enum DescriptionFault {
     NoMemory,
@@ -25,6 +27,7 @@ pub enum DescriptionFault {
     TooNested(At),
     Check(TypeError),
     Elaborate(ElabError),
+    Plan(PlanError),
 }
 
 impl DescriptionFault {
@@ -38,43 +41,39 @@ impl DescriptionFault {
             DescriptionFault::Expected(_) | DescriptionFault::TooNested(_) => false,
             DescriptionFault::Check(fault) => matches!(fault, TypeError::NoMemory),
             DescriptionFault::Elaborate(fault) => matches!(fault, ElabError::NoMemory),
+            DescriptionFault::Plan(fault) => matches!(fault, PlanError::NoMemory),
         }
+    }
+}
+
+/// The description of these bytes, in which no name is at fault, or what refuses it.
+pub fn checked_of(alloc: Global, text: &[u8]) -> Result<Checked, DescriptionFault>
+    requires { length text.now ≤ MAX_TEXT }
+    ensures checked { IfOk result (λ checked. IsChecked text.now (description checked)) }
+    ensures refused { (top : List ℕ) (args : List ℤ) → IfErr result (MayRefuse (Refuses text.now top args)) }
+{
+    match tree_of(alloc, text) {
+        Ok(unit) => match check(alloc, unit) {
+            Ok(checked) => Ok(checked),
+            Err(fault) => Err(DescriptionFault::Check(fault)),
+        },
+        Err(fault) => Err(fault),
     }
 }
 
 /// The graph of a component of a description with these arguments, or what refuses it.
 pub fn graph_of(
     alloc: Global,
-    text: &[u8],
+    checked: &Checked,
     top: &[u8],
     args: &[i32],
 ) -> Result<Graph, DescriptionFault>
-    requires { length text.now ≤ MAX_TEXT }
-    ensures graph { IfOk result (HasGraph text.now top.now args.now) }
-    ensures refused { IfErr result (MayRefuse text.now top.now args.now) }
+    ensures graph { (text : List ℕ) → IsChecked text (description checked.now) → IfOk result (HasGraph text top.now args.now) }
+    ensures refused { (text : List ℕ) → IsChecked text (description checked.now) → IfErr result (MayRefuse (Refuses text top.now args.now)) }
 {
-    match tree_of(alloc, text) {
-        Ok(unit) => elaborated(alloc, unit, top, args),
-        Err(fault) => Err(fault),
-    }
-}
-
-/// The graph of a component of a tree with these arguments, or what refuses it.
-fn elaborated(
-    alloc: Global,
-    unit: Unit,
-    top: &[u8],
-    args: &[i32],
-) -> Result<Graph, DescriptionFault>
-    ensures graph { (text : List ℕ) → IsTree text (tree_of unit) → IfOk result (HasGraph text top.now args.now) }
-    ensures refused { (text : List ℕ) → IsTree text (tree_of unit) → IfErr result (MayRefuse text top.now args.now) }
-{
-    match check(alloc, unit) {
-        Ok(checked) => match elaborate(alloc, &checked, top, args) {
-            Ok(graph) => Ok(graph),
-            Err(fault) => Err(DescriptionFault::Elaborate(fault)),
-        },
-        Err(fault) => Err(DescriptionFault::Check(fault)),
+    match elaborate(alloc, checked, top, args) {
+        Ok(graph) => Ok(graph),
+        Err(fault) => Err(DescriptionFault::Elaborate(fault)),
     }
 }
 
@@ -83,7 +82,7 @@ fn tokens_of(alloc: Global, text: &[u8]) -> Result<Vec<Token>, DescriptionFault>
     requires { length text.now ≤ MAX_TEXT }
     ensures tokens { IfOk result (λ tokens. IsTokens text.now tokens.items) }
     ensures few { IfOk result (λ tokens. length tokens.items ≤ length text.now) }
-    ensures refused { (top : List ℕ) (args : List ℤ) → IfErr result (MayRefuse text.now top args) }
+    ensures refused { (top : List ℕ) (args : List ℤ) → IfErr result (MayRefuse (Refuses text.now top args)) }
 {
     match lex(alloc, text) {
         Ok(tokens) => Ok(tokens),
@@ -95,7 +94,7 @@ fn tokens_of(alloc: Global, text: &[u8]) -> Result<Vec<Token>, DescriptionFault>
 fn tree_of(alloc: Global, text: &[u8]) -> Result<Unit, DescriptionFault>
     requires { length text.now ≤ MAX_TEXT }
     ensures tree { IfOk result (λ unit. IsTree text.now (tree_of unit)) }
-    ensures refused { (top : List ℕ) (args : List ℤ) → IfErr result (MayRefuse text.now top args) }
+    ensures refused { (top : List ℕ) (args : List ℤ) → IfErr result (MayRefuse (Refuses text.now top args)) }
 {
     match tokens_of(alloc, text) {
         Ok(tokens) => tree_of_tokens(alloc, text, tokens.as_slice()),
@@ -109,7 +108,7 @@ fn tree_of_tokens(alloc: Global, text: &[u8], tokens: &[Token]) -> Result<Unit, 
     requires few { length tokens.now ≤ length text.now }
     requires parted { IsTokens text.now tokens.now }
     ensures tree { IfOk result (λ unit. IsTree text.now (tree_of unit)) }
-    ensures refused { (top : List ℕ) (args : List ℤ) → IfErr result (MayRefuse text.now top args) }
+    ensures refused { (top : List ℕ) (args : List ℤ) → IfErr result (MayRefuse (Refuses text.now top args)) }
 {
     match parse(alloc, text, tokens) {
         Ok(unit) => Ok(unit),

@@ -3,11 +3,12 @@
 
 mod answer;
 mod commands;
+mod describing;
 mod description;
 mod fetching;
-mod flat;
 mod lines;
 mod places;
+mod plans;
 mod status;
 mod words;
 
@@ -15,7 +16,8 @@ pub use commands::still;
 pub use status::Status;
 
 /// What `--help` writes: the commands with their forms.
-const HELP: &str = "darwin_run --help\ndarwin_run --version\ndarwin_run flat FILE NAME INT*\n";
+const HELP: &str =
+    "darwin_run --help\ndarwin_run --version\ndarwin_run flat FILE NAME INT*\ndarwin_run plan FILE NAME INT* -- NAME INT*\n";
 
 /// What `--version` writes.
 const VERSION: &str = "darwin_run 0.1.0\n";

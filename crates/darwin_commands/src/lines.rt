@@ -5,6 +5,7 @@ ghost use Rattle.darwin_commands.specs.Lines as lines;
 ghost use Rattle.darwin_commands.specs.DescriptionFaults.{fault_words};
 
 use crate::description::DescriptionFault;
+use change_plan::PlanError;
 use config_graph::{NoMemory, Text};
 use darwin_lexer::{At, LexError};
 use darwin_types::TypeError;
@@ -186,6 +187,38 @@ pub fn push_elaborate_fault(line: &mut Vec<u8>, fault: &ElabError) -> Result<(),
     }
 }
 
+/// Writes two paths, each after a space.
+fn push_paths(line: &mut Vec<u8>, from: &Text, to: &Text) -> Result<(), NoMemory>
+    ensures { OnOk result (line.new.items ≡ line.old.items ++ lines.spaced (lines.path_word from.now ∷ lines.path_word to.now ∷ [])) }
+{
+    push_path(line, from)?;
+    push_path(line, to)
+}
+
+/// Writes why there is no plan.
+pub fn push_plan_fault(line: &mut Vec<u8>, fault: &PlanError) -> Result<(), NoMemory>
+    ensures { OnOk result (line.new.items ≡ line.old.items ++ lines.spaced (lines.plan_words fault.now)) }
+{
+    match fault {
+        PlanError::NotRemoved(path) => push_pathed(line, b"NotRemoved", path),
+        PlanError::NotCreated(path) => push_pathed(line, b"NotCreated", path),
+        PlanError::KindsDiffer(from, to) => {
+            push_word(line, b"KindsDiffer")?;
+            push_paths(line, from, to)
+        }
+        PlanError::MovedTwice(path) => push_pathed(line, b"MovedTwice", path),
+        PlanError::NodesFull { made, wanted } => {
+            push_word(line, b"NodesFull")?;
+            push_numbers(line, *made, *wanted)
+        }
+        PlanError::PortsFull { made, wanted } => {
+            push_word(line, b"PortsFull")?;
+            push_numbers(line, *made, *wanted)
+        }
+        PlanError::NoMemory => Ok(()),
+    }
+}
+
 /// Writes what names a fault of a description, each word after a space.
 fn push_fault(line: &mut Vec<u8>, fault: &DescriptionFault) -> Result<(), NoMemory>
     ensures { OnOk result (line.new.items ≡ line.old.items ++ lines.spaced (fault_words fault.now)) }
@@ -197,6 +230,7 @@ fn push_fault(line: &mut Vec<u8>, fault: &DescriptionFault) -> Result<(), NoMemo
         DescriptionFault::TooNested(at) => push_placed(line, b"TooNested", *at),
         DescriptionFault::Check(fault) => push_check_fault(line, fault),
         DescriptionFault::Elaborate(fault) => push_elaborate_fault(line, fault),
+        DescriptionFault::Plan(fault) => push_plan_fault(line, fault),
     }
 }
 

@@ -1,26 +1,36 @@
 //! The words of a command line.
 
-ghost use Rattle.std.specs.Prelude.{◌≡◌, ◌∷◌, [], ◌<◌, length, codes, map, string_bytes, IfOk, IfSome, IfNone};
-ghost use Rattle.std.specs.List.{AllByRecursion};
+ghost use Rattle.std.specs.Prelude.{◌≡◌, ◌≢◌, ◌∷◌, [], ◌<◌, ℕ, ℤ, List, length, codes, map, string_bytes, IfOk, IfSome, IfNone};
+ghost use Rattle.std.specs.List.{AllByRecursion, prefix_len};
 ghost use Rattle.std.specs.Option.{SomeIff};
-ghost use Rattle.darwin_commands.specs.Words.{IsInteger, integer_of, NamesTop, Asks, Command};
-ghost use Rattle.darwin_commands.specs.Requests.{command_of};
+ghost use Rattle.darwin_commands.specs.Words.{IsInteger, integer_of, IsCall, Asks, Command};
+ghost use Rattle.darwin_commands.specs.Requests.{command_of, is_part};
 
 use config_graph::NoMemory;
 use darwin_lexer::is_name;
 use std::alloc::Global;
+
+/// A component, and its arguments.
+#[derive(Debug, Drop)]
+pub struct Call<'a> {
+    pub top: &'a str,
+    pub args: Vec<i32>,
+}
+
+/// What is wanted of a description.
+#[derive(Debug, Drop)]
+pub enum Purpose<'a> {
+    Graph(Call<'a>),
+    /// The plan from the first component to the second.
+    Plan(Call<'a>, Call<'a>),
+}
 
 /// What the words ask for.
 #[derive(Debug, Drop)]
 pub enum Request<'a> {
     Help,
     Version,
-    /// The graph of a component of a file, with these arguments.
-    Flat {
-        file: &'a str,
-        top: &'a str,
-        args: Vec<i32>,
-    },
+    Describe { file: &'a str, purpose: Purpose<'a> },
 }
 
 /// What the words ask for, where they have one of the forms.
@@ -35,7 +45,7 @@ pub fn read_words(alloc: Global, words: &[String]) -> Result<Option<Request<'_>>
     }
 }
 
-/// What two or more words ask for, the first of which names a command.
+/// What two or more words ask for, the first of which names a command and the second a file.
 fn read_command<'a>(
     alloc: Global,
     first: &str,
@@ -45,8 +55,13 @@ fn read_command<'a>(
     ensures found { IfOk result (λ found. IfSome found (λ request. Asks (first.now ∷ map string_bytes words.now) (command_of request))) }
     ensures none { IfOk result (λ found. IfNone found ((command : Command) → Asks (first.now ∷ map string_bytes words.now) command → ⊥)) }
 {
+    let file = words[0].as_str();
+    if file.is_empty() {
+        return Ok(None);
+    }
     match first {
-        "flat" => read_flat(alloc, words),
+        "flat" => read_flat(alloc, file, &words[1..]),
+        "plan" => read_plan(alloc, file, &words[1..]),
         _ => Ok(None),
     }
 }
@@ -65,6 +80,77 @@ fn read_lone(word: &str) -> Option<Request<'_>>
     }
 }
 
+/// What the word `flat` asks for with a file and these words behind it.
+fn read_flat<'a>(
+    alloc: Global,
+    file: &'a str,
+    words: &'a [String],
+) -> Result<Option<Request<'a>>, NoMemory>
+    requires { file.now ≢ [] }
+    ensures found { IfOk result (λ found. IfSome found (λ request. Asks (codes "flat" ∷ file.now ∷ map string_bytes words.now) (command_of request))) }
+    ensures none { IfOk result (λ found. IfNone found ((command : Command) → Asks (codes "flat" ∷ file.now ∷ map string_bytes words.now) command → ⊥)) }
+{
+    match read_call(alloc, words)? {
+        Some(call) => Ok(Some(Request::Describe {
+            file,
+            purpose: Purpose::Graph(call),
+        })),
+        None => Ok(None),
+    }
+}
+
+/// What the word `plan` asks for with a file and these words behind it.
+fn read_plan<'a>(
+    alloc: Global,
+    file: &'a str,
+    words: &'a [String],
+) -> Result<Option<Request<'a>>, NoMemory>
+    requires { file.now ≢ [] }
+    ensures found { IfOk result (λ found. IfSome found (λ request. Asks (codes "plan" ∷ file.now ∷ map string_bytes words.now) (command_of request))) }
+    ensures none { IfOk result (λ found. IfNone found ((command : Command) → Asks (codes "plan" ∷ file.now ∷ map string_bytes words.now) command → ⊥)) }
+{
+    let at = parting(words);
+    if at >= words.len() {
+        return Ok(None);
+    }
+    let Some(call) = read_call(alloc, &words[..at])? else {
+        return Ok(None);
+    };
+    let Some(target) = read_call(alloc, &words[at + 1..])? else {
+        return Ok(None);
+    };
+    Ok(Some(Request::Describe {
+        file,
+        purpose: Purpose::Plan(call, target),
+    }))
+}
+
+/// How many words stand before the first `--`, or how many there are where none is.
+fn parting(words: &[String]) -> usize
+    ensures { result ≡ prefix_len (λ word. is_part (string_bytes word)) words.now }
+{
+    words
+        .iter()
+        .take_while(|word| word.as_str() != "--")
+        .count()
+}
+
+/// The component and the arguments that these words are.
+fn read_call(alloc: Global, words: &[String]) -> Result<Option<Call<'_>>, NoMemory>
+    ensures found { IfOk result (λ found. IfSome found (λ call. IsCall (map string_bytes words.now) call.top.now call.args.items)) }
+    ensures none { IfOk result (λ found. IfNone found ((top : List ℕ) (args : List ℤ) → IsCall (map string_bytes words.now) top args → ⊥)) }
+{
+    if words.is_empty() {
+        return Ok(None);
+    }
+    let top = words[0].as_str();
+    if !is_name(top.as_bytes()) {
+        return Ok(None);
+    }
+    let args = integers(alloc, &words[1..])?;
+    Ok(args.map(|args| Call { top, args }))
+}
+
 /// The values of words that are all integers.
 fn integers(alloc: Global, words: &[String]) -> Result<Option<Vec<i32>>, NoMemory>
     ensures found { IfOk result (λ found. IfSome found (λ args. AllByRecursion IsInteger (map string_bytes words.now) × (args.items ≡ map integer_of (map string_bytes words.now)))) }
@@ -78,23 +164,6 @@ fn integers(alloc: Global, words: &[String]) -> Result<Option<Vec<i32>>, NoMemor
         }
     }
     Ok(Some(values))
-}
-
-/// What the word `flat` with these words behind it asks for.
-fn read_flat(alloc: Global, words: &[String]) -> Result<Option<Request<'_>>, NoMemory>
-    ensures found { IfOk result (λ found. IfSome found (λ request. Asks (codes "flat" ∷ map string_bytes words.now) (command_of request))) }
-    ensures none { IfOk result (λ found. IfNone found ((command : Command) → Asks (codes "flat" ∷ map string_bytes words.now) command → ⊥)) }
-{
-    if words.len() < 2 {
-        return Ok(None);
-    }
-    let file = words[0].as_str();
-    let top = words[1].as_str();
-    if file.is_empty() || !is_name(top.as_bytes()) {
-        return Ok(None);
-    }
-    let args = integers(alloc, &words[2..])?;
-    Ok(args.map(|args| Request::Flat { file, top, args }))
 }
 
 /// The value of a word that is an optional `-` and digits, where it is in the range of an `i32`.

@@ -118,3 +118,18 @@ component X(int n) {
   when 1 / n inst a:sink;
 }
 ";
+
+/// A line with a buffer in its middle.
+pub const FLOW: &str = "component source(int n) { require out; }
+component map(int k) { provide in; require next; }
+component sink { provide in; }
+component buffer(int cap) { provide in; require next; }
+component Flow(int cap) {
+  inst s:source(9); m:map(1); b:buffer(cap); w:map(2); t:sink;
+  bind s.out -- m.in; m.next -- b.in; b.next -- w.in; w.next -- t.in;
+}
+";
+
+/// As many sinks as are wanted.
+pub const MANY: &str =
+    "component sink { provide in; } component Many(int n) { array A[n]:sink; forall i:0..n-1 inst A[i]; }";

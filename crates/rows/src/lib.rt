@@ -10,6 +10,8 @@ mod faults;
 #[cfg(test)]
 mod flat;
 #[cfg(test)]
+mod plan;
+#[cfg(test)]
 mod running;
 #[cfg(test)]
 mod words;

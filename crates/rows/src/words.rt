@@ -11,7 +11,7 @@ struct Words {
     written: &'static str,
 }
 
-static WORDS: [Words; 24] = [
+static WORDS: [Words; 36] = [
     Words {
         words: &[],
         status: 1,
@@ -20,7 +20,7 @@ static WORDS: [Words; 24] = [
     Words {
         words: &["--help"],
         status: 0,
-        written: "darwin_run --help\ndarwin_run --version\ndarwin_run flat FILE NAME INT*\n",
+        written: "darwin_run --help\ndarwin_run --version\ndarwin_run flat FILE NAME INT*\ndarwin_run plan FILE NAME INT* -- NAME INT*\n",
     },
     Words {
         words: &["--version"],
@@ -139,6 +139,80 @@ static WORDS: [Words; 24] = [
         words: &["flat", "none.dar", "Line", "3", "10"],
         status: 4,
         written: "read fault none.dar\n",
+    },
+    Words {
+        words: &[
+            "plan", "f.dar", "Line", "3", "10", "--", "Line", "-0", "010",
+        ],
+        status: 0,
+        written: "freeze s\nunlink s.out\nremove s\ncreate s source(0)\nlink s.out m.in\n",
+    },
+    Words {
+        words: &["plan", "f.dar"],
+        status: 1,
+        written: "usage\n",
+    },
+    Words {
+        words: &["plan", "f.dar", "Line", "3", "10"],
+        status: 1,
+        written: "usage\n",
+    },
+    Words {
+        words: &["plan", "f.dar", "Line", "3", "10", "--"],
+        status: 1,
+        written: "usage\n",
+    },
+    Words {
+        words: &["plan", "f.dar", "--", "Line", "3", "10"],
+        status: 1,
+        written: "usage\n",
+    },
+    Words {
+        words: &["plan", "f.dar", "Line", "3", "10", "-", "Line", "3", "10"],
+        status: 1,
+        written: "usage\n",
+    },
+    Words {
+        words: &[
+            "plan", "f.dar", "Line", "3", "10", "--", "--", "Line", "3", "10",
+        ],
+        status: 1,
+        written: "usage\n",
+    },
+    Words {
+        words: &[
+            "plan",
+            "f.dar",
+            "Line",
+            "3",
+            "10",
+            "--",
+            "Line",
+            "3",
+            "2147483648",
+        ],
+        status: 1,
+        written: "usage\n",
+    },
+    Words {
+        words: &["plan", "f.dar", "Line", "3", "+1", "--", "Line", "3", "10"],
+        status: 1,
+        written: "usage\n",
+    },
+    Words {
+        words: &["plan", "f.dar", "Line", "3", "10", "--", "when"],
+        status: 1,
+        written: "usage\n",
+    },
+    Words {
+        words: &["plan", "", "Line", "3", "10", "--", "Line", "3", "10"],
+        status: 1,
+        written: "usage\n",
+    },
+    Words {
+        words: &["plan", "--", "Line", "3", "10", "--", "Line", "3", "10"],
+        status: 4,
+        written: "read fault --\n",
     },
 ];
 

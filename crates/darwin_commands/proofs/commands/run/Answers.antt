@@ -1,8 +1,9 @@
 -- Words of no form, and those that fetch nothing, have one answer each.
-use Rattle.std.proofs.Common.{[], ◌∷◌, ◌++◌, codes, sym, append-nil}
+use Rattle.std.proofs.Common.{[], ◌∷◌, ◌++◌, codes, map, string_bytes, sym, append-nil}
 use Rattle.darwin_commands.specs.declared.status.Status.TheVariants as status
 use Rattle.darwin_commands.specs.declared.TheConstants.{HELP, VERSION}
 use Rattle.darwin_commands.specs.Answers.{no_form, helped, versioned, no_memory, nothing}
+use Rattle.darwin_commands.proofs.Wanting.{describe_asks}
 use Rattle.darwin_commands.proofs.commands.run.Goals as goal
 
 pub returns-in-Ok-None : goal.returns-in-Ok-None
@@ -48,3 +49,9 @@ returns-in-Err g c = record {
   told = tt;
   written = c.no_memory.ensures;
 }
+
+pub returns-in-Ok-Some-Describe : goal.returns-in-Ok-Some-Describe
+returns-in-Ok-Some-Describe g c =
+    let step = c.in-Ok-Some-Describe in
+    c.run_description.ensures (map string_bytes c.args.words.now)
+    (describe_asks (map string_bytes c.args.words.now) step.file step.purpose (rw (step.field-0-is, step.field-0-0-is) at step.ensures.found))

@@ -13,6 +13,7 @@ returns g c = record {
   write_fault = ending.write_fault _ _ _ _ _ _ _ _ _ c.run.ensures;
   every_write_fault = ending.every_write_fault _ _ _ _ _ _ _ _ _ c.run.ensures;
   flattened = flattening.flattens _ _ _ _ _ _ _ _ _ c.run.ensures;
+  planned = flattening.plans _ _ _ _ _ _ _ _ _ c.run.ensures;
   refused = flattening.refuses _ _ _ _ _ _ _ _ _ c.run.ensures;
   every_refusal = λ file wanted files asks telling steady. flattening.must_refuse _ _ _ _ _ _ _ _ _ c.run.ensures file wanted files asks telling steady;
   complete = λ file wanted files asks telling steady. flattening.completes _ _ _ _ _ _ _ _ _ c.run.ensures file wanted files asks telling steady;

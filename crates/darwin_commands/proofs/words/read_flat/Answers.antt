@@ -1,8 +1,7 @@
--- Fewer than two words are no file and no component.
-use Rattle.std.proofs.Common.{map, string_bytes, arith}
-use Rattle.std.proofs.lemmas.List.{length-map}
-use Rattle.darwin_commands.proofs.Asking.{too_few}
+-- Words that are no call ask for nothing.
+use Rattle.std.proofs.Common.{map, string_bytes}
+use Rattle.darwin_commands.proofs.Asking.{no_flat_call}
 use Rattle.darwin_commands.proofs.words.read_flat.Goals as goal
 
-pub returns-then-words-lt2-clause-none : goal.returns-then-words-lt2-clause-none
-returns-then-words-lt2-clause-none c = too_few (map string_bytes c.args.words.now) (simp length-map (omega arith))
+pub returns-in-None-clause-none : goal.returns-in-None-clause-none
+returns-in-None-clause-none c = no_flat_call c.args.file.now (map string_bytes c.args.words.now) (rw c.in-None.is at c.in_ok-call.ensures.none)

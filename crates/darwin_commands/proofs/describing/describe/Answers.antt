@@ -1,6 +1,6 @@
 -- A file that can't be read and one that is too long have lines of their own.
 use Rattle.darwin_commands.specs.Answers.{cannot_read, is_too_long}
-use Rattle.darwin_commands.proofs.flat.flat.Goals as goal
+use Rattle.darwin_commands.proofs.describing.describe.Goals as goal
 
 pub returns-in_ok-too_long_line-in-TooLong : goal.returns-in_ok-too_long_line-in-TooLong
 returns-in_ok-too_long_line-in-TooLong c = rw (c.in-TooLong.is, c.in_ok-too_long_line-in-TooLong.ensures) is_too_long

@@ -1,10 +1,10 @@
--- A run of `flat` fetches one description, and answers by what the fetch gave.
+-- A run fetches one description, and answers by what the fetch gave.
 use Rattle.std.proofs.Common.{[], ◌∷◌, ◌++◌, codes, sym, ◌∙◌, append-nil}
 use Rattle.darwin_commands.specs.declared.status.Status.TheVariants as status
 use Rattle.darwin_commands.specs.Answers.{no_memory, nothing, description, described, fetch_of, failed_name}
-use Rattle.darwin_commands.specs.Wanted.{its_graph}
 use Rattle.darwin_commands.specs.Fetching.{given_of}
-use Rattle.darwin_commands.proofs.commands.run_flat.Goals as goal
+use Rattle.darwin_commands.specs.Requests.{wanted_of}
+use Rattle.darwin_commands.proofs.commands.run_description.Goals as goal
 
 pub returns-in-Err : goal.returns-in-Err
 returns-in-Err g c words asks = record {
@@ -17,27 +17,27 @@ returns-in-Err g c words asks = record {
   written = c.no_memory-in-Err.ensures;
 }
 
-pub returns-in-Ok-flat : goal.returns-in-Ok-flat
-returns-in-Ok-flat g c words asks =
+pub returns-in-Ok-describe : goal.returns-in-Ok-describe
+returns-in-Ok-describe g c words asks =
     let given = given_of c.in-Ok.fetched in
     record {
       fetches = fetch_of c.args.file.now given ∷ [];
-      own = c.in-Ok-flat.answer.status;
-      text = c.in-Ok-flat.answer.text.items;
-      answers = described c.args.file.now (its_graph c.args.top.now c.args.args.now) given c.in-Ok-flat.answer.status c.in-Ok-flat.answer.text.items asks c.in-Ok-flat.ensures;
+      own = c.in-Ok-describe.answer.status;
+      text = c.in-Ok-describe.answer.text.items;
+      answers = described c.args.file.now (wanted_of c.args.purpose.now) given c.in-Ok-describe.answer.status c.in-Ok-describe.answer.text.items asks c.in-Ok-describe.ensures;
       noted = rw (append-nil (failed_name (fetch_of c.args.file.now given))) c.in-Ok.ensures.0;
       told = (c.in-Ok.ensures.1, tt);
       written = rw c.as_slice.ensures.value at c.write.ensures;
     }
 
-pub returns-in-Err-flat : goal.returns-in-Err-flat
-returns-in-Err-flat g c words asks =
+pub returns-in-Err-describe : goal.returns-in-Err-describe
+returns-in-Err-describe g c words asks =
     let given = given_of c.in-Ok.fetched in
     record {
       fetches = fetch_of c.args.file.now given ∷ [];
       own = status.NoMemory;
       text = codes "no memory" ++ 10 ∷ [];
-      answers = no_memory (fetch_of c.args.file.now given ∷ []) (description c.args.file.now (its_graph c.args.top.now c.args.args.now) given asks);
+      answers = no_memory (fetch_of c.args.file.now given ∷ []) (description c.args.file.now (wanted_of c.args.purpose.now) given asks);
       noted = rw (append-nil (failed_name (fetch_of c.args.file.now given))) c.in-Ok.ensures.0;
       told = (c.in-Ok.ensures.1, tt);
       written = c.no_memory.ensures;

@@ -1,0 +1,146 @@
+-- A description isn't both refused a plan and given one.
+use Rattle.std.proofs.Common.{◌≡◌, ◌≢◌, false, ◌+◌, ◌≤◌, ◌∙◌, ◌⊎◌, inl, inr, ℕ, ℤ, List, [], ◌∷◌, Some, Result, Ok, Err, IfOk, IfErr, length, sum_by, refl, sym, subst, ap, arith}
+use Rattle.std.specs.List.{range_with_len}
+use Rattle.config_graph.specs.Graph.{Configuration, requires_at}
+use Rattle.config_graph.specs.declared.node.Made.{Made}
+use Rattle.change_plan.specs.Refusals.{CanPlan, IsRefusal, IsWanted, RoomFault}
+use Rattle.change_plan.specs.Selects.{Selects}
+use Rattle.change_plan.specs.Selects.Selects.{ends, takes, skips}
+use Rattle.change_plan.specs.declared.error.PlanError.{PlanError}
+use Rattle.change_plan.specs.declared.error.PlanError.TheVariants.{NotRemoved, NotCreated, KindsDiffer, MovedTwice, NodesFull, PortsFull, NoMemory}
+use Rattle.elaborator.proofs.UniqueLemmas as elaborating
+use Rattle.darwin_parser.specs.Tree.{Tree}
+use Rattle.elaborator.specs.Elaboration.{IsGraphOf}
+use Rattle.elaborator.specs.Graph.{IsElab}
+use Rattle.elaborator.specs.Instances.{Instance, top_instance}
+use Rattle.std.proofs.lemmas.Option.{same_Some}
+use Rattle.darwin_commands.specs.Descriptions.{HasGraph, Refuses}
+use Rattle.darwin_commands.specs.Plans.{Starts, RefusesStart, has_no_graph, is_full, HasPlan, RefusesPlan, starts_not, leads_nowhere, gets_full, nothing, nothing_made, made_of}
+use Rattle.darwin_commands.specs.Planning.{HasSteps, IsFull}
+use Rattle.darwin_commands.specs.Wanted.{Wanted, its_graph, its_plan, IsRefused}
+use Rattle.darwin_commands.specs.DescriptionFaults.{MayRefuse, fault_words, is_no_memory}
+use Rattle.darwin_commands.specs.declared.description.DescriptionFault.{DescriptionFault}
+use Rattle.darwin_commands.specs.declared.description.DescriptionFault.TheVariants as fault
+use Rattle.darwin_commands.proofs.Readings as readings
+
+-- ---- room is full or not
+
+-- a list has one part that has a property
+Selects-one : {A : Type 0} (P : A → Type 0) (xs ys zs : List A) → Selects P xs ys → Selects P xs zs → ys ≡ zs
+Selects-one P all ys zs ends ends = refl
+Selects-one P all ys zs (takes {x = x} {xs = xs} {ys = us} has s) (takes {ys = ws} also t) =
+    ap (λ vs. x ∷ vs) (Selects-one P xs us ws s t)
+Selects-one P all ys zs (takes has s) (skips lacks t) = absurd (lacks has)
+Selects-one P all ys zs (skips lacks s) (takes has t) = absurd (lacks has)
+Selects-one P all ys zs (skips {xs = xs} lacks s) (skips also t) = Selects-one P xs ys zs s t
+
+one_wanted : (old new : Configuration) (n p m q : ℕ) → IsWanted old new n p → IsWanted old new m q → (n ≡ m) × (p ≡ q)
+one_wanted old new n p m q a b =
+    let same = Selects-one _ (range_with_len 0 (length new.nodes)) a.created b.created a.gone b.gone in
+    (a.nodes_are ∙ ap length same ∙ sym b.nodes_are, a.ports_are ∙ ap (sum_by (requires_at new.nodes)) same ∙ sym b.ports_are)
+
+no_room : (made : Made) (n p : ℕ) (e : PlanError) → made.nodes + n ≤ 1023 → made.ports + p ≤ 4096 → RoomFault made n p e → ⊥
+no_room made n p (NodesFull a w) nodes_fit ports_fit x = omega (arith, x.full, nodes_fit)
+no_room made n p (PortsFull a w) nodes_fit ports_fit x = omega (arith, x.1.full, ports_fit)
+no_room made n p (NotRemoved q) nodes_fit ports_fit x = x
+no_room made n p (NotCreated q) nodes_fit ports_fit x = x
+no_room made n p (KindsDiffer q r) nodes_fit ports_fit x = x
+no_room made n p (MovedTwice q) nodes_fit ports_fit x = x
+no_room made n p NoMemory nodes_fit ports_fit x = x
+
+pub not_full : (old new : Configuration) (made : Made) (e : PlanError) → CanPlan old new [] made → IsRefusal old new [] made e → ⊥
+not_full old new made e can (inl first) = cc (first.at)
+not_full old new made e can (inr (may, (n, p, wanted, fault))) =
+    let same = one_wanted old new n p can.nodes can.ports wanted can.wanted in
+    no_room made n p e (omega (arith, can.nodes_fit, same.0)) (omega (arith, can.ports_fit, same.1)) fault
+
+-- ---- a description has one graph
+
+same_top : (tree : Tree) (name : List ℕ) (args : List ℤ) (t u : Instance) → top_instance tree name args ≡ Some t → top_instance tree name args ≡ Some u → t ≡ u
+same_top tree name args t u a b = same_Some t u (sym a ∙ b)
+
+one_graph_of : (tree : Tree) (name : List ℕ) (args : List ℤ) (g h : Configuration) → IsGraphOf tree name args g → IsGraphOf tree name args h → g ≡ h
+one_graph_of tree name args g h a b =
+    elaborating.one_graph tree b.top g h (subst (λ t. IsElab tree t g) (same_top tree name args a.top b.top a.is_top b.is_top) a.is_elab) b.is_elab
+
+pub one_graph : (text name : List ℕ) (args : List ℤ) (g h : Configuration) → HasGraph text name args g → HasGraph text name args h → g ≡ h
+one_graph text name args g h x y =
+    one_graph_of y.tree name args g h
+    (subst (λ t. IsGraphOf t name args g) (readings.one_tree text x.tree y.tree x.checked.is_tree y.checked.is_tree) x.is_graph) y.is_graph
+
+-- ---- the laws
+
+pub never_both_start :
+    (text top : List ℕ) (args : List ℤ) (graph : Configuration) (words : List (List ℕ))
+    → Starts text top args graph → RefusesStart text top args words → ⊥
+never_both_start text top args graph _ starts (has_no_graph words refuses) = readings.never_both text top args graph words starts.has_graph refuses
+never_both_start text top args graph _ starts (is_full other e has refuses) =
+    not_full nothing graph nothing_made e starts.has_room
+    (subst (λ g. IsRefusal nothing g [] nothing_made e) (one_graph text top args other graph has starts.has_graph) refuses)
+
+pub never_both :
+    (text top to : List ℕ) (args to_args : List ℤ) (written : List ℕ) (words : List (List ℕ))
+    → HasPlan text top args to to_args written → RefusesPlan text top args to to_args words → ⊥
+never_both text top to args to_args written _ plan (starts_not words refuses) =
+    never_both_start text top args plan.old words plan.starts refuses
+never_both text top to args to_args written _ plan (leads_nowhere old words starts refuses) =
+    readings.never_both text to to_args plan.new words plan.has_graph refuses
+never_both text top to args to_args written _ plan (gets_full old new e starts has refuses) =
+    not_full plan.old plan.new (made_of plan.old) e plan.has_room
+    (subst (λ g. IsRefusal g plan.new [] (made_of g) e) (one_graph text top args old plan.old starts.has_graph plan.starts.has_graph)
+    (subst (λ g. IsRefusal old g [] (made_of old) e) (one_graph text to to_args new plan.new has plan.has_graph) refuses))
+
+-- ---- what the parts of planning answer
+
+-- a refusal of a plan without moves
+pub full_words :
+    (old new : Configuration) (made : Made) (e : PlanError) → (e ≡ NoMemory) ⊎ IsRefusal old new [] made e → MayRefuse (IsFull old new made) (fault.Plan e)
+full_words old new made e (inl memory) plain = absurd (is_memory e memory plain)
+  where
+    is_memory : (e : PlanError) → e ≡ NoMemory → is_no_memory (fault.Plan e) ≢ false
+    is_memory e none = rw none (λ is. cc)
+full_words old new made e (inr refuses) plain = record { fault = e; refuses = refuses; named = refl }
+
+pub start_refused :
+    (text top : List ℕ) (args : List ℤ) (graph : Configuration) (words : List (List ℕ)) → HasGraph text top args graph → IsFull nothing graph nothing_made words
+    → RefusesStart text top args words
+start_refused text top args graph words has full = subst (RefusesStart text top args) (sym full.named) (is_full graph full.fault has full.refuses)
+
+pub plan_refused :
+    (text top to : List ℕ) (args to_args : List ℤ) (old new : Configuration) (words : List (List ℕ)) → Starts text top args old → HasGraph text to to_args new
+    → IsFull old new (made_of old) words → RefusesPlan text top args to to_args words
+plan_refused text top to args to_args old new words starts has full =
+    subst (RefusesPlan text top args to to_args) (sym full.named) (gets_full old new full.fault starts has full.refuses)
+
+pub plan_of :
+    (text top to : List ℕ) (args to_args : List ℤ) (old new : Configuration) (written : List ℕ) → Starts text top args old → HasGraph text to to_args new
+    → HasSteps old new written → HasPlan text top args to to_args written
+plan_of text top to args to_args old new written starts has s = record {
+  old = old;
+  new = new;
+  steps = s.steps;
+  starts = starts;
+  has_graph = has;
+  has_room = s.has_room;
+  is_plan = s.is_plan;
+  frozen_rise = s.frozen_rise;
+  is_text = s.is_text;
+}
+
+-- a refusal by way of another
+pub refused_through :
+    (P Q : List (List ℕ) → Type 0) (e : DescriptionFault) → ((words : List (List ℕ)) → P words → Q words) → MayRefuse P e → MayRefuse Q e
+refused_through P Q e leads refuses plain = leads (fault_words e) (refuses plain)
+
+-- what reading refuses, whatever is wanted
+pub reading_refused : (wanted : Wanted) (text : List ℕ) (e : DescriptionFault) → ((top : List ℕ) (args : List ℤ) → MayRefuse (Refuses text top args) e) → MayRefuse (IsRefused wanted text) e
+reading_refused (its_graph top args) text e refuses plain = refuses top args plain
+reading_refused (its_plan top args to to_args) text e refuses plain = starts_not (fault_words e) (has_no_graph (fault_words e) (refuses top args plain))
+
+pub if_ok : {A E : Type 0} (r : Result A E) (P Q : A → Type 0) → ((a : A) → P a → Q a) → IfOk r P → IfOk r Q
+if_ok (Ok a) P Q leads holds = leads a holds
+if_ok (Err e) P Q leads holds = tt
+
+pub if_err : {A E : Type 0} (r : Result A E) (P Q : E → Type 0) → ((e : E) → P e → Q e) → IfErr r P → IfErr r Q
+if_err (Ok a) P Q leads holds = tt
+if_err (Err e) P Q leads holds = leads e holds
