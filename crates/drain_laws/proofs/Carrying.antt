@@ -158,7 +158,7 @@ follows set s (Remove n) w c l off q busy h = belonged set s (Remove n) w c l q 
 
 -- Serials never fall
 
-next_is : (s : State) (p k : ℕ) → is_next_serial s p k ≡ true → k ≡ (exchange s p).serial + 1
+pub next_is : (s : State) (p k : ℕ) → is_next_serial s p k ≡ true → k ≡ (exchange s p).serial + 1
 next_is s p k h = eqb-true k ((exchange s p).serial + 1) (and_parts (k == (exchange s p).serial + 1) (nat_le k 16777215) h).0
 
 serial_at : (s s' : State) (p : ℕ) (x : Exchange) → exchange s' p ≡ x → (exchange s p).serial ≤ x.serial → ((q : ℕ) → (q ≡ p → ⊥) → (exchange s' q).serial ≡ (exchange s q).serial)

@@ -15,3 +15,4 @@ pub mod Belonging
 pub mod Carrying
 pub mod Portions
 pub mod Strength
+pub mod Rooted

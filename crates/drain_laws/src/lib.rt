@@ -7,6 +7,7 @@ mod bound;
 mod ends;
 mod falling;
 mod parts;
+mod roots;
 
 pub use bound::rest_bounds_the_drain;
 pub use ends::{none_is_open_where_none_can_advance, some_event_is_possible};
@@ -15,3 +16,4 @@ pub use parts::{
     belongings_are_found, part_falls_by_steps, part_of_one_falls_by_steps,
     what_is_left_is_of_what_is_open,
 };
+pub use roots::consequents_belong_to_their_roots;
