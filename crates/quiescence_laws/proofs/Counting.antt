@@ -8,7 +8,7 @@ use Rattle.quiesce_core.specs.declared.event.Event.{Event}
 use Rattle.quiesce_core.specs.declared.event.Event.TheVariants.{Begin, Call, Take, Give, End, More, Ask, Hear, Miss, Close, Reopen, Make, Link, Unlink, Remove}
 use Rattle.quiesce_core.specs.Runs.{IsRun, state_after, is_begin_of, is_end_of}
 use Rattle.quiescence_laws.specs.Events.{is_take_of, is_give_of, is_more_of, is_ask_of, is_hear_of}
-use Rattle.quiescence_laws.specs.Courses.{Course, begun, taken, replied_to, asked, heard, given, closed, course_next, course_after, heard_at, course_in, course_of, course_at}
+use Rattle.quiescence_laws.specs.Courses.{Course, begun, taken, replied_to, asked, heard, given, finished, course_next, course_after, heard_at, course_in, course_of, course_at}
 use Rattle.quiescence_laws.specs.Courses as course
 use Rattle.quiescence_laws.proofs.CourseLemmas.{on_course}
 
@@ -109,9 +109,9 @@ given_leads : (c d : Course) → given c ≡ Some d → Leads c d course.serving
 given_leads course.serving d h = record { was = refl; is = cc }
 given_leads _ d h = absurd (cc)
 
-closed_leads : (c d : Course) → closed c ≡ Some d → Leads c d course.answered course.ended
-closed_leads course.answered d h = record { was = refl; is = cc }
-closed_leads _ d h = absurd (cc)
+finished_leads : (c d : Course) → finished c ≡ Some d → Leads c d course.answered course.ended
+finished_leads course.answered d h = record { was = refl; is = cc }
+finished_leads _ d h = absurd (cc)
 
 leads_adds : (c d from to : Course) (r j : ℕ) (z : Counts) → Leads c d from to → Adds (table from r) (table to j) z → Adds (table c r) (table d j) z
 leads_adds c d from to r j z l a = subst (λ x. Adds (table x r) (table d j) z) (sym l.was) (subst (λ x. Adds (table from r) (table x j) z) (sym l.is) a)
@@ -225,14 +225,14 @@ adds_on p k (Give q j v) c d r h = ⊎_elim
     (record { begins = refl; takes = refl; gives = flag_none (q == p && j == k) w.0; ends = refl; mores = refl; asks = refl; hears = refl }))
     (choose given (q == p && j == k) c d h)
 adds_on p k (End q j v) c d r h = ⊎_elim
-    (λ (w : ((q == p && j == k) ≡ true) × (closed c ≡ Some d)). record {
+    (λ (w : ((q == p && j == k) ≡ true) × (finished c ≡ Some d)). record {
       rounds = r;
-      adds = leads_adds c d course.answered course.ended r r (ones p k (End q j v)) (closed_leads c d w.1)
+      adds = leads_adds c d course.answered course.ended r r (ones p k (End q j v)) (finished_leads c d w.1)
           (record { begins = refl; takes = refl; gives = refl; ends = more_by 0 (q == p && j == k) w.0; mores = omega arith; asks = omega arith; hears = omega arith });
     })
     (λ (w : ((q == p && j == k) ≡ false) × (c ≡ d)). stays p k (End q j v) c d r w.1
     (record { begins = refl; takes = refl; gives = refl; ends = flag_none (q == p && j == k) w.0; mores = refl; asks = refl; hears = refl }))
-    (choose closed (q == p && j == k) c d h)
+    (choose finished (q == p && j == k) c d h)
 adds_on p k (Miss q) c d r h = stays p k (Miss q) c d r (cc) (record { begins = refl; takes = refl; gives = refl; ends = refl; mores = refl; asks = refl; hears = refl })
 adds_on p k (Close q) c d r h = stays p k (Close q) c d r (cc) (record { begins = refl; takes = refl; gives = refl; ends = refl; mores = refl; asks = refl; hears = refl })
 adds_on p k (Reopen q) c d r h = stays p k (Reopen q) c d r (cc) (record { begins = refl; takes = refl; gives = refl; ends = refl; mores = refl; asks = refl; hears = refl })

@@ -24,7 +24,7 @@ use Rattle.quiesce_core.specs.WellFormed.{IsWellFormed}
 use Rattle.quiesce_core.proofs.Places.{exchange_place, target_place}
 use Rattle.quiesce_core.proofs.TrafficLemmas.{asked_busy, more_busy, answered_busy, taken_is}
 use Rattle.quiescence_laws.specs.Events.{ends_at}
-use Rattle.quiescence_laws.specs.Courses.{Course, begun, taken, replied_to, asked, heard, given, closed, course_next, course_after, heard_at, course_in, course_of, course_at}
+use Rattle.quiescence_laws.specs.Courses.{Course, begun, taken, replied_to, asked, heard, given, finished, course_next, course_after, heard_at, course_in, course_of, course_at}
 use Rattle.quiescence_laws.specs.Courses as course
 use Rattle.quiescence_laws.proofs.Behind.{fresh_behind}
 use Rattle.quiescence_laws.proofs.Configurations.{target_next}
@@ -258,8 +258,8 @@ module _ (s : State) (w : IsWellFormed s) (t : IsConsistent s) (positive : (p : 
       let s' = effect s (End q j v) in
       let here = exchanged q (record (exchange s q) { phase = phase.Idle; value = 0; within = None }) (exchange_place s q w l.live) in
       either (End q j v) q p k
-      (λ other. of_another closed q p j k (course_at s p k) (course_at s' p k) other (course_same s s' p k (unexchanged q p _ other) (λ busy. refl)))
-      (of_its_own closed s s' q j k course.answered course.ended (positive q (answered_busy (exchange s q).phase l.answered))
+      (λ other. of_another finished q p j k (course_at s p k) (course_at s' p k) other (course_same s s' p k (unexchanged q p _ other) (λ busy. refl)))
+      (of_its_own finished s s' q j k course.answered course.ended (positive q (answered_busy (exchange s q).phase l.answered))
       (eqb-true j (exchange s q).serial (and_parts (j == (exchange s q).serial) (v == (exchange s q).value) l.message).0) (ap (λ (y : Exchange). y.serial) here)
       (ap (λ f. course_in f (heard_at s q)) (answered_is (exchange s q).phase l.answered)) (ap (λ (y : Exchange). course_in y.phase (heard_at s' q)) here) refl)
 

@@ -44,9 +44,9 @@ abbrev pub given : Course → Option Course
 given serving = Some answered
 given _ = None
 
-abbrev pub closed : Course → Option Course
-closed answered = Some ended
-closed _ = None
+abbrev pub finished : Course → Option Course
+finished answered = Some ended
+finished _ = None
 
 -- the course of the transaction of port p with serial k after one more event, where that event may come; other events leave it
 abbrev pub course_next : ℕ → ℕ → Course → Event → Option Course
@@ -57,7 +57,7 @@ course_next p k c (More q j v) = if q == p && j == k then replied_to c else Some
 course_next p k c (Ask q j v) = if q == p && j == k then asked c else Some c
 course_next p k c (Hear q j v) = if q == p && j == k then heard c else Some c
 course_next p k c (Give q j v) = if q == p && j == k then given c else Some c
-course_next p k c (End q j v) = if q == p && j == k then closed c else Some c
+course_next p k c (End q j v) = if q == p && j == k then finished c else Some c
 course_next p k c _ = Some c
 
 -- after these events; none where one of them may not come

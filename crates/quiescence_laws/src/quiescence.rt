@@ -29,9 +29,9 @@ pub fn changes_find_nodes_quiescent()
     ensures removed { (before after : List Event) (n : ℕ) → IsRun (before ++ Remove n ∷ after) → Quiescent before n }
 {}
 
-/// Less than being settled isn't enough: for each of the four conditions there are a run and a node that breaks it, though all but
-/// one part of being settled holds. The last is why the passive set is enlarged by the owners of ports that reach a node over
-/// other nodes.
+/// Less than being settled isn't enough: for each of the four conditions there are a run and a node that breaks it, where own ports
+/// are busy or open, where ports that reach the node are busy, so that it services one, or where ports that reach it over another
+/// node are open. The last is why the passive set is enlarged by the owners of such ports.
 pub fn less_than_settled_is_too_weak()
     ensures none_quiescent { (es : List Event) (n : ℕ) → Quiescent es n → (Initiates es n → ⊥) × (Begins es n → ⊥) × (Serves es n → ⊥) × (IsTarget es n → ⊥) }
 
