@@ -2,7 +2,7 @@
 use Rattle.std.proofs.Common.{◌≡◌, ℕ, zero, suc, ◌+◌, Bool, true, false, not, length, Option, Some, None, refl, sym, ap, ◌∙◌, ⊎_elim, arith}
 use Rattle.std.specs.Prelude.{◌||◌, ◌==◌, ◌↔◌}
 use Rattle.std.specs.Option.{option_map_or}
-use Rattle.std.proofs.lemmas.Bool.{and_from, both_ways, eq-eqb, or_cases, or_left, or_right}
+use Rattle.std.proofs.lemmas.Bool.{and_from, and_parts, both_ways, eq-eqb, eqb-true, not-true, or_cases, or_left, or_right}
 use Rattle.quiesce_core.specs.State.{State, owner, target, provision, exchange}
 use Rattle.quiesce_core.specs.Phases.{is_idle}
 use Rattle.quiesce_core.specs.Reach.{can_walk}
@@ -86,11 +86,20 @@ pub belongs_if : (set : Transactions) (s : State) (p : ℕ) → belongs set s p 
 unfolding belongs
 belongs_if set s p h = found set s (suc (length s.config.slots)) p h
 
+-- what is of the set belongs to it
+pub member_belongs : (set : Transactions) (s : State) (p : ℕ) → is_member set s p ≡ true → belongs set s p ≡ true
+unfolding belongs
+member_belongs set s p h = or_left (is_member set s p) (option_map_or (belongs_within set s (length s.config.slots)) (exchange s p).within false) h
+
+pub open_parts : (s : State) (p k : ℕ) → open_in s p k ≡ true → (is_idle (exchange s p).phase ≡ false) × ((exchange s p).serial ≡ k)
+open_parts s p k h =
+    let both = and_parts (not (is_idle (exchange s p).phase)) ((exchange s p).serial == k) h in
+    (not-true (is_idle (exchange s p).phase) both.0, eqb-true (exchange s p).serial k both.1)
+
 -- what is open belongs to what is open
 pub open_belongs : (s : State) (p : ℕ) → is_idle (exchange s p).phase ≡ false → belongs (open_in s) s p ≡ true
-unfolding belongs
 open_belongs s p busy =
-    or_left (is_member (open_in s) s p) (option_map_or (belongs_within (open_in s) s (length s.config.slots)) (exchange s p).within false)
+    member_belongs (open_in s) s p
     (and_from (not (is_idle (exchange s p).phase)) ((exchange s p).serial == (exchange s p).serial) (ap not busy) (eq-eqb (exchange s p).serial (exchange s p).serial refl))
 
 -- Ports at which an event leaves the serial and the caller as they are, and whose callers are such ports too

@@ -36,7 +36,7 @@ pub record Falls (s : State) (t' : Traffic) (p : ℕ) : Type 0 where
 
 -- the numbers
 
-due_two : (v : Service) (f : Phase) → 2 ≤ messages_due v f
+pub due_two : (v : Service) (f : Phase) → 2 ≤ messages_due v f
 due_two v f = at v.heard f
   where
     at : (b : Bool) (f : Phase) → 2 ≤ cond b 2 (cond (is_in_more f) 4 3)

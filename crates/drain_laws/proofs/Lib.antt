@@ -14,5 +14,7 @@ pub mod Running
 pub mod Belonging
 pub mod Carrying
 pub mod Portions
+pub mod Emptiness
+pub mod Bounding
 pub mod Strength
 pub mod Rooted

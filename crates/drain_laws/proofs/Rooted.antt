@@ -1,7 +1,7 @@
 -- The root of a transaction, by the run and by the state: what was called for a transaction belongs to it while it is open.
 use Rattle.std.proofs.Common.{◌≡◌, ℕ, ◌+◌, ◌≤◌, true, false, not, List, [], ◌∷◌, ◌++◌, append_assoc, length, Some, None, refl, sym, ap, ◌∙◌, subst, inl, inr, ⊎_elim, arith}
 use Rattle.std.specs.Prelude.{◌⊎◌, ◌==◌, option_map}
-use Rattle.std.proofs.lemmas.Bool.{and_from, and_parts, both_ways, cases_eq, eq-eqb, eqb-true, not-true}
+use Rattle.std.proofs.lemmas.Bool.{and_from, and_parts, both_ways, cases_eq, eq-eqb, eqb-true}
 use Rattle.std.proofs.lemmas.List.{append-nil}
 use Rattle.config_graph.specs.Kinds.{row}
 use Rattle.quiesce_core.specs.declared.event.Event.{Event}
@@ -25,7 +25,7 @@ use Rattle.quiesce_core.proofs.Soundness.{well_formed_next}
 use Rattle.quiesce_core.proofs.TrafficLemmas.{taken_is, more_busy, serving_busy, consistent_next}
 use Rattle.drain_laws.specs.Belongs as mine
 use Rattle.drain_laws.specs.Belongs.{Transactions, Belongs, belongs, one, open_in}
-use Rattle.drain_laws.proofs.Belonging.{belongs_is_found}
+use Rattle.drain_laws.proofs.Belonging.{belongs_is_found, open_parts}
 use Rattle.drain_laws.proofs.Carrying.{Untouched, keeps, next_is, serials_grow}
 use Rattle.drain_laws.proofs.Running.{StepAt, run_parts}
 use Rattle.drain_laws.proofs.Sparing.{fresh_behind}
@@ -169,11 +169,6 @@ called_kept es before after p k v u run parts serviced =
     (subst (λ s. IsWellFormed s) (sym w.1.0.changed) (well_formed_next (state_after before) (Call p k v) sound l))
     (subst (λ s. IsConsistent s) (sym w.1.0.changed) (consistent_next (state_after before) (Call p k v) sound consistent l))
     (subst (λ s. Kept s p k u.port ((exchange (state_after before) u.port).serial)) (sym w.1.0.changed) (kept_called (state_after before) p k v u sound consistent l serviced)))
-
-open_parts : (s : State) (p k : ℕ) → open_in s p k ≡ true → (is_idle (exchange s p).phase ≡ false) × ((exchange s p).serial ≡ k)
-open_parts s p k h =
-    let both = and_parts (not (is_idle (exchange s p).phase)) ((exchange s p).serial == k) h in
-    (not-true (is_idle (exchange s p).phase) both.0, eqb-true (exchange s p).serial k both.1)
 
 open_from : (s : State) (p k : ℕ) → is_idle (exchange s p).phase ≡ false → (exchange s p).serial ≡ k → open_in s p k ≡ true
 open_from s p k busy same = and_from (not (is_idle (exchange s p).phase)) ((exchange s p).serial == k) (ap not busy) (eq-eqb (exchange s p).serial k same)

@@ -1,13 +1,13 @@
 //! What is open ends within what is left.
 
-ghost use Rattle.std.specs.Prelude.{◌≡◌, ℕ, ◌≤◌, false, List, ◌++◌, count_by};
+ghost use Rattle.std.specs.Prelude.{◌≡◌, ℕ, ◌+◌, ◌≤◌, true, false, List, ◌++◌, count_by};
 ghost use Rattle.std.specs.List.{list_any};
 ghost use Rattle.quiesce_core.specs.declared.event.Event.{Event};
 ghost use Rattle.quiesce_core.specs.Rest.{rest};
 ghost use Rattle.quiesce_core.specs.Runs.{IsRun, state_after};
 ghost use Rattle.drain_laws.specs.Advances.{is_advance, is_begin};
 ghost use Rattle.drain_laws.specs.Belongs.{open_in};
-ghost use Rattle.drain_laws.specs.Drain.{count_of};
+ghost use Rattle.drain_laws.specs.Drain.{count_of, rest_of};
 
 /// From the state after a run on, every list of events with which the run goes on has at most as many events of the
 /// transactions that are open there and of their consequents as are left there, whatever else begins or is changed.
@@ -15,7 +15,18 @@ pub fn rest_bounds_the_drain()
     ensures of_the_open { (es more_ : List Event) → IsRun (es ++ more_)
         → count_of (open_in (state_after es)) (state_after es) more_ ≤ rest (state_after es) }
 
-    // Where nothing else begins, these are all the events of transactions.
+    // What is left of them falls by as many at least, and where they are as many as were left, what was open has ended.
+    ensures left_of_them { (es more_ : List Event) → IsRun (es ++ more_)
+        → count_of (open_in (state_after es)) (state_after es) more_ + rest_of (open_in (state_after es)) (state_after (es ++ more_)) ≤ rest (state_after es) }
+    ensures ended { (es more_ : List Event) → IsRun (es ++ more_)
+        → count_of (open_in (state_after es)) (state_after es) more_ ≡ rest (state_after es)
+        → (p k : ℕ) → open_in (state_after es) p k ≡ true → open_in (state_after (es ++ more_)) p k ≡ false }
+{}
+
+/// Where nothing begins meanwhile, these are all the events of transactions.
+pub fn rest_bounds_all()
     ensures all { (es more_ : List Event) → IsRun (es ++ more_) → list_any is_begin more_ ≡ false
         → count_by is_advance more_ ≤ rest (state_after es) }
+    ensures left { (es more_ : List Event) → IsRun (es ++ more_) → list_any is_begin more_ ≡ false
+        → count_by is_advance more_ + rest (state_after (es ++ more_)) ≤ rest (state_after es) }
 {}

@@ -9,8 +9,10 @@ mod falling;
 mod parts;
 mod roots;
 
-pub use bound::rest_bounds_the_drain;
-pub use ends::{none_is_open_where_none_can_advance, some_event_is_possible};
+pub use bound::{rest_bounds_all, rest_bounds_the_drain};
+pub use ends::{
+    none_is_open_where_none_can_advance, nothing_is_left_where_none_is_open, some_event_is_possible,
+};
 pub use falling::{rest_falls_by_steps, rest_falls_in_runs};
 pub use parts::{
     belongings_are_found, part_falls_by_steps, part_of_one_falls_by_steps,
