@@ -16,10 +16,8 @@ use Rattle.elaborator.specs.Paths.{Path}
 use Rattle.elaborator.specs.Instances.{Instance, made_in, paths_in, Inst, count_in, total}
 use Rattle.elaborator.specs.Faults.{own_faults, Twice}
 use Rattle.elaborator.specs.Expanded.{Made, Numbered, NumberedIn, IsExpanded, IsOf}
-use Rattle.elaborator.specs.Expansion.{made_of, instance_in, seen, number_at, IsKept}
+use Rattle.elaborator.specs.Expansion.{made_of, instance_in, seen, number_at, IsKept, IsShown}
 use Rattle.elaborator.specs.Opening.{Names, Judges, IsNoted, IsFound}
-use Rattle.elaborator.specs.Bindings.{bindings_in}
-use Rattle.darwin_walk.specs.Walked.{binding_of}
 use Rattle.elaborator.specs.Index.{Answers}
 use Rattle.elaborator.specs.declared.opening.Found.{Found}
 use Rattle.elaborator.specs.Growth.{IsTop, GrowthFault, IsClear, IsWhole}
@@ -235,7 +233,8 @@ whole-kept top g growth shallow named composite all =
       few = omega (arith, growth.few);
       counted = growth.mapped.counted;
       primitive = λ n i at. growth.told n i at;
-      bindings = λ n i at. growth.bindings n i (omega (arith, all, slice_get-below _ n i at)) at;
+      bindings = λ n i at. (growth.shown n i (omega (arith, all, slice_get-below _ n i at)) at).bindings;
+      sizes = λ n i at. (growth.shown n i (omega (arith, all, slice_get-below _ n i at)) at).sizes;
       found = λ n i at made. found n i at made;
       told = λ n path i is at.
           let w = growth.mapped.told n path is in
@@ -297,7 +296,7 @@ growth-top t top g is_top alone none_opened all_room empty =
             told = λ n path is. absurd (none-some n (ap (λ es. lookup (λ p. is_eq (slice_cmp nat_cmp path p.items)) es) (sym empty) ∙ is));
           };
       told = λ n i at. told n i (ap (λ is. slice_get is n) (sym alone) ∙ at);
-      bindings = λ n i lt at. absurd (omega (arith, lt, none_opened));
+      shown = λ n i lt at. absurd (omega (arith, lt, none_opened));
       few = omega (arith, ap length alone, all_room);
       within = omega (arith, none_opened);
     }
@@ -386,7 +385,7 @@ pub record IsNext (top : Instance) (g : Growth) (x y : code.Instance) (f : Found
   pub at : slice_get g.expansion.instances.items g.opened ≡ Some x
   pub same : made_of y ≡ made_of x
   pub told : IsTold y
-  pub bound : map binding_of y.bindings.items ≡ bindings_in (instance_in y)
+  pub shown : IsShown y
   pub shallow : x.depth < 33
   pub faultless : own_faults (tree_of g.expansion.directory.unit.now) (instance_in x) ≡ []
   pub found : IsFound (tree_of g.expansion.directory.unit.now) (instance_in x) g.opened g.room f
@@ -458,16 +457,16 @@ module _ (top : Instance) (g new : Growth) (x y : code.Instance) (f : Found) (s 
         | inr behind ↦ (noted_at (Some g.opened) f.made.items behind.0 i s.found.noted behind.2).primitive
       ]
 
-  bound_next : (n : ℕ) (i : code.Instance) → n < new.opened → slice_get new.expansion.instances.items n ≡ Some i → map binding_of i.bindings.items ≡ bindings_in (instance_in i)
-  bound_next n i lt there =
+  shown_next : (n : ℕ) (i : code.Instance) → n < new.opened → slice_get new.expansion.instances.items n ≡ Some i → IsShown i
+  shown_next n i lt there =
       let front =
       slice_get-before (set items g.opened y) f.made.items n i (omega (arith, lt, s.opened, within, length-set items g.opened y))
       (ap (λ is. slice_get is n) (sym s.grown) ∙ there) in
       elim (earlier_or_same n g.opened (omega (arith, lt, s.opened))) [
-        | inl before ↦ s.growth.bindings n i before (sym (slice_get-set_other items g.opened y n (λ same. absurd (omega (arith, before, same)))) ∙ front)
+        | inl before ↦ s.growth.shown n i before (sym (slice_get-set_other items g.opened y n (λ same. absurd (omega (arith, before, same)))) ∙ front)
         | inr here ↦
-            subst (λ (z : code.Instance). map binding_of z.bindings.items ≡ bindings_in (instance_in z))
-            (same_Some y i (sym (slice_get-set_same items g.opened y within) ∙ ap (slice_get (set items g.opened y)) (sym here) ∙ front)) s.bound
+            subst IsShown
+            (same_Some y i (sym (slice_get-set_same items g.opened y within) ∙ ap (slice_get (set items g.opened y)) (sym here) ∙ front)) s.shown
       ]
 
   -- all that holds goes on to hold
@@ -479,7 +478,7 @@ module _ (top : Instance) (g new : Growth) (x y : code.Instance) (f : Found) (s 
         spread = subst (λ u. IsSpread (tree_of u) top (map instance_in new.expansion.instances.items) new.opened new.room) (sym (ap (λ r. r.now) s.same_unit)) spread_next;
         mapped = s.mapped;
         told = told_next;
-        bindings = bound_next;
+        shown = shown_next;
         few = omega (arith, s.growth.few, s.room, s.found.few, lengths);
         within = omega (arith, within, s.opened, lengths);
       }

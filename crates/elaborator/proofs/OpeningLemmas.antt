@@ -1,14 +1,17 @@
 -- What is found in an instance that is expanded.
-use Rattle.std.proofs.Common.{◌≡◌, ◌∙◌, ◌<◌, ℕ, Vec, [], map, length, ap, true, false, nat_lt, List, ◌++◌, Contains, sym, subst, arith}
-use Rattle.std.specs.List.{flat_map, filter_map}
+use Rattle.std.proofs.Common.{◌≡◌, ◌∙◌, ◌<◌, ℕ, ℤ, Vec, Option, Some, [], map, length, ap, true, false, nat_lt, List, ◌++◌, Contains, sym, subst, arith}
+use Rattle.std.specs.List.{flat_map, filter_map, slice_get}
+use Rattle.std.specs.Option.{option_map}
+use Rattle.std.proofs.lemmas.Option.{same_Some, slice_get-map}
 use Rattle.std.specs.Global.{Global}
 use Rattle.std.proofs.lemmas.List.{length-map}
 use Rattle.std.proofs.lemmas.Bool.Decides.{nat_tests}
 use Rattle.std.proofs.lemmas.List.Elements.{Contains-append_left, Contains-append_right}
-use Rattle.darwin_parser.specs.Tree.{Tree, component_of}
+use Rattle.darwin_parser.specs.Tree.{Tree, Component, PortDecl, component_of}
 use Rattle.darwin_types.specs.Scope.{is_primitive}
 use Rattle.darwin_walk.specs.Reached.{count}
-use Rattle.darwin_walk.specs.Instance.{Child, faults, children}
+use Rattle.darwin_walk.specs.Instance.{Child, faults, children, index_value, port_sizes}
+use Rattle.darwin_walk.specs.Value.{Env}
 use Rattle.darwin_walk.specs.declared.fault.Fault.{Fault}
 use Rattle.elaborator.specs.Instances.{Instance, is_expanded, children_in, instance_of, path_of, count_in}
 use Rattle.elaborator.specs.Faults.{own_faults, kind_faults}
@@ -39,18 +42,26 @@ kinds-own tree i cs f is all has =
 pub count-own : (room : ℕ) (i : Instance) → is_expanded i ≡ true → room < count i.component i.env → room < count_in i
 count-own room i is many = rw is many
 
+-- the sizes that a walk gives are those of the ports
+sizes_walked :
+    (c : Component) (env : Env) (sizes : List (Option ℤ)) → map (λ s. Some s) sizes ≡ port_sizes c env → (k : ℕ) (z : ℤ) (d : PortDecl)
+    → slice_get sizes k ≡ Some (Some z) → slice_get c.ports k ≡ Some d → index_value d.size env ≡ Some (Some z)
+sizes_walked c env sizes is k z d at declared =
+    same_Some _ _ (sym (slice_get-map (λ p. index_value p.size env) c.ports k ∙ ap (option_map (λ p. index_value p.size env)) declared) ∙ ap (λ xs. slice_get xs k) (sym is) ∙ slice_get-map (λ s. Some s) sizes k ∙ ap (option_map (λ s. Some s)) at)
+
 -- what is found in an instance that is expanded
 pub found-opened :
     (tree : Tree) (x : code.Instance) (number room : ℕ) (w : Walked) (made : Vec code.Instance Global) → is_expanded (instance_in x) ≡ true
     → faults (component_of x.component.now) (env_of x.env.items) ≡ [] → IsWalked (component_of x.component.now) (env_of x.env.items) room w
     → flat_map (kind_faults tree) (map child_of w.children.items) ≡ [] → AreMade tree (instance_in x) number (map child_of w.children.items) made
-    → (own_faults tree (instance_in x) ≡ []) × IsFound tree (instance_in x) number room (record { bindings = w.bindings; made = made; count = w.count })
+    → (own_faults tree (instance_in x) ≡ []) × IsFound tree (instance_in x) number room (record { bindings = w.bindings; port_sizes = w.port_sizes; made = made; count = w.count })
 found-opened tree x number room w made is no_fault walked no_kind all =
     let i = instance_in x in
     let listed : children_in i ≡ map child_of w.children.items = rw is (sym walked.children) in (
       rw is (ap (λ fs. fs ++ flat_map (kind_faults tree) (children i.component i.env)) no_fault ∙ ap (flat_map (kind_faults tree)) (sym walked.children) ∙ no_kind),
       record {
         bindings = rw is walked.bindings;
+        sizes = sizes_walked (component_of x.component.now) (env_of x.env.items) w.port_sizes.items walked.sizes;
         made = all.instances ∙ ap (filter_map (instance_of tree i)) (sym listed);
         paths =
             ap (filter_map (path_of tree i)) listed ∙ made_paths tree i w.children.items

@@ -1,24 +1,27 @@
 -- The ports that ends of bindings name.
-use Rattle.std.proofs.Common.{◌≡◌, ◌∙◌, ℕ, zero, suc, ◌<◌, Bool, true, false, not, List, [], ◌∷◌, Option, Some, None, Bor, length, map, position, refl, ap, sym, subst, IsTrue, ◌↔◌, arith}
+use Rattle.std.proofs.Common.{◌≡◌, ◌∙◌, ℕ, ℤ, zero, suc, ◌<◌, Bool, true, false, not, List, [], ◌∷◌, Option, Some, None, Bor, length, map, position, refl, ap, sym, subst, IsTrue, IfSome, ◌↔◌, arith}
 use Rattle.std.specs.List.{slice_get}
 use Rattle.std.specs.Option.{is_some, option_map}
 use Rattle.std.specs.Str.{bytes_eq}
 use Rattle.std.proofs.lemmas.Bool.{false_from_ne_true, false≢true}
 use Rattle.std.proofs.lemmas.Slice.Eq.{bytes_eq-Decides, slice_eq-Decides}
-use Rattle.std.proofs.lemmas.Option.{slice_get-map, slice_get_within, same_Some, get_or_from_slice_get}
+use Rattle.std.proofs.lemmas.Option.{slice_get-map, slice_get_within, same_Some, none-some, get_or_from_slice_get}
 use Rattle.std.proofs.lemmas.List.Quantifiers.{position-Some}
 use lib.Pointwise.{pointwise}
-use Rattle.darwin_parser.specs.Tree.{Name, Tree, Component, PortDecl, port_of}
+use Rattle.darwin_parser.specs.Tree.{Name, Tree, Component, Expr, PortDecl, port_of}
 use Rattle.darwin_parser.specs.declared.tree.PortDecl as code_port
 use Rattle.darwin_types.specs.Scope.{component_named}
-use Rattle.darwin_walk.specs.Instance.{End}
+use Rattle.darwin_lexer.specs.declared.token.At.{At}
+use Rattle.darwin_walk.specs.Value.{Value, integer, out_of_range, zero_divisor, value}
+use Rattle.darwin_walk.specs.Instance.{End, index_fault, index_value}
+use Rattle.darwin_walk.specs.declared.fault.Fault.{Fault}
 use Rattle.darwin_walk.specs.Walked.{segment_of, end_of}
 use Rattle.darwin_walk.specs.declared.walked.End as code_end
 use Rattle.elaborator.specs.Instances.{Instance}
-use Rattle.elaborator.specs.Bindings.{instance_at, named}
+use Rattle.elaborator.specs.Bindings.{Named, instance_at, named}
 use Rattle.elaborator.specs.Expanded.{Expanded, Made, Numbered}
-use Rattle.elaborator.specs.Expansion.{seen, made_of, instance_in, IsKept}
-use Rattle.elaborator.specs.Ports.{place_of, Stands, Names, NotesDifferIn}
+use Rattle.elaborator.specs.Expansion.{seen, made_of, instance_in, AreSizes, IsKept}
+use Rattle.elaborator.specs.Ports.{place_of, Stands, Names, bad_index, sized_fault, NotesDifferIn}
 use Rattle.elaborator.specs.declared.instance.Instance as code_instance
 use Rattle.elaborator.specs.declared.instance.Expansion.{Expansion}
 use Rattle.elaborator.proofs.Lists.{find-position, find-no_position, position-map}
@@ -112,3 +115,29 @@ pub place_told :
 place_told e kept n x component bytes name r at same_component same_name told =
     let named = kept.is_expanded.named n (instance_in x) (record { maker = x.maker; is_at = at }) in
     ap (λ b. place_of b (instance_in x).component.ports) (sym same_name) ∙ sym (told (instance_in x).component (ap (component_named (seen e).tree) same_component ∙ named))
+
+-- the fault of an index where the size of the port is kept
+pub bad-kept :
+    (i : Instance) (sizes : List (Option ℤ)) (n : Named) (port : ℕ) (size : Option ℤ) → AreSizes i sizes → n.instance ≡ i → slice_get n.instance.component.ports port ≡ Some n.decl
+    → IfSome size (λ z. slice_get sizes port ≡ Some (Some z)) → is_some size ≡ true → (at : At) → bad_index at n ≡ sized_fault at size n.index
+bad-kept i sizes n port None all same declared kept is at = absurd (false≢true is)
+bad-kept i sizes n port (Some z) all same declared kept is at =
+    by n.decl.size n.index (subst (λ (j : Instance). index_value n.decl.size j.env ≡ Some (Some z)) (sym same) (all port z n.decl kept (ap (λ (j : Instance). slice_get j.component.ports port) (sym same) ∙ declared)))
+  where
+    indexed : Option Expr → Option ℤ → List Fault
+    indexed (Some size) (Some index) = index_fault at (value size n.instance.env) (integer index)
+    indexed _ _ = []
+
+    some_integer : Value → Option (Option ℤ)
+    some_integer (integer w) = Some (Some w)
+    some_integer _ = None
+
+    from : (v : Value) → some_integer v ≡ Some (Some z) → v ≡ integer z
+    from (integer w) e = ap integer (same_Some w z (same_Some (Some w) (Some z) e))
+    from out_of_range e = absurd (none-some (Some z) e)
+    from zero_divisor e = absurd (none-some (Some z) e)
+
+    by : (s : Option Expr) (index : Option ℤ) → index_value s n.instance.env ≡ Some (Some z) → indexed s index ≡ sized_fault at (Some z) index
+    by None index e = absurd (none-some z (same_Some None (Some z) e))
+    by (Some s) None e = refl
+    by (Some s) (Some index) e = ap (λ v. index_fault at v (integer index)) (from (value s n.instance.env) e)

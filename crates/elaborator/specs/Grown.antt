@@ -4,13 +4,11 @@ use Rattle.std.specs.List.{flat_map}
 use Rattle.std.specs.BTreeMap.{btree_map_len}
 use Rattle.darwin_parser.specs.Tree.{Tree, component_of, tree_of}
 use Rattle.darwin_types.specs.Scope.{is_primitive}
-use Rattle.darwin_walk.specs.Walked.{binding_of}
 use Rattle.elaborator.specs.Paths.{Path}
 use Rattle.elaborator.specs.Instances.{Instance, made_in, paths_in, levels, instances, count_in}
-use Rattle.elaborator.specs.Bindings.{bindings_in}
 use Rattle.elaborator.specs.Faults.{own_faults, Twice}
 use Rattle.elaborator.specs.Expanded.{Made}
-use Rattle.elaborator.specs.Expansion.{instance_in, made_of, number_at}
+use Rattle.elaborator.specs.Expansion.{instance_in, made_of, number_at, IsShown}
 use Rattle.elaborator.specs.declared.instance.Instance as code
 use Rattle.elaborator.specs.declared.instance.Expansion.{Expansion}
 use Rattle.elaborator.specs.declared.growing.Growth.{Growth}
@@ -68,9 +66,7 @@ pub record IsGrowth (top : Instance) (g : Growth) : Type 0 where
   pub spread : IsSpread (tree_of g.expansion.directory.unit.now) top (map instance_in g.expansion.instances.items) g.opened g.room
   pub mapped : IsMapped g.expansion
   pub told : (n : ℕ) (i : code.Instance) → slice_get g.expansion.instances.items n ≡ Some i → IsTold i
-  pub bindings :
-      (n : ℕ) (i : code.Instance) → n < g.opened → slice_get g.expansion.instances.items n ≡ Some i
-      → map binding_of i.bindings.items ≡ bindings_in (instance_in i)
+  pub shown : (n : ℕ) (i : code.Instance) → n < g.opened → slice_get g.expansion.instances.items n ≡ Some i → IsShown i
   pub few : length g.expansion.instances.items + g.room ≤ 65537
   pub within : g.opened ≤ length g.expansion.instances.items
 

@@ -13,7 +13,7 @@ use Rattle.darwin_walk.specs.declared.fault.WalkError.TheVariants as walk
 use Rattle.elaborator.specs.Paths.{Path}
 use Rattle.elaborator.specs.Instances.{Instance, instance_of, made_in, paths_in, count_in}
 use Rattle.elaborator.specs.Bindings.{bindings_in}
-use Rattle.elaborator.specs.Expansion.{instance_in}
+use Rattle.elaborator.specs.Expansion.{instance_in, AreSizes}
 use Rattle.elaborator.specs.declared.instance.Instance as code
 use Rattle.elaborator.specs.declared.opening.Found.{Found}
 use Rattle.elaborator.specs.declared.error.ElabError.{ElabError}
@@ -59,6 +59,7 @@ pub record AreMade (tree : Tree) (i : Instance) (number : ℕ) (children : List 
 -- what an instance shows when it is opened
 pub record IsFound (tree : Tree) (i : Instance) (number room : ℕ) (f : Found) : Type 0 where
   pub bindings : map binding_of f.bindings.items ≡ bindings_in i
+  pub sizes : AreSizes i f.port_sizes.items
   pub made : map instance_in f.made.items ≡ made_in tree i
   pub paths : paths_in tree i ≡ map (λ (j : Instance). j.path) (made_in tree i)
   pub noted : All (IsNoted (Some number)) f.made.items

@@ -54,6 +54,11 @@ bad_index at x = indexed x.decl.size x.index
     indexed (Some size) (Some index) = index_fault at (value size x.instance.env) (integer index)
     indexed _ _ = []
 
+-- the fault of an index of a port of this size, where both have a value
+abbrev pub sized_fault : At → Option ℤ → Option ℤ → List Fault
+sized_fault at (Some size) (Some index) = index_fault at (integer size) (integer index)
+sized_fault at _ _ = []
+
 -- both declarations have a note, and the notes differ
 abbrev pub NotesDifferIn : PortDecl → PortDecl → Type 0
 NotesDifferIn x y = differ x.note y.note

@@ -76,6 +76,7 @@ fn top_of<'a>(
         is_primitive: false,
         env: parameters_of(alloc, component, args)?,
         bindings: Vec::new(alloc),
+        port_sizes: Vec::new(alloc),
     })
 }
 

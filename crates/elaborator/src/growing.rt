@@ -83,8 +83,9 @@ impl<'a> Growth<'a> {
             (GrowthFault (tree_of self.old.expansion.directory.unit.now) top) result }
     {
         let found = self.find_next(alloc)?;
-        let number = self.opened as usize;
-        self.expansion.instances[number].bindings = found.bindings;
+        let next = &mut self.expansion.instances[self.opened as usize];
+        next.bindings = found.bindings;
+        next.port_sizes = found.port_sizes;
         self.expansion.add_all(alloc, found.made)?;
         self.room -= found.count;
         self.opened += 1;

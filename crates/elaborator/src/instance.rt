@@ -1,6 +1,6 @@
 //! The instances of an elaboration, by number.
 
-ghost use Rattle.std.specs.Prelude.{◌≡◌, ◌<◌, length, map, slice_get, Some};
+ghost use Rattle.std.specs.Prelude.{◌≡◌, ◌<◌, length, map, slice_get, Some, IfSome};
 ghost use Rattle.elaborator.specs.Expanded.{IsChild};
 
 use crate::directory::Directory;
@@ -24,6 +24,20 @@ pub struct Instance<'a> {
     pub env: Vec<Variable<'a>>,
     /// The bindings that are reached in it.
     pub bindings: Vec<Binding<'a>>,
+    /// The sizes of its ports, in order; none before it is opened, and of a node.
+    pub port_sizes: Vec<Option<i32>>,
+}
+
+impl Instance<'_> {
+    /// The size of the port at a place, where it is kept.
+    pub fn port_size(&self, port: usize) -> Option<i32>
+        ensures { IfSome result (λ size. slice_get self.now.port_sizes.items port ≡ Some (Some size)) }
+    {
+        match self.port_sizes.get(port) {
+            Some(size) => *size,
+            None => None,
+        }
+    }
 }
 
 /// All instances of an elaboration, the top first.
@@ -39,7 +53,7 @@ impl<'a> Expansion<'a> {
     ghost use Rattle.darwin_parser.specs.Tree.{component_of};
     ghost use Rattle.darwin_types.specs.Scope.{is_primitive};
     ghost use Rattle.elaborator.specs.Bindings.{bindings_in};
-    ghost use Rattle.elaborator.specs.Expansion.{seen, made_of, instance_in, IsKept};
+    ghost use Rattle.elaborator.specs.Expansion.{seen, made_of, instance_in, AreSizes, IsKept};
     ghost use Rattle.darwin_walk.specs.Walked.{binding_of};
 
     /// How many instances there are.
@@ -56,6 +70,7 @@ impl<'a> Expansion<'a> {
         requires kept { IsKept self.now }
         ensures made { slice_get (seen self.now).made number ≡ Some (made_of result.now) }
         ensures bindings { map binding_of result.now.bindings.items ≡ bindings_in (instance_in result.now) }
+        ensures sizes { AreSizes (instance_in result.now) result.now.port_sizes.items }
         ensures primitive { result.now.is_primitive ≡ is_primitive (component_of result.now.component.now) }
     {
         &self.instances[number as usize]

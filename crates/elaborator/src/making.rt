@@ -53,6 +53,7 @@ fn make<'a>(
         is_primitive,
         env: parameters_of(alloc, component, child.arguments.as_slice())?,
         bindings: Vec::new(alloc),
+        port_sizes: Vec::new(alloc),
     }))
 }
 

@@ -20,11 +20,12 @@ use config_graph::Text;
 use darwin_walk::{Binding, Fault, WalkError, Walked, walk};
 use std::alloc::Global;
 
-/// What an instance shows: its bindings, the instances right below it, and how many turns and entries are
-/// counted in it.
+/// What an instance shows: its bindings, the sizes of its ports, the instances right below it, and how many
+/// turns and entries are counted in it.
 #[derive(Drop)]
 pub(crate) struct Found<'a> {
     pub bindings: Vec<Binding<'a>>,
+    pub port_sizes: Vec<Option<i32>>,
     pub made: Vec<Instance<'a>>,
     pub count: u64,
 }
@@ -44,6 +45,7 @@ pub(crate) fn open_instance<'a>(
     if instance.is_primitive {
         return Ok(Found {
             bindings: Vec::new(alloc),
+            port_sizes: Vec::new(alloc),
             made: Vec::new(alloc),
             count: 0,
         });
@@ -58,6 +60,7 @@ pub(crate) fn open_instance<'a>(
     )?;
     Ok(Found {
         bindings: walked.bindings,
+        port_sizes: walked.port_sizes,
         made,
         count: walked.count,
     })

@@ -1,6 +1,6 @@
 //! The bindings of all instances, as an index from sources to targets.
 
-ghost use Rattle.std.specs.Prelude.{◌≡◌, ℕ, ◌<◌, List, [], ◌∷◌, ◌++◌, length, MatchOption, Some};
+ghost use Rattle.std.specs.Prelude.{◌≡◌, ℕ, ◌<◌, List, [], ◌∷◌, ◌++◌, length, slice_get, MatchOption, Some};
 ghost use Rattle.darwin_parser.specs.Tree.{port_of};
 ghost use Rattle.darwin_walk.specs.Walked.{end_of, binding_of};
 ghost use Rattle.darwin_walk.specs.declared.fault.Fault.TheVariants as shown;
@@ -167,6 +167,7 @@ fn check_index(
     requires port_within { port.now.id.instance < length (seen expansion.now).made }
     requires kept { IsKept expansion.now }
     ensures { (i j : Instance) → Numbered (seen expansion.now) number i → Numbered (seen expansion.now) port.now.id.instance j
+        → slice_get j.component.ports port.now.id.port ≡ Some (port_of port.now.decl.now)
         → Answers (λ _. bad_index binding.now.at (named_of j port.now) ≡ [])
         (λ f. (bad_index binding.now.at (named_of j port.now) ≡ shown.BadIndex binding.now.at ∷ []) × (f ≡ BadIndex i.path binding.now.at)) result }
 {

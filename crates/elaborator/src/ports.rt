@@ -1,6 +1,6 @@
 //! The ports that ends of bindings name.
 
-ghost use Rattle.std.specs.Prelude.{◌≡◌, ◌<◌, ◌↔◌, [], ◌∷◌, length, option_map, position, bytes_eq, IfOk, IsTrue, Some, if◌then◌else◌};
+ghost use Rattle.std.specs.Prelude.{◌≡◌, ◌<◌, ◌↔◌, [], ◌∷◌, length, option_map, position, bytes_eq, slice_get, IfOk, IsTrue, Some, if◌then◌else◌};
 ghost use Rattle.darwin_lexer.specs.declared.token.At.{At as Place};
 ghost use Rattle.darwin_parser.specs.Tree.{port_of};
 ghost use Rattle.darwin_walk.specs.Walked.{segment_of, end_of};
@@ -89,7 +89,7 @@ pub fn port_place(ports: &[PortDecl], name: &[u8]) -> Option<usize>
 
 impl Named<'_> {
     ghost use Rattle.elaborator.specs.Bindings.{is_indexed, may_lead};
-    ghost use Rattle.elaborator.specs.Ports.{named_of, NotesDifferIn};
+    ghost use Rattle.elaborator.specs.Ports.{named_of, sized_fault, NotesDifferIn};
 
     /// An index stands exactly where the port has a size.
     fn is_indexed(&self) -> bool
@@ -116,17 +116,37 @@ impl Named<'_> {
     pub fn has_bad_index(&self, alloc: Global, expansion: &Expansion) -> Result<bool, AllocError>
         requires within { self.now.id.instance < length (seen expansion.now).made }
         requires kept { IsKept expansion.now }
-        ensures { (i : Instance) → Numbered (seen expansion.now) self.now.id.instance i
+        ensures { (i : Instance) → Numbered (seen expansion.now) self.now.id.instance i → slice_get i.component.ports self.now.id.port ≡ Some (port_of self.now.decl.now)
             → IfOk result (λ bad. (at : Place) → bad_index at (named_of i self.now) ≡ (if bad then BadIndex at ∷ [] else [])) }
     {
-        let (Some(size), Some(index)) = (&self.decl.size, self.id.index) else {
+        let Some(index) = self.id.index else {
             return Ok(false);
         };
-        let env = expansion.instance(self.id.instance).env.as_slice();
-        match value(alloc, size, env) {
-            Ok(size) => Ok(!(0 <= index && index < size)),
+        match self.size(alloc, expansion)? {
+            Some(size) => Ok(!(0 <= index && index < size)),
+            None => Ok(false),
+        }
+    }
+
+    /// The size of the port, where it has one with a value: that of the walk, or else valued here.
+    fn size(&self, alloc: Global, expansion: &Expansion) -> Result<Option<i32>, AllocError>
+        requires within { self.now.id.instance < length (seen expansion.now).made }
+        requires kept { IsKept expansion.now }
+        ensures { (i : Instance) → Numbered (seen expansion.now) self.now.id.instance i → slice_get i.component.ports self.now.id.port ≡ Some (port_of self.now.decl.now)
+            → IfOk result (λ size. (at : Place) → bad_index at (named_of i self.now) ≡ sized_fault at size self.now.id.index) }
+    {
+        let instance = expansion.instance(self.id.instance);
+        let kept = instance.port_size(self.id.port);
+        if kept.is_some() {
+            return Ok(kept);
+        }
+        let Some(size) = &self.decl.size else {
+            return Ok(None);
+        };
+        match value(alloc, size, instance.env.as_slice()) {
+            Ok(size) => Ok(Some(size)),
             Err(ValueError::NoMemory) => Err(AllocError),
-            Err(_) => Ok(false),
+            Err(_) => Ok(None),
         }
     }
 

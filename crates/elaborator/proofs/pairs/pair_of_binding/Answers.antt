@@ -42,7 +42,7 @@ returns-in_err-check_index c = λ i at.
     let b = binding_of c.args.binding.now in
     let left = rw c.in-Some.is at (c.in_ok-left.ensures i at) in
     let stands = stands_numbered e c.args.number c.in-Some.left.is_inner _ left.0 left.2.stands in
-    passed_on _ _ _ _ c.from_residual-in_err-check_index.result c.from_residual-in_err-check_index.ensures.1 (c.in_err-check_index.ensures i left.0 at stands) (fault_of_left_index e.tree i b (named_of left.0 c.in-Some.left) left.1)
+    passed_on _ _ _ _ c.from_residual-in_err-check_index.result c.from_residual-in_err-check_index.ensures.1 (c.in_err-check_index.ensures i left.0 at stands left.2.declared) (fault_of_left_index e.tree i b (named_of left.0 c.in-Some.left) left.1)
 
 pub check_index-requires-2-clause-port_within : goal.check_index-requires-2-clause-port_within
 check_index-requires-2-clause-port_within c =
@@ -57,7 +57,7 @@ returns-in_err-check_index-2 c = λ i at.
     let b = binding_of c.args.binding.now in
     let right = rw c.in-Some-2.is at (c.in_ok-right.ensures i at) in
     let stands = stands_numbered e c.args.number c.in-Some-2.right.is_inner _ right.0 right.2.stands in
-    passed_on _ _ _ _ c.from_residual-in_err-check_index-2.result c.from_residual-in_err-check_index-2.ensures.1 (c.in_err-check_index-2.ensures i right.0 at stands) (fault_of_right_index e.tree i b (named_of right.0 c.in-Some-2.right) right.1)
+    passed_on _ _ _ _ c.from_residual-in_err-check_index-2.result c.from_residual-in_err-check_index-2.ensures.1 (c.in_err-check_index-2.ensures i right.0 at stands right.2.declared) (fault_of_right_index e.tree i b (named_of right.0 c.in-Some-2.right) right.1)
 
 pub returns-in_err-check_notes : goal.returns-in_err-check_notes
 returns-in_err-check_notes c = λ i at.
@@ -74,7 +74,7 @@ returns c = λ i at.
     let left = rw c.in-Some.is at (c.in_ok-left.ensures i at) in
     let right = rw c.in-Some-2.is at (c.in_ok-right.ensures i at) in
     let pair = c.in-Some-pair_of_ports.ensures e c.args.number i left right in
-    let first = c.in_ok-check_index.ensures i left.0 at (stands_numbered e c.args.number c.in-Some.left.is_inner _ left.0 left.2.stands) in
-    let second = c.in_ok-check_index-2.ensures i right.0 at (stands_numbered e c.args.number c.in-Some-2.right.is_inner _ right.0 right.2.stands) in
+    let first = c.in_ok-check_index.ensures i left.0 at (stands_numbered e c.args.number c.in-Some.left.is_inner _ left.0 left.2.stands) left.2.declared in
+    let second = c.in_ok-check_index-2.ensures i right.0 at (stands_numbered e c.args.number c.in-Some-2.right.is_inner _ right.0 right.2.stands) right.2.declared in
     let notes = c.in_ok-check_notes.ensures i at in
     (pair.0, lawful e.tree i b (named_of left.0 c.in-Some.left) (named_of right.0 c.in-Some-2.right) pair.0 left.1 right.1 pair.1 first second notes, pair.2)

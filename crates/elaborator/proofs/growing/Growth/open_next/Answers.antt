@@ -21,31 +21,31 @@ returns-in_err-found c = λ top growth.
 pub add_all-requires-clause-mapped : goal.add_all-requires-clause-mapped
 add_all-requires-clause-mapped c =
     let g = c.args.self.now in
-    let x = c.index_mut.result.now in
-    let at = slice_get_read g.expansion.instances.items _ g.opened x refl c.requires.within c.index_mut.ensures.value in
-    mapped-set g.expansion _ g.opened x (record x { bindings = c.in_ok-found.found.bindings }) c.requires.growth.1.mapped at refl refl refl
+    let x = c.index_mut-next.result.now in
+    let at = slice_get_read g.expansion.instances.items _ g.opened x refl c.requires.within c.index_mut-next.ensures.value in
+    mapped-set g.expansion _ g.opened x (record x { bindings = c.in_ok-found.found.bindings; port_sizes = c.in_ok-found.found.port_sizes }) c.requires.growth.1.mapped at refl refl refl
 
 pub add_all-requires-clause-few : goal.add_all-requires-clause-few
 add_all-requires-clause-few c =
     let g = c.args.self.now in
-    let x = c.index_mut.result.now in
-    let at = slice_get_read g.expansion.instances.items _ g.opened x refl c.requires.within c.index_mut.ensures.value in
+    let x = c.index_mut-next.result.now in
+    let at = slice_get_read g.expansion.instances.items _ g.opened x refl c.requires.within c.index_mut-next.ensures.value in
     let found = (c.in_ok-found.ensures c.requires.growth.0 x c.requires.growth.1 at).2 in
     omega (
       arith,
       found.few,
       found.within,
       c.requires.growth.1.few,
-      length-set g.expansion.instances.items g.opened (record x { bindings = c.in_ok-found.found.bindings }),
+      length-set g.expansion.instances.items g.opened (record x { bindings = c.in_ok-found.found.bindings; port_sizes = c.in_ok-found.found.port_sizes }),
     )
 
 pub returns-in_err-add_all : goal.returns-in_err-add_all
 returns-in_err-add_all c = λ top growth.
     let g = c.args.self.now in
-    let x = c.index_mut.result.now in
-    let y = record x { bindings = c.in_ok-found.found.bindings } in
+    let x = c.index_mut-next.result.now in
+    let y = record x { bindings = c.in_ok-found.found.bindings; port_sizes = c.in_ok-found.found.port_sizes } in
     let items = set g.expansion.instances.items g.opened y in
-    let at = slice_get_read g.expansion.instances.items _ g.opened x refl c.requires.within c.index_mut.ensures.value in
+    let at = slice_get_read g.expansion.instances.items _ g.opened x refl c.requires.within c.index_mut-next.ensures.value in
     let found = (c.in_ok-found.ensures top x growth at).2 in
     passed_on _ (λ f. (path : Path) × (f ≡ TwoInstances path) × IsClash (items ++ c.in_ok-found.found.made.items) (length items) path) _ _
     c.from_residual-in_err-add_all.result c.from_residual-in_err-add_all.ensures.1 c.in_err-add_all.ensures
@@ -56,16 +56,16 @@ returns-in_err-add_all c = λ top growth.
 pub overflow_sub-self : goal.overflow_sub-self
 overflow_sub-self c =
     let g = c.args.self.now in
-    let x = c.index_mut.result.now in
-    let at = slice_get_read g.expansion.instances.items _ g.opened x refl c.requires.within c.index_mut.ensures.value in
+    let x = c.index_mut-next.result.now in
+    let at = slice_get_read g.expansion.instances.items _ g.opened x refl c.requires.within c.index_mut-next.ensures.value in
     (c.in_ok-found.ensures c.requires.growth.0 x c.requires.growth.1 at).2.within
 
 pub returns : goal.returns
 returns c = λ top growth.
     let g = c.args.self.now in
-    let x = c.index_mut.result.now in
-    let y = record x { bindings = c.in_ok-found.found.bindings } in
-    let at = slice_get_read g.expansion.instances.items _ g.opened x refl c.requires.within c.index_mut.ensures.value in
+    let x = c.index_mut-next.result.now in
+    let y = record x { bindings = c.in_ok-found.found.bindings; port_sizes = c.in_ok-found.found.port_sizes } in
+    let at = slice_get_read g.expansion.instances.items _ g.opened x refl c.requires.within c.index_mut-next.ensures.value in
     let shown = c.in_ok-found.ensures top x growth at in
     let extended = c.in_ok-add_all.ensures in (
       extended.same_unit,
@@ -76,7 +76,7 @@ returns c = λ top growth.
             at = at;
             same = refl;
             told = growth.told g.opened x at;
-            bound = shown.2.bindings;
+            shown = record { bindings = shown.2.bindings; sizes = shown.2.sizes };
             shallow = shown.0;
             faultless = shown.1;
             found = shown.2;
