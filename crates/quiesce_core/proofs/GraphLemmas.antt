@@ -22,7 +22,10 @@ use Rattle.config_graph.proofs.LinkLemmas.{Contains-find, begins_there, find_pas
 use Rattle.config_graph.proofs.NumberingLemmas.{length-ports}
 use Rattle.quiesce_core.specs.declared.state.Slot.{Slot}
 use Rattle.quiesce_core.specs.declared.state.Gate.{Gate}
-use Rattle.quiesce_core.specs.State.{Configuration, fresh_gate, fresh_exchange, slot, gate, owner, target}
+use Rattle.quiesce_core.specs.State.{Configuration, fresh_gate, fresh_exchange, slot, is_live, gate, owner, target, exchange}
+use Rattle.quiesce_core.specs.declared.state.Exchange.{Exchange}
+use Rattle.quiesce_core.specs.Phases.{is_idle, is_in_more}
+use Rattle.quiesce_core.specs.Traffic.{IsConsistent}
 use Rattle.quiesce_core.specs.Reach.{IsPortOf, Leads, can_walk, has_no_cycle}
 use Rattle.quiesce_core.specs.WellFormed.{StandInARow, IsWithinBounds, IsSound, IsWellFormed}
 use Rattle.quiesce_core.specs.Named.{AreNamed}
@@ -236,6 +239,35 @@ module _ (g : Graph) (sound : Sound g) (few_nodes : length g.nodes ≤ 1023) (fe
       bounds_unused [] p = record { serial = omega arith; value = omega arith }
       bounds_unused (q ∷ ps) zero = record { serial = omega arith; value = omega arith }
       bounds_unused (q ∷ ps) (suc p) = bounds_unused ps p
+
+  -- all is idle in it
+  pub consistent_started : IsConsistent (started g)
+  consistent_started = record {
+    linked = λ p h. absurd (both_ways (is_idle (exchange (started g) p).phase) h (ap (λ (x : Exchange). is_idle x.phase) (fresh (ports g.nodes) p)));
+    serving = λ n v e. absurd (cc (e, serves_none g.nodes n));
+    taken = λ p h. absurd (both_ways (is_in_more (exchange (started g) p).phase) (ap (λ (x : Exchange). is_in_more x.phase) (fresh (ports g.nodes) p)) h);
+    consequent = λ p q e. absurd (cc (e, ap (λ (x : Exchange). x.within) (fresh (ports g.nodes) p)));
+    removed = λ p h. ⊎_elim
+        (λ (made : p < length (started g).config.gates).
+        let o = sound_started.ports p made in
+        let was = slot_was (owner (started g).config p) o.node o.made in
+        absurd (both_ways (is_live (started g).config (owner (started g).config p)) h
+        (map_or_at (λ (m : Slot). m.live) (slot (started g).config (owner (started g).config p)) false o.node o.made ∙ ap (λ (m : Slot). m.live) was.2)))
+        (λ (past : length (started g).config.gates ≤ p).
+        let none_ : gate (started g).config p ≡ fresh_gate = get_or_past (started g).config.gates p fresh_gate past in
+        (ap (λ (x : Gate). x.closed) none_, ap (λ (x : Gate). x.target) none_))
+        (cases_lt p (length (started g).config.gates));
+  }
+    where
+      fresh : (ps : List Port) (p : ℕ) → get_or (map unused ps) p fresh_exchange ≡ fresh_exchange
+      fresh [] p = refl
+      fresh (q ∷ ps) zero = refl
+      fresh (q ∷ ps) (suc p) = fresh ps p
+
+      serves_none : (ns : List Node) (n : ℕ) → get_or (map free ns) n None ≡ None
+      serves_none [] n = refl
+      serves_none (m ∷ ns) zero = refl
+      serves_none (m ∷ ns) (suc n) = serves_none ns n
 
   -- a node stands at one place
   one_place : (i j : ℕ) (node : Node) → slice_get g.nodes i ≡ Some node → slice_get g.nodes j ≡ Some node → i ≡ j

@@ -1,20 +1,23 @@
 //! Laws of the machine: what holds of every state, or of the state after every run.
 
-ghost use Rattle.std.specs.Prelude.{◌≡◌, ◌≤◌, ◌↔◌, ℕ, List, Some, length, IsTrue};
+ghost use Rattle.std.specs.Prelude.{◌≡◌, ◌+◌, ◌*◌, ◌≤◌, ◌↔◌, ℕ, List, Some, filter, length, IsTrue};
+ghost use Rattle.std.specs.Option.{option_map_or};
 ghost use Rattle.quiesce_core.specs.declared.event.Event.{Event};
-ghost use Rattle.quiesce_core.specs.State.{Configuration, State};
+ghost use Rattle.quiesce_core.specs.State.{Configuration, State, calls_allowed, depends, mores_allowed, ports_of, target};
+ghost use Rattle.quiesce_core.specs.Rest.{full, greatest};
 ghost use Rattle.quiesce_core.specs.Rules.{denial};
 ghost use Rattle.quiesce_core.specs.Legal.{Legal};
 ghost use Rattle.quiesce_core.specs.Reach.{HasNoCycle, Reaches, has_no_cycle, reaches};
-ghost use Rattle.quiesce_core.specs.Runs.{IsRun, doer, done_by, state_after};
+ghost use Rattle.quiesce_core.specs.Runs.{IsRun, Step, doer, done_by, state_after};
 ghost use Rattle.quiesce_core.specs.Effect.{effect};
 ghost use Rattle.quiesce_core.specs.Named.{AreNamed};
 ghost use Rattle.quiesce_core.specs.Start.{started};
 ghost use Rattle.config_graph.specs.Sound.{Sound};
 ghost use Rattle.config_graph.specs.declared.TheConstants.{MAX_NODES, MAX_PORTS};
+ghost use Rattle.config_graph.specs.declared.node.Target.{Target};
 ghost use Rattle.quiesce_core.specs.Knows.{Knows};
 ghost use Rattle.quiesce_core.specs.WordFields.{FitsWord};
-ghost use Rattle.quiesce_core.specs.Words.{pack, unpack};
+ghost use Rattle.quiesce_core.specs.Words.{fields_of, pack, unpack, word_of};
 ghost use Rattle.quiesce_core.specs.declared.word.Word.{Word};
 ghost use Rattle.quiesce_core.specs.Traffic.{IsConsistent};
 ghost use Rattle.quiesce_core.specs.WellFormed.{IsSound, IsWellFormed};
@@ -81,4 +84,25 @@ pub fn nodes_know()
 /// A number spells the fields that it was packed from.
 pub fn words_decode()
     ensures { (w : Word) → FitsWord w → unpack (pack w) ≡ w }
+{}
+
+/// After every run the word of a port spells what the state has of the port.
+pub fn words_of_runs_decode()
+    ensures { (es : List Event) (p : ℕ) → IsRun es → unpack (word_of (state_after es) p) ≡ fields_of (state_after es) p }
+{}
+
+/// Where there is no cycle, the events of a transaction are three, and three for each intermediate reply allowed, and for each call
+/// allowed one and those of the linked provision, the greatest over the ports on which the transaction's provision depends.
+pub fn full_is_found()
+    ensures { (c : Configuration) → IsSound c → (m x : ℕ) → full c m x ≡ 3 + 3 * mores_allowed c m x + calls_allowed c m x * greatest (λ p. 1 + option_map_or (λ (t : Target). full c t.node t.provide) (target c p) 0) (filter (depends c m x) (ports_of c m)) }
+{}
+
+/// Each step leads from a state that is well formed and consistent to such a state.
+pub fn steps_keep_consistency()
+    ensures { (s t : State) (e : Event) → IsWellFormed s → IsConsistent s → Step s e t → IsWellFormed t × IsConsistent t }
+{}
+
+/// A system that was just started is well formed and consistent.
+pub fn started_systems_are_consistent()
+    ensures { (g : Graph) → Sound g → length g.nodes ≤ MAX_NODES → length (ports g.nodes) ≤ MAX_PORTS → IsWellFormed (started g) × IsConsistent (started g) }
 {}

@@ -1,0 +1,5 @@
+use Rattle.quiesce_core.proofs.RunLemmas.{words_of_runs_decode}
+use Rattle.quiesce_core.proofs.laws.words_of_runs_decode.Goals as goal
+
+pub returns : goal.returns
+returns c es p h = words_of_runs_decode es p h
