@@ -1,5 +1,7 @@
 pub mod Behind
 pub mod Induction
+pub mod Paths
+pub mod StartLemmas
 pub mod Configurations
 pub mod Stillness
 pub mod Opened

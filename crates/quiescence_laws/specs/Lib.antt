@@ -3,3 +3,4 @@ pub mod Roots
 pub mod Courses
 pub mod Weaker
 pub mod Drained
+pub mod Starts

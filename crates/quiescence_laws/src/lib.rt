@@ -5,6 +5,7 @@
 mod draining;
 mod quiescence;
 mod roots;
+mod starting;
 mod transactions;
 
 pub use draining::{drained_ports_stay_drained, nodes_with_drained_ports_are_settled};
@@ -13,6 +14,7 @@ pub use quiescence::{
     settled_nodes_stay_settled,
 };
 pub use roots::{open_roots_are_seen, roots_at_closed_ports_are_old};
+pub use starting::{started_systems_are_reached, started_systems_go_on_as_runs};
 pub use transactions::{
     ends_make_the_serial, fronts_are_runs, open_transactions_are_seen, transactions_come_in_order,
     transactions_keep_their_course,
