@@ -2,6 +2,7 @@ pub mod Behind
 pub mod Induction
 pub mod Paths
 pub mod StartLemmas
+pub mod WalkLemmas
 pub mod Configurations
 pub mod Stillness
 pub mod Opened

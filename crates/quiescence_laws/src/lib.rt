@@ -2,12 +2,14 @@
 //! Magee, The evolving philosophers problem: dynamic change management, 1990), and in which order the events of a transaction come.
 #![tactic(auto)]
 
+mod cycles;
 mod draining;
 mod quiescence;
 mod roots;
 mod starting;
 mod transactions;
 
+pub use cycles::{cycles_are_closed_walks, links_that_close_walks_are_denied, runs_close_no_walk};
 pub use draining::{drained_ports_stay_drained, nodes_with_drained_ports_are_settled};
 pub use quiescence::{
     changes_find_nodes_quiescent, less_than_settled_is_too_weak, settled_nodes_are_quiescent,
