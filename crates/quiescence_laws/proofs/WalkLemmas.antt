@@ -64,6 +64,9 @@ falls c ranked n m (k ∷ ks) h = omega (arith, ranked.falls n k h.0, falls c ra
 pub no_walk_if_ranked : (c : Configuration) → HasNoCycle c → ClosedWalk c → ⊥
 no_walk_if_ranked c ranked w = omega (arith, falls c ranked w.first w.first w.others w.closes)
 
+pub cycles_are_closed_walks : (c : Configuration) → (has_no_cycle c ≡ false) ↔ ClosedWalk c
+cycles_are_closed_walks c = (walk_found c, λ w. false_from_ne_true (has_no_cycle c) (λ h. no_walk_if_ranked c (ranked_if_no_cycle c h) w))
+
 -- a rule by which an event isn't denied holds, and the last by which it is denied fails
 passed_by : (k j : ℕ) (b : Bool) (rules : List (ℕ × Bool)) → (k ≡ j → ⊥) → first_failing ((k, b) ∷ rules) ≡ Some j → first_failing rules ≡ Some j
 passed_by k j b rules other h = ⊎_elim
@@ -86,14 +89,27 @@ denied_link s p n x h =
     (passed_by 20 23 (not (is_linked s p)) (third ∷ fourth ∷ fifth ∷ []) (λ e. omega (arith, e))
     (passed_by 1 23 (is_live_port s p) ((20, not (is_linked s p)) ∷ third ∷ fourth ∷ fifth ∷ []) (λ e. omega (arith, e)) h)))))
 
+passes : (k : ℕ) (b : Bool) (rules : List (ℕ × Bool)) → b ≡ true → first_failing ((k, b) ∷ rules) ≡ first_failing rules
+passes k b rules e = ap (λ c. cond c (first_failing rules) (Some k)) e
+
+pub link_that_closes : (s : State) (p n x : ℕ) → is_live_port s p ≡ true → not (is_linked s p) ≡ true → has_provision s.config n x ≡ true → is_settled s (owner s.config p) ≡ true
+    → ClosedWalk (linked s.config p (Some (record { node = n; provide = x }))) → denial s (Link p n x) ≡ Some 23
+link_that_closes s p n x live unlinked provision settled w =
+    let after = linked s.config p (Some (record { node = n; provide = x })) in
+    let third : ℕ × Bool = (21, has_provision s.config n x) in
+    let fourth : ℕ × Bool = (22, is_settled s (owner s.config p)) in
+    let fifth : ℕ × Bool = (23, has_no_cycle after) in
+    passes 1 (is_live_port s p) ((20, not (is_linked s p)) ∷ third ∷ fourth ∷ fifth ∷ []) live
+    ∙ passes 20 (not (is_linked s p)) (third ∷ fourth ∷ fifth ∷ []) unlinked
+    ∙ passes 21 (has_provision s.config n x) (fourth ∷ fifth ∷ []) provision
+    ∙ passes 22 (is_settled s (owner s.config p)) (fifth ∷ []) settled
+    ∙ ap (λ c. cond {A = Option ℕ} c None (Some 23)) ((cycles_are_closed_walks after).1 w)
+
 pub allowed_link : (s : State) (p n x : ℕ) → denial s (Link p n x) ≡ None → ClosedWalk (linked s.config p (Some (record { node = n; provide = x }))) → ⊥
 allowed_link s p n x h w =
     let after = linked s.config p (Some (record { node = n; provide = x })) in
     let may = legal s (Link p n x) h in
     no_walk_if_ranked after (ranked_if_no_cycle after may.no_cycle) w
-
-pub cycles_are_closed_walks : (c : Configuration) → (has_no_cycle c ≡ false) ↔ ClosedWalk c
-cycles_are_closed_walks c = (walk_found c, λ w. false_from_ne_true (has_no_cycle c) (λ h. no_walk_if_ranked c (ranked_if_no_cycle c h) w))
 
 pub ranked_without_walks : (c : Configuration) → HasNoCycle c ↔ (ClosedWalk c → ⊥)
 ranked_without_walks c = (
