@@ -4,7 +4,7 @@ use crate::{Core, CoreError, Event, OpenTxn, Stage};
 use Op::{
     Ask, Begin, Call, Close, End, Give, Hear, Link, Miss, More, Remove, Reopen, Take, Unlink,
 };
-use config_graph::{Graph, Kind, Node, Text, same};
+use config_graph::{Graph, Kind, Made, Node, Text, same};
 use std::alloc::Global;
 use std::process::Abort;
 use std::test::Fail;
@@ -107,10 +107,10 @@ fn make(
     path: &[u8],
     kind: Kind,
     arg: Option<u32>,
+    from: Option<u32>,
 ) -> Result<Event, Fail> {
     let path = Text::from_bytes(alloc, path)?;
     let node = Node { path, kind, arg };
-    let from = None;
     Ok(Event::Make { slot, node, from })
 }
 
@@ -124,7 +124,10 @@ fn system(
     let mut core = Core::empty(alloc);
     for (path, kind, arg) in nodes {
         let slot = core.made().nodes;
-        assert_eq!(rt; core.apply(&make(alloc, slot, path, *kind, *arg)?), Ok(()));
+        assert_eq!(rt;
+            core.apply(&make(alloc, slot, path, *kind, *arg, None)?),
+            Ok(())
+        );
     }
     happens(rt, &mut core, steps);
     Ok(core)
@@ -187,6 +190,24 @@ fn ring(rt: &impl Abort, alloc: Global) -> Result<Core, Fail> {
     system(rt, alloc, &nodes, &[(Link, 0, 1, 0)])
 }
 
+/// A line without its sink, node 2, which was removed.
+fn line_without_sink(rt: &impl Abort, alloc: Global) -> Result<Core, Fail> {
+    let mut core = line(rt, alloc)?;
+    happens(
+        rt,
+        &mut core,
+        &[
+            (Close, 0, 0, 0),
+            (Close, 1, 0, 0),
+            (Unlink, 0, 0, 0),
+            (Remove, 2, 0, 0),
+        ],
+    );
+    Ok(core)
+}
+
+// Of each event and each of its rules there is a row here or in the tables below. Only a call or a miss by rule 29 and an
+// intermediate reply by rule 16 have none: no kind makes both calls and intermediate replies, so no run ends there.
 const LINE: [(&[Step], u32); 40] = [
     (&[(Begin, 2, 1, 1)], 1),
     (&[(Close, 1, 0, 0), (Begin, 1, 1, 1)], 2),
@@ -448,25 +469,71 @@ fn rules_deny(rt: HostRuntime) -> Result<(), Fail> {
     Ok(())
 }
 
+/// A node that is denied: its slot, path, kind, argument and the node whose state it takes over, and the rule.
+type Refused = (u32, &'static [u8], Kind, Option<u32>, Option<u32>, u32);
+
+const REFUSED: [Refused; 8] = [
+    (4, b"n", Kind::Sink, None, None, 18),
+    (3, b"m", Kind::Sink, None, None, 19),
+    (3, b"n", Kind::Sink, Some(1), None, 19),
+    (3, b"n", Kind::Map, None, None, 19),
+    (3, b"n", Kind::Map, Some(16_777_216), None, 19),
+    (3, b"n", Kind::Map, Some(1), Some(0), 26),
+    (3, b"n", Kind::Map, Some(1), Some(2), 26),
+    (3, b"n", Kind::Sink, None, Some(3), 26),
+];
+
 #[test]
 fn rules_deny_nodes(rt: HostRuntime) -> Result<(), Fail> {
-    let mut core = line(&rt, rt.alloc())?;
-    let late = make(rt.alloc(), 4, b"n", Kind::Sink, None)?;
-    assert_eq!(rt; core.apply(&late), Err(CoreError::Denied { rule: 18 }));
-    let same_path = make(rt.alloc(), 3, b"m", Kind::Sink, None)?;
-    assert_eq!(rt; core.apply(&same_path), Err(CoreError::Denied { rule: 19 }));
-    let node = Node {
-        path: Text::from_bytes(rt.alloc(), b"n")?,
-        kind: Kind::Map,
-        arg: Some(1),
+    let mut core = line_without_sink(&rt, rt.alloc())?;
+    for (slot, path, kind, arg, from, rule) in REFUSED {
+        let event = make(rt.alloc(), slot, path, kind, arg, from)?;
+        assert_eq!(rt; core.apply(&event), Err(CoreError::Denied { rule }));
+    }
+    let moved = make(rt.alloc(), 3, b"t", Kind::Sink, None, Some(2))?;
+    assert_eq!(rt; core.apply(&moved), Ok(()));
+    let again = make(rt.alloc(), 4, b"n", Kind::Sink, None, Some(2))?;
+    assert_eq!(rt; core.apply(&again), Err(CoreError::Denied { rule: 26 }));
+    Ok(())
+}
+
+#[test]
+fn makes_in_reserve(rt: HostRuntime) -> Result<(), Fail> {
+    let mut core = line_without_sink(&rt, rt.alloc())?;
+    assert_eq!(rt; core.made(), Made { nodes: 3, ports: 2 });
+    assert_eq!(rt; core.reserve(2), Ok(()));
+    let sink = Node {
+        path: Text::from_bytes(rt.alloc(), b"u")?,
+        kind: Kind::Sink,
+        arg: None,
     };
-    let from = Some(0);
-    let of_live = Event::Make {
+    let moved = Event::Make {
         slot: 3,
-        node,
-        from,
+        node: sink.try_clone()?,
+        from: Some(2),
     };
-    assert_eq!(rt; core.apply(&of_live), Err(CoreError::Denied { rule: 26 }));
+    assert_eq!(rt; core.denial(&moved), None);
+    core.make(sink, Some(2));
+    assert_eq!(rt; core.made(), Made { nodes: 4, ports: 2 });
+    let map = Node {
+        path: Text::from_bytes(rt.alloc(), b"t")?,
+        kind: Kind::Map,
+        arg: Some(7),
+    };
+    let fresh = Event::Make {
+        slot: 4,
+        node: map.try_clone()?,
+        from: None,
+    };
+    assert_eq!(rt; core.denial(&fresh), None);
+    core.make(map, None);
+    assert_eq!(rt; core.made(), Made { nodes: 5, ports: 3 });
+    let live = [true, true, false, true, true];
+    let paths: [&[u8]; 5] = [b"m", b"s", b"t", b"u", b"t"];
+    for slot in 0..5 {
+        assert_eq!(rt; core.is_live(slot), live[slot as usize]);
+        assert_eq!(rt; core.node(slot).path.as_bytes(), paths[slot as usize]);
+    }
     Ok(())
 }
 
