@@ -35,5 +35,6 @@ pub record Quiescent (es : List Event) (n : ℕ) : Type 0 where
   pub begins_none : (more_ : List Event) → Continues es more_ → (p k : ℕ) (b : Begun more_ p k) → owner (state_after es).config p ≡ n → ⊥
   -- it services nothing
   pub services_nothing : service (state_after es) n ≡ None
-  -- no transaction that is open, or is begun or called later, has it as its target
+  -- no transaction that is open, or is begun or called later, has it as its target: each that has no End in es. That stands for what
+  -- comes later too, since no serial of a port comes twice.
   pub targets_none : (more_ : List Event) → Continues es more_ → (p k : ℕ) (b : Begun (es ++ more_) p k) → list_any (is_end_of p k) es ≡ false → target_at_begin (es ++ more_) p k b ≡ Some n → ⊥
