@@ -1,60 +1,96 @@
--- What each status of a run says, from the one relation of runs.
-use Rattle.std.proofs.Common.{◌≡◌, ◌≢◌, ◌∙◌, inl, inr, ℕ, List, [], ◌∷◌, ◌++◌, Option, append-nil, refl, ap}
+-- What each status of a run says of its words and fetches, from the one relation of runs.
+use Rattle.std.proofs.Common.{◌≡◌, ◌≢◌, ◌∙◌, ◌⊎◌, inl, inr, ℕ, List, [], ◌∷◌, ◌++◌, Option, append-nil, refl, ap}
 use Rattle.cfg_io.specs.Count.{Rose}
 use Rattle.cfg_io.specs.Shelf.{Files}
 use Rattle.darwin_commands.specs.declared.status.Status.{Status}
 use Rattle.darwin_commands.specs.declared.status.Status.TheVariants as status
-use Rattle.darwin_commands.specs.Words.{help, version}
-use Rattle.darwin_commands.specs.Wanted.{Wanted}
-use Rattle.darwin_commands.proofs.Wanting.{gives_ok, command_for, asks_command}
-use Rattle.darwin_commands.specs.Answers.{Given, Fetch, Written, whole, stopped, DescriptionAnswers, cannot_read, is_too_long, refused, answered, Answers, no_form, helped, versioned, described, no_memory, Runs, failed_names, fetch_of}
-use Rattle.darwin_commands.specs.Outcomes.{HasNoForm, NamesFile, Ends}
+use Rattle.darwin_commands.specs.Words.{Command, help, version, flat, plan, replay}
+use Rattle.darwin_commands.specs.Wanted.{Wanted, its_graph, its_plan, its_replay}
+use Rattle.darwin_commands.specs.Answers.{Given, held, Fetch, Written, whole, stopped, DescriptionAnswers, cannot_read, is_too_long, refused, answered, ScriptAnswers, cannot_read_script, script_too_long, script_at_fault, Answers, no_form, answered_to, unread, no_memory, Runs, failed_names, fetch_of}
+use Rattle.darwin_commands.specs.Outcomes.{HasNoForm, NamesFile, Names, Ends}
+use Rattle.darwin_commands.proofs.Inverting.{Answer, of_command, command_status, not_usage, not_write_fault}
+use Rattle.darwin_commands.proofs.Wanting.{gives_status}
 
 -- ---- statuses of answers
 
 own_usage : (words : List (List ℕ)) (fetches : List Fetch) (own : Status) (text : List ℕ) → Answers words fetches own text → own ≡ status.Usage → HasNoForm words
 own_usage words _ _ _ (no_form none) is = none
-own_usage words _ _ _ (helped asks) is = cc
-own_usage words _ _ _ (versioned asks) is = cc
-own_usage words _ _ _ (described file wanted given own text asks answer) is = absurd (no_usage given own text answer is)
-  where
-    no_usage : (given : Given) (own : Status) (text : List ℕ) → DescriptionAnswers file wanted given own text → own ≢ status.Usage
-    no_usage _ _ _ cannot_read is = cc
-    no_usage _ _ _ is_too_long is = cc
-    no_usage _ _ _ (refused text why refuses) is = cc
-    no_usage _ _ _ (answered text own written gives) is = cc (gives_ok wanted text own written gives)
-own_usage words _ _ _ (no_memory fetches may) is = cc
+own_usage words _ _ _ (answered_to command fetches own text asks to) is =
+    absurd (not_usage own (command_status command fetches own text (of_command command fetches own text to)) is)
+own_usage words _ _ _ unread is = cc
+own_usage words _ _ _ (no_memory command fetches asks may) is = cc
 
 own_no_write_fault : (words : List (List ℕ)) (fetches : List Fetch) (own : Status) (text : List ℕ) → Answers words fetches own text → own ≢ status.WriteFault
 own_no_write_fault words _ _ _ (no_form none) is = cc
-own_no_write_fault words _ _ _ (helped asks) is = cc
-own_no_write_fault words _ _ _ (versioned asks) is = cc
-own_no_write_fault words _ _ _ (described file wanted given own text asks answer) is = no_fault given own text answer is
-  where
-    no_fault : (given : Given) (own : Status) (text : List ℕ) → DescriptionAnswers file wanted given own text → own ≢ status.WriteFault
-    no_fault _ _ _ cannot_read is = cc
-    no_fault _ _ _ is_too_long is = cc
-    no_fault _ _ _ (refused text why refuses) is = cc
-    no_fault _ _ _ (answered text own written gives) is = cc (gives_ok wanted text own written gives)
-own_no_write_fault words _ _ _ (no_memory fetches may) is = cc
+own_no_write_fault words _ _ _ (answered_to command fetches own text asks to) is =
+    not_write_fault own (command_status command fetches own text (of_command command fetches own text to)) is
+own_no_write_fault words _ _ _ unread is = cc
+own_no_write_fault words _ _ _ (no_memory command fetches asks may) is = cc
 
--- ---- what a status says of the fetch of a description
+-- ---- what a status says of a fetch
 
-read_fault_name :
+description_fault :
     (file : List ℕ) (wanted : Wanted) (given : Given) (own : Status) (text : List ℕ) → DescriptionAnswers file wanted given own text
     → own ≡ status.ReadFault → failed_names (fetch_of file given ∷ []) ≡ file ∷ []
-read_fault_name file wanted _ _ _ cannot_read is = refl
-read_fault_name file wanted _ _ _ is_too_long is = cc
-read_fault_name file wanted _ _ _ (refused text why refuses) is = cc
-read_fault_name file wanted _ _ _ (answered text own written gives) is = cc (gives_ok wanted text own written gives)
+description_fault file wanted _ _ _ cannot_read is = refl
+description_fault file wanted _ _ _ is_too_long is = cc
+description_fault file wanted _ _ _ (refused text why refuses) is = cc
+description_fault file wanted _ _ _ (answered text own written gives) is = by (gives_status wanted text own written gives)
+  where
+    by : (own ≡ status.Ok) ⊎ (own ≡ status.Denied) → failed_names (fetch_of file (held text) ∷ []) ≡ file ∷ []
+    by (inl well) = cc (well, is)
+    by (inr denied) = cc (denied, is)
 
-failed_status :
+description_failed :
     (file : List ℕ) (wanted : Wanted) (given : Given) (own : Status) (text : List ℕ) → DescriptionAnswers file wanted given own text
     → failed_names (fetch_of file given ∷ []) ≢ [] → own ≡ status.ReadFault
-failed_status file wanted _ _ _ cannot_read some = refl
-failed_status file wanted _ _ _ is_too_long some = absurd (some refl)
-failed_status file wanted _ _ _ (refused text why refuses) some = absurd (some refl)
-failed_status file wanted _ _ _ (answered text own written gives) some = absurd (some refl)
+description_failed file wanted _ _ _ cannot_read some = refl
+description_failed file wanted _ _ _ is_too_long some = absurd (some refl)
+description_failed file wanted _ _ _ (refused text why refuses) some = absurd (some refl)
+description_failed file wanted _ _ _ (answered text own written gives) some = absurd (some refl)
+
+script_fault :
+    (name : List ℕ) (given : Given) (own : Status) (text : List ℕ) → ScriptAnswers name given own text
+    → own ≡ status.ReadFault → failed_names (fetch_of name given ∷ []) ≡ name ∷ []
+script_fault name _ _ _ cannot_read_script is = refl
+script_fault name _ _ _ script_too_long is = cc
+script_fault name _ _ _ (script_at_fault bytes fault first) is = cc
+
+script_failed :
+    (name : List ℕ) (given : Given) (own : Status) (text : List ℕ) → ScriptAnswers name given own text
+    → failed_names (fetch_of name given ∷ []) ≢ [] → own ≡ status.ReadFault
+script_failed name _ _ _ cannot_read_script some = refl
+script_failed name _ _ _ script_too_long some = absurd (some refl)
+script_failed name _ _ _ (script_at_fault bytes fault first) some = absurd (some refl)
+
+-- the file of which a fetch failed
+failed_file :
+    (command : Command) (fetches : List Fetch) (own : Status) (text : List ℕ) → Answer command fetches own text → own ≡ status.ReadFault
+    → (file : List ℕ) × Names command file × (failed_names fetches ≡ file ∷ [])
+failed_file help fetches own text answer is = cc (answer.0, is)
+failed_file version fetches own text answer is = cc (answer.0, is)
+failed_file (flat file top args) fetches own text answer is =
+    (file, refl, ap failed_names answer.is ∙ description_fault file (its_graph top args) answer.given own text answer.answer is)
+failed_file (plan file top args to to_args) fetches own text answer is =
+    (file, refl, ap failed_names answer.is ∙ description_fault file (its_plan top args to to_args) answer.given own text answer.answer is)
+failed_file (replay file name) fetches own text (inl answer) is =
+    (name, inr refl, ap failed_names answer.is ∙ script_fault name answer.given own text answer.answer is)
+failed_file (replay file name) fetches own text (inr answer) is =
+    (file, inl refl, ap failed_names answer.is ∙ description_fault file (its_replay answer.script) answer.given own text answer.answer is)
+
+any_failed :
+    (command : Command) (fetches : List Fetch) (own : Status) (text : List ℕ) → Answer command fetches own text → failed_names fetches ≢ []
+    → own ≡ status.ReadFault
+any_failed help fetches own text answer some = absurd (some (ap failed_names answer.1))
+any_failed version fetches own text answer some = absurd (some (ap failed_names answer.1))
+any_failed (flat file top args) fetches own text answer some =
+    description_failed file (its_graph top args) answer.given own text answer.answer (λ none. some (ap failed_names answer.is ∙ none))
+any_failed (plan file top args to to_args) fetches own text answer some =
+    description_failed file (its_plan top args to to_args) answer.given own text answer.answer (λ none. some (ap failed_names answer.is ∙ none))
+any_failed (replay file name) fetches own text (inl answer) some =
+    script_failed name answer.given own text answer.answer (λ none. some (ap failed_names answer.is ∙ none))
+any_failed (replay file name) fetches own text (inr answer) some =
+    description_failed file (its_replay answer.script) answer.given own text answer.answer (λ none. some (ap failed_names answer.is ∙ none))
 
 -- ---- the clauses
 
@@ -71,10 +107,9 @@ module _ (words : List (List ℕ)) (files : Option Files) (failures failures' : 
     where
       own : (fetches : List Fetch) (s : Status) (text : List ℕ) → Answers words fetches s text → Ends s status.Usage
       own _ _ _ (no_form other) = inl refl
-      own _ _ _ (helped asks) = absurd (none help asks)
-      own _ _ _ (versioned asks) = absurd (none version asks)
-      own _ _ _ (described file wanted given s text asks answer) = absurd (none (command_for file wanted) (asks_command words file wanted asks))
-      own _ _ _ (no_memory fetches may) = inr (inl refl)
+      own _ _ _ (answered_to command fetches s text asks to) = absurd (none command asks)
+      own _ _ _ unread = inr (inl refl)
+      own _ _ _ (no_memory command fetches asks may) = inr (inl refl)
 
       by : (r : Status) → Written run.own run.text taken taken' faults faults' r → Ends r status.Usage
       by _ (whole took same) = own run.fetches run.own run.text run.answers
@@ -86,11 +121,11 @@ module _ (words : List (List ℕ)) (files : Option Files) (failures failures' : 
       own : (fetches : List Fetch) (s : Status) (text : List ℕ) → Answers words fetches s text → s ≡ status.ReadFault → failures' ≡ failures ++ failed_names fetches
           → (file : List ℕ) × NamesFile words file × (failures' ≡ failures ++ file ∷ [])
       own _ _ _ (no_form none) is noted = cc
-      own _ _ _ (helped asks) is noted = cc
-      own _ _ _ (versioned asks) is noted = cc
-      own _ _ _ (described file wanted given s text asks answer) is noted =
-          (file, (wanted, asks), noted ∙ ap (λ names. failures ++ names) (read_fault_name file wanted given s text answer is))
-      own _ _ _ (no_memory fetches may) is noted = cc
+      own _ _ _ (answered_to command fetches s text asks to) is noted =
+          let found = failed_file command fetches s text (of_command command fetches s text to) is in
+          (found.0, (command, asks, found.1), noted ∙ ap (λ names. failures ++ names) found.2)
+      own _ _ _ unread is noted = cc
+      own _ _ _ (no_memory command fetches asks may) is noted = cc
 
       by : (r : Status) → Written run.own run.text taken taken' faults faults' r → r ≡ status.ReadFault → (file : List ℕ) × NamesFile words file × (failures' ≡ failures ++ file ∷ [])
       by _ (whole took same) is = own run.fetches run.own run.text run.answers is run.noted
@@ -104,11 +139,10 @@ module _ (words : List (List ℕ)) (files : Option Files) (failures failures' : 
 
       own : (fetches : List Fetch) (s : Status) (text : List ℕ) → Answers words fetches s text → failures' ≡ failures ++ failed_names fetches → Ends s status.ReadFault
       own _ _ _ (no_form none) noted = absurd (no_names [] noted refl)
-      own _ _ _ (helped asks) noted = absurd (no_names [] noted refl)
-      own _ _ _ (versioned asks) noted = absurd (no_names [] noted refl)
-      own _ _ _ (described file wanted given s text asks answer) noted =
-          inl (failed_status file wanted given s text answer (no_names (failed_names (fetch_of file given ∷ [])) noted))
-      own _ _ _ (no_memory fetches may) noted = inr (inl refl)
+      own _ _ _ (answered_to command fetches s text asks to) noted =
+          inl (any_failed command fetches s text (of_command command fetches s text to) (no_names (failed_names fetches) noted))
+      own _ _ _ unread noted = inr (inl refl)
+      own _ _ _ (no_memory command fetches asks may) noted = inr (inl refl)
 
       by : (r : Status) → Written run.own run.text taken taken' faults faults' r → Ends r status.ReadFault
       by _ (whole took same) = own run.fetches run.own run.text run.answers run.noted

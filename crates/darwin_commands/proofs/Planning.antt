@@ -17,7 +17,9 @@ use Rattle.std.proofs.lemmas.Option.{same_Some}
 use Rattle.darwin_commands.specs.Descriptions.{HasGraph, Refuses}
 use Rattle.darwin_commands.specs.Plans.{Starts, RefusesStart, has_no_graph, is_full, HasPlan, RefusesPlan, starts_not, leads_nowhere, gets_full, nothing, nothing_made, made_of}
 use Rattle.darwin_commands.specs.Planning.{HasSteps, IsFull}
-use Rattle.darwin_commands.specs.Wanted.{Wanted, its_graph, its_plan, IsRefused}
+use Rattle.darwin_commands.specs.Wanted.{Wanted, its_graph, its_plan, its_replay, IsRefused, Gives}
+use Rattle.darwin_commands.specs.declared.status.Status.{Status}
+use Rattle.darwin_commands.specs.declared.status.Status.TheVariants as status
 use Rattle.darwin_commands.specs.DescriptionFaults.{MayRefuse, fault_words, is_no_memory}
 use Rattle.darwin_commands.specs.declared.description.DescriptionFault.{DescriptionFault}
 use Rattle.darwin_commands.specs.declared.description.DescriptionFault.TheVariants as fault
@@ -136,6 +138,7 @@ refused_through P Q e leads refuses plain = leads (fault_words e) (refuses plain
 pub reading_refused : (wanted : Wanted) (text : List ℕ) (e : DescriptionFault) → ((top : List ℕ) (args : List ℤ) → MayRefuse (Refuses text top args) e) → MayRefuse (IsRefused wanted text) e
 reading_refused (its_graph top args) text e refuses plain = refuses top args plain
 reading_refused (its_plan top args to to_args) text e refuses plain = starts_not (fault_words e) (has_no_graph (fault_words e) (refuses top args plain))
+reading_refused (its_replay script) text e refuses plain = has_no_graph (fault_words e) (refuses script.name script.args plain)
 
 pub if_ok : {A E : Type 0} (r : Result A E) (P Q : A → Type 0) → ((a : A) → P a → Q a) → IfOk r P → IfOk r Q
 if_ok (Ok a) P Q leads holds = leads a holds
@@ -144,3 +147,17 @@ if_ok (Err e) P Q leads holds = tt
 pub if_err : {A E : Type 0} (r : Result A E) (P Q : E → Type 0) → ((e : E) → P e → Q e) → IfErr r P → IfErr r Q
 if_err (Ok a) P Q leads holds = tt
 if_err (Err e) P Q leads holds = leads e holds
+
+-- a text with which a run ends well
+pub finished_gives :
+    {V A F : Type 0} (items : V → List ℕ) (status_ : A → Status) (value : A → V) (wanted : Wanted) (text : List ℕ) (r : Result V F) (s : Result A F)
+    → IfOk r (λ v. Gives wanted text status.Ok (items v)) → IfOk s (λ a. (status_ a ≡ status.Ok) × (r ≡ Ok (value a)))
+    → IfOk s (λ a. Gives wanted text (status_ a) (items (value a)))
+finished_gives {V = V} {F = F} items status_ value wanted text r (Ok a) gives is =
+    subst (λ st. Gives wanted text st (items (value a))) (sym is.0)
+    (subst (λ (x : Result V F). IfOk x (λ v. Gives wanted text status.Ok (items v))) is.1 gives)
+finished_gives items status_ value wanted text r (Err e) gives is = tt
+
+pub finished_refused : {V A F : Type 0} (r : Result V F) (s : Result A F) (P : F → Type 0) → IfErr s (λ e. r ≡ Err e) → IfErr r P → IfErr s P
+finished_refused r (Ok a) P is refused = tt
+finished_refused {V = V} {F = F} r (Err e) P is refused = subst (λ (x : Result V F). IfErr x P) is refused

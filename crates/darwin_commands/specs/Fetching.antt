@@ -1,4 +1,4 @@
--- What a fetch of a description gave, as the program has it.
+-- What fetches gave and what was read, as the program has it.
 use Rattle.std.specs.Prelude.{◌≡◌, ℕ, List, ◌++◌, Option, Result, Ok, Err}
 use Rattle.cfg_io.specs.Shelf.{Files}
 use Rattle.darwin_commands.specs.declared.fetching.Fetched.{Fetched}

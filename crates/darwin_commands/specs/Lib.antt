@@ -6,6 +6,8 @@ pub mod Lines
 pub mod Outcomes
 pub mod Planning
 pub mod Plans
+pub mod Replays
 pub mod Requests
 pub mod Words
+pub mod Running
 pub mod Wanted

@@ -9,6 +9,8 @@ use Rattle.darwin_types.specs.declared.error.TypeError.{TypeError}
 use Rattle.darwin_types.specs.declared.error.TypeError.TheVariants as checking
 use Rattle.elaborator.specs.declared.error.ElabError.{ElabError}
 use Rattle.elaborator.specs.declared.error.ElabError.TheVariants as elaborating
+use Rattle.change_script.specs.declared.error.ScriptError.{ScriptError}
+use Rattle.change_script.specs.declared.error.ScriptError.TheVariants as scripting
 use Rattle.change_plan.specs.declared.error.PlanError.{PlanError}
 use Rattle.change_plan.specs.declared.error.PlanError.TheVariants as planning
 
@@ -71,6 +73,16 @@ plan_words (planning.NodesFull made wanted) = codes "NodesFull" ∷ decimal made
 plan_words (planning.PortsFull made wanted) = codes "PortsFull" ∷ decimal made ∷ decimal wanted ∷ []
 plan_words planning.NoMemory = []
 
+-- Faults of a file of events show the line.
+abbrev pub script_words : ScriptError → List (List ℕ)
+script_words (scripting.BadLine line) = codes "BadLine" ∷ decimal line ∷ []
+script_words scripting.NoStart = codes "NoStart" ∷ []
+script_words scripting.NoEnd = codes "NoEnd" ∷ []
+script_words (scripting.Order line) = codes "Order" ∷ decimal line ∷ []
+script_words (scripting.NumberTooBig line) = codes "NumberTooBig" ∷ decimal line ∷ []
+script_words (scripting.TooManyLines line) = codes "TooManyLines" ∷ decimal line ∷ []
+script_words scripting.NoMemory = []
+
 -- the line of a file that can't be read
 abbrev pub read_fault_line : List ℕ → List ℕ
 read_fault_line file = codes "read fault " ++ file ++ 10 ∷ []
@@ -78,3 +90,11 @@ read_fault_line file = codes "read fault " ++ file ++ 10 ∷ []
 -- the line of a description with a fault
 abbrev pub description_line : List ℕ → List (List ℕ) → List ℕ
 description_line file words = codes "description " ++ file ++ codes ":" ++ spaced words ++ 10 ∷ []
+
+-- the line of a file of events with a fault
+abbrev pub script_line : List ℕ → List (List ℕ) → List ℕ
+script_line file words = codes "script " ++ file ++ codes ":" ++ spaced words ++ 10 ∷ []
+
+-- the line of an event that is denied: its number, from 1, and the first of its rules that fails
+abbrev pub denied_line : ℕ → ℕ → List ℕ
+denied_line number rule = codes "denied" ++ spaced (decimal number ∷ decimal rule ∷ []) ++ 10 ∷ []

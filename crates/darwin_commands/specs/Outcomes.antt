@@ -4,22 +4,34 @@ use Rattle.cfg_io.specs.Shelf.{Files}
 use Rattle.cfg_io.specs.Sink.{with_bytes}
 use Rattle.config_graph.specs.Graph.{Configuration}
 use Rattle.config_graph.specs.GraphText.{graph_text}
+use Rattle.change_script.specs.declared.error.ScriptError.{ScriptError}
+use Rattle.change_script.specs.declared.event_files.EventFile.{EventFile}
+use Rattle.change_script.specs.EventFiles.{IsEventFile, IsFirstFault}
 use Rattle.darwin_commands.specs.declared.status.Status.{Status}
 use Rattle.darwin_commands.specs.declared.status.Status.TheVariants as status
-use Rattle.darwin_commands.specs.Words.{Command, Asks}
-use Rattle.darwin_commands.specs.Lines.{description_line}
+use Rattle.darwin_commands.specs.Words.{Command, help, version, flat, plan, replay, Asks}
+use Rattle.darwin_commands.specs.Lines.{description_line, script_line, script_words}
 use Rattle.darwin_commands.specs.Descriptions.{HasGraph}
 use Rattle.darwin_commands.specs.Plans.{HasPlan}
-use Rattle.darwin_commands.specs.Wanted.{Wanted, AsksFor, IsRefused}
-use Rattle.darwin_commands.specs.Answers.{description_limit}
+use Rattle.darwin_commands.specs.Replays.{HasReplay}
+use Rattle.darwin_commands.specs.Wanted.{Wanted, its_graph, its_plan, its_replay, IsRefused, Gives}
+use Rattle.darwin_commands.specs.Answers.{file_limit}
 
 -- the words ask for nothing
 abbrev pub HasNoForm : List (List ℕ) → Type 0
 HasNoForm words = (command : Command) → Asks words command → ⊥
 
+-- the command names the file
+abbrev pub Names : Command → List ℕ → Type 0
+Names help name = ⊥
+Names version name = ⊥
+Names (flat file top args) name = name ≡ file
+Names (plan file top args to to_args) name = name ≡ file
+Names (replay file events) name = (name ≡ file) ⊎ (name ≡ events)
+
 -- the words name the file
 abbrev pub NamesFile : List (List ℕ) → List ℕ → Type 0
-NamesFile words file = (wanted : Wanted) × AsksFor words file wanted
+NamesFile words file = (command : Command) × Asks words command × Names command file
 
 -- the status, unless memory ran out or the sink failed
 abbrev pub Ends : Status → Status → Type 0
@@ -33,14 +45,21 @@ Tells (Some files) file text = files file ≡ Some text
 -- where the shelf tells its files, the file of the name has more bytes than a description may have
 abbrev pub TellsTooLong : Option Files → List ℕ → Type 0
 TellsTooLong None file = Unit {0}
-TellsTooLong (Some files) file = IsSomeAnd (files file) (λ bytes. description_limit < length bytes)
+TellsTooLong (Some files) file = IsSomeAnd (files file) (λ bytes. file_limit < length bytes)
+
+-- The words ask for this of the description in a file, where the shelf tells of events what the file of events holds.
+abbrev pub Wants : Option Files → List (List ℕ) → List ℕ → Wanted → Type 0
+Wants files words file (its_graph top args) = Asks words (flat file top args)
+Wants files words file (its_plan top args to to_args) = Asks words (plan file top args to to_args)
+Wants files words file (its_replay script) =
+    (name bytes : List ℕ) × Asks words (replay file name) × Tells files name bytes × (length bytes ≤ file_limit) × IsEventFile bytes script
 
 -- The file holds a description that has a graph for the component and its arguments, and the text of this graph was written.
 pub record Flattened (files : Option Files) (file top : List ℕ) (args : List ℤ) (taken taken' : Option (List ℕ)) : Type 0 where
   pub text : List ℕ
   pub graph : Configuration
   pub told : Tells files file text
-  pub within : length text ≤ description_limit
+  pub within : length text ≤ file_limit
   pub has_graph : HasGraph text top args graph
   pub written : taken' ≡ with_bytes taken (graph_text graph)
 
@@ -49,9 +68,23 @@ pub record Planned (files : Option Files) (file top : List ℕ) (args : List ℤ
   pub text : List ℕ
   pub plan : List ℕ
   pub told : Tells files file text
-  pub within : length text ≤ description_limit
+  pub within : length text ≤ file_limit
   pub has_plan : HasPlan text top args to to_args plan
   pub written : taken' ≡ with_bytes taken plan
+
+-- The file of events is one, and what its events come to over the description was written, with this status.
+pub record Replayed (files : Option Files) (file events : List ℕ) (own : Status) (taken taken' : Option (List ℕ)) : Type 0 where
+  pub bytes : List ℕ
+  pub script : EventFile
+  pub told_events : Tells files events bytes
+  pub within_events : length bytes ≤ file_limit
+  pub is_script : IsEventFile bytes script
+  pub text : List ℕ
+  pub written : List ℕ
+  pub told : Tells files file text
+  pub within : length text ≤ file_limit
+  pub has_replay : HasReplay text script own written
+  pub wrote : taken' ≡ with_bytes taken written
 
 -- The file is too long, or a fault of what it holds was named; and the line that says so was written.
 pub data Refused (files : Option Files) (file : List ℕ) (wanted : Wanted) (taken taken' : Option (List ℕ)) : Type 0 where
@@ -59,13 +92,30 @@ pub data Refused (files : Option Files) (file : List ℕ) (wanted : Wanted) (tak
       TellsTooLong files file → taken' ≡ with_bytes taken (description_line file (codes "TooLong" ∷ []))
       → Refused files file wanted taken taken'
   at_fault :
-      (text : List ℕ) (words : List (List ℕ)) → Tells files file text → length text ≤ description_limit → IsRefused wanted text words
+      (text : List ℕ) (words : List (List ℕ)) → Tells files file text → length text ≤ file_limit → IsRefused wanted text words
       → taken' ≡ with_bytes taken (description_line file words) → Refused files file wanted taken taken'
 
 -- the file has more bytes than a description may have, or something refuses them
 abbrev pub MustRefuse : Wanted → Option (List ℕ) → Type 0
-MustRefuse wanted file = IsSomeAnd file (λ text. (description_limit < length text) ⊎ ((words : List (List ℕ)) × IsRefused wanted text words))
+MustRefuse wanted file = IsSomeAnd file (λ text. (file_limit < length text) ⊎ ((words : List (List ℕ)) × IsRefused wanted text words))
 
 -- the file has no more bytes than a description may have, and nothing refuses them
 abbrev pub NothingRefuses : Wanted → Option (List ℕ) → Type 0
-NothingRefuses wanted file = IsSomeAnd file (λ text. (length text ≤ description_limit) × ((words : List (List ℕ)) → ¬ IsRefused wanted text words))
+NothingRefuses wanted file = IsSomeAnd file (λ text. (length text ≤ file_limit) × ((words : List (List ℕ)) → ¬ IsRefused wanted text words))
+
+-- the bytes give this status for what is wanted, unless memory ran out or the sink failed
+abbrev pub EndsAsGiven : Wanted → Option (List ℕ) → Status → Type 0
+EndsAsGiven wanted file result =
+    IsSomeAnd file (λ text. (written : List ℕ) × Gives wanted text result written) ⊎ (result ≡ status.NoMemory) ⊎ (result ≡ status.WriteFault)
+
+-- The file of events is too long, or the fault of its first line at fault was named; and the line that says so was written.
+pub data ScriptRefused (files : Option Files) (name : List ℕ) (taken taken' : Option (List ℕ)) : Type 0 where
+  events_too_long :
+      TellsTooLong files name → taken' ≡ with_bytes taken (script_line name (codes "TooLong" ∷ [])) → ScriptRefused files name taken taken'
+  events_at_fault :
+      (bytes : List ℕ) (fault : ScriptError) → Tells files name bytes → length bytes ≤ file_limit → IsFirstFault bytes fault
+      → taken' ≡ with_bytes taken (script_line name (script_words fault)) → ScriptRefused files name taken taken'
+
+-- the file has more bytes than a file of events may have, or isn't one
+abbrev pub MustRefuseScript : Option (List ℕ) → Type 0
+MustRefuseScript file = IsSomeAnd file (λ bytes. (file_limit < length bytes) ⊎ ((fault : ScriptError) × IsFirstFault bytes fault))

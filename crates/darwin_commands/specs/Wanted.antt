@@ -2,29 +2,29 @@
 use Rattle.std.specs.Prelude.{◌≡◌, ℕ, ℤ, List}
 use Rattle.config_graph.specs.Graph.{Configuration}
 use Rattle.config_graph.specs.GraphText.{graph_text}
+use Rattle.change_script.specs.declared.event_files.EventFile.{EventFile}
 use Rattle.darwin_commands.specs.declared.status.Status.{Status}
 use Rattle.darwin_commands.specs.declared.status.Status.TheVariants as status
-use Rattle.darwin_commands.specs.Words.{flat, plan, Asks}
 use Rattle.darwin_commands.specs.Descriptions.{HasGraph, Refuses}
-use Rattle.darwin_commands.specs.Plans.{HasPlan, RefusesPlan}
+use Rattle.darwin_commands.specs.Plans.{HasPlan, RefusesPlan, RefusesStart}
+use Rattle.darwin_commands.specs.Replays.{HasReplay}
 
 pub data Wanted : Type 0 where
   -- the graph of a component with these arguments
   its_graph : (top : List ℕ) (args : List ℤ) → Wanted
   -- the plan from the first component to the second
   its_plan : (top : List ℕ) (args : List ℤ) (to : List ℕ) (to_args : List ℤ) → Wanted
-
--- the words ask for it, of the description in the file of this name
-abbrev pub AsksFor : List (List ℕ) → List ℕ → Wanted → Type 0
-AsksFor words file (its_graph top args) = Asks words (flat file top args)
-AsksFor words file (its_plan top args to to_args) = Asks words (plan file top args to to_args)
+  -- what the events of a file come to over the component that the file names
+  its_replay : (script : EventFile) → Wanted
 
 -- these words say why the bytes are refused
 abbrev pub IsRefused : Wanted → List ℕ → List (List ℕ) → Type 0
 IsRefused (its_graph top args) text words = Refuses text top args words
 IsRefused (its_plan top args to to_args) text words = RefusesPlan text top args to to_args words
+IsRefused (its_replay script) text words = RefusesStart text script.name script.args words
 
 -- the bytes give this status and text
 abbrev pub Gives : Wanted → List ℕ → Status → List ℕ → Type 0
 Gives (its_graph top args) text own written = (own ≡ status.Ok) × ((graph : Configuration) × HasGraph text top args graph × (written ≡ graph_text graph))
 Gives (its_plan top args to to_args) text own written = (own ≡ status.Ok) × HasPlan text top args to to_args written
+Gives (its_replay script) text own written = HasReplay text script own written

@@ -26,6 +26,8 @@ pub data Command : Type 0 where
   flat : (file top : List ℕ) (args : List ℤ) → Command
   -- the plan from the first component to the second
   plan : (file top : List ℕ) (args : List ℤ) (to : List ℕ) (to_args : List ℤ) → Command
+  -- the events of a file, over a component of a description
+  replay : (file events : List ℕ) → Command
 
 -- the command that the words ask for
 abbrev pub Asks : List (List ℕ) → Command → Type 0
@@ -36,3 +38,4 @@ Asks words (flat file top args) =
 Asks words (plan file top args to to_args) =
     (call target : List (List ℕ)) × (words ≡ codes "plan" ∷ file ∷ (call ++ codes "--" ∷ target)) × (file ≢ []) × IsCall call top args
     × IsCall target to to_args
+Asks words (replay file events) = (words ≡ codes "replay" ∷ file ∷ events ∷ []) × (file ≢ []) × (events ≢ [])

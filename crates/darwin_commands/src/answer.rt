@@ -1,9 +1,12 @@
 //! What a run answers, and how it is written.
 
+ghost use Rattle.std.specs.Prelude.{◌∷◌, ◌++◌, [], codes};
 ghost use Rattle.darwin_commands.specs.Answers.{Written};
+ghost use Rattle.darwin_commands.specs.Running.{status_of, text_of};
 
 use crate::status::Status;
 use cfg_io::{Sink, write_all};
+use config_graph::NoMemory;
 
 /// A text, and the status with which the run ends where the text is written.
 #[derive(Debug, Drop)]
@@ -20,4 +23,21 @@ pub fn write<K: Sink>(out: &mut K, status: Status, text: &[u8]) -> Status
         Ok(()) => status,
         Err(_stopped) => Status::WriteFault,
     }
+}
+
+/// Writes an answer, or that memory ran out, and says how the run ends.
+pub fn finish<K: Sink>(out: &mut K, answer: Result<Answer, NoMemory>) -> Status
+    ensures { Written (status_of answer) (text_of answer) (K.taken out.old) (K.taken out.new) (K.faults out.old) (K.faults out.new) result }
+{
+    match answer {
+        Ok(answer) => write(out, answer.status, answer.text.as_slice()),
+        Err(_) => no_memory(out),
+    }
+}
+
+/// Writes that memory ran out.
+pub fn no_memory<K: Sink>(out: &mut K) -> Status
+    ensures { Written Status.NoMemory (codes "no memory" ++ 10 ∷ []) (K.taken out.old) (K.taken out.new) (K.faults out.old) (K.faults out.new) result }
+{
+    write(out, Status::NoMemory, b"no memory\n")
 }

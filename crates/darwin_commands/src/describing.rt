@@ -1,8 +1,8 @@
 //! What is answered of a description.
 
-ghost use Rattle.std.specs.Prelude.{◌≤◌, ℕ, List, length, IfOk, IfErr};
+ghost use Rattle.std.specs.Prelude.{◌≡◌, ◌≤◌, ℕ, List, length, IfOk, IfErr};
 ghost use Rattle.darwin_types.specs.Checked.{description};
-ghost use Rattle.darwin_commands.specs.Answers.{DescriptionAnswers, IsWithin, description_limit, held};
+ghost use Rattle.darwin_commands.specs.Answers.{DescriptionAnswers, IsWithin, file_limit, held};
 ghost use Rattle.darwin_commands.specs.Descriptions.{IsChecked};
 ghost use Rattle.darwin_commands.specs.Wanted.{Wanted, its_graph, Gives, IsRefused};
 ghost use Rattle.darwin_commands.specs.Requests.{wanted_of};
@@ -14,11 +14,23 @@ use crate::description::{DescriptionFault, checked_of, graph_of};
 use crate::fetching::Fetched;
 use crate::lines::{description_line, read_fault_line, too_long_line};
 use crate::plans::plan_between;
+use crate::replaying::replay_over;
 use crate::status::Status;
-use crate::words::{Call, Purpose};
+use crate::words::Call;
+use change_script::EventFile;
 use config_graph::{NoMemory, graph_text};
 use darwin_types::Checked;
 use std::alloc::{AllocError, Global};
+
+/// What is wanted of a description.
+#[derive(Debug, Drop)]
+pub enum Purpose<'a> {
+    Graph(Call<'a>),
+    /// The plan from the first component to the second.
+    Plan(Call<'a>, Call<'a>),
+    /// What events come to.
+    Replay(EventFile),
+}
 
 /// What is wanted of a description, or the line that refuses it.
 pub fn describe(
@@ -27,7 +39,7 @@ pub fn describe(
     purpose: &Purpose<'_>,
     fetched: Fetched,
 ) -> Result<Answer, NoMemory>
-    requires { IsWithin description_limit (given_of fetched) }
+    requires { IsWithin file_limit (given_of fetched) }
     ensures { IfOk result (λ answer. DescriptionAnswers file.now (wanted_of purpose.now) (given_of fetched) answer.status answer.text.items) }
 {
     match fetched {
@@ -50,22 +62,19 @@ fn describe_text(
     purpose: &Purpose<'_>,
     text: &[u8],
 ) -> Result<Answer, NoMemory>
-    requires { length text.now ≤ description_limit }
+    requires { length text.now ≤ file_limit }
     ensures { IfOk result (λ answer. DescriptionAnswers file.now (wanted_of purpose.now) (held text.now) answer.status answer.text.items) }
 {
     match answer_of(alloc, purpose, text) {
-        Ok(text) => Ok(Answer {
-            status: Status::Ok,
-            text,
-        }),
+        Ok(answer) => Ok(answer),
         Err(fault) => refuse(alloc, file, &fault),
     }
 }
 
 /// What the bytes of a description give, or what refuses them.
-fn answer_of(alloc: Global, purpose: &Purpose<'_>, text: &[u8]) -> Result<Vec<u8>, DescriptionFault>
-    requires { length text.now ≤ description_limit }
-    ensures gives { IfOk result (λ written. Gives (wanted_of purpose.now) text.now Status.Ok written.items) }
+fn answer_of(alloc: Global, purpose: &Purpose<'_>, text: &[u8]) -> Result<Answer, DescriptionFault>
+    requires { length text.now ≤ file_limit }
+    ensures gives { IfOk result (λ answer. Gives (wanted_of purpose.now) text.now answer.status answer.text.items) }
     ensures refused { IfErr result (MayRefuse (IsRefused (wanted_of purpose.now) text.now)) }
 {
     match checked_of(alloc, text) {
@@ -79,13 +88,30 @@ fn use_checked(
     alloc: Global,
     purpose: &Purpose<'_>,
     checked: &Checked,
-) -> Result<Vec<u8>, DescriptionFault>
-    ensures gives { (text : List ℕ) → IsChecked text (description checked.now) → IfOk result (λ written. Gives (wanted_of purpose.now) text Status.Ok written.items) }
-    ensures refused { (text : List ℕ) → IsChecked text (description checked.now) → IfErr result (MayRefuse (IsRefused (wanted_of purpose.now) text)) }
+) -> Result<Answer, DescriptionFault>
+    ensures gives { (text : List ℕ) → IsChecked text (description checked.now)
+        → IfOk result (λ answer. Gives (wanted_of purpose.now) text answer.status answer.text.items) }
+    ensures refused { (text : List ℕ) → IsChecked text (description checked.now)
+        → IfErr result (MayRefuse (IsRefused (wanted_of purpose.now) text)) }
 {
     match purpose {
-        Purpose::Graph(call) => graph_text_of(alloc, checked, call),
-        Purpose::Plan(call, target) => plan_between(alloc, checked, call, target),
+        Purpose::Graph(call) => finished(graph_text_of(alloc, checked, call)),
+        Purpose::Plan(call, target) => finished(plan_between(alloc, checked, call, target)),
+        Purpose::Replay(script) => replay_over(alloc, checked, script),
+    }
+}
+
+/// A text with which a run ends well.
+fn finished(text: Result<Vec<u8>, DescriptionFault>) -> Result<Answer, DescriptionFault>
+    ensures text { IfOk result (λ answer. (answer.status ≡ Status.Ok) × (text ≡ Ok answer.text)) }
+    ensures fault { IfErr result (λ fault. text ≡ Err fault) }
+{
+    match text {
+        Ok(text) => Ok(Answer {
+            status: Status::Ok,
+            text,
+        }),
+        Err(fault) => Err(fault),
     }
 }
 

@@ -3,6 +3,7 @@
 ghost use Rattle.std.specs.Prelude.{◌≡◌, ◌≤◌, ℕ, ℤ, List, length, IfOk, IfErr};
 ghost use Rattle.darwin_lexer.specs.Tokens.{IsTokens};
 ghost use Rattle.darwin_parser.specs.Tree.{tree_of};
+ghost use Rattle.config_graph.specs.Sound.{Sound};
 ghost use Rattle.darwin_types.specs.Checked.{description};
 ghost use Rattle.darwin_commands.specs.Descriptions.{IsTree, IsChecked, HasGraph, Refuses};
 ghost use Rattle.darwin_commands.specs.DescriptionFaults.{MayRefuse, is_no_memory};
@@ -69,6 +70,7 @@ pub fn graph_of(
     args: &[i32],
 ) -> Result<Graph, DescriptionFault>
     ensures graph { (text : List ℕ) → IsChecked text (description checked.now) → IfOk result (HasGraph text top.now args.now) }
+    ensures sound { IfOk result (λ graph. Sound graph) }
     ensures refused { (text : List ℕ) → IsChecked text (description checked.now) → IfErr result (MayRefuse (Refuses text top.now args.now)) }
 {
     match elaborate(alloc, checked, top, args) {

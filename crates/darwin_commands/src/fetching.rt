@@ -1,6 +1,6 @@
-//! Fetches of descriptions.
+//! Fetches of descriptions and of files of events.
 
-ghost use Rattle.std.specs.Prelude.{◌≤◌, vec_len};
+ghost use Rattle.std.specs.Prelude.{◌≡◌, ◌≤◌, vec_len};
 ghost use Rattle.darwin_commands.specs.Fetching.{Fetches, given_of};
 
 use cfg_io::{Shelf, ShelfError};
@@ -8,10 +8,10 @@ use config_graph::NoMemory;
 use darwin_lexer::MAX_TEXT;
 use std::alloc::AllocError;
 
-/// The most bytes of a description.
-const DESCRIPTION_LIMIT: u32 = MAX_TEXT as u32;
+/// The most bytes of a file.
+const FILE_LIMIT: u32 = MAX_TEXT as u32;
 
-/// What a fetch of a description gave.
+/// What a fetch gave.
 #[derive(Debug, Drop)]
 pub enum Fetched {
     Held(Vec<u8>),
@@ -19,11 +19,12 @@ pub enum Fetched {
     Failed,
 }
 
-/// Fetches the description of this name.
-pub fn fetch_description<H: Shelf>(shelf: &mut H, file: &str) -> Result<Fetched, NoMemory>
-    ensures { Fetches (H.files shelf.old) file.now (H.failed shelf.old) (H.failed shelf.new) result }
+/// Fetches the file of this name.
+pub fn fetch_file<H: Shelf>(shelf: &mut H, file: &str) -> Result<Fetched, NoMemory>
+    ensures fetches { Fetches (H.files shelf.old) file.now (H.failed shelf.old) (H.failed shelf.new) result }
+    ensures kept { H.files shelf.new ≡ H.files shelf.old }
 {
-    match shelf.fetch(file, DESCRIPTION_LIMIT) {
+    match shelf.fetch(file, FILE_LIMIT) {
         Ok(text) => Ok(Fetched::Held(text)),
         Err(ShelfError::Failed) => Ok(Fetched::Failed),
         Err(ShelfError::TooLong { .. }) => Ok(Fetched::TooLong),

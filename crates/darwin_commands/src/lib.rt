@@ -2,6 +2,7 @@
 #![tactic(auto)]
 
 mod answer;
+mod answering;
 mod commands;
 mod describing;
 mod description;
@@ -9,6 +10,9 @@ mod fetching;
 mod lines;
 mod places;
 mod plans;
+mod replaying;
+mod script_lines;
+mod scripts;
 mod status;
 mod words;
 
@@ -17,7 +21,7 @@ pub use status::Status;
 
 /// What `--help` writes: the commands with their forms.
 const HELP: &str =
-    "darwin_run --help\ndarwin_run --version\ndarwin_run flat FILE NAME INT*\ndarwin_run plan FILE NAME INT* -- NAME INT*\n";
+    "darwin_run --help\ndarwin_run --version\ndarwin_run flat FILE NAME INT*\ndarwin_run plan FILE NAME INT* -- NAME INT*\ndarwin_run replay FILE EVENTS\n";
 
 /// What `--version` writes.
 const VERSION: &str = "darwin_run 0.1.0\n";

@@ -26,7 +26,7 @@ fn push_place(line: &mut Vec<u8>, at: At) -> Result<(), NoMemory>
 }
 
 /// Writes a word after a space.
-fn push_word(line: &mut Vec<u8>, word: &[u8]) -> Result<(), NoMemory>
+pub fn push_word(line: &mut Vec<u8>, word: &[u8]) -> Result<(), NoMemory>
     ensures { OnOk result (line.new.items ≡ line.old.items ++ lines.spaced (word.now ∷ [])) }
 {
     line.extend_from_slice(b" ")?;

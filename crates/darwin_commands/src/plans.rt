@@ -1,6 +1,7 @@
 //! Plans between components of a description.
 
 ghost use Rattle.std.specs.Prelude.{◌≡◌, ℕ, List, [], IfOk, IfErr, OnOk};
+ghost use Rattle.config_graph.specs.Sound.{Sound};
 ghost use Rattle.darwin_types.specs.Checked.{description};
 ghost use Rattle.change_plan.specs.Refusals.{CanPlan};
 ghost use Rattle.darwin_commands.specs.Descriptions.{IsChecked};
@@ -30,7 +31,7 @@ pub fn plan_between(
     ensures refused { (text : List ℕ) → IsChecked text (description checked.now)
         → IfErr result (MayRefuse (RefusesPlan text call.now.top.now call.now.args.items target.now.top.now target.now.args.items)) }
 {
-    match start(alloc, checked, call) {
+    match start_call(alloc, checked, call) {
         Ok(old) => match graph_of(
             alloc,
             checked,
@@ -44,14 +45,29 @@ pub fn plan_between(
     }
 }
 
-/// The graph of a component with which a run can start.
-pub fn start(alloc: Global, checked: &Checked, call: &Call<'_>) -> Result<Graph, DescriptionFault>
+/// The graph with which a run can start with a call's component.
+fn start_call(alloc: Global, checked: &Checked, call: &Call<'_>) -> Result<Graph, DescriptionFault>
     ensures starts { (text : List ℕ) → IsChecked text (description checked.now)
         → IfOk result (Starts text call.now.top.now call.now.args.items) }
     ensures refused { (text : List ℕ) → IsChecked text (description checked.now)
         → IfErr result (MayRefuse (RefusesStart text call.now.top.now call.now.args.items)) }
 {
-    match graph_of(alloc, checked, call.top.as_bytes(), call.args.as_slice()) {
+    start(alloc, checked, call.top.as_bytes(), call.args.as_slice())
+}
+
+/// The graph of a component with which a run can start.
+pub fn start(
+    alloc: Global,
+    checked: &Checked,
+    top: &[u8],
+    args: &[i32],
+) -> Result<Graph, DescriptionFault>
+    ensures starts { (text : List ℕ) → IsChecked text (description checked.now) → IfOk result (Starts text top.now args.now) }
+    ensures refused { (text : List ℕ) → IsChecked text (description checked.now) → IfErr result (MayRefuse (RefusesStart text top.now args.now)) }
+    ensures sound { IfOk result (λ graph. Sound graph) }
+    ensures room { IfOk result (λ graph. CanPlan nothing graph [] nothing_made) }
+{
+    match graph_of(alloc, checked, top, args) {
         Ok(graph) => match require_room(alloc, &graph) {
             Ok(()) => Ok(graph),
             Err(fault) => Err(fault),

@@ -17,20 +17,26 @@ pub struct Call<'a> {
     pub args: Vec<i32>,
 }
 
-/// What is wanted of a description.
-#[derive(Debug, Drop)]
-pub enum Purpose<'a> {
-    Graph(Call<'a>),
-    /// The plan from the first component to the second.
-    Plan(Call<'a>, Call<'a>),
-}
-
 /// What the words ask for.
 #[derive(Debug, Drop)]
 pub enum Request<'a> {
     Help,
     Version,
-    Describe { file: &'a str, purpose: Purpose<'a> },
+    Flat {
+        file: &'a str,
+        call: Call<'a>,
+    },
+    /// The plan from the first component to the second.
+    Plan {
+        file: &'a str,
+        call: Call<'a>,
+        target: Call<'a>,
+    },
+    /// The events of a file, over a component of a description.
+    Replay {
+        file: &'a str,
+        events: &'a str,
+    },
 }
 
 /// What the words ask for, where they have one of the forms.
@@ -62,6 +68,7 @@ fn read_command<'a>(
     match first {
         "flat" => read_flat(alloc, file, &words[1..]),
         "plan" => read_plan(alloc, file, &words[1..]),
+        "replay" => Ok(read_replay(file, &words[1..])),
         _ => Ok(None),
     }
 }
@@ -91,10 +98,7 @@ fn read_flat<'a>(
     ensures none { IfOk result (λ found. IfNone found ((command : Command) → Asks (codes "flat" ∷ file.now ∷ map string_bytes words.now) command → ⊥)) }
 {
     match read_call(alloc, words)? {
-        Some(call) => Ok(Some(Request::Describe {
-            file,
-            purpose: Purpose::Graph(call),
-        })),
+        Some(call) => Ok(Some(Request::Flat { file, call })),
         None => Ok(None),
     }
 }
@@ -119,10 +123,32 @@ fn read_plan<'a>(
     let Some(target) = read_call(alloc, &words[at + 1..])? else {
         return Ok(None);
     };
-    Ok(Some(Request::Describe {
-        file,
-        purpose: Purpose::Plan(call, target),
-    }))
+    Ok(Some(Request::Plan { file, call, target }))
+}
+
+/// What the word `replay` asks for with a file and these words behind it.
+fn read_replay<'a>(file: &'a str, words: &'a [String]) -> Option<Request<'a>>
+    requires { file.now ≢ [] }
+    ensures found { IfSome result (λ request. Asks (codes "replay" ∷ file.now ∷ map string_bytes words.now) (command_of request)) }
+    ensures none { IfNone result ((command : Command) → Asks (codes "replay" ∷ file.now ∷ map string_bytes words.now) command → ⊥) }
+{
+    match words {
+        [] => None,
+        [events] => read_events_name(file, events.as_str()),
+        [_, _, ..] => None,
+    }
+}
+
+/// What the word `replay` asks for with a file and a word behind it.
+fn read_events_name<'a>(file: &'a str, events: &'a str) -> Option<Request<'a>>
+    requires { file.now ≢ [] }
+    ensures found { IfSome result (λ request. Asks (codes "replay" ∷ file.now ∷ events.now ∷ []) (command_of request)) }
+    ensures none { IfNone result ((command : Command) → Asks (codes "replay" ∷ file.now ∷ events.now ∷ []) command → ⊥) }
+{
+    if events.is_empty() {
+        return None;
+    }
+    Some(Request::Replay { file, events })
 }
 
 /// How many words stand before the first `--`, or how many there are where none is.

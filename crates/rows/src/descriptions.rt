@@ -133,3 +133,7 @@ component Flow(int cap) {
 /// As many sinks as are wanted.
 pub const MANY: &str =
     "component sink { provide in; } component Many(int n) { array A[n]:sink; forall i:0..n-1 inst A[i]; }";
+
+/// An asker whose request an adder answers after a further message.
+pub const ASKING: &str =
+    "component asker(int n) { require sum; } component adder { provide sum; } component Two { inst a:asker(2); d:adder; bind a.sum -- d.sum; }";

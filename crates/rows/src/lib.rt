@@ -12,6 +12,8 @@ mod flat;
 #[cfg(test)]
 mod plan;
 #[cfg(test)]
+mod replay;
+#[cfg(test)]
 mod running;
 #[cfg(test)]
 mod words;

@@ -11,7 +11,7 @@ struct Words {
     written: &'static str,
 }
 
-static WORDS: [Words; 36] = [
+static WORDS: [Words; 41] = [
     Words {
         words: &[],
         status: 1,
@@ -20,7 +20,7 @@ static WORDS: [Words; 36] = [
     Words {
         words: &["--help"],
         status: 0,
-        written: "darwin_run --help\ndarwin_run --version\ndarwin_run flat FILE NAME INT*\ndarwin_run plan FILE NAME INT* -- NAME INT*\n",
+        written: "darwin_run --help\ndarwin_run --version\ndarwin_run flat FILE NAME INT*\ndarwin_run plan FILE NAME INT* -- NAME INT*\ndarwin_run replay FILE EVENTS\n",
     },
     Words {
         words: &["--version"],
@@ -213,6 +213,31 @@ static WORDS: [Words; 36] = [
         words: &["plan", "--", "Line", "3", "10", "--", "Line", "3", "10"],
         status: 4,
         written: "read fault --\n",
+    },
+    Words {
+        words: &["replay"],
+        status: 1,
+        written: "usage\n",
+    },
+    Words {
+        words: &["replay", "f.dar"],
+        status: 1,
+        written: "usage\n",
+    },
+    Words {
+        words: &["replay", "", "e.txt"],
+        status: 1,
+        written: "usage\n",
+    },
+    Words {
+        words: &["replay", "f.dar", ""],
+        status: 1,
+        written: "usage\n",
+    },
+    Words {
+        words: &["replay", "f.dar", "e.txt", "x"],
+        status: 1,
+        written: "usage\n",
     },
 ];
 

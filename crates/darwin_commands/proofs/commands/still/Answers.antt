@@ -14,8 +14,17 @@ returns g c = record {
   every_write_fault = ending.every_write_fault _ _ _ _ _ _ _ _ _ c.run.ensures;
   flattened = flattening.flattens _ _ _ _ _ _ _ _ _ c.run.ensures;
   planned = flattening.plans _ _ _ _ _ _ _ _ _ c.run.ensures;
+  replayed = flattening.replays _ _ _ _ _ _ _ _ _ c.run.ensures;
+  script = flattening.script _ _ _ _ _ _ _ _ _ c.run.ensures;
+  every_script = λ file name files asks telling steady. flattening.every_script _ _ _ _ _ _ _ _ _ c.run.ensures files telling steady file name asks;
   refused = flattening.refuses _ _ _ _ _ _ _ _ _ c.run.ensures;
-  every_refusal = λ file wanted files asks telling steady. flattening.must_refuse _ _ _ _ _ _ _ _ _ c.run.ensures file wanted files asks telling steady;
-  complete = λ file wanted files asks telling steady. flattening.completes _ _ _ _ _ _ _ _ _ c.run.ensures file wanted files asks telling steady;
-  every_graph = flattening.every_graph _ _ _ _ _ _ _ _ _ c.run.ensures;
+  every_refusal = λ file wanted files wants telling steady. flattening.must_refuse _ _ _ _ _ _ _ _ _ c.run.ensures files telling steady file wanted wants;
+  complete = λ file wanted files wants telling steady. flattening.completes _ _ _ _ _ _ _ _ _ c.run.ensures files telling steady file wanted wants;
+  every_answer = λ file wanted files text own written wants telling steady holds within gives.
+      flattening.answers_as _ _ _ _ _ _ _ _ _ c.run.ensures files telling steady file wanted text own written wants holds within gives;
+  every_graph = λ file top args files text graph asks telling holds within has steady.
+      flattening.every_graph _ _ _ _ _ _ _ _ _ c.run.ensures files telling steady file top args text graph asks holds within has;
+  denied = flattening.denies _ _ _ _ _ _ _ _ _ c.run.ensures;
+  every_denial = λ file script files text graph number rule wants telling steady holds within starts is.
+      flattening.every_denial _ _ _ _ _ _ _ _ _ c.run.ensures files telling steady file script text graph number rule wants holds within starts is;
 }

@@ -1,0 +1,73 @@
+//! Files of events.
+
+ghost use Rattle.std.specs.Prelude.{◌≡◌, ◌≢◌, ◌≤◌, ◌↔◌, ℕ, List, length, IfOk, IsTrue};
+ghost use Rattle.change_script.specs.EventFiles.{IsFirstFault};
+ghost use Rattle.darwin_commands.specs.Answers.{IsWithin, file_limit, held};
+ghost use Rattle.darwin_commands.specs.Fetching.{given_of};
+ghost use Rattle.darwin_commands.specs.Running.{Reads};
+
+use crate::answer::Answer;
+use crate::fetching::Fetched;
+use crate::lines::read_fault_line;
+use crate::script_lines::{script_line, script_too_long_line};
+use crate::status::Status;
+use change_script::{EventFile, ScriptError, parse_events};
+use config_graph::NoMemory;
+use std::alloc::{AllocError, Global};
+
+/// What was read of a file of events.
+#[derive(Debug, Drop)]
+pub enum Read {
+    Events(EventFile),
+    /// It isn't one.
+    Refused(Answer),
+}
+
+/// What a file of events says, or the line that refuses it.
+pub fn read_script(alloc: Global, name: &str, fetched: Fetched) -> Result<Read, NoMemory>
+    requires { IsWithin file_limit (given_of fetched) }
+    ensures { IfOk result (Reads name.now (given_of fetched)) }
+{
+    match fetched {
+        Fetched::Held(bytes) => read_bytes(alloc, name, bytes.as_slice()),
+        Fetched::TooLong => Ok(Read::Refused(Answer {
+            status: Status::Script,
+            text: script_too_long_line(alloc, name)?,
+        })),
+        Fetched::Failed => Ok(Read::Refused(Answer {
+            status: Status::ReadFault,
+            text: read_fault_line(alloc, name)?,
+        })),
+    }
+}
+
+/// The same for its bytes.
+fn read_bytes(alloc: Global, name: &str, bytes: &[u8]) -> Result<Read, NoMemory>
+    requires { length bytes.now ≤ file_limit }
+    ensures { IfOk result (Reads name.now (held bytes.now)) }
+{
+    match parse_events(alloc, bytes) {
+        Ok(script) => Ok(Read::Events(script)),
+        Err(fault) => refuse_script(alloc, name, &fault),
+    }
+}
+
+/// The line that refuses a file of events.
+fn refuse_script(alloc: Global, name: &str, fault: &ScriptError) -> Result<Read, NoMemory>
+    ensures { (bytes : List ℕ) → (fault.now ≢ ScriptError.NoMemory → IsFirstFault bytes fault.now) → IfOk result (Reads name.now (held bytes)) }
+{
+    if is_no_memory(fault) {
+        return Err(AllocError);
+    }
+    Ok(Read::Refused(Answer {
+        status: Status::Script,
+        text: script_line(alloc, name, fault)?,
+    }))
+}
+
+/// Whether it is want of memory, and no fault of the file.
+fn is_no_memory(fault: &ScriptError) -> bool
+    ensures { IsTrue result ↔ (fault.now ≡ ScriptError.NoMemory) }
+{
+    matches!(fault, ScriptError::NoMemory)
+}

@@ -1,0 +1,12 @@
+//! Events replayed over a system that was started with a graph: which of them is denied, or what is open and settled after all.
+#![tactic(auto)]
+
+mod applying;
+mod laws;
+mod replaying;
+mod settling;
+mod writing;
+
+pub use applying::Denial;
+pub use laws::denied_or_replayed;
+pub use replaying::{Outcome, replay};
