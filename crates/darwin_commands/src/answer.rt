@@ -35,7 +35,7 @@ pub fn finish<K: Sink>(out: &mut K, answer: Result<Answer, NoMemory>) -> Status
     }
 }
 
-/// Writes that memory ran out.
+/// Writes that memory ran out, as for a command line for whose words there is none.
 pub fn no_memory<K: Sink>(out: &mut K) -> Status
     ensures { Written Status.NoMemory (codes "no memory" ++ 10 ∷ []) (K.taken out.old) (K.taken out.new) (K.faults out.old) (K.faults out.new) result }
 {

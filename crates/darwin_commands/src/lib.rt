@@ -16,6 +16,7 @@ mod scripts;
 mod status;
 mod words;
 
+pub use answer::no_memory;
 pub use commands::still;
 pub use status::Status;
 

@@ -2,7 +2,8 @@
 #![tactic(auto)]
 
 use cfg_io::{FileShelf, OutSink};
-use darwin_commands::still;
+use darwin_commands::{no_memory, still};
+use std::io::ErrorKind;
 use std::process::ExitCode;
 use std::{env, io};
 
@@ -13,10 +14,13 @@ fn words(rt: &HostRuntime) -> io::Result<Vec<String>> {
 
 fn main(rt: HostRuntime) -> ExitCode {
     let alloc = rt.alloc();
-    // Words that can't be read, as one that isn't UTF-8, are of no form, as no words are.
-    let words = words(&rt).unwrap_or(Vec::new(alloc));
     let mut shelf = FileShelf::new(&rt, alloc);
     let mut out = OutSink::new(&rt);
-    let status = still(alloc, words.as_slice(), &mut shelf, &mut out);
+    let status = match words(&rt) {
+        Ok(words) => still(alloc, words.as_slice(), &mut shelf, &mut out),
+        Err(fault) if fault.kind() == ErrorKind::OutOfMemory => no_memory(&mut out),
+        // Words that can't be read, as one that isn't UTF-8, are of no form, as no words are.
+        Err(_) => still(alloc, &[], &mut shelf, &mut out),
+    };
     ExitCode::from(status as u8)
 }

@@ -10,6 +10,8 @@ mod faults;
 #[cfg(test)]
 mod flat;
 #[cfg(test)]
+mod guide;
+#[cfg(test)]
 mod plan;
 #[cfg(test)]
 mod replay;
