@@ -1,6 +1,7 @@
 //! The components of a description by name.
 
-ghost use Rattle.std.specs.Prelude.{◌≡◌, ◌==◌, [], None, Some, MatchOption, IfOk, length};
+ghost use Rattle.std.specs.Prelude.{◌≡◌, ◌==◌, [], None, Some, MatchOption, IfOk, false, length, map};
+ghost use Rattle.std.specs.Option.{option_map_or};
 ghost use Rattle.darwin_parser.specs.Tree.{Component as PureComponent, component_of, stmt_of, stmts_of, tree_of};
 ghost use Rattle.darwin_types.specs.Scope.{component_named, is_primitive as is_primitive_component, entries_of, entries_of_stmt};
 ghost use Rattle.elaborator.specs.Naming.{Indexes, ArePortsIndexed};
@@ -10,29 +11,33 @@ use crate::name_index::NameIndex;
 use darwin_parser::{Component, PortDecl, Stmt, Unit};
 use std::alloc::{AllocError, Global};
 
-/// The components of a description by name, and the ports of each by name. Where two have one name the
-/// first counts.
+/// The components of a description by name, and of each its ports by name and whether it is primitive. Where
+/// two have one name the first counts.
 #[derive(Drop)]
 pub struct Directory<'a> {
     pub unit: &'a Unit,
     places: NameIndex<'a>,
     ports: Vec<NameIndex<'a>>,
+    primitive: Vec<bool>,
     ghost indexed: { Indexes (λ c. c.name) places unit.now.components.items },
     ghost with_ports: { ArePortsIndexed ports.items unit.now.components.items },
+    ghost with_primitive: { primitive.items ≡ map (λ c. is_primitive_component (component_of c)) unit.now.components.items },
 }
 
 impl<'a> Directory<'a> {
-    /// Indexes the components of a description, and their ports.
+    /// Indexes the components of a description, and their ports, and notes which are primitive.
     pub fn of(alloc: Global, unit: &'a Unit) -> Result<Directory<'a>, AllocError>
         ensures { IfOk result (λ d. d.unit ≡ unit.entry) }
     {
         let components = unit.components.as_slice();
         let places = index_components(alloc, components)?;
         let ports = index_all_ports(alloc, components)?;
+        let primitive = note_primitive(alloc, components)?;
         Ok(Directory {
             unit,
             places,
             ports,
+            primitive,
         })
     }
 
@@ -42,6 +47,16 @@ impl<'a> Directory<'a> {
     {
         let place = self.places.place(name)?;
         Some(&self.unit.components[place])
+    }
+
+    /// Whether the component with the name is there and is primitive.
+    pub fn is_primitive(&self, name: &[u8]) -> bool
+        ensures { result ≡ option_map_or is_primitive_component (component_named (tree_of self.now.unit.now) name.now) false }
+    {
+        match self.places.place(name) {
+            Some(place) => self.primitive[place],
+            None => false,
+        }
     }
 
     /// The place of the first port with the name in the component of a name.
@@ -89,8 +104,15 @@ fn index_ports<'a>(alloc: Global, ports: &'a [PortDecl]) -> Result<NameIndex<'a>
     Ok(index)
 }
 
+/// For each component whether it is primitive, so that no body is looked through at each instance.
+fn note_primitive(alloc: Global, components: &[Component]) -> Result<Vec<bool>, AllocError>
+    ensures { IfOk result (λ noted. noted.items ≡ map (λ c. is_primitive_component (component_of c)) components.now) }
+{
+    components.iter().map(|c| is_primitive(c)).collect(alloc)
+}
+
 /// Whether the component has no `inst` entry.
-pub(crate) fn is_primitive(component: &Component) -> bool
+fn is_primitive(component: &Component) -> bool
     ensures { result ≡ is_primitive_component (component_of component.now) }
 {
     lacks_entries(component.body.as_slice())

@@ -14,7 +14,7 @@ ghost use Rattle.elaborator.specs.declared.error.ElabError.TheVariants.{NoMemory
 
 use crate::ElabError;
 use crate::building::build_graph;
-use crate::directory::{Directory, is_primitive};
+use crate::directory::Directory;
 use crate::growing::expand;
 use crate::instance::Instance;
 use config_graph::{Graph, Text};
@@ -59,7 +59,7 @@ fn top_of<'a>(
     let Some(component) = directory.find(name) else {
         return Err(ElabError::NoTop(Text::from_bytes(alloc, name)?));
     };
-    if is_primitive(component) {
+    if directory.is_primitive(name) {
         return Err(ElabError::TopIsKind(Text::from_bytes(alloc, name)?));
     }
     if component.params.len() != args.len() {

@@ -9,7 +9,7 @@ ghost use Rattle.elaborator.specs.Expansion.{instance_in};
 ghost use Rattle.elaborator.specs.Opening.{IsMade, AreMade, Judges};
 
 use crate::ElabError;
-use crate::directory::{Directory, is_primitive};
+use crate::directory::Directory;
 use crate::instance::Instance;
 use crate::paths::path_within;
 use config_graph::Text;
@@ -40,7 +40,7 @@ fn make<'a>(
     let Some(component) = directory.find(child.component.as_bytes()) else {
         return Ok(None);
     };
-    let is_primitive = is_primitive(component);
+    let is_primitive = directory.is_primitive(child.component.as_bytes());
     if is_primitive && !are_kind_arguments(child.arguments.as_slice()) {
         return Err(ElabError::OutOfRange(within.path.try_clone()?, child.at));
     }
