@@ -15,6 +15,10 @@ pub Both-sym : {A B : Type 0} (R : A → B → Type 0) (S : B → A → Type 0) 
 Both-sym R S turn _ _ neither = neither
 Both-sym R S turn _ _ (both_there x y same) = both_there y x (turn x y same)
 
+pub Both-refl : {A : Type 0} (R : A → A → Type 0) → ((x : A) → R x x) → (o : Option A) → Both R o o
+Both-refl R alone None = neither
+Both-refl R alone (Some x) = both_there x x (alone x)
+
 pub Both-map : {A B : Type 0} (R S : A → B → Type 0) → ((x : A) (y : B) → R x y → S x y) → (x : Option A) (y : Option B) → Both R x y → Both S x y
 Both-map R S turn _ _ neither = neither
 Both-map R S turn _ _ (both_there x y same) = both_there x y (turn x y same)
@@ -22,7 +26,7 @@ Both-map R S turn _ _ (both_there x y same) = both_there x y (turn x y same)
 Both-after : {A : Type 0} (R : A → A → Type 0) → ((x y z : A) → R x y → R y z → R x z) → (x y : A) (z : Option A) → R x y → Both R (Some y) z → Both R (Some x) z
 Both-after R follow x y _ same (both_there _ z same') = both_there x z (follow x y z same same')
 
-Both-trans : {A : Type 0} (R : A → A → Type 0) → ((x y z : A) → R x y → R y z → R x z) → (x y z : Option A) → Both R x y → Both R y z → Both R x z
+pub Both-trans : {A : Type 0} (R : A → A → Type 0) → ((x y z : A) → R x y → R y z → R x z) → (x y z : Option A) → Both R x y → Both R y z → Both R x z
 Both-trans R follow _ _ z neither other = other
 Both-trans R follow _ _ z (both_there x y same) other = Both-after R follow x y z same other
 

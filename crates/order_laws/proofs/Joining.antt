@@ -78,7 +78,7 @@ named-with_instance t u i i' e _ _ is is' neither = rw (named-nowhere t i e is, 
 named-with_instance t u i i' e _ _ is is' (both_there j j' same) =
     named-with_port t u i i' e j j' is is' same (port_named j.component e.port) (port_named j'.component e.port) refl refl (same.component.port e.port)
 
-named-same :
+pub named-same :
     (t u : Tree) (top top' : Instance) → Setting t u top top' → (i i' : Instance) → Inst t top i → SameInstance i i' → (e : End)
     → Both SameNamed (named t i e) (named u i' e)
 named-same t u top top' setting i i' inst same e =
@@ -87,14 +87,14 @@ named-same t u top top' setting i i' inst same e =
 port_of-same : (x y : Named) → SameNamed x y → port_of x ≡ port_of y
 port_of-same x y same = rw (same.instance.path, same.instance.depth, same.decl.side, same.decl.name, same.index) refl
 
-may_lead-same : (x x' y y' : Named) → SameNamed x x' → SameNamed y y' → may_lead x y ≡ may_lead x' y'
+pub may_lead-same : (x x' y y' : Named) → SameNamed x x' → SameNamed y y' → may_lead x y ≡ may_lead x' y'
 may_lead-same x x' y y' same same' =
     rw (same.decl.size, same.index, same.is_inner, same.decl.side, same'.decl.size, same'.index, same'.is_inner, same'.decl.side) refl
 
 -- ---- pairs
 
 -- the ports that a pair binds
-abbrev ports_of : Pair → Port × Port
+abbrev pub ports_of : Pair → Port × Port
 ports_of p = (p.source, p.target)
 
 abbrev one_pair : Port → Port → List (Port × Port)
@@ -140,7 +140,7 @@ pairs-left t u i i' b b' _ _ left left' neither rights = ap (map ports_of) (pair
 pairs-left t u i i' b b' _ _ left left' (both_there x x' same) rights =
     pairs-right t u i i' b b' x x' left left' same (named t i b.right) (named u i' b'.right) refl refl rights
 
-pairs-same :
+pub pairs-same :
     (t u : Tree) (top top' : Instance) → Setting t u top top' → (i i' : Instance) → Inst t top i → SameInstance i i' → (b b' : Binding) → SameBound b b'
     → map ports_of (pair_of t i b) ≡ map ports_of (pair_of u i' b')
 pairs-same t u top top' setting i i' inst same b b' ends =
@@ -155,7 +155,7 @@ bindings_in-expanded i is = rw is refl
 bindings_in-closed : (i : Instance) → is_expanded i ≡ false → bindings_in i ≡ []
 bindings_in-closed i is = rw is refl
 
-bindings_in-like : (i j : Instance) → SameInstance i j → (b : Binding) → Contains (bindings_in i) b → (b' : Binding) × Contains (bindings_in j) b' × SameBound b b'
+pub bindings_in-like : (i j : Instance) → SameInstance i j → (b : Binding) → Contains (bindings_in i) b → (b' : Binding) × Contains (bindings_in j) b' × SameBound b b'
 bindings_in-like i j same b there = by (is_expanded i) refl
   where
     by : (is_open : Bool) → is_expanded i ≡ is_open → (b' : Binding) × Contains (bindings_in j) b' × SameBound b b'
@@ -166,10 +166,10 @@ bindings_in-like i j same b there = by (is_expanded i) refl
     by false is = absurd (Contains-nil b (subst (λ bs. Contains bs b) (bindings_in-closed i is) there))
 
 -- a pair of a binding binds what a pair of the same binding binds
-abbrev LikePair : Tree → Instance → Binding → Pair → Type 0
+abbrev pub LikePair : Tree → Instance → Binding → Pair → Type 0
 LikePair u i b p = (q : Pair) × Contains (pair_of u i b) q × (ports_of p ≡ ports_of q)
 
-pair-like : (t u : Tree) (i i' : Instance) (b b' : Binding) → map ports_of (pair_of t i b) ≡ map ports_of (pair_of u i' b') → (p : Pair) → Contains (pair_of t i b) p → LikePair u i' b' p
+pub pair-like : (t u : Tree) (i i' : Instance) (b b' : Binding) → map ports_of (pair_of t i b) ≡ map ports_of (pair_of u i' b') → (p : Pair) → Contains (pair_of t i b) p → LikePair u i' b' p
 pair-like t u i i' b b' is p there =
     Contains-from_map ports_of (pair_of u i' b') (ports_of p) (subst (λ xs. Contains xs (ports_of p)) is (Contains-map ports_of (pair_of t i b) p there))
 
@@ -241,20 +241,26 @@ link-like t u top top' turns nodes l is = record {
   linked = linked-like t u top top' turns is.from l.require is.to l.provide is.linked;
 }
 
--- the graph of the one description is that of the other
-pub elab-like : (t u : Tree) (top top' : Instance) → Setting t u top top' → (g : Configuration) → IsElab t top g → IsElab u top' g
-elab-like t u top top' setting g is = record {
+elab-by : (t u : Tree) (top top' : Instance) → Turns t u top top' → Turns u t top' top → (g : Configuration) → IsElab t top g → IsElab u top' g
+elab-by t u top top' onward back g is = record {
   paths_rise = is.paths_rise;
   nodes_are = λ n. ((λ there. node-like t u top top' onward n ((is.nodes_are n).0 there)), (λ made. (is.nodes_are n).1 (node-like u t top' top back n made)));
   links_are = λ l. ((λ there. link-like t u top top' onward g.nodes l ((is.links_are l).0 there)), (λ joined. (is.links_are l).1 (link-like u t top' top back g.nodes l joined)));
   in_order = is.in_order;
 }
-  where
-    onward : Turns t u top top'
-    onward = record { inst = inst-like t u top top' setting.trees setting.tops; leads = leads-by t u top top' (bound-like t u top top' setting) }
 
-    back : Turns u t top' top
-    back = record {
-      inst = inst-like u t top' top (alike_trees-sym t u setting.trees) (same_instance-sym top top' setting.tops);
-      leads = leads-by u t top' top (bound-back t u top top' setting);
-    }
+onward : (t u : Tree) (top top' : Instance) → Setting t u top top' → Turns t u top top'
+onward t u top top' setting = record { inst = inst-like t u top top' setting.trees setting.tops; leads = leads-by t u top top' (bound-like t u top top' setting) }
+
+back : (t u : Tree) (top top' : Instance) → Setting t u top top' → Turns u t top' top
+back t u top top' setting = record {
+  inst = inst-like u t top' top (alike_trees-sym t u setting.trees) (same_instance-sym top top' setting.tops);
+  leads = leads-by u t top' top (bound-back t u top top' setting);
+}
+
+-- the graph of the one description is that of the other
+pub elab-like : (t u : Tree) (top top' : Instance) → Setting t u top top' → (g : Configuration) → IsElab t top g → IsElab u top' g
+elab-like t u top top' setting = elab-by t u top top' (onward t u top top' setting) (back t u top top' setting)
+
+pub elab-back : (t u : Tree) (top top' : Instance) → Setting t u top top' → (g : Configuration) → IsElab u top' g → IsElab t top g
+elab-back t u top top' setting = elab-by u t top' top (back t u top top' setting) (onward t u top top' setting)

@@ -1,5 +1,9 @@
 pub mod Finding
+pub mod Reorders
 pub mod Statements
 pub mod Children
 pub mod Instances
 pub mod Joining
+pub mod Faulting
+pub mod Twices
+pub mod Accepting
