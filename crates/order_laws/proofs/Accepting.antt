@@ -29,11 +29,11 @@ use Rattle.order_laws.proofs.Twices.{contains-same, twice-same}
 
 -- ---- what both have
 
-both-none : {A B : Type 0} (R : A → B → Type 0) (a : Option A) (b : Option B) → Both R a b → b ≡ None → a ≡ None
+pub both-none : {A B : Type 0} (R : A → B → Type 0) (a : Option A) (b : Option B) → Both R a b → b ≡ None → a ≡ None
 both-none R _ _ neither is = refl
 both-none R _ _ (both_there x y same) is = absurd (none-some y (sym is))
 
-both-some : {A B : Type 0} (R : A → B → Type 0) (a : Option A) (b : Option B) (y : B) → Both R a b → b ≡ Some y → (x : A) × (a ≡ Some x) × R x y
+pub both-some : {A B : Type 0} (R : A → B → Type 0) (a : Option A) (b : Option B) (y : B) → Both R a b → b ≡ Some y → (x : A) × (a ≡ Some x) × R x y
 both-some R _ _ y neither is = absurd (none-some y is)
 both-some R _ _ y (both_there x z same) is = (x, refl, subst (R x) (same_Some z y is) same)
 

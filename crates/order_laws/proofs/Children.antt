@@ -7,7 +7,7 @@ use Rattle.std.specs.Str.{bytes_eq}
 use Rattle.std.proofs.lemmas.Bool.{cases_lt, le-leb}
 use Rattle.darwin_lexer.specs.declared.token.At.{At}
 use Rattle.darwin_parser.specs.Tree.{Name, Tree, Expr, PortDecl, ArrayDecl, InstEntry, BindEntry, Component}
-use Rattle.darwin_types.specs.Scope.{component_named, port_named, array_named, is_primitive}
+use Rattle.darwin_types.specs.Scope.{entries_of, component_named, port_named, array_named, is_primitive}
 use Rattle.darwin_types.specs.Faults.{NoFault, two_components, within}
 use Rattle.darwin_types.specs.Faults.FaultIn.{two_ports, two_arrays}
 use Rattle.darwin_walk.specs.Value.{Env, Value, integer, out_of_range, zero_divisor, value}
@@ -17,7 +17,7 @@ use Rattle.elaborator.proofs.Lists.{Contains-here, Contains-one, Contains-nil, C
 use Rattle.order_laws.specs.Reordering.{Reordered, no_elements, kept, SamePort, SameArray, SameEntry, same_single, same_element, SameBinding, SameStmts, SameComponent, SameDescription, through, through_stmts}
 use Rattle.order_laws.proofs.Finding.{Both, neither, both_there, Both-sym, Both-refl, Both-trans, hits, hits-count, agree}
 use Rattle.order_laws.proofs.Statements.{same_stmts-sym, same_stmts-refl, entries-same, SameReached, same_valued, same_turn, same_made, same_bound, same_reached-refl, same_reached-trans, ReachesSame, reached-same}
-use Rattle.order_laws.proofs.Reorders.{reordered-sym, reordered-same, reordered-append, reordered-map, reordered-flat_map, like_in}
+use Rattle.order_laws.proofs.Reorders.{length-same, reordered-sym, reordered-same, reordered-append, reordered-map, reordered-flat_map, like_in}
 
 -- ---- look-ups
 
@@ -35,26 +35,35 @@ pub record Alike (c d : Component) : Type 0 where
 pub record AlikeTrees (t u : Tree) : Type 0 where
   pub component : (x : Name) → Both Alike (component_named t x) (component_named u x)
 
-same_port-sym : (p q : PortDecl) → SamePort p q → SamePort q p
+pub same_port-sym : (p q : PortDecl) → SamePort p q → SamePort q p
 same_port-sym p q same = record { side = sym same.side; name = sym same.name; size = sym same.size; note = sym same.note }
 
-same_port-trans : (p q r : PortDecl) → SamePort p q → SamePort q r → SamePort p r
+pub same_port-trans : (p q r : PortDecl) → SamePort p q → SamePort q r → SamePort p r
 same_port-trans p q r same other = record { side = same.side ∙ other.side; name = same.name ∙ other.name; size = same.size ∙ other.size; note = same.note ∙ other.note }
 
-same_array-sym : (a b : ArrayDecl) → SameArray a b → SameArray b a
+pub same_array-sym : (a b : ArrayDecl) → SameArray a b → SameArray b a
 same_array-sym a b same = record { name = sym same.name; size = sym same.size; component = sym same.component; args = sym same.args }
 
-same_array-trans : (a b c : ArrayDecl) → SameArray a b → SameArray b c → SameArray a c
+pub same_array-trans : (a b c : ArrayDecl) → SameArray a b → SameArray b c → SameArray a c
 same_array-trans a b c same other =
     record { name = same.name ∙ other.name; size = same.size ∙ other.size; component = same.component ∙ other.component; args = same.args ∙ other.args }
 
-same_component-trans : (c d e : Component) → SameComponent c d → SameComponent d e → SameComponent c e
+pub same_component-trans : (c d e : Component) → SameComponent c d → SameComponent d e → SameComponent c e
 same_component-trans c d e same other = record {
   name = same.name ∙ other.name;
   params = same.params ∙ other.params;
   ports = through c.ports d.ports e.ports same.ports other.ports;
   arrays = through c.arrays d.arrays e.arrays same.arrays other.arrays;
   body = through_stmts c.body d.body e.body same.body other.body;
+}
+
+pub same_component-sym : (c d : Component) → SameComponent c d → SameComponent d c
+same_component-sym c d same = record {
+  name = sym same.name;
+  params = sym same.params;
+  ports = reordered-sym SamePort same_port-sym c.ports d.ports same.ports;
+  arrays = reordered-sym SameArray same_array-sym c.arrays d.arrays same.arrays;
+  body = same_stmts-sym c.body d.body same.body;
 }
 
 pub alike-sym : (c d : Component) → Alike c d → Alike d c
@@ -74,6 +83,15 @@ same_port-refl p = record { side = refl; name = refl; size = refl; note = refl }
 same_array-refl : (a : ArrayDecl) → SameArray a a
 same_array-refl a = record { name = refl; size = refl; component = refl; args = refl }
 
+pub same_component-refl : (c : Component) → SameComponent c c
+same_component-refl c = record {
+  name = refl;
+  params = refl;
+  ports = reordered-same SamePort same_port-refl c.ports;
+  arrays = reordered-same SameArray same_array-refl c.arrays;
+  body = same_stmts-refl c.body;
+}
+
 pub alike-refl : (c : Component) → Alike c c
 alike-refl c = record {
   name = refl;
@@ -89,14 +107,14 @@ pub alike_trees-sym : (t u : Tree) → AlikeTrees t u → AlikeTrees u t
 alike_trees-sym t u same = record { component = λ x. Both-sym Alike Alike alike-sym (component_named t x) (component_named u x) (same.component x) }
 
 -- a name that isn't repeated stands once at most
-few_hits : {A : Type 0} (f : A → Name) (xs : List A) (x : Name) → (nat_le 2 (count_by (bytes_eq x) (map f xs)) ≡ true → ⊥) → hits (λ a. bytes_eq x (f a)) xs < 2
+pub few_hits : {A : Type 0} (f : A → Name) (xs : List A) (x : Name) → (nat_le 2 (count_by (bytes_eq x) (map f xs)) ≡ true → ⊥) → hits (λ a. bytes_eq x (f a)) xs < 2
 few_hits f xs x once =
     elim (cases_lt (hits (λ a. bytes_eq x (f a)) xs) 2) [
       | inl few ↦ few
       | inr many ↦ absurd (once (le-leb 2 (count_by (bytes_eq x) (map f xs)) (omega (arith, many, hits-count (bytes_eq x) f xs))))
     ]
 
-alike_of : (t : Tree) (c d : Component) → NoFault t → Contains t c → SameComponent c d → Alike c d
+pub alike_of : (t : Tree) (c d : Component) → NoFault t → Contains t c → SameComponent c d → Alike c d
 alike_of t c d sound there same = record {
   name = same.name;
   params = same.params;
@@ -122,7 +140,7 @@ alike_trees t u sound same = record {
 }
 
 pub is_primitive-same : (c d : Component) → Alike c d → is_primitive c ≡ is_primitive d
-is_primitive-same c d same = ap (λ n. n == 0) (entries-same c.body d.body same.body)
+is_primitive-same c d same = ap (λ n. n == 0) (length-same SameEntry (entries_of c.body) (entries_of d.body) (entries-same c.body d.body same.body))
 
 pub alike-trans : (c d e : Component) → Alike c d → Alike d e → Alike c e
 alike-trans c d e same other = record {

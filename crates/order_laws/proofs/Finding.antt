@@ -1,5 +1,5 @@
 -- What look-ups find in a list and in a reordering of it.
-use Rattle.std.proofs.Common.{◌≡◌, ◌∙◌, ℕ, ◌+◌, ◌<◌, Bool, true, false, cond, List, [], ◌∷◌, map, Option, Some, None, refl, ap, sym, subst, arith, inl, inr}
+use Rattle.std.proofs.Common.{◌≡◌, ◌∙◌, ℕ, ◌+◌, ◌<◌, ◌≤◌, Bool, true, false, cond, List, [], ◌∷◌, map, Option, Some, None, refl, ap, sym, subst, arith, inl, inr}
 use Rattle.std.specs.List.{Contains, find, count_by}
 use Rattle.std.proofs.lemmas.List.Recursion.{is_count_by}
 use Rattle.std.proofs.lemmas.Option.{none-some}
@@ -19,10 +19,6 @@ pub Both-refl : {A : Type 0} (R : A → A → Type 0) → ((x : A) → R x x) �
 Both-refl R alone None = neither
 Both-refl R alone (Some x) = both_there x x (alone x)
 
-pub Both-map : {A B : Type 0} (R S : A → B → Type 0) → ((x : A) (y : B) → R x y → S x y) → (x : Option A) (y : Option B) → Both R x y → Both S x y
-Both-map R S turn _ _ neither = neither
-Both-map R S turn _ _ (both_there x y same) = both_there x y (turn x y same)
-
 Both-after : {A : Type 0} (R : A → A → Type 0) → ((x y z : A) → R x y → R y z → R x z) → (x y : A) (z : Option A) → R x y → Both R (Some y) z → Both R (Some x) z
 Both-after R follow x y _ same (both_there _ z same') = both_there x z (follow x y z same same')
 
@@ -41,6 +37,38 @@ hits-map p f (x ∷ xs) = ap (λ n. cond (p (f x)) (1 + n) n) (hits-map p f xs)
 
 pub hits-count : {A B : Type 0} (p : B → Bool) (f : A → B) (xs : List A) → count_by p (map f xs) ≡ hits (λ x. p (f x)) xs
 hits-count p f xs = sym (is_count_by (hits p) p refl (λ x ys. refl) (map f xs)) ∙ hits-map p f xs
+
+hits-grow : {A : Type 0} (p : A → Bool) (z : A) (xs : List A) (b : Bool) → p z ≡ b → hits p xs ≤ hits p (z ∷ xs)
+hits-grow p z xs true is = rw is (omega arith)
+hits-grow p z xs false is = rw is (omega arith)
+
+one_hit : {A : Type 0} (p : A → Bool) (z : A) (xs : List A) → p z ≡ true → hits p (z ∷ xs) ≡ 1 + hits p xs
+one_hit p z xs is = rw is refl
+
+some_hit : {A : Type 0} (p : A → Bool) (xs : List A) (x : A) → Contains xs x → p x ≡ true → 0 < hits p xs
+some_hit p [] x there is = absurd (Contains-nil x there)
+some_hit p (z ∷ xs) x there is =
+    elim (Contains-cons_cases z xs x there) [
+      | inl first ↦ omega (arith, one_hit p z xs (ap p (sym first) ∙ is))
+      | inr later ↦ omega (arith, hits-grow p z xs (p z) refl, some_hit p xs x later is)
+    ]
+
+-- where one passes at most, two that pass are one
+pub passes_once : {A : Type 0} (p : A → Bool) (xs : List A) (x y : A) → hits p xs < 2 → Contains xs x → Contains xs y → p x ≡ true → p y ≡ true → x ≡ y
+passes_once p [] x y few there there' is is' = absurd (Contains-nil x there)
+passes_once p (z ∷ xs) x y few there there' is is' =
+    elim (Contains-cons_cases z xs x there) [
+      | inl first ↦
+          elim (Contains-cons_cases z xs y there') [
+            | inl other ↦ first ∙ sym other
+            | inr later ↦ absurd (omega (arith, few, one_hit p z xs (ap p (sym first) ∙ is), some_hit p xs y later is'))
+          ]
+      | inr more ↦
+          elim (Contains-cons_cases z xs y there') [
+            | inl other ↦ absurd (omega (arith, few, one_hit p z xs (ap p (sym other) ∙ is'), some_hit p xs x more is))
+            | inr later ↦ passes_once p xs x y (omega (arith, few, hits-grow p z xs (p z) refl)) more later is is'
+          ]
+    ]
 
 -- as many pass in the other list, and the first that passes is alike
 pub record Agree {A : Type 0} (R : A → A → Type 0) (p : A → Bool) (xs ys : List A) : Type 0 where

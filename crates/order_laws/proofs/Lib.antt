@@ -7,3 +7,6 @@ pub mod Joining
 pub mod Faulting
 pub mod Twices
 pub mod Accepting
+pub mod Placing
+pub mod Naming
+pub mod Whole

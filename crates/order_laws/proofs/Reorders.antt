@@ -1,6 +1,6 @@
 -- What a list and a reordering of it have in common.
-use Rattle.std.proofs.Common.{◌≡◌, ◌∙◌, ℕ, List, [], ◌∷◌, ◌++◌, map, Option, Some, None, refl, ap, sym, subst, arith, inl, inr}
-use Rattle.std.specs.List.{Contains, flat_map, filter_map, sum_by}
+use Rattle.std.proofs.Common.{◌≡◌, Bool, true, false, ◌&&◌, ◌||◌, ◌∙◌, ℕ, suc, length, List, [], ◌∷◌, ◌++◌, map, Option, Some, None, refl, ap, sym, subst, arith, inl, inr}
+use Rattle.std.specs.List.{list_all, list_any, Contains, flat_map, filter_map, sum_by}
 use Rattle.std.specs.Option.{option_to_list}
 use Rattle.std.proofs.lemmas.List.Sums.{sum_by-cons}
 use Rattle.elaborator.proofs.Lists.{Contains-here, Contains-there, Contains-nil, Contains-cons_cases, Contains-map, Contains-from_map, Contains-flat_map, Contains-from_flat_map}
@@ -106,6 +106,12 @@ reordered-filter_map R S alone f g over onward xs ys same =
     (reordered-flat_map R S alone (λ x. option_to_list (f x)) (λ x. option_to_list (g x))
     (λ x y is. options S (f x) (g y) (over x y is)) (λ x y is. options S (g x) (g y) (onward x y is)) xs ys same))
 
+pub length-same : {A : Type 0} (R : A → A → Type 0) (xs ys : List A) → Reordered R xs ys → length xs ≡ length ys
+length-same R _ _ no_elements = refl
+length-same R _ _ (kept x y xs ys same rest) = ap (λ n. suc n) (length-same R xs ys rest)
+length-same R _ _ (swapped x y x' y' xs ys same same' rest) = ap (λ n. suc (suc n)) (length-same R xs ys rest)
+length-same R _ _ (through xs ys zs first then_) = length-same R xs ys first ∙ length-same R ys zs then_
+
 pub sum-same : {A : Type 0} (R : A → A → Type 0) (f : A → ℕ) → ((x y : A) → R x y → f x ≡ f y) → (xs ys : List A) → Reordered R xs ys → sum_by f xs ≡ sum_by f ys
 sum-same R f fits _ _ no_elements = refl
 sum-same R f fits _ _ (kept x y xs ys same rest) = omega (arith, sum_by-cons f x xs, sum_by-cons f y ys, fits x y same, sum-same R f fits xs ys rest)
@@ -157,3 +163,30 @@ comes_of R follow m f g fits xs ys b same there =
     let kept_ = subst (λ cs. Contains cs (m b)) (fits from.0 like.0 like.2) (Contains-map m (f from.0) b from.2) in
     let w = Contains-from_map m (g like.0) (m b) kept_ in
     (w.0, Contains-flat_map g ys like.0 w.0 like.1 w.1, w.2)
+
+and_swapped : (a b c : Bool) → (a && (b && c)) ≡ (b && (a && c))
+and_swapped true true c = refl
+and_swapped true false c = refl
+and_swapped false true c = refl
+and_swapped false false c = refl
+
+or_swapped : (a b c : Bool) → (a || (b || c)) ≡ (b || (a || c))
+or_swapped true true c = refl
+or_swapped true false c = refl
+or_swapped false true c = refl
+or_swapped false false c = refl
+
+-- what a test says of all, or of some, it says in each order
+pub all-same : {A : Type 0} (R : A → A → Type 0) (p : A → Bool) → ((x y : A) → R x y → p x ≡ p y) → (xs ys : List A) → Reordered R xs ys → list_all p xs ≡ list_all p ys
+all-same R p fits _ _ no_elements = refl
+all-same R p fits _ _ (kept x y xs ys same rest) = rw (fits x y same, all-same R p fits xs ys rest) refl
+all-same R p fits _ _ (swapped x y x' y' xs ys same same' rest) =
+    rw (fits x x' same, fits y y' same', all-same R p fits xs ys rest) (and_swapped (p x') (p y') (list_all p ys))
+all-same R p fits _ _ (through xs ys zs first then_) = all-same R p fits xs ys first ∙ all-same R p fits ys zs then_
+
+pub any-same : {A : Type 0} (R : A → A → Type 0) (p : A → Bool) → ((x y : A) → R x y → p x ≡ p y) → (xs ys : List A) → Reordered R xs ys → list_any p xs ≡ list_any p ys
+any-same R p fits _ _ no_elements = refl
+any-same R p fits _ _ (kept x y xs ys same rest) = rw (fits x y same, any-same R p fits xs ys rest) refl
+any-same R p fits _ _ (swapped x y x' y' xs ys same same' rest) =
+    rw (fits x x' same, fits y y' same', any-same R p fits xs ys rest) (or_swapped (p x') (p y') (list_any p ys))
+any-same R p fits _ _ (through xs ys zs first then_) = any-same R p fits xs ys first ∙ any-same R p fits ys zs then_

@@ -1,5 +1,5 @@
 -- What statements in another order reach.
-use Rattle.std.proofs.Common.{◌≡◌, ◌∙◌, ℤ, Bool, true, false, cond, List, [], ◌∷◌, ◌++◌, length, length-append, Option, refl, sym, arith}
+use Rattle.std.proofs.Common.{◌∙◌, ℤ, Bool, true, false, cond, List, [], ◌∷◌, Option, refl, sym}
 use Rattle.std.specs.List.{flat_map}
 use Rattle.darwin_lexer.specs.declared.token.At.{At}
 use Rattle.darwin_parser.specs.Tree.{Name, Expr, InstEntry, BindEntry, Stmt, inst, bind, forall, when, Stmts, end, then}
@@ -12,7 +12,7 @@ use Rattle.order_laws.proofs.Reorders.{reordered-each, reordered-append, swapped
 
 -- ---- the other way round
 
-same_entry-sym : (e e' : InstEntry) → SameEntry e e' → SameEntry e' e
+pub same_entry-sym : (e e' : InstEntry) → SameEntry e e' → SameEntry e' e
 same_entry-sym _ _ (same_single name component args at at') = same_single name component args at' at
 same_entry-sym _ _ (same_element array index args at at') = same_element array index args at' at
 
@@ -35,7 +35,7 @@ mutual
 
 -- ---- nothing moved
 
-same_entry-refl : (e : InstEntry) → SameEntry e e
+pub same_entry-refl : (e : InstEntry) → SameEntry e e
 same_entry-refl (single name component args at) = same_single name component args at at
 same_entry-refl (element array index args at) = same_element array index args at at
 
@@ -50,31 +50,25 @@ mutual
   same_stmts-refl end = no_stmts
   same_stmts-refl (then s rest) = kept_stmt s s rest rest (same_stmt-refl s) (same_stmts-refl rest)
 
--- ---- how many entries there are
+-- ---- entries
 
 mutual
-  entries-same_stmt : (s s' : Stmt) → SameStmt s s' → length (entries_of_stmt s) ≡ length (entries_of_stmt s')
-  entries-same_stmt _ _ (same_inst e e' same) = refl
-  entries-same_stmt _ _ (same_bind b b' same) = refl
+  entries-same_stmt : (s s' : Stmt) → SameStmt s s' → Reordered SameEntry (entries_of_stmt s) (entries_of_stmt s')
+  entries-same_stmt _ _ (same_inst e e' same) = kept e e' [] [] same no_elements
+  entries-same_stmt _ _ (same_bind b b' same) = no_elements
   entries-same_stmt _ _ (same_forall name low high body body' at at' same) = entries-same body body' same
   entries-same_stmt _ _ (same_when test body body' at at' same) = entries-same body body' same
 
-  pub entries-same : (a b : Stmts) → SameStmts a b → length (entries_of a) ≡ length (entries_of b)
-  entries-same _ _ no_stmts = refl
+  -- the same entries, in another order
+  pub entries-same : (a b : Stmts) → SameStmts a b → Reordered SameEntry (entries_of a) (entries_of b)
+  entries-same _ _ no_stmts = no_elements
   entries-same _ _ (kept_stmt s s' rest rest' same later) =
-      omega (arith, length-append (entries_of_stmt s) (entries_of rest), length-append (entries_of_stmt s') (entries_of rest'), entries-same_stmt s s' same, entries-same rest rest' later)
+      reordered-append SameEntry same_entry-refl (entries_of_stmt s) (entries_of_stmt s') (entries_of rest) (entries_of rest')
+      (entries-same_stmt s s' same) (entries-same rest rest' later)
   entries-same _ _ (swapped_stmts s t s' t' rest rest' same same' later) =
-      omega (
-        arith,
-        length-append (entries_of_stmt s) (entries_of_stmt t ++ entries_of rest),
-        length-append (entries_of_stmt t) (entries_of rest),
-        length-append (entries_of_stmt t') (entries_of_stmt s' ++ entries_of rest'),
-        length-append (entries_of_stmt s') (entries_of rest'),
-        entries-same_stmt s s' same,
-        entries-same_stmt t t' same',
-        entries-same rest rest' later,
-      )
-  entries-same _ _ (through_stmts a b c first then_) = entries-same a b first ∙ entries-same b c then_
+      swapped_likes SameEntry same_entry-refl (entries_of_stmt s) (entries_of_stmt t) (entries_of rest) (entries_of_stmt s') (entries_of_stmt t') (entries_of rest')
+      (entries-same_stmt s s' same) (entries-same_stmt t t' same') (entries-same rest rest' later)
+  entries-same _ _ (through_stmts a b c first then_) = through (entries_of a) (entries_of b) (entries_of c) (entries-same a b first) (entries-same b c then_)
 
 -- ---- what is reached
 
@@ -91,7 +85,7 @@ single_after name component args at at' _ (same_single _ _ _ _ at'') = same_sing
 element_after : (array : Name) (index : Expr) (args : Option (List Expr)) (at at' : At) (f : InstEntry) → SameEntry (element array index args at') f → SameEntry (element array index args at) f
 element_after array index args at at' _ (same_element _ _ _ _ at'') = same_element array index args at at''
 
-same_entry-trans : (d e f : InstEntry) → SameEntry d e → SameEntry e f → SameEntry d f
+pub same_entry-trans : (d e f : InstEntry) → SameEntry d e → SameEntry e f → SameEntry d f
 same_entry-trans _ _ f (same_single name component args at at') other = single_after name component args at at' f other
 same_entry-trans _ _ f (same_element array index args at at') other = element_after array index args at at' f other
 

@@ -1,1 +1,2 @@
 pub mod Reordering
+pub mod Accepted
