@@ -62,7 +62,7 @@ component Table(int n, int meals, int skip) {
 ";
 
 /// The text of `examples/l-events.txt`.
-const EVENTS: &str = "# an item goes from the source to the buffer while the ports are closed
+const EVENTS: &str = "# an item goes from the source to the buffer, and its port is closed meanwhile
 start L()
 begin 1 1 1
 close 1

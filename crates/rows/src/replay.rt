@@ -6,7 +6,50 @@ use cfg_io::{MemShelf, MemSink};
 use darwin_commands::{Status, still};
 use std::test::Fail;
 
-static ROWS: [Row<'static>; 24] = [
+static ROWS: [Row<'static>; 28] = [
+    Row {
+        words: &["replay", "line.dar", "e.txt"],
+        files: &[
+            ("line.dar", LINE),
+            (
+                "e.txt",
+                "start Line(3,10)\nbegin 1 1 1\ntake 1 1 1\ncall 0 1 11\n",
+            ),
+        ],
+        room: AMPLE,
+        status: 0,
+        written: "events 3\nopen 0 1 call waiting\nopen 1 1 root taken\nrest 5\n",
+    },
+    Row {
+        words: &["replay", "line.dar", "e.txt"],
+        files: &[
+            ("line.dar", LINE),
+            (
+                "e.txt",
+                "start Line(3,10)\nbegin 1 1 1\ntake 1 1 1\ncall 0 1 11\ntake 0 1 11\ngive 0 1 1\n",
+            ),
+        ],
+        room: AMPLE,
+        status: 0,
+        written: "events 5\nopen 0 1 call answered\nopen 1 1 root taken\nrest 3\n",
+    },
+    Row {
+        words: &["replay", "none.dar", "none.txt"],
+        files: &[("line.dar", LINE)],
+        room: AMPLE,
+        status: 4,
+        written: "read fault none.txt\n",
+    },
+    Row {
+        words: &["replay", "line.dar", "e.txt"],
+        files: &[
+            ("line.dar", LINE),
+            ("e.txt", "start Line(3,10)\n  # x\nbegin 1 1 1 # x\n"),
+        ],
+        room: AMPLE,
+        status: 3,
+        written: "script e.txt: BadLine 3\n",
+    },
     Row {
         words: &["replay", "l.dar", "e.txt"],
         files: &[
