@@ -2,6 +2,8 @@
 #![tactic(auto)]
 
 #[cfg(test)]
+mod binding;
+#[cfg(test)]
 mod descriptions;
 #[cfg(test)]
 mod elaborating;
