@@ -1,3 +1,4 @@
+pub mod ListLemmas
 pub mod KindLemmas
 pub mod NumberingLemmas
 pub mod LinkLemmas

@@ -3,11 +3,12 @@ use Rattle.std.proofs.Common.{◌≡◌, ℕ, zero, suc, ◌+◌, ◌<◌, ◌�
 use Rattle.std.specs.Prelude.{flat_map}
 use Rattle.std.specs.List.{enumerate_from, range_with_len}
 use Rattle.std.proofs.lemmas.Grind.{flat_map-append}
-use Rattle.std.proofs.lemmas.List.{take_more, take_all}
+use Rattle.std.proofs.lemmas.List.{take_all}
 use Rattle.std.proofs.lemmas.List.FromFn.{length-enumerate_from, get_or-enumerate_from}
 use Rattle.config_graph.specs.Graph.{Configuration, requires_of}
 use Rattle.config_graph.specs.GraphText.{graph_text, node_line, node_lines, port_line, port_lines}
 use Rattle.config_graph.specs.declared.node.Node.{Node}
+use Rattle.config_graph.proofs.ListLemmas.{lines_more}
 
 pub range_more : (a n : ℕ) → range_with_len a (suc n) ≡ range_with_len a n ++ (a + n) ∷ []
 range_more a zero = let e : a ≡ a + 0 = omega arith in ap (λ x. x ∷ []) e
@@ -35,10 +36,9 @@ node_lines_more g i n so_far node_text new low n_is so_far_is node_is new_is =
     let long : i < length all = rw length-enumerate_from low in
     let here : 0 + i ≡ i = omega arith in
     let at : get_or all i (0, n) ≡ (i, n) = get_or-enumerate_from 0 g.nodes i (0, n) low ∙ (λ j. (here j, sym n_is j)) in
-    let more = take_more all i (0, n) long ∙ ap (λ p. take i all ++ p ∷ []) at in
     let written : new ≡ so_far ++ node_lines g i n =
     new_is ∙ ap (λ t. t ++ port_lines g i n (requires_of n)) node_is ∙ append_assoc so_far (node_line n) (port_lines g i n (requires_of n)) in
-    written ∙ ap (λ t. t ++ node_lines g i n) so_far_is ∙ ap (λ t. flat_map (lines_at g) (take i all) ++ t) (sym (append-nil (node_lines g i n))) ∙ sym (flat_map-append (lines_at g) (take i all) ((i, n) ∷ [])) ∙ sym (ap (flat_map (lines_at g)) more)
+    lines_more (lines_at g) all [] so_far new i (0, n) long so_far_is (written ∙ ap (λ p. so_far ++ lines_at g p) (sym at))
 
 -- the text after the last node
 pub all_lines : (g : Configuration) (i : ℕ) → length g.nodes ≤ i → flat_map (λ p. node_lines g p.0 p.1) (take i (enumerate_from 0 g.nodes)) ≡ graph_text g

@@ -62,13 +62,6 @@ impl Kind {
         self as u32
     }
 
-    /// The kind of this number, or `None` where there are fewer kinds.
-    pub fn from_number(number: u32) -> Option<Kind>
-        ensures { result ≡ slice_get kinds number }
-    {
-        KINDS.get(number as usize).copied()
-    }
-
     /// The kind's name in a description.
     pub fn name(self) -> &'static str
         ensures { result.now ≡ (row self).name }

@@ -19,7 +19,7 @@ pub use kind::{Kind, kind_of, kinds_have_their_names};
 pub use list::List;
 pub use node::{Link, Made, Node, Port, Target};
 pub use text::Text;
-pub use writing::{graph_text, texts_tell_sound_graphs};
+pub use writing::{graph_text, kind_text, texts_tell_sound_graphs};
 
 /// Memory ran out. Nothing else is wrong: what was lent is as before, and what was handed over, as the
 /// lists of [`Graph::build`], is gone.

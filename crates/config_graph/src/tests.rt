@@ -28,7 +28,6 @@ fn kinds_have_their_columns(rt: HostRuntime) {
         let kind = kind_of(name.as_bytes()).unwrap_or(Kind::Fork);
         assert_eq!(rt; kind.name(), name);
         assert_eq!(rt; kind.number(), number);
-        assert_eq!(rt; Kind::from_number(number), Some(kind));
         assert_eq!(rt; kind.provides(), provides);
         assert_eq!(rt; kind.requires_(), requires_);
         assert_eq!(rt; kind.has_arg(), has_arg);

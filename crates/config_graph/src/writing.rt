@@ -21,6 +21,19 @@ pub fn graph_text(alloc: Global, graph: &Graph) -> Result<Vec<u8>, NoMemory>
     Ok(text)
 }
 
+/// A kind with its argument, as `map(10)` or `sink()`.
+pub fn kind_text(alloc: Global, kind: Kind, arg: Option<u32>) -> Result<Vec<u8>, NoMemory>
+    ensures { IfOk result (λ text. text.items ≡ kind_text kind arg) }
+{
+    let mut text = Vec::from_slice(alloc, kind.name().as_bytes())?;
+    text.extend_from_slice(b"(")?;
+    if let Some(arg) = arg {
+        text.extend_from_slice(format!(in alloc; "{arg}")?.as_bytes())?;
+    }
+    text.extend_from_slice(b")")?;
+    Ok(text)
+}
+
 /// A law: where the paths of two sound graphs hold no space and no line feed, the graphs are equal if their texts are.
 pub fn texts_tell_sound_graphs()
     ensures { (a b : Configuration) → Sound a → Sound b
@@ -35,25 +48,8 @@ fn write_node(alloc: Global, text: &mut Vec<u8>, node: &Node) -> Result<(), NoMe
     text.extend_from_slice(b"node ")?;
     text.extend_from_slice(node.path.as_bytes())?;
     text.extend_from_slice(b" ")?;
-    write_kind(alloc, text, node.kind, node.arg)?;
+    text.extend_from_slice(&kind_text(alloc, node.kind, node.arg)?)?;
     text.extend_from_slice(b"\n")
-}
-
-/// `KIND(ARG)`
-fn write_kind(
-    alloc: Global,
-    text: &mut Vec<u8>,
-    kind: Kind,
-    arg: Option<u32>,
-) -> Result<(), NoMemory>
-    ensures { OnOk result (text.new.items ≡ text.old.items ++ kind_text kind arg) }
-{
-    text.extend_from_slice(kind.name().as_bytes())?;
-    text.extend_from_slice(b"(")?;
-    if let Some(arg) = arg {
-        text.extend_from_slice(format!(in alloc; "{arg}")?.as_bytes())?;
-    }
-    text.extend_from_slice(b")")
 }
 
 /// A line for each port of a node.

@@ -1,0 +1,30 @@
+-- Lemmas on lists, for this crate and those above it.
+use Rattle.std.proofs.Common.{◌≡◌, ℕ, ◌+◌, ◌<◌, ◌≤◌, List, [], ◌∷◌, ◌++◌, length, take, get_or, sym, ◌∙◌, ap, arith, inl, inr, All}
+use Rattle.std.specs.Prelude.{flat_map}
+use Rattle.std.specs.List.Sorted.{IsStrictlyIncreasing}
+use Rattle.std.proofs.lemmas.Bool.{cases_lt}
+use Rattle.std.proofs.lemmas.List.{flat_map_more, get_or_append_left, get_or_push, length-append, take_all, take_more}
+
+-- a text that is written behind an old one, line by line
+module _ {A : Type 0} (line : A → List ℕ) (xs : List A) (old : List ℕ) where
+  -- one line more
+  pub lines_more : (so_far new : List ℕ) (i : ℕ) (d : A) → i < length xs → so_far ≡ old ++ flat_map line (take i xs) → new ≡ so_far ++ line (get_or xs i d) → new ≡ old ++ flat_map line (take (i + 1) xs)
+  lines_more so_far new i d low so_far_is new_is =
+      let x = get_or xs i d in
+      new_is ∙ ap (λ t. t ++ line x) so_far_is ∙ flat_map_more line old (take i xs) x ∙ ap (λ t. old ++ flat_map line t) (sym (take_more xs i d low))
+
+  -- all lines
+  pub lines_all : (new : List ℕ) (i : ℕ) → length xs ≤ i → new ≡ old ++ flat_map line (take i xs) → new ≡ old ++ flat_map line xs
+  lines_all new i all new_is = new_is ∙ ap (λ t. old ++ flat_map line t) (take_all i xs all)
+
+-- numbers that rise, and a greater one behind them
+pub IsStrictlyIncreasing-push : (xs : List ℕ) (y : ℕ) → IsStrictlyIncreasing xs → All (λ x. x < y) xs → IsStrictlyIncreasing (xs ++ y ∷ [])
+IsStrictlyIncreasing-push xs y rise below k h =
+    let low : k + 1 < length xs + 1 = rw length-append at h in
+    let here : get_or (xs ++ y ∷ []) k 0 ≡ get_or xs k 0 = get_or_append_left xs (y ∷ []) 0 k (omega arith) in
+    elim (cases_lt (k + 1) (length xs)) [
+      | inl inside ↦ rw (here, get_or_append_left xs (y ∷ []) 0 (k + 1) inside) (rise k inside)
+      | inr last ↦
+          let end : length xs ≡ k + 1 = omega arith in
+          rw (here, get_or_push xs y 0 (k + 1) end) (below k 0 (omega arith))
+    ]
