@@ -2,7 +2,7 @@
 
 ghost use Rattle.std.specs.Prelude.{◌≡◌, ◌≢◌, ◌≤◌, ◌+◌, ◌++◌, ◌∷◌, [], ℕ, List, Some, IfOk, OnOk, OnErr, Err, min, vec_len};
 ghost use Rattle.cfg_io.specs.Shelf.{CarriesLimit, MayAnswer, failed_after};
-ghost use Rattle.cfg_io.specs.Store.{FailsExactly, MustFail, look_up};
+ghost use Rattle.cfg_io.specs.Store.{FailsExactly, FailsNext, look_up};
 
 use crate::NoMemory;
 use crate::shelf::{Shelf, ShelfError};
@@ -16,20 +16,20 @@ use std::marker::Model;
 pub struct MemShelf {
     alloc: Global,
     files: BTreeMap<String, Vec<u8>>,
-    failing: Vec<u64>,
+    failing_fetches: Vec<u64>,
     next: u64,
     failed: Vec<String>,
 }
 
 impl Model for MemShelf {
     ghost use Rattle.std.specs.Prelude.{map, string_bytes};
-    ghost use Rattle.cfg_io.specs.Store.{Stored};
+    ghost use Rattle.cfg_io.specs.Store.{ShelfInMemory};
 
-    ghost Value = { Stored };
+    ghost Value = { ShelfInMemory };
 
     ghost view = { λ s. record {
       files = map (λ file. (string_bytes file.0, file.1.items)) s.files.entries;
-      failing = s.failing.items;
+      failing_fetches = s.failing_fetches.items;
       next = s.next;
       failed = map string_bytes s.failed.items;
     } };
@@ -38,12 +38,12 @@ impl Model for MemShelf {
 impl MemShelf {
     /// A shelf without files.
     pub fn new(alloc: Global) -> MemShelf
-        ensures { result ≡ record { files = []; failing = []; next = 0; failed = [] } }
+        ensures { result ≡ record { files = []; failing_fetches = []; next = 0; failed = [] } }
     {
         MemShelf {
             alloc,
             files: BTreeMap::new(alloc),
-            failing: Vec::new(alloc),
+            failing_fetches: Vec::new(alloc),
             next: 0,
             failed: Vec::new(alloc),
         }
@@ -63,13 +63,13 @@ impl MemShelf {
         Ok(())
     }
 
-    /// Makes the fetch of this number fail, counted from 0.
+    /// Makes the fetch of this number fail, counted from 0. One that wants memory is not counted.
     pub fn fail_at(&mut self, call: u32) -> Result<(), NoMemory>
         ensures ok { OnOk result
-            (self.new ≡ record self.old { failing = self.old.failing ++ call ∷ [] }) }
+            (self.new ≡ record self.old { failing_fetches = self.old.failing_fetches ++ call ∷ [] }) }
         ensures err { OnErr result (self.new ≡ self.old) }
     {
-        self.failing.push(u64::from(call))?;
+        self.failing_fetches.push(u64::from(call))?;
         Ok(())
     }
 
@@ -78,9 +78,9 @@ impl MemShelf {
         ensures within { IfOk result (λ bytes. vec_len bytes ≤ limit) }
         ensures carries { CarriesLimit result limit }
         ensures told { MayAnswer (look_up self.now.files name.now) limit result }
-        ensures fails { FailsExactly (MustFail self.now name.now) result }
+        ensures fails { FailsExactly (FailsNext self.now name.now) result }
     {
-        if self.failing.contains(&self.next) {
+        if self.failing_fetches.contains(&self.next) {
             return Err(ShelfError::Failed);
         }
         let Some(bytes) = self.files.get(name) else {
@@ -106,10 +106,10 @@ impl Shelf for MemShelf {
         ensures kept { self.new.files ≡ self.old.files }
 
         // But for want of memory, which changes nothing, it fails exactly where it is to fail.
-        ensures fails { FailsExactly (MustFail self.old name.now) result }
+        ensures fails { FailsExactly (FailsNext self.old name.now) result }
         ensures counted { result ≢ Err ShelfError.NoMemory →
             self.new.next ≡ min (self.old.next + 1) u64.MAX }
-        ensures failing_kept { self.new.failing ≡ self.old.failing }
+        ensures failing_kept { self.new.failing_fetches ≡ self.old.failing_fetches }
         ensures no_memory { result ≡ Err ShelfError.NoMemory → self.new ≡ self.old }
     {
         let answer = self.answer(name, limit);

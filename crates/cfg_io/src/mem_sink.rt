@@ -20,9 +20,9 @@ pub struct MemSink {
 
 impl Model for MemSink {
     ghost use Rattle.std.specs.Prelude.{◌≤◌, ◌+◌, vec_len, vec_capacity};
-    ghost use Rattle.cfg_io.specs.Store.{Taken};
+    ghost use Rattle.cfg_io.specs.Store.{SinkInMemory};
 
-    ghost Value = { Taken };
+    ghost Value = { SinkInMemory };
 
     ghost view = { λ s. record { bytes = s.bytes.items; room = s.room; faults = s.faults } };
 
