@@ -108,8 +108,8 @@ first_step g i k (step h) = (k, h, inl refl)
 first_step g i k (onward {j = j} h rest) = (j, h, inr rest)
 
 -- a node that leads only to nodes on no cycle is on none
-pub off_next : (g : Configuration) (i : ℕ) → ((j : ℕ) → Leads g i j → ¬ OnCycle g j) → ¬ OnCycle g i
-off_next g i h way =
+pub acyclic_next : (g : Configuration) (i : ℕ) → ((j : ℕ) → Leads g i j → ¬ OnCycle g j) → ¬ OnCycle g i
+acyclic_next g i h way =
     let s = first_step g i i way in
     elim s.2 [
       | inl same ↦ h i (subst (Leads g i) same s.1) way

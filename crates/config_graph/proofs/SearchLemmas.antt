@@ -295,9 +295,9 @@ search_ends g start s next h all j = (h.ways j, λ way. follows start j way (λ 
     follows i j (step leads) f = f j leads
     follows i j (onward {j = m} leads rest) f = follows m j rest (closed m (f m leads))
 
--- the measure of taking nodes off: one fewer is on, and at most a list of all links was added
-pub off_falls : (bits : List Bool) (j links old popped new : ℕ) → get_or bits j true ≡ false → new ≤ popped + links → popped + 1 ≡ old → unseen (set bits j true) * (links + 1) + new < unseen bits * (links + 1) + old
-off_falls bits j links old popped new clear added taken =
+-- the measure of setting bits: one fewer is clear, and at most a list of all links was added
+pub clear_falls : (bits : List Bool) (j links old popped new : ℕ) → get_or bits j true ≡ false → new ≤ popped + links → popped + 1 ≡ old → unseen (set bits j true) * (links + 1) + new < unseen bits * (links + 1) + old
+clear_falls bits j links old popped new clear added taken =
     let fewer = unseen-set bits j clear in
     rw (← fewer) (grows (unseen (set bits j true)))
   where

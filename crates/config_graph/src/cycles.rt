@@ -13,35 +13,37 @@ use std::alloc::Global;
 
 /// The first node that is on a cycle, or `None` where no node is on one.
 ///
-/// Where there is no cycle, time grows with the number of nodes and links alone.
+/// Where there is no cycle, time grows with the number of nodes and links alone. Where there is one, each node before the first
+/// on a cycle from which a way leads to a cycle costs a search of its own.
 pub fn first_on_cycle(alloc: Global, graph: &Graph) -> Result<Option<u32>, NoMemory>
     ensures found { IfOk result (λ node. IfSome node (FirstOnCycle graph.now)) }
     ensures absent { IfOk result (λ node. IfNone node (NoCycle graph.now)) }
 {
-    let off = list_off(alloc, graph)?;
+    let acyclic = list_acyclic(alloc, graph)?;
     for node in 0..graph.node_count() {
-        if is_on_cycle(alloc, graph, &off, node)? {
+        if is_on_cycle(alloc, graph, &acyclic, node)? {
             return Ok(Some(node));
         }
     }
     Ok(None)
 }
 
-/// Takes off each node that leads only to nodes that are off. So a node that is off is on no cycle.
-fn list_off(alloc: Global, graph: &Graph) -> Result<Vec<bool>, NoMemory>
-    ensures length { IfOk result (λ off. vec_len off ≡ length graph.now.nodes) }
-    ensures off { IfOk result (λ off. (i : ℕ) → Has off.items i → ¬ OnCycle graph.now i) }
+/// The nodes that lead only to nodes of this list, as a bit for each node, taken in until there are no more. None of them is
+/// on a cycle.
+fn list_acyclic(alloc: Global, graph: &Graph) -> Result<Vec<bool>, NoMemory>
+    ensures length { IfOk result (λ acyclic. vec_len acyclic ≡ length graph.now.nodes) }
+    ensures acyclic { IfOk result (λ acyclic. (i : ℕ) → Has acyclic.items i → ¬ OnCycle graph.now i) }
 {
     let count = graph.node_count();
-    let mut off = no_bits(alloc, count)?;
+    let mut acyclic = no_bits(alloc, count)?;
     let mut waiting = all_nodes(alloc, count)?;
     while let Some(node) = waiting.pop() {
-        if !off[node as usize] && leads_only_to(graph, &off, node) {
-            off[node as usize] = true;
+        if !acyclic[node as usize] && leads_only_to(graph, &acyclic, node) {
+            acyclic[node as usize] = true;
             push_predecessors(&mut waiting, graph, node)?;
         }
     }
-    Ok(off)
+    Ok(acyclic)
 }
 
 /// A bit for each node, none of them set.
@@ -113,14 +115,14 @@ fn push_owners(waiting: &mut Vec<u32>, graph: &Graph, ports: &[u32]) -> Result<(
     Ok(())
 }
 
-/// Whether a way leads from the node back to it, which it does from no node that is off.
-fn is_on_cycle(alloc: Global, graph: &Graph, off: &[bool], node: u32) -> Result<bool, NoMemory>
+/// Whether a way leads from the node back to it, which none does from one of the acyclic nodes.
+fn is_on_cycle(alloc: Global, graph: &Graph, acyclic: &[bool], node: u32) -> Result<bool, NoMemory>
     requires node { node < length graph.now.nodes }
-    requires length { length off.now ≡ length graph.now.nodes }
-    requires off { (i : ℕ) → Has off.now i → ¬ OnCycle graph.now i }
+    requires length { length acyclic.now ≡ length graph.now.nodes }
+    requires acyclic { (i : ℕ) → Has acyclic.now i → ¬ OnCycle graph.now i }
     ensures { IfOk result (λ found. IsTrue found ↔ OnCycle graph.now node) }
 {
-    if off[node as usize] {
+    if acyclic[node as usize] {
         return Ok(false);
     }
     let seen = list_reached(alloc, graph, node)?;

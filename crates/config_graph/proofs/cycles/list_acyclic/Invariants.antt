@@ -2,14 +2,14 @@ use Rattle.std.proofs.Common.{◌≡◌, ◌+◌, ◌*◌, ◌<◌, ℕ, All, le
 use Rattle.config_graph.specs.Cycles.{OnCycle}
 use Rattle.config_graph.specs.Search.{Has}
 use Rattle.config_graph.proofs.SearchLemmas.{unseen}
-use Rattle.config_graph.proofs.cycles.list_off.Given as goal
+use Rattle.config_graph.proofs.cycles.list_acyclic.Given as goal
 
 abbrev pub invariant-loop-node : goal.invariant-loop-node
 invariant-loop-node l = record {
-  long : vec_len l.off ≡ length l.graph.nodes;
+  long : vec_len l.acyclic ≡ length l.graph.nodes;
   nodes : All (λ i. i < length l.graph.nodes) l.waiting.items;
-  off : (i : ℕ) → Has l.off.items i → ¬ OnCycle l.graph i;
+  acyclic : (i : ℕ) → Has l.acyclic.items i → ¬ OnCycle l.graph i;
 }
 
 abbrev pub decreases-loop-node : goal.decreases-loop-node
-decreases-loop-node l = unseen l.off.items * (length l.graph.links + 1) + vec_len l.waiting
+decreases-loop-node l = unseen l.acyclic.items * (length l.graph.links + 1) + vec_len l.waiting

@@ -1,0 +1,51 @@
+use Rattle.std.proofs.Common.{◌≡◌, ℕ, ◌∷◌, [], ◌++◌, ◌<◌, ◌∙◌, ap, sym, arith, false, true, length, refl, get_or, inl, inr, subst, vec_len, All}
+use Rattle.std.proofs.lemmas.List.{length-replicate, get_or_read}
+use Rattle.config_graph.specs.Cycles.{Leads, OnCycle}
+use Rattle.config_graph.specs.Search.{Has}
+use Rattle.config_graph.proofs.CycleLemmas.{acyclic_next, range_below}
+use Rattle.config_graph.proofs.SearchLemmas.{All-before_last, All-last, Has-set_only, none_set, clear_falls}
+use Rattle.config_graph.proofs.cycles.list_acyclic.Goals as goal
+use Rattle.config_graph.proofs.cycles.list_acyclic.Goals.{In_ok-push_predecessors}
+
+pub loop-node-init : goal.loop-node-init
+loop-node-init c =
+    let count = c.node_count-count in
+    record {
+      long = omega (arith, c.in_ok-acyclic.acyclic.ok.0, ap length c.in_ok-acyclic.ensures, length-replicate count.result false, count.ensures.count);
+      nodes = rw c.in_ok-waiting.ensures (range_below (length c.args.graph.now.nodes) count.result count.ensures.count);
+      acyclic = λ i h. absurd (none_set count.result i (rw c.in_ok-acyclic.ensures at h));
+    }
+
+-- the node that was taken from the waiting ones, and those that still wait
+waiting_are : (c : In_ok-push_predecessors) → All (λ i. i < length c.args.graph.now.nodes) (c.pop.new.self.items ++ c.in-Some.node ∷ [])
+waiting_are c = subst (All (λ i. i < length c.args.graph.now.nodes)) c.in-Some.ensures.items c.loop-node.invariant.nodes
+
+within : (c : In_ok-push_predecessors) → c.in-Some.node < length c.loop-node.acyclic.items
+within c =
+    let low = All-last (λ i. i < length c.args.graph.now.nodes) c.pop.new.self.items c.in-Some.node (waiting_are c) in
+    omega (arith, low, c.loop-node.acyclic.ok.0, c.loop-node.invariant.long)
+
+clear : (c : In_ok-push_predecessors) → get_or c.loop-node.acyclic.items c.in-Some.node true ≡ false
+clear c =
+    sym (get_or_read c.loop-node.acyclic.items c.in-Some.node c.index.result.now (within c) c.index.ensures true) ∙ c.if-not-index.true
+
+pub loop-node-smaller-then-leads_only_to : goal.loop-node-smaller-then-leads_only_to
+loop-node-smaller-then-leads_only_to c =
+    clear_falls c.loop-node.acyclic.items c.in-Some.node (length c.args.graph.now.links) (vec_len c.loop-node.waiting) (vec_len c.pop.new.self) (vec_len c.push_predecessors.new.waiting) (clear c) c.in_ok-push_predecessors.ensures.count c.in-Some.ensures.len
+
+pub loop-node-preserved-then-leads_only_to : goal.loop-node-preserved-then-leads_only_to
+loop-node-preserved-then-leads_only_to c =
+    let g = c.args.graph.now in
+    let node = c.in-Some.node in
+    let acyclic = c.loop-node.acyclic.items in
+    record {
+      long = c.loop-node.invariant.long;
+      nodes = c.in_ok-push_predecessors.ensures.nodes (All-before_last (λ i. i < length g.nodes) c.pop.new.self.items node (waiting_are c));
+      acyclic = λ i has.
+          elim (Has-set_only acyclic i node has) [
+            | inl before ↦ c.loop-node.invariant.acyclic i before
+            | inr same ↦
+                let leads = λ (j : ℕ) (h : Leads g node j). c.loop-node.invariant.acyclic j (subst (λ bits. Has bits j) c.deref.ensures.value (c.if-leads_only_to.ensures refl j h)) in
+                subst (λ k. ¬ OnCycle g k) (sym same) (acyclic_next g node leads)
+          ];
+    }
