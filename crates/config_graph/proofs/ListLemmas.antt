@@ -1,6 +1,7 @@
 -- Lemmas on lists, for this crate and those above it.
-use Rattle.std.proofs.Common.{◌≡◌, ℕ, ◌+◌, ◌<◌, ◌≤◌, List, [], ◌∷◌, ◌++◌, length, take, get_or, sym, ◌∙◌, ap, arith, inl, inr, All}
+use Rattle.std.proofs.Common.{◌≡◌, ℕ, zero, suc, ◌+◌, ◌<◌, ◌≤◌, List, [], ◌∷◌, ◌++◌, length, take, get_or, sym, ◌∙◌, ap, add-one, arith, inl, inr, All}
 use Rattle.std.specs.Prelude.{flat_map}
+use Rattle.std.specs.List.{range_with_len}
 use Rattle.std.specs.List.Sorted.{IsStrictlyIncreasing}
 use Rattle.std.proofs.lemmas.Bool.{cases_lt}
 use Rattle.std.proofs.lemmas.List.{flat_map_more, get_or_append_left, get_or_push, length-append, take_all, take_more}
@@ -16,6 +17,18 @@ module _ {A : Type 0} (line : A → List ℕ) (xs : List A) (old : List ℕ) whe
   -- all lines
   pub lines_all : (new : List ℕ) (i : ℕ) → length xs ≤ i → new ≡ old ++ flat_map line (take i xs) → new ≡ old ++ flat_map line xs
   lines_all new i all new_is = new_is ∙ ap (λ t. old ++ flat_map line t) (take_all i xs all)
+
+-- the first places, and one more
+range_more : (a n : ℕ) → range_with_len a (suc n) ≡ range_with_len a n ++ (a + n) ∷ []
+range_more a zero = let e : a ≡ a + 0 = omega arith in ap (λ x. x ∷ []) e
+range_more a (suc n) =
+    let shift : (a + 1) + n ≡ a + suc n = omega arith in
+    ap (λ t. a ∷ t) (range_more (a + 1) n ∙ ap (λ x. range_with_len (a + 1) n ++ x ∷ []) shift)
+
+pub places_more : (n : ℕ) → range_with_len 0 (n + 1) ≡ range_with_len 0 n ++ n ∷ []
+places_more n =
+    let here : 0 + n ≡ n = omega arith in
+    ap (range_with_len 0) (add-one n) ∙ range_more 0 n ∙ ap (λ k. range_with_len 0 n ++ k ∷ []) here
 
 -- numbers that rise, and a greater one behind them
 pub IsStrictlyIncreasing-push : (xs : List ℕ) (y : ℕ) → IsStrictlyIncreasing xs → All (λ x. x < y) xs → IsStrictlyIncreasing (xs ++ y ∷ [])

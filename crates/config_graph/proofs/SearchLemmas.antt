@@ -1,5 +1,5 @@
 -- Lemmas on the search for the nodes to which ways lead.
-use Rattle.std.proofs.Common.{◌≡◌, ◌≢◌, ◌⊎◌, ◌↔◌, ◌+◌, ◌<◌, ◌≤◌, ℕ, zero, suc, Bool, true, false, cond, not, List, [], ◌∷◌, ◌++◌, Option, Some, None, length, get_or, set, slice_get, refl, sym, ◌∙◌, ap, subst, inl, inr, arith, length-append, length-set, get_or-set_same, get_or-set_other, add-one, zero-add, filter_map, Contains}
+use Rattle.std.proofs.Common.{◌≡◌, ◌≢◌, ◌⊎◌, ◌↔◌, ◌+◌, ◌<◌, ◌≤◌, ℕ, zero, suc, Bool, true, false, cond, not, List, [], ◌∷◌, ◌++◌, Option, Some, None, length, get_or, set, slice_get, refl, sym, ◌∙◌, ap, subst, inl, inr, arith, length-append, length-set, get_or-set_same, get_or-set_other, zero-add, filter_map, Contains}
 use Rattle.std.specs.Prelude.{All, count_by, replicate, ◌*◌, if◌then◌else◌, option_to_list}
 use Rattle.std.specs.List.{cons_option, range_with_len}
 use Rattle.std.proofs.lemmas.Bool.{cases_lt, false≢true, true≢false}
@@ -17,7 +17,7 @@ use Rattle.config_graph.specs.Search.{Has, Seen, see, see_all, seen_of, successo
 use Rattle.config_graph.proofs.CycleLemmas.{leads_by-Leads, Leads-ends, Leads-leads_by, Leads-require, Way-then}
 use Rattle.config_graph.proofs.IncomingLemmas.{Contains-filter_map}
 use Rattle.config_graph.proofs.OrderLemmas.{All-filter_map}
-use Rattle.config_graph.proofs.TextLemmas.{range_more}
+use Rattle.config_graph.proofs.ListLemmas.{places_more}
 
 -- a bit that is set, and one that is not, stand in the list
 Has-within : (bits : List Bool) (i : ℕ) → Has bits i → i < length bits
@@ -186,7 +186,7 @@ successors-lead g i =
 
 pub successors_by-more : (g : Configuration) (i r : ℕ) → successors_by g i (r + 1) ≡ successors_by g i r ++ option_to_list (leads_by g i r)
 successors_by-more g i r =
-    ap (λ n. filter_map (leads_by g i) (range_with_len 0 n)) (add-one r) ∙ ap (filter_map (leads_by g i)) (range_more 0 r) ∙ filter_map-append (leads_by g i) (range_with_len 0 r) ((0 + r) ∷ []) ∙ ap (λ q. successors_by g i r ++ cons_option (leads_by g i q) []) (zero-add r) ∙ ap (λ t. successors_by g i r ++ t) (one (leads_by g i r))
+    ap (filter_map (leads_by g i)) (places_more r) ∙ filter_map-append (leads_by g i) (range_with_len 0 r) (r ∷ []) ∙ ap (λ t. successors_by g i r ++ t) (one (leads_by g i r))
   where
     one : (o : Option ℕ) → cons_option o [] ≡ option_to_list o
     one None = refl

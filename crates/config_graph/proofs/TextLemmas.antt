@@ -1,5 +1,5 @@
 -- Lemmas on the text of a graph, as it is written line by line.
-use Rattle.std.proofs.Common.{◌≡◌, ℕ, zero, suc, ◌+◌, ◌<◌, ◌≤◌, List, [], ◌∷◌, ◌++◌, length, take, get_or, sym, ◌∙◌, ap, arith, append_assoc, append-nil, add-one}
+use Rattle.std.proofs.Common.{◌≡◌, ℕ, ◌+◌, ◌<◌, ◌≤◌, List, [], ◌∷◌, ◌++◌, length, take, get_or, sym, ◌∙◌, ap, arith, append_assoc, append-nil}
 use Rattle.std.specs.Prelude.{flat_map}
 use Rattle.std.specs.List.{enumerate_from, range_with_len}
 use Rattle.std.proofs.lemmas.Grind.{flat_map-append}
@@ -8,18 +8,11 @@ use Rattle.std.proofs.lemmas.List.FromFn.{length-enumerate_from, get_or-enumerat
 use Rattle.config_graph.specs.Graph.{Configuration, requires_of}
 use Rattle.config_graph.specs.GraphText.{graph_text, node_line, node_lines, port_line, port_lines}
 use Rattle.config_graph.specs.declared.node.Node.{Node}
-use Rattle.config_graph.proofs.ListLemmas.{lines_more}
-
-pub range_more : (a n : ℕ) → range_with_len a (suc n) ≡ range_with_len a n ++ (a + n) ∷ []
-range_more a zero = let e : a ≡ a + 0 = omega arith in ap (λ x. x ∷ []) e
-range_more a (suc n) =
-    let shift : (a + 1) + n ≡ a + suc n = omega arith in
-    ap (λ t. a ∷ t) (range_more (a + 1) n ∙ ap (λ x. range_with_len (a + 1) n ++ x ∷ []) shift)
+use Rattle.config_graph.proofs.ListLemmas.{lines_more, places_more}
 
 flat_map_range_more : {A : Type 0} (f : ℕ → List A) (n : ℕ) → flat_map f (range_with_len 0 (n + 1)) ≡ flat_map f (range_with_len 0 n) ++ f n
 flat_map_range_more f n =
-    let here : 0 + n ≡ n = omega arith in
-    ap (λ k. flat_map f (range_with_len 0 k)) (add-one n) ∙ ap (flat_map f) (range_more 0 n) ∙ flat_map-append f (range_with_len 0 n) ((0 + n) ∷ []) ∙ ap (λ t. flat_map f (range_with_len 0 n) ++ t) (append-nil (f (0 + n)) ∙ ap f here)
+    ap (flat_map f) (places_more n) ∙ flat_map-append f (range_with_len 0 n) (n ∷ []) ∙ ap (λ t. flat_map f (range_with_len 0 n) ++ t) (append-nil (f n))
 
 -- a text after one port more
 pub port_lines_more : (g : Configuration) (i : ℕ) (n : Node) (r : ℕ) (old so_far new : List ℕ) → so_far ≡ old ++ port_lines g i n r → new ≡ so_far ++ port_line g i n r → new ≡ old ++ port_lines g i n (r + 1)
