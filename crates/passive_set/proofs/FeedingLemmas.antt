@@ -1,6 +1,7 @@
 -- Lemmas on the ports that feed others: that they are those that reach, and how they are found one after another.
 use Rattle.std.proofs.Common.{◌≡◌, ◌⊎◌, ◌↔◌, ℕ, ◌+◌, ◌<◌, ◌≤◌, Bool, true, false, IsTrue, List, [], ◌++◌, length, set, take, get_or, Option, Some, None, slice_get, option_map, refl, sym, ◌∙◌, ap, subst, inl, inr, arith, Contains, All, Global, Vec, filter, append_assoc, append-nil}
 use Rattle.std.specs.Option.{option_map_or}
+use Rattle.std.proofs.Math.Logic.{⊎_elim, ⊎_map}
 use Rattle.std.proofs.lemmas.Bool.{cases_eq, cases_lt, false≢true}
 use Rattle.std.proofs.lemmas.List.{get_or_append_left}
 use Rattle.std.proofs.lemmas.List.Elements.{All-append, All-contains, All-filter, All-map, All-same, All-weaker, Contains-append_left, Contains-get_or}
@@ -22,7 +23,7 @@ use Rattle.passive_set.specs.Feeding.{Closure, Feeds, FeedsMarked, FeedsNode, Fe
 use Rattle.passive_set.specs.Feeding.Closure.{first, onward}
 use Rattle.passive_set.specs.Marks.{IsMarked}
 use Rattle.passive_set.specs.Ports.{Adds}
-use Rattle.passive_set.proofs.MarkLemmas.{Contains_more, marked_more, marked_within}
+use Rattle.passive_set.proofs.MarkLemmas.{Contains_more, and_then, as_it_is, back, either, marked_more, marked_within, or_never}
 use Rattle.passive_set.proofs.PortLemmas.{Adds-has, Adds-more, Adds-same}
 
 -- one number more
@@ -261,16 +262,10 @@ module _ (g : Configuration) (n r x : ℕ) where
 
   -- one provision more, which doesn't
   pub FeedsPort_no : (old mid : List ℕ) → depends_at g.nodes n x r ≡ false → Adds old mid (FeedsPort g n r x) → Adds old mid (FeedsPort g n r (x + 1))
-  FeedsPort_no old mid not_there so_far = Adds-same old mid (FeedsPort g n r x) (FeedsPort g n r (x + 1)) (λ p. (to p, from p)) so_far
-    where
-      more : (p : ℕ) → FeedsPort g n r (x + 1) p ↔ (FeedsPort g n r x p ⊎ (IsTrue (depends_at g.nodes n x r) × Contains (incoming_ports g n x) p))
-      more p = SomeBelow_more (λ y. IsTrue (depends_at g.nodes n y r) × Contains (incoming_ports g n y) p) x
-
-      to : (p : ℕ) → FeedsPort g n r x p → FeedsPort g n r (x + 1) p
-      to p h = (more p).1 (inl h)
-
-      from : (p : ℕ) → FeedsPort g n r (x + 1) p → FeedsPort g n r x p
-      from p h = elim ((more p).0 h) [ inl early ↦ early | inr here ↦ absurd (false≢true (sym not_there ∙ here.0)) ]
+  FeedsPort_no old mid not_there so_far =
+      let one : ℕ → ℕ → Type 0 = λ p y. IsTrue (depends_at g.nodes n y r) × Contains (incoming_ports g n y) p in
+      let never : (p : ℕ) → ¬ one p x = λ p h. false≢true (sym not_there ∙ h.0) in
+      Adds-same old mid (FeedsPort g n r x) (FeedsPort g n r (x + 1)) (λ p. and_then (or_never (never p)) (back (SomeBelow_more (one p) x))) so_far
 
 -- what feeds a port is linked to a provision that depends on it
 pub Feeds-port : (g : Configuration) (p : ℕ) (port : Port) → slice_get (ports g.nodes) p ≡ Some port → (q : ℕ) → FeedsPort g port.node port.require (provides_at g.nodes port.node) q ↔ Feeds g p q
@@ -294,75 +289,26 @@ module _ (g : Configuration) (marks : List Bool) (n : ℕ) (mid : List ℕ) (so_
 
   -- one node more, which is marked
   pub FeedsMarked_yes : (new : List ℕ) → IsMarked marks n → Adds mid new (FeedsNode g n (provides_at g.nodes n)) → (p : ℕ) → Contains new p ↔ FeedsMarked g marks (n + 1) p
-  FeedsMarked_yes new mark adds p = (to, from)
-    where
-      has : Contains new p ↔ (Contains mid p ⊎ FeedsNode g n (provides_at g.nodes n) p)
-      has = Adds-has mid new (FeedsNode g n (provides_at g.nodes n)) adds p
-
-      to : Contains new p → FeedsMarked g marks (n + 1) p
-      to h =
-          elim (has.0 h) [
-            | inl early ↦ (more_marked p).1 (inl ((so_far p).0 early))
-            | inr now ↦ (more_marked p).1 (inr (mark, now))
-          ]
-
-      from : FeedsMarked g marks (n + 1) p → Contains new p
-      from h =
-          elim ((more_marked p).0 h) [
-            | inl early ↦ has.1 (inl ((so_far p).1 early))
-            | inr now ↦ has.1 (inr now.1)
-          ]
+  FeedsMarked_yes new mark adds p =
+      and_then (Adds-has mid new (FeedsNode g n (provides_at g.nodes n)) adds p) (and_then (either (so_far p) (λ h. (mark, h), λ h. h.1)) (back (more_marked p)))
 
   -- one node more, which isn't
   pub FeedsMarked_no : get_or marks n false ≡ false → (p : ℕ) → Contains mid p ↔ FeedsMarked g marks (n + 1) p
-  FeedsMarked_no unset p = (to, from)
-    where
-      to : Contains mid p → FeedsMarked g marks (n + 1) p
-      to h = (more_marked p).1 (inl ((so_far p).0 h))
-
-      from : FeedsMarked g marks (n + 1) p → Contains mid p
-      from h =
-          elim ((more_marked p).0 h) [
-            | inl early ↦ (so_far p).1 early
-            | inr now ↦ absurd (false≢true (sym unset ∙ now.0))
-          ]
+  FeedsMarked_no unset p =
+      and_then (so_far p) (and_then (or_never (λ h. false≢true (sym unset ∙ h.0))) (back (more_marked p)))
 
 -- the marks after the owner of one port more is marked
 pub owners_more : (g : Configuration) (start marks : List Bool) (ps : List ℕ) (k p d : ℕ) (port : Port) → k < length ps → p ≡ get_or ps k d → slice_get (ports g.nodes) p ≡ Some port → port.node < length marks → ((i : ℕ) → IsMarked marks i ↔ (IsMarked start i ⊎ Owns g (take k ps) i)) → (i : ℕ) → IsMarked (set marks port.node true) i ↔ (IsMarked start i ⊎ Owns g (take (k + 1) ps) i)
-owners_more g start marks ps k p d port low p_is at within so_far i = (to, from)
+owners_more g start marks ps k p d port low p_is at within so_far i =
+    and_then (marked_more marks port.node within i) (and_then (either (so_far i) as_it_is) (and_then grouped (either as_it_is (back (Owns_more g ps k p d port low p_is at i)))))
   where
-    marked : IsMarked (set marks port.node true) i ↔ (IsMarked marks i ⊎ (port.node ≡ i))
-    marked = marked_more marks port.node within i
-
-    owned : Owns g (take (k + 1) ps) i ↔ (Owns g (take k ps) i ⊎ (port.node ≡ i))
-    owned = Owns_more g ps k p d port low p_is at i
-
-    to : IsMarked (set marks port.node true) i → IsMarked start i ⊎ Owns g (take (k + 1) ps) i
-    to h =
-        elim (marked.0 h) [
-          | inl m ↦ elim ((so_far i).0 m) [ inl s ↦ inl s | inr o ↦ inr (owned.1 (inl o)) ]
-          | inr same ↦ inr (owned.1 (inr same))
-        ]
-
-    from : IsMarked start i ⊎ Owns g (take (k + 1) ps) i → IsMarked (set marks port.node true) i
-    from (inl s) = marked.1 (inl ((so_far i).1 (inl s)))
-    from (inr o) =
-        elim (owned.0 o) [
-          | inl early ↦ marked.1 (inl ((so_far i).1 (inr early)))
-          | inr same ↦ marked.1 (inr same)
-        ]
+    grouped : {A B C : Type 0} → ((A ⊎ B) ⊎ C) ↔ (A ⊎ (B ⊎ C))
+    grouped = (⊎_elim (⊎_map (λ a. a) (λ b. inl b)) (λ c. inr (inr c)), ⊎_elim (λ a. inl (inl a)) (⊎_map (λ b. inr b) (λ c. c)))
 
 -- the nodes whose marks are set at the end
 pub members_are : (g : Configuration) (members marked all : List ℕ) (start marks : List Bool) (P : ℕ → Type 0) → ((i : ℕ) → IsMarked start i ↔ Contains members i) → ((i : ℕ) → Owns g all i ↔ P i) → ((i : ℕ) → IsMarked marks i ↔ (IsMarked start i ⊎ Owns g all i)) → ((i : ℕ) → Contains marked i ↔ IsMarked marks i) → (i : ℕ) → Contains marked i ↔ (Contains members i ⊎ P i)
-members_are g members marked all start marks P first_ owned then listed i = (to, from)
-  where
-    to : Contains marked i → Contains members i ⊎ P i
-    to h =
-        elim ((then i).0 ((listed i).0 h)) [ inl m ↦ inl ((first_ i).0 m) | inr o ↦ inr ((owned i).0 o) ]
-
-    from : Contains members i ⊎ P i → Contains marked i
-    from (inl m) = (listed i).1 ((then i).1 (inl ((first_ i).1 m)))
-    from (inr p) = (listed i).1 ((then i).1 (inr ((owned i).1 p)))
+members_are g members marked all start marks P first_ owned then listed i =
+    and_then (listed i) (and_then (then i) (either (first_ i) (owned i)))
 
 -- a list has the nodes whose marks are set
 abbrev pub Listed : List Bool → Vec ℕ Global → Type 0

@@ -1,14 +1,36 @@
 -- Lemmas on marks and on the list of those that are set.
-use Rattle.std.proofs.Common.{◌≡◌, ◌⊎◌, ◌↔◌, ℕ, zero, suc, ◌+◌, ◌<◌, ◌≤◌, Bool, true, false, cond, List, [], ◌∷◌, ◌++◌, length, take, set, get_or, replicate, refl, sym, ◌∙◌, ap, subst, inl, inr, arith, filter, Contains, get_or-set_other, add-one}
+use Rattle.std.proofs.Common.{◌≡◌, ◌⊎◌, ◌↔◌, ℕ, zero, suc, ◌+◌, ◌<◌, ◌≤◌, Bool, true, false, cond, List, [], ◌∷◌, ◌++◌, length, take, set, get_or, refl, sym, ◌∙◌, ap, subst, inl, inr, arith, filter, Contains, get_or-set_other}
 use Rattle.std.specs.List.{range_with_len}
 use Rattle.std.specs.List.Sorted.{IsStrictlyIncreasing}
+use Rattle.std.proofs.Math.Logic.{⊎_elim, ⊎_map}
 use Rattle.std.proofs.lemmas.Bool.{cases_eq, cases_lt, false≢true}
 use Rattle.std.proofs.lemmas.Grind.{get_or-set_at}
 use Rattle.std.proofs.lemmas.List.{take_more, get_or_past}
 use Rattle.std.proofs.lemmas.List.Elements.{All-contains, Contains-append_left, Contains-append_right, Contains-get_or, Contains-push, Contains-push_cases, filter-append, filter_passes}
 use Rattle.std.proofs.lemmas.List.FromFn.{get_or-range_with_len, length-range_with_len}
 use Rattle.std.proofs.lemmas.List.Kept.{IsStrictlyIncreasing-filter}
+use Rattle.config_graph.proofs.ListLemmas.{places_more}
 use Rattle.passive_set.specs.Marks.{IsMarked}
+
+-- equivalences, one after another, the other way round, and side by side
+module _ {A B : Type 0} where
+  pub back : (A ↔ B) → B ↔ A
+  back f = (f.1, f.0)
+
+  pub and_then : {C : Type 0} → (A ↔ B) → (B ↔ C) → A ↔ C
+  and_then f g = (λ a. g.0 (f.0 a), λ c. f.1 (g.1 c))
+
+  pub either : {C D : Type 0} → (A ↔ C) → (B ↔ D) → (A ⊎ B) ↔ (C ⊎ D)
+  either f g = (⊎_map f.0 g.0, ⊎_map f.1 g.1)
+
+  pub or_never : ¬ B → A ↔ (A ⊎ B)
+  or_never never = (λ a. inl a, ⊎_elim (λ a. a) (λ b. absurd (never b)))
+
+pub as_it_is : {A : Type 0} → A ↔ A
+as_it_is = (λ a. a, λ a. a)
+
+pub turned : {A : Type 0} {x y : A} → (x ≡ y) ↔ (y ≡ x)
+turned = (λ same. sym same, λ same. sym same)
 
 -- only the nodes of the list have marks
 pub marked_within : (marks : List Bool) (i : ℕ) → IsMarked marks i → i < length marks
@@ -17,12 +39,6 @@ marked_within marks i h =
       | inl low ↦ low
       | inr high ↦ absurd (false≢true (sym (get_or_past marks i false high) ∙ h))
     ]
-
--- at first none is set
-pub none_marked : (n i : ℕ) → get_or (replicate n false) i false ≡ false
-none_marked zero i = refl
-none_marked (suc n) zero = refl
-none_marked (suc n) (suc i) = none_marked n i
 
 -- the marks after one more is set
 pub marked_more : (marks : List Bool) (n : ℕ) → n < length marks → (i : ℕ) → IsMarked (set marks n true) i ↔ (IsMarked marks i ⊎ (n ≡ i))
@@ -43,60 +59,28 @@ marked_more marks n low i = (to, from)
           | inr apart ↦ get_or-set_other marks n i true false apart ∙ m
         ]
 
--- the elements of a list as far as one place more
+-- the elements of a list, one element more, and of a list as far as one place more
+pub Contains-pushed : {A : Type 0} (xs : List A) (y x : A) → Contains (xs ++ y ∷ []) x ↔ (Contains xs x ⊎ (y ≡ x))
+Contains-pushed xs y x =
+    (Contains-push_cases xs y x, ⊎_elim (Contains-append_left xs (y ∷ []) x) (λ same. subst (Contains (xs ++ y ∷ [])) same (Contains-push xs y)))
+
 pub Contains_more : {A : Type 0} (xs : List A) (i : ℕ) (d : A) → i < length xs → (x : A) → Contains (take (i + 1) xs) x ↔ (Contains (take i xs) x ⊎ (get_or xs i d ≡ x))
-Contains_more {A = A} xs i d low x = (to, from)
-  where
-    more : take (i + 1) xs ≡ take i xs ++ get_or xs i d ∷ []
-    more = take_more xs i d low
-
-    to : Contains (take (i + 1) xs) x → Contains (take i xs) x ⊎ (get_or xs i d ≡ x)
-    to h = Contains-push_cases (take i xs) (get_or xs i d) x (subst (λ l. Contains l x) more h)
-
-    from : Contains (take i xs) x ⊎ (get_or xs i d ≡ x) → Contains (take (i + 1) xs) x
-    from (inl h) = subst (λ l. Contains l x) (sym more) (Contains-append_left (take i xs) (get_or xs i d ∷ []) x h)
-    from (inr same) =
-        subst (λ l. Contains l x) (sym more) (subst (Contains (take i xs ++ get_or xs i d ∷ [])) same (Contains-push (take i xs) (get_or xs i d)))
+Contains_more xs i d low x =
+    subst (λ l. Contains l x ↔ (Contains (take i xs) x ⊎ (get_or xs i d ≡ x))) (sym (take_more xs i d low)) (Contains-pushed (take i xs) (get_or xs i d) x)
 
 -- the marks of the nodes as far as one place more
 pub marks_more : (nodes : List ℕ) (marks : List Bool) (i n d : ℕ) → i < length nodes → n ≡ get_or nodes i d → n < length marks → ((k : ℕ) → IsMarked marks k ↔ Contains (take i nodes) k) → (k : ℕ) → IsMarked (set marks n true) k ↔ Contains (take (i + 1) nodes) k
-marks_more nodes marks i n d low n_is within so_far k = (to, from)
-  where
-    marked : IsMarked (set marks n true) k ↔ (IsMarked marks k ⊎ (n ≡ k))
-    marked = marked_more marks n within k
-
-    listed : Contains (take (i + 1) nodes) k ↔ (Contains (take i nodes) k ⊎ (get_or nodes i d ≡ k))
-    listed = Contains_more nodes i d low k
-
-    to : IsMarked (set marks n true) k → Contains (take (i + 1) nodes) k
-    to h =
-        elim (marked.0 h) [
-          | inl m ↦ listed.1 (inl ((so_far k).0 m))
-          | inr same ↦ listed.1 (inr (sym n_is ∙ same))
-        ]
-
-    from : Contains (take (i + 1) nodes) k → IsMarked (set marks n true) k
-    from h =
-        elim (listed.0 h) [
-          | inl c ↦ marked.1 (inl ((so_far k).1 c))
-          | inr same ↦ marked.1 (inr (n_is ∙ same))
-        ]
+marks_more nodes marks i n d low n_is within so_far k =
+    and_then (marked_more marks n within k) (and_then (either (so_far k) (λ same. sym n_is ∙ same, λ same. n_is ∙ same)) (back (Contains_more nodes i d low k)))
 
 -- the first nodes whose marks are set
 abbrev pub marked_in : List Bool → ℕ → List ℕ
 marked_in marks n = filter (λ i. get_or marks i false) (range_with_len 0 n)
 
-range_more : (a n : ℕ) → range_with_len a (suc n) ≡ range_with_len a n ++ (a + n) ∷ []
-range_more a zero = let e : a ≡ a + 0 = omega arith in ap (λ x. x ∷ []) e
-range_more a (suc n) =
-    let shift : (a + 1) + n ≡ a + suc n = omega arith in
-    ap (λ t. a ∷ t) (range_more (a + 1) n ∙ ap (λ x. range_with_len (a + 1) n ++ x ∷ []) shift)
-
 pub marked_in_more : (marks : List Bool) (n : ℕ) → marked_in marks (n + 1) ≡ marked_in marks n ++ cond (get_or marks n false) (n ∷ []) []
 marked_in_more marks n =
     let p : ℕ → Bool = λ i. get_or marks i false in
-    let here : 0 + n ≡ n = omega arith in
-    ap (λ k. filter p (range_with_len 0 k)) (add-one n) ∙ ap (filter p) (range_more 0 n) ∙ filter-append p (range_with_len 0 n) ((0 + n) ∷ []) ∙ ap (λ k. filter p (range_with_len 0 n) ++ filter p (k ∷ [])) here
+    ap (filter p) (places_more n) ∙ filter-append p (range_with_len 0 n) (n ∷ [])
 
 Contains-filter : {A : Type 0} (p : A → Bool) (xs : List A) (a : A) → Contains xs a → p a ≡ true → Contains (filter p xs) a
 Contains-filter p [] a h passes = absurd (omega (arith, h.1))

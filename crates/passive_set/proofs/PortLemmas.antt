@@ -1,45 +1,23 @@
 -- Lemmas on lists to which ports are added, and on what is kept of a set of ports.
 use Rattle.std.proofs.Common.{◌≡◌, ◌⊎◌, ◌↔◌, ℕ, ◌+◌, ◌<◌, Bool, true, false, cond, not, List, [], ◌∷◌, ◌++◌, length, set, get_or, take, refl, sym, ◌∙◌, ap, subst, inl, inr, arith, Contains, All, Option, None, Some, slice_get, IfSome, append_assoc, append-nil, length-append}
 use Rattle.std.specs.Prelude.{count_by}
+use Rattle.std.proofs.Math.Logic.{⊎_elim, ⊎_map}
 use Rattle.std.proofs.lemmas.List.Elements.{All-append, All-cons, All-nil, All-contains, All-weaker, Contains-append_cases, Contains-append_left, Contains-get_or, Contains-push, Contains-push_cases}
 use Rattle.std.proofs.lemmas.Option.{get_or_from_slice_get, slice_get_within}
 use Rattle.std.proofs.lemmas.List.Sums.{sum_by-set}
 use Rattle.passive_set.specs.Marks.{IsMarked}
 use Rattle.passive_set.specs.Ports.{Adds}
-use Rattle.passive_set.proofs.MarkLemmas.{Contains_more, marked_more, marked_within}
+use Rattle.passive_set.proofs.MarkLemmas.{Contains-pushed, Contains_more, and_then, as_it_is, back, either, marked_more, marked_within, turned}
 
 -- what a list has to which ports were added
 pub Adds-has : (old new : List ℕ) (P : ℕ → Type 0) → Adds old new P → (p : ℕ) → Contains new p ↔ (Contains old p ⊎ P p)
-Adds-has old new P adds p = (to, from)
+Adds-has old new P adds p = (to, ⊎_elim from (adds.complete p))
   where
     to : Contains new p → Contains old p ⊎ P p
-    to h =
-        elim (Contains-append_cases old adds.later p (subst (λ l. Contains l p) adds.is h)) [
-          | inl c ↦ inl c
-          | inr c ↦ inr (All-contains P adds.later p adds.allowed c)
-        ]
+    to h = ⊎_map (λ c. c) (All-contains P adds.later p adds.allowed) (Contains-append_cases old adds.later p (subst (λ l. Contains l p) adds.is h))
 
-    from : Contains old p ⊎ P p → Contains new p
-    from (inl c) = subst (λ l. Contains l p) (sym adds.is) (Contains-append_left old adds.later p c)
-    from (inr h) = adds.complete p h
-
--- nothing is added where all is there
-pub Adds-none : (old : List ℕ) (P : ℕ → Type 0) → ((p : ℕ) → P p → Contains old p) → Adds old old P
-Adds-none old P there = record {
-  later = [];
-  is = sym (append-nil old);
-  allowed = All-nil P;
-  complete = there;
-}
-
--- one port is added
-pub Adds-push : (old : List ℕ) (port : ℕ) → Adds old (old ++ port ∷ []) (λ p. p ≡ port)
-Adds-push old port = record {
-  later = port ∷ [];
-  is = refl;
-  allowed = All-cons (λ p. p ≡ port) port [] refl (All-nil (λ p. p ≡ port));
-  complete = λ p same. subst (Contains (old ++ port ∷ [])) (sym same) (Contains-push old port);
-}
+    from : Contains old p → Contains new p
+    from c = subst (λ l. Contains l p) (sym adds.is) (Contains-append_left old adds.later p c)
 
 -- ports are added, and then others
 pub Adds-more : (old mid new : List ℕ) (P Q R : ℕ → Type 0) → Adds old mid P → Adds mid new Q → ((p : ℕ) → R p ↔ (P p ⊎ Q p)) → Adds old new R
@@ -59,24 +37,8 @@ Adds-more old mid new P Q R first then both = record {
 
 -- the marks that are kept of a set, after one port more
 pub kept_marked : (ports : List ℕ) (has : List Bool) (port : ℕ) → port < length has → ((p : ℕ) → Contains ports p ↔ IsMarked has p) → (p : ℕ) → Contains (ports ++ port ∷ []) p ↔ IsMarked (set has port true) p
-kept_marked ports has port low so_far p = (to, from)
-  where
-    marked : IsMarked (set has port true) p ↔ (IsMarked has p ⊎ (port ≡ p))
-    marked = marked_more has port low p
-
-    to : Contains (ports ++ port ∷ []) p → IsMarked (set has port true) p
-    to h =
-        elim (Contains-push_cases ports port p h) [
-          | inl c ↦ marked.1 (inl ((so_far p).0 c))
-          | inr same ↦ marked.1 (inr same)
-        ]
-
-    from : IsMarked (set has port true) p → Contains (ports ++ port ∷ []) p
-    from h =
-        elim (marked.0 h) [
-          | inl m ↦ Contains-append_left ports (port ∷ []) p ((so_far p).1 m)
-          | inr same ↦ subst (Contains (ports ++ port ∷ [])) same (Contains-push ports port)
-        ]
+kept_marked ports has port low so_far p =
+    and_then (Contains-pushed ports port p) (and_then (either (so_far p) as_it_is) (back (marked_more has port low p)))
 
 -- the count of the marks that are not set, after one more is set
 pub kept_counted : (ports : List ℕ) (has : List Bool) (port : ℕ) → port < length has → get_or has port false ≡ false → length ports + count_by not has ≡ length has → length (ports ++ port ∷ []) + count_by not (set has port true) ≡ length has
@@ -100,15 +62,7 @@ IfSome-read P xs i (Some x) e all =
 -- ports of a list are added one after another
 pub Adds-listed : (old mid new xs : List ℕ) (i : ℕ) → i < length xs → Adds old mid (Contains (take i xs)) → Adds mid new (λ p. p ≡ get_or xs i 0) → Adds old new (Contains (take (i + 1) xs))
 Adds-listed old mid new xs i low so_far one =
-    Adds-more old mid new (Contains (take i xs)) (λ p. p ≡ get_or xs i 0) (Contains (take (i + 1) xs)) so_far one (λ p. (to p, from p))
-  where
-    to : (p : ℕ) → Contains (take (i + 1) xs) p → Contains (take i xs) p ⊎ (p ≡ get_or xs i 0)
-    to p h =
-        elim ((Contains_more xs i 0 low p).0 h) [ inl early ↦ inl early | inr same ↦ inr (sym same) ]
-
-    from : (p : ℕ) → Contains (take i xs) p ⊎ (p ≡ get_or xs i 0) → Contains (take (i + 1) xs) p
-    from p (inl early) = (Contains_more xs i 0 low p).1 (inl early)
-    from p (inr same) = (Contains_more xs i 0 low p).1 (inr (sym same))
+    Adds-more old mid new (Contains (take i xs)) (λ p. p ≡ get_or xs i 0) (Contains (take (i + 1) xs)) so_far one (λ p. and_then (Contains_more xs i 0 low p) (either as_it_is turned))
 
 pub Adds-same : (old new : List ℕ) (P Q : ℕ → Type 0) → ((p : ℕ) → P p ↔ Q p) → Adds old new P → Adds old new Q
 Adds-same old new P Q same adds = record {
