@@ -1,7 +1,6 @@
 pub mod NodeLemmas
 pub mod SelectsLemmas
 pub mod DifferenceLemmas
-pub mod TextLemmas
 pub mod MoveLemmas
 pub mod PlanningLemmas
 pub mod ApplyingLemmas

@@ -1,13 +1,13 @@
 -- Lemmas on moves, and on what is noted of them.
-use Rattle.std.proofs.Common.{◌≡◌, ◌⊎◌, ◌↔◌, ℕ, ◌+◌, ◌<◌, ◌≤◌, Bool, true, false, List, [], ◌∷◌, ◌++◌, length, map, set, take, get_or, Option, Some, None, slice_get, refl, sym, ◌∙◌, ap, subst, inl, inr, arith, All, Contains, Decides, is_some, get_or-set_other, length-append, rules}
+use Rattle.std.proofs.Common.{◌≡◌, ◌⊎◌, ◌↔◌, ℕ, ◌+◌, ◌<◌, ◌≤◌, Bool, true, false, List, [], ◌∷◌, ◌++◌, length, map, set, take, get_or, Option, Some, None, slice_get, refl, sym, ◌∙◌, ap, subst, inl, inr, arith, All, Contains, Decides, is_some, get_or-set_other, rules}
 use Rattle.std.proofs.Math.ListN.{length-set}
 use Rattle.std.specs.Cmp.Rules.{comparing}
 use Rattle.std.proofs.lemmas.Bool.{cases_eq, cases_lt, false≢true}
 use Rattle.std.proofs.lemmas.Grind.{get_or-set_at}
 use Rattle.std.proofs.lemmas.List.Elements.{All-contains, All-map, All-push, Contains-append_left, Contains-get_or, Contains-push, Contains-push_cases}
-use Rattle.std.proofs.lemmas.List.{get_or_append_left, get_or_past, get_or_push, map-append, take_all, take_more}
+use Rattle.std.proofs.lemmas.List.{get_or_past, map-append, take_all, take_more}
 use Rattle.std.specs.List.Sorted.{IsStrictlyIncreasing}
-use Rattle.std.proofs.lemmas.Option.{get_or_from_slice_get, slice_get_within, slice_get-get_or}
+use Rattle.std.proofs.lemmas.Option.{get_or_from_slice_get, none-some, slice_get_within, slice_get-get_or}
 use Rattle.config_graph.specs.Graph.{Configuration, IsGraph, index_of}
 use Rattle.config_graph.specs.contracts.kind.KindPartialEq as kind_eq
 use Rattle.config_graph.specs.declared.kind.Kind.{Kind}
@@ -19,6 +19,7 @@ use Rattle.change_plan.specs.declared.error.PlanError.{PlanError}
 use Rattle.change_plan.specs.declared.error.PlanError.TheVariants.{NoMemory}
 use Rattle.change_plan.specs.declared.plan_data.Move.{Move}
 use Rattle.change_plan.specs.declared.plan_data.Shift.{Shift}
+use Rattle.config_graph.proofs.ListLemmas.{IsStrictlyIncreasing-push}
 use Rattle.change_plan.proofs.DifferenceLemmas.{one_node}
 use Rattle.change_plan.proofs.NodeLemmas.{index_found, index_missing, one_path}
 
@@ -26,6 +27,10 @@ use Rattle.change_plan.proofs.NodeLemmas.{index_found, index_missing, one_path}
 pub one_gone : (g h : Configuration) → IsGraph g → (path : List ℕ) (i j : ℕ) → IsGoneAt g h path i → IsGoneAt g h path j → i ≡ j
 one_gone g h graph path i j a b =
     one_path g.nodes graph.paths_rise i j a.node b.node a.here b.here (a.named ∙ sym b.named)
+
+-- and a node one path
+one_name : (g h : Configuration) (i : ℕ) (p q : List ℕ) → IsGoneAt g h p i → IsGoneAt g h q i → p ≡ q
+one_name g h i p q a b = sym a.named ∙ ap (λ (n : Node). n.path) (one_node g.nodes i a.node b.node a.here b.here) ∙ b.named
 
 -- the node that a path finds, where it isn't in the other configuration
 pub found_gone : (g h : Configuration) (path : List ℕ) (i : ℕ) (n : Node) → index_of g.nodes path ≡ Some i → slice_get g.nodes i ≡ Some n → (¬ Contains h.nodes n) → IsGoneAt g h path i
@@ -110,13 +115,7 @@ module _ (old new : Configuration) (old_graph : IsGraph old) (new_graph : IsGrap
   shift_from : GoesOn old new before i → MovesFrom before m.from
   shift_from (k, shift) =
       let b = shift.move in
-      (shift.there.0, b, shift.there.1, shift.there.2, same_named i b.from m.from shift.leads.removed leads.removed)
-    where
-      same_named : (x : ℕ) (p q : List ℕ) → IsGoneAt old new p x → IsGoneAt old new q x → p ≡ q
-      same_named x p q a b =
-          let both : Some a.node ≡ Some b.node = sym a.here ∙ b.here in
-          let node : a.node ≡ b.node = cc in
-          sym a.named ∙ ap (λ (n : Node). n.path) node ∙ b.named
+      (shift.there.0, b, shift.there.1, shift.there.2, one_name old new i b.from m.from shift.leads.removed leads.removed)
 
   to_shift : MovesTo before m.to → (k : ℕ) × IsShift old new before (record { old = k; new = j })
   to_shift (k, b, low, at, same) =
@@ -128,13 +127,7 @@ module _ (old new : Configuration) (old_graph : IsGraph old) (new_graph : IsGrap
   shift_to : (k : ℕ) → IsShift old new before (record { old = k; new = j }) → MovesTo before m.to
   shift_to k shift =
       let b = shift.move in
-      (shift.there.0, b, shift.there.1, shift.there.2, same_named j b.to m.to shift.leads.created leads.created)
-    where
-      same_named : (x : ℕ) (p q : List ℕ) → IsGoneAt new old p x → IsGoneAt new old q x → p ≡ q
-      same_named x p q a b =
-          let both : Some a.node ≡ Some b.node = sym a.here ∙ b.here in
-          let node : a.node ≡ b.node = cc in
-          sym a.named ∙ ap (λ (n : Node). n.path) node ∙ b.named
+      (shift.there.0, b, shift.there.1, shift.there.2, one_name new old j b.to m.to shift.leads.created leads.created)
 
   -- the source's mark is set where an earlier move has the source
   pub repeated_source : get_or sources i false ≡ true → MovesFrom before m.from
@@ -149,10 +142,7 @@ module _ (old new : Configuration) (old_graph : IsGraph old) (new_graph : IsGrap
   pub other_target : get_or targets j None ≡ None → ¬ MovesTo before m.to
   other_target unset moves =
       let shift = to_shift moves in
-      none_some (sym unset ∙ (noted.targets_are shift.0 j).1 shift.1)
-    where
-      none_some : {x : ℕ} → None ≡ Some x → ⊥
-      none_some e = cc
+      none-some shift.0 (sym unset ∙ (noted.targets_are shift.0 j).1 shift.1)
 
   -- what is noted after one move more
   pub noted_more : IsFit old new m → get_or targets j None ≡ None → IsNoted old new (before ++ m ∷ []) (set sources i true) (set targets j (Some i))
@@ -222,12 +212,6 @@ module _ (old new : Configuration) (old_graph : IsGraph old) (new_graph : IsGrap
 pub read_entry : {A : Type 0} (xs : List A) (i : ℕ) (x d : A) → i < length xs → x ≡ get_or xs i x → get_or xs i d ≡ x
 read_entry xs i x d low x_is = get_or_from_slice_get xs i x d (slice_get-get_or xs i x low ∙ ap Some (sym x_is))
 
-pub source_low : (old new : Configuration) (m : Move) (i j n : ℕ) → Leads old new m i j → n ≡ length old.nodes → i < n
-source_low old new m i j n leads n_is = omega (arith, slice_get_within old.nodes i leads.removed.node leads.removed.here, n_is)
-
-pub target_low : (old new : Configuration) (m : Move) (i j n : ℕ) → Leads old new m i j → n ≡ length new.nodes → j < n
-target_low old new m i j n leads n_is = omega (arith, slice_get_within new.nodes j leads.created.node leads.created.here, n_is)
-
 pub is_there : (o : Option ℕ) (b : Bool) → b ≡ is_some o → b ≡ true → (k : ℕ) × (o ≡ Some k)
 is_there None b tested e = absurd (false≢true (sym tested ∙ e))
 is_there (Some k) b tested e = (k, refl)
@@ -236,47 +220,16 @@ pub is_missing : (o : Option ℕ) (b : Bool) → b ≡ is_some o → b ≡ false
 is_missing None b tested e = refl
 is_missing (Some k) b tested e = absurd (false≢true (sym e ∙ tested))
 
--- at first nothing is noted
-pub nothing_noted : (old new : Configuration) (sources : List Bool) (targets : List (Option ℕ)) → length sources ≡ length old.nodes → length targets ≡ length new.nodes → ((i : ℕ) → get_or sources i false ≡ false) → ((j : ℕ) → get_or targets j None ≡ None) → IsNoted old new [] sources targets
-nothing_noted old new sources targets sources_length targets_length unset empty = record {
-  fit = λ k d low. absurd (omega arith);
-  sources_length = sources_length;
-  targets_length = targets_length;
-  sources_are = λ i. (λ mark. absurd (false≢true (sym (unset i) ∙ mark)), λ (j, shift). absurd (omega (arith, shift.there.1)));
-  targets_are = λ i j. (λ found. absurd (none_some (sym (empty j) ∙ found)), λ shift. absurd (omega (arith, shift.there.1)));
-}
-  where
-    none_some : {x : ℕ} → None ≡ Some x → ⊥
-    none_some e = cc
-
--- numbers that rise, and a greater one behind them
-rise_push : (xs : List ℕ) (y : ℕ) → IsStrictlyIncreasing xs → All (λ x. x < y) xs → IsStrictlyIncreasing (xs ++ y ∷ [])
-rise_push xs y rise below k h =
-    let low : k + 1 < length xs + 1 = rw length-append at h in
-    let here : get_or (xs ++ y ∷ []) k 0 ≡ get_or xs k 0 = get_or_append_left xs (y ∷ []) 0 k (omega arith) in
-    elim (cases_lt (k + 1) (length xs)) [
-      | inl inside ↦ rw (here, get_or_append_left xs (y ∷ []) 0 (k + 1) inside) (rise k inside)
-      | inr last ↦
-          let end : length xs ≡ k + 1 = omega arith in
-          rw (here, get_or_push xs y 0 (k + 1) end) (below k 0 (omega arith))
-    ]
-
 -- the moves to the first n nodes, in the order of these
 pub record ListedBelow (targets : List (Option ℕ)) (n : ℕ) (shifts : List Shift) : Type 0 where
   pub listed : (s : Shift) → Contains shifts s ↔ ((s.new < n) × (get_or targets s.new None ≡ Some s.old))
   pub rise : IsStrictlyIncreasing (map (λ s. s.new) shifts)
 
-pub listed_none : (targets : List (Option ℕ)) → ListedBelow targets 0 []
-listed_none targets = record {
-  listed = λ s. (λ h. absurd (omega (arith, h.1)), λ h. absurd (omega (arith, h.0)));
-  rise = λ k h. absurd (omega arith);
-}
-
 module _ (targets : List (Option ℕ)) (n : ℕ) (shifts : List Shift) (so_far : ListedBelow targets n shifts) where
   pub listed_push : (i : ℕ) → get_or targets n None ≡ Some i → ListedBelow targets (n + 1) (shifts ++ record { old = i; new = n } ∷ [])
   listed_push i at = record {
     listed = λ s. (to s, from s);
-    rise = subst IsStrictlyIncreasing (sym (map-append (λ (s : Shift). s.new) shifts (record { old = i; new = n } ∷ []))) (rise_push (map (λ s. s.new) shifts) n so_far.rise (All-map (λ x. x < n) (λ (s : Shift). s.new) shifts (λ k d low. ((so_far.listed (get_or shifts k d)).0 (Contains-get_or shifts k d low)).0)));
+    rise = subst IsStrictlyIncreasing (sym (map-append (λ (s : Shift). s.new) shifts (record { old = i; new = n } ∷ []))) (IsStrictlyIncreasing-push (map (λ s. s.new) shifts) n so_far.rise (All-map (λ x. x < n) (λ (s : Shift). s.new) shifts (λ k d low. ((so_far.listed (get_or shifts k d)).0 (Contains-get_or shifts k d low)).0)));
   }
     where
       to : (s : Shift) → Contains (shifts ++ record { old = i; new = n } ∷ []) s → (s.new < n + 1) × (get_or targets s.new None ≡ Some s.old)
@@ -304,9 +257,6 @@ module _ (targets : List (Option ℕ)) (n : ℕ) (shifts : List Shift) (so_far :
   pub listed_skip : get_or targets n None ≡ None → ListedBelow targets (n + 1) shifts
   listed_skip at = record { listed = λ s. (to s, from s); rise = so_far.rise }
     where
-      none_some : {x : ℕ} → None ≡ Some x → ⊥
-      none_some e = cc
-
       to : (s : Shift) → Contains shifts s → (s.new < n + 1) × (get_or targets s.new None ≡ Some s.old)
       to s h =
           let below = (so_far.listed s).0 h in
@@ -315,21 +265,18 @@ module _ (targets : List (Option ℕ)) (n : ℕ) (shifts : List Shift) (so_far :
       from : (s : Shift) → (s.new < n + 1) × (get_or targets s.new None ≡ Some s.old) → Contains shifts s
       from s (low, found) =
           elim (cases_eq s.new n) [
-            | inl same ↦ absurd (none_some (sym at ∙ ap (λ j. get_or targets j None) (sym same) ∙ found))
+            | inl same ↦ absurd (none-some s.old (sym at ∙ ap (λ j. get_or targets j None) (sym same) ∙ found))
             | inr apart ↦ (so_far.listed s).1 (omega (arith, low, apart), found)
           ]
 
   pub listed_all : length targets ≤ n → (s : Shift) → Contains shifts s ↔ (get_or targets s.new None ≡ Some s.old)
   listed_all all s = (λ h. ((so_far.listed s).0 h).1, λ found. (so_far.listed s).1 (below found, found))
     where
-      none_some : {x : ℕ} → None ≡ Some x → ⊥
-      none_some e = cc
-
       below : get_or targets s.new None ≡ Some s.old → s.new < n
       below found =
           elim (cases_lt s.new (length targets)) [
             | inl low ↦ omega (arith, low, all)
-            | inr high ↦ absurd (none_some (sym (get_or_past targets s.new None high) ∙ found))
+            | inr high ↦ absurd (none-some s.old (sym (get_or_past targets s.new None high) ∙ found))
           ]
 
 -- what was noted of all moves, listed

@@ -32,7 +32,7 @@ length-Selects P all part (takes {xs = xs} {ys = ys} has s) = let rest = length-
 length-Selects P all part (skips {xs = xs} {ys = ys} lacks s) = let rest = length-Selects P xs ys s in omega (arith, rest)
 
 -- the ports of the first nodes
-first_ports : (nodes : List Node) (n : ℕ) → n ≤ length nodes → sum_by (requires_at nodes) (range_with_len 0 n) ≡ sum_by requires_of (take n nodes)
+pub first_ports : (nodes : List Node) (n : ℕ) → n ≤ length nodes → sum_by (requires_at nodes) (range_with_len 0 n) ≡ sum_by requires_of (take n nodes)
 first_ports nodes zero low = refl
 first_ports nodes (suc n) low =
     elim (slice_get_cases nodes n).1 [

@@ -4,27 +4,18 @@ use Rattle.std.proofs.lemmas.Bool.{cases_eq, cases_lt}
 use Rattle.std.proofs.lemmas.Option.{slice_get_within}
 use Rattle.std.specs.List.{range_with_len}
 use Rattle.config_graph.specs.Graph.{Configuration, IsGraph, requires_at}
+use Rattle.config_graph.specs.declared.TheConstants.{MAX_NODES, MAX_PORTS}
 use Rattle.config_graph.specs.declared.node.Made.{Made}
 use Rattle.config_graph.specs.declared.node.Node.{Node}
 use Rattle.change_plan.specs.Differences.{GoneNodes, IsGone}
 use Rattle.change_plan.specs.Moves.{IsFit, MayMove, MayMoveAll}
-use Rattle.change_plan.specs.Refusals.{CanPlan, FirstFault, IsRefusal, IsWanted, KindsDifferIn, MoveFault, Repeats, RoomFault, nodes_limit, ports_limit}
-use Rattle.change_plan.specs.Selects.{Selects}
-use Rattle.change_plan.specs.Selects.Selects.{ends, takes, skips}
+use Rattle.change_plan.specs.Refusals.{CanPlan, FirstFault, IsRefusal, IsWanted, KindsDifferIn, MoveFault, Repeats, RoomFault}
 use Rattle.change_plan.specs.declared.error.PlanError.{PlanError}
 use Rattle.change_plan.specs.declared.error.PlanError.TheVariants.{NotRemoved, NotCreated, KindsDiffer, MovedTwice, NodesFull, PortsFull, NoMemory}
 use Rattle.change_plan.specs.declared.plan_data.Move.{Move}
 use Rattle.change_plan.proofs.DifferenceLemmas.{one_node}
 use Rattle.change_plan.proofs.MoveLemmas.{one_gone}
-
--- a list has one part that has a property
-Selects-one : {A : Type 0} (P : A → Type 0) (xs ys zs : List A) → Selects P xs ys → Selects P xs zs → ys ≡ zs
-Selects-one P all ys zs ends ends = refl
-Selects-one P all ys zs (takes {x = x} {xs = xs} {ys = us} has s) (takes {ys = ws} also t) =
-    ap (λ vs. x ∷ vs) (Selects-one P xs us ws s t)
-Selects-one P all ys zs (takes has s) (skips lacks t) = absurd (lacks has)
-Selects-one P all ys zs (skips lacks s) (takes has t) = absurd (lacks has)
-Selects-one P all ys zs (skips {xs = xs} lacks s) (skips also t) = Selects-one P xs ys zs s t
+use Rattle.change_plan.proofs.SelectsLemmas.{Selects-one}
 
 -- a repeated path is the source, or else the target
 same_repeat : (before : List Move) (m : Move) (p q : List ℕ) → Repeats before m p → Repeats before m q → p ≡ q
@@ -105,7 +96,7 @@ module _ (old new : Configuration) (old_graph : IsGraph old) (new_graph : IsGrap
         no_fault (take first.count moves) first.move e (may first.count first.move (slice_get_within moves first.count first.move first.at) first.at) first.fault
 
 -- how much is wanted
-one_wanted : (old new : Configuration) (n p m q : ℕ) → IsWanted old new n p → IsWanted old new m q → (n ≡ m) × (p ≡ q)
+pub one_wanted : (old new : Configuration) (n p m q : ℕ) → IsWanted old new n p → IsWanted old new m q → (n ≡ m) × (p ≡ q)
 one_wanted old new n p m q a b =
     let same : a.created ≡ b.created = Selects-one (IsGone new old) (range_with_len 0 (length new.nodes)) a.created b.created a.gone b.gone in
     (a.nodes_are ∙ ap length same ∙ sym b.nodes_are, a.ports_are ∙ ap (sum_by (requires_at new.nodes)) same ∙ sym b.ports_are)
@@ -127,7 +118,7 @@ one_room made n p d (KindsDiffer q r) x y = absurd y
 one_room made n p d (MovedTwice q) x y = absurd y
 one_room made n p d NoMemory x y = absurd y
 
-no_room : (made : Made) (n p : ℕ) (e : PlanError) → made.nodes + n ≤ nodes_limit → made.ports + p ≤ ports_limit → ¬ RoomFault made n p e
+no_room : (made : Made) (n p : ℕ) (e : PlanError) → made.nodes + n ≤ MAX_NODES → made.ports + p ≤ MAX_PORTS → ¬ RoomFault made n p e
 no_room made n p (NodesFull a w) nodes_fit ports_fit x = omega (arith, x.full, nodes_fit)
 no_room made n p (PortsFull a w) nodes_fit ports_fit (low, x) = omega (arith, x.full, ports_fit)
 no_room made n p (NotRemoved q) nodes_fit ports_fit x = x

@@ -1,10 +1,11 @@
 -- Lemmas on the part of a list that has a property.
-use Rattle.std.proofs.Common.{◌≡◌, ℕ, zero, suc, ◌+◌, ◌<◌, ◌≤◌, List, [], ◌∷◌, ◌++◌, length, take, get_or, sym, ◌∙◌, ap, subst, arith, add-one, sum_by, All, Contains}
+use Rattle.std.proofs.Common.{◌≡◌, ℕ, zero, suc, ◌+◌, ◌<◌, ◌≤◌, List, [], ◌∷◌, ◌++◌, length, take, get_or, refl, sym, ◌∙◌, ap, subst, arith, sum_by, All, Contains}
 use Rattle.std.specs.List.{range_with_len}
 use Rattle.std.proofs.lemmas.List.{take_more}
 use Rattle.std.proofs.lemmas.List.Elements.{All-cons, All-nil, Contains-append_right, Contains-get_or}
 use Rattle.std.proofs.lemmas.List.FromFn.{get_or-range_with_len, length-range_with_len}
 use Rattle.std.proofs.lemmas.List.Sums.{sum_by-cons}
+pub use Rattle.config_graph.proofs.ListLemmas.{places_more}
 use Rattle.change_plan.specs.Selects.{Selects}
 use Rattle.change_plan.specs.Selects.Selects.{ends, takes, skips}
 
@@ -19,17 +20,6 @@ pub Selects-pass : {A : Type 0} (P : A → Type 0) (x : A) → ¬ P x → (xs ys
 Selects-pass P x lacks all part ends = skips lacks ends
 Selects-pass P x lacks all part (takes {xs = xs} {ys = ys} h s) = takes h (Selects-pass P x lacks xs ys s)
 Selects-pass P x lacks all part (skips {xs = xs} {ys = ys} h s) = skips h (Selects-pass P x lacks xs ys s)
-
-range_more : (a n : ℕ) → range_with_len a (suc n) ≡ range_with_len a n ++ (a + n) ∷ []
-range_more a zero = let e : a ≡ a + 0 = omega arith in ap (λ x. x ∷ []) e
-range_more a (suc n) =
-    let shift : (a + 1) + n ≡ a + suc n = omega arith in
-    ap (λ t. a ∷ t) (range_more (a + 1) n ∙ ap (λ x. range_with_len (a + 1) n ++ x ∷ []) shift)
-
-pub places_more : (n : ℕ) → range_with_len 0 (n + 1) ≡ range_with_len 0 n ++ n ∷ []
-places_more n =
-    let here : 0 + n ≡ n = omega arith in
-    ap (range_with_len 0) (add-one n) ∙ range_more 0 n ∙ ap (λ k. range_with_len 0 n ++ k ∷ []) here
 
 -- the first places, and one more
 pub places_push : (P : ℕ → Type 0) (n : ℕ) (ys : List ℕ) → P n → Selects P (range_with_len 0 n) ys → Selects P (range_with_len 0 (n + 1)) (ys ++ n ∷ [])
@@ -56,6 +46,15 @@ sum_by-Selects P f all part (takes {x = x} {xs = xs} {ys = ys} h s) =
 sum_by-Selects P f all part (skips {x = x} {xs = xs} {ys = ys} h s) =
     let rest = sum_by-Selects P f xs ys s in
     omega (arith, rest, sum_by-cons f x xs)
+
+-- a list has one part that has a property
+pub Selects-one : {A : Type 0} (P : A → Type 0) (xs ys zs : List A) → Selects P xs ys → Selects P xs zs → ys ≡ zs
+Selects-one P all ys zs ends ends = refl
+Selects-one P all ys zs (takes {x = x} {xs = xs} {ys = us} has s) (takes {ys = ws} also t) =
+    ap (λ vs. x ∷ vs) (Selects-one P xs us ws s t)
+Selects-one P all ys zs (takes has s) (skips lacks t) = absurd (lacks has)
+Selects-one P all ys zs (skips lacks s) (takes has t) = absurd (lacks has)
+Selects-one P all ys zs (skips {xs = xs} lacks s) (skips also t) = Selects-one P xs ys zs s t
 
 -- what a part has
 pub Selects-only : {A : Type 0} (P : A → Type 0) (xs ys : List A) → Selects P xs ys → All P ys

@@ -2,6 +2,7 @@
 -- or ports.
 use Rattle.std.specs.Prelude.{◌≡◌, ◌<◌, ◌≤◌, ◌+◌, ◌⊎◌, ℕ, List, Some, Result, Ok, Err, length, slice_get, sum_by, take}
 use Rattle.config_graph.specs.Graph.{Configuration, requires_at}
+use Rattle.config_graph.specs.declared.TheConstants.{MAX_NODES, MAX_PORTS}
 use Rattle.config_graph.specs.declared.node.Made.{Made}
 use Rattle.change_plan.specs.Differences.{GoneNodes}
 use Rattle.change_plan.specs.Moves.{IsFit, IsPathGone, Leads, MayMoveAll, MovesFrom, MovesTo}
@@ -47,13 +48,6 @@ pub record IsWanted (old new : Configuration) (nodes ports : ℕ) : Type 0 where
   pub nodes_are : nodes ≡ length created
   pub ports_are : ports ≡ sum_by (requires_at new.nodes) created
 
--- one run makes at most so many nodes and ports
-abbrev pub nodes_limit : ℕ
-nodes_limit = 1023
-
-abbrev pub ports_limit : ℕ
-ports_limit = 4096
-
 -- how many were made, and how many are wanted, carried by a refusal
 pub record IsFullOf (limit made wanted carried_made carried_wanted : ℕ) : Type 0 where
   pub made_is : carried_made ≡ made
@@ -62,9 +56,9 @@ pub record IsFullOf (limit made wanted carried_made carried_wanted : ℕ) : Type
 
 -- what there is no room for
 abbrev pub RoomFault : Made → ℕ → ℕ → PlanError → Type 0
-RoomFault made nodes ports (NodesFull m w) = IsFullOf nodes_limit made.nodes nodes m w
+RoomFault made nodes ports (NodesFull m w) = IsFullOf MAX_NODES made.nodes nodes m w
 RoomFault made nodes ports (PortsFull m w) =
-    (made.nodes + nodes ≤ nodes_limit) × IsFullOf ports_limit made.ports ports m w
+    (made.nodes + nodes ≤ MAX_NODES) × IsFullOf MAX_PORTS made.ports ports m w
 RoomFault made nodes ports e = ⊥
 
 -- why these can't be planned
@@ -78,8 +72,8 @@ pub record CanPlan (old new : Configuration) (moves : List Move) (made : Made) :
   pub nodes : ℕ
   pub ports : ℕ
   pub wanted : IsWanted old new nodes ports
-  pub nodes_fit : made.nodes + nodes ≤ nodes_limit
-  pub ports_fit : made.ports + ports ≤ ports_limit
+  pub nodes_fit : made.nodes + nodes ≤ MAX_NODES
+  pub ports_fit : made.ports + ports ≤ MAX_PORTS
 
 -- the answer is this refusal, unless memory ran out
 abbrev pub Refuses : {T : Type 0} → Result T PlanError → PlanError → Type 0

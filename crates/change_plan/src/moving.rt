@@ -87,6 +87,8 @@ fn take_move(old: &Graph, new: &Graph, moved: &Move, taken: &mut Taken) -> Resul
 /// A move by indexes.
 fn shift_of(old: &Graph, new: &Graph, moved: &Move) -> Result<Shift, PlanError>
     ensures leads { IfOk result (λ s. Leads old.now new.now moved.now s.old s.new) }
+    ensures old_within { IfOk result (λ s. s.old < length old.now.nodes) }
+    ensures new_within { IfOk result (λ s. s.new < length new.now.nodes) }
     ensures fit { OnOk result (IsFit old.now new.now moved.now) }
     ensures old { OnOk result (IsGraph old.now) }
     ensures new { OnOk result (IsGraph new.now) }
@@ -114,6 +116,7 @@ fn shift_of(old: &Graph, new: &Graph, moved: &Move) -> Result<Shift, PlanError>
 fn gone_at(graph: &Graph, other: &Graph, path: &[u8]) -> Option<u32>
     ensures graph { IsGraph graph.now }
     ensures found { IfSome result (λ i. IsGoneAt graph.now other.now path.now i) }
+    ensures within { IfSome result (λ i. i < length graph.now.nodes) }
     ensures missing { IfNone result (¬ IsPathGone graph.now other.now path.now) }
 {
     let nodes = graph.nodes();

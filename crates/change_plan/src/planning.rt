@@ -2,12 +2,13 @@
 
 ghost use Rattle.std.specs.Prelude.{◌≡◌, ◌<◌, ◌≤◌, ◌+◌, ◌^◌, ◌↔◌, ◌⊎◌, ℕ, All, Contains, IfErr, IfOk, OnOk, length, sum_by};
 ghost use Rattle.std.specs.List.Sorted.{IsStrictlyIncreasing};
+ghost use Rattle.config_graph.specs.declared.TheConstants.{MAX_NODES, MAX_PORTS};
 ghost use Rattle.config_graph.specs.Graph.{requires_at};
 ghost use Rattle.config_graph.specs.Reach.{Enlarged};
 ghost use Rattle.change_plan.specs.Differences.{GoneLinks, GoneNodes, GonePorts};
 ghost use Rattle.change_plan.specs.Moves.{IsShifts};
 ghost use Rattle.change_plan.specs.PlanWithin.{IsPlanWithin};
-ghost use Rattle.change_plan.specs.Refusals.{CanPlan, IsRefusal, Refuses, RoomFault, nodes_limit, ports_limit};
+ghost use Rattle.change_plan.specs.Refusals.{CanPlan, IsRefusal, Refuses, RoomFault};
 ghost use Rattle.change_plan.specs.Touched.{IsTouched};
 ghost use Rattle.change_plan.specs.declared.error.PlanError.{PlanError};
 ghost use Rattle.change_plan.specs.declared.error.PlanError.TheVariants.{NoMemory};
@@ -65,8 +66,8 @@ fn require_room(new: &Graph, create: &[u32], made: Made) -> Result<(), PlanError
     requires within { All (λ i. i < length new.now.nodes) create.now }
     requires few_nodes { length create.now < 2 ^ 32 }
     requires few_ports { sum_by (requires_at new.now.nodes) create.now < 2 ^ 32 }
-    ensures nodes { OnOk result (made.nodes + length create.now ≤ nodes_limit) }
-    ensures ports { OnOk result (made.ports + sum_by (requires_at new.now.nodes) create.now ≤ ports_limit) }
+    ensures nodes { OnOk result (made.nodes + length create.now ≤ MAX_NODES) }
+    ensures ports { OnOk result (made.ports + sum_by (requires_at new.now.nodes) create.now ≤ MAX_PORTS) }
     ensures refused { IfErr result
         (RoomFault made (length create.now) (sum_by (requires_at new.now.nodes) create.now)) }
 {

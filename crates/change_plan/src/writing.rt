@@ -2,12 +2,11 @@
 
 ghost use Rattle.std.specs.Prelude.{◌≡◌, ◌<◌, ◌++◌, All, IfOk, OnOk, length, slice_get, Some, flat_map};
 ghost use Rattle.config_graph.specs.Graph.{IsWithin, provides_at, requires_at};
-ghost use Rattle.config_graph.specs.GraphText.{kind_text};
 ghost use Rattle.change_plan.specs.PlanWithin.{IsPlanWithin};
 ghost use Rattle.change_plan.specs.PlanText.{create_line, link_line, node_line, plan_text, port_text, provision_text, unlink_line};
 
 use crate::{OldPort, Plan};
-use config_graph::{Graph, Kind, Link, NoMemory};
+use config_graph::{Graph, Link, NoMemory, kind_text};
 use std::alloc::Global;
 
 /// The text of a plan: a line for each node that is frozen, each port that is unlinked, each node that is removed, each that is
@@ -94,25 +93,8 @@ fn write_create(alloc: Global, text: &mut Vec<u8>, graph: &Graph, node: u32) -> 
     text.extend_from_slice(b"create ")?;
     text.extend_from_slice(node.path.as_bytes())?;
     text.extend_from_slice(b" ")?;
-    write_kind(alloc, text, node.kind, node.arg)?;
+    text.extend_from_slice(&kind_text(alloc, node.kind, node.arg)?)?;
     text.extend_from_slice(b"\n")
-}
-
-/// `KIND(ARG)`
-fn write_kind(
-    alloc: Global,
-    text: &mut Vec<u8>,
-    kind: Kind,
-    arg: Option<u32>,
-) -> Result<(), NoMemory>
-    ensures { OnOk result (text.new.items ≡ text.old.items ++ kind_text kind arg) }
-{
-    text.extend_from_slice(kind.name().as_bytes())?;
-    text.extend_from_slice(b"(")?;
-    if let Some(arg) = arg {
-        text.extend_from_slice(format!(in alloc; "{arg}")?.as_bytes())?;
-    }
-    text.extend_from_slice(b")")
 }
 
 /// A line for each link.

@@ -1,6 +1,6 @@
-use Rattle.std.proofs.Common.{◌∙◌, false, None, arith, inl, inr}
+use Rattle.std.proofs.Common.{◌∙◌, ◌<◌, false, None, arith, inl, inr, length}
 use Rattle.std.proofs.lemmas.Result.{err_from_is_err_and}
-use Rattle.change_plan.proofs.MoveLemmas.{is_missing, is_there, noted_more, other_source, other_target, read_entry, repeated_source, repeated_target, source_low, target_low}
+use Rattle.change_plan.proofs.MoveLemmas.{is_missing, is_there, noted_more, other_source, other_target, read_entry, repeated_source, repeated_target}
 use Rattle.change_plan.proofs.moving.take_move.Goals as goal
 
 pub returns-in_err-shift-clause-refused : goal.returns-in_err-shift-clause-refused
@@ -8,33 +8,13 @@ returns-in_err-shift-clause-refused c =
     let h = err_from_is_err_and c.from_residual.result c.from_residual.ensures.1 in
     λ before noted. rw (h.1, h.2) (c.in_err-shift.ensures.refused before)
 
-pub index-requires : goal.index-requires
-index-requires c =
-    let low = source_low c.args.old.now c.args.new.now c.args.moved.now c.in_ok-shift.shift.old c.in_ok-shift.shift.new _ c.in_ok-shift.ensures.leads c.requires.sources in
-    omega (arith, low)
-
-pub index-requires-2 : goal.index-requires-2
-index-requires-2 c =
-    let low = target_low c.args.old.now c.args.new.now c.args.moved.now c.in_ok-shift.shift.old c.in_ok-shift.shift.new _ c.in_ok-shift.ensures.leads c.requires.targets in
-    omega (arith, low)
-
-pub index_mut-requires : goal.index_mut-requires
-index_mut-requires c =
-    let low = source_low c.args.old.now c.args.new.now c.args.moved.now c.in_ok-shift.shift.old c.in_ok-shift.shift.new _ c.in_ok-shift.ensures.leads c.requires.sources in
-    omega (arith, low)
-
-pub index_mut-requires-2 : goal.index_mut-requires-2
-index_mut-requires-2 c =
-    let low = target_low c.args.old.now c.args.new.now c.args.moved.now c.in_ok-shift.shift.old c.in_ok-shift.shift.new _ c.in_ok-shift.ensures.leads c.requires.targets in
-    omega (arith, low)
-
 pub returns-then-index-clause-refused : goal.returns-then-index-clause-refused
 returns-then-index-clause-refused c =
     let shift = c.in_ok-shift.shift in
     let told = c.in_ok-shift.ensures in
     let sources = c.args.taken.now.sources.items in
     let targets = c.args.taken.now.targets.items in
-    let low = source_low c.args.old.now c.args.new.now c.args.moved.now shift.old shift.new _ told.leads c.requires.sources in
+    let low : shift.old < length sources = omega (arith, told.old_within, c.requires.sources) in
     let mark = read_entry sources shift.old c.index.result.now false low c.index.ensures in
     λ before noted.
     inr (told.fit, inl (c.in_ok-try_clone.ensures, repeated_source c.args.old.now c.args.new.now told.old told.new before sources targets noted c.args.moved.now shift.old shift.new told.leads (mark ∙ c.if-index.true)))
@@ -48,9 +28,9 @@ returns-then-is_some-clause-refused c =
     let told = c.in_ok-shift.ensures in
     let sources = c.args.taken.now.sources.items in
     let targets = c.args.taken.now.targets.items in
-    let unset = read_entry sources shift.old c.index.result.now false (source_low old new m shift.old shift.new _ told.leads c.requires.sources) c.index.ensures ∙ c.if-index.false in
+    let unset = read_entry sources shift.old c.index.result.now false (omega (arith, told.old_within, c.requires.sources)) c.index.ensures ∙ c.if-index.false in
     let found = is_there c.index-2.result.now c.is_some.result c.is_some.ensures c.if-is_some.true in
-    let entry = read_entry targets shift.new c.index-2.result.now None (target_low old new m shift.old shift.new _ told.leads c.requires.targets) c.index-2.ensures ∙ found.1 in
+    let entry = read_entry targets shift.new c.index-2.result.now None (omega (arith, told.new_within, c.requires.targets)) c.index-2.ensures ∙ found.1 in
     λ before noted.
     inr (told.fit, inr (c.in_ok-try_clone-2.ensures, other_source old new told.old told.new before sources targets noted m shift.old shift.new told.leads unset, repeated_target old new told.old told.new before sources targets noted m shift.old shift.new told.leads found.0 entry))
 
@@ -64,7 +44,7 @@ returns-clause-noted c =
     let sources = c.args.taken.now.sources.items in
     let targets = c.args.taken.now.targets.items in
     let missing = is_missing c.index-2.result.now c.is_some.result c.is_some.ensures c.if-is_some.false in
-    let entry = read_entry targets shift.new c.index-2.result.now None (target_low old new m shift.old shift.new _ told.leads c.requires.targets) c.index-2.ensures ∙ missing in
+    let entry = read_entry targets shift.new c.index-2.result.now None (omega (arith, told.new_within, c.requires.targets)) c.index-2.ensures ∙ missing in
     λ before noted. noted_more old new told.old told.new before sources targets noted m shift.old shift.new told.leads told.fit entry
 
 pub returns-clause-may_move : goal.returns-clause-may_move
@@ -76,9 +56,9 @@ returns-clause-may_move c =
     let told = c.in_ok-shift.ensures in
     let sources = c.args.taken.now.sources.items in
     let targets = c.args.taken.now.targets.items in
-    let unset = read_entry sources shift.old c.index.result.now false (source_low old new m shift.old shift.new _ told.leads c.requires.sources) c.index.ensures ∙ c.if-index.false in
+    let unset = read_entry sources shift.old c.index.result.now false (omega (arith, told.old_within, c.requires.sources)) c.index.ensures ∙ c.if-index.false in
     let missing = is_missing c.index-2.result.now c.is_some.result c.is_some.ensures c.if-is_some.false in
-    let entry = read_entry targets shift.new c.index-2.result.now None (target_low old new m shift.old shift.new _ told.leads c.requires.targets) c.index-2.ensures ∙ missing in
+    let entry = read_entry targets shift.new c.index-2.result.now None (omega (arith, told.new_within, c.requires.targets)) c.index-2.ensures ∙ missing in
     λ before noted. record {
       fit = told.fit;
       other_source = other_source old new told.old told.new before sources targets noted m shift.old shift.new told.leads unset;

@@ -1,5 +1,5 @@
 use Rattle.change_plan.specs.PlanText.{link_line}
-use Rattle.change_plan.proofs.TextLemmas.{lines_all, lines_more}
+use Rattle.config_graph.proofs.ListLemmas.{lines_all, lines_more}
 use Rattle.change_plan.proofs.writing.write_links.Goals as goal
 
 pub loop-link-preserved : goal.loop-link-preserved

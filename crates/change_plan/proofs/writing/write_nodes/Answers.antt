@@ -1,5 +1,5 @@
 use Rattle.change_plan.specs.PlanText.{node_line}
-use Rattle.change_plan.proofs.TextLemmas.{lines_all, lines_more}
+use Rattle.config_graph.proofs.ListLemmas.{lines_all, lines_more}
 use Rattle.change_plan.proofs.writing.write_nodes.Goals as goal
 
 pub loop-node-preserved : goal.loop-node-preserved
