@@ -1,7 +1,7 @@
 -- What the definitions of fronts give at each byte that a loop looks at, and that a piece lies within its text.
-use Rattle.std.proofs.Common.{◌≡◌, ℕ, suc, ◌+◌, ◌-◌, ◌*◌, ◌<◌, ◌≤◌, Bool, true, false, eqb, not, ◌||◌, nat_eq, nat_le, Option, Some, None, option_map, IfSome, List, [], ◌∷◌, length, get_or, take, drop, refl, sym, ap, ◌∙◌, arith, drop-cons, add-one, length-drop, codes, lit<, lit≤}
+use Rattle.std.proofs.Common.{◌≡◌, ℕ, suc, ◌+◌, ◌-◌, ◌*◌, ◌<◌, ◌≤◌, Bool, true, false, eqb, not, ◌||◌, nat_eq, nat_le, Option, Some, None, option_map, IfSome, List, [], ◌∷◌, length, get_or, take, drop, refl, ap, ◌∙◌, arith, drop-cons, add-one, length-drop, codes, lit<, lit≤}
 use Rattle.std.specs.List.{starts_with, prefix_len, find, AllPass}
-use Rattle.std.proofs.lemmas.Bool.{cond_both, cond-true, cond-false}
+use Rattle.std.proofs.lemmas.Bool.{cond_both, cond-false}
 use Rattle.std.proofs.lemmas.Bool.Decides.{nat_tests, Decides-eqb}
 use Rattle.std.proofs.lemmas.Grind.{common_steps}
 use Rattle.std.proofs.lemmas.List.Sums.{prefix_len-le-length}
@@ -25,15 +25,7 @@ map_more : (k : ℕ) (o : Option ℕ) → option_map (λ n. k + n) (option_map s
 map_more k None = refl
 map_more k (Some n) = ap Some (omega arith)
 
-map_none : (o : Option ℕ) → option_map (λ n. 0 + n) o ≡ o
-map_none None = refl
-map_none (Some n) = ap Some (omega arith)
-
--- A comment's end is at the first byte, or as far as from the next one.
-pub through_close-here : (text : List ℕ) → starts_with nat_eq text (codes "*/") ≡ true → through_close text ≡ Some 2
-through_close-here [] begins = cc
-through_close-here (byte ∷ rest) begins = cond-true _ _ _ begins
-
+-- Where no comment ends at the first byte, its end is as far as from the next one.
 through_close-later : (text : List ℕ) (byte : ℕ) (rest : List ℕ) → text ≡ byte ∷ rest → starts_with nat_eq text (codes "*/") ≡ false → through_close text ≡ option_map suc (through_close rest)
 through_close-later [] byte rest is begins = cc
 through_close-later (a ∷ text) byte rest is begins = cond-false _ _ _ begins ∙ ap (λ l. option_map suc (through_close l)) (let e : text ≡ rest = cc in e)
@@ -56,9 +48,6 @@ pub through_close-within : (text : List ℕ) → IfSome (through_close text) (λ
 through_close-within [] = tt
 through_close-within (a ∷ text) =
     cond_both (starts_with nat_eq (a ∷ text) (codes "*/")) _ _ (λ o. IfSome o (λ n. n ≤ suc (length text))) (starts_long (a ∷ text) (codes "*/")) (λ _. within_suc _ _ (through_close-within text))
-
-pub through_close-start : (text : List ℕ) → through_close text ≡ option_map (λ n. 0 + n) (through_close (drop 0 text))
-through_close-start text = sym (map_none (through_close text))
 
 digit_value-of_digit : (byte : ℕ) → is_ascii_digit byte ≡ true → (digit_value byte + 48 ≡ byte) × (digit_value byte < 10)
 digit_value-of_digit byte digit = grind (arith, nat_tests)
