@@ -16,12 +16,12 @@ use Rattle.config_graph.proofs.LinkLemmas.{target_within}
 use Rattle.config_graph.proofs.NumberingLemmas.{within_list}
 use Rattle.config_graph.proofs.OrderLemmas.{one_link-in_order}
 use Rattle.config_graph.proofs.SameLemmas.{node_decides}
-use Rattle.change_plan.specs.Applying.{Connection, ConnectionAfter, Connects, IsConnected, IsListed, IsPlan, KeepsItsLinks, NodeAfter}
+use Rattle.change_plan.specs.Applying.{Connection, ConnectionAfter, Connects, IsConnected, IsListed, IsOpened, IsPlan, KeepsItsLinks, NodeAfter}
 use Rattle.change_plan.specs.Differences.{GoneNodes, IsGone, IsKept, IsSameLink, IsTwin, port_of}
 use Rattle.change_plan.specs.Touched.{IsTouched, SameTarget}
 use Rattle.change_plan.specs.declared.plan_data.OldPort.{OldPort}
 use Rattle.change_plan.specs.declared.plan_data.Plan.{Plan}
-use Rattle.change_plan.proofs.DifferenceLemmas.{Contains-slice_get, kept_none, kept_some, one_node}
+use Rattle.change_plan.proofs.DifferenceLemmas.{Contains-slice_get, kept_none, kept_some, one_node, same_requires}
 use Rattle.change_plan.proofs.SelectsLemmas.{Contains-places, Selects-has, Selects-only, Selects-part}
 
 -- whether two nodes are equal
@@ -111,6 +111,12 @@ turned g h k l same = record {
   to = record { node = same.to.node; here = same.to.there; there = same.to.here };
   provide = sym same.provide;
 }
+
+turned_target : (g h : Configuration) (t u : Option Target) → SameTarget g h t u → SameTarget h g u t
+turned_target g h None None same = tt
+turned_target g h None (Some u) same = same
+turned_target g h (Some t) None same = same
+turned_target g h (Some t) (Some u) same = (record { node = same.0.node; here = same.0.there; there = same.0.here }, sym same.1)
 
 Contains-map : {A B : Type 0} (f : A → B) (xs : List A) (x : A) → Contains xs x → Contains (map f xs) (f x)
 Contains-map f xs x (k, low, same) = (k, rw length-map low, get_or-map f xs k x ∙ ap f same)
@@ -212,3 +218,55 @@ module _ (old new : Configuration) (old_graph : IsGraph old) (new_graph : IsGrap
             | inl is ↦ is
             | inr differs ↦ absurd (untouched (inr (record { twin = twin; require = r; stays = stays; within = within; differs = differs })))
           ]
+
+  touched_frozen : (i : ℕ) → IsTouched old new i → Contains p.freeze i
+  touched_frozen i touched = (plan.freeze i).1 (inl touched)
+
+  -- a link that is gone begins at a frozen node
+  lost_frozen : (k : Link) → Contains old.links k → ¬ IsKept old new k → Contains p.freeze k.from
+  lost_frozen k there lost =
+      let inside = All-contains (IsWithin old.nodes) old.links k old_graph.within there in
+      let from = read old.nodes k.from (within_list requires_of old.nodes k.from k.require inside.begins) in
+      elim (has_node new.nodes from.0) [
+        | inr missing ↦ touched_frozen k.from (inl (record { node = from.0; here = from.1; gone = missing }))
+        | inl found ↦
+            let place = at_place new.nodes from.0 found in
+            let exactly = kept_some old new old_graph new_graph k there from.0 from.1 place.0 place.1 in
+            touched_frozen k.from (inr (record {
+              twin = place.0;
+              require = k.require;
+              stays = record { node = from.0; here = from.1; there = place.1 };
+              within = inside.begins;
+              differs = λ same. lost (exactly.0 same);
+            }))
+      ]
+
+  pub unlinked_frozen : (q : OldPort) → Contains p.unlink q → Contains p.freeze q.node
+  unlinked_frozen q there =
+      let links = plan.unlink.0 in
+      let from_list = map_Contains port_of links q (subst (λ ports. Contains ports q) plan.unlink.2 there) in
+      let l = from_list.0 in
+      let lost = All-contains (λ m. ¬ IsKept old new m) links l (Selects-only (λ m. ¬ IsKept old new m) old.links links plan.unlink.1) from_list.1 in
+      let l_there = Selects-part (λ m. ¬ IsKept old new m) old.links links plan.unlink.1 l from_list.1 in
+      subst (λ (o : OldPort). Contains p.freeze o.node) from_list.2 (lost_frozen l l_there lost)
+
+  -- a link that is made begins at a created node or at a frozen one
+  pub linked_opened : (l : Link) → Contains p.link l → IsOpened old new p l.from
+  linked_opened l listed =
+      let there = Selects-part (λ m. ¬ IsKept new old m) new.links p.link plan.link l listed in
+      let lost = All-contains (λ m. ¬ IsKept new old m) p.link l (Selects-only (λ m. ¬ IsKept new old m) new.links p.link plan.link) listed in
+      let inside = All-contains (IsWithin new.nodes) new.links l new_graph.within there in
+      let low = within_list requires_of new.nodes l.from l.require inside.begins in
+      let from = read new.nodes l.from low in
+      elim (has_node old.nodes from.0) [
+        | inr missing ↦
+            inl (Selects-has (IsGone new old) (range_with_len 0 (length new.nodes)) p.create plan.create l.from (Contains-places (length new.nodes) l.from low) (record { node = from.0; here = from.1; gone = missing }))
+        | inl found ↦
+            let place = at_place old.nodes from.0 found in
+            let i = place.0 in
+            let stays : IsTwin old new i l.from = record { node = from.0; here = place.1; there = from.1 } in
+            let exactly = kept_some new old new_graph old_graph l there from.0 from.1 i place.1 in
+            let differs = λ (same : SameTarget old new (target_of old.links i l.require) (target_of new.links l.from l.require)). lost (exactly.0 (turned_target old new (target_of old.links i l.require) (target_of new.links l.from l.require) same)) in
+            let within = same_requires new old l.from i l.require (record { node = from.0; here = from.1; there = place.1 }) inside.begins in
+            inr (i, stays, touched_frozen i (inr (record { twin = l.from; require = l.require; stays = stays; within = within; differs = differs })))
+      ]

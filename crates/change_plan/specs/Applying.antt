@@ -51,3 +51,7 @@ pub record KeepsItsLinks (old new : Configuration) (i : ℕ) : Type 0 where
   pub twin : ℕ
   pub stays : IsTwin old new i twin
   pub same : (r : ℕ) → r < requires_at old.nodes i → SameTarget old new (target_of old.links i r) (target_of new.links twin r)
+
+-- node j of the new configuration is created, or is there already and frozen
+abbrev pub IsOpened : Configuration → Configuration → Plan → ℕ → Type 0
+IsOpened old new p j = Contains p.create j ⊎ ((i : ℕ) × IsTwin old new i j × Contains p.freeze i)

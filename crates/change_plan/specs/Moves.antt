@@ -57,3 +57,11 @@ pub record IsShifts (old new : Configuration) (moves : List Move) (shifts : List
   pub sound : (s : Shift) → Contains shifts s → IsShift old new moves s
   pub complete : (s : Shift) → IsShift old new moves s → Contains shifts s
   pub rise : IsStrictlyIncreasing (map (λ s. s.new) shifts)
+
+-- the nodes of a move, by their places, are of one kind
+pub record IsOfOneKind (old new : Configuration) (s : Shift) : Type 0 where
+  pub source : Node
+  pub target : Node
+  pub there : slice_get old.nodes s.old ≡ Some source
+  pub here : slice_get new.nodes s.new ≡ Some target
+  pub same_kind : source.kind ≡ target.kind

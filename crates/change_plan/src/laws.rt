@@ -1,10 +1,15 @@
 //! What plans are for: laws that hold of each plan between two graphs.
 
-ghost use Rattle.std.specs.Prelude.{◌<◌, ◌↔◌, ℕ, length, Contains};
+ghost use Rattle.std.specs.Prelude.{◌≡◌, ◌<◌, ◌↔◌, ℕ, List, length, All, Contains};
+ghost use Rattle.config_graph.specs.declared.node.Link.{Link};
 ghost use Rattle.config_graph.specs.declared.node.Node.{Node};
 ghost use Rattle.config_graph.specs.Graph.{Configuration, IsGraph};
-ghost use Rattle.change_plan.specs.Applying.{Connection, ConnectionAfter, IsConnected, IsPlan, KeepsItsLinks, NodeAfter};
+ghost use Rattle.change_plan.specs.Applying.{Connection, ConnectionAfter, IsConnected, IsOpened, IsPlan, KeepsItsLinks, NodeAfter};
+ghost use Rattle.change_plan.specs.Moves.{IsOfOneKind, IsShifts, MayMoveAll};
+ghost use Rattle.change_plan.specs.declared.plan_data.Move.{Move};
+ghost use Rattle.change_plan.specs.declared.plan_data.OldPort.{OldPort};
 ghost use Rattle.change_plan.specs.declared.plan_data.Plan.{Plan};
+ghost use Rattle.change_plan.specs.declared.plan_data.Shift.{Shift};
 
 /// A law: what a plan unlinks, removes, creates and links makes exactly the new graph of the old one.
 pub fn a_plan_leads_to_the_new_graph()
@@ -18,4 +23,25 @@ pub fn a_plan_leads_to_the_new_graph()
 pub fn what_is_not_frozen_keeps_its_links()
     ensures { (old new : Configuration) (p : Plan) → IsGraph old → IsGraph new → IsPlan old new p
         → (i : ℕ) → i < length old.nodes → (¬ Contains p.freeze i) → KeepsItsLinks old new i }
+{}
+
+/// A law: each port that a plan unlinks is one of a node that it freezes, and each link that it makes begins at a node that it
+/// creates or freezes.
+pub fn only_what_is_frozen_or_created_is_linked_anew()
+    ensures unlinked { (old new : Configuration) (p : Plan) → IsGraph old → IsGraph new → IsPlan old new p
+        → (q : OldPort) → Contains p.unlink q → Contains p.freeze q.node }
+    ensures linked { (old new : Configuration) (p : Plan) → IsGraph old → IsGraph new → IsPlan old new p
+        → (l : Link) → Contains p.link l → IsOpened old new p l.from }
+{}
+
+/// A law: where all moves may be made, each leads to a node of the same kind, and no node stands in two of them.
+pub fn a_state_goes_to_one_node_of_its_kind()
+    ensures kinds { (old new : Configuration) (moves : List Move) (shifts : List Shift) → IsGraph old → IsGraph new
+        → MayMoveAll old new moves (length moves) → IsShifts old new moves shifts → All (IsOfOneKind old new) shifts }
+    ensures sources { (old new : Configuration) (moves : List Move) (shifts : List Shift) → IsGraph old → IsGraph new
+        → MayMoveAll old new moves (length moves) → IsShifts old new moves shifts
+        → (s t : Shift) → Contains shifts s → Contains shifts t → s.old ≡ t.old → s ≡ t }
+    ensures targets { (old new : Configuration) (moves : List Move) (shifts : List Shift) → IsGraph old → IsGraph new
+        → MayMoveAll old new moves (length moves) → IsShifts old new moves shifts
+        → (s t : Shift) → Contains shifts s → Contains shifts t → s.new ≡ t.new → s ≡ t }
 {}

@@ -13,7 +13,10 @@ mod touching;
 mod writing;
 
 pub use error::PlanError;
-pub use laws::{a_plan_leads_to_the_new_graph, what_is_not_frozen_keeps_its_links};
+pub use laws::{
+    a_plan_leads_to_the_new_graph, a_state_goes_to_one_node_of_its_kind,
+    only_what_is_frozen_or_created_is_linked_anew, what_is_not_frozen_keeps_its_links,
+};
 pub use plan_data::{Move, OldPort, Plan, Shift};
 pub use planning::plan;
 pub use writing::plan_text;
