@@ -6,7 +6,6 @@ use Rattle.std.proofs.lemmas.List.Elements.{Contains-append_left, Contains-appen
 use Rattle.darwin_parser.specs.Tree.{Name}
 use Rattle.darwin_types.specs.Scope.{has}
 use Rattle.darwin_types.specs.declared.error.TypeError.{TypeError}
-use Rattle.darwin_types.specs.declared.error.TypeError.TheVariants.{NoMemory}
 use Rattle.darwin_types.specs.Faults.{is_repeated}
 use Rattle.darwin_types.specs.Check.{Judges, Refuses, repeat_faults}
 use Rattle.darwin_types.proofs.Lists.{Contains-one, Contains-here, Contains-map, Contains-filter, map_parted, map-take_more}
@@ -39,10 +38,6 @@ Refuses-left fs gs e h n = Contains-append_left fs gs e (h n)
 
 pub Refuses-right : (fs gs : List TypeError) (e : TypeError) → Refuses gs e → Refuses (fs ++ gs) e
 Refuses-right fs gs e h n = Contains-append_right fs gs e (h n)
-
--- a refusal by want of memory alone
-pub Refuses-memory : (fs : List TypeError) (e : TypeError) → e ≡ NoMemory → Refuses fs e
-Refuses-memory fs e h n = absurd (n h)
 
 -- the part that a loop over a list has reached, and what is left of it
 pub flat_map-drop : {A B : Type 0} (f : B → List TypeError) (g : A → B) (xs : List A) (i : ℕ) (x : A) → i < length xs → x ≡ get_or xs i x → flat_map f (map g (drop i xs)) ≡ f (g x) ++ flat_map f (map g (drop (i + 1) xs))

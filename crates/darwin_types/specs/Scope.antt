@@ -1,6 +1,6 @@
 -- What a description declares: its components by name, and the parameters, ports, arrays, instances and entries of
 -- each component. Where a name is declared twice, a look-up finds the first.
-use Rattle.std.specs.Prelude.{ℕ, List, [], ◌∷◌, ◌++◌, Option, Bool, ◌==◌, find, position, length, map, option_map, unwrap_or, is_none, bytes_eq, Some, false}
+use Rattle.std.specs.Prelude.{ℕ, List, [], ◌∷◌, ◌++◌, Option, Bool, ◌==◌, find, length, map, option_map, unwrap_or, is_none, bytes_eq, Some, false}
 use Rattle.std.specs.List.{flat_map, list_any}
 use Rattle.std.specs.Map.{lookup}
 use Rattle.std.specs.Option.{option_or, option_map_or}
@@ -34,10 +34,6 @@ abbrev mutual
 abbrev pub is_primitive : Component → Bool
 is_primitive c = length (entries_of c.body) == 0
 
--- the place of a parameter among the parameters
-abbrev pub param_position : Component → Name → Option ℕ
-param_position c name = position (bytes_eq name) c.params
-
 -- the port with the name
 abbrev pub port_named : Component → Name → Option PortDecl
 port_named c name = find (λ p. bytes_eq name p.name) c.ports
@@ -67,7 +63,7 @@ singles_of c = flat_map single_of (entries_of c.body)
 abbrev pub instances_of : Component → List (Name × Name)
 instances_of c = map (λ a. (a.name, a.component)) c.arrays ++ singles_of c
 
--- the component of the instance with the name
+-- the component of the instance with the name: that of its array, or else of its first single entry
 abbrev pub instance_component : Component → Name → Option Name
 instance_component c name = lookup (bytes_eq name) (instances_of c)
 

@@ -5,6 +5,7 @@ use config_graph::Text;
 use darwin_lexer::{MAX_TEXT, lex};
 use darwin_parser::parse;
 use std::alloc::{AllocError, Global};
+use std::process::Abort;
 use std::str;
 use std::test::Fail;
 
@@ -66,133 +67,173 @@ fn outcome(alloc: Global, text: &str) -> Result<String, Fail> {
     }
 }
 
-#[test]
-fn each_fault_and_the_nearest_without(rt: HostRuntime) -> Result<(), Fail> {
-    for (text, wanted) in [
-        ("", "3"),
-        ("component fork { provide hold; }", "TwoComponents fork"),
-        ("component Fork { inst s:sink; }", "4"),
-        ("component X(int a, int a) { inst s:sink; }", "TwoNames X a"),
-        (
-            "component X { provide p; require p; inst s:sink; }",
-            "TwoNames X p",
-        ),
-        ("component X(int p) { provide p; inst p:sink; }", "4"),
-        (
-            "component X { array a[1]:sink; a[2]:sink; inst s:sink; }",
-            "TwoNames X a",
-        ),
-        (
-            "component X { array a[1]:sink; inst a:sink; }",
-            "TwoNames X a",
-        ),
-        ("component X { inst a:sink; a:fork; }", "TwoNames X a"),
-        (
-            "component X(int n) { when n inst a:source(1); when n == 0 inst a:source(2); }",
-            "4",
-        ),
-        (
-            "component X(int i) { forall i:0..1 inst s:sink; }",
-            "TwoNames X i",
-        ),
-        (
-            "component X { forall i:0..1 forall i:0..1 inst s:sink; }",
-            "TwoNames X i",
-        ),
-        (
-            "component X { forall i:0..1 inst s:sink; forall i:0..1 inst s:sink; }",
-            "4",
-        ),
-        ("component X { when n inst s:sink; }", "UnknownName X n"),
-        (
-            "component X { forall i:0..i inst s:sink; }",
-            "UnknownName X i",
-        ),
-        (
-            "component X { forall i:0..1 inst s:sink; when i inst s:sink; }",
-            "UnknownName X i",
-        ),
-        (
-            "component X { provide p[i]; forall i:0..1 inst s:sink; }",
-            "UnknownName X i",
-        ),
-        (
-            "component X { array a[i]:sink; forall i:0..1 inst a[i]; }",
-            "UnknownName X i",
-        ),
-        (
-            "component X { array a[1]:source(i); forall i:0..0 inst a[i]; }",
-            "UnknownName X i",
-        ),
-        (
-            "component X(int n) { provide p[n]; array a[n]:source(n); forall i:0..n-1 inst a[i]; }",
-            "4",
-        ),
-        ("component X { inst s:sink; a[0]; }", "UnknownName X a"),
-        (
-            "component X { inst s:sink; bind t.in -- s.in; }",
-            "UnknownName X t",
-        ),
-        (
-            "component X { inst s:sink; bind s.out -- s.in; }",
-            "UnknownName X out",
-        ),
-        (
-            "component X { inst s:sink; bind p -- s.in; }",
-            "UnknownName X p",
-        ),
-        (
-            "component X { provide p; inst s:sink; bind p -- s.in; }",
-            "4",
-        ),
-        ("component X { inst s:Sink; }", "UnknownComponent X Sink"),
-        (
-            "component X { array a[0]:Sink; inst s:sink; }",
-            "UnknownComponent X Sink",
-        ),
-        ("component X { inst s:source; }", "ArgCount X s 1 0"),
-        ("component X { inst s:sink(1, 2); }", "ArgCount X s 0 2"),
-        (
-            "component X { array a[1]:source; inst a[0]; }",
-            "ArgCount X a 1 0",
-        ),
-        (
-            "component X { array a[1]:source(1); inst a[0](); }",
-            "ArgCount X a 1 0",
-        ),
-        (
-            "component X { array a[1]:source(1, 2); inst a[0](1); }",
-            "4",
-        ),
-        ("component X { array a[1]:source; inst s:sink; }", "4"),
-        ("component X { when 1 { } }", "UnknownKind X"),
-        (
-            "component place(int first) { require right, left<x>; provide dine<int>; }",
-            "4",
-        ),
-        (
-            "component place(int first) { require right; provide dine; }",
-            "KindPorts place",
-        ),
-        (
-            "component place(int first) { provide right, left; require dine; }",
-            "KindPorts place",
-        ),
-        ("component adder { provide sum, more; }", "KindPorts adder"),
-        ("component adder { provide sum[1]; }", "KindPorts adder"),
-        ("component adder(int n) { provide sum; }", "KindPorts adder"),
-        (
-            "component adder { provide sum; array a[1]:sink; }",
-            "KindPorts adder",
-        ),
-        (
-            "component adder { provide sum; when 1 { } }",
-            "KindPorts adder",
-        ),
-        ("component adder(int n) { require p; inst s:sink; }", "4"),
-    ] {
-        let found = outcome(rt.alloc(), text)?;
-        assert_eq!(rt; found.as_str(), wanted, "{text}");
+/// A check answers this of each text. A table of many rows is slow to prove, so each test has one of
+/// its own.
+fn assert_outcomes(rt: &impl Abort, alloc: Global, rows: &[(&str, &str)]) -> Result<(), Fail> {
+    for (text, wanted) in rows {
+        let found = outcome(alloc, text)?;
+        assert_eq!(rt; found.as_str(), *wanted, "{text}");
     }
     Ok(())
+}
+
+#[test]
+fn two_of_one_name(rt: HostRuntime) -> Result<(), Fail> {
+    assert_outcomes(
+        &rt,
+        rt.alloc(),
+        &[
+            ("", "3"),
+            ("component fork { provide hold; }", "TwoComponents fork"),
+            ("component Fork { inst s:sink; }", "4"),
+            ("component X(int a, int a) { inst s:sink; }", "TwoNames X a"),
+            (
+                "component X { provide p; require p; inst s:sink; }",
+                "TwoNames X p",
+            ),
+            ("component X(int p) { provide p; inst p:sink; }", "4"),
+            (
+                "component X { array a[1]:sink; a[2]:sink; inst s:sink; }",
+                "TwoNames X a",
+            ),
+            (
+                "component X { array a[1]:sink; inst a:sink; }",
+                "TwoNames X a",
+            ),
+            ("component X { inst a:sink; a:fork; }", "TwoNames X a"),
+            (
+                "component X(int n) { when n inst a:source(1); when n == 0 inst a:source(2); }",
+                "4",
+            ),
+            (
+                "component X(int i) { forall i:0..1 inst s:sink; }",
+                "TwoNames X i",
+            ),
+            (
+                "component X { forall i:0..1 forall i:0..1 inst s:sink; }",
+                "TwoNames X i",
+            ),
+            (
+                "component X { forall i:0..1 inst s:sink; forall i:0..1 inst s:sink; }",
+                "4",
+            ),
+        ],
+    )
+}
+
+#[test]
+fn names_that_stand_for_nothing(rt: HostRuntime) -> Result<(), Fail> {
+    assert_outcomes(
+        &rt,
+        rt.alloc(),
+        &[
+            ("component X { when n inst s:sink; }", "UnknownName X n"),
+            (
+                "component X { forall i:0..i inst s:sink; }",
+                "UnknownName X i",
+            ),
+            (
+                "component X { forall i:0..1 inst s:sink; when i inst s:sink; }",
+                "UnknownName X i",
+            ),
+            (
+                "component X { provide p[i]; forall i:0..1 inst s:sink; }",
+                "UnknownName X i",
+            ),
+            (
+                "component X { array a[i]:sink; forall i:0..1 inst a[i]; }",
+                "UnknownName X i",
+            ),
+            (
+                "component X { array a[1]:source(i); forall i:0..0 inst a[i]; }",
+                "UnknownName X i",
+            ),
+            (
+                "component X(int n) { provide p[n]; array a[n]:source(n); forall i:0..n-1 inst a[i]; }",
+                "4",
+            ),
+            ("component X { inst s:sink; a[0]; }", "UnknownName X a"),
+            (
+                "component X { inst s:sink; bind t.in -- s.in; }",
+                "UnknownName X t",
+            ),
+            (
+                "component X { inst s:sink; bind s.out -- s.in; }",
+                "UnknownName X out",
+            ),
+            (
+                "component X { inst s:sink; bind p -- s.in; }",
+                "UnknownName X p",
+            ),
+            (
+                "component X { provide p; inst s:sink; bind p -- s.in; }",
+                "4",
+            ),
+        ],
+    )
+}
+
+#[test]
+fn components_and_numbers_of_arguments(rt: HostRuntime) -> Result<(), Fail> {
+    assert_outcomes(
+        &rt,
+        rt.alloc(),
+        &[
+            ("component X { inst s:Sink; }", "UnknownComponent X Sink"),
+            (
+                "component X { array a[0]:Sink; inst s:sink; }",
+                "UnknownComponent X Sink",
+            ),
+            ("component X { inst s:source; }", "ArgCount X s 1 0"),
+            ("component X { inst s:sink(1, 2); }", "ArgCount X s 0 2"),
+            (
+                "component X { array a[1]:source; inst a[0]; }",
+                "ArgCount X a 1 0",
+            ),
+            (
+                "component X { array a[1]:source(1); inst a[0](); }",
+                "ArgCount X a 1 0",
+            ),
+            (
+                "component X { array a[1]:source(1, 2); inst a[0](1); }",
+                "4",
+            ),
+            ("component X { array a[1]:source; inst s:sink; }", "4"),
+        ],
+    )
+}
+
+#[test]
+fn primitive_components(rt: HostRuntime) -> Result<(), Fail> {
+    assert_outcomes(
+        &rt,
+        rt.alloc(),
+        &[
+            ("component X { when 1 { } }", "UnknownKind X"),
+            (
+                "component place(int first) { require right, left<x>; provide dine<int>; }",
+                "4",
+            ),
+            (
+                "component place(int first) { require right; provide dine; }",
+                "KindPorts place",
+            ),
+            (
+                "component place(int first) { provide right, left; require dine; }",
+                "KindPorts place",
+            ),
+            ("component adder { provide sum, more; }", "KindPorts adder"),
+            ("component adder { provide sum[1]; }", "KindPorts adder"),
+            ("component adder(int n) { provide sum; }", "KindPorts adder"),
+            (
+                "component adder { provide sum; array a[1]:sink; }",
+                "KindPorts adder",
+            ),
+            (
+                "component adder { provide sum; when 1 { } }",
+                "KindPorts adder",
+            ),
+            ("component adder(int n) { require p; inst s:sink; }", "4"),
+        ],
+    )
 }
