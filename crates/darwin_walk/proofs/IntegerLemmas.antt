@@ -1,5 +1,5 @@
 -- The integers of a range, the first taken off.
-use Rattle.std.proofs.Common.{◌≡◌, ◌∙◌, ℕ, zero, suc, ℤ, pos, negsuc, ◌+ℤ◌, ◌-ℤ◌, ◌≤ℤ◌, ◌<ℤ◌, ◌∷◌, length, refl, ap, arith}
+use Rattle.std.proofs.Common.{◌≡◌, ◌∙◌, ℕ, zero, suc, ℤ, pos, negsuc, ◌+ℤ◌, ◌-ℤ◌, ◌≤ℤ◌, ◌∷◌, length, refl, ap, arith}
 use Rattle.std.proofs.Math.IntN.{suc_ℤ, +ℤ_one}
 use Rattle.std.proofs.lemmas.Int.{ints}
 use Rattle.std.specs.Int.{int_gap}
@@ -36,15 +36,3 @@ gap-length (negsuc a) (negsuc (suc b)) le = omega (arith, ints)
 pub integers_to-length : (a b : ℤ) → a ≤ℤ b → pos (length (integers_to a b)) ≡ b -ℤ a +ℤ pos 1
 integers_to-length a b le =
     ap pos (length-integers_from a (int_gap a (b +ℤ pos 1)) ∙ ap (int_gap a) (+ℤ_one b)) ∙ gap-length a b le
-
-gap-none : (a b : ℤ) → b <ℤ a → int_gap a (suc_ℤ b) ≡ 0
-gap-none (pos a) (pos b) lt = omega (arith, ints)
-gap-none (pos a) (negsuc zero) lt = omega (arith, ints)
-gap-none (pos a) (negsuc (suc b)) lt = refl
-gap-none (negsuc a) (pos b) lt = absurd (omega (arith, ints))
-gap-none (negsuc a) (negsuc zero) lt = absurd (omega (arith, ints))
-gap-none (negsuc a) (negsuc (suc b)) lt = omega (arith, ints)
-
-pub integers_to-none : (a b : ℤ) → b <ℤ a → length (integers_to a b) ≡ 0
-integers_to-none a b lt =
-    length-integers_from a (int_gap a (b +ℤ pos 1)) ∙ ap (int_gap a) (+ℤ_one b) ∙ gap-none a b lt

@@ -1,5 +1,5 @@
 -- What is reached in an instance, part by part: the sizes of ports and arrays, and then the body.
-use Rattle.std.proofs.Common.{◌≡◌, ◌≤◌, ◌∙◌, ℕ, List, [], ◌∷◌, ◌++◌, map, length, length-append, sum_by, Option, Some, None, refl, sym, ap, append-nil, subst, Contains, Result, Ok, Err, IfOk, arith}
+use Rattle.std.proofs.Common.{◌≡◌, ◌≤◌, ◌∙◌, ℕ, List, [], ◌∷◌, ◌++◌, map, length, length-append, sum_by, Option, Some, None, refl, sym, ap, append-nil, subst, Contains, arith}
 use Rattle.std.proofs.lemmas.List.Elements.{Contains-append_left, Contains-append_right}
 use Rattle.std.specs.List.{flat_map}
 use Rattle.std.specs.Option.{option_map_or}
@@ -14,9 +14,8 @@ use Rattle.darwin_walk.specs.Value.{Env, Value, integer, out_of_range, zero_divi
 use Rattle.darwin_walk.specs.Reached.{Reached, valued, turn, made, bound, weight, port_size, array_size, reached, reached_in, count}
 use Rattle.darwin_walk.specs.Instance.{element_child, children_of, bindings_of, faults_of, faults, children, bindings, port_sizes}
 use Rattle.darwin_walk.specs.Scope.{port_faults, array_faults}
-use Rattle.darwin_walk.specs.Walked.{Adds, Tells, IsWalked, child_of, binding_of}
+use Rattle.darwin_walk.specs.Walked.{Adds, IsWalked, child_of, binding_of}
 use Rattle.darwin_walk.specs.declared.fault.Fault.{Fault}
-use Rattle.darwin_walk.specs.declared.fault.WalkError.{WalkError}
 use Rattle.darwin_walk.specs.declared.walked.Walked.{Walked}
 
 -- ---- sizes
@@ -176,9 +175,3 @@ pub faults-body :
     → body ≡ c.body → Contains (flat_map (faults_of c p) (reached_in body p)) f → Contains (faults c p) f
 faults-body c p body f is has =
     rw (faults-parts c p) (Contains-append_right _ _ f (subst (λ b. Contains (flat_map (faults_of c p) (reached_in b p)) f) is has))
-
-pub told-children :
-    (c : Component) (p : Env) (room : ℕ) (fs : List Fault) (many : Type 0) (r : Result Walked WalkError)
-    → Tells fs many (IsWalked c p room) r → IfOk r (λ w. map child_of w.children.items ≡ children c p)
-told-children c p room fs many (Ok w) told = told.1.children
-told-children c p room fs many (Err e) told = tt

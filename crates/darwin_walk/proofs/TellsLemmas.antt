@@ -1,5 +1,5 @@
 -- What an error tells of a part, it tells of the whole.
-use Rattle.std.proofs.Common.{◌≡◌, ◌<◌, ℕ, length, get_or, drop, map, List, Result, Ok, Err, IfOk, [], Contains, IsErrAnd, subst}
+use Rattle.std.proofs.Common.{◌≡◌, ◌<◌, ℕ, length, get_or, drop, map, List, Result, Err, Contains, IsErrAnd, subst}
 use Rattle.std.specs.List.{flat_map}
 use Rattle.std.proofs.Math.Seq.{drop-cons}
 use Rattle.std.proofs.lemmas.Result.{err_from_is_err_and}
@@ -38,11 +38,6 @@ pub Contains-from :
 Contains-from g h xs i x f below is has = rw (drop-cons xs i x, ← is) (Contains-append_left _ _ f has)
 
 -- ---- what an answer tells, clause by clause
-
-pub Tells-no_fault :
-    {T : Type 0} (faults : List Fault) (many : Type 0) (P : T → Type 0) (r : Result T WalkError) → Tells faults many P r → IfOk r (λ x. faults ≡ [])
-Tells-no_fault faults many P (Ok x) told = told.0
-Tells-no_fault faults many P (Err e) told = tt
 
 pub Tells-fault :
     {T : Type 0} (faults : List Fault) (many : Type 0) (P : T → Type 0) (r : Result T WalkError) (f : Fault)

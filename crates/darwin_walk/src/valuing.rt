@@ -68,8 +68,8 @@ struct Spine<'a> {
     pending: Vec<Pending<'a>>,
 }
 
-/// What the expression is worth where the variables have these values. Each name is looked for among
-/// all of them.
+/// What the expression is worth where the variables have these values; a name that none of them has is 0.
+/// Each name is looked for among all of them.
 pub fn value(alloc: Global, expr: &Expr, env: &[Variable]) -> Result<i32, ValueError>
     ensures says { Says result (value_of (expr_of expr.now) (env_of env.now)) }
     ensures fits { IfOk result (λ z. FitsSigned w32 z) }
