@@ -1,6 +1,6 @@
 -- What is known of a port that has a transaction.
-use Rattle.std.proofs.Common.{◌≡◌, ℕ, ◌<◌, ◌≤◌, true, false, length, Option, Some, None, refl, sym, ap, ◌∙◌, inl, inr, ⊎_elim, arith}
-use Rattle.std.specs.Prelude.{◌⊎◌, nat_lt, is_some, option_and_then}
+use Rattle.std.proofs.Common.{◌≡◌, ℕ, ◌<◌, ◌≤◌, true, false, length, Some, refl, sym, ap, ◌∙◌, inl, inr, ⊎_elim, arith}
+use Rattle.std.specs.Prelude.{◌⊎◌, nat_lt}
 use Rattle.std.proofs.lemmas.Bool.{and_from, both_ways, cases_lt, lt-ltb, true_from_ne_false, false_from_ne_true}
 use Rattle.std.proofs.lemmas.List.{get_or_past}
 use Rattle.config_graph.specs.declared.node.Target.{Target}
@@ -8,22 +8,18 @@ use Rattle.quiesce_core.specs.declared.state.Exchange.{Exchange}
 use Rattle.quiesce_core.specs.declared.state.Service.{Service}
 use Rattle.quiesce_core.specs.declared.state.Phase.{Phase}
 use Rattle.quiesce_core.specs.declared.state.Phase.TheVariants as phase
-use Rattle.quiesce_core.specs.State.{State, fresh_exchange, is_live, owner, target, exchange, service, target_service}
+use Rattle.quiesce_core.specs.State.{State, fresh_exchange, is_live, owner, target, exchange, service}
 use Rattle.quiesce_core.specs.Phases.{is_idle, is_asked, is_answered, is_in_more}
 use Rattle.quiesce_core.specs.Rules.{is_live_port, is_taken}
 use Rattle.quiesce_core.specs.WellFormed.{IsWellFormed}
 use Rattle.quiesce_core.specs.Traffic.{IsConsistent}
-use Rattle.quiesce_core.proofs.TrafficLemmas.{taken_is}
+use Rattle.quiesce_core.proofs.Lookups.{taken_is, linked_to}
 
 pub busy_phases : (f : Phase) → is_idle f ≡ false → (is_asked f ≡ true) ⊎ ((is_answered f ≡ true) ⊎ (is_in_more f ≡ true))
 busy_phases phase.Idle h = absurd (both_ways true h refl)
 busy_phases phase.Asked h = inl refl
 busy_phases phase.Answered h = inr (inl refl)
 busy_phases phase.More h = inr (inr refl)
-
-pub linked_to : (o : Option Target) → is_some o ≡ true → (t : Target) × (o ≡ Some t)
-linked_to None h = absurd (both_ways false refl h)
-linked_to (Some t) h = (t, refl)
 
 -- it leads somewhere
 pub busy_target : (s : State) (p : ℕ) → IsConsistent s → is_idle (exchange s p).phase ≡ false → (t : Target) × (target s.config p ≡ Some t)
@@ -43,10 +39,6 @@ busy_live s p w k busy =
     and_from (nat_lt p (length s.config.gates)) (is_live s.config (owner s.config p)) (lt-ltb p (length s.config.gates) (busy_made s p w busy))
     (true_from_ne_false (is_live s.config (owner s.config p)) (λ gone.
     let t = busy_target s p k busy in cc (t.1, (k.removed p gone).1)))
-
--- what its target services, by the look-up that goes through the port
-pub target_service_is : (s : State) (p : ℕ) (t : Target) → target s.config p ≡ Some t → target_service s p ≡ service s t.node
-target_service_is s p t e = ap (λ o. option_and_then (λ (u : Target). service s u.node) o) e
 
 -- it isn't taken where its target services nothing, or another port
 pub untaken_if : (s : State) (p : ℕ) (t : Target) → target s.config p ≡ Some t → ((v : Service) → service s t.node ≡ Some v → v.port ≡ p → ⊥) → is_taken s p ≡ false

@@ -22,8 +22,7 @@ use Rattle.drain_laws.specs.Belongs.{Transactions, Belongs, member, consequent, 
 use Rattle.drain_laws.proofs.Belonging.{Keeps, carried, belongs_if, belongs_is_found}
 use Rattle.drain_laws.proofs.Falls.{Calling, call_calls}
 use Rattle.drain_laws.proofs.Sharing.{followed}
-use Rattle.drain_laws.proofs.Sparing.{fresh_behind}
-use Rattle.drain_laws.proofs.Writes.{exchange_here, exchange_there, idle_unserved, answered_unserved}
+use Rattle.quiesce_core.proofs.Lookups.{exchange_here, exchange_there, idle_unserved, answered_unserved, fresh_behind}
 
 -- the ports at which an event starts or ends no transaction
 abbrev pub Untouched : Event → ℕ → Type 0

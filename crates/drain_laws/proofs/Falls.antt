@@ -21,12 +21,11 @@ use Rattle.quiesce_core.specs.WellFormed.{IsWellFormed}
 use Rattle.quiesce_core.proofs.Cycles.{map_or_true, map_or_at}
 use Rattle.quiesce_core.proofs.Places.{gate_place, exchange_place, owner_place, target_place}
 use Rattle.quiesce_core.proofs.RestLemmas.{full_step}
-use Rattle.quiesce_core.proofs.TrafficLemmas.{taken_is, asked_busy, asked_not_more, serving_busy}
 use Rattle.drain_laws.specs.Drain.{left}
-use Rattle.drain_laws.proofs.Busy.{busy_made, busy_target, linked_to, target_service_is, untaken_if}
+use Rattle.drain_laws.proofs.Busy.{busy_made, busy_target, untaken_if}
 use Rattle.drain_laws.proofs.Greatest.{call_counted}
 use Rattle.drain_laws.proofs.Weights.{left_idle, left_answered, left_untaken, left_taken, left_same, left_elsewhere}
-use Rattle.drain_laws.proofs.Writes.{exchange_here, exchange_there, service_here, service_there, put_is, provision_is, idle_unserved, served_busy}
+use Rattle.quiesce_core.proofs.Lookups.{asked_busy, serving_busy, asked_not_more, exchange_here, exchange_there, service_here, service_there, taken_is, idle_unserved, served_busy, provision_is, put_is, target_service_is, linked_to}
 
 -- what is left of port p falls, and of no other port changes
 pub record Falls (s : State) (t' : Traffic) (p : ℕ) : Type 0 where

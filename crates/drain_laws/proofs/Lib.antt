@@ -2,7 +2,6 @@ pub mod Busy
 pub mod Onward
 pub mod Sums
 pub mod Weights
-pub mod Writes
 pub mod Greatest
 pub mod Falls
 pub mod Sharing
@@ -10,7 +9,6 @@ pub mod Fewer
 pub mod Changes
 pub mod Sparing
 pub mod Steps
-pub mod Running
 pub mod Belonging
 pub mod Carrying
 pub mod Portions

@@ -19,10 +19,10 @@ use Rattle.quiesce_core.proofs.Cycles.{PassesOf, any_of, of_any, of_all, map_or_
 use Rattle.quiesce_core.proofs.Reaching.{depended_at, owner_of}
 use Rattle.quiesce_core.proofs.LegalLemmas.{allowed}
 use Rattle.quiesce_core.proofs.RunLemmas.{runs_are_well_formed, runs_are_consistent}
-use Rattle.quiesce_core.proofs.TrafficLemmas.{asked_busy, more_busy, answered_busy, serving_busy, is_taken_if}
 use Rattle.drain_laws.specs.Advances.{is_advance}
 use Rattle.drain_laws.specs.Drain.{Possible}
-use Rattle.drain_laws.proofs.Busy.{busy_phases, busy_target, busy_live, target_service_is, untaken_if}
+use Rattle.drain_laws.proofs.Busy.{busy_phases, busy_target, busy_live, untaken_if}
+use Rattle.quiesce_core.proofs.Lookups.{asked_busy, more_busy, serving_busy, answered_busy, is_taken_if, target_service_is}
 
 ends : (s : State) (p : ℕ) → IsWellFormed s → IsConsistent s → is_answered (exchange s p).phase ≡ true → Possible s
 ends s p w k h = record {

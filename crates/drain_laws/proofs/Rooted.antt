@@ -14,7 +14,6 @@ use Rattle.quiesce_core.specs.Each.{EachAfter}
 use Rattle.quiesce_core.specs.Phases.{is_idle}
 use Rattle.quiesce_core.specs.Effect.{with_exchange, with_target_service, with_call, effect}
 use Rattle.quiesce_core.specs.Legal.{Legal}
-use Rattle.quiesce_core.specs.Rules.{is_taken}
 use Rattle.quiesce_core.specs.Runs.{IsRun, HasRoot, root, consequent, state_after}
 use Rattle.quiesce_core.specs.Traffic.{IsConsistent}
 use Rattle.quiesce_core.specs.WellFormed.{IsWellFormed}
@@ -22,14 +21,13 @@ use Rattle.quiesce_core.proofs.LegalLemmas.{legal}
 use Rattle.quiesce_core.proofs.Places.{exchange_place}
 use Rattle.quiesce_core.proofs.RunLemmas.{runs_are_well_formed, runs_are_consistent}
 use Rattle.quiesce_core.proofs.Soundness.{well_formed_next}
-use Rattle.quiesce_core.proofs.TrafficLemmas.{taken_is, more_busy, serving_busy, consistent_next}
+use Rattle.quiesce_core.proofs.TrafficLemmas.{consistent_next}
 use Rattle.drain_laws.specs.Belongs as mine
 use Rattle.drain_laws.specs.Belongs.{Transactions, Belongs, belongs, one, open_in}
 use Rattle.drain_laws.proofs.Belonging.{belongs_is_found, open_parts}
 use Rattle.drain_laws.proofs.Carrying.{Untouched, keeps, next_is, serials_grow}
-use Rattle.drain_laws.proofs.Running.{StepAt, run_parts}
-use Rattle.drain_laws.proofs.Sparing.{fresh_behind}
-use Rattle.drain_laws.proofs.Writes.{exchange_here, exchange_there, idle_unserved}
+use Rattle.quiesce_core.proofs.Running.{StepAt, run_parts}
+use Rattle.quiesce_core.proofs.Lookups.{more_busy, serving_busy, exchange_here, exchange_there, idle_unserved, fresh_behind, taken_busy}
 
 -- an event at another port, or of what isn't idle, leaves an idle port idle
 
@@ -39,11 +37,6 @@ written_idle s mid p q x same busy idle = ⊎_elim
     (λ (here : q ≡ p). absurd (both_ways (is_idle (exchange s p).phase) busy (sym (ap (λ i. is_idle (exchange s i).phase) here) ∙ idle)))
     (λ (other : q ≡ p → ⊥). ap (λ (y : Exchange). is_idle y.phase) (exchange_there mid p q x other ∙ same q) ∙ idle)
     (cases_eq q p)
-
-taken_busy : (s : State) (p : ℕ) → IsConsistent s → is_taken s p ≡ true → is_idle (exchange s p).phase ≡ false
-taken_busy s p c h =
-    let at = taken_is s p h in
-    sym (ap (λ i. is_idle (exchange s i).phase) at.of_port) ∙ serving_busy (exchange s at.serving.port).phase (c.serving at.to.node at.serving at.serviced).busy
 
 idle_stays : (s : State) (e : Event) → IsConsistent s → Legal s e → (q : ℕ) → Untouched e q → is_idle (exchange s q).phase ≡ true → is_idle (exchange (effect s e) q).phase ≡ true
 idle_stays s (Begin p k v) c l q at idle = ap (λ (y : Exchange). is_idle y.phase) (exchange_there s p q (record { phase = phase.Asked; serial = k; value = v; within = None }) at) ∙ idle

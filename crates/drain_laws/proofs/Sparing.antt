@@ -1,10 +1,10 @@
 -- Close, Reopen, Unlink, Remove and Make add no link, and Link none to which a transaction can lead. None changes an exchange.
-use Rattle.std.proofs.Common.{◌≡◌, ℕ, zero, suc, ◌+◌, ◌-◌, ◌<◌, ◌≤◌, true, false, List, [], ◌++◌, length, get_or, set, length-set, replicate, Option, Some, None, refl, sym, ap, ◌∙◌, subst, ⊎_elim, arith}
+use Rattle.std.proofs.Common.{◌≡◌, ℕ, ◌+◌, ◌-◌, ◌<◌, ◌≤◌, true, false, [], length, set, length-set, Option, Some, None, refl, sym, ap, ◌∙◌, subst, ⊎_elim, arith}
 use Rattle.std.specs.Prelude.{◌&&◌, ◌==◌, nat_lt, nat_le}
 use Rattle.std.specs.List.{range_with_len}
 use Rattle.std.specs.Option.{option_map_or}
 use Rattle.std.proofs.lemmas.Bool.{and_parts, both_ways, cases_eq, cases_lt, eqb-true, leb-true, ltb-true}
-use Rattle.std.proofs.lemmas.List.{get_or_past, get_or_append_left, get_or-append_right}
+use Rattle.std.proofs.lemmas.List.{get_or_past}
 use Rattle.config_graph.specs.Kinds.{row, depends_on, calls_of, mores_of}
 use Rattle.config_graph.specs.declared.node.Node.{Node}
 use Rattle.config_graph.specs.declared.node.Target.{Target}
@@ -25,6 +25,7 @@ use Rattle.quiesce_core.proofs.SettledLemmas.{settled_if}
 use Rattle.quiesce_core.proofs.Soundness.{put_here, put_elsewhere, put_require, kind_stays, old_gate, new_gate, grown_length, old_slot, well_formed_next}
 use Rattle.drain_laws.proofs.Busy.{busy_made}
 use Rattle.drain_laws.proofs.Changes.{Spares}
+use Rattle.quiesce_core.proofs.Lookups.{fresh_behind}
 
 -- each provision of each node
 abbrev pub All : ℕ → ℕ → Type 0
@@ -135,19 +136,6 @@ remove_spares s n w l =
       longer = 0;
       length_is = omega arith;
     })
-
-replicated : {A : Type 0} (x : A) (k q : ℕ) → get_or (replicate k x) q x ≡ x
-replicated x zero q = refl
-replicated x (suc k) zero = refl
-replicated x (suc k) (suc q) = replicated x k q
-
--- what is made is fresh, as what was not made is
-pub fresh_behind : {A : Type 0} (xs : List A) (x : A) (k q : ℕ) → get_or (xs ++ replicate k x) q x ≡ get_or xs q x
-fresh_behind xs x k q = ⊎_elim
-    (λ (within : q < length xs). get_or_append_left xs (replicate k x) x q within)
-    (λ (past : length xs ≤ q).
-    get_or-append_right xs (replicate k x) (length xs) q x refl past ∙ replicated x k (q - length xs) ∙ sym (get_or_past xs q x past))
-    (cases_lt q (length xs))
 
 pub make_spares : (s : State) (n : ℕ) (node : Node) (from : Option ℕ) → IsWellFormed s → Legal s (Make n node from) → Spares s (effect s (Make n node from)) All
 make_spares s n node from w l =

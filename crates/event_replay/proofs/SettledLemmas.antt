@@ -1,5 +1,5 @@
 -- Lemmas on the settled nodes among the first slots.
-use Rattle.std.proofs.Common.{◌≡◌, ◌↔◌, ◌+◌, ◌<◌, ◌≤◌, ◌⊎◌, inl, inr, ℕ, List, [], ◌∷◌, ◌++◌, length, length-append, get_or, slice_get, Option, Some, None, false, Contains, All, IsTrue, subst, sym, refl, arith}
+use Rattle.std.proofs.Common.{◌≡◌, ◌↔◌, ◌+◌, ◌<◌, ◌≤◌, inl, inr, ℕ, List, [], ◌∷◌, ◌++◌, length, length-append, get_or, slice_get, Option, Some, None, false, Contains, All, IsTrue, subst, sym, refl, arith}
 use Rattle.std.specs.List.Sorted.{IsStrictlyIncreasing}
 use Rattle.std.proofs.lemmas.Bool.{cases_eq, cases_lt}
 use Rattle.std.proofs.lemmas.List.{get_or_append_left, get_or_push}
@@ -23,12 +23,6 @@ live_low s n live = by (slice_get s.config.slots n) refl live
 pub record SettledBelow (s : State) (n : ℕ) (nodes : List ℕ) : Type 0 where
   pub are : (m : ℕ) → Contains nodes m ↔ ((m < n) × Settled s m)
   pub rise : IsStrictlyIncreasing nodes
-
-pub below_none : (s : State) → SettledBelow s 0 []
-below_none s = record {
-  are = λ m. (λ h. absurd (omega (arith, h.1)), λ h. absurd (omega (arith, h.0)));
-  rise = λ k h. absurd (omega arith);
-}
 
 -- numbers that rise, and a greater one behind them
 rise_push : (xs : List ℕ) (y : ℕ) → IsStrictlyIncreasing xs → All (λ x. x < y) xs → IsStrictlyIncreasing (xs ++ y ∷ [])

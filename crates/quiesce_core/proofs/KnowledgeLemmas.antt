@@ -17,7 +17,7 @@ use Rattle.quiesce_core.specs.declared.state.Gate.{Gate}
 use Rattle.quiesce_core.specs.declared.state.Phase.TheVariants as phase
 use Rattle.quiesce_core.specs.State.{State, empty, fresh_exchange, fresh_gate, gate, owner, target, exchange, service, target_service}
 use Rattle.quiesce_core.specs.Phases.{is_idle, is_in_more}
-use Rattle.quiesce_core.specs.Rules.{is_live_port, is_last_message, is_taken, was_heard}
+use Rattle.quiesce_core.specs.Rules.{is_live_port, is_last_message, was_heard}
 use Rattle.quiesce_core.specs.Effect.{with_gate, with_exchange, with_target_service, with_call, new_gates, effect}
 use Rattle.quiesce_core.specs.Legal.{Legal}
 use Rattle.quiesce_core.specs.Runs.{doer, done_from}
@@ -27,7 +27,8 @@ use Rattle.quiesce_core.specs.Knowledge.{OwnPort, served_next, served_after, own
 use Rattle.quiesce_core.specs.Knows.{IsServed, KnowsService, own_port}
 use Rattle.quiesce_core.proofs.Soundness.{put_owner}
 use Rattle.quiesce_core.proofs.Places.{gate_place, exchange_place, owner_place, target_place}
-use Rattle.quiesce_core.proofs.TrafficLemmas.{asked_busy, more_busy, serving_busy, exchange_here, exchange_there, service_here, service_there, taken_is, idle_unserved, answered_unserved, only_target, put_is, target_service_is, linked_to, fresh_behind}
+use Rattle.quiesce_core.proofs.TrafficLemmas.{only_target}
+use Rattle.quiesce_core.proofs.Lookups.{asked_busy, more_busy, exchange_here, exchange_there, service_here, service_there, taken_is, idle_unserved, answered_unserved, put_is, target_service_is, linked_to, fresh_behind, taken_busy}
 
 -- the event, where node n does it
 
@@ -65,11 +66,6 @@ still_busy s q p x busy now serial within same =
 some_of : (o : Option Service) → was_heard o ≡ true → is_some (option_map (λ (w : Service). w.port) o) ≡ true
 some_of None h = absurd (both_ways false refl h)
 some_of (Some v) h = refl
-
-taken_busy : (s : State) (p : ℕ) → IsConsistent s → is_taken s p ≡ true → is_idle (exchange s p).phase ≡ false
-taken_busy s p c h =
-    let at = taken_is s p h in
-    sym (ap (λ i. is_idle (exchange s i).phase) at.of_port) ∙ serving_busy (exchange s at.serving.port).phase (c.serving at.to.node at.serving at.serviced).busy
 
 message_is : (s : State) (p k v : ℕ) → is_last_message s p k v ≡ true → (k ≡ (exchange s p).serial) × (v ≡ (exchange s p).value)
 message_is s p k v h =

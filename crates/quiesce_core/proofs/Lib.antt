@@ -9,7 +9,9 @@ pub mod SettledLemmas
 pub mod RestLemmas
 pub mod GraphLemmas
 pub mod WordLemmas
+pub mod Lookups
 pub mod TrafficLemmas
+pub mod Running
 pub mod RunLemmas
 pub mod OrderLemmas
 pub mod LiveLemmas

@@ -9,10 +9,10 @@ use Rattle.std.proofs.lemmas.Bool.{both_ways, cases_Bool, cases_eq, cases_lt, fa
 use Rattle.config_graph.specs.Kinds.{row}
 use Rattle.config_graph.specs.declared.node.Target.{Target}
 use Rattle.quiesce_core.specs.declared.state.Slot.{Slot}
-use Rattle.quiesce_core.specs.State.{Configuration, slot, target, ports_of, depends, calls_allowed, mores_allowed}
+use Rattle.quiesce_core.specs.State.{Configuration, slot, target, depends, calls_allowed, mores_allowed}
 use Rattle.quiesce_core.specs.Reach.{IsPortOf, can_walk, has_no_cycle}
-use Rattle.quiesce_core.specs.Rest.{greatest, full_within, full, events_through, call_events}
-use Rattle.quiesce_core.specs.Counted.{capped, events_within, AreCounted}
+use Rattle.quiesce_core.specs.Rest.{greatest, full_within, full, call_events}
+use Rattle.quiesce_core.specs.Counted.{capped, AreCounted}
 use Rattle.quiesce_core.specs.WellFormed.{LeadsToProvision}
 use Rattle.quiesce_core.proofs.KindLemmas.{one_provision}
 use Rattle.quiesce_core.proofs.Cycles.{map_or_true, map_or_at, walk_to, no_walk}
@@ -77,14 +77,7 @@ greatest_filter f test (p ∷ ps) = ⊎_elim
     (λ (e : test p ≡ false). rw (e, greatest_filter f test ps) (omega arith))
     (cases_Bool (test p))
 
-pub call_events_over : (c : Configuration) (t : Target) (a n : ℕ) → range_with_len a n ≡ ports_of c t.node → greatest (events_within c t) (range_with_len a n) ≡ call_events c t.node t.provide
-call_events_over c t a n e =
-    ap (λ ps. greatest (events_within c t) ps) e ∙ sym (greatest_filter (events_through c) (depends c t.node t.provide) (ports_of c t.node))
-
 -- capped numbers
-
-pub capped_max : (a b : ℕ) → capped (max a b) ≡ max (capped a) (capped b)
-capped_max a b = omega arith
 
 pub greatest_after : (f : ℕ → ℕ) (most v i e b : ℕ) → i < e → v ≡ capped (f i) → max most (capped (greatest f (range_with_len i (e - i)))) ≡ b
     → max (max v most) (capped (greatest f (range_with_len (i + 1) (e - (i + 1))))) ≡ b

@@ -21,9 +21,7 @@ use Rattle.quiesce_core.specs.WordFields.{FitsWord}
 use Rattle.quiesce_core.specs.Words.{fields_of, unpack, word_of}
 use Rattle.quiesce_core.proofs.Places.{fits_target}
 use Rattle.quiesce_core.proofs.WordLemmas.{words_decode}
-
-abbrev StepAt : List Event → Event → Type 0
-StepAt before e = Step (state_after before) e (state_after (before ++ e ∷ []))
+use Rattle.quiesce_core.proofs.Running.{StepAt}
 
 well_formed_from : (before es : List Event) → EachAfter StepAt before es → IsWellFormed (state_after before) → IsWellFormed (state_after (before ++ es))
 well_formed_from before [] h w = subst (λ xs. IsWellFormed (state_after xs)) (sym (append-nil before)) w

@@ -207,9 +207,6 @@ module _ (c : Configuration) (s : IsSound c) (node : Node) (from : Option ℕ) (
   requires_ : ℕ
   requires_ = length (row node.kind).requires_
 
-  new_slot : Slot
-  new_slot = record { node = node; first_port = length c.gates; from = from; live = true }
-
   grown : Configuration
   grown = with_node c node from
 

@@ -1,10 +1,10 @@
 -- Each event keeps the traffic consistent.
-use Rattle.std.proofs.Common.{◌≡◌, ℕ, zero, suc, ◌+◌, ◌-◌, ◌<◌, ◌≤◌, Bool, true, false, not, ◌&&◌, ◌||◌, List, ◌++◌, length, get_or, set, replicate, Option, Some, None, refl, sym, ap, ◌∙◌, subst, ⊎_elim, arith, get_or-set_same, get_or-set_other}
-use Rattle.std.specs.Prelude.{◌==◌, nat_lt, nat_le, is_none, is_some, option_map, option_and_then}
+use Rattle.std.proofs.Common.{◌≡◌, ℕ, ◌+◌, ◌-◌, ◌<◌, ◌≤◌, Bool, true, false, not, ◌&&◌, ◌||◌, length, set, Option, Some, None, refl, sym, ap, ◌∙◌, subst, ⊎_elim, arith}
+use Rattle.std.specs.Prelude.{◌==◌, nat_lt, nat_le, is_none, is_some, option_map}
 use Rattle.std.specs.List.{list_all, range_with_len}
 use Rattle.std.specs.Option.{option_map_or}
 use Rattle.std.proofs.lemmas.Bool.{leb-true, and_parts, both_ways, cases_eq, cases_lt, or_left, eqb-true, eq-eqb, ltb-true, not-true}
-use Rattle.std.proofs.lemmas.List.{get_or_past, get_or_append_left, get_or-append_right}
+use Rattle.std.proofs.lemmas.List.{get_or_past}
 use Rattle.std.proofs.lemmas.Option.{slice_get_within}
 use Rattle.config_graph.specs.declared.node.Target.{Target}
 use Rattle.quiesce_core.specs.declared.event.Event.{Event}
@@ -15,11 +15,10 @@ use Rattle.quiesce_core.specs.declared.state.Slot.{Slot}
 use Rattle.quiesce_core.specs.declared.state.Gate.{Gate}
 use Rattle.quiesce_core.specs.declared.state.Service.{Service}
 use Rattle.quiesce_core.specs.declared.state.Exchange.{Exchange}
-use Rattle.quiesce_core.specs.declared.state.Phase.{Phase}
 use Rattle.quiesce_core.specs.declared.state.Phase.TheVariants as phase
 use Rattle.quiesce_core.specs.State.{Configuration, State, empty, fresh_gate, fresh_exchange, slot, gate, owner, target, provision, ports_of, calls_allowed, mores_allowed, depends, is_live, exchange, service, target_service}
 use Rattle.quiesce_core.specs.Reach.{IsPortOf, reaches}
-use Rattle.quiesce_core.specs.Phases.{is_idle, is_asked, is_answered, is_in_more}
+use Rattle.quiesce_core.specs.Phases.{is_idle, is_asked, is_in_more}
 use Rattle.quiesce_core.specs.Rules.{is_linked, is_taken, is_called_within, has_calls_left, is_live_port, is_quiet, is_settled}
 use Rattle.quiesce_core.specs.Effect.{with_exchange, with_service, with_target_service, with_gate, closed, linked, with_node, effect}
 use Rattle.quiesce_core.specs.Legal.{Legal}
@@ -28,80 +27,7 @@ use Rattle.quiesce_core.specs.Traffic.{IsServing, IsConsequent, IsConsistent}
 use Rattle.quiesce_core.proofs.Soundness.{put_here, put_elsewhere, put_owner, put_require, old_gate, new_gate, grown_length, old_slot, slot_elsewhere, kind_stays}
 use Rattle.quiesce_core.proofs.Places.{live_made, gate_place, exchange_place, owner_place, target_place}
 use Rattle.quiesce_core.proofs.Cycles.{map_or_true, map_or_at, all_of}
-
--- phases exclude each other
-
-pub asked_busy : (f : Phase) → is_asked f ≡ true → is_idle f ≡ false
-asked_busy phase.Idle h = absurd (both_ways false refl h)
-asked_busy phase.Asked h = refl
-asked_busy phase.Answered h = refl
-asked_busy phase.More h = refl
-
-pub more_busy : (f : Phase) → is_in_more f ≡ true → is_idle f ≡ false
-more_busy phase.Idle h = absurd (both_ways false refl h)
-more_busy phase.Asked h = refl
-more_busy phase.Answered h = refl
-more_busy phase.More h = refl
-
-pub serving_busy : (f : Phase) → (is_asked f || is_in_more f) ≡ true → is_idle f ≡ false
-serving_busy phase.Idle h = absurd (both_ways false refl h)
-serving_busy phase.Asked h = refl
-serving_busy phase.Answered h = refl
-serving_busy phase.More h = refl
-
-pub serving_unanswered : (f : Phase) → (is_asked f || is_in_more f) ≡ true → is_answered f ≡ true → ⊥
-serving_unanswered phase.Idle h e = both_ways false refl h
-serving_unanswered phase.Asked h e = both_ways false refl e
-serving_unanswered phase.Answered h e = both_ways false refl h
-serving_unanswered phase.More h e = both_ways false refl e
-
-pub asked_not_more : (f : Phase) → is_asked f ≡ true → is_in_more f ≡ false
-asked_not_more phase.Idle h = refl
-asked_not_more phase.Asked h = refl
-asked_not_more phase.Answered h = refl
-asked_not_more phase.More h = absurd (both_ways false refl h)
-
-pub answered_busy : (f : Phase) → is_answered f ≡ true → is_idle f ≡ false
-answered_busy phase.Idle h = absurd (both_ways false refl h)
-answered_busy phase.Asked h = refl
-answered_busy phase.Answered h = refl
-answered_busy phase.More h = refl
-
--- look-ups after a write
-
-pub exchange_here : (s : State) (p : ℕ) (x : Exchange) → p < length s.traffic.exchanges → exchange (with_exchange s p x) p ≡ x
-exchange_here s p x h = get_or-set_same s.traffic.exchanges p x fresh_exchange h
-
-pub exchange_there : (s : State) (p q : ℕ) (x : Exchange) → (q ≡ p → ⊥) → exchange (with_exchange s p x) q ≡ exchange s q
-exchange_there s p q x ne = get_or-set_other s.traffic.exchanges p q x fresh_exchange ne
-
-pub service_here : (s : State) (n : ℕ) (v : Option Service) → n < length s.traffic.services → service (with_service s n v) n ≡ v
-service_here s n v h = get_or-set_same s.traffic.services n v None h
-
-pub service_there : (s : State) (n m : ℕ) (v : Option Service) → (m ≡ n → ⊥) → service (with_service s n v) m ≡ service s m
-service_there s n m v ne = get_or-set_other s.traffic.services n m v None ne
-
--- what a taken port's target services
-pub record Taken (s : State) (p : ℕ) : Type 0 where
-  pub to : Target
-  pub leads : target s.config p ≡ Some to
-  pub serving : Service
-  pub serviced : service s to.node ≡ Some serving
-  pub of_port : serving.port ≡ p
-
-taken_at : (s : State) (p : ℕ) (o : Option Target) → target s.config p ≡ o → option_map_or (λ (v : Service). v.port == p) (option_and_then (λ (t : Target). service s t.node) o) false ≡ true → Taken s p
-taken_at s p None e h = absurd (both_ways false refl h)
-taken_at s p (Some t) e h =
-    let v = map_or_true (λ (v : Service). v.port == p) (service s t.node) h in
-    record { to = t; leads = e; serving = v.0; serviced = v.1; of_port = eqb-true v.0.port p v.2 }
-
-pub taken_is : (s : State) (p : ℕ) → is_taken s p ≡ true → Taken s p
-taken_is s p h = taken_at s p (target s.config p) refl h
-
-pub is_taken_if : (s : State) (p : ℕ) (t : Target) (v : Service) → target s.config p ≡ Some t → service s t.node ≡ Some v → v.port ≡ p → is_taken s p ≡ true
-is_taken_if s p t v e f same =
-    ap (λ o. option_map_or (λ (v : Service). v.port == p) (option_and_then (λ (t : Target). service s t.node) o) false) e
-    ∙ map_or_at (λ (v : Service). v.port == p) (service s t.node) false v f ∙ eq-eqb v.port p same
+use Rattle.quiesce_core.proofs.Lookups.{asked_busy, more_busy, serving_busy, asked_not_more, exchange_here, exchange_there, service_here, service_there, taken_is, is_taken_if, idle_unserved, answered_unserved, provision_is, put_is, target_service_is, linked_to, fresh_behind}
 
 -- A node's event changes what is done at port p, and what node n services.
 pub record Changes (s s' : State) (p n : ℕ) : Type 0 where
@@ -177,15 +103,6 @@ steps s s' p n k c o = record {
       (cases_eq q p);
   removed = λ q h. removed_stays s s' c.config k q h;
 }
-
--- no node services an idle or an answered port
-pub idle_unserved : (s : State) (p : ℕ) → IsConsistent s → is_idle (exchange s p).phase ≡ true → (m : ℕ) (v : Service) → service s m ≡ Some v → v.port ≡ p → ⊥
-idle_unserved s p k idle m v e same =
-    both_ways (is_idle (exchange s v.port).phase) (serving_busy (exchange s v.port).phase (k.serving m v e).busy) (ap (λ i. is_idle (exchange s i).phase) same ∙ idle)
-
-pub answered_unserved : (s : State) (p : ℕ) → IsConsistent s → is_answered (exchange s p).phase ≡ true → (m : ℕ) (v : Service) → service s m ≡ Some v → v.port ≡ p → ⊥
-answered_unserved s p k answered m v e same =
-    serving_unanswered (exchange s v.port).phase (k.serving m v e).busy (ap (λ i. is_answered (exchange s i).phase) same ∙ answered)
 
 -- only the exchange at p changes
 
@@ -276,10 +193,6 @@ consequent_kept s s' n v w c there before now same q r busy h = ⊎_elim
     (λ (other : owner s.config q ≡ n → ⊥). consequent_stays s s' q r h.serving c busy (there (owner s.config q) other ∙ h.serviced) h.of_port h)
     (cases_eq (owner s.config q) n)
 
--- the provision by which a node services a port
-provision_is : (c : Configuration) (p n x : ℕ) → target c p ≡ Some (record { node = n; provide = x }) → provision c p ≡ x
-provision_is c p n x e = map_or_at (λ (t : Target). t.provide) (target c p) 0 (record { node = n; provide = x }) e
-
 served_next_call : (s s' : State) (n : ℕ) (v : Service) → s'.config ≡ s.config → exchange s' v.port ≡ exchange s v.port → has_calls_left s n ≡ true → service s n ≡ Some v → IsServing s n v
     → IsServing s' n (record v { calls = v.calls + 1 })
 unfolding serving_stays
@@ -361,22 +274,9 @@ miss_consistent s p w c l =
     }) in
     subst (λ o. IsConsistent (with_service s n (option_map (λ (u : Service). record u { calls = u.calls + 1 }) o))) (sym served.1) result
 
--- what a port's target services is put where the port leads
-
-pub put_is : (s : State) (p : ℕ) (t : Target) (v : Option Service) → target s.config p ≡ Some t → with_target_service s p v ≡ with_service s t.node v
-put_is s p t v e =
-    ap (λ o. record s { traffic = record s.traffic { services = option_map_or (λ (u : Target). set s.traffic.services u.node v) o s.traffic.services } }) e
-
-pub target_service_is : (s : State) (p : ℕ) (t : Target) → target s.config p ≡ Some t → target_service s p ≡ service s t.node
-target_service_is s p t e = ap (λ o. option_and_then (λ (u : Target). service s u.node) o) e
-
 none_if : (v : Option Service) → is_none v ≡ true → v ≡ None
 none_if None h = refl
 none_if (Some v) h = absurd (both_ways false refl h)
-
-pub linked_to : (o : Option Target) → is_some o ≡ true → (t : Target) × (o ≡ Some t)
-linked_to None h = absurd (both_ways false refl h)
-linked_to (Some t) h = (t, refl)
 
 take_consistent : (s : State) (p k v : ℕ) → IsWellFormed s → IsConsistent s → Legal s (Take p k v) → IsConsistent (effect s (Take p k v))
 take_consistent s p k v w c l =
@@ -676,20 +576,6 @@ remove_consistent s n w k l =
     no_target : (o : Option Target) → is_none o ≡ true → o ≡ None
     no_target None h = refl
     no_target (Some t) h = absurd (both_ways false refl h)
-
--- what is made is fresh, as what was not made is
-
-replicated : {A : Type 0} (x : A) (k q : ℕ) → get_or (replicate k x) q x ≡ x
-replicated x zero q = refl
-replicated x (suc k) zero = refl
-replicated x (suc k) (suc q) = replicated x k q
-
-pub fresh_behind : {A : Type 0} (xs : List A) (x : A) (k q : ℕ) → get_or (xs ++ replicate k x) q x ≡ get_or xs q x
-fresh_behind xs x k q = ⊎_elim
-    (λ (within : q < length xs). get_or_append_left xs (replicate k x) x q within)
-    (λ (past : length xs ≤ q).
-    get_or-append_right xs (replicate k x) (length xs) q x refl past ∙ replicated x k (q - length xs) ∙ sym (get_or_past xs q x past))
-    (cases_lt q (length xs))
 
 make_consistent : (s : State) (n : ℕ) (node : Node) (from : Option ℕ) → IsWellFormed s → IsConsistent s → Legal s (Make n node from) → IsConsistent (effect s (Make n node from))
 make_consistent s n node from w k l =

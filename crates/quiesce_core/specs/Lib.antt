@@ -14,6 +14,7 @@ pub mod WellFormed
 pub mod Known
 pub mod Tables
 pub mod Machine
+pub mod Doers
 pub mod WordFields
 pub mod Open
 pub mod Counted

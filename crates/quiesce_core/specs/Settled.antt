@@ -1,12 +1,13 @@
 -- When a node may be changed: settled by its state, and quiescent by all that can still happen (Kramer and Magee 1990).
-use Rattle.std.specs.Prelude.{◌≡◌, ℕ, Bool, true, false, List, ◌++◌, Some, None, IsTrue}
+use Rattle.std.specs.Prelude.{◌≡◌, ℕ, Bool, true, false, List, ◌++◌, Option, Some, None, option_map, IsTrue}
 use Rattle.std.specs.List.{list_any}
+use Rattle.config_graph.specs.declared.node.Target.{Target}
 use Rattle.quiesce_core.specs.declared.event.Event.{Event}
 use Rattle.quiesce_core.specs.declared.event.Event.TheVariants.{Reopen, Make, Link}
-use Rattle.quiesce_core.specs.State.{State, is_live, owner, service}
+use Rattle.quiesce_core.specs.State.{State, is_live, owner, target, service}
 use Rattle.quiesce_core.specs.Reach.{IsPortOf, Reaches}
 use Rattle.quiesce_core.specs.Rules.{is_quiet}
-use Rattle.quiesce_core.specs.Runs.{IsRun, state_after, Begun, initiator, target_at_begin, is_open_after, is_end_of}
+use Rattle.quiesce_core.specs.Runs.{IsRun, state_after, Begun, initiator, target_at_begin, is_open_after}
 
 -- The node is live, each of its ports and each port that reaches it is closed and idle, and it services nothing.
 pub record Settled (s : State) (n : ℕ) : Type 0 where
@@ -26,6 +27,10 @@ pub record Continues (es more_ : List Event) : Type 0 where
   pub runs : IsRun (es ++ more_)
   pub closed : list_any is_opening more_ ≡ false
 
+-- the node to which the port of a transaction leads that further events of a run begin, when they do
+abbrev pub later_target : (es more_ : List Event) (p k : ℕ) → Begun more_ p k → Option ℕ
+later_target es more_ p k b = option_map (λ (t : Target). t.node) (target (state_after (es ++ b.before)).config p)
+
 -- The node is live after the run, and by four conditions nothing can engage it any more.
 pub record Quiescent (es : List Event) (n : ℕ) : Type 0 where
   pub live : IsTrue (is_live (state_after es).config n)
@@ -35,6 +40,6 @@ pub record Quiescent (es : List Event) (n : ℕ) : Type 0 where
   pub begins_none : (more_ : List Event) → Continues es more_ → (p k : ℕ) (b : Begun more_ p k) → owner (state_after es).config p ≡ n → ⊥
   -- it services nothing
   pub services_nothing : service (state_after es) n ≡ None
-  -- no transaction that is open, or is begun or called later, has it as its target: each that has no End in es. That stands for what
-  -- comes later too, since no serial of a port comes twice.
-  pub targets_none : (more_ : List Event) → Continues es more_ → (p k : ℕ) (b : Begun (es ++ more_) p k) → list_any (is_end_of p k) es ≡ false → target_at_begin (es ++ more_) p k b ≡ Some n → ⊥
+  -- no open transaction has it as its target, and none that is begun or called later has
+  pub targets_none : (p k : ℕ) (b : Begun es p k) → is_open_after es p k ≡ true → target_at_begin es p k b ≡ Some n → ⊥
+  pub targets_none_later : (more_ : List Event) → Continues es more_ → (p k : ℕ) (b : Begun more_ p k) → later_target es more_ p k b ≡ Some n → ⊥

@@ -1,7 +1,8 @@
 //! Which rule denies an event.
 
-ghost use Rattle.std.specs.Prelude.{◌≡◌};
+ghost use Rattle.std.specs.Prelude.{◌≡◌, true, false};
 ghost use Rattle.quiesce_core.specs.Rules as rules;
+ghost use Rattle.quiesce_core.specs.Doers.{is_of_owner, is_of_change};
 ghost use Rattle.quiesce_core.specs.WellFormed.{IsSound};
 ghost use Rattle.quiesce_core.specs.Tables.{state_of};
 
@@ -28,6 +29,27 @@ impl Tables {
                 value,
             } => self.denies_call(*port, *serial, *value),
             Event::Miss { port } => self.denies_miss(*port),
+            Event::Ask {
+                port,
+                serial,
+                value,
+            } => self.denies_ask(*port, *serial, *value),
+            Event::End {
+                port,
+                serial,
+                value,
+            } => self.denies_end(*port, *serial, *value),
+            _ => self.denies_of_others(event),
+        }
+    }
+
+    /// The same of what a port's owner doesn't do.
+    fn denies_of_others(&self, event: &Event) -> Option<u32>
+        requires sound { IsSound (state_of self.now).config }
+        requires others { is_of_owner event.now ≡ false }
+        ensures { result ≡ rules.denial (state_of self.now) event.now }
+    {
+        match event {
             Event::Take {
                 port,
                 serial,
@@ -43,21 +65,22 @@ impl Tables {
                 serial,
                 value,
             } => self.denies_more(*port, *serial, *value),
-            Event::Ask {
-                port,
-                serial,
-                value,
-            } => self.denies_ask(*port, *serial, *value),
             Event::Hear {
                 port,
                 serial,
                 value,
             } => self.denies_hear(*port, *serial, *value),
-            Event::End {
-                port,
-                serial,
-                value,
-            } => self.denies_end(*port, *serial, *value),
+            _ => self.denies_of_change(event),
+        }
+    }
+
+    /// The same of what the change does.
+    fn denies_of_change(&self, event: &Event) -> Option<u32>
+        requires sound { IsSound (state_of self.now).config }
+        requires change { is_of_change event.now ≡ true }
+        ensures { result ≡ rules.denial (state_of self.now) event.now }
+    {
+        match event {
             Event::Close { port } | Event::Reopen { port } => first_failing(&[(
                 1,
                 self.is_live_port(*port),
@@ -70,6 +93,7 @@ impl Tables {
             } => self.denies_link(*port, *node, *provide),
             Event::Unlink { port } => self.denies_unlink(*port),
             Event::Remove { node } => self.denies_remove(*node),
+            _ => unreachable!(),
         }
     }
 

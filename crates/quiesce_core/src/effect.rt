@@ -5,6 +5,7 @@ ghost use Rattle.quiesce_core.specs.State as state;
 ghost use Rattle.quiesce_core.specs.Rules as rules;
 ghost use Rattle.quiesce_core.specs.Effect as effect;
 ghost use Rattle.quiesce_core.specs.Legal as legal;
+ghost use Rattle.quiesce_core.specs.Doers.{is_of_owner, is_of_change};
 ghost use Rattle.quiesce_core.specs.WellFormed.{IsWellFormed};
 ghost use Rattle.quiesce_core.specs.Machine.{is_make, KeepsRoom};
 ghost use Rattle.quiesce_core.specs.Tables.{state_of};
@@ -278,6 +279,31 @@ impl Tables {
                 value,
             } => self.call(*port, *serial, *value),
             Event::Miss { port } => self.miss(*port),
+            Event::Ask {
+                port,
+                serial,
+                value,
+            } => self.ask(*port, *serial, *value),
+            Event::End {
+                port,
+                serial,
+                value,
+            } => self.end(*port, *serial, *value),
+            _ => self.perform_of_others(event),
+        }
+    }
+
+    /// The same of what a port's owner doesn't do.
+    #[tactic(auto, using(crate::proofs::LegalLemmas::legal))]
+    fn perform_of_others(&mut self, event: &Event)
+        requires well_formed { IsWellFormed (state_of self.old) }
+        requires allowed { rules.denial (state_of self.old) event.now ≡ None }
+        requires no_make { is_make event.now ≡ false }
+        requires others { is_of_owner event.now ≡ false }
+        ensures state { state_of self.new ≡ effect.effect (state_of self.old) event.now }
+        ensures room { KeepsRoom self.old self.new }
+    {
+        match event {
             Event::Take {
                 port,
                 serial,
@@ -293,37 +319,42 @@ impl Tables {
                 serial,
                 value,
             } => self.more(*port, *serial, *value),
-            Event::Ask {
-                port,
-                serial,
-                value,
-            } => self.ask(*port, *serial, *value),
             Event::Hear {
                 port,
                 serial,
                 value,
             } => self.hear(*port, *serial, *value),
-            Event::End {
-                port,
-                serial,
-                value,
-            } => self.end(*port, *serial, *value),
+            _ => self.perform_of_change(event),
+        }
+    }
+
+    /// The same of what the change does.
+    #[tactic(auto, using(crate::proofs::LegalLemmas::legal))]
+    fn perform_of_change(&mut self, event: &Event)
+        requires well_formed { IsWellFormed (state_of self.old) }
+        requires allowed { rules.denial (state_of self.old) event.now ≡ None }
+        requires no_make { is_make event.now ≡ false }
+        requires change { is_of_change event.now ≡ true }
+        ensures state { state_of self.new ≡ effect.effect (state_of self.old) event.now }
+        ensures room { KeepsRoom self.old self.new }
+    {
+        match event {
             Event::Close { port } => self.set_closed(*port, true),
             Event::Reopen { port } => self.set_closed(*port, false),
             Event::Link {
                 port,
                 node,
                 provide,
-            } => self.set_target(
-                *port,
-                Some(Target {
+            } => {
+                let target = Target {
                     node: *node,
                     provide: *provide,
-                }),
-            ),
+                };
+                self.set_target(*port, Some(target));
+            }
             Event::Unlink { port } => self.set_target(*port, None),
             Event::Remove { node } => self.remove(*node),
-            Event::Make { .. } => unreachable!(),
+            _ => unreachable!(),
         }
     }
 }

@@ -1,22 +1,11 @@
 -- What stands behind a list looks as what was not made: fresh, and closed.
-use Rattle.std.proofs.Common.{◌≡◌, ℕ, zero, suc, ◌+◌, ◌-◌, ◌<◌, ◌≤◌, true, List, ◌++◌, length, map, get_or, replicate, None, refl, sym, ap, ◌∙◌, ⊎_elim}
+use Rattle.std.proofs.Common.{◌≡◌, ℕ, zero, suc, ◌+◌, ◌-◌, ◌<◌, ◌≤◌, true, List, ◌++◌, length, map, get_or, None, refl, ap, ◌∙◌, ⊎_elim}
 use Rattle.std.specs.List.{range_with_len}
 use Rattle.std.proofs.lemmas.Bool.{cases_lt}
-use Rattle.std.proofs.lemmas.List.{get_or_append_left, get_or-append_right, get_or_past}
+use Rattle.std.proofs.lemmas.List.{get_or_append_left, get_or-append_right}
 use Rattle.quiesce_core.specs.declared.state.Gate.{Gate}
 use Rattle.quiesce_core.specs.Effect.{new_gates}
 use Rattle.quiesce_core.specs.State.{fresh_gate}
-
-replicated : {A : Type 0} (x : A) (k i : ℕ) → get_or (replicate k x) i x ≡ x
-replicated x zero i = refl
-replicated x (suc k) zero = refl
-replicated x (suc k) (suc i) = replicated x k i
-
-pub fresh_behind : {A : Type 0} (xs : List A) (x : A) (k i : ℕ) → get_or (xs ++ replicate k x) i x ≡ get_or xs i x
-fresh_behind xs x k i = ⊎_elim
-    (λ (within : i < length xs). get_or_append_left xs (replicate k x) x i within)
-    (λ (past : length xs ≤ i). get_or-append_right xs (replicate k x) (length xs) i x refl past ∙ replicated x k (i - length xs) ∙ sym (get_or_past xs i x past))
-    (cases_lt i (length xs))
 
 new_closed : (n a k i : ℕ) → (get_or (map (λ r. record { owner = n; require = r; closed = true; target = None }) (range_with_len a k)) i fresh_gate).closed ≡ true
 new_closed n a zero i = refl

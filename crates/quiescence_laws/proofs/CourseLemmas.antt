@@ -22,16 +22,14 @@ use Rattle.quiesce_core.specs.Runs.{IsRun, state_after}
 use Rattle.quiesce_core.specs.Traffic.{IsConsistent}
 use Rattle.quiesce_core.specs.WellFormed.{IsWellFormed}
 use Rattle.quiesce_core.proofs.Places.{exchange_place, target_place}
-use Rattle.quiesce_core.proofs.TrafficLemmas.{asked_busy, more_busy, answered_busy, taken_is}
 use Rattle.quiescence_laws.specs.Events.{ends_at}
 use Rattle.quiescence_laws.specs.Courses.{Course, begun, taken, replied_to, asked, heard, given, finished, course_next, course_after, heard_at, course_in, course_of, course_at}
 use Rattle.quiescence_laws.specs.Courses as course
-use Rattle.quiescence_laws.proofs.Behind.{fresh_behind}
 use Rattle.quiescence_laws.proofs.Configurations.{target_next}
 use Rattle.quiescence_laws.proofs.Induction.{always}
 use Rattle.quiescence_laws.proofs.Serials.{IsTallied, next_serial, tallied_next, tallied_empty, busy_serial}
-use Rattle.quiescence_laws.proofs.Stillness.{taken_busy}
 use Rattle.quiescence_laws.proofs.Hearing.{hears, idle_is, asked_is, answered_is, more_is, target_given, call_given, given_here, untaken, idle_unheard, taken_hears, taken_service, taken_heard, others_unheard, others_unheard_after, heard_asked, more_unheard, heard_apart}
+use Rattle.quiesce_core.proofs.Lookups.{asked_busy, more_busy, answered_busy, taken_is, taken_busy, fresh_behind}
 
 -- what is said of one serial
 

@@ -10,7 +10,7 @@ use Rattle.quiesce_core.specs.declared.state.Service.{Service}
 use Rattle.quiesce_core.specs.declared.state.Slot.{Slot}
 use Rattle.quiesce_core.specs.State.{State, slot, is_live, gate, owner, target, provision, depends, is_depended, exchange, service}
 use Rattle.quiesce_core.specs.Phases.{is_idle}
-use Rattle.quiesce_core.specs.Reach.{IsPortOf, Reaches, Leads, can_walk}
+use Rattle.quiesce_core.specs.Reach.{IsPortOf, Reaches, can_walk}
 use Rattle.quiesce_core.specs.Reach as reach
 use Rattle.quiesce_core.specs.Rules.{is_quiet}
 use Rattle.quiesce_core.specs.Runs.{IsRun, state_after}
@@ -21,13 +21,13 @@ use Rattle.quiesce_core.proofs.Cycles.{map_or_at, map_or_true, walk_to}
 use Rattle.quiesce_core.proofs.KindLemmas.{depended_if}
 use Rattle.quiesce_core.proofs.Reaching.{no_walk_plus}
 use Rattle.quiesce_core.proofs.RunLemmas.{runs_are_well_formed, runs_are_consistent}
-use Rattle.quiesce_core.proofs.TrafficLemmas.{serving_busy}
 use Rattle.quiescence_laws.specs.Drained.{is_drained}
 use Rattle.quiescence_laws.specs.Events.{reopens}
 use Rattle.quiescence_laws.specs.Roots.{has_root}
 use Rattle.quiescence_laws.proofs.Configurations.{port_owner, busy_made}
 use Rattle.quiescence_laws.proofs.RootLemmas.{old_further, has_no_root}
 use Rattle.quiescence_laws.proofs.Stillness.{Concerns}
+use Rattle.quiesce_core.proofs.Lookups.{serving_busy}
 
 -- idle or consequent, where there is no root
 rootless : (s : State) (p : ℕ) → (has_root s p (exchange s p).serial ≡ true → ⊥) → (is_idle (exchange s p).phase || is_some (exchange s p).within) ≡ true

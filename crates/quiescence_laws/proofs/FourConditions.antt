@@ -1,6 +1,6 @@
 -- A settled node is quiescent.
 use Rattle.std.proofs.Common.{◌≡◌, ℕ, ◌<◌, Bool, true, false, not, ◌&&◌, ◌||◌, List, [], ◌∷◌, ◌++◌, append_assoc, length, set, Option, Some, None, refl, sym, ap, ◌∙◌, subst, inl, inr, ⊎_elim}
-use Rattle.std.specs.Prelude.{◌⊎◌, ◌↔◌, ◌==◌, option_map, slice_get}
+use Rattle.std.specs.Prelude.{◌↔◌, ◌==◌, option_map, slice_get}
 use Rattle.std.specs.Option.{option_map_or}
 use Rattle.std.specs.List.{list_any}
 use Rattle.std.proofs.lemmas.Bool.{and_parts, both_ways, cases_eq, eqb-true, eq-eqb, ne_eqb, not-true, or_parts}
@@ -18,7 +18,7 @@ use Rattle.quiesce_core.specs.Reach as reach
 use Rattle.quiesce_core.specs.Runs.{IsRun, state_after, is_begin_of, is_end_of, is_open_after, Begun, initiator, target_at_begin}
 use Rattle.quiesce_core.specs.Rules.{is_settled}
 use Rattle.quiesce_core.proofs.SettledLemmas.{settled_if}
-use Rattle.quiesce_core.specs.Settled.{Settled, Quiescent, Continues, is_opening}
+use Rattle.quiesce_core.specs.Settled.{Settled, Quiescent, Continues, later_target, is_opening}
 use Rattle.quiesce_core.specs.Traffic.{IsConsistent}
 use Rattle.quiesce_core.specs.WellFormed.{IsWellFormed}
 use Rattle.quiesce_core.proofs.Cycles.{map_or_true}
@@ -50,27 +50,6 @@ begun_made : (s : State) (e : Event) (p k : ℕ) → Legal s e → is_begin_of p
 begun_made s (Begin q j v) p k l e = subst (λ i. i < length s.config.gates) (eqb-true q p (and_parts (q == p) (j == k) e).0) (gate_place s q l.live)
 begun_made s (Call q j v) p k l e = subst (λ i. i < length s.config.gates) (eqb-true q p (and_parts (q == p) (j == k) e).0) (gate_place s q l.live)
 begun_made s _ p k l e = absurd (both_ways false refl e)
-
--- a member of two lists, one behind the other, stands in the first or in the second
-pub record IsEarly (xs before : List Event) (e : Event) : Type 0 where
-  pub rest : List Event
-  pub parts : xs ≡ before ++ e ∷ rest
-
-pub record IsLate (xs ys before : List Event) (e : Event) (after : List Event) : Type 0 where
-  pub middle : List Event
-  pub front : before ≡ xs ++ middle
-  pub parts : ys ≡ middle ++ e ∷ after
-
-stands : (xs ys before : List Event) (e : Event) (after : List Event) → xs ++ ys ≡ before ++ e ∷ after → IsEarly xs before e ⊎ IsLate xs ys before e after
-stands [] ys before e after h = inr (record { middle = before; front = refl; parts = h })
-stands (x ∷ xs) ys [] e after h = let same : x ≡ e = cc in inl (record { rest = xs; parts = ap (λ y. y ∷ xs) same })
-stands (x ∷ xs) ys (y ∷ before) e after h =
-    let same : x ≡ y = cc in
-    let tails : xs ++ ys ≡ before ++ e ∷ after = cc in
-    ⊎_elim
-    (λ (w : IsEarly xs before e). inl (record { rest = w.rest; parts = ap (λ z. z ∷ xs) same ∙ ap (λ zs. y ∷ zs) w.parts }))
-    (λ (w : IsLate xs ys before e after). inr (record { middle = w.middle; front = ap (λ zs. y ∷ zs) w.front ∙ ap (λ z. z ∷ (xs ++ w.middle)) (sym same); parts = w.parts }))
-    (stands xs ys before e after tails)
 
 -- a transaction that was begun in a run and not ended there goes on
 going_in : (es : List Event) (p k : ℕ) (before after : List Event) (e : Event) → IsRun es → es ≡ before ++ e ∷ after → is_begin_of p k e ≡ true → list_any (is_end_of p k) es ≡ false
@@ -125,18 +104,17 @@ module _ (es : List Event) (n : ℕ) (run : IsRun es) (h : Settled (state_after 
       let own = subst (λ i. IsPortOf s.config i p) (owner_at b.before b.after b.event p cont ∙ mine) (at.0.well.sound.ports p made) in
       none_begins s b.event n p k at.0.well at.0.traffic at.0.legal at.1 (inl own) b.begins
 
-  none_targets : (more_ : List Event) → Continues es more_ → (p k : ℕ) (b : Begun (es ++ more_) p k) → list_any (is_end_of p k) es ≡ false → target_at_begin (es ++ more_) p k b ≡ Some n → ⊥
-  none_targets more_ c p k b unended to = ⊎_elim
-      (λ (w : IsEarly es b.before b.event).
-      let going_ = going_in es p k b.before w.rest b.event run w.parts b.begins unended in
+  none_targets : (p k : ℕ) (b : Begun es p k) → is_open_after es p k ≡ true → target_at_begin es p k b ≡ Some n → ⊥
+  none_targets p k b opened to =
+      let going_ = going_in es p k b.before b.after b.event run b.parts b.begins (not-true (list_any (is_end_of p k) es) (and_parts (list_any (is_begin_of p k) es) (not (list_any (is_end_of p k) es)) opened).1) in
       not_busy (state_after es) n p (still_if (state_after es) n h)
-      (leading (state_after es).config n p (ap (λ o. option_map (λ (t : Target). t.node) o) going_.target ∙ to)) going_.opens.busy)
-      (λ (w : IsLate es more_ b.before b.event b.after).
-      let at = still_at w.middle b.after b.event (subst (λ xs. Continues es xs) w.parts c) in
-      let s = state_after (es ++ w.middle) in
-      none_begins s b.event n p k at.0.well at.0.traffic at.0.legal at.1
-      (leading s.config n p (sym (ap (λ xs. option_map (λ (t : Target). t.node) (target (state_after xs).config p)) w.front) ∙ to)) b.begins)
-      (stands es more_ b.before b.event b.after b.parts)
+      (leading (state_after es).config n p (ap (λ o. option_map (λ (t : Target). t.node) o) going_.target ∙ to)) going_.opens.busy
+
+  none_targets_later : (more_ : List Event) → Continues es more_ → (p k : ℕ) (b : Begun more_ p k) → later_target es more_ p k b ≡ Some n → ⊥
+  none_targets_later more_ c p k b to =
+      let at = still_at b.before b.after b.event (subst (λ xs. Continues es xs) b.parts c) in
+      let s = state_after (es ++ b.before) in
+      none_begins s b.event n p k at.0.well at.0.traffic at.0.legal at.1 (leading s.config n p to) b.begins
 
   pub quiescent : Quiescent es n
   quiescent = record {
@@ -145,6 +123,7 @@ module _ (es : List Event) (n : ℕ) (run : IsRun es) (h : Settled (state_after 
     begins_none = none_begins_of;
     services_nothing = h.services_nothing;
     targets_none = none_targets;
+    targets_none_later = none_targets_later;
   }
 
 -- whether a node is live after an event that opens nothing

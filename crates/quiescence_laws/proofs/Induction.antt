@@ -11,14 +11,12 @@ use Rattle.quiesce_core.specs.declared.event.Event.{Event}
 use Rattle.quiesce_core.specs.Each.{EachAfter}
 use Rattle.quiesce_core.specs.Effect.{effect}
 use Rattle.quiesce_core.specs.Legal.{Legal}
-use Rattle.quiesce_core.specs.Runs.{Step, IsRun, state_after}
+use Rattle.quiesce_core.specs.Runs.{IsRun, state_after}
 use Rattle.quiesce_core.specs.Traffic.{IsConsistent}
 use Rattle.quiesce_core.specs.WellFormed.{IsWellFormed}
 use Rattle.quiesce_core.proofs.LegalLemmas.{legal}
 use Rattle.quiesce_core.proofs.RunLemmas.{runs_are_well_formed, runs_are_consistent}
-
-abbrev StepAt : List Event → Event → Type 0
-StepAt before e = Step (state_after before) e (state_after (before ++ e ∷ []))
+use Rattle.quiesce_core.proofs.Running.{StepAt, run_parts}
 
 -- an event that stands behind a run and may happen there
 pub record IsNext (before : List Event) (e : Event) : Type 0 where
@@ -28,15 +26,8 @@ pub record IsNext (before : List Event) (e : Event) : Type 0 where
   pub legal : Legal (state_after before) e
   pub next : state_after (before ++ e ∷ []) ≡ effect (state_after before) e
 
--- a fact of each member of two lists, one behind the other
-each_parts : {A : Type 0} (P : List A → A → Type 0) (before xs ys : List A) → EachAfter P before (xs ++ ys) → EachAfter P before xs × EachAfter P (before ++ xs) ys
-each_parts P before [] ys h = (tt, subst (λ zs. EachAfter P zs ys) (sym (append-nil before)) h)
-each_parts P before (x ∷ xs) ys h =
-    let r = each_parts P (before ++ x ∷ []) xs ys h.1 in
-    ((h.0, r.0), subst (λ zs. EachAfter P zs ys) (append_assoc before (x ∷ []) xs) r.1)
-
 pub front_runs : (xs ys : List Event) → IsRun (xs ++ ys) → IsRun xs
-front_runs xs ys h = (each_parts StepAt [] xs ys h).0
+front_runs xs ys h = (run_parts xs ys h).0
 
 each_snoc : {A : Type 0} (P : List A → A → Type 0) (before xs : List A) (x : A) → EachAfter P before xs → P (before ++ xs) x → EachAfter P before (xs ++ x ∷ [])
 each_snoc P before [] x h p = (subst (λ zs. P zs x) (append-nil before) p, tt)
@@ -48,7 +39,7 @@ next_at before e run h = record { run = run; well = runs_are_well_formed before 
 -- what is known at a place of a run
 pub place : (before after : List Event) (e : Event) → IsRun (before ++ e ∷ after) → IsNext before e
 place before after e h =
-    let parts = each_parts StepAt [] before (e ∷ after) h in next_at before e parts.0 parts.1.0
+    let parts = run_parts before (e ∷ after) h in next_at before e parts.0 parts.1.0
 
 module _ (start : List Event) (P : List Event → Type 0) (bars : Event → Bool) (next : (xs : List Event) (e : Event) → IsNext (start ++ xs) e → bars e ≡ false → P xs → P (xs ++ e ∷ [])) where
   further_from : (xs es : List Event) → EachAfter StepAt (start ++ xs) es → IsRun (start ++ xs) → list_any bars es ≡ false → P xs → P (xs ++ es)
@@ -64,7 +55,7 @@ module _ (start : List Event) (P : List Event → Type 0) (bars : Event → Bool
   -- where the run goes on without these.
   pub further : (es : List Event) → IsRun (start ++ es) → list_any bars es ≡ false → P [] → P es
   further es h free p =
-      let parts = each_parts StepAt [] start es h in
+      let parts = run_parts start es h in
       let same = sym (append-nil start) in
       further_from [] es (subst (λ zs. EachAfter StepAt zs es) same parts.1) (subst (λ zs. IsRun zs) same parts.0) free p
 
@@ -85,11 +76,6 @@ none_barred (e ∷ es) = none_barred es
 -- a fact that each event keeps holds after every run
 pub always : (P : List Event → Type 0) → ((before : List Event) (e : Event) → IsNext before e → P before → P (before ++ e ∷ [])) → P [] → (es : List Event) → IsRun es → P es
 always P next start es h = along P unbarred (λ before e here free. next before e here) [] es h (none_barred es) start
-
--- as long as the run goes on
-pub onwards : (P : List Event → Type 0) → ((before : List Event) (e : Event) → IsNext before e → P before → P (before ++ e ∷ [])) → (before es : List Event) → IsRun (before ++ es) → P before
-    → P (before ++ es)
-onwards P next before es h p = along P unbarred (λ before e here free. next before e here) before es h (none_barred es) p
 
 -- whether events can be done one after the other
 abbrev pub can_all : State → List Event → Bool

@@ -22,12 +22,11 @@ use Rattle.quiesce_core.specs.Runs.{IsRun, state_after}
 use Rattle.quiesce_core.specs.Traffic.{IsConsistent}
 use Rattle.quiesce_core.proofs.Places.{gate_place}
 use Rattle.quiesce_core.proofs.Soundness.{put_here, put_elsewhere}
-use Rattle.quiesce_core.proofs.TrafficLemmas.{more_busy}
 use Rattle.quiescence_laws.specs.Events.{reopens}
 use Rattle.quiescence_laws.specs.Roots.{is_root, has_root}
-use Rattle.quiescence_laws.proofs.Behind.{fresh_behind, closed_behind}
+use Rattle.quiescence_laws.proofs.Behind.{closed_behind}
 use Rattle.quiescence_laws.proofs.Induction.{place, along, front_runs}
-use Rattle.quiescence_laws.proofs.Stillness.{taken_busy}
+use Rattle.quiesce_core.proofs.Lookups.{more_busy, taken_busy, fresh_behind}
 
 -- the parts of the test
 record IsRoot (x : Exchange) (k : ℕ) : Type 0 where

@@ -16,15 +16,15 @@ use Rattle.quiesce_core.specs.Effect.{with_gate, effect}
 use Rattle.quiesce_core.specs.Legal.{Legal}
 use Rattle.quiesce_core.specs.Reach.{IsPortOf, Reaches}
 use Rattle.quiesce_core.specs.Reach as reach
-use Rattle.quiesce_core.specs.Rules.{is_live_port, is_quiet, is_taken, serves_through}
+use Rattle.quiesce_core.specs.Rules.{is_live_port, is_quiet, serves_through}
 use Rattle.quiesce_core.specs.Settled.{is_opening}
 use Rattle.quiesce_core.specs.Traffic.{IsConsistent}
 use Rattle.quiesce_core.specs.WellFormed.{IsWellFormed}
 use Rattle.quiesce_core.proofs.Cycles.{map_or_true, map_or_at}
 use Rattle.quiesce_core.proofs.Places.{gate_place}
 use Rattle.quiesce_core.proofs.Soundness.{put_here, put_elsewhere}
-use Rattle.quiesce_core.proofs.TrafficLemmas.{asked_busy, more_busy, answered_busy, serving_busy, taken_is}
 use Rattle.quiescence_laws.proofs.Configurations.{port_owner, reached_before, shrinks_next}
+use Rattle.quiesce_core.proofs.Lookups.{asked_busy, more_busy, serving_busy, answered_busy, taken_busy}
 
 -- p is a port of the node, or reaches it
 abbrev pub Concerns : Configuration → ℕ → ℕ → Type 0
@@ -43,11 +43,6 @@ idle_at s n p h c = (and_parts (gate s.config p).closed (is_idle (exchange s p).
 
 pub not_busy : (s : State) (n p : ℕ) → IsStill s n → Concerns s.config n p → is_idle (exchange s p).phase ≡ false → ⊥
 not_busy s n p h c busy = both_ways (is_idle (exchange s p).phase) busy (idle_at s n p h c)
-
-pub taken_busy : (s : State) (p : ℕ) → IsConsistent s → is_taken s p ≡ true → is_idle (exchange s p).phase ≡ false
-taken_busy s p k h =
-    let t = taken_is s p h in
-    sym (ap (λ i. is_idle (exchange s i).phase) t.of_port) ∙ serving_busy (exchange s t.serving.port).phase (k.serving t.to.node t.serving t.serviced).busy
 
 -- none of these ports is called: its owner would service a port that reaches the node, or be the node
 pub none_called : (s : State) (n p : ℕ) → IsWellFormed s → IsConsistent s → IsStill s n → Concerns s.config n p → is_live_port s p ≡ true → serves_through s (owner s.config p) p ≡ true → ⊥

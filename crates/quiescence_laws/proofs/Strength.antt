@@ -108,8 +108,7 @@ indirect_must_be_closed = record {
     continues = record { runs = through_runs; closed = refl };
     port = 1;
     serial = 1;
-    begun = record { before = line ++ Begin 0 1 0 ∷ Take 0 1 0 ∷ []; event = Call 1 1 0; after = []; parts = refl; begins = refl };
-    later = refl;
+    begun = record { before = Begin 0 1 0 ∷ Take 0 1 0 ∷ []; event = Call 1 1 0; after = []; parts = refl; begins = refl };
     led = refl;
   };
 }
@@ -120,5 +119,5 @@ none_of_these es n h = (
   (λ w. h.initiated_none w.port w.serial w.begun w.open_ w.initiated),
   (λ w. h.begins_none w.more_ w.continues w.port w.serial w.begun w.owned),
   (λ w. let e = w.services in let none_ = h.services_nothing in absurd (cc (e, none_))),
-  (λ w. h.targets_none w.more_ w.continues w.port w.serial w.begun w.later w.led),
+  (λ w. h.targets_none_later w.more_ w.continues w.port w.serial w.begun w.led),
 )

@@ -1,6 +1,6 @@
 -- Less than being settled, and what can still happen then.
-use Rattle.std.specs.Prelude.{◌≡◌, ℕ, Bool, true, false, not, ◌&&◌, ◌||◌, ◌==◌, List, ◌++◌, length, Some, is_none, IsTrue}
-use Rattle.std.specs.List.{list_all, list_any, range_with_len}
+use Rattle.std.specs.Prelude.{◌≡◌, ℕ, Bool, true, false, not, ◌&&◌, ◌||◌, ◌==◌, List, length, Some, is_none, IsTrue}
+use Rattle.std.specs.List.{list_all, range_with_len}
 use Rattle.std.specs.Option.{option_map_or}
 use Rattle.config_graph.specs.declared.node.Target.{Target}
 use Rattle.quiesce_core.specs.declared.event.Event.{Event}
@@ -8,8 +8,8 @@ use Rattle.quiesce_core.specs.declared.state.Service.{Service}
 use Rattle.quiesce_core.specs.Phases.{is_idle}
 use Rattle.quiesce_core.specs.Reach.{reaches}
 use Rattle.quiesce_core.specs.Rules.{is_quiet}
-use Rattle.quiesce_core.specs.Runs.{IsRun, state_after, Begun, initiator, target_at_begin, is_open_after, is_end_of}
-use Rattle.quiesce_core.specs.Settled.{Continues}
+use Rattle.quiesce_core.specs.Runs.{IsRun, state_after, Begun, initiator, is_open_after}
+use Rattle.quiesce_core.specs.Settled.{Continues, later_target}
 use Rattle.quiesce_core.specs.State.{State, is_live, ports_of, gate, owner, target, exchange, service}
 
 abbrev pub is_closed : State → ℕ → Bool
@@ -74,9 +74,8 @@ pub record IsTarget (es : List Event) (n : ℕ) : Type 0 where
   pub continues : Continues es more_
   pub port : ℕ
   pub serial : ℕ
-  pub begun : Begun (es ++ more_) port serial
-  pub later : list_any (is_end_of port serial) es ≡ false
-  pub led : target_at_begin (es ++ more_) port serial begun ≡ Some n
+  pub begun : Begun more_ port serial
+  pub led : later_target es more_ port serial begun ≡ Some n
 
 -- after some run a node passes the test, and yet this comes about
 pub record IsTooWeak (test : State → ℕ → Bool) (breaks : List Event → ℕ → Type 0) : Type 0 where

@@ -2,7 +2,7 @@ use Rattle.std.proofs.Common.{◌∷◌, [], ◌++◌, arith}
 use Rattle.quiesce_core.specs.declared.event.Event.TheVariants.{Begin}
 use Rattle.quiesce_core.specs.Runs.{state_after}
 use Rattle.quiesce_core.proofs.RunLemmas.{runs_are_well_formed, runs_are_consistent}
-use Rattle.drain_laws.proofs.Running.{last_step}
+use Rattle.quiesce_core.proofs.Running.{last_step}
 use Rattle.drain_laws.proofs.Steps.{rest_falls, rest_stays, rest_rises}
 use Rattle.drain_laws.proofs.falling.rest_falls_in_runs.Goals as goal
 

@@ -1,6 +1,6 @@
 -- Each slot is listed where its node is settled, and passed over where not.
 use Rattle.std.proofs.Common.{◌≡◌, true, false, refl, arith}
-use Rattle.event_replay.proofs.SettledLemmas.{SettledBelow, below_push, below_pass, below_all}
+use Rattle.event_replay.proofs.SettledLemmas.{below_push, below_pass, below_all}
 use Rattle.event_replay.proofs.settling.list_settled.Goals as goal
 use Rattle.event_replay.proofs.settling.list_settled.Goals.{then-is_settled+in_ok-push, else-is_settled}
 

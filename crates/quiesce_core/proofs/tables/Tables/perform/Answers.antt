@@ -1,5 +1,5 @@
 use Rattle.std.proofs.Common.{sym, ap, ◌∙◌}
-use Rattle.quiesce_core.specs.declared.event.Event.TheVariants.{Call, Miss, Give, More}
+use Rattle.quiesce_core.specs.declared.event.Event.TheVariants.{Call, Miss}
 use Rattle.quiesce_core.specs.Rules.{denial}
 use Rattle.quiesce_core.specs.Tables.{state_of}
 use Rattle.quiesce_core.proofs.LegalLemmas.{legal}
@@ -12,11 +12,3 @@ call-requires-clause-legal c =
 pub miss-requires-clause-legal : goal.miss-requires-clause-legal
 miss-requires-clause-legal c =
     legal (state_of c.args.self.now) (Miss c.in-Miss.port) (sym (ap (λ e. denial (state_of c.args.self.now) e) c.in-Miss.is) ∙ c.requires.allowed)
-
-pub give-requires-clause-legal : goal.give-requires-clause-legal
-give-requires-clause-legal c =
-    legal (state_of c.args.self.now) (Give c.in-Give.port c.in-Give.serial c.in-Give.value) (sym (ap (λ e. denial (state_of c.args.self.now) e) c.in-Give.is) ∙ c.requires.allowed)
-
-pub more-requires-clause-legal : goal.more-requires-clause-legal
-more-requires-clause-legal c =
-    legal (state_of c.args.self.now) (More c.in-More.port c.in-More.serial c.in-More.value) (sym (ap (λ e. denial (state_of c.args.self.now) e) c.in-More.is) ∙ c.requires.allowed)

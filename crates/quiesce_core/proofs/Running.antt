@@ -9,7 +9,7 @@ abbrev pub StepAt : List Event → Event → Type 0
 StepAt before e = Step (state_after before) e (state_after (before ++ e ∷ []))
 
 -- what holds at each place holds at those of a front, and at those behind it
-each_parts : (P : List Event → Event → Type 0) (before xs ys : List Event) → EachAfter P before (xs ++ ys) → EachAfter P before xs × EachAfter P (before ++ xs) ys
+pub each_parts : {A : Type 0} (P : List A → A → Type 0) (before xs ys : List A) → EachAfter P before (xs ++ ys) → EachAfter P before xs × EachAfter P (before ++ xs) ys
 each_parts P before [] ys h = (tt, subst (λ zs. EachAfter P zs ys) (sym (append-nil before)) h)
 each_parts P before (x ∷ xs) ys h =
     let later = each_parts P (before ++ x ∷ []) xs ys h.1 in
