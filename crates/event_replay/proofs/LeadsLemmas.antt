@@ -1,7 +1,9 @@
 -- Lemmas on events that lead on, and on the one that is denied.
 use Rattle.std.proofs.lemmas.List.{take_more, take_all, take-append-drop, length-take-le}
 use Rattle.std.proofs.Math.Seq.{drop-cons}
-use Rattle.std.proofs.Common.{◌≡◌, ◌∙◌, ◌+◌, ◌<◌, ◌≤◌, ℕ, suc, take, drop, get_or, arith, List, [], ◌∷◌, ◌++◌, Some, None, length, sym, subst, ap}
+use Rattle.std.proofs.Common.{◌≡◌, ◌∙◌, ◌+◌, ◌<◌, ◌≤◌, ℕ, suc, take, drop, get_or, arith, List, [], ◌∷◌, ◌++◌, Option, Some, None, length, refl, sym, subst, ap, inl, inr, ⊎_elim}
+use Rattle.std.specs.Prelude.{◌⊎◌, fold}
+use Rattle.quiesce_core.specs.Effect.{effect}
 use Rattle.quiesce_core.specs.declared.event.Event.{Event}
 use Rattle.quiesce_core.specs.Rules.{denial}
 use Rattle.quiesce_core.specs.Runs.{Step}
@@ -23,6 +25,9 @@ head_is x y xs ys is = cc
 one_step : (s t u : State) (d e : Event) → Step s d t → Step s e u → d ≡ e → t ≡ u
 one_step s t u d e a b same = cc (a.changed, b.changed)
 
+clash : (rule : ℕ) → None ≡ Some rule → ⊥
+clash rule is = cc
+
 -- what leads on isn't denied on its way
 not_denied :
     (s t : State) (events before after : List Event) (event : Event) (then_ : State) (rule : ℕ)
@@ -31,16 +36,80 @@ not_denied _ _ _ _ after event _ rule (stays s) is (stays r) denied = cc
 not_denied _ _ _ _ after event _ rule (stays s) is (steps r p q d more first rest) denied = cc
 not_denied _ _ _ _ after event _ rule (steps s t u e events step leads) is (stays r) denied =
     let same : e ≡ event = head_is e event events after is in
-    clash (sym (step.allowed) ∙ ap (denial s) same ∙ denied)
-  where
-    clash : None ≡ Some rule → ⊥
-    clash is = cc
+    clash rule (sym (step.allowed) ∙ ap (denial s) same ∙ denied)
 not_denied _ _ _ _ after event _ rule (steps s t u e events step leads) is (steps r p q d more first rest) denied =
     not_denied t u events more after event q rule leads (tail_is e d events (more ++ event ∷ after) is)
     (subst (λ x. Leads x more q) (sym (one_step s t p e d step first (head_is e d events (more ++ event ∷ after) is))) rest) denied
 
 pub never_both : (s t : State) (events : List Event) (number rule : ℕ) → Leads s events t → IsDenied s events number rule → ⊥
 never_both s t events number rule leads is = not_denied s t events is.before is.after is.event is.then_ rule leads is.parts is.leads is.denied
+
+-- events lead to one state
+end_is : (s t : State) (events : List Event) → Leads s events t → t ≡ fold effect s events
+end_is _ _ _ (stays s) = refl
+end_is _ _ _ (steps s t u e more first rest) = end_is t u more rest ∙ ap (λ x. fold effect x more) first.changed
+
+pub one_end : (s t u : State) (events : List Event) → Leads s events t → Leads s events u → t ≡ u
+one_end s t u events there too = end_is s t events there ∙ sym (end_is s u events too)
+
+-- one of them is denied, by one rule
+one_denial_at :
+    (s t u : State) (events before after front behind : List Event) (d e : Event) (rule other : ℕ)
+    → events ≡ before ++ d ∷ after → Leads s before t → denial t d ≡ Some rule
+    → events ≡ front ++ e ∷ behind → Leads s front u → denial u e ≡ Some other → (length before ≡ length front) × (rule ≡ other)
+one_denial_at _ _ _ events _ after _ behind d e rule other is (stays s) denied it (stays r) refused =
+    let same : d ≡ e = head_is d e after behind (sym is ∙ it) in (refl, cc (same, denied, refused))
+one_denial_at _ _ _ events _ after _ behind d e rule other is (stays s) denied it (steps r p u c more first rest) refused =
+    let same : c ≡ d = head_is c d (more ++ e ∷ behind) after (sym it ∙ is) in
+    absurd (clash rule (sym first.allowed ∙ ap (denial r) same ∙ denied))
+one_denial_at _ _ _ events _ after _ behind d e rule other is (steps s p t c more first rest) denied it (stays r) refused =
+    let same : c ≡ e = head_is c e (more ++ d ∷ after) behind (sym is ∙ it) in
+    absurd (clash other (sym first.allowed ∙ ap (denial s) same ∙ refused))
+one_denial_at _ _ _ events _ after _ behind d e rule other is (steps s p t c more first rest) denied it (steps r q u b others then_ later) refused =
+    let both = sym is ∙ it in
+    let state : p ≡ q = one_step s p q c b first then_ (head_is c b (more ++ d ∷ after) (others ++ e ∷ behind) both) in
+    let w = one_denial_at p t u (more ++ d ∷ after) more after others behind d e rule other refl rest denied
+    (tail_is c b (more ++ d ∷ after) (others ++ e ∷ behind) both) (subst (λ x. Leads x others u) (sym state) later) refused in
+    (omega (arith, w.0), w.1)
+
+pub one_denial : (s : State) (events : List Event) (m n rule other : ℕ) → IsDenied s events m rule → IsDenied s events n other → (m ≡ n) × (rule ≡ other)
+one_denial s events m n rule other a b =
+    let w = one_denial_at s a.then_ b.then_ events a.before a.after b.before b.after a.event b.event rule other a.parts a.leads a.denied b.parts b.leads b.denied in
+    (omega (arith, a.counted, b.counted, w.0), w.1)
+
+-- they lead on, or one of them is denied
+abbrev Leading : State → List Event → Type 0
+Leading s events = (t : State) × Leads s events t
+
+abbrev Refused : State → List Event → Type 0
+Refused s events = (number : ℕ) × (rule : ℕ) × IsDenied s events number rule
+
+after_one : (s : State) (e : Event) (more : List Event) → denial s e ≡ None → Leading (effect s e) more ⊎ Refused (effect s e) more → Leading s (e ∷ more) ⊎ Refused s (e ∷ more)
+after_one s e more allowed h =
+    let step : Step s e (effect s e) = record { allowed = allowed; changed = refl } in
+    ⊎_elim (λ (w : Leading (effect s e) more). inl (w.0, steps s (effect s e) w.0 e more step w.1))
+    (λ (w : Refused (effect s e) more).
+    let d = w.2 in
+    let denied_later : IsDenied s (e ∷ more) (w.0 + 1) w.1 = record {
+      before = e ∷ d.before;
+      event = d.event;
+      after = d.after;
+      then_ = d.then_;
+      parts = ap (λ xs. e ∷ xs) d.parts;
+      leads = steps s (effect s e) d.then_ e d.before step d.leads;
+      denied = d.denied;
+      counted = omega (arith, d.counted);
+    } in
+    inr (w.0 + 1, w.1, denied_later))
+    h
+
+by_denial : (s : State) (e : Event) (more : List Event) (o : Option ℕ) → denial s e ≡ o → Leading (effect s e) more ⊎ Refused (effect s e) more → Leading s (e ∷ more) ⊎ Refused s (e ∷ more)
+by_denial s e more None is h = after_one s e more is h
+by_denial s e more (Some rule) is h = inr (1, rule, record { before = []; event = e; after = more; then_ = s; parts = refl; leads = stays s; denied = is; counted = refl })
+
+pub always_one : (s : State) (events : List Event) → Leading s events ⊎ Refused s events
+always_one s [] = inl (s, stays s)
+always_one s (e ∷ more) = by_denial s e more (denial s e) refl (always_one (effect s e) more)
 
 -- ---- events of a list
 

@@ -3,6 +3,7 @@
 use std::alloc::{AllocError, AllocFailed};
 use thiserror::Error;
 
+/// Why an event was not applied.
 #[derive(Debug, Drop, PartialEq, Eq, Error)]
 pub enum CoreError {
     /// The first rule of the event that fails, by its number.

@@ -54,7 +54,7 @@ pub enum Event {
         serial: u32,
         value: u32,
     },
-    /// The owner's service does without a call, since the port is unlinked or its transactions are spent.
+    /// The owner's service counts a call that isn't made, since the port is unlinked or its transactions are spent.
     Miss {
         port: u32,
     },

@@ -15,6 +15,8 @@ ghost use Rattle.quiesce_core.specs.Words as words;
 ghost use Rattle.quiesce_core.specs.declared.state.Slot.{Slot};
 ghost use Rattle.quiesce_core.specs.Runs.{Step};
 ghost use Rattle.quiesce_core.specs.Machine.{is_make};
+ghost use Rattle.quiesce_core.specs.Named.{AreNamed};
+ghost use Rattle.quiesce_core.specs.WellFormed.{IsWellFormed};
 
 use crate::error::CoreError;
 use crate::event::Event;
@@ -66,7 +68,7 @@ impl Core {
         Ok(Core { tables, spare: 0 })
     }
 
-    /// Takes the memory for so many nodes more.
+    /// Takes the memory for so many nodes more. Where that fails, room for some of them may stay reserved.
     pub fn reserve(&mut self, nodes: u32) -> Result<(), NoMemory>
         requires { length self.old.state.config.slots + nodes ≤ MAX_NODES }
         ensures ok { OnOk result (nodes ≤ self.new.spare) }
@@ -108,7 +110,8 @@ impl Core {
         self.tables.perform(event);
     }
 
-    /// Lets the event happen where each of its rules holds. A refused event changes nothing.
+    /// Lets the event happen where each of its rules holds. A refused event leaves the state as it is, and no room that was reserved
+    /// is lost.
     pub fn apply(&mut self, event: &Event) -> Result<(), CoreError>
         ensures ok { OnOk result (Step self.old.state event.now self.new.state) }
         ensures denied { (rule : ℕ) → (result ≡ Err (CoreError.Denied rule)) ↔ (denial self.old.state event.now ≡ Some rule) }
@@ -132,10 +135,13 @@ impl Core {
         Ok(())
     }
 
-    /// How many nodes and how many ports were made.
+    /// How many nodes and how many ports were made. It tells too that the state of each machine is well formed, so that the laws of
+    /// steps speak of it.
     pub fn made(&self) -> Made
         ensures nodes { result.nodes ≡ length self.now.state.config.slots }
         ensures ports { result.ports ≡ length self.now.state.config.gates }
+        ensures well_formed { IsWellFormed self.now.state }
+        ensures named { AreNamed self.now.state.config }
     {
         Made {
             nodes: self.tables.slots.len() as u32,
@@ -151,6 +157,7 @@ impl Core {
         &self.tables.slots[slot as usize].node
     }
 
+    /// Whether a node was made in this slot and not removed.
     pub fn is_live(&self, node: u32) -> bool
         ensures { result ≡ state.is_live self.now.state.config node }
     {

@@ -40,24 +40,28 @@ pub enum Phase {
 }
 
 impl Phase {
+    /// Whether the port has no transaction.
     pub fn is_idle(self) -> bool
         ensures { result ≡ is_idle self }
     {
         matches!(self, Phase::Idle)
     }
 
+    /// Whether the last message went to the target.
     pub fn is_asked(self) -> bool
         ensures { result ≡ is_asked self }
     {
         matches!(self, Phase::Asked)
     }
 
+    /// Whether the last reply is there.
     pub fn is_answered(self) -> bool
         ensures { result ≡ is_answered self }
     {
         matches!(self, Phase::Answered)
     }
 
+    /// Whether an intermediate reply is there.
     pub fn is_in_more(self) -> bool
         ensures { result ≡ is_in_more self }
     {

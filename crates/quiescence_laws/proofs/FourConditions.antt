@@ -52,7 +52,7 @@ begun_made s (Call q j v) p k l e = subst (λ i. i < length s.config.gates) (eqb
 begun_made s _ p k l e = absurd (both_ways false refl e)
 
 -- a transaction that was begun in a run and not ended there goes on
-going_in : (es : List Event) (p k : ℕ) (before after : List Event) (e : Event) → IsRun es → es ≡ before ++ e ∷ after → is_begin_of p k e ≡ true → list_any (is_end_of p k) es ≡ false
+pub going_in : (es : List Event) (p k : ℕ) (before after : List Event) (e : Event) → IsRun es → es ≡ before ++ e ∷ after → is_begin_of p k e ≡ true → list_any (is_end_of p k) es ≡ false
     → IsGoing (state_after before) (state_after es) p k
 going_in es p k before after e run parts begins unended =
     let all_ : list_any (is_end_of p k) (before ++ e ∷ after) ≡ false = sym (ap (λ xs. list_any (is_end_of p k) xs) parts) ∙ unended in

@@ -7,6 +7,7 @@ pub mod Configurations
 pub mod Stillness
 pub mod Opened
 pub mod FourConditions
+pub mod Engaged
 pub mod RootLemmas
 pub mod Serials
 pub mod Hearing

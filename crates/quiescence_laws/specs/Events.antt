@@ -43,3 +43,16 @@ is_ask_of p k _ = false
 abbrev pub is_hear_of : ℕ → ℕ → Event → Bool
 is_hear_of p k (Hear q j v) = q == p && j == k
 is_hear_of p k _ = false
+
+-- whether it is a further step of that transaction which its initiator makes, or one that its target makes
+abbrev pub is_of_initiator : ℕ → ℕ → Event → Bool
+is_of_initiator p k (Ask q j v) = q == p && j == k
+is_of_initiator p k (End q j v) = q == p && j == k
+is_of_initiator p k _ = false
+
+abbrev pub is_of_target : ℕ → ℕ → Event → Bool
+is_of_target p k (Take q j v) = q == p && j == k
+is_of_target p k (Give q j v) = q == p && j == k
+is_of_target p k (More q j v) = q == p && j == k
+is_of_target p k (Hear q j v) = q == p && j == k
+is_of_target p k _ = false

@@ -1,13 +1,13 @@
 //! In which order the events of a transaction come, and how many there are.
 
-ghost use Rattle.std.specs.Prelude.{◌≡◌, ℕ, ◌+◌, ◌≤◌, not, ◌&&◌, ◌||◌, ◌==◌, nat_lt, nat_le, List, ◌++◌, Some, if◌then◌else◌};
+ghost use Rattle.std.specs.Prelude.{◌≡◌, ℕ, ◌+◌, ◌≤◌, true, not, ◌&&◌, ◌||◌, ◌==◌, nat_lt, nat_le, List, ◌++◌, Some, if◌then◌else◌};
 ghost use Rattle.std.specs.List.{count_by};
 ghost use Rattle.quiesce_core.specs.declared.event.Event.{Event};
 ghost use Rattle.quiesce_core.specs.Phases.{is_idle};
-ghost use Rattle.quiesce_core.specs.Runs.{IsRun, state_after, is_begin_of, is_end_of, is_open_after};
+ghost use Rattle.quiesce_core.specs.Runs.{Begun, IsRun, doer, initiator, is_begin_of, is_end_of, is_open_after, state_after, target_at_begin};
 ghost use Rattle.quiesce_core.specs.State.{exchange};
 ghost use Rattle.quiescence_laws.specs.Courses.{course_after, course_at};
-ghost use Rattle.quiescence_laws.specs.Events.{is_take_of, is_give_of, is_more_of, is_ask_of, is_hear_of, ends_at};
+ghost use Rattle.quiescence_laws.specs.Events.{is_take_of, is_give_of, is_more_of, is_ask_of, is_hear_of, is_of_initiator, is_of_target, ends_at};
 
 /// In every run the events of a transaction come in the order of its course: a begin or a call, the take, any number of
 /// intermediate replies each with a further message and its hearing, the last reply, the end. None comes twice or where it
@@ -22,8 +22,9 @@ pub fn ends_make_the_serial()
 {}
 
 /// Of each transaction there is at most one take, one last reply and one end, each behind the one before. Exactly those up to the
-/// port's serial have a begin or a call, and all of them have their end, but for the last where the port isn't idle. Each intermediate reply is followed by one further message and its hearing, before
-/// the next reply. Since each front of a run is a run, this says in which order they stand.
+/// port's serial have a begin or a call, and all of them have their end, but for the last where the port isn't idle. Each intermediate
+/// reply is followed by one further message and its hearing, before the next reply. Since each front of a run is a run, this says in
+/// which order they stand.
 pub fn transactions_come_in_order()
     ensures begun { (es : List Event) (p k : ℕ) → IsRun es →
         count_by (is_begin_of p k) es ≡ (if nat_le 1 k && nat_le k (exchange (state_after es) p).serial then 1 else 0) }
@@ -40,6 +41,15 @@ pub fn transactions_come_in_order()
     // Once the last reply was given, all that was asked and heard is all that was replied before.
     ensures all_asked { (es : List Event) (p k : ℕ) → IsRun es → count_by (is_give_of p k) es ≡ 1 → count_by (is_ask_of p k) es ≡ count_by (is_more_of p k) es }
     ensures all_heard { (es : List Event) (p k : ℕ) → IsRun es → count_by (is_give_of p k) es ≡ 1 → count_by (is_hear_of p k) es ≡ count_by (is_more_of p k) es }
+{}
+
+/// A transaction engages two nodes: as long as it is open, each further step of it is done by the node that began or called it or by
+/// the one to which the port led then.
+pub fn two_nodes_do_all()
+    ensures by_initiator { (es : List Event) (e : Event) (p k : ℕ) (b : Begun es p k) → IsRun es → is_open_after es p k ≡ true → is_of_initiator p k e ≡ true
+        → doer (state_after es) e ≡ Some (initiator es p k b) }
+    ensures by_target { (es : List Event) (e : Event) (p k : ℕ) (b : Begun es p k) → IsRun es → is_open_after es p k ≡ true → is_of_target p k e ≡ true
+        → doer (state_after es) e ≡ target_at_begin es p k b }
 {}
 
 /// A transaction of a run is open exactly where its port isn't idle and has its serial.

@@ -1,6 +1,6 @@
 -- By the steps that lead on.
-use Rattle.event_replay.proofs.LeadsLemmas.{never_both}
+use Rattle.event_replay.proofs.LeadsLemmas.{always_one, never_both, one_end, one_denial}
 use Rattle.event_replay.proofs.laws.denied_or_replayed.Goals as goal
 
 pub returns : goal.returns
-returns c = never_both
+returns c = record { always_one = always_one; never_both = never_both; one_end = one_end; one_denial = one_denial }
