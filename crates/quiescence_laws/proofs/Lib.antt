@@ -15,5 +15,6 @@ pub mod CourseLemmas
 pub mod Counting
 pub mod Orders
 pub mod RootsSeen
+pub mod OneRoot
 pub mod Strength
 pub mod DrainLemmas

@@ -210,3 +210,11 @@ open_is_seen es p k run =
     ap (λ b. b && not (list_any (is_end_of p k) es)) (any_counted (is_begin_of p k) es (was_begun x.serial k) (begun_count es p k run))
     ∙ ap (λ b. was_begun x.serial k && not b) (any_counted (is_end_of p k) es (has_ended x.serial (is_idle x.phase) k) (ended_count es p k run))
     ∙ left_open x.serial k (is_idle x.phase) (busy_serial (count_by (ends_at p) es) x (tallied es p run))
+
+-- a transaction that has ended was begun, taken and answered once
+pub whole_once :
+    (es : List Event) (p k : ℕ) → IsRun es → count_by (is_end_of p k) es ≡ 1
+    → (count_by (is_begin_of p k) es ≡ 1) × (count_by (is_take_of p k) es ≡ 1) × (count_by (is_give_of p k) es ≡ 1)
+whole_once es p k run one =
+    let o = in_order es p k run in
+    (omega (arith, o.begun, o.taken, o.given, o.ended, one), omega (arith, o.begun, o.taken, o.given, o.ended, one), omega (arith, o.begun, o.given, o.taken, o.ended, one))

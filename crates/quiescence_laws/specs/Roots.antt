@@ -4,7 +4,7 @@ use Rattle.std.specs.List.{list_any}
 use Rattle.quiesce_core.specs.declared.event.Event.{Event}
 use Rattle.quiesce_core.specs.declared.state.Exchange.{Exchange}
 use Rattle.quiesce_core.specs.Phases.{is_idle}
-use Rattle.quiesce_core.specs.Runs.{is_end_of}
+use Rattle.quiesce_core.specs.Runs.{HasRoot, is_end_of}
 use Rattle.quiesce_core.specs.State.{State, exchange}
 use Rattle.quiescence_laws.specs.Events.{is_root_of}
 
@@ -19,3 +19,9 @@ has_root s p k = is_root k (exchange s p)
 -- whether such a root was begun and has not ended
 abbrev pub is_open_root_after : List Event → ℕ → ℕ → Bool
 is_open_root_after es p k = list_any (is_root_of p k) es && not (list_any (is_end_of p k) es)
+
+-- the transaction of a port and serial has a root
+pub record IsRooted (es : List Event) (p k : ℕ) : Type 0 where
+  pub port : ℕ
+  pub serial : ℕ
+  pub has : HasRoot es p k port serial

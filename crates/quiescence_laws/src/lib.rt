@@ -15,7 +15,7 @@ pub use quiescence::{
     changes_find_nodes_quiescent, less_than_settled_is_too_weak, settled_nodes_are_quiescent,
     settled_nodes_stay_settled,
 };
-pub use roots::{open_roots_are_seen, roots_at_closed_ports_are_old};
+pub use roots::{open_roots_are_seen, roots_at_closed_ports_are_old, transactions_have_one_root};
 pub use starting::{started_systems_are_reached, started_systems_go_on_as_runs};
 pub use transactions::{
     ends_make_the_serial, fronts_are_runs, open_transactions_are_seen, transactions_come_in_order,

@@ -1,12 +1,12 @@
-//! What a look at a closed port tells of the time since it was closed.
+//! Roots: each transaction has one, and what a look at a closed port tells of the time since it was closed.
 
 ghost use Rattle.std.specs.Prelude.{◌≡◌, ℕ, false, List, ◌∷◌, ◌++◌, IsTrue};
 ghost use Rattle.std.specs.List.{list_any};
 ghost use Rattle.quiesce_core.specs.declared.event.Event.{Event};
 ghost use Rattle.quiesce_core.specs.declared.event.Event.TheVariants.{Close};
-ghost use Rattle.quiesce_core.specs.Runs.{IsRun, state_after};
+ghost use Rattle.quiesce_core.specs.Runs.{Begun, HasRoot, IsRun, state_after};
 ghost use Rattle.quiescence_laws.specs.Events.{reopens};
-ghost use Rattle.quiescence_laws.specs.Roots.{has_root, is_open_root_after};
+ghost use Rattle.quiescence_laws.specs.Roots.{IsRooted, has_root, is_open_root_after};
 
 /// Where a port has an open root and was closed before and not reopened since, the port had this root, open, at every place since
 /// it was closed, and when it was closed.
@@ -21,4 +21,10 @@ pub fn roots_at_closed_ports_are_old()
 /// tells it.
 pub fn open_roots_are_seen()
     ensures { (es : List Event) (p k : ℕ) → IsRun es → is_open_root_after es p k ≡ has_root (state_after es) p k }
+{}
+
+/// Each transaction of a run has one root.
+pub fn transactions_have_one_root()
+    ensures some { (es : List Event) (p k : ℕ) → IsRun es → Begun es p k → IsRooted es p k }
+    ensures one { (es : List Event) (p k q j r i : ℕ) → IsRun es → HasRoot es p k q j → HasRoot es p k r i → (q ≡ r) × (j ≡ i) }
 {}

@@ -33,6 +33,8 @@ pub fn transactions_come_in_order()
     ensures ended { (es : List Event) (p k : ℕ) → IsRun es → count_by (is_end_of p k) es ≤ count_by (is_give_of p k) es }
     ensures ended_exactly { (es : List Event) (p k : ℕ) → IsRun es →
         count_by (is_end_of p k) es ≡ (if nat_le 1 k && (nat_lt k (exchange (state_after es) p).serial || (k == (exchange (state_after es) p).serial && is_idle (exchange (state_after es) p).phase)) then 1 else 0) }
+    ensures once { (es : List Event) (p k : ℕ) → IsRun es → count_by (is_end_of p k) es ≡ 1
+        → (count_by (is_begin_of p k) es ≡ 1) × (count_by (is_take_of p k) es ≡ 1) × (count_by (is_give_of p k) es ≡ 1) }
 
     ensures replied { (es : List Event) (p k : ℕ) → IsRun es → count_by (is_more_of p k) es ≤ count_by (is_hear_of p k) es + 1 }
     ensures asked { (es : List Event) (p k : ℕ) → IsRun es → count_by (is_ask_of p k) es ≤ count_by (is_more_of p k) es }

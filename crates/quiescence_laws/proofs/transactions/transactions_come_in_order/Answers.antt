@@ -1,4 +1,4 @@
-use Rattle.quiescence_laws.proofs.Orders.{begun_count, ended_count, in_order}
+use Rattle.quiescence_laws.proofs.Orders.{begun_count, ended_count, in_order, whole_once}
 use Rattle.quiescence_laws.proofs.transactions.transactions_come_in_order.Goals as goal
 
 pub returns : goal.returns
@@ -8,6 +8,7 @@ returns c = record {
   given = λ es p k run. (in_order es p k run).given;
   ended = λ es p k run. (in_order es p k run).ended;
   ended_exactly = ended_count;
+  once = whole_once;
   replied = λ es p k run. (in_order es p k run).told;
   asked = λ es p k run. (in_order es p k run).asked;
   heard = λ es p k run. (in_order es p k run).heard;
