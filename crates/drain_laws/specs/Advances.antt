@@ -1,7 +1,7 @@
 -- The events by which open transactions come nearer to their ends.
 use Rattle.std.specs.Prelude.{ℕ, Bool, true, false, Option, Some, None, option_map}
 use Rattle.quiesce_core.specs.declared.event.Event.{Event}
-use Rattle.quiesce_core.specs.declared.event.Event.TheVariants.{Begin, Call, Take, Give, End, More, Ask, Hear, Miss, Close, Reopen, Make, Link, Unlink, Remove}
+use Rattle.quiesce_core.specs.declared.event.Event.TheVariants.{Begin, Call, Take, Give, End, More, Ask, Hear, Miss}
 use Rattle.quiesce_core.specs.declared.state.Service.{Service}
 use Rattle.quiesce_core.specs.State.{State, owner, service}
 
@@ -15,13 +15,7 @@ is_advance (End p k v) = true
 is_advance (More p k v) = true
 is_advance (Ask p k v) = true
 is_advance (Hear p k v) = true
-is_advance (Begin p k v) = false
-is_advance (Close p) = false
-is_advance (Reopen p) = false
-is_advance (Make n node from) = false
-is_advance (Link p n x) = false
-is_advance (Unlink p) = false
-is_advance (Remove n) = false
+is_advance _ = false
 
 abbrev pub is_begin : Event → Bool
 is_begin (Begin p k v) = true
@@ -38,10 +32,4 @@ advanced s (End p k v) = Some p
 advanced s (More p k v) = Some p
 advanced s (Ask p k v) = Some p
 advanced s (Hear p k v) = Some p
-advanced s (Begin p k v) = None
-advanced s (Close p) = None
-advanced s (Reopen p) = None
-advanced s (Make n node from) = None
-advanced s (Link p n x) = None
-advanced s (Unlink p) = None
-advanced s (Remove n) = None
+advanced s _ = None
