@@ -4,3 +4,4 @@ pub mod NumberLemmas
 pub mod NameLemmas
 pub mod MakeLemmas
 pub mod EventFileLemmas
+pub mod WritingLemmas

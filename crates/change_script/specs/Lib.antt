@@ -5,3 +5,4 @@ pub mod Paths
 pub mod EventLines
 pub mod EventFiles
 pub mod Reading
+pub mod Writing

@@ -1,12 +1,16 @@
 //! Laws of the definitions that the contract of `parse_events` cites.
 
-ghost use Rattle.std.specs.Prelude.{◌≡◌, ◌≢◌, ◌⊎◌, ◌↔◌, ℕ, true, false, List, ◌∷◌, ◌++◌, IsTrue};
+ghost use Rattle.std.specs.Prelude.{◌≡◌, ◌≢◌, ◌⊎◌, ◌↔◌, ℕ, true, false, List, ◌∷◌, ◌++◌, Ok, IsTrue};
 ghost use Rattle.std.specs.List.{list_all};
 ghost use Rattle.darwin_lexer.specs.Naming.{IsName};
+ghost use Rattle.quiesce_core.specs.declared.event.Event.{Event};
+ghost use Rattle.change_script.specs.declared.event_lines.Statement.TheVariants as statements;
 ghost use Rattle.change_script.specs.declared.event_files.EventFile.{EventFile};
 ghost use Rattle.change_script.specs.declared.error.ScriptError.{ScriptError};
 ghost use Rattle.change_script.specs.EventFiles.{IsEventFile, IsFirstFault};
 ghost use Rattle.change_script.specs.Paths.{is_name};
+ghost use Rattle.change_script.specs.EventLines.{meaning};
+ghost use Rattle.change_script.specs.Writing.{CanBeWritten, written};
 ghost use Rattle.change_script.specs.Tokens.{begins_word, is_blank, is_sign, is_word_byte, sign, tokens, word};
 
 /// A text is one event file, or has one first fault, and never both.
@@ -29,4 +33,9 @@ pub fn words_are_longest()
 /// A name in a script or an event file is a name of the language.
 pub fn names_are_those_of_the_language()
     ensures { (bytes : List ℕ) → IsTrue (is_name bytes) ↔ IsName bytes }
+{}
+
+/// The line that writes an event means this event.
+pub fn a_written_line_means_its_event()
+    ensures { (event : Event) → CanBeWritten event → meaning (tokens (written event)) ≡ Ok (statements.Event event) }
 {}

@@ -16,4 +16,7 @@ mod verbs;
 
 pub use error::ScriptError;
 pub use event_files::{EventFile, MAX_TEXT, parse_events};
-pub use laws::{names_are_those_of_the_language, one_file_or_one_fault, words_are_longest};
+pub use laws::{
+    a_written_line_means_its_event, names_are_those_of_the_language, one_file_or_one_fault,
+    words_are_longest,
+};
