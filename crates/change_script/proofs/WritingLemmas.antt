@@ -19,8 +19,9 @@ use Rattle.change_script.specs.declared.event_lines.Statement.TheVariants as sta
 use Rattle.change_script.specs.Tokens.{Token, word, opened, closed, tokens, is_word_byte, begins_word}
 use Rattle.change_script.specs.Numbers.{is_number, number, number_fits}
 use Rattle.change_script.specs.Paths.{is_path}
-use Rattle.change_script.specs.EventLines.{MakeWords, meaning, three_numbers, one_number, make_of_words, make_of_kind, make_words, none_or, event_line, exchange_event, single_event, link_event}
-use Rattle.change_script.specs.declared.verbs.Exchange.TheVariants as exchanges
+use Rattle.change_script.specs.EventLines.{MakeWords, meaning, three_numbers, one_number, make_of_words, make_of_kind, make_words, none_or, event_line, owner_event, target_event, single_event, link_event}
+use Rattle.change_script.specs.declared.verbs.OwnerStep.TheVariants as owner
+use Rattle.change_script.specs.declared.verbs.TargetStep.TheVariants as target
 use Rattle.change_script.specs.declared.verbs.Single.TheVariants as singles
 use Rattle.change_script.specs.Writing.{spaced, with_three, with_one, written, from_words, IsNumber, AreNumbers, CanBeWritten}
 use Rattle.change_script.proofs.TokenLemmas.{blank_front, sign_front, word_front}
@@ -204,14 +205,14 @@ make_means slot node from can =
     ∙ ap (event_line (λ event. event)) (made_of slot node from can)
 
 pub written_means : (event : Event) → CanBeWritten event → meaning (tokens (written event)) ≡ Ok (statements.Event event)
-written_means (events.Begin p s v) can = ap meaning (three_tokens (codes "begin") p s v refl can) ∙ ap (event_line (exchange_event exchanges.Begin)) (three_of p s v can)
-written_means (events.Call p s v) can = ap meaning (three_tokens (codes "call") p s v refl can) ∙ ap (event_line (exchange_event exchanges.Call)) (three_of p s v can)
-written_means (events.Take p s v) can = ap meaning (three_tokens (codes "take") p s v refl can) ∙ ap (event_line (exchange_event exchanges.Take)) (three_of p s v can)
-written_means (events.Give p s v) can = ap meaning (three_tokens (codes "give") p s v refl can) ∙ ap (event_line (exchange_event exchanges.Give)) (three_of p s v can)
-written_means (events.End p s v) can = ap meaning (three_tokens (codes "end") p s v refl can) ∙ ap (event_line (exchange_event exchanges.End)) (three_of p s v can)
-written_means (events.More p s v) can = ap meaning (three_tokens (codes "more") p s v refl can) ∙ ap (event_line (exchange_event exchanges.More)) (three_of p s v can)
-written_means (events.Ask p s v) can = ap meaning (three_tokens (codes "ask") p s v refl can) ∙ ap (event_line (exchange_event exchanges.Ask)) (three_of p s v can)
-written_means (events.Hear p s v) can = ap meaning (three_tokens (codes "hear") p s v refl can) ∙ ap (event_line (exchange_event exchanges.Hear)) (three_of p s v can)
+written_means (events.Begin p s v) can = ap meaning (three_tokens (codes "begin") p s v refl can) ∙ ap (event_line (owner_event owner.Begin)) (three_of p s v can)
+written_means (events.Call p s v) can = ap meaning (three_tokens (codes "call") p s v refl can) ∙ ap (event_line (owner_event owner.Call)) (three_of p s v can)
+written_means (events.Take p s v) can = ap meaning (three_tokens (codes "take") p s v refl can) ∙ ap (event_line (target_event target.Take)) (three_of p s v can)
+written_means (events.Give p s v) can = ap meaning (three_tokens (codes "give") p s v refl can) ∙ ap (event_line (target_event target.Give)) (three_of p s v can)
+written_means (events.End p s v) can = ap meaning (three_tokens (codes "end") p s v refl can) ∙ ap (event_line (owner_event owner.End)) (three_of p s v can)
+written_means (events.More p s v) can = ap meaning (three_tokens (codes "more") p s v refl can) ∙ ap (event_line (target_event target.More)) (three_of p s v can)
+written_means (events.Ask p s v) can = ap meaning (three_tokens (codes "ask") p s v refl can) ∙ ap (event_line (owner_event owner.Ask)) (three_of p s v can)
+written_means (events.Hear p s v) can = ap meaning (three_tokens (codes "hear") p s v refl can) ∙ ap (event_line (target_event target.Hear)) (three_of p s v can)
 written_means (events.Miss p) can = ap meaning (one_tokens (codes "miss") p refl can) ∙ ap (event_line (single_event singles.Miss)) (one_of p can)
 written_means (events.Close p) can = ap meaning (one_tokens (codes "close") p refl can) ∙ ap (event_line (single_event singles.Close)) (one_of p can)
 written_means (events.Reopen p) can = ap meaning (one_tokens (codes "reopen") p refl can) ∙ ap (event_line (single_event singles.Reopen)) (one_of p can)

@@ -6,8 +6,10 @@ use Rattle.config_graph.specs.declared.kind.Kind.{Kind}
 use Rattle.config_graph.specs.Kinds.{kind_named}
 use Rattle.quiesce_core.specs.declared.event.Event.{Event}
 use Rattle.quiesce_core.specs.declared.event.Event.TheVariants as events
-use Rattle.change_script.specs.declared.verbs.Exchange.{Exchange}
-use Rattle.change_script.specs.declared.verbs.Exchange.TheVariants as exchanges
+use Rattle.change_script.specs.declared.verbs.OwnerStep.{OwnerStep}
+use Rattle.change_script.specs.declared.verbs.OwnerStep.TheVariants as owner
+use Rattle.change_script.specs.declared.verbs.TargetStep.{TargetStep}
+use Rattle.change_script.specs.declared.verbs.TargetStep.TheVariants as target
 use Rattle.change_script.specs.declared.verbs.Single.{Single}
 use Rattle.change_script.specs.declared.verbs.Single.TheVariants as singles
 use Rattle.change_script.specs.declared.verbs.Verb.{Verb}
@@ -23,15 +25,17 @@ use Rattle.change_script.specs.Numbers.{is_number, number, number_fits, is_integ
 use Rattle.change_script.specs.Paths.{is_name, is_path, path_fits}
 
 -- the first word of each line
-abbrev pub exchange_bytes : Exchange → List ℕ
-exchange_bytes exchanges.Begin = codes "begin"
-exchange_bytes exchanges.Call = codes "call"
-exchange_bytes exchanges.Take = codes "take"
-exchange_bytes exchanges.More = codes "more"
-exchange_bytes exchanges.Ask = codes "ask"
-exchange_bytes exchanges.Hear = codes "hear"
-exchange_bytes exchanges.Give = codes "give"
-exchange_bytes exchanges.End = codes "end"
+abbrev pub owner_bytes : OwnerStep → List ℕ
+owner_bytes owner.Begin = codes "begin"
+owner_bytes owner.Call = codes "call"
+owner_bytes owner.Ask = codes "ask"
+owner_bytes owner.End = codes "end"
+
+abbrev pub target_bytes : TargetStep → List ℕ
+target_bytes target.Take = codes "take"
+target_bytes target.More = codes "more"
+target_bytes target.Hear = codes "hear"
+target_bytes target.Give = codes "give"
 
 abbrev pub single_bytes : Single → List ℕ
 single_bytes singles.Miss = codes "miss"
@@ -42,21 +46,23 @@ single_bytes singles.Remove = codes "remove"
 
 abbrev pub verb_bytes : Verb → List ℕ
 verb_bytes verbs.Start = codes "start"
-verb_bytes (verbs.Exchange exchange) = exchange_bytes exchange
+verb_bytes (verbs.Owner step) = owner_bytes step
+verb_bytes (verbs.Target step) = target_bytes step
 verb_bytes (verbs.Single single) = single_bytes single
 verb_bytes verbs.Link = codes "link"
 verb_bytes verbs.Make = codes "make"
 
-abbrev pub exchange_verbs : List Verb
-exchange_verbs =
-    verbs.Exchange exchanges.Begin ∷ verbs.Exchange exchanges.Call ∷ verbs.Exchange exchanges.Take ∷ verbs.Exchange exchanges.More ∷
-    verbs.Exchange exchanges.Ask ∷ verbs.Exchange exchanges.Hear ∷ verbs.Exchange exchanges.Give ∷ verbs.Exchange exchanges.End ∷ []
+abbrev pub owner_verbs : List Verb
+owner_verbs = verbs.Owner owner.Begin ∷ verbs.Owner owner.Call ∷ verbs.Owner owner.Ask ∷ verbs.Owner owner.End ∷ []
+
+abbrev pub target_verbs : List Verb
+target_verbs = verbs.Target target.Take ∷ verbs.Target target.More ∷ verbs.Target target.Hear ∷ verbs.Target target.Give ∷ []
 
 abbrev pub single_verbs : List Verb
 single_verbs = verbs.Single singles.Miss ∷ verbs.Single singles.Close ∷ verbs.Single singles.Reopen ∷ verbs.Single singles.Unlink ∷ verbs.Single singles.Remove ∷ []
 
 abbrev pub all_verbs : List Verb
-all_verbs = verbs.Start ∷ (exchange_verbs ++ (single_verbs ++ (verbs.Link ∷ verbs.Make ∷ [])))
+all_verbs = verbs.Start ∷ (owner_verbs ++ (target_verbs ++ (single_verbs ++ (verbs.Link ∷ verbs.Make ∷ []))))
 
 -- the verb of a line that begins with this word
 abbrev pub verb_named : List ℕ → Option Verb
@@ -85,16 +91,18 @@ abbrev pub triple_in : List Token → Result Triple LineFault
 triple_in (word first ∷ word second ∷ word third ∷ []) = three_numbers first second third
 triple_in _ = Err Bad
 
--- PORT SERIAL VALUE of an exchange
-abbrev pub exchange_event : Exchange → Triple → Event
-exchange_event exchanges.Begin t = events.Begin t.first t.second t.third
-exchange_event exchanges.Call t = events.Call t.first t.second t.third
-exchange_event exchanges.Take t = events.Take t.first t.second t.third
-exchange_event exchanges.More t = events.More t.first t.second t.third
-exchange_event exchanges.Ask t = events.Ask t.first t.second t.third
-exchange_event exchanges.Hear t = events.Hear t.first t.second t.third
-exchange_event exchanges.Give t = events.Give t.first t.second t.third
-exchange_event exchanges.End t = events.End t.first t.second t.third
+-- PORT SERIAL VALUE of a step of the owner, and of one of the target
+abbrev pub owner_event : OwnerStep → Triple → Event
+owner_event owner.Begin t = events.Begin t.first t.second t.third
+owner_event owner.Call t = events.Call t.first t.second t.third
+owner_event owner.Ask t = events.Ask t.first t.second t.third
+owner_event owner.End t = events.End t.first t.second t.third
+
+abbrev pub target_event : TargetStep → Triple → Event
+target_event target.Take t = events.Take t.first t.second t.third
+target_event target.More t = events.More t.first t.second t.third
+target_event target.Hear t = events.Hear t.first t.second t.third
+target_event target.Give t = events.Give t.first t.second t.third
 
 -- PORT, or SLOT of a removal
 abbrev pub single_event : Single → ℕ → Event
@@ -205,7 +213,8 @@ event_line event (Ok value) = Ok (statements.Event (event value))
 -- what stands behind a verb
 abbrev pub meaning_of : Verb → List Token → Result Statement LineFault
 meaning_of verbs.Start rest = start rest
-meaning_of (verbs.Exchange exchange) rest = event_line (exchange_event exchange) (triple_in rest)
+meaning_of (verbs.Owner step) rest = event_line (owner_event step) (triple_in rest)
+meaning_of (verbs.Target step) rest = event_line (target_event step) (triple_in rest)
 meaning_of (verbs.Single kind) rest = event_line (single_event kind) (single_in rest)
 meaning_of verbs.Link rest = event_line link_event (triple_in rest)
 meaning_of verbs.Make rest = event_line (λ event. event) (make rest)

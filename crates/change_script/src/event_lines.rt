@@ -72,8 +72,12 @@ fn meaning_of(
 {
     match verb {
         Verb::Start => start(alloc, line),
-        Verb::Exchange(exchange) => Ok(match triple_in(line) {
-            Ok(numbers) => Ok(Statement::Event(exchange.event(numbers))),
+        Verb::Owner(step) => Ok(match triple_in(line) {
+            Ok(numbers) => Ok(Statement::Event(step.event(numbers))),
+            Err(fault) => Err(fault),
+        }),
+        Verb::Target(step) => Ok(match triple_in(line) {
+            Ok(numbers) => Ok(Statement::Event(step.event(numbers))),
             Err(fault) => Err(fault),
         }),
         Verb::Single(kind) => Ok(match single_in(line) {

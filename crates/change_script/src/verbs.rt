@@ -1,22 +1,27 @@
 //! The first words of the lines of an event file.
 
 ghost use Rattle.std.specs.Prelude.{◌≡◌};
-ghost use Rattle.change_script.specs.EventLines.{exchange_bytes, exchange_event, single_bytes, single_event, verb_bytes, verb_named};
+ghost use Rattle.change_script.specs.EventLines.{owner_bytes, owner_event, single_bytes, single_event, target_bytes, target_event, verb_bytes, verb_named};
 
 use crate::event_lines::Triple;
 use quiesce_core::Event;
 
-/// A step of a transaction: PORT SERIAL VALUE follow.
+/// A step of a transaction that the owner of its port makes: PORT SERIAL VALUE follow.
 #[derive(Clone, Copy, Debug, PartialEq, Eq)]
-pub enum Exchange {
+pub enum OwnerStep {
     Begin,
     Call,
+    Ask,
+    End,
+}
+
+/// A step of a transaction that the target of its port makes: PORT SERIAL VALUE follow.
+#[derive(Clone, Copy, Debug, PartialEq, Eq)]
+pub enum TargetStep {
     Take,
     More,
-    Ask,
     Hear,
     Give,
-    End,
 }
 
 /// An event of one port or slot.
@@ -32,7 +37,8 @@ pub enum Single {
 #[derive(Clone, Copy, Debug, PartialEq, Eq)]
 pub enum Verb {
     Start,
-    Exchange(Exchange),
+    Owner(OwnerStep),
+    Target(TargetStep),
     Single(Single),
     Link,
     Make,
@@ -40,14 +46,14 @@ pub enum Verb {
 
 const VERBS: [Verb; 16] = [
     Verb::Start,
-    Verb::Exchange(Exchange::Begin),
-    Verb::Exchange(Exchange::Call),
-    Verb::Exchange(Exchange::Take),
-    Verb::Exchange(Exchange::More),
-    Verb::Exchange(Exchange::Ask),
-    Verb::Exchange(Exchange::Hear),
-    Verb::Exchange(Exchange::Give),
-    Verb::Exchange(Exchange::End),
+    Verb::Owner(OwnerStep::Begin),
+    Verb::Owner(OwnerStep::Call),
+    Verb::Owner(OwnerStep::Ask),
+    Verb::Owner(OwnerStep::End),
+    Verb::Target(TargetStep::Take),
+    Verb::Target(TargetStep::More),
+    Verb::Target(TargetStep::Hear),
+    Verb::Target(TargetStep::Give),
     Verb::Single(Single::Miss),
     Verb::Single(Single::Close),
     Verb::Single(Single::Reopen),
@@ -70,7 +76,8 @@ impl Verb {
     {
         match self {
             Verb::Start => b"start",
-            Verb::Exchange(exchange) => exchange.bytes(),
+            Verb::Owner(step) => step.bytes(),
+            Verb::Target(step) => step.bytes(),
             Verb::Single(single) => single.bytes(),
             Verb::Link => b"link",
             Verb::Make => b"make",
@@ -78,25 +85,21 @@ impl Verb {
     }
 }
 
-impl Exchange {
+impl OwnerStep {
     fn bytes(self) -> &'static [u8]
-        ensures { result.now ≡ exchange_bytes self }
+        ensures { result.now ≡ owner_bytes self }
     {
         match self {
-            Exchange::Begin => b"begin",
-            Exchange::Call => b"call",
-            Exchange::Take => b"take",
-            Exchange::More => b"more",
-            Exchange::Ask => b"ask",
-            Exchange::Hear => b"hear",
-            Exchange::Give => b"give",
-            Exchange::End => b"end",
+            OwnerStep::Begin => b"begin",
+            OwnerStep::Call => b"call",
+            OwnerStep::Ask => b"ask",
+            OwnerStep::End => b"end",
         }
     }
 
     /// The event of this port, serial and value.
     pub fn event(self, numbers: Triple) -> Event
-        ensures { result ≡ exchange_event self numbers }
+        ensures { result ≡ owner_event self numbers }
     {
         let Triple {
             first: port,
@@ -104,42 +107,68 @@ impl Exchange {
             third: value,
         } = numbers;
         match self {
-            Exchange::Begin => Event::Begin {
+            OwnerStep::Begin => Event::Begin {
                 port,
                 serial,
                 value,
             },
-            Exchange::Call => Event::Call {
+            OwnerStep::Call => Event::Call {
                 port,
                 serial,
                 value,
             },
-            Exchange::Take => Event::Take {
+            OwnerStep::Ask => Event::Ask {
                 port,
                 serial,
                 value,
             },
-            Exchange::More => Event::More {
+            OwnerStep::End => Event::End {
                 port,
                 serial,
                 value,
             },
-            Exchange::Ask => Event::Ask {
+        }
+    }
+}
+
+impl TargetStep {
+    fn bytes(self) -> &'static [u8]
+        ensures { result.now ≡ target_bytes self }
+    {
+        match self {
+            TargetStep::Take => b"take",
+            TargetStep::More => b"more",
+            TargetStep::Hear => b"hear",
+            TargetStep::Give => b"give",
+        }
+    }
+
+    /// The event of this port, serial and value.
+    pub fn event(self, numbers: Triple) -> Event
+        ensures { result ≡ target_event self numbers }
+    {
+        let Triple {
+            first: port,
+            second: serial,
+            third: value,
+        } = numbers;
+        match self {
+            TargetStep::Take => Event::Take {
                 port,
                 serial,
                 value,
             },
-            Exchange::Hear => Event::Hear {
+            TargetStep::More => Event::More {
                 port,
                 serial,
                 value,
             },
-            Exchange::Give => Event::Give {
+            TargetStep::Hear => Event::Hear {
                 port,
                 serial,
                 value,
             },
-            Exchange::End => Event::End {
+            TargetStep::Give => Event::Give {
                 port,
                 serial,
                 value,
