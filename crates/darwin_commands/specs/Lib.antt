@@ -10,4 +10,5 @@ pub mod Replays
 pub mod Requests
 pub mod Words
 pub mod Running
+pub mod Statuses
 pub mod Wanted

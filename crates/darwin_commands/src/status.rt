@@ -1,6 +1,9 @@
 //! How a run of the program ends.
 
-/// How a run ends. The number is the program's exit status.
+ghost use Rattle.std.specs.Prelude.{◌≡◌};
+ghost use Rattle.darwin_commands.specs.Statuses.{status_number};
+
+/// How a run ends.
 #[derive(Clone, Copy, Debug, PartialEq, Eq)]
 pub enum Status {
     Ok,
@@ -23,4 +26,13 @@ pub enum Status {
     Denied,
     /// A report isn't lawful.
     Unlawful,
+}
+
+impl Status {
+    /// The program's exit status, from 0 for `Ok` to 10 for `Unlawful`.
+    pub fn number(self) -> u8
+        ensures { result ≡ status_number self }
+    {
+        self as u8
+    }
 }
