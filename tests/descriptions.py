@@ -3,6 +3,8 @@
 Each function takes a `random.Random` and returns a text in bytes with a command line's words behind the file: a component's
 name and its arguments. Lawful descriptions come as a list of tokens, so that one can be written with other blanks.
 """
+import re
+
 
 KINDS = {
     "philosopher": ([], ["dine"], True),
@@ -266,9 +268,12 @@ def lanes(rng, more):
         " bind pl[i].left -- f[i].hold; pl[(i+n-1) % n].right -- f[i].hold; } } }"
         "component Bank(int n, int x, int y) { inst a:account(x); b:account(y); r:branch; w:teller(n);"
         " bind w.move -- r.move; r.from -- a.post; r.to -- b.post; }"
+        "component Sums(int n, int k, int skip) { array a[n]:asker(k); inst d:adder; forall i:0..n-1 { inst a[i]; when i != skip bind d.sum -- a[i].sum; } }"
+        "component Row(int n, int k, int skip) { array m[n]:map(k); s[2]:source(n); inst s[0]; s[1]; t:sink; bind s[0].out -- m[0].in; s[1].out -- m[0].in;"
+        " forall i:0..n-1 { inst m[i]; when i < n-1 and i != skip bind m[i].next -- m[i+1].in; } }"
     )
     calls = []
-    top = rng.choice(["Lanes", "Table", "Bank"])
+    top = rng.choice(["Lanes", "Table", "Bank", "Sums", "Row"])
     many = rng.random() < 0.02
     for _ in range(more):
         size = rng.choice([127, 128, 255, 256, 340, 341, 342]) if many else rng.randrange(1, 6)
@@ -409,6 +414,40 @@ def edited_bytes(rng, text):
         else:
             del text[at:]
     return bytes(text)
+
+
+LINE_WORDS = (
+    b"( ) , -> from start begin make map sink source forall a a.b q[0] q[007] q[4294967295] q[4294967296] q[ a[]. .a a. -1 -0 +1 0x1 00 4294967295 4294967296 2147483647 2147483648"
+    b" -2147483648 -2147483649 16777215 16777216 18446744073709551616 99999999999999999999999999 # #x \\0 \x00 \xc3\xa9 \xff \r \x0b \x0c"
+).split(b" ") + [b"a" * 64, b"a" * 65, b"q" * 64 + b"[0]", b"q" * 65 + b"[0]", b"0" * 5000 + b"1", b""]
+
+
+def edited_lines(rng, content):
+    """An event file of which a few words of a line, or whole lines, are others."""
+    lines = content.split(b"\n")
+    for _ in range(rng.choice([1, 1, 2])):
+        at = rng.randrange(len(lines))
+        words = [word for word in re.findall(rb"[(),]|[^ \t(),]+", lines[at])] or [b""]
+        spot = rng.randrange(len(words))
+        pick = rng.random()
+        if pick < 0.5:
+            words[spot] = rng.choice(LINE_WORDS)
+        elif pick < 0.6:
+            words.insert(spot, rng.choice(LINE_WORDS + words))
+        elif pick < 0.7:
+            del words[spot]
+        elif pick < 0.75:
+            lines.insert(rng.randrange(len(lines) + 1), lines[at])
+        elif pick < 0.8:
+            del lines[at]
+            if not lines:
+                return b""
+            continue
+        elif pick < 0.85:
+            words[spot] = words[spot][: rng.randrange(len(words[spot]) + 1)]
+        blank = lambda: rng.choice([b" "] * 6 + [b"", b"\t", b"  ", b"\r", b"\x0b", b"\xa0"])
+        lines[at] = b"".join(word + (blank() if rng.random() < 0.3 else b" ") for word in words)
+    return b"\n".join(lines)
 
 
 SINK = "component sink { provide in; }\n"

@@ -1,4 +1,5 @@
 """The forms of what the program writes, one for each status, and what else must hold of a text of that form."""
+import os
 import re
 
 from descriptions import KINDS
@@ -138,8 +139,9 @@ def refusal(text, file, form, faults, lines):
 
 def judge(words, files, status, written):
     """Raises Bad where what was written hasn't the form of the status."""
-    command = words[0] if words else ""
-    file = words[1].encode("utf-8", "surrogateescape") if len(words) > 1 else b""
+    words = [os.fsencode(word) for word in words]
+    command = words[0].decode("utf-8", "replace") if words else ""
+    file = words[1] if len(words) > 1 else b""
     if status == 0 and command == "flat":
         graph(written)
     elif status == 0 and command == "plan":
@@ -147,18 +149,17 @@ def judge(words, files, status, written):
     elif status == 0 and command == "replay":
         want(REPLAY.fullmatch(written), "no text of a replay")
     elif status == 0:
-        want(words in (["--help"], ["--version"]) and written.endswith(b"\n"), "status 0 of words that have no form")
+        want(words in ([b"--help"], [b"--version"]) and written.endswith(b"\n"), "status 0 of words that have no form")
     elif status == 1:
         want(written == b"usage\n", "status 1 without the line usage")
     elif status == 2:
-        text = files.get(words[1])
+        text = files.get(os.fsdecode(file))
         refusal(written, file, REFUSAL, DESCRIPTION, None if text is None else text.split(b"\n"))
     elif status == 3:
         want(command == "replay", "status 3 of a command without such a file")
-        refusal(written, words[2].encode("utf-8", "surrogateescape"), SCRIPT, EVENTS, None)
+        refusal(written, words[2], SCRIPT, EVENTS, None)
     elif status == 4:
-        names = [word.encode("utf-8", "surrogateescape") for word in words[1:3]]
-        want(any(written == b"read fault " + name + b"\n" for name in names), "a fault of another file")
+        want(any(written == b"read fault " + name + b"\n" for name in words[1:3]), "a fault of another file")
     elif status == 9:
         found = DENIED.fullmatch(written)
         want(command == "replay" and found and 1 <= int(found[2]) <= 30, "no line of a denied event")

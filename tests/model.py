@@ -415,37 +415,72 @@ def hostile_events(rng, machine):
 
 
 def replayed(machine, made):
-    """The lines of these events, and what `replay` must write of them, as (lines, status, text)."""
-    lines = [line_of(event) for event in made]
+    """What `replay` must write of these events, as (status, text)."""
     for number, event in enumerate(made, 1):
         rule = machine.denial(event)
         if rule is not None:
-            return lines, 9, b"denied %d %d\n" % (number, rule)
+            return 9, b"denied %d %d\n" % (number, rule)
         machine.apply(event)
-    return lines, 0, machine.text(len(made))
+    return 0, machine.text(len(made))
+
+
+def denied_by(rng, machine, rule, quiet):
+    """An event that this rule denies, where some tries find one."""
+    for _ in range(40):
+        event = near(rng, machine, quiet) if rng.random() < 0.8 else changing(rng, machine)
+        if machine.denial(event) == rule:
+            return event
+    return None
+
+
+def changing(rng, machine):
+    """A link, an unlink, a removal or a make with any numbers that there are."""
+    port, slot, other = (rng.randrange(len(things) + 1) for things in (machine.ports, machine.nodes, machine.nodes))
+    pick = rng.random()
+    if pick < 0.4:
+        return ("link", port, slot, rng.choice([0, 0, 0, 1]))
+    if pick < 0.6:
+        return (rng.choice(["unlink", "miss"]), port)
+    if pick < 0.8 or not machine.nodes:
+        return ("remove", slot)
+    node = machine.nodes[min(slot, len(machine.nodes) - 1)]
+    return ("make", len(machine.nodes), rng.choice([node.path, b"q"]), node.kind, rng.choice([node.arg, b"", b"16777216"]), rng.choice([None, slot, other]))
+
+
+def calm(rng, machine):
+    """Closes each port, and unlinks some: what the rules of a change look at."""
+    made = [("close", port) for port in range(len(machine.ports))]
+    for event in made:
+        machine.apply(event)
+    for port in range(len(machine.ports)):
+        event = ("unlink", port)
+        if rng.random() < 0.4 and machine.denial(event) is None:
+            machine.apply(event)
+            made.append(event)
+    return made
 
 
 def events(rng, graph, count):
-    """Event lines over a graph, and what `replay` must write of them, as (lines, status, text)."""
+    """Event lines over a graph, which end with an event that is denied or after so many."""
     machine = Machine(graph)
     if rng.random() < 0.02:
-        return replayed(machine, hostile_events(rng, machine))
+        return [line_of(event) for event in hostile_events(rng, machine)]
     lines, quiet = [], False
-    is_wild = rng.random() < 0.4
+    rule = rng.randrange(1, 31) if rng.random() < 0.7 else None
+    if rule in (20, 21, 23, 25, 26) and len(machine.ports) < 100:
+        lines += [line_of(event) for event in calm(rng, machine)]
     for number in range(1, count + 1):
         if rng.random() < 0.02:
             quiet = not quiet
-        makes = rng.choice([wild, near]) if is_wild and rng.random() < 0.05 else candidate
-        event = wild(rng, machine) if makes == wild else makes(rng, machine, quiet)
-        rule = machine.denial(event)
+        event = denied_by(rng, machine, rule, quiet) if rule and rng.random() < 0.2 else None
+        if event is not None:
+            return lines + [line_of(event)] + [line_of(wild(rng, machine)) for _ in range(rng.randrange(3))]
         for _ in range(30):
-            if rule is None or makes != candidate or rng.random() < 0.01:
-                break
             event = candidate(rng, machine, quiet)
-            rule = machine.denial(event)
+            if machine.denial(event) is None:
+                break
         lines.append(line_of(event))
-        if rule is not None:
-            more = [line_of(wild(rng, machine)) for _ in range(rng.randrange(3))]
-            return lines + more, 9, b"denied %d %d\n" % (number, rule)
+        if machine.denial(event) is not None:
+            return lines
         machine.apply(event)
-    return lines, 0, machine.text(count)
+    return lines

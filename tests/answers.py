@@ -1,0 +1,121 @@
+"""What the program may answer to a command line and files, told by the plain statements of the language, the plans, the machine and the event files here.
+
+Where several faults of a description hold, any of them may be named; all else has one answer."""
+import os
+
+import model
+import scripts
+from language import GREATEST, LEAST, Description
+
+LIMIT = 1 << 20
+LATER = {"OutOfRange", "ZeroDivisor", "BadIndex", "TwoInstances", "BoundTwice", "BadBinding", "Annotation", "TooDeep", "TooMany"}
+READ = {}
+
+
+class Refusal(Exception):
+    """The answers that may come, as a set of (status, text), and whether any other fault of an elaboration may be named in their place."""
+
+    def __init__(self, status, lines, is_open=False):
+        self.answers, self.is_open = {(status, line + b"\n") for line in lines}, is_open
+
+
+def described(text):
+    """The description of a text, of which the last few are kept."""
+    if text not in READ:
+        if len(READ) > 3:
+            READ.clear()
+        READ[text] = Description(text)
+    return READ[text]
+
+
+def fetched(files, name, status, prefix):
+    text = files.get(os.fsdecode(name))
+    if text is None:
+        raise Refusal(4, [b"read fault " + name])
+    if len(text) > LIMIT:
+        raise Refusal(status, [prefix + b" " + name + b": TooLong"])
+    return text
+
+
+def graph(text, file, top, args):
+    found, faults, is_open = described(text).answers(top.decode() if isinstance(top, bytes) else top, args)
+    if found is None:
+        raise Refusal(2, [b"description " + file + b": " + fault.encode() for fault in faults], is_open)
+    return found
+
+
+def planned(file, old, new, made):
+    status, text = model.plan_text(old, new, made)
+    if status:
+        raise Refusal(2, [b"description " + file + b": " + text])
+    return text
+
+
+def usage(holds):
+    if not holds:
+        raise Refusal(1, [b"usage"])
+
+
+def called(words):
+    """A component's name with its arguments."""
+    usage(words and scripts.is_name(words[0]) and all(scripts.is_integer(word) for word in words[1:]))
+    args = [scripts.integer(word) for word in words[1:]]
+    usage(all(LEAST <= arg <= GREATEST for arg in args))
+    return words[0], args
+
+
+def flat(words, files):
+    usage(len(words) >= 3 and words[1])
+    top, args = called(words[2:])
+    text = fetched(files, words[1], 2, b"description")
+    return model.graph_text(graph(text, words[1], top, args))
+
+
+def plan(words, files):
+    usage(len(words) >= 5 and words[1] and b"--" in words[2:])
+    cut = words.index(b"--", 2)
+    old, new = called(words[2:cut]), called(words[cut + 1 :])
+    text = fetched(files, words[1], 2, b"description")
+    first = graph(text, words[1], *old)
+    planned(words[1], model.EMPTY, first, (0, 0))
+    return planned(words[1], first, graph(text, words[1], *new), model.count_made(first))
+
+
+def replay(words, files):
+    usage(len(words) == 3 and words[1] and words[2])
+    begun, events, fault = scripts.parse(fetched(files, words[2], 3, b"script"))
+    if fault:
+        raise Refusal(3, [b"script " + words[2] + b": " + fault.encode()])
+    text = fetched(files, words[1], 2, b"description")
+    found = graph(text, words[1], *begun)
+    planned(words[1], model.EMPTY, found, (0, 0))
+    status, answer = model.replayed(model.Machine(found), events)
+    if status:
+        raise Refusal(status, [answer[:-1]])
+    return answer
+
+
+COMMANDS = {b"flat": flat, b"plan": plan, b"replay": replay}
+
+
+def wrong(words, files, status, written):
+    """Why this isn't what the program may answer, or None."""
+    words = [os.fsencode(word) for word in words]
+    if words in ([b"--help"], [b"--version"]):
+        return None if status == 0 else "status 0 has to come"
+    try:
+        for word in words:
+            try:
+                word.decode()
+            except UnicodeDecodeError:
+                usage(False)
+        usage(words and words[0] in COMMANDS)
+        wanted, is_open = {(0, COMMANDS[words[0]](words, files))}, False
+    except Refusal as refusal:
+        wanted, is_open = refusal.answers, refusal.is_open
+    if (status, written) in wanted:
+        return None
+    named = written.rsplit(b": ", 1)[-1].split()
+    if is_open and status == 2 and named and named[0].decode() in LATER:
+        return None
+    return "wanted one of %r" % sorted(wanted)[:4]

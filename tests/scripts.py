@@ -1,0 +1,107 @@
+"""Event files once more, written plainly from docs/formats.md and apart from the proved code."""
+import re
+
+from descriptions import KEYWORDS, KINDS
+from language import GREATEST, LEAST, NAME_LIMIT
+
+NUMBER_LIMIT = (1 << 32) - 1
+COUNTS = {"begin": 3, "call": 3, "take": 3, "give": 3, "more": 3, "ask": 3, "hear": 3, "end": 3, "miss": 1, "close": 1, "reopen": 1, "unlink": 1, "remove": 1, "link": 3}
+NAME = re.compile(rb"[A-Za-z_][A-Za-z_0-9]*")
+SEGMENT = re.compile(rb"([A-Za-z_][A-Za-z_0-9]*)(?:\[([0-9]+)\])?")
+
+
+class Fault(Exception):
+    """What is wrong with a line."""
+
+
+def is_name(word):
+    return bool(NAME.fullmatch(word)) and len(word) <= NAME_LIMIT and word.decode() not in KEYWORDS
+
+
+def is_integer(word):
+    return bool(re.fullmatch(rb"-?[0-9]+", word))
+
+
+def integer(word):
+    """The value of digits behind a sign or none, however many they are: one that is too long to matter is cut."""
+    digits = word.lstrip(b"-").lstrip(b"0") or b"0"
+    found = int(digits[:20]) if len(digits) <= 20 else 10**20
+    return -found if word.startswith(b"-") else found
+
+
+def is_number(word):
+    return bool(re.fullmatch(rb"[0-9]+", word))
+
+
+def words_of(line):
+    """Words and signs; blanks within a line are spaces and tabs."""
+    return re.findall(rb"[(),]|[^ \t(),]+", line)
+
+
+def want(holds):
+    if not holds:
+        raise Fault("BadLine")
+
+
+def start(words):
+    """A component's name and its arguments."""
+    want(len(words) >= 4 and is_name(words[1]) and words[2] == b"(" and words[-1] == b")")
+    inner = words[3:-1]
+    want(not inner or len(inner) % 2 == 1)
+    want(all(is_integer(word) if at % 2 == 0 else word == b"," for at, word in enumerate(inner)))
+    args = [integer(word) for word in inner[::2]]
+    if any(not LEAST <= arg <= GREATEST for arg in args):
+        raise Fault("NumberTooBig")
+    return words[1].decode(), args
+
+
+def path_indexes(path):
+    """The indexes of a path's segments."""
+    found = [SEGMENT.fullmatch(segment) for segment in path.split(b".")]
+    want(all(segment and is_name(segment[1]) for segment in found))
+    return [segment[2] for segment in found if segment[2] is not None]
+
+
+def make(words):
+    want(len(words) >= 6 and is_number(words[1]) and words[3].decode("latin-1") in KINDS and words[4] == b"(")
+    indexes = path_indexes(words[2])
+    arg, rest = (b"", words[5:]) if words[5] == b")" else (words[5], words[6:])
+    want(rest[:1] == [b")"] and (arg == b"" or is_number(arg)))
+    before = rest[1:]
+    want(not before or len(before) == 2 and before[0] == b"from" and is_number(before[1]))
+    numbers = [integer(word) for word in [words[1]] + indexes + ([arg] if arg else []) + before[1:]]
+    if any(number > NUMBER_LIMIT for number in numbers):
+        raise Fault("NumberTooBig")
+    return "make", integer(words[1]), words[2], words[3].decode(), b"%d" % integer(arg) if arg else b"", integer(before[1]) if before else None
+
+
+def event(words):
+    name = words[0].decode("latin-1")
+    if name == "make":
+        return make(words)
+    want(name in COUNTS and len(words) == 1 + COUNTS[name] and all(is_number(word) for word in words[1:]))
+    numbers = [integer(word) for word in words[1:]]
+    if any(number > NUMBER_LIMIT for number in numbers):
+        raise Fault("NumberTooBig")
+    return (name,) + tuple(numbers)
+
+
+def parse(text):
+    """A start and its events, or the line that refuses the file, as (start, events, fault)."""
+    begun, events = None, []
+    for number, line in enumerate(text.split(b"\n"), 1):
+        line = line.strip(b" \t\r")
+        if line == b"" or line.startswith(b"#"):
+            continue
+        words = words_of(line)
+        try:
+            made = start(words) if words[0] == b"start" else event(words)
+            if (words[0] == b"start") != (begun is None):
+                raise Fault("Order")
+        except Fault as fault:
+            return None, [], "%s %d" % (fault, number)
+        if begun is None:
+            begun = made
+        else:
+            events.append(made)
+    return begun, events, "NoStart" if begun is None else None
