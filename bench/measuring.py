@@ -1,6 +1,7 @@
-"""How the scripts of this folder measure: the best wall time of a few runs of the whole program, start-up included, and the
-peak of its resident memory, which is never less than that of the script itself, some 20 MiB."""
+"""How the scripts of this folder measure: the least processor time (user and system) of a few runs of the whole program, start-up included, and the
+peak of its resident memory, which is never less than some 12 MiB, those of the script itself. Other work on the machine shows less in processor time than in wall time."""
 import os
+import statistics
 import subprocess
 import sys
 import tempfile
@@ -11,21 +12,30 @@ TRIES = 3
 
 
 def measured(program, folder, words, files, status):
-    """The best wall time in seconds of a few runs, and the peak resident bytes of the last."""
+    """The least processor time in seconds of a few runs, and the peak resident bytes of the last."""
     for name, text in files.items():
         with open(os.path.join(folder, name), "w") as file:
             file.write(text)
-    best = None
-    for _ in range(TRIES):
-        start = time.monotonic()
-        child = subprocess.Popen([program] + words, cwd=folder, stdout=subprocess.DEVNULL)
-        _, ended, usage = os.wait4(child.pid, 0)
-        child.returncode = os.waitstatus_to_exitcode(ended)
-        seconds = time.monotonic() - start
-        if child.returncode != status:
-            sys.exit("%s: the program ended with status %d in place of %d: %s" % (sys.argv[0], child.returncode, status, " ".join(words)))
-        best = seconds if best is None else min(best, seconds)
-    return best, usage.ru_maxrss * 1024
+    runs = [ran(program, folder, words, status) for _ in range(TRIES)]
+    return min(seconds for seconds, _, _ in runs), runs[-1][2]
+
+
+def ran(program, folder, words, status):
+    """The processor time and the wall time of a run in seconds, and its peak resident bytes."""
+    start = time.monotonic()
+    child = subprocess.Popen([program] + words, cwd=folder, stdout=subprocess.DEVNULL)
+    _, ended, usage = os.wait4(child.pid, 0)
+    child.returncode = os.waitstatus_to_exitcode(ended)
+    wall = time.monotonic() - start
+    if child.returncode != status:
+        sys.exit("%s: the program ended with status %d in place of %d: %s" % (sys.argv[0], child.returncode, status, " ".join(words)))
+    return usage.ru_utime + usage.ru_stime, wall, usage.ru_maxrss * 1024
+
+
+def medians(program, folder, words, count):
+    """The medians of the processor time and of the wall time of so many runs, in seconds."""
+    runs = [ran(program, folder, words, 0) for _ in range(count)]
+    return statistics.median(run[0] for run in runs), statistics.median(run[1] for run in runs)
 
 
 def table(program, folder, title, sizes, make, status=0):
