@@ -12,8 +12,8 @@ use Rattle.config_graph.specs.Graph.{Configuration, IsGraph, index_of}
 use Rattle.config_graph.specs.contracts.kind.KindPartialEq as kind_eq
 use Rattle.config_graph.specs.declared.kind.Kind.{Kind}
 use Rattle.config_graph.specs.declared.node.Node.{Node}
-use Rattle.change_plan.specs.Moves.{IsFit, IsGoneAt, IsOfOneKind, IsPathGone, IsShift, IsShifts, Leads, MayMove, MayMoveAll, MovesFrom, MovesTo}
-use Rattle.change_plan.specs.Noted.{GoesOn, IsNoted}
+use Rattle.change_plan.specs.Moves.{IsFit, IsGoneAt, IsOfOneKind, IsPathGone, IsShift, IsShifts, MoveLeads, MayMove, MayMoveAll, MovesFrom, MovesTo}
+use Rattle.change_plan.specs.Noted.{IsMovedFrom, IsNoted}
 use Rattle.change_plan.specs.Refusals.{FirstFault, KindsDifferIn, MoveFault}
 use Rattle.change_plan.specs.declared.error.PlanError.{PlanError}
 use Rattle.change_plan.specs.declared.error.PlanError.TheVariants.{NoMemory}
@@ -57,7 +57,7 @@ found_not_gone g h graph path i j n found here there (k, lost) =
 kind_decides : (a b : Kind) → Decides ((kind_eq.TheImpl.eq-value).it a b) (a ≡ b)
 kind_decides a b = search (comparing, rules)
 
-module _ (old new : Configuration) (m : Move) (i j : ℕ) (leads : Leads old new m i j) (a b : Node) (at_a : slice_get old.nodes i ≡ Some a) (at_b : slice_get new.nodes j ≡ Some b) (same : Bool) (same_is : same ≡ (kind_eq.TheImpl.eq-value).it a.kind b.kind) where
+module _ (old new : Configuration) (m : Move) (i j : ℕ) (leads : MoveLeads old new m i j) (a b : Node) (at_a : slice_get old.nodes i ≡ Some a) (at_b : slice_get new.nodes j ≡ Some b) (same : Bool) (same_is : same ≡ (kind_eq.TheImpl.eq-value).it a.kind b.kind) where
   kind_of_source : leads.removed.node.kind ≡ a.kind
   kind_of_source = ap (λ (n : Node). n.kind) (one_node old.nodes i leads.removed.node a leads.removed.here at_a)
 
@@ -81,7 +81,7 @@ module _ (old new : Configuration) (m : Move) (i j : ℕ) (leads : Leads old new
   }
 
 -- two paths by which nodes were found, as the move's
-pub leads_by : (old new : Configuration) (m : Move) (p q : List ℕ) (i j : ℕ) → p ≡ m.from → q ≡ m.to → IsGoneAt old new p i → IsGoneAt new old q j → Leads old new m i j
+pub leads_by : (old new : Configuration) (m : Move) (p q : List ℕ) (i j : ℕ) → p ≡ m.from → q ≡ m.to → IsGoneAt old new p i → IsGoneAt new old q j → MoveLeads old new m i j
 leads_by old new m p q i j from to removed created = record {
   removed = subst (λ x. IsGoneAt old new x i) from removed;
   created = subst (λ x. IsGoneAt new old x j) to created;
@@ -89,30 +89,30 @@ leads_by old new m p q i j from to removed created = record {
 
 -- the shifts of one move more
 module _ (old new : Configuration) (before : List Move) (m : Move) (s : Shift) where
-  pub IsShift_more : IsShift old new (before ++ m ∷ []) s ↔ (IsShift old new before s ⊎ Leads old new m s.old s.new)
+  pub IsShift_more : IsShift old new (before ++ m ∷ []) s ↔ (IsShift old new before s ⊎ MoveLeads old new m s.old s.new)
   IsShift_more = (to, from)
     where
-      to : IsShift old new (before ++ m ∷ []) s → IsShift old new before s ⊎ Leads old new m s.old s.new
+      to : IsShift old new (before ++ m ∷ []) s → IsShift old new before s ⊎ MoveLeads old new m s.old s.new
       to h =
           elim (Contains-push_cases before m h.move h.there) [
             | inl early ↦ inl (record { move = h.move; there = early; leads = h.leads })
-            | inr same ↦ inr (subst (λ n. Leads old new n s.old s.new) (sym same) h.leads)
+            | inr same ↦ inr (subst (λ n. MoveLeads old new n s.old s.new) (sym same) h.leads)
           ]
 
-      from : IsShift old new before s ⊎ Leads old new m s.old s.new → IsShift old new (before ++ m ∷ []) s
+      from : IsShift old new before s ⊎ MoveLeads old new m s.old s.new → IsShift old new (before ++ m ∷ []) s
       from (inl h) = record { move = h.move; there = Contains-append_left before (m ∷ []) h.move h.there; leads = h.leads }
       from (inr h) = record { move = m; there = Contains-push before m; leads = h }
 
-module _ (old new : Configuration) (old_graph : IsGraph old) (new_graph : IsGraph new) (before : List Move) (sources : List Bool) (targets : List (Option ℕ)) (noted : IsNoted old new before sources targets) (m : Move) (i j : ℕ) (leads : Leads old new m i j) where
+module _ (old new : Configuration) (old_graph : IsGraph old) (new_graph : IsGraph new) (before : List Move) (sources : List Bool) (targets : List (Option ℕ)) (noted : IsNoted old new before sources targets) (m : Move) (i j : ℕ) (leads : MoveLeads old new m i j) where
   -- an earlier move from the same path goes from the same node
-  from_shift : MovesFrom before m.from → GoesOn old new before i
+  from_shift : MovesFrom before m.from → IsMovedFrom old new before i
   from_shift (k, b, low, at, same) =
       let there : Contains before b = (k, low, at) in
       let fit = All-contains (IsFit old new) before b noted.fit there in
       let place : fit.source ≡ i = one_gone old new old_graph m.from fit.source i (subst (λ p. IsGoneAt old new p fit.source) same fit.leads.removed) leads.removed in
-      (fit.target, record { move = b; there = there; leads = subst (λ x. Leads old new b x fit.target) place fit.leads })
+      (fit.target, record { move = b; there = there; leads = subst (λ x. MoveLeads old new b x fit.target) place fit.leads })
 
-  shift_from : GoesOn old new before i → MovesFrom before m.from
+  shift_from : IsMovedFrom old new before i → MovesFrom before m.from
   shift_from (k, shift) =
       let b = shift.move in
       (shift.there.0, b, shift.there.1, shift.there.2, one_name old new i b.from m.from shift.leads.removed leads.removed)
@@ -122,7 +122,7 @@ module _ (old new : Configuration) (old_graph : IsGraph old) (new_graph : IsGrap
       let there : Contains before b = (k, low, at) in
       let fit = All-contains (IsFit old new) before b noted.fit there in
       let place : fit.target ≡ j = one_gone new old new_graph m.to fit.target j (subst (λ p. IsGoneAt new old p fit.target) same fit.leads.created) leads.created in
-      (fit.source, record { move = b; there = there; leads = subst (Leads old new b fit.source) place fit.leads })
+      (fit.source, record { move = b; there = there; leads = subst (MoveLeads old new b fit.source) place fit.leads })
 
   shift_to : (k : ℕ) → IsShift old new before (record { old = k; new = j }) → MovesTo before m.to
   shift_to k shift =
@@ -160,19 +160,19 @@ module _ (old new : Configuration) (old_graph : IsGraph old) (new_graph : IsGrap
       j_low : j < length targets
       j_low = omega (arith, slice_get_within new.nodes j leads.created.node leads.created.here, noted.targets_length)
 
-      more : (x y : ℕ) → IsShift old new (before ++ m ∷ []) (record { old = x; new = y }) ↔ (IsShift old new before (record { old = x; new = y }) ⊎ Leads old new m x y)
+      more : (x y : ℕ) → IsShift old new (before ++ m ∷ []) (record { old = x; new = y }) ↔ (IsShift old new before (record { old = x; new = y }) ⊎ MoveLeads old new m x y)
       more x y = IsShift_more old new before m (record { old = x; new = y })
 
-      source_to : (x : ℕ) → get_or (set sources i true) x false ≡ true → GoesOn old new (before ++ m ∷ []) x
+      source_to : (x : ℕ) → get_or (set sources i true) x false ≡ true → IsMovedFrom old new (before ++ m ∷ []) x
       source_to x mark =
           elim (cases_eq x i) [
-            | inl same ↦ (j, (more x j).1 (inr (subst (λ y. Leads old new m y j) (sym same) leads)))
+            | inl same ↦ (j, (more x j).1 (inr (subst (λ y. MoveLeads old new m y j) (sym same) leads)))
             | inr apart ↦
                 let earlier = (noted.sources_are x).0 (sym (get_or-set_other sources i x true false apart) ∙ mark) in
                 (earlier.0, (more x earlier.0).1 (inl earlier.1))
           ]
 
-      source_from : (x : ℕ) → GoesOn old new (before ++ m ∷ []) x → get_or (set sources i true) x false ≡ true
+      source_from : (x : ℕ) → IsMovedFrom old new (before ++ m ∷ []) x → get_or (set sources i true) x false ≡ true
       source_from x (y, shift) =
           elim (cases_eq x i) [
             | inl same ↦ get_or-set_at sources i x true false same i_low
@@ -189,7 +189,7 @@ module _ (old new : Configuration) (old_graph : IsGraph old) (new_graph : IsGrap
             | inl same ↦
                 let both : Some i ≡ Some x = sym (get_or-set_at targets j y (Some i) None same j_low) ∙ found in
                 let source : i ≡ x = cc in
-                (more x y).1 (inr (subst (λ z. Leads old new m x z) (sym same) (subst (λ z. Leads old new m z j) source leads)))
+                (more x y).1 (inr (subst (λ z. MoveLeads old new m x z) (sym same) (subst (λ z. MoveLeads old new m z j) source leads)))
             | inr apart ↦
                 (more x y).1 (inl ((noted.targets_are x y).0 (sym (get_or-set_other targets j y (Some i) None apart) ∙ found)))
           ]

@@ -17,7 +17,7 @@ abbrev pub IsPathGone : Configuration → Configuration → List ℕ → Type 0
 IsPathGone g h path = (i : ℕ) × IsGoneAt g h path i
 
 -- a move leads from node i, which is removed, to node j, which is created
-pub record Leads (old new : Configuration) (m : Move) (i j : ℕ) : Type 0 where
+pub record MoveLeads (old new : Configuration) (m : Move) (i j : ℕ) : Type 0 where
   pub removed : IsGoneAt old new m.from i
   pub created : IsGoneAt new old m.to j
 
@@ -25,7 +25,7 @@ pub record Leads (old new : Configuration) (m : Move) (i j : ℕ) : Type 0 where
 pub record IsFit (old new : Configuration) (m : Move) : Type 0 where
   pub source : ℕ
   pub target : ℕ
-  pub leads : Leads old new m source target
+  pub leads : MoveLeads old new m source target
   pub same_kind : leads.removed.node.kind ≡ leads.created.node.kind
 
 -- one of these moves has this source, or this target
@@ -50,7 +50,7 @@ MayMoveAll old new moves count =
 pub record IsShift (old new : Configuration) (moves : List Move) (s : Shift) : Type 0 where
   pub move : Move
   pub there : Contains moves move
-  pub leads : Leads old new move s.old s.new
+  pub leads : MoveLeads old new move s.old s.new
 
 -- these are the moves, in the order of the nodes that are created
 pub record IsShifts (old new : Configuration) (moves : List Move) (shifts : List Shift) : Type 0 where

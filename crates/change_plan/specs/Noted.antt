@@ -7,12 +7,12 @@ use Rattle.change_plan.specs.Moves.{IsFit, IsShift}
 use Rattle.change_plan.specs.declared.plan_data.Move.{Move}
 
 -- the state of node i goes on in one of these moves
-abbrev pub GoesOn : Configuration → Configuration → List Move → ℕ → Type 0
-GoesOn old new moves i = (j : ℕ) × IsShift old new moves (record { old = i; new = j })
+abbrev pub IsMovedFrom : Configuration → Configuration → List Move → ℕ → Type 0
+IsMovedFrom old new moves i = (j : ℕ) × IsShift old new moves (record { old = i; new = j })
 
 pub record IsNoted (old new : Configuration) (moves : List Move) (sources : List Bool) (targets : List (Option ℕ)) : Type 0 where
   pub fit : All (IsFit old new) moves
   pub sources_length : length sources ≡ length old.nodes
   pub targets_length : length targets ≡ length new.nodes
-  pub sources_are : (i : ℕ) → (slice_index_or sources i false ≡ true) ↔ GoesOn old new moves i
+  pub sources_are : (i : ℕ) → (slice_index_or sources i false ≡ true) ↔ IsMovedFrom old new moves i
   pub targets_are : (i j : ℕ) → (slice_index_or targets j None ≡ Some i) ↔ IsShift old new moves (record { old = i; new = j })

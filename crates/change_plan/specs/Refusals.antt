@@ -5,7 +5,7 @@ use Rattle.config_graph.specs.Graph.{Configuration, requires_at}
 use Rattle.config_graph.specs.declared.TheConstants.{MAX_NODES, MAX_PORTS}
 use Rattle.config_graph.specs.declared.node.Made.{Made}
 use Rattle.change_plan.specs.Differences.{GoneNodes}
-use Rattle.change_plan.specs.Moves.{IsFit, IsPathGone, Leads, MayMoveAll, MovesFrom, MovesTo}
+use Rattle.change_plan.specs.Moves.{IsFit, IsPathGone, MoveLeads, MayMoveAll, MovesFrom, MovesTo}
 use Rattle.change_plan.specs.declared.error.PlanError.{PlanError}
 use Rattle.change_plan.specs.declared.error.PlanError.TheVariants.{NotRemoved, NotCreated, KindsDiffer, MovedTwice, NodesFull, PortsFull, NoMemory}
 use Rattle.change_plan.specs.declared.plan_data.Move.{Move}
@@ -14,7 +14,7 @@ use Rattle.change_plan.specs.declared.plan_data.Move.{Move}
 pub record KindsDifferIn (old new : Configuration) (m : Move) : Type 0 where
   pub source : ℕ
   pub target : ℕ
-  pub leads : Leads old new m source target
+  pub leads : MoveLeads old new m source target
   pub differ : ¬ (leads.removed.node.kind ≡ leads.created.node.kind)
 
 -- a path of the move that a move before it has at the same end; the source comes first

@@ -7,7 +7,7 @@ ghost use Rattle.config_graph.specs.Graph.{IsGraph};
 ghost use Rattle.change_plan.specs.declared.error.PlanError.TheVariants.{NoMemory};
 ghost use Rattle.change_plan.specs.declared.plan_data.Move.{Move};
 ghost use Rattle.change_plan.specs.declared.plan_data.Shift.{Shift};
-ghost use Rattle.change_plan.specs.Moves.{IsFit, IsGoneAt, IsPathGone, IsShifts, Leads, MayMove, MayMoveAll};
+ghost use Rattle.change_plan.specs.Moves.{IsFit, IsGoneAt, IsPathGone, IsShifts, MoveLeads, MayMove, MayMoveAll};
 ghost use Rattle.change_plan.specs.Noted.{IsNoted};
 ghost use Rattle.change_plan.specs.Refusals.{FirstFault, MoveFault};
 
@@ -86,7 +86,7 @@ fn take_move(old: &Graph, new: &Graph, moved: &Move, taken: &mut Taken) -> Resul
 
 /// A move by indexes.
 fn shift_of(old: &Graph, new: &Graph, moved: &Move) -> Result<Shift, PlanError>
-    ensures leads { IfOk result (λ s. Leads old.now new.now moved.now s.old s.new) }
+    ensures leads { IfOk result (λ s. MoveLeads old.now new.now moved.now s.old s.new) }
     ensures old_within { IfOk result (λ s. s.old < length old.now.nodes) }
     ensures new_within { IfOk result (λ s. s.new < length new.now.nodes) }
     ensures fit { OnOk result (IsFit old.now new.now moved.now) }
