@@ -14,7 +14,7 @@ use Rattle.config_graph.specs.declared.kind.Kind.{Kind}
 use Rattle.config_graph.specs.declared.node.Node.{Node}
 use Rattle.change_plan.specs.Moves.{IsFit, IsGoneAt, IsOfOneKind, IsPathGone, IsShift, IsShifts, MoveLeads, MayMove, MayMoveAll, MovesFrom, MovesTo}
 use Rattle.change_plan.specs.Noted.{IsMovedFrom, IsNoted}
-use Rattle.change_plan.specs.Refusals.{FirstFault, KindsDifferIn, MoveFault}
+use Rattle.change_plan.specs.Refusals.{FirstMoveFault, KindsDifferIn, MoveFault}
 use Rattle.change_plan.specs.declared.error.PlanError.{PlanError}
 use Rattle.change_plan.specs.declared.error.PlanError.TheVariants.{NoMemory}
 use Rattle.change_plan.specs.declared.plan_data.Move.{Move}
@@ -299,7 +299,7 @@ may_move_more old new moves k m at so_far may j n low at_j =
     ]
 
 -- a fault of a move whose forerunners may be made is the first
-pub first_fault : (old new : Configuration) (moves : List Move) (k : ℕ) (m : Move) (e : PlanError) → slice_get moves k ≡ Some m → MayMoveAll old new moves k → (e ≡ NoMemory) ⊎ MoveFault old new (take k moves) m e → (e ≡ NoMemory) ⊎ FirstFault old new moves e
+pub first_fault : (old new : Configuration) (moves : List Move) (k : ℕ) (m : Move) (e : PlanError) → slice_get moves k ≡ Some m → MayMoveAll old new moves k → (e ≡ NoMemory) ⊎ MoveFault old new (take k moves) m e → (e ≡ NoMemory) ⊎ FirstMoveFault old new moves e
 first_fault old new moves k m e at so_far (inl memory) = inl memory
 first_fault old new moves k m e at so_far (inr fault) =
     inr (record { count = k; move = m; at = at; before = so_far; fault = fault })

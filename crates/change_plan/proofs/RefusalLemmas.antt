@@ -9,7 +9,7 @@ use Rattle.config_graph.specs.declared.node.Made.{Made}
 use Rattle.config_graph.specs.declared.node.Node.{Node}
 use Rattle.change_plan.specs.Differences.{GoneNodes, IsGone}
 use Rattle.change_plan.specs.Moves.{IsFit, MayMove, MayMoveAll}
-use Rattle.change_plan.specs.Refusals.{CanPlan, FirstFault, IsRefusal, IsWanted, KindsDifferIn, MoveFault, Repeats, RoomFault}
+use Rattle.change_plan.specs.Refusals.{CanPlan, FirstMoveFault, IsRefusal, IsWanted, KindsDifferIn, MoveFault, Repeats, RoomFault}
 use Rattle.change_plan.specs.declared.error.PlanError.{PlanError}
 use Rattle.change_plan.specs.declared.error.PlanError.TheVariants.{NotRemoved, NotCreated, KindsDiffer, MovedTwice, NodesFull, PortsFull, NoMemory}
 use Rattle.change_plan.specs.declared.plan_data.Move.{Move}
@@ -73,10 +73,10 @@ module _ (old new : Configuration) (old_graph : IsGraph old) (new_graph : IsGrap
     same_fault d NoMemory fault other = absurd other
 
   module _ (moves : List Move) where
-    not_earlier : (d e : PlanError) (a : FirstFault old new moves d) (b : FirstFault old new moves e) → ¬ (a.count < b.count)
+    not_earlier : (d e : PlanError) (a : FirstMoveFault old new moves d) (b : FirstMoveFault old new moves e) → ¬ (a.count < b.count)
     not_earlier d e a b low = no_fault (take a.count moves) a.move d (b.before a.count a.move low a.at) a.fault
 
-    one_first : (d e : PlanError) → FirstFault old new moves d → FirstFault old new moves e → d ≡ e
+    one_first : (d e : PlanError) → FirstMoveFault old new moves d → FirstMoveFault old new moves e → d ≡ e
     one_first d e a b =
         elim (cases_eq a.count b.count) [
           | inl same ↦
@@ -91,7 +91,7 @@ module _ (old new : Configuration) (old_graph : IsGraph old) (new_graph : IsGrap
               ]
         ]
 
-    no_first : (e : PlanError) → MayMoveAll old new moves (length moves) → ¬ FirstFault old new moves e
+    no_first : (e : PlanError) → MayMoveAll old new moves (length moves) → ¬ FirstMoveFault old new moves e
     no_first e may first =
         no_fault (take first.count moves) first.move e (may first.count first.move (slice_get_within moves first.count first.move first.at) first.at) first.fault
 
@@ -152,7 +152,7 @@ module _ (old new : Configuration) (old_graph : IsGraph old) (new_graph : IsGrap
   accepted_but d (inr told) can = absurd (no_refusal d can told)
 
 -- a move's fault, or too much that is created, is a refusal
-pub move_refused : (old new : Configuration) (moves : List Move) (made : Made) (d : PlanError) → (d ≡ NoMemory) ⊎ FirstFault old new moves d → (d ≡ NoMemory) ⊎ IsRefusal old new moves made d
+pub move_refused : (old new : Configuration) (moves : List Move) (made : Made) (d : PlanError) → (d ≡ NoMemory) ⊎ FirstMoveFault old new moves d → (d ≡ NoMemory) ⊎ IsRefusal old new moves made d
 move_refused old new moves made d (inl memory) = inl memory
 move_refused old new moves made d (inr first) = inr (inl first)
 

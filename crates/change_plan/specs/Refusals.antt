@@ -34,7 +34,7 @@ MoveFault old new before m (PortsFull made wanted) = ⊥
 MoveFault old new before m NoMemory = ⊥
 
 -- the first move that can't be made, with its fault
-pub record FirstFault (old new : Configuration) (moves : List Move) (e : PlanError) : Type 0 where
+pub record FirstMoveFault (old new : Configuration) (moves : List Move) (e : PlanError) : Type 0 where
   pub count : ℕ
   pub move : Move
   pub at : slice_get moves count ≡ Some move
@@ -64,7 +64,7 @@ RoomFault made nodes ports e = ⊥
 -- why these can't be planned
 abbrev pub IsRefusal : Configuration → Configuration → List Move → Made → PlanError → Type 0
 IsRefusal old new moves made e =
-    FirstFault old new moves e ⊎ (MayMoveAll old new moves (length moves) × ((nodes : ℕ) × (ports : ℕ) × IsWanted old new nodes ports × RoomFault made nodes ports e))
+    FirstMoveFault old new moves e ⊎ (MayMoveAll old new moves (length moves) × ((nodes : ℕ) × (ports : ℕ) × IsWanted old new nodes ports × RoomFault made nodes ports e))
 
 -- nothing stands against a plan
 pub record CanPlan (old new : Configuration) (moves : List Move) (made : Made) : Type 0 where

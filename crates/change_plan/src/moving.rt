@@ -9,7 +9,7 @@ ghost use Rattle.change_plan.specs.declared.plan_data.Move.{Move};
 ghost use Rattle.change_plan.specs.declared.plan_data.Shift.{Shift};
 ghost use Rattle.change_plan.specs.Moves.{IsFit, IsGoneAt, IsPathGone, IsShifts, MoveLeads, MayMove, MayMoveAll};
 ghost use Rattle.change_plan.specs.Noted.{IsNoted};
-ghost use Rattle.change_plan.specs.Refusals.{FirstFault, MoveFault};
+ghost use Rattle.change_plan.specs.Refusals.{FirstMoveFault, MoveFault};
 
 use crate::differences::twin_of;
 use crate::{Move, PlanError, Shift};
@@ -34,7 +34,7 @@ pub(crate) fn list_shifts(
     ensures new { IsGraph new.now }
     ensures shifts { IfOk result (λ shifts. IsShifts old.now new.now moves.now shifts.items) }
     ensures may_move { IfOk result (λ _. MayMoveAll old.now new.now moves.now (length moves.now)) }
-    ensures refused { IfErr result (λ e. (e ≡ NoMemory) ⊎ FirstFault old.now new.now moves.now e) }
+    ensures refused { IfErr result (λ e. (e ≡ NoMemory) ⊎ FirstMoveFault old.now new.now moves.now e) }
 {
     let mut taken = take_none(alloc, old, new)?;
     for moved in moves {
