@@ -16,7 +16,6 @@ use Rattle.darwin_parser.specs.Tree.{Tree}
 use Rattle.elaborator.specs.Instances.{Instance}
 use Rattle.elaborator.specs.Graph.{IsLink}
 use Rattle.elaborator.specs.Links.{link_to, IsTarget, BeginsBefore, AreFirstLinks, AreLinks}
-use Rattle.elaborator.proofs.Lists.{Contains-nil}
 
 -- a link as that of its port
 as_target : (l : Link) (from require : ℕ) → l.from ≡ from → l.require ≡ require → l ≡ link_to from require (record { node = l.to; provide = l.provide })
@@ -119,17 +118,6 @@ first_links-node tree top nodes from require links all so_far = record {
           | inr other ↦ inl (omega (arith, before, other.1))
         ]
     later l is (inr none) = absurd (omega (arith, none.1))
-
-pub first_links-none : (tree : Tree) (top : Instance) (nodes : List Node) → AreFirstLinks tree top nodes 0 0 []
-first_links-none tree top nodes = record {
-  sound = λ l there. absurd (Contains-nil l there);
-  complete = λ l is before. absurd (no_link l before);
-  one_a_port = λ i j d lt within. absurd (omega (arith, within));
-}
-  where
-    no_link : (l : Link) → BeginsBefore 0 0 l → ⊥
-    no_link l (inl before) = omega (arith, before)
-    no_link l (inr same) = omega (arith, same.1)
 
 -- all nodes
 pub links-all :

@@ -16,7 +16,8 @@ use Rattle.darwin_types.specs.Scope.{array_named, entries_of, entries_of_stmt, M
 use Rattle.darwin_walk.specs.Value.{Value, integer, out_of_range, zero_divisor, Variable, Env, parameters, value}
 use Rattle.darwin_walk.specs.Reached.{Reached, valued, turn, made, bound, range, holds, with_variable, reached_by, reached_in, port_size, array_size, reached}
 use Rattle.darwin_walk.specs.Instance.{Child, integers, values, element_arguments, element_child, children_of, children}
-use Rattle.elaborator.proofs.Lists.{Contains-here, Contains-one, Contains-nil, Contains-cons_cases, Contains-from_map, Contains-from_flat_map, option_map_some}
+use Rattle.darwin_types.proofs.Lists.{Contains-here, Contains-one, Contains-nil, Contains-cons_cases, Contains-from_map, Contains-from_flat_map}
+use Rattle.elaborator.proofs.Lists.{option_map_some}
 
 -- ---- an entry that is reached stands in the body
 

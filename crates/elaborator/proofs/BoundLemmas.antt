@@ -14,7 +14,8 @@ use Rattle.elaborator.specs.Paths.{within}
 use Rattle.elaborator.specs.Instances.{Instance, made_in}
 use Rattle.elaborator.specs.Bindings.{Port, Named, Pair, instance_at, named, port_of, is_indexed, is_form, may_lead, pair_of, bindings_in, pairs_in}
 use Rattle.elaborator.specs.Expanded.{Expanded, Made, Numbered, NumberedIn, IsExpanded}
-use Rattle.elaborator.proofs.Lists.{Contains-one, Contains-nil, Contains-from_flat_map, find-some, made_of_found}
+use Rattle.darwin_types.proofs.Lists.{Contains-one, Contains-nil, Contains-from_flat_map}
+use Rattle.elaborator.proofs.Lists.{find-some, made_of_found}
 use Rattle.elaborator.proofs.PairLemmas.{pair-forward, pair-backward, pair-of_no_form, pair-no_left, pair-no_right}
 
 -- ---- the parts of a pair
@@ -122,10 +123,6 @@ form x y leads = form_of x.is_inner x.decl.side y.is_inner y.decl.side (last_of_
 pub data Owner (e : Expanded) (n : ℕ) (x : Port) : Type 0 where
   within_it : (m : ℕ) (j : Instance) → NumberedIn e n m j → x.side ≡ Require → x.path ≡ j.path → x.depth ≡ j.depth → Owner e n x
   its_own : (i : Instance) → Numbered e n i → x.side ≡ Provide → x.path ≡ i.path → x.depth ≡ i.depth → Owner e n x
-
-side_number : Side → ℕ
-side_number Provide = 0
-side_number Require = 1
 
 one_owner : (e : Expanded) → IsExpanded e → (m n : ℕ) (x : Port) → Owner e m x → Owner e n x → m ≡ n
 one_owner e expanded m n x (within_it k i at side path depth) (within_it l j at' side' path' depth') =

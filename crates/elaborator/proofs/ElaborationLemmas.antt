@@ -28,7 +28,7 @@ use Rattle.elaborator.specs.Built.BuildFault.{in_bindings, in_graph}
 use Rattle.elaborator.specs.Elaboration.{HasNoFault, IsGraphOf}
 use Rattle.elaborator.specs.declared.error.ElabError.{ElabError}
 use Rattle.elaborator.specs.declared.error.ElabError.TheVariants as error
-use Rattle.elaborator.proofs.Lists.{Contains-nil, Contains-one, Contains-flat_map, Contains-from_flat_map}
+use Rattle.darwin_types.proofs.Lists.{Contains-nil, Contains-one, Contains-flat_map, Contains-from_flat_map}
 use Rattle.elaborator.proofs.SingleLemmas.{IsBoundOnce}
 use Rattle.elaborator.proofs.UniqueLemmas.{one_graph}
 

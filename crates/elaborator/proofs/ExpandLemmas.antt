@@ -17,7 +17,7 @@ use Rattle.elaborator.specs.Instances.{Instance, made_in, paths_in, Inst, count_
 use Rattle.elaborator.specs.Faults.{own_faults, Twice}
 use Rattle.elaborator.specs.Expanded.{Made, Numbered, NumberedIn, IsExpanded, IsOf}
 use Rattle.elaborator.specs.Expansion.{made_of, instance_in, seen, number_at, IsKept, IsShown}
-use Rattle.elaborator.specs.Opening.{Names, Judges, IsNoted, IsFound}
+use Rattle.elaborator.specs.Opening.{NamesFault, Judges, IsNoted, IsFound}
 use Rattle.elaborator.specs.Index.{Answers}
 use Rattle.elaborator.specs.declared.opening.Found.{Found}
 use Rattle.elaborator.specs.Growth.{IsTop, GrowthFault, IsClear, IsWhole}
@@ -28,8 +28,9 @@ use Rattle.elaborator.specs.declared.growing.Growth.{Growth}
 use Rattle.elaborator.specs.declared.instance.Expansion.{Expansion}
 use Rattle.elaborator.specs.declared.error.ElabError.{ElabError}
 use Rattle.elaborator.specs.declared.error.ElabError.TheVariants as error
+use Rattle.darwin_types.proofs.Lists.{Contains-map, Contains-from_map}
 use Rattle.elaborator.proofs.NamingLemmas.{made_named}
-use Rattle.elaborator.proofs.Lists.{Contains-map, Contains-from_map, slice_get-set_cases, slice_get-set_same, slice_get-set_other}
+use Rattle.elaborator.proofs.Lists.{slice_get-set_cases, slice_get-set_same, slice_get-set_other}
 use Rattle.elaborator.proofs.WholeLemmas.{Contains-at}
 use Rattle.elaborator.proofs.Places.{slice_get-append_cases, slice_get-below, slice_get-before, slice_get-behind, slice_get-map_some, slice_get-map_at, twice_at}
 use Rattle.elaborator.proofs.GrowthLemmas.{AreApart, same_made, earlier_or_same, grown-top, grown-open, grown-sound, grown-complete, grown-distinct, once-made}
@@ -39,7 +40,7 @@ use Rattle.elaborator.proofs.SpreadLemmas.{total-within, spread-top, spread-open
 
 -- what is named in an instance of the elaboration is a fault
 pub named-fault :
-    (tree : Tree) (top i : Instance) (many : Type 0) (e : ElabError) → Inst tree top i → Names i.path (own_faults tree i) many e → (many → 65536 < total tree top)
+    (tree : Tree) (top i : Instance) (many : Type 0) (e : ElabError) → Inst tree top i → NamesFault i.path (own_faults tree i) many e → (many → 65536 < total tree top)
     → e ≢ error.NoMemory → GrowthFault tree top e
 named-fault tree top i many (error.OutOfRange p at) inst names more other =
     subst (λ q. GrowthFault tree top (error.OutOfRange q at)) (sym names.0) (out_of_range i at inst names.1)
@@ -58,9 +59,6 @@ named-fault tree top i many (error.Annotation _ _) inst names more other = absur
 named-fault tree top i many (error.TooDeep _) inst names more other = absurd names
 named-fault tree top i many (error.DependsCycle _) inst names more other = absurd names
 named-fault tree top i many (error.TopIsKind _) inst names more other = absurd names
-
-its_path : Instance → Path
-its_path i = i.path
 
 -- a path that an instance makes
 makes_path :

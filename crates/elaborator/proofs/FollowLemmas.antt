@@ -8,7 +8,7 @@ use Rattle.elaborator.specs.Chains.{target_of, end_of}
 use Rattle.elaborator.specs.Ports.{IsPort}
 use Rattle.elaborator.specs.Index.{IsIndex, all_pairs}
 use Rattle.elaborator.specs.declared.chains.PortId.{PortId}
-use Rattle.elaborator.proofs.Lists.{Contains-from_flat_map, Contains-flat_map}
+use Rattle.darwin_types.proofs.Lists.{Contains-from_flat_map, Contains-flat_map}
 use Rattle.elaborator.proofs.ChainLemmas.{end_of-last, end_of-source}
 use Rattle.elaborator.proofs.IndexLemmas.{port_functional, port_injective}
 use Rattle.elaborator.proofs.RankLemmas.{rank, rank_falls}
@@ -76,26 +76,6 @@ end_reached e top targets indexed (suc n) k x port =
         let w = bound_by e top targets indexed k t x is port in
         let end = rest t w.0 w.1 in
         record { port = end.port; is_port = end.is_port; leads = further w.0 w.2 end.port end.leads }
-
--- a chain ends within as many steps as its rank
-pub end_is_last :
-    (e : Expanded) (top : Instance) (targets : List (PortId × PortId)) → Indexed e top targets → (n : ℕ) (k : PortId) (x : Port) → IsPort e k x → rank x ≤ n
-    → target_of targets (end_of n targets k) ≡ None
-unfolding end_of
-end_is_last e top targets indexed zero k x port few = by_target (target_of targets k) refl
-  where
-    by_target : (o : Option PortId) → target_of targets k ≡ o → target_of targets k ≡ None
-    by_target None is = is
-    by_target (Some t) is = let w = bound_by e top targets indexed k t x is port in absurd (omega (arith, falls e top x w.0 w.2))
-end_is_last e top targets indexed (suc n) k x port few =
-    by_target (λ t y at below. end_is_last e top targets indexed n t y at below) (target_of targets k) refl
-  where
-    by_target :
-        ((t : PortId) (y : Port) → IsPort e t y → rank y ≤ n → target_of targets (end_of n targets t) ≡ None) → (o : Option PortId) → target_of targets k ≡ o
-        → target_of targets (option_map_or (end_of n targets) o k) ≡ None
-    by_target rest None is = is
-    by_target rest (Some t) is =
-        let w = bound_by e top targets indexed k t x is port in rest t w.0 w.1 (omega (arith, falls e top x w.0 w.2))
 
 -- where bindings lead to a port that is no source, the chain ends there
 pub end_found :

@@ -14,7 +14,7 @@ use Rattle.elaborator.specs.Index.{IsLawful, AreLawful, AreBefore, Clashes, Bind
 use Rattle.elaborator.specs.Index.BindingFault.{bound_twice}
 use Rattle.elaborator.specs.declared.error.ElabError.{ElabError}
 use Rattle.elaborator.specs.declared.error.ElabError.TheVariants as error
-use Rattle.elaborator.proofs.Lists.{Contains-map}
+use Rattle.darwin_types.proofs.Lists.{Contains-map}
 use Rattle.elaborator.proofs.BoundLemmas.{one_instance}
 
 pub map-take_more : {A B : Type 0} (f : A → B) (xs : List A) (k : ℕ) (x : A) → k < length xs → x ≡ get_or xs k x → map f (take (k + 1) xs) ≡ map f (take k xs) ++ f x ∷ []

@@ -18,7 +18,8 @@ use Rattle.elaborator.specs.Instances.Inst.{at_top, below}
 use Rattle.elaborator.specs.Faults.{Faults, Twice}
 use Rattle.elaborator.specs.Faults.Faults.{two_instances, two_apart}
 use Rattle.elaborator.specs.declared.error.ElabError.TheVariants as error
-use Rattle.elaborator.proofs.Lists.{Contains-here, Contains-one, Contains-flat_map, Contains-from_flat_map, Contains-from_filter_map, made_of_two}
+use Rattle.darwin_types.proofs.Lists.{Contains-here, Contains-one, Contains-flat_map, Contains-from_flat_map}
+use Rattle.elaborator.proofs.Lists.{Contains-from_filter_map, made_of_two}
 use Rattle.elaborator.proofs.WholeLemmas.{at_some_place}
 use Rattle.elaborator.proofs.Places.{twice_at, twice_there}
 use Rattle.elaborator.proofs.ChildLemmas.{depth-made}

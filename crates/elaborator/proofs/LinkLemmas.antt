@@ -1,5 +1,5 @@
 -- The links of an expansion: which port of a node a chain reaches.
-use Rattle.std.proofs.Common.{◌≡◌, ◌∙◌, ℕ, zero, suc, ◌<◌, true, false, List, Option, Some, None, length, get_or, refl, ap, sym, subst, arith}
+use Rattle.std.proofs.Common.{◌≡◌, ◌∙◌, ℕ, zero, suc, ◌<◌, false, List, Option, Some, None, length, get_or, refl, ap, sym, subst, arith}
 use Rattle.std.specs.List.{slice_get}
 use Rattle.std.specs.Option.{is_some, option_map}
 use Rattle.std.specs.Str.{bytes_eq}
@@ -119,9 +119,6 @@ not_provided-composite e n id are none t p = let w = provided_place e n id t are
 
 provided_plain : (e : Expanded) → IsExpanded e → (n : Nodes) (id : PortId) (t : Target) (p : Provides e n.nodes.items id t) → Plain e id p.instance Provide p.provision.name
 provided_plain e expanded n id t p = plain e expanded id id.instance p.instance Provide p.provision.name p.numbered p.is_port
-
-pub not_provided-indexed : (e : Expanded) → IsExpanded e → (n : Nodes) (id : PortId) → is_some id.index ≡ true → (t : Target) → ¬ Provides e n.nodes.items id t
-not_provided-indexed e expanded n id some t p = false≢true (sym (ap is_some (provided_plain e expanded n id t p).has_no_index) ∙ some)
 
 pub both_sides : Require ≡ Provide → ⊥
 both_sides same = cc

@@ -1,64 +1,14 @@
--- What lists contain, and what look-ups in them find.
-use Rattle.std.proofs.Common.{◌≡◌, ◌≢◌, ℕ, ◌≤◌, ◌<◌, zero, suc, Bool, true, false, cond, ltb, List, [], ◌∷◌, ◌++◌, Option, Some, None, length, map, set, position, refl, ap, sym, subst, ◌∙◌, arith, inl, inr, ◌⊎◌}
-use Rattle.std.specs.List.{Contains, find, prefix_len, position_or_len, slice_get, flat_map, filter_map, cons_option}
+-- What filtered lists contain, and what look-ups find.
+use Rattle.std.proofs.Common.{◌≡◌, ◌≢◌, ℕ, ◌≤◌, ◌<◌, zero, suc, Bool, true, false, cond, ltb, List, [], ◌∷◌, ◌++◌, Option, Some, None, length, set, position, refl, ap, sym, subst, ◌∙◌, arith, inl, inr, ◌⊎◌}
+use Rattle.std.specs.List.{Contains, find, position_or_len, slice_get, filter_map, cons_option}
 use Rattle.std.specs.Option.{option_map, option_and_then}
 use Rattle.std.proofs.lemmas.Bool.{false≢true}
 use Rattle.std.proofs.lemmas.Bool.Decides.{nat_tests}
-use Rattle.std.proofs.lemmas.List.{length-map}
 use Rattle.std.proofs.lemmas.List.Folds.{find_at}
 use Rattle.std.proofs.lemmas.Option.{none-some, same_Some, slice_get_past, cond_some}
-use Rattle.std.proofs.lemmas.List.Elements.{Contains-append_left, Contains-append_right, Contains-append_cases}
+use Rattle.darwin_types.proofs.Lists.{Contains-here, Contains-there, Contains-nil, Contains-cons_cases}
 
 -- ---- what a list contains
-
-pub Contains-here : {A : Type 0} (x : A) (xs : List A) → Contains (x ∷ xs) x
-Contains-here x xs = (0, omega arith, refl)
-
-pub Contains-there : {A : Type 0} (x y : A) (xs : List A) → Contains xs y → Contains (x ∷ xs) y
-Contains-there x y xs h = Contains-append_right (x ∷ []) xs y h
-
-pub Contains-one : {A : Type 0} (x y : A) → Contains (x ∷ []) y → y ≡ x
-Contains-one x y (zero, lt, is) = sym is
-Contains-one x y (suc k, lt, is) = absurd (omega arith)
-
-pub Contains-nil : {A : Type 0} (x : A) → Contains [] x → ⊥
-Contains-nil x h = omega (arith, h.1)
-
-pub Contains-cons_cases : {A : Type 0} (x : A) (xs : List A) (y : A) → Contains (x ∷ xs) y → (y ≡ x) ⊎ Contains xs y
-Contains-cons_cases x xs y h =
-    elim (Contains-append_cases (x ∷ []) xs y h) [ inl a ↦ inl (Contains-one x y a) | inr b ↦ inr b ]
-
-pub Contains-map : {A B : Type 0} (f : A → B) (xs : List A) (x : A) → Contains xs x → Contains (map f xs) (f x)
-Contains-map f [] x h = absurd (Contains-nil x h)
-Contains-map f (y ∷ xs) x h =
-    elim (Contains-cons_cases y xs x h) [
-      | inl e ↦ subst (λ z. Contains (f y ∷ map f xs) (f z)) (sym e) (Contains-here (f y) (map f xs))
-      | inr t ↦ Contains-there (f y) (f x) (map f xs) (Contains-map f xs x t)
-    ]
-
-pub Contains-from_map : {A B : Type 0} (f : A → B) (xs : List A) (y : B) → Contains (map f xs) y → (x : A) × Contains xs x × (y ≡ f x)
-Contains-from_map f [] y h = absurd (Contains-nil y h)
-Contains-from_map f (x ∷ xs) y h =
-    elim (Contains-cons_cases (f x) (map f xs) y h) [
-      | inl e ↦ (x, Contains-here x xs, e)
-      | inr t ↦ let w = Contains-from_map f xs y t in (w.0, Contains-there x w.0 xs w.1, w.2)
-    ]
-
-pub Contains-flat_map : {A B : Type 0} (f : A → List B) (xs : List A) (x : A) (y : B) → Contains xs x → Contains (f x) y → Contains (flat_map f xs) y
-Contains-flat_map f [] x y h g = absurd (Contains-nil x h)
-Contains-flat_map f (z ∷ xs) x y h g =
-    elim (Contains-cons_cases z xs x h) [
-      | inl e ↦ Contains-append_left (f z) (flat_map f xs) y (subst (λ w. Contains (f w) y) e g)
-      | inr r ↦ Contains-append_right (f z) (flat_map f xs) y (Contains-flat_map f xs x y r g)
-    ]
-
-pub Contains-from_flat_map : {A B : Type 0} (f : A → List B) (xs : List A) (y : B) → Contains (flat_map f xs) y → (x : A) × Contains xs x × Contains (f x) y
-Contains-from_flat_map f [] y h = absurd (Contains-nil y h)
-Contains-from_flat_map f (x ∷ xs) y h =
-    elim (Contains-append_cases (f x) (flat_map f xs) y h) [
-      | inl a ↦ (x, Contains-here x xs, a)
-      | inr t ↦ let w = Contains-from_flat_map f xs y t in (w.0, Contains-there x w.0 xs w.1, w.2)
-    ]
 
 filter_map_step : {A B : Type 0} (h : A → Option B) (x : A) (xs : List A) (y : B) (o : Option B) → h x ≡ o → (Contains (filter_map h xs) y → (z : A) × Contains xs z × (h z ≡ Some y)) → Contains (cons_option o (filter_map h xs)) y → (z : A) × Contains (x ∷ xs) z × (h z ≡ Some y)
 filter_map_step h x xs y None is rest c = let w = rest c in (w.0, Contains-there x w.0 xs w.1, w.2)
@@ -98,13 +48,6 @@ found_step p z x xs false t rest e = let w = rest e in (Contains-there z x xs w.
 pub find-some : {A : Type 0} (p : A → Bool) (xs : List A) (x : A) → find p xs ≡ Some x → Contains xs x × (p x ≡ true)
 find-some p [] x e = absurd (none-some x e)
 find-some p (z ∷ xs) x e = found_step p z x xs (p z) refl (find-some p xs x) e
-
-prefix_len-map : {A B : Type 0} (p : B → Bool) (f : A → B) (xs : List A) → prefix_len p (map f xs) ≡ prefix_len (λ x. p (f x)) xs
-prefix_len-map p f [] = refl
-prefix_len-map p f (x ∷ xs) = simp (prefix_len-map p f xs)
-
-pub position-map : {A B : Type 0} (p : B → Bool) (f : A → B) (xs : List A) → position p (map f xs) ≡ position (λ x. p (f x)) xs
-position-map p f xs = simp (prefix_len-map, length-map)
 
 -- what is found stands at the position
 pub find-position : {A : Type 0} (p : A → Bool) (xs : List A) (k : ℕ) → position p xs ≡ Some k → find p xs ≡ slice_get xs k

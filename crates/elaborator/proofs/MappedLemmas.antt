@@ -1,5 +1,5 @@
 -- Instances by their paths: one more is added, or another has its path.
-use Rattle.std.proofs.Common.{◌≡◌, ◌≢◌, ◌∙◌, ◌⊎◌, inl, inr, ℕ, Bool, true, false, ◌+◌, List, [], ◌∷◌, ◌++◌, length, set, Option, Some, None, refl, sym, ap, subst, arith, length-append, append_assoc, append-nil, length-set}
+use Rattle.std.proofs.Common.{◌≡◌, ◌≢◌, ◌∙◌, ◌⊎◌, inl, inr, ℕ, Bool, true, false, ◌+◌, List, [], ◌∷◌, ◌++◌, length, set, Option, Some, None, refl, sym, ap, subst, arith, length-append, append_assoc, length-set}
 use Rattle.std.specs.List.{slice_get}
 use Rattle.std.specs.Option.{is_some}
 use Rattle.std.specs.Str.{bytes_eq}
@@ -147,9 +147,6 @@ clash-add e x key n mapped is_key found =
     }
 
 -- ---- one instance after another
-
-pub extended-none : (e : Expansion) → IsMapped e → IsExtended e [] e
-extended-none e mapped = record { instances = sym (append-nil e.instances.items); same_unit = refl; mapped = mapped }
 
 pub extended-more : (e mid new : Expansion) (xs : List code.Instance) (x : code.Instance) → IsExtended e xs mid → IsExtended mid (x ∷ []) new → IsExtended e (xs ++ x ∷ []) new
 extended-more e mid new xs x so_far one =

@@ -20,7 +20,8 @@ use Rattle.elaborator.specs.Naming.{place_in, IsAdded, Indexes, ArePortsIndexed}
 use Rattle.elaborator.specs.Paths.{Path}
 use Rattle.elaborator.specs.Ports.{place_of}
 use Rattle.elaborator.specs.declared.name_index.NameIndex.{NameIndex}
-use Rattle.elaborator.proofs.Lists.{find-no_position, find-position, find-some, position-map, Contains-from_filter_map, made_of_two, slice_get-push_cases}
+use Rattle.darwin_types.proofs.Lists.{position-map}
+use Rattle.elaborator.proofs.Lists.{find-no_position, find-position, find-some, Contains-from_filter_map, made_of_two, slice_get-push_cases}
 use Rattle.elaborator.proofs.Places.{slice_get-there, slice_get-below}
 
 -- a name that the index lacks goes last

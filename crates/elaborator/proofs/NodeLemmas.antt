@@ -45,23 +45,6 @@ node_parts i n is = by_test (is_primitive i.component) refl is
 pub node_path : (i : Instance) (n : Node) → node_of i ≡ Some n → n.path ≡ i.path
 node_path i n is = ap (λ (m : Node). m.path) (node_parts i n is).is_node
 
--- the start
-pub first_nodes-none :
-    (e : Expanded) (order : List ℕ) (n : Nodes) → n.nodes.items ≡ [] → n.instances.items ≡ [] → ((k a : ℕ) → slice_get n.places.items k ≡ Some (Some a) → ⊥)
-    → length n.places.items ≡ length e.made → AreFirstNodes e order 0 n
-first_nodes-none e order n no_nodes no_instances no_places placed =
-    let nothing = λ (a : ℕ) (node : Node) (at : slice_get n.nodes.items a ≡ Some node). none-some node (sym (ap (λ xs. slice_get xs a) no_nodes) ∙ at) in
-    record {
-      paths_rise = λ i j d lt within. absurd (omega (arith, within, ap length no_nodes));
-      below = λ a b m node i at from at_b is. absurd (nothing a node at);
-      node_at = λ a node at. absurd (nothing a node at);
-      place_at = λ b k i node lt at is is_node. absurd (omega (arith, lt));
-      placed = λ k a at. absurd (no_places k a at);
-      all_placed = placed;
-      same_length = ap length no_instances ∙ sym (ap length no_nodes);
-      few = omega (arith, ap length no_nodes);
-    }
-
 -- an instance that is no node
 pub first_nodes-skip :
     (e : Expanded) (order : List ℕ) (n : Nodes) (first m : ℕ) (i : Instance) → AreFirstNodes e order first n → slice_get order first ≡ Some m → Numbered e m i

@@ -19,7 +19,7 @@ use Rattle.elaborator.specs.Index.FaultOf.{bad_binding, annotation}
 use Rattle.elaborator.specs.declared.error.ElabError.{ElabError}
 use Rattle.elaborator.specs.declared.error.ElabError.TheVariants as error
 use Rattle.elaborator.specs.declared.ports.Named as code
-use Rattle.elaborator.proofs.Lists.{Contains-here}
+use Rattle.darwin_types.proofs.Lists.{Contains-here}
 use Rattle.elaborator.proofs.PortLemmas.{stands_numbered}
 
 -- a port that an end names has its numbers

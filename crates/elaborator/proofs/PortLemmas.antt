@@ -24,7 +24,8 @@ use Rattle.elaborator.specs.Expansion.{seen, made_of, instance_in, AreSizes, IsK
 use Rattle.elaborator.specs.Ports.{place_of, Stands, Names, bad_index, sized_fault, NotesDifferIn}
 use Rattle.elaborator.specs.declared.instance.Instance as code_instance
 use Rattle.elaborator.specs.declared.instance.Expansion.{Expansion}
-use Rattle.elaborator.proofs.Lists.{find-position, find-no_position, position-map}
+use Rattle.darwin_types.proofs.Lists.{position-map}
+use Rattle.elaborator.proofs.Lists.{find-position, find-no_position}
 
 -- the instance of a number that is within
 pub instance_numbered : (e : Expanded) (n : ℕ) → n < length e.made → (i : Instance) × Numbered e n i
@@ -35,11 +36,7 @@ instance_numbered e n within = let w = at e.made n within in (w.0, record { make
     at (x ∷ xs) zero within = (x.instance, x.maker, refl)
     at (x ∷ xs) (suc n) within = at xs n (omega arith)
 
--- an end in no instance names nothing
-pub named-nowhere : (tree : Tree) (i : Instance) (e : End) → instance_at tree i e.inner ≡ None → named tree i e ≡ None
-named-nowhere tree i e nowhere = rw nowhere refl
-
--- nor does an end of a name that no port has
+-- an end of a name that no port has names nothing
 pub named-no_port : (tree : Tree) (i j : Instance) (e : End) → instance_at tree i e.inner ≡ Some j → place_of e.port j.component.ports ≡ None → named tree i e ≡ None
 named-no_port tree i j e at no_place = rw (at, find-no_position (λ p. bytes_eq e.port p.name) j.component.ports no_place) refl
 

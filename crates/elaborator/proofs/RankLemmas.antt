@@ -9,7 +9,7 @@ use Rattle.darwin_types.specs.Scope.{is_primitive}
 use Rattle.darwin_walk.specs.Instance.{Binding, bindings}
 use Rattle.elaborator.specs.Instances.{Instance}
 use Rattle.elaborator.specs.Bindings.{Port, Pair, port_of, pair_of, bindings_in, pairs_in}
-use Rattle.elaborator.proofs.Lists.{Contains-nil, Contains-from_flat_map}
+use Rattle.darwin_types.proofs.Lists.{Contains-nil, Contains-from_flat_map}
 use Rattle.elaborator.proofs.ChildLemmas.{depth-made}
 use Rattle.elaborator.proofs.BoundLemmas.{parts, Where, inner, outer, stands_where, Form, across, outward, inward, form}
 

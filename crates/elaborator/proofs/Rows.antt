@@ -23,7 +23,7 @@ use Rattle.elaborator.specs.Faults.{Faults}
 use Rattle.elaborator.specs.Faults.Faults.{bound_twice}
 use Rattle.elaborator.specs.Elaboration.{IsGraphOf}
 use Rattle.elaborator.specs.declared.error.ElabError.TheVariants as error
-use Rattle.elaborator.proofs.Lists.{Contains-here, Contains-nil, Contains-one, Contains-cons_cases}
+use Rattle.darwin_types.proofs.Lists.{Contains-here, Contains-nil, Contains-one, Contains-cons_cases}
 use Rattle.elaborator.proofs.LawLemmas.{instances-listed}
 
 -- every place is this one

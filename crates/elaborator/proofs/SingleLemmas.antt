@@ -16,7 +16,7 @@ use Rattle.elaborator.specs.Paths.{Path}
 use Rattle.elaborator.specs.Instances.{Instance, made_in, paths_in, Inst, at_top, below}
 use Rattle.elaborator.specs.Bindings.{Port, Pair, pair_of, bindings_in, pairs_in, Bound, bound, Leads, at_once, through}
 use Rattle.elaborator.specs.Graph.{node_of, IsNode, port_at, Linked}
-use Rattle.elaborator.proofs.Lists.{Contains-from_flat_map}
+use Rattle.darwin_types.proofs.Lists.{Contains-from_flat_map}
 use Rattle.elaborator.proofs.ChildLemmas.{depth-made}
 use Rattle.elaborator.proofs.BoundLemmas.{Form, across, outward, inward, Where, inner, outer, parts, stands_where, form}
 use Rattle.elaborator.proofs.RankLemmas.{expanded_composite}

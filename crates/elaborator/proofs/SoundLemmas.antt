@@ -29,7 +29,8 @@ use Rattle.elaborator.specs.Growth.{IsClear}
 use Rattle.elaborator.specs.Index.{Answers}
 use Rattle.elaborator.specs.Built.{BuildFault, IsBuilt}
 use Rattle.elaborator.specs.declared.error.ElabError.{ElabError}
-use Rattle.elaborator.proofs.Lists.{Contains-here, Contains-nil, Contains-flat_map, Contains-from_filter_map, find-some, made_of_found}
+use Rattle.darwin_types.proofs.Lists.{Contains-here, Contains-nil, Contains-flat_map}
+use Rattle.elaborator.proofs.Lists.{Contains-from_filter_map, find-some, made_of_found}
 use Rattle.elaborator.proofs.NodeLemmas.{node_parts}
 use Rattle.elaborator.proofs.AllLinksLemmas.{begins_within, ends_within}
 use Rattle.elaborator.proofs.ArgumentLemmas.{made_by_entry, length-parameters}

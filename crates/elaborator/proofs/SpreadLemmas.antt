@@ -10,7 +10,8 @@ use Rattle.darwin_parser.specs.Tree.{Tree}
 use Rattle.darwin_walk.specs.Instance.{Child, children}
 use Rattle.elaborator.specs.Instances.{Instance, instance_of, is_expanded, children_in, made_in, levels, instances, count_in, total}
 use Rattle.elaborator.specs.Grown.{IsSpread}
-use Rattle.elaborator.proofs.Lists.{Contains-here, Contains-one, Contains-nil, Contains-from_flat_map, Contains-from_filter_map}
+use Rattle.darwin_types.proofs.Lists.{Contains-here, Contains-one, Contains-nil, Contains-from_flat_map}
+use Rattle.elaborator.proofs.Lists.{Contains-from_filter_map}
 use Rattle.elaborator.proofs.WholeLemmas.{Contains-at}
 use Rattle.elaborator.proofs.ChildLemmas.{depth-made}
 use Rattle.elaborator.proofs.Places.{slice_get-after, no_length}

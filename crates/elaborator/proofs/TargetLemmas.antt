@@ -30,7 +30,7 @@ use Rattle.elaborator.specs.declared.chains.PortId.{PortId}
 use Rattle.elaborator.specs.declared.instance.Instance as code_instance
 use Rattle.elaborator.specs.declared.instance.Expansion.{Expansion}
 use Rattle.elaborator.specs.declared.nodes.Nodes.{Nodes}
-use Rattle.elaborator.proofs.Lists.{Contains-from_flat_map, Contains-flat_map}
+use Rattle.darwin_types.proofs.Lists.{Contains-from_flat_map, Contains-flat_map}
 use Rattle.elaborator.proofs.BoundLemmas.{Owner, within_it, its_own, owner}
 use Rattle.elaborator.proofs.RankLemmas.{rank_of_requirement, expanded_composite}
 use Rattle.elaborator.proofs.IndexLemmas.{same_numbered, port_functional}

@@ -15,7 +15,8 @@ use Rattle.config_graph.specs.Graph.{Configuration, OneLinkAPort, begins_at, lin
 use Rattle.darwin_parser.specs.Tree.{Tree}
 use Rattle.elaborator.specs.Instances.{Instance}
 use Rattle.elaborator.specs.Graph.{IsLink, IsElab}
-use Rattle.elaborator.proofs.Lists.{Contains-here, Contains-there, Contains-nil, Contains-cons_cases, Contains-from_filter_map, find-some, find-only}
+use Rattle.darwin_types.proofs.Lists.{Contains-here, Contains-there, Contains-nil, Contains-cons_cases}
+use Rattle.elaborator.proofs.Lists.{Contains-from_filter_map, find-some, find-only}
 
 -- ---- ordered lists
 

@@ -3,7 +3,7 @@ use Rattle.std.proofs.Common.{◌≡◌, ◌∙◌, ℕ, ◌+◌, ◌<◌, ◌�
 use Rattle.std.specs.List.{Contains, flat_map, slice_get}
 use Rattle.std.specs.Option.{option_map}
 use Rattle.std.proofs.lemmas.List.{length-map, length-take, take_more, get_or-take}
-use Rattle.std.proofs.lemmas.Option.{slice_get-map, slice_get-get_or, slice_get_within, get_or_from_slice_get, same_Some, none-some}
+use Rattle.std.proofs.lemmas.Option.{slice_get-map, slice_get-get_or, slice_get_within, get_or_from_slice_get, same_Some}
 use Rattle.std.proofs.lemmas.Grind.{flat_map-append}
 use Rattle.elaborator.specs.Instances.{Instance}
 use Rattle.elaborator.specs.Bindings.{Pair, bindings_in, pairs_in}
@@ -17,7 +17,8 @@ use Rattle.elaborator.specs.declared.chains.PortId.{PortId}
 use Rattle.elaborator.specs.declared.error.ElabError.{ElabError}
 use Rattle.darwin_walk.specs.Instance.{Binding}
 use Rattle.darwin_walk.specs.declared.fault.Fault.TheVariants as shown
-use Rattle.elaborator.proofs.Lists.{Contains-nil, Contains-from_flat_map, Contains-flat_map, option_map_some}
+use Rattle.darwin_types.proofs.Lists.{Contains-nil, Contains-from_flat_map, Contains-flat_map}
+use Rattle.elaborator.proofs.Lists.{option_map_some}
 use Rattle.elaborator.proofs.IndexLemmas.{port_functional, port_injective}
 
 pub Contains-at : {A : Type 0} (xs : List A) (n : ℕ) (x : A) → slice_get xs n ≡ Some x → Contains xs x
@@ -56,13 +57,6 @@ instances-more e n i at =
     ∙ flat_map-append (pairs_in e.tree) (take n (instances_of e)) (get_or (instances_of e) n i ∷ [])
     ∙ ap (λ j. flat_map (pairs_in e.tree) (take n (instances_of e)) ++ (pairs_in e.tree j ++ [])) (get_or_from_slice_get (instances_of e) n i i stands)
     ∙ ap (λ ps. flat_map (pairs_in e.tree) (take n (instances_of e)) ++ ps) (append-nil (pairs_in e.tree i))
-
--- no pairs
-pub IsIndex-nil : (e : Expanded) → IsIndex e [] []
-IsIndex-nil e = record {
-  sound = λ k t is. absurd (none-some t is);
-  complete = λ p there. absurd (Contains-nil p there);
-}
 
 -- a lawful binding has no fault
 no_fault_of : (e : Expanded) (i : Instance) (b : Binding) (p : Pair) (f : ElabError) → IsLawful e.tree i b p → FaultOf e.tree i b f → ⊥

@@ -20,18 +20,18 @@ use Rattle.elaborator.specs.declared.error.ElabError.{ElabError}
 use Rattle.elaborator.specs.declared.error.ElabError.TheVariants as error
 
 -- an error names one of these faults, in the instance of the path, or that too much is counted
-abbrev pub Names : Path → List Fault → Type 0 → ElabError → Type 0
-Names path fs too_many (error.OutOfRange p at) = (p ≡ path) × Contains fs (shown.OutOfRange at)
-Names path fs too_many (error.ZeroDivisor p at) = (p ≡ path) × Contains fs (shown.ZeroDivisor at)
-Names path fs too_many (error.BadIndex p at) = (p ≡ path) × Contains fs (shown.BadIndex at)
-Names path fs too_many error.TooMany = too_many
-Names path fs too_many error.NoMemory = Unit {0}
-Names path fs too_many _ = ⊥
+abbrev pub NamesFault : Path → List Fault → Type 0 → ElabError → Type 0
+NamesFault path fs too_many (error.OutOfRange p at) = (p ≡ path) × Contains fs (shown.OutOfRange at)
+NamesFault path fs too_many (error.ZeroDivisor p at) = (p ≡ path) × Contains fs (shown.ZeroDivisor at)
+NamesFault path fs too_many (error.BadIndex p at) = (p ≡ path) × Contains fs (shown.BadIndex at)
+NamesFault path fs too_many error.TooMany = too_many
+NamesFault path fs too_many error.NoMemory = Unit {0}
+NamesFault path fs too_many _ = ⊥
 
 -- an answer tells of faults in an instance: that there is none, and this of its value, or that it names one
 abbrev pub Judges : {T : Type 0} → Path → List Fault → Type 0 → (T → Type 0) → Result T ElabError → Type 0
 Judges path fs too_many P (Ok x) = (fs ≡ []) × P x
-Judges path fs too_many P (Err e) = Names path fs too_many e
+Judges path fs too_many P (Err e) = NamesFault path fs too_many e
 
 -- an error of a walk, in the instance of the path
 abbrev pub error_at : Path → WalkError → ElabError

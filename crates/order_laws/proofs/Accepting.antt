@@ -18,7 +18,8 @@ use Rattle.elaborator.specs.Faults.{faults_in, NotesDiffer, differ, Faults, no_t
 use Rattle.elaborator.specs.Elaboration.{HasNoFault}
 use Rattle.elaborator.specs.declared.error.ElabError.{ElabError}
 use Rattle.elaborator.specs.declared.error.ElabError.TheVariants as error
-use Rattle.elaborator.proofs.Lists.{Contains-flat_map, Contains-from_flat_map, Contains-from_filter_map, made_of_two, find-some}
+use Rattle.darwin_types.proofs.Lists.{Contains-flat_map, Contains-from_flat_map}
+use Rattle.elaborator.proofs.Lists.{Contains-from_filter_map, made_of_two, find-some}
 use Rattle.elaborator.proofs.LawLemmas.{told-by_path}
 use Rattle.order_laws.proofs.Finding.{Both, neither, both_there}
 use Rattle.order_laws.proofs.Children.{Alike, AlikeTrees, alike_trees-sym, is_primitive-same, SameBound}

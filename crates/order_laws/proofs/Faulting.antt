@@ -16,8 +16,8 @@ use Rattle.darwin_walk.specs.declared.fault.Fault.TheVariants.{OutOfRange, ZeroD
 use Rattle.elaborator.specs.Instances.{Instance, is_expanded, Inst}
 use Rattle.elaborator.specs.Bindings.{Named, named, bindings_in}
 use Rattle.elaborator.specs.Faults.{is_kind_argument, kind_faults, port_faults, own_faults, faults_in}
-use Rattle.elaborator.proofs.Lists.{Contains-nil, Contains-map, Contains-from_map, Contains-flat_map, Contains-from_flat_map}
 use Rattle.order_laws.specs.Reordering.{SameArray, SameEntry, same_single, same_element}
+use Rattle.darwin_types.proofs.Lists.{Contains-nil, Contains-map, Contains-from_map, Contains-flat_map, Contains-from_flat_map}
 use Rattle.order_laws.proofs.Finding.{Both, neither, both_there}
 use Rattle.order_laws.proofs.Reorders.{comes_of}
 use Rattle.order_laws.proofs.Statements.{SameReached, same_valued, same_turn, same_made, same_bound, same_reached-trans}

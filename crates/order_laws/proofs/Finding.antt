@@ -3,7 +3,8 @@ use Rattle.std.proofs.Common.{◌≡◌, ◌∙◌, ℕ, ◌+◌, ◌<◌, ◌�
 use Rattle.std.specs.List.{Contains, find, count_by}
 use Rattle.std.proofs.lemmas.List.Recursion.{is_count_by}
 use Rattle.std.proofs.lemmas.Option.{none-some}
-use Rattle.elaborator.proofs.Lists.{Contains-nil, Contains-cons_cases, find-none, find-only, find-some}
+use Rattle.darwin_types.proofs.Lists.{Contains-nil, Contains-cons_cases}
+use Rattle.elaborator.proofs.Lists.{find-none, find-only, find-some}
 use Rattle.order_laws.specs.Reordering.{Reordered, no_elements, kept, swapped, through}
 
 -- both are there and alike, or neither is there

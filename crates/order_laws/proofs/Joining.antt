@@ -16,7 +16,7 @@ use Rattle.elaborator.specs.Paths.{within}
 use Rattle.elaborator.specs.Instances.{Instance, made_in, is_expanded, Inst, below}
 use Rattle.elaborator.specs.Bindings.{Port, instance_at, Named, named, port_of, may_lead, Pair, pair_of, bindings_in, Bound, bound, Leads, at_once, through}
 use Rattle.elaborator.specs.Graph.{IsNode, port_at, Linked, IsLink, IsElab}
-use Rattle.elaborator.proofs.Lists.{Contains-nil, Contains-flat_map, Contains-from_flat_map, Contains-map, Contains-from_map}
+use Rattle.darwin_types.proofs.Lists.{Contains-nil, Contains-flat_map, Contains-from_flat_map, Contains-map, Contains-from_map}
 use Rattle.elaborator.proofs.ChildLemmas.{depth-made}
 use Rattle.elaborator.proofs.PairLemmas.{pair-forward, pair-backward, pair-of_no_form, pair-no_left, pair-no_right}
 use Rattle.order_laws.specs.Reordering.{SamePort}

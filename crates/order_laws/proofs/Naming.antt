@@ -22,8 +22,8 @@ use Rattle.darwin_types.specs.Faults.Fault.{two_components, within}
 use Rattle.darwin_types.specs.declared.error.TypeError.{TypeError}
 use Rattle.darwin_types.proofs.Repeats.{same_bytes, bytes_eq_self}
 use Rattle.darwin_types.proofs.Found.{different_bytes, is_some-find_from, is_some-lookup_from}
-use Rattle.elaborator.proofs.Lists.{Contains-from_map}
 use Rattle.order_laws.specs.Reordering.{Reordered, SamePort, SameArray, SameEntry, same_single, same_element, SameStmts, no_stmts, kept_stmt, swapped_stmts, through_stmts, SameComponent, SameDescription}
+use Rattle.darwin_types.proofs.Lists.{Contains-from_map}
 use Rattle.order_laws.proofs.Finding.{Both, neither, both_there, hits, passes_once}
 use Rattle.order_laws.proofs.Reorders.{reordered-sym, reordered-map, length-same, sum-same, all-same, any-same, like_in}
 use Rattle.order_laws.proofs.Statements.{same_stmts-sym, same_entry-trans, entries-same}

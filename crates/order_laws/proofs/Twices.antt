@@ -3,7 +3,7 @@ use Rattle.std.proofs.Common.{◌≡◌, ◌∙◌, ◌⊎◌, inl, inr, ℕ, ze
 use Rattle.std.specs.List.{Contains, slice_get}
 use Rattle.std.proofs.lemmas.Option.{same_Some}
 use Rattle.elaborator.specs.Faults.{Twice}
-use Rattle.elaborator.proofs.Lists.{Contains-here, Contains-there, Contains-cons_cases}
+use Rattle.darwin_types.proofs.Lists.{Contains-here, Contains-there, Contains-cons_cases}
 use Rattle.elaborator.proofs.Places.{twice_there, twice_at, twice_places}
 use Rattle.elaborator.proofs.WholeLemmas.{at_some_place, Contains-at}
 use Rattle.order_laws.specs.Reordering.{Reordered, no_elements, kept, swapped, through}

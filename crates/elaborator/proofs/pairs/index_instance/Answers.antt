@@ -6,7 +6,7 @@ use Rattle.elaborator.specs.Bindings.{pair_of, bindings_in}
 use Rattle.elaborator.specs.Expansion.{seen}
 use Rattle.elaborator.specs.Index.{IsIndex, AreLawful}
 use Rattle.elaborator.specs.Index.BindingFault.{of_binding}
-use Rattle.elaborator.proofs.Lists.{Contains-here, Contains-flat_map}
+use Rattle.darwin_types.proofs.Lists.{Contains-here, Contains-flat_map}
 use Rattle.elaborator.proofs.AnswerLemmas.{passed_on}
 use Rattle.elaborator.proofs.PortLemmas.{same_instance}
 use Rattle.elaborator.proofs.InstanceLemmas.{map-take_more, front, next_there, pairs-more, lawful-more, twice}
