@@ -49,8 +49,16 @@ fn join(alloc: Global, expansion: &Expansion, targets: &Targets) -> Result<Graph
 fn without_cycle(alloc: Global, graph: Graph) -> Result<Graph, ElabError>
     ensures { Answers (λ g. (g ≡ graph) × NoCycle g) (CycleFault graph) result }
 {
-    match first_on_cycle(alloc, &graph)? {
-        None => Ok(graph),
+    check_cycle(alloc, &graph)?;
+    Ok(graph)
+}
+
+/// Refuses a graph in which a node depends on itself; the first of them is named.
+fn check_cycle(alloc: Global, graph: &Graph) -> Result<(), ElabError>
+    ensures { Answers (λ _. NoCycle graph.now) (CycleFault graph.now) result }
+{
+    match first_on_cycle(alloc, graph)? {
+        None => Ok(()),
         Some(node) => Err(ElabError::DependsCycle(graph.node(node).path.try_clone()?)),
     }
 }

@@ -30,9 +30,9 @@ impl<'a> Directory<'a> {
         ensures { IfOk result (λ d. d.unit ≡ unit.entry) }
     {
         let components = unit.components.as_slice();
-        let places = index_components(alloc, components)?;
-        let ports = index_all_ports(alloc, components)?;
         let primitive = note_primitive(alloc, components)?;
+        let ports = index_all_ports(alloc, components)?;
+        let places = index_components(alloc, components)?;
         Ok(Directory {
             unit,
             places,

@@ -24,7 +24,8 @@ use std::alloc::Global;
 
 /// The graph of a description: its nodes are the instances of primitive components below an instance of
 /// the component `top`, whose parameters have the values `args`, and links are where bindings lead from a
-/// requirement of a node to a provision of one.
+/// requirement of a node to a provision of one. The paths, parameters and ports of all instances are held
+/// until the graph is made, so memory grows with them.
 ///
 /// # Errors
 ///

@@ -18,7 +18,6 @@ use crate::chains::{PortId, Targets};
 use crate::instance::Expansion;
 use crate::paths::name_of_end;
 use crate::ports::{Named, find_named};
-use config_graph::Text;
 use darwin_walk::{Binding, End};
 use std::alloc::Global;
 
@@ -87,7 +86,6 @@ fn bind_pair(
     }
     let path = expansion.instance(number).path.try_clone()?;
     let end = name_of_end(alloc, pair.end)?;
-    let end = Text::from_bytes(alloc, end.as_slice())?;
     Err(ElabError::BoundTwice(path, end))
 }
 

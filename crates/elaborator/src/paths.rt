@@ -4,26 +4,30 @@ ghost use Rattle.std.specs.Prelude.{◌≡◌, ◌++◌, IfOk, OnOk};
 ghost use Rattle.elaborator.specs.Paths.{index_bytes, segment_bytes, within, end_bytes};
 ghost use Rattle.darwin_walk.specs.Walked.{segment_of, end_of};
 
+use config_graph::Text;
 use darwin_walk::{End, Segment};
+use itoa::Buffer;
 use std::alloc::{AllocError, Global};
 
 /// Adds an index in brackets, where there is one.
-fn push_index(alloc: Global, out: &mut Vec<u8>, index: Option<i32>) -> Result<(), AllocError>
+fn push_index(out: &mut Vec<u8>, index: Option<i32>) -> Result<(), AllocError>
     ensures { OnOk result (out.new.items ≡ out.old.items ++ index_bytes index) }
 {
     if let Some(index) = index {
-        let written = format!(in alloc; "[{index}]")?;
-        out.extend_from_slice(written.as_bytes())?;
+        let mut digits = Buffer::new();
+        out.extend_from_slice(b"[")?;
+        out.extend_from_slice(digits.format(index).as_bytes())?;
+        out.extend_from_slice(b"]")?;
     }
     Ok(())
 }
 
 /// Adds the segment of a path.
-fn push_segment(alloc: Global, out: &mut Vec<u8>, segment: Segment) -> Result<(), AllocError>
+fn push_segment(out: &mut Vec<u8>, segment: Segment) -> Result<(), AllocError>
     ensures { OnOk result (out.new.items ≡ out.old.items ++ segment_bytes (segment_of segment.entry)) }
 {
     out.extend_from_slice(segment.name.as_bytes())?;
-    push_index(alloc, out, segment.index)
+    push_index(out, segment.index)
 }
 
 /// The path of the instance of a segment within the instance of a path.
@@ -34,20 +38,20 @@ pub fn path_within(alloc: Global, path: &[u8], segment: Segment) -> Result<Vec<u
     if !path.is_empty() {
         made.push(b'.')?;
     }
-    push_segment(alloc, &mut made, segment)?;
+    push_segment(&mut made, segment)?;
     Ok(made)
 }
 
 /// An end of a binding, as a fault names it.
-pub fn name_of_end(alloc: Global, end: End) -> Result<Vec<u8>, AllocError>
-    ensures { IfOk result (λ name. name.items ≡ end_bytes (end_of end.entry)) }
+pub fn name_of_end(alloc: Global, end: End) -> Result<Text, AllocError>
+    ensures { IfOk result (λ name. name ≡ end_bytes (end_of end.entry)) }
 {
     let mut name = Vec::new(alloc);
     if let Some(segment) = end.inner {
-        push_segment(alloc, &mut name, segment)?;
+        push_segment(&mut name, segment)?;
         name.push(b'.')?;
     }
     name.extend_from_slice(end.port.as_bytes())?;
-    push_index(alloc, &mut name, end.index)?;
-    Ok(name)
+    push_index(&mut name, end.index)?;
+    Text::from_bytes(alloc, name.as_slice())
 }

@@ -33,5 +33,5 @@ returns c = λ i p pairs at is index memory.
             let one = port_injective e c.requires.kept.is_expanded c.in-Some.before c.args.pair.now.target p.target (subst (IsPort e c.in-Some.before) (sym same) w.3) is.target in
             false≢true (sym c.if-eq.false ∙ c.eq.ensures ∙ ap (λ x. port_eq x c.args.pair.now.target) one ∙ port_itself c.args.pair.now.target);
       },
-      ap (λ x. BoundTwice x c.in_ok-end-2.end) (c.in_ok-path.ensures ∙ ap (λ (j : Instance). j.path) (sym inst)) ∙ ap (BoundTwice i.path) (c.in_ok-end-2.ensures ∙ c.as_slice.ensures.value ∙ c.in_ok-end.ensures ∙ ap end_bytes is.end),
+      ap (λ x. BoundTwice x c.in_ok-end.end) (c.in_ok-path.ensures ∙ ap (λ (j : Instance). j.path) (sym inst)) ∙ ap (BoundTwice i.path) (c.in_ok-end.ensures ∙ ap end_bytes is.end),
     )
