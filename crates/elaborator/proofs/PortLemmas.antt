@@ -1,7 +1,7 @@
 -- The ports that ends of bindings name.
 use Rattle.std.proofs.Common.{◌≡◌, ◌∙◌, ℕ, ℤ, zero, suc, ◌<◌, Bool, true, false, not, List, [], ◌∷◌, Option, Some, None, Bor, length, map, position, refl, ap, sym, subst, IsTrue, IfSome, ◌↔◌, arith}
 use Rattle.std.specs.List.{slice_get}
-use Rattle.std.specs.Option.{is_some, option_map}
+use Rattle.std.specs.Option.{is_some, option_map, option_flatten}
 use Rattle.std.specs.Str.{bytes_eq}
 use Rattle.std.proofs.lemmas.Bool.{false_from_ne_true, false≢true}
 use Rattle.std.proofs.lemmas.Slice.Eq.{bytes_eq-Decides, slice_eq-Decides}
@@ -112,6 +112,12 @@ pub place_told :
 place_told e kept n x component bytes name r at same_component same_name told =
     let named = kept.is_expanded.named n (instance_in x) (record { maker = x.maker; is_at = at }) in
     ap (λ b. place_of b (instance_in x).component.ports) (sym same_name) ∙ sym (told (instance_in x).component (ap (component_named (seen e).tree) same_component ∙ named))
+
+-- a size that is kept
+pub kept_size : (o : Option (Option ℤ)) (size : Option ℤ) → size ≡ option_flatten o → IfSome size (λ z. o ≡ Some (Some z))
+kept_size None size is = rw is tt
+kept_size (Some None) size is = rw is tt
+kept_size (Some (Some z)) size is = rw is refl
 
 -- the fault of an index where the size of the port is kept
 pub bad-kept :

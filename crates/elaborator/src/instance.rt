@@ -1,6 +1,7 @@
 //! The instances of an elaboration, by number.
 
-ghost use Rattle.std.specs.Prelude.{◌≡◌, ◌<◌, length, map, slice_get, Some, IfSome};
+ghost use Rattle.std.specs.Prelude.{◌≡◌, ◌<◌, length, map, slice_get, Some};
+ghost use Rattle.std.specs.Option.{option_flatten};
 ghost use Rattle.elaborator.specs.Expanded.{IsChild};
 
 use crate::directory::Directory;
@@ -31,7 +32,7 @@ pub struct Instance<'a> {
 impl Instance<'_> {
     /// The size of the port at a place, where it is kept.
     pub fn port_size(&self, port: usize) -> Option<i32>
-        ensures { IfSome result (λ size. slice_get self.now.port_sizes.items port ≡ Some (Some size)) }
+        ensures { result ≡ option_flatten (slice_get self.now.port_sizes.items port) }
     {
         match self.port_sizes.get(port) {
             Some(size) => *size,
