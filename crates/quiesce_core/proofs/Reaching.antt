@@ -8,12 +8,14 @@ use Rattle.config_graph.specs.Kinds.{row, depends_on, is_depended_on}
 use Rattle.config_graph.specs.declared.node.Target.{Target}
 use Rattle.quiesce_core.specs.declared.state.Slot.{Slot}
 use Rattle.quiesce_core.specs.declared.state.Gate.{Gate}
-use Rattle.quiesce_core.specs.State.{Configuration, fresh_gate, slot, gate, owner, target, ports_of, depends, is_depended}
+use Rattle.quiesce_core.specs.State.{Configuration, State, fresh_gate, slot, gate, owner, target, ports_of, depends, is_depended}
 use Rattle.quiesce_core.specs.Reach.{IsPortOf, Leads, HasNoCycle, can_walk, has_no_cycle, reaches_within, reaches}
 use Rattle.quiesce_core.specs.Known.{AreKnown, reaches_from, leads_up}
 use Rattle.quiesce_core.specs.Effect.{with_gate, linked}
 use Rattle.quiesce_core.specs.WellFormed.{IsSound}
+use Rattle.quiesce_core.specs.Rules.{is_quiet}
 use Rattle.quiesce_core.proofs.KindLemmas.{one_provision, depended_by_first, depended_if}
+use Rattle.quiesce_core.proofs.Lists.{all_in_range, range_all}
 use Rattle.quiesce_core.proofs.Cycles.{map_or_true, map_or_at, any_of, of_any, agree_of, walk_to, no_walk, no_cycle_if_ranked, ranked_if_no_cycle}
 
 -- what a provision of a node depends on, some provision of it depends on
@@ -299,6 +301,10 @@ none_known c n k q b h = absurd (none_there k q b h)
 
 pub no_walk_plus : (c : Configuration) → IsSound c → (n : ℕ) → can_walk c (length c.slots + 1) n ≡ false
 no_walk_plus c sound n = rw add-one (no_walk c sound.no_cycle n)
+
+-- where all ports are quiet, so is each that reaches a node
+pub all_quiet : (s : State) (n k : ℕ) → list_all (λ p. is_quiet s p) (range_with_len 0 k) ≡ true → list_all (λ p. is_quiet s p || not (reaches s.config n p)) (range_with_len 0 k) ≡ true
+all_quiet s n k h = range_all (λ p. is_quiet s p || not (reaches s.config n p)) 0 k (λ i l u. or_left (is_quiet s i) (not (reaches s.config n i)) (all_in_range (λ p. is_quiet s p) 0 k i h l u))
 
 pub ruleset searched = (none_known, no_walk_plus, range_after, range_at, range_all_after, range_all_at)
 

@@ -112,6 +112,8 @@ impl Core {
 
     /// Lets the event happen where each of its rules holds. A refused event leaves the state as it is, and no room that was reserved
     /// is lost.
+    ///
+    /// The time of a make, link, unlink or remove grows with the number of nodes and ports made. That of the other events doesn't.
     pub fn apply(&mut self, event: &Event) -> Result<(), CoreError>
         ensures ok { OnOk result (Step self.old.state event.now self.new.state) }
         ensures denied { (rule : ℕ) → (result ≡ Err (CoreError.Denied rule)) ↔ (denial self.old.state event.now ≡ Some rule) }

@@ -4,7 +4,7 @@ use Rattle.quiesce_core.specs.Reach as reach
 use Rattle.quiesce_core.specs.Rules as rules
 use Rattle.quiesce_core.specs.Known.{AreKnown}
 use Rattle.quiesce_core.specs.Tables.{state_of}
-use Rattle.quiesce_core.proofs.tables.Tables.reaching_ports_are_quiet.Given as goal
+use Rattle.quiesce_core.proofs.tables.Tables.searched_ports_are_quiet.Given as goal
 
 -- the ports from this one on have the answer
 abbrev pub invariant-loop-port : goal.invariant-loop-port
