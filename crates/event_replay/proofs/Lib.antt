@@ -1,3 +1,2 @@
 pub mod LeadsLemmas
 pub mod SettledLemmas
-pub mod TextLemmas

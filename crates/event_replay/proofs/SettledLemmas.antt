@@ -1,14 +1,14 @@
 -- Lemmas on the settled nodes among the first slots.
 use Rattle.std.proofs.Common.{◌≡◌, ◌↔◌, ◌+◌, ◌<◌, ◌≤◌, inl, inr, ℕ, List, [], ◌∷◌, ◌++◌, length, length-append, get_or, slice_get, Option, Some, None, false, Contains, All, IsTrue, subst, sym, refl, arith}
 use Rattle.std.specs.List.Sorted.{IsStrictlyIncreasing}
-use Rattle.std.proofs.lemmas.Bool.{cases_eq, cases_lt}
-use Rattle.std.proofs.lemmas.List.{get_or_append_left, get_or_push}
+use Rattle.std.proofs.lemmas.Bool.{cases_eq}
 use Rattle.std.proofs.lemmas.Option.{slice_get_within}
 use Rattle.std.specs.Option.{option_map_or}
 use Rattle.std.proofs.lemmas.List.Elements.{Contains-append_left, Contains-get_or, Contains-push, Contains-push_cases}
 use Rattle.quiesce_core.specs.Settled.{Settled}
 use Rattle.quiesce_core.specs.State.{State, is_live}
 use Rattle.quiesce_core.specs.declared.state.Slot.{Slot}
+use Rattle.config_graph.proofs.ListLemmas.{IsStrictlyIncreasing-push}
 use Rattle.event_replay.specs.Replay.{AreSettled}
 
 -- a live node is in a slot
@@ -24,24 +24,12 @@ pub record SettledBelow (s : State) (n : ℕ) (nodes : List ℕ) : Type 0 where
   pub are : (m : ℕ) → Contains nodes m ↔ ((m < n) × Settled s m)
   pub rise : IsStrictlyIncreasing nodes
 
--- numbers that rise, and a greater one behind them
-rise_push : (xs : List ℕ) (y : ℕ) → IsStrictlyIncreasing xs → All (λ x. x < y) xs → IsStrictlyIncreasing (xs ++ y ∷ [])
-rise_push xs y rise below k h =
-    let low : k + 1 < length xs + 1 = rw length-append at h in
-    let here : get_or (xs ++ y ∷ []) k 0 ≡ get_or xs k 0 = get_or_append_left xs (y ∷ []) 0 k (omega arith) in
-    elim (cases_lt (k + 1) (length xs)) [
-      | inl inside ↦ rw (here, get_or_append_left xs (y ∷ []) 0 (k + 1) inside) (rise k inside)
-      | inr last ↦
-          let end : length xs ≡ k + 1 = omega arith in
-          rw (here, get_or_push xs y 0 (k + 1) end) (below k 0 (omega arith))
-    ]
-
 module _ (s : State) (n : ℕ) (nodes : List ℕ) (so_far : SettledBelow s n nodes) where
   -- node n is settled
   pub below_push : Settled s n → SettledBelow s (n + 1) (nodes ++ n ∷ [])
   below_push settled = record {
     are = λ m. (to m, from m);
-    rise = rise_push nodes n so_far.rise (λ k d low. ((so_far.are (get_or nodes k d)).0 (Contains-get_or nodes k d low)).0);
+    rise = IsStrictlyIncreasing-push nodes n so_far.rise (λ k d low. ((so_far.are (get_or nodes k d)).0 (Contains-get_or nodes k d low)).0);
   }
     where
       to : (m : ℕ) → Contains (nodes ++ n ∷ []) m → (m < n + 1) × Settled s m

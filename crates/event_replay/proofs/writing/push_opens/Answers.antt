@@ -1,5 +1,5 @@
 use Rattle.event_replay.specs.ReplayText.{open_line}
-use Rattle.event_replay.proofs.TextLemmas.{lines_all, lines_more}
+use Rattle.config_graph.proofs.ListLemmas.{lines_all, lines_more}
 use Rattle.event_replay.proofs.writing.push_opens.Goals as goal
 
 pub loop-transaction-preserved : goal.loop-transaction-preserved

@@ -1,5 +1,5 @@
 use Rattle.event_replay.specs.ReplayText.{settled_line}
-use Rattle.event_replay.proofs.TextLemmas.{lines_all, lines_more}
+use Rattle.config_graph.proofs.ListLemmas.{lines_all, lines_more}
 use Rattle.event_replay.proofs.writing.push_settled.Goals as goal
 
 pub loop-slot-preserved : goal.loop-slot-preserved
