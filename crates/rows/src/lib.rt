@@ -10,6 +10,8 @@ mod elaborating;
 #[cfg(test)]
 mod faults;
 #[cfg(test)]
+mod fetching;
+#[cfg(test)]
 mod flat;
 #[cfg(test)]
 mod guide;

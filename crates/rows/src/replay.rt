@@ -4,229 +4,168 @@ use crate::descriptions::{ASKING, LINE, MANY, SMALL};
 use crate::running::{AMPLE, Row, run};
 use cfg_io::{MemShelf, MemSink};
 use darwin_commands::{Status, still};
+use std::alloc::Global;
+use std::process::Abort;
 use std::test::Fail;
 
-static ROWS: [Row<'static>; 28] = [
-    Row {
-        words: &["replay", "line.dar", "e.txt"],
-        files: &[
-            ("line.dar", LINE),
-            (
-                "e.txt",
-                "start Line(3,10)\nbegin 1 1 1\ntake 1 1 1\ncall 0 1 11\n",
-            ),
-        ],
-        room: AMPLE,
-        status: 0,
-        written: "events 3\nopen 0 1 call waiting\nopen 1 1 root taken\nrest 5\n",
-    },
-    Row {
-        words: &["replay", "line.dar", "e.txt"],
-        files: &[
-            ("line.dar", LINE),
-            (
-                "e.txt",
-                "start Line(3,10)\nbegin 1 1 1\ntake 1 1 1\ncall 0 1 11\ntake 0 1 11\ngive 0 1 1\n",
-            ),
-        ],
-        room: AMPLE,
-        status: 0,
-        written: "events 5\nopen 0 1 call answered\nopen 1 1 root taken\nrest 3\n",
-    },
+/// A description, events over it, the status, and what is written, where they are the files `f.dar` and `e.txt`.
+type Replay = (&'static str, &'static str, u8, &'static str);
+
+/// Events that are steps, and events that are denied.
+static EVENTS: [Replay; 14] = [
+    (
+        LINE,
+        "start Line(3,10)\nbegin 1 1 1\ntake 1 1 1\ncall 0 1 11\n",
+        0,
+        "events 3\nopen 0 1 call waiting\nopen 1 1 root taken\nrest 5\n",
+    ),
+    (
+        LINE,
+        "start Line(3,10)\nbegin 1 1 1\ntake 1 1 1\ncall 0 1 11\ntake 0 1 11\ngive 0 1 1\n",
+        0,
+        "events 5\nopen 0 1 call answered\nopen 1 1 root taken\nrest 3\n",
+    ),
+    (
+        SMALL,
+        "start L()\nbegin 1 1 1\nclose 1\ntake 1 1 1\n",
+        0,
+        "events 3\nopen 1 1 root taken\nrest 2\n",
+    ),
+    (
+        SMALL,
+        "start L()\nbegin 1 1 1\nclose 1\ntake 1 1 1\ngive 1 1 1\nend 1 1 1\nclose 0\n",
+        0,
+        "events 6\nrest 0\nsettled b\nsettled s\nsettled t\n",
+    ),
+    (
+        SMALL,
+        "start L()\nbegin 1 1 1\nclose 0\nbegin 0 1 1\n",
+        9,
+        "denied 3 2\n",
+    ),
+    (
+        LINE,
+        "start Line(3,10)\nbegin 1 1 1\ntake 1 1 1\ncall 0 1 11\nclose 1\nclose 0\nunlink 0\n",
+        9,
+        "denied 6 22\n",
+    ),
+    (
+        LINE,
+        "start Line(3,10)\nbegin 1 1 1\nclose 0\nclose 1\ntake 1 1 1\n",
+        0,
+        "events 4\nopen 1 1 root taken\nrest 6\n",
+    ),
+    (
+        LINE,
+        "start Line(3,10)\nbegin 1 1 1\nclose 0\nclose 1\ntake 1 1 1\ncall 0 1 11\ntake 0 1 11\ngive 0 1 1\nend 0 1 1\ngive 1 1 1\nend 1 1 1\n",
+        0,
+        "events 10\nrest 0\nsettled m\nsettled s\nsettled t\n",
+    ),
+    (
+        LINE,
+        "start Line(3,10)\nclose 0\nclose 1\nunlink 1\nlink 1 0 0\nremove 2\n",
+        9,
+        "denied 5 25\n",
+    ),
+    (
+        LINE,
+        "start Line(3,10)\nclose 0\nclose 1\nunlink 1\nlink 1 0 0\nunlink 0\nremove 2\n",
+        0,
+        "events 6\nrest 0\nsettled m\nsettled s\n",
+    ),
+    (
+        ASKING,
+        "start Two()\nbegin 0 1 5\ntake 0 1 5\nmore 0 1 5\nclose 0\n",
+        0,
+        "events 4\nopen 0 1 root taken\nrest 4\n",
+    ),
+    (
+        ASKING,
+        "start Two()\nbegin 0 1 5\ntake 0 1 5\nmore 0 1 5\nclose 0\ngive 0 1 5\n",
+        9,
+        "denied 5 29\n",
+    ),
+    (LINE, "start Line(3,10)\n", 0, "events 0\nrest 0\n"),
+    (MANY, "start Many(1023)\nbegin 7 7 7\n", 9, "denied 1 1\n"),
+];
+
+/// Files that are no files of events.
+static SCRIPTS: [Replay; 6] = [
+    (
+        LINE,
+        "start Line(3,10)\n  # x\nbegin 1 1 1 # x\n",
+        3,
+        "script e.txt: BadLine 3\n",
+    ),
+    (LINE, "", 3, "script e.txt: NoStart\n"),
+    (
+        LINE,
+        "# a note\n \nstart Line(3,10)\nbegin 1 1\n",
+        3,
+        "script e.txt: BadLine 4\n",
+    ),
+    (
+        LINE,
+        "begin 1 1 1\nstart Line(3,10)\n",
+        3,
+        "script e.txt: Order 1\n",
+    ),
+    (
+        LINE,
+        "start Line(3,10)\nstart Line(3,10)\n",
+        3,
+        "script e.txt: Order 2\n",
+    ),
+    (
+        LINE,
+        "start Line(3,10)\nclose 4294967296\n",
+        3,
+        "script e.txt: NumberTooBig 2\n",
+    ),
+];
+
+/// Descriptions that are refused, or what the file of events starts.
+static DESCRIPTIONS: [Replay; 5] = [
+    (
+        "component $",
+        "start Line(3,10)\nbegin 7 7 7\n",
+        2,
+        "description f.dar: BadByte 1:11\n",
+    ),
+    (
+        LINE,
+        "start None()\nbegin 7 7 7\n",
+        2,
+        "description f.dar: NoTop None\n",
+    ),
+    (
+        LINE,
+        "start Line(3)\nbegin 7 7 7\n",
+        2,
+        "description f.dar: TopArgs 2 1\n",
+    ),
+    (
+        LINE,
+        "start Line(3,-1)\nbegin 7 7 7\n",
+        2,
+        "description f.dar: OutOfRange . 5:21\n",
+    ),
+    (
+        MANY,
+        "start Many(1024)\nbegin 7 7 7\n",
+        2,
+        "description f.dar: NodesFull 0 1024\n",
+    ),
+];
+
+/// Files that can't be read.
+static UNREAD: [Row<'static>; 4] = [
     Row {
         words: &["replay", "none.dar", "none.txt"],
         files: &[("line.dar", LINE)],
         room: AMPLE,
         status: 4,
         written: "read fault none.txt\n",
-    },
-    Row {
-        words: &["replay", "line.dar", "e.txt"],
-        files: &[
-            ("line.dar", LINE),
-            ("e.txt", "start Line(3,10)\n  # x\nbegin 1 1 1 # x\n"),
-        ],
-        room: AMPLE,
-        status: 3,
-        written: "script e.txt: BadLine 3\n",
-    },
-    Row {
-        words: &["replay", "l.dar", "e.txt"],
-        files: &[
-            ("l.dar", SMALL),
-            ("e.txt", "start L()\nbegin 1 1 1\nclose 1\ntake 1 1 1\n"),
-        ],
-        room: AMPLE,
-        status: 0,
-        written: "events 3\nopen 1 1 root taken\nrest 2\n",
-    },
-    Row {
-        words: &["replay", "l.dar", "e.txt"],
-        files: &[
-            ("l.dar", SMALL),
-            (
-                "e.txt",
-                "start L()\nbegin 1 1 1\nclose 1\ntake 1 1 1\ngive 1 1 1\nend 1 1 1\nclose 0\n",
-            ),
-        ],
-        room: AMPLE,
-        status: 0,
-        written: "events 6\nrest 0\nsettled b\nsettled s\nsettled t\n",
-    },
-    Row {
-        words: &["replay", "l.dar", "e.txt"],
-        files: &[
-            ("l.dar", SMALL),
-            ("e.txt", "start L()\nbegin 1 1 1\nclose 0\nbegin 0 1 1\n"),
-        ],
-        room: AMPLE,
-        status: 9,
-        written: "denied 3 2\n",
-    },
-    Row {
-        words: &["replay", "line.dar", "e.txt"],
-        files: &[
-            ("line.dar", LINE),
-            (
-                "e.txt",
-                "start Line(3,10)\nbegin 1 1 1\ntake 1 1 1\ncall 0 1 11\nclose 1\nclose 0\nunlink 0\n",
-            ),
-        ],
-        room: AMPLE,
-        status: 9,
-        written: "denied 6 22\n",
-    },
-    Row {
-        words: &["replay", "line.dar", "e.txt"],
-        files: &[
-            ("line.dar", LINE),
-            (
-                "e.txt",
-                "start Line(3,10)\nbegin 1 1 1\nclose 0\nclose 1\ntake 1 1 1\n",
-            ),
-        ],
-        room: AMPLE,
-        status: 0,
-        written: "events 4\nopen 1 1 root taken\nrest 6\n",
-    },
-    Row {
-        words: &["replay", "line.dar", "e.txt"],
-        files: &[
-            ("line.dar", LINE),
-            (
-                "e.txt",
-                "start Line(3,10)\nbegin 1 1 1\nclose 0\nclose 1\ntake 1 1 1\ncall 0 1 11\ntake 0 1 11\ngive 0 1 1\nend 0 1 1\ngive 1 1 1\nend 1 1 1\n",
-            ),
-        ],
-        room: AMPLE,
-        status: 0,
-        written: "events 10\nrest 0\nsettled m\nsettled s\nsettled t\n",
-    },
-    Row {
-        words: &["replay", "line.dar", "e.txt"],
-        files: &[
-            ("line.dar", LINE),
-            (
-                "e.txt",
-                "start Line(3,10)\nclose 0\nclose 1\nunlink 1\nlink 1 0 0\nremove 2\n",
-            ),
-        ],
-        room: AMPLE,
-        status: 9,
-        written: "denied 5 25\n",
-    },
-    Row {
-        words: &["replay", "line.dar", "e.txt"],
-        files: &[
-            ("line.dar", LINE),
-            (
-                "e.txt",
-                "start Line(3,10)\nclose 0\nclose 1\nunlink 1\nlink 1 0 0\nunlink 0\nremove 2\n",
-            ),
-        ],
-        room: AMPLE,
-        status: 0,
-        written: "events 6\nrest 0\nsettled m\nsettled s\n",
-    },
-    Row {
-        words: &["replay", "two.dar", "e.txt"],
-        files: &[
-            ("two.dar", ASKING),
-            (
-                "e.txt",
-                "start Two()\nbegin 0 1 5\ntake 0 1 5\nmore 0 1 5\nclose 0\n",
-            ),
-        ],
-        room: AMPLE,
-        status: 0,
-        written: "events 4\nopen 0 1 root taken\nrest 4\n",
-    },
-    Row {
-        words: &["replay", "two.dar", "e.txt"],
-        files: &[
-            ("two.dar", ASKING),
-            (
-                "e.txt",
-                "start Two()\nbegin 0 1 5\ntake 0 1 5\nmore 0 1 5\nclose 0\ngive 0 1 5\n",
-            ),
-        ],
-        room: AMPLE,
-        status: 9,
-        written: "denied 5 29\n",
-    },
-    Row {
-        words: &["replay", "line.dar", "e.txt"],
-        files: &[("line.dar", LINE), ("e.txt", "start Line(3,10)\n")],
-        room: AMPLE,
-        status: 0,
-        written: "events 0\nrest 0\n",
-    },
-    Row {
-        words: &["replay", "line.dar", "e.txt"],
-        files: &[("line.dar", LINE), ("e.txt", "")],
-        room: AMPLE,
-        status: 3,
-        written: "script e.txt: NoStart\n",
-    },
-    Row {
-        words: &["replay", "line.dar", "e.txt"],
-        files: &[
-            ("line.dar", LINE),
-            ("e.txt", "# a note\n \nstart Line(3,10)\nbegin 1 1\n"),
-        ],
-        room: AMPLE,
-        status: 3,
-        written: "script e.txt: BadLine 4\n",
-    },
-    Row {
-        words: &["replay", "line.dar", "e.txt"],
-        files: &[
-            ("line.dar", LINE),
-            ("e.txt", "begin 1 1 1\nstart Line(3,10)\n"),
-        ],
-        room: AMPLE,
-        status: 3,
-        written: "script e.txt: Order 1\n",
-    },
-    Row {
-        words: &["replay", "line.dar", "e.txt"],
-        files: &[
-            ("line.dar", LINE),
-            ("e.txt", "start Line(3,10)\nstart Line(3,10)\n"),
-        ],
-        room: AMPLE,
-        status: 3,
-        written: "script e.txt: Order 2\n",
-    },
-    Row {
-        words: &["replay", "line.dar", "e.txt"],
-        files: &[
-            ("line.dar", LINE),
-            ("e.txt", "start Line(3,10)\nclose 4294967296\n"),
-        ],
-        room: AMPLE,
-        status: 3,
-        written: "script e.txt: NumberTooBig 2\n",
     },
     Row {
         words: &["replay", "none.dar", "e.txt"],
@@ -246,53 +185,6 @@ static ROWS: [Row<'static>; 28] = [
         written: "read fault none.dar\n",
     },
     Row {
-        words: &["replay", "bad.dar", "e.txt"],
-        files: &[
-            ("bad.dar", "component $"),
-            ("e.txt", "start Line(3,10)\nbegin 7 7 7\n"),
-        ],
-        room: AMPLE,
-        status: 2,
-        written: "description bad.dar: BadByte 1:11\n",
-    },
-    Row {
-        words: &["replay", "line.dar", "e.txt"],
-        files: &[("line.dar", LINE), ("e.txt", "start None()\nbegin 7 7 7\n")],
-        room: AMPLE,
-        status: 2,
-        written: "description line.dar: NoTop None\n",
-    },
-    Row {
-        words: &["replay", "line.dar", "e.txt"],
-        files: &[
-            ("line.dar", LINE),
-            ("e.txt", "start Line(3)\nbegin 7 7 7\n"),
-        ],
-        room: AMPLE,
-        status: 2,
-        written: "description line.dar: TopArgs 2 1\n",
-    },
-    Row {
-        words: &["replay", "many.dar", "e.txt"],
-        files: &[
-            ("many.dar", MANY),
-            ("e.txt", "start Many(1024)\nbegin 7 7 7\n"),
-        ],
-        room: AMPLE,
-        status: 2,
-        written: "description many.dar: NodesFull 0 1024\n",
-    },
-    Row {
-        words: &["replay", "many.dar", "e.txt"],
-        files: &[
-            ("many.dar", MANY),
-            ("e.txt", "start Many(1023)\nbegin 7 7 7\n"),
-        ],
-        room: AMPLE,
-        status: 9,
-        written: "denied 1 1\n",
-    },
-    Row {
         words: &["replay", "line.dar", "none.txt"],
         files: &[("line.dar", LINE)],
         room: AMPLE,
@@ -301,9 +193,39 @@ static ROWS: [Row<'static>; 28] = [
     },
 ];
 
+/// Replays events over descriptions, and stops the test where another text or status comes.
+fn replay_all(rt: &impl Abort, alloc: Global, rows: &[Replay]) -> Result<(), Fail> {
+    for (description, events, status, written) in rows {
+        let row = Row {
+            words: &["replay", "f.dar", "e.txt"],
+            files: &[("f.dar", *description), ("e.txt", *events)],
+            room: AMPLE,
+            status: *status,
+            written,
+        };
+        run(rt, alloc, &row)?;
+    }
+    Ok(())
+}
+
 #[test]
-fn replay_applies_events(rt: HostRuntime) -> Result<(), Fail> {
-    for row in &ROWS {
+fn events_lead_or_are_denied(rt: HostRuntime) -> Result<(), Fail> {
+    replay_all(&rt, rt.alloc(), &EVENTS)
+}
+
+#[test]
+fn files_of_events_are_refused(rt: HostRuntime) -> Result<(), Fail> {
+    replay_all(&rt, rt.alloc(), &SCRIPTS)
+}
+
+#[test]
+fn descriptions_of_replays_are_refused(rt: HostRuntime) -> Result<(), Fail> {
+    replay_all(&rt, rt.alloc(), &DESCRIPTIONS)
+}
+
+#[test]
+fn files_of_replays_are_read(rt: HostRuntime) -> Result<(), Fail> {
+    for row in &UNREAD {
         run(&rt, rt.alloc(), row)?;
     }
     Ok(())

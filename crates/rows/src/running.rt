@@ -34,6 +34,6 @@ pub fn run(rt: &impl Abort, alloc: Global, row: &Row<'_>) -> Result<(), Fail> {
     let status = still(alloc, words.as_slice(), &mut shelf, &mut sink);
     let written = row.written;
     assert_eq!(rt; sink.bytes(), written.as_bytes(), "{written}");
-    assert_eq!(rt; status as u8, row.status, "{written}");
+    assert_eq!(rt; status.number(), row.status, "{written}");
     Ok(())
 }

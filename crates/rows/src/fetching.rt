@@ -1,0 +1,90 @@
+//! Rows of fetches: which there are, and that there are no more.
+
+use crate::descriptions::LINE;
+use crate::running::AMPLE;
+use cfg_io::{MemShelf, MemSink};
+use darwin_commands::still;
+use std::test::Fail;
+
+/// Words, the number of the fetch that fails, counted from 0, and what they come to.
+struct Failing {
+    words: &'static [&'static str],
+    fetch: u32,
+    status: u8,
+    written: &'static str,
+}
+
+const FLAT: [&str; 5] = ["flat", "line.dar", "Line", "3", "10"];
+
+const PLAN: [&str; 9] = [
+    "plan", "line.dar", "Line", "3", "10", "--", "Line", "3", "10",
+];
+
+const REPLAY: [&str; 3] = ["replay", "line.dar", "e.txt"];
+
+/// Each file is fetched once, so that the fetch behind the last doesn't fail.
+static ROWS: [Failing; 7] = [
+    Failing {
+        words: &FLAT,
+        fetch: 0,
+        status: 4,
+        written: "read fault line.dar\n",
+    },
+    Failing {
+        words: &FLAT,
+        fetch: 1,
+        status: 0,
+        written: "node m map(10)\nport m.next t.in\nnode s source(3)\nport s.out m.in\nnode t sink()\n",
+    },
+    Failing {
+        words: &PLAN,
+        fetch: 0,
+        status: 4,
+        written: "read fault line.dar\n",
+    },
+    Failing {
+        words: &PLAN,
+        fetch: 1,
+        status: 0,
+        written: "",
+    },
+    Failing {
+        words: &REPLAY,
+        fetch: 0,
+        status: 4,
+        written: "read fault e.txt\n",
+    },
+    Failing {
+        words: &REPLAY,
+        fetch: 1,
+        status: 4,
+        written: "read fault line.dar\n",
+    },
+    Failing {
+        words: &REPLAY,
+        fetch: 2,
+        status: 0,
+        written: "events 0\nrest 0\n",
+    },
+];
+
+#[test]
+fn each_file_is_fetched_once(rt: HostRuntime) -> Result<(), Fail> {
+    let alloc = rt.alloc();
+    for row in &ROWS {
+        let mut shelf = MemShelf::new(alloc);
+        shelf.add("line.dar", LINE.as_bytes())?;
+        shelf.add("e.txt", b"start Line(3,10)\n")?;
+        shelf.fail_at(row.fetch)?;
+        let mut sink = MemSink::new(alloc, AMPLE)?;
+        let mut words = Vec::new(alloc);
+        for word in row.words {
+            words.push(String::from_str(alloc, word)?)?;
+        }
+        let status = still(alloc, words.as_slice(), &mut shelf, &mut sink);
+        let written = row.written;
+        assert_eq!(rt; sink.bytes(), written.as_bytes(), "{written}");
+        assert_eq!(rt; status.number(), row.status, "{written}");
+    }
+    Ok(())
+}
