@@ -1,24 +1,22 @@
 -- What each status of a run says of its words and fetches, from the one relation of runs.
 use Rattle.std.proofs.Common.{◌≡◌, ◌≢◌, ◌∙◌, ◌⊎◌, inl, inr, ℕ, List, [], ◌∷◌, ◌++◌, Option, append-nil, refl, ap}
+use Rattle.std.specs.Prelude.{codes}
 use Rattle.cfg_io.specs.Count.{Rose}
 use Rattle.cfg_io.specs.Shelf.{Files}
+use Rattle.cfg_io.specs.Sink.{with_bytes}
 use Rattle.darwin_commands.specs.declared.status.Status.{Status}
 use Rattle.darwin_commands.specs.declared.status.Status.TheVariants as status
-use Rattle.darwin_commands.specs.Words.{Command, help, version, flat, plan, replay}
+use Rattle.darwin_commands.specs.declared.TheConstants.{HELP, VERSION}
+use Rattle.darwin_commands.specs.Lines.{read_fault_line}
+use Rattle.darwin_commands.specs.Words.{Command, help, version, flat, plan, replay, Asks}
 use Rattle.darwin_commands.specs.Wanted.{Wanted, its_graph, its_plan, its_replay}
 use Rattle.darwin_commands.specs.Answers.{Given, held, Fetch, Written, whole, stopped, DescriptionAnswers, cannot_read, is_too_long, refused, answered, ScriptAnswers, cannot_read_script, script_too_long, script_at_fault, Answers, no_form, answered_to, unread, no_memory, Runs, failed_names, fetch_of}
-use Rattle.darwin_commands.specs.Outcomes.{HasNoForm, NamesFile, Names, Ends}
-use Rattle.darwin_commands.proofs.Inverting.{Answer, of_command, command_status, not_usage, not_write_fault}
+use Rattle.darwin_commands.specs.Outcomes.{HasNoForm, NamesFile, Names, Ends, WroteFront}
+use Rattle.darwin_commands.proofs.Inverting.{Answer, of_command, of_words, Plain, command_status, not_usage, not_write_fault, not_no_memory, not_pending, not_unfinished, not_unlawful}
+use Rattle.darwin_commands.proofs.Statuses.{not_two, ok_read_fault, denied_read_fault, memory_ok, write_fault_ok, usage_pending, usage_unfinished, usage_unlawful, memory_pending, memory_unfinished, memory_unlawful, write_fault_pending, write_fault_unfinished, write_fault_unlawful}
 use Rattle.darwin_commands.proofs.Wanting.{gives_status}
 
 -- ---- statuses of answers
-
-own_usage : (words : List (List ℕ)) (fetches : List Fetch) (own : Status) (text : List ℕ) → Answers words fetches own text → own ≡ status.Usage → HasNoForm words
-own_usage words _ _ _ (no_form none) is = none
-own_usage words _ _ _ (answered_to command fetches own text asks to) is =
-    absurd (not_usage own (command_status command fetches own text (of_command command fetches own text to)) is)
-own_usage words _ _ _ unread is = cc
-own_usage words _ _ _ (no_memory command fetches asks may) is = cc
 
 own_no_write_fault : (words : List (List ℕ)) (fetches : List Fetch) (own : Status) (text : List ℕ) → Answers words fetches own text → own ≢ status.WriteFault
 own_no_write_fault words _ _ _ (no_form none) is = cc
@@ -31,15 +29,15 @@ own_no_write_fault words _ _ _ (no_memory command fetches asks may) is = cc
 
 description_fault :
     (file : List ℕ) (wanted : Wanted) (given : Given) (own : Status) (text : List ℕ) → DescriptionAnswers file wanted given own text
-    → own ≡ status.ReadFault → failed_names (fetch_of file given ∷ []) ≡ file ∷ []
-description_fault file wanted _ _ _ cannot_read is = refl
+    → own ≡ status.ReadFault → (failed_names (fetch_of file given ∷ []) ≡ file ∷ []) × (text ≡ read_fault_line file)
+description_fault file wanted _ _ _ cannot_read is = (refl, refl)
 description_fault file wanted _ _ _ is_too_long is = cc
 description_fault file wanted _ _ _ (refused text why refuses) is = cc
 description_fault file wanted _ _ _ (answered text own written gives) is = by (gives_status wanted text own written gives)
   where
-    by : (own ≡ status.Ok) ⊎ (own ≡ status.Denied) → failed_names (fetch_of file (held text) ∷ []) ≡ file ∷ []
-    by (inl well) = cc (well, is)
-    by (inr denied) = cc (denied, is)
+    by : (own ≡ status.Ok) ⊎ (own ≡ status.Denied) → (failed_names (fetch_of file (held text) ∷ []) ≡ file ∷ []) × (written ≡ read_fault_line file)
+    by (inl well) = absurd (not_two own status.Ok status.ReadFault well is ok_read_fault)
+    by (inr denied) = absurd (not_two own status.Denied status.ReadFault denied is denied_read_fault)
 
 description_failed :
     (file : List ℕ) (wanted : Wanted) (given : Given) (own : Status) (text : List ℕ) → DescriptionAnswers file wanted given own text
@@ -51,8 +49,8 @@ description_failed file wanted _ _ _ (answered text own written gives) some = ab
 
 script_fault :
     (name : List ℕ) (given : Given) (own : Status) (text : List ℕ) → ScriptAnswers name given own text
-    → own ≡ status.ReadFault → failed_names (fetch_of name given ∷ []) ≡ name ∷ []
-script_fault name _ _ _ cannot_read_script is = refl
+    → own ≡ status.ReadFault → (failed_names (fetch_of name given ∷ []) ≡ name ∷ []) × (text ≡ read_fault_line name)
+script_fault name _ _ _ cannot_read_script is = (refl, refl)
 script_fault name _ _ _ script_too_long is = cc
 script_fault name _ _ _ (script_at_fault bytes fault first) is = cc
 
@@ -66,17 +64,21 @@ script_failed name _ _ _ (script_at_fault bytes fault first) some = absurd (some
 -- the file of which a fetch failed
 failed_file :
     (command : Command) (fetches : List Fetch) (own : Status) (text : List ℕ) → Answer command fetches own text → own ≡ status.ReadFault
-    → (file : List ℕ) × Names command file × (failed_names fetches ≡ file ∷ [])
+    → (file : List ℕ) × Names command file × (failed_names fetches ≡ file ∷ []) × (text ≡ read_fault_line file)
 failed_file help fetches own text answer is = cc (answer.0, is)
 failed_file version fetches own text answer is = cc (answer.0, is)
 failed_file (flat file top args) fetches own text answer is =
-    (file, refl, ap failed_names answer.is ∙ description_fault file (its_graph top args) answer.given own text answer.answer is)
+    let told = description_fault file (its_graph top args) answer.given own text answer.answer is in
+    (file, refl, ap failed_names answer.is ∙ told.0, told.1)
 failed_file (plan file top args to to_args) fetches own text answer is =
-    (file, refl, ap failed_names answer.is ∙ description_fault file (its_plan top args to to_args) answer.given own text answer.answer is)
+    let told = description_fault file (its_plan top args to to_args) answer.given own text answer.answer is in
+    (file, refl, ap failed_names answer.is ∙ told.0, told.1)
 failed_file (replay file name) fetches own text (inl answer) is =
-    (name, inr refl, ap failed_names answer.is ∙ script_fault name answer.given own text answer.answer is)
+    let told = script_fault name answer.given own text answer.answer is in
+    (name, inr refl, ap failed_names answer.is ∙ told.0, told.1)
 failed_file (replay file name) fetches own text (inr answer) is =
-    (file, inl refl, ap failed_names answer.is ∙ description_fault file (its_replay answer.script) answer.given own text answer.answer is)
+    let told = description_fault file (its_replay answer.script) answer.given own text answer.answer is in
+    (file, inl refl, ap failed_names answer.is ∙ told.0, told.1)
 
 any_failed :
     (command : Command) (fetches : List Fetch) (own : Status) (text : List ℕ) → Answer command fetches own text → failed_names fetches ≢ []
@@ -95,11 +97,19 @@ any_failed (replay file name) fetches own text (inr answer) some =
 -- ---- the clauses
 
 module _ (words : List (List ℕ)) (files : Option Files) (failures failures' : List (List ℕ)) (taken taken' : Option (List ℕ)) (faults faults' : ℕ) (result : Status) (run : Runs words files failures failures' taken taken' faults faults' result) where
-  pub usage : result ≡ status.Usage → HasNoForm words
+  pub usage : result ≡ status.Usage → HasNoForm words × (taken' ≡ with_bytes taken (codes "usage" ++ 10 ∷ []))
   usage is = by result run.written is
     where
-      by : (r : Status) → Written run.own run.text taken taken' faults faults' r → r ≡ status.Usage → HasNoForm words
-      by _ (whole took same) is = own_usage words run.fetches run.own run.text run.answers is
+      own : (fetches : List Fetch) (s : Status) (text : List ℕ) → Answers words fetches s text → s ≡ status.Usage → taken' ≡ with_bytes taken text
+          → HasNoForm words × (taken' ≡ with_bytes taken (codes "usage" ++ 10 ∷ []))
+      own _ _ _ (no_form none) is took = (none, took)
+      own _ _ _ (answered_to command fetches s text asks to) is took =
+          absurd (not_usage s (command_status command fetches s text (of_command command fetches s text to)) is)
+      own _ _ _ unread is took = cc
+      own _ _ _ (no_memory command fetches asks may) is took = cc
+
+      by : (r : Status) → Written run.own run.text taken taken' faults faults' r → r ≡ status.Usage → HasNoForm words × (taken' ≡ with_bytes taken (codes "usage" ++ 10 ∷ []))
+      by _ (whole took same) is = own run.fetches run.own run.text run.answers is took
       by _ (stopped n short took rose) is = cc
 
   pub every_usage : HasNoForm words → Ends result status.Usage
@@ -115,20 +125,21 @@ module _ (words : List (List ℕ)) (files : Option Files) (failures failures' : 
       by _ (whole took same) = own run.fetches run.own run.text run.answers
       by _ (stopped n short took rose) = inr (inr refl)
 
-  pub read_fault : result ≡ status.ReadFault → (file : List ℕ) × NamesFile words file × (failures' ≡ failures ++ file ∷ [])
+  pub read_fault : result ≡ status.ReadFault → (file : List ℕ) × NamesFile words file × (failures' ≡ failures ++ file ∷ []) × (taken' ≡ with_bytes taken (read_fault_line file))
   read_fault is = by result run.written is
     where
-      own : (fetches : List Fetch) (s : Status) (text : List ℕ) → Answers words fetches s text → s ≡ status.ReadFault → failures' ≡ failures ++ failed_names fetches
-          → (file : List ℕ) × NamesFile words file × (failures' ≡ failures ++ file ∷ [])
-      own _ _ _ (no_form none) is noted = cc
-      own _ _ _ (answered_to command fetches s text asks to) is noted =
+      own : (fetches : List Fetch) (s : Status) (text : List ℕ) → Answers words fetches s text → s ≡ status.ReadFault → failures' ≡ failures ++ failed_names fetches → taken' ≡ with_bytes taken text
+          → (file : List ℕ) × NamesFile words file × (failures' ≡ failures ++ file ∷ []) × (taken' ≡ with_bytes taken (read_fault_line file))
+      own _ _ _ (no_form none) is noted took = cc
+      own _ _ _ (answered_to command fetches s text asks to) is noted took =
           let found = failed_file command fetches s text (of_command command fetches s text to) is in
-          (found.0, (command, asks, found.1), noted ∙ ap (λ names. failures ++ names) found.2)
-      own _ _ _ unread is noted = cc
-      own _ _ _ (no_memory command fetches asks may) is noted = cc
+          (found.0, (command, asks, found.1), noted ∙ ap (λ names. failures ++ names) found.2, took ∙ ap (with_bytes taken) found.3)
+      own _ _ _ unread is noted took = cc
+      own _ _ _ (no_memory command fetches asks may) is noted took = cc
 
-      by : (r : Status) → Written run.own run.text taken taken' faults faults' r → r ≡ status.ReadFault → (file : List ℕ) × NamesFile words file × (failures' ≡ failures ++ file ∷ [])
-      by _ (whole took same) is = own run.fetches run.own run.text run.answers is run.noted
+      by : (r : Status) → Written run.own run.text taken taken' faults faults' r → r ≡ status.ReadFault
+          → (file : List ℕ) × NamesFile words file × (failures' ≡ failures ++ file ∷ []) × (taken' ≡ with_bytes taken (read_fault_line file))
+      by _ (whole took same) is = own run.fetches run.own run.text run.answers is run.noted took
       by _ (stopped n short took rose) is = cc
 
   pub every_read_fault : failures' ≢ failures → Ends result status.ReadFault
@@ -148,12 +159,16 @@ module _ (words : List (List ℕ)) (files : Option Files) (failures failures' : 
       by _ (whole took same) = own run.fetches run.own run.text run.answers run.noted
       by _ (stopped n short took rose) = inr (inr refl)
 
-  pub write_fault : result ≡ status.WriteFault → Rose faults faults'
+  pub write_fault : result ≡ status.WriteFault → Rose faults faults' × WroteFront words files taken taken'
   write_fault is = by result run.written is
     where
-      by : (r : Status) → Written run.own run.text taken taken' faults faults' r → r ≡ status.WriteFault → Rose faults faults'
-      by _ (whole took same) is = absurd (own_no_write_fault words run.fetches run.own run.text run.answers is)
-      by _ (stopped n short took rose) is = rose
+      other : run.own ≢ status.WriteFault
+      other = own_no_write_fault words run.fetches run.own run.text run.answers
+
+      by : (r : Status) → Written run.own run.text taken taken' faults faults' r → r ≡ status.WriteFault → Rose faults faults' × WroteFront words files taken taken'
+      by _ (whole took same) is = absurd (other is)
+      by _ (stopped n short took rose) is =
+          (rose, record { fetches = run.fetches; own = run.own; text = run.text; answers = run.answers; told = run.told; other = other; count = n; short = short; front = took })
 
   pub every_write_fault : result ≢ status.WriteFault → faults' ≡ faults
   every_write_fault other = by result run.written other
@@ -161,3 +176,58 @@ module _ (words : List (List ℕ)) (files : Option Files) (failures failures' : 
       by : (r : Status) → Written run.own run.text taken taken' faults faults' r → r ≢ status.WriteFault → faults' ≡ faults
       by _ (whole took same) other = same
       by _ (stopped n short took rose) other = absurd (other refl)
+
+  pub no_memory_line : result ≡ status.NoMemory → taken' ≡ with_bytes taken (codes "no memory" ++ 10 ∷ [])
+  no_memory_line is = by result run.written is
+    where
+      own : (fetches : List Fetch) (s : Status) (text : List ℕ) → Answers words fetches s text → s ≡ status.NoMemory → taken' ≡ with_bytes taken text
+          → taken' ≡ with_bytes taken (codes "no memory" ++ 10 ∷ [])
+      own _ _ _ (no_form none) is took = cc
+      own _ _ _ (answered_to command fetches s text asks to) is took =
+          absurd (not_no_memory s (command_status command fetches s text (of_command command fetches s text to)) is)
+      own _ _ _ unread is took = took
+      own _ _ _ (no_memory command fetches asks may) is took = took
+
+      by : (r : Status) → Written run.own run.text taken taken' faults faults' r → r ≡ status.NoMemory → taken' ≡ with_bytes taken (codes "no memory" ++ 10 ∷ [])
+      by _ (whole took same) is = own run.fetches run.own run.text run.answers is took
+      by _ (stopped n short took rose) is = cc
+
+  -- what words give that ask for a text of the program's own
+  its_text : (command : Command) (own_text : List ℕ) → Asks words command
+      → ((fetches : List Fetch) (s : Status) (text : List ℕ) → Answer command fetches s text → (s ≡ status.Ok) × (text ≡ own_text))
+      → Ends result status.Ok × (result ≡ status.Ok → taken' ≡ with_bytes taken own_text)
+  its_text command own_text asks says = by result run.written
+    where
+      own : Answer command run.fetches run.own run.text ⊎ (run.own ≡ status.NoMemory) → taken' ≡ with_bytes taken run.text
+          → Ends run.own status.Ok × (run.own ≡ status.Ok → taken' ≡ with_bytes taken own_text)
+      own (inl answer) took =
+          let told = says run.fetches run.own run.text answer in
+          (inl told.0, λ well. took ∙ ap (with_bytes taken) told.1)
+      own (inr memory) took = (inr (inl memory), λ well. absurd (not_two run.own status.NoMemory status.Ok memory well memory_ok))
+
+      by : (r : Status) → Written run.own run.text taken taken' faults faults' r → Ends r status.Ok × (r ≡ status.Ok → taken' ≡ with_bytes taken own_text)
+      by _ (whole took same) = own (of_words words command run.fetches run.own run.text asks run.answers) took
+      by _ (stopped n short took rose) = (inr (inr refl), λ well. absurd (write_fault_ok well))
+
+  pub helped : Asks words help → Ends result status.Ok × (result ≡ status.Ok → taken' ≡ with_bytes taken HELP.now)
+  helped asks = its_text help HELP.now asks (λ fetches s text answer. (answer.0, answer.2))
+
+  pub versioned : Asks words version → Ends result status.Ok × (result ≡ status.Ok → taken' ≡ with_bytes taken VERSION.now)
+  versioned asks = its_text version VERSION.now asks (λ fetches s text answer. (answer.0, answer.2))
+
+  -- no answer of words has this status, and no failing sink gives it
+  never : (other : Status) → ((s : Status) → Plain s → s ≢ other) → status.Usage ≢ other → status.NoMemory ≢ other → status.WriteFault ≢ other → result ≢ other
+  never other plain not_used not_short not_failed = by result run.written
+    where
+      own : (fetches : List Fetch) (s : Status) (text : List ℕ) → Answers words fetches s text → s ≢ other
+      own _ _ _ (no_form none) = not_used
+      own _ _ _ (answered_to command fetches s text asks to) = plain s (command_status command fetches s text (of_command command fetches s text to))
+      own _ _ _ unread = not_short
+      own _ _ _ (no_memory command fetches asks may) = not_short
+
+      by : (r : Status) → Written run.own run.text taken taken' faults faults' r → r ≢ other
+      by _ (whole took same) = own run.fetches run.own run.text run.answers
+      by _ (stopped n short took rose) = not_failed
+
+  pub no_other : (result ≢ status.Pending) × (result ≢ status.Unfinished) × (result ≢ status.Unlawful)
+  no_other = (never status.Pending not_pending usage_pending memory_pending write_fault_pending, never status.Unfinished not_unfinished usage_unfinished memory_unfinished write_fault_unfinished, never status.Unlawful not_unlawful usage_unlawful memory_unlawful write_fault_unlawful)

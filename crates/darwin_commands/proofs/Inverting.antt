@@ -4,6 +4,7 @@ use Rattle.change_script.specs.declared.event_files.EventFile.{EventFile}
 use Rattle.change_script.specs.EventFiles.{IsEventFile}
 use Rattle.darwin_commands.specs.declared.status.Status.{Status}
 use Rattle.darwin_commands.specs.declared.status.Status.TheVariants as status
+use Rattle.darwin_commands.specs.declared.TheConstants.{HELP, VERSION}
 use Rattle.darwin_commands.specs.Words.{Command, help, version, flat, plan, replay, Asks}
 use Rattle.darwin_commands.specs.Wanted.{Wanted, its_graph, its_plan, its_replay}
 use Rattle.darwin_commands.specs.Answers.{Given, held, Fetch, fetch_of, DescriptionAnswers, cannot_read, is_too_long, refused, answered, ScriptAnswers, cannot_read_script, script_too_long, script_at_fault, AnswersTo, helped, versioned, flattened, planned, script_refused, replayed, Answers, no_form, answered_to, unread, no_memory}
@@ -31,15 +32,15 @@ pub record OfReplay (file name : List ℕ) (fetches : List Fetch) (own : Status)
 
 -- what is answered to a command
 abbrev pub Answer : Command → List Fetch → Status → List ℕ → Type 0
-Answer help fetches own text = (own ≡ status.Ok) × (fetches ≡ [])
-Answer version fetches own text = (own ≡ status.Ok) × (fetches ≡ [])
+Answer help fetches own text = (own ≡ status.Ok) × (fetches ≡ []) × (text ≡ HELP.now)
+Answer version fetches own text = (own ≡ status.Ok) × (fetches ≡ []) × (text ≡ VERSION.now)
 Answer (flat file top args) fetches own text = OfDescription file (its_graph top args) fetches own text
 Answer (plan file top args to to_args) fetches own text = OfDescription file (its_plan top args to to_args) fetches own text
 Answer (replay file name) fetches own text = OfScript name fetches own text ⊎ OfReplay file name fetches own text
 
 pub of_command : (command : Command) (fetches : List Fetch) (own : Status) (text : List ℕ) → AnswersTo command fetches own text → Answer command fetches own text
-of_command _ _ _ _ helped = (refl, refl)
-of_command _ _ _ _ versioned = (refl, refl)
+of_command _ _ _ _ helped = (refl, refl, refl)
+of_command _ _ _ _ versioned = (refl, refl, refl)
 of_command _ _ _ _ (flattened file top args given own text answer) = record { given = given; is = refl; answer = answer }
 of_command _ _ _ _ (planned file top args to to_args given own text answer) = record { given = given; is = refl; answer = answer }
 of_command _ _ _ _ (script_refused file name given own text answer) = inl (record { given = given; is = refl; answer = answer })
@@ -103,3 +104,31 @@ not_write_fault _ description is = cc
 not_write_fault _ script is = cc
 not_write_fault _ read_fault is = cc
 not_write_fault _ denied is = cc
+
+pub not_no_memory : (own : Status) → Plain own → own ≢ status.NoMemory
+not_no_memory _ well is = cc
+not_no_memory _ description is = cc
+not_no_memory _ script is = cc
+not_no_memory _ read_fault is = cc
+not_no_memory _ denied is = cc
+
+pub not_pending : (own : Status) → Plain own → own ≢ status.Pending
+not_pending _ well is = cc
+not_pending _ description is = cc
+not_pending _ script is = cc
+not_pending _ read_fault is = cc
+not_pending _ denied is = cc
+
+pub not_unfinished : (own : Status) → Plain own → own ≢ status.Unfinished
+not_unfinished _ well is = cc
+not_unfinished _ description is = cc
+not_unfinished _ script is = cc
+not_unfinished _ read_fault is = cc
+not_unfinished _ denied is = cc
+
+pub not_unlawful : (own : Status) → Plain own → own ≢ status.Unlawful
+not_unlawful _ well is = cc
+not_unlawful _ description is = cc
+not_unlawful _ script is = cc
+not_unlawful _ read_fault is = cc
+not_unlawful _ denied is = cc

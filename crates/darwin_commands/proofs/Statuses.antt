@@ -45,6 +45,39 @@ write_fault_description is = cc
 pub write_fault_script : status.WriteFault ≢ status.Script
 write_fault_script is = cc
 
+pub ok_read_fault : status.Ok ≢ status.ReadFault
+ok_read_fault is = cc
+
+pub denied_read_fault : status.Denied ≢ status.ReadFault
+denied_read_fault is = cc
+
+pub usage_pending : status.Usage ≢ status.Pending
+usage_pending is = cc
+
+pub usage_unfinished : status.Usage ≢ status.Unfinished
+usage_unfinished is = cc
+
+pub usage_unlawful : status.Usage ≢ status.Unlawful
+usage_unlawful is = cc
+
+pub memory_pending : status.NoMemory ≢ status.Pending
+memory_pending is = cc
+
+pub memory_unfinished : status.NoMemory ≢ status.Unfinished
+memory_unfinished is = cc
+
+pub memory_unlawful : status.NoMemory ≢ status.Unlawful
+memory_unlawful is = cc
+
+pub write_fault_pending : status.WriteFault ≢ status.Pending
+write_fault_pending is = cc
+
+pub write_fault_unfinished : status.WriteFault ≢ status.Unfinished
+write_fault_unfinished is = cc
+
+pub write_fault_unlawful : status.WriteFault ≢ status.Unlawful
+write_fault_unlawful is = cc
+
 -- a status isn't two
 pub not_two : (own x y : Status) → own ≡ x → own ≡ y → x ≢ y → ⊥
 not_two own x y a b differ = differ (sym a ∙ b)

@@ -1,5 +1,6 @@
 -- What each status of a run says, of the words and of what was fetched and written.
-use Rattle.std.specs.Prelude.{◌≡◌, ◌≤◌, ◌<◌, ◌⊎◌, ℕ, ℤ, List, [], ◌∷◌, Option, Some, None, IsSomeAnd, length, codes}
+use Rattle.std.specs.Prelude.{◌≡◌, ◌≢◌, ◌≤◌, ◌<◌, ◌⊎◌, ℕ, ℤ, List, [], ◌∷◌, Option, Some, None, IsSomeAnd, length, take, codes}
+use Rattle.std.specs.List.{AllByRecursion}
 use Rattle.cfg_io.specs.Shelf.{Files}
 use Rattle.cfg_io.specs.Sink.{with_bytes}
 use Rattle.config_graph.specs.Graph.{Configuration}
@@ -15,7 +16,7 @@ use Rattle.darwin_commands.specs.Descriptions.{HasGraph}
 use Rattle.darwin_commands.specs.Plans.{HasPlan}
 use Rattle.darwin_commands.specs.Replays.{HasReplay}
 use Rattle.darwin_commands.specs.Wanted.{Wanted, its_graph, its_plan, its_replay, IsRefused, Gives}
-use Rattle.darwin_commands.specs.Answers.{file_limit}
+use Rattle.darwin_commands.specs.Answers.{Fetch, Gave, Answers, file_limit}
 
 -- the words ask for nothing
 abbrev pub HasNoForm : List (List ℕ) → Type 0
@@ -36,6 +37,18 @@ NamesFile words file = (command : Command) × Asks words command × Names comman
 -- the status, unless memory ran out or the sink failed
 abbrev pub Ends : Status → Status → Type 0
 Ends result own = (result ≡ own) ⊎ (result ≡ status.NoMemory) ⊎ (result ≡ status.WriteFault)
+
+-- A proper front went out of a text that words could have given with another status, by the files that the shelf tells.
+pub record WroteFront (words : List (List ℕ)) (files : Option Files) (taken taken' : Option (List ℕ)) : Type 0 where
+  pub fetches : List Fetch
+  pub own : Status
+  pub text : List ℕ
+  pub answers : Answers words fetches own text
+  pub told : AllByRecursion (Gave files) fetches
+  pub other : own ≢ status.WriteFault
+  pub count : ℕ
+  pub short : count < length text
+  pub front : taken' ≡ with_bytes taken (take count text)
 
 -- where the shelf tells its files, the file of the name holds these bytes
 abbrev pub Tells : Option Files → List ℕ → List ℕ → Type 0

@@ -1,20 +1,22 @@
 //! All commands that run on one thread.
 
-ghost use Rattle.std.specs.Prelude.{◌≡◌, ◌≢◌, ◌≤◌, ◌∷◌, ◌++◌, [], ℕ, ℤ, List, Some, length, map, string_bytes};
+ghost use Rattle.std.specs.Prelude.{◌≡◌, ◌≢◌, ◌≤◌, ◌∷◌, ◌++◌, [], ℕ, ℤ, List, Some, codes, length, map, string_bytes};
 ghost use Rattle.cfg_io.specs.Count.{Rose};
 ghost use Rattle.cfg_io.specs.Shelf.{Files};
+ghost use Rattle.cfg_io.specs.Sink.{with_bytes};
 ghost use Rattle.config_graph.specs.Graph.{Configuration};
 ghost use Rattle.darwin_commands.specs.Answers.{Runs, file_limit};
 ghost use Rattle.darwin_commands.specs.Descriptions.{HasGraph};
-ghost use Rattle.darwin_commands.specs.Outcomes.{HasNoForm, NamesFile, Ends, Flattened, Planned, Replayed, Refused, ScriptRefused, MustRefuse, MustRefuseScript, NothingRefuses, EndsAsGiven, Wants};
+ghost use Rattle.darwin_commands.specs.Outcomes.{HasNoForm, NamesFile, Ends, WroteFront, Flattened, Planned, Replayed, Refused, ScriptRefused, MustRefuse, MustRefuseScript, NothingRefuses, EndsAsGiven, Wants};
+ghost use Rattle.darwin_commands.specs.Lines.{read_fault_line};
 ghost use Rattle.darwin_commands.specs.Plans.{Starts};
 ghost use Rattle.event_replay.specs.Replay.{IsDenied};
 ghost use Rattle.quiesce_core.specs.Start.{started};
 ghost use Rattle.change_script.specs.declared.event_files.EventFile.{EventFile};
 ghost use Rattle.darwin_commands.specs.declared.status.Status.{Status};
 ghost use Rattle.darwin_commands.specs.Wanted.{Wanted, its_replay, Gives};
-ghost use Rattle.darwin_commands.specs.declared.status.Status.TheVariants.{Usage, ReadFault, WriteFault, Description, Script, Denied};
-ghost use Rattle.darwin_commands.specs.Words.{Asks, flat as flat_command, plan as plan_command, replay as replay_command};
+ghost use Rattle.darwin_commands.specs.declared.status.Status.TheVariants.{Usage, ReadFault, WriteFault, Description, Script, Denied, NoMemory, Pending, Unfinished, Unlawful};
+ghost use Rattle.darwin_commands.specs.Words.{Asks, help, version, flat as flat_command, plan as plan_command, replay as replay_command};
 ghost use Rattle.darwin_commands.specs.Requests.{command_of};
 
 use crate::answer::{finish, no_memory, write};
@@ -36,15 +38,23 @@ pub fn still<H: Shelf, K: Sink>(
 ) -> Status
     // The fetches, the answer and what was written of it.
     ensures runs { Runs (map string_bytes words.now) (H.files shelf.old) (H.failed shelf.old) (H.failed shelf.new) (K.taken out.old) (K.taken out.new) (K.faults out.old) (K.faults out.new) result }
-    // Usage, exactly where the words have none of the forms.
-    ensures usage { result ≡ Usage → HasNoForm (map string_bytes words.now) }
+    // Usage, exactly where the words have none of the forms, with its line.
+    ensures usage { result ≡ Usage → HasNoForm (map string_bytes words.now) × (K.taken out.new ≡ with_bytes (K.taken out.old) (codes "usage" ++ 10 ∷ [])) }
     ensures every_usage { HasNoForm (map string_bytes words.now) → Ends result Usage }
-    // ReadFault, exactly where a fetch failed; the file is one that the words name.
-    ensures read_fault { result ≡ ReadFault → (file : List ℕ) × NamesFile (map string_bytes words.now) file × (H.failed shelf.new ≡ H.failed shelf.old ++ file ∷ []) }
+    // ReadFault, exactly where a fetch failed; the file is one that the words name, and the line names it.
+    ensures read_fault { result ≡ ReadFault → (file : List ℕ) × NamesFile (map string_bytes words.now) file × (H.failed shelf.new ≡ H.failed shelf.old ++ file ∷ [])
+        × (K.taken out.new ≡ with_bytes (K.taken out.old) (read_fault_line file)) }
     ensures every_read_fault { H.failed shelf.new ≢ H.failed shelf.old → Ends result ReadFault }
-    // WriteFault, exactly where a put failed.
-    ensures write_fault { result ≡ WriteFault → Rose (K.faults out.old) (K.faults out.new) }
+    // WriteFault, exactly where a put failed; a proper front went out of a text that another status could have had.
+    ensures write_fault { result ≡ WriteFault → Rose (K.faults out.old) (K.faults out.new)
+        × WroteFront (map string_bytes words.now) (H.files shelf.old) (K.taken out.old) (K.taken out.new) }
     ensures every_write_fault { result ≢ WriteFault → K.faults out.new ≡ K.faults out.old }
+    // NoMemory with its line, and no status of a command that isn't here.
+    ensures no_memory { result ≡ NoMemory → K.taken out.new ≡ with_bytes (K.taken out.old) (codes "no memory" ++ 10 ∷ []) }
+    ensures no_other { (result ≢ Pending) × (result ≢ Unfinished) × (result ≢ Unlawful) }
+    // The program's own texts.
+    ensures helped { Asks (map string_bytes words.now) help → Ends result Status.Ok × (result ≡ Status.Ok → K.taken out.new ≡ with_bytes (K.taken out.old) HELP.now) }
+    ensures versioned { Asks (map string_bytes words.now) version → Ends result Status.Ok × (result ≡ Status.Ok → K.taken out.new ≡ with_bytes (K.taken out.old) VERSION.now) }
     // Of `flat` the text of the graph, of `plan` that of the plan, and of `replay` that of what is open and settled.
     ensures flattened { (file top : List ℕ) (args : List ℤ) → Asks (map string_bytes words.now) (flat_command file top args) → result ≡ Status.Ok
         → Flattened (H.files shelf.old) file top args (K.taken out.old) (K.taken out.new) }
