@@ -1,6 +1,7 @@
 """What the program may answer to a command line and files, told by the plain statements of the language, the plans, the machine and the event files here.
 
 Where several faults of a description hold, any of them may be named; all else has one answer."""
+import functools
 import os
 
 import model
@@ -9,7 +10,6 @@ from language import GREATEST, LEAST, Description
 
 LIMIT = 1 << 20
 LATER = {"OutOfRange", "ZeroDivisor", "BadIndex", "TwoInstances", "BoundTwice", "BadBinding", "Annotation", "TooDeep", "TooMany"}
-READ = {}
 
 
 class Refusal(Exception):
@@ -19,16 +19,14 @@ class Refusal(Exception):
         self.answers, self.is_open = {(status, line + b"\n") for line in lines}, is_open
 
 
+@functools.lru_cache(maxsize=4)
 def described(text):
     """The description of a text, of which the last few are kept."""
-    if text not in READ:
-        if len(READ) > 3:
-            READ.clear()
-        READ[text] = Description(text)
-    return READ[text]
+    return Description(text)
 
 
 def fetched(files, name, status, prefix):
+    """The bytes of a file that keeps the limit; where it doesn't, the refusal has this status and begins so."""
     text = files.get(os.fsdecode(name))
     if text is None:
         raise Refusal(4, [b"read fault " + name])
@@ -38,13 +36,15 @@ def fetched(files, name, status, prefix):
 
 
 def graph(text, file, top, args):
-    found, faults, is_open = described(text).answers(top.decode() if isinstance(top, bytes) else top, args)
+    """The graph of a component of a description, or its faults."""
+    found, faults, is_open = described(text).answers(top, args)
     if found is None:
         raise Refusal(2, [b"description " + file + b": " + fault.encode() for fault in faults], is_open)
     return found
 
 
 def planned(file, old, new, made):
+    """The text of the plan between two graphs, where so many nodes and ports were made before."""
     status, text = model.plan_text(old, new, made)
     if status:
         raise Refusal(2, [b"description " + file + b": " + text])
@@ -52,6 +52,7 @@ def planned(file, old, new, made):
 
 
 def usage(holds):
+    """Refuses words of no form."""
     if not holds:
         raise Refusal(1, [b"usage"])
 
@@ -61,10 +62,11 @@ def called(words):
     usage(words and scripts.is_name(words[0]) and all(scripts.is_integer(word) for word in words[1:]))
     args = [scripts.integer(word) for word in words[1:]]
     usage(all(LEAST <= arg <= GREATEST for arg in args))
-    return words[0], args
+    return words[0].decode(), args
 
 
 def flat(words, files):
+    """`flat FILE NAME INT*`"""
     usage(len(words) >= 3 and words[1])
     top, args = called(words[2:])
     text = fetched(files, words[1], 2, b"description")
@@ -72,6 +74,7 @@ def flat(words, files):
 
 
 def plan(words, files):
+    """`plan FILE NAME INT* -- NAME INT*`"""
     usage(len(words) >= 5 and words[1] and b"--" in words[2:])
     cut = words.index(b"--", 2)
     old, new = called(words[2:cut]), called(words[cut + 1 :])
@@ -82,6 +85,7 @@ def plan(words, files):
 
 
 def replay(words, files):
+    """`replay FILE EVENTS`"""
     usage(len(words) == 3 and words[1] and words[2])
     begun, events, fault = scripts.parse(fetched(files, words[2], 3, b"script"))
     if fault:

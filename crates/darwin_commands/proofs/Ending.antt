@@ -159,16 +159,16 @@ module _ (words : List (List ℕ)) (files : Option Files) (failures failures' : 
       by _ (whole took same) = own run.fetches run.own run.text run.answers run.noted
       by _ (stopped n short took rose) = inr (inr refl)
 
-  pub write_fault : result ≡ status.WriteFault → Rose faults faults' × WroteFront words files taken taken'
+  pub write_fault : result ≡ status.WriteFault → Rose faults faults' × WroteFront words files failures failures' taken taken'
   write_fault is = by result run.written is
     where
       other : run.own ≢ status.WriteFault
       other = own_no_write_fault words run.fetches run.own run.text run.answers
 
-      by : (r : Status) → Written run.own run.text taken taken' faults faults' r → r ≡ status.WriteFault → Rose faults faults' × WroteFront words files taken taken'
+      by : (r : Status) → Written run.own run.text taken taken' faults faults' r → r ≡ status.WriteFault → Rose faults faults' × WroteFront words files failures failures' taken taken'
       by _ (whole took same) is = absurd (other is)
       by _ (stopped n short took rose) is =
-          (rose, record { fetches = run.fetches; own = run.own; text = run.text; answers = run.answers; told = run.told; other = other; count = n; short = short; front = took })
+          (rose, record { fetches = run.fetches; own = run.own; text = run.text; answers = run.answers; noted = run.noted; told = run.told; other = other; count = n; short = short; front = took })
 
   pub every_write_fault : result ≢ status.WriteFault → faults' ≡ faults
   every_write_fault other = by result run.written other

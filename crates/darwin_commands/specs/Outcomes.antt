@@ -1,5 +1,5 @@
 -- What each status of a run says, of the words and of what was fetched and written.
-use Rattle.std.specs.Prelude.{◌≡◌, ◌≢◌, ◌≤◌, ◌<◌, ◌⊎◌, ℕ, ℤ, List, [], ◌∷◌, Option, Some, None, IsSomeAnd, length, take, codes}
+use Rattle.std.specs.Prelude.{◌≡◌, ◌≢◌, ◌≤◌, ◌<◌, ◌⊎◌, ℕ, ℤ, List, [], ◌∷◌, ◌++◌, Option, Some, None, IsSomeAnd, length, take, codes}
 use Rattle.std.specs.List.{AllByRecursion}
 use Rattle.cfg_io.specs.Shelf.{Files}
 use Rattle.cfg_io.specs.Sink.{with_bytes}
@@ -16,7 +16,7 @@ use Rattle.darwin_commands.specs.Descriptions.{HasGraph}
 use Rattle.darwin_commands.specs.Plans.{HasPlan}
 use Rattle.darwin_commands.specs.Replays.{HasReplay}
 use Rattle.darwin_commands.specs.Wanted.{Wanted, its_graph, its_plan, its_replay, IsRefused, Gives}
-use Rattle.darwin_commands.specs.Answers.{Fetch, Gave, Answers, file_limit}
+use Rattle.darwin_commands.specs.Answers.{Fetch, Gave, Answers, failed_names, file_limit}
 
 -- the words ask for nothing
 abbrev pub HasNoForm : List (List ℕ) → Type 0
@@ -38,12 +38,14 @@ NamesFile words file = (command : Command) × Asks words command × Names comman
 abbrev pub Ends : Status → Status → Type 0
 Ends result own = (result ≡ own) ⊎ (result ≡ status.NoMemory) ⊎ (result ≡ status.WriteFault)
 
--- A proper front went out of a text that words could have given with another status, by the files that the shelf tells.
-pub record WroteFront (words : List (List ℕ)) (files : Option Files) (taken taken' : Option (List ℕ)) : Type 0 where
+-- A proper front went out of a text that the words could have given with another status, by the fetches of which the shelf notes the failures
+-- and which gave what its files hold.
+pub record WroteFront (words : List (List ℕ)) (files : Option Files) (failures failures' : List (List ℕ)) (taken taken' : Option (List ℕ)) : Type 0 where
   pub fetches : List Fetch
   pub own : Status
   pub text : List ℕ
   pub answers : Answers words fetches own text
+  pub noted : failures' ≡ failures ++ failed_names fetches
   pub told : AllByRecursion (Gave files) fetches
   pub other : own ≢ status.WriteFault
   pub count : ℕ

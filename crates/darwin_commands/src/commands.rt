@@ -47,7 +47,7 @@ pub fn still<H: Shelf, K: Sink>(
     ensures every_read_fault { H.failed shelf.new ≢ H.failed shelf.old → Ends result ReadFault }
     // WriteFault, exactly where a put failed; a proper front went out of a text that another status could have had.
     ensures write_fault { result ≡ WriteFault → Rose (K.faults out.old) (K.faults out.new)
-        × WroteFront (map string_bytes words.now) (H.files shelf.old) (K.taken out.old) (K.taken out.new) }
+        × WroteFront (map string_bytes words.now) (H.files shelf.old) (H.failed shelf.old) (H.failed shelf.new) (K.taken out.old) (K.taken out.new) }
     ensures every_write_fault { result ≢ WriteFault → K.faults out.new ≡ K.faults out.old }
     // NoMemory with its line, and no status of a command that isn't here.
     ensures no_memory { result ≡ NoMemory → K.taken out.new ≡ with_bytes (K.taken out.old) (codes "no memory" ++ 10 ∷ []) }
