@@ -55,7 +55,7 @@ pub fn runs_are_consistent()
     ensures { (es : List Event) → IsRun es → IsConsistent (state_after es) }
 {}
 
-/// A configuration has one graph.
+/// A configuration has one graph at most.
 pub fn one_graph()
     ensures { (c : Configuration) (g h : Graph) → IsGraphOf c g → IsGraphOf c h → g ≡ h }
 {}

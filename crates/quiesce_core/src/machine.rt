@@ -137,8 +137,8 @@ impl Core {
         Ok(())
     }
 
-    /// How many nodes and how many ports were made. It tells too that the state of each machine is well formed, so that the laws of
-    /// steps speak of it.
+    /// How many nodes and how many ports were made. It tells too that the state of each machine is well formed, and its nodes named
+    /// apart.
     pub fn made(&self) -> Made
         ensures nodes { result.nodes ≡ length self.now.state.config.slots }
         ensures ports { result.ports ≡ length self.now.state.config.gates }

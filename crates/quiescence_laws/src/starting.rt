@@ -21,3 +21,9 @@ pub fn started_systems_go_on_as_runs()
     ensures runs { (g : Graph) (more_ : List Event) → Sound g → length g.nodes ≤ MAX_NODES → length (ports g.nodes) ≤ MAX_PORTS → IsRun (start_of g ++ more_) ↔ GoesOn g more_ }
     ensures states { (g : Graph) (more_ : List Event) → Sound g → length g.nodes ≤ MAX_NODES → length (ports g.nodes) ≤ MAX_PORTS → state_after (start_of g ++ more_) ≡ state_from g more_ }
 {}
+
+/// How many nodes and how many ports one run makes at most, removed ones counted.
+pub fn limits_of_one_run()
+    ensures nodes { MAX_NODES ≡ 1023 }
+    ensures ports { MAX_PORTS ≡ 4096 }
+{}

@@ -45,7 +45,7 @@ pub fn transactions_come_in_order()
     ensures all_heard { (es : List Event) (p k : ℕ) → IsRun es → count_by (is_give_of p k) es ≡ 1 → count_by (is_hear_of p k) es ≡ count_by (is_more_of p k) es }
 {}
 
-/// A transaction engages two nodes: as long as it is open, each further step of it is done by the node that began or called it or by
+/// A transaction engages two nodes (one, where a buffer is linked to itself): as long as it is open, each further step of it is done by the node that began or called it or by
 /// the one to which the port led then.
 pub fn two_nodes_do_all()
     ensures by_initiator { (es : List Event) (e : Event) (p k : ℕ) (b : Begun es p k) → IsRun es → is_open_after es p k ≡ true → is_of_initiator p k e ≡ true
