@@ -5,3 +5,4 @@ pub mod MoveLemmas
 pub mod PlanningLemmas
 pub mod ApplyingLemmas
 pub mod RefusalLemmas
+pub mod TotalLemmas

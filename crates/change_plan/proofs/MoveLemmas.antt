@@ -54,7 +54,7 @@ found_not_gone g h graph path i j n found here there (k, lost) =
     lost.gone (j, slice_get_within h.nodes j lost.node (there ∙ ap Some (sym node)), get_or_from_slice_get h.nodes j lost.node lost.node (there ∙ ap Some (sym node)))
 
 -- a move from a removed node to a created one is fit exactly where their kinds are equal
-kind_decides : (a b : Kind) → Decides ((kind_eq.TheImpl.eq-value).it a b) (a ≡ b)
+pub kind_decides : (a b : Kind) → Decides ((kind_eq.TheImpl.eq-value).it a b) (a ≡ b)
 kind_decides a b = search (comparing, rules)
 
 module _ (old new : Configuration) (m : Move) (i j : ℕ) (leads : MoveLeads old new m i j) (a b : Node) (at_a : slice_get old.nodes i ≡ Some a) (at_b : slice_get new.nodes j ≡ Some b) (same : Bool) (same_is : same ≡ (kind_eq.TheImpl.eq-value).it a.kind b.kind) where

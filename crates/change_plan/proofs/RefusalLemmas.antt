@@ -1,5 +1,5 @@
 -- Lemmas on refusals: there is one at most, and none where a plan can be made.
-use Rattle.std.proofs.Common.{◌≡◌, ◌⊎◌, ℕ, ◌+◌, ◌<◌, ◌≤◌, List, ◌∷◌, length, take, Some, slice_get, refl, sym, ◌∙◌, ap, subst, inl, inr, arith, sum_by}
+use Rattle.std.proofs.Common.{◌≡◌, ◌⊎◌, ℕ, ◌+◌, ◌<◌, ◌≤◌, List, length, take, Some, slice_get, sym, ◌∙◌, ap, subst, inl, inr, arith, sum_by}
 use Rattle.std.proofs.lemmas.Bool.{cases_eq, cases_lt}
 use Rattle.std.proofs.lemmas.Option.{slice_get_within}
 use Rattle.std.specs.List.{range_with_len}
@@ -129,7 +129,7 @@ no_room made n p NoMemory nodes_fit ports_fit x = x
 
 -- for the contract of `plan`
 module _ (old new : Configuration) (old_graph : IsGraph old) (new_graph : IsGraph new) (moves : List Move) (made : Made) where
-  one_refusal : (d e : PlanError) → IsRefusal old new moves made d → IsRefusal old new moves made e → d ≡ e
+  pub one_refusal : (d e : PlanError) → IsRefusal old new moves made d → IsRefusal old new moves made e → d ≡ e
   one_refusal d e (inl a) (inl b) = one_first old new old_graph new_graph moves d e a b
   one_refusal d e (inl a) (inr (may, rest)) = absurd (no_first old new old_graph new_graph moves d may a)
   one_refusal d e (inr (may, rest)) (inl b) = absurd (no_first old new old_graph new_graph moves e may b)

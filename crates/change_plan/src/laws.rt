@@ -1,11 +1,14 @@
 //! What plans are for: laws that hold of each plan between two graphs.
 
-ghost use Rattle.std.specs.Prelude.{◌≡◌, ◌<◌, ◌↔◌, ℕ, List, length, All, Contains};
+ghost use Rattle.std.specs.Prelude.{◌≡◌, ◌⊎◌, ◌<◌, ◌↔◌, ℕ, List, length, All, Contains};
 ghost use Rattle.config_graph.specs.declared.node.Link.{Link};
 ghost use Rattle.config_graph.specs.declared.node.Node.{Node};
 ghost use Rattle.config_graph.specs.Graph.{Configuration, IsGraph};
 ghost use Rattle.change_plan.specs.Applying.{Connection, ConnectionAfter, IsConnected, IsOpened, IsPlan, KeepsItsLinks, NodeAfter};
 ghost use Rattle.change_plan.specs.Moves.{IsOfOneKind, IsShifts, MayMoveAll};
+ghost use Rattle.change_plan.specs.Refusals.{CanPlan, IsRefusal};
+ghost use Rattle.change_plan.specs.declared.error.PlanError.{PlanError};
+ghost use Rattle.config_graph.specs.declared.node.Made.{Made};
 ghost use Rattle.change_plan.specs.declared.plan_data.Move.{Move};
 ghost use Rattle.change_plan.specs.declared.plan_data.OldPort.{OldPort};
 ghost use Rattle.change_plan.specs.declared.plan_data.Plan.{Plan};
@@ -44,4 +47,14 @@ pub fn a_state_goes_to_one_node_of_its_kind()
     ensures targets { (old new : Configuration) (moves : List Move) (shifts : List Shift) → IsGraph old → IsGraph new
         → MayMoveAll old new moves (length moves) → IsShifts old new moves shifts
         → (s t : Shift) → Contains shifts s → Contains shifts t → s.new ≡ t.new → s ≡ t }
+{}
+
+/// A law: there is a plan for moves, or a refusal of them: always one of these, and one alone.
+pub fn a_plan_or_a_refusal()
+    ensures always_one { (old new : Configuration) (moves : List Move) (made : Made) → IsGraph old → IsGraph new
+        → CanPlan old new moves made ⊎ ((e : PlanError) × IsRefusal old new moves made e) }
+    ensures plan_alone { (old new : Configuration) (moves : List Move) (made : Made) → IsGraph old → IsGraph new
+        → (e : PlanError) → CanPlan old new moves made → ¬ IsRefusal old new moves made e }
+    ensures one_refusal { (old new : Configuration) (moves : List Move) (made : Made) → IsGraph old → IsGraph new
+        → (d e : PlanError) → IsRefusal old new moves made d → IsRefusal old new moves made e → d ≡ e }
 {}

@@ -1,5 +1,5 @@
 -- Lemmas on the nodes to which nodes lead, on ways and on cycles.
-use Rattle.std.proofs.Common.{◌≡◌, ◌⊎◌, ◌<◌, ◌≤◌, ℕ, Bool, true, false, List, Option, Some, None, option_map, slice_get, length, IfSome, refl, sym, ◌∙◌, ap, arith}
+use Rattle.std.proofs.Common.{◌≡◌, ◌⊎◌, ◌<◌, ◌≤◌, ℕ, zero, suc, Bool, true, false, List, Option, Some, None, option_map, slice_get, length, IfSome, refl, sym, ◌∙◌, ap, arith}
 use Rattle.std.specs.Prelude.{if◌then◌else◌}
 use Rattle.std.proofs.Common.{eqb, ◌||◌, inl, inr, subst}
 use Rattle.std.specs.Prelude.{All}
@@ -9,8 +9,8 @@ use Rattle.std.specs.Option.{option_map_or}
 use Rattle.std.proofs.lemmas.Bool.{false≢true}
 use Rattle.std.proofs.lemmas.Bool.Decides.{nat_tests}
 use Rattle.config_graph.specs.Kinds.{row, is_depended_on}
-use Rattle.config_graph.specs.Graph.{Configuration, IsGraph, provides_at, provides_of, requires_at, requires_of, target_of}
-use Rattle.config_graph.specs.Cycles.{Leads, onward, step, OnCycle, NoCycle, Way, is_depended_at, leads_by}
+use Rattle.config_graph.specs.Graph.{Configuration, IsWithin, provides_at, provides_of, requires_at, requires_of, target_of}
+use Rattle.config_graph.specs.Cycles.{Leads, onward, step, FirstOnCycle, OnCycle, NoCycle, Way, is_depended_at, leads_by}
 use Rattle.config_graph.specs.declared.kind.Kind.{Kind}
 use Rattle.config_graph.specs.declared.kind.Kind.TheVariants.{Philosopher, Place, Fork, Source, Map, Buffer, Sink, Teller, Branch, Account, Asker, Adder}
 use Rattle.config_graph.specs.declared.node.Node.{Node}
@@ -94,9 +94,9 @@ pub IfSome-node : (nodes : List Node) (o : Option Target) → IfSome o (λ t. t.
 IfSome-node nodes None h = tt
 IfSome-node nodes (Some t) h = within_list provides_of nodes t.node t.provide h
 
-pub Leads-ends : (g : Configuration) → IsGraph g → (i j : ℕ) → Leads g i j → j < length g.nodes
+pub Leads-ends : (g : Configuration) → All (IsWithin g.nodes) g.links → (i j : ℕ) → Leads g i j → j < length g.nodes
 Leads-ends g graph i j h =
-    within_list provides_of g.nodes j h.provide (target_within g.nodes g.links i h.require (record { node = j; provide = h.provide }) graph.within h.linked)
+    within_list provides_of g.nodes j h.provide (target_within g.nodes g.links i h.require (record { node = j; provide = h.provide }) graph h.linked)
 
 -- one step more at the end of a way
 pub Way-then : (g : Configuration) (i j k : ℕ) → Way g i j → Leads g j k → Way g i k
@@ -119,6 +119,14 @@ acyclic_next g i h way =
 -- where no node of the graph is on a cycle, there is none
 pub no_cycle : (g : Configuration) → ((i : ℕ) → i < length g.nodes → ¬ OnCycle g i) → NoCycle g
 no_cycle g h i way = h i (Way-within g i i way) way
+
+-- where no node is the first on a cycle, none is on one
+pub no_first : (g : Configuration) → ((i : ℕ) → ¬ FirstOnCycle g i) → NoCycle g
+no_first g none i way = below (suc i) i (omega arith) way
+  where
+    below : (n j : ℕ) → j < n → ¬ OnCycle g j
+    below zero j low way = absurd (omega (arith, low))
+    below (suc n) j low way = none j (record { on_cycle = way; first = λ k less. below n k (omega (arith, low, less)) })
 
 -- a condition on the value in an option, as a callee asks for it
 pub ForSome-from_IfSome : {A : Type 0} (o : Option A) (P Q : A → Type 0) → IfSome o P → ((x : A) → P x → Q x) → (x : A) → o ≡ Some x → Q x

@@ -9,4 +9,5 @@ pub mod TextLemmas
 pub mod IncomingLemmas
 pub mod CycleLemmas
 pub mod SearchLemmas
+pub mod TellLemmas
 pub mod TextLawLemmas

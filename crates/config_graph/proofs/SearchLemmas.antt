@@ -1,6 +1,6 @@
 -- Lemmas on the search for the nodes to which ways lead.
 use Rattle.std.proofs.Common.{◌≡◌, ◌≢◌, ◌⊎◌, ◌↔◌, ◌+◌, ◌<◌, ◌≤◌, ℕ, zero, suc, Bool, true, false, cond, not, List, [], ◌∷◌, ◌++◌, Option, Some, None, length, get_or, set, slice_get, refl, sym, ◌∙◌, ap, subst, inl, inr, arith, length-append, length-set, get_or-set_same, get_or-set_other, zero-add, filter_map, Contains}
-use Rattle.std.specs.Prelude.{All, count_by, replicate, ◌*◌, if◌then◌else◌, option_to_list}
+use Rattle.std.specs.Prelude.{All, count_by, replicate, slice_index_or, ◌*◌, if◌then◌else◌, option_to_list}
 use Rattle.std.specs.List.{cons_option, range_with_len}
 use Rattle.std.proofs.lemmas.Bool.{cases_lt, false≢true, true≢false}
 use Rattle.std.proofs.lemmas.Bool.Decides.{eqb_tells}
@@ -11,10 +11,10 @@ use Rattle.std.proofs.lemmas.Option.{slice_get-get_or}
 use Rattle.std.proofs.lemmas.List.Elements.{All-cons, All-push, Contains-append_left, Contains-push, filter_map-append}
 use Rattle.std.proofs.lemmas.List.Sums.{sum_by-set}
 use Rattle.std.proofs.Math.ListN.{get_or-eq_default}
-use Rattle.config_graph.specs.Graph.{Configuration, IsGraph, requires_at}
-use Rattle.config_graph.specs.Cycles.{Leads, Way, leads_by, onward, step}
+use Rattle.config_graph.specs.Graph.{Configuration, IsWithin, requires_at}
+use Rattle.config_graph.specs.Cycles.{FirstOnCycle, Leads, NoCycle, OnCycle, Way, leads_by, onward, step}
 use Rattle.config_graph.specs.Search.{Has, Seen, see, see_all, seen_of, successors, successors_by}
-use Rattle.config_graph.proofs.CycleLemmas.{leads_by-Leads, Leads-ends, Leads-leads_by, Leads-require, Way-then}
+use Rattle.config_graph.proofs.CycleLemmas.{no_cycle, leads_by-Leads, Leads-ends, Leads-leads_by, Leads-require, Way-then}
 use Rattle.config_graph.proofs.IncomingLemmas.{Contains-filter_map}
 use Rattle.config_graph.proofs.OrderLemmas.{All-filter_map}
 use Rattle.config_graph.proofs.ListLemmas.{places_more}
@@ -192,12 +192,12 @@ successors_by-more g i r =
     one None = refl
     one (Some j) = refl
 
-pub successors-within : (g : Configuration) → IsGraph g → (i : ℕ) → All (λ j. j < length g.nodes) (successors g i)
+pub successors-within : (g : Configuration) → All (IsWithin g.nodes) g.links → (i : ℕ) → All (λ j. j < length g.nodes) (successors g i)
 successors-within g graph i =
     All-filter_map (leads_by g i) (λ j. j < length g.nodes) (range_with_len 0 (requires_at g.nodes i)) (λ k r j at_k h. Leads-ends g graph i j (leads_by-Leads g i r j h))
 
 -- every node to which a node leads is seen with its successors
-pub see_all-leads : (g : Configuration) → IsGraph g → (i j : ℕ) (s : Seen) → length s.bits ≡ length g.nodes → Leads g i j → Has (see_all (successors g i) s).bits j
+pub see_all-leads : (g : Configuration) → All (IsWithin g.nodes) g.links → (i j : ℕ) (s : Seen) → length s.bits ≡ length g.nodes → Leads g i j → Has (see_all (successors g i) s).bits j
 see_all-leads g graph i j s long h =
     let requires_ = requires_at g.nodes i in
     let r = h.require in
@@ -228,7 +228,7 @@ none_set n i h =
 abbrev pub nothing_seen : Configuration → Seen
 nothing_seen g = seen_of (replicate (length g.nodes) false) []
 
-pub search_begins : (g : Configuration) → IsGraph g → (start : ℕ) (s : Seen) → s ≡ see_all (successors g start) (nothing_seen g) → Searched g start s 0
+pub search_begins : (g : Configuration) → All (IsWithin g.nodes) g.links → (start : ℕ) (s : Seen) → s ≡ see_all (successors g start) (nothing_seen g) → Searched g start s 0
 search_begins g graph start s s_is = subst (λ t. Searched g start t 0) (sym s_is) begun
   where
     begun : Searched g start (see_all (successors g start) (nothing_seen g)) 0
@@ -250,7 +250,7 @@ search_begins g graph start s s_is = subst (λ t. Searched g start t 0) (sym s_i
           low = omega arith;
         }
 
-pub search_goes_on : (g : Configuration) → IsGraph g → (start : ℕ) (s t : Seen) (next node : ℕ) → Searched g start s next → next < length s.reached → node ≡ get_or s.reached next 0 → t ≡ see_all (successors g node) s → Searched g start t (next + 1)
+pub search_goes_on : (g : Configuration) → All (IsWithin g.nodes) g.links → (start : ℕ) (s t : Seen) (next node : ℕ) → Searched g start s next → next < length s.reached → node ≡ get_or s.reached next 0 → t ≡ see_all (successors g node) s → Searched g start t (next + 1)
 search_goes_on g graph start s t next node h more node_is t_is =
     subst (λ u. Searched g start u (next + 1)) (sym t_is) after
   where
@@ -313,3 +313,47 @@ pub All-before_last : (P : ℕ → Type 0) (xs : List ℕ) (x : ℕ) → All P (
 All-before_last P [] x all = λ k d low. absurd (omega arith)
 All-before_last P (y ∷ xs) x all =
     All-cons P y xs (all 0 y (omega arith)) (All-before_last P xs x (λ k d low. all (suc k) d (omega arith)))
+
+-- ---- whether a way leads from a node to another
+
+module _ (g : Configuration) (graph : All (IsWithin g.nodes) g.links) (start : ℕ) where
+  -- the search to its end: each step takes one node of the list, and no node stands there twice
+  searched_from : (fuel next : ℕ) (s : Seen) → Searched g start s next → length g.nodes ≤ next + fuel → (t : Seen) × ((j : ℕ) → Has t.bits j ↔ Way g start j)
+  searched_from zero next s h enough = (s, search_ends g start s next h (omega (arith, enough, h.count)))
+  searched_from (suc fuel) next s h enough = by (cases_lt next (length s.reached)) (λ t after. searched_from fuel (next + 1) t after (omega (arith, enough)))
+    where
+      by :
+          (next < length s.reached) ⊎ (length s.reached ≤ next) → ((t : Seen) → Searched g start t (next + 1) → (u : Seen) × ((j : ℕ) → Has u.bits j ↔ Way g start j))
+          → (u : Seen) × ((j : ℕ) → Has u.bits j ↔ Way g start j)
+      by (inl more) on =
+          let node = get_or s.reached next 0 in
+          on (see_all (successors g node) s) (search_goes_on g graph start s (see_all (successors g node) s) next node h more refl refl)
+      by (inr all) on = (s, search_ends g start s next h all)
+
+  pub tell_way : (j : ℕ) → Way g start j ⊎ (Way g start j → ⊥)
+  tell_way j =
+      let w = searched_from (length g.nodes) 0 (see_all (successors g start) (nothing_seen g)) (search_begins g graph start _ refl) (omega arith) in
+      by w.0.bits (slice_index_or w.0.bits j false) refl (w.1 j)
+    where
+      by : (bits : List Bool) (b : Bool) → slice_index_or bits j false ≡ b → (Has bits j ↔ Way g start j) → Way g start j ⊎ (Way g start j → ⊥)
+      by bits true is iff = inl (iff.0 is)
+      by bits false is iff = inr (λ way. false≢true (sym is ∙ iff.1 way))
+
+-- the first node that is on a cycle, or none is on one
+pub first_or_none : (g : Configuration) → All (IsWithin g.nodes) g.links → ((i : ℕ) × FirstOnCycle g i) ⊎ NoCycle g
+first_or_none g graph = elim (up_to (length g.nodes)) [ inl first ↦ inl first | inr none ↦ inr (no_cycle g none) ]
+  where
+    up_to : (n : ℕ) → ((i : ℕ) × FirstOnCycle g i) ⊎ ((i : ℕ) → i < n → ¬ OnCycle g i)
+    up_to zero = inr (λ i low way. absurd (omega (arith, low)))
+    up_to (suc n) = by (up_to n) (tell_way g graph n n)
+      where
+        by :
+            ((i : ℕ) × FirstOnCycle g i) ⊎ ((i : ℕ) → i < n → ¬ OnCycle g i) → Way g n n ⊎ (Way g n n → ⊥)
+            → ((i : ℕ) × FirstOnCycle g i) ⊎ ((i : ℕ) → i < suc n → ¬ OnCycle g i)
+        by (inl first) way = inl first
+        by (inr none) (inl way) = inl (n, record { on_cycle = way; first = none })
+        by (inr none) (inr still) = inr (λ i low way.
+            elim (eqb_tells i n) [
+              | inl same ↦ still (subst (λ k. Way g k k) same.1 way)
+              | inr other ↦ none i (omega (arith, low, other.1)) way
+            ])

@@ -1,10 +1,10 @@
 //! Cycles of depended-on links.
 
-ghost use Rattle.std.specs.Prelude.{◌≡◌, ◌+◌, ◌<◌, ◌≤◌, ◌↔◌, ℕ, length, All, IfNone, IfOk, IfSome, IsTrue, OnOk, false, option_map, option_to_list, replicate, vec_len};
+ghost use Rattle.std.specs.Prelude.{◌≡◌, ◌⊎◌, ◌+◌, ◌<◌, ◌≤◌, ◌↔◌, ℕ, length, All, IfNone, IfOk, IfSome, IsTrue, OnOk, false, option_map, option_to_list, replicate, vec_len};
 ghost use Rattle.std.specs.List.{range_with_len};
 ghost use Rattle.std.specs.Option.{ForSome};
 ghost use Rattle.config_graph.specs.Cycles.{FirstOnCycle, Leads, NoCycle, OnCycle, Way, leads_by};
-ghost use Rattle.config_graph.specs.Graph.{ports as ports_of, requires_at};
+ghost use Rattle.config_graph.specs.Graph.{Configuration, IsGraph, ports as ports_of, requires_at};
 ghost use Rattle.config_graph.specs.declared.node.Target.{Target};
 ghost use Rattle.config_graph.specs.Search.{Has, see_all, seen_of, successors};
 
@@ -27,6 +27,11 @@ pub fn first_on_cycle(alloc: Global, graph: &Graph) -> Result<Option<u32>, NoMem
     }
     Ok(None)
 }
+
+/// Some node of a graph is the first on a cycle, or none is on one.
+pub fn a_first_on_a_cycle_or_none()
+    ensures { (g : Configuration) → IsGraph g → ((i : ℕ) × FirstOnCycle g i) ⊎ NoCycle g }
+{}
 
 /// The nodes that lead only to nodes of this list, as a bit for each node, taken in until there are no more. None of them is
 /// on a cycle.

@@ -13,7 +13,7 @@ mod tests;
 mod text;
 mod writing;
 
-pub use cycles::first_on_cycle;
+pub use cycles::{a_first_on_a_cycle_or_none, first_on_cycle};
 pub use graph::{Graph, same};
 pub use kind::{Kind, kind_of, kinds_have_their_names};
 pub use list::List;

@@ -194,6 +194,17 @@ module _ (text : List ℕ) where
   unfolding Gives
   too_nested_read tokens k e = subst (Gives tokens) e (gives tokens)
 
+  -- always one of these
+  given : (tokens : List Token) (o : Outcome Tree) → Gives tokens o → ((tree : Tree) × IsUnitWithin 32 16 text tokens tree) ⊎ ((n : ℕ) × IsUnexpected text tokens n) ⊎ ((n : ℕ) × IsTooNested text tokens n)
+  unfolding Gives
+  given tokens (Ok p) h = inl (p.0, h)
+  given tokens (Err (Expected k)) h = inr (inl (length tokens - k, h))
+  given tokens (Err (TooNested k)) h = inr (inr (length tokens - k, h))
+  given tokens (Err NoMemory) h = absurd h
+
+  pub always_one : (tokens : List Token) → ((tree : Tree) × IsUnitWithin 32 16 text tokens tree) ⊎ ((n : ℕ) × IsUnexpected text tokens n) ⊎ ((n : ℕ) × IsTooNested text tokens n)
+  always_one tokens = given tokens (reading.unit text 32 16 tokens) (gives tokens)
+
   -- ---- no two of these at once
 
   -- a front of a front

@@ -13,7 +13,7 @@ mod tests;
 mod tree;
 
 pub use error::ParseError;
-pub use parsing::{one_tree, parse};
+pub use parsing::{one_answer, one_tree, parse};
 pub use tree::{
     ArrayDecl, BindEntry, Component, Expr, InstEntry, Op, PortDecl, PortRef, Side, Stmt, Unit,
 };

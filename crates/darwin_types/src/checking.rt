@@ -1,7 +1,7 @@
 //! The check of a description.
 
-ghost use Rattle.std.specs.Prelude.{◌≡◌, ◌≢◌, IfOk, IsErrOf};
-ghost use Rattle.darwin_parser.specs.Tree.{component_of, tree_of};
+ghost use Rattle.std.specs.Prelude.{◌≡◌, ◌≢◌, ◌⊎◌, IfOk, IsErrOf};
+ghost use Rattle.darwin_parser.specs.Tree.{Tree, component_of, tree_of};
 ghost use Rattle.darwin_types.specs.declared.error.TypeError.{TypeError};
 ghost use Rattle.darwin_types.specs.declared.error.TypeError.TheVariants.{NoMemory};
 ghost use Rattle.darwin_types.specs.Faults.{Fault, NoFault};
@@ -35,6 +35,11 @@ pub fn check(alloc: Global, unit: Unit) -> Result<Checked, TypeError>
     check_components(alloc, unit.components.as_slice())?;
     Ok(Checked { unit })
 }
+
+/// A fault stands in a description, or none does.
+pub fn a_fault_or_none()
+    ensures { (t : Tree) → NoFault t ⊎ ((e : TypeError) × Fault t e) }
+{}
 
 fn check_components(alloc: Global, components: &[Component]) -> Result<(), TypeError>
     ensures { Judges (unit_faults (components_of components.now)) result }

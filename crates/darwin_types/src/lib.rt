@@ -17,5 +17,5 @@ mod refusal;
 mod tests;
 
 pub use checked::Checked;
-pub use checking::check;
+pub use checking::{a_fault_or_none, check};
 pub use error::TypeError;

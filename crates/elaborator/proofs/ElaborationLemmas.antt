@@ -110,7 +110,7 @@ fault_cases tree i f there =
       | inr port ↦ inr (Contains-from_flat_map (binding_port_faults tree i) (bindings_in i) f port)
     ]
 
-is_own : (tree : Tree) (i : Instance) (f : Fault) → Contains (own_faults tree i) f → Contains (faults_in tree i) f
+pub is_own : (tree : Tree) (i : Instance) (f : Fault) → Contains (own_faults tree i) f → Contains (faults_in tree i) f
 is_own tree i f there = Contains-append_left (own_faults tree i) (flat_map (binding_port_faults tree i) (bindings_in i)) f there
 
 is_of_binding : (tree : Tree) (i : Instance) (b : Binding) (f : Fault) → Contains (bindings_in i) b → Contains (binding_port_faults tree i b) f → Contains (faults_in tree i) f

@@ -77,7 +77,7 @@ instances-listed tree top i shallow =
 
 -- ---- an instance is told by its path
 
-twice_front : {A : Type 0} (y : A) (xs : List A) → Contains xs y → Twice (y ∷ xs) y
+pub twice_front : {A : Type 0} (y : A) (xs : List A) → Contains xs y → Twice (y ∷ xs) y
 twice_front y xs has = let w = at_some_place xs y has in twice_at (y ∷ xs) 0 (suc w.0) y (omega arith) refl w.1
 
 -- two places of a list give two of what is listed

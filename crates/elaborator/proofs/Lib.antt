@@ -6,6 +6,7 @@ pub mod BuildLemmas
 pub mod ChainLemmas
 pub mod ChildLemmas
 pub mod ExpandLemmas
+pub mod EitherLemmas
 pub mod ElaborationLemmas
 pub mod FollowLemmas
 pub mod GrowthLemmas
@@ -31,5 +32,6 @@ pub mod SpreadLemmas
 pub mod SingleLemmas
 pub mod SoundLemmas
 pub mod TargetLemmas
+pub mod TotalLemmas
 pub mod UniqueLemmas
 pub mod WholeLemmas

@@ -89,7 +89,7 @@ pub record IsBoundOnce (tree : Tree) (top : Instance) : Type 0 where
       → CannotDiffer p.target q.target
 
 -- two instances in which one path is made are one
-one_maker_of :
+pub one_maker_of :
     (tree : Tree) (top : Instance) → IsBoundOnce tree top → (i j : Instance) (path : Path) → Inst tree top i → Inst tree top j → Contains (paths_in tree i) path
     → Contains (paths_in tree j) path → i ≡ j
 one_maker_of tree top s i j path inst inst' there there' =
@@ -184,7 +184,7 @@ node_below tree top s n _ at_top is_node = absurd (false≢true (sym s.composite
 node_below tree top s n _ (below k i inst there) is_node = omega (arith, depth-made tree k i there)
 
 -- instances that are nodes of one path are one
-one_node :
+pub one_node :
     (tree : Tree) (top : Instance) → IsBoundOnce tree top → (m n : Node) (i : IsNode tree top m) (j : IsNode tree top n) → i.instance.path ≡ j.instance.path → i.instance ≡ j.instance
 one_node tree top s m n i j same =
     told-below tree top s.single s.depth i.instance i.is_instance j.instance j.is_instance (node_below tree top s m i.instance i.is_instance i.is_node) (node_below tree top s n j.instance j.is_instance j.is_node) same

@@ -20,10 +20,10 @@ use Rattle.elaborator.proofs.Lists.{Contains-from_filter_map, find-some, find-on
 
 -- ---- ordered lists
 
-before_all : {A : Type 0} (R : A → A → Type 0) (x : A) (xs : List A) → AllPairs R (x ∷ xs) → (y : A) → Contains xs y → R x y
+pub before_all : {A : Type 0} (R : A → A → Type 0) (x : A) (xs : List A) → AllPairs R (x ∷ xs) → (y : A) → Contains xs y → R x y
 before_all R x xs rise y there = subst (R x) there.2 (rise 0 (suc there.0) y (omega arith) (omega (arith, there.1)))
 
-rest_rises : {A : Type 0} (R : A → A → Type 0) (x : A) (xs : List A) → AllPairs R (x ∷ xs) → AllPairs R xs
+pub rest_rises : {A : Type 0} (R : A → A → Type 0) (x : A) (xs : List A) → AllPairs R (x ∷ xs) → AllPairs R xs
 rest_rises R x xs rise i j d below within = rise (suc i) (suc j) d (omega (arith, below)) (omega (arith, within))
 
 -- what an ordered list contains after its first element is in the other list after the same first element

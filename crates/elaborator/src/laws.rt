@@ -1,16 +1,19 @@
 //! Laws of elaborations, each as the contract of a function that does nothing.
 
-ghost use Rattle.std.specs.Prelude.{◌≡◌, ◌<◌, ◌↔◌, ℕ, ℤ, List, Some, Contains};
+ghost use Rattle.std.specs.Prelude.{◌≡◌, ◌⊎◌, ◌<◌, ◌↔◌, ℕ, ℤ, List, Some, Contains};
 ghost use Rattle.config_graph.specs.Graph.{Configuration};
 ghost use Rattle.config_graph.specs.declared.node.Link.{Link};
 ghost use Rattle.config_graph.specs.declared.node.Node.{Node};
+ghost use Rattle.config_graph.specs.Sound.{Sound};
 ghost use Rattle.darwin_parser.specs.Tree.{Name, Tree};
+ghost use Rattle.darwin_types.specs.Faults.{NoFault};
 ghost use Rattle.elaborator.specs.Paths.{Path};
 ghost use Rattle.elaborator.specs.Instances.{Instance, Inst, instances, top_instance};
 ghost use Rattle.elaborator.specs.Bindings.{Port, Leads};
 ghost use Rattle.elaborator.specs.Graph.{Linked, IsRequirementAt, IsProvisionAt};
 ghost use Rattle.elaborator.specs.Faults.{Faults};
-ghost use Rattle.elaborator.specs.Elaboration.{IsGraphOf};
+ghost use Rattle.elaborator.specs.Elaboration.{HasNoFault, IsGraphOf};
+ghost use Rattle.elaborator.specs.declared.error.ElabError.{ElabError};
 ghost use Rattle.elaborator.specs.declared.error.ElabError.TheVariants.{BoundTwice, TwoInstances};
 
 /// The instances of an elaboration are those of its list, over which the count is a sum.
@@ -29,6 +32,13 @@ pub fn an_instance_is_told_by_its_path()
 /// A description has one graph at most with this top and these arguments.
 pub fn one_graph()
     ensures { (tree : Tree) (name : Name) (arguments : List ℤ) (g h : Configuration) → IsGraphOf tree name arguments g → IsGraphOf tree name arguments h → g ≡ h }
+{}
+
+/// Some fault of an elaboration holds, or none does and there is a graph, which may be run.
+pub fn a_graph_or_a_fault()
+    ensures { (tree : Tree) (name : Name) (arguments : List ℤ) → NoFault tree
+        → ((f : ElabError) × Faults tree name arguments f)
+        ⊎ ((g : Configuration) × HasNoFault tree name arguments × IsGraphOf tree name arguments g × Sound g) }
 {}
 
 /// Where no path is made twice and no end is bound twice, bindings lead from a requirement of a node to

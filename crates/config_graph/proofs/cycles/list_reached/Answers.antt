@@ -12,7 +12,7 @@ pub loop-next-init : goal.loop-next-init
 loop-next-init c =
     let g = c.args.graph.now in
     let blank = c.in_ok-bits.ensures ∙ ap (λ n. replicate n false) c.node_count.ensures.count in
-    search_begins g c.node_count.ensures.graph c.args.start _ (c.in_ok-see_successors.ensures ∙ (λ i. see_all (successors g c.args.start) (seen_of (blank i) (c.new-reached.ensures.items i))))
+    search_begins g c.node_count.ensures.graph.within c.args.start _ (c.in_ok-see_successors.ensures ∙ (λ i. see_all (successors g c.args.start) (seen_of (blank i) (c.new-reached.ensures.items i))))
 
 pub loop-next-preserved : goal.loop-next-preserved
 loop-next-preserved c =
@@ -20,7 +20,7 @@ loop-next-preserved c =
     let reached = c.loop-next.reached in
     let more : c.loop-next.next < length reached.items = omega (arith, c.len.ensures, reached.ok.0) in
     let node = get_or_read reached.items c.loop-next.next c.index.result.now more c.index.ensures 0 in
-    search_goes_on g c.node_count.ensures.graph c.args.start _ _ c.loop-next.next c.index.result.now c.loop-next.invariant more node c.in_ok-see_successors-2.ensures
+    search_goes_on g c.node_count.ensures.graph.within c.args.start _ _ c.loop-next.next c.index.result.now c.loop-next.invariant more node c.in_ok-see_successors-2.ensures
 
 pub returns : goal.returns
 returns c =
