@@ -1,20 +1,23 @@
 -- Lemmas on the nodes to which nodes lead, on ways and on cycles.
-use Rattle.std.proofs.Common.{◌≡◌, ◌⊎◌, ◌<◌, ◌≤◌, ℕ, zero, suc, Bool, true, false, List, Option, Some, None, option_map, slice_get, length, IfSome, refl, sym, ◌∙◌, ap, arith}
+use Rattle.std.proofs.Common.{◌≡◌, ◌<◌, ◌≤◌, ℕ, zero, suc, Bool, true, false, List, Option, Some, None, option_map, slice_get, length, IfSome, refl, sym, ◌∙◌, ap, arith}
 use Rattle.std.specs.Prelude.{if◌then◌else◌}
-use Rattle.std.proofs.Common.{eqb, ◌||◌, inl, inr, subst}
+use Rattle.std.proofs.Common.{eqb, ◌||◌, subst}
 use Rattle.std.specs.Prelude.{All}
 use Rattle.std.specs.List.{range_with_len}
 use Rattle.std.proofs.lemmas.List.FromFn.{length-range_with_len, get_or-range_with_len}
 use Rattle.std.specs.Option.{option_map_or}
 use Rattle.std.proofs.lemmas.Bool.{false≢true}
 use Rattle.std.proofs.lemmas.Bool.Decides.{nat_tests}
-use Rattle.config_graph.specs.Kinds.{row, is_depended_on}
+use Rattle.config_graph.specs.Kinds.{row, depends_on, is_depended_on}
 use Rattle.config_graph.specs.Graph.{Configuration, IsWithin, provides_at, provides_of, requires_at, requires_of, target_of}
-use Rattle.config_graph.specs.Cycles.{Leads, onward, step, FirstOnCycle, OnCycle, NoCycle, Way, is_depended_at, leads_by}
+use Rattle.config_graph.specs.Cycles.{FirstOnCycle, OnCycle, NoCycle, IsLinked, depends_at, is_depended_at, leads_by, wiring_of}
+use Rattle.config_graph.specs.Walks.{onward, step}
+use Rattle.config_graph.specs.Wiring.{MayCall, CallPath}
 use Rattle.config_graph.specs.declared.kind.Kind.{Kind}
 use Rattle.config_graph.specs.declared.kind.Kind.TheVariants.{Philosopher, Place, Fork, Source, Map, Buffer, Sink, Teller, Branch, Account, Asker, Adder}
 use Rattle.config_graph.specs.declared.node.Node.{Node}
 use Rattle.config_graph.specs.declared.node.Target.{Target}
+use Rattle.config_graph.proofs.KindLemmas.{depended_by_first, depended_if}
 use Rattle.config_graph.proofs.LinkLemmas.{target_within}
 use Rattle.config_graph.proofs.NumberingLemmas.{within_list}
 
@@ -58,34 +61,56 @@ pub leads_by-not : (g : Configuration) (i r : ℕ) → is_depended_at g.nodes i 
 leads_by-not g i r h =
     ap (λ b. if b then option_map (λ (t : Target). t.node) (target_of g.links i r) else None) h
 
--- a node leads to the nodes to which its ports lead
-pub leads_by-Leads : (g : Configuration) (i r j : ℕ) → leads_by g i r ≡ Some j → Leads g i j
+-- where some provision depends on a port, the first does
+depends_first : (nodes : List Node) (i r : ℕ) → is_depended_at nodes i r ≡ true → depends_at nodes i 0 r ≡ true
+depends_first nodes i r h = by (slice_get nodes i) h
+  where
+    by : (o : Option Node) → option_map_or (λ (n : Node). is_depended_on n.kind r) o false ≡ true → option_map_or (λ (n : Node). depends_on n.kind 0 r) o false ≡ true
+    by None h = absurd (false≢true h)
+    by (Some n) h = sym (depended_by_first n.kind r) ∙ h
+
+depended_by : (nodes : List Node) (i x r : ℕ) → depends_at nodes i x r ≡ true → is_depended_at nodes i r ≡ true
+depended_by nodes i x r h = by (slice_get nodes i) h
+  where
+    by : (o : Option Node) → option_map_or (λ (n : Node). depends_on n.kind x r) o false ≡ true → option_map_or (λ (n : Node). is_depended_on n.kind r) o false ≡ true
+    by None h = absurd (false≢true h)
+    by (Some n) h = depended_if n.kind x r h
+
+-- a node may call the nodes to which its ports lead
+pub leads_by-Leads : (g : Configuration) (i r j : ℕ) → leads_by g i r ≡ Some j → MayCall (wiring_of g) i j
 leads_by-Leads g i r j h = by (is_depended_at g.nodes i r) refl (target_of g.links i r) refl h
   where
-    by : (b : Bool) → is_depended_at g.nodes i r ≡ b → (o : Option Target) → target_of g.links i r ≡ o → (if b then option_map (λ (t : Target). t.node) o else None) ≡ Some j → Leads g i j
+    by : (b : Bool) → is_depended_at g.nodes i r ≡ b → (o : Option Target) → target_of g.links i r ≡ o → (if b then option_map (λ (t : Target). t.node) o else None) ≡ Some j → MayCall (wiring_of g) i j
     by false e o f k = cc
     by true e None f k = cc
     by true e (Some t) f k =
         let here : t.node ≡ j = cc in
         record {
-          require = r;
+          port = record { node = i; require = r };
+          serves = 0;
           provide = t.provide;
+          depends = (refl, depends_first g.nodes i r e);
           linked = f ∙ (λ x. Some (record { node = here x; provide = t.provide }));
-          depended = e;
         }
 
-pub Leads-leads_by : (g : Configuration) (i j : ℕ) (h : Leads g i j) → leads_by g i h.require ≡ Some j
-Leads-leads_by g i j h =
-    leads_by-depended g i h.require h.depended ∙ ap (option_map (λ (t : Target). t.node)) h.linked
+depended : (g : Configuration) (i j : ℕ) (h : MayCall (wiring_of g) i j) → is_depended_at g.nodes i h.port.require ≡ true
+depended g i j h = depended_by g.nodes i h.serves h.port.require h.depends.1
 
-pub Leads-require : (g : Configuration) (i j : ℕ) (h : Leads g i j) → h.require < requires_at g.nodes i
-Leads-require g i j h = depended_at_within g.nodes i h.require h.depended
+linked : (g : Configuration) (i j : ℕ) (h : MayCall (wiring_of g) i j) → IsLinked g i h.port.require j h.provide
+linked g i j h = subst (λ k. IsLinked g k h.port.require j h.provide) h.depends.0 h.linked
+
+pub Leads-leads_by : (g : Configuration) (i j : ℕ) (h : MayCall (wiring_of g) i j) → leads_by g i h.port.require ≡ Some j
+Leads-leads_by g i j h =
+    leads_by-depended g i h.port.require (depended g i j h) ∙ ap (option_map (λ (t : Target). t.node)) (linked g i j h)
+
+pub Leads-require : (g : Configuration) (i j : ℕ) (h : MayCall (wiring_of g) i j) → h.port.require < requires_at g.nodes i
+Leads-require g i j h = depended_at_within g.nodes i h.port.require (depended g i j h)
 
 -- only nodes of the graph lead anywhere
-pub Leads-within : (g : Configuration) (i j : ℕ) → Leads g i j → i < length g.nodes
-Leads-within g i j h = within_list requires_of g.nodes i h.require (Leads-require g i j h)
+pub Leads-within : (g : Configuration) (i j : ℕ) → MayCall (wiring_of g) i j → i < length g.nodes
+Leads-within g i j h = within_list requires_of g.nodes i h.port.require (Leads-require g i j h)
 
-pub Way-within : (g : Configuration) (i j : ℕ) → Way g i j → i < length g.nodes
+pub Way-within : (g : Configuration) (i j : ℕ) → CallPath (wiring_of g) i j → i < length g.nodes
 Way-within g i j (step h) = Leads-within g i j h
 Way-within g i j (onward h rest) = Leads-within g i _ h
 
@@ -94,27 +119,9 @@ pub IfSome-node : (nodes : List Node) (o : Option Target) → IfSome o (λ t. t.
 IfSome-node nodes None h = tt
 IfSome-node nodes (Some t) h = within_list provides_of nodes t.node t.provide h
 
-pub Leads-ends : (g : Configuration) → All (IsWithin g.nodes) g.links → (i j : ℕ) → Leads g i j → j < length g.nodes
+pub Leads-ends : (g : Configuration) → All (IsWithin g.nodes) g.links → (i j : ℕ) → MayCall (wiring_of g) i j → j < length g.nodes
 Leads-ends g graph i j h =
-    within_list provides_of g.nodes j h.provide (target_within g.nodes g.links i h.require (record { node = j; provide = h.provide }) graph h.linked)
-
--- one step more at the end of a way
-pub Way-then : (g : Configuration) (i j k : ℕ) → Way g i j → Leads g j k → Way g i k
-Way-then g i j k (step h) next = onward h (step next)
-Way-then g i j k (onward {j = m} h rest) next = onward h (Way-then g m j k rest next)
-
-first_step : (g : Configuration) (i k : ℕ) → Way g i k → (j : ℕ) × Leads g i j × ((j ≡ k) ⊎ Way g j k)
-first_step g i k (step h) = (k, h, inl refl)
-first_step g i k (onward {j = j} h rest) = (j, h, inr rest)
-
--- a node that leads only to nodes on no cycle is on none
-pub acyclic_next : (g : Configuration) (i : ℕ) → ((j : ℕ) → Leads g i j → ¬ OnCycle g j) → ¬ OnCycle g i
-acyclic_next g i h way =
-    let s = first_step g i i way in
-    elim s.2 [
-      | inl same ↦ h i (subst (Leads g i) same s.1) way
-      | inr rest ↦ h s.0 s.1 (Way-then g s.0 i s.0 rest s.1)
-    ]
+    within_list provides_of g.nodes j h.provide (target_within g.nodes g.links i h.port.require (record { node = j; provide = h.provide }) graph (linked g i j h))
 
 -- where no node of the graph is on a cycle, there is none
 pub no_cycle : (g : Configuration) → ((i : ℕ) → i < length g.nodes → ¬ OnCycle g i) → NoCycle g
@@ -137,10 +144,10 @@ IfSome-at : {A : Type 0} (o : Option A) (P : A → Type 0) (x : A) → IfSome o 
 IfSome-at o P x h e = ForSome-from_IfSome o P P h (λ y p. p) x e
 
 -- where each port leads only to nodes of a set, the node does
-pub leads_only : (g : Configuration) (i count : ℕ) (P : ℕ → Type 0) → requires_at g.nodes i ≤ count → ((r : ℕ) → r < count → IfSome (leads_by g i r) P) → (j : ℕ) → Leads g i j → P j
+pub leads_only : (g : Configuration) (i count : ℕ) (P : ℕ → Type 0) → requires_at g.nodes i ≤ count → ((r : ℕ) → r < count → IfSome (leads_by g i r) P) → (j : ℕ) → MayCall (wiring_of g) i j → P j
 leads_only g i count P all h j leads =
     let low = Leads-require g i j leads in
-    IfSome-at (leads_by g i leads.require) P j (h leads.require (omega arith)) (Leads-leads_by g i j leads)
+    IfSome-at (leads_by g i leads.port.require) P j (h leads.port.require (omega arith)) (Leads-leads_by g i j leads)
 
 -- how many services the node at an index requires and provides
 pub requires_is : (nodes : List Node) (i count : ℕ) (n : Node) → slice_get nodes i ≡ Some n → count ≡ requires_of n → count ≡ requires_at nodes i

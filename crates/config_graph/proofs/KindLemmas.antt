@@ -1,5 +1,7 @@
-use Rattle.std.proofs.Common.{◌≡◌, Some, refl}
-use Rattle.config_graph.specs.Kinds.{row, kind_named}
+use Rattle.std.proofs.Common.{◌≡◌, ℕ, zero, suc, Some, true, false, refl}
+use Rattle.std.proofs.lemmas.Bool.{both_ways}
+use Rattle.std.proofs.Math.Bool.{or-false}
+use Rattle.config_graph.specs.Kinds.{row, kind_named, depends_on, is_depended_on}
 use Rattle.config_graph.specs.declared.kind.Kind.{Kind}
 use Rattle.config_graph.specs.declared.kind.Kind.TheVariants.{Philosopher, Place, Fork, Source, Map, Buffer, Sink, Teller, Branch, Account, Asker, Adder}
 
@@ -17,3 +19,37 @@ kind_named-name Branch = refl
 kind_named-name Account = refl
 kind_named-name Asker = refl
 kind_named-name Adder = refl
+
+-- a requirement on which a provision depends is one on which the first does
+pub depended_by_first : (k : Kind) (r : ℕ) → is_depended_on k r ≡ depends_on k 0 r
+depended_by_first Philosopher r = refl
+depended_by_first Place r = or-false (depends_on Place 0 r)
+depended_by_first Fork r = refl
+depended_by_first Source r = refl
+depended_by_first Map r = or-false (depends_on Map 0 r)
+depended_by_first Buffer r = refl
+depended_by_first Sink r = refl
+depended_by_first Teller r = refl
+depended_by_first Branch r = or-false (depends_on Branch 0 r)
+depended_by_first Account r = refl
+depended_by_first Asker r = refl
+depended_by_first Adder r = refl
+
+-- no provision past the first depends on anything, or calls
+pub no_second : (k : Kind) (x r : ℕ) → depends_on k (suc x) r ≡ false
+no_second Philosopher x r = refl
+no_second Place x r = refl
+no_second Fork x r = refl
+no_second Source x r = refl
+no_second Map x r = refl
+no_second Buffer x r = refl
+no_second Sink x r = refl
+no_second Teller x r = refl
+no_second Branch x r = refl
+no_second Account x r = refl
+no_second Asker x r = refl
+no_second Adder x r = refl
+
+pub depended_if : (k : Kind) (x r : ℕ) → depends_on k x r ≡ true → is_depended_on k r ≡ true
+depended_if k zero r h = rw (depended_by_first k r) h
+depended_if k (suc x) r h = absurd (both_ways (depends_on k (suc x) r) (no_second k x r) h)

@@ -1,3 +1,6 @@
+pub mod RangeLemmas
+pub mod WalkLemmas
+pub mod WiringLemmas
 pub mod ListLemmas
 pub mod KindLemmas
 pub mod NumberingLemmas

@@ -12,9 +12,12 @@ use Rattle.std.proofs.lemmas.List.Elements.{All-cons, All-push, Contains-append_
 use Rattle.std.proofs.lemmas.List.Sums.{sum_by-set}
 use Rattle.std.proofs.Math.ListN.{get_or-eq_default}
 use Rattle.config_graph.specs.Graph.{Configuration, IsWithin, requires_at}
-use Rattle.config_graph.specs.Cycles.{FirstOnCycle, Leads, NoCycle, OnCycle, Way, leads_by, onward, step}
+use Rattle.config_graph.specs.Cycles.{FirstOnCycle, NoCycle, OnCycle, leads_by, wiring_of}
+use Rattle.config_graph.specs.Walks.{onward, step}
+use Rattle.config_graph.specs.Wiring.{CallPath, MayCall}
 use Rattle.config_graph.specs.Search.{Has, Seen, see, see_all, seen_of, successors, successors_by}
-use Rattle.config_graph.proofs.CycleLemmas.{no_cycle, leads_by-Leads, Leads-ends, Leads-leads_by, Leads-require, Way-then}
+use Rattle.config_graph.proofs.CycleLemmas.{no_cycle, leads_by-Leads, Leads-ends, Leads-leads_by, Leads-require}
+use Rattle.config_graph.proofs.WalkLemmas.{walk_then}
 use Rattle.config_graph.proofs.IncomingLemmas.{Contains-filter_map}
 use Rattle.config_graph.proofs.OrderLemmas.{All-filter_map}
 use Rattle.config_graph.proofs.ListLemmas.{places_more}
@@ -180,9 +183,9 @@ see_all-append [] ys s = refl
 see_all-append (x ∷ xs) ys s = see_all-append xs ys (see x s)
 
 -- the successors of a node
-pub successors-lead : (g : Configuration) (i : ℕ) → All (Leads g i) (successors g i)
+pub successors-lead : (g : Configuration) (i : ℕ) → All (MayCall (wiring_of g) i) (successors g i)
 successors-lead g i =
-    All-filter_map (leads_by g i) (Leads g i) (range_with_len 0 (requires_at g.nodes i)) (λ k r j at_k h. leads_by-Leads g i r j h)
+    All-filter_map (leads_by g i) (MayCall (wiring_of g) i) (range_with_len 0 (requires_at g.nodes i)) (λ k r j at_k h. leads_by-Leads g i r j h)
 
 pub successors_by-more : (g : Configuration) (i r : ℕ) → successors_by g i (r + 1) ≡ successors_by g i r ++ option_to_list (leads_by g i r)
 successors_by-more g i r =
@@ -197,10 +200,10 @@ successors-within g graph i =
     All-filter_map (leads_by g i) (λ j. j < length g.nodes) (range_with_len 0 (requires_at g.nodes i)) (λ k r j at_k h. Leads-ends g graph i j (leads_by-Leads g i r j h))
 
 -- every node to which a node leads is seen with its successors
-pub see_all-leads : (g : Configuration) → All (IsWithin g.nodes) g.links → (i j : ℕ) (s : Seen) → length s.bits ≡ length g.nodes → Leads g i j → Has (see_all (successors g i) s).bits j
+pub see_all-leads : (g : Configuration) → All (IsWithin g.nodes) g.links → (i j : ℕ) (s : Seen) → length s.bits ≡ length g.nodes → MayCall (wiring_of g) i j → Has (see_all (successors g i) s).bits j
 see_all-leads g graph i j s long h =
     let requires_ = requires_at g.nodes i in
-    let r = h.require in
+    let r = h.port.require in
     let low : r < requires_ = Leads-require g i j h in
     let in_range : r < length (range_with_len 0 requires_) = rw length-range_with_len low in
     let here : slice_get (range_with_len 0 requires_) r ≡ Some r =
@@ -213,9 +216,9 @@ pub record Searched (g : Configuration) (start : ℕ) (s : Seen) (next : ℕ) : 
   pub long : length s.bits ≡ length g.nodes
   pub count : unseen s.bits + length s.reached ≡ length g.nodes
   pub listed : IsListed s
-  pub ways : (j : ℕ) → Has s.bits j → Way g start j
-  pub first : (j : ℕ) → Leads g start j → Has s.bits j
-  pub done : (k : ℕ) → k < next → (j : ℕ) → Leads g (get_or s.reached k 0) j → Has s.bits j
+  pub ways : (j : ℕ) → Has s.bits j → CallPath (wiring_of g) start j
+  pub first : (j : ℕ) → MayCall (wiring_of g) start j → Has s.bits j
+  pub done : (k : ℕ) → k < next → (j : ℕ) → MayCall (wiring_of g) (get_or s.reached k 0) j → Has s.bits j
   pub low : next ≤ length s.reached
 
 -- no bit is set
@@ -241,7 +244,7 @@ search_begins g graph start s s_is = subst (λ t. Searched g start t 0) (sym s_i
           count = omega (arith, grown.count, clear);
           listed = see_all-listed (successors g start) (nothing_seen g) (record { listed = λ i h. absurd (blank i h); members = λ k d l. absurd (omega arith) });
           ways = λ j h.
-              elim (see_all-only (Leads g start) (successors g start) (nothing_seen g) (successors-lead g start) j h) [
+              elim (see_all-only (MayCall (wiring_of g) start) (successors g start) (nothing_seen g) (successors-lead g start) j h) [
                 | inl before ↦ absurd (blank j before)
                 | inr leads ↦ step leads
               ];
@@ -257,41 +260,41 @@ search_goes_on g graph start s t next node h more node_is t_is =
     after : Searched g start (see_all (successors g node) s) (next + 1)
     after =
         let grown = see_all-extends (successors g node) s in
-        let here : Way g start node = subst (Way g start) (sym node_is) (h.ways (get_or s.reached next 0) (h.listed.members next 0 more)) in
+        let here : CallPath (wiring_of g) start node = subst (CallPath (wiring_of g) start) (sym node_is) (h.ways (get_or s.reached next 0) (h.listed.members next 0 more)) in
         record {
           long = grown.long ∙ h.long;
           count = grown.count ∙ h.count;
           listed = see_all-listed (successors g node) s h.listed;
           ways = λ j has.
-              elim (see_all-only (Leads g node) (successors g node) s (successors-lead g node) j has) [
+              elim (see_all-only (MayCall (wiring_of g) node) (successors g node) s (successors-lead g node) j has) [
                 | inl before ↦ h.ways j before
-                | inr leads ↦ Way-then g start node j here leads
+                | inr leads ↦ walk_then (MayCall (wiring_of g)) here leads
               ];
           first = λ j leads. grown.kept j (h.first j leads);
           done = λ k l j leads.
               let in_old : k < length s.reached = omega arith in
               let same = grown.prefix k in_old in
               elim (cases_lt k next) [
-                | inl before ↦ grown.kept j (h.done k before j (subst (λ i. Leads g i j) same leads))
+                | inl before ↦ grown.kept j (h.done k before j (subst (λ i. MayCall (wiring_of g) i j) same leads))
                 | inr last ↦
                     let at_next : k ≡ next = omega arith in
                     let is_node = same ∙ ap (λ x. get_or s.reached x 0) at_next ∙ sym node_is in
-                    see_all-leads g graph node j s h.long (subst (λ i. Leads g i j) is_node leads)
+                    see_all-leads g graph node j s h.long (subst (λ i. MayCall (wiring_of g) i j) is_node leads)
               ];
           low = omega (arith, grown.grows);
         }
 
 -- at the end exactly the nodes to which ways lead are seen
-pub search_ends : (g : Configuration) (start : ℕ) (s : Seen) (next : ℕ) → Searched g start s next → length s.reached ≤ next → (j : ℕ) → Has s.bits j ↔ Way g start j
+pub search_ends : (g : Configuration) (start : ℕ) (s : Seen) (next : ℕ) → Searched g start s next → length s.reached ≤ next → (j : ℕ) → Has s.bits j ↔ CallPath (wiring_of g) start j
 search_ends g start s next h all j = (h.ways j, λ way. follows start j way (λ k leads. h.first k leads))
   where
-    closed : (i : ℕ) → Has s.bits i → (k : ℕ) → Leads g i k → Has s.bits k
+    closed : (i : ℕ) → Has s.bits i → (k : ℕ) → MayCall (wiring_of g) i k → Has s.bits k
     closed i has k leads =
         let there = h.listed.listed i has in
         let here : get_or s.reached there.0 0 ≡ i = get_or_default s.reached there.0 0 i there.1 ∙ there.2 in
-        h.done there.0 (omega (arith, there.1)) k (subst (λ x. Leads g x k) (sym here) leads)
+        h.done there.0 (omega (arith, there.1)) k (subst (λ x. MayCall (wiring_of g) x k) (sym here) leads)
 
-    follows : (i j : ℕ) → Way g i j → ((k : ℕ) → Leads g i k → Has s.bits k) → Has s.bits j
+    follows : (i j : ℕ) → CallPath (wiring_of g) i j → ((k : ℕ) → MayCall (wiring_of g) i k → Has s.bits k) → Has s.bits j
     follows i j (step leads) f = f j leads
     follows i j (onward {j = m} leads rest) f = follows m j rest (closed m (f m leads))
 
@@ -318,24 +321,24 @@ All-before_last P (y ∷ xs) x all =
 
 module _ (g : Configuration) (graph : All (IsWithin g.nodes) g.links) (start : ℕ) where
   -- the search to its end: each step takes one node of the list, and no node stands there twice
-  searched_from : (fuel next : ℕ) (s : Seen) → Searched g start s next → length g.nodes ≤ next + fuel → (t : Seen) × ((j : ℕ) → Has t.bits j ↔ Way g start j)
+  searched_from : (fuel next : ℕ) (s : Seen) → Searched g start s next → length g.nodes ≤ next + fuel → (t : Seen) × ((j : ℕ) → Has t.bits j ↔ CallPath (wiring_of g) start j)
   searched_from zero next s h enough = (s, search_ends g start s next h (omega (arith, enough, h.count)))
   searched_from (suc fuel) next s h enough = by (cases_lt next (length s.reached)) (λ t after. searched_from fuel (next + 1) t after (omega (arith, enough)))
     where
       by :
-          (next < length s.reached) ⊎ (length s.reached ≤ next) → ((t : Seen) → Searched g start t (next + 1) → (u : Seen) × ((j : ℕ) → Has u.bits j ↔ Way g start j))
-          → (u : Seen) × ((j : ℕ) → Has u.bits j ↔ Way g start j)
+          (next < length s.reached) ⊎ (length s.reached ≤ next) → ((t : Seen) → Searched g start t (next + 1) → (u : Seen) × ((j : ℕ) → Has u.bits j ↔ CallPath (wiring_of g) start j))
+          → (u : Seen) × ((j : ℕ) → Has u.bits j ↔ CallPath (wiring_of g) start j)
       by (inl more) on =
           let node = get_or s.reached next 0 in
           on (see_all (successors g node) s) (search_goes_on g graph start s (see_all (successors g node) s) next node h more refl refl)
       by (inr all) on = (s, search_ends g start s next h all)
 
-  pub tell_way : (j : ℕ) → Way g start j ⊎ (Way g start j → ⊥)
+  pub tell_way : (j : ℕ) → CallPath (wiring_of g) start j ⊎ (CallPath (wiring_of g) start j → ⊥)
   tell_way j =
       let w = searched_from (length g.nodes) 0 (see_all (successors g start) (nothing_seen g)) (search_begins g graph start _ refl) (omega arith) in
       by w.0.bits (slice_index_or w.0.bits j false) refl (w.1 j)
     where
-      by : (bits : List Bool) (b : Bool) → slice_index_or bits j false ≡ b → (Has bits j ↔ Way g start j) → Way g start j ⊎ (Way g start j → ⊥)
+      by : (bits : List Bool) (b : Bool) → slice_index_or bits j false ≡ b → (Has bits j ↔ CallPath (wiring_of g) start j) → CallPath (wiring_of g) start j ⊎ (CallPath (wiring_of g) start j → ⊥)
       by bits true is iff = inl (iff.0 is)
       by bits false is iff = inr (λ way. false≢true (sym is ∙ iff.1 way))
 
@@ -348,12 +351,12 @@ first_or_none g graph = elim (up_to (length g.nodes)) [ inl first ↦ inl first 
     up_to (suc n) = by (up_to n) (tell_way g graph n n)
       where
         by :
-            ((i : ℕ) × FirstOnCycle g i) ⊎ ((i : ℕ) → i < n → ¬ OnCycle g i) → Way g n n ⊎ (Way g n n → ⊥)
+            ((i : ℕ) × FirstOnCycle g i) ⊎ ((i : ℕ) → i < n → ¬ OnCycle g i) → CallPath (wiring_of g) n n ⊎ (CallPath (wiring_of g) n n → ⊥)
             → ((i : ℕ) × FirstOnCycle g i) ⊎ ((i : ℕ) → i < suc n → ¬ OnCycle g i)
         by (inl first) way = inl first
         by (inr none) (inl way) = inl (n, record { on_cycle = way; first = none })
         by (inr none) (inr still) = inr (λ i low way.
             elim (eqb_tells i n) [
-              | inl same ↦ still (subst (λ k. Way g k k) same.1 way)
+              | inl same ↦ still (subst (λ k. CallPath (wiring_of g) k k) same.1 way)
               | inr other ↦ none i (omega (arith, low, other.1)) way
             ])

@@ -1,10 +1,11 @@
--- Ways along depended-on links, and cycles of them. A port of a node is depended on where some provision of the node's kind
--- depends on it, so that serving a transaction there may begin one at the port.
+-- The wiring of a graph, and cycles of it.
 use Rattle.std.specs.Prelude.{◌≡◌, ℕ, ◌<◌, Bool, false, IsTrue, if◌then◌else◌, List, Option, Some, None, option_map, slice_get}
 use Rattle.std.specs.Option.{option_map_or}
 use Rattle.config_graph.specs.Kinds.{depends_on, is_depended_on}
 use Rattle.config_graph.specs.Graph.{Configuration, target_of}
+use Rattle.config_graph.specs.Wiring.{Wiring, CallPath, HasNoCycle}
 use Rattle.config_graph.specs.declared.node.Node.{Node}
+use Rattle.config_graph.specs.declared.node.Port.{Port}
 use Rattle.config_graph.specs.declared.node.Target.{Target}
 
 -- a requirement of node i is linked to a provision of node j
@@ -18,24 +19,19 @@ depends_at nodes i provide require = option_map_or (λ n. depends_on n.kind prov
 abbrev pub is_depended_at : List Node → ℕ → ℕ → Bool
 is_depended_at nodes i require = option_map_or (λ n. is_depended_on n.kind require) (slice_get nodes i) false
 
--- node i leads to node j: a depended-on port of i is linked to j
-pub record Leads (g : Configuration) (i j : ℕ) : Type 0 where
-  pub require : ℕ
-  pub provide : ℕ
-  pub linked : IsLinked g i require j provide
-  pub depended : IsTrue (is_depended_at g.nodes i require)
+-- the links of a graph, and what its kinds say of dependence
+abbrev pub wiring_of : Configuration → Wiring Port
+wiring_of g = record {
+  Linked = λ p j provide. IsLinked g p.node p.require j provide;
+  Depends = λ i provide p. (p.node ≡ i) × IsTrue (depends_at g.nodes i provide p.require);
+}
 
--- a way of one or more steps from i to j
-pub data Way (g : Configuration) : ℕ → ℕ → Type 0 where
-  step : {i j : ℕ} → Leads g i j → Way g i j
-  onward : {i j k : ℕ} → Leads g i j → Way g j k → Way g i k
-
--- node i is on a cycle: a way leads from it back to it
+-- node i is on a cycle: a path of calls leads from it back to it
 abbrev pub OnCycle : Configuration → ℕ → Type 0
-OnCycle g i = Way g i i
+OnCycle g i = CallPath (wiring_of g) i i
 
 abbrev pub NoCycle : Configuration → Type 0
-NoCycle g = (i : ℕ) → ¬ OnCycle g i
+NoCycle g = HasNoCycle (wiring_of g)
 
 -- node i is the first of the nodes that are on cycles
 pub record FirstOnCycle (g : Configuration) (i : ℕ) : Type 0 where

@@ -7,3 +7,5 @@ pub mod Numbering
 pub mod Reach
 pub mod Search
 pub mod Sound
+pub mod Walks
+pub mod Wiring

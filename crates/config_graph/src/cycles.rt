@@ -3,7 +3,8 @@
 ghost use Rattle.std.specs.Prelude.{◌≡◌, ◌⊎◌, ◌+◌, ◌<◌, ◌≤◌, ◌↔◌, ℕ, length, All, IfNone, IfOk, IfSome, IsTrue, OnOk, false, option_map, option_to_list, replicate, vec_len};
 ghost use Rattle.std.specs.List.{range_with_len};
 ghost use Rattle.std.specs.Option.{ForSome};
-ghost use Rattle.config_graph.specs.Cycles.{FirstOnCycle, Leads, NoCycle, OnCycle, Way, leads_by};
+ghost use Rattle.config_graph.specs.Cycles.{FirstOnCycle, NoCycle, OnCycle, leads_by, wiring_of};
+ghost use Rattle.config_graph.specs.Wiring.{CallPath, MayCall};
 ghost use Rattle.config_graph.specs.Graph.{Configuration, IsGraph, ports as ports_of, requires_at};
 ghost use Rattle.config_graph.specs.declared.node.Target.{Target};
 ghost use Rattle.config_graph.specs.Search.{Has, see_all, seen_of, successors};
@@ -73,7 +74,7 @@ fn all_nodes(alloc: Global, count: u32) -> Result<Vec<u32>, NoMemory>
 fn leads_only_to(graph: &Graph, bits: &[bool], node: u32) -> bool
     requires bits { length bits.now ≡ length graph.now.nodes }
     requires node { node < length graph.now.nodes }
-    ensures { IsTrue result → (j : ℕ) → Leads graph.now node j → Has bits.now j }
+    ensures { IsTrue result → (j : ℕ) → MayCall (wiring_of graph.now) node j → Has bits.now j }
 {
     for require in 0..graph.node(node).kind.requires_() {
         if !is_set(bits, successor(graph, node, require)) {
@@ -138,7 +139,7 @@ fn is_on_cycle(alloc: Global, graph: &Graph, acyclic: &[bool], node: u32) -> Res
 fn list_reached(alloc: Global, graph: &Graph, start: u32) -> Result<Vec<bool>, NoMemory>
     requires { start < length graph.now.nodes }
     ensures length { IfOk result (λ bits. vec_len bits ≡ length graph.now.nodes) }
-    ensures reached { IfOk result (λ bits. (j : ℕ) → Has bits.items j ↔ Way graph.now start j) }
+    ensures reached { IfOk result (λ bits. (j : ℕ) → Has bits.items j ↔ CallPath (wiring_of graph.now) start j) }
 {
     let mut bits = no_bits(alloc, graph.node_count())?;
     let mut reached = Vec::new(alloc);

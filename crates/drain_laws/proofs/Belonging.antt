@@ -9,7 +9,6 @@ use Rattle.quiesce_core.specs.Reach.{can_walk}
 use Rattle.quiesce_core.specs.Traffic.{IsConsistent}
 use Rattle.quiesce_core.specs.WellFormed.{IsWellFormed}
 use Rattle.quiesce_core.proofs.Cycles.{map_or_true, map_or_at, walk_to, no_walk}
-use Rattle.quiesce_core.proofs.Reaching.{depended_at}
 use Rattle.drain_laws.specs.Belongs.{Transactions, Belongs, member, consequent, belongs, belongs_within, is_member, open_in}
 use Rattle.drain_laws.proofs.Busy.{busy_made}
 
@@ -32,8 +31,8 @@ longer_walk s p q r j w k e f walks =
     walk_to s.config j (owner s.config q) (owner s.config p) (record {
       port = q;
       provide = at.provide;
-      owned = w.sound.ports q (busy_made s q w calling.busy);
-      depended = depended_at s.config (owner s.config q) (provision s.config r) q calling.depends_on;
+      serves = provision s.config r;
+      depends = (w.sound.ports q (busy_made s q w calling.busy), calling.depends_on);
       linked = sym (ap (λ i. target s.config i) called.of_port) ∙ at.linked;
     }) walks
 

@@ -14,7 +14,6 @@ use Rattle.quiesce_core.specs.Rest.{greatest, full, events_through, call_events}
 use Rattle.quiesce_core.specs.WellFormed.{IsSound}
 use Rattle.quiesce_core.proofs.Cycles.{map_or_at, walk_to, no_walk}
 use Rattle.quiesce_core.proofs.Places.{live_made}
-use Rattle.quiesce_core.proofs.Reaching.{depended_at}
 use Rattle.quiesce_core.proofs.RestLemmas.{full_step}
 
 -- d has the nodes of c, with their kinds and ports, and no link that c hasn't at a port through which a good provision goes
@@ -90,7 +89,7 @@ module _ (c d : Configuration) (s : IsSound c) (ranked : has_no_cycle d ≡ true
       full_from m x made good (λ p t o dep e.
       full_down k t.node t.provide (live_made c t.node (s.targets p t e).live) (h.closed m x p t good o dep e) (false_from_ne_true (can_walk c k t.node) (λ walks.
       both_ways (can_walk c (suc k) m) short
-      (walk_to c k m t.node (record { port = p; provide = t.provide; owned = o; depended = depended_at c m x p dep; linked = e }) walks))))
+      (walk_to c k m t.node (record { port = p; serves = x; provide = t.provide; depends = (o, dep); linked = e }) walks))))
 
   pub full_fewer : (m x : ℕ) → m < length c.slots → Good m x → full d m x ≤ full c m x
   full_fewer m x made good = full_down (suc (length c.slots)) m x made good (no_walk c s.no_cycle m)

@@ -16,7 +16,7 @@ use Rattle.quiesce_core.specs.Runs.{IsRun, state_after}
 use Rattle.quiesce_core.specs.WellFormed.{IsWellFormed}
 use Rattle.quiesce_core.specs.Traffic.{IsConsistent}
 use Rattle.quiesce_core.proofs.Cycles.{PassesOf, any_of, of_any, of_all, map_or_true, map_or_at, walk_to, no_walk}
-use Rattle.quiesce_core.proofs.Reaching.{depended_at, owner_of}
+use Rattle.quiesce_core.proofs.Reaching.{owner_of}
 use Rattle.quiesce_core.proofs.LegalLemmas.{allowed}
 use Rattle.quiesce_core.proofs.RunLemmas.{runs_are_well_formed, runs_are_consistent}
 use Rattle.drain_laws.specs.Advances.{is_advance}
@@ -108,8 +108,8 @@ called s q d t w k short call next =
     both_ways (can_walk s.config (suc d) t.node) short (walk_to s.config d t.node u.node (record {
       port = call.port;
       provide = u.provide;
-      owned = call.owned;
-      depended = depended_at s.config t.node (provision s.config at.0) call.port (subst (λ n. depends s.config n (provision s.config at.0) call.port ≡ true) owns h.depends_on);
+      serves = provision s.config at.0;
+      depends = (call.owned, subst (λ n. depends s.config n (provision s.config at.0) call.port ≡ true) owns h.depends_on);
       linked = e;
     }) walks)))
 

@@ -15,7 +15,8 @@ use Rattle.quiesce_core.specs.State.{Configuration, State, fresh_exchange, fresh
 use Rattle.quiesce_core.specs.Phases.{is_idle}
 use Rattle.quiesce_core.specs.Effect.{with_gate, with_node, effect}
 use Rattle.quiesce_core.specs.Legal.{Legal}
-use Rattle.quiesce_core.specs.Reach.{IsPortOf, Reaches, direct, dependent, has_no_cycle}
+use Rattle.quiesce_core.specs.Reach.{IsPortOf, has_no_cycle, wiring_of}
+use Rattle.config_graph.specs.Wiring.{Reach, direct, through}
 use Rattle.quiesce_core.specs.Rules.{is_quiet}
 use Rattle.quiesce_core.specs.WellFormed.{IsWellFormed}
 use Rattle.quiesce_core.proofs.Cycles.{map_or_true}
@@ -87,13 +88,13 @@ unlink_spares s p w l =
 
 -- the provisions from which node n isn't reached
 abbrev pub Apart : Configuration → ℕ → ℕ → ℕ → Type 0
-Apart c n m x = (m ≡ n → ⊥) × ((q : ℕ) → IsPortOf c m q → depends c m x q ≡ true → Reaches c n q → ⊥)
+Apart c n m x = (m ≡ n → ⊥) × ((q : ℕ) → IsPortOf c m q → depends c m x q ≡ true → Reach (wiring_of c) n q → ⊥)
 
 -- that to which a port is linked that doesn't reach the node
-apart_from : (c : Configuration) (n q : ℕ) (t : Target) → target c q ≡ Some t → (Reaches c n q → ⊥) → Apart c n t.node t.provide
+apart_from : (c : Configuration) (n q : ℕ) (t : Target) → target c q ≡ Some t → (Reach (wiring_of c) n q → ⊥) → Apart c n t.node t.provide
 apart_from c n q t e none_ = (
-  λ same. none_ (direct q t.provide (e ∙ ap (λ i. Some (record { node = i; provide = t.provide })) same)),
-  λ i o dep r. none_ (dependent q i t.node t.provide e o dep r),
+  λ same. none_ (direct {x = t.provide} (e ∙ ap (λ i. Some (record { node = i; provide = t.provide })) same)),
+  λ i o dep r. none_ (through {p = i} {m = t.node} {x = t.provide} r (o, dep) e),
 )
 
 -- No open transaction can lead to the owner of a port that is linked: the owner is settled.

@@ -12,7 +12,8 @@ use Rattle.config_graph.specs.declared.node.Node.{Node}
 use Rattle.config_graph.specs.declared.node.Link.{Link}
 use Rattle.config_graph.specs.Kinds.{row, is_depended_on}
 use Rattle.config_graph.specs.Graph.{Configuration, PathsRise, requires_of, ports_of, ports, graph_of}
-use Rattle.config_graph.specs.Cycles.{Leads, Way, step, onward, NoCycle, FirstOnCycle}
+use Rattle.config_graph.specs.Cycles.{NoCycle, FirstOnCycle}
+use Rattle.config_graph.proofs.CycleLemmas.{Way-within}
 use Rattle.elaborator.specs.Instances.{Instance}
 use Rattle.elaborator.specs.Graph.{IsNode, IsLink, IsElab}
 use Rattle.elaborator.specs.Expanded.{Expanded, IsOf}
@@ -86,19 +87,8 @@ elab_of e top is_of n links g nodes all is same = record {
 
 -- ---- cycles
 
-leads_within : (g : Configuration) (i j : ℕ) → Leads g i j → i < length g.nodes
-leads_within g i j leads = by_node (slice_get g.nodes i) refl leads.depended
-  where
-    by_node : (o : Option Node) → slice_get g.nodes i ≡ o → IsTrue (option_map_or (λ n. is_depended_on n.kind leads.require) o false) → i < length g.nodes
-    by_node None is depended = absurd (false≢true depended)
-    by_node (Some n) is depended = slice_get_within g.nodes i n is
-
-way_within : (g : Configuration) (i j : ℕ) → Way g i j → i < length g.nodes
-way_within g _ _ (step {i} {j} leads) = leads_within g i j leads
-way_within g _ _ (onward {i} {j} {k} leads rest) = leads_within g i j leads
-
 pub on_cycle_within : (g : Configuration) (i : ℕ) → FirstOnCycle g i → i < length g.nodes
-on_cycle_within g i first = way_within g i i first.on_cycle
+on_cycle_within g i first = Way-within g i i first.on_cycle
 
 -- ---- the answer
 

@@ -6,11 +6,10 @@ use Rattle.std.proofs.lemmas.Bool.{cases_eq, cases_lt, false≢true}
 use Rattle.std.proofs.lemmas.List.{get_or_append_left}
 use Rattle.std.proofs.lemmas.List.Elements.{All-append, All-contains, All-filter, All-map, All-same, All-weaker, Contains-append_left, Contains-get_or}
 use Rattle.std.proofs.lemmas.Option.{get_or_from_slice_get, none-some, slice_get_within, slice_get-get_or}
-use Rattle.config_graph.specs.Cycles.{IsLinked, depends_at}
+use Rattle.config_graph.specs.Cycles.{IsLinked, depends_at, wiring_of}
 use Rattle.config_graph.specs.Graph.{Configuration, IsGraph, IsWithin, begins_at, ends_at, incoming_ports, link_at, port_number, ports, provides_at, requires_at}
 use Rattle.config_graph.specs.Kinds.{depends_on}
-use Rattle.config_graph.specs.Reach.{Reach}
-use Rattle.config_graph.specs.Reach.Reach.{direct, through}
+use Rattle.config_graph.specs.Wiring.{Reach, direct, through}
 use Rattle.config_graph.specs.declared.node.Link.{Link}
 use Rattle.config_graph.specs.declared.node.Node.{Node}
 use Rattle.config_graph.specs.declared.node.Port.{Port}
@@ -110,49 +109,55 @@ module _ (g : Configuration) (graph : IsGraph g) where
             }
 
     -- a port of the closure reaches a member
-    closure_reaches : HasLinked → (p : ℕ) → Closure g ps p → (i r : ℕ) → slice_get (ports g.nodes) p ≡ Some (record { node = i; require = r }) → (n : ℕ) × set n × Reach g n i r
-    closure_reaches ports_are p (first h) i r at =
-        let l = listed_from ports_are p i r at h in
+    closure_reaches : HasLinked → (p : ℕ) → Closure g ps p → (q : Port) → slice_get (ports g.nodes) p ≡ Some q → (n : ℕ) × set n × Reach (wiring_of g) n q
+    closure_reaches ports_are p (first h) q at =
+        let l = listed_from ports_are p q.node q.require at h in
         (l.0, l.2, direct l.3)
-    closure_reaches ports_are q (onward {p} before feeds) i r at =
+    closure_reaches ports_are p (onward {p = before} closed feeds) q at =
         let port = feeds.port in
-        let earlier = closure_reaches ports_are p before port.node port.require feeds.at in
+        let earlier = closure_reaches ports_are before closed port feeds.at in
         let x = feeds.feeds.0 in
-        let linked = listed_linked port.node x q i r at feeds.feeds.2.1 in
-        (earlier.0, earlier.1, through earlier.2 feeds.feeds.2.0 linked)
+        let linked = listed_linked port.node x p q.node q.require at feeds.feeds.2.1 in
+        (earlier.0, earlier.1, through earlier.2 (refl, feeds.feeds.2.0) linked)
 
     -- a port that reaches a node is one
-    reach_begins : (n i r : ℕ) → Reach g n i r → r < requires_at g.nodes i
-    reach_begins n i r (direct {provide = x} h) = linked_begins i r n x h
-    reach_begins n i r (through {m = m} {provide = x} before depends h) = linked_begins i r m x h
+    reach_begins : (n : ℕ) (q : Port) → Reach (wiring_of g) n q → q.require < requires_at g.nodes q.node
+    reach_begins n _ (direct {p} {x} h) = linked_begins p.node p.require n x h
+    reach_begins n _ (through {q} {m} {x} before d h) = linked_begins q.node q.require m x h
+
+    abbrev number_of : Port → ℕ
+    number_of q = port_number g.nodes q.node q.require
 
     -- a port that reaches a member is in the closure
-    reach_closed : HasLinked → (n i r : ℕ) → set n → Reach g n i r → Closure g ps (port_number g.nodes i r)
-    reach_closed ports_are n i r member (direct {provide = x} h) = first (listed_to ports_are i r n x member h)
-    reach_closed ports_are n i r member (through {m = m} {held = held} {provide = x} before depends h) =
-        onward (reach_closed ports_are n m held member before) (record {
-          port = record { node = m; require = held };
-          at = get-ports g.nodes m held (reach_begins n m held before);
-          feeds = (x, linked_ends i r m x h, (depends, linked_listed m x i r h));
+    reach_closed : HasLinked → (n : ℕ) (q : Port) → set n → Reach (wiring_of g) n q → Closure g ps (number_of q)
+    reach_closed ports_are n _ member (direct {p} {x} h) = first (listed_to ports_are p.node p.require n x member h)
+    reach_closed ports_are n _ member (through {p} {q} {m} {x} before d h) =
+        onward (reach_closed ports_are n p member before) (record {
+          port = p;
+          at = get-ports g.nodes p.node p.require (reach_begins n p before);
+          feeds =
+              let here : IsLinked g q.node q.require p.node x = subst (λ k. IsLinked g q.node q.require k x) (sym d.0) h in
+              (x, linked_ends q.node q.require p.node x here, (subst (λ k. IsTrue (depends_at g.nodes k x p.require)) (sym d.0) d.1, linked_listed p.node x q.node q.require here));
         })
 
     -- the owners of the ports that reach members
-    pub Owns-reach : HasLinked → (all : List ℕ) → ((p : ℕ) → Contains all p ↔ Closure g ps p) → (i : ℕ) → Owns g all i ↔ ((n : ℕ) × (r : ℕ) × set n × Reach g n i r)
+    pub Owns-reach : HasLinked → (all : List ℕ) → ((p : ℕ) → Contains all p ↔ Closure g ps p) → (i : ℕ) → Owns g all i ↔ ((n : ℕ) × (r : ℕ) × set n × Reach (wiring_of g) n (record { node = i; require = r }))
     Owns-reach ports_are all closed i = (to, from)
       where
-        to : Owns g all i → (n : ℕ) × (r : ℕ) × set n × Reach g n i r
+        to : Owns g all i → (n : ℕ) × (r : ℕ) × set n × Reach (wiring_of g) n (record { node = i; require = r })
         to o =
-            let reaches = closure_reaches ports_are o.number ((closed o.number).0 o.there) i o.require o.at in
+            let reaches = closure_reaches ports_are o.number ((closed o.number).0 o.there) (record { node = i; require = o.require }) o.at in
             (reaches.0, o.require, reaches.1, reaches.2)
 
-        from : (n : ℕ) × (r : ℕ) × set n × Reach g n i r → Owns g all i
+        from : (n : ℕ) × (r : ℕ) × set n × Reach (wiring_of g) n (record { node = i; require = r }) → Owns g all i
         from h =
-            let reach : Reach g h.0 i h.1 = h.3 in
+            let q : Port = record { node = i; require = h.1 } in
+            let reach : Reach (wiring_of g) h.0 q = h.3 in
             record {
-              number = port_number g.nodes i h.1;
+              number = number_of q;
               require = h.1;
-              there = (closed (port_number g.nodes i h.1)).1 (reach_closed ports_are h.0 i h.1 h.2 reach);
-              at = get-ports g.nodes i h.1 (reach_begins h.0 i h.1 reach);
+              there = (closed (number_of q)).1 (reach_closed ports_are h.0 q h.2 reach);
+              at = get-ports g.nodes i h.1 (reach_begins h.0 q reach);
             }
 
 -- the owners of the ports as far as one place more

@@ -1,9 +1,9 @@
 -- A system that was started as a sound graph says is well formed.
-use Rattle.std.proofs.Common.{◌≡◌, ℕ, zero, suc, ◌+◌, ◌-◌, ◌<◌, ◌≤◌, Bool, true, false, not, eqb, ◌||◌, List, [], ◌∷◌, length, map, take, get_or, Option, Some, None, refl, sym, ap, ◌∙◌, subst, ⊎_elim, arith, add-zero}
+use Rattle.std.proofs.Common.{◌≡◌, ℕ, zero, suc, ◌+◌, ◌-◌, ◌<◌, ◌≤◌, true, false, List, [], ◌∷◌, length, map, take, get_or, Option, Some, None, refl, sym, ap, ◌∙◌, subst, ⊎_elim, arith, add-zero}
 use Rattle.std.specs.Prelude.{slice_get, option_map, sum_by}
 use Rattle.std.specs.List.{enumerate_from}
 use Rattle.std.specs.Option.{option_map_or}
-use Rattle.std.proofs.lemmas.Bool.{both_ways, cases_Bool, cases_lt, eqb-true, eq-eqb, or_cases, or_left, or_right, false_from_ne_true, not_from_false}
+use Rattle.std.proofs.lemmas.Bool.{both_ways, cases_lt}
 use Rattle.std.proofs.lemmas.Option.{slice_get_within, get_or_from_slice_get, slice_get_past}
 use Rattle.std.proofs.lemmas.List.{length-map, get_or_past}
 use Rattle.std.proofs.lemmas.List.Sums.{sum_by-cons, sum_by_more}
@@ -11,7 +11,7 @@ use Rattle.std.specs.Ordering.{nat_cmp}
 use Rattle.std.specs.Cmp.Lexicographic.{slice_cmp}
 use Rattle.std.specs.declared.cmp.Ordering.TheVariants.{Less}
 use Rattle.std.proofs.lemmas.List.Elements.{All-contains}
-use Rattle.config_graph.specs.Kinds.{row, is_depended_on}
+use Rattle.config_graph.specs.Kinds.{row}
 use Rattle.config_graph.specs.Graph.{Configuration as Graph, IsWithin, begins_at, link_at, port_number, first_port, ports, target_of, requires_of, requires_at, provides_at, provides_of}
 use Rattle.config_graph.specs.Cycles as cycles
 use Rattle.config_graph.specs.Sound.{Sound, HasItsArgument}
@@ -22,19 +22,21 @@ use Rattle.config_graph.proofs.LinkLemmas.{Contains-find, begins_there, find_pas
 use Rattle.config_graph.proofs.NumberingLemmas.{length-ports}
 use Rattle.quiesce_core.specs.declared.state.Slot.{Slot}
 use Rattle.quiesce_core.specs.declared.state.Gate.{Gate}
-use Rattle.quiesce_core.specs.State.{Configuration, fresh_gate, fresh_exchange, slot, is_live, gate, owner, target, exchange}
+use Rattle.quiesce_core.specs.State.{fresh_gate, fresh_exchange, slot, is_live, gate, owner, target, exchange}
 use Rattle.quiesce_core.specs.declared.state.Exchange.{Exchange}
 use Rattle.quiesce_core.specs.Phases.{is_idle, is_in_more}
 use Rattle.quiesce_core.specs.Traffic.{IsConsistent}
-use Rattle.quiesce_core.specs.Reach.{IsPortOf, Leads, can_walk, has_no_cycle}
-use Rattle.quiesce_core.specs.WellFormed.{StandInARow, IsWithinBounds, IsSound, IsWellFormed}
+use Rattle.quiesce_core.specs.Reach.{IsPortOf, wiring_of}
+use Rattle.quiesce_core.specs.SameWiring.{IsPortAt}
+use Rattle.quiesce_core.specs.WellFormed.{StandInARow, LeadsToProvision, IsWithinBounds, IsSound, IsWellFormed}
 use Rattle.quiesce_core.specs.Named.{AreNamed}
 use Rattle.quiesce_core.proofs.OrderLemmas.{contains_at, stands_in, irreflexive}
 use Rattle.quiesce_core.specs.Live.{StandsAt, IsLiveLink, IsGraphOf}
 use Rattle.config_graph.specs.declared.node.Link.{Link}
 use Rattle.quiesce_core.specs.Start.{slot_of, gate_of, free, unused, started}
-use Rattle.quiesce_core.proofs.Lists.{range_all, count_in, count_in-le, count_in_rises}
-use Rattle.quiesce_core.proofs.Cycles.{walk_from, walker_made, map_or_at}
+use Rattle.quiesce_core.proofs.Cycles.{no_cycle_if_acyclic, map_or_at}
+use Rattle.quiesce_core.proofs.SameWiring.{linked_made, to_graph}
+use Rattle.config_graph.proofs.WiringLemmas.{no_cycle_there}
 
 -- look-ups in a list that was mapped
 
@@ -65,29 +67,6 @@ sum_taken f (y ∷ xs) zero x h =
     rw (sum_by-cons f y xs) (subst (λ z. 0 + f z ≤ f y + sum_by f xs) e (omega arith))
 sum_taken f (y ∷ xs) (suc i) x h =
     rw (sum_by-cons f y (take i xs), sum_by-cons f y xs) (omega (arith, sum_taken f xs i x h))
-
-way_on : (g : Graph) (i j k : ℕ) → cycles.Way g i j → cycles.Leads g j k → cycles.Way g i k
-way_on g _ _ k (cycles.step l) next = cycles.onward l (cycles.step next)
-way_on g _ _ k (cycles.onward l w) next = cycles.onward l (way_on g _ _ k w next)
-
--- A walk of more steps than there are nodes comes back to a node that it passed.
-comes_back : (c : Configuration) (g : Graph) → ((n m : ℕ) → Leads c n m → cycles.Leads g n m) → (passed : ℕ → Bool) (k n : ℕ) → ((v : ℕ) → passed v ≡ true → cycles.Way g v n)
-    → can_walk c k n ≡ true → length c.slots < count_in passed 0 (length c.slots) + k → (i : ℕ) × cycles.Way g i i
-comes_back c g same passed zero n ways h many = absurd (omega (arith, count_in-le passed 0 (length c.slots)))
-comes_back c g same passed (suc k) n ways h many = ⊎_elim
-    (λ (yes_ : passed n ≡ true). (n, ways n yes_))
-    (λ (no_ : passed n ≡ false).
-    let w = walk_from c k n h in
-    let lead = same n w.to w.leads in
-    let now : ℕ → Bool = λ i. passed i || eqb i n in
-    let grows : count_in passed 0 (length c.slots) < count_in (λ i. passed i || eqb i n) 0 (length c.slots) =
-    count_in_rises passed (λ i. passed i || eqb i n) 0 (length c.slots) n (λ j e. or_left (passed j) (eqb j n) e) (omega arith) (omega (arith, walker_made c k n h))
-    no_ (or_right (passed n) (eqb n n) (eq-eqb n n refl)) in
-    comes_back c g same (λ i. passed i || eqb i n) k w.to
-    (λ v e. ⊎_elim (λ (before : passed v ≡ true). way_on g v n w.to (ways v before) lead)
-    (λ (here : eqb v n ≡ true). subst (λ i. cycles.Way g i w.to) (sym (eqb-true v n here)) (cycles.step lead)) (or_cases (passed v) (eqb v n) e))
-    w.walks (omega arith))
-    (cases_Bool (passed n))
 
 module _ (g : Graph) (sound : Sound g) (few_nodes : length g.nodes ≤ 1023) (few_ports : length (ports g.nodes) ≤ 4096) where
   slot_made : (n : ℕ) (node : Node) → slice_get g.nodes n ≡ Some node → slot (started g).config n ≡ Some (slot_of g.nodes (n, node))
@@ -120,36 +99,6 @@ module _ (g : Graph) (sound : Sound g) (few_nodes : length g.nodes ≤ 1023) (fe
   gate_in_row n node r e h =
       gate_made (first_port g.nodes n + r) (record { node = n; require = r }) (get-ports g.nodes n r (subst (λ k. r < k) (sym (requires_there n node e)) h))
 
-  leads_there : (n m : ℕ) → Leads (started g).config n m → cycles.Leads g n m
-  leads_there n m l =
-      let was = slot_was n l.owned.node l.owned.made in
-      let node = was.0 in
-      let first : l.owned.node.first_port ≡ first_port g.nodes n = ap (λ (s : Slot). s.first_port) was.2 in
-      let size : length (row l.owned.node.node.kind).requires_ ≡ requires_of node = ap (λ (s : Slot). length (row s.node.kind).requires_) was.2 in
-      let at : first_port g.nodes n + (l.port - first_port g.nodes n) ≡ l.port = omega (arith, l.owned.from, first) in
-      let within : l.port - first_port g.nodes n < requires_of node = omega (arith, l.owned.from, l.owned.below, first, size) in
-      let here : gate (started g).config l.port ≡ gate_of g (record { node = n; require = l.port - first_port g.nodes n }) =
-      sym (ap (λ i. gate (started g).config i) at) ∙ gate_in_row n node (l.port - first_port g.nodes n) was.1 within in
-      record {
-        require = l.port - first_port g.nodes n;
-        provide = l.provide;
-        linked = sym (ap (λ (h : Gate). h.target) here) ∙ l.linked;
-        depended =
-            map_or_at (λ (k : Node). is_depended_on k.kind (l.port - first_port g.nodes n)) (slice_get g.nodes n) false node was.1
-            ∙ sym (ap (λ (h : Gate). is_depended_on node.kind h.require) here)
-            ∙ sym (map_or_at (λ (k : Slot). is_depended_on k.node.kind (gate (started g).config l.port).require) (slot (started g).config n) false (slot_of g.nodes (n, node)) (slot_made n node was.1))
-            ∙ l.depended;
-      }
-
-  no_cycle_started : has_no_cycle (started g).config ≡ true
-  unfolding has_no_cycle
-  no_cycle_started =
-      range_all (λ n. not (can_walk (started g).config (suc (length (started g).config.slots)) n)) 0 (length (started g).config.slots) (λ n l u.
-      not_from_false (can_walk (started g).config (suc (length (started g).config.slots)) n)
-      (false_from_ne_true (can_walk (started g).config (suc (length (started g).config.slots)) n) (λ h.
-      let w = comes_back (started g).config g leads_there (λ _. false) (suc (length (started g).config.slots)) n (λ v e. absurd (both_ways false refl e)) h (omega arith) in
-      sound.no_cycle w.0 w.1)))
-
   target_was : (p : ℕ) (t : Target) → target (started g).config p ≡ Some t → (q : Port) × (slice_get (ports g.nodes) p ≡ Some q) × (target_of g.links q.node q.require ≡ Some t)
   target_was p t e = ⊎_elim
       (λ (within : p < length (ports g.nodes)).
@@ -160,51 +109,64 @@ module _ (g : Graph) (sound : Sound g) (few_nodes : length g.nodes ≤ 1023) (fe
       absurd (cc (none_, e)))
       (cases_lt p (length (ports g.nodes)))
 
-  sound_started : IsSound (started g).config
-  sound_started = record {
-    few_nodes = omega (arith, slots_length, few_nodes);
-    few_ports = omega (arith, gates_length, few_ports);
-    rows = λ n m e.
-        let was = slot_was n m e in
-        subst (λ s. StandInARow (started g).config n s) (sym was.2) (record {
-          within = omega (arith, sum_taken requires_of g.nodes n was.0 was.1, length-ports g.nodes, gates_length);
-          owned = λ r h. ap (λ (x : Gate). x.owner) (gate_in_row n was.0 r was.1 h);
-          in_order = λ r h. ap (λ (x : Gate). x.require) (gate_in_row n was.0 r was.1 h);
-        });
-    ports = λ p h.
-        let q = there (ports g.nodes) p (omega (arith, gates_length)) in
-        let within : q.0.require < requires_at g.nodes q.0.node = require_within g.nodes p q.0 q.1 in
-        let node = there g.nodes q.0.node (requires_made q.0.node q.0.require within) in
-        let place : p ≡ first_port g.nodes q.0.node + q.0.require = port_number-place g.nodes p q.0 q.1 in
-        let size : requires_at g.nodes q.0.node ≡ requires_of node.0 = requires_there q.0.node node.0 node.1 in
-        subst (λ n. IsPortOf (started g).config n p) (sym (ap (λ (x : Gate). x.owner) (gate_made p q.0 q.1))) (record {
-          node = slot_of g.nodes (q.0.node, node.0);
-          made = slot_made q.0.node node.0 node.1;
-          from = omega (arith, place);
-          below = omega (arith, place, size, within);
-        });
-    targets = λ p t e.
-        let was = target_was p t e in
-        let within : t.provide < provides_at g.nodes t.node = target_within g.nodes g.links was.0.node was.0.require t sound.within was.2 in
-        let node = there g.nodes t.node (provides_made t.node t.provide within) in
-        record {
-          live = map_or_at (λ (m : Slot). m.live) (slot (started g).config t.node) false (slot_of g.nodes (t.node, node.0)) (slot_made t.node node.0 node.1);
-          provided = subst (λ k. t.provide < k)
-              (map_or_at provides_of (slice_get g.nodes t.node) 0 node.0 node.1
-              ∙ sym (map_or_at (λ (m : Slot). length (row m.node.kind).provides) (slot (started g).config t.node) 0 (slot_of g.nodes (t.node, node.0)) (slot_made t.node node.0 node.1))) within;
-        };
-    no_cycle = no_cycle_started;
-  }
-    where
-      made_if : (f : Node → ℕ) (n r : ℕ) → r < option_map_or f (slice_get g.nodes n) 0 → n < length g.nodes
-      made_if f n r h = ⊎_elim (λ (l : n < length g.nodes). l)
-          (λ (past : length g.nodes ≤ n). absurd (omega (arith, ap (λ o. option_map_or f o 0) (slice_get_past g.nodes n past), h))) (cases_lt n (length g.nodes))
+  made_if : (f : Node → ℕ) (n r : ℕ) → r < option_map_or f (slice_get g.nodes n) 0 → n < length g.nodes
+  made_if f n r h = ⊎_elim (λ (l : n < length g.nodes). l)
+      (λ (past : length g.nodes ≤ n). absurd (omega (arith, ap (λ o. option_map_or f o 0) (slice_get_past g.nodes n past), h))) (cases_lt n (length g.nodes))
 
-      requires_made : (n r : ℕ) → r < requires_at g.nodes n → n < length g.nodes
-      requires_made n r h = made_if requires_of n r h
+  requires_made : (n r : ℕ) → r < requires_at g.nodes n → n < length g.nodes
+  requires_made n r h = made_if requires_of n r h
 
-      provides_made : (n r : ℕ) → r < provides_at g.nodes n → n < length g.nodes
-      provides_made n r h = made_if provides_of n r h
+  provides_made : (n r : ℕ) → r < provides_at g.nodes n → n < length g.nodes
+  provides_made n r h = made_if provides_of n r h
+
+  rows_started : (n : ℕ) (m : Slot) → slot (started g).config n ≡ Some m → StandInARow (started g).config n m
+  rows_started =
+      λ n m e.
+      let was = slot_was n m e in
+      subst (λ s. StandInARow (started g).config n s) (sym was.2) (record {
+        within = omega (arith, sum_taken requires_of g.nodes n was.0 was.1, length-ports g.nodes, gates_length);
+        owned = λ r h. ap (λ (x : Gate). x.owner) (gate_in_row n was.0 r was.1 h);
+        in_order = λ r h. ap (λ (x : Gate). x.require) (gate_in_row n was.0 r was.1 h);
+      })
+
+  ports_started : (p : ℕ) → p < length (started g).config.gates → IsPortOf (started g).config (owner (started g).config p) p
+  ports_started =
+      λ p h.
+      let q = there (ports g.nodes) p (omega (arith, gates_length)) in
+      let within : q.0.require < requires_at g.nodes q.0.node = require_within g.nodes p q.0 q.1 in
+      let node = there g.nodes q.0.node (requires_made q.0.node q.0.require within) in
+      let place : p ≡ first_port g.nodes q.0.node + q.0.require = port_number-place g.nodes p q.0 q.1 in
+      let size : requires_at g.nodes q.0.node ≡ requires_of node.0 = requires_there q.0.node node.0 node.1 in
+      subst (λ n. IsPortOf (started g).config n p) (sym (ap (λ (x : Gate). x.owner) (gate_made p q.0 q.1))) (record {
+        node = slot_of g.nodes (q.0.node, node.0);
+        made = slot_made q.0.node node.0 node.1;
+        from = omega (arith, place);
+        below = omega (arith, place, size, within);
+      })
+
+  targets_started : (p : ℕ) (t : Target) → target (started g).config p ≡ Some t → LeadsToProvision (started g).config t
+  targets_started =
+      λ p t e.
+      let was = target_was p t e in
+      let within : t.provide < provides_at g.nodes t.node = target_within g.nodes g.links was.0.node was.0.require t sound.within was.2 in
+      let node = there g.nodes t.node (provides_made t.node t.provide within) in
+      record {
+        live = map_or_at (λ (m : Slot). m.live) (slot (started g).config t.node) false (slot_of g.nodes (t.node, node.0)) (slot_made t.node node.0 node.1);
+        provided = subst (λ k. t.provide < k)
+            (map_or_at provides_of (slice_get g.nodes t.node) 0 node.0 node.1
+            ∙ sym (map_or_at (λ (m : Slot). length (row m.node.kind).provides) (slot (started g).config t.node) 0 (slot_of g.nodes (t.node, node.0)) (slot_made t.node node.0 node.1))) within;
+      }
+
+  owned_started : (n p : ℕ) → IsPortOf (started g).config n p → owner (started g).config p ≡ n
+  owned_started n p o =
+      let at : o.node.first_port + (p - o.node.first_port) ≡ p = omega (arith, o.from) in
+      sym (ap (λ i. owner (started g).config i) at) ∙ (rows_started n o.node o.made).owned (p - o.node.first_port) (omega (arith, o.from, o.below))
+
+  -- all that was made is live
+  live_started : (n : ℕ) (m : Slot) → slot (started g).config n ≡ Some m → is_live (started g).config n ≡ true
+  live_started n m e =
+      let was = slot_was n m e in
+      map_or_at (λ (k : Slot). k.live) (slot (started g).config n) false m e ∙ ap (λ (k : Slot). k.live) was.2
 
   pub named_started : AreNamed (started g).config
   named_started = record {
@@ -226,48 +188,6 @@ module _ (g : Graph) (sound : Sound g) (few_nodes : length g.nodes ≤ 1023) (fe
           irreflexive y.path (subst (λ q. slice_cmp nat_cmp q y.path ≡ Less) same
           (subst (λ (n : Node). slice_cmp nat_cmp n.path y.path ≡ Less) (get_or_from_slice_get g.nodes i x x at_i)
           (subst (λ (n : Node). slice_cmp nat_cmp (get_or g.nodes i x).path n.path ≡ Less) (get_or_from_slice_get g.nodes j y x at_j) rises)))
-
-  pub well_formed_started : IsWellFormed (started g)
-  well_formed_started = record {
-    sound = sound_started;
-    services = length-map g.nodes free ∙ sym slots_length;
-    exchanges = length-map (ports g.nodes) unused ∙ sym gates_length;
-    bounds = λ p. bounds_unused (ports g.nodes) p;
-  }
-    where
-      bounds_unused : (ps : List Port) (p : ℕ) → IsWithinBounds (get_or (map unused ps) p fresh_exchange)
-      bounds_unused [] p = record { serial = omega arith; value = omega arith }
-      bounds_unused (q ∷ ps) zero = record { serial = omega arith; value = omega arith }
-      bounds_unused (q ∷ ps) (suc p) = bounds_unused ps p
-
-  -- all is idle in it
-  pub consistent_started : IsConsistent (started g)
-  consistent_started = record {
-    linked = λ p h. absurd (both_ways (is_idle (exchange (started g) p).phase) h (ap (λ (x : Exchange). is_idle x.phase) (fresh (ports g.nodes) p)));
-    serving = λ n v e. absurd (cc (e, serves_none g.nodes n));
-    taken = λ p h. absurd (both_ways (is_in_more (exchange (started g) p).phase) (ap (λ (x : Exchange). is_in_more x.phase) (fresh (ports g.nodes) p)) h);
-    consequent = λ p q e. absurd (cc (e, ap (λ (x : Exchange). x.within) (fresh (ports g.nodes) p)));
-    removed = λ p h. ⊎_elim
-        (λ (made : p < length (started g).config.gates).
-        let o = sound_started.ports p made in
-        let was = slot_was (owner (started g).config p) o.node o.made in
-        absurd (both_ways (is_live (started g).config (owner (started g).config p)) h
-        (map_or_at (λ (m : Slot). m.live) (slot (started g).config (owner (started g).config p)) false o.node o.made ∙ ap (λ (m : Slot). m.live) was.2)))
-        (λ (past : length (started g).config.gates ≤ p).
-        let none_ : gate (started g).config p ≡ fresh_gate = get_or_past (started g).config.gates p fresh_gate past in
-        (ap (λ (x : Gate). x.closed) none_, ap (λ (x : Gate). x.target) none_))
-        (cases_lt p (length (started g).config.gates));
-  }
-    where
-      fresh : (ps : List Port) (p : ℕ) → get_or (map unused ps) p fresh_exchange ≡ fresh_exchange
-      fresh [] p = refl
-      fresh (q ∷ ps) zero = refl
-      fresh (q ∷ ps) (suc p) = fresh ps p
-
-      serves_none : (ns : List Node) (n : ℕ) → get_or (map free ns) n None ≡ None
-      serves_none [] n = refl
-      serves_none (m ∷ ns) zero = refl
-      serves_none (m ∷ ns) (suc n) = serves_none ns n
 
   -- a node stands at one place
   one_place : (i j : ℕ) (node : Node) → slice_get g.nodes i ≡ Some node → slice_get g.nodes j ≡ Some node → i ≡ j
@@ -333,6 +253,63 @@ module _ (g : Graph) (sound : Sound g) (few_nodes : length g.nodes ≤ 1023) (fe
     links_are = λ i r j x. (link_started i r j x, link_was i r j x);
     in_order = sound.in_order;
   }
+
+  sound_started : IsSound (started g).config
+  sound_started = record {
+    few_nodes = omega (arith, slots_length, few_nodes);
+    few_ports = omega (arith, gates_length, few_ports);
+    rows = rows_started;
+    ports = ports_started;
+    targets = targets_started;
+    no_cycle = no_cycle_if_acyclic (started g).config (no_cycle_there (wiring_of (started g).config) (cycles.wiring_of g) (StandsAt (started g).config g.nodes) (IsPortAt (started g).config g)
+        (to_graph (started g).config named_started g graph_started (record {
+          from = λ p t e. let o = ports_started p (linked_made (started g).config p t e) in live_started (owner (started g).config p) o.node o.made;
+          to = λ p t e. (targets_started p t e).live;
+          owned = owned_started;
+        })) sound.no_cycle);
+  }
+
+  pub well_formed_started : IsWellFormed (started g)
+  well_formed_started = record {
+    sound = sound_started;
+    services = length-map g.nodes free ∙ sym slots_length;
+    exchanges = length-map (ports g.nodes) unused ∙ sym gates_length;
+    bounds = λ p. bounds_unused (ports g.nodes) p;
+  }
+    where
+      bounds_unused : (ps : List Port) (p : ℕ) → IsWithinBounds (get_or (map unused ps) p fresh_exchange)
+      bounds_unused [] p = record { serial = omega arith; value = omega arith }
+      bounds_unused (q ∷ ps) zero = record { serial = omega arith; value = omega arith }
+      bounds_unused (q ∷ ps) (suc p) = bounds_unused ps p
+
+  -- all is idle in it
+  pub consistent_started : IsConsistent (started g)
+  consistent_started = record {
+    linked = λ p h. absurd (both_ways (is_idle (exchange (started g) p).phase) h (ap (λ (x : Exchange). is_idle x.phase) (fresh (ports g.nodes) p)));
+    serving = λ n v e. absurd (cc (e, serves_none g.nodes n));
+    taken = λ p h. absurd (both_ways (is_in_more (exchange (started g) p).phase) (ap (λ (x : Exchange). is_in_more x.phase) (fresh (ports g.nodes) p)) h);
+    consequent = λ p q e. absurd (cc (e, ap (λ (x : Exchange). x.within) (fresh (ports g.nodes) p)));
+    removed = λ p h. ⊎_elim
+        (λ (made : p < length (started g).config.gates).
+        let o = sound_started.ports p made in
+        let was = slot_was (owner (started g).config p) o.node o.made in
+        absurd (both_ways (is_live (started g).config (owner (started g).config p)) h
+        (map_or_at (λ (m : Slot). m.live) (slot (started g).config (owner (started g).config p)) false o.node o.made ∙ ap (λ (m : Slot). m.live) was.2)))
+        (λ (past : length (started g).config.gates ≤ p).
+        let none_ : gate (started g).config p ≡ fresh_gate = get_or_past (started g).config.gates p fresh_gate past in
+        (ap (λ (x : Gate). x.closed) none_, ap (λ (x : Gate). x.target) none_))
+        (cases_lt p (length (started g).config.gates));
+  }
+    where
+      fresh : (ps : List Port) (p : ℕ) → get_or (map unused ps) p fresh_exchange ≡ fresh_exchange
+      fresh [] p = refl
+      fresh (q ∷ ps) zero = refl
+      fresh (q ∷ ps) (suc p) = fresh ps p
+
+      serves_none : (ns : List Node) (n : ℕ) → get_or (map free ns) n None ≡ None
+      serves_none [] n = refl
+      serves_none (m ∷ ns) zero = refl
+      serves_none (m ∷ ns) (suc n) = serves_none ns n
 
 -- the first port after one node more
 pub first_port_more : (nodes : List Node) (i : ℕ) (n : Node) → slice_get nodes i ≡ Some n → first_port nodes i + requires_of n ≡ first_port nodes (i + 1)

@@ -14,6 +14,7 @@ pub mod TrafficLemmas
 pub mod Running
 pub mod RunLemmas
 pub mod OrderLemmas
+pub mod SameWiring
 pub mod LiveLemmas
 pub mod NamedLemmas
 pub mod OneGraph

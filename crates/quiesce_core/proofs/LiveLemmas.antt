@@ -1,8 +1,8 @@
 -- The graph that is built from the live nodes and their links is the graph of the configuration.
-use Rattle.std.proofs.Common.{◌≡◌, ◌∙◌, ℕ, zero, suc, ◌+◌, ◌-◌, ◌*◌, ◌<◌, ◌≤◌, ◌^◌, true, false, List, [], ◌∷◌, Option, Some, None, Result, Ok, Err, length, get_or, refl, ap, sym, subst, ⊎_elim, arith}
+use Rattle.std.proofs.Common.{◌≡◌, ◌∙◌, ℕ, zero, suc, ◌+◌, ◌*◌, ◌<◌, ◌≤◌, ◌^◌, true, false, List, [], ◌∷◌, Option, Some, None, Result, Ok, Err, length, get_or, refl, ap, sym, subst, arith}
 use Rattle.std.specs.Prelude.{◌↔◌, slice_get, filter_map, option_map, option_and_then, Contains, All, AllPairs, IfOk}
 use Rattle.std.specs.List.{range_with_len, flat_map, enumerate_from}
-use Rattle.std.proofs.lemmas.Bool.{cases_lt, false_from_ne_true}
+use Rattle.std.proofs.lemmas.Bool.{false_from_ne_true}
 use Rattle.std.specs.Ordering.{nat_cmp}
 use Rattle.std.specs.Cmp.Lexicographic.{slice_cmp}
 use Rattle.std.specs.declared.cmp.Ordering.TheVariants.{Less}
@@ -11,7 +11,7 @@ use Rattle.std.proofs.lemmas.List.{length-append, length-map}
 use Rattle.std.proofs.lemmas.List.FromFn.{get_or-range_with_len, length-range_with_len}
 use Rattle.std.proofs.lemmas.List.Kept.{AllPairs-cons}
 use Rattle.std.proofs.lemmas.Option.{slice_get-get_or, slice_get_within, get_or_from_slice_get, same_Some}
-use Rattle.config_graph.specs.Kinds.{row, is_depended_on}
+use Rattle.config_graph.specs.Kinds.{row}
 use Rattle.config_graph.specs.Graph.{Configuration as Graph, IsGraph, IsWithin, OneLinkAPort, PathsRise, begins_at, graph_of, in_port_order, link_at, ports, ports_of, provides_of, requires_of}
 use Rattle.config_graph.specs.Cycles as cycles
 use Rattle.config_graph.specs.Sound.{Sound, HasItsArgument}
@@ -22,14 +22,17 @@ use Rattle.config_graph.proofs.LinkLemmas.{Contains-find, find_passes, begins_th
 use Rattle.config_graph.proofs.OrderLemmas.{All-filter_map, IsGraph-graph_of, in_port_order-twice, one_link-in_order}
 use Rattle.config_graph.proofs.IncomingLemmas.{Contains-filter_map, Contains-in_order, link_at-own}
 use Rattle.quiesce_core.specs.declared.state.Slot.{Slot}
-use Rattle.quiesce_core.specs.declared.state.Gate.{Gate}
-use Rattle.quiesce_core.specs.State.{Configuration, fresh_gate, slot, gate, owner, target}
-use Rattle.quiesce_core.specs.Reach.{Leads, HasNoCycle}
+use Rattle.quiesce_core.specs.State.{Configuration, slot, gate, owner, target}
+use Rattle.quiesce_core.specs.Reach.{wiring_of}
+use Rattle.quiesce_core.specs.SameWiring.{IsPortAt}
+use Rattle.config_graph.specs.Cycles.{wiring_of as wiring_of_graph}
+use Rattle.config_graph.proofs.WiringLemmas.{no_cycle_there}
 use Rattle.quiesce_core.specs.WellFormed.{IsSound}
 use Rattle.quiesce_core.specs.Named.{AreNamed}
 use Rattle.quiesce_core.specs.Live.{StandsAt, IsLiveLink, IsGraphOf}
 use Rattle.quiesce_core.specs.Listed.{path_at, InPathOrder, ArePlaces, AreNodesOf, link_in}
-use Rattle.quiesce_core.proofs.Cycles.{map_or_at, ranked_if_no_cycle}
+use Rattle.quiesce_core.proofs.Cycles.{map_or_at, cycles_are_found}
+use Rattle.quiesce_core.proofs.SameWiring.{linked_made, port_is, to_configuration}
 use Rattle.quiesce_core.proofs.KindLemmas.{two_requires}
 use Rattle.quiesce_core.proofs.OrderLemmas.{contains_at, stands_in, live_at, range_at}
 
@@ -77,29 +80,6 @@ link_if c places p l w =
     ∙ ap (λ o. option_map (λ j. record { from = l.from; require = (gate c p).require; to = j; provide = w.to.provide }) o) w.to_there
     ∙ ap (λ r. Some (record { from = l.from; require = r; to = l.to; provide = w.to.provide })) w.require
     ∙ ap (λ x. Some (record { from = l.from; require = l.require; to = l.to; provide = x })) w.provide
-
--- a linked port was made
-linked_made : (c : Configuration) (p : ℕ) (t : Target) → target c p ≡ Some t → p < length c.gates
-linked_made c p t e = ⊎_elim (λ (h : p < length c.gates). h)
-    (λ (past : length c.gates ≤ p). absurd (cc (ap (λ (g : Gate). g.target) (get_past c.gates p past), e))) (cases_lt p (length c.gates))
-  where
-    get_past : (gs : List Gate) (p : ℕ) → length gs ≤ p → get_or gs p fresh_gate ≡ fresh_gate
-    get_past [] p h = refl
-    get_past (g ∷ gs) zero h = absurd (omega arith)
-    get_past (g ∷ gs) (suc p) h = get_past gs p (omega arith)
-
--- a port's number is told by its owner and its requirement
-port_is : (c : Configuration) → IsSound c → (p : ℕ) (m : Slot) → p < length c.gates → slot c (owner c p) ≡ Some m
-    → (p ≡ m.first_port + (gate c p).require) × ((gate c p).require < length (row m.node.kind).requires_)
-port_is c sound p m made there =
-    let own = sound.ports p made in
-    let one : own.node ≡ m = same_Some own.node m (sym own.made ∙ there) in
-    let from : m.first_port ≤ p = subst (λ (x : Slot). x.first_port ≤ p) one own.from in
-    let below : p < m.first_port + length (row m.node.kind).requires_ = subst (λ (x : Slot). p < x.first_port + length (row x.node.kind).requires_) one own.below in
-    let at : m.first_port + (p - m.first_port) ≡ p = omega arith in
-    let is : (gate c p).require ≡ p - m.first_port =
-    ap (λ i. (gate c i).require) (sym at) ∙ (sound.rows (owner c p) m there).in_order (p - m.first_port) (omega arith) in
-    (omega (arith, is, from), omega (arith, is, from, below))
 
 -- members of a filtered range come from numbers in it, in their order
 ahead : (a n k q : ℕ) → slice_get (range_with_len a n) k ≡ Some q → a ≤ q
@@ -276,54 +256,6 @@ module _ (c : Configuration) (sound : IsSound c) (named : AreNamed c) (order : L
     in_order = in_port_order-twice nodes (links_of c places);
   }
 
-  -- a step of the graph is one of the configuration
-  record LeadsOn (i j : ℕ) : Type 0 where
-    from : ℕ
-    to : ℕ
-    at_from : slice_get order i ≡ Some from
-    at_to : slice_get order j ≡ Some to
-    leads : Leads c from to
-
-  leads_on : (i j : ℕ) → cycles.Leads (graph_of nodes (links_of c places)) i j → LeadsOn i j
-  leads_on i j l =
-      let v = linked_live i l.require j l.provide l.linked in
-      let made = v.from_there.made in
-      record {
-        from = owner c v.port;
-        to = v.to;
-        at_from = placed (owner c v.port) i (place_is (owner c v.port) i v.from_there);
-        at_to = placed v.to j (place_is v.to j v.to_there);
-        leads = record {
-          port = v.port;
-          provide = l.provide;
-          owned = sound.ports v.port (linked_made c v.port (record { node = v.to; provide = l.provide }) v.leads);
-          depended =
-              map_or_at (λ (m : Slot). is_depended_on m.node.kind (gate c v.port).require) (slot c (owner c v.port)) false made v.from_there.there
-              ∙ ap (λ r. is_depended_on made.node.kind r) v.requirement
-              ∙ sym (map_or_at (λ (n : Node). is_depended_on n.kind l.require) (slice_get nodes i) false made.node v.from_there.stands)
-              ∙ l.depended;
-          linked = v.leads;
-        };
-      }
-
-  record Falls (i k : ℕ) (rank : ℕ → ℕ) : Type 0 where
-    from : ℕ
-    to : ℕ
-    at_from : slice_get order i ≡ Some from
-    at_to : slice_get order k ≡ Some to
-    lower : rank to < rank from
-
-  way_falls : (ranked : HasNoCycle c) (i k : ℕ) → cycles.Way (graph_of nodes (links_of c places)) i k → Falls i k ranked.rank
-  way_falls ranked _ _ (cycles.step {i} {j} l) =
-      let w = leads_on i j l in
-      record { from = w.from; to = w.to; at_from = w.at_from; at_to = w.at_to; lower = ranked.falls w.from w.to w.leads }
-  way_falls ranked _ _ (cycles.onward {i} {j} {k} l way) =
-      let w = leads_on i j l in
-      let v = way_falls ranked j k way in
-      let same : w.to ≡ v.from = same_Some w.to v.from (sym w.at_to ∙ v.at_from) in
-      let first : ranked.rank w.to < ranked.rank w.from = ranked.falls w.from w.to w.leads in
-      record { from = w.from; to = v.to; at_from = w.at_from; at_to = v.at_to; lower = omega (arith, v.lower, ap ranked.rank same, first) }
-
   pub graph_sound : Sound (graph_of nodes (links_of c places))
   graph_sound = record {
     paths_rise = paths_rise;
@@ -332,11 +264,8 @@ module _ (c : Configuration) (sound : IsSound c) (named : AreNamed c) (order : L
         subst HasItsArgument (sym (get_or_from_slice_get nodes i w.made.node d w.stands)) (named.arguments w.number w.made w.there);
     within = is_graph.within;
     in_order = in_port_order-twice nodes (links_of c places);
-    no_cycle = λ i way.
-        let ranked = ranked_if_no_cycle c sound.no_cycle in
-        let w = way_falls ranked i i way in
-        let same : w.from ≡ w.to = same_Some w.from w.to (sym w.at_from ∙ w.at_to) in
-        omega (arith, w.lower, ap ranked.rank same);
+    no_cycle = no_cycle_there (wiring_of_graph (graph_of nodes (links_of c places))) (wiring_of c) (λ j m. StandsAt c nodes m j) (λ q p. IsPortAt c (graph_of nodes (links_of c places)) p q)
+        (to_configuration c named (graph_of nodes (links_of c places)) graph_is sound.ports) ((cycles_are_found c).0 sound.no_cycle);
   }
 
 -- the parts of the graph as the code has them

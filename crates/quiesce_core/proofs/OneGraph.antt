@@ -51,7 +51,7 @@ after_first R apart x y xs ys rise same all z held =
     ]
 
 -- two ordered lists with the same elements are one
-one_order :
+pub one_order :
     {A : Type 0} (R : A → A → Type 0) → ((x y : A) → R x y → R y x → ⊥) → (xs ys : List A) → AllPairs R xs → AllPairs R ys → ((z : A) → Contains xs z → Contains ys z)
     → ((z : A) → Contains ys z → Contains xs z) → xs ≡ ys
 one_order R apart [] [] rise rise' all all' = refl
@@ -72,7 +72,7 @@ one_order R apart (x ∷ xs) (y ∷ ys) rise rise' all all' =
               ]
         ]
 
-paths_apart : (m n : Node) → slice_cmp nat_cmp m.path n.path ≡ Less → slice_cmp nat_cmp n.path m.path ≡ Less → ⊥
+pub paths_apart : (m n : Node) → slice_cmp nat_cmp m.path n.path ≡ Less → slice_cmp nat_cmp n.path m.path ≡ Less → ⊥
 paths_apart m n below above = irreflexive m.path (nat_list_cmp_total.trans m.path n.path m.path below above)
 
 same_nodes : (c : Configuration) (g h : Graph) → IsGraphOf c g → IsGraphOf c h → g.nodes ≡ h.nodes
@@ -100,7 +100,7 @@ same_link ls ks i r alike l at = by (link_at ks i r) refl (alike l.to l.provide 
         let require : k.require ≡ l.require = other.1 ∙ sym begun.1 in
         λ n. Some (record { from = from n; require = require n; to = (ends n).node; provide = (ends n).provide })
 
-same_links_at :
+pub same_links_at :
     (ls ks : List Link) (i r : ℕ) → ((j x : ℕ) → option_map end_of (link_at ls i r) ≡ Some (record { node = j; provide = x }) → option_map end_of (link_at ks i r) ≡ Some (record { node = j; provide = x }))
     → ((j x : ℕ) → option_map end_of (link_at ks i r) ≡ Some (record { node = j; provide = x }) → option_map end_of (link_at ls i r) ≡ Some (record { node = j; provide = x }))
     → link_at ls i r ≡ link_at ks i r

@@ -5,24 +5,21 @@ use Rattle.std.specs.List.{list_any, list_all, range_with_len}
 use Rattle.std.specs.Option.{option_map_or}
 use Rattle.std.proofs.lemmas.Bool.{and_parts, and_from, and_cases, both_ways, cases_Bool, cases_eq, false_from_ne_true, or_cases, or_left, or_right, eqb-true, eq-eqb, not_from_true, not_from_false}
 use Rattle.config_graph.specs.Kinds.{row, depends_on, is_depended_on}
+use Rattle.config_graph.specs.Walks.{Ranks}
+use Rattle.config_graph.specs.Wiring.{MayCall}
 use Rattle.config_graph.specs.declared.node.Target.{Target}
 use Rattle.quiesce_core.specs.declared.state.Slot.{Slot}
 use Rattle.quiesce_core.specs.declared.state.Gate.{Gate}
 use Rattle.quiesce_core.specs.State.{Configuration, State, fresh_gate, slot, gate, owner, target, ports_of, depends, is_depended}
-use Rattle.quiesce_core.specs.Reach.{IsPortOf, Leads, HasNoCycle, can_walk, has_no_cycle, reaches_within, reaches}
+use Rattle.quiesce_core.specs.Reach.{IsPortOf, wiring_of, can_walk, has_no_cycle, reaches_within, reaches}
 use Rattle.quiesce_core.specs.Known.{AreKnown, reaches_from, leads_up}
 use Rattle.quiesce_core.specs.Effect.{with_gate, linked}
 use Rattle.quiesce_core.specs.WellFormed.{IsSound}
 use Rattle.quiesce_core.specs.Rules.{is_quiet}
-use Rattle.quiesce_core.proofs.KindLemmas.{one_provision, depended_by_first, depended_if}
-use Rattle.quiesce_core.proofs.Lists.{all_in_range, range_all}
-use Rattle.quiesce_core.proofs.Cycles.{map_or_true, map_or_at, any_of, of_any, agree_of, walk_to, no_walk, no_cycle_if_ranked, ranked_if_no_cycle}
-
--- what a provision of a node depends on, some provision of it depends on
-pub depended_at : (c : Configuration) (n x p : ℕ) → depends c n x p ≡ true → is_depended c n p ≡ true
-depended_at c n x p h =
-    let m = map_or_true (λ (m : Slot). depends_on m.node.kind x (gate c p).require) (slot c n) h in
-    map_or_at (λ (m : Slot). is_depended_on m.node.kind (gate c p).require) (slot c n) false m.0 m.1 ∙ depended_if m.0.node.kind x (gate c p).require m.2
+use Rattle.quiesce_core.proofs.KindLemmas.{one_provision}
+use Rattle.config_graph.proofs.KindLemmas.{depended_by_first}
+use Rattle.config_graph.proofs.RangeLemmas.{all_in_range, range_all}
+use Rattle.quiesce_core.proofs.Cycles.{map_or_true, map_or_at, any_of, of_any, agree_of, call_by, depended_by, walk_to, no_walk, no_cycle_if_ranked, ranked_if_no_cycle}
 
 abbrev reach_test : Configuration → ℕ → ℕ → Target → ℕ → Bool
 reach_test c n k t q = depends c t.node t.provide q && reaches_within c n k q
@@ -44,7 +41,7 @@ stable c n (suc k) (suc d) p (Some t) e h l =
     (λ (yes_ : depends c t.node t.provide q ≡ true).
     ap (λ b. depends c t.node t.provide q && b) (stable c n k d q (target c q) refl (λ u f. false_from_ne_true (can_walk c d u.node) (λ walks.
     both_ways (can_walk c (suc d) t.node) (h t refl)
-    (walk_to c d t.node u.node (record { port = q; provide = u.provide; owned = owned; depended = depended_at c t.node t.provide q yes_; linked = f }) walks))) (omega arith)))
+    (walk_to c d t.node u.node (record { port = q; serves = t.provide; provide = u.provide; depends = (owned, yes_); linked = f }) walks))) (omega arith)))
     (λ (no_ : depends c t.node t.provide q ≡ false). rw (no_) refl)
     (cases_Bool (depends c t.node t.provide q))))
     ∙ sym (ap (λ o. option_map_or (reach_from c n (suc k)) o false) e)
@@ -58,7 +55,7 @@ reaches_step c h n p =
 -- node m leads to n, in any number of steps
 pub data LeadsTo (c : Configuration) (n : ℕ) : ℕ → Type 0 where
   here : LeadsTo c n n
-  step : {k m : ℕ} → Leads c k m → LeadsTo c n m → LeadsTo c n k
+  step : {k m : ℕ} → MayCall (wiring_of c) k m → LeadsTo c n m → LeadsTo c n k
 
 abbrev up_test : Configuration → ℕ → ℕ → ℕ → Bool
 up_test c n m q = is_depended c m q && reaches c n q
@@ -82,7 +79,7 @@ within_leads c n (suc k) q h =
           let w = any_of c t.0.node (reach_test c n k t.0) on in
           let both = and_parts (depends c t.0.node t.0.provide w.port) (reaches_within c n k w.port) w.passes in
           let led = within_leads c n k w.port both.1 in
-          step (record { port = w.port; provide = led.to.provide; owned = w.owned; depended = depended_at c t.0.node t.0.provide w.port both.0; linked = led.links }) led.leads)
+          step (record { port = w.port; serves = t.0.provide; provide = led.to.provide; depends = (w.owned, both.0); linked = led.links }) led.leads)
           (or_cases (t.0.node == n) (list_any (reach_test c n k t.0) (ports_of c t.0.node)) t.2);
     }
 
@@ -94,7 +91,7 @@ leads_if_up c n m h = ⊎_elim
     let w = any_of c m (up_test c n m) on in
     let both = and_parts (is_depended c m w.port) (reaches c n w.port) w.passes in
     let led = within_leads c n (suc (length c.slots)) w.port both.1 in
-    step (record { port = w.port; provide = led.to.provide; owned = w.owned; depended = both.0; linked = led.links }) led.leads)
+    step (call_by c m led.to.node w.port led.to.provide w.owned both.0 led.links) led.leads)
     (or_cases (m == n) (list_any (up_test c n m) (ports_of c m)) h)
 
 -- the provision to which a port is linked is its target's first, which depends on all that some provision of it depends on
@@ -124,7 +121,7 @@ up_if_leads c sound n _ (step {k} {m} l rest) =
     let reached : reaches c n l.port ≡ true =
     reaches_step c sound.no_cycle n l.port ∙ map_or_at (reaches_from c n) (target c l.port) false t l.linked ∙ on in
     or_right (k == n) (list_any (up_test c n k) (ports_of c k))
-    (of_any c k (up_test c n k) l.port l.owned (and_from (is_depended c k l.port) (reaches c n l.port) l.depended reached))
+    (of_any c k (up_test c n k) l.port l.depends.0 (and_from (is_depended c k l.port) (reaches c n l.port) (depended_by c k m l) reached))
 
 -- a new link
 
@@ -156,43 +153,43 @@ module _ (c : Configuration) (sound : IsSound c) (p : ℕ) (t : Target) (made : 
   depended_there : (n : ℕ) → is_depended (linked c p (Some t)) n p ≡ is_depended c n p
   depended_there n = ap (λ (g : Gate). option_map_or (λ (m : Slot). is_depended_on m.node.kind g.require) (slot c n) false) there
 
-  depended_elsewhere : (n q : ℕ) → (q ≡ p → ⊥) → is_depended (linked c p (Some t)) n q ≡ is_depended c n q
-  depended_elsewhere n q ne = ap (λ (g : Gate). option_map_or (λ (m : Slot). is_depended_on m.node.kind g.require) (slot c n) false) (elsewhere q ne)
+  depends_elsewhere : (n x q : ℕ) → (q ≡ p → ⊥) → depends (linked c p (Some t)) n x q ≡ depends c n x q
+  depends_elsewhere n x q ne = ap (λ (g : Gate). option_map_or (λ (m : Slot). depends_on m.node.kind x g.require) (slot c n) false) (elsewhere q ne)
 
-  was : (n m : ℕ) (l : Leads (linked c p (Some t)) n m) → (l.port ≡ p → ⊥) → Leads c n m
+  owned_as : (n q : ℕ) → IsPortOf (linked c p (Some t)) n q → IsPortOf c n q
+  owned_as n q o = record { node = o.node; made = o.made; from = o.from; below = o.below }
+
+  was : (n m : ℕ) (l : MayCall (wiring_of (linked c p (Some t))) n m) → (l.port ≡ p → ⊥) → MayCall (wiring_of c) n m
   was n m l ne = record {
     port = l.port;
+    serves = l.serves;
     provide = l.provide;
-    owned = record { node = l.owned.node; made = l.owned.made; from = l.owned.from; below = l.owned.below };
-    depended = sym (depended_elsewhere n l.port ne) ∙ l.depended;
+    depends = (owned_as n l.port l.depends.0, sym (depends_elsewhere n l.serves l.port ne) ∙ l.depends.1);
     linked = sym (ap (λ (g : Gate). g.target) (elsewhere l.port ne)) ∙ l.linked;
   }
 
-  stays : (n m : ℕ) (l : Leads c n m) → (l.port ≡ p → ⊥) → Leads (linked c p (Some t)) n m
-  stays n m l ne = record {
-    port = l.port;
-    provide = l.provide;
-    owned = record { node = l.owned.node; made = l.owned.made; from = l.owned.from; below = l.owned.below };
-    depended = depended_elsewhere n l.port ne ∙ l.depended;
-    linked = ap (λ (g : Gate). g.target) (elsewhere l.port ne) ∙ l.linked;
-  }
-
-  new_lead : is_depended c (owner c p) p ≡ true → Leads (linked c p (Some t)) (owner c p) t.node
-  new_lead h =
-      let o = sound.ports p made in record {
-        port = p;
-        provide = t.provide;
-        owned = record { node = o.node; made = o.made; from = o.from; below = o.below };
-        depended = depended_there (owner c p) ∙ h;
-        linked = ap (λ (g : Gate). g.target) there;
+  stays : (n m : ℕ) (l : MayCall (wiring_of c) n m) → (l.port ≡ p → ⊥) → MayCall (wiring_of (linked c p (Some t))) n m
+  stays n m l ne =
+      let o = l.depends.0 in record {
+        port = l.port;
+        serves = l.serves;
+        provide = l.provide;
+        depends = (record { node = o.node; made = o.made; from = o.from; below = o.below }, depends_elsewhere n l.serves l.port ne ∙ l.depends.1);
+        linked = ap (λ (g : Gate). g.target) (elsewhere l.port ne) ∙ l.linked;
       }
 
-  climbs : (ranked : HasNoCycle (linked c p (Some t))) (m : ℕ) → LeadsTo c (owner c p) m → ranked.rank (owner c p) ≤ ranked.rank m
+  new_lead : is_depended c (owner c p) p ≡ true → MayCall (wiring_of (linked c p (Some t))) (owner c p) t.node
+  new_lead h =
+      let o = sound.ports p made in
+      call_by (linked c p (Some t)) (owner c p) t.node p t.provide (record { node = o.node; made = o.made; from = o.from; below = o.below })
+      (depended_there (owner c p) ∙ h) (ap (λ (g : Gate). g.target) there)
+
+  climbs : (ranked : Ranks (MayCall (wiring_of (linked c p (Some t))))) (m : ℕ) → LeadsTo c (owner c p) m → ranked.rank (owner c p) ≤ ranked.rank m
   climbs ranked _ here = omega arith
   climbs ranked _ (step {k} {m} l rest) = ⊎_elim
       (λ (same : k ≡ owner c p). subst (λ i. ranked.rank (owner c p) ≤ ranked.rank i) (sym same) (omega arith))
       (λ (other : k ≡ owner c p → ⊥).
-      let ne : l.port ≡ p → ⊥ = λ e. other (sym (owner_of c sound k l.port l.owned) ∙ ap (λ i. owner c i) e) in
+      let ne : l.port ≡ p → ⊥ = λ e. other (sym (owner_of c sound k l.port l.depends.0) ∙ ap (λ i. owner c i) e) in
       let up : ranked.rank (owner c p) ≤ ranked.rank m = climbs ranked m rest in
       omega (arith, ranked.falls k m (stays k m l ne)))
       (cases_eq k (owner c p))
@@ -203,26 +200,26 @@ module _ (c : Configuration) (sound : IsSound c) (p : ℕ) (t : Target) (made : 
       let above : ranked.rank (owner c p) ≤ ranked.rank t.node = climbs ranked t.node (leads_if_up c (owner c p) t.node up) in
       omega (arith, ranked.falls (owner c p) t.node (new_lead dep)))
 
-  lift : HasNoCycle c → ℕ → ℕ
+  lift : Ranks (MayCall (wiring_of c)) → ℕ → ℕ
   lift ranked m = cond (leads_up c (owner c p) m) (suc (ranked.rank t.node)) 0
 
-  lift_up : (ranked : HasNoCycle c) (m : ℕ) → leads_up c (owner c p) m ≡ true → lift ranked m ≡ suc (ranked.rank t.node)
+  lift_up : (ranked : Ranks (MayCall (wiring_of c))) (m : ℕ) → leads_up c (owner c p) m ≡ true → lift ranked m ≡ suc (ranked.rank t.node)
   unfolding lift
   lift_up ranked m h = rw h refl
 
-  lift_no : (ranked : HasNoCycle c) (m : ℕ) → leads_up c (owner c p) m ≡ false → lift ranked m ≡ 0
+  lift_no : (ranked : Ranks (MayCall (wiring_of c))) (m : ℕ) → leads_up c (owner c p) m ≡ false → lift ranked m ≡ 0
   unfolding lift
   lift_no ranked m h = rw h refl
 
   -- the nodes that lead to the port's owner are lifted over the one to which it is linked now
-  lifted : (is_depended c (owner c p) p && leads_up c (owner c p) t.node) ≡ false → HasNoCycle (linked c p (Some t))
+  lifted : (is_depended c (owner c p) p && leads_up c (owner c p) t.node) ≡ false → Ranks (MayCall (wiring_of (linked c p (Some t))))
   lifted apart =
       let ranked = ranked_if_no_cycle c sound.no_cycle in record {
         rank = λ m. ranked.rank m + lift ranked m;
         falls = λ n m l. ⊎_elim
             (λ (same : l.port ≡ p).
-            let mine : owner c p ≡ n = sym (ap (λ i. owner c i) same) ∙ owner_of c sound n l.port (record { node = l.owned.node; made = l.owned.made; from = l.owned.from; below = l.owned.below }) in
-            let dep : is_depended c (owner c p) p ≡ true = ap (λ i. is_depended c i p) mine ∙ sym (depended_there n) ∙ sym (ap (λ i. is_depended (linked c p (Some t)) n i) same) ∙ l.depended in
+            let mine : owner c p ≡ n = sym (ap (λ i. owner c i) same) ∙ owner_of c sound n l.port (owned_as n l.port l.depends.0) in
+            let dep : is_depended c (owner c p) p ≡ true = ap (λ i. is_depended c i p) mine ∙ sym (depended_there n) ∙ sym (ap (λ i. is_depended (linked c p (Some t)) n i) same) ∙ depended_by (linked c p (Some t)) n m l in
             let to : t.node ≡ m =
             some_node (sym (ap (λ (g : Gate). g.target) there) ∙ sym (ap (λ i. target (linked c p (Some t)) i) same) ∙ l.linked) in
             let no_up : leads_up c (owner c p) t.node ≡ false = ⊎_elim
@@ -313,7 +310,7 @@ pub fewer_steps : (c : Configuration) (d n x q : ℕ) (t : Target) → IsPortOf 
 fewer_steps c zero n x q t o dep e h = absurd (both_ways true h refl)
 fewer_steps c (suc d) n x q t o dep e h = rw sub-one (false_from_ne_true (can_walk c d t.node) (λ walks.
     both_ways (can_walk c (suc d) n) h
-    (walk_to c d n t.node (record { port = q; provide = t.provide; owned = o; depended = depended_at c n x q dep; linked = e }) walks)))
+    (walk_to c d n t.node (record { port = q; serves = x; provide = t.provide; depends = (o, dep); linked = e }) walks)))
 
 pub walks_zero : (c : Configuration) (d n : ℕ) → can_walk c d n ≡ false → 0 < d
 walks_zero c zero n h = absurd (both_ways true h refl)

@@ -16,7 +16,6 @@ use Rattle.quiesce_core.specs.Counted.{capped, AreCounted}
 use Rattle.quiesce_core.specs.WellFormed.{LeadsToProvision}
 use Rattle.quiesce_core.proofs.KindLemmas.{one_provision}
 use Rattle.quiesce_core.proofs.Cycles.{map_or_true, map_or_at, walk_to, no_walk}
-use Rattle.quiesce_core.proofs.Reaching.{depended_at}
 
 greatest_agree : (f g : ℕ → ℕ) (test : ℕ → Bool) (a n : ℕ) → ((p : ℕ) → a ≤ p → p < a + n → test p ≡ true → f p ≡ g p)
     → greatest f (filter test (range_with_len a n)) ≡ greatest g (filter test (range_with_len a n))
@@ -52,7 +51,7 @@ through_settles : (c : Configuration) (k d m x p : ℕ) → IsPortOf c m p → d
 through_settles c k d m x p owned dep h next None e = refl
 through_settles c k d m x p owned dep h next (Some t) e = next t (false_from_ne_true (can_walk c d t.node) (λ walks.
     both_ways (can_walk c (suc d) m) h
-    (walk_to c d m t.node (record { port = p; provide = t.provide; owned = owned; depended = depended_at c m x p dep; linked = e }) walks)))
+    (walk_to c d m t.node (record { port = p; serves = x; provide = t.provide; depends = (owned, dep); linked = e }) walks)))
 
 -- where no longer walk is possible, nothing comes from looking further
 settles : (c : Configuration) (k d m x : ℕ) → can_walk c d m ≡ false → d ≤ k → full_within c k m x ≡ full_within c (suc k) m x

@@ -7,7 +7,7 @@ use Rattle.std.proofs.lemmas.Bool.{and_parts, both_ways, cases_eq, cases_lt, eqb
 use Rattle.std.proofs.lemmas.Option.{slice_get_within}
 use Rattle.std.proofs.lemmas.List.{length-replicate, get_or_append_left, get_or-append-add, get_or-append_right, get_or_past, set_past}
 use Rattle.std.proofs.lemmas.List.FromFn.{get_or-map-range_with_len, length-map-range_with_len}
-use Rattle.config_graph.specs.Kinds.{row, is_depended_on}
+use Rattle.config_graph.specs.Kinds.{row, depends_on}
 use Rattle.config_graph.specs.declared.node.Node.{Node}
 use Rattle.config_graph.specs.declared.node.Target.{Target}
 use Rattle.quiesce_core.specs.declared.event.Event.{Event}
@@ -18,17 +18,19 @@ use Rattle.quiesce_core.specs.declared.state.Service.{Service}
 use Rattle.quiesce_core.specs.declared.state.Exchange.{Exchange}
 use Rattle.quiesce_core.specs.declared.state.Phase.TheVariants as phase
 use Rattle.quiesce_core.specs.State.{Configuration, State, empty, fresh_gate, fresh_exchange, slot, is_live, ports_of, gate, owner, target, provides, exchange, service}
-use Rattle.quiesce_core.specs.Reach.{IsPortOf, Leads, has_no_cycle}
+use Rattle.quiesce_core.specs.Reach.{IsPortOf, wiring_of, has_no_cycle}
+use Rattle.config_graph.specs.Wiring.{MayCall}
 use Rattle.quiesce_core.specs.WellFormed.{StandInARow, LeadsToProvision, IsWithinBounds, IsSound, IsWellFormed}
 use Rattle.quiesce_core.specs.Effect.{with_gate, closed, linked, removed, new_gates, with_node, effect}
 use Rattle.quiesce_core.specs.Rules.{is_apart, is_next_serial, is_value}
 use Rattle.quiesce_core.specs.Legal.{Legal}
 use Rattle.quiesce_core.proofs.Places.{gate_place}
-use Rattle.quiesce_core.proofs.Lists.{all_in_range, slice_get_set_same, slice_get_set_other, slice_get_front, slice_get_last, slice_get_snoc}
+use Rattle.quiesce_core.proofs.Lists.{slice_get_set_same, slice_get_set_other, slice_get_front, slice_get_last, slice_get_snoc}
+use Rattle.config_graph.proofs.RangeLemmas.{all_in_range}
 use Rattle.quiesce_core.proofs.Cycles.{map_or_true, map_or_at, no_cycle_if_ranked, ranked_if_no_cycle}
 
 -- where no link is new there is no new cycle
-no_cycle_fewer : (c d : Configuration) → has_no_cycle c ≡ true → ((n m : ℕ) → Leads d n m → Leads c n m) → has_no_cycle d ≡ true
+no_cycle_fewer : (c d : Configuration) → has_no_cycle c ≡ true → ((n m : ℕ) → MayCall (wiring_of d) n m → MayCall (wiring_of c) n m) → has_no_cycle d ≡ true
 no_cycle_fewer c d h old =
     let ranked = ranked_if_no_cycle c h in
     no_cycle_if_ranked d (record { rank = ranked.rank; falls = λ n m l. ranked.falls n m (old n m l) })
@@ -84,12 +86,12 @@ module _ (c : Configuration) (p : ℕ) (g : Gate) (made : p < length c.gates) (s
   }
 
   -- where the port leads to nothing new
-  put_fewer : ((t : Target) → g.target ≡ Some t → target c p ≡ Some t) → (n m : ℕ) → Leads (with_gate c p g) n m → Leads c n m
+  put_fewer : ((t : Target) → g.target ≡ Some t → target c p ≡ Some t) → (n m : ℕ) → MayCall (wiring_of (with_gate c p g)) n m → MayCall (wiring_of c) n m
   put_fewer old n m l = record {
     port = l.port;
     provide = l.provide;
-    owned = put_was_port_of n l.port l.owned;
-    depended = sym (ap (λ r. option_map_or (λ (k : Slot). is_depended_on k.node.kind r) (slot c n) false) (put_require l.port)) ∙ l.depended;
+    serves = l.serves;
+    depends = (put_was_port_of n l.port l.depends.0, sym (ap (λ r. option_map_or (λ (k : Slot). depends_on k.node.kind l.serves r) (slot c n) false) (put_require l.port)) ∙ l.depends.1);
     linked = ⊎_elim
         (λ (same : l.port ≡ p). ap (λ i. target c i) same ∙ old (record { node = m; provide = l.provide })
         (sym (ap (λ (h : Gate). h.target) put_here) ∙ sym (ap (λ i. target (with_gate c p g) i) same) ∙ l.linked))
@@ -191,8 +193,8 @@ module _ (c : Configuration) (n : ℕ) (old : Slot) (there : slot c n ≡ Some o
     no_cycle = no_cycle_fewer c without s.no_cycle (λ k m l. record {
       port = l.port;
       provide = l.provide;
-      owned = port_was k l.port l.owned;
-      depended = sym (kind_stays (λ (m : Slot). is_depended_on m.node.kind (gate c l.port).require) false refl k) ∙ l.depended;
+      serves = l.serves;
+      depends = (port_was k l.port l.depends.0, sym (kind_stays (λ (m : Slot). depends_on m.node.kind l.serves (gate c l.port).require) false refl k) ∙ l.depends.1);
       linked = l.linked;
     });
   }
@@ -243,22 +245,25 @@ module _ (c : Configuration) (s : IsSound c) (node : Node) (from : Option ℕ) (
   pub last_slot : slot (with_node c node from) (length c.slots) ≡ Some (record { node = node; first_port = length c.gates; from = from; live = true })
   last_slot = slice_get_last c.slots (record { node = node; first_port = length c.gates; from = from; live = true })
 
-  leads_before : (n m : ℕ) → Leads (with_node c node from) n m → Leads c n m
+  leads_before : (n m : ℕ) → MayCall (wiring_of (with_node c node from)) n m → MayCall (wiring_of c) n m
   leads_before n m l =
+      let owned = l.depends.0 in
       let before : l.port < length c.gates = linked_before l.port (record { node = m; provide = l.provide }) l.linked in
       ⊎_elim
-      (λ (w : (n < length c.slots) × (slot c n ≡ Some l.owned.node)). record {
+      (λ (w : (n < length c.slots) × (slot c n ≡ Some owned.node)). record {
         port = l.port;
         provide = l.provide;
-        owned = record { node = l.owned.node; made = w.1; from = l.owned.from; below = l.owned.below };
-        depended =
-            sym (ap (λ (g : Gate). option_map_or (λ (k : Slot). is_depended_on k.node.kind g.require) (slot c n) false) (old_gate l.port before))
-            ∙ sym (ap (λ o. option_map_or (λ (k : Slot). is_depended_on k.node.kind (gate (with_node c node from) l.port).require) o false) (old_slot n w.0)) ∙ l.depended;
+        serves = l.serves;
+        depends = (
+          record { node = owned.node; made = w.1; from = owned.from; below = owned.below },
+          sym (ap (λ (g : Gate). option_map_or (λ (k : Slot). depends_on k.node.kind l.serves g.require) (slot c n) false) (old_gate l.port before))
+              ∙ sym (ap (λ o. option_map_or (λ (k : Slot). depends_on k.node.kind l.serves (gate (with_node c node from) l.port).require) o false) (old_slot n w.0)) ∙ l.depends.1,
+        );
         linked = sym (ap (λ (g : Gate). g.target) (old_gate l.port before)) ∙ l.linked;
       })
-      (λ (w : (n ≡ length c.slots) × (record { node = node; first_port = length c.gates; from = from; live = true } ≡ l.owned.node)).
-      let low : length c.gates ≤ l.port = subst (λ (k : Slot). k.first_port ≤ l.port) (sym w.1) l.owned.from in absurd (omega arith))
-      (slice_get_snoc c.slots (record { node = node; first_port = length c.gates; from = from; live = true }) l.owned.node n l.owned.made)
+      (λ (w : (n ≡ length c.slots) × (record { node = node; first_port = length c.gates; from = from; live = true } ≡ owned.node)).
+      let low : length c.gates ≤ l.port = subst (λ (k : Slot). k.first_port ≤ l.port) (sym w.1) owned.from in absurd (omega arith))
+      (slice_get_snoc c.slots (record { node = node; first_port = length c.gates; from = from; live = true }) owned.node n owned.made)
 
   pub sound_made : IsSound (with_node c node from)
   sound_made = record {

@@ -24,3 +24,4 @@ pub mod Named
 pub mod Live
 pub mod Listed
 pub mod Knows
+pub mod SameWiring

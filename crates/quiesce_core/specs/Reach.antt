@@ -4,6 +4,7 @@ use Rattle.std.specs.Prelude.{◌≡◌, ℕ, zero, suc, ◌+◌, ◌<◌, ◌�
 use Rattle.std.specs.List.{list_any, list_all, range_with_len}
 use Rattle.std.specs.Option.{option_map_or}
 use Rattle.config_graph.specs.declared.node.Target.{Target}
+use Rattle.config_graph.specs.Wiring.{Wiring}
 use Rattle.config_graph.specs.Kinds.{row}
 use Rattle.quiesce_core.specs.declared.state.Slot.{Slot}
 use Rattle.quiesce_core.specs.State.{Configuration, slot, target, ports_of, depends, is_depended}
@@ -15,11 +16,12 @@ pub record IsPortOf (c : Configuration) (n p : ℕ) : Type 0 where
   pub from : node.first_port ≤ p
   pub below : p < node.first_port + length (row node.node.kind).requires_
 
--- The least set that holds each port linked to node n and, where it holds a port q of a node m and a provision x of m depends on q,
--- each port linked to x of m.
-pub data Reaches (c : Configuration) (n : ℕ) : ℕ → Type 0 where
-  direct : (p x : ℕ) → target c p ≡ Some (record { node = n; provide = x }) → Reaches c n p
-  dependent : (p q m x : ℕ) → target c p ≡ Some (record { node = m; provide = x }) → IsPortOf c m q → IsTrue (depends c m x q) → Reaches c n q → Reaches c n p
+-- the links of a configuration, and what its kinds say of dependence
+abbrev pub wiring_of : Configuration → Wiring ℕ
+wiring_of c = record {
+  Linked = λ p n x. target c p ≡ Some (record { node = n; provide = x });
+  Depends = λ n x p. IsPortOf c n p × IsTrue (depends c n x p);
+}
 
 -- whether a port reaches the node over at most so many links
 abbrev pub reaches_within : Configuration → ℕ → ℕ → ℕ → Bool
@@ -31,20 +33,7 @@ reaches_within c n (suc k) p =
 unfoldable pub reaches : Configuration → ℕ → ℕ → Bool
 reaches c n p = reaches_within c n (suc (length c.slots)) p
 
--- A node leads to the nodes to which those of its ports are linked on which a provision of it depends.
-pub record Leads (c : Configuration) (n m : ℕ) : Type 0 where
-  pub port : ℕ
-  pub provide : ℕ
-  pub owned : IsPortOf c n port
-  pub depended : IsTrue (is_depended c n port)
-  pub linked : target c port ≡ Some (record { node = m; provide = provide })
-
--- There is no cycle: each node can be given a rank that falls wherever a node leads to another.
-pub record HasNoCycle (c : Configuration) : Type 0 where
-  pub rank : ℕ → ℕ
-  pub falls : (n m : ℕ) → Leads c n m → rank m < rank n
-
--- whether so many steps can be made from a node, each to a node to which the one before it leads
+-- whether so many calls can be made one within another, the first from a node
 abbrev pub can_walk : Configuration → ℕ → ℕ → Bool
 can_walk c zero n = true
 can_walk c (suc k) n = list_any (λ p. is_depended c n p && option_map_or (λ (t : Target). can_walk c k t.node) (target c p) false) (ports_of c n)

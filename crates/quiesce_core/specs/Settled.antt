@@ -5,7 +5,8 @@ use Rattle.config_graph.specs.declared.node.Target.{Target}
 use Rattle.quiesce_core.specs.declared.event.Event.{Event}
 use Rattle.quiesce_core.specs.declared.event.Event.TheVariants.{Reopen, Make, Link}
 use Rattle.quiesce_core.specs.State.{State, is_live, owner, target, service}
-use Rattle.quiesce_core.specs.Reach.{IsPortOf, Reaches}
+use Rattle.config_graph.specs.Wiring.{Reach}
+use Rattle.quiesce_core.specs.Reach.{IsPortOf, wiring_of}
 use Rattle.quiesce_core.specs.Rules.{is_quiet}
 use Rattle.quiesce_core.specs.Runs.{IsRun, state_after, Begun, initiator, target_at_begin, is_open_after}
 
@@ -14,7 +15,7 @@ pub record Settled (s : State) (n : ℕ) : Type 0 where
   pub live : IsTrue (is_live s.config n)
   pub own : (p : ℕ) → IsPortOf s.config n p → IsTrue (is_quiet s p)
   pub services_nothing : service s n ≡ None
-  pub reaching : (p : ℕ) → Reaches s.config n p → IsTrue (is_quiet s p)
+  pub reaching : (p : ℕ) → Reach (wiring_of s.config) n p → IsTrue (is_quiet s p)
 
 abbrev pub is_opening : Event → Bool
 is_opening (Reopen p) = true

@@ -7,7 +7,8 @@ ghost use Rattle.quiesce_core.specs.State.{Configuration, State, calls_allowed, 
 ghost use Rattle.quiesce_core.specs.Rest.{full, greatest};
 ghost use Rattle.quiesce_core.specs.Rules.{denial};
 ghost use Rattle.quiesce_core.specs.Legal.{Legal};
-ghost use Rattle.quiesce_core.specs.Reach.{HasNoCycle, Reaches, has_no_cycle, reaches};
+ghost use Rattle.quiesce_core.specs.Reach.{has_no_cycle, reaches, wiring_of};
+ghost use Rattle.config_graph.specs.Wiring.{HasNoCycle, Reach};
 ghost use Rattle.quiesce_core.specs.Runs.{IsRun, Step, doer, done_by, state_after};
 ghost use Rattle.quiesce_core.specs.Effect.{effect};
 ghost use Rattle.quiesce_core.specs.Named.{AreNamed};
@@ -21,7 +22,10 @@ ghost use Rattle.quiesce_core.specs.Words.{fields_of, pack, unpack, word_of};
 ghost use Rattle.quiesce_core.specs.declared.word.Word.{Word};
 ghost use Rattle.quiesce_core.specs.Traffic.{IsConsistent};
 ghost use Rattle.quiesce_core.specs.WellFormed.{IsSound, IsWellFormed};
-ghost use Rattle.quiesce_core.specs.Live.{IsGraphOf};
+ghost use Rattle.quiesce_core.specs.Live.{IsGraphOf, StandsAt};
+ghost use Rattle.quiesce_core.specs.SameWiring.{IsPortAt};
+ghost use Rattle.config_graph.specs.Cycles.{wiring_of as graph_wiring};
+ghost use Rattle.config_graph.specs.declared.node.Port.{Port};
 ghost use Rattle.config_graph.specs.Graph.{Configuration as Graph, ports};
 
 /// An event is denied by no rule exactly where each of its rules holds.
@@ -30,17 +34,17 @@ pub fn each_rule_holds()
     ensures { (s : State) (e : Event) → (denial s e ≡ None) ↔ Legal s e }
 {}
 
-/// The test for cycles finds one exactly where no rank falls along all links that a service may use.
+/// The test for cycles finds none exactly where no path of calls comes back to the node at which it begins.
 #[tactic(auto, using(crate::proofs::Cycles::cycles_are_found))]
 pub fn cycles_are_found()
-    ensures { (c : Configuration) → IsTrue (has_no_cycle c) ↔ HasNoCycle c }
+    ensures { (c : Configuration) → IsTrue (has_no_cycle c) ↔ HasNoCycle (wiring_of c) }
 {}
 
 /// Where there is no cycle, the test that a port reaches a node finds exactly the least set that holds what is linked to the
 /// node, and what is linked to a provision that depends on a port of the set.
 #[tactic(auto, using(crate::proofs::SettledLemmas::reach_is_found))]
 pub fn reach_is_found()
-    ensures { (c : Configuration) → IsSound c → (n p : ℕ) → IsTrue (reaches c n p) ↔ Reaches c n p }
+    ensures { (c : Configuration) → IsSound c → (n p : ℕ) → IsTrue (reaches c n p) ↔ Reach (wiring_of c) n p }
 {}
 
 /// After every run the state is well formed.
@@ -105,4 +109,19 @@ pub fn steps_keep_consistency()
 /// A system that was just started is well formed and consistent.
 pub fn started_systems_are_consistent()
     ensures { (g : Graph) → Sound g → length g.nodes ≤ MAX_NODES → length (ports g.nodes) ≤ MAX_PORTS → IsWellFormed (started g) × IsConsistent (started g) }
+{}
+
+/// In a state that is consistent, a port reaches a node exactly where, in the graph, what stands for the port reaches what stands for
+/// the node; and each port that reaches a node stands in the graph.
+pub fn reach_is_that_of_the_graph()
+    ensures there { (s : State) (g : Graph) → IsSound s.config → IsConsistent s → AreNamed s.config → IsGraphOf s.config g → (n i p : ℕ) → StandsAt s.config g.nodes n i
+        → Reach (wiring_of s.config) n p → (q : Port) × IsPortAt s.config g p q × Reach (graph_wiring g) i q }
+    ensures here { (s : State) (g : Graph) → IsSound s.config → IsConsistent s → AreNamed s.config → IsGraphOf s.config g → (n i p : ℕ) (q : Port) → StandsAt s.config g.nodes n i
+        → IsPortAt s.config g p q → Reach (graph_wiring g) i q → Reach (wiring_of s.config) n p }
+{}
+
+/// In a state that is consistent there is a cycle exactly where there is one in the graph.
+#[tactic(auto, using(crate::proofs::SameWiring::cycles_in_both))]
+pub fn cycles_are_those_of_the_graph()
+    ensures { (s : State) (g : Graph) → IsSound s.config → IsConsistent s → AreNamed s.config → IsGraphOf s.config g → HasNoCycle (wiring_of s.config) ↔ HasNoCycle (graph_wiring g) }
 {}

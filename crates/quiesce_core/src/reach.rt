@@ -184,7 +184,7 @@ impl Tables {
     }
 
     /// Whether some provision of the node depends on the port. No kind has a provision past the first.
-    #[tactic(auto, using(crate::proofs::KindLemmas::depended_by_first))]
+    #[tactic(auto, using(config_graph::proofs::KindLemmas::depended_by_first))]
     fn is_depended(&self, node: u32, port: u32) -> bool
         ensures { result ≡ state.is_depended (state_of self.now).config node port }
     {

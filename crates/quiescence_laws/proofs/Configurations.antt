@@ -17,8 +17,8 @@ use Rattle.quiesce_core.specs.Rules.{is_live_port, is_settled}
 use Rattle.quiesce_core.specs.Traffic.{IsConsistent}
 use Rattle.quiesce_core.specs.Effect.{with_gate, removed, with_node, effect}
 use Rattle.quiesce_core.specs.Legal.{Legal}
-use Rattle.quiesce_core.specs.Reach.{IsPortOf, Reaches}
-use Rattle.quiesce_core.specs.Reach as reach
+use Rattle.quiesce_core.specs.Reach.{IsPortOf, wiring_of}
+use Rattle.config_graph.specs.Wiring.{Reach, direct, through}
 use Rattle.quiesce_core.specs.Settled.{is_opening}
 use Rattle.quiesce_core.specs.WellFormed.{IsSound, IsWellFormed}
 use Rattle.quiesce_core.proofs.Cycles.{map_or_true}
@@ -39,10 +39,10 @@ pub record Shrinks (c d : Configuration) : Type 0 where
   pub depended : (m x q : ℕ) → depends d m x q ≡ true → depends c m x q ≡ true
 
 -- so no port reaches a node anew
-pub reached_before : (c d : Configuration) → Shrinks c d → (n p : ℕ) → Reaches d n p → Reaches c n p
-reached_before c d s n _ (reach.direct p x e) = reach.direct p x (s.targets p (record { node = n; provide = x }) e)
-reached_before c d s n _ (reach.dependent p q m x e owned dep r) =
-    reach.dependent p q m x (s.targets p (record { node = m; provide = x }) e) (s.owned m q owned) (s.depended m x q dep) (reached_before c d s n q r)
+pub reached_before : (c d : Configuration) → Shrinks c d → (n p : ℕ) → Reach (wiring_of d) n p → Reach (wiring_of c) n p
+reached_before c d s n _ (direct {p} {x} e) = direct (s.targets p (record { node = n; provide = x }) e)
+reached_before c d s n _ (through {p = q} {q = p} {m} {x} r of_q e) =
+    through (reached_before c d s n q r) (s.owned m q of_q.0, s.depended m x q of_q.1) (s.targets p (record { node = m; provide = x }) e)
 
 shrinks_same : (c : Configuration) → Shrinks c c
 shrinks_same c = record { targets = λ q t e. e; owned = λ m q o. o; depended = λ m x q h. h }

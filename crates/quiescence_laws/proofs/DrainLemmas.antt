@@ -10,15 +10,15 @@ use Rattle.quiesce_core.specs.declared.state.Service.{Service}
 use Rattle.quiesce_core.specs.declared.state.Slot.{Slot}
 use Rattle.quiesce_core.specs.State.{State, slot, is_live, gate, owner, target, provision, depends, is_depended, exchange, service}
 use Rattle.quiesce_core.specs.Phases.{is_idle}
-use Rattle.quiesce_core.specs.Reach.{IsPortOf, Reaches, can_walk}
-use Rattle.quiesce_core.specs.Reach as reach
+use Rattle.quiesce_core.specs.Reach.{IsPortOf, can_walk, wiring_of}
+use Rattle.config_graph.specs.Wiring.{Reach, direct, through}
 use Rattle.quiesce_core.specs.Rules.{is_quiet}
 use Rattle.quiesce_core.specs.Runs.{IsRun, state_after}
 use Rattle.quiesce_core.specs.Settled.{Settled}
 use Rattle.quiesce_core.specs.Traffic.{IsServing, IsConsistent}
 use Rattle.quiesce_core.specs.WellFormed.{IsWellFormed}
-use Rattle.quiesce_core.proofs.Cycles.{map_or_at, map_or_true, walk_to}
-use Rattle.quiesce_core.proofs.KindLemmas.{depended_if}
+use Rattle.quiesce_core.proofs.Cycles.{call_by, map_or_at, map_or_true, walk_to}
+use Rattle.config_graph.proofs.KindLemmas.{depended_if}
 use Rattle.quiesce_core.proofs.Reaching.{no_walk_plus}
 use Rattle.quiesce_core.proofs.RunLemmas.{runs_are_well_formed, runs_are_consistent}
 use Rattle.quiescence_laws.specs.Drained.{is_drained}
@@ -68,9 +68,9 @@ module _ (s : State) (n : ℕ) (w : IsWellFormed s) (t : IsConsistent s) (draine
       ⊎_elim
       (λ (own : IsPortOf s.config n p).
       let is_n : m ≡ n = sym owned ∙ port_owner s.config w.sound n p own in
-      inr (reach.direct v.port h.provide (h.linked ∙ ap (λ i. Some (record { node = i; provide = h.provide })) is_n)))
-      (λ (r : Reaches s.config n p).
-      inr (reach.dependent v.port p m h.provide h.linked (subst (λ i. IsPortOf s.config i p) owned (w.sound.ports p made)) (sym (ap (λ x. depends s.config m x p) by) ∙ dep) r))
+      inr (direct {x = h.provide} (h.linked ∙ ap (λ i. Some (record { node = i; provide = h.provide })) is_n)))
+      (λ (r : Reach (wiring_of s.config) n p).
+      inr (through {p = p} {m = m} {x = h.provide} r (subst (λ i. IsPortOf s.config i p) owned (w.sound.ports p made), sym (ap (λ x. depends s.config m x p) by) ∙ dep) h.linked))
       c
 
   depended : (m x p : ℕ) → depends s.config m x p ≡ true → is_depended s.config m p ≡ true
@@ -121,7 +121,7 @@ module _ (s : State) (n : ℕ) (w : IsWellFormed s) (t : IsConsistent s) (draine
         concerns = up.concerns;
         busy = up.busy;
         walks = walk_to s.config k (owner s.config up.port) (owner s.config below.port)
-            (record { port = up.port; provide = up.leads.0; owned = w.sound.ports up.port (busy_made s up.port t up.busy); depended = top.depended; linked = up.leads.1 })
+            (call_by s.config (owner s.config up.port) (owner s.config below.port) up.port up.leads.0 (w.sound.ports up.port (busy_made s up.port t up.busy)) top.depended up.leads.1)
             below.walks;
       }
 
@@ -141,13 +141,13 @@ module _ (s : State) (n : ℕ) (w : IsWellFormed s) (t : IsConsistent s) (draine
   services_none : (o : Option Service) → service s n ≡ o → o ≡ None
   services_none None e = refl
   services_none (Some v) e =
-      let h = t.serving n v e in absurd (none_busy v.port (inr (reach.direct v.port h.provide h.linked)) (serving_busy (exchange s v.port).phase h.busy))
+      let h = t.serving n v e in absurd (none_busy v.port (inr (direct {x = h.provide} h.linked)) (serving_busy (exchange s v.port).phase h.busy))
 
   pub settled_of : is_live s.config n ≡ true → Settled s n
   settled_of live = record { live = live; own = λ p own. quiet_all p (inl own); services_nothing = services_none (service s n) refl; reaching = λ p r. quiet_all p (inr r) }
 
 pub settled_if_drained : (es : List Event) (n : ℕ) → IsRun es → is_live (state_after es).config n ≡ true → ((p : ℕ) → IsPortOf (state_after es).config n p → is_drained (state_after es) p ≡ true)
-    → ((p : ℕ) → Reaches (state_after es).config n p → is_drained (state_after es) p ≡ true) → Settled (state_after es) n
+    → ((p : ℕ) → Reach (wiring_of (state_after es).config) n p → is_drained (state_after es) p ≡ true) → Settled (state_after es) n
 settled_if_drained es n run live own reaching =
     settled_of (state_after es) n (runs_are_well_formed es run) (runs_are_consistent es run)
-    (λ p c. ⊎_elim (λ (o : IsPortOf (state_after es).config n p). own p o) (λ (r : Reaches (state_after es).config n p). reaching p r) c) live
+    (λ p c. ⊎_elim (λ (o : IsPortOf (state_after es).config n p). own p o) (λ (r : Reach (wiring_of (state_after es).config) n p). reaching p r) c) live

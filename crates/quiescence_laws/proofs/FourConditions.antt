@@ -13,8 +13,8 @@ use Rattle.quiesce_core.specs.State.{Configuration, State, slot, is_live, owner,
 use Rattle.quiesce_core.specs.declared.state.Slot.{Slot}
 use Rattle.quiesce_core.specs.Effect.{effect}
 use Rattle.quiesce_core.specs.Legal.{Legal}
-use Rattle.quiesce_core.specs.Reach.{IsPortOf, Reaches}
-use Rattle.quiesce_core.specs.Reach as reach
+use Rattle.quiesce_core.specs.Reach.{IsPortOf, wiring_of}
+use Rattle.config_graph.specs.Wiring.{Reach, direct, through}
 use Rattle.quiesce_core.specs.Runs.{IsRun, state_after, is_begin_of, is_end_of, is_open_after, Begun, initiator, target_at_begin}
 use Rattle.quiesce_core.specs.Rules.{is_settled}
 use Rattle.quiesce_core.proofs.SettledLemmas.{settled_if}
@@ -33,7 +33,7 @@ use Rattle.quiescence_laws.proofs.Stillness.{Concerns, IsStill, not_busy, none_c
 
 pub still_if : (s : State) (n : ℕ) → Settled s n → IsStill s n
 still_if s n h = record {
-  quiet = λ p c. ⊎_elim (λ (own : IsPortOf s.config n p). h.own p own) (λ (r : Reaches s.config n p). h.reaching p r) c;
+  quiet = λ p c. ⊎_elim (λ (own : IsPortOf s.config n p). h.own p own) (λ (r : Reach (wiring_of s.config) n p). h.reaching p r) c;
   services_nothing = h.services_nothing;
 }
 
@@ -66,7 +66,7 @@ node_of (Some t) n h = let same : t.node ≡ n = cc in (t.provide, ap (λ i. Som
 
 -- a port that leads to a node concerns it
 leading : (c : Configuration) (n p : ℕ) → option_map (λ (t : Target). t.node) (target c p) ≡ Some n → Concerns c n p
-leading c n p h = let w = node_of (target c p) n h in inr (reach.direct p w.0 w.1)
+leading c n p h = let w = node_of (target c p) n h in inr (direct {x = w.0} w.1)
 
 module _ (es : List Event) (n : ℕ) (run : IsRun es) (h : Settled (state_after es) n) where
   -- what is known where an event stands behind the run

@@ -17,7 +17,7 @@ use Rattle.std.proofs.lemmas.List.Sums.{sum_by-append, sum_by-cons}
 use Rattle.std.proofs.lemmas.Simd.{map-map}
 use Rattle.std.proofs.lemmas.Slice.Eq.{bytes_eq-Decides}
 use Rattle.config_graph.specs.Graph.{Configuration as Graph, first_port, ports, ports_of, target_of, requires_of}
-use Rattle.config_graph.specs.Kinds.{row, is_depended_on}
+use Rattle.config_graph.specs.Kinds.{row, depends_on}
 use Rattle.config_graph.specs.Sound.{Sound, HasItsArgument}
 use Rattle.config_graph.specs.declared.node.Node.{Node}
 use Rattle.config_graph.specs.declared.node.Port.{Port}
@@ -282,9 +282,12 @@ module _ (g : Graph) (sound : Sound g) (few_nodes : length g.nodes ≤ 1023) (fe
         rank = ranked.rank;
         falls = λ n m l. ranked.falls n m (record {
           port = l.port;
+          serves = l.serves;
           provide = l.provide;
-          owned = record { node = l.owned.node; made = l.owned.made; from = l.owned.from; below = l.owned.below };
-          depended = subst (λ r. option_map_or (λ (m : Slot). is_depended_on m.node.kind r) (slot (started g).config n) false ≡ true) (part done rest e l.port).require l.depended;
+          depends =
+              let o = l.depends.0 in
+              (record { node = o.node; made = o.made; from = o.from; below = o.below },
+              subst (λ r. option_map_or (λ (m : Slot). depends_on m.node.kind l.serves r) (slot (started g).config n) false ≡ true) (part done rest e l.port).require l.depends.1);
           linked = (part done rest e l.port).targets (record { node = m; provide = l.provide }) l.linked;
         });
       })

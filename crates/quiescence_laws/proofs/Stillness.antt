@@ -14,8 +14,8 @@ use Rattle.quiesce_core.specs.State.{Configuration, State, fresh_exchange, gate,
 use Rattle.quiesce_core.specs.Phases.{is_idle}
 use Rattle.quiesce_core.specs.Effect.{with_gate, effect}
 use Rattle.quiesce_core.specs.Legal.{Legal}
-use Rattle.quiesce_core.specs.Reach.{IsPortOf, Reaches}
-use Rattle.quiesce_core.specs.Reach as reach
+use Rattle.quiesce_core.specs.Reach.{IsPortOf, wiring_of}
+use Rattle.config_graph.specs.Wiring.{Reach, direct, through}
 use Rattle.quiesce_core.specs.Rules.{is_live_port, is_quiet, serves_through}
 use Rattle.quiesce_core.specs.Settled.{is_opening}
 use Rattle.quiesce_core.specs.Traffic.{IsConsistent}
@@ -28,7 +28,7 @@ use Rattle.quiesce_core.proofs.Lookups.{asked_busy, more_busy, serving_busy, ans
 
 -- p is a port of the node, or reaches it
 abbrev pub Concerns : Configuration → ℕ → ℕ → Type 0
-Concerns c n p = IsPortOf c n p ⊎ Reaches c n p
+Concerns c n p = IsPortOf c n p ⊎ Reach (wiring_of c) n p
 
 -- all that is asked of a settled node, but that it is live
 pub record IsStill (s : State) (n : ℕ) : Type 0 where
@@ -46,18 +46,17 @@ not_busy s n p h c busy = both_ways (is_idle (exchange s p).phase) busy (idle_at
 
 -- none of these ports is called: its owner would service a port that reaches the node, or be the node
 pub none_called : (s : State) (n p : ℕ) → IsWellFormed s → IsConsistent s → IsStill s n → Concerns s.config n p → is_live_port s p ≡ true → serves_through s (owner s.config p) p ≡ true → ⊥
-none_called s n p w k h c live through =
-    let v = map_or_true (λ (v : Service). depends s.config (owner s.config p) (provision s.config v.port) p) (service s (owner s.config p)) through in
+none_called s n p w k h c live by_it =
+    let v = map_or_true (λ (v : Service). depends s.config (owner s.config p) (provision s.config v.port) p) (service s (owner s.config p)) by_it in
     let serving = k.serving (owner s.config p) v.0 v.1 in
     let by : provision s.config v.0.port ≡ serving.provide =
     map_or_at (λ (t : Target). t.provide) (target s.config v.0.port) 0 (record { node = owner s.config p; provide = serving.provide }) serving.linked in
     ⊎_elim
     (λ (own : IsPortOf s.config n p). let is_n : owner s.config p ≡ n = port_owner s.config w.sound n p own in
     let none_ : service s (owner s.config p) ≡ None = ap (λ i. service s i) is_n ∙ h.services_nothing in absurd (cc (none_, v.1)))
-    (λ (r : Reaches s.config n p).
-    let above : Reaches s.config n v.0.port =
-    reach.dependent v.0.port p (owner s.config p) serving.provide serving.linked (w.sound.ports p (gate_place s p live))
-    (sym (ap (λ x. depends s.config (owner s.config p) x p) by) ∙ v.2) r in
+    (λ (r : Reach (wiring_of s.config) n p).
+    let above : Reach (wiring_of s.config) n v.0.port =
+    through {p = p} {m = owner s.config p} {x = serving.provide} r (w.sound.ports p (gate_place s p live), sym (ap (λ x. depends s.config (owner s.config p) x p) by) ∙ v.2) serving.linked in
     not_busy s n v.0.port h (inr above) (serving_busy (exchange s v.0.port).phase serving.busy))
     c
 
@@ -138,7 +137,7 @@ services_next s (Miss p) n l h still =
     (λ same. ap (λ i. option_map (λ (u : Service). record u { calls = u.calls + 1 }) (service s i)) (sym same) ∙ ap (λ o. option_map (λ (u : Service). record u { calls = u.calls + 1 }) o) still.services_nothing)
 services_next s (Take p k v) n l h still =
     put_at_target s.traffic.services (target s.config p) n _ still.services_nothing
-    (λ t e same. absurd (not_busy s n p still (inr (reach.direct p t.provide (e ∙ ap (λ i. Some (record { node = i; provide = t.provide })) (sym same)))) (asked_busy (exchange s p).phase l.asked)))
+    (λ t e same. absurd (not_busy s n p still (inr (direct {x = t.provide} (e ∙ ap (λ i. Some (record { node = i; provide = t.provide })) (sym same)))) (asked_busy (exchange s p).phase l.asked)))
 services_next s (Give p k v) n l h still = put_at_target s.traffic.services (target s.config p) n None still.services_nothing (λ t e same. refl)
 services_next s (More p k v) n l h still =
     put_at_target s.traffic.services (target s.config p) n _ still.services_nothing
@@ -162,6 +161,6 @@ still_next s e n w t l h still =
     record {
       quiet = λ q c. quiet_next s e n w t l h still q (⊎_elim
           (λ (own : IsPortOf (effect s e).config n q). inl (shrinks.owned n q own))
-          (λ (r : Reaches (effect s e).config n q). inr (reached_before s.config (effect s e).config shrinks n q r)) c);
+          (λ (r : Reach (wiring_of (effect s e).config) n q). inr (reached_before s.config (effect s e).config shrinks n q r)) c);
       services_nothing = services_next s e n l h still;
     }

@@ -4,4 +4,3 @@ pub mod Courses
 pub mod Weaker
 pub mod Drained
 pub mod Starts
-pub mod Walks

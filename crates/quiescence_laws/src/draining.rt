@@ -3,7 +3,8 @@
 ghost use Rattle.std.specs.Prelude.{◌≡◌, ℕ, false, List, ◌++◌, IsTrue};
 ghost use Rattle.std.specs.List.{list_any};
 ghost use Rattle.quiesce_core.specs.declared.event.Event.{Event};
-ghost use Rattle.quiesce_core.specs.Reach.{IsPortOf, Reaches};
+ghost use Rattle.quiesce_core.specs.Reach.{IsPortOf, wiring_of};
+ghost use Rattle.config_graph.specs.Wiring.{Reach, direct, through};
 ghost use Rattle.quiesce_core.specs.Runs.{IsRun, state_after};
 ghost use Rattle.quiesce_core.specs.Settled.{Settled};
 ghost use Rattle.quiesce_core.specs.State.{is_live};
@@ -22,5 +23,5 @@ pub fn drained_ports_stay_drained()
 pub fn nodes_with_drained_ports_are_settled()
     ensures { (es : List Event) (n : ℕ) → IsRun es → IsTrue (is_live (state_after es).config n) →
         ((p : ℕ) → IsPortOf (state_after es).config n p → IsTrue (is_drained (state_after es) p)) →
-        ((p : ℕ) → Reaches (state_after es).config n p → IsTrue (is_drained (state_after es) p)) → Settled (state_after es) n }
+        ((p : ℕ) → Reach (wiring_of (state_after es).config) n p → IsTrue (is_drained (state_after es) p)) → Settled (state_after es) n }
 {}

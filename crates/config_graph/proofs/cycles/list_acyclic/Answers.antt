@@ -1,8 +1,10 @@
 use Rattle.std.proofs.Common.{◌≡◌, ℕ, ◌∷◌, [], ◌++◌, ◌<◌, ◌∙◌, ap, sym, arith, false, true, length, refl, get_or, inl, inr, subst, vec_len, All}
 use Rattle.std.proofs.lemmas.List.{length-replicate, get_or_read}
-use Rattle.config_graph.specs.Cycles.{Leads, OnCycle}
+use Rattle.config_graph.specs.Cycles.{OnCycle, wiring_of}
+use Rattle.config_graph.specs.Wiring.{MayCall}
 use Rattle.config_graph.specs.Search.{Has}
-use Rattle.config_graph.proofs.CycleLemmas.{acyclic_next, range_below}
+use Rattle.config_graph.proofs.CycleLemmas.{range_below}
+use Rattle.config_graph.proofs.WalkLemmas.{acyclic_next}
 use Rattle.config_graph.proofs.SearchLemmas.{All-before_last, All-last, Has-set_only, none_set, clear_falls}
 use Rattle.config_graph.proofs.cycles.list_acyclic.Goals as goal
 use Rattle.config_graph.proofs.cycles.list_acyclic.Goals.{In_ok-push_predecessors}
@@ -45,7 +47,7 @@ loop-node-preserved-then-leads_only_to c =
           elim (Has-set_only acyclic i node has) [
             | inl before ↦ c.loop-node.invariant.acyclic i before
             | inr same ↦
-                let leads = λ (j : ℕ) (h : Leads g node j). c.loop-node.invariant.acyclic j (subst (λ bits. Has bits j) c.deref.ensures.value (c.if-leads_only_to.ensures refl j h)) in
-                subst (λ k. ¬ OnCycle g k) (sym same) (acyclic_next g node leads)
+                let leads = λ (j : ℕ) (h : MayCall (wiring_of g) node j). c.loop-node.invariant.acyclic j (subst (λ bits. Has bits j) c.deref.ensures.value (c.if-leads_only_to.ensures refl j h)) in
+                subst (λ k. ¬ OnCycle g k) (sym same) (acyclic_next (MayCall (wiring_of g)) node leads)
           ];
     }
