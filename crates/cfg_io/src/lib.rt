@@ -26,15 +26,13 @@ mod out_sink;
 mod shelf;
 mod sink;
 
+pub use base::NoMemory;
 pub use file_shelf::FileShelf;
 pub use mem_shelf::MemShelf;
 pub use mem_sink::MemSink;
 pub use out_sink::OutSink;
 pub use shelf::{Shelf, ShelfError};
 pub use sink::{Sink, SinkFailed, Stopped, write_all};
-
-/// Memory ran out. Nothing else is wrong: what was lent is as before, and what was handed over is gone.
-pub type NoMemory = std::alloc::AllocError;
 
 #[cfg(test)]
 mod tests;

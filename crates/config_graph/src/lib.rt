@@ -5,25 +5,18 @@ mod cycles;
 mod graph;
 mod indexes;
 mod kind;
-mod list;
 mod node;
 mod numbering;
 #[cfg(test)]
 mod tests;
-mod text;
 mod writing;
 
+pub use base::{List, NoMemory, Text};
 pub use cycles::{a_first_on_a_cycle_or_none, first_on_cycle};
 pub use graph::{Graph, same};
 pub use kind::{Kind, kind_of, kinds_have_their_names};
-pub use list::List;
 pub use node::{Link, Made, Node, Port, Target};
-pub use text::Text;
 pub use writing::{graph_text, kind_text, texts_tell_sound_graphs};
-
-/// Memory ran out. Nothing else is wrong: what was lent is as before, and what was handed over, as the
-/// lists of [`Graph::build`], is gone.
-pub type NoMemory = std::alloc::AllocError;
 
 /// How many nodes one run makes at most.
 pub const MAX_NODES: u32 = 1_023;

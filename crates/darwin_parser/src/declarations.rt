@@ -11,7 +11,7 @@ use crate::cursor::{Stop, Tokens};
 use crate::source::Source;
 use crate::statements::MAX_STATEMENT_NESTING;
 use crate::tree::{ArrayDecl, Component, PortDecl, Side, Stmt, Unit};
-use config_graph::Text;
+use base::Text;
 use darwin_lexer::{At, Keyword, Sign, TokenKind};
 use std::alloc::{AllocError, Global};
 

@@ -6,7 +6,7 @@ ghost use Rattle.darwin_parser.specs.Reading as reading;
 ghost use Rattle.darwin_parser.specs.Reading.{Reads};
 
 use crate::cursor::{Stop, Tokens};
-use config_graph::Text;
+use base::Text;
 use darwin_lexer::Token;
 use std::alloc::{AllocError, Global};
 

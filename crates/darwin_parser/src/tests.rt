@@ -4,7 +4,7 @@ use crate::{
     ArrayDecl, Component, Expr, InstEntry, Op, ParseError, PortDecl, PortRef, Side, Stmt, Unit,
     parse,
 };
-use config_graph::Text;
+use base::Text;
 use darwin_lexer::{At, MAX_TEXT, lex};
 use std::alloc::{AllocError, Global};
 use std::process::Abort;

@@ -1,6 +1,6 @@
 //! The syntax tree of a description. Lists in it keep the order of the text.
 
-use config_graph::Text;
+use base::Text;
 use darwin_lexer::At;
 
 /// A whole description.

@@ -14,7 +14,7 @@ use crate::instances::Instances;
 use crate::names::Names;
 use crate::primitive::check_primitive;
 use crate::{TypeError, refusal};
-use config_graph::Text;
+use base::Text;
 use darwin_parser::{ArrayDecl, BindEntry, Component, Expr, InstEntry, PortDecl, PortRef, Stmt};
 
 /// A component of a description, with its ports, arrays and instances by name.

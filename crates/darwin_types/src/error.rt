@@ -2,7 +2,7 @@
 
 ghost use Rattle.std.specs.Prelude.{◌≡◌};
 
-use config_graph::Text;
+use base::Text;
 use std::alloc::{AllocError, AllocFailed};
 use thiserror::Error;
 

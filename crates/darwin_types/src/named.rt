@@ -1,7 +1,7 @@
 //! Declarations that give names.
 
 use crate::names::Named;
-use config_graph::Text;
+use base::Text;
 use darwin_parser::{ArrayDecl, Component, PortDecl};
 
 impl Named for Component {

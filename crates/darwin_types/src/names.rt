@@ -7,7 +7,7 @@ ghost use Rattle.darwin_types.specs.Check.{Judges, repeat_fault, repeat_faults};
 
 use crate::TypeError;
 use crate::refusal::repeated;
-use config_graph::Text;
+use base::Text;
 use indexmap::IndexSet;
 use std::alloc::{AllocError, Global};
 use std::marker::Model;

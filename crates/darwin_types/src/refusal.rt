@@ -6,7 +6,7 @@ ghost use Rattle.darwin_types.specs.Faults.{carried};
 ghost use Rattle.darwin_types.specs.declared.error.TypeError.TheVariants.{TwoNames, UnknownName, UnknownComponent, ArgCount, UnknownKind, KindPorts};
 
 use crate::TypeError;
-use config_graph::Text;
+use base::Text;
 
 /// Two names of one class are this one: in the component, or else in the description.
 pub fn repeated<T>(component: Option<&Text>, name: &Text) -> Result<T, TypeError>

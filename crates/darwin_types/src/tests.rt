@@ -1,7 +1,7 @@
 //! Worked rows: each fault with descriptions that have it and no other, and the nearest ones that have none.
 
 use crate::{TypeError, check};
-use config_graph::Text;
+use base::Text;
 use darwin_lexer::{MAX_TEXT, lex};
 use darwin_parser::parse;
 use std::alloc::{AllocError, Global};

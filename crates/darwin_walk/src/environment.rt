@@ -7,7 +7,7 @@ ghost use Rattle.darwin_walk.specs.Finds.{Finds};
 
 use crate::named::Named;
 use crate::valuing::Variable;
-use config_graph::Text;
+use base::Text;
 use indexmap::IndexMap;
 
 impl<'a> Named<'a> for Variable<'a> {

@@ -17,7 +17,7 @@ use crate::named::Named;
 use crate::valuing::{ValueError, worth};
 use crate::walked::{End, Segment};
 use crate::{Fault, WalkError};
-use config_graph::Text;
+use base::Text;
 use darwin_lexer::At;
 use darwin_parser::{ArrayDecl, Component, Expr, PortRef};
 use indexmap::IndexMap;

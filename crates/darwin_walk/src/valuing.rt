@@ -9,7 +9,7 @@ ghost use Rattle.darwin_walk.specs.Spine.{Says, env_of, IsOperand, IsSpine};
 
 use crate::environment::Environment;
 use crate::named::by_name;
-use config_graph::Text;
+use base::Text;
 use darwin_parser::{Expr, Op};
 use std::alloc::{AllocError, AllocFailed, Global};
 use thiserror::Error;

@@ -1,6 +1,6 @@
 //! What a walk of one instance gives.
 
-use config_graph::Text;
+use base::Text;
 use darwin_lexer::At;
 
 /// An instance within another: a single one, or an element of an array.

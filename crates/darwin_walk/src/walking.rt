@@ -16,7 +16,7 @@ use crate::environment::Environment;
 use crate::scope::{Array, Scope, element_at, end_at, value_at, values_at};
 use crate::valuing::Variable;
 use crate::walked::{Binding, Child, Segment, Walked};
-use config_graph::Text;
+use base::Text;
 use darwin_lexer::At;
 use darwin_parser::{BindEntry, Expr, InstEntry, Stmt};
 use std::alloc::Global;
