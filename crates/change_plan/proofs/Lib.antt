@@ -4,5 +4,6 @@ pub mod DifferenceLemmas
 pub mod MoveLemmas
 pub mod PlanningLemmas
 pub mod ApplyingLemmas
+pub mod RoomLaws
 pub mod RefusalLemmas
 pub mod TotalLemmas

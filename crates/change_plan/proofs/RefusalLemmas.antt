@@ -4,18 +4,18 @@ use Rattle.std.proofs.lemmas.Bool.{cases_eq, cases_lt}
 use Rattle.std.proofs.lemmas.Option.{slice_get_within}
 use Rattle.std.specs.List.{range_with_len}
 use Rattle.config_graph.specs.Graph.{Configuration, IsGraph, requires_at}
-use Rattle.config_graph.specs.declared.TheConstants.{MAX_NODES, MAX_PORTS}
 use Rattle.config_graph.specs.declared.node.Made.{Made}
 use Rattle.config_graph.specs.declared.node.Node.{Node}
 use Rattle.change_plan.specs.Differences.{GoneNodes, IsGone}
 use Rattle.change_plan.specs.Moves.{IsFit, MayMove, MayMoveAll}
-use Rattle.change_plan.specs.Refusals.{CanPlan, FirstMoveFault, IsRefusal, IsWanted, KindsDifferIn, MoveFault, Repeats, RoomFault}
+use Rattle.change_plan.specs.Refusals.{CanPlan, FirstMoveFault, IsRefusal, IsWanted, KindsDifferIn, MoveFault, Repeats}
+use Rattle.change_plan.specs.Room.{RoomFault}
 use Rattle.change_plan.specs.declared.error.PlanError.{PlanError}
 use Rattle.change_plan.specs.declared.error.PlanError.TheVariants.{NotRemoved, NotCreated, KindsDiffer, MovedTwice, NodesFull, PortsFull, NoMemory}
 use Rattle.change_plan.specs.declared.plan_data.Move.{Move}
 use Rattle.change_plan.proofs.DifferenceLemmas.{one_node}
 use Rattle.change_plan.proofs.MoveLemmas.{one_gone}
-use Rattle.change_plan.proofs.SelectsLemmas.{Selects-one}
+use Rattle.change_plan.proofs.RoomLaws.{no_room, one_room, one_wanted}
 
 -- a repeated path is the source, or else the target
 same_repeat : (before : List Move) (m : Move) (p q : List ℕ) → Repeats before m p → Repeats before m q → p ≡ q
@@ -95,38 +95,6 @@ module _ (old new : Configuration) (old_graph : IsGraph old) (new_graph : IsGrap
     no_first e may first =
         no_fault (take first.count moves) first.move e (may first.count first.move (slice_get_within moves first.count first.move first.at) first.at) first.fault
 
--- how much is wanted
-pub one_wanted : (old new : Configuration) (n p m q : ℕ) → IsWanted old new n p → IsWanted old new m q → (n ≡ m) × (p ≡ q)
-one_wanted old new n p m q a b =
-    let same : a.created ≡ b.created = Selects-one (IsGone new old) (range_with_len 0 (length new.nodes)) a.created b.created a.gone b.gone in
-    (a.nodes_are ∙ ap length same ∙ sym b.nodes_are, a.ports_are ∙ ap (sum_by (requires_at new.nodes)) same ∙ sym b.ports_are)
-
--- too much is one fault, and none where there is room
-one_room : (made : Made) (n p : ℕ) (d e : PlanError) → RoomFault made n p d → RoomFault made n p e → d ≡ e
-one_room made n p (NodesFull a w) (NodesFull b v) x y = λ k. NodesFull ((x.made_is ∙ sym y.made_is) k) ((x.wanted_is ∙ sym y.wanted_is) k)
-one_room made n p (NodesFull a w) (PortsFull b v) x (low, y) = absurd (omega (arith, x.full, low))
-one_room made n p (PortsFull a w) (NodesFull b v) (low, x) y = absurd (omega (arith, y.full, low))
-one_room made n p (PortsFull a w) (PortsFull b v) (low, x) (also, y) = λ k. PortsFull ((x.made_is ∙ sym y.made_is) k) ((x.wanted_is ∙ sym y.wanted_is) k)
-one_room made n p (NotRemoved q) e x y = absurd x
-one_room made n p (NotCreated q) e x y = absurd x
-one_room made n p (KindsDiffer q r) e x y = absurd x
-one_room made n p (MovedTwice q) e x y = absurd x
-one_room made n p NoMemory e x y = absurd x
-one_room made n p d (NotRemoved q) x y = absurd y
-one_room made n p d (NotCreated q) x y = absurd y
-one_room made n p d (KindsDiffer q r) x y = absurd y
-one_room made n p d (MovedTwice q) x y = absurd y
-one_room made n p d NoMemory x y = absurd y
-
-no_room : (made : Made) (n p : ℕ) (e : PlanError) → made.nodes + n ≤ MAX_NODES → made.ports + p ≤ MAX_PORTS → ¬ RoomFault made n p e
-no_room made n p (NodesFull a w) nodes_fit ports_fit x = omega (arith, x.full, nodes_fit)
-no_room made n p (PortsFull a w) nodes_fit ports_fit (low, x) = omega (arith, x.full, ports_fit)
-no_room made n p (NotRemoved q) nodes_fit ports_fit x = x
-no_room made n p (NotCreated q) nodes_fit ports_fit x = x
-no_room made n p (KindsDiffer q r) nodes_fit ports_fit x = x
-no_room made n p (MovedTwice q) nodes_fit ports_fit x = x
-no_room made n p NoMemory nodes_fit ports_fit x = x
-
 -- for the contract of `plan`
 module _ (old new : Configuration) (old_graph : IsGraph old) (new_graph : IsGraph new) (moves : List Move) (made : Made) where
   pub one_refusal : (d e : PlanError) → IsRefusal old new moves made d → IsRefusal old new moves made e → d ≡ e
@@ -141,7 +109,7 @@ module _ (old new : Configuration) (old_graph : IsGraph old) (new_graph : IsGrap
   no_refusal e can (inl first) = no_first old new old_graph new_graph moves e can.may_move first
   no_refusal e can (inr (may, (n, p, wanted, fault))) =
       let same = one_wanted old new n p can.nodes can.ports wanted can.wanted in
-      no_room made n p e (omega (arith, can.nodes_fit, same.0)) (omega (arith, can.ports_fit, same.1)) fault
+      no_room made n p e (record { nodes_fit = omega (arith, can.room.nodes_fit, same.0); ports_fit = omega (arith, can.room.ports_fit, same.1) }) fault
 
   pub refused_by : (d : PlanError) → (d ≡ NoMemory) ⊎ IsRefusal old new moves made d → (e : PlanError) → IsRefusal old new moves made e → (d ≡ NoMemory) ⊎ (d ≡ e)
   refused_by d (inl memory) e refusal = inl memory

@@ -1,12 +1,10 @@
 -- There is a plan, or a refusal: each fault of a move can be told, and how much is wanted.
 use Rattle.std.proofs.Common.{◌≡◌, ◌⊎◌, ℕ, zero, suc, ◌+◌, ◌<◌, ◌≤◌, List, [], ◌∷◌, length, take, get_or, Some, None, slice_get, refl, sym, ◌∙◌, ap, subst, inl, inr, arith, Contains, sum_by}
 use Rattle.std.specs.List.{range_with_len}
-use Rattle.std.proofs.lemmas.Bool.{cases_lt}
 use Rattle.std.proofs.lemmas.Bool.Decides.{eqb_tells}
 use Rattle.std.proofs.lemmas.Option.{none-some, slice_get_cases, slice_get-get_or}
 use Rattle.std.proofs.lemmas.Slice.Eq.{bytes_eq-Decides}
 use Rattle.config_graph.specs.Graph.{Configuration, IsGraph, requires_at}
-use Rattle.config_graph.specs.declared.TheConstants.{MAX_NODES, MAX_PORTS}
 use Rattle.config_graph.specs.declared.node.Made.{Made}
 use Rattle.config_graph.specs.declared.node.Node.{Node}
 use Rattle.config_graph.proofs.TellLemmas.{CanTell, any_or_none, tell_contained, told_by}
@@ -16,11 +14,12 @@ use Rattle.change_plan.specs.Refusals.{CanPlan, FirstMoveFault, IsRefusal, IsWan
 use Rattle.change_plan.specs.Selects.{Selects}
 use Rattle.change_plan.specs.Selects.Selects.{ends, takes, skips}
 use Rattle.change_plan.specs.declared.error.PlanError.{PlanError}
-use Rattle.change_plan.specs.declared.error.PlanError.TheVariants.{NotRemoved, NotCreated, KindsDiffer, MovedTwice, NodesFull, PortsFull}
+use Rattle.change_plan.specs.declared.error.PlanError.TheVariants.{NotRemoved, NotCreated, KindsDiffer, MovedTwice}
 use Rattle.change_plan.specs.declared.plan_data.Move.{Move}
 use Rattle.change_plan.proofs.DifferenceLemmas.{Contains-slice_get, one_node}
 use Rattle.change_plan.proofs.MoveLemmas.{kind_decides}
 use Rattle.change_plan.proofs.NodeLemmas.{one_path}
+use Rattle.change_plan.proofs.RoomLaws.{room_or_fault}
 
 -- ---- what is gone
 
@@ -138,12 +137,8 @@ module _ (old new : Configuration) (old_graph : IsGraph old) (new_graph : IsGrap
       elim (moves_or_fault old new old_graph new_graph moves (length moves)) [
         | inr (e, first) ↦ inr (e, inl first)
         | inl may ↦
-            elim (cases_lt MAX_NODES (made.nodes + nodes)) [
-              | inl full ↦ inr (NodesFull made.nodes nodes, inr (may, (nodes, ports, wanted, record { made_is = refl; wanted_is = refl; full = full })))
-              | inr nodes_fit ↦
-                  elim (cases_lt MAX_PORTS (made.ports + ports)) [
-                    | inl full ↦ inr (PortsFull made.ports ports, inr (may, (nodes, ports, wanted, (nodes_fit, record { made_is = refl; wanted_is = refl; full = full }))))
-                    | inr ports_fit ↦ inl (record { may_move = may; nodes = nodes; ports = ports; wanted = wanted; nodes_fit = nodes_fit; ports_fit = ports_fit })
-                  ]
+            elim (room_or_fault made nodes ports) [
+              | inl room ↦ inl (record { may_move = may; nodes = nodes; ports = ports; wanted = wanted; room = room })
+              | inr (e, fault) ↦ inr (e, inr (may, (nodes, ports, wanted, fault)))
             ]
       ]

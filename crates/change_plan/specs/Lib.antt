@@ -5,5 +5,6 @@ pub mod Noted
 pub mod PlanText
 pub mod PlanWithin
 pub mod Refusals
+pub mod Room
 pub mod Selects
 pub mod Touched

@@ -1,11 +1,11 @@
 -- Why there is no plan: the first move in order that can't be made, and in it the first of its faults; or else too many nodes
 -- or ports.
-use Rattle.std.specs.Prelude.{◌≡◌, ◌<◌, ◌≤◌, ◌+◌, ◌⊎◌, ℕ, List, Some, Result, Ok, Err, length, slice_get, sum_by, take}
+use Rattle.std.specs.Prelude.{◌≡◌, ◌⊎◌, ℕ, List, Some, Result, Ok, Err, length, slice_get, sum_by, take}
 use Rattle.config_graph.specs.Graph.{Configuration, requires_at}
-use Rattle.config_graph.specs.declared.TheConstants.{MAX_NODES, MAX_PORTS}
 use Rattle.config_graph.specs.declared.node.Made.{Made}
 use Rattle.change_plan.specs.Differences.{GoneNodes}
 use Rattle.change_plan.specs.Moves.{IsFit, IsPathGone, MoveLeads, MayMoveAll, MovesFrom, MovesTo}
+use Rattle.change_plan.specs.Room.{HasRoom, RoomFault}
 use Rattle.change_plan.specs.declared.error.PlanError.{PlanError}
 use Rattle.change_plan.specs.declared.error.PlanError.TheVariants.{NotRemoved, NotCreated, KindsDiffer, MovedTwice, NodesFull, PortsFull, NoMemory}
 use Rattle.change_plan.specs.declared.plan_data.Move.{Move}
@@ -48,19 +48,6 @@ pub record IsWanted (old new : Configuration) (nodes ports : ℕ) : Type 0 where
   pub nodes_are : nodes ≡ length created
   pub ports_are : ports ≡ sum_by (requires_at new.nodes) created
 
--- how many were made, and how many are wanted, carried by a refusal
-pub record IsFullOf (limit made wanted carried_made carried_wanted : ℕ) : Type 0 where
-  pub made_is : carried_made ≡ made
-  pub wanted_is : carried_wanted ≡ wanted
-  pub full : limit < made + wanted
-
--- what there is no room for
-abbrev pub RoomFault : Made → ℕ → ℕ → PlanError → Type 0
-RoomFault made nodes ports (NodesFull m w) = IsFullOf MAX_NODES made.nodes nodes m w
-RoomFault made nodes ports (PortsFull m w) =
-    (made.nodes + nodes ≤ MAX_NODES) × IsFullOf MAX_PORTS made.ports ports m w
-RoomFault made nodes ports e = ⊥
-
 -- why these can't be planned
 abbrev pub IsRefusal : Configuration → Configuration → List Move → Made → PlanError → Type 0
 IsRefusal old new moves made e =
@@ -72,8 +59,7 @@ pub record CanPlan (old new : Configuration) (moves : List Move) (made : Made) :
   pub nodes : ℕ
   pub ports : ℕ
   pub wanted : IsWanted old new nodes ports
-  pub nodes_fit : made.nodes + nodes ≤ MAX_NODES
-  pub ports_fit : made.ports + ports ≤ MAX_PORTS
+  pub room : HasRoom made nodes ports
 
 -- the answer is this refusal, unless memory ran out
 abbrev pub Refuses : {T : Type 0} → Result T PlanError → PlanError → Type 0

@@ -7,6 +7,7 @@ mod laws;
 mod moving;
 mod plan_data;
 mod planning;
+mod room;
 #[cfg(test)]
 mod tests;
 mod touching;
@@ -19,4 +20,5 @@ pub use laws::{
 };
 pub use plan_data::{Move, OldPort, Plan, Shift};
 pub use planning::plan;
+pub use room::require_room;
 pub use writing::plan_text;

@@ -1,23 +1,22 @@
 //! The plan from one graph to another.
 
-ghost use Rattle.std.specs.Prelude.{◌≡◌, ◌<◌, ◌≤◌, ◌+◌, ◌^◌, ◌↔◌, ◌⊎◌, ℕ, All, Contains, IfErr, IfOk, OnOk, length, sum_by};
+ghost use Rattle.std.specs.Prelude.{◌≡◌, ◌↔◌, ◌⊎◌, ℕ, Contains, IfErr, IfOk, OnOk};
 ghost use Rattle.std.specs.List.Sorted.{IsStrictlyIncreasing};
-ghost use Rattle.config_graph.specs.declared.TheConstants.{MAX_NODES, MAX_PORTS};
-ghost use Rattle.config_graph.specs.Graph.{requires_at};
 ghost use Rattle.config_graph.specs.Reach.{Enlarged};
 ghost use Rattle.change_plan.specs.Differences.{GoneLinks, GoneNodes, GonePorts};
 ghost use Rattle.change_plan.specs.Moves.{IsShifts};
 ghost use Rattle.change_plan.specs.PlanWithin.{IsPlanWithin};
-ghost use Rattle.change_plan.specs.Refusals.{CanPlan, IsRefusal, Refuses, RoomFault};
+ghost use Rattle.change_plan.specs.Refusals.{CanPlan, IsRefusal, Refuses};
 ghost use Rattle.change_plan.specs.Touched.{IsTouched};
 ghost use Rattle.change_plan.specs.declared.error.PlanError.{PlanError};
 ghost use Rattle.change_plan.specs.declared.error.PlanError.TheVariants.{NoMemory};
 
 use crate::differences::{list_gone, list_gone_links, list_gone_ports};
 use crate::moving::list_shifts;
+use crate::room::require_room_to_create;
 use crate::touching::list_touched;
 use crate::{Move, Plan, PlanError};
-use config_graph::{Graph, List, MAX_NODES, MAX_PORTS, Made};
+use config_graph::{Graph, List, Made};
 use passive_set::enlarged;
 use std::alloc::Global;
 
@@ -49,7 +48,7 @@ pub fn plan(
 {
     let shifts = list_shifts(alloc, old, new, moves)?;
     let create = list_gone(alloc, new, old)?;
-    require_room(new, &create, made)?;
+    require_room_to_create(new, &create, made)?;
     let touched = list_touched(alloc, old, new)?;
     Ok(Plan {
         unlink: List::of(list_gone_ports(alloc, old, new)?),
@@ -59,44 +58,4 @@ pub fn plan(
         moves: List::of(shifts),
         freeze: List::of(enlarged(alloc, old, &touched)?),
     })
-}
-
-/// Tests whether so many nodes can be created after those that were made.
-fn require_room(new: &Graph, create: &[u32], made: Made) -> Result<(), PlanError>
-    requires within { All (λ i. i < length new.now.nodes) create.now }
-    requires few_nodes { length create.now < 2 ^ 32 }
-    requires few_ports { sum_by (requires_at new.now.nodes) create.now < 2 ^ 32 }
-    ensures nodes { OnOk result (made.nodes + length create.now ≤ MAX_NODES) }
-    ensures ports { OnOk result (made.ports + sum_by (requires_at new.now.nodes) create.now ≤ MAX_PORTS) }
-    ensures refused { IfErr result
-        (RoomFault made (length create.now) (sum_by (requires_at new.now.nodes) create.now)) }
-{
-    let nodes = create.len() as u32;
-    let ports = count_ports(new, create);
-    if u64::from(made.nodes) + u64::from(nodes) > u64::from(MAX_NODES) {
-        return Err(PlanError::NodesFull {
-            made: made.nodes,
-            wanted: nodes,
-        });
-    }
-    if u64::from(made.ports) + u64::from(ports) > u64::from(MAX_PORTS) {
-        return Err(PlanError::PortsFull {
-            made: made.ports,
-            wanted: ports,
-        });
-    }
-    Ok(())
-}
-
-/// How many ports these nodes have.
-fn count_ports(graph: &Graph, nodes: &[u32]) -> u32
-    requires within { All (λ i. i < length graph.now.nodes) nodes.now }
-    requires few { sum_by (requires_at graph.now.nodes) nodes.now < 2 ^ 32 }
-    ensures { result ≡ sum_by (requires_at graph.now.nodes) nodes.now }
-{
-    let mut ports = 0;
-    for node in nodes {
-        ports += graph.node(*node).kind.requires_();
-    }
-    ports
 }

@@ -1,13 +1,12 @@
 -- A description isn't both refused a plan and given one.
-use Rattle.std.proofs.Common.{◌≡◌, ◌≢◌, false, ◌+◌, ◌≤◌, ◌∙◌, ◌⊎◌, inl, inr, ℕ, ℤ, List, [], ◌∷◌, Some, Result, Ok, Err, IfOk, IfErr, length, sum_by, refl, sym, subst, ap, arith}
-use Rattle.std.specs.List.{range_with_len}
-use Rattle.config_graph.specs.Graph.{Configuration, requires_at}
+use Rattle.std.proofs.Common.{◌≡◌, ◌≢◌, false, ◌∙◌, ◌⊎◌, inl, inr, ℕ, ℤ, List, [], Some, Result, Ok, Err, IfOk, IfErr, refl, sym, subst}
+use Rattle.config_graph.specs.Graph.{Configuration}
 use Rattle.config_graph.specs.declared.node.Made.{Made}
-use Rattle.change_plan.specs.Refusals.{CanPlan, IsRefusal, IsWanted, RoomFault}
-use Rattle.change_plan.specs.Selects.{Selects}
-use Rattle.change_plan.specs.Selects.Selects.{ends, takes, skips}
+use Rattle.change_plan.specs.Refusals.{CanPlan, IsRefusal}
+use Rattle.change_plan.specs.Room.{RoomFault}
 use Rattle.change_plan.specs.declared.error.PlanError.{PlanError}
-use Rattle.change_plan.specs.declared.error.PlanError.TheVariants.{NotRemoved, NotCreated, KindsDiffer, MovedTwice, NodesFull, PortsFull, NoMemory}
+use Rattle.change_plan.specs.declared.error.PlanError.TheVariants.{NoMemory}
+use Rattle.change_plan.proofs.RoomLaws.{no_room, one_wanted}
 use Rattle.elaborator.proofs.UniqueLemmas as elaborating
 use Rattle.darwin_parser.specs.Tree.{Tree}
 use Rattle.elaborator.specs.Elaboration.{IsGraphOf}
@@ -27,34 +26,11 @@ use Rattle.darwin_commands.proofs.Readings as readings
 
 -- ---- room is full or not
 
--- a list has one part that has a property
-Selects-one : {A : Type 0} (P : A → Type 0) (xs ys zs : List A) → Selects P xs ys → Selects P xs zs → ys ≡ zs
-Selects-one P all ys zs ends ends = refl
-Selects-one P all ys zs (takes {x = x} {xs = xs} {ys = us} has s) (takes {ys = ws} also t) =
-    ap (λ vs. x ∷ vs) (Selects-one P xs us ws s t)
-Selects-one P all ys zs (takes has s) (skips lacks t) = absurd (lacks has)
-Selects-one P all ys zs (skips lacks s) (takes has t) = absurd (lacks has)
-Selects-one P all ys zs (skips {xs = xs} lacks s) (skips also t) = Selects-one P xs ys zs s t
-
-one_wanted : (old new : Configuration) (n p m q : ℕ) → IsWanted old new n p → IsWanted old new m q → (n ≡ m) × (p ≡ q)
-one_wanted old new n p m q a b =
-    let same = Selects-one _ (range_with_len 0 (length new.nodes)) a.created b.created a.gone b.gone in
-    (a.nodes_are ∙ ap length same ∙ sym b.nodes_are, a.ports_are ∙ ap (sum_by (requires_at new.nodes)) same ∙ sym b.ports_are)
-
-no_room : (made : Made) (n p : ℕ) (e : PlanError) → made.nodes + n ≤ 1023 → made.ports + p ≤ 4096 → RoomFault made n p e → ⊥
-no_room made n p (NodesFull a w) nodes_fit ports_fit x = omega (arith, x.full, nodes_fit)
-no_room made n p (PortsFull a w) nodes_fit ports_fit x = omega (arith, x.1.full, ports_fit)
-no_room made n p (NotRemoved q) nodes_fit ports_fit x = x
-no_room made n p (NotCreated q) nodes_fit ports_fit x = x
-no_room made n p (KindsDiffer q r) nodes_fit ports_fit x = x
-no_room made n p (MovedTwice q) nodes_fit ports_fit x = x
-no_room made n p NoMemory nodes_fit ports_fit x = x
-
 pub not_full : (old new : Configuration) (made : Made) (e : PlanError) → CanPlan old new [] made → IsRefusal old new [] made e → ⊥
 not_full old new made e can (inl first) = cc (first.at)
 not_full old new made e can (inr (may, (n, p, wanted, fault))) =
     let same = one_wanted old new n p can.nodes can.ports wanted can.wanted in
-    no_room made n p e (omega (arith, can.nodes_fit, same.0)) (omega (arith, can.ports_fit, same.1)) fault
+    no_room made can.nodes can.ports e can.room (subst (λ k. RoomFault made can.nodes k e) same.1 (subst (λ k. RoomFault made k p e) same.0 fault))
 
 -- ---- a description has one graph
 

@@ -53,10 +53,10 @@ module _ (g : Configuration) (can : CanPlan nothing g [] nothing_made) where
   created_all = Selects-all (IsGone g nothing) (range_with_len 0 (length g.nodes)) can.wanted.created can.wanted.gone (all_gone g)
 
   pub few_nodes : length g.nodes ≤ 1023
-  few_nodes = omega (arith, can.nodes_fit, can.wanted.nodes_are, ap length created_all, length-range_with_len 0 (length g.nodes))
+  few_nodes = omega (arith, can.room.nodes_fit, can.wanted.nodes_are, ap length created_all, length-range_with_len 0 (length g.nodes))
 
   pub few_ports : length (ports g.nodes) ≤ 4096
   few_ports =
       let all = first_ports g.nodes (length g.nodes) (omega arith) in
       let whole = ap (sum_by requires_of) (take_all (length g.nodes) g.nodes (omega arith)) in
-      omega (arith, can.ports_fit, can.wanted.ports_are, ap (sum_by (requires_at g.nodes)) created_all, all, whole, length-ports g.nodes)
+      omega (arith, can.room.ports_fit, can.wanted.ports_are, ap (sum_by (requires_at g.nodes)) created_all, all, whole, length-ports g.nodes)

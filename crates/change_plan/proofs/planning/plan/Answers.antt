@@ -26,37 +26,37 @@ returns-in_err-shifts-clause-refuses c =
     let h = err_from_is_err_and c.from_residual.result c.from_residual.ensures.1 in
     λ e refusal. rw (h.1, h.2) (refused_by old new told.old told.new moves c.args.made _ (move_refused old new moves c.args.made _ told.refused) e refusal)
 
-pub require_room-requires-clause-within : goal.require_room-requires-clause-within
-require_room-requires-clause-within c =
+pub require_room_to_create-requires-clause-within : goal.require_room_to_create-requires-clause-within
+require_room_to_create-requires-clause-within c =
     let new = c.args.new.now in
     subst (All (λ i. i < length new.nodes)) (sym c.deref.ensures.value) (gone_within new c.args.old.now c.in_ok-shifts.ensures.new c.in_ok-create.create.items c.in_ok-create.ensures.gone)
 
-pub require_room-requires-clause-few_nodes : goal.require_room-requires-clause-few_nodes
-require_room-requires-clause-few_nodes c =
+pub require_room_to_create-requires-clause-few_nodes : goal.require_room_to_create-requires-clause-few_nodes
+require_room_to_create-requires-clause-few_nodes c =
     subst (λ (create : List ℕ). length create < 2 ^ 32) (sym c.deref.ensures.value) (gone_few c.args.new.now c.args.old.now c.in_ok-shifts.ensures.new c.in_ok-create.create.items c.in_ok-create.ensures.gone)
 
-pub require_room-requires-clause-few_ports : goal.require_room-requires-clause-few_ports
-require_room-requires-clause-few_ports c =
+pub require_room_to_create-requires-clause-few_ports : goal.require_room_to_create-requires-clause-few_ports
+require_room_to_create-requires-clause-few_ports c =
     let new = c.args.new.now in
     subst (λ (create : List ℕ). sum_by (requires_at new.nodes) create < 2 ^ 32) (sym c.deref.ensures.value) (gone_ports_few new c.args.old.now c.in_ok-shifts.ensures.new c.in_ok-create.create.items c.in_ok-create.ensures.gone)
 
-pub returns-in_err-require_room-clause-accepts : goal.returns-in_err-require_room-clause-accepts
-returns-in_err-require_room-clause-accepts c =
+pub returns-in_err-require_room_to_create-clause-accepts : goal.returns-in_err-require_room_to_create-clause-accepts
+returns-in_err-require_room_to_create-clause-accepts c =
     let old = c.args.old.now in
     let new = c.args.new.now in
     let moves = c.args.moves.now in
     let told = c.in_ok-shifts.ensures in
-    let h = err_from_is_err_and c.from_residual-in_err-require_room.result c.from_residual-in_err-require_room.ensures.1 in
-    λ can. rw (h.1, h.2) (accepted_but old new told.old told.new moves c.args.made _ (room_refused old new moves c.args.made _ c.in_ok-create.create.items c.deref.result.now c.deref.ensures.value c.in_ok-create.ensures.gone told.may_move c.in_err-require_room.ensures.refused) can)
+    let h = err_from_is_err_and c.from_residual-in_err-require_room_to_create.result c.from_residual-in_err-require_room_to_create.ensures.1 in
+    λ can. rw (h.1, h.2) (accepted_but old new told.old told.new moves c.args.made _ (room_refused old new moves c.args.made _ c.in_ok-create.create.items c.deref.result.now c.deref.ensures.value c.in_ok-create.ensures.gone told.may_move c.in_err-require_room_to_create.ensures.refused) can)
 
-pub returns-in_err-require_room-clause-refuses : goal.returns-in_err-require_room-clause-refuses
-returns-in_err-require_room-clause-refuses c =
+pub returns-in_err-require_room_to_create-clause-refuses : goal.returns-in_err-require_room_to_create-clause-refuses
+returns-in_err-require_room_to_create-clause-refuses c =
     let old = c.args.old.now in
     let new = c.args.new.now in
     let moves = c.args.moves.now in
     let told = c.in_ok-shifts.ensures in
-    let h = err_from_is_err_and c.from_residual-in_err-require_room.result c.from_residual-in_err-require_room.ensures.1 in
-    λ e refusal. rw (h.1, h.2) (refused_by old new told.old told.new moves c.args.made _ (room_refused old new moves c.args.made _ c.in_ok-create.create.items c.deref.result.now c.deref.ensures.value c.in_ok-create.ensures.gone told.may_move c.in_err-require_room.ensures.refused) e refusal)
+    let h = err_from_is_err_and c.from_residual-in_err-require_room_to_create.result c.from_residual-in_err-require_room_to_create.ensures.1 in
+    λ e refusal. rw (h.1, h.2) (refused_by old new told.old told.new moves c.args.made _ (room_refused old new moves c.args.made _ c.in_ok-create.create.items c.deref.result.now c.deref.ensures.value c.in_ok-create.ensures.gone told.may_move c.in_err-require_room_to_create.ensures.refused) e refusal)
 
 pub enlarged-requires : goal.enlarged-requires
 enlarged-requires c =
@@ -92,8 +92,7 @@ returns-clause-accepted c = record {
   nodes = length c.deref.result.now;
   ports = sum_by (requires_at c.args.new.now.nodes) c.deref.result.now;
   wanted = wanted_by c.args.old.now c.args.new.now c.in_ok-create.create.items c.deref.result.now c.deref.ensures.value c.in_ok-create.ensures.gone;
-  nodes_fit = c.in_ok-require_room.ensures.nodes;
-  ports_fit = c.in_ok-require_room.ensures.ports;
+  room = c.in_ok-require_room_to_create.ensures.room;
 }
 
 pub returns-clause-refuses : goal.returns-clause-refuses
@@ -104,6 +103,5 @@ returns-clause-refuses c =
       nodes = length c.deref.result.now;
       ports = sum_by (requires_at c.args.new.now.nodes) c.deref.result.now;
       wanted = wanted_by c.args.old.now c.args.new.now c.in_ok-create.create.items c.deref.result.now c.deref.ensures.value c.in_ok-create.ensures.gone;
-      nodes_fit = c.in_ok-require_room.ensures.nodes;
-      ports_fit = c.in_ok-require_room.ensures.ports;
+      room = c.in_ok-require_room_to_create.ensures.room;
     }) refusal
