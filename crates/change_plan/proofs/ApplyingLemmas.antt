@@ -16,10 +16,12 @@ use Rattle.config_graph.proofs.LinkLemmas.{target_within}
 use Rattle.config_graph.proofs.NumberingLemmas.{within_list}
 use Rattle.config_graph.proofs.OrderLemmas.{one_link-in_order}
 use Rattle.config_graph.proofs.SameLemmas.{node_decides}
-use Rattle.change_plan.specs.Applying.{Connection, ConnectionAfter, Connects, IsConnected, IsListed, IsOpened, IsPlan, KeepsItsLinks, NodeAfter}
-use Rattle.change_plan.specs.Differences.{GoneNodes, IsGone, IsKept, IsSameLink, IsTwin, port_of}
+use Rattle.change_plan.specs.Applying.{Connection, ConnectionAfter, Connects, IsConnected, IsAtOneOf, KeepsItsLinks, MayBeRelinked, NodeAfter}
+use Rattle.change_plan.specs.Differences.{GoneNodes, IsGone, IsKeptLink, IsSameLink, IsTwin, port_of}
+use Rattle.change_plan.specs.Plans.{IsPlanOf}
 use Rattle.change_plan.specs.Touched.{IsTouched, SameTarget}
-use Rattle.change_plan.specs.declared.plan_data.OldPort.{OldPort}
+use Rattle.config_graph.specs.declared.node.Port.{Port}
+use Rattle.change_plan.specs.declared.plan_data.Move.{Move}
 use Rattle.change_plan.specs.declared.plan_data.Plan.{Plan}
 use Rattle.change_plan.proofs.DifferenceLemmas.{Contains-slice_get, kept_none, kept_some, one_node, same_requires}
 use Rattle.change_plan.proofs.SelectsLemmas.{Contains-places, Selects-has, Selects-only, Selects-part}
@@ -80,7 +82,7 @@ module _ (g h : Configuration) (g_graph : IsGraph g) (h_graph : IsGraph h) where
           provision false differs twin = inr (λ both. false≢true (sym differs ∙ eq-eqb t.provide u.provide both.1))
 
   -- whether a link is kept
-  kept : (k : Link) → Contains g.links k → IsKept g h k ⊎ (¬ IsKept g h k)
+  kept : (k : Link) → Contains g.links k → IsKeptLink g h k ⊎ (¬ IsKeptLink g h k)
   kept k there =
       let inside = All-contains (IsWithin g.nodes) g.links k g_graph.within there in
       let from = read g.nodes k.from (within_list requires_of g.nodes k.from k.require inside.begins) in
@@ -128,14 +130,14 @@ map_Contains f (x ∷ xs) y (suc k, low, same) =
     let rest = map_Contains f xs y (k, omega arith, same) in
     (rest.0, Contains-append_right (x ∷ []) xs rest.0 rest.1, rest.2)
 
-module _ (old new : Configuration) (old_graph : IsGraph old) (new_graph : IsGraph new) (p : Plan) (plan : IsPlan old new p) where
-  gone_listed : (g h : Configuration) (gone : List ℕ) → GoneNodes g h gone → (n : Node) → Contains g.nodes n → ¬ Contains h.nodes n → IsListed g gone n
+module _ (old new : Configuration) (old_graph : IsGraph old) (new_graph : IsGraph new) (asked : List Move) (p : Plan) (plan : IsPlanOf old new asked p) where
+  gone_listed : (g h : Configuration) (gone : List ℕ) → GoneNodes g h gone → (n : Node) → Contains g.nodes n → ¬ Contains h.nodes n → IsAtOneOf g gone n
   gone_listed g h gone selected n there missing =
       let place = at_place g.nodes n there in
       let low = slice_get_within g.nodes place.0 n place.1 in
       (place.0, Selects-has (IsGone g h) (range_with_len 0 (length g.nodes)) gone selected place.0 (Contains-places (length g.nodes) place.0 low) (record { node = n; here = place.1; gone = missing }), place.1)
 
-  listed_gone : (g h : Configuration) (gone : List ℕ) → GoneNodes g h gone → (n : Node) → IsListed g gone n → ¬ Contains h.nodes n
+  listed_gone : (g h : Configuration) (gone : List ℕ) → GoneNodes g h gone → (n : Node) → IsAtOneOf g gone n → ¬ Contains h.nodes n
   listed_gone g h gone selected n (i, there, at) =
       let lost = All-contains (IsGone g h) gone i (Selects-only (IsGone g h) (range_with_len 0 (length g.nodes)) gone selected) there in
       subst (λ m. ¬ Contains h.nodes m) (one_node g.nodes i lost.node n lost.here at) lost.gone
@@ -159,24 +161,24 @@ module _ (old new : Configuration) (old_graph : IsGraph old) (new_graph : IsGrap
           ]
 
   -- a link that is gone is unlinked at its port, and no other
-  unlinked : (k : Link) → Contains old.links k → ¬ IsKept old new k → Contains p.unlink (port_of k)
+  unlinked : (k : Link) → Contains old.links k → ¬ IsKeptLink old new k → Contains p.unlink (port_of k)
   unlinked k there lost =
       let links = plan.unlink.0 in
-      let listed = Selects-has (λ l. ¬ IsKept old new l) old.links links plan.unlink.1 k there lost in
+      let listed = Selects-has (λ l. ¬ IsKeptLink old new l) old.links links plan.unlink.1 k there lost in
       subst (λ ports. Contains ports (port_of k)) (sym plan.unlink.2) (Contains-map port_of links k listed)
 
-  unlinked_lost : (k : Link) → Contains old.links k → Contains p.unlink (port_of k) → ¬ IsKept old new k
+  unlinked_lost : (k : Link) → Contains old.links k → Contains p.unlink (port_of k) → ¬ IsKeptLink old new k
   unlinked_lost k there at =
       let links = plan.unlink.0 in
       let from_list = map_Contains port_of links (port_of k) (subst (λ ports. Contains ports (port_of k)) plan.unlink.2 at) in
       let l = from_list.0 in
-      let lost = All-contains (λ m. ¬ IsKept old new m) links l (Selects-only (λ m. ¬ IsKept old new m) old.links links plan.unlink.1) from_list.1 in
-      let l_there = Selects-part (λ m. ¬ IsKept old new m) old.links links plan.unlink.1 l from_list.1 in
+      let lost = All-contains (λ m. ¬ IsKeptLink old new m) links l (Selects-only (λ m. ¬ IsKeptLink old new m) old.links links plan.unlink.1) from_list.1 in
+      let l_there = Selects-part (λ m. ¬ IsKeptLink old new m) old.links links plan.unlink.1 l from_list.1 in
       let one = one_link-in_order old old_graph in
-      let same_port : link_at old.links l.from l.require ≡ link_at old.links k.from k.require = ap (λ (q : OldPort). link_at old.links q.node q.require) from_list.2 in
+      let same_port : link_at old.links l.from l.require ≡ link_at old.links k.from k.require = ap (λ (q : Port). link_at old.links q.node q.require) from_list.2 in
       let both : Some l ≡ Some k = sym (link_at-own old.links l one l_there) ∙ same_port ∙ link_at-own old.links k one there in
       let same : l ≡ k = cc in
-      subst (λ m. ¬ IsKept old new m) same lost
+      subst (λ m. ¬ IsKeptLink old new m) same lost
 
   pub connections_after : (c : Connection) → ConnectionAfter old new p c ↔ IsConnected new c
   connections_after c = (to, from)
@@ -187,14 +189,14 @@ module _ (old new : Configuration) (old_graph : IsGraph old) (new_graph : IsGrap
             | inl (l, l_there, same) ↦ (l, l_there, same_connection old new k l c same made)
             | inr lost ↦ absurd (stays (unlinked k there lost))
           ]
-      to (inr (l, there, made)) = (l, Selects-part (λ m. ¬ IsKept new old m) new.links p.link plan.link l there, made)
+      to (inr (l, there, made)) = (l, Selects-part (λ m. ¬ IsKeptLink new old m) new.links p.link plan.link l there, made)
 
       from : IsConnected new c → ConnectionAfter old new p c
       from (l, there, made) =
           elim (kept new old new_graph old_graph l there) [
             | inl (k, k_there, same) ↦
                 inl (k, k_there, same_connection new old l k c same made, λ at. unlinked_lost k k_there at (l, there, turned new old l k same))
-            | inr lost ↦ inr (l, Selects-has (λ m. ¬ IsKept new old m) new.links p.link plan.link l there lost, made)
+            | inr lost ↦ inr (l, Selects-has (λ m. ¬ IsKeptLink new old m) new.links p.link plan.link l there lost, made)
           ]
 
   -- a node that isn't frozen isn't touched
@@ -223,7 +225,7 @@ module _ (old new : Configuration) (old_graph : IsGraph old) (new_graph : IsGrap
   touched_frozen i touched = (plan.freeze i).1 (inl touched)
 
   -- a link that is gone begins at a frozen node
-  lost_frozen : (k : Link) → Contains old.links k → ¬ IsKept old new k → Contains p.freeze k.from
+  lost_frozen : (k : Link) → Contains old.links k → ¬ IsKeptLink old new k → Contains p.freeze k.from
   lost_frozen k there lost =
       let inside = All-contains (IsWithin old.nodes) old.links k old_graph.within there in
       let from = read old.nodes k.from (within_list requires_of old.nodes k.from k.require inside.begins) in
@@ -241,20 +243,20 @@ module _ (old new : Configuration) (old_graph : IsGraph old) (new_graph : IsGrap
             }))
       ]
 
-  pub unlinked_frozen : (q : OldPort) → Contains p.unlink q → Contains p.freeze q.node
+  pub unlinked_frozen : (q : Port) → Contains p.unlink q → Contains p.freeze q.node
   unlinked_frozen q there =
       let links = plan.unlink.0 in
       let from_list = map_Contains port_of links q (subst (λ ports. Contains ports q) plan.unlink.2 there) in
       let l = from_list.0 in
-      let lost = All-contains (λ m. ¬ IsKept old new m) links l (Selects-only (λ m. ¬ IsKept old new m) old.links links plan.unlink.1) from_list.1 in
-      let l_there = Selects-part (λ m. ¬ IsKept old new m) old.links links plan.unlink.1 l from_list.1 in
-      subst (λ (o : OldPort). Contains p.freeze o.node) from_list.2 (lost_frozen l l_there lost)
+      let lost = All-contains (λ m. ¬ IsKeptLink old new m) links l (Selects-only (λ m. ¬ IsKeptLink old new m) old.links links plan.unlink.1) from_list.1 in
+      let l_there = Selects-part (λ m. ¬ IsKeptLink old new m) old.links links plan.unlink.1 l from_list.1 in
+      subst (λ (o : Port). Contains p.freeze o.node) from_list.2 (lost_frozen l l_there lost)
 
   -- a link that is made begins at a created node or at a frozen one
-  pub linked_opened : (l : Link) → Contains p.link l → IsOpened old new p l.from
-  linked_opened l listed =
-      let there = Selects-part (λ m. ¬ IsKept new old m) new.links p.link plan.link l listed in
-      let lost = All-contains (λ m. ¬ IsKept new old m) p.link l (Selects-only (λ m. ¬ IsKept new old m) new.links p.link plan.link) listed in
+  pub linked_may_be : (l : Link) → Contains p.link l → MayBeRelinked old new p l.from
+  linked_may_be l listed =
+      let there = Selects-part (λ m. ¬ IsKeptLink new old m) new.links p.link plan.link l listed in
+      let lost = All-contains (λ m. ¬ IsKeptLink new old m) p.link l (Selects-only (λ m. ¬ IsKeptLink new old m) new.links p.link plan.link) listed in
       let inside = All-contains (IsWithin new.nodes) new.links l new_graph.within there in
       let low = within_list requires_of new.nodes l.from l.require inside.begins in
       let from = read new.nodes l.from low in

@@ -11,7 +11,7 @@ use Rattle.config_graph.proofs.IncomingLemmas.{link_at-own}
 use Rattle.config_graph.proofs.LinkLemmas.{begins_there, Contains-find, find_passes}
 use Rattle.config_graph.proofs.NumberingLemmas.{within_list}
 use Rattle.config_graph.proofs.OrderLemmas.{one_link-in_order}
-use Rattle.change_plan.specs.Differences.{IsGone, IsKept, IsTwin}
+use Rattle.change_plan.specs.Differences.{IsGone, IsKeptLink, IsTwin}
 use Rattle.change_plan.specs.Touched.{HasNewTarget, IsTouched, SameTarget}
 use Rattle.change_plan.proofs.NodeLemmas.{one_path}
 
@@ -65,7 +65,7 @@ pub begins_read : (g : Configuration) → IsGraph g → (k : Link) → Contains 
 begins_read g graph k there copy same n n_is = read_at copy g.nodes k.from n same (begins_low g graph k there copy same) n_is
 
 -- a link of a node that is gone is gone
-pub kept_none : (g h : Configuration) (k : Link) (n : Node) → slice_get g.nodes k.from ≡ Some n → (¬ Contains h.nodes n) → ¬ IsKept g h k
+pub kept_none : (g h : Configuration) (k : Link) (n : Node) → slice_get g.nodes k.from ≡ Some n → (¬ Contains h.nodes n) → ¬ IsKeptLink g h k
 kept_none g h k n here gone (l, l_there, same) =
     let node = one_node g.nodes k.from same.from.node n same.from.here here in
     gone (subst (Contains h.nodes) node (Contains-slice_get h.nodes l.from same.from.node same.from.there))
@@ -75,7 +75,7 @@ module _ (g h : Configuration) (g_graph : IsGraph g) (h_graph : IsGraph h) (k : 
   mine : target_of g.links k.from k.require ≡ Some (record { node = k.to; provide = k.provide })
   mine = own_target g g_graph k there
 
-  kept_to : (o : Option Target) → target_of h.links twin k.require ≡ o → SameTarget g h (target_of g.links k.from k.require) o → IsKept g h k
+  kept_to : (o : Option Target) → target_of h.links twin k.require ≡ o → SameTarget g h (target_of g.links k.from k.require) o → IsKeptLink g h k
   kept_to None e same = absurd (subst (λ t. SameTarget g h t None) mine same)
   kept_to (Some u) e same =
       let both = subst (λ t. SameTarget g h t (Some u)) mine same in (
@@ -89,7 +89,7 @@ module _ (g h : Configuration) (g_graph : IsGraph g) (h_graph : IsGraph h) (k : 
         },
       )
 
-  kept_from : IsKept g h k → SameTarget g h (target_of g.links k.from k.require) (target_of h.links twin k.require)
+  kept_from : IsKeptLink g h k → SameTarget g h (target_of g.links k.from k.require) (target_of h.links twin k.require)
   kept_from (l, l_there, same) =
       let node = one_node g.nodes k.from same.from.node n same.from.here here in
       let place : l.from ≡ twin = one_path h.nodes h_graph.paths_rise l.from twin same.from.node n same.from.there stays (ap (λ (m : Node). m.path) node) in
@@ -97,7 +97,7 @@ module _ (g h : Configuration) (g_graph : IsGraph g) (h_graph : IsGraph h) (k : 
       let both : SameTarget g h (Some (record { node = k.to; provide = k.provide })) (Some (record { node = l.to; provide = l.provide })) = (same.to, same.provide) in
       subst (λ t. SameTarget g h t (target_of h.links twin k.require)) (sym mine) (subst (SameTarget g h (Some (record { node = k.to; provide = k.provide }))) (sym theirs) both)
 
-  pub kept_some : SameTarget g h (target_of g.links k.from k.require) (target_of h.links twin k.require) ↔ IsKept g h k
+  pub kept_some : SameTarget g h (target_of g.links k.from k.require) (target_of h.links twin k.require) ↔ IsKeptLink g h k
   kept_some = (kept_to (target_of h.links twin k.require) refl, kept_from)
 
 -- a node that isn't in the other configuration is touched

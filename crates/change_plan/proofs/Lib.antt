@@ -6,4 +6,4 @@ pub mod PlanningLemmas
 pub mod ApplyingLemmas
 pub mod RoomLaws
 pub mod RefusalLemmas
-pub mod TotalLemmas
+pub mod ExistenceLemmas

@@ -1,4 +1,4 @@
--- Lemmas on moves, and on what is noted of them.
+-- Lemmas on moves, and on what is marked of them.
 use Rattle.std.proofs.Common.{◌≡◌, ◌⊎◌, ◌↔◌, ℕ, ◌+◌, ◌<◌, ◌≤◌, Bool, true, false, List, [], ◌∷◌, ◌++◌, length, map, set, take, get_or, Option, Some, None, slice_get, refl, sym, ◌∙◌, ap, subst, inl, inr, arith, All, Any, Contains, Decides, is_some, get_or-set_other, rules}
 use Rattle.std.proofs.Math.ListN.{length-set}
 use Rattle.std.specs.Cmp.Rules.{comparing}
@@ -13,7 +13,7 @@ use Rattle.config_graph.specs.contracts.kind.KindPartialEq as kind_eq
 use Rattle.config_graph.specs.declared.kind.Kind.{Kind}
 use Rattle.config_graph.specs.declared.node.Node.{Node}
 use Rattle.change_plan.specs.Moves.{IsFit, IsGoneAt, IsOfOneKind, IsPathGone, IsShift, IsShifts, MoveLeads, MayMove, MayMoveAll, MovesFrom, MovesTo}
-use Rattle.change_plan.specs.Noted.{IsMovedFrom, IsNoted}
+use Rattle.change_plan.specs.MoveEnds.{IsMovedFrom, MarksEnds}
 use Rattle.change_plan.specs.Refusals.{FirstMoveFault, KindsDifferIn, MoveFault}
 use Rattle.change_plan.specs.declared.error.PlanError.{PlanError}
 use Rattle.change_plan.specs.declared.error.PlanError.TheVariants.{NoMemory}
@@ -103,12 +103,12 @@ module _ (old new : Configuration) (before : List Move) (m : Move) (s : Shift) w
       from (inl h) = record { move = h.move; there = Contains-append_left before (m ∷ []) h.move h.there; leads = h.leads }
       from (inr h) = record { move = m; there = Contains-push before m; leads = h }
 
-module _ (old new : Configuration) (old_graph : IsGraph old) (new_graph : IsGraph new) (before : List Move) (sources : List Bool) (targets : List (Option ℕ)) (noted : IsNoted old new before sources targets) (m : Move) (i j : ℕ) (leads : MoveLeads old new m i j) where
+module _ (old new : Configuration) (old_graph : IsGraph old) (new_graph : IsGraph new) (before : List Move) (sources : List Bool) (targets : List (Option ℕ)) (marked : MarksEnds old new before sources targets) (m : Move) (i j : ℕ) (leads : MoveLeads old new m i j) where
   -- an earlier move from the same path goes from the same node
   from_shift : MovesFrom before m.from → IsMovedFrom old new before i
   from_shift (k, b, low, at, same) =
       let there : Contains before b = (k, low, at) in
-      let fit = All-contains (IsFit old new) before b noted.fit there in
+      let fit = All-contains (IsFit old new) before b marked.fit there in
       let place : fit.source ≡ i = one_gone old new old_graph m.from fit.source i (subst (λ p. IsGoneAt old new p fit.source) same fit.leads.removed) leads.removed in
       (fit.target, record { move = b; there = there; leads = subst (λ x. MoveLeads old new b x fit.target) place fit.leads })
 
@@ -120,7 +120,7 @@ module _ (old new : Configuration) (old_graph : IsGraph old) (new_graph : IsGrap
   to_shift : MovesTo before m.to → (k : ℕ) × IsShift old new before (record { old = k; new = j })
   to_shift (k, b, low, at, same) =
       let there : Contains before b = (k, low, at) in
-      let fit = All-contains (IsFit old new) before b noted.fit there in
+      let fit = All-contains (IsFit old new) before b marked.fit there in
       let place : fit.target ≡ j = one_gone new old new_graph m.to fit.target j (subst (λ p. IsGoneAt new old p fit.target) same fit.leads.created) leads.created in
       (fit.source, record { move = b; there = there; leads = subst (MoveLeads old new b fit.source) place fit.leads })
 
@@ -131,34 +131,34 @@ module _ (old new : Configuration) (old_graph : IsGraph old) (new_graph : IsGrap
 
   -- the source's mark is set where an earlier move has the source
   pub repeated_source : get_or sources i false ≡ true → MovesFrom before m.from
-  repeated_source mark = shift_from ((noted.sources_are i).0 mark)
+  repeated_source mark = shift_from ((marked.sources_are i).0 mark)
 
   pub other_source : get_or sources i false ≡ false → ¬ MovesFrom before m.from
-  other_source unset moves = false≢true (sym unset ∙ (noted.sources_are i).1 (from_shift moves))
+  other_source unset moves = false≢true (sym unset ∙ (marked.sources_are i).1 (from_shift moves))
 
   pub repeated_target : (k : ℕ) → get_or targets j None ≡ Some k → MovesTo before m.to
-  repeated_target k found = shift_to k ((noted.targets_are k j).0 found)
+  repeated_target k found = shift_to k ((marked.targets_are k j).0 found)
 
   pub other_target : get_or targets j None ≡ None → ¬ MovesTo before m.to
   other_target unset moves =
       let shift = to_shift moves in
-      none-some shift.0 (sym unset ∙ (noted.targets_are shift.0 j).1 shift.1)
+      none-some shift.0 (sym unset ∙ (marked.targets_are shift.0 j).1 shift.1)
 
-  -- what is noted after one move more
-  pub noted_more : IsFit old new m → get_or targets j None ≡ None → IsNoted old new (before ++ m ∷ []) (set sources i true) (set targets j (Some i))
-  noted_more fit unset = record {
-    fit = All-push (IsFit old new) before m noted.fit fit;
-    sources_length = length-set sources i true ∙ noted.sources_length;
-    targets_length = length-set targets j (Some i) ∙ noted.targets_length;
+  -- what is marked after one move more
+  pub marked_more : IsFit old new m → get_or targets j None ≡ None → MarksEnds old new (before ++ m ∷ []) (set sources i true) (set targets j (Some i))
+  marked_more fit unset = record {
+    fit = All-push (IsFit old new) before m marked.fit fit;
+    sources_length = length-set sources i true ∙ marked.sources_length;
+    targets_length = length-set targets j (Some i) ∙ marked.targets_length;
     sources_are = λ x. (source_to x, source_from x);
     targets_are = λ x y. (target_to x y, target_from x y);
   }
     where
       i_low : i < length sources
-      i_low = omega (arith, slice_get_within old.nodes i leads.removed.node leads.removed.here, noted.sources_length)
+      i_low = omega (arith, slice_get_within old.nodes i leads.removed.node leads.removed.here, marked.sources_length)
 
       j_low : j < length targets
-      j_low = omega (arith, slice_get_within new.nodes j leads.created.node leads.created.here, noted.targets_length)
+      j_low = omega (arith, slice_get_within new.nodes j leads.created.node leads.created.here, marked.targets_length)
 
       more : (x y : ℕ) → IsShift old new (before ++ m ∷ []) (record { old = x; new = y }) ↔ (IsShift old new before (record { old = x; new = y }) ⊎ MoveLeads old new m x y)
       more x y = IsShift_more old new before m (record { old = x; new = y })
@@ -168,7 +168,7 @@ module _ (old new : Configuration) (old_graph : IsGraph old) (new_graph : IsGrap
           elim (cases_eq x i) [
             | inl same ↦ (j, (more x j).1 (inr (subst (λ y. MoveLeads old new m y j) (sym same) leads)))
             | inr apart ↦
-                let earlier = (noted.sources_are x).0 (sym (get_or-set_other sources i x true false apart) ∙ mark) in
+                let earlier = (marked.sources_are x).0 (sym (get_or-set_other sources i x true false apart) ∙ mark) in
                 (earlier.0, (more x earlier.0).1 (inl earlier.1))
           ]
 
@@ -178,7 +178,7 @@ module _ (old new : Configuration) (old_graph : IsGraph old) (new_graph : IsGrap
             | inl same ↦ get_or-set_at sources i x true false same i_low
             | inr apart ↦
                 elim ((more x y).0 shift) [
-                  | inl earlier ↦ get_or-set_other sources i x true false apart ∙ (noted.sources_are x).1 (y, earlier)
+                  | inl earlier ↦ get_or-set_other sources i x true false apart ∙ (marked.sources_are x).1 (y, earlier)
                   | inr here ↦ absurd (apart (one_gone old new old_graph m.from x i here.removed leads.removed))
                 ]
           ]
@@ -191,7 +191,7 @@ module _ (old new : Configuration) (old_graph : IsGraph old) (new_graph : IsGrap
                 let source : i ≡ x = cc in
                 (more x y).1 (inr (subst (λ z. MoveLeads old new m x z) (sym same) (subst (λ z. MoveLeads old new m z j) source leads)))
             | inr apart ↦
-                (more x y).1 (inl ((noted.targets_are x y).0 (sym (get_or-set_other targets j y (Some i) None apart) ∙ found)))
+                (more x y).1 (inl ((marked.targets_are x y).0 (sym (get_or-set_other targets j y (Some i) None apart) ∙ found)))
           ]
 
       target_from : (x y : ℕ) → IsShift old new (before ++ m ∷ []) (record { old = x; new = y }) → get_or (set targets j (Some i)) y None ≡ Some x
@@ -200,7 +200,7 @@ module _ (old new : Configuration) (old_graph : IsGraph old) (new_graph : IsGrap
             | inl earlier ↦
                 elim (cases_eq y j) [
                   | inl same ↦ absurd (other_target unset (shift_to x (subst (λ z. IsShift old new before (record { old = x; new = z })) same earlier)))
-                  | inr apart ↦ get_or-set_other targets j y (Some i) None apart ∙ (noted.targets_are x y).1 earlier
+                  | inr apart ↦ get_or-set_other targets j y (Some i) None apart ∙ (marked.targets_are x y).1 earlier
                 ]
             | inr here ↦
                 let place : y ≡ j = one_gone new old new_graph m.to y j here.created leads.created in
@@ -279,11 +279,11 @@ module _ (targets : List (Option ℕ)) (n : ℕ) (shifts : List Shift) (so_far :
             | inr high ↦ absurd (none-some s.old (sym (get_or_past targets s.new None high) ∙ found))
           ]
 
--- what was noted of all moves, listed
-pub shifts_are : (old new : Configuration) (moves : List Move) (sources : List Bool) (targets : List (Option ℕ)) (shifts : List Shift) → IsNoted old new moves sources targets → ((s : Shift) → Contains shifts s ↔ (get_or targets s.new None ≡ Some s.old)) → IsStrictlyIncreasing (map (λ s. s.new) shifts) → IsShifts old new moves shifts
-shifts_are old new moves sources targets shifts noted listed rise = record {
-  sound = λ s there. (noted.targets_are s.old s.new).0 ((listed s).0 there);
-  complete = λ s shift. (listed s).1 ((noted.targets_are s.old s.new).1 shift);
+-- what was marked of all moves, listed
+pub shifts_are : (old new : Configuration) (moves : List Move) (sources : List Bool) (targets : List (Option ℕ)) (shifts : List Shift) → MarksEnds old new moves sources targets → ((s : Shift) → Contains shifts s ↔ (get_or targets s.new None ≡ Some s.old)) → IsStrictlyIncreasing (map (λ s. s.new) shifts) → IsShifts old new moves shifts
+shifts_are old new moves sources targets shifts marked listed rise = record {
+  sound = λ s there. (marked.targets_are s.old s.new).0 ((listed s).0 there);
+  complete = λ s shift. (listed s).1 ((marked.targets_are s.old s.new).1 shift);
   rise = rise;
 }
 
@@ -308,16 +308,16 @@ module _ (old new : Configuration) (moves : List Move) (k : ℕ) (m : Move) (low
   pub move_at : slice_get moves k ≡ Some m
   move_at = slice_get-get_or moves k m low ∙ ap Some (sym m_is)
 
-  -- what is noted of the first moves and of this one is noted of one move more
-  pub noted_next : (sources : List Bool) (targets : List (Option ℕ)) → IsNoted old new (take k moves ++ m ∷ []) sources targets → IsNoted old new (take (k + 1) moves) sources targets
-  noted_next sources targets noted =
+  -- what is marked of the first moves and of this one is marked of one move more
+  pub marked_next : (sources : List Bool) (targets : List (Option ℕ)) → MarksEnds old new (take k moves ++ m ∷ []) sources targets → MarksEnds old new (take (k + 1) moves) sources targets
+  marked_next sources targets marked =
       let more = take_more moves k m low ∙ ap (λ x. take k moves ++ x ∷ []) (sym m_is) in
-      subst (λ before. IsNoted old new before sources targets) (sym more) noted
+      subst (λ before. MarksEnds old new before sources targets) (sym more) marked
 
 -- where all were looked at
-pub noted_all : (old new : Configuration) (moves : List Move) (k : ℕ) (sources : List Bool) (targets : List (Option ℕ)) → length moves ≤ k → IsNoted old new (take k moves) sources targets → IsNoted old new moves sources targets
-noted_all old new moves k sources targets all noted =
-    subst (λ before. IsNoted old new before sources targets) (take_all k moves all) noted
+pub marked_all : (old new : Configuration) (moves : List Move) (k : ℕ) (sources : List Bool) (targets : List (Option ℕ)) → length moves ≤ k → MarksEnds old new (take k moves) sources targets → MarksEnds old new moves sources targets
+marked_all old new moves k sources targets all marked =
+    subst (λ before. MarksEnds old new before sources targets) (take_all k moves all) marked
 
 pub may_move_all : (old new : Configuration) (moves : List Move) (k : ℕ) → length moves ≤ k → MayMoveAll old new moves k → MayMoveAll old new moves (length moves)
 may_move_all old new moves k all may j m low at = may j m (omega (arith, low, all)) at

@@ -12,11 +12,11 @@ use Rattle.config_graph.specs.Reach.{Enlarged}
 use Rattle.config_graph.specs.declared.node.Link.{Link}
 use Rattle.config_graph.specs.declared.node.Node.{Node}
 use Rattle.config_graph.proofs.NumberingLemmas.{length-ports}
-use Rattle.change_plan.specs.Differences.{GoneLinks, GoneNodes, GonePorts, IsGone, IsKept, port_of}
+use Rattle.change_plan.specs.Differences.{GoneLinks, GoneNodes, GonePorts, IsGone, IsKeptLink, port_of}
 use Rattle.change_plan.specs.Selects.{Selects}
-use Rattle.change_plan.specs.declared.plan_data.OldPort.{OldPort}
+use Rattle.config_graph.specs.declared.node.Port.{Port}
 use Rattle.change_plan.specs.Selects.Selects.{ends, takes, skips}
-use Rattle.change_plan.specs.Touched.{IsTouched}
+use Rattle.change_plan.specs.Touched.{Frozen, IsTouched}
 use Rattle.change_plan.proofs.SelectsLemmas.{Contains-places, Selects-has, Selects-only, places_more, sum_by-Selects}
 
 -- what each element has, each of a part has; and a part is no longer than the whole
@@ -71,11 +71,11 @@ module _ (g h : Configuration) (graph : IsGraph g) (gone : List ℕ) (selected :
 -- the links that are gone, and their ports, are in the graph
 module _ (g h : Configuration) (graph : IsGraph g) where
   pub gone_links_within : (links : List Link) → GoneLinks g h links → All (IsWithin g.nodes) links
-  gone_links_within links selected_ = All-Selects (λ k. ¬ IsKept g h k) (IsWithin g.nodes) g.links links selected_ graph.within
+  gone_links_within links selected_ = All-Selects (λ k. ¬ IsKeptLink g h k) (IsWithin g.nodes) g.links links selected_ graph.within
 
-  pub gone_ports_within : (ports_ : List OldPort) → GonePorts g h ports_ → All (λ q. q.require < requires_at g.nodes q.node) ports_
+  pub gone_ports_within : (ports_ : List Port) → GonePorts g h ports_ → All (λ q. q.require < requires_at g.nodes q.node) ports_
   gone_ports_within ports_ (links, selected_, are) =
-      All-same (λ q. q.require < requires_at g.nodes q.node) ports_ (map port_of links) are (All-map (λ (q : OldPort). q.require < requires_at g.nodes q.node) port_of links (All-weaker (IsWithin g.nodes) (λ (l : Link). l.require < requires_at g.nodes l.from) (λ l inside. inside.begins) links (gone_links_within links selected_)))
+      All-same (λ q. q.require < requires_at g.nodes q.node) ports_ (map port_of links) are (All-map (λ (q : Port). q.require < requires_at g.nodes q.node) port_of links (All-weaker (IsWithin g.nodes) (λ (l : Link). l.require < requires_at g.nodes l.from) (λ l inside. inside.begins) links (gone_links_within links selected_)))
 
 -- the nodes that are touched, as a list of all of them
 module _ (old new : Configuration) (touched : List ℕ) (selected : Selects (IsTouched old new) (range_with_len 0 (length old.nodes)) touched) where
@@ -92,7 +92,7 @@ module _ (old new : Configuration) (touched : List ℕ) (selected : Selects (IsT
   touches : (i : ℕ) → Contains touched i → IsTouched old new i
   touches i there = All-contains (IsTouched old new) touched i (Selects-only (IsTouched old new) (range_with_len 0 (length old.nodes)) touched selected) there
 
-  pub enlarged_touched : (i : ℕ) → Enlarged old (Contains touched) i ↔ Enlarged old (IsTouched old new) i
+  pub enlarged_touched : (i : ℕ) → Enlarged old (Contains touched) i ↔ Frozen old new i
   enlarged_touched i = (Enlarged-more (Contains touched) (IsTouched old new) touches i, Enlarged-more (IsTouched old new) (Contains touched) listed i)
     where
       Enlarged-more : (P Q : ℕ → Type 0) → ((n : ℕ) → P n → Q n) → (i : ℕ) → Enlarged old P i → Enlarged old Q i

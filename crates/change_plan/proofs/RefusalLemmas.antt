@@ -1,14 +1,13 @@
 -- Lemmas on refusals: there is one at most, and none where a plan can be made.
-use Rattle.std.proofs.Common.{◌≡◌, ◌⊎◌, ℕ, ◌+◌, ◌<◌, ◌≤◌, List, length, take, Some, slice_get, sym, ◌∙◌, ap, subst, inl, inr, arith, sum_by}
+use Rattle.std.proofs.Common.{◌≡◌, ◌⊎◌, ℕ, ◌<◌, List, length, take, Some, slice_get, sym, ◌∙◌, ap, subst, inl, inr, arith, sum_by}
 use Rattle.std.proofs.lemmas.Bool.{cases_eq, cases_lt}
 use Rattle.std.proofs.lemmas.Option.{slice_get_within}
-use Rattle.std.specs.List.{range_with_len}
 use Rattle.config_graph.specs.Graph.{Configuration, IsGraph, requires_at}
 use Rattle.config_graph.specs.declared.node.Made.{Made}
 use Rattle.config_graph.specs.declared.node.Node.{Node}
-use Rattle.change_plan.specs.Differences.{GoneNodes, IsGone}
+use Rattle.change_plan.specs.Differences.{GoneNodes}
 use Rattle.change_plan.specs.Moves.{IsFit, MayMove, MayMoveAll}
-use Rattle.change_plan.specs.Refusals.{CanPlan, FirstMoveFault, IsRefusal, IsWanted, KindsDifferIn, MoveFault, Repeats}
+use Rattle.change_plan.specs.Refusals.{CanPlan, FirstMoveFault, IsRefusal, CreatesSoMany, KindsDifferIn, MoveFault, Repeats}
 use Rattle.change_plan.specs.Room.{RoomFault}
 use Rattle.change_plan.specs.declared.error.PlanError.{PlanError}
 use Rattle.change_plan.specs.declared.error.PlanError.TheVariants.{NotRemoved, NotCreated, KindsDiffer, MovedTwice, NodesFull, PortsFull, NoMemory}
@@ -124,7 +123,7 @@ pub move_refused : (old new : Configuration) (moves : List Move) (made : Made) (
 move_refused old new moves made d (inl memory) = inl memory
 move_refused old new moves made d (inr first) = inr (inl first)
 
-pub wanted_by : (old new : Configuration) (created create : List ℕ) → create ≡ created → GoneNodes new old created → IsWanted old new (length create) (sum_by (requires_at new.nodes) create)
+pub wanted_by : (old new : Configuration) (created create : List ℕ) → create ≡ created → GoneNodes new old created → CreatesSoMany old new (length create) (sum_by (requires_at new.nodes) create)
 wanted_by old new created create same gone = record {
   created = created;
   gone = gone;

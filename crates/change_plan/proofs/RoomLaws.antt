@@ -1,20 +1,20 @@
 -- Laws of room: so many nodes and ports are wanted and no others; there is room or there isn't, never both, and where there is
 -- none the refusal is one.
-use Rattle.std.proofs.Common.{◌≡◌, ◌⊎◌, ◌∙◌, ◌+◌, ◌≤◌, ℕ, Result, Ok, Err, IfErr, IsOk, OnOk, ap, arith, length, sum_by, inl, inr, refl, sym}
+use Rattle.std.proofs.Common.{◌≡◌, ◌⊎◌, ◌∙◌, ◌+◌, ℕ, Result, Ok, Err, IfErr, IsOk, OnOk, ap, arith, length, sum_by, inl, inr, refl, sym}
 use Rattle.std.specs.List.{range_with_len}
 use Rattle.std.proofs.lemmas.Bool.{cases_lt}
 use Rattle.config_graph.specs.Graph.{Configuration, requires_at}
 use Rattle.config_graph.specs.declared.TheConstants.{MAX_NODES, MAX_PORTS}
 use Rattle.config_graph.specs.declared.node.Made.{Made}
 use Rattle.change_plan.specs.Differences.{IsGone}
-use Rattle.change_plan.specs.Refusals.{IsWanted}
+use Rattle.change_plan.specs.Refusals.{CreatesSoMany}
 use Rattle.change_plan.specs.Room.{HasRoom, RoomFault}
 use Rattle.change_plan.specs.declared.error.PlanError.{PlanError}
 use Rattle.change_plan.specs.declared.error.PlanError.TheVariants.{NotRemoved, NotCreated, KindsDiffer, MovedTwice, NodesFull, PortsFull, NoMemory}
 use Rattle.change_plan.proofs.SelectsLemmas.{Selects-one}
 
 -- how much is wanted
-pub one_wanted : (old new : Configuration) (n p m q : ℕ) → IsWanted old new n p → IsWanted old new m q → (n ≡ m) × (p ≡ q)
+pub one_wanted : (old new : Configuration) (n p m q : ℕ) → CreatesSoMany old new n p → CreatesSoMany old new m q → (n ≡ m) × (p ≡ q)
 one_wanted old new n p m q a b =
     let same : a.created ≡ b.created = Selects-one (IsGone new old) (range_with_len 0 (length new.nodes)) a.created b.created a.gone b.gone in
     (a.nodes_are ∙ ap length same ∙ sym b.nodes_are, a.ports_are ∙ ap (sum_by (requires_at new.nodes)) same ∙ sym b.ports_are)

@@ -1,11 +1,10 @@
 -- What is there after a plan's steps: nodes as they are, by path, kind and argument, and connections between such nodes.
-use Rattle.std.specs.Prelude.{◌≡◌, ◌<◌, ◌⊎◌, ◌↔◌, ℕ, List, Some, slice_get, Contains}
+use Rattle.std.specs.Prelude.{◌≡◌, ◌<◌, ◌⊎◌, ℕ, List, Some, slice_get, Contains}
 use Rattle.config_graph.specs.Graph.{Configuration, requires_at, target_of}
-use Rattle.config_graph.specs.Reach.{Enlarged}
 use Rattle.config_graph.specs.declared.node.Link.{Link}
 use Rattle.config_graph.specs.declared.node.Node.{Node}
-use Rattle.change_plan.specs.Differences.{GoneLinks, GoneNodes, GonePorts, IsTwin, port_of}
-use Rattle.change_plan.specs.Touched.{IsTouched, SameTarget}
+use Rattle.change_plan.specs.Differences.{IsTwin, port_of}
+use Rattle.change_plan.specs.Touched.{SameTarget}
 use Rattle.change_plan.specs.declared.plan_data.Plan.{Plan}
 
 -- a node's requirement is connected to a node's provision
@@ -26,20 +25,12 @@ abbrev pub IsConnected : Configuration → Connection → Type 0
 IsConnected g c = (l : Link) × Contains g.links l × Connects g l c
 
 -- one of these places of g has the node
-abbrev pub IsListed : Configuration → List ℕ → Node → Type 0
-IsListed g places n = (i : ℕ) × Contains places i × (slice_get g.nodes i ≡ Some n)
-
--- the steps of a plan between two configurations
-pub record IsPlan (old new : Configuration) (p : Plan) : Type 0 where
-  pub unlink : GonePorts old new p.unlink
-  pub remove : GoneNodes old new p.remove
-  pub create : GoneNodes new old p.create
-  pub link : GoneLinks new old p.link
-  pub freeze : (i : ℕ) → Contains p.freeze i ↔ Enlarged old (IsTouched old new) i
+abbrev pub IsAtOneOf : Configuration → List ℕ → Node → Type 0
+IsAtOneOf g places n = (i : ℕ) × Contains places i × (slice_get g.nodes i ≡ Some n)
 
 -- a node that was there and isn't removed, or that is created
 abbrev pub NodeAfter : Configuration → Configuration → Plan → Node → Type 0
-NodeAfter old new p n = (Contains old.nodes n × (¬ IsListed old p.remove n)) ⊎ IsListed new p.create n
+NodeAfter old new p n = (Contains old.nodes n × (¬ IsAtOneOf old p.remove n)) ⊎ IsAtOneOf new p.create n
 
 -- a connection that was there and isn't unlinked, or that is linked
 abbrev pub ConnectionAfter : Configuration → Configuration → Plan → Connection → Type 0
@@ -53,5 +44,5 @@ pub record KeepsItsLinks (old new : Configuration) (i : ℕ) : Type 0 where
   pub same : (r : ℕ) → r < requires_at old.nodes i → SameTarget old new (target_of old.links i r) (target_of new.links twin r)
 
 -- node j of the new configuration is created, or is there already and frozen
-abbrev pub IsOpened : Configuration → Configuration → Plan → ℕ → Type 0
-IsOpened old new p j = Contains p.create j ⊎ ((i : ℕ) × IsTwin old new i j × Contains p.freeze i)
+abbrev pub MayBeRelinked : Configuration → Configuration → Plan → ℕ → Type 0
+MayBeRelinked old new p j = Contains p.create j ⊎ ((i : ℕ) × IsTwin old new i j × Contains p.freeze i)

@@ -6,7 +6,7 @@ use Rattle.config_graph.specs.Graph.{Configuration}
 use Rattle.config_graph.specs.declared.node.Link.{Link}
 use Rattle.config_graph.specs.declared.node.Node.{Node}
 use Rattle.change_plan.specs.Selects.{Selects}
-use Rattle.change_plan.specs.declared.plan_data.OldPort.{OldPort}
+use Rattle.config_graph.specs.declared.node.Port.{Port}
 
 -- node i of g and node j of h are the same
 pub record IsTwin (g h : Configuration) (i j : ℕ) : Type 0 where
@@ -27,8 +27,8 @@ pub record IsSameLink (g h : Configuration) (k l : Link) : Type 0 where
   pub to : IsTwin g h k.to l.to
   pub provide : k.provide ≡ l.provide
 
-abbrev pub IsKept : Configuration → Configuration → Link → Type 0
-IsKept g h k = (l : Link) × Contains h.links l × IsSameLink g h k l
+abbrev pub IsKeptLink : Configuration → Configuration → Link → Type 0
+IsKeptLink g h k = (l : Link) × Contains h.links l × IsSameLink g h k l
 
 -- the nodes of g that aren't in h, by their places in g
 abbrev pub GoneNodes : Configuration → Configuration → List ℕ → Type 0
@@ -36,11 +36,11 @@ GoneNodes g h nodes = Selects (IsGone g h) (range_with_len 0 (length g.nodes)) n
 
 -- the links of g that aren't in h
 abbrev pub GoneLinks : Configuration → Configuration → List Link → Type 0
-GoneLinks g h links = Selects (λ k. ¬ IsKept g h k) g.links links
+GoneLinks g h links = Selects (λ k. ¬ IsKeptLink g h k) g.links links
 
 -- the ports at which they begin
-abbrev pub port_of : Link → OldPort
+abbrev pub port_of : Link → Port
 port_of l = record { node = l.from; require = l.require }
 
-abbrev pub GonePorts : Configuration → Configuration → List OldPort → Type 0
+abbrev pub GonePorts : Configuration → Configuration → List Port → Type 0
 GonePorts g h ports = (links : List Link) × GoneLinks g h links × (ports ≡ map port_of links)

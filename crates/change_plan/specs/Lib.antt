@@ -1,9 +1,10 @@
 pub mod Applying
 pub mod Differences
+pub mod MoveEnds
 pub mod Moves
-pub mod Noted
 pub mod PlanText
 pub mod PlanWithin
+pub mod Plans
 pub mod Refusals
 pub mod Room
 pub mod Selects

@@ -5,7 +5,7 @@ use Rattle.config_graph.specs.Graph.{Configuration}
 use Rattle.config_graph.specs.GraphText.{end_text, kind_text, provide_name, require_name}
 use Rattle.config_graph.specs.declared.node.Link.{Link}
 use Rattle.config_graph.specs.declared.node.Node.{Node}
-use Rattle.change_plan.specs.declared.plan_data.OldPort.{OldPort}
+use Rattle.config_graph.specs.declared.node.Port.{Port}
 use Rattle.change_plan.specs.declared.plan_data.Plan.{Plan}
 
 -- a text of node i
@@ -24,7 +24,7 @@ abbrev pub node_line : List ℕ → Configuration → ℕ → List ℕ
 node_line word g i = word ++ at_node (λ n. n.path) g i ++ codes "\n"
 
 -- `unlink PATH.REQUIRE`
-abbrev pub unlink_line : Configuration → OldPort → List ℕ
+abbrev pub unlink_line : Configuration → Port → List ℕ
 unlink_line old p = codes "unlink " ++ port_text old p.node p.require ++ codes "\n"
 
 -- `create PATH KIND(ARG)`

@@ -42,7 +42,7 @@ pub record FirstMoveFault (old new : Configuration) (moves : List Move) (e : Pla
   pub fault : MoveFault old new (take count moves) move e
 
 -- how many nodes and ports are to be created
-pub record IsWanted (old new : Configuration) (nodes ports : ℕ) : Type 0 where
+pub record CreatesSoMany (old new : Configuration) (nodes ports : ℕ) : Type 0 where
   pub created : List ℕ
   pub gone : GoneNodes new old created
   pub nodes_are : nodes ≡ length created
@@ -51,14 +51,14 @@ pub record IsWanted (old new : Configuration) (nodes ports : ℕ) : Type 0 where
 -- why these can't be planned
 abbrev pub IsRefusal : Configuration → Configuration → List Move → Made → PlanError → Type 0
 IsRefusal old new moves made e =
-    FirstMoveFault old new moves e ⊎ (MayMoveAll old new moves (length moves) × ((nodes : ℕ) × (ports : ℕ) × IsWanted old new nodes ports × RoomFault made nodes ports e))
+    FirstMoveFault old new moves e ⊎ (MayMoveAll old new moves (length moves) × ((nodes : ℕ) × (ports : ℕ) × CreatesSoMany old new nodes ports × RoomFault made nodes ports e))
 
 -- nothing stands against a plan
 pub record CanPlan (old new : Configuration) (moves : List Move) (made : Made) : Type 0 where
   pub may_move : MayMoveAll old new moves (length moves)
   pub nodes : ℕ
   pub ports : ℕ
-  pub wanted : IsWanted old new nodes ports
+  pub wanted : CreatesSoMany old new nodes ports
   pub room : HasRoom made nodes ports
 
 -- the answer is this refusal, unless memory ran out

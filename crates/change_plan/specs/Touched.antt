@@ -1,6 +1,8 @@
--- The nodes of the old configuration that a change touches (Kramer and Magee 1990): they have to be quiescent for it.
+-- The nodes of the old configuration that a change touches, which have to be quiescent for it, and those that it freezes, so that
+-- these become quiescent (Kramer and Magee 1990).
 use Rattle.std.specs.Prelude.{◌≡◌, ◌<◌, ◌⊎◌, ℕ, Option, Some, None}
 use Rattle.config_graph.specs.Graph.{Configuration, requires_at, target_of}
+use Rattle.config_graph.specs.Reach.{Enlarged}
 use Rattle.config_graph.specs.declared.node.Target.{Target}
 use Rattle.change_plan.specs.Differences.{IsGone, IsTwin}
 
@@ -22,3 +24,7 @@ pub record HasNewTarget (g h : Configuration) (i : ℕ) : Type 0 where
 -- node i is removed, or stays and has a port whose target differs
 abbrev pub IsTouched : Configuration → Configuration → ℕ → Type 0
 IsTouched old new i = IsGone old new i ⊎ HasNewTarget old new i
+
+-- node i is frozen: it is touched, or has a port that reaches a touched node in the old configuration
+abbrev pub Frozen : Configuration → Configuration → ℕ → Type 0
+Frozen old new i = Enlarged old (IsTouched old new) i

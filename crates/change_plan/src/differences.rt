@@ -2,11 +2,11 @@
 
 ghost use Rattle.std.specs.Prelude.{◌≡◌, ◌↔◌, Some, Contains, IfNone, IfOk, IfSome, IsTrue, map, slice_get};
 ghost use Rattle.config_graph.specs.Graph.{IsGraph};
-ghost use Rattle.change_plan.specs.Differences.{GoneLinks, GoneNodes, GonePorts, IsKept, port_of};
+ghost use Rattle.change_plan.specs.Differences.{GoneLinks, GoneNodes, GonePorts, IsKeptLink, port_of};
 
 use crate::OldPort;
 use crate::touching::has_same_target;
-use config_graph::{Graph, Link, NoMemory, Node};
+use config_graph::{Graph, Link, NoMemory, Node, Port};
 use std::alloc::Global;
 
 /// The node of a graph that is the same as this one.
@@ -38,7 +38,7 @@ pub(crate) fn list_gone(alloc: Global, graph: &Graph, other: &Graph) -> Result<V
 /// Whether a link of a graph is in another one.
 fn is_kept(graph: &Graph, other: &Graph, link: &Link) -> bool
     requires { Contains graph.now.links link.now }
-    ensures { IsTrue result ↔ IsKept graph.now other.now link.now }
+    ensures { IsTrue result ↔ IsKeptLink graph.now other.now link.now }
 {
     let node = &graph.nodes()[link.from as usize];
     match twin_of(other, node) {
@@ -82,7 +82,7 @@ fn list_ports(alloc: Global, links: &[Link]) -> Result<Vec<OldPort>, NoMemory>
 {
     links
         .iter()
-        .map(|link| OldPort {
+        .map(|link| Port {
             node: link.from,
             require: link.require,
         })

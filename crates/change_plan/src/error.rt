@@ -2,30 +2,23 @@
 
 use config_graph::Text;
 use std::alloc::{AllocError, AllocFailed};
-use thiserror::Error;
 
 /// The first move that can't be made, and in it the first fault; or else that too much would be made.
-#[derive(Debug, Drop, Error)]
+#[derive(Debug, Drop)]
 pub enum PlanError {
     /// A move's source isn't the path of a node that is removed.
-    #[error("a move's source isn't removed")]
     NotRemoved(Text),
     /// A move's target isn't the path of a node that is created.
-    #[error("a move's target isn't created")]
     NotCreated(Text),
     /// A move leads from a node to one of another kind.
-    #[error("a move's source and target differ in kind")]
     KindsDiffer(Text, Text),
     /// Two moves have this source, or this target.
-    #[error("a path is moved twice")]
     MovedTwice(Text),
     /// With the nodes that were made there would be too many.
-    #[error("{made} nodes made and {wanted} wanted are too many")]
     NodesFull { made: u32, wanted: u32 },
     /// With the ports that were made there would be too many.
-    #[error("{made} ports made and {wanted} wanted are too many")]
     PortsFull { made: u32, wanted: u32 },
-    #[error("no memory")]
+    /// Memory ran out. Nothing else is wrong.
     NoMemory,
 }
 

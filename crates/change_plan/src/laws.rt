@@ -4,37 +4,43 @@ ghost use Rattle.std.specs.Prelude.{◌≡◌, ◌⊎◌, ◌<◌, ◌↔◌, �
 ghost use Rattle.config_graph.specs.declared.node.Link.{Link};
 ghost use Rattle.config_graph.specs.declared.node.Node.{Node};
 ghost use Rattle.config_graph.specs.Graph.{Configuration, IsGraph};
-ghost use Rattle.change_plan.specs.Applying.{Connection, ConnectionAfter, IsConnected, IsOpened, IsPlan, KeepsItsLinks, NodeAfter};
+ghost use Rattle.change_plan.specs.Applying.{Connection, ConnectionAfter, IsConnected, KeepsItsLinks, MayBeRelinked, NodeAfter};
 ghost use Rattle.change_plan.specs.Moves.{IsOfOneKind, IsShifts, MayMoveAll};
+ghost use Rattle.change_plan.specs.Plans.{IsPlanOf};
 ghost use Rattle.change_plan.specs.Refusals.{CanPlan, IsRefusal};
 ghost use Rattle.change_plan.specs.declared.error.PlanError.{PlanError};
 ghost use Rattle.config_graph.specs.declared.node.Made.{Made};
 ghost use Rattle.change_plan.specs.declared.plan_data.Move.{Move};
-ghost use Rattle.change_plan.specs.declared.plan_data.OldPort.{OldPort};
+ghost use Rattle.config_graph.specs.declared.node.Port.{Port};
 ghost use Rattle.change_plan.specs.declared.plan_data.Plan.{Plan};
 ghost use Rattle.change_plan.specs.declared.plan_data.Shift.{Shift};
 
 /// A law: what a plan unlinks, removes, creates and links makes exactly the new graph of the old one.
 pub fn a_plan_leads_to_the_new_graph()
-    ensures nodes { (old new : Configuration) (p : Plan) → IsGraph old → IsGraph new → IsPlan old new p
+    ensures nodes { (old new : Configuration) (asked : List Move) (p : Plan) → IsGraph old → IsGraph new
+        → IsPlanOf old new asked p
         → (n : Node) → NodeAfter old new p n ↔ Contains new.nodes n }
-    ensures links { (old new : Configuration) (p : Plan) → IsGraph old → IsGraph new → IsPlan old new p
+    ensures links { (old new : Configuration) (asked : List Move) (p : Plan) → IsGraph old → IsGraph new
+        → IsPlanOf old new asked p
         → (c : Connection) → ConnectionAfter old new p c ↔ IsConnected new c }
 {}
 
 /// A law: a node that a plan doesn't freeze stays, and keeps all its links.
 pub fn what_is_not_frozen_keeps_its_links()
-    ensures { (old new : Configuration) (p : Plan) → IsGraph old → IsGraph new → IsPlan old new p
+    ensures { (old new : Configuration) (asked : List Move) (p : Plan) → IsGraph old → IsGraph new
+        → IsPlanOf old new asked p
         → (i : ℕ) → i < length old.nodes → (¬ Contains p.freeze i) → KeepsItsLinks old new i }
 {}
 
 /// A law: each port that a plan unlinks is one of a node that it freezes, and each link that it makes begins at a node that it
 /// creates or freezes.
 pub fn only_what_is_frozen_or_created_is_linked_anew()
-    ensures unlinked { (old new : Configuration) (p : Plan) → IsGraph old → IsGraph new → IsPlan old new p
-        → (q : OldPort) → Contains p.unlink q → Contains p.freeze q.node }
-    ensures linked { (old new : Configuration) (p : Plan) → IsGraph old → IsGraph new → IsPlan old new p
-        → (l : Link) → Contains p.link l → IsOpened old new p l.from }
+    ensures unlinked { (old new : Configuration) (asked : List Move) (p : Plan) → IsGraph old → IsGraph new
+        → IsPlanOf old new asked p
+        → (q : Port) → Contains p.unlink q → Contains p.freeze q.node }
+    ensures linked { (old new : Configuration) (asked : List Move) (p : Plan) → IsGraph old → IsGraph new
+        → IsPlanOf old new asked p
+        → (l : Link) → Contains p.link l → MayBeRelinked old new p l.from }
 {}
 
 /// A law: where all moves may be made, each leads to a node of the same kind, and no node stands in two of them.

@@ -8,7 +8,7 @@ ghost use Rattle.change_plan.specs.declared.error.PlanError.TheVariants.{NoMemor
 ghost use Rattle.change_plan.specs.declared.plan_data.Move.{Move};
 ghost use Rattle.change_plan.specs.declared.plan_data.Shift.{Shift};
 ghost use Rattle.change_plan.specs.Moves.{IsFit, IsGoneAt, IsPathGone, IsShifts, MoveLeads, MayMove, MayMoveAll};
-ghost use Rattle.change_plan.specs.Noted.{IsNoted};
+ghost use Rattle.change_plan.specs.MoveEnds.{MarksEnds};
 ghost use Rattle.change_plan.specs.Refusals.{FirstMoveFault, MoveFault};
 
 use crate::differences::twin_of;
@@ -16,9 +16,10 @@ use crate::{Move, PlanError, Shift};
 use config_graph::{Graph, NoMemory};
 use std::alloc::Global;
 
-/// For each node of the old graph whether its state goes on, and for each of the new one from where a state comes.
+/// The ends of moves, marked: for each node of the old graph whether its state goes on, and for each of the new one from which
+/// node its state comes.
 #[derive(Debug, Drop)]
-struct Taken {
+struct Ends {
     sources: Vec<bool>,
     targets: Vec<Option<u32>>,
 }
@@ -36,51 +37,51 @@ pub(crate) fn list_shifts(
     ensures may_move { IfOk result (λ _. MayMoveAll old.now new.now moves.now (length moves.now)) }
     ensures refused { IfErr result (λ e. (e ≡ NoMemory) ⊎ FirstMoveFault old.now new.now moves.now e) }
 {
-    let mut taken = take_none(alloc, old, new)?;
+    let mut ends = mark_none(alloc, old, new)?;
     for moved in moves {
-        take_move(old, new, moved, &mut taken)?;
+        mark_move(old, new, moved, &mut ends)?;
     }
-    Ok(list_taken(alloc, &taken.targets)?)
+    Ok(list_by_target(alloc, &ends.targets)?)
 }
 
-/// Nothing is noted at first.
-fn take_none(alloc: Global, old: &Graph, new: &Graph) -> Result<Taken, NoMemory>
-    ensures noted { IfOk result (λ taken. IsNoted old.now new.now [] taken.sources.items taken.targets.items) }
+/// No ends are marked.
+fn mark_none(alloc: Global, old: &Graph, new: &Graph) -> Result<Ends, NoMemory>
+    ensures marked { IfOk result (λ ends. MarksEnds old.now new.now [] ends.sources.items ends.targets.items) }
     ensures old { IsGraph old.now }
     ensures new { IsGraph new.now }
 {
     let old_count = old.node_count() as usize;
     let new_count = new.node_count() as usize;
-    Ok(Taken {
+    Ok(Ends {
         sources: vec![in alloc; false; old_count]?,
         targets: vec![in alloc; None; new_count]?,
     })
 }
 
-/// Notes a move, unless an earlier one has its source or its target.
-fn take_move(old: &Graph, new: &Graph, moved: &Move, taken: &mut Taken) -> Result<(), PlanError>
-    requires sources { length taken.old.sources.items ≡ length old.now.nodes }
-    requires targets { length taken.old.targets.items ≡ length new.now.nodes }
-    ensures noted { (before : List Move)
-        → IsNoted old.now new.now before taken.old.sources.items taken.old.targets.items
+/// Marks the ends of a move, unless an earlier one has its source or its target.
+fn mark_move(old: &Graph, new: &Graph, moved: &Move, ends: &mut Ends) -> Result<(), PlanError>
+    requires sources { length ends.old.sources.items ≡ length old.now.nodes }
+    requires targets { length ends.old.targets.items ≡ length new.now.nodes }
+    ensures marked { (before : List Move)
+        → MarksEnds old.now new.now before ends.old.sources.items ends.old.targets.items
         → OnOk result
-        (IsNoted old.now new.now (before ++ moved.now ∷ []) taken.new.sources.items taken.new.targets.items) }
+        (MarksEnds old.now new.now (before ++ moved.now ∷ []) ends.new.sources.items ends.new.targets.items) }
     ensures may_move { (before : List Move)
-        → IsNoted old.now new.now before taken.old.sources.items taken.old.targets.items
+        → MarksEnds old.now new.now before ends.old.sources.items ends.old.targets.items
         → OnOk result (MayMove old.now new.now before moved.now) }
     ensures refused { (before : List Move)
-        → IsNoted old.now new.now before taken.old.sources.items taken.old.targets.items
+        → MarksEnds old.now new.now before ends.old.sources.items ends.old.targets.items
         → IfErr result (λ e. (e ≡ NoMemory) ⊎ MoveFault old.now new.now before moved.now e) }
 {
     let shift = shift_of(old, new, moved)?;
-    if taken.sources[shift.old as usize] {
+    if ends.sources[shift.old as usize] {
         return Err(PlanError::MovedTwice(moved.from.try_clone()?));
     }
-    if taken.targets[shift.new as usize].is_some() {
+    if ends.targets[shift.new as usize].is_some() {
         return Err(PlanError::MovedTwice(moved.to.try_clone()?));
     }
-    taken.sources[shift.old as usize] = true;
-    taken.targets[shift.new as usize] = Some(shift.old);
+    ends.sources[shift.old as usize] = true;
+    ends.targets[shift.new as usize] = Some(shift.old);
     Ok(())
 }
 
@@ -128,8 +129,8 @@ fn gone_at(graph: &Graph, other: &Graph, path: &[u8]) -> Option<u32>
     }
 }
 
-/// The moves that were noted, in the order of their targets.
-fn list_taken(alloc: Global, targets: &[Option<u32>]) -> Result<Vec<Shift>, NoMemory>
+/// The moves that were marked, in the order of their targets.
+fn list_by_target(alloc: Global, targets: &[Option<u32>]) -> Result<Vec<Shift>, NoMemory>
     requires { length targets.now < 2 ^ 32 }
     ensures shifts { IfOk result
         (λ shifts. (s : Shift) → Contains shifts.items s ↔ (slice_index_or targets.now s.new None ≡ Some s.old)) }

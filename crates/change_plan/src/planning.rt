@@ -1,13 +1,9 @@
 //! The plan from one graph to another.
 
-ghost use Rattle.std.specs.Prelude.{◌≡◌, ◌↔◌, ◌⊎◌, ℕ, Contains, IfErr, IfOk, OnOk};
-ghost use Rattle.std.specs.List.Sorted.{IsStrictlyIncreasing};
-ghost use Rattle.config_graph.specs.Reach.{Enlarged};
-ghost use Rattle.change_plan.specs.Differences.{GoneLinks, GoneNodes, GonePorts};
-ghost use Rattle.change_plan.specs.Moves.{IsShifts};
+ghost use Rattle.std.specs.Prelude.{◌≡◌, ◌⊎◌, IfErr, IfOk, OnOk};
 ghost use Rattle.change_plan.specs.PlanWithin.{IsPlanWithin};
+ghost use Rattle.change_plan.specs.Plans.{IsPlanOf};
 ghost use Rattle.change_plan.specs.Refusals.{CanPlan, IsRefusal, Refuses};
-ghost use Rattle.change_plan.specs.Touched.{IsTouched};
 ghost use Rattle.change_plan.specs.declared.error.PlanError.{PlanError};
 ghost use Rattle.change_plan.specs.declared.error.PlanError.TheVariants.{NoMemory};
 
@@ -31,14 +27,7 @@ pub fn plan(
     moves: &[Move],
     made: Made,
 ) -> Result<Plan, PlanError>
-    ensures unlink { IfOk result (λ p. GonePorts old.now new.now p.unlink) }
-    ensures remove { IfOk result (λ p. GoneNodes old.now new.now p.remove) }
-    ensures create { IfOk result (λ p. GoneNodes new.now old.now p.create) }
-    ensures link { IfOk result (λ p. GoneLinks new.now old.now p.link) }
-    ensures moves { IfOk result (λ p. IsShifts old.now new.now moves.now p.moves) }
-    ensures freeze { IfOk result
-        (λ p. (i : ℕ) → Contains p.freeze i ↔ Enlarged old.now (IsTouched old.now new.now) i) }
-    ensures freeze_rises { IfOk result (λ p. IsStrictlyIncreasing p.freeze) }
+    ensures plan { IfOk result (IsPlanOf old.now new.now moves.now) }
     ensures within { IfOk result (IsPlanWithin old.now new.now) }
     ensures accepted { OnOk result (CanPlan old.now new.now moves.now made) }
     ensures accepts { CanPlan old.now new.now moves.now made → IfErr result (λ e. e ≡ NoMemory) }

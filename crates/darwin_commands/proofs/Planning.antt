@@ -14,8 +14,8 @@ use Rattle.elaborator.specs.Graph.{IsElab}
 use Rattle.elaborator.specs.Instances.{Instance, top_instance}
 use Rattle.std.proofs.lemmas.Option.{same_Some}
 use Rattle.darwin_commands.specs.Descriptions.{HasGraph, Refuses}
-use Rattle.darwin_commands.specs.Plans.{Starts, RefusesStart, has_no_graph, is_full, HasPlan, RefusesPlan, starts_not, leads_nowhere, gets_full, nothing, nothing_made, made_of}
-use Rattle.darwin_commands.specs.Planning.{HasSteps, IsFull}
+use Rattle.darwin_commands.specs.Plans.{Starts, RefusesStart, has_no_graph, is_full, HasPlan, HasSteps, RefusesPlan, starts_not, leads_nowhere, gets_full, nothing, nothing_made, made_of}
+use Rattle.darwin_commands.specs.Planning.{IsFull}
 use Rattle.darwin_commands.specs.Wanted.{Wanted, its_graph, its_plan, its_replay, IsRefused, Gives}
 use Rattle.darwin_commands.specs.declared.status.Status.{Status}
 use Rattle.darwin_commands.specs.declared.status.Status.TheVariants as status
@@ -64,7 +64,7 @@ never_both text top to args to_args written _ plan (starts_not words refuses) =
 never_both text top to args to_args written _ plan (leads_nowhere old words starts refuses) =
     readings.never_both text to to_args plan.new words plan.has_graph refuses
 never_both text top to args to_args written _ plan (gets_full old new e starts has refuses) =
-    not_full plan.old plan.new (made_of plan.old) e plan.has_room
+    not_full plan.old plan.new (made_of plan.old) e plan.has_steps.has_room
     (subst (λ g. IsRefusal g plan.new [] (made_of g) e) (one_graph text top args old plan.old starts.has_graph plan.starts.has_graph)
     (subst (λ g. IsRefusal old g [] (made_of old) e) (one_graph text to to_args new plan.new has plan.has_graph) refuses))
 
@@ -96,13 +96,9 @@ pub plan_of :
 plan_of text top to args to_args old new written starts has s = record {
   old = old;
   new = new;
-  steps = s.steps;
   starts = starts;
   has_graph = has;
-  has_room = s.has_room;
-  is_plan = s.is_plan;
-  frozen_rise = s.frozen_rise;
-  is_text = s.is_text;
+  has_steps = s;
 }
 
 -- a refusal by way of another

@@ -1,11 +1,10 @@
 -- Plans between two components of one description. A run that starts with the first is planned from nothing, and has to keep
 -- the limits of a run; the plan to the second then follows, with what the start made. No state is moved.
 use Rattle.std.specs.Prelude.{◌≡◌, ℕ, ℤ, List, [], length}
-use Rattle.std.specs.List.Sorted.{IsStrictlyIncreasing}
 use Rattle.config_graph.specs.Graph.{Configuration, ports}
 use Rattle.config_graph.specs.declared.node.Made.{Made}
-use Rattle.change_plan.specs.Applying.{IsPlan}
 use Rattle.change_plan.specs.PlanText.{plan_text}
+use Rattle.change_plan.specs.Plans.{IsPlanOf}
 use Rattle.change_plan.specs.Refusals.{CanPlan, IsRefusal}
 use Rattle.change_plan.specs.declared.error.PlanError.{PlanError}
 use Rattle.change_plan.specs.declared.plan_data.Plan.{Plan}
@@ -35,17 +34,20 @@ pub data RefusesStart (text top : List ℕ) (args : List ℤ) : List (List ℕ) 
       (graph : Configuration) (e : PlanError) → HasGraph text top args graph → IsRefusal nothing graph [] nothing_made e
       → RefusesStart text top args (plan_words e)
 
+-- the text of the plan from one graph to another, where a run has started with the first
+pub record HasSteps (old new : Configuration) (written : List ℕ) : Type 0 where
+  pub steps : Plan
+  pub has_room : CanPlan old new [] (made_of old)
+  pub is_plan : IsPlanOf old new [] steps
+  pub is_text : written ≡ plan_text old new steps
+
 -- the text of the plan from the graph of one component to that of another
 pub record HasPlan (text top : List ℕ) (args : List ℤ) (to : List ℕ) (to_args : List ℤ) (written : List ℕ) : Type 0 where
   pub old : Configuration
   pub new : Configuration
-  pub steps : Plan
   pub starts : Starts text top args old
   pub has_graph : HasGraph text to to_args new
-  pub has_room : CanPlan old new [] (made_of old)
-  pub is_plan : IsPlan old new steps
-  pub frozen_rise : IsStrictlyIncreasing steps.freeze
-  pub is_text : written ≡ plan_text old new steps
+  pub has_steps : HasSteps old new written
 
 -- the words of why there is none
 pub data RefusesPlan (text top : List ℕ) (args : List ℤ) (to : List ℕ) (to_args : List ℤ) : List (List ℕ) → Type 0 where

@@ -5,8 +5,8 @@ ghost use Rattle.config_graph.specs.Sound.{Sound};
 ghost use Rattle.darwin_types.specs.Checked.{description};
 ghost use Rattle.change_plan.specs.Refusals.{CanPlan};
 ghost use Rattle.darwin_commands.specs.Descriptions.{IsChecked};
-ghost use Rattle.darwin_commands.specs.Plans.{Starts, RefusesStart, HasPlan, RefusesPlan, nothing, nothing_made, made_of};
-ghost use Rattle.darwin_commands.specs.Planning.{HasSteps, IsFull};
+ghost use Rattle.darwin_commands.specs.Plans.{Starts, RefusesStart, HasPlan, HasSteps, RefusesPlan, nothing, nothing_made, made_of};
+ghost use Rattle.darwin_commands.specs.Planning.{IsFull};
 ghost use Rattle.darwin_commands.specs.DescriptionFaults.{MayRefuse};
 
 use crate::description::{DescriptionFault, graph_of};

@@ -2,7 +2,7 @@ use Rattle.std.proofs.Common.{◌∙◌, ◌+◌, [], List, ap, subst, sym, take
 use Rattle.std.proofs.lemmas.Bool.{false≢true}
 use Rattle.std.proofs.lemmas.List.{take_all}
 use Rattle.config_graph.specs.declared.node.Link.{Link}
-use Rattle.change_plan.specs.Differences.{IsKept}
+use Rattle.change_plan.specs.Differences.{IsKeptLink}
 use Rattle.change_plan.specs.Selects.{Selects}
 use Rattle.change_plan.specs.Selects.Selects.{ends}
 use Rattle.change_plan.proofs.SelectsLemmas.{elements_pass, elements_push}
@@ -10,11 +10,11 @@ use Rattle.change_plan.proofs.differences.list_gone_links.Goals as goal
 use Rattle.change_plan.proofs.differences.list_gone_links.Goals.{then-not-is_kept+in_ok-push, else-not-is_kept}
 
 pub loop-link-init : goal.loop-link-init
-loop-link-init c = subst (Selects (λ k. ¬ IsKept c.args.graph.now c.args.other.now k) []) (sym c.new-gone.ensures.items) ends
+loop-link-init c = subst (Selects (λ k. ¬ IsKeptLink c.args.graph.now c.args.other.now k) []) (sym c.new-gone.ensures.items) ends
 
 pub loop-link-preserved : goal.loop-link-preserved
 loop-link-preserved c =
-    let P = λ (k : Link). ¬ IsKept c.args.graph.now c.args.other.now k in
+    let P = λ (k : Link). ¬ IsKeptLink c.args.graph.now c.args.other.now k in
     let links = c.links-link-items.result.now in
     let i = c.loop-link.link-index in
     let chosen = λ (items : List Link). Selects P (take (i + 1) links) items in
@@ -28,6 +28,6 @@ loop-link-preserved c =
 
 pub returns : goal.returns
 returns c =
-    let P = λ (k : Link). ¬ IsKept c.args.graph.now c.args.other.now k in
+    let P = λ (k : Link). ¬ IsKeptLink c.args.graph.now c.args.other.now k in
     let all = take_all c.loop-link.link-index c.links-link-items.result.now c.loop-link-test.false ∙ c.links-link-items.ensures in
     subst (λ links. Selects P links c.loop-link.gone.items) all c.loop-link.invariant

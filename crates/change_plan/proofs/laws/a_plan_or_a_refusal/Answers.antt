@@ -1,5 +1,5 @@
 use Rattle.change_plan.proofs.RefusalLemmas.{no_refusal, one_refusal}
-use Rattle.change_plan.proofs.TotalLemmas.{plan_or_refusal}
+use Rattle.change_plan.proofs.ExistenceLemmas.{plan_or_refusal}
 use Rattle.change_plan.proofs.laws.a_plan_or_a_refusal.Goals as goal
 
 pub returns-clause-always_one : goal.returns-clause-always_one

@@ -1,9 +1,11 @@
 use Rattle.std.proofs.Common.{◌<◌, ◌^◌, ◌↔◌, ℕ, All, Contains, List, length, subst, sum_by, sym}
+use Rattle.std.specs.List.Sorted.{IsStrictlyIncreasing}
 use Rattle.std.proofs.lemmas.Result.{err_from_is_err_and}
 use Rattle.config_graph.specs.Graph.{IsWithin, requires_at}
 use Rattle.config_graph.specs.Reach.{Enlarged}
-use Rattle.change_plan.specs.Touched.{IsTouched}
-use Rattle.change_plan.specs.declared.plan_data.OldPort.{OldPort}
+use Rattle.change_plan.specs.Differences.{GoneLinks, GoneNodes, GonePorts}
+use Rattle.change_plan.specs.Moves.{IsShifts}
+use Rattle.config_graph.specs.declared.node.Port.{Port}
 use Rattle.change_plan.proofs.PlanningLemmas.{enlarged_touched, gone_few, gone_links_within, gone_ports_few, gone_ports_within, gone_within, touched_within}
 use Rattle.change_plan.proofs.RefusalLemmas.{accepted_but, move_refused, no_refusal, refused_by, room_refused, wanted_by}
 use Rattle.change_plan.proofs.planning.plan.Goals as goal
@@ -63,15 +65,24 @@ enlarged-requires c =
     let old = c.args.old.now in
     subst (All (λ i. i < length old.nodes)) (sym c.deref-2.ensures.value) (touched_within old c.args.new.now c.in_ok-touched.touched.items c.in_ok-touched.ensures)
 
-pub returns-clause-freeze : goal.returns-clause-freeze
-returns-clause-freeze c =
+pub returns-clause-plan : goal.returns-clause-plan
+returns-clause-plan c =
     let old = c.args.old.now in
     let new = c.args.new.now in
+    let asked = c.args.moves.now in
     let touched = c.in_ok-touched.touched.items in
-    let same : (i : ℕ) → Enlarged old (Contains touched) i ↔ Enlarged old (IsTouched old new) i = enlarged_touched old new touched c.in_ok-touched.ensures in
-    let is = λ (freeze asked : List ℕ). (i : ℕ) → Contains freeze i ↔ Enlarged old (Contains asked) i in
+    let same = enlarged_touched old new touched c.in_ok-touched.ensures in
+    let is = λ (freeze nodes : List ℕ). (i : ℕ) → Contains freeze i ↔ Enlarged old (Contains nodes) i in
     let members : is c.of-6.result touched = subst (λ freeze. is freeze touched) (sym c.of-6.ensures) (subst (is c.in_ok-enlarged.field-0.items) c.deref-2.ensures.value c.in_ok-enlarged.ensures.members) in
-    λ i. (λ there. (same i).0 ((members i).0 there), λ frozen. (members i).1 ((same i).1 frozen))
+    record {
+      unlink = subst (GonePorts old new) (sym c.of.ensures) c.in_ok-list_gone_ports.ensures;
+      remove = subst (GoneNodes old new) (sym c.of-2.ensures) c.in_ok-list_gone.ensures.gone;
+      create = subst (GoneNodes new old) (sym c.of-3.ensures) c.in_ok-create.ensures.gone;
+      link = subst (GoneLinks new old) (sym c.of-4.ensures) c.in_ok-list_gone_links.ensures;
+      moves = subst (IsShifts old new asked) (sym c.of-5.ensures) c.in_ok-shifts.ensures.shifts;
+      freeze = λ i. (λ there. (same i).0 ((members i).0 there), λ frozen. (members i).1 ((same i).1 frozen));
+      freeze_rises = subst IsStrictlyIncreasing (sym c.of-6.ensures) c.in_ok-enlarged.ensures.rising;
+    }
 
 pub returns-clause-within : goal.returns-clause-within
 returns-clause-within c =
@@ -80,7 +91,7 @@ returns-clause-within c =
     let told = c.in_ok-shifts.ensures in
     record {
       freeze = subst (All (λ i. i < length old.nodes)) (sym c.of-6.ensures) c.in_ok-enlarged.ensures.within;
-      unlink = subst (All (λ (q : OldPort). q.require < requires_at old.nodes q.node)) (sym c.of.ensures) (gone_ports_within old new told.old c.in_ok-list_gone_ports.field-0.items c.in_ok-list_gone_ports.ensures);
+      unlink = subst (All (λ (q : Port). q.require < requires_at old.nodes q.node)) (sym c.of.ensures) (gone_ports_within old new told.old c.in_ok-list_gone_ports.field-0.items c.in_ok-list_gone_ports.ensures);
       remove = subst (All (λ i. i < length old.nodes)) (sym c.of-2.ensures) (gone_within old new told.old c.in_ok-list_gone.field-0.items c.in_ok-list_gone.ensures.gone);
       create = subst (All (λ i. i < length new.nodes)) (sym c.of-3.ensures) (gone_within new old told.new c.in_ok-create.create.items c.in_ok-create.ensures.gone);
       link = subst (All (IsWithin new.nodes)) (sym c.of-4.ensures) (gone_links_within new old told.new c.in_ok-list_gone_links.field-0.items c.in_ok-list_gone_links.ensures);

@@ -1,7 +1,7 @@
 -- A plan is refused with the start, with the second component, or for want of room.
 use Rattle.darwin_commands.specs.Descriptions.{Refuses}
-use Rattle.darwin_commands.specs.Plans.{RefusesStart, HasPlan, RefusesPlan, starts_not, leads_nowhere, made_of}
-use Rattle.darwin_commands.specs.Planning.{HasSteps, IsFull}
+use Rattle.darwin_commands.specs.Plans.{RefusesStart, HasPlan, HasSteps, RefusesPlan, starts_not, leads_nowhere, made_of}
+use Rattle.darwin_commands.specs.Planning.{IsFull}
 use Rattle.darwin_commands.specs.DescriptionFaults.{MayRefuse}
 use Rattle.darwin_commands.proofs.Planning.{refused_through, plan_refused, plan_of, if_ok, if_err}
 use Rattle.darwin_commands.proofs.plans.plan_between.Goals as goal

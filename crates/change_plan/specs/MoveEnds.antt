@@ -1,5 +1,5 @@
--- What is kept of the moves that were looked at: for each node of the old configuration whether its state goes on, and for each
--- of the new one from where a state comes.
+-- The ends of moves: for each node of the old configuration whether its state goes on, and for each of the new one from which node
+-- its state comes.
 use Rattle.std.specs.Prelude.{◌≡◌, ◌↔◌, ℕ, Bool, true, false, List, Option, Some, None, length, All}
 use Rattle.std.specs.List.{slice_index_or}
 use Rattle.config_graph.specs.Graph.{Configuration}
@@ -10,7 +10,8 @@ use Rattle.change_plan.specs.declared.plan_data.Move.{Move}
 abbrev pub IsMovedFrom : Configuration → Configuration → List Move → ℕ → Type 0
 IsMovedFrom old new moves i = (j : ℕ) × IsShift old new moves (record { old = i; new = j })
 
-pub record IsNoted (old new : Configuration) (moves : List Move) (sources : List Bool) (targets : List (Option ℕ)) : Type 0 where
+-- these lists mark the ends of fit moves, and no others
+pub record MarksEnds (old new : Configuration) (moves : List Move) (sources : List Bool) (targets : List (Option ℕ)) : Type 0 where
   pub fit : All (IsFit old new) moves
   pub sources_length : length sources ≡ length old.nodes
   pub targets_length : length targets ≡ length new.nodes

@@ -1,8 +1,8 @@
 use Rattle.std.proofs.Common.{◌∙◌, ◌+◌, List, ap, subst, sym}
 use Rattle.change_plan.specs.declared.plan_data.Shift.{Shift}
 use Rattle.change_plan.proofs.MoveLemmas.{ListedBelow, listed_push, listed_skip}
-use Rattle.change_plan.proofs.moving.list_taken.Goals as goal
-use Rattle.change_plan.proofs.moving.list_taken.Goals.{in-Some+in_ok-push, in_default}
+use Rattle.change_plan.proofs.moving.list_by_target.Goals as goal
+use Rattle.change_plan.proofs.moving.list_by_target.Goals.{in-Some+in_ok-push, in_default}
 
 pub loop-new-preserved : goal.loop-new-preserved
 loop-new-preserved c =

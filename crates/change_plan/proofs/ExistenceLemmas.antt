@@ -1,5 +1,5 @@
 -- There is a plan, or a refusal: each fault of a move can be told, and how much is wanted.
-use Rattle.std.proofs.Common.{◌≡◌, ◌⊎◌, ℕ, zero, suc, ◌+◌, ◌<◌, ◌≤◌, List, [], ◌∷◌, length, take, get_or, Some, None, slice_get, refl, sym, ◌∙◌, ap, subst, inl, inr, arith, Contains, sum_by}
+use Rattle.std.proofs.Common.{◌≡◌, ◌⊎◌, ℕ, zero, suc, ◌<◌, ◌≤◌, List, [], ◌∷◌, length, take, get_or, Some, None, slice_get, refl, sym, ◌∙◌, ap, subst, inl, inr, arith, Contains, sum_by}
 use Rattle.std.specs.List.{range_with_len}
 use Rattle.std.proofs.lemmas.Bool.Decides.{eqb_tells}
 use Rattle.std.proofs.lemmas.Option.{none-some, slice_get_cases, slice_get-get_or}
@@ -10,7 +10,7 @@ use Rattle.config_graph.specs.declared.node.Node.{Node}
 use Rattle.config_graph.proofs.TellLemmas.{CanTell, any_or_none, tell_contained, told_by}
 use Rattle.change_plan.specs.Differences.{GoneNodes, IsGone}
 use Rattle.change_plan.specs.Moves.{IsFit, IsPathGone, MayMove, MayMoveAll, MoveLeads, MovesFrom, MovesTo}
-use Rattle.change_plan.specs.Refusals.{CanPlan, FirstMoveFault, IsRefusal, IsWanted, MoveFault}
+use Rattle.change_plan.specs.Refusals.{CanPlan, FirstMoveFault, IsRefusal, CreatesSoMany, MoveFault}
 use Rattle.change_plan.specs.Selects.{Selects}
 use Rattle.change_plan.specs.Selects.Selects.{ends, takes, skips}
 use Rattle.change_plan.specs.declared.error.PlanError.{PlanError}
@@ -128,7 +128,7 @@ module _ (old new : Configuration) (old_graph : IsGraph old) (new_graph : IsGrap
   ports : ℕ
   ports = sum_by (requires_at new.nodes) created.0
 
-  wanted : IsWanted old new nodes ports
+  wanted : CreatesSoMany old new nodes ports
   unfolding nodes ports
   wanted = record { created = created.0; gone = created.1; nodes_are = refl; ports_are = refl }
 
