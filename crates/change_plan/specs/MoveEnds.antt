@@ -1,8 +1,9 @@
 -- The ends of moves: for each node of the old configuration whether its state goes on, and for each of the new one from which node
 -- its state comes.
-use Rattle.std.specs.Prelude.{◌≡◌, ◌↔◌, ℕ, Bool, true, false, List, Option, Some, None, length, All}
+use Rattle.std.specs.Prelude.{◌≡◌, ◌↔◌, ℕ, Bool, List, Option, Some, None, length, All}
 use Rattle.std.specs.List.{slice_index_or}
 use Rattle.config_graph.specs.Graph.{Configuration}
+use Rattle.config_graph.specs.Marks.{IsMarked}
 use Rattle.change_plan.specs.Moves.{IsFit, IsShift}
 use Rattle.change_plan.specs.declared.plan_data.Move.{Move}
 
@@ -15,5 +16,5 @@ pub record MarksEnds (old new : Configuration) (moves : List Move) (sources : Li
   pub fit : All (IsFit old new) moves
   pub sources_length : length sources ≡ length old.nodes
   pub targets_length : length targets ≡ length new.nodes
-  pub sources_are : (i : ℕ) → (slice_index_or sources i false ≡ true) ↔ IsMovedFrom old new moves i
+  pub sources_are : (i : ℕ) → IsMarked sources i ↔ IsMovedFrom old new moves i
   pub targets_are : (i j : ℕ) → (slice_index_or targets j None ≡ Some i) ↔ IsShift old new moves (record { old = i; new = j })

@@ -11,6 +11,7 @@ pub mod SameLemmas
 pub mod TextLemmas
 pub mod IncomingLemmas
 pub mod CycleLemmas
+pub mod MarkLaws
 pub mod SearchLemmas
 pub mod TellLemmas
-pub mod TextLawLemmas
+pub mod TextLaws

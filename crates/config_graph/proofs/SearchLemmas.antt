@@ -1,10 +1,10 @@
 -- Lemmas on the search for the nodes to which ways lead.
-use Rattle.std.proofs.Common.{◌≡◌, ◌≢◌, ◌⊎◌, ◌↔◌, ◌+◌, ◌<◌, ◌≤◌, ℕ, zero, suc, Bool, true, false, cond, not, List, [], ◌∷◌, ◌++◌, Option, Some, None, length, get_or, set, slice_get, refl, sym, ◌∙◌, ap, subst, inl, inr, arith, length-append, length-set, get_or-set_same, get_or-set_other, zero-add, filter_map, Contains}
+use Rattle.std.proofs.Common.{◌≡◌, ◌⊎◌, ◌↔◌, ◌+◌, ◌<◌, ◌≤◌, ℕ, zero, suc, Bool, true, false, cond, not, List, [], ◌∷◌, ◌++◌, Option, Some, None, length, get_or, set, slice_get, refl, sym, ◌∙◌, ap, subst, inl, inr, arith, length-append, length-set, zero-add, filter_map, Contains}
 use Rattle.std.specs.Prelude.{All, count_by, replicate, slice_index_or, ◌*◌, if◌then◌else◌, option_to_list}
 use Rattle.std.specs.List.{cons_option, range_with_len}
 use Rattle.std.proofs.lemmas.Bool.{cases_lt, false≢true, true≢false}
 use Rattle.std.proofs.lemmas.Bool.Decides.{eqb_tells}
-use Rattle.std.proofs.lemmas.List.{get_or_default, get_or-replicate, length-replicate}
+use Rattle.std.proofs.lemmas.List.{get_or_default, length-replicate}
 use Rattle.std.proofs.lemmas.List.FromFn.{length-range_with_len, get_or-range_with_len}
 use Rattle.std.proofs.lemmas.List.Folds.{sum_by-replicate}
 use Rattle.std.proofs.lemmas.Option.{slice_get-get_or}
@@ -13,48 +13,23 @@ use Rattle.std.proofs.lemmas.List.Sums.{sum_by-set}
 use Rattle.std.proofs.Math.ListN.{get_or-eq_default}
 use Rattle.config_graph.specs.Graph.{Configuration, IsWithin, requires_at}
 use Rattle.config_graph.specs.Cycles.{FirstOnCycle, NoCycle, OnCycle, leads_by, wiring_of}
+use Rattle.config_graph.specs.Marks.{IsMarked}
 use Rattle.config_graph.specs.Walks.{onward, step}
 use Rattle.config_graph.specs.Wiring.{CallPath, MayCall}
-use Rattle.config_graph.specs.Search.{Has, Seen, see, see_all, seen_of, successors, successors_by}
+use Rattle.config_graph.specs.Search.{Seen, see, see_all, seen_of, successors, successors_by}
 use Rattle.config_graph.proofs.CycleLemmas.{no_cycle, leads_by-Leads, Leads-ends, Leads-leads_by, Leads-require}
+use Rattle.config_graph.proofs.MarkLaws.{marked_here, marked_kept, marked_only, none_marked}
 use Rattle.config_graph.proofs.WalkLemmas.{walk_then}
 use Rattle.config_graph.proofs.IncomingLemmas.{Contains-filter_map}
 use Rattle.config_graph.proofs.OrderLemmas.{All-filter_map}
 use Rattle.config_graph.proofs.ListLemmas.{places_more}
 
--- a bit that is set, and one that is not, stand in the list
-Has-within : (bits : List Bool) (i : ℕ) → Has bits i → i < length bits
-Has-within bits i h =
-    elim (cases_lt i (length bits)) [
-      | inl low ↦ low
-      | inr high ↦ absurd (false≢true (sym (get_or-eq_default bits false high) ∙ h))
-    ]
-
+-- a bit that is not set stands in the list
 clear_within : (bits : List Bool) (j : ℕ) → get_or bits j true ≡ false → j < length bits
 clear_within bits j h =
     elim (cases_lt j (length bits)) [
       | inl low ↦ low
       | inr high ↦ absurd (true≢false (sym (get_or-eq_default bits true high) ∙ h))
-    ]
-
--- the bits after one is set
-Has-set_here : (bits : List Bool) (j : ℕ) → j < length bits → Has (set bits j true) j
-Has-set_here bits j low = rw get_or-set_same
-
-Has-set_kept : (bits : List Bool) (i j : ℕ) → Has bits i → Has (set bits j true) i
-Has-set_kept bits i j h =
-    elim (eqb_tells i j) [
-      | inl same ↦
-          let low : j < length bits = rw same.1 at (Has-within bits i h) in
-          subst (Has (set bits j true)) (sym same.1) (Has-set_here bits j low)
-      | inr other ↦ let apart : i ≢ j = other.1 in rw get_or-set_other h
-    ]
-
-pub Has-set_only : (bits : List Bool) (i j : ℕ) → Has (set bits j true) i → Has bits i ⊎ (i ≡ j)
-Has-set_only bits i j h =
-    elim (eqb_tells i j) [
-      | inl same ↦ inr same.1
-      | inr other ↦ let apart : i ≢ j = other.1 in inl (rw get_or-set_other at h)
     ]
 
 -- how many bits are clear
@@ -72,15 +47,15 @@ unseen-set bits j clear =
 -- what a step of the search keeps
 pub record Extends (s t : Seen) : Type 0 where
   pub long : length t.bits ≡ length s.bits
-  pub kept : (i : ℕ) → Has s.bits i → Has t.bits i
+  pub kept : (i : ℕ) → IsMarked s.bits i → IsMarked t.bits i
   pub count : unseen t.bits + length t.reached ≡ unseen s.bits + length s.reached
   pub prefix : (k : ℕ) → k < length s.reached → get_or t.reached k 0 ≡ get_or s.reached k 0
   pub grows : length s.reached ≤ length t.reached
 
 -- the list has exactly the nodes whose bits are set
 pub record IsListed (s : Seen) : Type 0 where
-  pub listed : (i : ℕ) → Has s.bits i → Contains s.reached i
-  pub members : All (λ i. Has s.bits i) s.reached
+  pub listed : (i : ℕ) → IsMarked s.bits i → Contains s.reached i
+  pub members : All (λ i. IsMarked s.bits i) s.reached
 
 Extends-refl : (s : Seen) → Extends s s
 Extends-refl s = record { long = refl; kept = λ i h. h; count = refl; prefix = λ k h. refl; grows = omega arith }
@@ -105,7 +80,7 @@ marked j s = record { bits = set s.bits j true; reached = s.reached ++ j ∷ [] 
 Extends-marked : (j : ℕ) (s : Seen) → get_or s.bits j true ≡ false → Extends s (marked j s)
 Extends-marked j s clear = record {
   long = length-set s.bits j true;
-  kept = λ i h. Has-set_kept s.bits i j h;
+  kept = λ i h. marked_kept s.bits i j h;
   count = omega (arith, unseen-set s.bits j clear, length-append s.reached (j ∷ []));
   prefix = λ k h. get_or-append_front s.reached (j ∷ []) k h;
   grows = omega (arith, length-append s.reached (j ∷ []));
@@ -116,11 +91,11 @@ IsListed-marked j s clear h =
     let low = clear_within s.bits j clear in
     record {
       listed = λ i has.
-          elim (Has-set_only s.bits i j has) [
+          elim (marked_only s.bits i j has) [
             | inl before ↦ Contains-append_left s.reached (j ∷ []) i (h.listed i before)
             | inr same ↦ subst (Contains (s.reached ++ j ∷ [])) (sym same) (Contains-push s.reached j)
           ];
-      members = All-push (λ i. Has (set s.bits j true) i) s.reached j (λ k d l. Has-set_kept s.bits (get_or s.reached k d) j (h.members k d l)) (Has-set_here s.bits j low);
+      members = All-push (λ i. IsMarked (set s.bits j true) i) s.reached j (λ k d l. marked_kept s.bits (get_or s.reached k d) j (h.members k d l)) (marked_here s.bits j low);
     }
 
 -- one node is seen
@@ -138,19 +113,19 @@ see-listed j s h = by (get_or s.bits j true) refl
     by true e = h
     by false e = IsListed-marked j s e h
 
-see-here : (j : ℕ) (s : Seen) → j < length s.bits → Has (see j s).bits j
+see-here : (j : ℕ) (s : Seen) → j < length s.bits → IsMarked (see j s).bits j
 see-here j s low = by (get_or s.bits j true) refl
   where
-    by : (b : Bool) → get_or s.bits j true ≡ b → Has (if b then s else marked j s).bits j
+    by : (b : Bool) → get_or s.bits j true ≡ b → IsMarked (if b then s else marked j s).bits j
     by true e = get_or_default s.bits j false true low ∙ e
-    by false e = Has-set_here s.bits j low
+    by false e = marked_here s.bits j low
 
-see-only : (j i : ℕ) (s : Seen) → Has (see j s).bits i → Has s.bits i ⊎ (i ≡ j)
+see-only : (j i : ℕ) (s : Seen) → IsMarked (see j s).bits i → IsMarked s.bits i ⊎ (i ≡ j)
 see-only j i s h = by (get_or s.bits j true) h
   where
-    by : (b : Bool) → Has (if b then s else marked j s).bits i → Has s.bits i ⊎ (i ≡ j)
+    by : (b : Bool) → IsMarked (if b then s else marked j s).bits i → IsMarked s.bits i ⊎ (i ≡ j)
     by true h = inl h
-    by false h = Has-set_only s.bits i j h
+    by false h = marked_only s.bits i j h
 
 -- each node of a list is seen
 pub see_all-extends : (js : List ℕ) (s : Seen) → Extends s (see_all js s)
@@ -161,7 +136,7 @@ pub see_all-listed : (js : List ℕ) (s : Seen) → IsListed s → IsListed (see
 see_all-listed [] s h = h
 see_all-listed (j ∷ js) s h = see_all-listed js (see j s) (see-listed j s h)
 
-pub see_all-only : (P : ℕ → Type 0) (js : List ℕ) (s : Seen) → All P js → (i : ℕ) → Has (see_all js s).bits i → Has s.bits i ⊎ P i
+pub see_all-only : (P : ℕ → Type 0) (js : List ℕ) (s : Seen) → All P js → (i : ℕ) → IsMarked (see_all js s).bits i → IsMarked s.bits i ⊎ P i
 see_all-only P [] s all i h = inl h
 see_all-only P (j ∷ js) s all i h =
     elim (see_all-only P js (see j s) (λ k d l. all (suc k) d (omega arith)) i h) [
@@ -170,7 +145,7 @@ see_all-only P (j ∷ js) s all i h =
       | inr p ↦ inr p
     ]
 
-pub see_all-here : (js : List ℕ) (s : Seen) → All (λ j. j < length s.bits) js → (k : ℕ) (d : ℕ) → k < length js → Has (see_all js s).bits (get_or js k d)
+pub see_all-here : (js : List ℕ) (s : Seen) → All (λ j. j < length s.bits) js → (k : ℕ) (d : ℕ) → k < length js → IsMarked (see_all js s).bits (get_or js k d)
 see_all-here [] s all k d low = absurd (omega arith)
 see_all-here (j ∷ js) s all zero d low =
     (see_all-extends js (see j s)).kept j (see-here j s (all 0 d (omega arith)))
@@ -200,7 +175,7 @@ successors-within g graph i =
     All-filter_map (leads_by g i) (λ j. j < length g.nodes) (range_with_len 0 (requires_at g.nodes i)) (λ k r j at_k h. Leads-ends g graph i j (leads_by-Leads g i r j h))
 
 -- every node to which a node leads is seen with its successors
-pub see_all-leads : (g : Configuration) → All (IsWithin g.nodes) g.links → (i j : ℕ) (s : Seen) → length s.bits ≡ length g.nodes → MayCall (wiring_of g) i j → Has (see_all (successors g i) s).bits j
+pub see_all-leads : (g : Configuration) → All (IsWithin g.nodes) g.links → (i j : ℕ) (s : Seen) → length s.bits ≡ length g.nodes → MayCall (wiring_of g) i j → IsMarked (see_all (successors g i) s).bits j
 see_all-leads g graph i j s long h =
     let requires_ = requires_at g.nodes i in
     let r = h.port.require in
@@ -209,23 +184,17 @@ see_all-leads g graph i j s long h =
     let here : slice_get (range_with_len 0 requires_) r ≡ Some r =
     slice_get-get_or (range_with_len 0 requires_) r r in_range ∙ ap Some (get_or-range_with_len 0 requires_ r r low ∙ zero-add r) in
     let there = Contains-filter_map (leads_by g i) (range_with_len 0 requires_) r r j here (Leads-leads_by g i j h) in
-    subst (Has (see_all (successors g i) s).bits) there.2 (see_all-here (successors g i) s (λ k d l. rw long (successors-within g graph i k d l)) there.0 j there.1)
+    subst (IsMarked (see_all (successors g i) s).bits) there.2 (see_all-here (successors g i) s (λ k d l. rw long (successors-within g graph i k d l)) there.0 j there.1)
 
 -- where the search stands: the first `next` nodes that were reached have had their successors seen
 pub record Searched (g : Configuration) (start : ℕ) (s : Seen) (next : ℕ) : Type 0 where
   pub long : length s.bits ≡ length g.nodes
   pub count : unseen s.bits + length s.reached ≡ length g.nodes
   pub listed : IsListed s
-  pub ways : (j : ℕ) → Has s.bits j → CallPath (wiring_of g) start j
-  pub first : (j : ℕ) → MayCall (wiring_of g) start j → Has s.bits j
-  pub done : (k : ℕ) → k < next → (j : ℕ) → MayCall (wiring_of g) (get_or s.reached k 0) j → Has s.bits j
+  pub ways : (j : ℕ) → IsMarked s.bits j → CallPath (wiring_of g) start j
+  pub first : (j : ℕ) → MayCall (wiring_of g) start j → IsMarked s.bits j
+  pub done : (k : ℕ) → k < next → (j : ℕ) → MayCall (wiring_of g) (get_or s.reached k 0) j → IsMarked s.bits j
   pub low : next ≤ length s.reached
-
--- no bit is set
-pub none_set : (n i : ℕ) → ¬ Has (replicate n false) i
-none_set n i h =
-    let low : i < n = rw length-replicate at (Has-within (replicate n false) i h) in
-    false≢true (sym (get_or-replicate n i false false low) ∙ h)
 
 -- before anything is seen
 abbrev pub nothing_seen : Configuration → Seen
@@ -237,7 +206,7 @@ search_begins g graph start s s_is = subst (λ t. Searched g start t 0) (sym s_i
     begun : Searched g start (see_all (successors g start) (nothing_seen g)) 0
     begun =
         let grown = see_all-extends (successors g start) (nothing_seen g) in
-        let blank = none_set (length g.nodes) in
+        let blank = none_marked (length g.nodes) in
         let clear : unseen (replicate (length g.nodes) false) ≡ length g.nodes * 1 = sum_by-replicate (λ b. cond (not b) 1 0) (length g.nodes) false in
         record {
           long = grown.long ∙ length-replicate (length g.nodes) false;
@@ -285,16 +254,16 @@ search_goes_on g graph start s t next node h more node_is t_is =
         }
 
 -- at the end exactly the nodes to which ways lead are seen
-pub search_ends : (g : Configuration) (start : ℕ) (s : Seen) (next : ℕ) → Searched g start s next → length s.reached ≤ next → (j : ℕ) → Has s.bits j ↔ CallPath (wiring_of g) start j
+pub search_ends : (g : Configuration) (start : ℕ) (s : Seen) (next : ℕ) → Searched g start s next → length s.reached ≤ next → (j : ℕ) → IsMarked s.bits j ↔ CallPath (wiring_of g) start j
 search_ends g start s next h all j = (h.ways j, λ way. follows start j way (λ k leads. h.first k leads))
   where
-    closed : (i : ℕ) → Has s.bits i → (k : ℕ) → MayCall (wiring_of g) i k → Has s.bits k
+    closed : (i : ℕ) → IsMarked s.bits i → (k : ℕ) → MayCall (wiring_of g) i k → IsMarked s.bits k
     closed i has k leads =
         let there = h.listed.listed i has in
         let here : get_or s.reached there.0 0 ≡ i = get_or_default s.reached there.0 0 i there.1 ∙ there.2 in
         h.done there.0 (omega (arith, there.1)) k (subst (λ x. MayCall (wiring_of g) x k) (sym here) leads)
 
-    follows : (i j : ℕ) → CallPath (wiring_of g) i j → ((k : ℕ) → MayCall (wiring_of g) i k → Has s.bits k) → Has s.bits j
+    follows : (i j : ℕ) → CallPath (wiring_of g) i j → ((k : ℕ) → MayCall (wiring_of g) i k → IsMarked s.bits k) → IsMarked s.bits j
     follows i j (step leads) f = f j leads
     follows i j (onward {j = m} leads rest) f = follows m j rest (closed m (f m leads))
 
@@ -321,13 +290,13 @@ All-before_last P (y ∷ xs) x all =
 
 module _ (g : Configuration) (graph : All (IsWithin g.nodes) g.links) (start : ℕ) where
   -- the search to its end: each step takes one node of the list, and no node stands there twice
-  searched_from : (fuel next : ℕ) (s : Seen) → Searched g start s next → length g.nodes ≤ next + fuel → (t : Seen) × ((j : ℕ) → Has t.bits j ↔ CallPath (wiring_of g) start j)
+  searched_from : (fuel next : ℕ) (s : Seen) → Searched g start s next → length g.nodes ≤ next + fuel → (t : Seen) × ((j : ℕ) → IsMarked t.bits j ↔ CallPath (wiring_of g) start j)
   searched_from zero next s h enough = (s, search_ends g start s next h (omega (arith, enough, h.count)))
   searched_from (suc fuel) next s h enough = by (cases_lt next (length s.reached)) (λ t after. searched_from fuel (next + 1) t after (omega (arith, enough)))
     where
       by :
-          (next < length s.reached) ⊎ (length s.reached ≤ next) → ((t : Seen) → Searched g start t (next + 1) → (u : Seen) × ((j : ℕ) → Has u.bits j ↔ CallPath (wiring_of g) start j))
-          → (u : Seen) × ((j : ℕ) → Has u.bits j ↔ CallPath (wiring_of g) start j)
+          (next < length s.reached) ⊎ (length s.reached ≤ next) → ((t : Seen) → Searched g start t (next + 1) → (u : Seen) × ((j : ℕ) → IsMarked u.bits j ↔ CallPath (wiring_of g) start j))
+          → (u : Seen) × ((j : ℕ) → IsMarked u.bits j ↔ CallPath (wiring_of g) start j)
       by (inl more) on =
           let node = get_or s.reached next 0 in
           on (see_all (successors g node) s) (search_goes_on g graph start s (see_all (successors g node) s) next node h more refl refl)
@@ -338,7 +307,7 @@ module _ (g : Configuration) (graph : All (IsWithin g.nodes) g.links) (start : �
       let w = searched_from (length g.nodes) 0 (see_all (successors g start) (nothing_seen g)) (search_begins g graph start _ refl) (omega arith) in
       by w.0.bits (slice_index_or w.0.bits j false) refl (w.1 j)
     where
-      by : (bits : List Bool) (b : Bool) → slice_index_or bits j false ≡ b → (Has bits j ↔ CallPath (wiring_of g) start j) → CallPath (wiring_of g) start j ⊎ (CallPath (wiring_of g) start j → ⊥)
+      by : (bits : List Bool) (b : Bool) → slice_index_or bits j false ≡ b → (IsMarked bits j ↔ CallPath (wiring_of g) start j) → CallPath (wiring_of g) start j ⊎ (CallPath (wiring_of g) start j → ⊥)
       by bits true is iff = inl (iff.0 is)
       by bits false is iff = inr (λ way. false≢true (sym is ∙ iff.1 way))
 

@@ -3,6 +3,7 @@ pub mod Graph
 pub mod GraphText
 pub mod Indexes
 pub mod Kinds
+pub mod Marks
 pub mod Numbering
 pub mod Reach
 pub mod Search

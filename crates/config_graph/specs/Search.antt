@@ -1,13 +1,9 @@
 -- A search for all nodes to which ways lead: those that were seen, as a bit a node, and the list of them in the order in which
 -- they were seen.
-use Rattle.std.specs.Prelude.{◌≡◌, ℕ, Bool, true, false, List, [], ◌∷◌, ◌++◌, filter_map, if◌then◌else◌, slice_index_or, slice_set}
+use Rattle.std.specs.Prelude.{ℕ, Bool, true, List, [], ◌∷◌, ◌++◌, filter_map, if◌then◌else◌, slice_index_or, slice_set}
 use Rattle.std.specs.List.{range_with_len}
 use Rattle.config_graph.specs.Graph.{Configuration, requires_at}
 use Rattle.config_graph.specs.Cycles.{leads_by}
-
--- the bit of node i is set
-abbrev pub Has : List Bool → ℕ → Type 0
-Has bits i = slice_index_or bits i false ≡ true
 
 pub record Seen : Type 0 where
   pub bits : List Bool

@@ -4,10 +4,11 @@ ghost use Rattle.std.specs.Prelude.{◌≡◌, ◌⊎◌, ◌+◌, ◌<◌, ◌�
 ghost use Rattle.std.specs.List.{range_with_len};
 ghost use Rattle.std.specs.Option.{ForSome};
 ghost use Rattle.config_graph.specs.Cycles.{FirstOnCycle, NoCycle, OnCycle, leads_by, wiring_of};
+ghost use Rattle.config_graph.specs.Marks.{IsMarked};
 ghost use Rattle.config_graph.specs.Wiring.{CallPath, MayCall};
 ghost use Rattle.config_graph.specs.Graph.{Configuration, IsGraph, ports as ports_of, requires_at};
 ghost use Rattle.config_graph.specs.declared.node.Target.{Target};
-ghost use Rattle.config_graph.specs.Search.{Has, see_all, seen_of, successors};
+ghost use Rattle.config_graph.specs.Search.{see_all, seen_of, successors};
 
 use crate::{Graph, NoMemory, Target};
 use std::alloc::Global;
@@ -38,7 +39,7 @@ pub fn a_first_on_a_cycle_or_none()
 /// on a cycle.
 fn list_acyclic(alloc: Global, graph: &Graph) -> Result<Vec<bool>, NoMemory>
     ensures length { IfOk result (λ acyclic. vec_len acyclic ≡ length graph.now.nodes) }
-    ensures acyclic { IfOk result (λ acyclic. (i : ℕ) → Has acyclic.items i → ¬ OnCycle graph.now i) }
+    ensures acyclic { IfOk result (λ acyclic. (i : ℕ) → IsMarked acyclic.items i → ¬ OnCycle graph.now i) }
 {
     let count = graph.node_count();
     let mut acyclic = no_bits(alloc, count)?;
@@ -74,7 +75,7 @@ fn all_nodes(alloc: Global, count: u32) -> Result<Vec<u32>, NoMemory>
 fn leads_only_to(graph: &Graph, bits: &[bool], node: u32) -> bool
     requires bits { length bits.now ≡ length graph.now.nodes }
     requires node { node < length graph.now.nodes }
-    ensures { IsTrue result → (j : ℕ) → MayCall (wiring_of graph.now) node j → Has bits.now j }
+    ensures { IsTrue result → (j : ℕ) → MayCall (wiring_of graph.now) node j → IsMarked bits.now j }
 {
     for require in 0..graph.node(node).kind.requires_() {
         if !is_set(bits, successor(graph, node, require)) {
@@ -87,7 +88,7 @@ fn leads_only_to(graph: &Graph, bits: &[bool], node: u32) -> bool
 /// Whether the bit of the node is set, if there is a node.
 fn is_set(bits: &[bool], node: Option<u32>) -> bool
     requires { ForSome node (λ i. i < length bits.now) }
-    ensures { IsTrue result ↔ IfSome node (Has bits.now) }
+    ensures { IsTrue result ↔ IfSome node (IsMarked bits.now) }
 {
     match node {
         Some(node) => bits[node as usize],
@@ -125,7 +126,7 @@ fn push_owners(waiting: &mut Vec<u32>, graph: &Graph, ports: &[u32]) -> Result<(
 fn is_on_cycle(alloc: Global, graph: &Graph, acyclic: &[bool], node: u32) -> Result<bool, NoMemory>
     requires node { node < length graph.now.nodes }
     requires length { length acyclic.now ≡ length graph.now.nodes }
-    requires acyclic { (i : ℕ) → Has acyclic.now i → ¬ OnCycle graph.now i }
+    requires acyclic { (i : ℕ) → IsMarked acyclic.now i → ¬ OnCycle graph.now i }
     ensures { IfOk result (λ found. IsTrue found ↔ OnCycle graph.now node) }
 {
     if acyclic[node as usize] {
@@ -139,7 +140,7 @@ fn is_on_cycle(alloc: Global, graph: &Graph, acyclic: &[bool], node: u32) -> Res
 fn list_reached(alloc: Global, graph: &Graph, start: u32) -> Result<Vec<bool>, NoMemory>
     requires { start < length graph.now.nodes }
     ensures length { IfOk result (λ bits. vec_len bits ≡ length graph.now.nodes) }
-    ensures reached { IfOk result (λ bits. (j : ℕ) → Has bits.items j ↔ CallPath (wiring_of graph.now) start j) }
+    ensures reached { IfOk result (λ bits. (j : ℕ) → IsMarked bits.items j ↔ CallPath (wiring_of graph.now) start j) }
 {
     let mut bits = no_bits(alloc, graph.node_count())?;
     let mut reached = Vec::new(alloc);

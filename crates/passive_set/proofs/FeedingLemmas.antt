@@ -20,9 +20,10 @@ use Rattle.config_graph.proofs.NumberingLemmas.{port_below}
 use Rattle.passive_set.specs.DirectSet.{IsLinkedTo}
 use Rattle.passive_set.specs.Feeding.{Closure, Feeds, FeedsMarked, FeedsNode, FeedsPort, Owns, SomeBelow}
 use Rattle.passive_set.specs.Feeding.Closure.{first, onward}
-use Rattle.passive_set.specs.Marks.{IsMarked}
+use Rattle.config_graph.specs.Marks.{IsMarked}
 use Rattle.passive_set.specs.Ports.{Adds}
-use Rattle.passive_set.proofs.MarkLemmas.{Contains_more, and_then, as_it_is, back, either, marked_more, marked_within, or_never}
+use Rattle.config_graph.proofs.MarkLaws.{marked_more, marked_within}
+use Rattle.passive_set.proofs.MarkLemmas.{Contains_more, and_then, as_it_is, back, either, or_never}
 use Rattle.passive_set.proofs.PortLemmas.{Adds-has, Adds-more, Adds-same}
 
 -- one number more

@@ -1,16 +1,15 @@
 -- Lemmas on marks and on the list of those that are set.
-use Rattle.std.proofs.Common.{◌≡◌, ◌⊎◌, ◌↔◌, ℕ, zero, suc, ◌+◌, ◌<◌, ◌≤◌, Bool, true, false, cond, List, [], ◌∷◌, ◌++◌, length, take, set, get_or, sym, ◌∙◌, ap, subst, inl, inr, arith, filter, Contains, get_or-set_other}
+use Rattle.std.proofs.Common.{◌≡◌, ◌⊎◌, ◌↔◌, ℕ, zero, suc, ◌+◌, ◌<◌, ◌≤◌, Bool, true, false, cond, List, [], ◌∷◌, ◌++◌, length, take, set, get_or, sym, ◌∙◌, ap, subst, inl, arith, filter, Contains}
 use Rattle.std.specs.List.{range_with_len}
 use Rattle.std.specs.List.Sorted.{IsStrictlyIncreasing}
 use Rattle.std.proofs.Math.Logic.{⊎_elim, ⊎_map}
-use Rattle.std.proofs.lemmas.Bool.{cases_eq, cases_lt, false≢true}
-use Rattle.std.proofs.lemmas.Grind.{get_or-set_at}
-use Rattle.std.proofs.lemmas.List.{take_more, get_or_past}
+use Rattle.std.proofs.lemmas.List.{take_more}
 use Rattle.std.proofs.lemmas.List.Elements.{All-contains, Contains-append_left, Contains-append_right, Contains-get_or, Contains-push, Contains-push_cases, filter-append, filter_passes}
 use Rattle.std.proofs.lemmas.List.FromFn.{get_or-range_with_len, length-range_with_len}
 use Rattle.std.proofs.lemmas.List.Kept.{IsStrictlyIncreasing-filter}
 use Rattle.config_graph.proofs.ListLemmas.{places_more}
-use Rattle.passive_set.specs.Marks.{IsMarked}
+use Rattle.config_graph.specs.Marks.{IsMarked}
+use Rattle.config_graph.proofs.MarkLaws.{marked_more, marked_within}
 
 -- equivalences, one after another, the other way round, and side by side
 module _ {A B : Type 0} where
@@ -31,33 +30,6 @@ as_it_is = (λ a. a, λ a. a)
 
 pub turned : {A : Type 0} {x y : A} → (x ≡ y) ↔ (y ≡ x)
 turned = (λ same. sym same, λ same. sym same)
-
--- only the nodes of the list have marks
-pub marked_within : (marks : List Bool) (i : ℕ) → IsMarked marks i → i < length marks
-marked_within marks i h =
-    elim (cases_lt i (length marks)) [
-      | inl low ↦ low
-      | inr high ↦ absurd (false≢true (sym (get_or_past marks i false high) ∙ h))
-    ]
-
--- the marks after one more is set
-pub marked_more : (marks : List Bool) (n : ℕ) → n < length marks → (i : ℕ) → IsMarked (set marks n true) i ↔ (IsMarked marks i ⊎ (n ≡ i))
-marked_more marks n low i = (to, from)
-  where
-    to : IsMarked (set marks n true) i → IsMarked marks i ⊎ (n ≡ i)
-    to h =
-        elim (cases_eq i n) [
-          | inl same ↦ inr (sym same)
-          | inr apart ↦ inl (sym (get_or-set_other marks n i true false apart) ∙ h)
-        ]
-
-    from : IsMarked marks i ⊎ (n ≡ i) → IsMarked (set marks n true) i
-    from (inr same) = get_or-set_at marks n i true false (sym same) low
-    from (inl m) =
-        elim (cases_eq i n) [
-          | inl same ↦ get_or-set_at marks n i true false same low
-          | inr apart ↦ get_or-set_other marks n i true false apart ∙ m
-        ]
 
 -- the elements of a list, one element more, and of a list as far as one place more
 pub Contains-pushed : {A : Type 0} (xs : List A) (y x : A) → Contains (xs ++ y ∷ []) x ↔ (Contains xs x ⊎ (y ≡ x))

@@ -5,9 +5,10 @@ use Rattle.std.proofs.Math.Logic.{⊎_elim, ⊎_map}
 use Rattle.std.proofs.lemmas.List.Elements.{All-append, All-contains, All-weaker, Contains-append_cases, Contains-append_left, Contains-get_or}
 use Rattle.std.proofs.lemmas.Option.{get_or_from_slice_get, slice_get_within}
 use Rattle.std.proofs.lemmas.List.Sums.{sum_by-set}
-use Rattle.passive_set.specs.Marks.{IsMarked}
+use Rattle.config_graph.specs.Marks.{IsMarked}
+use Rattle.config_graph.proofs.MarkLaws.{marked_more, marked_within}
 use Rattle.passive_set.specs.Ports.{Adds}
-use Rattle.passive_set.proofs.MarkLemmas.{Contains-pushed, Contains_more, and_then, as_it_is, back, either, marked_more, marked_within, turned}
+use Rattle.passive_set.proofs.MarkLemmas.{Contains-pushed, Contains_more, and_then, as_it_is, back, either, turned}
 
 -- what a list has to which ports were added
 pub Adds-has : (old new : List ℕ) (P : ℕ → Type 0) → Adds old new P → (p : ℕ) → Contains new p ↔ (Contains old p ⊎ P p)

@@ -3,7 +3,7 @@ use Rattle.std.specs.Prelude.{◌≡◌, ◌<◌, ℕ, Bool, List, Some, slice_g
 use Rattle.config_graph.specs.Cycles.{depends_at}
 use Rattle.config_graph.specs.Graph.{Configuration, incoming_ports, ports, provides_at}
 use Rattle.config_graph.specs.declared.node.Port.{Port}
-use Rattle.passive_set.specs.Marks.{IsMarked}
+use Rattle.config_graph.specs.Marks.{IsMarked}
 
 -- one of the first numbers has P
 abbrev pub SomeBelow : ℕ → (ℕ → Type 0) → Type 0

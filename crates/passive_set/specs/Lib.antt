@@ -1,5 +1,4 @@
 pub mod DirectSet
 pub mod Feeding
-pub mod Marks
 pub mod PortSets
 pub mod Ports

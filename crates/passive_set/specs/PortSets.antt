@@ -1,6 +1,6 @@
 -- What is kept of a set of ports: the ports in order, and for each number below its room whether that port is there.
 use Rattle.std.specs.Prelude.{◌≡◌, ◌<◌, ◌^◌, ◌+◌, ◌↔◌, ℕ, not, length, count_by, Contains}
-use Rattle.passive_set.specs.Marks.{IsMarked}
+use Rattle.config_graph.specs.Marks.{IsMarked}
 use Rattle.passive_set.specs.Ports.{Ports}
 use Rattle.passive_set.specs.declared.port_set.PortSet.TheInside.{Inside}
 

@@ -2,7 +2,7 @@
 
 ghost use Rattle.std.specs.Prelude.{◌≡◌, ◌<◌, ◌^◌, ◌↔◌, ℕ, length, All, Contains, IfOk};
 ghost use Rattle.std.specs.List.Sorted.{IsStrictlyIncreasing};
-ghost use Rattle.passive_set.specs.Marks.{IsMarked};
+ghost use Rattle.config_graph.specs.Marks.{IsMarked};
 
 use config_graph::NoMemory;
 use std::alloc::Global;

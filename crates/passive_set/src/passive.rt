@@ -5,7 +5,7 @@ ghost use Rattle.std.specs.List.Sorted.{IsStrictlyIncreasing};
 ghost use Rattle.config_graph.specs.Graph.{IsGraph, incoming_ports, ports, provides_at, requires_at};
 ghost use Rattle.config_graph.specs.Reach.{Enlarged};
 ghost use Rattle.passive_set.specs.DirectSet.{Direct};
-ghost use Rattle.passive_set.specs.Marks.{IsMarked};
+ghost use Rattle.config_graph.specs.Marks.{IsMarked};
 ghost use Rattle.passive_set.specs.Ports.{Adds};
 ghost use Rattle.passive_set.specs.Feeding.{Closure, FeedsMarked, FeedsNode, FeedsPort, Owns};
 

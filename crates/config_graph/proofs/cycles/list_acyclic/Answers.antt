@@ -2,10 +2,11 @@ use Rattle.std.proofs.Common.{◌≡◌, ℕ, ◌∷◌, [], ◌++◌, ◌<◌, 
 use Rattle.std.proofs.lemmas.List.{length-replicate, get_or_read}
 use Rattle.config_graph.specs.Cycles.{OnCycle, wiring_of}
 use Rattle.config_graph.specs.Wiring.{MayCall}
-use Rattle.config_graph.specs.Search.{Has}
+use Rattle.config_graph.specs.Marks.{IsMarked}
 use Rattle.config_graph.proofs.CycleLemmas.{range_below}
 use Rattle.config_graph.proofs.WalkLemmas.{acyclic_next}
-use Rattle.config_graph.proofs.SearchLemmas.{All-before_last, All-last, Has-set_only, none_set, clear_falls}
+use Rattle.config_graph.proofs.MarkLaws.{marked_only, none_marked}
+use Rattle.config_graph.proofs.SearchLemmas.{All-before_last, All-last, clear_falls}
 use Rattle.config_graph.proofs.cycles.list_acyclic.Goals as goal
 use Rattle.config_graph.proofs.cycles.list_acyclic.Goals.{In_ok-push_predecessors}
 
@@ -15,7 +16,7 @@ loop-node-init c =
     record {
       long = omega (arith, c.in_ok-acyclic.acyclic.ok.0, ap length c.in_ok-acyclic.ensures, length-replicate count.result false, count.ensures.count);
       nodes = rw c.in_ok-waiting.ensures (range_below (length c.args.graph.now.nodes) count.result count.ensures.count);
-      acyclic = λ i h. absurd (none_set count.result i (rw c.in_ok-acyclic.ensures at h));
+      acyclic = λ i h. absurd (none_marked count.result i (rw c.in_ok-acyclic.ensures at h));
     }
 
 -- the node that was taken from the waiting ones, and those that still wait
@@ -44,10 +45,10 @@ loop-node-preserved-then-leads_only_to c =
       long = c.loop-node.invariant.long;
       nodes = c.in_ok-push_predecessors.ensures.nodes (All-before_last (λ i. i < length g.nodes) c.pop.new.self.items node (waiting_are c));
       acyclic = λ i has.
-          elim (Has-set_only acyclic i node has) [
+          elim (marked_only acyclic i node has) [
             | inl before ↦ c.loop-node.invariant.acyclic i before
             | inr same ↦
-                let leads = λ (j : ℕ) (h : MayCall (wiring_of g) node j). c.loop-node.invariant.acyclic j (subst (λ bits. Has bits j) c.deref.ensures.value (c.if-leads_only_to.ensures refl j h)) in
+                let leads = λ (j : ℕ) (h : MayCall (wiring_of g) node j). c.loop-node.invariant.acyclic j (subst (λ bits. IsMarked bits j) c.deref.ensures.value (c.if-leads_only_to.ensures refl j h)) in
                 subst (λ k. ¬ OnCycle g k) (sym same) (acyclic_next (MayCall (wiring_of g)) node leads)
           ];
     }

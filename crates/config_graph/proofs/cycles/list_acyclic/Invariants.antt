@@ -1,6 +1,6 @@
 use Rattle.std.proofs.Common.{◌≡◌, ◌+◌, ◌*◌, ◌<◌, ℕ, All, length, vec_len}
 use Rattle.config_graph.specs.Cycles.{OnCycle}
-use Rattle.config_graph.specs.Search.{Has}
+use Rattle.config_graph.specs.Marks.{IsMarked}
 use Rattle.config_graph.proofs.SearchLemmas.{unseen}
 use Rattle.config_graph.proofs.cycles.list_acyclic.Given as goal
 
@@ -8,7 +8,7 @@ abbrev pub invariant-loop-node : goal.invariant-loop-node
 invariant-loop-node l = record {
   long : vec_len l.acyclic ≡ length l.graph.nodes;
   nodes : All (λ i. i < length l.graph.nodes) l.waiting.items;
-  acyclic : (i : ℕ) → Has l.acyclic.items i → ¬ OnCycle l.graph i;
+  acyclic : (i : ℕ) → IsMarked l.acyclic.items i → ¬ OnCycle l.graph i;
 }
 
 abbrev pub decreases-loop-node : goal.decreases-loop-node

@@ -1,6 +1,6 @@
 use Rattle.std.proofs.Common.{◌∙◌, ◌++◌, ◌↔◌, [], ◌∷◌, Bool, ap, cond, subst, sym, append-nil, Contains}
 use Rattle.std.specs.List.Sorted.{IsStrictlyIncreasing}
-use Rattle.passive_set.specs.Marks.{IsMarked}
+use Rattle.config_graph.specs.Marks.{IsMarked}
 use Rattle.passive_set.proofs.MarkLemmas.{marked_in, marked_in_more, Contains-marked_in, marked_in-rising}
 use Rattle.passive_set.proofs.marks.list_marked.Goals as goal
 use Rattle.passive_set.proofs.marks.list_marked.Goals.{then-is_marked+in_ok-push, else-is_marked}

@@ -1,7 +1,7 @@
 use Rattle.std.proofs.Common.{◌∙◌, ◌<◌, ◌↔◌, arith, length, refl, subst, get_or, Contains}
 use Rattle.std.proofs.Math.ListN.{length-set}
 use Rattle.std.proofs.lemmas.List.{take_all}
-use Rattle.passive_set.specs.Marks.{IsMarked}
+use Rattle.config_graph.specs.Marks.{IsMarked}
 use Rattle.passive_set.proofs.MarkLemmas.{marks_more}
 use Rattle.passive_set.proofs.marks.mark_nodes.Goals as goal
 

@@ -1,5 +1,5 @@
 use Rattle.std.proofs.Common.{◌≡◌, ◌↔◌, ℕ, length, take, Contains}
-use Rattle.passive_set.specs.Marks.{IsMarked}
+use Rattle.config_graph.specs.Marks.{IsMarked}
 use Rattle.passive_set.proofs.marks.mark_nodes.Given as goal
 
 abbrev pub invariant-loop-node : goal.invariant-loop-node

@@ -1,6 +1,6 @@
 use Rattle.std.proofs.Common.{◌≡◌, ◌↔◌, ◌⊎◌, ℕ, length, take}
 use Rattle.passive_set.specs.Feeding.{Owns}
-use Rattle.passive_set.specs.Marks.{IsMarked}
+use Rattle.config_graph.specs.Marks.{IsMarked}
 use Rattle.passive_set.proofs.passive.with_owners.Given as goal
 
 abbrev pub invariant-loop-port : goal.invariant-loop-port

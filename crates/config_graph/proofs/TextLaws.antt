@@ -1,6 +1,6 @@
 -- Equal texts come from equal graphs: the lines are parted again at the signs that their parts don't hold.
 use Rattle.std.proofs.Common.{inl, inr, ◌⊎◌, ◌≡◌, ◌≢◌, ◌+◌, ◌%◌, ◌<◌, ◌≤◌, ◌^◌, ℕ, zero, suc, Bool, true, not, ◌&&◌, eqb, List, [], ◌∷◌, ◌++◌, Option, Some, None, is_some, slice_get, length, get_or, IfSome, refl, sym, ◌∙◌, ap, subst, arith, append_assoc, zero-add}
-use Rattle.std.specs.Prelude.{All, codes, decimal, flat_map}
+use Rattle.std.specs.Prelude.{All, codes, decimal, flat_map, unwrap_or}
 use Rattle.std.specs.List.{enumerate_from, list_all, range_with_len}
 use Rattle.std.specs.Option.{option_map_or}
 use Rattle.std.proofs.lemmas.Bool.{cases_lt, false≢true, true≢false, eq-eqb}
@@ -30,7 +30,7 @@ use Rattle.config_graph.proofs.PathLemmas.{bytes_eq-below}
 use Rattle.config_graph.proofs.KindLemmas.{kind_named-name}
 
 -- no element of the list is c
-abbrev Free : ℕ → List ℕ → Type 0
+abbrev pub Free : ℕ → List ℕ → Type 0
 Free c xs = All (λ b. b ≢ c) xs
 
 Free-tail : (c x : ℕ) (xs : List ℕ) → Free c (x ∷ xs) → Free c xs
@@ -41,7 +41,7 @@ not_free c [] ys h = h 0 c (omega arith) refl
 not_free c (x ∷ xs) ys h = not_free c xs ys (Free-tail c x (xs ++ c ∷ ys) h)
 
 -- two texts are parted at the first c, or at the last
-split_first : (c : ℕ) (xs ys us vs : List ℕ) → Free c xs → Free c ys → xs ++ c ∷ us ≡ ys ++ c ∷ vs → (xs ≡ ys) × (us ≡ vs)
+pub split_first : (c : ℕ) (xs ys us vs : List ℕ) → Free c xs → Free c ys → xs ++ c ∷ us ≡ ys ++ c ∷ vs → (xs ≡ ys) × (us ≡ vs)
 split_first c [] [] us vs f g e = (refl, cc)
 split_first c [] (y ∷ ys) us vs f g e = let same : y ≡ c = cc in absurd (g 0 c (omega arith) same)
 split_first c (x ∷ xs) [] us vs f g e = let same : x ≡ c = cc in absurd (f 0 c (omega arith) same)
@@ -51,7 +51,7 @@ split_first c (x ∷ xs) (y ∷ ys) us vs f g e =
     let rest = split_first c xs ys us vs (Free-tail c x xs f) (Free-tail c y ys g) tail in
     (λ i. head i ∷ rest.0 i, rest.1)
 
-split_last : (c : ℕ) (xs ys us vs : List ℕ) → Free c us → Free c vs → xs ++ c ∷ us ≡ ys ++ c ∷ vs → (xs ≡ ys) × (us ≡ vs)
+pub split_last : (c : ℕ) (xs ys us vs : List ℕ) → Free c us → Free c vs → xs ++ c ∷ us ≡ ys ++ c ∷ vs → (xs ≡ ys) × (us ≡ vs)
 split_last c [] [] us vs f g e = (refl, cc)
 split_last c [] (y ∷ ys) us vs f g e =
     let tail : us ≡ ys ++ c ∷ vs = cc in
@@ -116,11 +116,84 @@ provide_name_plain k x = by (slice_get (row k).provides x) refl
         let read : get_or (row k).provides x p ≡ p = get_or_from_slice_get (row k).provides x p p e in
         ap plain (sym read) ∙ AllPass-from_list_all plain (row k).provides (provisions_plain k) x p low
 
-provide_name_line : (k : Kind) (x : ℕ) → Free 10 (provide_name k x)
+pub provide_name_line : (k : Kind) (x : ℕ) → Free 10 (provide_name k x)
 provide_name_line k x = Free-from_lacks 10 (provide_name k x) (both_true _ _ (provide_name_plain k x)).0
 
-provide_name_dot : (k : Kind) (x : ℕ) → Free 46 (provide_name k x)
+pub provide_name_dot : (k : Kind) (x : ℕ) → Free 46 (provide_name k x)
 provide_name_dot k x = Free-from_lacks 46 (provide_name k x) (both_true _ _ (provide_name_plain k x)).1
+
+-- nor do those of requirements, nor a space, and a kind's are apart
+abbrev plain_name : List ℕ → Bool
+plain_name name = lacks 10 name && (lacks 32 name && lacks 46 name)
+
+requirements_plain : (k : Kind) → list_all plain_name (row k).requires_ ≡ true
+requirements_plain Philosopher = refl
+requirements_plain Place = refl
+requirements_plain Fork = refl
+requirements_plain Source = refl
+requirements_plain Map = refl
+requirements_plain Buffer = refl
+requirements_plain Sink = refl
+requirements_plain Teller = refl
+requirements_plain Branch = refl
+requirements_plain Account = refl
+requirements_plain Asker = refl
+requirements_plain Adder = refl
+
+require_name_plain : (k : Kind) (r : ℕ) → plain_name (require_name k r) ≡ true
+require_name_plain k r = by (slice_get (row k).requires_ r) refl
+  where
+    by : (o : Option (List ℕ)) → slice_get (row k).requires_ r ≡ o → plain_name (unwrap_or o []) ≡ true
+    by None e = refl
+    by (Some name) e =
+        let low = slice_get_within (row k).requires_ r name e in
+        let read : get_or (row k).requires_ r name ≡ name = get_or_from_slice_get (row k).requires_ r name name e in
+        ap plain_name (sym read) ∙ AllPass-from_list_all plain_name (row k).requires_ (requirements_plain k) r name low
+
+pub require_name_line : (k : Kind) (r : ℕ) → Free 10 (require_name k r)
+require_name_line k r = Free-from_lacks 10 (require_name k r) (both_true _ _ (require_name_plain k r)).0
+
+pub require_name_space : (k : Kind) (r : ℕ) → Free 32 (require_name k r)
+require_name_space k r = Free-from_lacks 32 (require_name k r) (both_true _ _ (both_true _ _ (require_name_plain k r)).1).0
+
+pub require_name_dot : (k : Kind) (r : ℕ) → Free 46 (require_name k r)
+require_name_dot k r = Free-from_lacks 46 (require_name k r) (both_true _ _ (both_true _ _ (require_name_plain k r)).1).1
+
+two_requires : (k : Kind) → length (row k).requires_ ≤ 2
+two_requires Philosopher = omega arith
+two_requires Place = omega arith
+two_requires Fork = omega arith
+two_requires Source = omega arith
+two_requires Map = omega arith
+two_requires Buffer = omega arith
+two_requires Sink = omega arith
+two_requires Teller = omega arith
+two_requires Branch = omega arith
+two_requires Account = omega arith
+two_requires Asker = omega arith
+two_requires Adder = omega arith
+
+names_apart : (k : Kind) → 1 < length (row k).requires_ → require_name k 0 ≡ require_name k 1 → ⊥
+names_apart Philosopher low same = omega (arith, low)
+names_apart Place low same = let long = ap length same in omega (arith, long)
+names_apart Fork low same = omega (arith, low)
+names_apart Source low same = omega (arith, low)
+names_apart Map low same = omega (arith, low)
+names_apart Buffer low same = omega (arith, low)
+names_apart Sink low same = omega (arith, low)
+names_apart Teller low same = omega (arith, low)
+names_apart Branch low same = let long = ap length same in omega (arith, long)
+names_apart Account low same = omega (arith, low)
+names_apart Asker low same = omega (arith, low)
+names_apart Adder low same = omega (arith, low)
+
+pub one_requirement : (k : Kind) (r s : ℕ) → r < length (row k).requires_ → s < length (row k).requires_ → require_name k r ≡ require_name k s → r ≡ s
+one_requirement k zero zero low high same = refl
+one_requirement k zero (suc zero) low high same = absurd (names_apart k high same)
+one_requirement k (suc zero) zero low high same = absurd (names_apart k low (sym same))
+one_requirement k (suc zero) (suc zero) low high same = refl
+one_requirement k (suc (suc r)) s low high same = absurd (omega (arith, low, two_requires k))
+one_requirement k r (suc (suc s)) low high same = absurd (omega (arith, high, two_requires k))
 
 -- a decimal number holds no closing parenthesis
 decimal_free : (n : ℕ) → n < 2 ^ 64 → Free 41 (decimal n)
