@@ -55,7 +55,7 @@ at_place : (ns : List Node) (n : Node) → Contains ns n → (i : ℕ) × (slice
 at_place ns n there = (there.0, slice_get-get_or ns there.0 n there.1 ∙ ap Some there.2)
 
 -- what stands at a place
-read : (ns : List Node) (i : ℕ) → i < length ns → (n : Node) × (slice_get ns i ≡ Some n)
+pub read : (ns : List Node) (i : ℕ) → i < length ns → (n : Node) × (slice_get ns i ≡ Some n)
 read [] i low = absurd (omega arith)
 read (n ∷ ns) zero low = (n, refl)
 read (n ∷ ns) (suc i) low = read ns i (omega arith)

@@ -4,6 +4,7 @@ pub mod DifferenceLemmas
 pub mod MoveLemmas
 pub mod PlanningLemmas
 pub mod ApplyingLemmas
+pub mod TextLemmas
 pub mod RoomLaws
 pub mod RefusalLemmas
 pub mod ExistenceLemmas

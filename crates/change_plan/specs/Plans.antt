@@ -1,6 +1,6 @@
 -- The plan from one configuration to another: what the one has and the other hasn't, whose states go on, and what is frozen
 -- meanwhile.
-use Rattle.std.specs.Prelude.{◌↔◌, ℕ, List, Contains}
+use Rattle.std.specs.Prelude.{◌≡◌, ◌↔◌, ℕ, List, Contains}
 use Rattle.std.specs.List.Sorted.{IsStrictlyIncreasing}
 use Rattle.config_graph.specs.Graph.{Configuration}
 use Rattle.change_plan.specs.Differences.{GoneLinks, GoneNodes, GonePorts}
@@ -25,3 +25,11 @@ pub record IsPlanOf (old new : Configuration) (asked : List Move) (p : Plan) : T
   pub freeze : (i : ℕ) → Contains p.freeze i ↔ Frozen old new i
   -- each of them once, in order
   pub freeze_rises : IsStrictlyIncreasing p.freeze
+
+-- two plans are the same but for the moves
+pub record HasSameSteps (p q : Plan) : Type 0 where
+  pub freeze : p.freeze ≡ q.freeze
+  pub unlink : p.unlink ≡ q.unlink
+  pub remove : p.remove ≡ q.remove
+  pub create : p.create ≡ q.create
+  pub link : p.link ≡ q.link

@@ -4,9 +4,12 @@ ghost use Rattle.std.specs.Prelude.{◌≡◌, ◌⊎◌, ◌<◌, ◌↔◌, �
 ghost use Rattle.config_graph.specs.declared.node.Link.{Link};
 ghost use Rattle.config_graph.specs.declared.node.Node.{Node};
 ghost use Rattle.config_graph.specs.Graph.{Configuration, IsGraph};
+ghost use Rattle.config_graph.specs.GraphText.{IsOneWord};
 ghost use Rattle.change_plan.specs.Applying.{Connection, ConnectionAfter, IsConnected, KeepsItsLinks, MayBeRelinked, NodeAfter};
 ghost use Rattle.change_plan.specs.Moves.{IsOfOneKind, IsShifts, MayMoveAll};
-ghost use Rattle.change_plan.specs.Plans.{IsPlanOf};
+ghost use Rattle.change_plan.specs.PlanText.{plan_text};
+ghost use Rattle.change_plan.specs.PlanWithin.{IsPlanWithin};
+ghost use Rattle.change_plan.specs.Plans.{HasSameSteps, IsPlanOf};
 ghost use Rattle.change_plan.specs.Refusals.{CanPlan, IsRefusal};
 ghost use Rattle.change_plan.specs.declared.error.PlanError.{PlanError};
 ghost use Rattle.config_graph.specs.declared.node.Made.{Made};
@@ -53,6 +56,15 @@ pub fn a_state_goes_to_one_node_of_its_kind()
     ensures targets { (old new : Configuration) (moves : List Move) (shifts : List Shift) → IsGraph old → IsGraph new
         → MayMoveAll old new moves (length moves) → IsShifts old new moves shifts
         → (s t : Shift) → Contains shifts s → Contains shifts t → s.new ≡ t.new → s ≡ t }
+{}
+
+/// A law: where no path holds a space or a line feed, two plans between the same graphs freeze, unlink, remove, create and link
+/// the same if their texts are equal. Of moves a text says nothing.
+pub fn texts_tell_plans()
+    ensures { (old new : Configuration) (p q : Plan) → IsGraph old → IsGraph new
+        → All (λ n. IsOneWord n.path) old.nodes → All (λ n. IsOneWord n.path) new.nodes
+        → IsPlanWithin old new p → IsPlanWithin old new q
+        → plan_text old new p ≡ plan_text old new q → HasSameSteps p q }
 {}
 
 /// A law: there is a plan for moves, or a refusal of them: always one of these, and one alone.
