@@ -2,8 +2,8 @@
 use Rattle.std.proofs.Common.{◌≡◌, ◌≢◌, ◌⊎◌, inl, inr, ℕ, ℤ, true, false, List, [], ◌∷◌, map, Option, Some, None, Result, Ok, Err, refl, sym, ap, ◌∙◌}
 use Rattle.quiesce_core.specs.declared.event.Event.{Event}
 use Rattle.change_script.specs.declared.event_files.EventFile.{EventFile}
-use Rattle.change_script.specs.declared.event_lines.LineFault.{LineFault}
-use Rattle.change_script.specs.declared.event_lines.LineFault.TheVariants.{Bad, Big}
+use Rattle.change_script.specs.declared.error.LineFault.{LineFault}
+use Rattle.change_script.specs.declared.error.LineFault.TheVariants.{Bad, Big}
 use Rattle.change_script.specs.declared.event_lines.Statement.{Statement}
 use Rattle.change_script.specs.declared.event_lines.Statement.TheVariants as statements
 use Rattle.change_script.specs.declared.error.ScriptError.{ScriptError}
@@ -170,14 +170,14 @@ no_want_of_memory text first = no_want_of (lines_of text) first
 
 -- what the code finds
 pub file_is : (text : List ℕ) (line : Line) (lines : List Line) (name : List ℕ) (args : List ℤ) (events : List Event) → lines_of text ≡ line ∷ lines
-    → Ok (statements.Start name args) ≡ meaning (tokens line.bytes) → read_events lines ≡ Ok events → IsEventFile text (record { name = name; args = args; events = events })
+    → meaning (tokens line.bytes) ≡ Ok (statements.Start name args) → read_events lines ≡ Ok events → IsEventFile text (record { name = name; args = args; events = events })
 file_is text line lines name args events is said read =
-    ap (map meaning_of_line) is ∙ ap (λ m. m ∷ map meaning_of_line lines) (sym said) ∙ ap (λ ms. Ok (statements.Start name args) ∷ ms) (events_read lines events read)
+    ap (map meaning_of_line) is ∙ ap (λ m. m ∷ map meaning_of_line lines) said ∙ ap (λ ms. Ok (statements.Start name args) ∷ ms) (events_read lines events read)
 
 pub fault_is : (text : List ℕ) (line : Line) (lines : List Line) (name : List ℕ) (args : List ℤ) (fault : ScriptError) → lines_of text ≡ line ∷ lines
-    → Ok (statements.Start name args) ≡ meaning (tokens line.bytes) → read_events lines ≡ Err fault → IsFirstFault text fault
+    → meaning (tokens line.bytes) ≡ Ok (statements.Start name args) → read_events lines ≡ Err fault → IsFirstFault text fault
 fault_is text line lines name args fault is said read =
-    inr (ap (λ l. first_fault (faults l)) is ∙ ap (λ m. first_fault (fault_in true line.number m ∷ map (fault_of false) lines)) (sym said) ∙ faults_read lines fault read)
+    inr (ap (λ l. first_fault (faults l)) is ∙ ap (λ m. first_fault (fault_in true line.number m ∷ map (fault_of false) lines)) said ∙ faults_read lines fault read)
 
 abbrev refusal : ScriptError → Result EventFile ScriptError
 refusal fault = Err fault

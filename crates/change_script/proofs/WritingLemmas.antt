@@ -17,9 +17,9 @@ use Rattle.quiesce_core.specs.declared.event.Event.{Event}
 use Rattle.quiesce_core.specs.declared.event.Event.TheVariants as events
 use Rattle.change_script.specs.declared.event_lines.Statement.TheVariants as statements
 use Rattle.change_script.specs.Tokens.{Token, word, opened, closed, tokens, is_word_byte, begins_word}
-use Rattle.change_script.specs.Numbers.{is_number, number, number_fits}
-use Rattle.change_script.specs.Paths.{is_path}
-use Rattle.change_script.specs.EventLines.{MakeWords, meaning, three_numbers, one_number, make_of_words, make_of_kind, make_words, none_or, event_line, owner_event, target_event, single_event, link_event}
+use Rattle.change_script.specs.Numbers.{is_number, number, number_fits, number_in}
+use Rattle.change_script.specs.Paths.{is_path, path_fits, path_in}
+use Rattle.change_script.specs.EventLines.{MakeWords, meaning, three_numbers, make_of_words, make_of_kind, make_words, optional_number, event_line, owner_event, target_event, single_event, link_event}
 use Rattle.change_script.specs.declared.verbs.OwnerStep.TheVariants as owner
 use Rattle.change_script.specs.declared.verbs.TargetStep.TheVariants as target
 use Rattle.change_script.specs.declared.verbs.Single.TheVariants as singles
@@ -86,18 +86,14 @@ three_tokens verb first second third is small =
     ∙ ap (λ ts. word verb ∷ word a ∷ ts) (spaced_tokens b (c ∷ []) (decimal_of second small.1).is_word)
     ∙ ap (λ ts. word verb ∷ word a ∷ word b ∷ ts) (spaced_tokens c [] (decimal_of third small.2).is_word)
 
-three_of : (first second third : ℕ) → AreNumbers first second third
-    → three_numbers (decimal first) (decimal second) (decimal third) ≡ Ok (record { first = first; second = second; third = third })
-three_of first second third small =
-    let a = decimal_of first small.0 in
-    let b = decimal_of second small.1 in
-    let c = decimal_of third small.2 in
-    rw (a.is_one, b.is_one, c.is_one, a.fits, b.fits, c.fits, a.value, b.value, c.value) refl
-
-one_of : (first : ℕ) → IsNumber first → one_number (decimal first) ≡ Ok first
+one_of : (first : ℕ) → IsNumber first → number_in (decimal first) ≡ Ok first
 one_of first small =
     let a = decimal_of first small in
     rw (a.is_one, a.fits, a.value) refl
+
+three_of : (first second third : ℕ) → AreNumbers first second third
+    → three_numbers (decimal first) (decimal second) (decimal third) ≡ Ok (record { first = first; second = second; third = third })
+three_of first second third small = rw (one_of first small.0, one_of second small.1, one_of third small.2) refl
 
 kind_is_word : (kind : Kind) → is_word (row kind).name ≡ true
 kind_is_word Philosopher = refl
@@ -177,25 +173,16 @@ words_found slot node None (Some s) = refl
 words_found slot node (Some n) None = refl
 words_found slot node (Some n) (Some s) = refl
 
--- what an optional number is
-record Optional (n : Option ℕ) : Type 0 where
-  is_one : none_or is_number (option_map decimal n) ≡ true
-  value : option_map number (option_map decimal n) ≡ n
-  fits : none_or number_fits (option_map decimal n) ≡ true
+optional_of : (n : Option ℕ) → IfSome n IsNumber → optional_number (option_map decimal n) ≡ Ok n
+optional_of None small = refl
+optional_of (Some n) small = rw (one_of n small) refl
 
-optional : (n : Option ℕ) → IfSome n IsNumber → Optional n
-optional None small = record { is_one = refl; value = refl; fits = refl }
-optional (Some n) small =
-    let d = decimal_of n small in
-    record { is_one = d.is_one; value = ap Some d.value; fits = d.fits }
+path_of : (path : List ℕ) → is_path path ≡ true → path_fits path ≡ true → path_in path ≡ Ok tt
+path_of path is fits = rw (is, fits) refl
 
 made_of : (slot : ℕ) (node : Node) (from : Option ℕ) → CanBeWritten (events.Make slot node from)
     → make_of_kind (words_for slot node from) (Some node.kind) ≡ Ok (events.Make slot node from)
-made_of slot node from can =
-    let s = decimal_of slot can.0 in
-    let a = optional node.arg can.4 in
-    let f = optional from can.5 in
-    rw (s.is_one, can.2, kind_named-name node.kind, a.is_one, f.is_one, s.fits, can.3, a.fits, f.fits, s.value, a.value, f.value) refl
+made_of slot node from can = rw (one_of slot can.0, path_of node.path can.2 can.3, optional_of node.arg can.4, optional_of from can.5) refl
 
 make_means : (slot : ℕ) (node : Node) (from : Option ℕ) → CanBeWritten (events.Make slot node from)
     → meaning (tokens (written (events.Make slot node from))) ≡ Ok (statements.Event (events.Make slot node from))

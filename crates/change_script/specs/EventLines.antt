@@ -1,7 +1,6 @@
 -- What a line of an event file means, by its tokens.
-use Rattle.std.specs.Prelude.{ℕ, ℤ, Bool, true, ◌&&◌, if◌then◌else◌, List, [], ◌∷◌, ◌++◌, map, codes, bytes_eq, find, Option, Some, None, is_some, option_map, option_copied, Result, Ok, Err}
+use Rattle.std.specs.Prelude.{ℕ, ℤ, Bool, ◌&&◌, if◌then◌else◌, List, [], ◌∷◌, ◌++◌, map, codes, bytes_eq, find, Option, Some, None, option_map, option_copied, Result, Ok, Err}
 use Rattle.std.specs.List.{list_all}
-use Rattle.std.specs.Option.{option_map_or}
 use Rattle.config_graph.specs.declared.kind.Kind.{Kind}
 use Rattle.config_graph.specs.Kinds.{kind_named}
 use Rattle.quiesce_core.specs.declared.event.Event.{Event}
@@ -14,15 +13,16 @@ use Rattle.change_script.specs.declared.verbs.Single.{Single}
 use Rattle.change_script.specs.declared.verbs.Single.TheVariants as singles
 use Rattle.change_script.specs.declared.verbs.Verb.{Verb}
 use Rattle.change_script.specs.declared.verbs.Verb.TheVariants as verbs
-use Rattle.change_script.specs.declared.event_lines.LineFault.{LineFault}
-use Rattle.change_script.specs.declared.event_lines.LineFault.TheVariants.{Bad, Big}
+use Rattle.change_script.specs.declared.error.LineFault.{LineFault}
+use Rattle.change_script.specs.declared.error.LineFault.TheVariants.{Bad, Big}
 use Rattle.change_script.specs.declared.event_lines.Statement.{Statement}
 use Rattle.change_script.specs.declared.event_lines.Statement.TheVariants as statements
 use Rattle.change_script.specs.declared.event_lines.Triple.{Triple}
 use Rattle.change_script.specs.declared.event_lines.MakeLine.{MakeLine}
 use Rattle.change_script.specs.Tokens.{Token, word, opened, closed, comma}
-use Rattle.change_script.specs.Numbers.{is_number, number, number_fits, is_integer, integer, integer_fits}
-use Rattle.change_script.specs.Paths.{is_name, is_path, path_fits}
+use Rattle.change_script.specs.Faults.{both, with_value}
+use Rattle.change_script.specs.Numbers.{number_in, is_integer, integer, integer_fits}
+use Rattle.change_script.specs.Paths.{is_name, path_in}
 
 -- the first word of each line
 abbrev pub owner_bytes : OwnerStep → List ℕ
@@ -68,23 +68,16 @@ all_verbs = verbs.Start ∷ (owner_verbs ++ (target_verbs ++ (single_verbs ++ (v
 abbrev pub verb_named : List ℕ → Option Verb
 verb_named name = find (λ verb. bytes_eq (verb_bytes verb) name) all_verbs
 
--- the value of a word that is a number
-abbrev pub one_number : List ℕ → Result ℕ LineFault
-one_number first = if is_number first then (if number_fits first then Ok (number first) else Err Big) else Err Bad
-
 -- NUM
 abbrev pub single_in : List Token → Result ℕ LineFault
-single_in (word first ∷ []) = one_number first
+single_in (word first ∷ []) = number_in first
 single_in _ = Err Bad
 
 -- the values of three words that are numbers
 abbrev pub three_numbers : List ℕ → List ℕ → List ℕ → Result Triple LineFault
 three_numbers first second third =
-    if is_number first && is_number second && is_number third
-    then (if number_fits first && number_fits second && number_fits third
-    then Ok (record { first = number first; second = number second; third = number third })
-    else Err Big)
-    else Err Bad
+    with_value (λ numbers. record { first = numbers.0; second = numbers.1.0; third = numbers.1.1 })
+    (both (number_in first) (both (number_in second) (number_in third)))
 
 -- NUM NUM NUM
 abbrev pub triple_in : List Token → Result Triple LineFault
@@ -150,25 +143,17 @@ abbrev pub make_words : List Token → Option MakeWords
 make_words (word slot ∷ word path ∷ word kind ∷ rest) = after_kind slot path kind rest
 make_words _ = None
 
--- There is no word, or it passes the test.
-abbrev pub none_or : (List ℕ → Bool) → Option (List ℕ) → Bool
-none_or test words = option_map_or test words true
+-- the value of a word that is a number, where there is one
+abbrev pub optional_number : Option (List ℕ) → Result (Option ℕ) LineFault
+optional_number None = Ok None
+optional_number (Some value) = with_value Some (number_in value)
 
--- Slots and the argument are numbers, the path is a path, and the kind is one of the kinds, with or without an argument.
-abbrev pub is_make : MakeWords → Bool
-is_make words = is_number words.slot && is_path words.path && is_some (kind_named words.kind) && none_or is_number words.arg && none_or is_number words.from
-
-abbrev pub make_fits : MakeWords → Bool
-make_fits words = number_fits words.slot && path_fits words.path && none_or number_fits words.arg && none_or number_fits words.from
-
--- a node of this kind is made in the slot
-abbrev pub make_event : MakeWords → Kind → Event
-make_event words kind =
-    events.Make (number words.slot) (record { path = words.path; kind = kind; arg = option_map number words.arg }) (option_map number words.from)
-
+-- A node of this kind is made in the slot: slots and the argument are numbers, and the path is a path.
 abbrev pub make_of_kind : MakeWords → Option Kind → Result Event LineFault
 make_of_kind words None = Err Bad
-make_of_kind words (Some kind) = if is_make words then (if make_fits words then Ok (make_event words kind) else Err Big) else Err Bad
+make_of_kind words (Some kind) =
+    with_value (λ parts. events.Make parts.0 (record { path = words.path; kind = kind; arg = parts.1.1.0 }) parts.1.1.1)
+    (both (number_in words.slot) (both (path_in words.path) (both (optional_number words.arg) (optional_number words.from))))
 
 abbrev pub make_of_words : Option MakeWords → Result Event LineFault
 make_of_words None = Err Bad
@@ -207,8 +192,7 @@ start _ = Err Bad
 
 -- a line that is an event where it has one
 abbrev pub event_line : {A : Type 0} → (A → Event) → Result A LineFault → Result Statement LineFault
-event_line event (Err fault) = Err fault
-event_line event (Ok value) = Ok (statements.Event (event value))
+event_line event read = with_value (λ value. statements.Event (event value)) read
 
 -- what stands behind a verb
 abbrev pub meaning_of : Verb → List Token → Result Statement LineFault

@@ -1,8 +1,10 @@
 -- Words that are numbers and integers, and their values.
-use Rattle.std.specs.Prelude.{ℕ, ℤ, pos, neg_ℤ, Bool, false, ◌==◌, nat_le, if◌then◌else◌, List, [], ◌∷◌, drop, slice_index}
+use Rattle.std.specs.Prelude.{ℕ, ℤ, pos, neg_ℤ, Bool, false, ◌==◌, nat_le, if◌then◌else◌, List, [], ◌∷◌, drop, slice_index, Result, Ok, Err}
 use Rattle.std.specs.List.{list_all}
 use Rattle.std.specs.Char.{is_ascii_digit}
 use Rattle.std.specs.Str.Parse.{digits_value}
+use Rattle.change_script.specs.declared.error.LineFault.{LineFault}
+use Rattle.change_script.specs.declared.error.LineFault.TheVariants.{Bad, Big}
 
 -- one digit or more, and no sign
 abbrev pub is_number : List ℕ → Bool
@@ -15,6 +17,10 @@ number word = digits_value 10 word
 
 abbrev pub number_fits : List ℕ → Bool
 number_fits word = nat_le (number word) 4294967295
+
+-- the value of a word that is a number, or what is wrong with the word
+abbrev pub number_in : List ℕ → Result ℕ LineFault
+number_in word = if is_number word then (if number_fits word then Ok (number word) else Err Big) else Err Bad
 
 abbrev pub is_negative : List ℕ → Bool
 is_negative word = slice_index word 0 == 45

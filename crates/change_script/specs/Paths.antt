@@ -1,5 +1,5 @@
 -- Words that are names of the language, and words that are paths of nodes.
-use Rattle.std.specs.Prelude.{ℕ, Bool, true, false, not, ◌==◌, ◌&&◌, ◌||◌, ◌-◌, List, [], ◌∷◌, take, drop, length, slice_index}
+use Rattle.std.specs.Prelude.{ℕ, Bool, true, false, not, ◌==◌, ◌&&◌, ◌||◌, ◌-◌, List, [], ◌∷◌, take, drop, length, slice_index, if◌then◌else◌, Result, Ok, Err}
 use Rattle.std.specs.List.{list_all, slice_split, prefix_len}
 use Rattle.darwin_lexer.specs.declared.front.Front.{Front}
 use Rattle.darwin_lexer.specs.declared.front.Front.TheVariants.{Lexeme}
@@ -7,6 +7,8 @@ use Rattle.darwin_lexer.specs.declared.token.TokenKind.{TokenKind}
 use Rattle.darwin_lexer.specs.declared.token.TokenKind.TheVariants.{Name}
 use Rattle.darwin_lexer.specs.Fronts.{front_of}
 use Rattle.change_script.specs.Numbers.{is_number, number_fits}
+use Rattle.change_script.specs.declared.error.LineFault.{LineFault}
+use Rattle.change_script.specs.declared.error.LineFault.TheVariants.{Bad, Big}
 
 abbrev pub is_name_kind : TokenKind → Bool
 is_name_kind Name = true
@@ -65,3 +67,7 @@ is_path path = list_all is_segment (segments path)
 -- Each index is at most 4,294,967,295.
 abbrev pub path_fits : List ℕ → Bool
 path_fits path = list_all segment_fits (segments path)
+
+-- what is wrong with a path, or nothing
+abbrev pub path_in : List ℕ → Result (Unit {0}) LineFault
+path_in path = if is_path path then (if path_fits path then Ok tt else Err Big) else Err Bad

@@ -1,19 +1,14 @@
 -- What the lines of an event file say, one after the other.
 use Rattle.std.specs.Prelude.{ℕ, List, [], ◌∷◌, ◌++◌, Result, Ok, Err}
 use Rattle.quiesce_core.specs.declared.event.Event.{Event}
-use Rattle.change_script.specs.declared.event_lines.LineFault.{LineFault}
-use Rattle.change_script.specs.declared.event_lines.LineFault.TheVariants.{Bad, Big}
+use Rattle.change_script.specs.declared.error.LineFault.{LineFault}
 use Rattle.change_script.specs.declared.event_lines.Statement.{Statement}
 use Rattle.change_script.specs.declared.event_lines.Statement.TheVariants as statements
 use Rattle.change_script.specs.declared.error.ScriptError.{ScriptError}
 use Rattle.change_script.specs.declared.error.ScriptError.TheVariants as errors
+use Rattle.change_script.specs.Faults.{fault_with}
 use Rattle.change_script.specs.Lines.{Line}
 use Rattle.change_script.specs.EventFiles.{meaning_of_line}
-
--- the refusal of a line with this number
-abbrev pub fault_with : ℕ → LineFault → ScriptError
-fault_with number Bad = errors.BadLine number
-fault_with number Big = errors.NumberTooBig number
 
 -- the event of a line behind the first
 abbrev pub event_at : ℕ → Result Statement LineFault → Result Event ScriptError

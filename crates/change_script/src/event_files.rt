@@ -1,14 +1,14 @@
 //! From a text to an event file.
 
-ghost use Rattle.std.specs.Prelude.{◌≡◌, ◌≢◌, ◌+◌, ◌^◌, ◌<◌, ◌≤◌, length, IfOk, IfErr, IsOkAnd, IsErrOf, ◌⊎◌, Ok, Err};
-ghost use Rattle.change_script.specs.EventFiles.{IsEventFile, IsFirstFault};
-ghost use Rattle.change_script.specs.Reading.{event_at, fault_with, read_events};
+ghost use Rattle.std.specs.Prelude.{◌≡◌, ◌≢◌, ◌+◌, ◌^◌, ◌<◌, ◌≤◌, length, IfOk, IfErr, IsOkAnd, IsErrOf, ◌⊎◌, Ok, Err, Some, true};
+ghost use Rattle.change_script.specs.EventFiles.{IsEventFile, IsFirstFault, fault_in};
+ghost use Rattle.change_script.specs.Reading.{event_at, read_events};
 ghost use Rattle.change_script.specs.Lines.{statements_from};
 ghost use Rattle.change_script.specs.Tokens.{tokens};
 ghost use Rattle.change_script.specs.EventLines as of_lines;
 
 use crate::error::ScriptError;
-use crate::event_lines::{LineFault, Statement, meaning};
+use crate::event_lines::{Statement, meaning};
 use crate::lines::next_statement;
 use config_graph::{List, Text};
 use quiesce_core::Event;
@@ -37,17 +37,25 @@ pub fn parse_events(alloc: Global, text: &[u8]) -> Result<EventFile, ScriptError
     let Some(first) = next_statement(text, 1) else {
         return Err(ScriptError::NoStart);
     };
-    let (name, args) = match meaning(alloc, first.bytes)? {
-        Ok(Statement::Start { name, args }) => (name, args),
-        Ok(Statement::Event(_)) => return Err(ScriptError::Order(first.number)),
-        Err(fault) => return Err(fault.at(first.number)),
-    };
+    let (name, args) = start_of(alloc, first.bytes, first.number)?;
     let events = events_of(alloc, first.rest, first.number + 1)?;
     Ok(EventFile {
         name,
         args,
         events: List::of(events),
     })
+}
+
+/// The component and the arguments of the first line.
+fn start_of(alloc: Global, line: &[u8], number: u32) -> Result<(Text, List<i32>), ScriptError>
+    ensures read { IfOk result (λ start. of_lines.meaning (tokens line.now) ≡ Ok (Statement.Start start.0 start.1)) }
+    ensures fault { IfErr result (λ fault. fault ≢ ScriptError.NoMemory → fault_in true number (of_lines.meaning (tokens line.now)) ≡ Some fault) }
+{
+    match meaning(alloc, line) {
+        Ok(Statement::Start { name, args }) => Ok((name, args)),
+        Ok(Statement::Event(_)) => Err(ScriptError::Order(number)),
+        Err(error) => Err(error.at(number)),
+    }
 }
 
 /// The events of the lines of `text`, where `number` is that of its first line.
@@ -75,21 +83,9 @@ fn event_of(alloc: Global, line: &[u8], number: u32) -> Result<Event, ScriptErro
     ensures read { IfOk result (λ event. event_at number (of_lines.meaning (tokens line.now)) ≡ Ok event) }
     ensures fault { IfErr result (λ fault. fault ≢ ScriptError.NoMemory → event_at number (of_lines.meaning (tokens line.now)) ≡ Err fault) }
 {
-    match meaning(alloc, line)? {
+    match meaning(alloc, line) {
         Ok(Statement::Event(event)) => Ok(event),
         Ok(Statement::Start { .. }) => Err(ScriptError::Order(number)),
-        Err(fault) => Err(fault.at(number)),
-    }
-}
-
-impl LineFault {
-    /// The refusal that names this fault and the line's number.
-    fn at(self, number: u32) -> ScriptError
-        ensures { result ≡ fault_with number self }
-    {
-        match self {
-            LineFault::Bad => ScriptError::BadLine(number),
-            LineFault::Big => ScriptError::NumberTooBig(number),
-        }
+        Err(error) => Err(error.at(number)),
     }
 }

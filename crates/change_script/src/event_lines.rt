@@ -1,28 +1,20 @@
 //! What a line of an event file says.
 
-ghost use Rattle.std.specs.Prelude.{◌≡◌, ◌∷◌, List, ℕ, true, map, length, option_map, option_copied, IsTrue, IfOk};
+ghost use Rattle.std.specs.Prelude.{◌≡◌, ◌∷◌, List, ℕ, true, map, length, option_map, option_copied, IfOk};
 ghost use Rattle.std.specs.List.{list_all};
-ghost use Rattle.config_graph.specs.Kinds.{kind_named};
+ghost use Rattle.change_script.specs.Faults.{Says};
 ghost use Rattle.change_script.specs.Tokens.{tokens};
 ghost use Rattle.change_script.specs.Numbers as of_numbers;
-ghost use Rattle.change_script.specs.EventLines.{after_kind, arguments, event_line, integers, is_make, make, make_event, make_fits, make_words, meaning, meaning_of, more_arguments, none_or, one_number, single_in, source, start, start_of_words, three_numbers, triple_in, words_of};
+ghost use Rattle.change_script.specs.EventLines.{after_kind, arguments, integers, link_event, make, make_of_kind, make_words, meaning, meaning_of, more_arguments, optional_number, single_in, source, start, start_of_words, three_numbers, triple_in, words_of};
 
-use crate::numbers::{integer, integer_fits, is_integer, is_number, number, number_fits};
-use crate::paths::{is_name, is_path, path_fits};
+use crate::error::{LineError, LineFault, both};
+use crate::numbers::{integer, integer_fits, is_integer, number};
+use crate::paths::{is_name, path};
 use crate::tokens::{after_sign, first_word, is_end};
 use crate::verbs::{Verb, verb_named};
 use config_graph::{Kind, List, NoMemory, Node, Text, kind_of};
 use quiesce_core::Event;
 use std::alloc::Global;
-
-/// What is wrong with a line by itself.
-#[derive(Clone, Copy, Debug, PartialEq, Eq)]
-pub enum LineFault {
-    /// It has none of the forms.
-    Bad,
-    /// It has a form, and in it a number outside its limit.
-    Big,
-}
 
 /// What a line says.
 #[derive(Debug, Drop)]
@@ -50,58 +42,41 @@ struct MakeLine<'a> {
 }
 
 /// What `line` says, or what is wrong with it.
-pub fn meaning(alloc: Global, line: &[u8]) -> Result<Result<Statement, LineFault>, NoMemory>
-    ensures { IfOk result (λ said. said ≡ meaning (tokens line.now)) }
+pub fn meaning(alloc: Global, line: &[u8]) -> Result<Statement, LineError>
+    ensures { Says result (meaning (tokens line.now)) }
 {
     let Some((name, rest)) = first_word(line) else {
-        return Ok(Err(LineFault::Bad));
+        return Err(LineError::Fault(LineFault::Bad));
     };
-    match verb_named(name) {
-        Some(verb) => meaning_of(alloc, verb, rest),
-        None => Ok(Err(LineFault::Bad)),
-    }
+    let Some(verb) = verb_named(name) else {
+        return Err(LineError::Fault(LineFault::Bad));
+    };
+    meaning_of(alloc, verb, rest)
 }
 
 /// What a line says by what stands behind its verb.
-fn meaning_of(
-    alloc: Global,
-    verb: Verb,
-    line: &[u8],
-) -> Result<Result<Statement, LineFault>, NoMemory>
-    ensures { IfOk result (λ said. said ≡ meaning_of verb (tokens line.now)) }
+fn meaning_of(alloc: Global, verb: Verb, line: &[u8]) -> Result<Statement, LineError>
+    ensures { Says result (meaning_of verb (tokens line.now)) }
 {
     match verb {
         Verb::Start => start(alloc, line),
-        Verb::Owner(step) => Ok(match triple_in(line) {
-            Ok(numbers) => Ok(Statement::Event(step.event(numbers))),
-            Err(fault) => Err(fault),
-        }),
-        Verb::Target(step) => Ok(match triple_in(line) {
-            Ok(numbers) => Ok(Statement::Event(step.event(numbers))),
-            Err(fault) => Err(fault),
-        }),
-        Verb::Single(kind) => Ok(match single_in(line) {
-            Ok(at) => Ok(Statement::Event(kind.event(at))),
-            Err(fault) => Err(fault),
-        }),
-        Verb::Link => Ok(link(line)),
-        Verb::Make => Ok(match make(alloc, line)? {
-            Ok(event) => Ok(Statement::Event(event)),
-            Err(fault) => Err(fault),
-        }),
+        Verb::Owner(step) => Ok(Statement::Event(step.event(triple_in(line)?))),
+        Verb::Target(step) => Ok(Statement::Event(step.event(triple_in(line)?))),
+        Verb::Single(kind) => Ok(Statement::Event(kind.event(single_in(line)?))),
+        Verb::Link => Ok(Statement::Event(link(triple_in(line)?))),
+        Verb::Make => Ok(Statement::Event(make(alloc, line)?)),
     }
 }
 
 /// PORT SLOT PROVIDE
-fn link(line: &[u8]) -> Result<Statement, LineFault>
-    ensures { result ≡ meaning_of Verb.Link (tokens line.now) }
+fn link(numbers: Triple) -> Event
+    ensures { result ≡ link_event numbers }
 {
-    let numbers = triple_in(line)?;
-    Ok(Statement::Event(Event::Link {
+    Event::Link {
         port: numbers.first,
         node: numbers.second,
         provide: numbers.third,
-    }))
+    }
 }
 
 /// NUM
@@ -114,19 +89,7 @@ fn single_in(line: &[u8]) -> Result<u32, LineFault>
     if !is_end(line) {
         return Err(LineFault::Bad);
     }
-    one_number(first)
-}
-
-fn one_number(word: &[u8]) -> Result<u32, LineFault>
-    ensures { result ≡ one_number word.now }
-{
-    if !is_number(word) {
-        Err(LineFault::Bad)
-    } else if !number_fits(word) {
-        Err(LineFault::Big)
-    } else {
-        Ok(number(word))
-    }
+    number(first)
 }
 
 /// NUM NUM NUM
@@ -151,37 +114,47 @@ fn triple_in(line: &[u8]) -> Result<Triple, LineFault>
 fn three_numbers(first: &[u8], second: &[u8], third: &[u8]) -> Result<Triple, LineFault>
     ensures { result ≡ three_numbers first.now second.now third.now }
 {
-    if !(is_number(first) && is_number(second) && is_number(third)) {
-        Err(LineFault::Bad)
-    } else if !(number_fits(first) && number_fits(second) && number_fits(third)) {
-        Err(LineFault::Big)
-    } else {
-        Ok(Triple {
-            first: number(first),
-            second: number(second),
-            third: number(third),
-        })
-    }
+    let (first, (second, third)) = both(number(first), both(number(second), number(third)))?;
+    Ok(Triple {
+        first,
+        second,
+        third,
+    })
 }
 
 /// SLOT PATH KIND() or SLOT PATH KIND(NUM), and then `from` SLOT or nothing.
-fn make(alloc: Global, line: &[u8]) -> Result<Result<Event, LineFault>, NoMemory>
-    ensures { IfOk result (λ said. said ≡ make (tokens line.now)) }
+fn make(alloc: Global, line: &[u8]) -> Result<Event, LineError>
+    ensures { Says result (make (tokens line.now)) }
 {
     let Some(words) = make_words(line) else {
-        return Ok(Err(LineFault::Bad));
+        return Err(LineError::Fault(LineFault::Bad));
     };
     let Some(kind) = kind_of(words.kind) else {
-        return Ok(Err(LineFault::Bad));
+        return Err(LineError::Fault(LineFault::Bad));
     };
-    if !is_make(&words) {
-        return Ok(Err(LineFault::Bad));
+    make_of_kind(alloc, &words, kind)
+}
+
+fn make_of_kind(alloc: Global, words: &MakeLine<'_>, kind: Kind) -> Result<Event, LineError>
+    ensures { Says result (make_of_kind (words_of words.now) (Some kind)) }
+{
+    let options = both(optional_number(words.arg), optional_number(words.from));
+    let (slot, (_, (arg, from))) = both(number(words.slot), both(path(words.path), options))?;
+    let path = Text::from_bytes(alloc, words.path)?;
+    Ok(Event::Make {
+        slot,
+        node: Node { path, kind, arg },
+        from,
+    })
+}
+
+fn optional_number(word: Option<&[u8]>) -> Result<Option<u32>, LineFault>
+    ensures { result ≡ optional_number (option_copied word.entry) }
+{
+    match word {
+        Some(word) => Ok(Some(number(word)?)),
+        None => Ok(None),
     }
-    if !make_fits(&words) {
-        return Ok(Err(LineFault::Big));
-    }
-    let event = make_event(alloc, &words, kind)?;
-    Ok(Ok(event))
 }
 
 fn make_words(line: &[u8]) -> Option<MakeLine<'_>>
@@ -236,87 +209,18 @@ fn source(line: &[u8]) -> Option<Option<&[u8]>>
     }
 }
 
-/// Whether the words of a `make` line are what they have to be, its kind apart.
-fn is_make(words: &MakeLine<'_>) -> bool
-    ensures { result ≡ is_make (words_of words.now) }
-{
-    is_number(words.slot)
-        && is_path(words.path)
-        && kind_of(words.kind).is_some()
-        && is_optional_number(words.arg)
-        && is_optional_number(words.from)
-}
-
-fn is_optional_number(word: Option<&[u8]>) -> bool
-    ensures { result ≡ none_or of_numbers.is_number (option_copied word.entry) }
-{
-    match word {
-        Some(word) => is_number(word),
-        None => true,
-    }
-}
-
-/// Whether no number of a `make` line is above its limit.
-fn make_fits(words: &MakeLine<'_>) -> bool
-    requires { IsTrue (is_make (words_of words.now)) }
-    ensures { result ≡ make_fits (words_of words.now) }
-{
-    number_fits(words.slot)
-        && path_fits(words.path)
-        && optional_number_fits(words.arg)
-        && optional_number_fits(words.from)
-}
-
-fn optional_number_fits(word: Option<&[u8]>) -> bool
-    requires { IsTrue (none_or of_numbers.is_number (option_copied word)) }
-    ensures { result ≡ none_or of_numbers.number_fits (option_copied word.entry) }
-{
-    match word {
-        Some(word) => number_fits(word),
-        None => true,
-    }
-}
-
-fn make_event(alloc: Global, words: &MakeLine<'_>, kind: Kind) -> Result<Event, NoMemory>
-    requires made { IsTrue (is_make (words_of words.now)) }
-    requires fits { IsTrue (make_fits (words_of words.now)) }
-    ensures { IfOk result (λ event. event ≡ make_event (words_of words.now) kind) }
-{
-    let path = Text::from_bytes(alloc, words.path)?;
-    Ok(Event::Make {
-        slot: number(words.slot),
-        node: Node {
-            path,
-            kind,
-            arg: optional_number(words.arg),
-        },
-        from: optional_number(words.from),
-    })
-}
-
-fn optional_number(word: Option<&[u8]>) -> Option<u32>
-    requires number { IsTrue (none_or of_numbers.is_number (option_copied word)) }
-    requires fits { IsTrue (none_or of_numbers.number_fits (option_copied word)) }
-    ensures { result ≡ option_map of_numbers.number (option_copied word.entry) }
-{
-    match word {
-        Some(word) => Some(number(word)),
-        None => None,
-    }
-}
-
 /// C(ARGS)
-fn start(alloc: Global, line: &[u8]) -> Result<Result<Statement, LineFault>, NoMemory>
-    ensures { IfOk result (λ said. said ≡ start (tokens line.now)) }
+fn start(alloc: Global, line: &[u8]) -> Result<Statement, LineError>
+    ensures { Says result (start (tokens line.now)) }
 {
     let Some((name, line)) = first_word(line) else {
-        return Ok(Err(LineFault::Bad));
+        return Err(LineError::Fault(LineFault::Bad));
     };
     let Some(line) = after_sign(line, b'(') else {
-        return Ok(Err(LineFault::Bad));
+        return Err(LineError::Fault(LineFault::Bad));
     };
     let Some(words) = arguments(alloc, line)? else {
-        return Ok(Err(LineFault::Bad));
+        return Err(LineError::Fault(LineFault::Bad));
     };
     start_of_words(alloc, name, &words)
 }
@@ -352,24 +256,20 @@ fn more_arguments(alloc: Global, line: &[u8]) -> Result<Option<Vec<&[u8]>>, NoMe
     }
 }
 
-fn start_of_words(
-    alloc: Global,
-    name: &[u8],
-    words: &[&[u8]],
-) -> Result<Result<Statement, LineFault>, NoMemory>
-    ensures { IfOk result (λ said. said ≡ start_of_words name.now (Some (map (λ word. word.now) words.now))) }
+fn start_of_words(alloc: Global, name: &[u8], words: &[&[u8]]) -> Result<Statement, LineError>
+    ensures { Says result (start_of_words name.now (Some (map (λ word. word.now) words.now))) }
 {
     if !(is_name(name) && are_integers(words)) {
-        return Ok(Err(LineFault::Bad));
+        return Err(LineError::Fault(LineFault::Bad));
     }
     let Some(values) = integers(alloc, words)? else {
-        return Ok(Err(LineFault::Big));
+        return Err(LineError::Fault(LineFault::Big));
     };
     let name = Text::from_bytes(alloc, name)?;
-    Ok(Ok(Statement::Start {
+    Ok(Statement::Start {
         name,
         args: List::of(values),
-    }))
+    })
 }
 
 fn are_integers(words: &[&[u8]]) -> bool

@@ -5,7 +5,22 @@ ghost use Rattle.std.specs.Char.{is_ascii_digit};
 ghost use Rattle.std.specs.List.{AllPass, list_all};
 ghost use Rattle.std.specs.Str.Parse.{digits_value};
 ghost use Rattle.std.specs.Option.{SomeIff};
-ghost use Rattle.change_script.specs.Numbers.{integer, integer_fits, is_integer, is_negative, is_number, magnitude, number, number_fits};
+ghost use Rattle.change_script.specs.Numbers.{integer, integer_fits, is_integer, is_negative, is_number, magnitude, number_fits, number_in};
+
+use crate::error::LineFault;
+
+/// The value of a number, which is one digit or more and at most 4,294,967,295.
+pub fn number(word: &[u8]) -> Result<u32, LineFault>
+    ensures { result ≡ number_in word.now }
+{
+    if !is_number(word) {
+        return Err(LineFault::Bad);
+    }
+    match value_of(word) {
+        Some(value) => Ok(value),
+        None => Err(LineFault::Big),
+    }
+}
 
 /// Whether `word` is one digit or more.
 pub fn is_number(word: &[u8]) -> bool
@@ -26,15 +41,6 @@ pub fn number_fits(word: &[u8]) -> bool
     ensures { result ≡ number_fits word.now }
 {
     value_of(word).is_some()
-}
-
-/// The value of a number.
-pub fn number(word: &[u8]) -> u32
-    requires number { IsTrue (is_number word.now) }
-    requires fits { IsTrue (number_fits word.now) }
-    ensures { result ≡ number word.now }
-{
-    value_of(word).unwrap_or(0)
 }
 
 /// The number that decimal digits write, if it is at most `u32::MAX`.

@@ -1,9 +1,10 @@
 //! Words that are names of the language, and words that are paths of nodes.
 
 ghost use Rattle.std.specs.Prelude.{◌≡◌, ◌≤◌, length};
-ghost use Rattle.change_script.specs.Paths.{ends_index, index_fits, index_number, index_part, is_index, is_name, is_path, is_segment, name_len, name_part, path_fits, segment_fits};
+ghost use Rattle.change_script.specs.Paths.{ends_index, index_fits, index_number, index_part, is_index, is_name, is_path, is_segment, name_len, name_part, path_fits, path_in, segment_fits};
 
 use crate::cuts::cut;
+use crate::error::LineFault;
 use crate::numbers::{is_number, number_fits};
 
 /// Whether the whole word is a name of the language, and no keyword.
@@ -13,8 +14,21 @@ pub fn is_name(word: &[u8]) -> bool
     darwin_lexer::is_name(word)
 }
 
+/// Whether `path` is one, and keeps the limit of its indices.
+pub fn path(path: &[u8]) -> Result<(), LineFault>
+    ensures { result ≡ path_in path.now }
+{
+    if !is_path(path) {
+        return Err(LineFault::Bad);
+    }
+    if !path_fits(path) {
+        return Err(LineFault::Big);
+    }
+    Ok(())
+}
+
 /// Whether `path` is segments NAME or NAME[NUM], parted by `.`.
-pub fn is_path(path: &[u8]) -> bool
+fn is_path(path: &[u8]) -> bool
     ensures { result ≡ is_path path.now }
 {
     let mut rest = path;
@@ -31,7 +45,7 @@ pub fn is_path(path: &[u8]) -> bool
 }
 
 /// Whether each index of a path is at most 4,294,967,295.
-pub fn path_fits(path: &[u8]) -> bool
+fn path_fits(path: &[u8]) -> bool
     ensures { result ≡ path_fits path.now }
 {
     let mut rest = path;
