@@ -12,6 +12,7 @@ pub mod WordLemmas
 pub mod Lookups
 pub mod TrafficLemmas
 pub mod Running
+pub mod StepsLaws
 pub mod RunLemmas
 pub mod OrderLemmas
 pub mod LiveLinks
