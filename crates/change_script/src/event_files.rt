@@ -11,11 +11,9 @@ use crate::error::ScriptError;
 use crate::event_lines::{Statement, meaning};
 use crate::lines::next_statement;
 use config_graph::{List, Text};
+use darwin_lexer::MAX_TEXT;
 use quiesce_core::Event;
 use std::alloc::Global;
-
-/// The most bytes of a text.
-pub const MAX_TEXT: usize = 1_048_576;
 
 /// What an event file says: which component is started, with which arguments, and what happens then, in order.
 #[derive(Debug, Drop)]

@@ -14,8 +14,9 @@ mod tests;
 mod tokens;
 mod verbs;
 
+pub use darwin_lexer::MAX_TEXT;
 pub use error::ScriptError;
-pub use event_files::{EventFile, MAX_TEXT, parse_events};
+pub use event_files::{EventFile, parse_events};
 pub use laws::{
     a_written_line_means_its_event, names_are_those_of_the_language, one_file_or_one_fault,
     words_are_longest,

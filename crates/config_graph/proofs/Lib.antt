@@ -15,3 +15,6 @@ pub mod MarkLaws
 pub mod SearchLemmas
 pub mod TellLemmas
 pub mod TextLaws
+pub mod TextLawLemmas
+pub mod OrderedLists
+pub mod GraphByLaws

@@ -13,6 +13,7 @@ use Rattle.darwin_commands.specs.declared.status.Status.TheVariants as status
 use Rattle.darwin_commands.specs.declared.TheConstants.{HELP, VERSION}
 use Rattle.darwin_commands.specs.Words.{Command, help, version, flat, plan, replay, Asks}
 use Rattle.darwin_commands.specs.Lines.{read_fault_line, description_line, script_line, script_words}
+use Rattle.darwin_lexer.specs.declared.lexing.TheConstants.{MAX_TEXT}
 use Rattle.darwin_commands.specs.Wanted.{Wanted, its_graph, its_plan, its_replay, IsRefused, Gives}
 
 -- what a fetch gave
@@ -62,7 +63,7 @@ pub data Written (status : Status) (text : List ℕ) (taken taken' : Option (Lis
 
 -- the most bytes of a file that is read
 abbrev pub file_limit : ℕ
-file_limit = 1048576
+file_limit = MAX_TEXT
 
 abbrev pub fetch_of : List ℕ → Given → Fetch
 fetch_of file given = record { name = file; limit = file_limit; given = given }

@@ -3,6 +3,7 @@
 ghost use Rattle.std.specs.Prelude.{◌≤◌, ℕ, List, length, IfOk, IfErr};
 ghost use Rattle.config_graph.specs.Graph.{ports};
 ghost use Rattle.config_graph.specs.Sound.{Sound};
+ghost use Rattle.config_graph.specs.declared.TheConstants.{MAX_NODES, MAX_PORTS};
 ghost use Rattle.darwin_types.specs.Checked.{description};
 ghost use Rattle.quiesce_core.specs.Start.{started};
 ghost use Rattle.darwin_commands.specs.Descriptions.{IsChecked};
@@ -45,8 +46,8 @@ pub fn replay_over(
 /// What events come to in a system that was started with the graph.
 fn replay_events(alloc: Global, graph: &Graph, events: &[Event]) -> Result<Answer, NoMemory>
     requires sound { Sound graph.now }
-    requires few_nodes { length graph.now.nodes ≤ 1023 }
-    requires few_ports { length (ports graph.now.nodes) ≤ 4096 }
+    requires few_nodes { length graph.now.nodes ≤ MAX_NODES }
+    requires few_ports { length (ports graph.now.nodes) ≤ MAX_PORTS }
     ensures { IfOk result (λ answer. Replays (started graph.now) events.now answer.status answer.text.items) }
 {
     match replay(alloc, graph, events)? {

@@ -1,6 +1,7 @@
 //! Laws of the definitions that the contract of `lex` cites.
 
 ghost use Rattle.std.specs.Prelude.{◌≡◌, ℕ, List, length, ◌⊎◌};
+ghost use Rattle.darwin_lexer.specs.declared.lexing.TheConstants.{MAX_TEXT};
 ghost use Rattle.darwin_lexer.specs.declared.front.Fault.{Fault};
 ghost use Rattle.darwin_lexer.specs.declared.front.Front.{Front};
 ghost use Rattle.darwin_lexer.specs.declared.token.At.{At};
@@ -40,4 +41,9 @@ pub fn tokens_in_order()
         → FirstFault text fault at → FaultStands text fault at }
     ensures only_that { (text : List ℕ) (fault : Fault) (at : At)
         → FaultStands text fault at → FirstFault text fault at }
+{}
+
+/// How many bytes a text has at most.
+pub fn limit_of_a_text()
+    ensures { MAX_TEXT ≡ 1048576 }
 {}

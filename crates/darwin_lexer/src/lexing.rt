@@ -13,7 +13,7 @@ pub const MAX_TEXT: usize = 1_048_576;
 
 /// The tokens of `text`, in order, or its first fault.
 pub fn lex(alloc: Global, text: &[u8]) -> Result<Vec<Token>, LexError>
-    requires { length text.now ≤ 1048576 }
+    requires { length text.now ≤ MAX_TEXT }
     ensures tokens { IfOk result (λ found. IsTokens text.now found.items) }
     ensures few { IfOk result (λ found. length found.items ≤ length text.now) }
     ensures whenever { (tokens : List Token) → IsTokens text.now tokens

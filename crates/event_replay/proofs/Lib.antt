@@ -1,2 +1,2 @@
-pub mod LeadsLemmas
+pub mod DenialLemmas
 pub mod SettledLemmas

@@ -1,25 +1,20 @@
--- Events replayed from a state: where they lead, or which of them is denied.
-use Rattle.std.specs.Prelude.{◌≡◌, ◌↔◌, ◌+◌, ℕ, List, [], ◌∷◌, ◌++◌, Some, length, Contains}
+-- Events replayed from a state: which of them is denied, and what is settled after all.
+use Rattle.std.specs.Prelude.{◌≡◌, ◌↔◌, ◌+◌, ℕ, List, ◌∷◌, ◌++◌, Some, length, Contains}
 use Rattle.std.specs.List.Sorted.{IsStrictlyIncreasing}
 use Rattle.quiesce_core.specs.declared.event.Event.{Event}
 use Rattle.quiesce_core.specs.Rules.{denial}
-use Rattle.quiesce_core.specs.Runs.{Step}
+use Rattle.quiesce_core.specs.Runs.{Steps}
 use Rattle.quiesce_core.specs.Settled.{Settled}
 use Rattle.quiesce_core.specs.State.{State}
 
--- each event is a step from the state before it, and the last leads to this state
-pub data Leads : State → List Event → State → Type 0 where
-  stays : (s : State) → Leads s [] s
-  steps : (s t u : State) (e : Event) (more : List Event) → Step s e t → Leads t more u → Leads s (e ∷ more) u
-
--- the events before one lead to a state in which it is denied; it has this number, from 1, and this is the first of its rules that fails
+-- the events before one are steps to a state in which it is denied; it has this number, from 1, and this is the first of its rules that fails
 pub record IsDenied (s : State) (events : List Event) (number rule : ℕ) : Type 0 where
   pub before : List Event
   pub event : Event
   pub after : List Event
   pub then_ : State
   pub parts : events ≡ before ++ event ∷ after
-  pub leads : Leads s before then_
+  pub leads : Steps s before then_
   pub denied : denial then_ event ≡ Some rule
   pub counted : number ≡ length before + 1
 

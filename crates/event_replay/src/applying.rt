@@ -1,7 +1,8 @@
 //! Events in order.
 
 ghost use Rattle.std.specs.Prelude.{IfOk, IfSome, IfNone};
-ghost use Rattle.event_replay.specs.Replay.{Leads, IsDenied};
+ghost use Rattle.quiesce_core.specs.Runs.{Steps};
+ghost use Rattle.event_replay.specs.Replay.{IsDenied};
 
 use config_graph::NoMemory;
 use quiesce_core::{Core, CoreError, Event};
@@ -17,7 +18,7 @@ pub struct Denial {
 /// Lets the events happen in order, up to the first that is denied.
 pub fn apply_all(core: &mut Core, events: &[Event]) -> Result<Option<Denial>, NoMemory>
     ensures denied { IfOk result (λ denial. IfSome denial (λ d. IsDenied core.old.state events.now d.number d.rule)) }
-    ensures leads { IfOk result (λ denial. IfNone denial (Leads core.old.state events.now core.new.state)) }
+    ensures leads { IfOk result (λ denial. IfNone denial (Steps core.old.state events.now core.new.state)) }
 {
     for (index, event) in events.iter().enumerate() {
         match core.apply(event) {

@@ -12,10 +12,11 @@ pub mod WordLemmas
 pub mod Lookups
 pub mod TrafficLemmas
 pub mod Running
+pub mod StepsLaws
 pub mod RunLemmas
 pub mod OrderLemmas
+pub mod LiveLinks
 pub mod SameWiring
 pub mod LiveLemmas
 pub mod NamedLemmas
-pub mod OneGraph
 pub mod KnowledgeLemmas

@@ -17,6 +17,11 @@ pub record Step (old : State) (e : Event) (new : State) : Type 0 where
   pub allowed : denial old e ≡ None
   pub changed : new ≡ effect old e
 
+-- events that are steps one after the other, from a state to a state
+pub data Steps : State → List Event → State → Type 0 where
+  stays : (s : State) → Steps s [] s
+  onward : (s t u : State) (e : Event) (more_ : List Event) → Step s e t → Steps t more_ u → Steps s (e ∷ more_) u
+
 -- the state after events, beginning with nothing made
 abbrev pub state_after : List Event → State
 state_after es = fold effect empty es

@@ -1,15 +1,15 @@
 //! Laws of the machine: what holds of every state, or of the state after every run.
 
-ghost use Rattle.std.specs.Prelude.{◌≡◌, ◌+◌, ◌*◌, ◌≤◌, ◌↔◌, ℕ, List, Some, filter, length, IsTrue};
+ghost use Rattle.std.specs.Prelude.{◌≡◌, ◌+◌, ◌*◌, ◌≤◌, ◌↔◌, ◌++◌, ℕ, List, Some, filter, fold, length, IsTrue};
 ghost use Rattle.std.specs.Option.{option_map_or};
 ghost use Rattle.quiesce_core.specs.declared.event.Event.{Event};
-ghost use Rattle.quiesce_core.specs.State.{Configuration, State, calls_allowed, depends, mores_allowed, ports_of, target};
+ghost use Rattle.quiesce_core.specs.State.{Configuration, State, calls_allowed, depends, empty, mores_allowed, ports_of, target};
 ghost use Rattle.quiesce_core.specs.Rest.{full, greatest};
 ghost use Rattle.quiesce_core.specs.Rules.{denial};
 ghost use Rattle.quiesce_core.specs.Legal.{Legal};
 ghost use Rattle.quiesce_core.specs.Reach.{has_no_cycle, reaches, wiring_of};
 ghost use Rattle.config_graph.specs.Wiring.{HasNoCycle, Reach};
-ghost use Rattle.quiesce_core.specs.Runs.{IsRun, Step, doer, done_by, state_after};
+ghost use Rattle.quiesce_core.specs.Runs.{IsRun, Step, Steps, doer, done_by, state_after};
 ghost use Rattle.quiesce_core.specs.Effect.{effect};
 ghost use Rattle.quiesce_core.specs.Named.{AreNamed};
 ghost use Rattle.quiesce_core.specs.Start.{started};
@@ -45,6 +45,14 @@ pub fn cycles_are_found()
 #[tactic(auto, using(crate::proofs::SettledLemmas::reach_is_found))]
 pub fn reach_is_found()
     ensures { (c : Configuration) → IsSound c → (n p : ℕ) → IsTrue (reaches c n p) ↔ Reach (wiring_of c) n p }
+{}
+
+/// A run is events that are steps one after the other from where nothing is made. Such events lead to one state, and through one
+/// between any two of them.
+pub fn runs_are_steps()
+    ensures run { (es : List Event) → IsRun es ↔ Steps empty es (state_after es) }
+    ensures end { (s t : State) (es : List Event) → Steps s es t → t ≡ fold effect s es }
+    ensures between { (s u : State) (es more_ : List Event) → Steps s (es ++ more_) u ↔ ((t : State) × Steps s es t × Steps t more_ u) }
 {}
 
 /// After every run the state is well formed.

@@ -27,10 +27,11 @@ pub use error::CoreError;
 pub use event::Event;
 pub use known::Served;
 pub use laws::{
-    a_started_system_has_its_graph, cycles_are_found, each_rule_holds, full_is_found,
-    node_events_keep_the_configuration, nodes_are_named, nodes_know, one_graph, reach_is_found,
-    runs_are_consistent, runs_are_well_formed, started_systems_are_consistent,
-    steps_keep_consistency, words_decode, words_of_runs_decode,
+    a_started_system_has_its_graph, cycles_are_found, cycles_are_those_of_the_graph,
+    each_rule_holds, full_is_found, node_events_keep_the_configuration, nodes_are_named,
+    nodes_know, one_graph, reach_is_found, reach_is_that_of_the_graph, runs_are_consistent,
+    runs_are_steps, runs_are_well_formed, started_systems_are_consistent, steps_keep_consistency,
+    words_decode, words_of_runs_decode,
 };
 pub use machine::Core;
 pub use state::{Exchange, Gate, OpenTxn, Phase, Service, Slot, Stage};

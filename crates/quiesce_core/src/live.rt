@@ -37,7 +37,7 @@ impl Tables {
     }
 
     fn live_slots(&self) -> Result<Vec<u32>, NoMemory>
-        requires { length (state_of self.now).config.slots ≤ 1023 }
+        requires { length (state_of self.now).config.slots ≤ MAX_NODES }
         ensures { IfOk result (λ v. v.items ≡ filter (state.is_live (state_of self.now).config) (range_with_len 0 (length (state_of self.now).config.slots))) }
     {
         let alloc = *self.slots.allocator();
@@ -47,7 +47,7 @@ impl Tables {
 
     /// The slots of the live nodes, in the order of their paths.
     fn in_path_order(&self) -> Result<Vec<u32>, NoMemory>
-        requires few { length (state_of self.now).config.slots ≤ 1023 }
+        requires few { length (state_of self.now).config.slots ≤ MAX_NODES }
         requires named { AreNamed (state_of self.now).config }
         ensures { IfOk result (λ order. InPathOrder (state_of self.now).config order.items) }
     {
@@ -58,7 +58,7 @@ impl Tables {
 
     /// Of each slot its place in the order, where it has one.
     fn places_in(&self, order: &[u32]) -> Result<Vec<Option<u32>>, NoMemory>
-        requires few { length (state_of self.now).config.slots ≤ 1023 }
+        requires few { length (state_of self.now).config.slots ≤ MAX_NODES }
         requires order { InPathOrder (state_of self.now).config order.now }
         ensures { IfOk result (λ places. ArePlaces order.now (length order.now) places.items) }
     {
@@ -100,7 +100,7 @@ impl Tables {
     }
 
     fn links_in(&self, places: &[Option<u32>]) -> Result<Vec<Link>, NoMemory>
-        requires { length (state_of self.now).config.gates ≤ 4096 }
+        requires { length (state_of self.now).config.gates ≤ MAX_PORTS }
         ensures { IfOk result (λ links. links.items ≡ filter_map (link_in (state_of self.now).config places.now) (range_with_len 0 (length (state_of self.now).config.gates))) }
     {
         let alloc = *self.gates.allocator();

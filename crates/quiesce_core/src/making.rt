@@ -2,6 +2,7 @@
 
 ghost use Rattle.std.specs.Prelude.{◌≡◌, ℕ, ◌+◌, ◌<◌, ◌≤◌, ◌++◌, length, replicate, OnOk, vec_capacity};
 ghost use Rattle.config_graph.specs.Kinds.{row};
+ghost use Rattle.config_graph.specs.declared.TheConstants.{MAX_NODES, MAX_PORTS};
 ghost use Rattle.quiesce_core.specs.State.{fresh_exchange};
 ghost use Rattle.quiesce_core.specs.Effect as effect;
 ghost use Rattle.quiesce_core.specs.Machine.{HasRoom, KeepsRoom};
@@ -46,7 +47,7 @@ fn push_exchanges(exchanges: &mut Vec<Exchange>, requires_: u32)
 impl Tables {
     /// Makes room for so many nodes.
     pub fn reserve(&mut self, nodes: usize) -> Result<(), NoMemory>
-        requires { nodes ≤ 1023 }
+        requires { nodes ≤ MAX_NODES }
         ensures state { state_of self.new ≡ state_of self.old }
         ensures ok { OnOk result (HasRoom self.new nodes) }
         ensures kept { KeepsRoom self.old self.new }
@@ -62,8 +63,8 @@ impl Tables {
     pub fn add(&mut self, node: Node, from: Option<u32>)
         requires well_formed { IsWellFormed (state_of self.old) }
         requires room { (spare : ℕ) × (0 < spare) × HasRoom self.old spare }
-        requires few { length self.old.slots.items < 1023 }
-        requires ports { length self.old.gates.items + length (row node.kind).requires_ ≤ 4096 }
+        requires few { length self.old.slots.items < MAX_NODES }
+        requires ports { length self.old.gates.items + length (row node.kind).requires_ ≤ MAX_PORTS }
         ensures state { state_of self.new ≡ effect.effect (state_of self.old) (event.Make (length self.old.slots.items) node from) }
         ensures room { (spare : ℕ) → HasRoom self.old (spare + 1) → HasRoom self.new spare }
     {

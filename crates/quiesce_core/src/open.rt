@@ -1,6 +1,7 @@
 //! The transactions that have not ended.
 
 ghost use Rattle.std.specs.Prelude.{◌≡◌, ◌≤◌, length, IfOk};
+ghost use Rattle.config_graph.specs.declared.TheConstants.{MAX_PORTS};
 ghost use Rattle.quiesce_core.specs.Open as open_;
 ghost use Rattle.quiesce_core.specs.Rules as rules;
 ghost use Rattle.quiesce_core.specs.State as state;
@@ -39,7 +40,7 @@ impl Tables {
 
     /// The open transactions, by port.
     pub fn open_txns(&self) -> Result<Vec<OpenTxn>, NoMemory>
-        requires { length (state_of self.now).config.gates ≤ 4096 }
+        requires { length (state_of self.now).config.gates ≤ MAX_PORTS }
         ensures { IfOk result (λ v. v.items ≡ open_.open_txns (state_of self.now)) }
     {
         let alloc = *self.gates.allocator();

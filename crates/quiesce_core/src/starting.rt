@@ -3,6 +3,7 @@
 ghost use Rattle.std.specs.Prelude.{◌≡◌, ◌≤◌, length, map, IfOk};
 ghost use Rattle.std.specs.List.{enumerate_from};
 ghost use Rattle.config_graph.specs.Graph.{ports};
+ghost use Rattle.config_graph.specs.declared.TheConstants.{MAX_PORTS};
 ghost use Rattle.quiesce_core.specs.Start as start;
 ghost use Rattle.quiesce_core.specs.Tables.{state_of};
 
@@ -12,7 +13,7 @@ use config_graph::{Graph, NoMemory, Node};
 use std::alloc::Global;
 
 fn list_slots(alloc: Global, nodes: &[Node]) -> Result<Vec<Slot>, NoMemory>
-    requires { length (ports nodes.now) ≤ 4096 }
+    requires { length (ports nodes.now) ≤ MAX_PORTS }
     ensures { IfOk result (λ v. v.items ≡ map (start.slot_of nodes.now) (enumerate_from 0 nodes.now)) }
 {
     let mut slots = Vec::with_capacity(alloc, nodes.len())?;
@@ -71,7 +72,7 @@ fn list_exchanges(alloc: Global, graph: &Graph) -> Result<Vec<Exchange>, NoMemor
 impl Tables {
     /// The tables of a system that was started as the graph says.
     pub fn of(alloc: Global, graph: &Graph) -> Result<Tables, NoMemory>
-        requires { length (ports graph.now.nodes) ≤ 4096 }
+        requires { length (ports graph.now.nodes) ≤ MAX_PORTS }
         ensures { IfOk result (λ t. state_of t ≡ start.started graph.now) }
     {
         let slots = list_slots(alloc, graph.nodes())?;

@@ -1,6 +1,5 @@
 pub mod Behind
 pub mod Induction
-pub mod Paths
 pub mod StartLemmas
 pub mod WalkLemmas
 pub mod Configurations

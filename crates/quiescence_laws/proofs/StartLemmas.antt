@@ -28,7 +28,8 @@ use Rattle.quiesce_core.specs.declared.event.Event.TheVariants.{Make, Link, Reop
 use Rattle.quiesce_core.specs.declared.state.Gate.{Gate}
 use Rattle.quiesce_core.specs.declared.state.Slot.{Slot}
 use Rattle.quiesce_core.specs.State.{State, empty, fresh_gate, fresh_exchange, slot, gate, owner, is_live, provides}
-use Rattle.quiesce_core.specs.Rules.{has_its_argument, is_path_taken, is_value, is_quiet, is_live_port}
+use Rattle.quiesce_core.specs.Runs.{Steps, onward, stays}
+use Rattle.quiesce_core.specs.Rules.{denial, has_its_argument, is_path_taken, is_value, is_quiet, is_live_port}
 use Rattle.quiesce_core.specs.Effect.{effect, new_gates, linked}
 use Rattle.quiesce_core.specs.Legal.{CanMake, CanLink}
 use Rattle.quiesce_core.specs.Phases.{is_idle}
@@ -38,10 +39,18 @@ use Rattle.quiesce_core.specs.WellFormed.{IsWellFormed}
 use Rattle.quiesce_core.proofs.Cycles.{map_or_at, no_cycle_if_ranked, ranked_if_no_cycle}
 use Rattle.quiesce_core.proofs.GraphLemmas.{length-numbered_from, well_formed_started}
 use Rattle.quiesce_core.proofs.LegalLemmas.{allowed}
-use Rattle.quiesce_core.proofs.OrderLemmas.{contains_at, irreflexive}
+use Rattle.config_graph.proofs.PathLemmas.{irreflexive}
+use Rattle.quiesce_core.proofs.OrderLemmas.{contains_at}
 use Rattle.quiesce_core.proofs.SettledLemmas.{if_settled}
 use Rattle.quiescence_laws.specs.Starts.{make_of, link_of, reopen_of, start_of}
-use Rattle.quiescence_laws.proofs.Paths.{Path, none_yet, first, both}
+use Rattle.quiesce_core.proofs.StepsLaws.{both}
+
+-- steps that lead to a state, and one before them
+none_yet : (s t : State) → s ≡ t → Steps s [] t
+none_yet s t e = subst (λ u. Steps s [] u) e (stays s)
+
+first : (s next t : State) (e : Event) (es : List Event) → denial s e ≡ None → effect s e ≡ next → Steps next es t → Steps s (e ∷ es) t
+first s next t e es may leads h = onward s next t e es (record { allowed = may; changed = sym leads }) h
 
 -- a port as it was made, as it was linked, and as it was opened
 bare : Port → Gate
@@ -227,12 +236,12 @@ module _ (g : Graph) (sound : Sound g) (few_nodes : length g.nodes ≤ 1023) (fe
         moves = refl;
       }
 
-  makes : (ns ms : List Node) → g.nodes ≡ ns ++ ms → Path (made g ns) (map make_of (enumerate_from (length ns) ms)) (made g g.nodes)
+  makes : (ns ms : List Node) → g.nodes ≡ ns ++ ms → Steps (made g ns) (map make_of (enumerate_from (length ns) ms)) (made g g.nodes)
   makes ns [] e = none_yet (made g ns) (made g g.nodes) (ap (λ xs. made g xs) (sym (e ∙ append-nil ns)))
   makes ns (n ∷ ms) e =
       first (made g ns) (made g (ns ++ n ∷ [])) (made g g.nodes) (Make (length ns) n None) (map make_of (enumerate_from (length ns + 1) ms))
       (allowed (made g ns) (Make (length ns) n None) (can_make ns ms n e)) (made_more ns ms n e)
-      (subst (λ k. Path (made g (ns ++ n ∷ [])) (map make_of (enumerate_from k ms)) (made g g.nodes)) (length-append ns (n ∷ []))
+      (subst (λ k. Steps (made g (ns ++ n ∷ [])) (map make_of (enumerate_from k ms)) (made g g.nodes)) (length-append ns (n ∷ []))
       (makes (ns ++ n ∷ []) ms (e ∙ sym (append_assoc ns (n ∷ []) ms))))
 
   -- ports
@@ -285,9 +294,10 @@ module _ (g : Graph) (sound : Sound g) (few_nodes : length g.nodes ≤ 1023) (fe
           serves = l.serves;
           provide = l.provide;
           depends =
-              let o = l.depends.0 in
-              (record { node = o.node; made = o.made; from = o.from; below = o.below },
-              subst (λ r. option_map_or (λ (m : Slot). depends_on m.node.kind l.serves r) (slot (started g).config n) false ≡ true) (part done rest e l.port).require l.depends.1);
+              let o = l.depends.0 in (
+                record { node = o.node; made = o.made; from = o.from; below = o.below },
+                subst (λ r. option_map_or (λ (m : Slot). depends_on m.node.kind l.serves r) (slot (started g).config n) false ≡ true) (part done rest e l.port).require l.depends.1,
+              );
           linked = (part done rest e l.port).targets (record { node = m; provide = l.provide }) l.linked;
         });
       })
@@ -327,22 +337,22 @@ module _ (g : Graph) (sound : Sound g) (few_nodes : length g.nodes ≤ 1023) (fe
       }
 
   link_next : (done rest : List Port) (q : Port) → ports g.nodes ≡ done ++ q ∷ rest → (es : List Event) (t : State) (o : Option Target) → target_of g.links q.node q.require ≡ o
-      → Path (mixed g (shut g) bare (done ++ q ∷ []) rest) es t
-      → Path (mixed g (shut g) bare done (q ∷ rest)) (cons_option (option_map (λ (u : Target). Link (length done) u.node u.provide) o) es) t
+      → Steps (mixed g (shut g) bare (done ++ q ∷ []) rest) es t
+      → Steps (mixed g (shut g) bare done (q ∷ rest)) (cons_option (option_map (λ (u : Target). Link (length done) u.node u.provide) o) es) t
   unfolding mixed shut bare
   link_next done rest q e es t None at path =
-      subst (λ gs. Path (record { config = record { slots = map (slot_of g.nodes) (enumerate_from 0 g.nodes); gates = gs }; traffic = (started g).traffic }) es t)
+      subst (λ gs. Steps (record { config = record { slots = map (slot_of g.nodes) (enumerate_from 0 g.nodes); gates = gs }; traffic = (started g).traffic }) es t)
       (sym (skip_next (shut g) bare done rest q (ap (λ o. record { owner = q.node; require = q.require; closed = true; target = o }) (sym at)))) path
   link_next done rest q e es t (Some u) at path =
       first (mixed g (shut g) bare done (q ∷ rest)) (mixed g (shut g) bare (done ++ q ∷ []) rest) t (Link (length done) u.node u.provide) es
       (allowed (mixed g (shut g) bare done (q ∷ rest)) (Link (length done) u.node u.provide) (can_link done rest q u e at))
       (ap (λ c. record { config = c; traffic = (started g).traffic }) (linked_more done rest q u at)) path
 
-  links : (done rest : List Port) → ports g.nodes ≡ done ++ rest → Path (mixed g (shut g) bare done rest) (filter_map (link_of g) (enumerate_from (length done) rest)) (mixed g (shut g) bare (ports g.nodes) [])
+  links : (done rest : List Port) → ports g.nodes ≡ done ++ rest → Steps (mixed g (shut g) bare done rest) (filter_map (link_of g) (enumerate_from (length done) rest)) (mixed g (shut g) bare (ports g.nodes) [])
   links done [] e = none_yet (mixed g (shut g) bare done []) (mixed g (shut g) bare (ports g.nodes) []) (ap (λ ps. mixed g (shut g) bare ps []) (sym (e ∙ append-nil done)))
   links done (q ∷ rest) e =
       link_next done rest q e (filter_map (link_of g) (enumerate_from (length done + 1) rest)) (mixed g (shut g) bare (ports g.nodes) []) (target_of g.links q.node q.require) refl
-      (subst (λ k. Path (mixed g (shut g) bare (done ++ q ∷ []) rest) (filter_map (link_of g) (enumerate_from k rest)) (mixed g (shut g) bare (ports g.nodes) [])) (length-append done (q ∷ []))
+      (subst (λ k. Steps (mixed g (shut g) bare (done ++ q ∷ []) rest) (filter_map (link_of g) (enumerate_from k rest)) (mixed g (shut g) bare (ports g.nodes) [])) (length-append done (q ∷ []))
       (links (done ++ q ∷ []) rest (e ∙ sym (append_assoc done (q ∷ []) rest))))
 
   -- openings
@@ -354,7 +364,7 @@ module _ (g : Graph) (sound : Sound g) (few_nodes : length g.nodes ≤ 1023) (fe
       (put_next (gate_of g) (shut g) done rest q (record (gate (mixed g (gate_of g) (shut g) done (q ∷ rest)).config (length done)) { closed = false })
       (ap (λ (x : Gate). record x { closed = false }) (gate_next (gate_of g) (shut g) done rest q)))
 
-  reopens : (done rest : List Port) → ports g.nodes ≡ done ++ rest → Path (mixed g (gate_of g) (shut g) done rest) (map reopen_of (enumerate_from (length done) rest)) (mixed g (gate_of g) (shut g) (ports g.nodes) [])
+  reopens : (done rest : List Port) → ports g.nodes ≡ done ++ rest → Steps (mixed g (gate_of g) (shut g) done rest) (map reopen_of (enumerate_from (length done) rest)) (mixed g (gate_of g) (shut g) (ports g.nodes) [])
   unfolding shut
   reopens done [] e =
       none_yet (mixed g (gate_of g) (shut g) done []) (mixed g (gate_of g) (shut g) (ports g.nodes) []) (ap (λ ps. mixed g (gate_of g) (shut g) ps []) (sym (e ∙ append-nil done)))
@@ -363,7 +373,7 @@ module _ (g : Graph) (sound : Sound g) (few_nodes : length g.nodes ≤ 1023) (fe
       (map reopen_of (enumerate_from (length done + 1) rest))
       (allowed (mixed g (gate_of g) (shut g) done (q ∷ rest)) (Reopen (length done)) (record { live = port_live (gate_of g) (shut g) (λ x. refl) done rest q e }))
       (opened_more done rest q)
-      (subst (λ k. Path (mixed g (gate_of g) (shut g) (done ++ q ∷ []) rest) (map reopen_of (enumerate_from k rest)) (mixed g (gate_of g) (shut g) (ports g.nodes) [])) (length-append done (q ∷ []))
+      (subst (λ k. Steps (mixed g (gate_of g) (shut g) (done ++ q ∷ []) rest) (map reopen_of (enumerate_from k rest)) (mixed g (gate_of g) (shut g) (ports g.nodes) [])) (length-append done (q ∷ []))
       (reopens (done ++ q ∷ []) rest (e ∙ sym (append_assoc done (q ∷ []) rest))))
 
   -- the whole start
@@ -371,13 +381,13 @@ module _ (g : Graph) (sound : Sound g) (few_nodes : length g.nodes ≤ 1023) (fe
   with_gates : List Gate → State
   with_gates gs = record { config = record { slots = map (slot_of g.nodes) (enumerate_from 0 g.nodes); gates = gs }; traffic = (started g).traffic }
 
-  pub start_path : Path empty (start_of g) (started g)
+  pub start_path : Steps empty (start_of g) (started g)
   unfolding made mixed with_gates
   start_path =
-      let linking : Path (made g g.nodes) (filter_map (link_of g) (enumerate_from 0 (ports g.nodes))) (mixed g (gate_of g) (shut g) [] (ports g.nodes)) =
-      subst (λ gs. Path (made g g.nodes) (filter_map (link_of g) (enumerate_from 0 (ports g.nodes))) (with_gates gs)) (append-nil (map (shut g) (ports g.nodes))) (links [] (ports g.nodes) refl) in
-      let opening : Path (mixed g (gate_of g) (shut g) [] (ports g.nodes)) (map reopen_of (enumerate_from 0 (ports g.nodes))) (started g) =
-      subst (λ gs. Path (mixed g (gate_of g) (shut g) [] (ports g.nodes)) (map reopen_of (enumerate_from 0 (ports g.nodes))) (with_gates gs)) (append-nil (map (gate_of g) (ports g.nodes)))
+      let linking : Steps (made g g.nodes) (filter_map (link_of g) (enumerate_from 0 (ports g.nodes))) (mixed g (gate_of g) (shut g) [] (ports g.nodes)) =
+      subst (λ gs. Steps (made g g.nodes) (filter_map (link_of g) (enumerate_from 0 (ports g.nodes))) (with_gates gs)) (append-nil (map (shut g) (ports g.nodes))) (links [] (ports g.nodes) refl) in
+      let opening : Steps (mixed g (gate_of g) (shut g) [] (ports g.nodes)) (map reopen_of (enumerate_from 0 (ports g.nodes))) (started g) =
+      subst (λ gs. Steps (mixed g (gate_of g) (shut g) [] (ports g.nodes)) (map reopen_of (enumerate_from 0 (ports g.nodes))) (with_gates gs)) (append-nil (map (gate_of g) (ports g.nodes)))
       (reopens [] (ports g.nodes) refl) in
       both empty (mixed g (gate_of g) (shut g) [] (ports g.nodes)) (started g) (map make_of (enumerate_from 0 g.nodes) ++ filter_map (link_of g) (enumerate_from 0 (ports g.nodes)))
       (map reopen_of (enumerate_from 0 (ports g.nodes)))

@@ -10,9 +10,7 @@ use Rattle.quiesce_core.specs.declared.event.Event.{Event}
 use Rattle.quiesce_core.specs.declared.event.Event.TheVariants.{Make, Link, Reopen}
 use Rattle.quiesce_core.specs.State.{State}
 use Rattle.quiesce_core.specs.Effect.{effect}
-use Rattle.quiesce_core.specs.Runs.{Step}
 use Rattle.quiesce_core.specs.Start.{started}
-use Rattle.quiesce_core.specs.Each.{Each}
 
 -- a node of the graph is made in its slot, from no other
 abbrev pub make_of : ℕ × Node → Event
@@ -33,7 +31,3 @@ start_of g =
 -- the state after events, beginning with a system that was started as the graph says
 abbrev pub state_from : Graph → List Event → State
 state_from g es = fold effect (started g) es
-
--- each of these events is a step from the state before it
-abbrev pub GoesOn : Graph → List Event → Type 0
-GoesOn g es = Each (λ before e. Step (state_from g before) e (state_from g (before ++ e ∷ []))) es

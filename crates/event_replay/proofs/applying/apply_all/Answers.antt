@@ -1,9 +1,8 @@
--- The events so far lead on by one more, or the next is denied.
+-- The events so far go on by one step more, or the next is denied.
 use Rattle.std.proofs.Common.{◌≡◌, ◌∙◌, Some, Err, ap, subst}
 use Rattle.quiesce_core.specs.Rules.{denial}
-use Rattle.quiesce_core.specs.Runs.{Step}
-use Rattle.event_replay.specs.Replay.{stays}
-use Rattle.event_replay.proofs.LeadsLemmas.{leads_at, leads_all, denied_at}
+use Rattle.quiesce_core.specs.Runs.{Step, stays}
+use Rattle.event_replay.proofs.DenialLemmas.{steps_at, steps_all, denied_at}
 use Rattle.event_replay.proofs.applying.apply_all.Goals as goal
 
 pub loop-index-init : goal.loop-index-init
@@ -20,10 +19,10 @@ returns-in-Err-Denied-clause-denied c =
 
 pub returns-clause-leads : goal.returns-clause-leads
 returns-clause-leads c =
-    leads_all c.args.core.now.state c.loop-index.core.state c.args.events.now c.loop-index.index c.loop-index-test.false c.loop-index.invariant
+    steps_all c.args.core.now.state c.loop-index.core.state c.args.events.now c.loop-index.index c.loop-index-test.false c.loop-index.invariant
 
 pub loop-index-preserved : goal.loop-index-preserved
 loop-index-preserved c =
     let event = c.index-events-index in
-    leads_at c.args.core.now.state c.loop-index.core.state c.apply.new.self.state c.args.events.now c.loop-index.index event.result c.loop-index-test.true
+    steps_at c.args.core.now.state c.loop-index.core.state c.apply.new.self.state c.args.events.now c.loop-index.index event.result c.loop-index-test.true
     c.loop-index.invariant (subst (λ e. Step c.loop-index.core.state e c.apply.new.self.state) event.is c.in-Ok.ensures.ok)

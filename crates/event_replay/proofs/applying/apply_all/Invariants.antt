@@ -1,7 +1,7 @@
--- The events so far led to the state.
+-- The events so far are steps to the state.
 use Rattle.std.proofs.Common.{take}
-use Rattle.event_replay.specs.Replay.{Leads}
+use Rattle.quiesce_core.specs.Runs.{Steps}
 use Rattle.event_replay.proofs.applying.apply_all.Given as goal
 
 abbrev pub invariant-loop-index : goal.invariant-loop-index
-invariant-loop-index l = Leads l.initial.core.state (take l.index l.events) l.core.state
+invariant-loop-index l = Steps l.initial.core.state (take l.index l.events) l.core.state

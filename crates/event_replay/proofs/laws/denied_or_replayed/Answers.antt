@@ -1,5 +1,4 @@
--- By the steps that lead on.
-use Rattle.event_replay.proofs.LeadsLemmas.{always_one, never_both, one_end, one_denial}
+use Rattle.event_replay.proofs.DenialLemmas.{always_one, never_both, one_end, one_denial}
 use Rattle.event_replay.proofs.laws.denied_or_replayed.Goals as goal
 
 pub returns : goal.returns

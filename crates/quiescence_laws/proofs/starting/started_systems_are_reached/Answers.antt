@@ -1,10 +1,14 @@
+use Rattle.std.proofs.Common.{sym, subst}
 use Rattle.quiescence_laws.specs.Starts.{start_of}
+use Rattle.quiesce_core.specs.Runs.{Steps}
 use Rattle.quiesce_core.specs.Start.{started}
-use Rattle.quiescence_laws.proofs.Paths.{is_run}
+use Rattle.quiesce_core.specs.State.{empty}
+use Rattle.quiesce_core.proofs.StepsLaws.{end_is, run_is_steps}
 use Rattle.quiescence_laws.proofs.StartLemmas.{start_path}
 use Rattle.quiescence_laws.proofs.starting.started_systems_are_reached.Goals as goal
 
 pub returns : goal.returns
 returns c g sound few_nodes few_ports =
     let path = start_path g sound few_nodes few_ports in
-    (is_run (start_of g) (started g) path, path.ends)
+    let ends = end_is empty (started g) (start_of g) path in
+    ((run_is_steps (start_of g)).1 (subst (λ s. Steps empty (start_of g) s) ends path), sym ends)
