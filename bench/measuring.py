@@ -9,6 +9,7 @@ import time
 
 PROGRAM = "crates/darwin_run/out/darwin_run"
 TRIES = 3
+TURNS = 15
 
 
 def measured(program, folder, words, files, status):
@@ -50,6 +51,19 @@ def table(program, folder, title, sizes, make, status=0):
         growth = "" if before is None else "%.2f" % (seconds / before)
         print("%10d %10d %10.1f %10.2f %12d %12.1f %8s" % (size, length, seconds * 1000, length / seconds / 1e6, peak // 1024, peak / length, growth))
         before = seconds
+
+
+def beside(folder, title, files, ours, theirs):
+    """Prints the least processor times of two commands that do the same work, run in turn. What they write has to be the same."""
+    for name, text in files.items():
+        with open(os.path.join(folder, name), "w") as file:
+            file.write(text)
+    wrote = [subprocess.run(command, cwd=folder, stdout=subprocess.PIPE, check=True).stdout for command in (ours, theirs)]
+    if wrote[0] != wrote[1]:
+        sys.exit("%s: the two programs write different texts: %s" % (sys.argv[0], title))
+    turns = [[ran(command[0], folder, command[1:], 0)[0] for command in (ours, theirs)] for _ in range(TURNS)]
+    mine, other = (min(turn[at] for turn in turns) * 1000 for at in (0, 1))
+    print("%-40s %10.1f %10.1f %8.2f" % (title, mine, other, mine / other))
 
 
 def in_a_folder(run):

@@ -21,6 +21,13 @@ impl Model for Text {
 }
 
 impl Text {
+    /// The text of these bytes. It takes no memory.
+    pub fn of(bytes: Vec<u8>) -> Text
+        ensures { result ≡ bytes.items }
+    {
+        Text { bytes }
+    }
+
     /// A text of these bytes.
     pub fn from_bytes(alloc: Global, bytes: &[u8]) -> Result<Text, NoMemory>
         ensures { IfOk result (λ t. t ≡ bytes.now) }

@@ -235,11 +235,6 @@ position-map p f xs =
     prefix_len-map p f [] = refl
     prefix_len-map p f (x ∷ xs) = ap (λ n. cond (p (f x)) (1 + n) 0) (prefix_len-map p f xs)
 
--- the index of a path in an index of paths
-pub index_read : {V : Type 0} (items : V → List ℕ) (keys : List V) (nodes : List Node) (path : List ℕ) → map items keys ≡ map (λ n. n.path) nodes → position (λ k. bytes_eq path (items k)) keys ≡ index_of nodes path
-index_read items keys nodes path h =
-    sym (position-map (bytes_eq path) items keys) ∙ ap (position (bytes_eq path)) h ∙ position-map (bytes_eq path) (λ n. n.path) nodes
-
 -- what a port is linked to is a provision of a node
 pub target_within : (nodes : List Node) (links : List Link) (i r : ℕ) (t : Target) → All (IsWithin nodes) links → target_of links i r ≡ Some t → t.provide < provides_at nodes t.node
 target_within nodes links i r t within h = by (link_at links i r) refl h

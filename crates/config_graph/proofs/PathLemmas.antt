@@ -1,16 +1,19 @@
--- Lemmas on paths that rise, and on the index of paths.
-use Rattle.std.proofs.Common.{◌≡◌, ℕ, ◌+◌, ◌<◌, Bool, true, false, ◌||◌, List, [], ◌∷◌, ◌++◌, map, length, take, get_or, bytes_eq, if◌then◌else◌, refl, sym, ◌∙◌, ap, arith, length-take}
-use Rattle.std.specs.List.{list_any}
-use Rattle.std.specs.Ordering.{is_eq, nat_cmp, ordering_reverse}
+-- Lemmas on paths that rise, and on a search among them.
+use Rattle.std.proofs.Common.{◌≡◌, inl, inr, ℕ, ◌+◌, ◌<◌, Bool, true, false, not, cond, List, length, get_or, bytes_eq, Option, Some, None, refl, sym, ◌∙◌, ap, subst, arith}
+use Rattle.std.specs.List.{position_or_len, AllWithin, HoldsAt}
+use Rattle.std.specs.List.Sorted.{IsNonDecreasingBy, IsPartitionPoint}
+use Rattle.std.specs.Option.{MatchOption, unwrap_or}
+use Rattle.std.specs.Ordering.{is_eq, is_lt, nat_cmp, ordering_index, ordering_reverse}
 use Rattle.std.specs.Cmp.Lexicographic.{slice_cmp, nat_list_cmp_total}
 use Rattle.std.specs.declared.cmp.Ordering.{Ordering}
 use Rattle.std.specs.declared.cmp.Ordering.TheVariants.{Less, Equal, Greater}
-use Rattle.std.proofs.lemmas.Bool.{true≢false}
-use Rattle.std.proofs.lemmas.List.{take_more, map-append, get_or-take, get_or_default}
-use Rattle.std.proofs.lemmas.List.Folds.{list_any_none}
+use Rattle.std.proofs.lemmas.Bool.{true≢false, lt-ltb, le-ltb, cases_lt}
+use Rattle.std.proofs.lemmas.Iterator.{index_from_first}
+use Rattle.std.proofs.lemmas.List.Sorted.{searchable_from_sorted}
+use Rattle.std.proofs.Common.{◌||◌, [], ◌∷◌, ◌++◌, map, take, if◌then◌else◌, length-take}
 use Rattle.std.proofs.lemmas.Map.Text.{is_eq-slice_cmp}
 use Rattle.std.proofs.lemmas.Slice.Eq.{bytes_eq-Decides}
-use Rattle.config_graph.specs.Graph.{PathsRise}
+use Rattle.config_graph.specs.Graph.{PathsRise, index_of}
 use Rattle.config_graph.specs.declared.node.Node.{Node}
 
 -- no path is before itself
@@ -37,23 +40,60 @@ bytes_eq-below p q h = by (bytes_eq q p) refl
         let apart : bytes_eq p q ≡ false = sym (is_eq-slice_cmp p q) ∙ ap is_eq h in
         absurd (true≢false (sym ((bytes_eq-Decides p q).1 (sym same)) ∙ apart))
 
-list_any-map : {A B : Type 0} (p : B → Bool) (f : A → B) (xs : List A) → list_any p (map f xs) ≡ list_any (λ x. p (f x)) xs
-list_any-map p f [] = refl
-list_any-map p f (x ∷ xs) = ap (λ b. p (f x) || b) (list_any-map p f xs)
+-- ---- a search by halving
 
--- no node before has the path of this one
-new_path : (nodes : List Node) (k : ℕ) (d : Node) → PathsRise nodes → k < length nodes → list_any (λ n. bytes_eq (get_or nodes k d).path n.path) (take k nodes) ≡ false
-new_path nodes k d rise low =
-    list_any_none (λ n. bytes_eq (get_or nodes k d).path n.path) (take k nodes) (λ j e j_low.
-    let below : j < k = omega (arith, j_low, length-take k nodes) in
-    let in_list : j < length nodes = omega arith in
-    let read : get_or (take k nodes) j e ≡ get_or nodes j d = get_or-take k nodes j e below ∙ get_or_default nodes j e d in_list in
-    ap (λ n. bytes_eq (get_or nodes k d).path n.path) read ∙ bytes_eq-below (get_or nodes j d).path (get_or nodes k d).path (rise j k d below low))
+module _ (nodes : List Node) (path : List ℕ) where
+  abbrev has_path : Node → Bool
+  has_path n = bytes_eq path n.path
 
--- the index of paths after one node more
-pub paths_more : {V : Type 0} (items : V → List ℕ) (nodes : List Node) (k : ℕ) (n : Node) (keys new : List V) (key : V) → PathsRise nodes → k < length nodes → n ≡ get_or nodes k n → items key ≡ n.path → map items keys ≡ map (λ m. m.path) (take k nodes) → new ≡ (if list_any (λ x. bytes_eq (items key) (items x)) keys then keys else keys ++ key ∷ []) → map items new ≡ map (λ m. m.path) (take (k + 1) nodes)
-paths_more items nodes k n keys new key rise low n_is key_is keys_are new_is =
-    let absent : list_any (λ x. bytes_eq (items key) (items x)) keys ≡ false =
-    sym (list_any-map (bytes_eq (items key)) items keys) ∙ ap (list_any (bytes_eq (items key))) keys_are ∙ list_any-map (bytes_eq (items key)) (λ m. m.path) (take k nodes) ∙ ap (λ p. list_any (λ m. bytes_eq p m.path) (take k nodes)) (key_is ∙ ap (λ m. m.path) n_is) ∙ new_path nodes k n rise low in
-    let pushed : new ≡ keys ++ key ∷ [] = new_is ∙ ap (λ b. if b then keys else keys ++ key ∷ []) absent in
-    ap (map items) pushed ∙ map-append items keys (key ∷ []) ∙ (λ i. keys_are i ++ (key_is ∙ ap (λ m. m.path) n_is) i ∷ []) ∙ sym (map-append (λ m. m.path) (take k nodes) (get_or nodes k n ∷ [])) ∙ sym (ap (map (λ (m : Node). m.path)) (take_more nodes k n low))
+  abbrev at_path : Node → Ordering
+  at_path n = slice_cmp nat_cmp n.path path
+
+  abbrev lacks_path : Node → Type 0
+  lacks_path n = has_path n ≡ false
+
+  differs : (n : Node) → is_eq (at_path n) ≡ false → has_path n ≡ false
+  differs n apart = by (has_path n) refl
+    where
+      by : (b : Bool) → has_path n ≡ b → has_path n ≡ false
+      by false is = is
+      by true is =
+          let same = sym ((bytes_eq-Decides path n.path).0 is) in
+          absurd (true≢false (sym ((bytes_eq-Decides n.path path).1 same) ∙ sym (is_eq-slice_cmp n.path path) ∙ apart))
+
+  has : (n : Node) → at_path n ≡ Equal → has_path n ≡ true
+  has n equal =
+      let same = (bytes_eq-Decides n.path path).0 (sym (is_eq-slice_cmp n.path path) ∙ ap is_eq equal) in
+      (bytes_eq-Decides path n.path).1 (sym same)
+
+  -- the first that has the path, from where it stands
+  first_at : (o : Option ℕ) → MatchOption o (AllWithin lacks_path nodes 0 (length nodes)) (λ i. (i < length nodes) × HoldsAt (λ n. has_path n ≡ true) nodes i × AllWithin lacks_path nodes 0 i) → position_or_len has_path nodes ≡ unwrap_or o (length nodes)
+  first_at = index_from_first (position_or_len has_path) (λ n. has_path n ≡ true) lacks_path refl (λ n ns is. ap (λ b. cond (not b) (1 + position_or_len has_path ns) 0) is) (λ n ns is. ap (λ b. cond (not b) (1 + position_or_len has_path ns) 0) is ∙ omega arith) nodes
+
+  -- where a search ends at a node of the path
+  pub found_path : PathsRise nodes → (i : ℕ) → i < length nodes → HoldsAt (λ n. at_path n ≡ Equal) nodes i → index_of nodes path ≡ Some i
+  found_path rise i within equal =
+      let first : position_or_len has_path nodes ≡ i = first_at (Some i) (within, λ d. has (get_or nodes i d) (equal d), before) in
+      rw (first, lt-ltb i (length nodes) within) refl
+    where
+      before : AllWithin lacks_path nodes 0 i
+      before k d low below =
+          let same : (get_or nodes i d).path ≡ path = (bytes_eq-Decides (get_or nodes i d).path path).0 (sym (is_eq-slice_cmp (get_or nodes i d).path path) ∙ ap is_eq (equal d)) in
+          differs (get_or nodes k d) (ap is_eq (subst (λ p. slice_cmp nat_cmp (get_or nodes k d).path p ≡ Less) same (rise k i d below within)))
+
+  -- where it ends between two nodes, or at an end
+  pub no_path : PathsRise nodes → (i : ℕ) → (IsNonDecreasingBy (λ n. ordering_index (at_path n)) nodes → IsPartitionPoint (λ n. at_path n ≡ Less) (λ n. at_path n ≡ Greater) nodes i) → index_of nodes path ≡ None
+  no_path rise i parted =
+      let none : position_or_len has_path nodes ≡ length nodes = first_at None all in
+      rw (none, le-ltb (length nodes) (length nodes) (omega arith)) refl
+    where
+      all : AllWithin lacks_path nodes 0 (length nodes)
+      all k d low below =
+          let sides = parted (searchable_from_sorted nat_list_cmp_total (λ (n : Node). n.path) nodes path (λ j e from next. ap is_lt (back j e next))) in
+          elim (cases_lt k i) [
+            | inl before ↦ differs (get_or nodes k d) (ap is_eq (sides.0 k d (omega arith) before))
+            | inr after ↦ differs (get_or nodes k d) (ap is_eq (sides.1 k d after below))
+          ]
+        where
+          back : (j : ℕ) (e : Node) → j + 1 < length nodes → slice_cmp nat_cmp (get_or nodes (j + 1) e).path (get_or nodes j e).path ≡ Greater
+          back j e next = nat_list_cmp_total.antisymm (get_or nodes (j + 1) e).path (get_or nodes j e).path ∙ ap ordering_reverse (rise j (j + 1) e (omega arith) next)

@@ -35,4 +35,3 @@ pub record IsIndexed (a : Inside) : Type 0 where
   pub graph : IsGraph (graph_in a)
   pub targets_are : a.targets.items ≡ targets a.nodes a.links.items
   pub incoming_are : map (λ v. v.items) a.incoming.items ≡ incoming (graph_in a)
-  pub paths_are : map (λ v. v.items) a.paths.keys ≡ map (λ n. n.path) a.nodes

@@ -7,20 +7,18 @@ ghost use Rattle.config_graph.specs.Graph.{IsGraph, IsWithin, OneLinkAPort, Path
 
 use crate::numbering::Numbering;
 use crate::{Link, NoMemory, Node, Port, Target, indexes};
-use indexmap::IndexSet;
 use std::alloc::Global;
 use std::marker::Model;
 
 /// A configuration. Contracts see its nodes, in the order of their paths, and its links, in the order of their ports.
 ///
-/// All look-ups but `index_of` take constant time; `index_of` hashes the path. None takes memory.
+/// All look-ups but `index_of` take constant time; `index_of` halves the list of nodes. None takes memory.
 #[derive(Debug, Drop)]
 pub struct Graph {
     nodes: Numbering,
     links: Vec<Link>,
     targets: Vec<Option<Target>>,
     incoming: Vec<Vec<u32>>,
-    paths: IndexSet<Vec<u8>>,
 }
 
 impl Model for Graph {
@@ -36,8 +34,8 @@ impl Model for Graph {
 }
 
 impl Graph {
-    /// The graph of these nodes and links. Time grows with their number and the bytes of the paths, where
-    /// hashes don't collide. Where memory runs out, both lists are gone.
+    /// The graph of these nodes and links. Time grows with their number. Where memory runs out, both lists are
+    /// gone.
     pub fn build(alloc: Global, nodes: Vec<Node>, links: Vec<Link>) -> Result<Graph, NoMemory>
         requires paths_rise { PathsRise nodes.items }
         requires within { All (IsWithin nodes.items) links.items }
@@ -52,13 +50,11 @@ impl Graph {
         let targets = indexes::list_targets(alloc, &nodes, &links)?;
         let links = indexes::list_links(alloc, nodes.ports(), &targets)?;
         let incoming = indexes::list_incoming(alloc, &nodes, &links)?;
-        let paths = indexes::list_paths(alloc, nodes.nodes())?;
         Ok(Graph {
             nodes,
             links,
             targets,
             incoming,
-            paths,
         })
     }
 
@@ -124,8 +120,7 @@ impl Graph {
     pub fn index_of(&self, path: &[u8]) -> Option<u32>
         ensures { result ≡ index_of self.now.nodes path.now }
     {
-        let index = self.paths.get_index_of(path)?;
-        Some(index as u32)
+        indexes::find_path(self.nodes(), path)
     }
 
     /// Another graph with the same nodes and links.

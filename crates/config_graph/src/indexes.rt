@@ -1,13 +1,15 @@
 //! The indexes that answer a graph's look-ups, each made in one pass over its links or nodes.
 
-ghost use Rattle.std.specs.Prelude.{◌≡◌, [], map, replicate, IfOk, All};
-ghost use Rattle.config_graph.specs.Graph.{Configuration, IsWithin, OneLinkAPort, PathsRise};
+ghost use Rattle.std.specs.Prelude.{◌≡◌, ◌<◌, ◌^◌, [], length, map, replicate, IfOk, All};
+ghost use Rattle.std.specs.Ordering.{nat_cmp};
+ghost use Rattle.std.specs.Cmp.Lexicographic.{slice_cmp};
+ghost use Rattle.config_graph.specs.Graph.{Configuration, IsWithin, OneLinkAPort, PathsRise, index_of};
 ghost use Rattle.config_graph.specs.Indexes.{incoming, links_in, no_target, targets};
 
 use crate::numbering::Numbering;
 use crate::{Link, NoMemory, Node, Port, Target};
-use indexmap::IndexSet;
 use std::alloc::Global;
+use std::cmp::Ordering;
 
 /// What each port is linked to, by the port's number.
 pub(crate) fn list_targets(
@@ -88,14 +90,19 @@ fn list_empty(alloc: Global, count: u32) -> Result<Vec<Vec<u32>>, NoMemory>
     Ok(lists)
 }
 
-/// The nodes' paths, in order.
-pub(crate) fn list_paths(alloc: Global, nodes: &[Node]) -> Result<IndexSet<Vec<u8>>, NoMemory>
-    requires { PathsRise nodes.now }
-    ensures { IfOk result (λ s. map (λ path. path.items) s.keys ≡ map (λ n. n.path) nodes.now) }
+/// The index of the node with this path. It is found by halving, since paths rise.
+pub(crate) fn find_path(nodes: &[Node], path: &[u8]) -> Option<u32>
+    requires rise { PathsRise nodes.now }
+    requires few { length nodes.now < 2 ^ 32 }
+    ensures { result ≡ index_of nodes.now path.now }
 {
-    let mut paths = IndexSet::with_capacity(alloc, nodes.len())?;
-    for node in nodes {
-        paths.insert(Vec::from_slice(alloc, node.path.as_bytes())?)?;
+    let found = nodes.binary_search_by(
+        |node: &Node| -> Ordering
+            ensures { result ≡ slice_cmp nat_cmp node.now.path path.entry.now }
+        { node.path.as_bytes().cmp(path) },
+    );
+    match found {
+        Ok(index) => Some(index as u32),
+        Err(_) => None,
     }
-    Ok(paths)
 }

@@ -7,6 +7,7 @@ ghost use Rattle.config_graph.specs.Sound.{Sound};
 ghost use Rattle.config_graph.specs.GraphText.{IsOneWord, graph_text, kind_text, node_line, port_line, port_lines, target_text};
 
 use crate::{Graph, Kind, NoMemory, Node, Target};
+use itoa::Buffer;
 use std::alloc::Global;
 
 /// The text of a graph: a line for each node, and below it one for each of its ports.
@@ -15,7 +16,7 @@ pub fn graph_text(alloc: Global, graph: &Graph) -> Result<Vec<u8>, NoMemory>
 {
     let mut text = Vec::new(alloc);
     for (index, node) in graph.nodes().iter().enumerate() {
-        write_node(alloc, &mut text, node)?;
+        write_node(&mut text, node)?;
         write_ports(&mut text, graph, index as u32, node)?;
     }
     Ok(text)
@@ -25,13 +26,22 @@ pub fn graph_text(alloc: Global, graph: &Graph) -> Result<Vec<u8>, NoMemory>
 pub fn kind_text(alloc: Global, kind: Kind, arg: Option<u32>) -> Result<Vec<u8>, NoMemory>
     ensures { IfOk result (λ text. text.items ≡ kind_text kind arg) }
 {
-    let mut text = Vec::from_slice(alloc, kind.name().as_bytes())?;
+    let mut text = Vec::new(alloc);
+    push_kind(&mut text, kind, arg)?;
+    Ok(text)
+}
+
+/// Adds a kind with its argument.
+fn push_kind(text: &mut Vec<u8>, kind: Kind, arg: Option<u32>) -> Result<(), NoMemory>
+    ensures { OnOk result (text.new.items ≡ text.old.items ++ kind_text kind arg) }
+{
+    text.extend_from_slice(kind.name().as_bytes())?;
     text.extend_from_slice(b"(")?;
     if let Some(arg) = arg {
-        text.extend_from_slice(format!(in alloc; "{arg}")?.as_bytes())?;
+        let mut digits = Buffer::new();
+        text.extend_from_slice(digits.format(arg).as_bytes())?;
     }
-    text.extend_from_slice(b")")?;
-    Ok(text)
+    text.extend_from_slice(b")")
 }
 
 /// A law: where the paths of two sound graphs hold no space and no line feed, the graphs are equal if their texts are.
@@ -42,13 +52,13 @@ pub fn texts_tell_sound_graphs()
 {}
 
 /// `node PATH KIND(ARG)`
-fn write_node(alloc: Global, text: &mut Vec<u8>, node: &Node) -> Result<(), NoMemory>
+fn write_node(text: &mut Vec<u8>, node: &Node) -> Result<(), NoMemory>
     ensures { OnOk result (text.new.items ≡ text.old.items ++ node_line node.now) }
 {
     text.extend_from_slice(b"node ")?;
     text.extend_from_slice(node.path.as_bytes())?;
     text.extend_from_slice(b" ")?;
-    text.extend_from_slice(&kind_text(alloc, node.kind, node.arg)?)?;
+    push_kind(text, node.kind, node.arg)?;
     text.extend_from_slice(b"\n")
 }
 

@@ -1,6 +1,7 @@
 //! The keywords and the signs with their bytes, as two tables.
 
-ghost use Rattle.std.specs.Prelude.{◌≡◌};
+ghost use Rattle.std.specs.Prelude.{◌≡◌, nat_eq};
+ghost use Rattle.std.specs.List.{starts_with};
 ghost use Rattle.darwin_lexer.specs.Words.{keyword_bytes, keyword_of, sign_at, sign_bytes, word_kind};
 
 use crate::token::{Keyword, Sign, TokenKind};
@@ -120,12 +121,17 @@ pub fn word_kind(word: &[u8]) -> TokenKind
     }
 }
 
+/// Whether the sign stands at the front of `text`. Its first byte alone rules out most.
+fn begins_with(text: &[u8], sign: Sign) -> bool
+    ensures { result ≡ starts_with nat_eq text.now (sign_bytes sign) }
+{
+    let bytes = sign.bytes();
+    text.first() == bytes.first() && text.starts_with(bytes)
+}
+
 /// The sign at the front of `text`, the longest.
 pub fn sign_at(text: &[u8]) -> Option<Sign>
     ensures { result ≡ sign_at text.now }
 {
-    SIGNS
-        .iter()
-        .copied()
-        .find(|sign| text.starts_with(sign.bytes()))
+    SIGNS.iter().copied().find(|sign| begins_with(text, *sign))
 }

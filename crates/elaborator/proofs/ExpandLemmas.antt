@@ -3,12 +3,12 @@ use Rattle.std.proofs.Common.{◌≡◌, ◌≢◌, ◌∙◌, inl, inr, ℕ, ze
 use Rattle.std.specs.List.{Contains, slice_get}
 use Rattle.std.specs.Option.{IsSome}
 use Rattle.std.specs.Map.{lookup}
-use Rattle.std.specs.Ordering.{nat_cmp, is_eq}
-use Rattle.std.specs.Cmp.Lexicographic.{slice_cmp}
+use Rattle.std.specs.Str.{bytes_eq}
 use Rattle.std.proofs.Math.Seq.{map-set_same}
 use Rattle.std.proofs.lemmas.Option.{none-some, same_Some, get_or_from_slice_get}
 use Rattle.std.proofs.lemmas.List.{length-map, map-append}
 use Rattle.std.proofs.lemmas.List.Elements.{All-head, All-tail}
+use Rattle.indexmap.specs.IndexMap.{keys}
 use Rattle.darwin_parser.specs.Tree.{Tree, tree_of, component_of}
 use Rattle.darwin_parser.specs.declared.tree.Unit.{Unit as Description}
 use Rattle.darwin_types.specs.Scope.{component_named, is_primitive}
@@ -22,7 +22,7 @@ use Rattle.elaborator.specs.Index.{Answers}
 use Rattle.elaborator.specs.declared.opening.Found.{Found}
 use Rattle.elaborator.specs.Growth.{IsTop, GrowthFault, IsClear, IsWhole}
 use Rattle.elaborator.specs.Growth.GrowthFault.{out_of_range, zero_divisor, bad_index, two_instances, two_apart, too_deep, too_many}
-use Rattle.elaborator.specs.Grown.{made_by, IsOpened, IsGrown, IsMapped, IsGrowth, IsSpread, IsClash, IsTold}
+use Rattle.elaborator.specs.Grown.{made_by, IsOpened, IsGrown, IsMapped, IsGrowth, IsSpread, IsInPathOrder, IsClash, IsTold}
 use Rattle.elaborator.specs.declared.instance.Instance as code
 use Rattle.elaborator.specs.declared.growing.Growth.{Growth}
 use Rattle.elaborator.specs.declared.instance.Expansion.{Expansion}
@@ -33,6 +33,8 @@ use Rattle.elaborator.proofs.NamingLemmas.{made_named}
 use Rattle.elaborator.proofs.Lists.{slice_get-set_cases, slice_get-set_same, slice_get-set_other}
 use Rattle.elaborator.proofs.WholeLemmas.{Contains-at}
 use Rattle.elaborator.proofs.Places.{slice_get-append_cases, slice_get-below, slice_get-before, slice_get-behind, slice_get-map_some, slice_get-map_at, twice_at}
+use Rattle.elaborator.proofs.OrderLemmas.{rising}
+use Rattle.elaborator.proofs.MappedLemmas.{found-in_order, found-before_order}
 use Rattle.elaborator.proofs.GrowthLemmas.{AreApart, same_made, earlier_or_same, grown-top, grown-open, grown-sound, grown-complete, grown-distinct, once-made}
 use Rattle.elaborator.proofs.SpreadLemmas.{total-within, spread-top, spread-open, total-above, depth-next}
 
@@ -222,23 +224,28 @@ whole-clear top g growth all =
           (subst (λ n. IsSpread (tree_of g.expansion.directory.unit.now) top (map instance_in g.expansion.instances.items) n g.room) (all ∙ sym (length-map g.expansion.instances.items instance_in)) growth.spread);
     }
 
+-- the instances of a growth, with the numbers of another expansion
+abbrev renumbered : Growth → Expansion → Expansion
+renumbered g e = record { directory = g.expansion.directory; instances = g.expansion.instances; numbers = e.numbers }
+
 pub whole-kept :
     (top : Instance) (g : Growth) → IsGrowth top g → top.depth ≡ 0 → component_named (tree_of g.expansion.directory.unit.now) top.component.name ≡ Some top.component
-    → is_primitive top.component ≡ false → g.opened ≡ length g.expansion.instances.items → IsKept g.expansion
-whole-kept top g growth shallow named composite all =
+    → is_primitive top.component ≡ false → g.opened ≡ length g.expansion.instances.items → (e : Expansion) → IsInPathOrder g.expansion e → IsKept (renumbered g e)
+whole-kept top g growth shallow named composite all e ordered =
     record {
       is_expanded = whole-expanded top g growth shallow named composite all;
       few = omega (arith, growth.few);
-      counted = growth.mapped.counted;
+      counted = omega (arith, ordered.reordered.1, growth.mapped.counted);
+      in_order = rising (keys e.numbers) ordered.sorted ordered.unique;
       primitive = λ n i at. growth.told n i at;
       bindings = λ n i at. (growth.shown n i (omega (arith, all, slice_get-below _ n i at)) at).bindings;
       sizes = λ n i at. (growth.shown n i (omega (arith, all, slice_get-below _ n i at)) at).sizes;
-      found = λ n i at made. found n i at made;
+      found = λ n i at made. found-in_order g.expansion e ordered i.path n (found n i at made);
       told = λ n path i is at.
-          let w = growth.mapped.told n path is in
+          let w = growth.mapped.told n path (found-before_order g.expansion e ordered path n is) in
           ap (λ (x : code.Instance). x.path) (same_Some i w.0 (sym at ∙ w.1)) ∙ w.2;
       within = λ n path is.
-          let w = growth.mapped.told n path is in
+          let w = growth.mapped.told n path (found-before_order g.expansion e ordered path n is) in
           slice_get-below g.expansion.instances.items n w.0 w.1;
     }
   where
@@ -262,11 +269,13 @@ whole-of top g growth all =
 
 pub whole :
     (unit : Description) (top : code.Instance) (g : Growth) → IsTop (tree_of unit) top → tree_of g.expansion.directory.unit.now ≡ tree_of unit → IsGrowth (instance_in top) g
-    → length g.expansion.instances.items ≤ g.opened → IsWhole unit top g.expansion
-whole unit top g is_top same growth all_opened =
+    → length g.expansion.instances.items ≤ g.opened → (e : Expansion) → IsInPathOrder g.expansion e → IsWhole unit top e
+whole unit top g is_top same growth all_opened e ordered =
     let all : g.opened ≡ length g.expansion.instances.items = omega (arith, all_opened, growth.within) in
+    let is : e ≡ renumbered g e = λ i. record { directory = ordered.same_directory i; instances = ordered.same_instances i; numbers = e.numbers } in
+    subst (IsWhole unit top) (sym is)
     record {
-      kept = whole-kept (instance_in top) g growth is_top.depth (subst (λ tree. component_named tree top.component.now.name ≡ Some (component_of top.component.now)) (sym same) is_top.named) is_top.composite all;
+      kept = whole-kept (instance_in top) g growth is_top.depth (subst (λ tree. component_named tree top.component.now.name ≡ Some (component_of top.component.now)) (sym same) is_top.named) is_top.composite all e ordered;
       same_tree = same;
       is_of = whole-of (instance_in top) g growth all;
       clear = subst (λ tree. IsClear tree (instance_in top)) same (whole-clear (instance_in top) g growth all);
@@ -291,7 +300,7 @@ growth-top t top g is_top alone none_opened all_room empty =
           record {
             counted = omega (arith, ap length empty, ap length alone);
             found = λ n i positive at. absurd (alone_at n i positive (ap (λ is. slice_get is n) (sym alone) ∙ at));
-            told = λ n path is. absurd (none-some n (ap (λ es. lookup (λ p. is_eq (slice_cmp nat_cmp path p.items)) es) (sym empty) ∙ is));
+            told = λ n path is. absurd (none-some n (ap (λ es. lookup (λ p. bytes_eq path p.items) es) (sym empty) ∙ is));
           };
       told = λ n i at. told n i (ap (λ is. slice_get is n) (sym alone) ∙ at);
       shown = λ n i lt at. absurd (omega (arith, lt, none_opened));

@@ -1,68 +1,63 @@
 -- Instances by their paths: one more is added, or another has its path.
-use Rattle.std.proofs.Common.{◌≡◌, ◌≢◌, ◌∙◌, ◌⊎◌, inl, inr, ℕ, Bool, true, false, ◌+◌, List, [], ◌∷◌, ◌++◌, length, set, Option, Some, None, refl, sym, ap, subst, arith, length-append, append_assoc, length-set}
+use Rattle.std.proofs.Common.{◌≡◌, ◌≢◌, ◌∙◌, ◌⊎◌, inl, inr, ℕ, Bool, true, false, ◌+◌, List, [], ◌∷◌, ◌++◌, length, set, cond, Option, Some, None, refl, sym, ap, subst, arith, length-append, append_assoc, length-set}
 use Rattle.std.specs.List.{slice_get}
-use Rattle.std.specs.Option.{is_some}
+use Rattle.std.specs.Option.{is_some, option_or}
 use Rattle.std.specs.Str.{bytes_eq}
-use Rattle.std.specs.Map.{lookup, IsKeyTest, AreApart, KeepsOthers}
-use Rattle.std.specs.BTreeMap.{get, is_at, btree_map_len, Updates}
-use Rattle.std.specs.Cmp.{eq_by_cmp_equiv}
-use Rattle.std.specs.Cmp.Lexicographic.{slice_cmp, nat_list_cmp_total}
-use Rattle.std.specs.Ordering.{nat_cmp, is_eq, eq_by_cmp}
+use Rattle.std.specs.Map.{lookup}
 use Rattle.std.specs.Global.{Vec}
 use Rattle.std.proofs.lemmas.Bool.{cases_Bool, false≢true}
 use Rattle.std.proofs.lemmas.Option.{none-some, same_Some}
-use Rattle.std.proofs.lemmas.Map.Text.{is_eq-slice_cmp}
+use Rattle.std.proofs.lemmas.Map.Entries.{place_from_lookup}
 use Rattle.std.proofs.lemmas.Slice.Eq.{bytes_eq-Decides}
+use Rattle.indexmap.specs.IndexMap.{insert_entry}
+use Rattle.indexmap.proofs.MapLemmas.{insert_entry-absent, absent_from_lookup}
+use Rattle.darwin_types.proofs.Lookups.{lookup-append}
 use Rattle.elaborator.specs.Paths.{Path}
 use Rattle.elaborator.specs.Expansion.{number_at}
-use Rattle.elaborator.specs.Grown.{IsMapped, IsExtended, IsClash}
+use Rattle.elaborator.specs.Grown.{IsMapped, IsExtended, IsInPathOrder, IsClash}
 use Rattle.elaborator.specs.declared.instance.Instance as code
 use Rattle.elaborator.specs.declared.instance.Expansion.{Expansion}
-use Rattle.elaborator.proofs.OrderLemmas.{path_cmp}
 use Rattle.elaborator.proofs.Places.{slice_get-below, slice_get-there}
 use Rattle.elaborator.proofs.Lists.{slice_get-front, slice_get-last, slice_get-push_cases, slice_get-set_cases}
 
 abbrev at_path : Path → Vec ℕ → Bool
-at_path path p = is_eq (slice_cmp nat_cmp path p.items)
+at_path path p = bytes_eq path p.items
 
-same_path : (p q : Path) → is_eq (slice_cmp nat_cmp p q) ≡ true → p ≡ q
-same_path p q is = (bytes_eq-Decides p q).0 (sym (is_eq-slice_cmp p q) ∙ is)
-
-others :
-    (old new : List (Vec ℕ × ℕ)) (test other : Vec ℕ → Bool) → KeepsOthers (eq_by_cmp path_cmp) test old new → IsKeyTest (eq_by_cmp path_cmp) other → AreApart test other
-    → lookup other new ≡ lookup other old
-unfolding KeepsOthers
-others old new test other keeps one apart = keeps other one apart
-
--- a search by a path, after an entry was put under a key
+-- a search by a path, after an entry was put under a key that was new
 after :
-    (old new : List (Vec ℕ × ℕ)) (key : Vec ℕ) (path : Path) (v : ℕ) → KeepsOthers (eq_by_cmp path_cmp) (is_at (path_cmp key)) old new → lookup (at_path key.items) new ≡ Some v
+    (old new : List (Vec ℕ × ℕ)) (key : Vec ℕ) (path : Path) (v : ℕ) → lookup (at_path key.items) old ≡ None
+    → new ≡ insert_entry (λ p q. bytes_eq p.items q.items) old key v
     → ((path ≡ key.items) × (lookup (at_path path) new ≡ Some v)) ⊎ ((path ≢ key.items) × (lookup (at_path path) new ≡ lookup (at_path path) old))
-after old new key path v keeps here =
+after old new key path v lacks put =
     elim (cases_Bool (bytes_eq path key.items)) [
       | inl same ↦
           let is = (bytes_eq-Decides path key.items).0 same in
-          inl (is, subst (λ p. lookup (at_path p) new ≡ Some v) (sym is) here)
+          let absent : lookup (at_path path) old ≡ None = subst (λ p. lookup (at_path p) old ≡ None) (sym is) lacks in
+          inl (is, found ∙ (λ i. option_or (absent i) (cond (same i) (Some v) None)))
       | inr differ ↦
-          let other : path ≢ key.items = λ is. false≢true (sym differ ∙ (bytes_eq-Decides path key.items).1 is) in
-          inr (other, others old new (is_at (path_cmp key)) (at_path path) keeps (λ x y. (eq_by_cmp_equiv nat_list_cmp_total).congr path x.items y.items) (apart other))
+          inr (
+            λ is. false≢true (sym differ ∙ (bytes_eq-Decides path key.items).1 is),
+            found ∙ (λ i. option_or (lookup (at_path path) old) (cond (differ i) (Some v) None)) ∙ or_none (lookup (at_path path) old),
+          )
     ]
   where
-    apart : path ≢ key.items → AreApart (is_at (path_cmp key)) (at_path path)
-    apart other k is =
-        elim (cases_Bool (at_path path k)) [
-          | inl same ↦ absurd (other (same_path path k.items same ∙ sym (same_path key.items k.items is)))
-          | inr differ ↦ differ
-        ]
+    found : lookup (at_path path) new ≡ option_or (lookup (at_path path) old) (cond (bytes_eq path key.items) (Some v) None)
+    found =
+        ap (lookup (at_path path)) (put ∙ insert_entry-absent (λ p q. bytes_eq p.items q.items) key v old (absent_from_lookup (at_path key.items) old lacks))
+        ∙ lookup-append (at_path path) old ((key, v) ∷ [])
+
+    or_none : (o : Option ℕ) → option_or o None ≡ o
+    or_none None = refl
+    or_none (Some n) = refl
 
 -- one more instance
 pub mapped-add :
     (e new : Expansion) (x : code.Instance) (key : Vec ℕ) (number : ℕ) → IsMapped e → new.instances.items ≡ e.instances.items ++ x ∷ [] → key.items ≡ x.path
-    → number ≡ length e.instances.items → Updates path_cmp e.numbers new.numbers key (Some number) → get path_cmp e.numbers key ≡ None
-    → btree_map_len new.numbers ≡ btree_map_len e.numbers + 1 → IsMapped new
-mapped-add e new x key number mapped grown is_key is_number updates none counted =
+    → number ≡ length e.instances.items → number_at e key.items ≡ None → new.numbers.entries ≡ insert_entry (λ p q. bytes_eq p.items q.items) e.numbers.entries key number → IsMapped new
+mapped-add e new x key number mapped grown is_key is_number none put =
+    let pushed = put ∙ insert_entry-absent (λ p q. bytes_eq p.items q.items) key number e.numbers.entries (absent_from_lookup (at_path key.items) e.numbers.entries none) in
     record {
-      counted = omega (arith, counted, mapped.counted, ap length grown, length-append e.instances.items (x ∷ []));
+      counted = omega (arith, ap length pushed, length-append e.numbers.entries ((key, number) ∷ []), mapped.counted, ap length grown, length-append e.instances.items (x ∷ []));
       found = λ n i positive at.
           elim (slice_get-push_cases e.instances.items x n i (subst (λ is. slice_get is n ≡ Some i) grown at)) [
             | inl there ↦
@@ -94,7 +89,7 @@ mapped-add e new x key number mapped grown is_key is_number updates none counted
   where
     search : (path : Path) → ((path ≡ key.items) × (number_at new path ≡ Some (length e.instances.items))) ⊎ ((path ≢ key.items) × (number_at new path ≡ number_at e path))
     search path =
-        after e.numbers.entries new.numbers.entries key path (length e.instances.items) updates.3 (updates.1 ∙ ap Some is_number)
+        after e.numbers.entries new.numbers.entries key path (length e.instances.items) none (put ∙ ap (insert_entry (λ p q. bytes_eq p.items q.items) e.numbers.entries key) is_number)
 
 -- an instance is replaced by one of the same path
 pub mapped-set :
@@ -102,7 +97,7 @@ pub mapped-set :
     → new.numbers ≡ e.numbers → y.path ≡ x.path → IsMapped new
 mapped-set e new k x y mapped at is same path_is =
     record {
-      counted = omega (arith, mapped.counted, ap btree_map_len same, ap length is, length-set e.instances.items k y);
+      counted = omega (arith, mapped.counted, ap (λ m. length m.entries) same, ap length is, length-set e.instances.items k y);
       found = λ n i positive there.
           ap (λ m. lookup (at_path i.path) m.entries) same
           ∙ elim (slice_get-set_cases e.instances.items k y n i (subst (λ is. slice_get is n ≡ Some i) is there)) [
@@ -128,7 +123,7 @@ mapped-set e new k x y mapped at is same path_is =
 
 -- another instance has the path
 pub clash-add :
-    (e : Expansion) (x : code.Instance) (key : Vec ℕ) (n : ℕ) → IsMapped e → key.items ≡ x.path → get path_cmp e.numbers key ≡ Some n
+    (e : Expansion) (x : code.Instance) (key : Vec ℕ) (n : ℕ) → IsMapped e → key.items ≡ x.path → number_at e key.items ≡ Some n
     → IsClash (e.instances.items ++ x ∷ []) (length e.instances.items) x.path
 clash-add e x key n mapped is_key found =
     let w = mapped.told n key.items found in
@@ -145,6 +140,21 @@ clash-add e x key n mapped is_key found =
       one_path = w.2 ∙ is_key;
       other_path = refl;
     }
+
+-- ---- in the order of the paths
+
+-- what is found by a path stays what is found by it
+pub found-in_order : (old new : Expansion) → IsInPathOrder old new → (path : Path) (n : ℕ) → number_at old path ≡ Some n → number_at new path ≡ Some n
+found-in_order old new ordered path n is =
+    let at = place_from_lookup (at_path path) old.numbers.entries n is in
+    let same : path ≡ at.1.items = (bytes_eq-Decides path at.1.items).0 at.3 in
+    subst (λ p. number_at new p ≡ Some n) (sym same) (ordered.reordered.2 at.1 ∙ subst (λ p. number_at old p ≡ Some n) same is)
+
+pub found-before_order : (old new : Expansion) → IsInPathOrder old new → (path : Path) (n : ℕ) → number_at new path ≡ Some n → number_at old path ≡ Some n
+found-before_order old new ordered path n is =
+    let at = place_from_lookup (at_path path) new.numbers.entries n is in
+    let same : path ≡ at.1.items = (bytes_eq-Decides path at.1.items).0 at.3 in
+    subst (λ p. number_at old p ≡ Some n) (sym same) (sym (ordered.reordered.2 at.1) ∙ subst (λ p. number_at new p ≡ Some n) same is)
 
 -- ---- one instance after another
 

@@ -1,11 +1,12 @@
 -- What holds of an expansion as the code keeps it.
-use Rattle.std.specs.Prelude.{◌≡◌, ℕ, ℤ, ◌+◌, ◌<◌, ◌≤◌, List, Option, Some, length, map, slice_get, IsSome}
+use Rattle.std.specs.Prelude.{◌≡◌, ℕ, ℤ, ◌+◌, ◌<◌, ◌≤◌, List, Option, Some, length, map, slice_get, IsSome, bytes_eq}
 use Rattle.std.specs.Map.{lookup}
-use Rattle.std.specs.Ordering.{nat_cmp, is_eq}
+use Rattle.std.specs.List.Sorted.{IsStrictlySortedBy}
+use Rattle.std.specs.Ordering.{nat_cmp}
 use Rattle.std.specs.Cmp.Lexicographic.{slice_cmp}
 use Rattle.elaborator.specs.Paths.{Path}
 use Rattle.elaborator.specs.Bindings.{bindings_in}
-use Rattle.std.specs.BTreeMap.{btree_map_len}
+use Rattle.indexmap.specs.IndexMap.{keys}
 use Rattle.darwin_types.specs.Scope.{is_primitive}
 use Rattle.darwin_parser.specs.declared.tree.Component as code_component
 use Rattle.darwin_parser.specs.Tree.{Tree, PortDecl, component_of, tree_of}
@@ -33,7 +34,7 @@ seen e = record { tree = tree_of e.directory.unit.now; made = map made_of e.inst
 
 -- the number that stands under a path
 abbrev pub number_at : Expansion → Path → Option ℕ
-number_at e path = lookup (λ p. is_eq (slice_cmp nat_cmp path p.items)) e.numbers.entries
+number_at e path = lookup (λ p. bytes_eq path p.items) e.numbers.entries
 
 -- each size that is listed is that of the port at its place
 abbrev pub AreSizes : pure.Instance → List (Option ℤ) → Type 0
@@ -49,8 +50,9 @@ pub record IsShown (i : Instance) : Type 0 where
 pub record IsKept (e : Expansion) : Type 0 where
   pub is_expanded : IsExpanded (seen e)
   pub few : length e.instances.items ≤ 65537
-  -- each but the top has an entry
-  pub counted : btree_map_len e.numbers + 1 ≡ length e.instances.items
+  -- each but the top has an entry, and the entries stand in the order of their paths
+  pub counted : length e.numbers.entries + 1 ≡ length e.instances.items
+  pub in_order : IsStrictlySortedBy (λ p q. slice_cmp nat_cmp p.items q.items) (keys e.numbers)
   pub primitive : (n : ℕ) (i : Instance) → slice_get e.instances.items n ≡ Some i → i.is_primitive ≡ is_primitive (component_of i.component.now)
   pub bindings : (n : ℕ) (i : Instance) → slice_get e.instances.items n ≡ Some i → map binding_of i.bindings.items ≡ bindings_in (instance_in i)
   pub sizes : (n : ℕ) (i : Instance) → slice_get e.instances.items n ≡ Some i → AreSizes (instance_in i) i.port_sizes.items

@@ -1,7 +1,10 @@
 -- The instances of an expansion as they are made and opened one after another: what holds of those that are there.
-use Rattle.std.specs.Prelude.{◌≡◌, ℕ, suc, ◌+◌, ◌<◌, ◌≤◌, List, [], ◌++◌, map, length, sum_by, Some, None, slice_get, Contains}
+use Rattle.std.specs.Prelude.{◌≡◌, ℕ, suc, ◌+◌, ◌<◌, ◌≤◌, List, [], ◌++◌, map, length, sum_by, Some, None, slice_get, Contains, bytes_eq}
 use Rattle.std.specs.List.{flat_map}
-use Rattle.std.specs.BTreeMap.{btree_map_len}
+use Rattle.std.specs.List.Sorted.{IsSorted}
+use Rattle.std.specs.Ordering.{nat_cmp}
+use Rattle.std.specs.Cmp.Lexicographic.{slice_cmp}
+use Rattle.indexmap.specs.IndexMap.{keys, IsReordered, IsUnique}
 use Rattle.darwin_parser.specs.Tree.{Tree, component_of, tree_of}
 use Rattle.darwin_types.specs.Scope.{is_primitive}
 use Rattle.elaborator.specs.Paths.{Path}
@@ -51,7 +54,7 @@ pub record IsSpread (tree : Tree) (top : Instance) (made : List Instance) (opene
 
 -- each instance but the top is found by its path
 pub record IsMapped (e : Expansion) : Type 0 where
-  pub counted : btree_map_len e.numbers + 1 ≡ length e.instances.items
+  pub counted : length e.numbers.entries + 1 ≡ length e.instances.items
   pub found : (n : ℕ) (i : code.Instance) → 0 < n → slice_get e.instances.items n ≡ Some i → number_at e i.path ≡ Some n
   pub told : (n : ℕ) (path : Path) → number_at e path ≡ Some n → (i : code.Instance) × (slice_get e.instances.items n ≡ Some i) × (i.path ≡ path) × (0 < n)
 
@@ -75,6 +78,14 @@ pub record IsExtended (old : Expansion) (made : List code.Instance) (new : Expan
   pub instances : new.instances.items ≡ old.instances.items ++ made
   pub same_unit : new.directory.unit ≡ old.directory.unit
   pub mapped : IsMapped new
+
+-- the same instances, with their numbers in the order of their paths
+pub record IsInPathOrder (old new : Expansion) : Type 0 where
+  pub same_directory : new.directory ≡ old.directory
+  pub same_instances : new.instances ≡ old.instances
+  pub reordered : IsReordered (λ p q. bytes_eq p.items q.items) old.numbers new.numbers
+  pub unique : IsUnique (λ p q. bytes_eq p.items q.items) new.numbers
+  pub sorted : IsSorted (λ p q. slice_cmp nat_cmp p.items q.items) (keys new.numbers)
 
 -- two instances, neither of which is the top, have one path; the second is not among the first so many
 pub record IsClash (all : List code.Instance) (old : ℕ) (path : Path) : Type 0 where

@@ -1,6 +1,6 @@
 //! All instances of an elaboration: each is opened in turn, and the instances that it makes are added.
 
-ghost use Rattle.std.specs.Prelude.{◌≡◌, ◌<◌, ◌≤◌, ◌+◌, [], ◌∷◌, ◌++◌, length, slice_get, Some, IfOk};
+ghost use Rattle.std.specs.Prelude.{◌≡◌, ◌<◌, ◌≤◌, ◌+◌, [], ◌∷◌, ◌++◌, length, slice_get, Some, IfOk, OnOk};
 ghost use Rattle.darwin_parser.specs.Tree.{tree_of};
 ghost use Rattle.elaborator.specs.Paths.{Path};
 ghost use Rattle.elaborator.specs.Instances.{Instance as PureInstance};
@@ -8,7 +8,7 @@ ghost use Rattle.elaborator.specs.Faults.{own_faults};
 ghost use Rattle.elaborator.specs.Expansion.{instance_in};
 ghost use Rattle.elaborator.specs.Index.{Answers};
 ghost use Rattle.elaborator.specs.Growth.{IsTop, IsWhole, GrowthFault};
-ghost use Rattle.elaborator.specs.Grown.{IsGrowth, IsMapped, IsExtended, IsClash};
+ghost use Rattle.elaborator.specs.Grown.{IsGrowth, IsMapped, IsExtended, IsInPathOrder, IsClash};
 ghost use Rattle.elaborator.specs.Opening.{IsFound};
 ghost use Rattle.elaborator.specs.declared.instance.Instance as shown;
 ghost use Rattle.elaborator.specs.declared.error.ElabError.TheVariants.{TwoInstances};
@@ -17,8 +17,8 @@ use crate::ElabError;
 use crate::directory::Directory;
 use crate::instance::{Expansion, Instance};
 use crate::opening::{Found, open_instance};
+use indexmap::IndexMap;
 use std::alloc::{AllocError, Global};
-use std::collections::BTreeMap;
 
 /// How many turns and entries may be counted in all.
 const MAX_COUNT: u64 = 65_536;
@@ -47,6 +47,7 @@ pub(crate) fn expand<'a>(
     while (growth.opened as usize) < growth.expansion.instances.len() {
         growth.open_next(alloc)?;
     }
+    growth.expansion.sort_by_path()?;
     Ok(growth.expansion)
 }
 
@@ -64,7 +65,7 @@ fn top_alone<'a>(
     let expansion = Expansion {
         directory,
         instances,
-        numbers: BTreeMap::new(alloc),
+        numbers: IndexMap::new(alloc),
     };
     Ok(Growth {
         expansion,
@@ -117,6 +118,13 @@ impl<'a> Growth<'a> {
 }
 
 impl<'a> Expansion<'a> {
+    /// Brings the numbers into the order of their paths.
+    fn sort_by_path(&mut self) -> Result<(), AllocError>
+        ensures { OnOk result (IsInPathOrder self.old self.new) }
+    {
+        self.numbers.sort_keys()
+    }
+
     /// Adds instances, in order.
     fn add_all(&mut self, alloc: Global, made: Vec<Instance<'a>>) -> Result<(), ElabError>
         requires mapped { IsMapped self.old }

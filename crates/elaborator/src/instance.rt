@@ -8,7 +8,7 @@ use crate::directory::Directory;
 use config_graph::Text;
 use darwin_parser::Component;
 use darwin_walk::{Binding, Variable};
-use std::collections::BTreeMap;
+use indexmap::IndexMap;
 
 /// An instance of the elaboration.
 #[derive(Drop)]
@@ -46,8 +46,8 @@ impl Instance<'_> {
 pub struct Expansion<'a> {
     pub directory: Directory<'a>,
     pub instances: Vec<Instance<'a>>,
-    /// The number of each instance but the top, by its path.
-    pub numbers: BTreeMap<Vec<u8>, u32>,
+    /// The number of each instance but the top, by its path; in the order of the paths once all are made.
+    pub numbers: IndexMap<Vec<u8>, u32>,
 }
 
 impl<'a> Expansion<'a> {

@@ -46,7 +46,7 @@ fn make<'a>(
     }
     let path = path_within(alloc, within.path.as_bytes(), child.segment)?;
     Ok(Some(Instance {
-        path: Text::from_bytes(alloc, path.as_slice())?,
+        path: Text::of(path),
         depth: within.depth + 1,
         maker: Some(number),
         component,

@@ -1,9 +1,7 @@
 //! The nodes of an elaboration: its instances of primitive components.
 
 ghost use Rattle.std.specs.Prelude.{◌≡◌, ◌<◌, ◌≤◌, [], ◌∷◌, ◌++◌, length, slice_set, IfOk, OnOk, Some};
-ghost use Rattle.std.specs.BTreeMap.{values, IsOrdered};
-ghost use Rattle.std.specs.Ordering.{nat_cmp};
-ghost use Rattle.std.specs.Cmp.Lexicographic.{slice_cmp};
+ghost use Rattle.indexmap.specs.IndexMap.{values};
 ghost use Rattle.darwin_parser.specs.Tree.{component_of};
 ghost use Rattle.darwin_types.specs.Scope.{is_primitive};
 ghost use Rattle.elaborator.specs.Graph.{node_of, natural};
@@ -14,8 +12,8 @@ ghost use Rattle.elaborator.specs.Order.{IsInOrder};
 
 use crate::instance::{Expansion, Instance};
 use config_graph::{Node, kind_of};
+use indexmap::IndexMap;
 use std::alloc::{AllocError, Global};
-use std::collections::BTreeMap;
 
 /// Nodes in the order of their paths, and which instance each of them is.
 #[derive(Drop)]
@@ -54,9 +52,8 @@ fn in_path_order(alloc: Global, expansion: &Expansion) -> Result<Vec<u32>, Alloc
     values_of(alloc, &expansion.numbers)
 }
 
-fn values_of(alloc: Global, numbers: &BTreeMap<Vec<u8>, u32>) -> Result<Vec<u32>, AllocError>
-    ensures items { IfOk result (λ all. all.items ≡ values numbers.now) }
-    ensures ordered { OnOk result (IsOrdered (λ p q. slice_cmp nat_cmp p.items q.items) numbers.now) }
+fn values_of(alloc: Global, numbers: &IndexMap<Vec<u8>, u32>) -> Result<Vec<u32>, AllocError>
+    ensures { IfOk result (λ all. all.items ≡ values numbers.now) }
 {
     numbers.values().copied().collect(alloc)
 }

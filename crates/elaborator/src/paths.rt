@@ -9,6 +9,9 @@ use darwin_walk::{End, Segment};
 use itoa::Buffer;
 use std::alloc::{AllocError, Global};
 
+/// So many bytes a dot and the longest index in brackets take, so that a path is made in one piece.
+const INDEX_ROOM: usize = 14;
+
 /// Adds an index in brackets, where there is one.
 fn push_index(out: &mut Vec<u8>, index: Option<i32>) -> Result<(), AllocError>
     ensures { OnOk result (out.new.items ≡ out.old.items ++ index_bytes index) }
@@ -34,7 +37,9 @@ fn push_segment(out: &mut Vec<u8>, segment: Segment) -> Result<(), AllocError>
 pub fn path_within(alloc: Global, path: &[u8], segment: Segment) -> Result<Vec<u8>, AllocError>
     ensures { IfOk result (λ made. made.items ≡ within path.now (segment_of segment.entry)) }
 {
-    let mut made = Vec::from_slice(alloc, path)?;
+    let names = path.len() + segment.name.as_bytes().len();
+    let mut made = Vec::with_capacity(alloc, names.saturating_add(INDEX_ROOM))?;
+    made.extend_from_slice(path)?;
     if !path.is_empty() {
         made.push(b'.')?;
     }

@@ -1,7 +1,6 @@
-use Rattle.std.proofs.Common.{◌≡◌, ◌<◌, ◌^◌, ◌∙◌, ap, sym, subst, map, length, All}
+use Rattle.std.proofs.Common.{◌≡◌, ◌<◌, ◌^◌, ◌∙◌, ap, sym, subst, length, All}
 use Rattle.config_graph.specs.Graph.{IsGraph, IsWithin, PathsRise, graph_of, in_port_order, ports}
 use Rattle.config_graph.specs.Indexes.{incoming, links_in, targets}
-use Rattle.config_graph.specs.declared.node.Node.{Node}
 use Rattle.config_graph.proofs.IncomingLemmas.{Contains-in_order}
 use Rattle.config_graph.proofs.OrderLemmas.{All-ordered, IsGraph-graph_of, links_in-targets, targets-ordered}
 use Rattle.config_graph.proofs.graph.Graph.build.Goals as goal
@@ -37,7 +36,6 @@ invariant_of-result c =
       targets_are = targets_are d ∙ sym (targets-ordered nodes given) ∙ ap (targets nodes) (sym (links_are d));
       incoming_are =
           c.in_ok-incoming.ensures ∙ ap (λ ls. incoming (record { nodes = nodes; links = ls })) c.deref-3.ensures.value;
-      paths_are = c.in_ok-paths.ensures ∙ ap (map (λ (n : Node). n.path)) c.nodes-2.ensures.nodes;
     }
 
 pub returns-clause-graph : goal.returns-clause-graph

@@ -1,5 +1,4 @@
-use Rattle.std.proofs.Common.{◌∙◌, ◌+◌, if◌then◌else◌, refl, sym, ap}
-use Rattle.std.specs.BTreeMap.{btree_map_len}
+use Rattle.std.proofs.Common.{◌∙◌, refl, sym}
 use Rattle.elaborator.proofs.MappedLemmas.{mapped-add, clash-add, there_is, there_is_none}
 use Rattle.elaborator.proofs.instance.Expansion.add.Goals as goal
 
@@ -18,6 +17,5 @@ returns c =
       mapped =
           mapped-add e (record { directory = e.directory; instances = c.push.new.self; numbers = c.insert.new.self }) c.args.instance c.in_ok-key.key c.len-number.result
           c.requires.mapped c.in_ok-push.ensures.items (c.in_ok-key.ensures.items ∙ c.as_bytes.ensures) (c.len-number.ensures ∙ e.instances.ok.0)
-          c.in_ok-insert.ensures.updates (sym c.in_ok-insert.ensures.old ∙ none)
-          (c.in_ok-insert.ensures.len ∙ ap (λ b. btree_map_len e.numbers + (if b then 0 else 1)) (sym c.is_some.ensures ∙ c.if-is_some.false));
+          (sym c.in_ok-insert.ensures.old ∙ none) c.in_ok-insert.ensures.entries;
     }
