@@ -1,5 +1,6 @@
 -- Why tokens are no unit: which token is refused, and when it is one that opens a level of nesting too many.
-use Rattle.std.specs.Prelude.{◌≡◌, ◌≢◌, ℕ, ◌+◌, ◌<◌, ◌≤◌, List, ◌++◌, length, take, Result, Ok, Err}
+use Rattle.std.specs.Prelude.{◌≡◌, ℕ, ◌+◌, ◌<◌, ◌≤◌, List, ◌++◌, length, take, Result, Ok, Err}
+use Rattle.base.specs.Answers.{Answers}
 use Rattle.darwin_lexer.specs.declared.token.Token.{Token}
 use Rattle.darwin_parser.specs.declared.tree.Unit as code
 use Rattle.darwin_parser.specs.declared.error.ParseError.{ParseError}
@@ -32,11 +33,6 @@ pub record IsTooNested (text : List ℕ) (tokens : List Token) (n : ℕ) : Type 
   pub refused : UnitBegins 0 text (take (n + 1) tokens) → ⊥
   pub deeper : UnitBegins 1 text (take (n + 1) tokens)
 
--- The call answers this tree, or this refusal, unless memory runs out.
-abbrev pub Gives : Result code.Unit ParseError → Tree → Type 0
-Gives (Ok unit) tree = tree_of unit ≡ tree
-Gives (Err e) tree = e ≡ NoMemory
-
-abbrev pub Refuses : Result code.Unit ParseError → ParseError → Type 0
-Refuses (Ok unit) refusal = ⊥
-Refuses (Err e) refusal = e ≢ NoMemory → e ≡ refusal
+-- The call gives this outcome, a tree or a refusal, unless memory runs out.
+abbrev pub Gives : Result code.Unit ParseError → Result Tree ParseError → Type 0
+Gives result outcome = Answers NoMemory (λ unit. Ok (tree_of unit) ≡ outcome) (λ refusal. Err refusal ≡ outcome) result

@@ -4,7 +4,7 @@ ghost use Rattle.std.specs.Prelude.{◌≡◌, ◌⊎◌, ℕ, ◌<◌, ◌^◌,
 ghost use Rattle.darwin_lexer.specs.declared.token.Token as token;
 ghost use Rattle.darwin_parser.specs.Tree.{Tree, tree_of};
 ghost use Rattle.darwin_parser.specs.Grammar.{IsUnit, IsUnitWithin};
-ghost use Rattle.darwin_parser.specs.Refusals.{IsUnexpected, IsTooNested, Gives, Refuses};
+ghost use Rattle.darwin_parser.specs.Refusals.{IsUnexpected, IsTooNested, Gives};
 ghost use Rattle.darwin_parser.specs.Views.{refusal_of};
 
 use crate::cursor::{Stop, Tokens};
@@ -21,13 +21,13 @@ pub fn parse(alloc: Global, text: &[u8], tokens: &[Token]) -> Result<Unit, Parse
     requires few { length tokens.now < 2 ^ 32 }
     // What is read is a unit of the grammar, and each unit is read.
     ensures unit { IfOk result (λ u. IsUnit text.now tokens.now (tree_of u)) }
-    ensures every_unit { (tree : Tree) → IsUnit text.now tokens.now tree → Gives result tree }
+    ensures every_unit { (tree : Tree) → IsUnit text.now tokens.now tree → Gives result (Ok tree) }
     // A token is refused exactly where it can't stand.
     ensures unexpected { (n : ℕ) → IsErrOf result (ParseError.Expected n) → IsUnexpected text.now tokens.now n }
-    ensures every_unexpected { (n : ℕ) → IsUnexpected text.now tokens.now n → Refuses result (ParseError.Expected n) }
+    ensures every_unexpected { (n : ℕ) → IsUnexpected text.now tokens.now n → Gives result (Err (ParseError.Expected n)) }
     // A token is too nested exactly where it opens one level too many.
     ensures too_nested { (n : ℕ) → IsErrOf result (ParseError.TooNested n) → IsTooNested text.now tokens.now n }
-    ensures every_too_nested { (n : ℕ) → IsTooNested text.now tokens.now n → Refuses result (ParseError.TooNested n) }
+    ensures every_too_nested { (n : ℕ) → IsTooNested text.now tokens.now n → Gives result (Err (ParseError.TooNested n)) }
 {
     let source = Source { alloc, text };
     match source.unit(&mut Tokens { rest: tokens }) {

@@ -2,19 +2,19 @@
 use Rattle.std.proofs.Common.{◌≡◌, ℕ, true, false, List, [], ◌∷◌, ◌++◌, ◌+◌, ◌<◌, ◌≤◌, length, get_or, take, drop, map, Result, Ok, Err, ap, sym, subst, ◌∙◌}
 use Rattle.std.specs.List.{Contains, filter, flat_map}
 use Rattle.std.proofs.lemmas.List.{drop_more, drop_all, append-nil}
-use Rattle.std.proofs.lemmas.List.Elements.{Contains-append_left, Contains-append_right}
+use Rattle.std.proofs.lemmas.List.Elements.{Contains-append_right}
+use Rattle.base.proofs.AnswerLaws.{Answers-weaker}
 use Rattle.darwin_parser.specs.Tree.{Name}
 use Rattle.darwin_types.specs.Scope.{has}
 use Rattle.darwin_types.specs.declared.error.TypeError.{TypeError}
 use Rattle.darwin_types.specs.Faults.{is_repeated}
-use Rattle.darwin_types.specs.Check.{Judges, Refuses, repeat_faults}
+use Rattle.darwin_types.specs.Check.{Judges, repeat_faults}
 use Rattle.darwin_types.proofs.Lists.{Contains-one, Contains-here, Contains-map, Contains-filter, map_parted, map-take_more}
 use Rattle.darwin_types.proofs.Repeats.{filter-none, is_repeated-there, is_repeated-push}
 
 -- a refusal that names a fault of a part
 pub Judges-one : {T : Type 0} (fs : List TypeError) (f : TypeError) (r : Result T TypeError) → Contains fs f → Judges (f ∷ []) r → Judges fs r
-Judges-one fs f (Ok v) there h = cc
-Judges-one fs f (Err e) there h = λ n. subst (λ d. Contains fs d) (sym (Contains-one f e (h n))) there
+Judges-one fs f r there = Answers-weaker _ r (λ _ h. cc) (λ e h. subst (Contains fs) (sym (Contains-one f e h)) there)
 
 pub repeat_faults-none : (g : Name → TypeError) (ns : List Name) → ((x : Name) → is_repeated ns x ≡ false) → repeat_faults g ns ≡ []
 repeat_faults-none g ns h = ap (map g) (filter-none (is_repeated ns) ns h)
@@ -33,21 +33,10 @@ pub is_repeated-at : {A : Type 0} (f : A → Name) (xs : List A) (i : ℕ) (x : 
 is_repeated-at f xs i x within is once before y =
     subst (λ ns. is_repeated ns y ≡ false) (sym (map-take_more f xs i x within is)) (is_repeated-push (map f (take i xs)) (f x) once before y)
 
-pub Refuses-left : (fs gs : List TypeError) (e : TypeError) → Refuses fs e → Refuses (fs ++ gs) e
-Refuses-left fs gs e h n = Contains-append_left fs gs e (h n)
-
-pub Refuses-right : (fs gs : List TypeError) (e : TypeError) → Refuses gs e → Refuses (fs ++ gs) e
-Refuses-right fs gs e h n = Contains-append_right fs gs e (h n)
-
 -- the part that a loop over a list has reached, and what is left of it
 pub flat_map-drop : {A B : Type 0} (f : B → List TypeError) (g : A → B) (xs : List A) (i : ℕ) (x : A) → i < length xs → x ≡ get_or xs i x → flat_map f (map g (drop i xs)) ≡ f (g x) ++ flat_map f (map g (drop (i + 1) xs))
 flat_map-drop f g xs i x within is =
     ap (λ ys. flat_map f (map g ys)) (drop_more xs i x within) ∙ ap (λ y. f (g y) ++ flat_map f (map g (drop (i + 1) xs))) (sym is)
-
--- a refusal in a loop over a list, whose faults so far are none
-pub Refuses-at : {A B : Type 0} (f : B → List TypeError) (g : A → B) (xs : List A) (i : ℕ) (x : A) (whole : List TypeError) (e : TypeError) → i < length xs → x ≡ get_or xs i x → whole ≡ flat_map f (map g (drop i xs)) → Refuses (f (g x)) e → Refuses whole e
-Refuses-at f g xs i x whole e within is rest h =
-    subst (λ fs. Refuses fs e) (sym (rest ∙ flat_map-drop f g xs i x within is)) (Refuses-left (f (g x)) (flat_map f (map g (drop (i + 1) xs))) e h)
 
 -- a loop over a list that went to its end
 pub flat_map-done : {A B : Type 0} (f : B → List TypeError) (g : A → B) (xs : List A) (i : ℕ) (whole : List TypeError) → length xs ≤ i → whole ≡ flat_map f (map g (drop i xs)) → whole ≡ []
@@ -64,7 +53,3 @@ Judges_alone fs r h = subst (λ gs. Judges gs r) (sym (append-nil fs)) h
 -- the last of two parts, where the first has no fault
 pub Judges_after : {T : Type 0} (fs gs : List TypeError) (r : Result T TypeError) → fs ≡ [] → Judges gs r → Judges (fs ++ gs) r
 Judges_after fs gs r none h = subst (λ hs. Judges (hs ++ gs) r) (sym none) h
-
--- what is returned where a part refuses
-pub Judges_exit : {T : Type 0} (fs : List TypeError) (r : Result T TypeError) (y e : TypeError) → r ≡ Err y → y ≡ e → Refuses fs e → Judges fs r
-Judges_exit fs r y e is same h = subst (Judges fs) (sym is) (subst (Refuses fs) (sym same) h)

@@ -140,3 +140,9 @@ take_pushed xs x = take_at xs (x ∷ []) (length (xs ++ x ∷ []) - 1) (omega (a
 pub list_all-map : {A B : Type 0} (p : B → Bool) (f : A → B) (xs : List A) → list_all p (map f xs) ≡ list_all (λ x. p (f x)) xs
 list_all-map p f [] = refl
 list_all-map p f (x ∷ xs) = simp (list_all-map p f xs)
+
+-- what is contained for an element, is contained in what is left of a loop over the list from that element on
+pub Contains-from :
+    {A B C : Type 0} (f : B → List C) (g : A → B) (xs : List A) (i : ℕ) (x : A) (whole : List C) → i < length xs → x ≡ get_or xs i x
+    → whole ≡ flat_map f (map g (drop i xs)) → (e : C) → Contains (f (g x)) e → Contains whole e
+Contains-from f g xs i x whole within is rest e has = rw (rest, drop_more xs i x within, ← is) (Contains-append_left _ _ e has)

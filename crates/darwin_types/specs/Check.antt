@@ -1,8 +1,9 @@
 -- The faults of each part of a description as lists, and what a check of a part answers of them.
-use Rattle.std.specs.Prelude.{◌≡◌, ◌≢◌, ℕ, Bool, false, List, [], ◌∷◌, ◌++◌, Option, Some, None, Result, Ok, Err, Contains, map, length, not, ◌==◌, if◌then◌else◌, bytes_eq, is_some, ◌&&◌, filter, unwrap_or}
+use Rattle.std.specs.Prelude.{◌≡◌, ℕ, Bool, false, List, [], ◌∷◌, ◌++◌, Option, Some, None, Result, Contains, map, length, not, ◌==◌, if◌then◌else◌, bytes_eq, is_some, ◌&&◌, filter, unwrap_or}
 use Rattle.std.specs.Map.{lookup}
 use Rattle.std.specs.Option.{option_map_or, option_or}
 use Rattle.std.specs.List.{flat_map}
+use Rattle.base.specs.Answers.{Answers}
 use Rattle.darwin_parser.specs.declared.tree.Component as code_component
 use Rattle.darwin_parser.specs.Tree.{Name, Tree, Component, ArrayDecl, InstEntry, PortRef, Expr, component_of}
 use Rattle.darwin_parser.specs.Tree.InstEntry.{single, element}
@@ -14,14 +15,9 @@ use Rattle.darwin_types.specs.Primitive.{is_like_kind}
 use Rattle.darwin_types.specs.Places.{Place, value, variable, entry, binding_end, names_of, array_places, port_places, body_places}
 use Rattle.darwin_types.specs.Faults.{is_repeated, carried}
 
--- a refusal is one of these faults, or want of memory
-abbrev pub Refuses : List TypeError → TypeError → Type 0
-Refuses faults e = e ≢ NoMemory → Contains faults e
-
 -- what a check of a part with these faults answers: a value only where there is none, and else one of them
 abbrev pub Judges : {T : Type 0} → List TypeError → Result T TypeError → Type 0
-Judges faults (Ok v) = faults ≡ []
-Judges faults (Err e) = Refuses faults e
+Judges faults = Answers NoMemory (λ _. faults ≡ []) (Contains faults)
 
 -- the faults of a part that has this one where a test fails
 abbrev pub unless : Bool → TypeError → List TypeError

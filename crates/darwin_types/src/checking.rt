@@ -1,6 +1,7 @@
 //! The check of a description.
 
-ghost use Rattle.std.specs.Prelude.{◌≡◌, ◌≢◌, ◌⊎◌, IfOk, IsErrOf};
+ghost use Rattle.std.specs.Prelude.{◌≡◌, ◌⊎◌, IfOk, IfErr};
+ghost use Rattle.base.specs.Answers.{Refuses};
 ghost use Rattle.darwin_parser.specs.Tree.{Tree, component_of, tree_of};
 ghost use Rattle.darwin_types.specs.declared.error.TypeError.{TypeError};
 ghost use Rattle.darwin_types.specs.declared.error.TypeError.TheVariants.{NoMemory};
@@ -30,7 +31,7 @@ pub fn check(alloc: Global, unit: Unit) -> Result<Checked, TypeError>
     ensures no_fault { IfOk result (λ c. NoFault (tree_of unit)) }
     ensures every_unit { NoFault (tree_of unit) → Takes result (tree_of unit) }
     // A fault that is named stands.
-    ensures fault { (e : TypeError) → IsErrOf result e → e ≢ NoMemory → Fault (tree_of unit) e }
+    ensures fault { IfErr result (Refuses NoMemory (Fault (tree_of unit))) }
 {
     check_components(alloc, unit.components.as_slice())?;
     Ok(Checked { unit })

@@ -1,9 +1,9 @@
+pub mod CauseLemmas
 pub mod IntegerLemmas
 pub mod NamedLemmas
 pub mod ReachedLemmas
 mod Rows
 pub mod Sizes
 pub mod SpineLemmas
-pub mod TellsLemmas
 pub mod TreeLemmas
 pub mod WalksLemmas

@@ -1,5 +1,5 @@
 -- The walk of one part after another.
-use Rattle.std.proofs.Common.{◌≡◌, ◌∙◌, ℕ, ◌+◌, ◌<◌, ◌≤◌, length, List, [], ◌∷◌, ◌++◌, map, sum_by, Result, Ok, Err, refl, sym, ap, append_assoc, append-nil, ℤ, Bool, cond, IsErrAnd, FitsSigned, arith}
+use Rattle.std.proofs.Common.{◌≡◌, ◌∙◌, ℕ, ◌+◌, ◌<◌, ◌≤◌, length, List, [], ◌∷◌, ◌++◌, map, sum_by, Result, Ok, Err, Contains, refl, sym, ap, subst, append_assoc, append-nil, ℤ, Bool, cond, IsErrAnd, FitsSigned, arith}
 use Rattle.std.proofs.lemmas.List.{map-append}
 use Rattle.std.specs.Int.{w32, cast_signed, cast_unsigned}
 use Rattle.std.proofs.lemmas.Int.{to_z-of_z}
@@ -7,12 +7,14 @@ use Rattle.std.specs.List.{flat_map}
 use Rattle.std.proofs.lemmas.Grind.{flat_map-append}
 use Rattle.std.proofs.lemmas.List.Sums.{sum_by-append, sum_by-cons}
 use Rattle.std.proofs.lemmas.List.Elements.{Contains-append_left, Contains-append_right}
+use Rattle.base.specs.Answers.{Refuses}
+use Rattle.base.proofs.AnswerLaws.{Answers-exit}
 use Rattle.darwin_lexer.specs.declared.token.At.{At}
 use Rattle.darwin_parser.specs.Tree.{Name, Expr, Stmt, Stmts, forall, when, Component}
 use Rattle.darwin_walk.specs.Value.{Env, value}
 use Rattle.darwin_walk.specs.Reached.{Reached, valued, turn, range, holds, turns, with_variable, reached_by, reached_in, weight}
 use Rattle.darwin_walk.specs.Instance.{children_of, bindings_of, value_fault, faults_of}
-use Rattle.darwin_walk.specs.Walked.{Adds, Stops, child_of, binding_of}
+use Rattle.darwin_walk.specs.Walked.{Adds, cause_of, child_of, binding_of}
 use Rattle.darwin_walk.specs.Spine.{env_of}
 use Rattle.darwin_walk.specs.declared.valuing.Variable as code
 use Rattle.darwin_walk.specs.Scope.{Walks, component_at, parameters_at}
@@ -20,7 +22,7 @@ use Rattle.darwin_walk.specs.declared.scope.Scope.{Scope}
 use Rattle.darwin_walk.specs.declared.walked.Walked.{Walked}
 use Rattle.darwin_walk.specs.declared.fault.WalkError.{WalkError}
 use Rattle.darwin_walk.specs.declared.fault.WalkError.TheVariants as error
-use Rattle.darwin_walk.proofs.TellsLemmas.{Stops-within, Tells-exit}
+use Rattle.darwin_walk.proofs.CauseLemmas.{cause-grow, fault-grow}
 
 -- a list with more, and more again
 longer :
@@ -48,26 +50,23 @@ Walks-append s xs ys old mid new (Ok u) first second = (
   rw (flat_map-append (faults_of (component_at s) (parameters_at s)) xs ys, first.0, second.0),
   Adds-append (component_at s) (parameters_at s) s.room xs ys old mid new first.1 second.1,
 )
-Walks-append s xs ys old mid new (Err (error.Fault f)) first second =
-    rw (flat_map-append (faults_of (component_at s) (parameters_at s)) xs ys) (Contains-append_right _ _ f second)
-Walks-append s xs ys old mid new (Err error.TooMany) first second =
-    omega (arith, first.1.count, second, sum_by-append weight xs ys)
-Walks-append s xs ys old mid new (Err error.NoMemory) first second = tt
+Walks-append s xs ys old mid new (Err e) first second = λ other.
+    cause-grow _ _ _ _ (λ f has. rw (flat_map-append (faults_of (component_at s) (parameters_at s)) xs ys) (Contains-append_right _ _ f has))
+    (λ (many : s.room < mid.count + sum_by weight ys). omega (arith, first.1.count, many, sum_by-append weight xs ys)) e (second other)
 
 -- a part that stops the walk
 pub Walks-stop :
     (s : Scope) (xs ys : List Reached) (old mid new : Walked) (e : WalkError)
     → Walks s xs old mid (Err e) → Walks s (xs ++ ys) old new (Err e)
-Walks-stop s xs ys old mid new (error.Fault f) stop =
-    rw (flat_map-append (faults_of (component_at s) (parameters_at s)) xs ys) (Contains-append_left _ _ f stop)
-Walks-stop s xs ys old mid new error.TooMany stop = omega (arith, stop, sum_by-append weight xs ys)
-Walks-stop s xs ys old mid new error.NoMemory stop = tt
+Walks-stop s xs ys old mid new e stop = λ other.
+    cause-grow _ _ _ _ (λ f has. rw (flat_map-append (faults_of (component_at s) (parameters_at s)) xs ys) (Contains-append_left _ _ f has))
+    (λ (many : s.room < old.count + sum_by weight xs). omega (arith, many, sum_by-append weight xs ys)) e (stop other)
 
 -- the exit of a `?` hands the error on
 pub Walks-exit :
     (s : Scope) (xs : List Reached) (old new : Walked) (e : WalkError) (r : Result (Unit {0}) WalkError)
     → IsErrAnd r (λ y. y ≡ e) → Walks s xs old new (Err e) → Walks s xs old new r
-Walks-exit s xs old new e r err stops = Tells-exit _ _ _ e r err stops
+Walks-exit s xs old new e r exit stops = Answers-exit _ _ exit (λ _ cause. cause) stops
 
 -- ---- statements
 
@@ -99,12 +98,13 @@ Walks-forall s env name low high body at zs stmt old new r is no_faults ranges w
 
 pub Walks-forall-stop :
     (s : Scope) (env : Env) (name : Name) (low high : Expr) (body : Stmts) (at : At) (stmt : Stmt) (old new : Walked) (e : WalkError)
-    → stmt ≡ forall name low high body at → Stops (value_fault at (value low env) ++ value_fault at (value high env)) ⊥ e
+    → stmt ≡ forall name low high body at → Refuses error.NoMemory (cause_of (value_fault at (value low env) ++ value_fault at (value high env)) ⊥) e
     → Walks s (reached_by stmt env) old new (Err e)
 Walks-forall-stop s env name low high body at stmt old new e is stops =
     rw is
     (Walks-stop s (valued low env at ∷ valued high env at ∷ []) (turns body env name (range (value low env) (value high env))) old old new e
-    (Stops-within _ _ _ ⊥ _ e stops (ap (λ x. value_fault at (value low env) ++ x) (append-nil _)) (λ f h. h) (λ h. absurd h)))
+    (λ other.
+    fault-grow _ _ _ (λ f has. subst (λ fs. Contains fs f) (sym (ap (λ fs. value_fault at (value low env) ++ fs) (append-nil _))) has) e (stops other)))
 
 pub Walks-when :
     (s : Scope) (env : Env) (test : Expr) (body : Stmts) (at : At) (b : Bool) (stmt : Stmt) (old new : Walked)
@@ -153,7 +153,7 @@ Walks-turn-stop s body env name z zs old next mid new e room is stops =
 -- no room is left for the turn
 pub Walks-turn-many :
     (s : Scope) (body : Stmts) (env : Env) (name : Name) (z : ℤ) (zs : List ℤ) (old new : Walked) (e : WalkError)
-    → Stops [] (s.room < old.count + 1) e → Walks s (turns body env name (z ∷ zs)) old new (Err e)
+    → Refuses error.NoMemory (cause_of [] (s.room < old.count + 1)) e → Walks s (turns body env name (z ∷ zs)) old new (Err e)
 Walks-turn-many s body env name z zs old new e stops =
     Walks-stop s (turn ∷ []) (reached_in body (with_variable env name z) ++ turns body env name zs) old new new e stops
 
@@ -171,11 +171,10 @@ turns-weight body env name (z ∷ zs) =
 -- no room is left for as many turns
 pub Walks-turns-many :
     (s : Scope) (body : Stmts) (env : Env) (name : Name) (zs : List ℤ) (old new : Walked) (e : WalkError)
-    → Stops [] (s.room < old.count + length zs) e → Walks s (turns body env name zs) old new (Err e)
-Walks-turns-many s body env name zs old new (error.Fault f) stops =
-    Contains-append_left [] (flat_map (faults_of (component_at s) (parameters_at s)) (turns body env name zs)) f stops
-Walks-turns-many s body env name zs old new error.TooMany stops = omega (arith, stops, turns-weight body env name zs)
-Walks-turns-many s body env name zs old new error.NoMemory stops = tt
+    → Refuses error.NoMemory (cause_of [] (s.room < old.count + length zs)) e → Walks s (turns body env name zs) old new (Err e)
+Walks-turns-many s body env name zs old new e stops = λ other.
+    cause-grow [] _ _ _ (Contains-append_left [] (flat_map (faults_of (component_at s) (parameters_at s)) (turns body env name zs)))
+    (λ (many : s.room < old.count + length zs). omega (arith, many, turns-weight body env name zs)) e (stops other)
 
 -- the variables in a turn
 env_of-push :

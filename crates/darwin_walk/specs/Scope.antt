@@ -62,8 +62,8 @@ pub record IsPlace (s : Scope) (name : Name) (v : Value) (p : Place) : Type 0 wh
   pub is_array : ArrayAt s name p.array
 
 -- an answer gives the instance that an entry makes, if it makes one
-abbrev pub Gives : Scope → Reached → Result (Option code_child.Child) WalkError → Type 0
-Gives s entry =
+abbrev pub Makes : Scope → Reached → Result (Option code_child.Child) WalkError → Type 0
+Makes s entry =
     Tells (faults_of (component_at s) (parameters_at s) entry) ⊥
     (λ child. children_of (component_at s) (parameters_at s) entry ≡ option_to_list (option_map child_of child))
 

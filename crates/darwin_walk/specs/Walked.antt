@@ -1,6 +1,7 @@
 -- What a walk of an instance gives, as the definitions speak of it.
-use Rattle.std.specs.Prelude.{◌≡◌, ◌++◌, ℕ, ◌+◌, ◌≤◌, List, [], map, length, sum_by, Some, option_map, Result, Ok, Err, Contains}
+use Rattle.std.specs.Prelude.{◌≡◌, ◌++◌, ℕ, ◌+◌, ◌≤◌, List, [], map, length, sum_by, Some, option_map, Result, Contains}
 use Rattle.std.specs.List.{flat_map}
+use Rattle.base.specs.Answers.{Answers}
 use Rattle.darwin_parser.specs.Tree.{Component}
 use Rattle.darwin_walk.specs.Value.{Env}
 use Rattle.darwin_walk.specs.Reached.{Reached, weight, count}
@@ -28,17 +29,16 @@ end_of e = record { inner = option_map segment_of e.inner; port = e.port.now; in
 abbrev pub binding_of : code_binding.Binding → pure.Binding
 binding_of b = record { left = end_of b.left; right = end_of b.right; at = b.at }
 
--- what an error tells of a part of an instance whose faults are these: one of them, or that it counts for more than
--- there is room for
-abbrev pub Stops : List Fault → Type 0 → WalkError → Type 0
-Stops faults too_many (error.Fault f) = Contains faults f
-Stops faults too_many error.TooMany = too_many
-Stops faults too_many error.NoMemory = Unit {0}
+-- the cause of an error in a part of an instance whose faults are these: it is one of them, or the part counts for more
+-- than there is room for
+abbrev pub cause_of : List Fault → Type 0 → WalkError → Type 0
+cause_of faults too_many (error.Fault f) = Contains faults f
+cause_of faults too_many error.TooMany = too_many
+cause_of faults too_many error.NoMemory = ⊥
 
--- what an answer tells of such a part: that it has no fault, and this of its value, or what the error tells
+-- what an answer tells of such a part: that it has no fault, and this of its value, or an error that has its cause
 abbrev pub Tells : {T : Type 0} → List Fault → Type 0 → (T → Type 0) → Result T WalkError → Type 0
-Tells faults too_many P (Ok x) = (faults ≡ []) × P x
-Tells faults too_many P (Err e) = Stops faults too_many e
+Tells faults too_many P = Answers error.NoMemory (λ x. (faults ≡ []) × P x) (cause_of faults too_many)
 
 -- what was walked so far, and this more
 pub record Adds (c : Component) (parameters : Env) (room : ℕ) (more : List Reached) (old new : Walked) : Type 0 where

@@ -9,7 +9,7 @@ ghost use Rattle.darwin_walk.specs.Environment.{env_at};
 ghost use Rattle.darwin_walk.specs.Reached.{made, bound, turns, range, integers_to, holds as test_holds, reached_by, reached_in};
 ghost use Rattle.darwin_walk.specs.Instance.{element_arguments, value_fault, integers};
 ghost use Rattle.darwin_walk.specs.Walked.{Tells};
-ghost use Rattle.darwin_walk.specs.Scope.{IsScope, Gives, Binds, Walks, parameters_at, exprs_of};
+ghost use Rattle.darwin_walk.specs.Scope.{IsScope, Makes, Binds, Walks, parameters_at, exprs_of};
 
 use crate::WalkError;
 use crate::environment::Environment;
@@ -59,7 +59,7 @@ fn element_child<'a>(
     at: At,
 ) -> Result<Option<Child<'a>>, WalkError>
     requires { IsScope scope.now }
-    ensures { Gives scope.now (made (element name.now (expr_of index.now) (option_map (λ l. exprs_of l.items) args.now) at) (env_at env.now)) result }
+    ensures { Makes scope.now (made (element name.now (expr_of index.now) (option_map (λ l. exprs_of l.items) args.now) at) (env_at env.now)) result }
 {
     let place = element_at(scope, name, index, env, at)?;
     let Some(array) = place.array else {
@@ -85,7 +85,7 @@ fn child_at<'a>(
     entry: &'a InstEntry,
 ) -> Result<Option<Child<'a>>, WalkError>
     requires { IsScope scope.now }
-    ensures { Gives scope.now (made (entry_of entry.now) (env_at env.now)) result }
+    ensures { Makes scope.now (made (entry_of entry.now) (env_at env.now)) result }
 {
     match entry {
         InstEntry::Single {

@@ -17,13 +17,16 @@ use Rattle.config_graph.proofs.CycleLemmas.{Way-within}
 use Rattle.elaborator.specs.Instances.{Instance}
 use Rattle.elaborator.specs.Graph.{IsNode, IsLink, IsElab}
 use Rattle.elaborator.specs.Expanded.{Expanded, IsOf}
-use Rattle.elaborator.specs.Index.{Answers, BindingFault}
+use Rattle.elaborator.specs.Index.{BindingFault}
+use Rattle.base.specs.Answers.{Answers}
+use Rattle.base.proofs.AnswerLaws.{Answers-weaker}
 use Rattle.elaborator.specs.Built.{CycleFault, BuildFault, IsBuilt}
 use Rattle.elaborator.specs.Built.BuildFault.{in_graph}
 use Rattle.elaborator.specs.Nodes.{AreNodes}
 use Rattle.elaborator.specs.Links.{AreLinks}
 use Rattle.elaborator.specs.declared.nodes.Nodes.{Nodes}
 use Rattle.elaborator.specs.declared.error.ElabError.{ElabError}
+use Rattle.elaborator.specs.declared.error.ElabError.TheVariants as error
 use Rattle.elaborator.proofs.UniqueLemmas.{kept_in_order}
 use Rattle.elaborator.proofs.WholeLemmas.{Contains-at, at_some_place}
 
@@ -95,6 +98,6 @@ on_cycle_within g i first = Way-within g i i first.on_cycle
 -- what comes of the graph is what comes of the expansion
 pub built :
     (e : Expanded) (top : Instance) (g : Configuration) (r : Result Configuration ElabError) → ((f : ElabError) → ¬ BindingFault e f) → IsElab e.tree top g
-    → Answers (λ h. (h ≡ g) × NoCycle h) (CycleFault g) r → Answers (IsBuilt e top) (BuildFault e top) r
-built e top g (Ok h) none is_elab is = record { is_elab = subst (IsElab e.tree top) (sym is.0) is_elab; no_cycle = is.1; no_fault = none }
-built e top g (Err f) none is_elab fault = λ other. in_graph g f is_elab (fault other)
+    → Answers error.NoMemory (λ h. (h ≡ g) × NoCycle h) (CycleFault g) r → Answers error.NoMemory (IsBuilt e top) (BuildFault e top) r
+built e top g r none is_elab =
+    Answers-weaker _ r (λ h is. record { is_elab = subst (IsElab e.tree top) (sym is.0) is_elab; no_cycle = is.1; no_fault = none }) (λ f. in_graph g f is_elab)

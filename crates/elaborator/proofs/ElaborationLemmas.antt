@@ -15,12 +15,13 @@ use Rattle.darwin_walk.specs.Instance.{End, Binding, index_fault}
 use Rattle.darwin_walk.specs.declared.fault.Fault.{Fault}
 use Rattle.darwin_walk.specs.declared.fault.Fault.TheVariants as shown
 use Rattle.elaborator.specs.Paths.{Path, end_bytes}
-use Rattle.elaborator.specs.Instances.{Instance, top_instance, Inst, total}
+use Rattle.elaborator.specs.Instances.{Instance, top_instance, Inst}
 use Rattle.elaborator.specs.Bindings.{Named, named, bindings_in}
 use Rattle.elaborator.specs.Graph.{IsElab}
-use Rattle.elaborator.specs.Faults.{own_faults, port_faults, faults_in, Faults, Faults as fault}
+use Rattle.elaborator.specs.Faults.{own_faults, port_faults, faults_in, CountsMore, Faults, Faults as fault}
 use Rattle.elaborator.specs.Expanded.{Expanded, IsOf}
-use Rattle.elaborator.specs.Index.{Answers, FaultOf, FaultOf as of, BindingFault, BindingFault as binding}
+use Rattle.base.specs.Answers.{Answers}
+use Rattle.elaborator.specs.Index.{FaultOf, FaultOf as of, BindingFault, BindingFault as binding}
 use Rattle.elaborator.specs.Growth.{GrowthFault, GrowthFault as growth, IsClear}
 use Rattle.elaborator.specs.Built.{BuildFault, IsBuilt}
 use Rattle.elaborator.specs.Built.CycleFault.{first_on_cycle}
@@ -29,6 +30,8 @@ use Rattle.elaborator.specs.Elaboration.{HasNoFault, IsGraphOf}
 use Rattle.elaborator.specs.declared.error.ElabError.{ElabError}
 use Rattle.elaborator.specs.declared.error.ElabError.TheVariants as error
 use Rattle.darwin_types.proofs.Lists.{Contains-nil, Contains-one, Contains-flat_map, Contains-from_flat_map}
+use Rattle.elaborator.proofs.CountLemmas.{counted-within}
+use Rattle.elaborator.proofs.LawLemmas.{single-if_none}
 use Rattle.elaborator.proofs.SingleLemmas.{IsBoundOnce}
 use Rattle.elaborator.proofs.UniqueLemmas.{one_graph}
 
@@ -197,7 +200,7 @@ no_fault e name arguments top g is_of is_top clear built = refuted
     refuted _ (fault.bad_binding t i b is made there none) = of_binding i b (error.BadBinding i.path b.at) (inst t i is made) there (of.bad_binding none)
     refuted _ (fault.annotation t i b is made there notes) = of_binding i b (error.Annotation i.path b.at) (inst t i is made) there (of.annotation notes)
     refuted _ (fault.too_deep t i is made deep) = omega (arith, clear.shallow i (inst t i is made), deep)
-    refuted _ (fault.too_many t is many) = omega (arith, clear.few, subst (λ s. 65536 < total e.tree s) (one t is) many)
+    refuted _ (fault.too_many t is many) = omega (arith, clear.few, counted-within e.tree top 65536 (ap (λ (i : Instance). i.depth) parts.is_top) (subst (λ s. CountsMore e.tree s 65536) (one t is) many))
     refuted _ (fault.depends_cycle t h i n is is_elab first at) =
         let same = one_graph e.tree top h g (subst (λ s. IsElab e.tree s h) (one t is) is_elab) built.is_elab in
         built.no_cycle i (subst (λ k. FirstOnCycle k i) same first).on_cycle
@@ -206,22 +209,17 @@ no_fault e name arguments top g is_of is_top clear built = refuted
 
 pub answer-no_fault :
     (e : Expanded) (tree : Tree) (name : Name) (arguments : List ℤ) (top : Instance) (r : Result Configuration ElabError) → e.tree ≡ tree → IsOf e top
-    → top_instance tree name arguments ≡ Some top → IsClear tree top → Answers (IsBuilt e top) (BuildFault e top) r → IfOk r (λ _. HasNoFault tree name arguments)
+    → top_instance tree name arguments ≡ Some top → IsClear tree top → Answers error.NoMemory (IsBuilt e top) (BuildFault e top) r → IfOk r (λ _. HasNoFault tree name arguments)
 answer-no_fault e tree name arguments top (Ok g) same is_of is_top clear built =
     subst (λ t. HasNoFault t name arguments) same (no_fault e name arguments top g is_of (subst (λ t. top_instance t name arguments ≡ Some top) (sym same) is_top) (subst (λ t. IsClear t top) (sym same) clear) built)
 answer-no_fault e tree name arguments top (Err f) same is_of is_top clear fault = tt
 
 pub answer-fault :
     (e : Expanded) (tree : Tree) (name : Name) (arguments : List ℤ) (top : Instance) (r : Result Configuration ElabError) → e.tree ≡ tree → IsOf e top
-    → top_instance tree name arguments ≡ Some top → Answers (IsBuilt e top) (BuildFault e top) r → IfErr r (λ f. f ≢ error.NoMemory → Faults tree name arguments f)
+    → top_instance tree name arguments ≡ Some top → Answers error.NoMemory (IsBuilt e top) (BuildFault e top) r → IfErr r (λ f. f ≢ error.NoMemory → Faults tree name arguments f)
 answer-fault e tree name arguments top (Ok g) same is_of is_top built = tt
 answer-fault e tree name arguments top (Err f) same is_of is_top fault_ = λ other.
     subst (λ t. Faults t name arguments f) same (build_fault e name arguments top is_of (subst (λ t. top_instance t name arguments ≡ Some top) (sym same) is_top) f (fault_ other))
-
--- what a refusal names
-pub cause_of : {T : Type 0} (Q : T → Type 0) (C : ElabError → Type 0) (r : Result T ElabError) → Answers Q C r → IfErr r (λ f. f ≢ error.NoMemory → C f)
-cause_of Q C (Ok x) h = tt
-cause_of Q C (Err f) h = h
 
 -- ---- laws
 
@@ -235,10 +233,7 @@ pub bound_once :
 bound_once tree name arguments top is_top made_once none = record {
   depth = ap (λ (i : Instance). i.depth) parts.is_top;
   composite = ap (λ (i : Instance). is_primitive i.component) parts.is_top ∙ parts.composite;
-  single = record {
-    once = λ i path inst again. made_once path (fault.two_instances top i path is_top inst again);
-    apart = λ i j path inst inst' differ there there'. made_once path (fault.two_apart top i j path is_top inst inst' differ there there');
-  };
+  single = single-if_none tree name arguments top is_top made_once;
   once = λ i p q inst there there' same differ. none i.path (end_bytes p.end) (fault.bound_twice top i p q is_top inst there there' same differ);
 }
   where

@@ -1,5 +1,5 @@
 -- What an expansion tells: the faults that it finds, and the whole where there are none.
-use Rattle.std.proofs.Common.{◌≡◌, ◌≢◌, ◌∙◌, inl, inr, ℕ, zero, suc, ◌+◌, ◌<◌, ◌≤◌, false, List, [], ◌∷◌, ◌++◌, length, length-append, length-set, set, map, All, Option, Some, None, Result, Ok, Err, refl, sym, ap, subst, arith}
+use Rattle.std.proofs.Common.{◌≡◌, ◌≢◌, ◌∙◌, inl, inr, ℕ, zero, suc, ◌+◌, ◌<◌, ◌≤◌, false, List, [], ◌∷◌, ◌++◌, length, length-append, length-set, set, map, sum_by, All, Option, Some, None, Result, Ok, Err, refl, sym, ap, subst, arith}
 use Rattle.std.specs.List.{Contains, slice_get}
 use Rattle.std.specs.Option.{IsSome}
 use Rattle.std.specs.Map.{lookup}
@@ -7,18 +7,23 @@ use Rattle.std.specs.Str.{bytes_eq}
 use Rattle.std.proofs.Math.Seq.{map-set_same}
 use Rattle.std.proofs.lemmas.Option.{none-some, same_Some, get_or_from_slice_get}
 use Rattle.std.proofs.lemmas.List.{length-map, map-append}
-use Rattle.std.proofs.lemmas.List.Elements.{All-head, All-tail}
+use Rattle.std.proofs.lemmas.List.Elements.{All-head, All-tail, Contains-append_left}
 use Rattle.indexmap.specs.IndexMap.{keys}
+use Rattle.base.specs.Answers.{Answers}
+use Rattle.base.proofs.AnswerLaws.{Answers-weaker}
 use Rattle.darwin_parser.specs.Tree.{Tree, tree_of, component_of}
 use Rattle.darwin_parser.specs.declared.tree.Unit.{Unit as Description}
 use Rattle.darwin_types.specs.Scope.{component_named, is_primitive}
+use Rattle.darwin_walk.specs.Walked.{cause_of}
+use Rattle.darwin_walk.specs.declared.fault.Fault.TheVariants as shown
+use Rattle.darwin_walk.specs.declared.fault.WalkError.{WalkError}
+use Rattle.darwin_walk.specs.declared.fault.WalkError.TheVariants as walk
 use Rattle.elaborator.specs.Paths.{Path}
-use Rattle.elaborator.specs.Instances.{Instance, made_in, paths_in, Inst, count_in, total}
-use Rattle.elaborator.specs.Faults.{own_faults, Twice}
+use Rattle.elaborator.specs.Instances.{Instance, made_in, paths_in, Inst, count_in}
+use Rattle.elaborator.specs.Faults.{own_faults, Twice, CountsMore}
 use Rattle.elaborator.specs.Expanded.{Made, Numbered, NumberedIn, IsExpanded, IsOf}
 use Rattle.elaborator.specs.Expansion.{made_of, instance_in, seen, number_at, IsKept, IsShown}
-use Rattle.elaborator.specs.Opening.{NamesFault, Judges, IsNoted, IsFound}
-use Rattle.elaborator.specs.Index.{Answers}
+use Rattle.elaborator.specs.Opening.{cause_at, error_at, Judges, IsNoted, IsFound}
 use Rattle.elaborator.specs.declared.opening.Found.{Found}
 use Rattle.elaborator.specs.Growth.{IsTop, GrowthFault, IsClear, IsWhole}
 use Rattle.elaborator.specs.Growth.GrowthFault.{out_of_range, zero_divisor, bad_index, two_instances, two_apart, too_deep, too_many}
@@ -31,36 +36,27 @@ use Rattle.elaborator.specs.declared.error.ElabError.TheVariants as error
 use Rattle.darwin_types.proofs.Lists.{Contains-map, Contains-from_map}
 use Rattle.elaborator.proofs.NamingLemmas.{made_named}
 use Rattle.elaborator.proofs.Lists.{slice_get-set_cases, slice_get-set_same, slice_get-set_other}
-use Rattle.elaborator.proofs.WholeLemmas.{Contains-at}
-use Rattle.elaborator.proofs.Places.{slice_get-append_cases, slice_get-below, slice_get-before, slice_get-behind, slice_get-map_some, slice_get-map_at, twice_at}
+use Rattle.elaborator.proofs.WholeLemmas.{Contains-at, at_some_place}
+use Rattle.elaborator.proofs.Places.{slice_get-append_cases, slice_get-below, slice_get-before, slice_get-behind, slice_get-map_some, slice_get-map_at, twice_at, twice_before, twice_places}
 use Rattle.elaborator.proofs.OrderLemmas.{rising}
 use Rattle.elaborator.proofs.MappedLemmas.{found-in_order, found-before_order}
 use Rattle.elaborator.proofs.GrowthLemmas.{AreApart, same_made, earlier_or_same, grown-top, grown-open, grown-sound, grown-complete, grown-distinct, once-made}
-use Rattle.elaborator.proofs.SpreadLemmas.{total-within, spread-top, spread-open, total-above, depth-next}
+use Rattle.elaborator.proofs.SpreadLemmas.{total-within, spread-top, spread-open, front-above, depth-next}
 
 -- ---- faults
 
 -- what is named in an instance of the elaboration is a fault
 pub named-fault :
-    (tree : Tree) (top i : Instance) (many : Type 0) (e : ElabError) → Inst tree top i → NamesFault i.path (own_faults tree i) many e → (many → 65536 < total tree top)
-    → e ≢ error.NoMemory → GrowthFault tree top e
-named-fault tree top i many (error.OutOfRange p at) inst names more other =
-    subst (λ q. GrowthFault tree top (error.OutOfRange q at)) (sym names.0) (out_of_range i at inst names.1)
-named-fault tree top i many (error.ZeroDivisor p at) inst names more other =
-    subst (λ q. GrowthFault tree top (error.ZeroDivisor q at)) (sym names.0) (zero_divisor i at inst names.1)
-named-fault tree top i many (error.BadIndex p at) inst names more other =
-    subst (λ q. GrowthFault tree top (error.BadIndex q at)) (sym names.0) (bad_index i at inst names.1)
-named-fault tree top i many error.TooMany inst names more other = too_many (more names)
-named-fault tree top i many error.NoMemory inst names more other = absurd (other refl)
-named-fault tree top i many (error.NoTop _) inst names more other = absurd names
-named-fault tree top i many (error.TopArgs _ _) inst names more other = absurd names
-named-fault tree top i many (error.TwoInstances _) inst names more other = absurd names
-named-fault tree top i many (error.BoundTwice _ _) inst names more other = absurd names
-named-fault tree top i many (error.BadBinding _ _) inst names more other = absurd names
-named-fault tree top i many (error.Annotation _ _) inst names more other = absurd names
-named-fault tree top i many (error.TooDeep _) inst names more other = absurd names
-named-fault tree top i many (error.DependsCycle _) inst names more other = absurd names
-named-fault tree top i many (error.TopIsKind _) inst names more other = absurd names
+    (tree : Tree) (top i : Instance) (many : Type 0) (e : ElabError) → Inst tree top i → (many → CountsMore tree top 65536)
+    → cause_at i.path (own_faults tree i) many e → GrowthFault tree top e
+named-fault tree top i many e inst more cause = subst (GrowthFault tree top) (sym cause.1) (by cause.0 cause.2)
+  where
+    by : (e : WalkError) → cause_of (own_faults tree i) many e → GrowthFault tree top (error_at i.path e)
+    by (walk.Fault (shown.OutOfRange at)) has = out_of_range i at inst has
+    by (walk.Fault (shown.ZeroDivisor at)) has = zero_divisor i at inst has
+    by (walk.Fault (shown.BadIndex at)) has = bad_index i at inst has
+    by walk.TooMany many = too_many (more many)
+    by walk.NoMemory none = absurd none
 
 -- a path that an instance makes
 makes_path :
@@ -341,15 +337,53 @@ deep-fault top g next path growth at deep is =
     (too_deep (instance_in next) (next_inst top g next growth at)
     (omega (arith, deep, depth-next (tree_of g.expansion.directory.unit.now) top _ g.opened g.room (instance_in next) growth.spread (seen_next g next at))))
 
+-- it counts for more than there is room for
+counted-next :
+    (top : Instance) (g : Growth) (next : code.Instance) → IsGrowth top g → slice_get g.expansion.instances.items g.opened ≡ Some next
+    → g.room < count_in (instance_in next) → CountsMore (tree_of g.expansion.directory.unit.now) top 65536
+counted-next top g next growth at many =
+    record {
+      counted = front.0;
+      once = λ i two.
+          let w = twice_places (map instance_in items) i (in_all i (λ is. Twice is i) (twice_before front.0 front.1 i two)) in
+          let one = slice_get-map_some instance_in items w.0 i w.3 in
+          let other = slice_get-map_some instance_in items w.1 i w.4 in
+          let same = one.2 ∙ sym other.2 in
+          omega (
+            arith,
+            w.2,
+            grown-distinct tree top (map made_of items) g.opened growth.grown growth.at_top (apart-mapped g.expansion growth.mapped) w.0 w.1 (made_of one.0) (made_of other.0)
+                (slice_get-map_at made_of items w.0 one.0 one.1) (slice_get-map_at made_of items w.1 other.0 other.1)
+                (ap (λ (j : Instance). j.path) same) (ap (λ (j : Instance). j.depth) same),
+          );
+      each = λ i has.
+          let w = at_some_place (map instance_in items) i (in_all i (λ is. Contains is i) (Contains-append_left front.0 front.1 i has)) in
+          let one = slice_get-map_some instance_in items w.0 i w.1 in
+          subst (Inst tree top) one.2 (grown-sound tree top (map made_of items) g.opened growth.grown w.0 (made_of one.0) (slice_get-map_at made_of items w.0 one.0 one.1));
+      above = front.3;
+    }
+  where
+    tree : Tree
+    tree = tree_of g.expansion.directory.unit.now
+
+    items : List code.Instance
+    items = g.expansion.instances.items
+
+    front : (front : List Instance) × (more : List Instance) × (map instance_in items ≡ front ++ more) × (65536 < sum_by count_in front)
+    front = front-above tree top (map instance_in items) g.opened g.room (instance_in next) growth.spread (seen_next g next at) many
+
+    in_all : (i : Instance) (P : List Instance → Type 0) → P (front.0 ++ front.1) → P (map instance_in items)
+    in_all i P = subst P (sym front.2)
+
 -- it is opened
 pub judged-next :
     (top : Instance) (g : Growth) (next : code.Instance) (P : Found → Type 0) (r : Result Found ElabError) → IsGrowth top g → slice_get g.expansion.instances.items g.opened ≡ Some next
     → next.depth < 33 → Judges next.path (own_faults (tree_of g.expansion.directory.unit.now) (instance_in next)) (g.room < count_in (instance_in next)) P r
-    → Answers (λ f. (next.depth < 33) × (own_faults (tree_of g.expansion.directory.unit.now) (instance_in next) ≡ []) × P f) (GrowthFault (tree_of g.expansion.directory.unit.now) top) r
-judged-next top g next P (Ok f) growth at shallow told = (shallow, told.0, told.1)
-judged-next top g next P (Err e) growth at shallow told = λ other.
-    named-fault (tree_of g.expansion.directory.unit.now) top (instance_in next) _ e (next_inst top g next growth at) told
-    (λ many. total-above (tree_of g.expansion.directory.unit.now) top _ g.opened g.room (instance_in next) growth.spread (seen_next g next at) many) other
+    → Answers error.NoMemory (λ f. (next.depth < 33) × (own_faults (tree_of g.expansion.directory.unit.now) (instance_in next) ≡ []) × P f) (GrowthFault (tree_of g.expansion.directory.unit.now) top) r
+judged-next top g next P r growth at shallow =
+    Answers-weaker _ r (λ f told. (shallow, told.0, told.1))
+    (λ e. named-fault (tree_of g.expansion.directory.unit.now) top (instance_in next) _ e (next_inst top g next growth at)
+    (counted-next top g next growth at))
 
 -- ---- the next instance is opened
 

@@ -20,8 +20,8 @@ use Rattle.elaborator.specs.Faults.Faults.{two_instances, two_apart}
 use Rattle.elaborator.specs.declared.error.ElabError.TheVariants as error
 use Rattle.darwin_types.proofs.Lists.{Contains-here, Contains-one, Contains-flat_map, Contains-from_flat_map}
 use Rattle.elaborator.proofs.Lists.{Contains-from_filter_map, made_of_two}
-use Rattle.elaborator.proofs.WholeLemmas.{at_some_place}
-use Rattle.elaborator.proofs.Places.{twice_at, twice_there}
+use Rattle.elaborator.proofs.WholeLemmas.{at_some_place, Contains-at}
+use Rattle.elaborator.proofs.Places.{twice_at, twice_there, twice_places}
 use Rattle.elaborator.proofs.ChildLemmas.{depth-made}
 use Rattle.elaborator.proofs.SpreadLemmas.{levels-suc, levels-zero, levels-front, shallow-maker}
 
@@ -30,7 +30,7 @@ in_levels tree n is i has =
     let more = levels-front tree n is in
     subst (λ js. Contains js i) (sym more.1) (Contains-append_left is more.0 i has)
 
-next_depths :
+pub next_depths :
     (tree : Tree) (n : ℕ) (is : List Instance) → ((i : Instance) → Contains is i → i.depth + suc n ≡ 33) → (j : Instance) → Contains (flat_map (made_in tree) is) j
     → j.depth + n ≡ 33
 next_depths tree n is depths j has =
@@ -80,8 +80,16 @@ instances-listed tree top i shallow =
 pub twice_front : {A : Type 0} (y : A) (xs : List A) → Contains xs y → Twice (y ∷ xs) y
 twice_front y xs has = let w = at_some_place xs y has in twice_at (y ∷ xs) 0 (suc w.0) y (omega arith) refl w.1
 
+pub twice_cases : {A : Type 0} (x : A) (xs : List A) (z : A) → Twice (x ∷ xs) z → ((x ≡ z) × Contains xs z) ⊎ Twice xs z
+twice_cases x xs z two = let w = twice_places (x ∷ xs) z two in by w.0 w.1 w.2 w.3 w.4
+  where
+    by : (a b : ℕ) → a < b → slice_get (x ∷ xs) a ≡ Some z → slice_get (x ∷ xs) b ≡ Some z → ((x ≡ z) × Contains xs z) ⊎ Twice xs z
+    by a zero lt at at' = absurd (omega arith)
+    by zero (suc b) lt at at' = inl (same_Some x z at, Contains-at xs b z at')
+    by (suc a) (suc b) lt at at' = inr (twice_at xs a b z (omega arith) at at')
+
 -- two places of a list give two of what is listed
-twice-filter_map :
+pub twice-filter_map :
     {A B : Type 0} (h : A → Option B) (xs : List A) (a b : ℕ) (x z : A) (y : B)
     → a < b → slice_get xs a ≡ Some x → slice_get xs b ≡ Some z → h x ≡ Some y → h z ≡ Some y → Twice (filter_map h xs) y
 twice-filter_map h [] a b x z y lt at at' is is' = absurd (none-some x at)
@@ -102,7 +110,7 @@ made_child tree a i made =
     let place = at_some_place (children_in a) w.0 w.1 in
     (place.0, w.0, place.1, w.2)
 
-its_path : (tree : Tree) (a i : Instance) (c : Child) → instance_of tree a c ≡ Some i → path_of tree a c ≡ Some i.path
+pub its_path : (tree : Tree) (a i : Instance) (c : Child) → instance_of tree a c ≡ Some i → path_of tree a c ≡ Some i.path
 its_path tree a i c is =
     let parts = made_of_two (λ component args. record { path = child_path a c; depth = suc a.depth; component = component; env = parameters component args }) (component_named tree c.component) c.arguments i is in
     ap (option_map (λ component. child_path a c)) parts.2 ∙ ap (λ (x : Instance). Some x.path) parts.4
@@ -193,14 +201,19 @@ top_depth tree name arguments top is = found (component_named tree name) is
         by true at = ap (λ (x : Instance). x.depth) (sym (same_Some _ top at))
         by false at = absurd (none-some top at)
 
+pub single-if_none :
+    (tree : Tree) (name : Name) (arguments : List ℤ) (top : Instance) → top_instance tree name arguments ≡ Some top
+    → ((path : Path) → ¬ Faults tree name arguments (error.TwoInstances path)) → IsSingle tree top
+single-if_none tree name arguments top is none =
+    record {
+      once = λ a path there two. none path (two_instances top a path is there two);
+      apart = λ a b path there there' differ has has'. none path (two_apart top a b path is there there' differ has has');
+    }
+
 -- where no two entries make one instance, one that isn't the top is told by its path
 pub told-by_path :
     (tree : Tree) (name : Name) (arguments : List ℤ) (top : Instance) → top_instance tree name arguments ≡ Some top
     → ((path : Path) → ¬ Faults tree name arguments (error.TwoInstances path))
     → (i j : Instance) → Inst tree top i → Inst tree top j → 0 < i.depth → 0 < j.depth → i.path ≡ j.path → i ≡ j
 told-by_path tree name arguments top is none i j inst other deep deep' same =
-    told-below tree top
-    (record {
-      once = λ a path there two. none path (two_instances top a path is there two);
-      apart = λ a b path there there' differ has has'. none path (two_apart top a b path is there there' differ has has');
-    }) (top_depth tree name arguments top is) i inst j other deep deep' same
+    told-below tree top (single-if_none tree name arguments top is none) (top_depth tree name arguments top is) i inst j other deep deep' same

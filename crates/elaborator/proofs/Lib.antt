@@ -1,18 +1,18 @@
 pub mod AllLinksLemmas
-pub mod AnswerLemmas
 pub mod ArgumentLemmas
 pub mod BoundLemmas
 pub mod BuildLemmas
+pub mod CauseLemmas
 pub mod ChainLemmas
 pub mod ChildLemmas
-pub mod ExpandLemmas
-pub mod EitherLemmas
+pub mod CountLemmas
 pub mod ElaborationLemmas
+pub mod ExistenceLemmas
+pub mod ExpandLemmas
 pub mod FollowLemmas
 pub mod GrowthLemmas
 pub mod IndexLemmas
 pub mod InstanceLemmas
-pub mod JudgesLemmas
 pub mod LawLemmas
 pub mod LinkLawLemmas
 pub mod LinkLemmas
@@ -28,10 +28,10 @@ pub mod Places
 pub mod PortLemmas
 pub mod RankLemmas
 mod Rows
-pub mod SpreadLemmas
 pub mod SingleLemmas
 pub mod SoundLemmas
+pub mod SpreadLemmas
 pub mod TargetLemmas
-pub mod TotalLemmas
 pub mod UniqueLemmas
+pub mod VerdictLemmas
 pub mod WholeLemmas

@@ -1,5 +1,5 @@
 -- Elements by their places in lists that are put together.
-use Rattle.std.proofs.Common.{◌≡◌, ◌∙◌, ◌⊎◌, inl, inr, ℕ, zero, suc, ◌+◌, ◌<◌, ◌≤◌, List, [], ◌∷◌, ◌++◌, length, length-append, map, Option, Some, None, refl, sym, ap, subst, arith}
+use Rattle.std.proofs.Common.{◌≡◌, ◌∙◌, ◌⊎◌, inl, inr, ℕ, zero, suc, ◌+◌, ◌<◌, ◌≤◌, List, [], ◌∷◌, ◌++◌, length, length-append, append_assoc, map, Option, Some, None, refl, sym, ap, subst, arith}
 use Rattle.std.specs.List.{slice_get, filter_map, cons_option}
 use Rattle.std.proofs.lemmas.Option.{none-some, same_Some}
 use Rattle.elaborator.specs.Faults.{Twice}
@@ -54,13 +54,16 @@ slice_get-map_at f (y ∷ xs) (suc a) x at = slice_get-map_at f xs a x at
 
 -- ---- an element that stands twice
 
-split_at : {A : Type 0} (xs : List A) (a : ℕ) (x : A) → slice_get xs a ≡ Some x → (before : List A) × (after : List A) × (xs ≡ before ++ x ∷ after)
+pub split_at : {A : Type 0} (xs : List A) (a : ℕ) (x : A) → slice_get xs a ≡ Some x → (before : List A) × (after : List A) × (xs ≡ before ++ x ∷ after)
 split_at [] a x at = absurd (none-some x at)
 split_at (y ∷ xs) zero x at = ([], xs, ap (λ z. z ∷ xs) (same_Some y x at))
 split_at (y ∷ xs) (suc a) x at = let w = split_at xs a x at in (y ∷ w.0, w.1, ap (λ zs. y ∷ zs) w.2)
 
 pub twice_there : {A : Type 0} (y : A) (xs : List A) (x : A) → Twice xs x → Twice (y ∷ xs) x
 twice_there y xs x (twice before between after is) = twice (y ∷ before) between after (ap (λ zs. y ∷ zs) is)
+
+pub twice_before : {A : Type 0} (xs ys : List A) (x : A) → Twice xs x → Twice (xs ++ ys) x
+twice_before xs ys x (twice before between after is) = twice before between (after ++ ys) (ap (λ zs. zs ++ ys) is ∙ append_assoc (before ++ x ∷ between) (x ∷ after) ys)
 
 pub twice_at : {A : Type 0} (xs : List A) (a b : ℕ) (x : A) → a < b → slice_get xs a ≡ Some x → slice_get xs b ≡ Some x → Twice xs x
 twice_at [] a b x lt at at' = absurd (none-some x at)

@@ -21,14 +21,15 @@ use Rattle.darwin_walk.specs.Value.{Env, parameters}
 use Rattle.darwin_walk.specs.Instance.{Child, children, faults}
 use Rattle.darwin_walk.specs.declared.fault.Fault as walk
 use Rattle.darwin_walk.specs.declared.fault.Fault.TheVariants as shown
+use Rattle.base.specs.Answers.{Answers}
 use Rattle.elaborator.specs.Instances.{Instance, top_instance, is_expanded, child_path, children_in, instance_of, made_in, Inst, at_top, below}
 use Rattle.elaborator.specs.Graph.{natural, node_of, IsElab}
 use Rattle.elaborator.specs.Faults.{is_kind_argument, kind_faults, own_faults}
 use Rattle.elaborator.specs.Expanded.{Expanded}
 use Rattle.elaborator.specs.Growth.{IsClear}
-use Rattle.elaborator.specs.Index.{Answers}
 use Rattle.elaborator.specs.Built.{BuildFault, IsBuilt}
 use Rattle.elaborator.specs.declared.error.ElabError.{ElabError}
+use Rattle.elaborator.specs.declared.error.ElabError.TheVariants as error
 use Rattle.darwin_types.proofs.Lists.{Contains-here, Contains-nil, Contains-flat_map}
 use Rattle.elaborator.proofs.Lists.{Contains-from_filter_map, find-some, made_of_found}
 use Rattle.elaborator.proofs.NodeLemmas.{node_parts}
@@ -205,7 +206,7 @@ sound_graph tree name arguments top g no_fault is_top clear is_elab no_cycle = r
 
 pub answer-sound :
     (e : Expanded) (tree : Tree) (name : Name) (arguments : List ℤ) (top : Instance) (r : Result Configuration ElabError) → e.tree ≡ tree → NoFault tree
-    → top_instance tree name arguments ≡ Some top → IsClear tree top → Answers (IsBuilt e top) (BuildFault e top) r → IfOk r Sound
+    → top_instance tree name arguments ≡ Some top → IsClear tree top → Answers error.NoMemory (IsBuilt e top) (BuildFault e top) r → IfOk r Sound
 answer-sound e tree name arguments top (Ok g) same no_fault is_top clear built =
     sound_graph tree name arguments top g no_fault is_top clear (subst (λ t. IsElab t top g) same built.is_elab) built.no_cycle
 answer-sound e tree name arguments top (Err f) same no_fault is_top clear fault = tt

@@ -117,25 +117,30 @@ depth-next tree top made k room x s at =
     let f = facing tree top made k room x s at in
     omega (arith, f.spread.depth x (Contains-append_right f.spread.done f.spread.left x (subst (λ ls. Contains ls x) (sym f.left_is) (Contains-here x f.rest))))
 
--- where the next instance counts for more than there is room for, too much is counted
-pub total-above : (tree : Tree) (top : Instance) (made : List Instance) (k room : ℕ) (x : Instance) → IsSpread tree top made k room → slice_get made k ≡ Some x → room < count_in x → 65536 < total tree top
-total-above tree top made k room x s at many =
+-- where the next instance counts for more than there is room for, those up to it count for too much
+pub front-above :
+    (tree : Tree) (top : Instance) (made : List Instance) (k room : ℕ) (x : Instance) → IsSpread tree top made k room → slice_get made k ≡ Some x
+    → room < count_in x → (front : List Instance) × (more : List Instance) × (made ≡ front ++ more) × (65536 < sum_by count_in front)
+front-above tree top made k room x s at many =
     let f = facing tree top made k room x s at in
     let t = f.spread in
-    let more = levels-front tree t.deeper (t.done ++ x ∷ f.rest) in
-    let all : instances tree top ≡ t.before ++ ((t.done ++ x ∷ f.rest) ++ more.0) =
-    t.all ∙ ap (λ ls. t.before ++ levels tree t.deeper (t.done ++ ls)) f.left_is ∙ ap (λ js. t.before ++ js) more.1 in
-    omega (
-      arith,
-      many,
-      t.counted,
-      ap (sum_by count_in) all,
-      sum_by-append count_in t.before ((t.done ++ x ∷ f.rest) ++ more.0),
-      sum_by-append count_in (t.done ++ x ∷ f.rest) more.0,
-      sum_by-append count_in t.done (x ∷ f.rest),
-      sum_by-cons count_in x f.rest,
-      sum_by-append count_in t.before t.done,
+    let next = flat_map (made_in tree) t.done in (
+      t.before ++ (t.done ++ x ∷ []),
+      f.rest ++ next,
+      t.made_is ∙ ap (λ ls. t.before ++ t.done ++ ls ++ next) f.left_is ∙ parted t.before t.done f.rest next,
+      omega (
+        arith,
+        many,
+        t.counted,
+        sum_by-append count_in t.before (t.done ++ x ∷ []),
+        sum_by-append count_in t.done (x ∷ []),
+        sum_by-cons count_in x [],
+        sum_by-append count_in t.before t.done,
+      ),
     )
+  where
+    parted : (before done rest next : List Instance) → before ++ done ++ (x ∷ rest) ++ next ≡ (before ++ (done ++ x ∷ [])) ++ (rest ++ next)
+    parted before done rest next = simp append_assoc
 
 -- the next instance is opened
 pub spread-open :

@@ -1,5 +1,5 @@
 -- The faults of an elaboration: the set of those that hold. Where it is empty the elaboration is the graph.
-use Rattle.std.specs.Prelude.{Bool, ◌≡◌, ◌≢◌, ◌<◌, ℕ, true, ◌&&◌, not, ℤ, pos, int_le, int_lt, List, [], ◌∷◌, ◌++◌, length, min, Option, Some, None, if◌then◌else◌, Contains, slice_get}
+use Rattle.std.specs.Prelude.{Bool, ◌≡◌, ◌≢◌, ◌<◌, ℕ, true, ◌&&◌, not, ℤ, pos, int_le, int_lt, List, [], ◌∷◌, ◌++◌, length, min, sum_by, Option, Some, None, if◌then◌else◌, Contains, slice_get}
 use Rattle.std.specs.List.{flat_map, list_all}
 use Rattle.std.specs.Option.{option_map_or}
 use Rattle.darwin_lexer.specs.declared.token.At.{At}
@@ -11,7 +11,7 @@ use Rattle.darwin_walk.specs.Instance.{Child, End, Binding, index_fault, childre
 use Rattle.darwin_walk.specs.declared.fault.Fault.{Fault}
 use Rattle.darwin_walk.specs.declared.fault.Fault.TheVariants as shown
 use Rattle.elaborator.specs.Paths.{Path, end_bytes}
-use Rattle.elaborator.specs.Instances.{Instance, top_instance, Inst, is_expanded, total, paths_in}
+use Rattle.elaborator.specs.Instances.{Instance, top_instance, Inst, is_expanded, count_in, paths_in}
 use Rattle.elaborator.specs.Bindings.{Named, named, Pair, pair_of, pairs_in, bindings_in}
 use Rattle.config_graph.specs.Graph.{Configuration}
 use Rattle.config_graph.specs.Cycles.{FirstOnCycle}
@@ -65,6 +65,13 @@ pub data NotesDiffer (x y : Option Named) : Type 0 where
 pub data Twice {X : Type 0} (xs : List X) (x : X) : Type 0 where
   twice : (before between after : List X) → xs ≡ before ++ (x ∷ between) ++ (x ∷ after) → Twice xs x
 
+-- in instances of the elaboration, of which none is counted twice, more turns than so many are taken and entries reached
+pub record CountsMore (tree : Tree) (top : Instance) (limit : ℕ) : Type 0 where
+  pub counted : List Instance
+  pub once : (i : Instance) → ¬ Twice counted i
+  pub each : (i : Instance) → Contains counted i → Inst tree top i
+  pub above : limit < sum_by count_in counted
+
 -- the faults of the elaboration of a description, with a component of a name at the top that has arguments
 pub data Faults (tree : Tree) (name : Name) (arguments : List ℤ) : ElabError → Type 0 where
   -- no component has the name
@@ -115,7 +122,7 @@ pub data Faults (tree : Tree) (name : Name) (arguments : List ℤ) : ElabError �
       (top i : Instance) → top_instance tree name arguments ≡ Some top → Inst tree top i → i.depth ≡ 33
       → Faults tree name arguments (error.TooDeep i.path)
   -- more than 65,536 turns are taken and entries reached
-  too_many : (top : Instance) → top_instance tree name arguments ≡ Some top → 65536 < total tree top → Faults tree name arguments error.TooMany
+  too_many : (top : Instance) → top_instance tree name arguments ≡ Some top → CountsMore tree top 65536 → Faults tree name arguments error.TooMany
   -- nodes lie on cycles of depended-on links; the first by its path is named
   depends_cycle :
       (top : Instance) (g : Configuration) (i : ℕ) (n : Node) → top_instance tree name arguments ≡ Some top → IsElab tree top g

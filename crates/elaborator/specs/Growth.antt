@@ -7,7 +7,7 @@ use Rattle.darwin_types.specs.Scope.{component_named, is_primitive}
 use Rattle.darwin_walk.specs.declared.fault.Fault.TheVariants as shown
 use Rattle.elaborator.specs.Paths.{Path}
 use Rattle.elaborator.specs.Instances.{Instance, Inst, total, paths_in}
-use Rattle.elaborator.specs.Faults.{own_faults, Twice}
+use Rattle.elaborator.specs.Faults.{own_faults, Twice, CountsMore}
 use Rattle.elaborator.specs.Expanded.{IsOf}
 use Rattle.elaborator.specs.Expansion.{instance_in, seen, IsKept}
 use Rattle.elaborator.specs.declared.instance.Instance as code
@@ -33,7 +33,7 @@ pub data GrowthFault (tree : Tree) (top : Instance) : ElabError → Type 0 where
       (i j : Instance) (path : Path) → Inst tree top i → Inst tree top j → i ≢ j → Contains (paths_in tree i) path → Contains (paths_in tree j) path
       → GrowthFault tree top (error.TwoInstances path)
   too_deep : (i : Instance) → Inst tree top i → i.depth ≡ 33 → GrowthFault tree top (error.TooDeep i.path)
-  too_many : 65536 < total tree top → GrowthFault tree top error.TooMany
+  too_many : CountsMore tree top 65536 → GrowthFault tree top error.TooMany
 
 -- none of them holds
 pub record IsClear (tree : Tree) (top : Instance) : Type 0 where

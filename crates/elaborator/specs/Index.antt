@@ -1,5 +1,5 @@
 -- The bindings of an expansion as an index of ports by numbers, and what is wrong with them.
-use Rattle.std.specs.Prelude.{◌≡◌, ◌≢◌, ℕ, ◌<◌, Result, Ok, Err, List, [], ◌∷◌, ◌++◌, Some, Contains, map}
+use Rattle.std.specs.Prelude.{◌≡◌, ◌≢◌, ℕ, ◌<◌, List, [], ◌∷◌, ◌++◌, Some, Contains, map}
 use Rattle.std.specs.List.{flat_map}
 use Rattle.darwin_lexer.specs.declared.token.At.{At}
 use Rattle.darwin_parser.specs.Tree.{Tree}
@@ -17,15 +17,6 @@ use Rattle.elaborator.specs.declared.chains.PortId.{PortId}
 use Rattle.elaborator.specs.declared.pairs.Pair as code
 use Rattle.elaborator.specs.declared.error.ElabError.{ElabError}
 use Rattle.elaborator.specs.declared.error.ElabError.TheVariants as error
-
--- a refusal has one of these causes, or is for want of memory
-abbrev pub Refuses : (ElabError → Type 0) → ElabError → Type 0
-Refuses Cause f = f ≢ error.NoMemory → Cause f
-
--- an answer tells this of its value, or has one of these causes
-abbrev pub Answers : {T : Type 0} → (T → Type 0) → (ElabError → Type 0) → Result T ElabError → Type 0
-Answers P Cause (Ok x) = P x
-Answers P Cause (Err f) = Refuses Cause f
 
 -- a pair as the code keeps it
 pub record IsPair (e : Expanded) (x : code.Pair) (p : Pair) : Type 0 where

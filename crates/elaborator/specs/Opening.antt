@@ -1,11 +1,12 @@
 -- What is found in an instance when it is opened, and what an answer tells of it.
-use Rattle.std.specs.Prelude.{◌≡◌, ◌≤◌, ℕ, List, [], map, length, Some, Option, option_map, IfSome, All, Contains, Result, Ok, Err, Vec}
+use Rattle.std.specs.Prelude.{◌≡◌, ◌≤◌, ℕ, List, [], map, length, Some, Option, option_map, IfSome, All, Result, Vec}
 use Rattle.std.specs.List.{filter_map}
 use Rattle.std.specs.Global.{Global}
+use Rattle.base.specs.Answers.{Answers}
 use Rattle.darwin_parser.specs.Tree.{Tree, component_of}
 use Rattle.darwin_types.specs.Scope.{is_primitive}
 use Rattle.darwin_walk.specs.Instance.{Child}
-use Rattle.darwin_walk.specs.Walked.{binding_of}
+use Rattle.darwin_walk.specs.Walked.{binding_of, cause_of}
 use Rattle.darwin_walk.specs.declared.fault.Fault.{Fault}
 use Rattle.darwin_walk.specs.declared.fault.Fault.TheVariants as shown
 use Rattle.darwin_walk.specs.declared.fault.WalkError.{WalkError}
@@ -19,20 +20,6 @@ use Rattle.elaborator.specs.declared.opening.Found.{Found}
 use Rattle.elaborator.specs.declared.error.ElabError.{ElabError}
 use Rattle.elaborator.specs.declared.error.ElabError.TheVariants as error
 
--- an error names one of these faults, in the instance of the path, or that too much is counted
-abbrev pub NamesFault : Path → List Fault → Type 0 → ElabError → Type 0
-NamesFault path fs too_many (error.OutOfRange p at) = (p ≡ path) × Contains fs (shown.OutOfRange at)
-NamesFault path fs too_many (error.ZeroDivisor p at) = (p ≡ path) × Contains fs (shown.ZeroDivisor at)
-NamesFault path fs too_many (error.BadIndex p at) = (p ≡ path) × Contains fs (shown.BadIndex at)
-NamesFault path fs too_many error.TooMany = too_many
-NamesFault path fs too_many error.NoMemory = Unit {0}
-NamesFault path fs too_many _ = ⊥
-
--- an answer tells of faults in an instance: that there is none, and this of its value, or that it names one
-abbrev pub Judges : {T : Type 0} → Path → List Fault → Type 0 → (T → Type 0) → Result T ElabError → Type 0
-Judges path fs too_many P (Ok x) = (fs ≡ []) × P x
-Judges path fs too_many P (Err e) = NamesFault path fs too_many e
-
 -- an error of a walk, in the instance of the path
 abbrev pub error_at : Path → WalkError → ElabError
 error_at path (walk.Fault (shown.OutOfRange at)) = error.OutOfRange path at
@@ -40,6 +27,14 @@ error_at path (walk.Fault (shown.ZeroDivisor at)) = error.ZeroDivisor path at
 error_at path (walk.Fault (shown.BadIndex at)) = error.BadIndex path at
 error_at path walk.TooMany = error.TooMany
 error_at path walk.NoMemory = error.NoMemory
+
+-- the cause of an error in the instance of the path, whose faults are these: that of the walk's error which it tells
+abbrev pub cause_at : Path → List Fault → Type 0 → ElabError → Type 0
+cause_at path faults too_many refusal = (e : WalkError) × (refusal ≡ error_at path e) × cause_of faults too_many e
+
+-- what an answer tells of such an instance: that it has no fault, and this of its value, or an error that has its cause
+abbrev pub Judges : {T : Type 0} → Path → List Fault → Type 0 → (T → Type 0) → Result T ElabError → Type 0
+Judges path faults too_many P = Answers error.NoMemory (λ x. (faults ≡ []) × P x) (cause_at path faults too_many)
 
 -- the instance is noted as made in the one of the number, and as primitive where its component is
 pub record IsNoted (maker : Option ℕ) (i : code.Instance) : Type 0 where

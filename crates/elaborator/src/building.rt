@@ -1,13 +1,15 @@
 //! From the instances of an elaboration to its graph.
 
 ghost use Rattle.std.specs.Prelude.{◌≡◌, IfOk};
+ghost use Rattle.base.specs.Answers.{Answers};
 ghost use Rattle.config_graph.specs.Cycles.{NoCycle};
 ghost use Rattle.elaborator.specs.Instances.{Instance};
 ghost use Rattle.elaborator.specs.Graph.{IsElab};
 ghost use Rattle.elaborator.specs.Expanded.{IsOf};
 ghost use Rattle.elaborator.specs.Expansion.{seen, IsKept};
-ghost use Rattle.elaborator.specs.Index.{Answers, IsIndexed};
+ghost use Rattle.elaborator.specs.Index.{IsIndexed};
 ghost use Rattle.elaborator.specs.Built.{CycleFault, BuildFault, IsBuilt};
+ghost use Rattle.elaborator.specs.declared.error.ElabError.TheVariants.{NoMemory};
 
 use crate::ElabError;
 use crate::chains::Targets;
@@ -23,7 +25,7 @@ pub fn build_graph(alloc: Global, expansion: &Expansion) -> Result<Graph, ElabEr
     requires kept { IsKept expansion.now }
     requires of_top { (top : Instance) × IsOf (seen expansion.now) top }
     ensures { (top : Instance) → IsOf (seen expansion.now) top
-        → Answers (IsBuilt (seen expansion.now) top) (BuildFault (seen expansion.now) top) result }
+        → Answers NoMemory (IsBuilt (seen expansion.now) top) (BuildFault (seen expansion.now) top) result }
 {
     let targets = index_bindings(alloc, expansion)?;
     let graph = join(alloc, expansion, &targets)?;
@@ -47,7 +49,7 @@ fn join(alloc: Global, expansion: &Expansion, targets: &Targets) -> Result<Graph
 
 /// The graph, where no node depends on itself.
 fn without_cycle(alloc: Global, graph: Graph) -> Result<Graph, ElabError>
-    ensures { Answers (λ g. (g ≡ graph) × NoCycle g) (CycleFault graph) result }
+    ensures { Answers NoMemory (λ g. (g ≡ graph) × NoCycle g) (CycleFault graph) result }
 {
     check_cycle(alloc, &graph)?;
     Ok(graph)
@@ -55,7 +57,7 @@ fn without_cycle(alloc: Global, graph: Graph) -> Result<Graph, ElabError>
 
 /// Refuses a graph in which a node depends on itself; the first of them is named.
 fn check_cycle(alloc: Global, graph: &Graph) -> Result<(), ElabError>
-    ensures { Answers (λ _. NoCycle graph.now) (CycleFault graph.now) result }
+    ensures { Answers NoMemory (λ _. NoCycle graph.now) (CycleFault graph.now) result }
 {
     match first_on_cycle(alloc, graph)? {
         None => Ok(()),

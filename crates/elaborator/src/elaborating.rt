@@ -1,12 +1,12 @@
 //! Elaboration of a description.
 
-ghost use Rattle.std.specs.Prelude.{◌≡◌, ◌≢◌, IfErr, IfOk, Some};
+ghost use Rattle.std.specs.Prelude.{◌≡◌, IfErr, IfOk, Some};
+ghost use Rattle.base.specs.Answers.{Answers, Refuses};
 ghost use Rattle.config_graph.specs.Sound.{Sound};
 ghost use Rattle.darwin_parser.specs.Tree.{tree_of};
 ghost use Rattle.darwin_types.specs.Checked.{description};
 ghost use Rattle.elaborator.specs.Instances.{top_instance};
 ghost use Rattle.elaborator.specs.Expansion.{instance_in};
-ghost use Rattle.elaborator.specs.Index.{Answers};
 ghost use Rattle.elaborator.specs.Growth.{IsTop};
 ghost use Rattle.elaborator.specs.Faults.{Faults, capped};
 ghost use Rattle.elaborator.specs.Elaboration.{HasNoFault, IsGraphOf};
@@ -39,7 +39,7 @@ pub fn elaborate(
     ensures no_fault { IfOk result (λ _. HasNoFault (description checked.now) top.now args.now) }
     ensures graph { IfOk result (λ g. IsGraphOf (description checked.now) top.now args.now g) }
     ensures sound { IfOk result (λ g. Sound g) }
-    ensures fault { IfErr result (λ f. f ≢ NoMemory → Faults (description checked.now) top.now args.now f) }
+    ensures fault { IfErr result (Refuses NoMemory (Faults (description checked.now) top.now args.now)) }
 {
     let unit = checked.unit();
     let directory = Directory::of(alloc, unit)?;
@@ -55,7 +55,7 @@ fn top_of<'a>(
     name: &[u8],
     args: &[i32],
 ) -> Result<Instance<'a>, ElabError>
-    ensures { Answers (λ i. IsTop (tree_of directory.now.unit.now) i × (top_instance (tree_of directory.now.unit.now) name.now args.now ≡ Some (instance_in i))) (Faults (tree_of directory.now.unit.now) name.now args.now) result }
+    ensures { Answers NoMemory (λ i. IsTop (tree_of directory.now.unit.now) i × (top_instance (tree_of directory.now.unit.now) name.now args.now ≡ Some (instance_in i))) (Faults (tree_of directory.now.unit.now) name.now args.now) result }
 {
     let Some(component) = directory.find(name) else {
         return Err(ElabError::NoTop(Text::from_bytes(alloc, name)?));

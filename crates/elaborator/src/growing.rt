@@ -1,17 +1,17 @@
 //! All instances of an elaboration: each is opened in turn, and the instances that it makes are added.
 
 ghost use Rattle.std.specs.Prelude.{◌≡◌, ◌<◌, ◌≤◌, ◌+◌, [], ◌∷◌, ◌++◌, length, slice_get, Some, IfOk, OnOk};
+ghost use Rattle.base.specs.Answers.{Answers};
 ghost use Rattle.darwin_parser.specs.Tree.{tree_of};
 ghost use Rattle.elaborator.specs.Paths.{Path};
 ghost use Rattle.elaborator.specs.Instances.{Instance as PureInstance};
 ghost use Rattle.elaborator.specs.Faults.{own_faults};
 ghost use Rattle.elaborator.specs.Expansion.{instance_in};
-ghost use Rattle.elaborator.specs.Index.{Answers};
 ghost use Rattle.elaborator.specs.Growth.{IsTop, IsWhole, GrowthFault};
 ghost use Rattle.elaborator.specs.Grown.{IsGrowth, IsMapped, IsExtended, IsInPathOrder, IsClash};
 ghost use Rattle.elaborator.specs.Opening.{IsFound};
 ghost use Rattle.elaborator.specs.declared.instance.Instance as shown;
-ghost use Rattle.elaborator.specs.declared.error.ElabError.TheVariants.{TwoInstances};
+ghost use Rattle.elaborator.specs.declared.error.ElabError.TheVariants.{NoMemory, TwoInstances};
 
 use crate::ElabError;
 use crate::directory::Directory;
@@ -41,7 +41,7 @@ pub(crate) fn expand<'a>(
     top: Instance<'a>,
 ) -> Result<Expansion<'a>, ElabError>
     requires { IsTop (tree_of directory.unit.now) top }
-    ensures { Answers (IsWhole directory.entry.unit.now top.entry) (GrowthFault (tree_of directory.entry.unit.now) (instance_in top.entry)) result }
+    ensures { Answers NoMemory (IsWhole directory.entry.unit.now top.entry) (GrowthFault (tree_of directory.entry.unit.now) (instance_in top.entry)) result }
 {
     let mut growth = top_alone(alloc, directory, top)?;
     while (growth.opened as usize) < growth.expansion.instances.len() {
@@ -80,7 +80,7 @@ impl<'a> Growth<'a> {
         requires within { self.old.opened < length self.old.expansion.instances.items }
         requires growth { (top : PureInstance) × IsGrowth top self.old }
         ensures { (top : PureInstance) → IsGrowth top self.old
-            → Answers (λ _. (self.new.expansion.directory.unit ≡ self.old.expansion.directory.unit) × (self.new.opened ≡ self.old.opened + 1) × IsGrowth top self.new)
+            → Answers NoMemory (λ _. (self.new.expansion.directory.unit ≡ self.old.expansion.directory.unit) × (self.new.opened ≡ self.old.opened + 1) × IsGrowth top self.new)
             (GrowthFault (tree_of self.old.expansion.directory.unit.now) top) result }
     {
         let found = self.find_next(alloc)?;
@@ -99,7 +99,7 @@ impl<'a> Growth<'a> {
         requires growth { (top : PureInstance) × IsGrowth top self.now }
         ensures { (top : PureInstance) (next : shown.Instance) → IsGrowth top self.now
             → slice_get self.now.expansion.instances.items self.now.opened ≡ Some next
-            → Answers (λ found. (next.depth < 33) × (own_faults (tree_of self.now.expansion.directory.unit.now) (instance_in next) ≡ [])
+            → Answers NoMemory (λ found. (next.depth < 33) × (own_faults (tree_of self.now.expansion.directory.unit.now) (instance_in next) ≡ [])
             × IsFound (tree_of self.now.expansion.directory.unit.now) (instance_in next) self.now.opened self.now.room found)
             (GrowthFault (tree_of self.now.expansion.directory.unit.now) top) result }
     {
@@ -129,7 +129,7 @@ impl<'a> Expansion<'a> {
     fn add_all(&mut self, alloc: Global, made: Vec<Instance<'a>>) -> Result<(), ElabError>
         requires mapped { IsMapped self.old }
         requires few { length self.old.instances.items + length made.items ≤ 65537 }
-        ensures { Answers (λ _. IsExtended self.old made.entry.items self.new)
+        ensures { Answers NoMemory (λ _. IsExtended self.old made.entry.items self.new)
             (λ f. (path : Path) × (f ≡ TwoInstances path) × IsClash (self.old.instances.items ++ made.entry.items) (length self.old.instances.items) path) result }
     {
         for instance in made {
@@ -142,7 +142,7 @@ impl<'a> Expansion<'a> {
     fn add(&mut self, alloc: Global, instance: Instance<'a>) -> Result<(), ElabError>
         requires mapped { IsMapped self.old }
         requires few { length self.old.instances.items < 65537 }
-        ensures { Answers (λ _. IsExtended self.old (instance.entry ∷ []) self.new)
+        ensures { Answers NoMemory (λ _. IsExtended self.old (instance.entry ∷ []) self.new)
             (λ f. (f ≡ TwoInstances instance.entry.path) × IsClash (self.old.instances.items ++ instance.entry ∷ []) (length self.old.instances.items) instance.entry.path) result }
     {
         let number = self.instances.len() as u32;

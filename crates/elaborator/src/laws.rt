@@ -8,17 +8,28 @@ ghost use Rattle.config_graph.specs.Sound.{Sound};
 ghost use Rattle.darwin_parser.specs.Tree.{Name, Tree};
 ghost use Rattle.darwin_types.specs.Faults.{NoFault};
 ghost use Rattle.elaborator.specs.Paths.{Path};
-ghost use Rattle.elaborator.specs.Instances.{Instance, Inst, instances, top_instance};
+ghost use Rattle.elaborator.specs.Instances.{Instance, Inst, instances, total, top_instance};
 ghost use Rattle.elaborator.specs.Bindings.{Port, Leads};
 ghost use Rattle.elaborator.specs.Graph.{Linked, IsRequirementAt, IsProvisionAt};
-ghost use Rattle.elaborator.specs.Faults.{Faults};
+ghost use Rattle.elaborator.specs.Faults.{Faults, Twice, CountsMore};
 ghost use Rattle.elaborator.specs.Elaboration.{HasNoFault, IsGraphOf};
 ghost use Rattle.elaborator.specs.declared.error.ElabError.{ElabError};
 ghost use Rattle.elaborator.specs.declared.error.ElabError.TheVariants.{BoundTwice, TwoInstances};
 
-/// The instances of an elaboration are those of its list, over which the count is a sum.
+/// The instances of an elaboration are those of its list.
 pub fn instances_are_those_of_the_list()
     ensures { (tree : Tree) (top i : Instance) → top.depth ≡ 0 → Inst tree top i ↔ Contains (instances tree top) i }
+{}
+
+/// Where no path is made twice, no instance stands twice in the list, and different instances count for more than a limit
+/// exactly where the sum over the list is above it.
+pub fn each_instance_is_counted_once()
+    ensures once { (tree : Tree) (name : Name) (arguments : List ℤ) (top : Instance) → top_instance tree name arguments ≡ Some top
+        → ((path : Path) → ¬ Faults tree name arguments (TwoInstances path))
+        → (i : Instance) → ¬ Twice (instances tree top) i }
+    ensures sum { (tree : Tree) (name : Name) (arguments : List ℤ) (top : Instance) → top_instance tree name arguments ≡ Some top
+        → ((path : Path) → ¬ Faults tree name arguments (TwoInstances path))
+        → (limit : ℕ) → CountsMore tree top limit ↔ limit < total tree top }
 {}
 
 /// Where no path is made twice, an instance that isn't the top is told by its path, with its component

@@ -1,6 +1,7 @@
 //! The bindings of all instances, as an index from sources to targets.
 
 ghost use Rattle.std.specs.Prelude.{◌≡◌, ℕ, ◌<◌, List, [], ◌∷◌, ◌++◌, length, slice_get, MatchOption, Some};
+ghost use Rattle.base.specs.Answers.{Answers};
 ghost use Rattle.darwin_parser.specs.Tree.{port_of};
 ghost use Rattle.darwin_walk.specs.Walked.{end_of, binding_of};
 ghost use Rattle.darwin_walk.specs.declared.fault.Fault.TheVariants as shown;
@@ -10,8 +11,8 @@ ghost use Rattle.elaborator.specs.Expanded.{Expanded, Numbered};
 ghost use Rattle.elaborator.specs.Expansion.{seen, IsKept};
 ghost use Rattle.elaborator.specs.Paths.{end_bytes};
 ghost use Rattle.elaborator.specs.Ports.{Names, named_of, bad_index, NotesDifferIn};
-ghost use Rattle.elaborator.specs.Index.{Answers, IsPair, FaultOf, IsLawful, AreLawful, IsIndex, IsIndexed, AreBefore, Clashes, BindingFault};
-ghost use Rattle.elaborator.specs.declared.error.ElabError.TheVariants.{BoundTwice, BadBinding, BadIndex, Annotation};
+ghost use Rattle.elaborator.specs.Index.{IsPair, FaultOf, IsLawful, AreLawful, IsIndex, IsIndexed, AreBefore, Clashes, BindingFault};
+ghost use Rattle.elaborator.specs.declared.error.ElabError.TheVariants.{NoMemory, BoundTwice, BadBinding, BadIndex, Annotation};
 
 use crate::ElabError;
 use crate::chains::{PortId, Targets};
@@ -32,7 +33,7 @@ pub struct Pair<'a> {
 /// Indexes the bindings of all instances.
 pub fn index_bindings(alloc: Global, expansion: &Expansion) -> Result<Targets, ElabError>
     requires { IsKept expansion.now }
-    ensures { Answers (λ targets. IsIndexed (seen expansion.now) targets) (BindingFault (seen expansion.now)) result }
+    ensures { Answers NoMemory (λ targets. IsIndexed (seen expansion.now) targets) (BindingFault (seen expansion.now)) result }
 {
     let mut targets = Targets::new(alloc);
     for number in 0..expansion.len() {
@@ -52,7 +53,7 @@ fn index_instance(
     requires kept { IsKept expansion.now }
     ensures { (i : Instance) (pairs : List PurePair) → Numbered (seen expansion.now) number i
         → IsIndex (seen expansion.now) pairs targets.old → AreBefore (seen expansion.now) number pairs
-        → Answers (λ _. IsIndex (seen expansion.now) (pairs ++ pairs_in (seen expansion.now).tree i) targets.new
+        → Answers NoMemory (λ _. IsIndex (seen expansion.now) (pairs ++ pairs_in (seen expansion.now).tree i) targets.new
         × AreLawful (seen expansion.now).tree i (bindings_in i)) (BindingFault (seen expansion.now)) result }
 {
     let instance = expansion.instance(number);
@@ -75,7 +76,7 @@ fn bind_pair(
     requires kept { IsKept expansion.now }
     ensures { (i : Instance) (p : PurePair) (pairs : List PurePair) → Numbered (seen expansion.now) number i
         → IsPair (seen expansion.now) pair.now p → IsIndex (seen expansion.now) pairs targets.old
-        → Answers (λ _. IsIndex (seen expansion.now) (pairs ++ p ∷ []) targets.new)
+        → Answers NoMemory (λ _. IsIndex (seen expansion.now) (pairs ++ p ∷ []) targets.new)
         (λ f. Clashes pairs p × (f ≡ BoundTwice i.path (end_bytes p.end))) result }
 {
     let Some(before) = targets.bind(pair.source, pair.target)? else {
@@ -99,7 +100,7 @@ fn pair_of_binding<'a>(
     requires within { number < length (seen expansion.now).made }
     requires kept { IsKept expansion.now }
     ensures { (i : Instance) → Numbered (seen expansion.now) number i
-        → Answers (λ x. (p : PurePair) × IsLawful (seen expansion.now).tree i (binding_of binding.now) p × IsPair (seen expansion.now) x p)
+        → Answers NoMemory (λ x. (p : PurePair) × IsLawful (seen expansion.now).tree i (binding_of binding.now) p × IsPair (seen expansion.now) x p)
         (FaultOf (seen expansion.now).tree i (binding_of binding.now)) result }
 {
     let Some(left) = find_named(alloc, expansion, number, binding.left)? else {
@@ -147,7 +148,7 @@ fn bad_binding<T>(expansion: &Expansion, number: u32, binding: &Binding) -> Resu
     requires within { number < length (seen expansion.now).made }
     requires kept { IsKept expansion.now }
     ensures { (i : Instance) → Numbered (seen expansion.now) number i
-        → Answers (λ _. ⊥) (λ f. f ≡ BadBinding i.path binding.now.at) result }
+        → Answers NoMemory (λ _. ⊥) (λ f. f ≡ BadBinding i.path binding.now.at) result }
 {
     let path = expansion.instance(number).path.try_clone()?;
     Err(ElabError::BadBinding(path, binding.at))
@@ -166,7 +167,7 @@ fn check_index(
     requires kept { IsKept expansion.now }
     ensures { (i j : Instance) → Numbered (seen expansion.now) number i → Numbered (seen expansion.now) port.now.id.instance j
         → slice_get j.component.ports port.now.id.port ≡ Some (port_of port.now.decl.now)
-        → Answers (λ _. bad_index binding.now.at (named_of j port.now) ≡ [])
+        → Answers NoMemory (λ _. bad_index binding.now.at (named_of j port.now) ≡ [])
         (λ f. (bad_index binding.now.at (named_of j port.now) ≡ shown.BadIndex binding.now.at ∷ []) × (f ≡ BadIndex i.path binding.now.at)) result }
 {
     if port.has_bad_index(alloc, expansion)? {
@@ -187,7 +188,7 @@ fn check_notes(
     requires within { number < length (seen expansion.now).made }
     requires kept { IsKept expansion.now }
     ensures { (i : Instance) → Numbered (seen expansion.now) number i
-        → Answers (λ _. ¬ NotesDifferIn (port_of left.now.decl.now) (port_of right.now.decl.now))
+        → Answers NoMemory (λ _. ¬ NotesDifferIn (port_of left.now.decl.now) (port_of right.now.decl.now))
         (λ f. NotesDifferIn (port_of left.now.decl.now) (port_of right.now.decl.now) × (f ≡ Annotation i.path binding.now.at)) result }
 {
     if left.differs_in_note(right) {

@@ -20,7 +20,8 @@ use Rattle.elaborator.specs.declared.error.ElabError.{ElabError}
 use Rattle.elaborator.specs.declared.error.ElabError.TheVariants as error
 use Rattle.darwin_types.proofs.Lists.{Contains-flat_map, Contains-from_flat_map}
 use Rattle.elaborator.proofs.Lists.{Contains-from_filter_map, made_of_two, find-some}
-use Rattle.elaborator.proofs.LawLemmas.{told-by_path}
+use Rattle.elaborator.proofs.LawLemmas.{told-by_path, single-if_none, top_depth}
+use Rattle.elaborator.proofs.CountLemmas.{counted-within, counted-all}
 use Rattle.order_laws.proofs.Finding.{Both, neither, both_there}
 use Rattle.order_laws.proofs.Children.{Alike, AlikeTrees, alike_trees-sym, is_primitive-same, SameBound}
 use Rattle.order_laws.proofs.Instances.{SameInstance, same_instance-sym, top_of, may_be_top, top-missing, top-unfit, top-there, top-like, made_by, inst-like, paths_in-same, total-same}
@@ -204,7 +205,10 @@ no_fault_back t u name arguments trees lawful _ (too_deep top' i' is inst deep) 
     lawful _ (too_deep s.0 i.0 s.1 i.1 (i.2.depth ∙ deep))
 no_fault_back t u name arguments trees lawful _ (too_many top' is many) =
     let s = settled t u name arguments trees lawful top' is in
-    lawful _ (too_many s.0 s.1 (subst (λ n. 65536 < n) (sym (total-same t u trees s.0 top' s.2.tops)) many))
+    let above = counted-within u top' 65536 (top_depth u name arguments top' is) many in
+    lawful _ (too_many s.0 s.1
+    (counted-all t s.0 65536 (single-if_none t name arguments s.0 s.1 (λ path. lawful (error.TwoInstances path))) (top_depth t name arguments s.0 s.1)
+    (subst (λ n. 65536 < n) (sym (total-same t u trees s.0 top' s.2.tops)) above)))
 no_fault_back t u name arguments trees lawful _ (depends_cycle top' g k n is elab first at) =
     let s = settled t u name arguments trees lawful top' is in
     lawful _ (depends_cycle s.0 g k n s.1 (elab-back t u s.0 top' s.2 g elab) first at)

@@ -1,11 +1,11 @@
 -- An element that stands twice in a list stands twice in each reordering of it.
 use Rattle.std.proofs.Common.{◌≡◌, ◌∙◌, ◌⊎◌, inl, inr, ℕ, zero, suc, ◌<◌, List, ◌∷◌, Some, refl, sym, subst, arith}
-use Rattle.std.specs.List.{Contains, slice_get}
-use Rattle.std.proofs.lemmas.Option.{same_Some}
+use Rattle.std.specs.List.{Contains}
 use Rattle.elaborator.specs.Faults.{Twice}
 use Rattle.darwin_types.proofs.Lists.{Contains-here, Contains-there, Contains-cons_cases}
-use Rattle.elaborator.proofs.Places.{twice_there, twice_at, twice_places}
-use Rattle.elaborator.proofs.WholeLemmas.{at_some_place, Contains-at}
+use Rattle.elaborator.proofs.Places.{twice_there, twice_at}
+use Rattle.elaborator.proofs.LawLemmas.{twice_cases}
+use Rattle.elaborator.proofs.WholeLemmas.{at_some_place}
 use Rattle.order_laws.specs.Reordering.{Reordered, no_elements, kept, swapped, through}
 use Rattle.order_laws.proofs.Reorders.{like_in}
 
@@ -18,14 +18,6 @@ twice_first : {A : Type 0} (x : A) (xs : List A) (z : A) → x ≡ z → Contain
 twice_first x xs z is there =
     let at = at_some_place xs z there in
     subst (λ v. Twice (v ∷ xs) z) (sym is) (twice_at (z ∷ xs) 0 (suc at.0) z (omega arith) refl at.1)
-
-twice_cases : {A : Type 0} (x : A) (xs : List A) (z : A) → Twice (x ∷ xs) z → ((x ≡ z) × Contains xs z) ⊎ Twice xs z
-twice_cases x xs z two = let w = twice_places (x ∷ xs) z two in by w.0 w.1 w.2 w.3 w.4
-  where
-    by : (a b : ℕ) → a < b → slice_get (x ∷ xs) a ≡ Some z → slice_get (x ∷ xs) b ≡ Some z → ((x ≡ z) × Contains xs z) ⊎ Twice xs z
-    by a zero below at at' = absurd (omega arith)
-    by zero (suc b) below at at' = inl (same_Some x z at, Contains-at xs b z at')
-    by (suc a) (suc b) below at at' = inr (twice_at xs a b z (omega arith) at at')
 
 pub twice-same : {A : Type 0} (xs ys : List A) (z : A) → Reordered ◌≡◌ xs ys → Twice xs z → Twice ys z
 twice-same _ _ z no_elements two = two

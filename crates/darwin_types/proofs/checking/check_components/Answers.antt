@@ -1,17 +1,19 @@
 use Rattle.std.proofs.Common.{ap, ◌∙◌, ◌++◌, length, drop, ◌+◌, arith}
 use Rattle.std.specs.List.{flat_map}
 use Rattle.std.proofs.lemmas.List.{length-map}
-use Rattle.std.proofs.lemmas.Result.{err_from_is_err_and}
+use Rattle.std.proofs.lemmas.List.Elements.{Contains-append_left, Contains-append_right}
+use Rattle.std.specs.List.{Contains}
+use Rattle.base.proofs.AnswerLaws.{Answers-exit}
+use Rattle.darwin_types.proofs.Lists.{Contains-from}
 use Rattle.darwin_parser.specs.Tree.{component_of}
 use Rattle.darwin_types.specs.Check.{components_of, component_faults, directory_faults, names_in_component}
 use Rattle.darwin_types.proofs.Components.{ports_at}
-use Rattle.darwin_types.proofs.Judged.{Judges_exit, Refuses-left, Refuses-right, Refuses-at, flat_map-drop, flat_map-done, none-append}
+use Rattle.darwin_types.proofs.Judged.{flat_map-drop, flat_map-done, none-append}
 use Rattle.darwin_types.proofs.checking.check_components.Goals as goal
 
 pub returns-in_err-directory : goal.returns-in_err-directory
 returns-in_err-directory c =
-    let p = err_from_is_err_and c.from_residual.result c.from_residual.ensures.1 in
-    Judges_exit _ _ p.0 _ p.1 p.2 (Refuses-left _ _ _ c.in_err-directory.ensures.judged)
+    Answers-exit _ _ c.from_residual.ensures.1 (Contains-append_left _ _) c.in_err-directory.ensures.judged
 
 pub check_component-requires : goal.check_component-requires
 check_component-requires c =
@@ -25,12 +27,9 @@ index-requires c =
 
 pub returns-in_err-check_component : goal.returns-in_err-check_component
 returns-in_err-check_component c =
-    let r = c.from_residual-in_err-check_component in
-    let p = err_from_is_err_and r.result r.ensures.1 in
     let cs = c.args.components.now in
     let t = components_of cs in
-    let e = c.in_err-check_component.field-0.0 in
-    Judges_exit _ _ p.0 _ p.1 p.2 (Refuses-right (directory_faults t) (flat_map (component_faults t) t) e (Refuses-at (component_faults t) component_of cs c.loop-index.index c.index-components-index.result _ e c.loop-index-test.true c.index-components-index.is c.loop-index.invariant (rw c.in_ok-directory.ensures.components at c.in_err-check_component.ensures)))
+    Answers-exit {Cause = Contains _} _ _ c.from_residual-in_err-check_component.ensures.1 (λ f has. Contains-append_right (directory_faults t) (flat_map (component_faults t) t) f (Contains-from (component_faults t) component_of cs c.loop-index.index c.index-components-index.result _ c.loop-index-test.true c.index-components-index.is c.loop-index.invariant f has)) (rw c.in_ok-directory.ensures.components at c.in_err-check_component.ensures)
 
 pub loop-index-preserved : goal.loop-index-preserved
 loop-index-preserved c =

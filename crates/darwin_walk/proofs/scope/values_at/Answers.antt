@@ -2,6 +2,7 @@ use Rattle.std.proofs.Common.{◌≡◌, ◌<◌, ℕ, List, length, get_or, dro
 use Rattle.std.proofs.Math.Seq.{drop-cons}
 use Rattle.std.specs.List.{flat_map}
 use Rattle.std.proofs.lemmas.List.Elements.{Contains-append_left}
+use Rattle.base.proofs.AnswerLaws.{Answers-exit}
 use Rattle.darwin_lexer.specs.declared.token.At.{At}
 use Rattle.darwin_parser.specs.Tree.{expr_of}
 use Rattle.darwin_parser.specs.declared.tree.Expr as code_expr
@@ -9,7 +10,7 @@ use Rattle.darwin_walk.specs.Value.{Env, value}
 use Rattle.darwin_walk.specs.Instance.{values, value_fault}
 use Rattle.darwin_walk.specs.Scope.{exprs_of}
 use Rattle.darwin_walk.specs.declared.fault.Fault.{Fault}
-use Rattle.darwin_walk.proofs.TellsLemmas.{Stops-within, Tells-exit}
+use Rattle.darwin_walk.proofs.CauseLemmas.{fault-grow}
 use Rattle.darwin_walk.proofs.scope.values_at.Goals as goal
 
 -- a fault of the expression at an index is one of those from there on
@@ -22,6 +23,6 @@ fault_from at env xs i x f below is has =
 
 pub returns-in_err-value_at : goal.returns-in_err-value_at
 returns-in_err-value_at c =
-    Tells-exit _ _ _ _ _ c.from_residual.ensures.1
-    (Stops-within _ _ _ ⊥ _ c.in_err-value_at.field-0.0 c.in_err-value_at.ensures c.loop-expr.invariant.no_faults
-    (λ f. fault_from _ _ _ _ _ f c.loop-expr-test.true c.expr-item.is) (λ h. h))
+    Answers-exit _ _ c.from_residual.ensures.1
+    (fault-grow _ _ _ (λ f has. rw c.loop-expr.invariant.no_faults (fault_from _ _ _ _ _ f c.loop-expr-test.true c.expr-item.is has)))
+    c.in_err-value_at.ensures

@@ -1,15 +1,13 @@
 use Rattle.elaborator.specs.Expansion.{seen}
-use Rattle.elaborator.specs.Index.{BindingFault}
-use Rattle.elaborator.specs.Built.{BuildFault}
 use Rattle.elaborator.specs.Built.BuildFault.{in_bindings}
-use Rattle.elaborator.proofs.AnswerLemmas.{passed_on}
+use Rattle.base.proofs.AnswerLaws.{Answers-exit}
 use Rattle.elaborator.proofs.BuildLemmas.{built}
 use Rattle.elaborator.proofs.building.build_graph.Goals as goal
 
 pub returns-in_err-targets : goal.returns-in_err-targets
 returns-in_err-targets c = λ top is_of.
     let e = seen c.args.expansion.now in
-    passed_on _ (BindingFault e) (BuildFault e top) _ c.from_residual.result c.from_residual.ensures.1 c.in_err-targets.ensures (λ f fault. in_bindings f fault)
+    Answers-exit _ _ c.from_residual.ensures.1 (λ f fault. in_bindings f fault) c.in_err-targets.ensures
 
 pub returns : goal.returns
 returns c = λ top is_of.

@@ -6,8 +6,8 @@ use Rattle.elaborator.specs.Faults.{Faults}
 use Rattle.elaborator.specs.Growth.{GrowthFault}
 use Rattle.elaborator.specs.Elaboration.{HasNoFault}
 use Rattle.elaborator.specs.declared.error.ElabError.TheVariants.{NoMemory}
-use Rattle.elaborator.proofs.AnswerLemmas.{passed_on}
-use Rattle.elaborator.proofs.ElaborationLemmas.{growth_fault, answer-no_fault, answer-fault, cause_of}
+use Rattle.base.proofs.AnswerLaws.{Answers-exit}
+use Rattle.elaborator.proofs.ElaborationLemmas.{growth_fault, answer-no_fault, answer-fault}
 use Rattle.elaborator.proofs.SoundLemmas.{answer-sound}
 use Rattle.elaborator.proofs.elaborating.elaborate.Goals as goal
 
@@ -19,7 +19,7 @@ returns-in_err-expansion-clause-fault c =
     let top = instance_in c.in_ok-instance.instance in
     let r = c.from_residual-in_err-expansion.result in
     let is_top = c.in_ok-instance.ensures.1 in
-    subst (λ t. IfErr r (λ f. f ≢ NoMemory → Faults t name arguments f)) (ap (λ u. tree_of u.now) c.in_ok-directory.ensures ∙ c.unit-unit.ensures.unit) (cause_of (λ _. ⊥) (Faults tree name arguments) r (passed_on (λ _. ⊥) (GrowthFault tree top) (Faults tree name arguments) _ r c.from_residual-in_err-expansion.ensures.1 c.in_err-expansion.ensures (growth_fault tree name arguments top is_top)))
+    subst (λ t. IfErr r (λ f. f ≢ NoMemory → Faults t name arguments f)) (ap (λ u. tree_of u.now) c.in_ok-directory.ensures ∙ c.unit-unit.ensures.unit) (Answers-exit _ _ c.from_residual-in_err-expansion.ensures.1 (growth_fault tree name arguments top is_top) c.in_err-expansion.ensures)
 
 pub returns-clause-no_fault : goal.returns-clause-no_fault
 returns-clause-no_fault c =

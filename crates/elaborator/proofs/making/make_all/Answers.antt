@@ -7,8 +7,9 @@ use Rattle.elaborator.specs.Instances.{instance_of}
 use Rattle.elaborator.specs.Faults.{kind_faults}
 use Rattle.elaborator.specs.Expansion.{instance_in}
 use Rattle.elaborator.specs.Opening.{IsNoted}
-use Rattle.darwin_walk.proofs.TellsLemmas.{Contains-from}
-use Rattle.elaborator.proofs.JudgesLemmas.{NamesFault-grow, Judges-exit}
+use Rattle.base.proofs.AnswerLaws.{Answers-exit}
+use Rattle.darwin_types.proofs.Lists.{Contains-from}
+use Rattle.elaborator.proofs.CauseLemmas.{fault-grow}
 use Rattle.elaborator.proofs.MakingLemmas.{instances-push, instances-skip, faults-next, next, noted-push}
 use Rattle.elaborator.proofs.making.make_all.Goals as goal
 use Rattle.elaborator.proofs.making.make_all.Goals.{in-Some+in_ok-push, in_default}
@@ -16,9 +17,9 @@ use Rattle.elaborator.proofs.making.make_all.Goals.{in-Some+in_ok-push, in_defau
 pub returns-in_err-instance : goal.returns-in_err-instance
 returns-in_err-instance c =
     let tree = tree_of c.args.directory.now.unit.now in
-    Judges-exit _ _ _ _ _ _ c.from_residual.ensures.1
-    (NamesFault-grow _ _ _ ⊥ _ c.in_err-instance.field-0.0 c.in_err-instance.ensures
-    (λ f has. rw c.loop-child.invariant.no_faults (Contains-from (kind_faults tree) child_of _ _ _ f c.loop-child-test.true c.child-item.is has)) (λ h. h))
+    Answers-exit _ _ c.from_residual.ensures.1
+    (fault-grow _ _ _ _ (Contains-from (kind_faults tree) child_of _ _ _ _ c.loop-child-test.true c.child-item.is c.loop-child.invariant.no_faults))
+    c.in_err-instance.ensures
 
 pub loop-child-preserved : goal.loop-child-preserved
 loop-child-preserved c =

@@ -1,4 +1,4 @@
-use Rattle.elaborator.proofs.JudgesLemmas.{refused}
+use Rattle.elaborator.proofs.CauseLemmas.{refused}
 use Rattle.elaborator.proofs.opening.walk_in.Goals as goal
 
 pub returns-in-Err : goal.returns-in-Err

@@ -6,8 +6,8 @@ use Rattle.elaborator.specs.Instances.{Instance}
 use Rattle.elaborator.specs.Bindings.{pairs_in, bindings_in}
 use Rattle.elaborator.specs.Expanded.{Made, Numbered}
 use Rattle.elaborator.specs.Expansion.{seen}
-use Rattle.elaborator.specs.Index.{IsIndex, AreLawful, BindingFault}
-use Rattle.elaborator.proofs.AnswerLemmas.{passed_on}
+use Rattle.elaborator.specs.Index.{IsIndex, AreLawful}
+use Rattle.base.proofs.AnswerLaws.{Answers-exit}
 use Rattle.elaborator.proofs.PortLemmas.{instance_numbered, numbered_within}
 use Rattle.elaborator.proofs.IndexLemmas.{same_numbered}
 use Rattle.elaborator.proofs.WholeLemmas.{instances_of, first_before, instances-more, whole_index}
@@ -19,7 +19,7 @@ returns-in_err-index_instance c =
     let n = c.loop-number.number in
     let below : n < length e.made = omega (arith, c.len-number-end.ensures, c.loop-number-test.true) in
     let here = instance_numbered e n below in
-    passed_on _ _ (BindingFault e) _ c.from_residual.result c.from_residual.ensures.1 (c.in_err-index_instance.ensures here.0 (flat_map (pairs_in e.tree) (take n (instances_of e))) here.1 c.loop-number.invariant.indexed (first_before e n (omega arith))) (λ f cause. cause)
+    Answers-exit _ _ c.from_residual.ensures.1 (λ f cause. cause) (c.in_err-index_instance.ensures here.0 (flat_map (pairs_in e.tree) (take n (instances_of e))) here.1 c.loop-number.invariant.indexed (first_before e n (omega arith)))
 
 pub loop-number-preserved : goal.loop-number-preserved
 loop-number-preserved c =

@@ -7,7 +7,7 @@ use Rattle.elaborator.specs.Expansion.{seen}
 use Rattle.elaborator.specs.Index.{IsIndex, AreLawful}
 use Rattle.elaborator.specs.Index.BindingFault.{of_binding}
 use Rattle.darwin_types.proofs.Lists.{Contains-here, Contains-flat_map}
-use Rattle.elaborator.proofs.AnswerLemmas.{passed_on}
+use Rattle.base.proofs.AnswerLaws.{Answers-exit}
 use Rattle.elaborator.proofs.PortLemmas.{same_instance}
 use Rattle.elaborator.proofs.InstanceLemmas.{map-take_more, front, next_there, pairs-more, lawful-more, twice}
 use Rattle.elaborator.proofs.pairs.index_instance.Goals as goal
@@ -18,7 +18,7 @@ returns-in_err-pair c = λ i pairs at index before.
     let same = same_instance c.args.expansion.now c.args.number c.instance-instance.result.now i c.instance-instance.ensures.made at in
     let all = ap (map binding_of) c.deref-binding-items.ensures.value ∙ c.instance-instance.ensures.bindings ∙ ap bindings_in (sym same) in
     let there = subst (λ bs. Contains bs (binding_of c.binding-item.result)) all (next_there binding_of items c.loop-binding.binding-index c.binding-item.result c.loop-binding-test.true c.binding-item.is) in
-    passed_on _ _ _ _ c.from_residual.result c.from_residual.ensures.1 (c.in_err-pair.ensures i at) (λ f is. of_binding c.args.number i (binding_of c.binding-item.result) f at there is)
+    Answers-exit _ _ c.from_residual.ensures.1 (λ f is. of_binding c.args.number i (binding_of c.binding-item.result) f at there is) (c.in_err-pair.ensures i at)
 
 pub returns-in_err-bind_pair : goal.returns-in_err-bind_pair
 returns-in_err-bind_pair c = λ i pairs at index before.
@@ -32,7 +32,7 @@ returns-in_err-bind_pair c = λ i pairs at index before.
     let w = c.in_ok-pair.ensures i at in
     let pair_there = Contains-flat_map (pair_of e.tree i) (bindings_in i) b w.0 there (subst (λ ps. Contains ps w.0) (sym w.1.is_pair) (Contains-here w.0 [])) in
     let so_far = map binding_of (take k items) in
-    passed_on _ _ _ _ c.from_residual-in_err-bind_pair.result c.from_residual-in_err-bind_pair.ensures.1 (c.in_err-bind_pair.ensures i w.0 (pairs ++ flat_map (pair_of e.tree i) so_far) at w.2 (c.loop-binding.invariant i pairs at index).0) (λ f clash. twice e c.requires.kept.is_expanded c.args.number i pairs so_far (map binding_of (drop k items)) w.0 f at before (sym all ∙ front binding_of items k) pair_there clash)
+    Answers-exit _ _ c.from_residual-in_err-bind_pair.ensures.1 (λ f clash. twice e c.requires.kept.is_expanded c.args.number i pairs so_far (map binding_of (drop k items)) w.0 f at before (sym all ∙ front binding_of items k) pair_there clash) (c.in_err-bind_pair.ensures i w.0 (pairs ++ flat_map (pair_of e.tree i) so_far) at w.2 (c.loop-binding.invariant i pairs at index).0)
 
 pub loop-binding-preserved : goal.loop-binding-preserved
 loop-binding-preserved c = λ i pairs at index.

@@ -1,7 +1,7 @@
 use Rattle.darwin_walk.specs.Walked.{binding_of}
 use Rattle.elaborator.specs.Expansion.{seen}
 use Rattle.elaborator.specs.Ports.{named_of}
-use Rattle.elaborator.proofs.AnswerLemmas.{always_refused, passed_on}
+use Rattle.base.proofs.AnswerLaws.{Answers-exit, Answers-weaker}
 use Rattle.elaborator.proofs.PortLemmas.{instance_numbered, stands_numbered, numbered_within}
 use Rattle.elaborator.proofs.PairLemmas.{pair-no_left, pair-no_right, fault_of_form, fault_of_left_index, fault_of_right_index, fault_of_notes, lawful}
 use Rattle.elaborator.proofs.pairs.pair_of_binding.Goals as goal
@@ -11,7 +11,7 @@ returns-in_default c = λ i at.
     let tree = (seen c.args.expansion.now).tree in
     let b = binding_of c.args.binding.now in
     let left = rw c.in_default.is at (c.in_ok-left.ensures i at) in
-    always_refused _ _ _ c.bad_binding.result (c.bad_binding.ensures i at) (fault_of_form tree i b (pair-no_left tree i b left))
+    Answers-weaker _ c.bad_binding.result (λ _ none. absurd none) (fault_of_form tree i b (pair-no_left tree i b left)) (c.bad_binding.ensures i at)
 
 pub returns-in_default-2 : goal.returns-in_default-2
 returns-in_default-2 c = λ i at.
@@ -19,7 +19,7 @@ returns-in_default-2 c = λ i at.
     let b = binding_of c.args.binding.now in
     let left = rw c.in-Some.is at (c.in_ok-left.ensures i at) in
     let right = rw c.in_default-2.is at (c.in_ok-right.ensures i at) in
-    always_refused _ _ _ c.bad_binding-in_default-2.result (c.bad_binding-in_default-2.ensures i at) (fault_of_form tree i b (pair-no_right tree i b (named_of left.0 c.in-Some.left) left.1 right))
+    Answers-weaker _ c.bad_binding-in_default-2.result (λ _ none. absurd none) (fault_of_form tree i b (pair-no_right tree i b (named_of left.0 c.in-Some.left) left.1 right)) (c.bad_binding-in_default-2.ensures i at)
 
 pub returns-in_default-pair_of_ports : goal.returns-in_default-pair_of_ports
 returns-in_default-pair_of_ports c = λ i at.
@@ -27,7 +27,7 @@ returns-in_default-pair_of_ports c = λ i at.
     let b = binding_of c.args.binding.now in
     let left = rw c.in-Some.is at (c.in_ok-left.ensures i at) in
     let right = rw c.in-Some-2.is at (c.in_ok-right.ensures i at) in
-    always_refused _ _ _ c.bad_binding-in_default-pair_of_ports.result (c.bad_binding-in_default-pair_of_ports.ensures i at) (fault_of_form e.tree i b (c.in_default-pair_of_ports.ensures e c.args.number i left right))
+    Answers-weaker _ c.bad_binding-in_default-pair_of_ports.result (λ _ none. absurd none) (fault_of_form e.tree i b (c.in_default-pair_of_ports.ensures e c.args.number i left right)) (c.bad_binding-in_default-pair_of_ports.ensures i at)
 
 pub check_index-requires-clause-port_within : goal.check_index-requires-clause-port_within
 check_index-requires-clause-port_within c =
@@ -42,7 +42,7 @@ returns-in_err-check_index c = λ i at.
     let b = binding_of c.args.binding.now in
     let left = rw c.in-Some.is at (c.in_ok-left.ensures i at) in
     let stands = stands_numbered e c.args.number c.in-Some.left.is_inner _ left.0 left.2.stands in
-    passed_on _ _ _ _ c.from_residual-in_err-check_index.result c.from_residual-in_err-check_index.ensures.1 (c.in_err-check_index.ensures i left.0 at stands left.2.declared) (fault_of_left_index e.tree i b (named_of left.0 c.in-Some.left) left.1)
+    Answers-exit _ _ c.from_residual-in_err-check_index.ensures.1 (fault_of_left_index e.tree i b (named_of left.0 c.in-Some.left) left.1) (c.in_err-check_index.ensures i left.0 at stands left.2.declared)
 
 pub check_index-requires-2-clause-port_within : goal.check_index-requires-2-clause-port_within
 check_index-requires-2-clause-port_within c =
@@ -57,7 +57,7 @@ returns-in_err-check_index-2 c = λ i at.
     let b = binding_of c.args.binding.now in
     let right = rw c.in-Some-2.is at (c.in_ok-right.ensures i at) in
     let stands = stands_numbered e c.args.number c.in-Some-2.right.is_inner _ right.0 right.2.stands in
-    passed_on _ _ _ _ c.from_residual-in_err-check_index-2.result c.from_residual-in_err-check_index-2.ensures.1 (c.in_err-check_index-2.ensures i right.0 at stands right.2.declared) (fault_of_right_index e.tree i b (named_of right.0 c.in-Some-2.right) right.1)
+    Answers-exit _ _ c.from_residual-in_err-check_index-2.ensures.1 (fault_of_right_index e.tree i b (named_of right.0 c.in-Some-2.right) right.1) (c.in_err-check_index-2.ensures i right.0 at stands right.2.declared)
 
 pub returns-in_err-check_notes : goal.returns-in_err-check_notes
 returns-in_err-check_notes c = λ i at.
@@ -65,7 +65,7 @@ returns-in_err-check_notes c = λ i at.
     let b = binding_of c.args.binding.now in
     let left = rw c.in-Some.is at (c.in_ok-left.ensures i at) in
     let right = rw c.in-Some-2.is at (c.in_ok-right.ensures i at) in
-    passed_on _ _ _ _ c.from_residual-in_err-check_notes.result c.from_residual-in_err-check_notes.ensures.1 (c.in_err-check_notes.ensures i at) (fault_of_notes e.tree i b (named_of left.0 c.in-Some.left) (named_of right.0 c.in-Some-2.right) left.1 right.1)
+    Answers-exit _ _ c.from_residual-in_err-check_notes.ensures.1 (fault_of_notes e.tree i b (named_of left.0 c.in-Some.left) (named_of right.0 c.in-Some-2.right) left.1 right.1) (c.in_err-check_notes.ensures i at)
 
 pub returns : goal.returns
 returns c = λ i at.

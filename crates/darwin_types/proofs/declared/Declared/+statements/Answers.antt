@@ -1,24 +1,24 @@
 use Rattle.std.proofs.Common.{sym, subst, ap, ◌∙◌, ◌++◌, take, drop, length, ◌-◌, ◌+◌}
 use Rattle.std.proofs.lemmas.List.{drop_all}
-use Rattle.std.proofs.lemmas.Result.{err_from_is_err_and}
+use Rattle.std.proofs.lemmas.List.Elements.{Contains-append_left, Contains-append_right}
+use Rattle.std.specs.List.{Contains}
+use Rattle.base.proofs.AnswerLaws.{Answers-exit}
 use Rattle.darwin_parser.specs.Tree.{expr_of, stmt_of, stmts_of}
 use Rattle.darwin_types.specs.Places.{stmt_places, body_places}
-use Rattle.darwin_types.specs.Check.{Judges, Refuses, value_faults, places_faults}
+use Rattle.darwin_types.specs.Check.{Judges, value_faults, places_faults}
 use Rattle.darwin_types.specs.Within.{tree_in, component_in}
 use Rattle.darwin_types.proofs.Bodies.{stmt_of_forall, stmt_of_when}
 use Rattle.darwin_types.proofs.Lists.{take_pushed}
 use Rattle.darwin_types.proofs.PlaceFaults.{body_faults-drop}
-use Rattle.darwin_types.proofs.Judged.{Judges_exit, Judges_after, Refuses-left, Refuses-right, none-append}
+use Rattle.darwin_types.proofs.Judged.{Judges_after, none-append}
 use Rattle.darwin_types.proofs.declared.Declared.+statements.Goals as goal
 
 pub check_body-returns-in_err-check_stmt-clause-judged : goal.check_body-returns-in_err-check_stmt-clause-judged
 check_body-returns-in_err-check_stmt-clause-judged t c =
-    let p = err_from_is_err_and c.from_residual.result c.from_residual.ensures.1 in
     let tree = tree_in c.args.self.now in
     let k = component_in c.args.self.now in
-    let e = c.in_err-check_stmt.field-0.0 in
     let rest = c.loop-stmt.invariant.rest ∙ body_faults-drop tree k c.args.scope.now c.args.body.now c.loop-stmt.stmt-index c.stmt-item.result c.loop-stmt-test.true c.stmt-item.is in
-    Judges_exit _ _ p.0 _ p.1 p.2 (subst (λ fs. Refuses fs e) (sym rest) (Refuses-left _ _ e (rw c.loop-stmt.invariant.scope_kept at c.in_err-check_stmt.ensures.judged)))
+    Answers-exit {Cause = Contains _} _ _ c.from_residual.ensures.1 (λ f has. subst (λ fs. Contains fs f) (sym rest) (Contains-append_left _ _ f has)) (rw c.loop-stmt.invariant.scope_kept at c.in_err-check_stmt.ensures.judged)
 
 pub check_body-loop-stmt-preserved : goal.check_body-loop-stmt-preserved
 check_body-loop-stmt-preserved t c =
@@ -41,25 +41,20 @@ check_body-returns-clause-judged t c =
 
 pub check_stmt-returns-in_err-check_value-in-Forall-clause-judged : goal.check_stmt-returns-in_err-check_value-in-Forall-clause-judged
 check_stmt-returns-in_err-check_value-in-Forall-clause-judged t c =
-    let p = err_from_is_err_and c.from_residual.result c.from_residual.ensures.1 in
     let tree = tree_in c.args.self.now in
     let k = component_in c.args.self.now in
     let w = c.in-Forall in
-    let e = c.in_err-check_value-in-Forall.field-0.0 in
     let is = ap stmt_of w.is ∙ stmt_of_forall w.var w.low w.high w.body w.at in
-    Judges_exit _ _ p.0 _ p.1 p.2 (subst (λ v. Refuses (places_faults tree k (stmt_places c.args.scope.now v)) e) (sym is) (Refuses-left _ _ e c.in_err-check_value-in-Forall.ensures))
+    Answers-exit {Cause = Contains _} _ _ c.from_residual.ensures.1 (λ f has. subst (λ v. Contains (places_faults tree k (stmt_places c.args.scope.now v)) f) (sym is) (Contains-append_left _ _ f has)) c.in_err-check_value-in-Forall.ensures
 
 pub check_stmt-returns-in_err-check_value-in-Forall-2-clause-judged : goal.check_stmt-returns-in_err-check_value-in-Forall-2-clause-judged
 check_stmt-returns-in_err-check_value-in-Forall-2-clause-judged t c =
-    let r = c.from_residual-in_err-check_value-in-Forall-2 in
-    let p = err_from_is_err_and r.result r.ensures.1 in
     let tree = tree_in c.args.self.now in
     let k = component_in c.args.self.now in
     let w = c.in-Forall in
-    let e = c.in_err-check_value-in-Forall-2.field-0.0 in
     let is = ap stmt_of w.is ∙ stmt_of_forall w.var w.low w.high w.body w.at in
     let low = value_faults k c.args.scope.now (expr_of w.low) in
-    Judges_exit _ _ p.0 _ p.1 p.2 (subst (λ v. Refuses (places_faults tree k (stmt_places c.args.scope.now v)) e) (sym is) (Refuses-right low _ e (Refuses-left _ _ e c.in_err-check_value-in-Forall-2.ensures)))
+    Answers-exit {Cause = Contains _} _ _ c.from_residual-in_err-check_value-in-Forall-2.ensures.1 (λ f has. subst (λ v. Contains (places_faults tree k (stmt_places c.args.scope.now v)) f) (sym is) (Contains-append_right low _ f (Contains-append_left _ _ f has))) c.in_err-check_value-in-Forall-2.ensures
 
 pub check_stmt-returns-in_ok-check_value-in-Forall-2-clause-judged : goal.check_stmt-returns-in_ok-check_value-in-Forall-2-clause-judged
 check_stmt-returns-in_ok-check_value-in-Forall-2-clause-judged t c =
@@ -74,14 +69,11 @@ check_stmt-returns-in_ok-check_value-in-Forall-2-clause-judged t c =
 
 pub check_stmt-returns-in_err-check_value-in-When-clause-judged : goal.check_stmt-returns-in_err-check_value-in-When-clause-judged
 check_stmt-returns-in_err-check_value-in-When-clause-judged t c =
-    let r = c.from_residual-in_err-check_value-in-When in
-    let p = err_from_is_err_and r.result r.ensures.1 in
     let tree = tree_in c.args.self.now in
     let k = component_in c.args.self.now in
     let w = c.in-When in
-    let e = c.in_err-check_value-in-When.field-0.0 in
     let is = ap stmt_of w.is ∙ stmt_of_when w.test w.body w.at in
-    Judges_exit _ _ p.0 _ p.1 p.2 (subst (λ v. Refuses (places_faults tree k (stmt_places c.args.scope.now v)) e) (sym is) (Refuses-left _ _ e c.in_err-check_value-in-When.ensures))
+    Answers-exit {Cause = Contains _} _ _ c.from_residual-in_err-check_value-in-When.ensures.1 (λ f has. subst (λ v. Contains (places_faults tree k (stmt_places c.args.scope.now v)) f) (sym is) (Contains-append_left _ _ f has)) c.in_err-check_value-in-When.ensures
 
 pub check_stmt-returns-in_ok-check_value-in-When-clause-judged : goal.check_stmt-returns-in_ok-check_value-in-When-clause-judged
 check_stmt-returns-in_ok-check_value-in-When-clause-judged t c =
@@ -105,14 +97,11 @@ check_stmt-returns-in-Bind-clause-judged t c =
 
 pub check_turns-returns-in_err-enter-clause-judged : goal.check_turns-returns-in_err-enter-clause-judged
 check_turns-returns-in_err-enter-clause-judged t c =
-    let p = err_from_is_err_and c.from_residual.result c.from_residual.ensures.1 in
-    Judges_exit _ _ p.0 _ p.1 p.2 (Refuses-left _ _ _ c.in_err-enter.ensures.judged)
+    Answers-exit _ _ c.from_residual.ensures.1 (Contains-append_left _ _) c.in_err-enter.ensures.judged
 
 pub check_turns-returns-in_err-check_body-clause-judged : goal.check_turns-returns-in_err-check_body-clause-judged
 check_turns-returns-in_err-check_body-clause-judged t c =
-    let r = c.from_residual-in_err-check_body in
-    let p = err_from_is_err_and r.result r.ensures.1 in
-    Judges_exit _ _ p.0 _ p.1 p.2 (Refuses-right _ _ _ (rw c.in_ok-enter.ensures.added at c.in_err-check_body.ensures.judged))
+    Answers-exit _ _ c.from_residual-in_err-check_body.ensures.1 (Contains-append_right _ _) (rw c.in_ok-enter.ensures.added at c.in_err-check_body.ensures.judged)
 
 pub check_turns-returns-clause-judged : goal.check_turns-returns-clause-judged
 check_turns-returns-clause-judged t c =

@@ -1,17 +1,16 @@
-use Rattle.std.proofs.lemmas.Result.{err_from_is_err_and}
-use Rattle.darwin_types.proofs.Judged.{Judges_exit, Judges_after, Refuses-left, Refuses-right}
+use Rattle.std.proofs.lemmas.List.Elements.{Contains-append_left, Contains-append_right}
+use Rattle.std.specs.List.{Contains}
+use Rattle.base.proofs.AnswerLaws.{Answers-exit}
+use Rattle.darwin_types.proofs.Judged.{Judges_after}
 use Rattle.darwin_types.proofs.declared.Declared.check_array.Goals as goal
 
 pub returns-in_err-check_array_component : goal.returns-in_err-check_array_component
 returns-in_err-check_array_component c =
-    let p = err_from_is_err_and c.from_residual.result c.from_residual.ensures.1 in
-    Judges_exit _ _ p.0 _ p.1 p.2 (Refuses-left _ _ _ c.in_err-check_array_component.ensures)
+    Answers-exit _ _ c.from_residual.ensures.1 (Contains-append_left _ _) c.in_err-check_array_component.ensures
 
 pub returns-in_err-check_value : goal.returns-in_err-check_value
 returns-in_err-check_value c =
-    let r = c.from_residual-in_err-check_value in
-    let p = err_from_is_err_and r.result r.ensures.1 in
-    Judges_exit _ _ p.0 _ p.1 p.2 (Refuses-right _ _ _ (Refuses-left _ _ _ c.in_err-check_value.ensures))
+    Answers-exit {Cause = Contains _} _ _ c.from_residual-in_err-check_value.ensures.1 (λ f has. Contains-append_right _ _ f (Contains-append_left _ _ f has)) c.in_err-check_value.ensures
 
 pub returns : goal.returns
 returns c =

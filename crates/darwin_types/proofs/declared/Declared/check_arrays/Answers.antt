@@ -1,12 +1,11 @@
-use Rattle.std.proofs.lemmas.Result.{err_from_is_err_and}
+use Rattle.base.proofs.AnswerLaws.{Answers-exit}
+use Rattle.darwin_types.proofs.Lists.{Contains-from}
 use Rattle.darwin_parser.specs.Tree.{array_of}
 use Rattle.darwin_types.specs.Check.{array_faults}
 use Rattle.darwin_types.specs.Within.{tree_in, component_in}
-use Rattle.darwin_types.proofs.Judged.{Judges_exit, Refuses-at}
 use Rattle.darwin_types.proofs.declared.Declared.check_arrays.Goals as goal
 
 pub returns-in_err-check_array : goal.returns-in_err-check_array
 returns-in_err-check_array c =
-    let p = err_from_is_err_and c.from_residual.result c.from_residual.ensures.1 in
     let faults = array_faults (tree_in c.args.self.now) (component_in c.args.self.now) c.args.params.now in
-    Judges_exit _ _ p.0 _ p.1 p.2 (Refuses-at faults array_of c.args.arrays.now c.loop-array.array-index c.array-item.result _ _ c.loop-array-test.true c.array-item.is c.loop-array.invariant c.in_err-check_array.ensures)
+    Answers-exit _ _ c.from_residual.ensures.1 (Contains-from faults array_of c.args.arrays.now c.loop-array.array-index c.array-item.result _ c.loop-array-test.true c.array-item.is c.loop-array.invariant) c.in_err-check_array.ensures

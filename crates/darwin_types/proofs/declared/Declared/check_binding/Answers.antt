@@ -1,21 +1,22 @@
 use Rattle.std.proofs.Common.{sym, subst}
-use Rattle.std.proofs.lemmas.Result.{err_from_is_err_and}
+use Rattle.std.proofs.lemmas.List.Elements.{Contains-append_left}
+use Rattle.std.specs.List.{Contains}
+use Rattle.base.proofs.AnswerLaws.{Answers-exit}
 use Rattle.darwin_parser.specs.Tree.{binding_of}
 use Rattle.darwin_types.specs.Places.{end_places}
-use Rattle.darwin_types.specs.Check.{Judges, Refuses, places_faults}
+use Rattle.darwin_types.specs.Check.{Judges, places_faults}
 use Rattle.darwin_types.specs.Within.{tree_in, component_in}
 use Rattle.darwin_types.proofs.PlaceFaults.{places_faults-append}
-use Rattle.darwin_types.proofs.Judged.{Judges_exit, Judges_after, Refuses-left}
+use Rattle.darwin_types.proofs.Judged.{Judges_after}
 use Rattle.darwin_types.proofs.declared.Declared.check_binding.Goals as goal
 
 pub returns-in_err-check_end : goal.returns-in_err-check_end
 returns-in_err-check_end c =
-    let p = err_from_is_err_and c.from_residual.result c.from_residual.ensures.1 in
     let t = tree_in c.args.self.now in
     let k = component_in c.args.self.now in
     let left = end_places c.args.scope.now (binding_of c.args.entry.now).left in
     let right = end_places c.args.scope.now (binding_of c.args.entry.now).right in
-    Judges_exit _ _ p.0 _ p.1 p.2 (subst (λ fs. Refuses fs c.in_err-check_end.field-0.0) (sym (places_faults-append t k left right)) (Refuses-left (places_faults t k left) (places_faults t k right) _ c.in_err-check_end.ensures))
+    Answers-exit {Cause = Contains _} _ _ c.from_residual.ensures.1 (λ f has. subst (λ fs. Contains fs f) (sym (places_faults-append t k left right)) (Contains-append_left (places_faults t k left) (places_faults t k right) f has)) c.in_err-check_end.ensures
 
 pub returns : goal.returns
 returns c =

@@ -1,23 +1,22 @@
 use Rattle.std.proofs.Common.{sym, subst, ◌++◌}
 use Rattle.std.specs.Option.{option_to_list}
-use Rattle.std.proofs.lemmas.Result.{err_from_is_err_and}
+use Rattle.std.proofs.lemmas.List.Elements.{Contains-append_left, Contains-append_right}
+use Rattle.std.specs.List.{Contains}
+use Rattle.base.proofs.AnswerLaws.{Answers-exit}
 use Rattle.darwin_parser.specs.Tree.{end_of}
 use Rattle.darwin_types.specs.Places.{values}
-use Rattle.darwin_types.specs.Check.{Judges, Refuses, places_faults, end_faults}
+use Rattle.darwin_types.specs.Check.{Judges, places_faults, end_faults}
 use Rattle.darwin_types.specs.Within.{tree_in, component_in}
 use Rattle.darwin_types.proofs.PlaceFaults.{places_faults-end}
-use Rattle.darwin_types.proofs.Judged.{Judges_exit, Judges_after, Refuses-left, Refuses-right}
+use Rattle.darwin_types.proofs.Judged.{Judges_after}
 use Rattle.darwin_types.proofs.declared.Declared.check_end.Goals as goal
 
 pub returns-in_err-check_end_port : goal.returns-in_err-check_end_port
 returns-in_err-check_end_port c =
-    let p = err_from_is_err_and c.from_residual.result c.from_residual.ensures.1 in
-    Judges_exit _ _ p.0 _ p.1 p.2 (Refuses-left _ _ _ c.in_err-check_end_port.ensures)
+    Answers-exit _ _ c.from_residual.ensures.1 (Contains-append_left _ _) c.in_err-check_end_port.ensures
 
 pub returns-in_err-check_optional_value : goal.returns-in_err-check_optional_value
 returns-in_err-check_optional_value c =
-    let r = c.from_residual-in_err-check_optional_value in
-    let p = err_from_is_err_and r.result r.ensures.1 in
     let t = tree_in c.args.self.now in
     let k = component_in c.args.self.now in
     let scope = c.args.scope.now in
@@ -25,7 +24,7 @@ returns-in_err-check_optional_value c =
     let port = end_faults t k e in
     let first = places_faults t k (values scope (option_to_list e.inst_index)) in
     let second = places_faults t k (values scope (option_to_list e.port_index)) in
-    Judges_exit _ _ p.0 _ p.1 p.2 (subst (λ fs. Refuses fs c.in_err-check_optional_value.field-0.0) (sym (places_faults-end t k scope e)) (Refuses-right port (first ++ second) _ (Refuses-left first second _ c.in_err-check_optional_value.ensures)))
+    Answers-exit {Cause = Contains _} _ _ c.from_residual-in_err-check_optional_value.ensures.1 (λ f has. subst (λ fs. Contains fs f) (sym (places_faults-end t k scope e)) (Contains-append_right port (first ++ second) f (Contains-append_left first second f has))) c.in_err-check_optional_value.ensures
 
 pub returns : goal.returns
 returns c =

@@ -1,23 +1,23 @@
 use Rattle.std.proofs.Common.{◌≡◌, sym, subst, ◌∙◌, ◌++◌, map, length, option_map}
 use Rattle.std.proofs.lemmas.List.{length-map}
-use Rattle.std.proofs.lemmas.Result.{err_from_is_err_and}
+use Rattle.std.proofs.lemmas.List.Elements.{Contains-append_left, Contains-append_right}
+use Rattle.std.specs.List.{Contains}
+use Rattle.base.proofs.AnswerLaws.{Answers-exit}
 use Rattle.darwin_parser.specs.Tree.{expr_of, entry_of}
 use Rattle.darwin_types.specs.Places.{values, args_of, entry_places}
-use Rattle.darwin_types.specs.Check.{Judges, Refuses, places_faults, clash_faults, call_faults, element_faults, value_faults}
+use Rattle.darwin_types.specs.Check.{Judges, places_faults, clash_faults, call_faults, element_faults, value_faults}
 use Rattle.darwin_types.specs.Within.{tree_in, component_in}
-use Rattle.darwin_types.proofs.Judged.{Judges_exit, Judges_after, Refuses-left, Refuses-right}
+use Rattle.darwin_types.proofs.Judged.{Judges_after}
 use Rattle.darwin_types.proofs.declared.Declared.check_entry.Goals as goal
 
 pub returns-in_err-check_single-in-Single : goal.returns-in_err-check_single-in-Single
 returns-in_err-check_single-in-Single c =
-    let p = err_from_is_err_and c.from_residual.result c.from_residual.ensures.1 in
     let d = c.args.self.now in
     let s = c.in-Single in
-    let e = c.in_err-check_single-in-Single.field-0.0 in
     let count : c.len.result ≡ length (map expr_of s.args.items) = c.len.ensures ∙ s.args.ok.0 ∙ sym (length-map s.args.items expr_of) in
     let first = clash_faults (component_in d) s.name s.component ++ call_faults (tree_in d) (component_in d) s.name s.component (length (map expr_of s.args.items)) in
     let rest = places_faults (tree_in d) (component_in d) (values c.args.scope.now (map expr_of s.args.items)) in
-    Judges_exit _ _ p.0 _ p.1 p.2 (subst (λ v. Refuses (places_faults (tree_in d) (component_in d) (entry_places c.args.scope.now (entry_of v))) e) (sym s.is) (Refuses-left first rest e (rw count at c.in_err-check_single-in-Single.ensures)))
+    Answers-exit {Cause = Contains _} _ _ c.from_residual.ensures.1 (λ f has. subst (λ v. Contains (places_faults (tree_in d) (component_in d) (entry_places c.args.scope.now (entry_of v))) f) (sym s.is) (Contains-append_left first rest f has)) (rw count at c.in_err-check_single-in-Single.ensures)
 
 pub returns-in_ok-check_single-in-Single : goal.returns-in_ok-check_single-in-Single
 returns-in_ok-check_single-in-Single c =
@@ -30,29 +30,23 @@ returns-in_ok-check_single-in-Single c =
 
 pub returns-in_err-check_element-in-Element : goal.returns-in_err-check_element-in-Element
 returns-in_err-check_element-in-Element c =
-    let r = c.from_residual-in_err-check_element-in-Element in
-    let p = err_from_is_err_and r.result r.ensures.1 in
     let d = c.args.self.now in
     let s = c.in-Element in
-    let e = c.in_err-check_element-in-Element.field-0.0 in
     let own = option_map (λ l. map expr_of l.items) s.args in
     let first = element_faults (tree_in d) (component_in d) s.array own in
     let index = value_faults (component_in d) c.args.scope.now (expr_of s.index) in
     let rest = places_faults (tree_in d) (component_in d) (values c.args.scope.now (args_of own)) in
-    Judges_exit _ _ p.0 _ p.1 p.2 (subst (λ v. Refuses (places_faults (tree_in d) (component_in d) (entry_places c.args.scope.now (entry_of v))) e) (sym s.is) (Refuses-left first (index ++ rest) e c.in_err-check_element-in-Element.ensures))
+    Answers-exit {Cause = Contains _} _ _ c.from_residual-in_err-check_element-in-Element.ensures.1 (λ f has. subst (λ v. Contains (places_faults (tree_in d) (component_in d) (entry_places c.args.scope.now (entry_of v))) f) (sym s.is) (Contains-append_left first (index ++ rest) f has)) c.in_err-check_element-in-Element.ensures
 
 pub returns-in_err-check_value-in-Element : goal.returns-in_err-check_value-in-Element
 returns-in_err-check_value-in-Element c =
-    let r = c.from_residual-in_err-check_value-in-Element in
-    let p = err_from_is_err_and r.result r.ensures.1 in
     let d = c.args.self.now in
     let s = c.in-Element in
-    let e = c.in_err-check_value-in-Element.field-0.0 in
     let own = option_map (λ l. map expr_of l.items) s.args in
     let first = element_faults (tree_in d) (component_in d) s.array own in
     let index = value_faults (component_in d) c.args.scope.now (expr_of s.index) in
     let rest = places_faults (tree_in d) (component_in d) (values c.args.scope.now (args_of own)) in
-    Judges_exit _ _ p.0 _ p.1 p.2 (subst (λ v. Refuses (places_faults (tree_in d) (component_in d) (entry_places c.args.scope.now (entry_of v))) e) (sym s.is) (Refuses-right first (index ++ rest) e (Refuses-left index rest e c.in_err-check_value-in-Element.ensures)))
+    Answers-exit {Cause = Contains _} _ _ c.from_residual-in_err-check_value-in-Element.ensures.1 (λ f has. subst (λ v. Contains (places_faults (tree_in d) (component_in d) (entry_places c.args.scope.now (entry_of v))) f) (sym s.is) (Contains-append_right first (index ++ rest) f (Contains-append_left index rest f has))) c.in_err-check_value-in-Element.ensures
 
 pub returns-in_ok-check_value-in-Element : goal.returns-in_ok-check_value-in-Element
 returns-in_ok-check_value-in-Element c =

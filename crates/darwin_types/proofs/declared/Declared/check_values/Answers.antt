@@ -1,19 +1,18 @@
 use Rattle.std.proofs.Common.{ap, ◌∙◌, drop}
 use Rattle.std.specs.List.{flat_map}
-use Rattle.std.proofs.lemmas.Result.{err_from_is_err_and}
+use Rattle.base.proofs.AnswerLaws.{Answers-exit}
+use Rattle.darwin_types.proofs.Lists.{Contains-from}
 use Rattle.darwin_parser.specs.Tree.{expr_of}
 use Rattle.darwin_types.specs.Places.{value}
 use Rattle.darwin_types.specs.Check.{place_faults}
 use Rattle.darwin_types.specs.Within.{tree_in, component_in}
 use Rattle.darwin_types.proofs.Lists.{map-map}
-use Rattle.darwin_types.proofs.Judged.{Judges_exit, Refuses-at}
 use Rattle.darwin_types.proofs.declared.Declared.check_values.Goals as goal
 
 pub returns-in_err-check_value : goal.returns-in_err-check_value
 returns-in_err-check_value c =
-    let p = err_from_is_err_and c.from_residual.result c.from_residual.ensures.1 in
     let faults = place_faults (tree_in c.args.self.now) (component_in c.args.self.now) in
     let scope = c.args.scope.now in
     let xs = c.args.exprs.now in
     let rest = c.loop-value.invariant ∙ ap (flat_map faults) (map-map (value scope) expr_of (drop c.loop-value.value-index xs)) in
-    Judges_exit _ _ p.0 _ p.1 p.2 (Refuses-at faults (λ x. value scope (expr_of x)) xs c.loop-value.value-index c.value-item.result _ _ c.loop-value-test.true c.value-item.is rest c.in_err-check_value.ensures)
+    Answers-exit _ _ c.from_residual.ensures.1 (Contains-from faults (λ x. value scope (expr_of x)) xs c.loop-value.value-index c.value-item.result _ c.loop-value-test.true c.value-item.is rest) c.in_err-check_value.ensures

@@ -1,24 +1,28 @@
 use Rattle.std.proofs.Common.{sym, subst, ap, map, ◌∙◌}
-use Rattle.std.specs.List.{flat_map}
-use Rattle.std.proofs.lemmas.Result.{err_from_is_err_and}
+use Rattle.std.specs.List.{Contains, flat_map}
+use Rattle.std.proofs.lemmas.List.Elements.{Contains-append_left, Contains-append_right}
+use Rattle.base.proofs.AnswerLaws.{Answers-exit}
 use Rattle.darwin_parser.specs.Tree.{component_of}
 use Rattle.darwin_types.specs.declared.error.TypeError.TheVariants.{TwoComponents}
-use Rattle.darwin_types.specs.Check.{Refuses, repeat_faults, port_faults, components_of}
+use Rattle.darwin_types.specs.Check.{repeat_faults, port_faults, components_of}
 use Rattle.darwin_types.proofs.Components.{names_of_components-pure}
-use Rattle.darwin_types.proofs.Judged.{Refuses-left, Refuses-right, Refuses-at, flat_map-done, none-append}
+use Rattle.darwin_types.proofs.Lists.{Contains-from}
+use Rattle.darwin_types.proofs.Judged.{flat_map-done, none-append}
 use Rattle.darwin_types.proofs.directory.Directory.of.Goals as goal
 
 pub returns-in_err-names-clause-judged : goal.returns-in_err-names-clause-judged
 returns-in_err-names-clause-judged c =
-    let p = err_from_is_err_and c.from_residual.result c.from_residual.ensures.1 in
     let cs = c.args.components.now in
-    rw (p.1, p.2) (Refuses-left (repeat_faults TwoComponents (map (λ d. d.name) (components_of cs))) (flat_map port_faults (components_of cs)) _ (subst (λ ns. Refuses (repeat_faults TwoComponents ns) c.in_err-names.field-0.0) (sym (names_of_components-pure cs)) c.in_err-names.ensures.judged))
+    Answers-exit {Cause = Contains _} _ _ c.from_residual.ensures.1
+    (λ f has. Contains-append_left (repeat_faults TwoComponents (map (λ d. d.name) (components_of cs))) (flat_map port_faults (components_of cs)) f (subst (λ ns. Contains (repeat_faults TwoComponents ns) f) (sym (names_of_components-pure cs)) has))
+    c.in_err-names.ensures.judged
 
 pub returns-in_err-ports_of-clause-judged : goal.returns-in_err-ports_of-clause-judged
 returns-in_err-ports_of-clause-judged c =
-    let p = err_from_is_err_and c.from_residual-in_err-ports_of.result c.from_residual-in_err-ports_of.ensures.1 in
     let cs = c.args.components.now in
-    rw (p.1, p.2) (Refuses-right (repeat_faults TwoComponents (map (λ d. d.name) (components_of cs))) (flat_map port_faults (components_of cs)) _ (Refuses-at port_faults component_of cs c.loop-component.component-index c.component-item.result (flat_map port_faults (components_of cs)) _ c.loop-component-test.true c.component-item.is c.loop-component.invariant.rest c.in_err-ports_of.ensures.judged))
+    Answers-exit {Cause = Contains _} _ _ c.from_residual-in_err-ports_of.ensures.1
+    (λ f has. Contains-append_right (repeat_faults TwoComponents (map (λ d. d.name) (components_of cs))) (flat_map port_faults (components_of cs)) f (Contains-from port_faults component_of cs c.loop-component.component-index c.component-item.result _ c.loop-component-test.true c.component-item.is c.loop-component.invariant.rest f has))
+    c.in_err-ports_of.ensures.judged
 
 pub returns-clause-judged : goal.returns-clause-judged
 returns-clause-judged c =

@@ -5,7 +5,7 @@ use Rattle.elaborator.specs.Paths.{Path}
 use Rattle.elaborator.specs.Growth.{GrowthFault}
 use Rattle.elaborator.specs.Grown.{IsClash}
 use Rattle.elaborator.specs.declared.error.ElabError.TheVariants.{TwoInstances}
-use Rattle.elaborator.proofs.AnswerLemmas.{passed_on}
+use Rattle.base.proofs.AnswerLaws.{Answers-exit}
 use Rattle.elaborator.proofs.MappedLemmas.{mapped-set}
 use Rattle.elaborator.proofs.Places.{slice_get-there}
 use Rattle.elaborator.proofs.ExpandLemmas.{clash-next, growth-next}
@@ -15,8 +15,7 @@ pub returns-in_err-found : goal.returns-in_err-found
 returns-in_err-found c = λ top growth.
     let g = c.args.self.now in
     let next = slice_get-there g.expansion.instances.items g.opened c.requires.within in
-    passed_on _ (GrowthFault (tree_of g.expansion.directory.unit.now) top) _ _ c.from_residual.result c.from_residual.ensures.1
-    (c.in_err-found.ensures top next.0 growth next.1) (λ f cause. cause)
+    Answers-exit _ _ c.from_residual.ensures.1 (λ f cause. cause) (c.in_err-found.ensures top next.0 growth next.1)
 
 pub add_all-requires-clause-mapped : goal.add_all-requires-clause-mapped
 add_all-requires-clause-mapped c =
@@ -47,11 +46,9 @@ returns-in_err-add_all c = λ top growth.
     let items = set g.expansion.instances.items g.opened y in
     let at = slice_get_read g.expansion.instances.items _ g.opened x refl c.requires.within c.index_mut-next.ensures.value in
     let found = (c.in_ok-found.ensures top x growth at).2 in
-    passed_on _ (λ f. (path : Path) × (f ≡ TwoInstances path) × IsClash (items ++ c.in_ok-found.found.made.items) (length items) path) _ _
-    c.from_residual-in_err-add_all.result c.from_residual-in_err-add_all.ensures.1 c.in_err-add_all.ensures
-    (λ f cause.
+    Answers-exit {Cause = λ f. (path : Path) × (f ≡ TwoInstances path) × IsClash (items ++ c.in_ok-found.found.made.items) (length items) path} _ _ c.from_residual-in_err-add_all.ensures.1 (λ f cause.
     subst (GrowthFault (tree_of g.expansion.directory.unit.now) top) (sym cause.1)
-    (clash-next top g x y c.in_ok-found.found cause.0 growth at refl found cause.2))
+    (clash-next top g x y c.in_ok-found.found cause.0 growth at refl found cause.2)) c.in_err-add_all.ensures
 
 pub overflow_sub-self : goal.overflow_sub-self
 overflow_sub-self c =

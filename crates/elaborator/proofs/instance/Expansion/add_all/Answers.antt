@@ -2,7 +2,7 @@ use Rattle.std.proofs.Common.{◌≡◌, ◌∙◌, ◌++◌, ◌∷◌, [], len
 use Rattle.std.specs.Vec.Iter.{into_iter_items}
 use Rattle.elaborator.specs.Grown.{IsClash}
 use Rattle.elaborator.specs.declared.error.ElabError.TheVariants.{TwoInstances}
-use Rattle.elaborator.proofs.AnswerLemmas.{passed_on}
+use Rattle.base.proofs.AnswerLaws.{Answers-exit}
 use Rattle.elaborator.proofs.MappedLemmas.{extended-more, clash-more}
 use Rattle.elaborator.proofs.instance.Expansion.add_all.Goals as goal
 
@@ -28,11 +28,10 @@ returns-in_err-add c =
     let all = so_far.parts ∙ ap (λ is. so_far.added ++ is) c.in-Some.ensures.steps.0 in
     let x = c.in-Some.instance in
     let mid = c.loop-instance.self.instances.items in
-    passed_on _ (λ f. (f ≡ TwoInstances x.path) × IsClash (mid ++ x ∷ []) (length mid) x.path) _ _ c.from_residual.result c.from_residual.ensures.1 c.in_err-add.ensures
-    (λ f cause. (
+    Answers-exit {Cause = λ f. (f ≡ TwoInstances x.path) × IsClash (mid ++ x ∷ []) (length mid) x.path} _ _ c.from_residual.ensures.1 (λ f cause. (
       x.path,
       cause.0,
       subst (λ is. IsClash is (length old) x.path)
           (append_assoc old so_far.added (x ∷ rest) ∙ ap (λ is. old ++ is) (sym all))
           (clash-more old mid so_far.added rest x x.path so_far.extended.instances cause.1),
-    ))
+    )) c.in_err-add.ensures

@@ -21,12 +21,13 @@ use Rattle.elaborator.specs.Paths.{Path, end_bytes}
 use Rattle.elaborator.specs.Instances.{Instance, top_instance, instances, Inst, at_top, below, total, paths_in}
 use Rattle.elaborator.specs.Bindings.{Named, named, Pair, pair_of, bindings_in, pairs_in}
 use Rattle.elaborator.specs.Graph.{IsElab}
-use Rattle.elaborator.specs.Faults.{faults_in, Faults, Faults as fault, NotesDiffer, differ, Twice}
+use Rattle.elaborator.specs.Faults.{faults_in, CountsMore, Faults, Faults as fault, NotesDiffer, differ, Twice}
 use Rattle.elaborator.specs.Elaboration.{HasNoFault, IsGraphOf}
 use Rattle.elaborator.specs.declared.error.ElabError.{ElabError}
 use Rattle.elaborator.specs.declared.error.ElabError.TheVariants as error
 use Rattle.elaborator.proofs.AllLinksLemmas.{begins_within, ends_within}
 use Rattle.elaborator.proofs.ElaborationLemmas.{top_parts}
+use Rattle.elaborator.proofs.CountLemmas.{counted-within, counted-all}
 use Rattle.elaborator.proofs.LawLemmas.{instances-listed, top_depth, twice_front}
 use Rattle.elaborator.proofs.Lists.{find-some}
 use Rattle.elaborator.proofs.NamingLemmas.{made_named}
@@ -45,7 +46,7 @@ use Rattle.elaborator.proofs.SpreadLemmas.{shallow-maker}
 use Rattle.elaborator.proofs.SoundLemmas.{sound_graph}
 use Rattle.elaborator.proofs.SingleLemmas.{one_maker_of}
 use Rattle.elaborator.proofs.ElaborationLemmas.{is_own}
-use Rattle.elaborator.proofs.TotalLemmas.{one_bytes, one_number, one_port, elab_there}
+use Rattle.elaborator.proofs.ExistenceLemmas.{one_bytes, one_number, one_port, elab_there}
 use Rattle.elaborator.proofs.UniqueLemmas.{one_graph}
 use Rattle.elaborator.proofs.WholeLemmas.{Contains-at}
 use Rattle.std.proofs.lemmas.Slice.Eq.{bytes_eq-Decides}
@@ -266,7 +267,7 @@ module _ (tree : Tree) (name : Name) (arguments : List ℤ) where
 
     -- ---- the whole
 
-    module _ (all : (i : Instance) → Contains (instances tree top) i → IsFaultless tree top i) (few : ¬ (65536 < total tree top)) where
+    module _ (all : (i : Instance) → Contains (instances tree top) i → IsFaultless tree top i) where
       listed : (i : Instance) → Inst tree top i → Contains (instances tree top) i
       listed i there = (instances-listed tree top i depth).0 there
 
@@ -315,8 +316,8 @@ module _ (tree : Tree) (name : Name) (arguments : List ℤ) where
       no_value : (t i : Instance) (f : walk.Fault) → top_instance tree name arguments ≡ Some t → Inst tree t i → Contains (faults_in tree i) f → ⊥
       no_value t i f is there has = Contains-nil f (subst (λ fs. Contains fs f) (faultless t i is there).values has)
 
-      none_holds : NoCycle elab.0 → HasNoFault tree name arguments
-      none_holds acyclic = refuted
+      none_holds : ¬ (65536 < total tree top) → NoCycle elab.0 → HasNoFault tree name arguments
+      none_holds few acyclic = refuted
         where
           refuted : (f : ElabError) → ¬ Faults tree name arguments f
           refuted _ (fault.no_top missing) = none-some parts.component (sym missing ∙ parts.named)
@@ -331,7 +332,7 @@ module _ (tree : Tree) (name : Name) (arguments : List ℤ) where
           refuted _ (fault.bad_binding t i b is there h none) = (faultless t i is there).formed b h none
           refuted _ (fault.annotation t i b is there h notes) = (faultless t i is there).noted b h notes
           refuted _ (fault.too_deep t i is there deep) = (faultless t i is there).shallow deep
-          refuted _ (fault.too_many t is many) = few (subst (λ s. 65536 < total tree s) (one t is) many)
+          refuted _ (fault.too_many t is many) = few (counted-within tree top 65536 depth (subst (λ s. CountsMore tree s 65536) (one t is) many))
           refuted _ (fault.depends_cycle t g i n is is_elab first at) =
               subst NoCycle (one_graph tree top elab.0 g elab.1 (subst (λ s. IsElab tree s g) (one t is) is_elab)) acyclic i first.on_cycle
 
@@ -346,8 +347,8 @@ module _ (tree : Tree) (name : Name) (arguments : List ℤ) where
           by [] is = is
           by (f ∷ fs) is = absurd (no_value top i f is_top there (is_own tree i f (subst (λ gs. Contains gs f) (sym is) (Contains-here f fs))))
 
-      clear : IsClear tree top
-      clear = record {
+      clear : ¬ (65536 < total tree top) → IsClear tree top
+      clear few = record {
         no_fault = no_own;
         once = λ i path there two. (all i (listed i there)).once path two;
         apart = λ i j path there there' has has'. one_maker_of tree top bound_once i j path there there' has has';
@@ -358,29 +359,33 @@ module _ (tree : Tree) (name : Name) (arguments : List ℤ) where
           less : (n : ℕ) → n ≤ 33 → (n ≡ 33 → ⊥) → n < 33
           less n low other = elim (cases_lt n 33) [ inl is ↦ is | inr past ↦ absurd (other (omega (arith, low, past))) ]
 
-      fault_or_none : NoFault tree → Some_fault ⊎ Graph_there
-      fault_or_none no_fault =
-          elim cycle_or_none [
-            | inl f ↦ inl f
-            | inr acyclic ↦
-                inr (
-                  elab.0,
-                  none_holds acyclic,
-                  record { top = top; is_top = is_top; is_elab = elab.1 },
-                  sound_graph tree name arguments top elab.0 no_fault is_top clear elab.1 acyclic,
-                )
+      many_or_few : Some_fault ⊎ (¬ (65536 < total tree top))
+      many_or_few =
+          elim (cases_lt 65536 (total tree top)) [
+            | inl many ↦ inl (error.TooMany, fault.too_many top is_top (counted-all tree top 65536 bound_once.single depth many))
+            | inr few ↦ inr (λ many. omega (arith, many, few))
           ]
 
-    tell_many : Some_fault ⊎ (¬ (65536 < total tree top))
-    tell_many = elim (cases_lt 65536 (total tree top)) [ inl many ↦ inl (error.TooMany, fault.too_many top is_top many) | inr few ↦ inr (λ many. omega (arith, many, few)) ]
+      fault_or_none : NoFault tree → Some_fault ⊎ Graph_there
+      fault_or_none no_fault = by many_or_few cycle_or_none
+        where
+          by : Some_fault ⊎ (¬ (65536 < total tree top)) → Some_fault ⊎ NoCycle elab.0 → Some_fault ⊎ Graph_there
+          by (inl f) cycle = inl f
+          by (inr few) (inl f) = inl f
+          by (inr few) (inr acyclic) =
+              inr (
+                elab.0,
+                none_holds few acyclic,
+                record { top = top; is_top = is_top; is_elab = elab.1 },
+                sound_graph tree name arguments top elab.0 no_fault is_top (clear few) elab.1 acyclic,
+              )
 
     below_top : NoFault tree → Some_fault ⊎ Graph_there
-    below_top no_fault = by (all_or Some_fault (IsFaultless tree top) (instances tree top) (λ i there. tell_faultless i ((instances-listed tree top i depth).1 there))) tell_many
-      where
-        by : Some_fault ⊎ ((i : Instance) → Contains (instances tree top) i → IsFaultless tree top i) → Some_fault ⊎ (¬ (65536 < total tree top)) → Some_fault ⊎ Graph_there
-        by (inl f) many = inl f
-        by (inr all) (inl f) = inl f
-        by (inr all) (inr few) = fault_or_none all few no_fault
+    below_top no_fault =
+        elim (all_or Some_fault (IsFaultless tree top) (instances tree top) (λ i there. tell_faultless i ((instances-listed tree top i depth).1 there))) [
+          | inl f ↦ inl f
+          | inr all ↦ fault_or_none all no_fault
+        ]
 
   top_or_fault : Some_fault ⊎ ((top : Instance) × (top_instance tree name arguments ≡ Some top))
   top_or_fault = by (component_named tree name) refl
