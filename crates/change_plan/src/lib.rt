@@ -7,8 +7,6 @@ mod laws;
 mod moving;
 mod plan_data;
 mod planning;
-#[cfg(test)]
-mod tests;
 mod touching;
 mod writing;
 
