@@ -1,5 +1,5 @@
 -- Bytes that went out one part after the other.
-use Rattle.std.proofs.Common.{◌≡◌, ℕ, ◌+◌, ◌-◌, List, ◌++◌, Option, Some, None, length, take, drop, refl, ap, append_assoc, arith}
+use Rattle.std.proofs.Common.{◌≡◌, ℕ, ◌+◌, ◌-◌, List, Option, Some, None, length, take, drop, refl, ap, append_assoc, arith}
 use Rattle.std.proofs.lemmas.Grind.{common_steps}
 use Rattle.std.proofs.Math.Seq.{take-add}
 use Rattle.cfg_io.specs.Sink.{with_bytes}
@@ -14,8 +14,3 @@ with_bytes-front_more None bytes written count = refl
 with_bytes-front_more (Some taken) bytes written count =
     rw (take-length-drop bytes written, take-add written count bytes)
     (ap Some (append_assoc taken (take written bytes) (take count (drop written bytes))))
-
--- two texts that went out in turn
-pub went_out_in_turn : (taken : Option (List ℕ)) (first second : List ℕ) → with_bytes (with_bytes taken first) second ≡ with_bytes taken (first ++ second)
-went_out_in_turn None first second = refl
-went_out_in_turn (Some taken) first second = ap Some (append_assoc taken first second)

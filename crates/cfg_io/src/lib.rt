@@ -14,9 +14,8 @@
 //! - what it wrote is `K.taken sink.new ≡ with_bytes (K.taken sink.old) text`, under
 //!   `IfSome (H.files shelf.old) (λ files. ..)` where the text depends on what the files hold.
 //!
-//! A function that writes once needs no proof file for these. One that writes in several calls names
-//! the lemma that joins them, `#[tactic(auto, using(cfg_io::proofs::Bytes::went_out_in_turn))]`. The
-//! functions `copy` and `copy_both` of this crate's tests show both.
+//! A function that writes once needs no proof file for these. One that writes in several calls joins what went
+//! out by `append_assoc`.
 #![tactic(auto)]
 
 mod file_shelf;
@@ -33,6 +32,3 @@ pub use mem_sink::MemSink;
 pub use out_sink::OutSink;
 pub use shelf::{Shelf, ShelfError};
 pub use sink::{Sink, SinkFailed, Stopped, write_all};
-
-#[cfg(test)]
-mod tests;

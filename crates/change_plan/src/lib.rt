@@ -8,8 +8,6 @@ mod moving;
 mod plan_data;
 mod planning;
 mod room;
-#[cfg(test)]
-mod tests;
 mod touching;
 mod writing;
 

@@ -9,8 +9,6 @@ mod laws;
 mod lines;
 mod numbers;
 mod paths;
-#[cfg(test)]
-mod tests;
 mod tokens;
 mod verbs;
 

@@ -19,8 +19,6 @@ mod rules;
 mod starting;
 mod state;
 mod tables;
-#[cfg(test)]
-mod tests;
 mod word;
 
 pub use error::CoreError;

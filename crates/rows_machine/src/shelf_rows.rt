@@ -1,11 +1,6 @@
-//! Shelves and sinks, used through their traits.
+//! Rows of shelves and sinks, used through their traits.
 
-ghost use Rattle.std.specs.Prelude.{◌≡◌, ◌≢◌, ◌∷◌, ◌++◌, [], ◌<◌, ℕ, List, take, length, IfSome};
-ghost use Rattle.cfg_io.specs.Count.{Rose};
-ghost use Rattle.cfg_io.specs.Sink.{with_bytes};
-ghost use Rattle.cfg_io.specs.declared.tests.Outcome.{Outcome};
-
-use super::*;
+use cfg_io::{FileShelf, MemShelf, MemSink, OutSink, Shelf, ShelfError, Sink, Stopped, write_all};
 use std::cell::{Cell, RefCell};
 use std::fmt::Display;
 use std::io::ErrorKind;
@@ -20,19 +15,8 @@ enum Outcome {
     Other,
 }
 
-// Copies a file of the shelf to the sink.
-fn copy<H: Shelf, K: Sink>(shelf: &mut H, sink: &mut K, name: &str) -> Outcome
-    ensures read_fault { result ≡ Outcome.ReadFault → H.failed shelf.new ≡ H.failed shelf.old ++ name.now ∷ [] }
-    ensures no_read_fault { result ≢ Outcome.ReadFault → H.failed shelf.new ≡ H.failed shelf.old }
-    ensures write_fault { result ≡ Outcome.WriteFault → Rose (K.faults sink.old) (K.faults sink.new) }
-    ensures no_write_fault { result ≢ Outcome.WriteFault → K.faults sink.new ≡ K.faults sink.old }
-    ensures done { result ≡ Outcome.Done → IfSome (H.files shelf.old) (λ holds.
-        IfSome (holds name.now) (λ text. K.taken sink.new ≡ with_bytes (K.taken sink.old) text)) }
-    ensures part { result ≡ Outcome.WriteFault → IfSome (H.files shelf.old) (λ holds.
-        IfSome (holds name.now) (λ text. (n : ℕ) × (n < length text)
-        × (K.taken sink.new ≡ with_bytes (K.taken sink.old) (take n text)))) }
-    ensures kept { H.files shelf.new ≡ H.files shelf.old }
-{
+/// Copies a file of the shelf to the sink.
+fn copy<H: Shelf, K: Sink>(shelf: &mut H, sink: &mut K, name: &str) -> Outcome {
     match shelf.fetch(name, 100) {
         Ok(bytes) => match write_all(sink, &bytes) {
             Ok(()) => Outcome::Done,
@@ -40,35 +24,6 @@ fn copy<H: Shelf, K: Sink>(shelf: &mut H, sink: &mut K, name: &str) -> Outcome
         },
         Err(ShelfError::Failed) => Outcome::ReadFault,
         Err(ShelfError::TooLong { limit: _ } | ShelfError::NoMemory) => Outcome::Other,
-    }
-}
-
-// Copies two files of the shelf to the sink, one after the other.
-#[tactic(auto, using(crate::proofs::Bytes::went_out_in_turn))]
-fn copy_both<H: Shelf, K: Sink>(shelf: &mut H, sink: &mut K, first: &str, second: &str) -> Outcome
-    ensures no_read_fault { result ≢ Outcome.ReadFault → H.failed shelf.new ≡ H.failed shelf.old }
-    ensures no_write_fault { result ≢ Outcome.WriteFault → K.faults sink.new ≡ K.faults sink.old }
-    ensures write_fault { result ≡ Outcome.WriteFault → Rose (K.faults sink.old) (K.faults sink.new) }
-    ensures read_fault { result ≡ Outcome.ReadFault → ((name : List ℕ) × (H.failed shelf.new ≡ H.failed shelf.old ++ name ∷ [])) }
-    ensures done { result ≡ Outcome.Done → IfSome (H.files shelf.old) (λ holds.
-        IfSome (holds first.now) (λ a. IfSome (holds second.now) (λ b.
-        K.taken sink.new ≡ with_bytes (K.taken sink.old) (a ++ b)))) }
-{
-    let (a, b) = match shelf.fetch(first, 100) {
-        Ok(a) => match shelf.fetch(second, 100) {
-            Ok(b) => (a, b),
-            Err(ShelfError::Failed) => return Outcome::ReadFault,
-            Err(_) => return Outcome::Other,
-        },
-        Err(ShelfError::Failed) => return Outcome::ReadFault,
-        Err(_) => return Outcome::Other,
-    };
-    if write_all(sink, &a).is_err() {
-        return Outcome::WriteFault;
-    }
-    match write_all(sink, &b) {
-        Ok(()) => Outcome::Done,
-        Err(_) => Outcome::WriteFault,
     }
 }
 
@@ -96,7 +51,7 @@ fn copies_until_the_room_is_full(rt: HostRuntime) -> Result<(), Fail> {
 
 #[test]
 fn reads_files_and_writes_out(rt: HostRuntime) -> Result<(), Fail> {
-    let path = "cfg_io_test_file";
+    let path = "rows_machine_test_file";
     fs::write(&rt, path, "four")?;
     let mut shelf = FileShelf::new(&rt, rt.alloc());
     let fits = shelf.fetch(path, 4);
@@ -116,7 +71,7 @@ fn reads_files_and_writes_out(rt: HostRuntime) -> Result<(), Fail> {
     Ok(())
 }
 
-// A standard output that takes two bytes, is interrupted, takes three more, and then takes nothing.
+/// A standard output that takes two bytes, is interrupted, takes three more, and then takes nothing.
 #[derive(Drop)]
 struct ShortOutput {
     turn: Cell<u32>,

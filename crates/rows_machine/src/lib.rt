@@ -1,0 +1,17 @@
+//! Worked rows of what stands beneath the commands: files, event files, the change machine, plans and passive sets.
+#![tactic(auto)]
+
+#[cfg(test)]
+mod event_file_rows;
+#[cfg(test)]
+mod machine_rows;
+#[cfg(test)]
+mod passive_rows;
+#[cfg(test)]
+mod plan_rows;
+#[cfg(test)]
+mod rule_rows;
+#[cfg(test)]
+mod shelf_rows;
+#[cfg(test)]
+mod systems;

@@ -1,0 +1,198 @@
+//! Rows of `plan` with what the command can't ask for: moves, and nodes and ports that were made before.
+
+use crate::systems::{LINE, graph_after};
+use change_plan::{Move, PlanError, plan, plan_text};
+use config_graph::{Graph, Made, NoMemory, Text};
+use std::alloc::Global;
+use std::process::Abort;
+use std::str;
+use std::test::Fail;
+
+/// The line with another map.
+const OTHER_LINE: &str = "make 0 m map(20)
+make 1 s source(3)
+make 2 t sink()
+link 0 2 0
+link 1 0 0
+";
+
+/// The nodes and links of a teller, a branch and two accounts, but for the first account.
+const BANK: &str = "make 1 b account(0)
+make 2 r branch()
+make 3 w teller(3)
+link 0 0 0
+link 1 1 0
+link 2 2 0
+";
+
+/// Accounts.
+const A_100: &str = "make 0 a account(100)\n";
+
+const A_7: &str = "make 0 a account(7)\n";
+
+/// An adder.
+const ADDER: &str = "make 0 a adder()\n";
+
+const OTHER_MAP: &str =
+    "freeze m\nfreeze s\nunlink m.next\nunlink s.out\nremove m\ncreate m map(20)\nlink m.next t.in\nlink s.out m.in\n";
+
+const OTHER_MAP_MOVED: &str =
+    "freeze m\nfreeze s\nunlink m.next\nunlink s.out\nremove m\ncreate m map(20)\nlink m.next t.in\nlink s.out m.in\nmove 0 0\n";
+
+const ACCOUNT_MOVED: &str =
+    "freeze a\nfreeze r\nfreeze w\nunlink r.from\nremove a\ncreate a account(7)\nlink r.from a.post\nmove 0 0\n";
+
+/// Two systems, moves between them by paths, the nodes and ports that were made, and what comes of it.
+type Planned = (
+    &'static [&'static str],
+    &'static [&'static str],
+    &'static [(&'static str, &'static str)],
+    (u32, u32),
+    &'static str,
+);
+
+static PLANS: [Planned; 4] = [
+    (&[LINE], &[OTHER_LINE], &[], (1022, 4095), OTHER_MAP),
+    (
+        &[LINE],
+        &[OTHER_LINE],
+        &[("m", "m")],
+        (3, 2),
+        OTHER_MAP_MOVED,
+    ),
+    (
+        &[A_100, BANK],
+        &[A_7, BANK],
+        &[("a", "a")],
+        (4, 3),
+        ACCOUNT_MOVED,
+    ),
+    (
+        &[A_7],
+        &[ADDER],
+        &[],
+        (1, 0),
+        "freeze a\nremove a\ncreate a adder()\n",
+    ),
+];
+
+static REFUSALS: [Planned; 7] = [
+    (
+        &[A_100, BANK],
+        &[A_7, BANK],
+        &[("b", "b")],
+        (1023, 4096),
+        "NotRemoved b",
+    ),
+    (
+        &[A_100, BANK],
+        &[A_7, BANK],
+        &[("a", "b")],
+        (4, 3),
+        "NotCreated b",
+    ),
+    (
+        &[A_100, BANK],
+        &[A_7],
+        &[("r", "a")],
+        (4, 3),
+        "KindsDiffer r a",
+    ),
+    (
+        &[A_100, BANK],
+        &[A_7, BANK],
+        &[("a", "a"), ("a", "a")],
+        (4, 3),
+        "MovedTwice a",
+    ),
+    (
+        &[A_100, BANK],
+        &["make 0 a account(7)\nmake 1 b account(8)\n"],
+        &[("a", "b"), ("b", "b")],
+        (4, 3),
+        "MovedTwice b",
+    ),
+    (&[A_7], &[LINE], &[], (1021, 4095), "NodesFull 1021 3"),
+    (
+        &[LINE],
+        &[OTHER_LINE],
+        &[],
+        (1022, 4096),
+        "PortsFull 4096 1",
+    ),
+];
+
+fn moves_of(alloc: Global, pairs: &[(&str, &str)]) -> Result<Vec<Move>, NoMemory> {
+    let mut moves = Vec::new(alloc);
+    for (from, to) in pairs {
+        let from = Text::from_bytes(alloc, from.as_bytes())?;
+        let to = Text::from_bytes(alloc, to.as_bytes())?;
+        moves.push(Move { from, to })?;
+    }
+    Ok(moves)
+}
+
+fn shown(text: &Text) -> &str {
+    str::from_utf8(text.as_bytes()).unwrap_or("?")
+}
+
+/// A refusal's name and what it carries.
+fn refusal(alloc: Global, error: &PlanError) -> Result<String, NoMemory> {
+    match error {
+        PlanError::NotRemoved(path) => format!(in alloc; "NotRemoved {}", shown(path)),
+        PlanError::NotCreated(path) => format!(in alloc; "NotCreated {}", shown(path)),
+        PlanError::KindsDiffer(from, to) => {
+            format!(in alloc; "KindsDiffer {} {}", shown(from), shown(to))
+        }
+        PlanError::MovedTwice(path) => format!(in alloc; "MovedTwice {}", shown(path)),
+        PlanError::NodesFull { made, wanted } => format!(in alloc; "NodesFull {made} {wanted}"),
+        PlanError::PortsFull { made, wanted } => format!(in alloc; "PortsFull {made} {wanted}"),
+        PlanError::NoMemory => format!(in alloc; "NoMemory"),
+    }
+}
+
+/// The text of a plan with a line for each of its moves, or its refusal.
+fn outcome(
+    alloc: Global,
+    old: &Graph,
+    new: &Graph,
+    moves: &[Move],
+    made: Made,
+) -> Result<String, NoMemory> {
+    let plan = match plan(alloc, old, new, moves, made) {
+        Ok(plan) => plan,
+        Err(error) => return refusal(alloc, &error),
+    };
+    let text = plan_text(alloc, old, new, &plan)?;
+    let mut out = format!(in alloc; "{}", str::from_utf8(&text).unwrap_or("?"))?;
+    for shift in plan.moves.items() {
+        let line = format!(in alloc; "move {} {}\n", shift.old, shift.new)?;
+        out.push_str(line.as_str())?;
+    }
+    Ok(out)
+}
+
+fn assert_outcomes(rt: &impl Abort, alloc: Global, rows: &[Planned]) -> Result<(), Fail> {
+    for (from, to, pairs, (nodes, ports), wanted) in rows {
+        let old = graph_after(rt, alloc, from)?;
+        let new = graph_after(rt, alloc, to)?;
+        let moves = moves_of(alloc, pairs)?;
+        let made = Made {
+            nodes: *nodes,
+            ports: *ports,
+        };
+        let found = outcome(alloc, &old, &new, &moves, made)?;
+        assert_eq!(rt; found.as_str(), *wanted);
+    }
+    Ok(())
+}
+
+#[test]
+fn plans_between_systems(rt: HostRuntime) -> Result<(), Fail> {
+    assert_outcomes(&rt, rt.alloc(), &PLANS)
+}
+
+#[test]
+fn plans_are_refused(rt: HostRuntime) -> Result<(), Fail> {
+    assert_outcomes(&rt, rt.alloc(), &REFUSALS)
+}

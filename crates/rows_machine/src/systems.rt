@@ -1,0 +1,78 @@
+//! The systems of the rows, as events in the words of event files.
+
+use change_script::{EventFile, parse_events};
+use config_graph::Graph;
+use darwin_lexer::MAX_TEXT;
+use quiesce_core::{Core, Event};
+use std::alloc::Global;
+use std::process::Abort;
+use std::test::Fail;
+
+/// A source, port 1, leads to a map, port 0, and the map to a sink.
+pub const LINE: &str = "make 0 m map(10)
+make 1 s source(3)
+make 2 t sink()
+link 0 2 0
+link 1 0 0
+reopen 0
+reopen 1
+";
+
+/// Node 0 asks node 1, which sends intermediate replies.
+pub const TWO: &str = "make 0 a asker(2)
+make 1 d adder()
+link 0 1 0
+reopen 0
+";
+
+/// A teller leads to a branch, whose ports 1 and 2 lead to an account, as does the port of a source, node 3.
+pub const BANK: &str = "make 0 w teller(3)
+make 1 r branch()
+make 2 a account(100)
+make 3 x source(1)
+link 0 1 0
+link 1 2 0
+link 2 2 0
+link 3 2 0
+reopen 0
+reopen 3
+";
+
+/// What takes the sink out of the line.
+pub const WITHOUT_SINK: &str = "close 0
+close 1
+unlink 0
+remove 2
+";
+
+/// The events of an event file, in pieces, behind its start.
+pub fn events_of(rt: &impl Abort, alloc: Global, pieces: &[&str]) -> Result<EventFile, Fail> {
+    let mut text = String::from_str(alloc, "start X()\n")?;
+    for piece in pieces {
+        text.push_str(piece)?;
+    }
+    let bytes = text.as_str().as_bytes();
+    assert!(rt; bytes.len() <= MAX_TEXT);
+    Ok(parse_events(alloc, bytes)?)
+}
+
+/// Each event happens.
+fn happen(rt: &impl Abort, core: &mut Core, events: &[Event]) {
+    for event in events {
+        assert_eq!(rt; core.apply(event), Ok(()));
+    }
+}
+
+/// The state after these events, from where nothing is made.
+pub fn core_after(rt: &impl Abort, alloc: Global, pieces: &[&str]) -> Result<Core, Fail> {
+    let file = events_of(rt, alloc, pieces)?;
+    let mut core = Core::empty(alloc);
+    happen(rt, &mut core, file.events.items());
+    Ok(core)
+}
+
+/// The graph of what these events make and link.
+pub fn graph_after(rt: &impl Abort, alloc: Global, pieces: &[&str]) -> Result<Graph, Fail> {
+    let core = core_after(rt, alloc, pieces)?;
+    Ok(core.graph()?)
+}
