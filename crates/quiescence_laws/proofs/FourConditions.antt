@@ -14,7 +14,7 @@ use Rattle.quiesce_core.specs.declared.state.Slot.{Slot}
 use Rattle.quiesce_core.specs.Effect.{effect}
 use Rattle.quiesce_core.specs.Legal.{Legal}
 use Rattle.quiesce_core.specs.Reach.{IsPortOf, wiring_of}
-use Rattle.config_graph.specs.Wiring.{Reach, direct, through}
+use Rattle.config_graph.specs.Wiring.{Reach, direct}
 use Rattle.quiesce_core.specs.Runs.{IsRun, state_after, is_begin_of, is_end_of, is_open_after, Begun, initiator, target_at_begin}
 use Rattle.quiesce_core.specs.Rules.{is_settled}
 use Rattle.quiesce_core.proofs.SettledLemmas.{settled_if}
