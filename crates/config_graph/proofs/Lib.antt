@@ -14,3 +14,5 @@ pub mod CycleLemmas
 pub mod SearchLemmas
 pub mod TellLemmas
 pub mod TextLawLemmas
+pub mod OrderedLists
+pub mod GraphByLaws

@@ -1,9 +1,10 @@
 -- Lemmas on paths that rise, and on the index of paths.
 use Rattle.std.proofs.Common.{◌≡◌, ℕ, ◌+◌, ◌<◌, Bool, true, false, ◌||◌, List, [], ◌∷◌, ◌++◌, map, length, take, get_or, bytes_eq, if◌then◌else◌, refl, sym, ◌∙◌, ap, arith, length-take}
 use Rattle.std.specs.List.{list_any}
-use Rattle.std.specs.Ordering.{is_eq, nat_cmp}
-use Rattle.std.specs.Cmp.Lexicographic.{slice_cmp}
-use Rattle.std.specs.declared.cmp.Ordering.TheVariants.{Less}
+use Rattle.std.specs.Ordering.{is_eq, nat_cmp, ordering_reverse}
+use Rattle.std.specs.Cmp.Lexicographic.{slice_cmp, nat_list_cmp_total}
+use Rattle.std.specs.declared.cmp.Ordering.{Ordering}
+use Rattle.std.specs.declared.cmp.Ordering.TheVariants.{Less, Equal, Greater}
 use Rattle.std.proofs.lemmas.Bool.{true≢false}
 use Rattle.std.proofs.lemmas.List.{take_more, map-append, get_or-take, get_or_default}
 use Rattle.std.proofs.lemmas.List.Folds.{list_any_none}
@@ -11,6 +12,19 @@ use Rattle.std.proofs.lemmas.Map.Text.{is_eq-slice_cmp}
 use Rattle.std.proofs.lemmas.Slice.Eq.{bytes_eq-Decides}
 use Rattle.config_graph.specs.Graph.{PathsRise}
 use Rattle.config_graph.specs.declared.node.Node.{Node}
+
+-- no path is before itself
+pub irreflexive : (p : List ℕ) → slice_cmp nat_cmp p p ≡ Less → ⊥
+irreflexive p e = not_less (slice_cmp nat_cmp p p) e (sym (nat_list_cmp_total.antisymm p p) ∙ e)
+  where
+    not_less : (o : Ordering) → o ≡ Less → ordering_reverse o ≡ Less → ⊥
+    not_less Less is back = cc
+    not_less Equal is back = cc
+    not_less Greater is back = cc
+
+-- nor before one that is before it
+pub paths_apart : (m n : Node) → slice_cmp nat_cmp m.path n.path ≡ Less → slice_cmp nat_cmp n.path m.path ≡ Less → ⊥
+paths_apart m n below above = irreflexive m.path (nat_list_cmp_total.trans m.path n.path m.path below above)
 
 -- a path differs from one before it
 pub bytes_eq-below : (p q : List ℕ) → slice_cmp nat_cmp p q ≡ Less → bytes_eq q p ≡ false

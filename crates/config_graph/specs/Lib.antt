@@ -1,5 +1,6 @@
 pub mod Cycles
 pub mod Graph
+pub mod GraphBy
 pub mod GraphText
 pub mod Indexes
 pub mod Kinds

@@ -5,6 +5,7 @@ mod cycles;
 mod graph;
 mod indexes;
 mod kind;
+mod laws;
 mod node;
 mod numbering;
 #[cfg(test)]
@@ -15,6 +16,7 @@ pub use base::{List, NoMemory, Text};
 pub use cycles::{a_first_on_a_cycle_or_none, first_on_cycle};
 pub use graph::{Graph, same};
 pub use kind::{Kind, kind_of, kinds_have_their_names};
+pub use laws::one_graph;
 pub use node::{Link, Made, Node, Port, Target};
 pub use writing::{graph_text, kind_text, texts_tell_sound_graphs};
 

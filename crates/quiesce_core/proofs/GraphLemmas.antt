@@ -30,8 +30,10 @@ use Rattle.quiesce_core.specs.Reach.{IsPortOf, wiring_of}
 use Rattle.quiesce_core.specs.SameWiring.{IsPortAt}
 use Rattle.quiesce_core.specs.WellFormed.{StandInARow, LeadsToProvision, IsWithinBounds, IsSound, IsWellFormed}
 use Rattle.quiesce_core.specs.Named.{AreNamed}
-use Rattle.quiesce_core.proofs.OrderLemmas.{contains_at, stands_in, irreflexive}
-use Rattle.quiesce_core.specs.Live.{StandsAt, IsLiveLink, IsGraphOf}
+use Rattle.config_graph.proofs.PathLemmas.{irreflexive}
+use Rattle.quiesce_core.proofs.LiveLinks.{IsLiveLink, linked_at}
+use Rattle.quiesce_core.proofs.OrderLemmas.{contains_at, stands_in}
+use Rattle.quiesce_core.specs.Live.{StandsAt, IsGraphOf}
 use Rattle.config_graph.specs.declared.node.Link.{Link}
 use Rattle.quiesce_core.specs.Start.{slot_of, gate_of, free, unused, started}
 use Rattle.quiesce_core.proofs.Cycles.{no_cycle_if_acyclic, map_or_at}
@@ -245,12 +247,15 @@ module _ (g : Graph) (sound : Sound g) (few_nodes : length g.nodes ≤ 1023) (fe
     nodes_are = λ node. (
       λ h.
           let a = stands_in g.nodes node h in
-          record { number = a.0; made = slot_of g.nodes (a.0, node); there = slot_made a.0 node a.1; live = refl; is_node = refl },
-      λ v.
-          let w = slot_was v.number v.made v.there in
-          contains_at g.nodes v.number node (w.1 ∙ ap Some (ap (λ (m : Slot). m.node) (sym w.2) ∙ v.is_node)),
+          (a.0, record { made = slot_of g.nodes (a.0, node); there = slot_made a.0 node a.1; live = refl; is_node = refl }),
+      λ l.
+          let w = slot_was l.0 l.1.made l.1.there in
+          contains_at g.nodes l.0 node (w.1 ∙ ap Some (ap (λ (m : Slot). m.node) (sym w.2) ∙ l.1.is_node)),
     );
-    links_are = λ i r j x. (link_started i r j x, link_was i r j x);
+    links_are = λ i r j x. (
+      λ l. (linked_at (started g).config g.nodes i r j x).0 (link_started i r j x l),
+      λ l. link_was i r j x ((linked_at (started g).config g.nodes i r j x).1 l),
+    );
     in_order = sound.in_order;
   }
 

@@ -14,8 +14,8 @@ pub mod TrafficLemmas
 pub mod Running
 pub mod RunLemmas
 pub mod OrderLemmas
+pub mod LiveLinks
 pub mod SameWiring
 pub mod LiveLemmas
 pub mod NamedLemmas
-pub mod OneGraph
 pub mod KnowledgeLemmas

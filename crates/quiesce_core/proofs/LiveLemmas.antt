@@ -29,9 +29,10 @@ use Rattle.config_graph.specs.Cycles.{wiring_of as wiring_of_graph}
 use Rattle.config_graph.proofs.WiringLemmas.{no_cycle_there}
 use Rattle.quiesce_core.specs.WellFormed.{IsSound}
 use Rattle.quiesce_core.specs.Named.{AreNamed}
-use Rattle.quiesce_core.specs.Live.{StandsAt, IsLiveLink, IsGraphOf}
+use Rattle.quiesce_core.specs.Live.{StandsAt, IsGraphOf}
 use Rattle.quiesce_core.specs.Listed.{path_at, InPathOrder, ArePlaces, AreNodesOf, link_in}
 use Rattle.quiesce_core.proofs.Cycles.{map_or_at, cycles_are_found}
+use Rattle.quiesce_core.proofs.LiveLinks.{IsLiveLink, linked_at}
 use Rattle.quiesce_core.proofs.SameWiring.{linked_made, port_is, to_configuration}
 use Rattle.quiesce_core.proofs.KindLemmas.{two_requires}
 use Rattle.quiesce_core.proofs.OrderLemmas.{contains_at, stands_in, live_at, range_at}
@@ -247,12 +248,13 @@ module _ (c : Configuration) (sound : IsSound c) (named : AreNamed c) (order : L
       λ h.
           let a = stands_in nodes node h in
           let w = at_place a.0 (slice_get_within nodes a.0 node a.1) in
-          record { number = w.number; made = w.made; there = w.there; live = w.live; is_node = same_Some w.made.node node (sym w.stands ∙ a.1) },
-      λ v.
-          let a = in_order.all v.number (map_or_at (λ (m : Slot). m.live) (slot c v.number) false v.made v.there ∙ v.live) in
-          contains_at nodes a.0 node (are_nodes.stands a.0 v.number v.made (slice_get_within order a.0 v.number a.1) a.1 v.there ∙ ap Some v.is_node),
+          (w.number, record { made = w.made; there = w.there; live = w.live; is_node = same_Some w.made.node node (sym w.stands ∙ a.1) }),
+      λ l.
+          let v = l.1 in
+          let a = in_order.all l.0 (map_or_at (λ (m : Slot). m.live) (slot c l.0) false v.made v.there ∙ v.live) in
+          contains_at nodes a.0 node (are_nodes.stands a.0 l.0 v.made (slice_get_within order a.0 l.0 a.1) a.1 v.there ∙ ap Some v.is_node),
     );
-    links_are = λ i r j x. (linked_live i r j x, live_linked i r j x);
+    links_are = λ i r j x. (λ l. (linked_at c nodes i r j x).0 (linked_live i r j x l), λ l. live_linked i r j x ((linked_at c nodes i r j x).1 l));
     in_order = in_port_order-twice nodes (links_of c places);
   }
 

@@ -21,6 +21,7 @@ use Rattle.quiesce_core.specs.declared.state.Slot.{Slot}
 use Rattle.quiesce_core.specs.State.{Configuration, slot, is_live}
 use Rattle.quiesce_core.specs.Named.{AreNamed}
 use Rattle.quiesce_core.specs.Listed.{path_at, InPathOrder, ArePlaces, AreNodesOf}
+use Rattle.config_graph.proofs.PathLemmas.{irreflexive}
 use Rattle.quiesce_core.proofs.Lists.{slice_get_front, slice_get_last}
 use Rattle.quiesce_core.proofs.Cycles.{map_or_true, map_or_at}
 use Rattle.quiesce_core.proofs.Places.{live_made}
@@ -117,14 +118,6 @@ in_order c named order moved sorted = record {
     live a n at =
         All-contains (λ i. is_live c i ≡ true) (live_slots c) n (filter_passes (is_live c) (range_with_len 0 (length c.slots)))
         (Contains-permutation order (live_slots c) n (IsPermutation-sym (live_slots c) order moved) (contains_at order a n at))
-
-pub irreflexive : (p : List ℕ) → slice_cmp nat_cmp p p ≡ Less → ⊥
-irreflexive p e = not_less (slice_cmp nat_cmp p p) e (sym (nat_list_cmp_total.antisymm p p) ∙ e)
-  where
-    not_less : (o : Ordering) → o ≡ Less → ordering_reverse o ≡ Less → ⊥
-    not_less Less is back = cc
-    not_less Equal is back = cc
-    not_less Greater is back = cc
 
 -- a slot has one place
 pub one_place : (c : Configuration) (order : List ℕ) → InPathOrder c order → (a b n : ℕ) → slice_get order a ≡ Some n → slice_get order b ≡ Some n → a ≡ b

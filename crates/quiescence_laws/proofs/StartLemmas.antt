@@ -38,7 +38,8 @@ use Rattle.quiesce_core.specs.WellFormed.{IsWellFormed}
 use Rattle.quiesce_core.proofs.Cycles.{map_or_at, no_cycle_if_ranked, ranked_if_no_cycle}
 use Rattle.quiesce_core.proofs.GraphLemmas.{length-numbered_from, well_formed_started}
 use Rattle.quiesce_core.proofs.LegalLemmas.{allowed}
-use Rattle.quiesce_core.proofs.OrderLemmas.{contains_at, irreflexive}
+use Rattle.config_graph.proofs.PathLemmas.{irreflexive}
+use Rattle.quiesce_core.proofs.OrderLemmas.{contains_at}
 use Rattle.quiesce_core.proofs.SettledLemmas.{if_settled}
 use Rattle.quiescence_laws.specs.Starts.{make_of, link_of, reopen_of, start_of}
 use Rattle.quiescence_laws.proofs.Paths.{Path, none_yet, first, both}
@@ -285,9 +286,10 @@ module _ (g : Graph) (sound : Sound g) (few_nodes : length g.nodes ≤ 1023) (fe
           serves = l.serves;
           provide = l.provide;
           depends =
-              let o = l.depends.0 in
-              (record { node = o.node; made = o.made; from = o.from; below = o.below },
-              subst (λ r. option_map_or (λ (m : Slot). depends_on m.node.kind l.serves r) (slot (started g).config n) false ≡ true) (part done rest e l.port).require l.depends.1);
+              let o = l.depends.0 in (
+                record { node = o.node; made = o.made; from = o.from; below = o.below },
+                subst (λ r. option_map_or (λ (m : Slot). depends_on m.node.kind l.serves r) (slot (started g).config n) false ≡ true) (part done rest e l.port).require l.depends.1,
+              );
           linked = (part done rest e l.port).targets (record { node = m; provide = l.provide }) l.linked;
         });
       })
