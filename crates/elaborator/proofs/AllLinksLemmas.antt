@@ -90,12 +90,12 @@ first_links-push tree top nodes from require old new t so_far is_target pushed =
 pub begins_within : (tree : Tree) (top : Instance) (nodes : List Node) (l : Link) → IsLink tree top nodes l → l.require < requires_at nodes l.from
 begins_within tree top nodes l is =
     let within = slice_get_within (row is.from.kind).requires_ l.require is.linked.required is.linked.requires_it in
-    omega (arith, within, ap (λ o. option_map_or requires_of o 0) is.is_from)
+    omega (arith, within, ap (λ o. option_map_or requires_of o 0) is.from_there)
 
 pub ends_within : (tree : Tree) (top : Instance) (nodes : List Node) (l : Link) → IsLink tree top nodes l → l.provide < provides_at nodes l.to
 ends_within tree top nodes l is =
     let within = slice_get_within (row is.to.kind).provides l.provide is.linked.provided is.linked.provides_it in
-    omega (arith, within, ap (λ o. option_map_or provides_of o 0) is.is_to)
+    omega (arith, within, ap (λ o. option_map_or provides_of o 0) is.to_there)
 
 -- all requirements of a node
 pub first_links-node :
@@ -124,7 +124,7 @@ pub links-all :
     (tree : Tree) (top : Instance) (nodes : List Node) (from : ℕ) (links : List Link) → length nodes ≤ from → AreFirstLinks tree top nodes from 0 links
     → AreLinks tree top nodes links
 links-all tree top nodes from links all so_far = record {
-  links_are = λ l. (λ there. (so_far.sound l there).0, λ is. so_far.complete l is (inl (omega (arith, all, slice_get_within nodes l.from is.from is.is_from))));
+  links_are = λ l. (λ there. (so_far.sound l there).0, λ is. so_far.complete l is (inl (omega (arith, all, slice_get_within nodes l.from is.from is.from_there))));
   within = λ i d within.
       let is = (so_far.sound (get_or links i d) (Contains-get_or links i d within)).0 in
       record { begins = begins_within tree top nodes (get_or links i d) is; ends = ends_within tree top nodes (get_or links i d) is };

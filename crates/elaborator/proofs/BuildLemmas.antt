@@ -27,7 +27,7 @@ use Rattle.elaborator.specs.Links.{AreLinks}
 use Rattle.elaborator.specs.declared.nodes.Nodes.{Nodes}
 use Rattle.elaborator.specs.declared.error.ElabError.{ElabError}
 use Rattle.elaborator.specs.declared.error.ElabError.TheVariants as error
-use Rattle.elaborator.proofs.UniqueLemmas.{kept_in_order}
+use Rattle.elaborator.proofs.UniqueLemmas.{elab_by_list, kept_in_order}
 use Rattle.elaborator.proofs.WholeLemmas.{Contains-at, at_some_place}
 
 -- ---- how many ports there are
@@ -66,12 +66,11 @@ pub elab_of :
     (e : Expanded) (top : Instance) → IsOf e top → (n : Nodes) (links : List Link) (g : Configuration) → AreNodes e n → AreLinks e.tree top n.nodes.items links
     → g ≡ graph_of n.nodes.items links → ((l : Link) → (Contains g.links l → Contains links l) × (Contains links l → Contains g.links l))
     → IsElab e.tree top g
-elab_of e top is_of n links g nodes all is same = record {
-  paths_rise = subst PathsRise (sym nodes_same) nodes.paths_rise;
-  nodes_are = λ node. (λ there. made node (subst (λ ns. Contains ns node) nodes_same there), λ is_node. subst (λ ns. Contains ns node) (sym nodes_same) (there node is_node));
-  links_are = λ l. (λ there. subst (λ ns. IsLink e.tree top ns l) (sym nodes_same) ((all.links_are l).0 ((same l).0 there)), λ is_link. (same l).1 ((all.links_are l).1 (subst (λ ns. IsLink e.tree top ns l) nodes_same is_link)));
-  in_order = kept_in_order n.nodes.items links g all.one_a_port is same;
-}
+elab_of e top is_of n links g nodes all is same =
+    elab_by_list e.tree top g (subst PathsRise (sym nodes_same) nodes.paths_rise)
+    (λ node. (λ there. made node (subst (λ ns. Contains ns node) nodes_same there), λ is_node. subst (λ ns. Contains ns node) (sym nodes_same) (there node is_node)))
+    (λ l. (λ there. subst (λ ns. IsLink e.tree top ns l) (sym nodes_same) ((all.links_are l).0 ((same l).0 there)), λ is_link. (same l).1 ((all.links_are l).1 (subst (λ ns. IsLink e.tree top ns l) nodes_same is_link))))
+    (kept_in_order n.nodes.items links g all.one_a_port is same)
   where
     nodes_same : g.nodes ≡ n.nodes.items
     nodes_same = ap (λ (h : Configuration). h.nodes) is

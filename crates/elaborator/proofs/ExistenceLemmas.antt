@@ -38,7 +38,8 @@ use Rattle.elaborator.proofs.LinkLemmas.{both_sides, one_provision}
 use Rattle.elaborator.proofs.TargetLemmas.{one_place}
 use Rattle.elaborator.proofs.LawLemmas.{instances-listed}
 use Rattle.elaborator.proofs.SingleLemmas.{IsBoundOnce, one_node, linked_once}
-use Rattle.elaborator.proofs.UniqueLemmas.{before_all, rest_rises}
+use Rattle.config_graph.proofs.OrderedLists.{before_all, rest_rises}
+use Rattle.elaborator.proofs.UniqueLemmas.{elab_by_list}
 use Rattle.elaborator.proofs.WholeLemmas.{Contains-at, at_some_place}
 use Rattle.elaborator.proofs.AllLinksLemmas.{first_links-skip, first_links-push, first_links-node, links-all}
 
@@ -289,14 +290,14 @@ module _ (tree : Tree) (top : Instance) (once : IsBoundOnce tree top) where
       by :
           (a : Option Node) → slice_get nodes.list from ≡ a → (b : Option Node) → slice_get nodes.list k ≡ b
           → IsLink tree top nodes.list (link_to from require (at_node k)) ⊎ (IsLink tree top nodes.list (link_to from require (at_node k)) → ⊥)
-      by None none b is = inr (λ l. none-some l.from (sym none ∙ l.is_from))
-      by (Some a) is None none = inr (λ l. none-some l.to (sym none ∙ l.is_to))
+      by None none b is = inr (λ l. none-some l.from (sym none ∙ l.from_there))
+      by (Some a) is None none = inr (λ l. none-some l.to (sym none ∙ l.to_there))
       by (Some a) is (Some b) is' =
           elim (linked_or_not a b ((nodes_are a).0 (Contains-at nodes.list from a is)) ((nodes_are b).0 (Contains-at nodes.list k b is')) require 0) [
-            | inl linked ↦ inl (record { from = a; to = b; is_from = is; is_to = is'; linked = linked })
+            | inl linked ↦ inl (record { from = a; to = b; from_there = is; to_there = is'; linked = linked })
             | inr refuted ↦ inr (λ l.
-                let one = same_Some l.from a (sym l.is_from ∙ is) in
-                let other = same_Some l.to b (sym l.is_to ∙ is') in
+                let one = same_Some l.from a (sym l.from_there ∙ is) in
+                let other = same_Some l.to b (sym l.to_there ∙ is') in
                 refuted (subst (λ n. Linked tree top a require n 0) other (subst (λ m. Linked tree top m require l.to 0) one l.linked)))
           ]
 
@@ -315,16 +316,16 @@ module _ (tree : Tree) (top : Instance) (once : IsBoundOnce tree top) where
 
   one_target : (from require : ℕ) (t u : Target) → IsLink tree top nodes.list (link_to from require t) → IsLink tree top nodes.list (link_to from require u) → u ≡ t
   one_target from require t u is is' =
-      let a = same_Some is.from is'.from (sym is.is_from ∙ is'.is_from) in
+      let a = same_Some is.from is'.from (sym is.from_there ∙ is'.from_there) in
       let same = linked_once tree top once is'.from is'.to is.to require u.provide t.provide is'.linked (subst (λ n. Linked tree top n require is.to t.provide) a is.linked) in
-      let place = one_place nodes.list nodes.rise u.node t.node is.to (is'.is_to ∙ ap Some same.0) is.is_to in
+      let place = one_place nodes.list nodes.rise u.node t.node is.to (is'.to_there ∙ ap Some same.0) is.to_there in
       λ k. record { node = place k; provide = same.1 k }
 
   targeted : (from require : ℕ) → (r : Option Target) × IsTargeted tree top nodes.list from require r
   targeted from require =
       elim (any_or_none (λ k. IsLink tree top nodes.list (link_to from require (at_node k))) places (λ k there. link_or_not from require k)) [
         | inl w ↦ (Some (at_node w.0), record { is_link = w.2; only = λ u is. one_target from require (at_node w.0) u w.2 is })
-        | inr refuted ↦ (None, λ t is. refuted t.node (place_there t.node (slice_get_within nodes.list t.node is.to is.is_to)) (subst (λ u. IsLink tree top nodes.list (link_to from require u)) (first_provision from require t is) is))
+        | inr refuted ↦ (None, λ t is. refuted t.node (place_there t.node (slice_get_within nodes.list t.node is.to is.to_there)) (subst (λ u. IsLink tree top nodes.list (link_to from require u)) (first_provision from require t is) is))
       ]
 
   to_require :
@@ -362,10 +363,6 @@ module _ (tree : Tree) (top : Instance) (once : IsBoundOnce tree top) where
   elab_there =
       let same = Contains-in_order nodes.list links.0 links.1.within links.1.one_a_port in (
         graph_of nodes.list links.0,
-        record {
-          paths_rise = nodes.rise;
-          nodes_are = nodes_are;
-          links_are = λ l. (λ there. (links.1.links_are l).0 ((same l).0 there), λ is. (same l).1 ((links.1.links_are l).1 is));
-          in_order = in_port_order-twice nodes.list links.0;
-        },
+        elab_by_list tree top (graph_of nodes.list links.0) nodes.rise nodes_are
+            (λ l. (λ there. (links.1.links_are l).0 ((same l).0 there), λ is. (same l).1 ((links.1.links_are l).1 is))) (in_port_order-twice nodes.list links.0),
       )

@@ -11,7 +11,7 @@ use Rattle.elaborator.specs.Bindings.{Port, Leads}
 use Rattle.elaborator.specs.Graph.{IsLink, IsRequirementAt, IsProvisionAt, port_at}
 use Rattle.elaborator.specs.Elaboration.{IsGraphOf}
 use Rattle.elaborator.proofs.Lists.{Contains-from_filter_map}
-use Rattle.elaborator.proofs.UniqueLemmas.{link_found}
+use Rattle.elaborator.proofs.UniqueLemmas.{link_found, links_listed}
 
 -- the ends of a link, to the one of which bindings lead from the other
 abbrev Joins : Tree → Instance → Configuration → Link → Type 0
@@ -28,7 +28,7 @@ joins tree top g l is =
         node = is.from;
         instance = from.instance;
         name = is.linked.required;
-        stands = is.is_from;
+        stands = is.from_there;
         is_instance = from.is_instance;
         is_node = from.is_node;
         requires_it = is.linked.requires_it;
@@ -38,7 +38,7 @@ joins tree top g l is =
         node = is.to;
         instance = to.instance;
         provision = is.linked.provided;
-        stands = is.is_to;
+        stands = is.to_there;
         is_instance = to.is_instance;
         is_node = to.is_node;
         provides_it = is.linked.provides_it;
@@ -51,7 +51,7 @@ pub joined :
     (tree : Tree) (name : Name) (arguments : List ℤ) (top : Instance) (g : Configuration) (l : Link) → top_instance tree name arguments ≡ Some top
     → IsGraphOf tree name arguments g → Contains g.links l → Joins tree top g l
 joined tree name arguments top g l is_top graph there =
-    subst (λ t. Joins tree t g l) (same_Some graph.top top (sym graph.is_top ∙ is_top)) (joins tree graph.top g l ((graph.is_elab.links_are l).0 there))
+    subst (λ t. Joins tree t g l) (same_Some graph.top top (sym graph.is_top ∙ is_top)) (joins tree graph.top g l ((links_listed tree graph.top g graph.is_elab l).0 there))
 
 -- a link of a graph is that of its requirement
 own_link : (g : Configuration) (l : Link) → in_port_order g.nodes g.links ≡ g.links → Contains g.links l → link_at g.links l.from l.require ≡ Some l

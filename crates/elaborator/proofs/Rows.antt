@@ -12,6 +12,7 @@ use Rattle.darwin_parser.specs.declared.tree.Side.{Side}
 use Rattle.darwin_parser.specs.declared.tree.Side.TheVariants.{Provide, Require}
 use Rattle.darwin_parser.specs.Tree.{Name, Expr, num, single, inst, bind, end, then, Component, Stmt, Stmts, PortDecl, PortRef, Tree}
 use Rattle.darwin_walk.specs.Instance.{End}
+use Rattle.elaborator.proofs.UniqueLemmas.{elab_by_list}
 use Rattle.elaborator.specs.Paths.{Path}
 use Rattle.elaborator.specs.Instances.{Instance, Inst, made_in, levels, instances, total, top_instance}
 use Rattle.elaborator.specs.Instances.Inst.{at_top, below}
@@ -196,7 +197,7 @@ only_at n m (suc k) is = absurd (none-some m is)
 
 no_link : (l : Link) → IsLink one one_top (sink_node ∷ []) l → ⊥
 no_link l is =
-    let node : is.from ≡ sink_node = only_at sink_node is.from l.from is.is_from in
+    let node : is.from ≡ sink_node = only_at sink_node is.from l.from is.from_there in
     none-some is.linked.required (subst (λ (n : Node). slice_get (row n.kind).requires_ l.require ≡ Some is.linked.required) node is.linked.requires_it)
 
 -- the graph is the one node, without a link
@@ -207,15 +208,11 @@ one_graph =
       top = one_top;
       is_top = refl;
       is_elab =
-          record {
-            paths_rise = λ i j d lt within. absurd (omega (arith, lt, within));
-            nodes_are = λ n. (
-              λ there. subst (IsNode one one_top) (sym (Contains-one sink_node n there)) one_node,
-              λ is. subst (Contains (sink_node ∷ [])) (sym (only_node n is)) (Contains-here sink_node []),
-            );
-            links_are = λ l. (λ there. absurd (Contains-nil l there), λ is. absurd (no_link l is));
-            in_order = refl;
-          };
+          elab_by_list one one_top _ (λ i j d lt within. absurd (omega (arith, lt, within)))
+          (λ n. (
+            λ there. subst (IsNode one one_top) (sym (Contains-one sink_node n there)) one_node,
+            λ is. subst (Contains (sink_node ∷ [])) (sym (only_node n is)) (Contains-here sink_node []),
+          )) (λ l. (λ there. absurd (Contains-nil l there), λ is. absurd (no_link l is))) refl;
     }
 
 -- ---- a source bound to a sink through an outer requirement
@@ -304,8 +301,8 @@ line_link =
     record {
       from = source_node;
       to = sink_node;
-      is_from = refl;
-      is_to = refl;
+      from_there = refl;
+      to_there = refl;
       linked =
           record {
             from = is_source;

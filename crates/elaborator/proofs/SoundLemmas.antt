@@ -31,6 +31,7 @@ use Rattle.elaborator.specs.Built.{BuildFault, IsBuilt}
 use Rattle.elaborator.specs.declared.error.ElabError.{ElabError}
 use Rattle.elaborator.specs.declared.error.ElabError.TheVariants as error
 use Rattle.darwin_types.proofs.Lists.{Contains-here, Contains-nil, Contains-flat_map}
+use Rattle.elaborator.proofs.UniqueLemmas.{links_listed}
 use Rattle.elaborator.proofs.Lists.{Contains-from_filter_map, find-some, made_of_found}
 use Rattle.elaborator.proofs.NodeLemmas.{node_parts}
 use Rattle.elaborator.proofs.AllLinksLemmas.{begins_within, ends_within}
@@ -198,7 +199,7 @@ sound_graph tree name arguments top g no_fault is_top clear is_elab no_cycle = r
       let n = (is_elab.nodes_are (get_or g.nodes i d)).0 (Contains-get_or g.nodes i d within) in
       has_its_argument tree name arguments top no_fault is_top clear n.instance (get_or g.nodes i d) n.is_instance n.is_node;
   within = λ i d within.
-      let l = (is_elab.links_are (get_or g.links i d)).0 (Contains-get_or g.links i d within) in
+      let l = (links_listed tree top g is_elab (get_or g.links i d)).0 (Contains-get_or g.links i d within) in
       record { begins = begins_within tree top g.nodes (get_or g.links i d) l; ends = ends_within tree top g.nodes (get_or g.links i d) l };
   in_order = is_elab.in_order;
   no_cycle = no_cycle;

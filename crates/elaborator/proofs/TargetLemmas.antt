@@ -170,8 +170,8 @@ provided_linked e top targets indexed n a require start r t p =
     record {
       from = r.node;
       to = p.node;
-      is_from = r.stands;
-      is_to = p.stands;
+      from_there = r.stands;
+      to_there = p.stands;
       linked = record {
         from = record { instance = r.instance; is_instance = indexed.is_of.sound r.number r.instance r.numbered; is_node = r.is_node };
         to = record { instance = p.instance; is_instance = indexed.is_of.sound (end_of 68 targets start).instance p.instance p.numbered; is_node = p.is_node };
@@ -189,7 +189,7 @@ linked_provided :
     → (t : Target) → IsLink e.tree top n.nodes.items (link_to a require t) → Provides e n.nodes.items (end_of 68 targets start) t
 linked_provided e top targets indexed n a require start r t l =
     let k = l.linked in
-    let from_node : l.from ≡ r.node = same_Some l.from r.node (sym l.is_from ∙ r.stands) in
+    let from_node : l.from ≡ r.node = same_Some l.from r.node (sym l.from_there ∙ r.stands) in
     let from_at = indexed.is_of.complete k.from.instance k.from.is_instance in
     let from : k.from.instance ≡ r.instance = one_node e indexed.expanded from_at.0 r.number k.from.instance r.instance r.node from_at.1 r.numbered (k.from.is_node ∙ ap Some from_node) r.is_node in
     let name : k.required ≡ r.name = same_Some k.required r.name (sym (subst (λ (x : Node). slice_get (row x.kind).requires_ require ≡ Some k.required) from_node k.requires_it) ∙ r.required) in
@@ -208,7 +208,7 @@ linked_provided e top targets indexed n a require start r t l =
       provision = k.provided;
       numbered = plain_target.numbered;
       is_node = k.to.is_node;
-      stands = l.is_to;
+      stands = l.to_there;
       provided = k.provides_it;
       is_port = id.1;
     })
@@ -230,7 +230,7 @@ pub untargeted :
     → ((k : PortId) → ¬ Plain e k i Require name) → (t : Target) → ¬ IsLink e.tree top n.nodes.items (link_to a require t)
 untargeted e top targets indexed n a require node name number i stands required numbered is_node no_port t l =
     let k = l.linked in
-    let from_node : l.from ≡ node = same_Some l.from node (sym l.is_from ∙ stands) in
+    let from_node : l.from ≡ node = same_Some l.from node (sym l.from_there ∙ stands) in
     let from_at = indexed.is_of.complete k.from.instance k.from.is_instance in
     let from : k.from.instance ≡ i = one_node e indexed.expanded from_at.0 number k.from.instance i node from_at.1 numbered (k.from.is_node ∙ ap Some from_node) is_node in
     let same : k.required ≡ name = same_Some k.required name (sym (subst (λ (x : Node). slice_get (row x.kind).requires_ require ≡ Some k.required) from_node k.requires_it) ∙ required) in

@@ -47,7 +47,7 @@ use Rattle.elaborator.proofs.SoundLemmas.{sound_graph}
 use Rattle.elaborator.proofs.SingleLemmas.{one_maker_of}
 use Rattle.elaborator.proofs.ElaborationLemmas.{is_own}
 use Rattle.elaborator.proofs.ExistenceLemmas.{one_bytes, one_number, one_port, elab_there}
-use Rattle.elaborator.proofs.UniqueLemmas.{one_graph}
+use Rattle.elaborator.proofs.UniqueLemmas.{links_listed, one_graph}
 use Rattle.elaborator.proofs.WholeLemmas.{Contains-at}
 use Rattle.std.proofs.lemmas.Slice.Eq.{bytes_eq-Decides}
 
@@ -290,7 +290,7 @@ module _ (tree : Tree) (name : Name) (arguments : List ℤ) where
 
       within : (g : Configuration) → IsElab tree top g → (i : ℕ) (d : _) → i < length g.links → IsWithin g.nodes (get_or g.links i d)
       within g is i d low =
-          let l = (is.links_are (get_or g.links i d)).0 (Contains-get_or g.links i d low) in
+          let l = (links_listed tree top g is (get_or g.links i d)).0 (Contains-get_or g.links i d low) in
           record { begins = begins_within tree top g.nodes (get_or g.links i d) l; ends = ends_within tree top g.nodes (get_or g.links i d) l }
 
       cycle_or_none : Some_fault ⊎ NoCycle elab.0

@@ -1,6 +1,6 @@
 -- The graph of an elaboration: its nodes are the instances of primitive components, and a requirement of a node is
 -- linked to a provision of a node where a list of bindings leads from the one to the other.
-use Rattle.std.specs.Prelude.{◌≡◌, ◌↔◌, ℕ, ℤ, pos, negsuc, List, Option, Some, None, option_map, slice_get, if◌then◌else◌, Contains}
+use Rattle.std.specs.Prelude.{◌≡◌, ℕ, ℤ, pos, negsuc, List, Option, Some, None, option_map, slice_get, if◌then◌else◌}
 use Rattle.darwin_parser.specs.declared.tree.Side.{Side}
 use Rattle.darwin_parser.specs.declared.tree.Side.TheVariants.{Provide, Require}
 use Rattle.darwin_parser.specs.Tree.{Name, Tree}
@@ -9,7 +9,8 @@ use Rattle.config_graph.specs.declared.kind.Kind.{Kind}
 use Rattle.config_graph.specs.declared.node.Node.{Node}
 use Rattle.config_graph.specs.declared.node.Link.{Link}
 use Rattle.config_graph.specs.Kinds.{kind_named, row, Provision}
-use Rattle.config_graph.specs.Graph.{Configuration, PathsRise, in_port_order}
+use Rattle.config_graph.specs.Graph.{Configuration}
+use Rattle.config_graph.specs.GraphBy.{AreLinkedAt, IsGraphBy}
 use Rattle.elaborator.specs.Instances.{Instance, Inst}
 use Rattle.elaborator.specs.Bindings.{Port, Leads}
 
@@ -46,20 +47,12 @@ pub record Linked (tree : Tree) (top : Instance) (a : Node) (require : ℕ) (b :
   pub leads : Leads tree top (port_at from.instance Require required) (port_at to.instance Provide provided.name)
 
 -- a link of the graph, which names its nodes by their places in the list
-pub record IsLink (tree : Tree) (top : Instance) (nodes : List Node) (l : Link) : Type 0 where
-  pub from : Node
-  pub to : Node
-  pub is_from : slice_get nodes l.from ≡ Some from
-  pub is_to : slice_get nodes l.to ≡ Some to
-  pub linked : Linked tree top from l.require to l.provide
+abbrev pub IsLink : Tree → Instance → List Node → Link → Type 0
+IsLink tree top nodes l = AreLinkedAt (Linked tree top) nodes l.from l.require l.to l.provide
 
--- the graph of the elaboration with this top: nodes stand in the order of their paths, byte by byte, and links in that of
--- their ports, so there is no other
-pub record IsElab (tree : Tree) (top : Instance) (g : Configuration) : Type 0 where
-  pub paths_rise : PathsRise g.nodes
-  pub nodes_are : (n : Node) → Contains g.nodes n ↔ IsNode tree top n
-  pub links_are : (l : Link) → Contains g.links l ↔ IsLink tree top g.nodes l
-  pub in_order : in_port_order g.nodes g.links ≡ g.links
+-- the graph of the elaboration with this top
+abbrev pub IsElab : Tree → Instance → Configuration → Type 0
+IsElab tree top g = IsGraphBy (IsNode tree top) (Linked tree top) g
 
 -- the port that a requirement of the node at a place is
 pub record IsRequirementAt (tree : Tree) (top : Instance) (nodes : List Node) (place require : ℕ) (x : Port) : Type 0 where

@@ -7,6 +7,7 @@ use Rattle.std.proofs.lemmas.Slice.Eq.{bytes_eq-Decides}
 use Rattle.config_graph.specs.declared.node.Node.{Node}
 use Rattle.config_graph.specs.declared.node.Link.{Link}
 use Rattle.config_graph.specs.Graph.{Configuration}
+use Rattle.config_graph.specs.GraphBy.{AreLinkedAt}
 use Rattle.darwin_parser.specs.declared.tree.Side.{Side}
 use Rattle.darwin_parser.specs.declared.tree.Side.TheVariants.{Provide, Require}
 use Rattle.darwin_parser.specs.Tree.{Name, Tree, PortDecl}
@@ -232,20 +233,25 @@ linked-like t u top top' turns a r b p is =
           (subst (λ y. Leads u top' (port_at is.from.instance Require is.required) y) (port_at-same is.to.instance to.0 Provide is.provided.name to.2) (turns.leads _ _ is.leads));
     }
 
-link-like : (t u : Tree) (top top' : Instance) → Turns t u top top' → (nodes : List Node) (l : Link) → IsLink t top nodes l → IsLink u top' nodes l
-link-like t u top top' turns nodes l is = record {
+link-like :
+    (t u : Tree) (top top' : Instance) → Turns t u top top' → (nodes : List Node) (i r j x : ℕ) → AreLinkedAt (Linked t top) nodes i r j x
+    → AreLinkedAt (Linked u top') nodes i r j x
+link-like t u top top' turns nodes i r j x is = record {
   from = is.from;
   to = is.to;
-  is_from = is.is_from;
-  is_to = is.is_to;
-  linked = linked-like t u top top' turns is.from l.require is.to l.provide is.linked;
+  from_there = is.from_there;
+  to_there = is.to_there;
+  linked = linked-like t u top top' turns is.from r is.to x is.linked;
 }
 
 elab-by : (t u : Tree) (top top' : Instance) → Turns t u top top' → Turns u t top' top → (g : Configuration) → IsElab t top g → IsElab u top' g
 elab-by t u top top' onward back g is = record {
   paths_rise = is.paths_rise;
   nodes_are = λ n. ((λ there. node-like t u top top' onward n ((is.nodes_are n).0 there)), (λ made. (is.nodes_are n).1 (node-like u t top' top back n made)));
-  links_are = λ l. ((λ there. link-like t u top top' onward g.nodes l ((is.links_are l).0 there)), (λ joined. (is.links_are l).1 (link-like u t top' top back g.nodes l joined)));
+  links_are = λ i r j x. (
+    (λ there. link-like t u top top' onward g.nodes i r j x ((is.links_are i r j x).0 there)),
+    (λ joined. (is.links_are i r j x).1 (link-like u t top' top back g.nodes i r j x joined)),
+  );
   in_order = is.in_order;
 }
 
