@@ -7,8 +7,6 @@ mod indexes;
 mod kind;
 mod node;
 mod numbering;
-#[cfg(test)]
-mod tests;
 mod writing;
 
 pub use base::{List, NoMemory, Text};
