@@ -8,8 +8,6 @@ mod kind;
 mod laws;
 mod node;
 mod numbering;
-#[cfg(test)]
-mod tests;
 mod writing;
 
 pub use base::{List, NoMemory, Text};

@@ -14,6 +14,3 @@ pub use laws::{fronts_as_spelled, limit_of_a_text, one_reading, tokens_in_order}
 pub use lexing::{MAX_TEXT, lex};
 pub use naming::is_name;
 pub use token::{At, Keyword, LexError, Sign, Token, TokenKind};
-
-#[cfg(test)]
-mod tests;

@@ -8,8 +8,6 @@ mod expressions;
 mod parsing;
 mod source;
 mod statements;
-#[cfg(test)]
-mod tests;
 mod tree;
 
 pub use error::ParseError;

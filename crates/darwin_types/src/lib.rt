@@ -13,8 +13,6 @@ mod named;
 mod names;
 mod primitive;
 mod refusal;
-#[cfg(test)]
-mod tests;
 
 pub use checked::Checked;
 pub use checking::{a_fault_or_none, check};

@@ -6,8 +6,6 @@ mod fault;
 mod instance;
 mod named;
 mod scope;
-#[cfg(test)]
-mod tests;
 mod valuing;
 mod walked;
 mod walking;

@@ -1,39 +1,45 @@
-//! Worked values: the table of kinds, and a graph of three nodes with its text.
+//! Rows of graphs: the table of kinds, a graph of three nodes with its look-ups and text, and circles.
 
 ghost use Rattle.std.specs.Prelude.{◌≡◌, ◌⊎◌, IfOk};
 
-use crate::{
-    Graph, Kind, Link, List, NoMemory, Node, Port, Target, Text, first_on_cycle, graph_text,
-    kind_of, same,
+use base::{NoMemory, Text};
+use config_graph::{
+    Graph, Kind, Link, Node, Port, Target, first_on_cycle, graph_text, kind_of, same,
 };
 use std::alloc::Global;
 use std::test::Fail;
 
+/// A kind's number, name, provided and required services, whether it has an argument, and the calls and intermediate replies of one
+/// service.
+type Columns = (u32, &'static str, u32, u32, bool, u32, u32);
+
+static KINDS: [Columns; 12] = [
+    (0, "philosopher", 0, 1, true, 0, 0),
+    (1, "place", 1, 2, true, 4, 0),
+    (2, "fork", 1, 0, false, 0, 0),
+    (3, "source", 0, 1, true, 0, 0),
+    (4, "map", 1, 1, true, 1, 0),
+    (5, "buffer", 1, 1, true, 0, 0),
+    (6, "sink", 1, 0, false, 0, 0),
+    (7, "teller", 0, 1, true, 0, 0),
+    (8, "branch", 1, 2, false, 2, 0),
+    (9, "account", 1, 0, true, 0, 0),
+    (10, "asker", 0, 1, true, 0, 0),
+    (11, "adder", 1, 0, false, 0, 1),
+];
+
 #[test]
 fn kinds_have_their_columns(rt: HostRuntime) {
-    for (number, name, provides, requires_, has_arg, calls, mores) in [
-        (0, "philosopher", 0, 1, true, 0, 0),
-        (1, "place", 1, 2, true, 4, 0),
-        (2, "fork", 1, 0, false, 0, 0),
-        (3, "source", 0, 1, true, 0, 0),
-        (4, "map", 1, 1, true, 1, 0),
-        (5, "buffer", 1, 1, true, 0, 0),
-        (6, "sink", 1, 0, false, 0, 0),
-        (7, "teller", 0, 1, true, 0, 0),
-        (8, "branch", 1, 2, false, 2, 0),
-        (9, "account", 1, 0, true, 0, 0),
-        (10, "asker", 0, 1, true, 0, 0),
-        (11, "adder", 1, 0, false, 0, 1),
-    ] {
+    for (number, name, provides, requires_, has_arg, calls, mores) in &KINDS {
         let kind = kind_of(name.as_bytes()).unwrap_or(Kind::Fork);
-        assert_eq!(rt; kind.name(), name);
-        assert_eq!(rt; kind.number(), number);
-        assert_eq!(rt; kind.provides(), provides);
-        assert_eq!(rt; kind.requires_(), requires_);
-        assert_eq!(rt; kind.has_arg(), has_arg);
-        assert_eq!(rt; kind.max_calls(0), calls);
-        assert_eq!(rt; kind.max_mores(0), mores);
-        assert_eq!(rt; kind.depends(0, 0), calls > 0);
+        assert_eq!(rt; kind.name(), *name);
+        assert_eq!(rt; kind.number(), *number);
+        assert_eq!(rt; kind.provides(), *provides);
+        assert_eq!(rt; kind.requires_(), *requires_);
+        assert_eq!(rt; kind.has_arg(), *has_arg);
+        assert_eq!(rt; kind.max_calls(0), *calls);
+        assert_eq!(rt; kind.max_mores(0), *mores);
+        assert_eq!(rt; kind.depends(0, 0), *calls > 0);
     }
     assert_eq!(rt; kind_of(b"forks"), None);
     assert_eq!(rt; Kind::Branch.require_name(1), "to");
@@ -128,6 +134,7 @@ fn a_copy_is_the_same(rt: HostRuntime) -> Result<(), Fail> {
     let graph = three_nodes(rt.alloc())?;
     let copy = graph.try_clone()?;
     assert!(rt; same(&graph, &copy));
+    assert_eq!(rt; first_on_cycle(rt.alloc(), &copy)?, None);
     Ok(())
 }
 
@@ -147,13 +154,5 @@ fn a_map_in_a_circle_is_on_a_cycle_and_a_buffer_is_not(rt: HostRuntime) -> Resul
     assert_eq!(rt; first_on_cycle(rt.alloc(), &map)?, Some(0));
     let buffer = linked_to_itself(rt.alloc(), Kind::Buffer)?;
     assert_eq!(rt; first_on_cycle(rt.alloc(), &buffer)?, None);
-    Ok(())
-}
-
-#[test]
-fn a_list_holds_its_items(rt: HostRuntime) -> Result<(), Fail> {
-    let list: List<u32> = List::of(vec![in rt.alloc(); 7, 5, 7]?);
-    assert_eq!(rt; list.items(), [7, 5, 7].as_slice());
-    assert_eq!(rt; list.into_vec().as_slice(), [7, 5, 7].as_slice());
     Ok(())
 }

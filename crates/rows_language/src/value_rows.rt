@@ -1,0 +1,197 @@
+//! Rows of `elaborate` on values: their ends, signs and arguments of kinds.
+
+use crate::elaborating::{Elaborated, KINDS, assert_outcomes};
+use std::test::Fail;
+
+/// The value that stands before `END` is the argument of a source.
+const VALUE: &str = "component V(int a, int b) {\ninst s:source(";
+
+const END: &str = "); }";
+
+/// A kind's argument in an instance within.
+const ARGUMENT_WITHIN: &str =
+    "component Box(int n) {\ninst s:source(n); } component Top(int n) { inst b:Box(n); }";
+
+/// Values: their ends, signs and arguments of kinds.
+static VALUES: [Elaborated; 9] = [
+    (
+        &[VALUE, "a + b == 2147483647", END, KINDS],
+        "V",
+        &[2147483646, 1],
+        "node s source(1)\nport s.out -\n",
+    ),
+    (
+        &[VALUE, "a + b == 0", END, KINDS],
+        "V",
+        &[2147483647, 1],
+        "OutOfRange . 2:6",
+    ),
+    (
+        &[VALUE, "a - b == -2147483647 - 1", END, KINDS],
+        "V",
+        &[-2147483647, 1],
+        "node s source(1)\nport s.out -\n",
+    ),
+    (
+        &[VALUE, "a - b == 0", END, KINDS],
+        "V",
+        &[-2147483648, 1],
+        "OutOfRange . 2:6",
+    ),
+    (
+        &[VALUE, "a * b == -2147483647 - 1", END, KINDS],
+        "V",
+        &[65536, -32768],
+        "node s source(1)\nport s.out -\n",
+    ),
+    (
+        &[VALUE, "a * b == 0", END, KINDS],
+        "V",
+        &[65536, 32768],
+        "OutOfRange . 2:6",
+    ),
+    (
+        &[VALUE, "-a == -2147483647", END, KINDS],
+        "V",
+        &[2147483647, 0],
+        "node s source(1)\nport s.out -\n",
+    ),
+    (
+        &[VALUE, "-a == 0", END, KINDS],
+        "V",
+        &[-2147483648, 0],
+        "OutOfRange . 2:6",
+    ),
+    (
+        &[VALUE, "a / b == a", END, KINDS],
+        "V",
+        &[-2147483648, 1],
+        "node s source(1)\nport s.out -\n",
+    ),
+];
+
+/// Values: their ends, signs and arguments of kinds.
+static FURTHER_VALUES: [Elaborated; 9] = [
+    (
+        &[VALUE, "a / b == 0", END, KINDS],
+        "V",
+        &[-2147483648, -1],
+        "OutOfRange . 2:6",
+    ),
+    (
+        &[VALUE, "a % b", END, KINDS],
+        "V",
+        &[-2147483648, -1],
+        "node s source(0)\nport s.out -\n",
+    ),
+    (
+        &[VALUE, "a / b + 10", END, KINDS],
+        "V",
+        &[7, 2],
+        "node s source(13)\nport s.out -\n",
+    ),
+    (
+        &[VALUE, "a / b + 10", END, KINDS],
+        "V",
+        &[-7, 2],
+        "node s source(7)\nport s.out -\n",
+    ),
+    (
+        &[VALUE, "a / b + 10", END, KINDS],
+        "V",
+        &[7, -2],
+        "node s source(7)\nport s.out -\n",
+    ),
+    (
+        &[VALUE, "a / b + 10", END, KINDS],
+        "V",
+        &[-7, -2],
+        "node s source(13)\nport s.out -\n",
+    ),
+    (
+        &[VALUE, "a % b + 10", END, KINDS],
+        "V",
+        &[7, 2],
+        "node s source(11)\nport s.out -\n",
+    ),
+    (
+        &[VALUE, "a % b + 10", END, KINDS],
+        "V",
+        &[-7, 2],
+        "node s source(9)\nport s.out -\n",
+    ),
+    (
+        &[VALUE, "a % b + 10", END, KINDS],
+        "V",
+        &[7, -2],
+        "node s source(11)\nport s.out -\n",
+    ),
+];
+
+/// Values: their ends, signs and arguments of kinds.
+static LAST_VALUES: [Elaborated; 9] = [
+    (
+        &[VALUE, "a % b + 10", END, KINDS],
+        "V",
+        &[-7, -2],
+        "node s source(9)\nport s.out -\n",
+    ),
+    (
+        &[VALUE, "a / b", END, KINDS],
+        "V",
+        &[7, 0],
+        "ZeroDivisor . 2:6",
+    ),
+    (
+        &[VALUE, "a % b", END, KINDS],
+        "V",
+        &[7, 0],
+        "ZeroDivisor . 2:6",
+    ),
+    (
+        &[VALUE, "a and 1 / b", END, KINDS],
+        "V",
+        &[0, 0],
+        "node s source(0)\nport s.out -\n",
+    ),
+    (
+        &[VALUE, "a or 1 / b", END, KINDS],
+        "V",
+        &[-7, 0],
+        "node s source(1)\nport s.out -\n",
+    ),
+    (
+        &[VALUE, "a", END, KINDS],
+        "V",
+        &[16777215, 0],
+        "node s source(16777215)\nport s.out -\n",
+    ),
+    (
+        &[VALUE, "a", END, KINDS],
+        "V",
+        &[16777216, 0],
+        "OutOfRange . 2:6",
+    ),
+    (&[VALUE, "a", END, KINDS], "V", &[-1, 0], "OutOfRange . 2:6"),
+    (
+        &[ARGUMENT_WITHIN, KINDS],
+        "Top",
+        &[16777216],
+        "OutOfRange b 2:6",
+    ),
+];
+
+#[test]
+fn values_have_ends_and_signs(rt: HostRuntime) -> Result<(), Fail> {
+    assert_outcomes(&rt, rt.alloc(), &VALUES)
+}
+
+#[test]
+fn further_values_have_ends_and_signs(rt: HostRuntime) -> Result<(), Fail> {
+    assert_outcomes(&rt, rt.alloc(), &FURTHER_VALUES)
+}
+
+#[test]
+fn last_values_have_ends_and_signs(rt: HostRuntime) -> Result<(), Fail> {
+    assert_outcomes(&rt, rt.alloc(), &LAST_VALUES)
+}
