@@ -10,25 +10,6 @@ component Line(int n, int k) {
 }
 ";
 
-/// A composite component with an array of maps, between a source and a sink.
-pub const PIPE: &str = "component source(int n) { require out; }
-component map(int k) { provide in; require next; }
-component sink { provide in; }
-component Pipe(int n) {
-  provide in; require out;
-  array F[n]:map(1);
-  forall k:0..n-1 {
-    inst F[k];
-    when k < n-1 bind F[k].next -- F[k+1].in;
-  }
-  bind in -- F[0].in; F[n-1].next -- out;
-}
-component Main(int n) {
-  inst s:source(2); p:Pipe(n); t:sink;
-  bind s.out -- p.in; p.out -- t.in;
-}
-";
-
 /// An array with an element outside its turns.
 pub const ROW: &str = "component sink { provide in; }
 component Row(int n) {

@@ -1,25 +1,21 @@
-//! Worked rows: runs of the commands over files in memory, with the texts and statuses that must come.
+//! Worked rows of the commands: runs over files in memory, with the texts and statuses that must come.
 #![tactic(auto)]
 
 #[cfg(test)]
-mod binding;
-#[cfg(test)]
 mod descriptions;
 #[cfg(test)]
-mod elaborating;
+mod fetch_rows;
 #[cfg(test)]
-mod faults;
+mod flat_refusals;
 #[cfg(test)]
-mod fetching;
+mod flat_rows;
 #[cfg(test)]
-mod flat;
+mod guide_rows;
 #[cfg(test)]
-mod guide;
+mod plan_rows;
 #[cfg(test)]
-mod plan;
-#[cfg(test)]
-mod replay;
+mod replay_rows;
 #[cfg(test)]
 mod running;
 #[cfg(test)]
-mod words;
+mod word_rows;

@@ -4,7 +4,7 @@ use crate::running::{AMPLE, Row, run};
 use std::test::Fail;
 
 /// The text of `examples/l.dar`.
-const L: &str = "// A source that feeds a sink through a buffer of two places.
+const LINE: &str = "// A source that feeds a sink through a buffer of two places.
 component source(int n) { require out; }
 component buffer(int cap) { provide in; require next; }
 component sink { provide in; }
@@ -80,7 +80,7 @@ begin 0 1 1
 static ROWS: [Row<'static>; 6] = [
     Row {
         words: &["flat", "l.dar", "L"],
-        files: &[("l.dar", L)],
+        files: &[("l.dar", LINE)],
         room: AMPLE,
         status: 0,
         written: "node b buffer(2)\nport b.next t.in\nnode s source(3)\nport s.out b.in\nnode t sink()\n",
@@ -120,14 +120,14 @@ static ROWS: [Row<'static>; 6] = [
     },
     Row {
         words: &["replay", "l.dar", "l-events.txt"],
-        files: &[("l.dar", L), ("l-events.txt", EVENTS)],
+        files: &[("l.dar", LINE), ("l-events.txt", EVENTS)],
         room: AMPLE,
         status: 0,
         written: "events 3\nopen 1 1 root taken\nrest 2\n",
     },
     Row {
         words: &["replay", "l.dar", "l-denied.txt"],
-        files: &[("l.dar", L), ("l-denied.txt", DENIED)],
+        files: &[("l.dar", LINE), ("l-denied.txt", DENIED)],
         room: AMPLE,
         status: 9,
         written: "denied 3 2\n",

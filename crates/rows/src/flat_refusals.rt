@@ -6,6 +6,8 @@ use crate::descriptions::{
 use crate::running::{AMPLE, Row, run};
 use cfg_io::{MemShelf, MemSink};
 use darwin_commands::{Status, still};
+use std::alloc::Global;
+use std::process::Abort;
 use std::test::Fail;
 
 /// A description, the component and the arguments, and the fault that must be named.
@@ -15,61 +17,12 @@ struct Fault {
     fault: &'static str,
 }
 
-static FAULTS: [Fault; 34] = [
-    Fault {
-        words: &["L"],
-        text: SMALL_REFUSED,
-        fault: "UnknownName L out",
-    },
-    Fault {
-        words: &["X"],
-        text: "",
-        fault: "NoTop X",
-    },
-    Fault {
-        words: &["Row", "0"],
-        text: ROW,
-        fault: "BadIndex . 5:8",
-    },
-    Fault {
-        words: &["Row", "1"],
-        text: ROW,
-        fault: "TwoInstances A[0]",
-    },
-    Fault {
-        words: &["Top"],
-        text: TWICE,
-        fault: "BoundTwice . p.out",
-    },
-    Fault {
-        words: &["Loop"],
-        text: LOOP,
-        fault: "TooDeep a.a.a.a.a.a.a.a.a.a.a.a.a.a.a.a.a.a.a.a.a.a.a.a.a.a.a.a.a.a.a.a.a",
-    },
-    Fault {
-        words: &["Turns", "65536"],
-        text: TURNS,
-        fault: "TooMany",
-    },
-    Fault {
-        words: &["Two"],
-        text: TWO,
-        fault: "Annotation . 3:48",
-    },
-    Fault {
-        words: &["Ring"],
-        text: RING,
-        fault: "DependsCycle a",
-    },
+/// Faults of tokens and of the grammar.
+static TEXTS: [Fault; 10] = [
     Fault {
         words: &["X"],
         text: "component $",
         fault: "BadByte 1:11",
-    },
-    Fault {
-        words: &["X"],
-        text: "component sink { provide out; }",
-        fault: "KindPorts sink",
     },
     Fault {
         words: &["X"],
@@ -116,6 +69,25 @@ static FAULTS: [Fault; 34] = [
         text: "component X {\n  when 2147483648 inst a:sink; }",
         fault: "BigNumber 2:8",
     },
+];
+
+/// Faults of names, kinds and tops.
+static NAMES: [Fault; 11] = [
+    Fault {
+        words: &["L"],
+        text: SMALL_REFUSED,
+        fault: "UnknownName L out",
+    },
+    Fault {
+        words: &["X"],
+        text: "",
+        fault: "NoTop X",
+    },
+    Fault {
+        words: &["X"],
+        text: "component sink { provide out; }",
+        fault: "KindPorts sink",
+    },
     Fault {
         words: &["X"],
         text: "component sink { provide in; } component sink { provide in; }",
@@ -156,6 +128,45 @@ static FAULTS: [Fault; 34] = [
         text: LINE,
         fault: "TopArgs 2 3",
     },
+];
+
+/// Faults of values, instances and bindings.
+static GRAPHS: [Fault; 13] = [
+    Fault {
+        words: &["Row", "0"],
+        text: ROW,
+        fault: "BadIndex . 5:8",
+    },
+    Fault {
+        words: &["Row", "1"],
+        text: ROW,
+        fault: "TwoInstances A[0]",
+    },
+    Fault {
+        words: &["Top"],
+        text: TWICE,
+        fault: "BoundTwice . p.out",
+    },
+    Fault {
+        words: &["Loop"],
+        text: LOOP,
+        fault: "TooDeep a.a.a.a.a.a.a.a.a.a.a.a.a.a.a.a.a.a.a.a.a.a.a.a.a.a.a.a.a.a.a.a.a",
+    },
+    Fault {
+        words: &["Turns", "65536"],
+        text: TURNS,
+        fault: "TooMany",
+    },
+    Fault {
+        words: &["Two"],
+        text: TWO,
+        fault: "Annotation . 3:48",
+    },
+    Fault {
+        words: &["Ring"],
+        text: RING,
+        fault: "DependsCycle a",
+    },
     Fault {
         words: &["Line", "2147483647", "10"],
         text: LINE,
@@ -188,10 +199,9 @@ static FAULTS: [Fault; 34] = [
     },
 ];
 
-#[test]
-fn flat_names_faults(rt: HostRuntime) -> Result<(), Fail> {
-    let alloc = rt.alloc();
-    for fault in &FAULTS {
+/// Each description is refused for its fault.
+fn run_all(rt: &impl Abort, alloc: Global, faults: &[Fault]) -> Result<(), Fail> {
+    for fault in faults {
         let mut words = vec![in alloc; "flat", "f.dar"]?;
         words.extend_from_slice(fault.words)?;
         let name = fault.fault;
@@ -203,9 +213,24 @@ fn flat_names_faults(rt: HostRuntime) -> Result<(), Fail> {
             status: 2,
             written: written.as_str(),
         };
-        run(&rt, alloc, &row)?;
+        run(rt, alloc, &row)?;
     }
     Ok(())
+}
+
+#[test]
+fn texts_are_refused(rt: HostRuntime) -> Result<(), Fail> {
+    run_all(&rt, rt.alloc(), &TEXTS)
+}
+
+#[test]
+fn names_are_refused(rt: HostRuntime) -> Result<(), Fail> {
+    run_all(&rt, rt.alloc(), &NAMES)
+}
+
+#[test]
+fn graphs_are_refused(rt: HostRuntime) -> Result<(), Fail> {
+    run_all(&rt, rt.alloc(), &GRAPHS)
 }
 
 /// The most bytes of a description.

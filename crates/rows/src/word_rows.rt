@@ -1,7 +1,9 @@
-//! Rows of words: of each form, and of none.
+//! Rows of command lines: of each form, and of none.
 
 use crate::descriptions::LINE;
 use crate::running::{AMPLE, Row, run};
+use std::alloc::Global;
+use std::process::Abort;
 use std::test::Fail;
 
 /// Words, and what they come to where `f.dar` has a line.
@@ -11,7 +13,7 @@ struct Words {
     written: &'static str,
 }
 
-static WORDS: [Words; 41] = [
+static HELP: [Words; 7] = [
     Words {
         words: &[],
         status: 1,
@@ -47,6 +49,9 @@ static WORDS: [Words; 41] = [
         status: 1,
         written: "usage\n",
     },
+];
+
+static FLAT: [Words; 17] = [
     Words {
         words: &["flat"],
         status: 1,
@@ -140,6 +145,9 @@ static WORDS: [Words; 41] = [
         status: 4,
         written: "read fault none.dar\n",
     },
+];
+
+static PLAN: [Words; 12] = [
     Words {
         words: &[
             "plan", "f.dar", "Line", "3", "10", "--", "Line", "-0", "010",
@@ -214,6 +222,9 @@ static WORDS: [Words; 41] = [
         status: 4,
         written: "read fault --\n",
     },
+];
+
+static REPLAY: [Words; 5] = [
     Words {
         words: &["replay"],
         status: 1,
@@ -241,9 +252,8 @@ static WORDS: [Words; 41] = [
     },
 ];
 
-#[test]
-fn words_have_forms(rt: HostRuntime) -> Result<(), Fail> {
-    for row in &WORDS {
+fn run_all(rt: &impl Abort, alloc: Global, rows: &[Words]) -> Result<(), Fail> {
+    for row in rows {
         let row = Row {
             words: row.words,
             files: &[("f.dar", LINE)],
@@ -251,7 +261,27 @@ fn words_have_forms(rt: HostRuntime) -> Result<(), Fail> {
             status: row.status,
             written: row.written,
         };
-        run(&rt, rt.alloc(), &row)?;
+        run(rt, alloc, &row)?;
     }
     Ok(())
+}
+
+#[test]
+fn words_of_help_have_forms(rt: HostRuntime) -> Result<(), Fail> {
+    run_all(&rt, rt.alloc(), &HELP)
+}
+
+#[test]
+fn words_of_flat_have_forms(rt: HostRuntime) -> Result<(), Fail> {
+    run_all(&rt, rt.alloc(), &FLAT)
+}
+
+#[test]
+fn words_of_plan_have_forms(rt: HostRuntime) -> Result<(), Fail> {
+    run_all(&rt, rt.alloc(), &PLAN)
+}
+
+#[test]
+fn words_of_replay_have_forms(rt: HostRuntime) -> Result<(), Fail> {
+    run_all(&rt, rt.alloc(), &REPLAY)
 }

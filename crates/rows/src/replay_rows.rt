@@ -1,4 +1,4 @@
-//! Rows of `replay`.
+//! Rows of `replay`. Further ones stand in the rows of the guide.
 
 use crate::descriptions::{ASKING, LINE, MANY, SMALL};
 use crate::running::{AMPLE, Row, run};
@@ -12,7 +12,7 @@ use std::test::Fail;
 type Replay = (&'static str, &'static str, u8, &'static str);
 
 /// Events that are steps, and events that are denied.
-static EVENTS: [Replay; 14] = [
+static EVENTS: [Replay; 12] = [
     (
         LINE,
         "start Line(3,10)\nbegin 1 1 1\ntake 1 1 1\ncall 0 1 11\n",
@@ -27,21 +27,9 @@ static EVENTS: [Replay; 14] = [
     ),
     (
         SMALL,
-        "start L()\nbegin 1 1 1\nclose 1\ntake 1 1 1\n",
-        0,
-        "events 3\nopen 1 1 root taken\nrest 2\n",
-    ),
-    (
-        SMALL,
         "start L()\nbegin 1 1 1\nclose 1\ntake 1 1 1\ngive 1 1 1\nend 1 1 1\nclose 0\n",
         0,
         "events 6\nrest 0\nsettled b\nsettled s\nsettled t\n",
-    ),
-    (
-        SMALL,
-        "start L()\nbegin 1 1 1\nclose 0\nbegin 0 1 1\n",
-        9,
-        "denied 3 2\n",
     ),
     (
         LINE,

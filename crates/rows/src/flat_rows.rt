@@ -1,30 +1,16 @@
-//! Rows of `flat` that write a graph.
+//! Rows of `flat` that write a graph. Further ones stand in the rows of the guide.
 
-use crate::descriptions::{LINE, ONE, ONE_NOTE, PIPE, SMALL, TABLE, TURNS};
+use crate::descriptions::{LINE, ONE, ONE_NOTE, TABLE, TURNS};
 use crate::running::{AMPLE, Row, run};
 use std::test::Fail;
 
-static ROWS: [Row<'static>; 8] = [
-    Row {
-        words: &["flat", "f.dar", "L"],
-        files: &[("f.dar", SMALL)],
-        room: AMPLE,
-        status: 0,
-        written: "node b buffer(2)\nport b.next t.in\nnode s source(3)\nport s.out b.in\nnode t sink()\n",
-    },
+static ROWS: [Row<'static>; 5] = [
     Row {
         words: &["flat", "f.dar", "One"],
         files: &[("f.dar", ONE)],
         room: AMPLE,
         status: 0,
         written: "node t sink()\n",
-    },
-    Row {
-        words: &["flat", "f.dar", "Main", "3"],
-        files: &[("f.dar", PIPE)],
-        room: AMPLE,
-        status: 0,
-        written: "node p.F[0] map(1)\nport p.F[0].next p.F[1].in\nnode p.F[1] map(1)\nport p.F[1].next p.F[2].in\nnode p.F[2] map(1)\nport p.F[2].next t.in\nnode s source(2)\nport s.out p.F[0].in\nnode t sink()\n",
     },
     Row {
         words: &["flat", "f.dar", "Turns", "65535"],
@@ -46,13 +32,6 @@ static ROWS: [Row<'static>; 8] = [
         room: 7,
         status: 5,
         written: "node m ",
-    },
-    Row {
-        words: &["flat", "table.dar", "Table", "2", "1", "0"],
-        files: &[("table.dar", TABLE)],
-        room: AMPLE,
-        status: 0,
-        written: "node f[1] fork()\nnode ph[0] philosopher(1)\nport ph[0].dine pl[0].dine\nnode ph[1] philosopher(1)\nport ph[1].dine pl[1].dine\nnode pl[0] place(1)\nport pl[0].left -\nport pl[0].right f[1].hold\nnode pl[1] place(0)\nport pl[1].left f[1].hold\nport pl[1].right -\n",
     },
     Row {
         words: &["flat", "table.dar", "Table", "3", "2", "9"],
