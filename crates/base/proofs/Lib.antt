@@ -1,1 +1,14 @@
 pub mod AnswerLaws
+pub mod BytesLaws
+pub mod ContainsLaws
+pub mod DecimalLaws
+pub mod EachLaws
+pub mod FindLaws
+pub mod LinesLaws
+pub mod MapLaws
+pub mod OptionLaws
+pub mod OrderedLaws
+pub mod PlaceLaws
+pub mod RangeLaws
+pub mod RisingLaws
+pub mod TellLaws

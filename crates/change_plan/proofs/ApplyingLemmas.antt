@@ -3,28 +3,26 @@ use Rattle.std.proofs.Common.{◌≡◌, ◌⊎◌, ◌↔◌, ℕ, zero, suc, �
 use Rattle.std.specs.List.{range_with_len}
 use Rattle.std.proofs.lemmas.Bool.{eq-eqb, eqb-true, false≢true}
 use Rattle.std.proofs.lemmas.List.Elements.{All-contains, Contains-append_right, Contains-get_or}
-use Rattle.std.proofs.Math.ListN.{get_or-map}
-use Rattle.std.proofs.lemmas.List.{length-map}
 use Rattle.std.proofs.lemmas.Option.{slice_get-get_or, slice_get_within}
-use Rattle.config_graph.specs.Graph.{Configuration, IsGraph, IsWithin, link_at, provides_of, requires_at, requires_of, target_of}
+use Rattle.config_graph.specs.Graph.{Graph, IsGraph, IsLinkWithin, link_at, provides_of, requires_at, requires_of, target_of}
 use Rattle.config_graph.specs.contracts.node.NodePartialEq as node_eq
 use Rattle.config_graph.specs.declared.node.Link.{Link}
 use Rattle.config_graph.specs.declared.node.Node.{Node}
 use Rattle.config_graph.specs.declared.node.Target.{Target}
-use Rattle.config_graph.proofs.IncomingLemmas.{link_at-own}
-use Rattle.config_graph.proofs.LinkLemmas.{target_within}
-use Rattle.config_graph.proofs.NumberingLemmas.{within_list}
-use Rattle.config_graph.proofs.OrderLemmas.{one_link-in_order}
-use Rattle.config_graph.proofs.SameLemmas.{node_decides}
+use Rattle.config_graph.proofs.IncomingLaws.{link_at-own}
+use Rattle.config_graph.proofs.LinkLaws.{target_within}
+use Rattle.config_graph.proofs.NumberingLaws.{within_list}
+use Rattle.config_graph.proofs.OrderLaws.{one_link-in_order}
+use Rattle.config_graph.proofs.SameLaws.{node_decides}
 use Rattle.change_plan.specs.Applying.{Connection, ConnectionAfter, Connects, IsConnected, IsAtOneOf, KeepsItsLinks, MayBeRelinked, NodeAfter}
-use Rattle.change_plan.specs.Differences.{GoneNodes, IsGone, IsKeptLink, IsSameLink, IsTwin, port_of}
-use Rattle.change_plan.specs.Plans.{IsPlanOf}
+use Rattle.change_plan.specs.Differences.{GoneNodes, IsGone, IsKeptLink, IsSameLink, IsTwin, link_port}
+use Rattle.change_plan.specs.Plans.{HasStepsBetween}
 use Rattle.change_plan.specs.Touched.{IsTouched, SameTarget}
 use Rattle.config_graph.specs.declared.node.Port.{Port}
-use Rattle.change_plan.specs.declared.plan_data.Move.{Move}
 use Rattle.change_plan.specs.declared.plan_data.Plan.{Plan}
-use Rattle.change_plan.proofs.DifferenceLemmas.{Contains-slice_get, kept_none, kept_some, one_node, same_requires}
+use Rattle.change_plan.proofs.DifferenceLemmas.{kept_none, kept_some, one_node, same_requires}
 use Rattle.change_plan.proofs.SelectsLemmas.{Contains-places, Selects-has, Selects-only, Selects-part}
+use Rattle.base.proofs.ContainsLaws.{Contains-at, Contains-map}
 
 -- whether two nodes are equal
 same_node : (m n : Node) → (m ≡ n) ⊎ (¬ (m ≡ n))
@@ -60,7 +58,7 @@ read [] i low = absurd (omega arith)
 read (n ∷ ns) zero low = (n, refl)
 read (n ∷ ns) (suc i) low = read ns i (omega arith)
 
-module _ (g h : Configuration) (g_graph : IsGraph g) (h_graph : IsGraph h) where
+module _ (g h : Graph) (g_graph : IsGraph g) (h_graph : IsGraph h) where
   -- whether two ports have the same target
   same_target : (i r j s : ℕ) → SameTarget g h (target_of g.links i r) (target_of h.links j s) ⊎ (¬ SameTarget g h (target_of g.links i r) (target_of h.links j s))
   same_target i r j s = by (target_of g.links i r) (target_of h.links j s) refl refl
@@ -84,7 +82,7 @@ module _ (g h : Configuration) (g_graph : IsGraph g) (h_graph : IsGraph h) where
   -- whether a link is kept
   kept : (k : Link) → Contains g.links k → IsKeptLink g h k ⊎ (¬ IsKeptLink g h k)
   kept k there =
-      let inside = All-contains (IsWithin g.nodes) g.links k g_graph.within there in
+      let inside = All-contains (IsLinkWithin g.nodes) g.links k g_graph.within there in
       let from = read g.nodes k.from (within_list requires_of g.nodes k.from k.require inside.begins) in
       elim (has_node h.nodes from.0) [
         | inl found ↦
@@ -98,7 +96,7 @@ module _ (g h : Configuration) (g_graph : IsGraph g) (h_graph : IsGraph h) where
       ]
 
 -- a link and the same link make the same connection
-same_connection : (g h : Configuration) (k l : Link) (c : Connection) → IsSameLink g h k l → Connects g k c → Connects h l c
+same_connection : (g h : Graph) (k l : Link) (c : Connection) → IsSameLink g h k l → Connects g k c → Connects h l c
 same_connection g h k l c same made = record {
   from = same.from.there ∙ ap Some (one_node g.nodes k.from same.from.node c.from same.from.here made.from);
   require = sym same.require ∙ made.require;
@@ -106,7 +104,7 @@ same_connection g h k l c same made = record {
   provide = sym same.provide ∙ made.provide;
 }
 
-turned : (g h : Configuration) (k l : Link) → IsSameLink g h k l → IsSameLink h g l k
+turned : (g h : Graph) (k l : Link) → IsSameLink g h k l → IsSameLink h g l k
 turned g h k l same = record {
   from = record { node = same.from.node; here = same.from.there; there = same.from.here };
   require = sym same.require;
@@ -114,14 +112,11 @@ turned g h k l same = record {
   provide = sym same.provide;
 }
 
-turned_target : (g h : Configuration) (t u : Option Target) → SameTarget g h t u → SameTarget h g u t
+turned_target : (g h : Graph) (t u : Option Target) → SameTarget g h t u → SameTarget h g u t
 turned_target g h None None same = tt
 turned_target g h None (Some u) same = same
 turned_target g h (Some t) None same = same
 turned_target g h (Some t) (Some u) same = (record { node = same.0.node; here = same.0.there; there = same.0.here }, sym same.1)
-
-Contains-map : {A B : Type 0} (f : A → B) (xs : List A) (x : A) → Contains xs x → Contains (map f xs) (f x)
-Contains-map f xs x (k, low, same) = (k, rw length-map low, get_or-map f xs k x ∙ ap f same)
 
 map_Contains : {A B : Type 0} (f : A → B) (xs : List A) (y : B) → Contains (map f xs) y → (x : A) × Contains xs x × (f x ≡ y)
 map_Contains f [] y there = absurd (omega (arith, there.1))
@@ -130,14 +125,14 @@ map_Contains f (x ∷ xs) y (suc k, low, same) =
     let rest = map_Contains f xs y (k, omega arith, same) in
     (rest.0, Contains-append_right (x ∷ []) xs rest.0 rest.1, rest.2)
 
-module _ (old new : Configuration) (old_graph : IsGraph old) (new_graph : IsGraph new) (asked : List Move) (p : Plan) (plan : IsPlanOf old new asked p) where
-  gone_listed : (g h : Configuration) (gone : List ℕ) → GoneNodes g h gone → (n : Node) → Contains g.nodes n → ¬ Contains h.nodes n → IsAtOneOf g gone n
+module _ (old new : Graph) (old_graph : IsGraph old) (new_graph : IsGraph new) (p : Plan) (plan : HasStepsBetween old new p) where
+  gone_listed : (g h : Graph) (gone : List ℕ) → GoneNodes g h gone → (n : Node) → Contains g.nodes n → ¬ Contains h.nodes n → IsAtOneOf g gone n
   gone_listed g h gone selected n there missing =
       let place = at_place g.nodes n there in
       let low = slice_get_within g.nodes place.0 n place.1 in
       (place.0, Selects-has (IsGone g h) (range_with_len 0 (length g.nodes)) gone selected place.0 (Contains-places (length g.nodes) place.0 low) (record { node = n; here = place.1; gone = missing }), place.1)
 
-  listed_gone : (g h : Configuration) (gone : List ℕ) → GoneNodes g h gone → (n : Node) → IsAtOneOf g gone n → ¬ Contains h.nodes n
+  listed_gone : (g h : Graph) (gone : List ℕ) → GoneNodes g h gone → (n : Node) → IsAtOneOf g gone n → ¬ Contains h.nodes n
   listed_gone g h gone selected n (i, there, at) =
       let lost = All-contains (IsGone g h) gone i (Selects-only (IsGone g h) (range_with_len 0 (length g.nodes)) gone selected) there in
       subst (λ m. ¬ Contains h.nodes m) (one_node g.nodes i lost.node n lost.here at) lost.gone
@@ -151,7 +146,7 @@ module _ (old new : Configuration) (old_graph : IsGraph old) (new_graph : IsGrap
             | inl found ↦ found
             | inr missing ↦ absurd (stays (gone_listed old new p.remove plan.remove n there missing))
           ]
-      to (inr (i, there, at)) = Contains-slice_get new.nodes i n at
+      to (inr (i, there, at)) = Contains-at new.nodes i n at
 
       from : Contains new.nodes n → NodeAfter old new p n
       from found =
@@ -161,16 +156,16 @@ module _ (old new : Configuration) (old_graph : IsGraph old) (new_graph : IsGrap
           ]
 
   -- a link that is gone is unlinked at its port, and no other
-  unlinked : (k : Link) → Contains old.links k → ¬ IsKeptLink old new k → Contains p.unlink (port_of k)
+  unlinked : (k : Link) → Contains old.links k → ¬ IsKeptLink old new k → Contains p.unlink (link_port k)
   unlinked k there lost =
       let links = plan.unlink.0 in
       let listed = Selects-has (λ l. ¬ IsKeptLink old new l) old.links links plan.unlink.1 k there lost in
-      subst (λ ports. Contains ports (port_of k)) (sym plan.unlink.2) (Contains-map port_of links k listed)
+      subst (λ ports. Contains ports (link_port k)) (sym plan.unlink.2) (Contains-map link_port links k listed)
 
-  unlinked_lost : (k : Link) → Contains old.links k → Contains p.unlink (port_of k) → ¬ IsKeptLink old new k
+  unlinked_lost : (k : Link) → Contains old.links k → Contains p.unlink (link_port k) → ¬ IsKeptLink old new k
   unlinked_lost k there at =
       let links = plan.unlink.0 in
-      let from_list = map_Contains port_of links (port_of k) (subst (λ ports. Contains ports (port_of k)) plan.unlink.2 at) in
+      let from_list = map_Contains link_port links (link_port k) (subst (λ ports. Contains ports (link_port k)) plan.unlink.2 at) in
       let l = from_list.0 in
       let lost = All-contains (λ m. ¬ IsKeptLink old new m) links l (Selects-only (λ m. ¬ IsKeptLink old new m) old.links links plan.unlink.1) from_list.1 in
       let l_there = Selects-part (λ m. ¬ IsKeptLink old new m) old.links links plan.unlink.1 l from_list.1 in
@@ -227,7 +222,7 @@ module _ (old new : Configuration) (old_graph : IsGraph old) (new_graph : IsGrap
   -- a link that is gone begins at a frozen node
   lost_frozen : (k : Link) → Contains old.links k → ¬ IsKeptLink old new k → Contains p.freeze k.from
   lost_frozen k there lost =
-      let inside = All-contains (IsWithin old.nodes) old.links k old_graph.within there in
+      let inside = All-contains (IsLinkWithin old.nodes) old.links k old_graph.within there in
       let from = read old.nodes k.from (within_list requires_of old.nodes k.from k.require inside.begins) in
       elim (has_node new.nodes from.0) [
         | inr missing ↦ touched_frozen k.from (inl (record { node = from.0; here = from.1; gone = missing }))
@@ -246,7 +241,7 @@ module _ (old new : Configuration) (old_graph : IsGraph old) (new_graph : IsGrap
   pub unlinked_frozen : (q : Port) → Contains p.unlink q → Contains p.freeze q.node
   unlinked_frozen q there =
       let links = plan.unlink.0 in
-      let from_list = map_Contains port_of links q (subst (λ ports. Contains ports q) plan.unlink.2 there) in
+      let from_list = map_Contains link_port links q (subst (λ ports. Contains ports q) plan.unlink.2 there) in
       let l = from_list.0 in
       let lost = All-contains (λ m. ¬ IsKeptLink old new m) links l (Selects-only (λ m. ¬ IsKeptLink old new m) old.links links plan.unlink.1) from_list.1 in
       let l_there = Selects-part (λ m. ¬ IsKeptLink old new m) old.links links plan.unlink.1 l from_list.1 in
@@ -257,7 +252,7 @@ module _ (old new : Configuration) (old_graph : IsGraph old) (new_graph : IsGrap
   linked_may_be l listed =
       let there = Selects-part (λ m. ¬ IsKeptLink new old m) new.links p.link plan.link l listed in
       let lost = All-contains (λ m. ¬ IsKeptLink new old m) p.link l (Selects-only (λ m. ¬ IsKeptLink new old m) new.links p.link plan.link) listed in
-      let inside = All-contains (IsWithin new.nodes) new.links l new_graph.within there in
+      let inside = All-contains (IsLinkWithin new.nodes) new.links l new_graph.within there in
       let low = within_list requires_of new.nodes l.from l.require inside.begins in
       let from = read new.nodes l.from low in
       elim (has_node old.nodes from.0) [

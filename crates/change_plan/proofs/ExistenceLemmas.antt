@@ -4,10 +4,10 @@ use Rattle.std.specs.List.{range_with_len}
 use Rattle.std.proofs.lemmas.Bool.Decides.{eqb_tells}
 use Rattle.std.proofs.lemmas.Option.{none-some, slice_get_cases, slice_get-get_or}
 use Rattle.std.proofs.lemmas.Slice.Eq.{bytes_eq-Decides}
-use Rattle.config_graph.specs.Graph.{Configuration, IsGraph, requires_at}
+use Rattle.config_graph.specs.Graph.{Graph, IsGraph, requires_at}
 use Rattle.config_graph.specs.declared.node.Made.{Made}
 use Rattle.config_graph.specs.declared.node.Node.{Node}
-use Rattle.config_graph.proofs.TellLemmas.{CanTell, any_or_none, tell_contained, told_by}
+use Rattle.config_graph.proofs.TellLaws.{tell_contained}
 use Rattle.change_plan.specs.Differences.{GoneNodes, IsGone}
 use Rattle.change_plan.specs.Moves.{IsFit, IsPathGone, MayMove, MayMoveAll, MoveLeads, MovesFrom, MovesTo}
 use Rattle.change_plan.specs.Refusals.{CanPlan, FirstMoveFault, IsRefusal, CreatesSoMany, MoveFault}
@@ -16,14 +16,17 @@ use Rattle.change_plan.specs.Selects.Selects.{ends, takes, skips}
 use Rattle.change_plan.specs.declared.error.PlanError.{PlanError}
 use Rattle.change_plan.specs.declared.error.PlanError.TheVariants.{NotRemoved, NotCreated, KindsDiffer, MovedTwice}
 use Rattle.change_plan.specs.declared.plan_data.Move.{Move}
-use Rattle.change_plan.proofs.DifferenceLemmas.{Contains-slice_get, one_node}
-use Rattle.change_plan.proofs.MoveLemmas.{kind_decides}
+use Rattle.change_plan.proofs.DifferenceLemmas.{one_node}
 use Rattle.change_plan.proofs.NodeLemmas.{one_path}
 use Rattle.change_plan.proofs.RoomLaws.{room_or_fault}
+use Rattle.base.proofs.ContainsLaws.{Contains-at}
+use Rattle.base.proofs.TellLaws.{any_or_none, told_by}
+use Rattle.base.specs.Telling.{CanTell}
+use Rattle.config_graph.proofs.SameLaws.{kind_decides}
 
 -- ---- what is gone
 
-tell_gone : (g h : Configuration) (i : ℕ) → CanTell (IsGone g h i)
+tell_gone : (g h : Graph) (i : ℕ) → CanTell (IsGone g h i)
 tell_gone g h i =
     elim (slice_get_cases g.nodes i).1 [
       | inr (past, none) ↦ inr (λ gone. none-some gone.node (sym none ∙ gone.here))
@@ -34,10 +37,10 @@ tell_gone g h i =
           ]
     ]
 
-tell_path_gone : (g h : Configuration) → IsGraph g → (path : List ℕ) → CanTell (IsPathGone g h path)
+tell_path_gone : (g h : Graph) → IsGraph g → (path : List ℕ) → CanTell (IsPathGone g h path)
 tell_path_gone g h graph path =
     elim (any_or_none (λ (n : Node). n.path ≡ path) g.nodes (λ n there. told_by _ (bytes_eq-Decides n.path path))) [
-      | inr none ↦ inr (λ lost. none lost.1.node (Contains-slice_get g.nodes lost.0 lost.1.node lost.1.here) lost.1.named)
+      | inr none ↦ inr (λ lost. none lost.1.node (Contains-at g.nodes lost.0 lost.1.node lost.1.here) lost.1.named)
       | inl (n, there, named) ↦
           let at : slice_get g.nodes there.0 ≡ Some n = slice_get-get_or g.nodes there.0 n there.1 ∙ ap Some there.2 in
           elim (tell_contained h.nodes n) [
@@ -65,7 +68,7 @@ tell_to before path =
       | inr none ↦ inr (λ moves. none moves.1 (moves.0, moves.2, moves.3) moves.4)
     ]
 
-module _ (old new : Configuration) (old_graph : IsGraph old) (new_graph : IsGraph new) where
+module _ (old new : Graph) (old_graph : IsGraph old) (new_graph : IsGraph new) where
   move_or_fault : (before : List Move) (m : Move) → MayMove old new before m ⊎ ((e : PlanError) × MoveFault old new before m e)
   move_or_fault before m = by (tell_path_gone old new old_graph m.from) (tell_path_gone new old new_graph m.to)
     where
@@ -118,7 +121,7 @@ part {A = A} P tell (x ∷ xs) = by (tell x) (part P tell xs)
     by (inl has) (ys, s) = (x ∷ ys, takes has s)
     by (inr lacks) (ys, s) = (ys, skips lacks s)
 
-module _ (old new : Configuration) (old_graph : IsGraph old) (new_graph : IsGraph new) (moves : List Move) (made : Made) where
+module _ (old new : Graph) (old_graph : IsGraph old) (new_graph : IsGraph new) (moves : List Move) (made : Made) where
   created : (ys : List ℕ) × GoneNodes new old ys
   created = part (IsGone new old) (tell_gone new old) (range_with_len 0 (length new.nodes))
 

@@ -1,16 +1,14 @@
 -- Lemmas on moves, and on what is marked of them.
-use Rattle.std.proofs.Common.{◌≡◌, ◌⊎◌, ◌↔◌, ℕ, ◌+◌, ◌<◌, ◌≤◌, Bool, true, false, List, [], ◌∷◌, ◌++◌, length, map, set, take, get_or, Option, Some, None, slice_get, refl, sym, ◌∙◌, ap, subst, inl, inr, arith, All, Any, Contains, Decides, is_some, get_or-set_other, rules}
+use Rattle.std.proofs.Common.{◌≡◌, ◌⊎◌, ◌↔◌, ℕ, ◌+◌, ◌<◌, ◌≤◌, Bool, true, false, List, [], ◌∷◌, ◌++◌, length, map, set, take, get_or, Option, Some, None, slice_get, refl, sym, ◌∙◌, ap, subst, inl, inr, arith, All, Any, Contains, is_some, get_or-set_other}
 use Rattle.std.proofs.Math.ListN.{length-set}
-use Rattle.std.specs.Cmp.Rules.{comparing}
 use Rattle.std.proofs.lemmas.Bool.{cases_eq, cases_lt, false≢true}
 use Rattle.std.proofs.lemmas.Grind.{get_or-set_at}
 use Rattle.std.proofs.lemmas.List.Elements.{All-contains, All-map, All-push, Contains-append_left, Contains-get_or, Contains-push, Contains-push_cases}
 use Rattle.std.proofs.lemmas.List.{get_or-take, get_or_past, length-take, map-append, take_all, take_more}
 use Rattle.std.specs.List.Sorted.{IsStrictlyIncreasing}
 use Rattle.std.proofs.lemmas.Option.{get_or_from_slice_get, none-some, slice_get_within, slice_get-get_or}
-use Rattle.config_graph.specs.Graph.{Configuration, IsGraph, index_of}
+use Rattle.config_graph.specs.Graph.{Graph, IsGraph, index_of}
 use Rattle.config_graph.specs.contracts.kind.KindPartialEq as kind_eq
-use Rattle.config_graph.specs.declared.kind.Kind.{Kind}
 use Rattle.config_graph.specs.declared.node.Node.{Node}
 use Rattle.change_plan.specs.Moves.{IsFit, IsGoneAt, IsOfOneKind, IsPathGone, IsShift, IsShifts, MoveLeads, MayMove, MayMoveAll, MovesFrom, MovesTo}
 use Rattle.change_plan.specs.MoveEnds.{IsMovedFrom, MarksEnds}
@@ -19,21 +17,22 @@ use Rattle.change_plan.specs.declared.error.PlanError.{PlanError}
 use Rattle.change_plan.specs.declared.error.PlanError.TheVariants.{NoMemory}
 use Rattle.change_plan.specs.declared.plan_data.Move.{Move}
 use Rattle.change_plan.specs.declared.plan_data.Shift.{Shift}
-use Rattle.config_graph.proofs.ListLemmas.{IsStrictlyIncreasing-push}
 use Rattle.change_plan.proofs.DifferenceLemmas.{one_node}
 use Rattle.change_plan.proofs.NodeLemmas.{index_found, index_missing, one_path}
+use Rattle.base.proofs.RisingLaws.{IsStrictlyIncreasing-push}
+use Rattle.config_graph.proofs.SameLaws.{kind_decides}
 
 -- a path has one node
-pub one_gone : (g h : Configuration) → IsGraph g → (path : List ℕ) (i j : ℕ) → IsGoneAt g h path i → IsGoneAt g h path j → i ≡ j
+pub one_gone : (g h : Graph) → IsGraph g → (path : List ℕ) (i j : ℕ) → IsGoneAt g h path i → IsGoneAt g h path j → i ≡ j
 one_gone g h graph path i j a b =
     one_path g.nodes graph.paths_rise i j a.node b.node a.here b.here (a.named ∙ sym b.named)
 
 -- and a node one path
-one_name : (g h : Configuration) (i : ℕ) (p q : List ℕ) → IsGoneAt g h p i → IsGoneAt g h q i → p ≡ q
+one_name : (g h : Graph) (i : ℕ) (p q : List ℕ) → IsGoneAt g h p i → IsGoneAt g h q i → p ≡ q
 one_name g h i p q a b = sym a.named ∙ ap (λ (n : Node). n.path) (one_node g.nodes i a.node b.node a.here b.here) ∙ b.named
 
--- the node that a path finds, where it isn't in the other configuration
-pub found_gone : (g h : Configuration) (path : List ℕ) (i : ℕ) (n : Node) → index_of g.nodes path ≡ Some i → slice_get g.nodes i ≡ Some n → (¬ Contains h.nodes n) → IsGoneAt g h path i
+-- the node that a path finds, where it isn't in the other graph
+pub found_gone : (g h : Graph) (path : List ℕ) (i : ℕ) (n : Node) → index_of g.nodes path ≡ Some i → slice_get g.nodes i ≡ Some n → (¬ Contains h.nodes n) → IsGoneAt g h path i
 found_gone g h path i n found here gone = record {
   node = n;
   here = here;
@@ -42,10 +41,10 @@ found_gone g h path i n found here gone = record {
 }
 
 -- where none is found, or it is there, no node with the path is gone
-pub missing_not_gone : (g h : Configuration) (path : List ℕ) → index_of g.nodes path ≡ None → ¬ IsPathGone g h path
+pub missing_not_gone : (g h : Graph) (path : List ℕ) → index_of g.nodes path ≡ None → ¬ IsPathGone g h path
 missing_not_gone g h path missing (i, lost) = index_missing g.nodes path missing i lost.node lost.here lost.named
 
-pub found_not_gone : (g h : Configuration) → IsGraph g → (path : List ℕ) (i j : ℕ) (n : Node) → index_of g.nodes path ≡ Some i → slice_get g.nodes i ≡ Some n → slice_get h.nodes j ≡ Some n → ¬ IsPathGone g h path
+pub found_not_gone : (g h : Graph) → IsGraph g → (path : List ℕ) (i j : ℕ) (n : Node) → index_of g.nodes path ≡ Some i → slice_get g.nodes i ≡ Some n → slice_get h.nodes j ≡ Some n → ¬ IsPathGone g h path
 found_not_gone g h graph path i j n found here there (k, lost) =
     let named : n.path ≡ path = sym ((index_found g.nodes path i n found).1 ∙ ap (λ (m : Node). m.path) (get_or_from_slice_get g.nodes i n n here)) in
     let place : k ≡ i = one_path g.nodes graph.paths_rise k i lost.node n lost.here here (lost.named ∙ sym named) in
@@ -53,11 +52,7 @@ found_not_gone g h graph path i j n found here there (k, lost) =
     let node : lost.node ≡ n = cc in
     lost.gone (j, slice_get_within h.nodes j lost.node (there ∙ ap Some (sym node)), get_or_from_slice_get h.nodes j lost.node lost.node (there ∙ ap Some (sym node)))
 
--- a move from a removed node to a created one is fit exactly where their kinds are equal
-pub kind_decides : (a b : Kind) → Decides ((kind_eq.TheImpl.eq-value).it a b) (a ≡ b)
-kind_decides a b = search (comparing, rules)
-
-module _ (old new : Configuration) (m : Move) (i j : ℕ) (leads : MoveLeads old new m i j) (a b : Node) (at_a : slice_get old.nodes i ≡ Some a) (at_b : slice_get new.nodes j ≡ Some b) (same : Bool) (same_is : same ≡ (kind_eq.TheImpl.eq-value).it a.kind b.kind) where
+module _ (old new : Graph) (m : Move) (i j : ℕ) (leads : MoveLeads old new m i j) (a b : Node) (at_a : slice_get old.nodes i ≡ Some a) (at_b : slice_get new.nodes j ≡ Some b) (same : Bool) (same_is : same ≡ (kind_eq.TheImpl.eq-value).it a.kind b.kind) where
   kind_of_source : leads.removed.node.kind ≡ a.kind
   kind_of_source = ap (λ (n : Node). n.kind) (one_node old.nodes i leads.removed.node a leads.removed.here at_a)
 
@@ -81,14 +76,14 @@ module _ (old new : Configuration) (m : Move) (i j : ℕ) (leads : MoveLeads old
   }
 
 -- two paths by which nodes were found, as the move's
-pub leads_by : (old new : Configuration) (m : Move) (p q : List ℕ) (i j : ℕ) → p ≡ m.from → q ≡ m.to → IsGoneAt old new p i → IsGoneAt new old q j → MoveLeads old new m i j
+pub leads_by : (old new : Graph) (m : Move) (p q : List ℕ) (i j : ℕ) → p ≡ m.from → q ≡ m.to → IsGoneAt old new p i → IsGoneAt new old q j → MoveLeads old new m i j
 leads_by old new m p q i j from to removed created = record {
   removed = subst (λ x. IsGoneAt old new x i) from removed;
   created = subst (λ x. IsGoneAt new old x j) to created;
 }
 
 -- the shifts of one move more
-module _ (old new : Configuration) (before : List Move) (m : Move) (s : Shift) where
+module _ (old new : Graph) (before : List Move) (m : Move) (s : Shift) where
   pub IsShift_more : IsShift old new (before ++ m ∷ []) s ↔ (IsShift old new before s ⊎ MoveLeads old new m s.old s.new)
   IsShift_more = (to, from)
     where
@@ -103,7 +98,7 @@ module _ (old new : Configuration) (before : List Move) (m : Move) (s : Shift) w
       from (inl h) = record { move = h.move; there = Contains-append_left before (m ∷ []) h.move h.there; leads = h.leads }
       from (inr h) = record { move = m; there = Contains-push before m; leads = h }
 
-module _ (old new : Configuration) (old_graph : IsGraph old) (new_graph : IsGraph new) (before : List Move) (sources : List Bool) (targets : List (Option ℕ)) (marked : MarksEnds old new before sources targets) (m : Move) (i j : ℕ) (leads : MoveLeads old new m i j) where
+module _ (old new : Graph) (old_graph : IsGraph old) (new_graph : IsGraph new) (before : List Move) (sources : List Bool) (targets : List (Option ℕ)) (marked : MarksEnds old new before sources targets) (m : Move) (i j : ℕ) (leads : MoveLeads old new m i j) where
   -- an earlier move from the same path goes from the same node
   from_shift : MovesFrom before m.from → IsMovedFrom old new before i
   from_shift (k, b, low, at, same) =
@@ -280,7 +275,7 @@ module _ (targets : List (Option ℕ)) (n : ℕ) (shifts : List Shift) (so_far :
           ]
 
 -- what was marked of all moves, listed
-pub shifts_are : (old new : Configuration) (moves : List Move) (sources : List Bool) (targets : List (Option ℕ)) (shifts : List Shift) → MarksEnds old new moves sources targets → ((s : Shift) → Contains shifts s ↔ (get_or targets s.new None ≡ Some s.old)) → IsStrictlyIncreasing (map (λ s. s.new) shifts) → IsShifts old new moves shifts
+pub shifts_are : (old new : Graph) (moves : List Move) (sources : List Bool) (targets : List (Option ℕ)) (shifts : List Shift) → MarksEnds old new moves sources targets → ((s : Shift) → Contains shifts s ↔ (get_or targets s.new None ≡ Some s.old)) → IsStrictlyIncreasing (map (λ s. s.new) shifts) → IsShifts old new moves shifts
 shifts_are old new moves sources targets shifts marked listed rise = record {
   sound = λ s there. (marked.targets_are s.old s.new).0 ((listed s).0 there);
   complete = λ s shift. (listed s).1 ((marked.targets_are s.old s.new).1 shift);
@@ -288,7 +283,7 @@ shifts_are old new moves sources targets shifts marked listed rise = record {
 }
 
 -- one move more that may be made
-pub may_move_more : (old new : Configuration) (moves : List Move) (k : ℕ) (m : Move) → slice_get moves k ≡ Some m → MayMoveAll old new moves k → MayMove old new (take k moves) m → MayMoveAll old new moves (k + 1)
+pub may_move_more : (old new : Graph) (moves : List Move) (k : ℕ) (m : Move) → slice_get moves k ≡ Some m → MayMoveAll old new moves k → MayMove old new (take k moves) m → MayMoveAll old new moves (k + 1)
 may_move_more old new moves k m at so_far may j n low at_j =
     elim (cases_eq j k) [
       | inl same ↦
@@ -299,12 +294,12 @@ may_move_more old new moves k m at so_far may j n low at_j =
     ]
 
 -- a fault of a move whose forerunners may be made is the first
-pub first_fault : (old new : Configuration) (moves : List Move) (k : ℕ) (m : Move) (e : PlanError) → slice_get moves k ≡ Some m → MayMoveAll old new moves k → (e ≡ NoMemory) ⊎ MoveFault old new (take k moves) m e → (e ≡ NoMemory) ⊎ FirstMoveFault old new moves e
+pub first_fault : (old new : Graph) (moves : List Move) (k : ℕ) (m : Move) (e : PlanError) → slice_get moves k ≡ Some m → MayMoveAll old new moves k → (e ≡ NoMemory) ⊎ MoveFault old new (take k moves) m e → (e ≡ NoMemory) ⊎ FirstMoveFault old new moves e
 first_fault old new moves k m e at so_far (inl memory) = inl memory
 first_fault old new moves k m e at so_far (inr fault) =
     inr (record { count = k; move = m; at = at; before = so_far; fault = fault })
 
-module _ (old new : Configuration) (moves : List Move) (k : ℕ) (m : Move) (low : k < length moves) (m_is : m ≡ get_or moves k m) where
+module _ (old new : Graph) (moves : List Move) (k : ℕ) (m : Move) (low : k < length moves) (m_is : m ≡ get_or moves k m) where
   pub move_at : slice_get moves k ≡ Some m
   move_at = slice_get-get_or moves k m low ∙ ap Some (sym m_is)
 
@@ -315,15 +310,15 @@ module _ (old new : Configuration) (moves : List Move) (k : ℕ) (m : Move) (low
       subst (λ before. MarksEnds old new before sources targets) (sym more) marked
 
 -- where all were looked at
-pub marked_all : (old new : Configuration) (moves : List Move) (k : ℕ) (sources : List Bool) (targets : List (Option ℕ)) → length moves ≤ k → MarksEnds old new (take k moves) sources targets → MarksEnds old new moves sources targets
+pub marked_all : (old new : Graph) (moves : List Move) (k : ℕ) (sources : List Bool) (targets : List (Option ℕ)) → length moves ≤ k → MarksEnds old new (take k moves) sources targets → MarksEnds old new moves sources targets
 marked_all old new moves k sources targets all marked =
     subst (λ before. MarksEnds old new before sources targets) (take_all k moves all) marked
 
-pub may_move_all : (old new : Configuration) (moves : List Move) (k : ℕ) → length moves ≤ k → MayMoveAll old new moves k → MayMoveAll old new moves (length moves)
+pub may_move_all : (old new : Graph) (moves : List Move) (k : ℕ) → length moves ≤ k → MayMoveAll old new moves k → MayMoveAll old new moves (length moves)
 may_move_all old new moves k all may j m low at = may j m (omega (arith, low, all)) at
 
 -- where all moves may be made, the moves of one source, or of one target, are one
-module _ (old new : Configuration) (old_graph : IsGraph old) (new_graph : IsGraph new) (moves : List Move) (may : MayMoveAll old new moves (length moves)) (shifts : List Shift) (are : IsShifts old new moves shifts) where
+module _ (old new : Graph) (old_graph : IsGraph old) (new_graph : IsGraph new) (moves : List Move) (may : MayMoveAll old new moves (length moves)) (shifts : List Shift) (are : IsShifts old new moves shifts) where
   move_there : (m : Move) → Contains moves m → (k : ℕ) × (slice_get moves k ≡ Some m)
   move_there m there = (there.0, slice_get-get_or moves there.0 m there.1 ∙ ap Some there.2)
 

@@ -7,17 +7,18 @@ use Rattle.std.proofs.lemmas.List.Elements.{All-contains, All-cons, All-head, Al
 use Rattle.std.proofs.lemmas.List.FromFn.{get_or-range_with_len, length-range_with_len}
 use Rattle.std.proofs.lemmas.List.Sums.{sum_by-append, sum_by-cons, sum_by_more}
 use Rattle.std.proofs.lemmas.Option.{slice_get_cases, slice_get_within}
-use Rattle.config_graph.specs.Graph.{Configuration, IsGraph, IsWithin, requires_at, requires_of}
-use Rattle.config_graph.specs.Reach.{Enlarged}
+use Rattle.config_graph.specs.Graph.{Graph, IsGraph, IsLinkWithin, requires_at, requires_of}
+use Rattle.config_graph.specs.Enlarged.{Enlarged}
 use Rattle.config_graph.specs.declared.node.Link.{Link}
 use Rattle.config_graph.specs.declared.node.Node.{Node}
-use Rattle.config_graph.proofs.NumberingLemmas.{length-ports}
-use Rattle.change_plan.specs.Differences.{GoneLinks, GoneNodes, GonePorts, IsGone, IsKeptLink, port_of}
+use Rattle.config_graph.proofs.NumberingLaws.{length-ports}
+use Rattle.change_plan.specs.Differences.{GoneLinks, GoneNodes, GonePorts, IsGone, IsKeptLink, link_port}
 use Rattle.change_plan.specs.Selects.{Selects}
 use Rattle.config_graph.specs.declared.node.Port.{Port}
 use Rattle.change_plan.specs.Selects.Selects.{ends, takes, skips}
 use Rattle.change_plan.specs.Touched.{Frozen, IsTouched}
-use Rattle.change_plan.proofs.SelectsLemmas.{Contains-places, Selects-has, Selects-only, places_more, sum_by-Selects}
+use Rattle.change_plan.proofs.SelectsLemmas.{Contains-places, Selects-has, Selects-only, sum_by-Selects}
+use Rattle.base.proofs.RisingLaws.{places_more}
 
 -- what each element has, each of a part has; and a part is no longer than the whole
 All-Selects : {A : Type 0} (P Q : A → Type 0) (xs ys : List A) → Selects P xs ys → All Q xs → All Q ys
@@ -52,7 +53,7 @@ places_within P n ys selected = All-Selects P (λ i. i < n) (range_with_len 0 n)
     let inside : k < n = rw length-range_with_len at low in
     rw (get_or-range_with_len 0 n k d inside) (omega arith))
 
-module _ (g h : Configuration) (graph : IsGraph g) (gone : List ℕ) (selected : GoneNodes g h gone) where
+module _ (g h : Graph) (graph : IsGraph g) (gone : List ℕ) (selected : GoneNodes g h gone) where
   pub gone_within : All (λ i. i < length g.nodes) gone
   gone_within = places_within (IsGone g h) (length g.nodes) gone selected
 
@@ -69,16 +70,16 @@ module _ (g h : Configuration) (graph : IsGraph g) (gone : List ℕ) (selected :
       omega (arith, part, all, whole, length-ports g.nodes, graph.few_ports)
 
 -- the links that are gone, and their ports, are in the graph
-module _ (g h : Configuration) (graph : IsGraph g) where
-  pub gone_links_within : (links : List Link) → GoneLinks g h links → All (IsWithin g.nodes) links
-  gone_links_within links selected_ = All-Selects (λ k. ¬ IsKeptLink g h k) (IsWithin g.nodes) g.links links selected_ graph.within
+module _ (g h : Graph) (graph : IsGraph g) where
+  pub gone_links_within : (links : List Link) → GoneLinks g h links → All (IsLinkWithin g.nodes) links
+  gone_links_within links selected_ = All-Selects (λ k. ¬ IsKeptLink g h k) (IsLinkWithin g.nodes) g.links links selected_ graph.within
 
   pub gone_ports_within : (ports_ : List Port) → GonePorts g h ports_ → All (λ q. q.require < requires_at g.nodes q.node) ports_
   gone_ports_within ports_ (links, selected_, are) =
-      All-same (λ q. q.require < requires_at g.nodes q.node) ports_ (map port_of links) are (All-map (λ (q : Port). q.require < requires_at g.nodes q.node) port_of links (All-weaker (IsWithin g.nodes) (λ (l : Link). l.require < requires_at g.nodes l.from) (λ l inside. inside.begins) links (gone_links_within links selected_)))
+      All-same (λ q. q.require < requires_at g.nodes q.node) ports_ (map link_port links) are (All-map (λ (q : Port). q.require < requires_at g.nodes q.node) link_port links (All-weaker (IsLinkWithin g.nodes) (λ (l : Link). l.require < requires_at g.nodes l.from) (λ l inside. inside.begins) links (gone_links_within links selected_)))
 
 -- the nodes that are touched, as a list of all of them
-module _ (old new : Configuration) (touched : List ℕ) (selected : Selects (IsTouched old new) (range_with_len 0 (length old.nodes)) touched) where
+module _ (old new : Graph) (touched : List ℕ) (selected : Selects (IsTouched old new) (range_with_len 0 (length old.nodes)) touched) where
   pub touched_within : All (λ i. i < length old.nodes) touched
   touched_within = places_within (IsTouched old new) (length old.nodes) touched selected
 

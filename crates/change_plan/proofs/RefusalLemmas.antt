@@ -2,7 +2,7 @@
 use Rattle.std.proofs.Common.{◌≡◌, ◌⊎◌, ℕ, ◌<◌, List, length, take, Some, slice_get, sym, ◌∙◌, ap, subst, inl, inr, arith, sum_by}
 use Rattle.std.proofs.lemmas.Bool.{cases_eq, cases_lt}
 use Rattle.std.proofs.lemmas.Option.{slice_get_within}
-use Rattle.config_graph.specs.Graph.{Configuration, IsGraph, requires_at}
+use Rattle.config_graph.specs.Graph.{Graph, IsGraph, requires_at}
 use Rattle.config_graph.specs.declared.node.Made.{Made}
 use Rattle.config_graph.specs.declared.node.Node.{Node}
 use Rattle.change_plan.specs.Differences.{GoneNodes}
@@ -23,7 +23,7 @@ same_repeat before m p q (inl (p_is, from)) (inr (q_is, other, to)) = absurd (ot
 same_repeat before m p q (inr (p_is, other, to)) (inl (q_is, from)) = absurd (other from)
 same_repeat before m p q (inr (p_is, other, to)) (inr (q_is, also, again)) = p_is ∙ sym q_is
 
-module _ (old new : Configuration) (old_graph : IsGraph old) (new_graph : IsGraph new) where
+module _ (old new : Graph) (old_graph : IsGraph old) (new_graph : IsGraph new) where
   -- a move's ends have one kind each
   not_apart : (m : Move) → IsFit old new m → ¬ KindsDifferIn old new m
   not_apart m fit apart =
@@ -95,7 +95,7 @@ module _ (old new : Configuration) (old_graph : IsGraph old) (new_graph : IsGrap
         no_fault (take first.count moves) first.move e (may first.count first.move (slice_get_within moves first.count first.move first.at) first.at) first.fault
 
 -- for the contract of `plan`
-module _ (old new : Configuration) (old_graph : IsGraph old) (new_graph : IsGraph new) (moves : List Move) (made : Made) where
+module _ (old new : Graph) (old_graph : IsGraph old) (new_graph : IsGraph new) (moves : List Move) (made : Made) where
   pub one_refusal : (d e : PlanError) → IsRefusal old new moves made d → IsRefusal old new moves made e → d ≡ e
   one_refusal d e (inl a) (inl b) = one_first old new old_graph new_graph moves d e a b
   one_refusal d e (inl a) (inr (may, rest)) = absurd (no_first old new old_graph new_graph moves d may a)
@@ -119,11 +119,11 @@ module _ (old new : Configuration) (old_graph : IsGraph old) (new_graph : IsGrap
   accepted_but d (inr told) can = absurd (no_refusal d can told)
 
 -- a move's fault, or too much that is created, is a refusal
-pub move_refused : (old new : Configuration) (moves : List Move) (made : Made) (d : PlanError) → (d ≡ NoMemory) ⊎ FirstMoveFault old new moves d → (d ≡ NoMemory) ⊎ IsRefusal old new moves made d
+pub move_refused : (old new : Graph) (moves : List Move) (made : Made) (d : PlanError) → (d ≡ NoMemory) ⊎ FirstMoveFault old new moves d → (d ≡ NoMemory) ⊎ IsRefusal old new moves made d
 move_refused old new moves made d (inl memory) = inl memory
 move_refused old new moves made d (inr first) = inr (inl first)
 
-pub wanted_by : (old new : Configuration) (created create : List ℕ) → create ≡ created → GoneNodes new old created → CreatesSoMany old new (length create) (sum_by (requires_at new.nodes) create)
+pub wanted_by : (old new : Graph) (created create : List ℕ) → create ≡ created → GoneNodes new old created → CreatesSoMany old new (length create) (sum_by (requires_at new.nodes) create)
 wanted_by old new created create same gone = record {
   created = created;
   gone = gone;
@@ -131,6 +131,6 @@ wanted_by old new created create same gone = record {
   ports_are = ap (sum_by (requires_at new.nodes)) same;
 }
 
-pub room_refused : (old new : Configuration) (moves : List Move) (made : Made) (d : PlanError) (created create : List ℕ) → create ≡ created → GoneNodes new old created → MayMoveAll old new moves (length moves) → RoomFault made (length create) (sum_by (requires_at new.nodes) create) d → (d ≡ NoMemory) ⊎ IsRefusal old new moves made d
+pub room_refused : (old new : Graph) (moves : List Move) (made : Made) (d : PlanError) (created create : List ℕ) → create ≡ created → GoneNodes new old created → MayMoveAll old new moves (length moves) → RoomFault made (length create) (sum_by (requires_at new.nodes) create) d → (d ≡ NoMemory) ⊎ IsRefusal old new moves made d
 room_refused old new moves made d created create same gone may fault =
     inr (inr (may, (length create, sum_by (requires_at new.nodes) create, wanted_by old new created create same gone, fault)))

@@ -3,7 +3,7 @@
 use Rattle.std.proofs.Common.{◌≡◌, ◌⊎◌, ◌∙◌, ◌+◌, ℕ, Result, Ok, Err, IfErr, IsOk, OnOk, ap, arith, length, sum_by, inl, inr, refl, sym}
 use Rattle.std.specs.List.{range_with_len}
 use Rattle.std.proofs.lemmas.Bool.{cases_lt}
-use Rattle.config_graph.specs.Graph.{Configuration, requires_at}
+use Rattle.config_graph.specs.Graph.{Graph, requires_at}
 use Rattle.config_graph.specs.declared.TheConstants.{MAX_NODES, MAX_PORTS}
 use Rattle.config_graph.specs.declared.node.Made.{Made}
 use Rattle.change_plan.specs.Differences.{IsGone}
@@ -14,7 +14,7 @@ use Rattle.change_plan.specs.declared.error.PlanError.TheVariants.{NotRemoved, N
 use Rattle.change_plan.proofs.SelectsLemmas.{Selects-one}
 
 -- how much is wanted
-pub one_wanted : (old new : Configuration) (n p m q : ℕ) → CreatesSoMany old new n p → CreatesSoMany old new m q → (n ≡ m) × (p ≡ q)
+pub one_wanted : (old new : Graph) (n p m q : ℕ) → CreatesSoMany old new n p → CreatesSoMany old new m q → (n ≡ m) × (p ≡ q)
 one_wanted old new n p m q a b =
     let same : a.created ≡ b.created = Selects-one (IsGone new old) (range_with_len 0 (length new.nodes)) a.created b.created a.gone b.gone in
     (a.nodes_are ∙ ap length same ∙ sym b.nodes_are, a.ports_are ∙ ap (sum_by (requires_at new.nodes)) same ∙ sym b.ports_are)

@@ -5,9 +5,9 @@ use Rattle.std.proofs.lemmas.List.{take_more}
 use Rattle.std.proofs.lemmas.List.Elements.{All-cons, All-nil, Contains-append_right, Contains-get_or}
 use Rattle.std.proofs.lemmas.List.FromFn.{get_or-range_with_len, length-range_with_len}
 use Rattle.std.proofs.lemmas.List.Sums.{sum_by-cons}
-pub use Rattle.config_graph.proofs.ListLemmas.{places_more}
 use Rattle.change_plan.specs.Selects.{Selects}
 use Rattle.change_plan.specs.Selects.Selects.{ends, takes, skips}
+use Rattle.base.proofs.RisingLaws.{places_more}
 
 -- one element more, which has the property
 pub Selects-push : {A : Type 0} (P : A → Type 0) (x : A) → P x → (xs ys : List A) → Selects P xs ys → Selects P (xs ++ x ∷ []) (ys ++ x ∷ [])

@@ -7,21 +7,22 @@ use Rattle.std.proofs.lemmas.Grind.{flat_map-append}
 use Rattle.std.proofs.lemmas.List.{append_cancel_left}
 use Rattle.std.proofs.lemmas.List.Elements.{All-append, All-contains, All-head, All-map, All-tail, filter_map-append}
 use Rattle.std.proofs.lemmas.List.Folds.{flat_map-map}
-use Rattle.config_graph.specs.Graph.{Configuration, IsGraph, IsWithin, provides_at, provides_of, requires_at, requires_of}
+use Rattle.config_graph.specs.Graph.{Graph, IsGraph, IsLinkWithin, provides_at, provides_of, requires_at, requires_of}
 use Rattle.config_graph.specs.GraphText.{IsOneWord, kind_text, provide_name, require_name}
 use Rattle.config_graph.specs.Kinds.{row}
 use Rattle.config_graph.specs.declared.node.Link.{Link}
 use Rattle.config_graph.specs.declared.node.Node.{Node}
 use Rattle.config_graph.specs.declared.node.Port.{Port}
-use Rattle.config_graph.proofs.NumberingLemmas.{provides_at-le, within_list}
+use Rattle.config_graph.proofs.NumberingLaws.{provides_at-le, within_list}
 use Rattle.config_graph.proofs.TextLaws.{Free, one_requirement, provide_name_dot, provide_name_line, require_name_dot, require_name_line, require_name_space, split_first, split_last}
-use Rattle.change_plan.specs.PlanText.{at_node, create_line, link_line, node_line, plan_text, port_text, provision_text, unlink_line}
+use Rattle.change_plan.specs.PlanText.{at_node, create_line, link_line, step_line, plan_text, port_text, provision_text, unlink_line}
 use Rattle.change_plan.specs.PlanWithin.{IsPlanWithin}
 use Rattle.change_plan.specs.Plans.{HasSameSteps}
 use Rattle.change_plan.specs.declared.plan_data.Plan.{Plan}
 use Rattle.change_plan.proofs.ApplyingLemmas.{read}
-use Rattle.change_plan.proofs.DifferenceLemmas.{Contains-slice_get, one_node}
+use Rattle.change_plan.proofs.DifferenceLemmas.{one_node}
 use Rattle.change_plan.proofs.NodeLemmas.{one_path}
+use Rattle.base.proofs.ContainsLaws.{Contains-at}
 
 -- ---- parts of lines
 
@@ -30,9 +31,9 @@ one_free : (c b : ℕ) → ¬ (b ≡ c) → Free c (b ∷ [])
 one_free c b apart k d low = let here : k ≡ 0 = omega (arith, low) in subst (λ j. ¬ (get_or (b ∷ []) j d ≡ c)) (sym here) apart
 
 -- the texts of a graph's places, whose paths are words
-module _ (g : Configuration) (graph : IsGraph g) (words : All (λ n. IsOneWord n.path) g.nodes) where
+module _ (g : Graph) (graph : IsGraph g) (words : All (λ n. IsOneWord n.path) g.nodes) where
   word_at : (i : ℕ) (n : Node) → slice_get g.nodes i ≡ Some n → IsOneWord n.path
-  word_at i n at = All-contains (λ (m : Node). IsOneWord m.path) g.nodes n words (Contains-slice_get g.nodes i n at)
+  word_at i n at = All-contains (λ (m : Node). IsOneWord m.path) g.nodes n words (Contains-at g.nodes i n at)
 
   path_space : (i : ℕ) (n : Node) → slice_get g.nodes i ≡ Some n → Free 32 n.path
   path_space i n at k d low = (word_at i n at k d low).0
@@ -104,11 +105,11 @@ module _ (g : Configuration) (graph : IsGraph g) (words : All (λ n. IsOneWord n
 
   -- ---- lines: equal fronts of texts come from equal steps, and the rest is equal
 
-  same_node_line : (word : List ℕ) (i j : ℕ) → i < length g.nodes → j < length g.nodes → (rest rest' : List ℕ) → node_line word g i ++ rest ≡ node_line word g j ++ rest' → (i ≡ j) × (rest ≡ rest')
+  same_node_line : (word : List ℕ) (i j : ℕ) → i < length g.nodes → j < length g.nodes → (rest rest' : List ℕ) → step_line word g i ++ rest ≡ step_line word g j ++ rest' → (i ≡ j) × (rest ≡ rest')
   same_node_line word i j i_low j_low rest rest' e =
       let m = read g.nodes i i_low in
       let n = read g.nodes j j_low in
-      let form : (k : ℕ) (a : Node) (after : List ℕ) → slice_get g.nodes k ≡ Some a → node_line word g k ++ after ≡ word ++ (a.path ++ 10 ∷ after) =
+      let form : (k : ℕ) (a : Node) (after : List ℕ) → slice_get g.nodes k ≡ Some a → step_line word g k ++ after ≡ word ++ (a.path ++ 10 ∷ after) =
       λ k a after at.
       append_assoc (word ++ at_node (λ n. n.path) g k) (codes "\n") after ∙ append_assoc word (at_node (λ n. n.path) g k) (codes "\n" ++ after) ∙ ap (λ t. word ++ (t ++ 10 ∷ after)) (text_at (λ n. n.path) k a at) in
       let parted = split_first 10 m.0.path n.0.path rest rest' (path_line i m.0 m.1) (path_line j n.0 n.1) (append_cancel_left word _ _ (sym (form i m.0 rest m.1) ∙ e ∙ form j n.0 rest' n.1)) in
@@ -138,7 +139,7 @@ module _ (g : Configuration) (graph : IsGraph g) (words : All (λ n. IsOneWord n
       let ends : 10 ∷ rest ≡ 10 ∷ rest' = append_cancel_left (kind_text m.0.kind m.0.arg) _ _ (parted.1 ∙ ap (λ (a : Node). kind_text a.kind a.arg ++ 10 ∷ rest') (sym node)) in
       (place, cc)
 
-  same_link_line : (l k : Link) → IsWithin g.nodes l → IsWithin g.nodes k → (rest rest' : List ℕ) → link_line g l ++ rest ≡ link_line g k ++ rest' → (l ≡ k) × (rest ≡ rest')
+  same_link_line : (l k : Link) → IsLinkWithin g.nodes l → IsLinkWithin g.nodes k → (rest rest' : List ℕ) → link_line g l ++ rest ≡ link_line g k ++ rest' → (l ≡ k) × (rest ≡ rest')
   same_link_line l k l_low k_low rest rest' e =
       let from = λ (o : Link). port_text g o.from o.require in
       let to = λ (o : Link). provision_text g o.to o.provide in
@@ -162,19 +163,19 @@ data Step : Type 0 where
   creates : ℕ → Step
   links : Link → Step
 
-abbrev line : Configuration → Configuration → Step → List ℕ
-line old new (freezes i) = node_line (codes "freeze ") old i
+abbrev line : Graph → Graph → Step → List ℕ
+line old new (freezes i) = step_line (codes "freeze ") old i
 line old new (unlinks p) = unlink_line old p
-line old new (removes i) = node_line (codes "remove ") old i
+line old new (removes i) = step_line (codes "remove ") old i
 line old new (creates i) = create_line new i
 line old new (links l) = link_line new l
 
-abbrev IsStepWithin : Configuration → Configuration → Step → Type 0
+abbrev IsStepWithin : Graph → Graph → Step → Type 0
 IsStepWithin old new (freezes i) = i < length old.nodes
 IsStepWithin old new (unlinks p) = p.require < requires_at old.nodes p.node
 IsStepWithin old new (removes i) = i < length old.nodes
 IsStepWithin old new (creates i) = i < length new.nodes
-IsStepWithin old new (links l) = IsWithin new.nodes l
+IsStepWithin old new (links l) = IsLinkWithin new.nodes l
 
 abbrev steps_of : Plan → List Step
 steps_of p = map freezes p.freeze ++ map unlinks p.unlink ++ map removes p.remove ++ map creates p.create ++ map links p.link
@@ -183,7 +184,7 @@ steps_of p = map freezes p.freeze ++ map unlinks p.unlink ++ map removes p.remov
 apart : (a b : ℕ) (xs ys : List ℕ) → ¬ (a ≡ b) → a ∷ xs ≡ b ∷ ys → ⊥
 apart a b xs ys differ e = differ (ap (λ zs. get_or zs 0 0) e)
 
-module _ (old new : Configuration) (old_graph : IsGraph old) (new_graph : IsGraph new) (old_words : All (λ n. IsOneWord n.path) old.nodes) (new_words : All (λ n. IsOneWord n.path) new.nodes) where
+module _ (old new : Graph) (old_graph : IsGraph old) (new_graph : IsGraph new) (old_words : All (λ n. IsOneWord n.path) old.nodes) (new_words : All (λ n. IsOneWord n.path) new.nodes) where
   same_line : (s t : Step) → IsStepWithin old new s → IsStepWithin old new t → (rest rest' : List ℕ) → line old new s ++ rest ≡ line old new t ++ rest' → (s ≡ t) × (rest ≡ rest')
   same_line (freezes i) (freezes j) low high rest rest' e =
       let both = same_node_line old old_graph old_words (codes "freeze ") i j low high rest rest' e in (ap freezes both.0, both.1)
@@ -240,7 +241,7 @@ module _ (old new : Configuration) (old_graph : IsGraph old) (new_graph : IsGrap
       λ j. first.0 j ∷ rest j
 
 -- the lines of a plan's text
-lines_of : (old new : Configuration) (p : Plan) → plan_text old new p ≡ flat_map (line old new) (steps_of p)
+lines_of : (old new : Graph) (p : Plan) → plan_text old new p ≡ flat_map (line old new) (steps_of p)
 lines_of old new p =
     let f = line old new in
     let form : (a b c d e : List Step) → flat_map f ((((a ++ b) ++ c) ++ d) ++ e) ≡ (((flat_map f a ++ flat_map f b) ++ flat_map f c) ++ flat_map f d) ++ flat_map f e = λ a b c d e. simp flat_map-append in
@@ -251,7 +252,7 @@ lines_of old new p =
     let link = flat_map-map f links p.link in
     sym (form (map freezes p.freeze) (map unlinks p.unlink) (map removes p.remove) (map creates p.create) (map links p.link) ∙ (λ j. (((freeze j ++ unlink j) ++ remove j) ++ create j) ++ link j))
 
-all_within : (old new : Configuration) (p : Plan) → IsPlanWithin old new p → All (IsStepWithin old new) (steps_of p)
+all_within : (old new : Graph) (p : Plan) → IsPlanWithin old new p → All (IsStepWithin old new) (steps_of p)
 all_within old new p low =
     let P = IsStepWithin old new in
     let both : (xs ys : List Step) → All P xs → All P ys → All P (xs ++ ys) = All-append P in
@@ -335,7 +336,7 @@ module _ (p : Plan) where
       parts linked [] [] [] [] p.link (pick_none linked freezes (λ x. refl) p.freeze) (pick_none linked unlinks (λ x. refl) p.unlink) (pick_none linked removes (λ x. refl) p.remove) (pick_none linked creates (λ x. refl) p.create) (pick_all linked links (λ x. refl) p.link)
 
 pub texts_tell :
-    (old new : Configuration) (p q : Plan) → IsGraph old → IsGraph new → All (λ n. IsOneWord n.path) old.nodes → All (λ n. IsOneWord n.path) new.nodes → IsPlanWithin old new p → IsPlanWithin old new q
+    (old new : Graph) (p q : Plan) → IsGraph old → IsGraph new → All (λ n. IsOneWord n.path) old.nodes → All (λ n. IsOneWord n.path) new.nodes → IsPlanWithin old new p → IsPlanWithin old new q
     → plan_text old new p ≡ plan_text old new q → HasSameSteps p q
 texts_tell old new p q old_graph new_graph old_words new_words p_low q_low e =
     let steps = same_lines old new old_graph new_graph old_words new_words (steps_of p) (steps_of q) (all_within old new p p_low) (all_within old new q q_low) (sym (lines_of old new p) ∙ e ∙ lines_of old new q) in

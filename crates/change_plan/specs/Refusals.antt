@@ -1,7 +1,7 @@
 -- Why there is no plan: the first move in order that can't be made, and in it the first of its faults; or else too many nodes
 -- or ports.
 use Rattle.std.specs.Prelude.{◌≡◌, ◌⊎◌, ℕ, List, Some, Result, Ok, Err, length, slice_get, sum_by, take}
-use Rattle.config_graph.specs.Graph.{Configuration, requires_at}
+use Rattle.config_graph.specs.Graph.{Graph, requires_at}
 use Rattle.config_graph.specs.declared.node.Made.{Made}
 use Rattle.change_plan.specs.Differences.{GoneNodes}
 use Rattle.change_plan.specs.Moves.{IsFit, IsPathGone, MoveLeads, MayMoveAll, MovesFrom, MovesTo}
@@ -11,7 +11,7 @@ use Rattle.change_plan.specs.declared.error.PlanError.TheVariants.{NotRemoved, N
 use Rattle.change_plan.specs.declared.plan_data.Move.{Move}
 
 -- the move leads from a removed node to a created one of another kind
-pub record KindsDifferIn (old new : Configuration) (m : Move) : Type 0 where
+pub record KindsDifferIn (old new : Graph) (m : Move) : Type 0 where
   pub source : ℕ
   pub target : ℕ
   pub leads : MoveLeads old new m source target
@@ -23,7 +23,7 @@ Repeats before m path =
     ((path ≡ m.from) × MovesFrom before m.from) ⊎ ((path ≡ m.to) × (¬ MovesFrom before m.from) × MovesTo before m.to)
 
 -- what is at fault with a move
-abbrev pub MoveFault : Configuration → Configuration → List Move → Move → PlanError → Type 0
+abbrev pub MoveFault : Graph → Graph → List Move → Move → PlanError → Type 0
 MoveFault old new before m (NotRemoved path) = (path ≡ m.from) × (¬ IsPathGone old new m.from)
 MoveFault old new before m (NotCreated path) =
     (path ≡ m.to) × IsPathGone old new m.from × (¬ IsPathGone new old m.to)
@@ -34,7 +34,7 @@ MoveFault old new before m (PortsFull made wanted) = ⊥
 MoveFault old new before m NoMemory = ⊥
 
 -- the first move that can't be made, with its fault
-pub record FirstMoveFault (old new : Configuration) (moves : List Move) (e : PlanError) : Type 0 where
+pub record FirstMoveFault (old new : Graph) (moves : List Move) (e : PlanError) : Type 0 where
   pub count : ℕ
   pub move : Move
   pub at : slice_get moves count ≡ Some move
@@ -42,19 +42,19 @@ pub record FirstMoveFault (old new : Configuration) (moves : List Move) (e : Pla
   pub fault : MoveFault old new (take count moves) move e
 
 -- how many nodes and ports are to be created
-pub record CreatesSoMany (old new : Configuration) (nodes ports : ℕ) : Type 0 where
+pub record CreatesSoMany (old new : Graph) (nodes ports : ℕ) : Type 0 where
   pub created : List ℕ
   pub gone : GoneNodes new old created
   pub nodes_are : nodes ≡ length created
   pub ports_are : ports ≡ sum_by (requires_at new.nodes) created
 
 -- why these can't be planned
-abbrev pub IsRefusal : Configuration → Configuration → List Move → Made → PlanError → Type 0
+abbrev pub IsRefusal : Graph → Graph → List Move → Made → PlanError → Type 0
 IsRefusal old new moves made e =
     FirstMoveFault old new moves e ⊎ (MayMoveAll old new moves (length moves) × ((nodes : ℕ) × (ports : ℕ) × CreatesSoMany old new nodes ports × RoomFault made nodes ports e))
 
 -- nothing stands against a plan
-pub record CanPlan (old new : Configuration) (moves : List Move) (made : Made) : Type 0 where
+pub record CanPlan (old new : Graph) (moves : List Move) (made : Made) : Type 0 where
   pub may_move : MayMoveAll old new moves (length moves)
   pub nodes : ℕ
   pub ports : ℕ
@@ -62,6 +62,6 @@ pub record CanPlan (old new : Configuration) (moves : List Move) (made : Made) :
   pub room : HasRoom made nodes ports
 
 -- the answer is this refusal, unless memory ran out
-abbrev pub Refuses : {T : Type 0} → Result T PlanError → PlanError → Type 0
-Refuses (Ok plan) refusal = ⊥
-Refuses (Err e) refusal = (e ≡ NoMemory) ⊎ (e ≡ refusal)
+abbrev pub IsRefusedAs : {T : Type 0} → Result T PlanError → PlanError → Type 0
+IsRefusedAs (Ok plan) refusal = ⊥
+IsRefusedAs (Err e) refusal = (e ≡ NoMemory) ⊎ (e ≡ refusal)

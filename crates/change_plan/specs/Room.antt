@@ -1,6 +1,6 @@
 -- Room for what is made: how many nodes and ports one run makes at most.
 use Rattle.std.specs.Prelude.{◌≡◌, ◌<◌, ◌≤◌, ◌+◌, ℕ, length}
-use Rattle.config_graph.specs.Graph.{Configuration, ports}
+use Rattle.config_graph.specs.Graph.{Graph, ports}
 use Rattle.config_graph.specs.declared.TheConstants.{MAX_NODES, MAX_PORTS}
 use Rattle.config_graph.specs.declared.node.Made.{Made}
 use Rattle.change_plan.specs.declared.error.PlanError.{PlanError}
@@ -24,9 +24,9 @@ RoomFault made nodes wanted_ports (PortsFull m w) =
     (made.nodes + nodes ≤ MAX_NODES) × IsFullOf MAX_PORTS made.ports wanted_ports m w
 RoomFault made nodes wanted_ports e = ⊥
 
--- there is room for all that a configuration has, or not
-abbrev pub HasRoomFor : Made → Configuration → Type 0
+-- there is room for all that a graph has, or not
+abbrev pub HasRoomFor : Made → Graph → Type 0
 HasRoomFor made g = HasRoom made (length g.nodes) (length (ports g.nodes))
 
-abbrev pub LacksRoomFor : Made → Configuration → PlanError → Type 0
+abbrev pub LacksRoomFor : Made → Graph → PlanError → Type 0
 LacksRoomFor made g e = RoomFault made (length g.nodes) (length (ports g.nodes)) e

@@ -2,7 +2,7 @@
 
 ghost use Rattle.std.specs.Prelude.{◌≡◌, ◌↔◌, Some, Contains, IfNone, IfOk, IfSome, IsTrue, map, slice_get};
 ghost use Rattle.config_graph.specs.Graph.{IsGraph};
-ghost use Rattle.change_plan.specs.Differences.{GoneLinks, GoneNodes, GonePorts, IsKeptLink, port_of};
+ghost use Rattle.change_plan.specs.Differences.{GoneLinks, GoneNodes, GonePorts, IsKeptLink, link_port};
 
 use crate::OldPort;
 use crate::touching::has_same_target;
@@ -78,7 +78,7 @@ pub(crate) fn list_gone_ports(
 
 /// The ports at which these links begin.
 fn list_ports(alloc: Global, links: &[Link]) -> Result<Vec<OldPort>, NoMemory>
-    ensures { IfOk result (λ ports. ports.items ≡ map port_of links.now) }
+    ensures { IfOk result (λ ports. ports.items ≡ map link_port links.now) }
 {
     links
         .iter()

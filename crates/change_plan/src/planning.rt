@@ -3,7 +3,7 @@
 ghost use Rattle.std.specs.Prelude.{◌≡◌, ◌⊎◌, IfErr, IfOk, OnOk};
 ghost use Rattle.change_plan.specs.PlanWithin.{IsPlanWithin};
 ghost use Rattle.change_plan.specs.Plans.{IsPlanOf};
-ghost use Rattle.change_plan.specs.Refusals.{CanPlan, IsRefusal, Refuses};
+ghost use Rattle.change_plan.specs.Refusals.{CanPlan, IsRefusal, IsRefusedAs};
 ghost use Rattle.change_plan.specs.declared.error.PlanError.{PlanError};
 ghost use Rattle.change_plan.specs.declared.error.PlanError.TheVariants.{NoMemory};
 
@@ -19,7 +19,7 @@ use std::alloc::Global;
 /// The plan from the old graph to the new one, with these moves, where so many nodes and ports were made before. A node of both
 /// graphs is the same exactly where path, kind and argument are equal.
 ///
-/// Time grows with the nodes, ports and moves and the bytes of their paths, where hashes don't collide.
+/// Time grows with the nodes, ports and moves and the bytes of their paths, each path found by halving.
 pub fn plan(
     alloc: Global,
     old: &Graph,
@@ -33,7 +33,7 @@ pub fn plan(
     ensures accepts { CanPlan old.now new.now moves.now made → IfErr result (λ e. e ≡ NoMemory) }
     ensures refused { IfErr result
         (λ e. (e ≡ NoMemory) ⊎ IsRefusal old.now new.now moves.now made e) }
-    ensures refuses { (e : PlanError) → IsRefusal old.now new.now moves.now made e → Refuses result e }
+    ensures refuses { (e : PlanError) → IsRefusal old.now new.now moves.now made e → IsRefusedAs result e }
 {
     let shifts = list_shifts(alloc, old, new, moves)?;
     let create = list_gone(alloc, new, old)?;

@@ -1,9 +1,9 @@
 //! The text of a plan.
 
 ghost use Rattle.std.specs.Prelude.{◌≡◌, ◌<◌, ◌++◌, All, IfOk, OnOk, length, slice_get, Some, flat_map};
-ghost use Rattle.config_graph.specs.Graph.{IsWithin, provides_at, requires_at};
+ghost use Rattle.config_graph.specs.Graph.{IsLinkWithin, provides_at, requires_at};
 ghost use Rattle.change_plan.specs.PlanWithin.{IsPlanWithin};
-ghost use Rattle.change_plan.specs.PlanText.{create_line, link_line, node_line, plan_text, port_text, provision_text, unlink_line};
+ghost use Rattle.change_plan.specs.PlanText.{create_line, link_line, step_line, plan_text, port_text, provision_text, unlink_line};
 
 use crate::{OldPort, Plan};
 use config_graph::{Graph, Link, NoMemory, kind_text};
@@ -32,7 +32,7 @@ fn write_nodes(
     nodes: &[u32],
 ) -> Result<(), NoMemory>
     requires { All (λ i. i < length graph.now.nodes) nodes.now }
-    ensures { OnOk result (text.new.items ≡ text.old.items ++ flat_map (node_line word.now graph.now) nodes.now) }
+    ensures { OnOk result (text.new.items ≡ text.old.items ++ flat_map (step_line word.now graph.now) nodes.now) }
 {
     for node in nodes {
         write_node(text, word, graph, *node)?;
@@ -42,7 +42,7 @@ fn write_nodes(
 
 fn write_node(text: &mut Vec<u8>, word: &[u8], graph: &Graph, node: u32) -> Result<(), NoMemory>
     requires { node < length graph.now.nodes }
-    ensures { OnOk result (text.new.items ≡ text.old.items ++ node_line word.now graph.now node) }
+    ensures { OnOk result (text.new.items ≡ text.old.items ++ step_line word.now graph.now node) }
 {
     text.extend_from_slice(word)?;
     text.extend_from_slice(graph.node(node).path.as_bytes())?;
@@ -99,7 +99,7 @@ fn write_create(alloc: Global, text: &mut Vec<u8>, graph: &Graph, node: u32) -> 
 
 /// A line for each link.
 fn write_links(text: &mut Vec<u8>, graph: &Graph, links: &[Link]) -> Result<(), NoMemory>
-    requires { All (IsWithin graph.now.nodes) links.now }
+    requires { All (IsLinkWithin graph.now.nodes) links.now }
     ensures { OnOk result (text.new.items ≡ text.old.items ++ flat_map (link_line graph.now) links.now) }
 {
     for link in links {
@@ -109,7 +109,7 @@ fn write_links(text: &mut Vec<u8>, graph: &Graph, links: &[Link]) -> Result<(), 
 }
 
 fn write_link(text: &mut Vec<u8>, graph: &Graph, link: Link) -> Result<(), NoMemory>
-    requires { IsWithin graph.now.nodes link }
+    requires { IsLinkWithin graph.now.nodes link }
     ensures { OnOk result (text.new.items ≡ text.old.items ++ link_line graph.now link) }
 {
     text.extend_from_slice(b"link ")?;

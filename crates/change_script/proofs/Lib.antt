@@ -1,6 +1,5 @@
 pub mod TokenLemmas
 pub mod LineLemmas
-pub mod NumberLemmas
 pub mod NameLemmas
-pub mod EventFileLemmas
+pub mod EventFileLaws
 pub mod WritingLemmas

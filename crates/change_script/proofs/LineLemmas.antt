@@ -2,13 +2,9 @@
 use Rattle.std.proofs.Common.{◌≡◌, ℕ, suc, ◌+◌, ◌-◌, ◌<◌, ◌≤◌, Bool, true, not, inl, inr, List, [], ◌∷◌, take, drop, length, arith, refl, sym, ap, ◌∙◌}
 use Rattle.std.specs.List.{prefix_len, slice_split, onto_first}
 use Rattle.std.proofs.lemmas.Bool.{cond-true, cond-false}
-use Rattle.std.proofs.lemmas.Grind.{common_steps}
 use Rattle.change_script.specs.Lines.{Line, is_statement, statements_of, trimmed}
 use Rattle.change_script.proofs.TokenLemmas.{either}
-
--- what the code's `&text[i..]` is
-pub rest_is : (text : List ℕ) (i : ℕ) → i ≤ length text → take (length text - i) (drop i text) ≡ drop i text
-rest_is text i within = grind (arith, common_steps)
+use Rattle.base.proofs.PlaceLaws.{rest_is}
 
 -- A byte that passes ends the first part.
 pub cut_here : (p : ℕ → Bool) (bytes : List ℕ) → prefix_len (λ b. not (p b)) bytes < length bytes

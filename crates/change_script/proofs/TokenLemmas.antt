@@ -1,7 +1,7 @@
 -- What the tokens of a line are by its first byte, and by its first word.
 use Rattle.std.proofs.Common.{◌≡◌, ℕ, suc, ◌+◌, Bool, true, false, not, ◌||◌, ◌&&◌, ◌-◌, ◌≤◌, length, ◌⊎◌, inl, inr, List, [], ◌∷◌, ◌++◌, take, drop, refl, sym, ap, ◌∙◌, arith}
 use Rattle.std.specs.List.{prefix_len, list_all}
-use Rattle.std.proofs.lemmas.Bool.{cond-true, cond-false}
+use Rattle.std.proofs.lemmas.Bool.{cond-true, cond-false, and_parts}
 use Rattle.std.proofs.lemmas.Bool.Decides.{nat_tests}
 use Rattle.std.proofs.lemmas.Grind.{common_steps}
 use Rattle.change_script.specs.Tokens.{Token, word, opened, closed, comma, is_blank, begins_blank, is_sign, sign, is_word_byte, begins_word, onto_word, tokens}
@@ -16,7 +16,7 @@ drop_one_more k x xs = let e : 1 + k ≡ suc k = omega arith in ap (λ n. drop n
 pub take_one_more : {A : Type 0} (k : ℕ) (x : A) (xs : List A) → take (1 + k) (x ∷ xs) ≡ x ∷ take k xs
 take_one_more k x xs = let e : 1 + k ≡ suc k = omega arith in ap (λ n. take n (x ∷ xs)) e
 
-at_blank : (b : ℕ) (bs : List ℕ) → is_blank b ≡ true → tokens (b ∷ bs) ≡ tokens bs
+pub at_blank : (b : ℕ) (bs : List ℕ) → is_blank b ≡ true → tokens (b ∷ bs) ≡ tokens bs
 at_blank b bs holds = cond-true _ _ _ holds
 
 at_sign : (b : ℕ) (bs : List ℕ) → is_blank b ≡ false → is_sign b ≡ true → tokens (b ∷ bs) ≡ sign b ∷ tokens bs
@@ -85,14 +85,6 @@ sign_code b holds = grind (arith, nat_tests)
 sign_no_word : (b : ℕ) (bytes : List ℕ) → is_sign b ≡ true → sign b ≡ word bytes → ⊥
 sign_no_word b bytes holds e = let zero : b ≡ 0 = sym (sign_code b holds) ∙ ap token_code e in absurd (grind (arith, nat_tests))
 
-pub no_word_first : (line bytes : List ℕ) (more : List Token) → begins_blank line ≡ false → begins_word line ≡ false → tokens line ≡ word bytes ∷ more → ⊥
-no_word_first [] bytes more fails none e = cc
-no_word_first (b ∷ bs) bytes more fails none e =
-    elim (either (is_sign b)) [
-      | inl holds ↦ let both : sign b ∷ tokens bs ≡ word bytes ∷ more = sym (at_sign b bs fails holds) ∙ e in sign_no_word b bytes holds cc
-      | inr not_sign ↦ let is_one : is_word_byte b ≡ true = ap (λ blank. not (blank || is_sign b)) fails ∙ ap not not_sign in cc
-    ]
-
 -- The sign at the front of a line.
 pub sign_first : (b : ℕ) (bs : List ℕ) → is_blank b ≡ false → is_sign b ≡ true → tokens (b ∷ bs) ≡ sign b ∷ tokens bs
 sign_first b bs fails holds = at_sign b bs fails holds
@@ -113,14 +105,10 @@ no_sign_first (b ∷ bs) byte more fails is other e =
           sign_no_word byte found.0 is cc
     ]
 
-both_true : (a b : Bool) → (a && b) ≡ true → (a ≡ true) × (b ≡ true)
-both_true true b h = (refl, h)
-both_true false b h = cc
-
 -- Nothing but blanks has no token, and all else has one.
 pub blank_ends : (line : List ℕ) → list_all is_blank line ≡ true → tokens line ≡ []
 blank_ends [] all = refl
-blank_ends (b ∷ bs) all = let both = both_true (is_blank b) (list_all is_blank bs) all in at_blank b bs both.0 ∙ blank_ends bs both.1
+blank_ends (b ∷ bs) all = let both = and_parts (is_blank b) (list_all is_blank bs) all in at_blank b bs both.0 ∙ blank_ends bs both.1
 
 pub ends_blank : (line : List ℕ) → tokens line ≡ [] → list_all is_blank line ≡ true
 ends_blank [] e = refl
@@ -161,19 +149,16 @@ word_at line n is within some =
 sign_no_blank : (b : ℕ) → is_sign b ≡ true → is_blank b ≡ false
 sign_no_blank b holds = grind (arith, nat_tests)
 
-pub blank_front : (b : ℕ) (bs : List ℕ) → is_blank b ≡ true → tokens (b ∷ bs) ≡ tokens bs
-blank_front b bs holds = at_blank b bs holds
-
 pub sign_front : (b : ℕ) (bs : List ℕ) → is_sign b ≡ true → tokens (b ∷ bs) ≡ sign b ∷ tokens bs
 sign_front b bs holds = at_sign b bs (sign_no_blank b holds) holds
 
 -- Word bytes up to a byte that is none are one word.
 pub word_front : (b : ℕ) (bs rest : List ℕ) → list_all is_word_byte (b ∷ bs) ≡ true → begins_word rest ≡ false → tokens ((b ∷ bs) ++ rest) ≡ word (b ∷ bs) ∷ tokens rest
 word_front b [] rest all ends =
-    let apart = not_word (is_blank b) (is_sign b) (both_true (is_word_byte b) true all).0 in
+    let apart = not_word (is_blank b) (is_sign b) (and_parts (is_word_byte b) true all).0 in
     at_word b rest apart.0 apart.1 ∙ ap (λ g. onto_word b g (tokens rest)) ends
 word_front b (next ∷ bs) rest all ends =
-    let split = both_true (is_word_byte b) (list_all is_word_byte (next ∷ bs)) all in
+    let split = and_parts (is_word_byte b) (list_all is_word_byte (next ∷ bs)) all in
     let apart = not_word (is_blank b) (is_sign b) split.0 in
-    let goes_on = both_true (is_word_byte next) (list_all is_word_byte bs) split.1 in
+    let goes_on = and_parts (is_word_byte next) (list_all is_word_byte bs) split.1 in
     at_word b ((next ∷ bs) ++ rest) apart.0 apart.1 ∙ ap (λ g. onto_word b g (tokens ((next ∷ bs) ++ rest))) goes_on.0 ∙ ap (onto_word b true) (word_front next bs rest split.1 ends)

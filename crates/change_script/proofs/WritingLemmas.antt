@@ -12,7 +12,7 @@ use Rattle.config_graph.specs.declared.kind.Kind.TheVariants.{Philosopher, Place
 use Rattle.config_graph.specs.Kinds.{row}
 use Rattle.config_graph.specs.GraphText.{kind_text}
 use Rattle.config_graph.specs.declared.node.Node.{Node}
-use Rattle.config_graph.proofs.KindLemmas.{kind_named-name}
+use Rattle.config_graph.proofs.KindLaws.{kind_named-name}
 use Rattle.quiesce_core.specs.declared.event.Event.{Event}
 use Rattle.quiesce_core.specs.declared.event.Event.TheVariants as events
 use Rattle.change_script.specs.declared.event_lines.Statement.TheVariants as statements
@@ -24,7 +24,7 @@ use Rattle.change_script.specs.declared.verbs.OwnerStep.TheVariants as owner
 use Rattle.change_script.specs.declared.verbs.TargetStep.TheVariants as target
 use Rattle.change_script.specs.declared.verbs.Single.TheVariants as singles
 use Rattle.change_script.specs.Writing.{spaced, with_three, with_one, written, from_words, IsNumber, AreNumbers, CanBeWritten}
-use Rattle.change_script.proofs.TokenLemmas.{blank_front, sign_front, word_front}
+use Rattle.change_script.proofs.TokenLemmas.{at_blank, sign_front, word_front}
 
 -- one byte or more, all bytes of a word
 abbrev is_word : List ℕ → Bool
@@ -71,7 +71,7 @@ verb_tokens : (verb : List ℕ) (words : List (List ℕ)) → is_word verb ≡ t
 verb_tokens verb words is = front_word verb (spaced words) is (spaced_ends words)
 
 spaced_tokens : (first : List ℕ) (words : List (List ℕ)) → is_word first ≡ true → tokens (spaced (first ∷ words)) ≡ word first ∷ tokens (spaced words)
-spaced_tokens first words is = blank_front 32 (first ++ spaced words) refl ∙ front_word first (spaced words) is (spaced_ends words)
+spaced_tokens first words is = at_blank 32 (first ++ spaced words) refl ∙ front_word first (spaced words) is (spaced_ends words)
 
 one_tokens : (verb : List ℕ) (first : ℕ) → is_word verb ≡ true → IsNumber first → tokens (with_one verb first) ≡ word verb ∷ word (decimal first) ∷ []
 one_tokens verb first is small = verb_tokens verb (decimal first ∷ []) is ∙ ap (λ ts. word verb ∷ ts) (spaced_tokens (decimal first) [] (decimal_of first small).is_word)
@@ -131,7 +131,7 @@ kind_tokens : (kind : Kind) (arg : Option ℕ) (words : List (List ℕ)) → IfS
 kind_tokens kind arg words small =
     let name = (row kind).name in
     let rest = spaced words in
-    blank_front 32 (kind_text kind arg ++ rest) refl ∙ ap tokens (kind_text_before kind arg rest)
+    at_blank 32 (kind_text kind arg ++ rest) refl ∙ ap tokens (kind_text_before kind arg rest)
     ∙ front_word name (40 ∷ (option_map_or decimal arg [] ++ (41 ∷ rest))) (kind_is_word kind) refl ∙ ap (λ ts. word name ∷ ts) (inner_tokens arg rest small)
 
 -- the tokens of `from SLOT`, or none

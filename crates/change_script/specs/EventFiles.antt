@@ -38,9 +38,9 @@ abbrev pub fault_of : Bool → Line → Option ScriptError
 fault_of first line = fault_in first line.number (meaning_of_line line)
 
 -- what is wrong with each line
-abbrev pub faults : List Line → List (Option ScriptError)
-faults [] = []
-faults (first ∷ rest) = fault_of true first ∷ map (fault_of false) rest
+abbrev pub line_faults : List Line → List (Option ScriptError)
+line_faults [] = []
+line_faults (first ∷ rest) = fault_of true first ∷ map (fault_of false) rest
 
 abbrev pub first_fault : List (Option ScriptError) → Option ScriptError
 first_fault [] = None
@@ -49,4 +49,4 @@ first_fault (Some fault ∷ rest) = Some fault
 
 -- No line of the text says anything, or this is what is wrong with the first line at fault.
 abbrev pub IsFirstFault : List ℕ → ScriptError → Type 0
-IsFirstFault text fault = ((lines_of text ≡ []) × (fault ≡ errors.NoStart)) ⊎ (first_fault (faults (lines_of text)) ≡ Some fault)
+IsFirstFault text fault = ((lines_of text ≡ []) × (fault ≡ errors.NoStart)) ⊎ (first_fault (line_faults (lines_of text)) ≡ Some fault)

@@ -1,5 +1,5 @@
 -- What a line of an event file means, by its tokens.
-use Rattle.std.specs.Prelude.{ℕ, ℤ, Bool, ◌&&◌, if◌then◌else◌, List, [], ◌∷◌, ◌++◌, map, codes, bytes_eq, find, Option, Some, None, option_map, option_copied, Result, Ok, Err}
+use Rattle.std.specs.Prelude.{ℕ, ℤ, ◌&&◌, if◌then◌else◌, List, [], ◌∷◌, ◌++◌, map, codes, bytes_eq, find, Option, Some, None, option_map, option_copied, Result, Ok, Err}
 use Rattle.std.specs.List.{list_all}
 use Rattle.config_graph.specs.declared.kind.Kind.{Kind}
 use Rattle.config_graph.specs.Kinds.{kind_named}

@@ -20,10 +20,10 @@ with_value f (Ok value) = Ok (f value)
 with_value f (Err fault) = Err fault
 
 -- The answer is what was meant, unless memory ran out.
-abbrev pub Says : {A : Type 0} → Result A LineError → Result A LineFault → Type 0
-Says (Ok said) meant = meant ≡ Ok said
-Says (Err (line.Fault fault)) meant = meant ≡ Err fault
-Says (Err line.NoMemory) meant = Unit {0}
+abbrev pub MeansLine : {A : Type 0} → Result A LineError → Result A LineFault → Type 0
+MeansLine (Ok said) meant = meant ≡ Ok said
+MeansLine (Err (line.Fault fault)) meant = meant ≡ Err fault
+MeansLine (Err line.NoMemory) meant = Unit {0}
 
 -- the refusal of a line with this number
 abbrev pub fault_with : ℕ → LineFault → ScriptError

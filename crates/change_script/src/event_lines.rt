@@ -2,7 +2,7 @@
 
 ghost use Rattle.std.specs.Prelude.{◌≡◌, ◌∷◌, List, ℕ, true, map, length, option_map, option_copied, IfOk};
 ghost use Rattle.std.specs.List.{list_all};
-ghost use Rattle.change_script.specs.Faults.{Says};
+ghost use Rattle.change_script.specs.Faults.{MeansLine};
 ghost use Rattle.change_script.specs.Tokens.{tokens};
 ghost use Rattle.change_script.specs.Numbers as of_numbers;
 ghost use Rattle.change_script.specs.EventLines.{after_kind, arguments, integers, link_event, make, make_of_kind, make_words, meaning, meaning_of, more_arguments, optional_number, single_in, source, start, start_of_words, three_numbers, triple_in, words_of};
@@ -43,7 +43,7 @@ struct MakeLine<'a> {
 
 /// What `line` says, or what is wrong with it.
 pub fn meaning(alloc: Global, line: &[u8]) -> Result<Statement, LineError>
-    ensures { Says result (meaning (tokens line.now)) }
+    ensures { MeansLine result (meaning (tokens line.now)) }
 {
     let Some((name, rest)) = first_word(line) else {
         return Err(LineError::Fault(LineFault::Bad));
@@ -56,7 +56,7 @@ pub fn meaning(alloc: Global, line: &[u8]) -> Result<Statement, LineError>
 
 /// What a line says by what stands behind its verb.
 fn meaning_of(alloc: Global, verb: Verb, line: &[u8]) -> Result<Statement, LineError>
-    ensures { Says result (meaning_of verb (tokens line.now)) }
+    ensures { MeansLine result (meaning_of verb (tokens line.now)) }
 {
     match verb {
         Verb::Start => start(alloc, line),
@@ -124,7 +124,7 @@ fn three_numbers(first: &[u8], second: &[u8], third: &[u8]) -> Result<Triple, Li
 
 /// SLOT PATH KIND() or SLOT PATH KIND(NUM), and then `from` SLOT or nothing.
 fn make(alloc: Global, line: &[u8]) -> Result<Event, LineError>
-    ensures { Says result (make (tokens line.now)) }
+    ensures { MeansLine result (make (tokens line.now)) }
 {
     let Some(words) = make_words(line) else {
         return Err(LineError::Fault(LineFault::Bad));
@@ -136,7 +136,7 @@ fn make(alloc: Global, line: &[u8]) -> Result<Event, LineError>
 }
 
 fn make_of_kind(alloc: Global, words: &MakeLine<'_>, kind: Kind) -> Result<Event, LineError>
-    ensures { Says result (make_of_kind (words_of words.now) (Some kind)) }
+    ensures { MeansLine result (make_of_kind (words_of words.now) (Some kind)) }
 {
     let options = both(optional_number(words.arg), optional_number(words.from));
     let (slot, (_, (arg, from))) = both(number(words.slot), both(path(words.path), options))?;
@@ -211,7 +211,7 @@ fn source(line: &[u8]) -> Option<Option<&[u8]>>
 
 /// C(ARGS)
 fn start(alloc: Global, line: &[u8]) -> Result<Statement, LineError>
-    ensures { Says result (start (tokens line.now)) }
+    ensures { MeansLine result (start (tokens line.now)) }
 {
     let Some((name, line)) = first_word(line) else {
         return Err(LineError::Fault(LineFault::Bad));
@@ -257,7 +257,7 @@ fn more_arguments(alloc: Global, line: &[u8]) -> Result<Option<Vec<&[u8]>>, NoMe
 }
 
 fn start_of_words(alloc: Global, name: &[u8], words: &[&[u8]]) -> Result<Statement, LineError>
-    ensures { Says result (start_of_words name.now (Some (map (λ word. word.now) words.now))) }
+    ensures { MeansLine result (start_of_words name.now (Some (map (λ word. word.now) words.now))) }
 {
     if !(is_name(name) && are_integers(words)) {
         return Err(LineError::Fault(LineFault::Bad));

@@ -12,12 +12,13 @@ use Rattle.config_graph.specs.declared.node.Port.{Port}
 use Rattle.config_graph.specs.declared.node.Link.{Link}
 use Rattle.config_graph.specs.declared.node.Target.{Target}
 use Rattle.config_graph.specs.Cycles.{IsLinked}
-use Rattle.config_graph.specs.Graph.{Configuration, begins_at, in_port_order, link_at, ports}
+use Rattle.config_graph.specs.Graph.{Graph, begins_at, in_port_order, link_at, ports}
 use Rattle.config_graph.specs.GraphBy.{IsGraphBy, AreLinkedAt}
-use Rattle.config_graph.proofs.LinkLemmas.{begins_there, Contains-find, find_passes}
-use Rattle.config_graph.proofs.OrderLemmas.{All-filter_map}
-use Rattle.config_graph.proofs.OrderedLists.{one_order}
-use Rattle.config_graph.proofs.PathLemmas.{paths_apart}
+use Rattle.config_graph.proofs.LinkLaws.{begins_there}
+use Rattle.base.proofs.OrderedLaws.{one_order}
+use Rattle.config_graph.proofs.PathLaws.{paths_apart}
+use Rattle.base.proofs.FindLaws.{Contains-find, find_passes}
+use Rattle.base.proofs.MapLaws.{All-filter_map}
 
 -- where a link ends
 abbrev end_of : Link → Target
@@ -55,12 +56,12 @@ same_links_at ls ks i r to from = by (link_at ls i r) (link_at ks i r) refl refl
     by None (Some k) at at' = sym at ∙ same_link ks ls i r from k at'
 
 module _ (IsNode : Node → Type 0) (Linked : Node → ℕ → Node → ℕ → Type 0) where
-  same_nodes : (g h : Configuration) → IsGraphBy IsNode Linked g → IsGraphBy IsNode Linked h → g.nodes ≡ h.nodes
+  same_nodes : (g h : Graph) → IsGraphBy IsNode Linked g → IsGraphBy IsNode Linked h → g.nodes ≡ h.nodes
   same_nodes g h a b =
       one_order (λ (m n : Node). slice_cmp nat_cmp m.path n.path ≡ Less) paths_apart g.nodes h.nodes a.paths_rise b.paths_rise
       (λ n held. (b.nodes_are n).1 ((a.nodes_are n).0 held)) (λ n held. (a.nodes_are n).1 ((b.nodes_are n).0 held))
 
-  pub one_graph : (g h : Configuration) → IsGraphBy IsNode Linked g → IsGraphBy IsNode Linked h → g ≡ h
+  pub one_graph : (g h : Graph) → IsGraphBy IsNode Linked g → IsGraphBy IsNode Linked h → g ≡ h
   one_graph g h a b = λ n. record { nodes = nodes n; links = links n }
     where
       nodes : g.nodes ≡ h.nodes
@@ -81,7 +82,7 @@ module _ (IsNode : Node → Type 0) (Linked : Node → ℕ → Node → ℕ → 
 -- ---- links that are in a list and links of ports
 
 -- in a list that has its own order each link is that of its port
-own_link : (g : Configuration) → in_port_order g.nodes g.links ≡ g.links → (l : Link) → Contains g.links l → link_at g.links l.from l.require ≡ Some l
+pub own_link : (g : Graph) → in_port_order g.nodes g.links ≡ g.links → (l : Link) → Contains g.links l → link_at g.links l.from l.require ≡ Some l
 own_link g in_order l held =
     All-contains (λ k. link_at g.links k.from k.require ≡ Some k) g.links l
     (subst (All (λ k. link_at g.links k.from k.require ≡ Some k)) in_order
@@ -90,7 +91,7 @@ own_link g in_order l held =
     (λ n. link_at g.links (begun.0 n) (begun.1 n)) ∙ found))) held
 
 -- so a port is linked exactly where its link is in the list
-pub linked_if_listed : (g : Configuration) → in_port_order g.nodes g.links ≡ g.links → (i r j x : ℕ)
+pub linked_if_listed : (g : Graph) → in_port_order g.nodes g.links ≡ g.links → (i r j x : ℕ)
     → IsLinked g i r j x ↔ Contains g.links (record { from = i; require = r; to = j; provide = x })
 linked_if_listed g in_order i r j x = (by (link_at g.links i r) refl, λ held. ap (option_map end_of) (own_link g in_order (record { from = i; require = r; to = j; provide = x }) held))
   where

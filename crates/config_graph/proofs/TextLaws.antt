@@ -3,14 +3,14 @@ use Rattle.std.proofs.Common.{inl, inr, ◌⊎◌, ◌≡◌, ◌≢◌, ◌+◌
 use Rattle.std.specs.Prelude.{All, codes, decimal, flat_map, unwrap_or}
 use Rattle.std.specs.List.{enumerate_from, list_all, range_with_len}
 use Rattle.std.specs.Option.{option_map_or}
-use Rattle.std.proofs.lemmas.Bool.{cases_lt, false≢true, true≢false, eq-eqb}
+use Rattle.std.proofs.lemmas.Bool.{cases_lt, false≢true, true≢false, eq-eqb, and_parts}
 use Rattle.std.proofs.lemmas.Fmt.{decimal_by_steps, decimal_injective}
 use Rattle.std.proofs.lemmas.List.{append_cancel_left}
 use Rattle.std.proofs.lemmas.List.Elements.{All-append, All-push}
 use Rattle.std.proofs.lemmas.List.Sums.{AllPass-from_list_all}
 use Rattle.std.proofs.lemmas.Option.{get_or_from_slice_get, slice_get_within}
 use Rattle.config_graph.specs.Kinds.{Provision, kind_named, row}
-use Rattle.config_graph.specs.Graph.{Configuration, IsWithin, PathsRise, in_port_order, ports, provides_at, provides_of, requires_at, requires_of, target_of}
+use Rattle.config_graph.specs.Graph.{Graph, IsLinkWithin, PathsRise, in_port_order, ports, provides_at, provides_of, requires_at, requires_of, target_of}
 use Rattle.config_graph.specs.GraphText.{IsOneWord, end_text, graph_text, node_line, node_lines, port_line, port_lines, provide_name, require_name, target_text}
 use Rattle.config_graph.specs.Sound.{HasItsArgument, Sound}
 use Rattle.config_graph.specs.declared.kind.Kind.{Kind}
@@ -23,11 +23,12 @@ use Rattle.std.specs.Ordering.{nat_cmp}
 use Rattle.std.specs.Cmp.Lexicographic.{slice_cmp}
 use Rattle.std.proofs.lemmas.Slice.Eq.{bytes_eq-Decides}
 use Rattle.config_graph.specs.Indexes.{links_in, targets}
-use Rattle.config_graph.proofs.LinkLemmas.{both_true, IfSome-target, map_same, require_within}
-use Rattle.config_graph.proofs.NumberingLemmas.{provides_at-le}
-use Rattle.config_graph.proofs.OrderLemmas.{links_in-targets}
-use Rattle.config_graph.proofs.PathLemmas.{bytes_eq-below}
-use Rattle.config_graph.proofs.KindLemmas.{kind_named-name}
+use Rattle.config_graph.proofs.LinkLaws.{IfSome-target, require_within}
+use Rattle.config_graph.proofs.NumberingLaws.{provides_at-le}
+use Rattle.config_graph.proofs.OrderLaws.{links_in-targets}
+use Rattle.config_graph.proofs.PathLaws.{bytes_eq-below}
+use Rattle.config_graph.proofs.KindLaws.{kind_named-name, two_requires}
+use Rattle.base.proofs.MapLaws.{map_same}
 
 -- no element of the list is c
 abbrev pub Free : ℕ → List ℕ → Type 0
@@ -117,10 +118,10 @@ provide_name_plain k x = by (slice_get (row k).provides x) refl
         ap plain (sym read) ∙ AllPass-from_list_all plain (row k).provides (provisions_plain k) x p low
 
 pub provide_name_line : (k : Kind) (x : ℕ) → Free 10 (provide_name k x)
-provide_name_line k x = Free-from_lacks 10 (provide_name k x) (both_true _ _ (provide_name_plain k x)).0
+provide_name_line k x = Free-from_lacks 10 (provide_name k x) (and_parts _ _ (provide_name_plain k x)).0
 
 pub provide_name_dot : (k : Kind) (x : ℕ) → Free 46 (provide_name k x)
-provide_name_dot k x = Free-from_lacks 46 (provide_name k x) (both_true _ _ (provide_name_plain k x)).1
+provide_name_dot k x = Free-from_lacks 46 (provide_name k x) (and_parts _ _ (provide_name_plain k x)).1
 
 -- nor do those of requirements, nor a space, and a kind's are apart
 abbrev plain_name : List ℕ → Bool
@@ -151,27 +152,13 @@ require_name_plain k r = by (slice_get (row k).requires_ r) refl
         ap plain_name (sym read) ∙ AllPass-from_list_all plain_name (row k).requires_ (requirements_plain k) r name low
 
 pub require_name_line : (k : Kind) (r : ℕ) → Free 10 (require_name k r)
-require_name_line k r = Free-from_lacks 10 (require_name k r) (both_true _ _ (require_name_plain k r)).0
+require_name_line k r = Free-from_lacks 10 (require_name k r) (and_parts _ _ (require_name_plain k r)).0
 
 pub require_name_space : (k : Kind) (r : ℕ) → Free 32 (require_name k r)
-require_name_space k r = Free-from_lacks 32 (require_name k r) (both_true _ _ (both_true _ _ (require_name_plain k r)).1).0
+require_name_space k r = Free-from_lacks 32 (require_name k r) (and_parts _ _ (and_parts _ _ (require_name_plain k r)).1).0
 
 pub require_name_dot : (k : Kind) (r : ℕ) → Free 46 (require_name k r)
-require_name_dot k r = Free-from_lacks 46 (require_name k r) (both_true _ _ (both_true _ _ (require_name_plain k r)).1).1
-
-two_requires : (k : Kind) → length (row k).requires_ ≤ 2
-two_requires Philosopher = omega arith
-two_requires Place = omega arith
-two_requires Fork = omega arith
-two_requires Source = omega arith
-two_requires Map = omega arith
-two_requires Buffer = omega arith
-two_requires Sink = omega arith
-two_requires Teller = omega arith
-two_requires Branch = omega arith
-two_requires Account = omega arith
-two_requires Asker = omega arith
-two_requires Adder = omega arith
+require_name_dot k r = Free-from_lacks 46 (require_name k r) (and_parts _ _ (and_parts _ _ (require_name_plain k r)).1).1
 
 names_apart : (k : Kind) → 1 < length (row k).requires_ → require_name k 0 ≡ require_name k 1 → ⊥
 names_apart Philosopher low same = omega (arith, low)
@@ -201,7 +188,7 @@ decimal_free =
     decimal_by_steps (λ n ds. Free 41 ds) (λ n h. All-push (λ b. b ≢ 41) [] (48 + n) (λ k d low. absurd (omega arith)) (λ e. omega (arith, e))) (λ n ds h f. All-push (λ b. b ≢ 41) ds (48 + n % 10) f (λ e. omega (arith, e)))
 
 -- what stands for the target of a port
-abbrev target_at : Configuration → ℕ → ℕ → List ℕ
+abbrev target_at : Graph → ℕ → ℕ → List ℕ
 target_at g i r = target_text g.nodes (target_of g.links i r)
 
 regroup : (a b c d e f g h rest : List ℕ) → (((a ++ b) ++ c) ++ (((d ++ e) ++ f) ++ g) ++ h) ++ rest ≡ a ++ (b ++ (c ++ (d ++ (e ++ (f ++ (g ++ (h ++ rest)))))))
@@ -215,7 +202,7 @@ node_form n rest =
 abbrev port_front : Node → ℕ → List ℕ
 port_front n r = codes "port " ++ end_text n.path (require_name n.kind r) ++ codes " "
 
-port_form : (g : Configuration) (i : ℕ) (n : Node) (r : ℕ) (rest : List ℕ) → port_line g i n r ++ rest ≡ port_front n r ++ (target_at g i r ++ 10 ∷ rest)
+port_form : (g : Graph) (i : ℕ) (n : Node) (r : ℕ) (rest : List ℕ) → port_line g i n r ++ rest ≡ port_front n r ++ (target_at g i r ++ 10 ∷ rest)
 port_form g i n r rest =
     append_assoc (port_front n r ++ target_at g i r) (codes "\n") rest ∙ append_assoc (port_front n r) (target_at g i r) (codes "\n" ++ rest)
 
@@ -230,7 +217,7 @@ arg_free : (x : Option ℕ) → IfSome x (λ a. a < 2 ^ 24) → Free 41 (option_
 arg_free None p = λ k d low. absurd (omega arith)
 arg_free (Some x) p = decimal_free x (omega arith)
 
-module _ (g h : Configuration) (g_lines : (i r : ℕ) → Free 10 (target_at g i r)) (h_lines : (i r : ℕ) → Free 10 (target_at h i r)) where
+module _ (g h : Graph) (g_lines : (i r : ℕ) → Free 10 (target_at g i r)) (h_lines : (i r : ℕ) → Free 10 (target_at h i r)) where
   -- equal lines of ports have equal targets, and equal lines after them
   same_ports : (i : ℕ) (n : Node) (a count : ℕ) (rest rest' : List ℕ) → flat_map (port_line g i n) (range_with_len a count) ++ rest ≡ flat_map (port_line h i n) (range_with_len a count) ++ rest' → ((r : ℕ) → a ≤ r → r < a + count → target_at g i r ≡ target_at h i r) × (rest ≡ rest')
   same_ports i n a zero rest rest' e = (λ r low high. absurd (omega arith), e)
@@ -341,7 +328,7 @@ same_target nodes (Some t) (Some u) rise p q e =
     λ j. Some (record { node = node j; provide = provide j })
 
 -- no text of a target holds a line feed
-target_line : (g : Configuration) → All (λ n. IsOneWord n.path) g.nodes → (i r : ℕ) → Free 10 (target_at g i r)
+target_line : (g : Graph) → All (λ n. IsOneWord n.path) g.nodes → (i r : ℕ) → Free 10 (target_at g i r)
 target_line g words i r = by (target_of g.links i r)
   where
     by : (o : Option Target) → Free 10 (target_text g.nodes o)
@@ -358,11 +345,11 @@ target_line g words i r = by (target_of g.links i r)
             let dot : Free 10 (codes ".") = Free-from_lacks 10 (codes ".") refl in
             All-append (λ b. b ≢ 10) (n.path ++ codes ".") (provide_name n.kind t.provide) (All-append (λ b. b ≢ 10) n.path (codes ".") path dot) (provide_name_line n.kind t.provide)
 
-pub same_from_text : (a b : Configuration) → Sound a → Sound b → All (λ n. IsOneWord n.path) a.nodes → All (λ n. IsOneWord n.path) b.nodes → graph_text a ≡ graph_text b → a ≡ b
+pub same_from_text : (a b : Graph) → Sound a → Sound b → All (λ n. IsOneWord n.path) a.nodes → All (λ n. IsOneWord n.path) b.nodes → graph_text a ≡ graph_text b → a ≡ b
 same_from_text a b a_sound b_sound a_words b_words e =
     let lines = same_lines a b (target_line a a_words) (target_line b b_words) 0 a.nodes b.nodes a_words b_words a_sound.arguments b_sound.arguments e in
     let nodes = lines.0 in
-    let b_within : All (IsWithin a.nodes) b.links = subst (λ ns. All (IsWithin ns) b.links) (sym nodes) b_sound.within in
+    let b_within : All (IsLinkWithin a.nodes) b.links = subst (λ ns. All (IsLinkWithin ns) b.links) (sym nodes) b_sound.within in
     let b_ordered : in_port_order a.nodes b.links ≡ b.links = subst (λ ns. in_port_order ns b.links ≡ b.links) (sym nodes) b_sound.in_order in
     let each : (q : ℕ) (p : Port) → slice_get (ports a.nodes) q ≡ Some p → target_of a.links p.node p.require ≡ target_of b.links p.node p.require =
     λ q p h.

@@ -13,7 +13,7 @@ use Rattle.config_graph.specs.declared.node.Port.{Port}
 use Rattle.config_graph.specs.declared.node.Target.{Target}
 use Rattle.config_graph.specs.declared.node.Link.{Link}
 
-pub record Configuration : Type 0 where
+pub record Graph : Type 0 where
   pub nodes : List Node
   pub links : List Link
 
@@ -66,7 +66,7 @@ abbrev pub in_port_order : List Node → List Link → List Link
 in_port_order nodes links = filter_map (λ p. link_at links p.node p.require) (ports nodes)
 
 -- the numbers of the ports that are linked to a provision
-abbrev pub incoming_ports : Configuration → ℕ → ℕ → List ℕ
+abbrev pub incoming_ports : Graph → ℕ → ℕ → List ℕ
 incoming_ports g i provide = map (λ l. port_number g.nodes l.from l.require) (filter (ends_at i provide) g.links)
 
 -- the place of the node with this path
@@ -78,7 +78,7 @@ abbrev pub PathsRise : List Node → Type 0
 PathsRise nodes = AllPairs (λ m n. slice_cmp nat_cmp m.path n.path ≡ Less) nodes
 
 -- a link leads from a requirement of a node to a provision of a node
-pub record IsWithin (nodes : List Node) (l : Link) : Type 0 where
+pub record IsLinkWithin (nodes : List Node) (l : Link) : Type 0 where
   pub begins : l.require < requires_at nodes l.from
   pub ends : l.provide < provides_at nodes l.to
 
@@ -87,13 +87,13 @@ abbrev pub OneLinkAPort : List Link → Type 0
 OneLinkAPort links = AllPairs (λ k l. begins_at k.from k.require l ≡ false) links
 
 -- the graph of these nodes and links
-abbrev pub graph_of : List Node → List Link → Configuration
+abbrev pub graph_of : List Node → List Link → Graph
 graph_of nodes links = record { nodes = nodes; links = in_port_order nodes links }
 
 -- what holds of each graph
-pub record IsGraph (g : Configuration) : Type 0 where
+pub record IsGraph (g : Graph) : Type 0 where
   pub paths_rise : PathsRise g.nodes
-  pub within : All (IsWithin g.nodes) g.links
+  pub within : All (IsLinkWithin g.nodes) g.links
   pub in_order : in_port_order g.nodes g.links ≡ g.links
   pub few_nodes : length g.nodes < 2 ^ 32
   pub few_ports : length (ports g.nodes) < 2 ^ 32

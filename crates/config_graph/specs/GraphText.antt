@@ -3,7 +3,7 @@ use Rattle.std.specs.Prelude.{ℕ, List, [], ◌++◌, flat_map, Option, Some, N
 use Rattle.std.specs.List.{enumerate_from, range_with_len}
 use Rattle.std.specs.Option.{option_map_or}
 use Rattle.config_graph.specs.Kinds.{Provision, row}
-use Rattle.config_graph.specs.Graph.{Configuration, requires_of, target_of}
+use Rattle.config_graph.specs.Graph.{Graph, requires_of, target_of}
 use Rattle.config_graph.specs.declared.kind.Kind.{Kind}
 use Rattle.config_graph.specs.declared.node.Node.{Node}
 use Rattle.config_graph.specs.declared.node.Target.{Target}
@@ -38,16 +38,16 @@ abbrev pub node_line : Node → List ℕ
 node_line n = codes "node " ++ n.path ++ codes " " ++ kind_text n.kind n.arg ++ codes "\n"
 
 -- `port PATH.REQUIRE PATH.PROVIDE`, or `port PATH.REQUIRE -`
-abbrev pub port_line : Configuration → ℕ → Node → ℕ → List ℕ
+abbrev pub port_line : Graph → ℕ → Node → ℕ → List ℕ
 port_line g i n require =
     codes "port " ++ end_text n.path (require_name n.kind require) ++ codes " " ++ target_text g.nodes (target_of g.links i require) ++ codes "\n"
 
 -- the lines of node i's first ports, and those of the node and all its ports
-abbrev pub port_lines : Configuration → ℕ → Node → ℕ → List ℕ
+abbrev pub port_lines : Graph → ℕ → Node → ℕ → List ℕ
 port_lines g i n count = flat_map (port_line g i n) (range_with_len 0 count)
 
-abbrev pub node_lines : Configuration → ℕ → Node → List ℕ
+abbrev pub node_lines : Graph → ℕ → Node → List ℕ
 node_lines g i n = node_line n ++ port_lines g i n (requires_of n)
 
-abbrev pub graph_text : Configuration → List ℕ
+abbrev pub graph_text : Graph → List ℕ
 graph_text g = flat_map (λ p. node_lines g p.0 p.1) (enumerate_from 0 g.nodes)

@@ -1,6 +1,6 @@
 -- The indexes that a graph keeps to answer look-ups, each a function of its nodes and links.
 use Rattle.std.specs.Prelude.{◌≡◌, ℕ, List, map, filter_map, zip, Option, None, option_map}
-use Rattle.config_graph.specs.Graph.{Configuration, IsGraph, ports, target_of, incoming_ports}
+use Rattle.config_graph.specs.Graph.{Graph, IsGraph, ports, target_of, incoming_ports}
 use Rattle.config_graph.specs.Numbering.{provisions}
 use Rattle.config_graph.specs.declared.node.Node.{Node}
 use Rattle.config_graph.specs.declared.node.Link.{Link}
@@ -25,10 +25,10 @@ abbrev pub links_in : List Port → List (Option Target) → List Link
 links_in ports_ targets_ = filter_map link_to (zip ports_ targets_)
 
 -- the numbers of the ports that are linked to each provision
-abbrev pub incoming : Configuration → List (List ℕ)
+abbrev pub incoming : Graph → List (List ℕ)
 incoming g = map (λ t. incoming_ports g t.node t.provide) (provisions g.nodes)
 
-abbrev pub graph_in : Inside → Configuration
+abbrev pub graph_in : Inside → Graph
 graph_in a = record { nodes = a.nodes; links = a.links.items }
 
 pub record IsIndexed (a : Inside) : Type 0 where

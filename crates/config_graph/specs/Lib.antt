@@ -6,7 +6,7 @@ pub mod Indexes
 pub mod Kinds
 pub mod Marks
 pub mod Numbering
-pub mod Reach
+pub mod Enlarged
 pub mod Search
 pub mod Sound
 pub mod Walks

@@ -2,7 +2,7 @@
 -- they were seen.
 use Rattle.std.specs.Prelude.{ℕ, Bool, true, List, [], ◌∷◌, ◌++◌, filter_map, if◌then◌else◌, slice_index_or, slice_set}
 use Rattle.std.specs.List.{range_with_len}
-use Rattle.config_graph.specs.Graph.{Configuration, requires_at}
+use Rattle.config_graph.specs.Graph.{Graph, requires_at}
 use Rattle.config_graph.specs.Cycles.{leads_by}
 
 pub record Seen : Type 0 where
@@ -21,8 +21,8 @@ see_all [] s = s
 see_all (j ∷ js) s = see_all js (see j s)
 
 -- the nodes to which a node leads by its first ports, and by all of them
-abbrev pub successors_by : Configuration → ℕ → ℕ → List ℕ
+abbrev pub successors_by : Graph → ℕ → ℕ → List ℕ
 successors_by g i count = filter_map (leads_by g i) (range_with_len 0 count)
 
-abbrev pub successors : Configuration → ℕ → List ℕ
+abbrev pub successors : Graph → ℕ → List ℕ
 successors g i = successors_by g i (requires_at g.nodes i)

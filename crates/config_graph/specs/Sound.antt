@@ -1,7 +1,7 @@
 -- Sound graphs: those that a description gives and that may be run.
 use Rattle.std.specs.Prelude.{◌≡◌, ◌<◌, ◌^◌, All, IfSome, is_some}
 use Rattle.config_graph.specs.Kinds.{row}
-use Rattle.config_graph.specs.Graph.{Configuration, IsWithin, PathsRise, in_port_order}
+use Rattle.config_graph.specs.Graph.{Graph, IsLinkWithin, PathsRise, in_port_order}
 use Rattle.config_graph.specs.Cycles.{NoCycle}
 use Rattle.config_graph.specs.declared.node.Node.{Node}
 
@@ -10,9 +10,9 @@ pub record HasItsArgument (n : Node) : Type 0 where
   pub present : is_some n.arg ≡ is_some (row n.kind).arg
   pub below : IfSome n.arg (λ a. a < 2 ^ 24)
 
-pub record Sound (g : Configuration) : Type 0 where
+pub record Sound (g : Graph) : Type 0 where
   pub paths_rise : PathsRise g.nodes
   pub arguments : All HasItsArgument g.nodes
-  pub within : All (IsWithin g.nodes) g.links
+  pub within : All (IsLinkWithin g.nodes) g.links
   pub in_order : in_port_order g.nodes g.links ≡ g.links
   pub no_cycle : NoCycle g

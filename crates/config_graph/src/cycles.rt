@@ -3,10 +3,10 @@
 ghost use Rattle.std.specs.Prelude.{◌≡◌, ◌⊎◌, ◌+◌, ◌<◌, ◌≤◌, ◌↔◌, ℕ, length, All, IfNone, IfOk, IfSome, IsTrue, OnOk, false, option_map, option_to_list, replicate, vec_len};
 ghost use Rattle.std.specs.List.{range_with_len};
 ghost use Rattle.std.specs.Option.{ForSome};
-ghost use Rattle.config_graph.specs.Cycles.{FirstOnCycle, NoCycle, OnCycle, leads_by, wiring_of};
+ghost use Rattle.config_graph.specs.Cycles.{FirstOnCycle, NoCycle, OnCycle, leads_by, graph_wiring};
 ghost use Rattle.config_graph.specs.Marks.{IsMarked};
 ghost use Rattle.config_graph.specs.Wiring.{CallPath, MayCall};
-ghost use Rattle.config_graph.specs.Graph.{Configuration, IsGraph, ports as ports_of, requires_at};
+ghost use Rattle.config_graph.specs.Graph.{Graph, IsGraph, ports as ports_of, requires_at};
 ghost use Rattle.config_graph.specs.declared.node.Target.{Target};
 ghost use Rattle.config_graph.specs.Search.{see_all, seen_of, successors};
 
@@ -32,7 +32,7 @@ pub fn first_on_cycle(alloc: Global, graph: &Graph) -> Result<Option<u32>, NoMem
 
 /// Some node of a graph is the first on a cycle, or none is on one.
 pub fn a_first_on_a_cycle_or_none()
-    ensures { (g : Configuration) → IsGraph g → ((i : ℕ) × FirstOnCycle g i) ⊎ NoCycle g }
+    ensures { (g : Graph) → IsGraph g → ((i : ℕ) × FirstOnCycle g i) ⊎ NoCycle g }
 {}
 
 /// The nodes that lead only to nodes of this list, as a bit for each node, taken in until there are no more. None of them is
@@ -75,7 +75,7 @@ fn all_nodes(alloc: Global, count: u32) -> Result<Vec<u32>, NoMemory>
 fn leads_only_to(graph: &Graph, bits: &[bool], node: u32) -> bool
     requires bits { length bits.now ≡ length graph.now.nodes }
     requires node { node < length graph.now.nodes }
-    ensures { IsTrue result → (j : ℕ) → MayCall (wiring_of graph.now) node j → IsMarked bits.now j }
+    ensures { IsTrue result → (j : ℕ) → MayCall (graph_wiring graph.now) node j → IsMarked bits.now j }
 {
     for require in 0..graph.node(node).kind.requires_() {
         if !is_set(bits, successor(graph, node, require)) {
@@ -140,7 +140,7 @@ fn is_on_cycle(alloc: Global, graph: &Graph, acyclic: &[bool], node: u32) -> Res
 fn list_reached(alloc: Global, graph: &Graph, start: u32) -> Result<Vec<bool>, NoMemory>
     requires { start < length graph.now.nodes }
     ensures length { IfOk result (λ bits. vec_len bits ≡ length graph.now.nodes) }
-    ensures reached { IfOk result (λ bits. (j : ℕ) → IsMarked bits.items j ↔ CallPath (wiring_of graph.now) start j) }
+    ensures reached { IfOk result (λ bits. (j : ℕ) → IsMarked bits.items j ↔ CallPath (graph_wiring graph.now) start j) }
 {
     let mut bits = no_bits(alloc, graph.node_count())?;
     let mut reached = Vec::new(alloc);

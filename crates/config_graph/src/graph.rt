@@ -1,16 +1,16 @@
-//! Configurations as flat graphs, with the indexes that answer look-ups at once.
+//! Graphs, with the indexes that answer look-ups at once.
 
 ghost use Rattle.std.specs.Prelude.{◌≡◌, ◌+◌, ◌^◌, ◌<◌, ◌↔◌, ℕ, length, slice_get, Some, IfOk, IfSome, All, Contains, IsTrue};
 ghost use Rattle.std.specs.List.Sorted.{IsStrictlyIncreasing};
 ghost use Rattle.config_graph.specs.declared.node.Link.{Link};
-ghost use Rattle.config_graph.specs.Graph.{IsGraph, IsWithin, OneLinkAPort, PathsRise, graph_of, incoming_ports, index_of, port_number, ports, provides_at, requires_at, target_of};
+ghost use Rattle.config_graph.specs.Graph.{IsGraph, IsLinkWithin, OneLinkAPort, PathsRise, graph_of, incoming_ports, index_of, port_number, ports, provides_at, requires_at, target_of};
 
 use crate::numbering::Numbering;
 use crate::{Link, NoMemory, Node, Port, Target, indexes};
 use std::alloc::Global;
 use std::marker::Model;
 
-/// A configuration. Contracts see its nodes, in the order of their paths, and its links, in the order of their ports.
+/// A graph. Contracts see its nodes, in the order of their paths, and its links, in the order of their ports.
 ///
 /// All look-ups but `index_of` take constant time; `index_of` halves the list of nodes. None takes memory.
 #[derive(Debug, Drop)]
@@ -22,9 +22,9 @@ pub struct Graph {
 }
 
 impl Model for Graph {
-    ghost use Rattle.config_graph.specs.Graph.{Configuration};
+    ghost use Rattle.config_graph.specs.Graph.{Graph};
 
-    ghost Value = { Configuration };
+    ghost Value = { Graph };
 
     ghost use Rattle.config_graph.specs.Indexes.{graph_in, IsIndexed};
 
@@ -38,7 +38,7 @@ impl Graph {
     /// gone.
     pub fn build(alloc: Global, nodes: Vec<Node>, links: Vec<Link>) -> Result<Graph, NoMemory>
         requires paths_rise { PathsRise nodes.items }
-        requires within { All (IsWithin nodes.items) links.items }
+        requires within { All (IsLinkWithin nodes.items) links.items }
         requires one_link_a_port { OneLinkAPort links.items }
         requires few_nodes { length nodes.items < 2 ^ 32 }
         requires few_ports { length (ports nodes.items) < 2 ^ 32 }

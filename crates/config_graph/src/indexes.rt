@@ -3,7 +3,7 @@
 ghost use Rattle.std.specs.Prelude.{◌≡◌, ◌<◌, ◌^◌, [], length, map, replicate, IfOk, All};
 ghost use Rattle.std.specs.Ordering.{nat_cmp};
 ghost use Rattle.std.specs.Cmp.Lexicographic.{slice_cmp};
-ghost use Rattle.config_graph.specs.Graph.{Configuration, IsWithin, OneLinkAPort, PathsRise, index_of};
+ghost use Rattle.config_graph.specs.Graph.{Graph, IsLinkWithin, OneLinkAPort, PathsRise, index_of};
 ghost use Rattle.config_graph.specs.Indexes.{incoming, links_in, no_target, targets};
 
 use crate::numbering::Numbering;
@@ -17,7 +17,7 @@ pub(crate) fn list_targets(
     nodes: &Numbering,
     links: &[Link],
 ) -> Result<Vec<Option<Target>>, NoMemory>
-    requires within { All (IsWithin nodes.now) links.now }
+    requires within { All (IsLinkWithin nodes.now) links.now }
     requires one_link_a_port { OneLinkAPort links.now }
     ensures { IfOk result (λ v. v.items ≡ targets nodes.now links.now) }
 {
@@ -67,7 +67,7 @@ pub(crate) fn list_incoming(
     nodes: &Numbering,
     links: &[Link],
 ) -> Result<Vec<Vec<u32>>, NoMemory>
-    requires { All (IsWithin nodes.now) links.now }
+    requires { All (IsLinkWithin nodes.now) links.now }
     ensures { IfOk result (λ v. map (λ ports. ports.items) v.items ≡ incoming (record { nodes = nodes.now; links = links.now })) }
 {
     let mut incoming = list_empty(alloc, nodes.provision_count())?;

@@ -1,4 +1,4 @@
-//! Configurations as graphs: node kinds, nodes, links, and the graph text.
+//! Graphs: node kinds, nodes, links, and the graph text.
 #![tactic(auto)]
 
 mod cycles;

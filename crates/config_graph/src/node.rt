@@ -1,4 +1,4 @@
-//! What a configuration is made of: nodes, their ports, and the links between them.
+//! What a graph is made of: nodes, their ports, and the links between them.
 
 use crate::{Kind, Text};
 

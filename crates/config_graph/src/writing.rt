@@ -2,7 +2,7 @@
 
 ghost use Rattle.std.specs.Prelude.{◌≡◌, ◌++◌, ◌<◌, slice_get, All, IfOk, OnOk};
 ghost use Rattle.std.specs.Option.{ForSome};
-ghost use Rattle.config_graph.specs.Graph.{Configuration, provides_at, requires_of};
+ghost use Rattle.config_graph.specs.Graph.{Graph, provides_at, requires_of};
 ghost use Rattle.config_graph.specs.Sound.{Sound};
 ghost use Rattle.config_graph.specs.GraphText.{IsOneWord, graph_text, kind_text, node_line, port_line, port_lines, target_text};
 
@@ -46,7 +46,7 @@ fn push_kind(text: &mut Vec<u8>, kind: Kind, arg: Option<u32>) -> Result<(), NoM
 
 /// A law: where the paths of two sound graphs hold no space and no line feed, the graphs are equal if their texts are.
 pub fn texts_tell_sound_graphs()
-    ensures { (a b : Configuration) → Sound a → Sound b
+    ensures { (a b : Graph) → Sound a → Sound b
         → All (λ n. IsOneWord n.path) a.nodes → All (λ n. IsOneWord n.path) b.nodes
         → graph_text a ≡ graph_text b → a ≡ b }
 {}

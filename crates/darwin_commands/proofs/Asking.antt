@@ -2,7 +2,7 @@
 use Rattle.std.proofs.Common.{◌≡◌, ◌≢◌, ◌∙◌, ◌<◌, ℕ, ℤ, List, [], ◌∷◌, ◌++◌, map, slice_index, codes, refl, ap, sym, subst, arith}
 use Rattle.std.specs.List.{AllByRecursion}
 use Rattle.darwin_lexer.specs.Naming.{IsName}
-use Rattle.darwin_commands.specs.Words.{Command, help, version, flat, plan, replay, IsCall, IsInteger, Asks, integer_of}
+use Rattle.darwin_commands.specs.CommandLine.{Command, help, version, flat, plan, replay, IsCall, IsInteger, Asks, integer_of}
 
 tail_is : (x y : List ℕ) (xs ys : List (List ℕ)) → x ∷ xs ≡ y ∷ ys → xs ≡ ys
 tail_is x y xs ys is = cc

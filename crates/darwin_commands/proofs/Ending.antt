@@ -8,10 +8,10 @@ use Rattle.darwin_commands.specs.declared.status.Status.{Status}
 use Rattle.darwin_commands.specs.declared.status.Status.TheVariants as status
 use Rattle.darwin_commands.specs.declared.TheConstants.{HELP, VERSION}
 use Rattle.darwin_commands.specs.Lines.{read_fault_line}
-use Rattle.darwin_commands.specs.Words.{Command, help, version, flat, plan, replay, Asks}
+use Rattle.darwin_commands.specs.CommandLine.{Command, help, version, flat, plan, replay, Asks}
 use Rattle.darwin_commands.specs.Wanted.{Wanted, its_graph, its_plan, its_replay}
 use Rattle.darwin_commands.specs.Answers.{Given, held, Fetch, Written, whole, stopped, DescriptionAnswers, cannot_read, is_too_long, refused, answered, ScriptAnswers, cannot_read_script, script_too_long, script_at_fault, Answers, no_form, answered_to, unread, no_memory, Runs, failed_names, fetch_of}
-use Rattle.darwin_commands.specs.Outcomes.{HasNoForm, NamesFile, Names, Ends, WroteFront}
+use Rattle.darwin_commands.specs.Outcomes.{HasNoForm, NamesFile, MentionsFile, Ends, WroteFront}
 use Rattle.darwin_commands.proofs.Inverting.{Answer, of_command, of_words, Plain, command_status, not_usage, not_write_fault, not_no_memory, not_pending, not_unfinished, not_unlawful}
 use Rattle.darwin_commands.proofs.Statuses.{not_two, ok_read_fault, denied_read_fault, memory_ok, write_fault_ok, usage_pending, usage_unfinished, usage_unlawful, memory_pending, memory_unfinished, memory_unlawful, write_fault_pending, write_fault_unfinished, write_fault_unlawful}
 use Rattle.darwin_commands.proofs.Wanting.{gives_status}
@@ -64,7 +64,7 @@ script_failed name _ _ _ (script_at_fault bytes fault first) some = absurd (some
 -- the file of which a fetch failed
 failed_file :
     (command : Command) (fetches : List Fetch) (own : Status) (text : List ℕ) → Answer command fetches own text → own ≡ status.ReadFault
-    → (file : List ℕ) × Names command file × (failed_names fetches ≡ file ∷ []) × (text ≡ read_fault_line file)
+    → (file : List ℕ) × MentionsFile command file × (failed_names fetches ≡ file ∷ []) × (text ≡ read_fault_line file)
 failed_file help fetches own text answer is = cc (answer.0, is)
 failed_file version fetches own text answer is = cc (answer.0, is)
 failed_file (flat file top args) fetches own text answer is =

@@ -4,7 +4,7 @@ use Rattle.std.specs.List.{AllByRecursion}
 use Rattle.std.proofs.lemmas.Option.{same_Some, none-some}
 use Rattle.cfg_io.specs.Shelf.{Files}
 use Rattle.cfg_io.specs.Sink.{with_bytes}
-use Rattle.config_graph.specs.Graph.{Configuration}
+use Rattle.config_graph.specs.Graph.{Graph}
 use Rattle.config_graph.specs.GraphText.{graph_text}
 use Rattle.quiesce_core.specs.Start.{started}
 use Rattle.event_replay.specs.Replay.{IsDenied}
@@ -13,16 +13,16 @@ use Rattle.change_script.specs.declared.event_files.EventFile.{EventFile}
 use Rattle.change_script.specs.EventFiles.{IsEventFile, IsFirstFault}
 use Rattle.darwin_commands.specs.declared.status.Status.{Status}
 use Rattle.darwin_commands.specs.declared.status.Status.TheVariants as status
-use Rattle.darwin_commands.specs.Words.{Command, help, version, flat, plan, replay, Asks}
+use Rattle.darwin_commands.specs.CommandLine.{Command, help, version, flat, plan, replay, Asks}
 use Rattle.darwin_commands.specs.Lines.{denied_line}
 use Rattle.darwin_commands.specs.Descriptions.{HasGraph}
 use Rattle.darwin_commands.specs.Plans.{Starts}
 use Rattle.darwin_commands.specs.Replays.{denied}
 use Rattle.darwin_commands.specs.Wanted.{Wanted, its_graph, its_plan, its_replay, IsRefused, Gives}
 use Rattle.darwin_commands.specs.Answers.{Given, failed, Fetch, Written, whole, stopped, DescriptionAnswers, cannot_read, is_too_long, refused, answered, ScriptAnswers, cannot_read_script, script_too_long, script_at_fault, Answers, no_form, answered_to, unread, no_memory, Runs, file_limit, failed_names, fetch_of, Gave}
-use Rattle.darwin_commands.specs.Outcomes.{Ends, Wants, Flattened, Planned, Replayed, Refused, too_long, at_fault, ScriptRefused, events_too_long, events_at_fault, Tells, MustRefuse, MustRefuseScript, NothingRefuses, EndsAsGiven}
+use Rattle.darwin_commands.specs.Outcomes.{Ends, Wants, Flattened, Planned, Replayed, Refused, too_long, at_fault, ScriptRefused, events_too_long, events_at_fault, HoldsFile, MustRefuse, MustRefuseScript, NothingRefuses, EndsAsGiven}
 use Rattle.darwin_commands.proofs.Inverting.{Answer, of_command, of_words, OfDescription, OfScript, OfReplay}
-use Rattle.change_script.proofs.EventFileLemmas as scripts
+use Rattle.change_script.proofs.EventFileLaws as scripts
 use Rattle.darwin_commands.proofs.Statuses.{IsGiven, well, with_denial, not_two, memory_not_given, write_fault_not_given, ok_denied, ok_description, ok_script, usage_denied, usage_description, usage_script, memory_denied, memory_description, memory_script, write_fault_denied, write_fault_description, write_fault_script}
 use Rattle.darwin_commands.proofs.Telling.{held_told, held_within, long_told, same_content, within_not_long, none_added}
 use Rattle.darwin_commands.proofs.Wanting.{gives_status, gives_one, never_both}
@@ -76,7 +76,7 @@ need_no_refusal (Some other) bytes script must is within file = by must
 pub record WroteAnswer (files : Option Files) (file : List ℕ) (wanted : Wanted) (own : Status) (taken taken' : Option (List ℕ)) : Type 0 where
   pub text : List ℕ
   pub written : List ℕ
-  pub told : Tells files file text
+  pub told : HoldsFile files file text
   pub within : length text ≤ file_limit
   pub gives : Gives wanted text own written
   pub wrote : taken' ≡ with_bytes taken written
@@ -491,13 +491,13 @@ module _ (words : List (List ℕ)) (files : Option Files) (failures failures' : 
     -- ---- clauses of one command
 
     pub every_graph :
-        (file top : List ℕ) (args : List ℤ) (text : List ℕ) (graph : Configuration) → Asks words (flat file top args) → f file ≡ Some text
+        (file top : List ℕ) (args : List ℤ) (text : List ℕ) (graph : Graph) → Asks words (flat file top args) → f file ≡ Some text
         → length text ≤ file_limit → HasGraph text top args graph → Ends result status.Ok
     every_graph file top args text graph asks holds within has =
         answers_as file (its_graph top args) text status.Ok (graph_text graph) asks holds within (refl, (graph, has, refl))
 
     pub every_denial :
-        (file : List ℕ) (script_ : EventFile) (text : List ℕ) (graph : Configuration) (number rule : ℕ) → Wants (Some f) words file (its_replay script_)
+        (file : List ℕ) (script_ : EventFile) (text : List ℕ) (graph : Graph) (number rule : ℕ) → Wants (Some f) words file (its_replay script_)
         → f file ≡ Some text → length text ≤ file_limit → Starts text script_.name script_.args graph → IsDenied (started graph) script_.events number rule
         → Ends result status.Denied
     every_denial file script_ text graph number rule wants holds within starts is =

@@ -5,7 +5,7 @@ use Rattle.change_script.specs.EventFiles.{IsEventFile}
 use Rattle.darwin_commands.specs.declared.status.Status.{Status}
 use Rattle.darwin_commands.specs.declared.status.Status.TheVariants as status
 use Rattle.darwin_commands.specs.declared.TheConstants.{HELP, VERSION}
-use Rattle.darwin_commands.specs.Words.{Command, help, version, flat, plan, replay, Asks}
+use Rattle.darwin_commands.specs.CommandLine.{Command, help, version, flat, plan, replay, Asks}
 use Rattle.darwin_commands.specs.Wanted.{Wanted, its_graph, its_plan, its_replay}
 use Rattle.darwin_commands.specs.Answers.{Given, held, Fetch, fetch_of, DescriptionAnswers, cannot_read, is_too_long, refused, answered, ScriptAnswers, cannot_read_script, script_too_long, script_at_fault, AnswersTo, helped, versioned, flattened, planned, script_refused, replayed, Answers, no_form, answered_to, unread, no_memory}
 use Rattle.darwin_commands.proofs.Asking.{one_command}

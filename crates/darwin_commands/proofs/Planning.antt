@@ -1,15 +1,15 @@
 -- A description isn't both refused a plan and given one.
 use Rattle.std.proofs.Common.{◌≡◌, ◌≢◌, false, ◌∙◌, ◌⊎◌, inl, inr, ℕ, ℤ, List, [], Some, Result, Ok, Err, IfOk, IfErr, refl, sym, subst}
-use Rattle.config_graph.specs.Graph.{Configuration}
+use Rattle.config_graph.specs.Graph.{Graph}
 use Rattle.config_graph.specs.declared.node.Made.{Made}
 use Rattle.change_plan.specs.Refusals.{CanPlan, IsRefusal}
 use Rattle.change_plan.specs.Room.{RoomFault}
 use Rattle.change_plan.specs.declared.error.PlanError.{PlanError}
 use Rattle.change_plan.specs.declared.error.PlanError.TheVariants.{NoMemory}
 use Rattle.change_plan.proofs.RoomLaws.{no_room, one_wanted}
-use Rattle.elaborator.proofs.UniqueLemmas as elaborating
+use Rattle.elaborator.proofs.UniqueLaws as elaborating
 use Rattle.darwin_parser.specs.Tree.{Tree}
-use Rattle.elaborator.specs.Elaboration.{IsGraphOf}
+use Rattle.elaborator.specs.Elaboration.{ElaboratesTo}
 use Rattle.elaborator.specs.Graph.{IsElab}
 use Rattle.elaborator.specs.Instances.{Instance, top_instance}
 use Rattle.std.proofs.lemmas.Option.{same_Some}
@@ -26,7 +26,7 @@ use Rattle.darwin_commands.proofs.Readings as readings
 
 -- ---- room is full or not
 
-pub not_full : (old new : Configuration) (made : Made) (e : PlanError) → CanPlan old new [] made → IsRefusal old new [] made e → ⊥
+pub not_full : (old new : Graph) (made : Made) (e : PlanError) → CanPlan old new [] made → IsRefusal old new [] made e → ⊥
 not_full old new made e can (inl first) = cc (first.at)
 not_full old new made e can (inr (may, (n, p, wanted, fault))) =
     let same = one_wanted old new n p can.nodes can.ports wanted can.wanted in
@@ -37,19 +37,19 @@ not_full old new made e can (inr (may, (n, p, wanted, fault))) =
 same_top : (tree : Tree) (name : List ℕ) (args : List ℤ) (t u : Instance) → top_instance tree name args ≡ Some t → top_instance tree name args ≡ Some u → t ≡ u
 same_top tree name args t u a b = same_Some t u (sym a ∙ b)
 
-one_graph_of : (tree : Tree) (name : List ℕ) (args : List ℤ) (g h : Configuration) → IsGraphOf tree name args g → IsGraphOf tree name args h → g ≡ h
+one_graph_of : (tree : Tree) (name : List ℕ) (args : List ℤ) (g h : Graph) → ElaboratesTo tree name args g → ElaboratesTo tree name args h → g ≡ h
 one_graph_of tree name args g h a b =
     elaborating.one_graph tree b.top g h (subst (λ t. IsElab tree t g) (same_top tree name args a.top b.top a.is_top b.is_top) a.is_elab) b.is_elab
 
-pub one_graph : (text name : List ℕ) (args : List ℤ) (g h : Configuration) → HasGraph text name args g → HasGraph text name args h → g ≡ h
+pub one_graph : (text name : List ℕ) (args : List ℤ) (g h : Graph) → HasGraph text name args g → HasGraph text name args h → g ≡ h
 one_graph text name args g h x y =
     one_graph_of y.tree name args g h
-    (subst (λ t. IsGraphOf t name args g) (readings.one_tree text x.tree y.tree x.checked.is_tree y.checked.is_tree) x.is_graph) y.is_graph
+    (subst (λ t. ElaboratesTo t name args g) (readings.one_tree text x.tree y.tree x.checked.is_tree y.checked.is_tree) x.is_graph) y.is_graph
 
 -- ---- the laws
 
 pub never_both_start :
-    (text top : List ℕ) (args : List ℤ) (graph : Configuration) (words : List (List ℕ))
+    (text top : List ℕ) (args : List ℤ) (graph : Graph) (words : List (List ℕ))
     → Starts text top args graph → RefusesStart text top args words → ⊥
 never_both_start text top args graph _ starts (has_no_graph words refuses) = readings.never_both text top args graph words starts.has_graph refuses
 never_both_start text top args graph _ starts (is_full other e has refuses) =
@@ -72,7 +72,7 @@ never_both text top to args to_args written _ plan (gets_full old new e starts h
 
 -- a refusal of a plan without moves
 pub full_words :
-    (old new : Configuration) (made : Made) (e : PlanError) → (e ≡ NoMemory) ⊎ IsRefusal old new [] made e → MayRefuse (IsFull old new made) (fault.Plan e)
+    (old new : Graph) (made : Made) (e : PlanError) → (e ≡ NoMemory) ⊎ IsRefusal old new [] made e → MayRefuse (IsFull old new made) (fault.Plan e)
 full_words old new made e (inl memory) plain = absurd (is_memory e memory plain)
   where
     is_memory : (e : PlanError) → e ≡ NoMemory → is_no_memory (fault.Plan e) ≢ false
@@ -80,18 +80,18 @@ full_words old new made e (inl memory) plain = absurd (is_memory e memory plain)
 full_words old new made e (inr refuses) plain = record { fault = e; refuses = refuses; named = refl }
 
 pub start_refused :
-    (text top : List ℕ) (args : List ℤ) (graph : Configuration) (words : List (List ℕ)) → HasGraph text top args graph → IsFull nothing graph nothing_made words
+    (text top : List ℕ) (args : List ℤ) (graph : Graph) (words : List (List ℕ)) → HasGraph text top args graph → IsFull nothing graph nothing_made words
     → RefusesStart text top args words
 start_refused text top args graph words has full = subst (RefusesStart text top args) (sym full.named) (is_full graph full.fault has full.refuses)
 
 pub plan_refused :
-    (text top to : List ℕ) (args to_args : List ℤ) (old new : Configuration) (words : List (List ℕ)) → Starts text top args old → HasGraph text to to_args new
+    (text top to : List ℕ) (args to_args : List ℤ) (old new : Graph) (words : List (List ℕ)) → Starts text top args old → HasGraph text to to_args new
     → IsFull old new (made_of old) words → RefusesPlan text top args to to_args words
 plan_refused text top to args to_args old new words starts has full =
     subst (RefusesPlan text top args to to_args) (sym full.named) (gets_full old new full.fault starts has full.refuses)
 
 pub plan_of :
-    (text top to : List ℕ) (args to_args : List ℤ) (old new : Configuration) (written : List ℕ) → Starts text top args old → HasGraph text to to_args new
+    (text top to : List ℕ) (args to_args : List ℤ) (old new : Graph) (written : List ℕ) → Starts text top args old → HasGraph text to to_args new
     → HasSteps old new written → HasPlan text top args to to_args written
 plan_of text top to args to_args old new written starts has s = record {
   old = old;

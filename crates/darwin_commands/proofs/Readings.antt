@@ -1,12 +1,12 @@
 -- A description has one tree at most, and isn't both refused and taken.
 use Rattle.std.proofs.Common.{◌≡◌, ℕ, ℤ, List, subst}
-use Rattle.darwin_lexer.proofs.TokensLemmas as lexing
-use Rattle.darwin_parser.proofs.Theorems as parsing
+use Rattle.darwin_lexer.proofs.TokensLaws as lexing
+use Rattle.darwin_parser.proofs.UnitLaws as parsing
 use Rattle.darwin_lexer.specs.declared.token.Token.{Token}
 use Rattle.darwin_lexer.specs.Tokens.{IsTokens}
 use Rattle.darwin_parser.specs.Grammar.{IsUnit}
 use Rattle.darwin_parser.specs.Tree.{Tree}
-use Rattle.config_graph.specs.Graph.{Configuration}
+use Rattle.config_graph.specs.Graph.{Graph}
 use Rattle.darwin_types.specs.Faults.{Fault}
 use Rattle.elaborator.specs.Faults.{Faults}
 use Rattle.darwin_commands.specs.Descriptions.{IsTree, HasGraph, Refuses, by_lexer, by_grammar, by_nesting, by_names, by_elaboration}
@@ -22,7 +22,7 @@ pub one_tree : (text : List ℕ) (a b : Tree) → IsTree text a → IsTree text 
 one_tree text a b x y = parsing.one_tree text 32 16 y.tokens a b (spelled_by text a y.tokens x y.parted) y.spelled
 
 pub never_both :
-    (text name : List ℕ) (args : List ℤ) (graph : Configuration) (words : List (List ℕ))
+    (text name : List ℕ) (args : List ℤ) (graph : Graph) (words : List (List ℕ))
     → HasGraph text name args graph → Refuses text name args words → ⊥
 never_both text name args graph _ has (by_lexer fault at first) =
     lexing.never_both text has.checked.is_tree.tokens fault at has.checked.is_tree.parted first

@@ -5,7 +5,7 @@ use Rattle.change_script.specs.declared.event_files.EventFile.{EventFile}
 use Rattle.change_script.specs.EventFiles.{IsEventFile}
 use Rattle.darwin_commands.specs.declared.answer.Answer.{Answer}
 use Rattle.darwin_commands.specs.declared.status.Status.{Status}
-use Rattle.darwin_commands.specs.Words.{Command, flat, plan, replay, Asks}
+use Rattle.darwin_commands.specs.CommandLine.{Command, flat, plan, replay, Asks}
 use Rattle.darwin_commands.specs.Wanted.{Wanted, its_graph, its_plan, its_replay}
 use Rattle.darwin_commands.specs.Answers.{Given, held, Fetch, fetch_of, failed_name, failed_names, Gave, Written, DescriptionAnswers, flattened, planned, script_refused, replayed, nothing_yet, to_flatten, to_plan, events_alone, to_replay, Answers, answered_to, no_memory, Runs}
 use Rattle.darwin_commands.specs.Running.{status_of, text_of, IsDescription, not_fetched, fetched, answers, DescribesBy, IsAnswer, AnswersBy, Reads}

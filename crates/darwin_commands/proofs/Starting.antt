@@ -7,16 +7,16 @@ use Rattle.std.proofs.lemmas.List.Elements.{All-head, All-tail}
 use Rattle.std.proofs.lemmas.List.FromFn.{get_or-range_with_len, length-range_with_len}
 use Rattle.std.proofs.lemmas.List.Sums.{sum_by-append, sum_by-cons, sum_by_more}
 use Rattle.std.proofs.lemmas.Option.{slice_get_cases}
-use Rattle.config_graph.specs.Graph.{Configuration, ports, requires_at, requires_of}
+use Rattle.config_graph.specs.Graph.{Graph, ports, requires_at, requires_of}
 use Rattle.config_graph.specs.declared.node.Node.{Node}
-use Rattle.config_graph.proofs.NumberingLemmas.{length-ports}
-use Rattle.elaborator.proofs.Places.{slice_get-there}
+use Rattle.config_graph.proofs.NumberingLaws.{length-ports}
 use Rattle.change_plan.specs.Differences.{IsGone}
 use Rattle.change_plan.specs.Refusals.{CanPlan}
 use Rattle.change_plan.specs.Selects.{Selects}
 use Rattle.change_plan.specs.Selects.Selects.{ends, takes, skips}
-use Rattle.change_plan.proofs.SelectsLemmas.{places_more}
 use Rattle.darwin_commands.specs.Plans.{nothing, nothing_made}
+use Rattle.base.proofs.PlaceLaws.{slice_get-there}
+use Rattle.base.proofs.RisingLaws.{places_more}
 
 -- a list of which all has the property is its own part
 Selects-all : {A : Type 0} (P : A → Type 0) (xs ys : List A) → Selects P xs ys → All P xs → ys ≡ xs
@@ -25,7 +25,7 @@ Selects-all P all part (takes {x = x} {xs = xs} {ys = ys} has s) h = ap (λ zs. 
 Selects-all P all part (skips {x = x} {xs = xs} lacks s) h = absurd (lacks (All-head P x xs h))
 
 -- from nothing, each node is created
-all_gone : (g : Configuration) → All (IsGone g nothing) (range_with_len 0 (length g.nodes))
+all_gone : (g : Graph) → All (IsGone g nothing) (range_with_len 0 (length g.nodes))
 all_gone g k d low =
     let inside : k < length g.nodes = rw length-range_with_len at low in
     let here : get_or (range_with_len 0 (length g.nodes)) k d ≡ k = get_or-range_with_len 0 (length g.nodes) k d inside ∙ omega arith in
@@ -48,7 +48,7 @@ first_ports nodes (suc n) low =
       | inr (past, none) ↦ absurd (omega arith)
     ]
 
-module _ (g : Configuration) (can : CanPlan nothing g [] nothing_made) where
+module _ (g : Graph) (can : CanPlan nothing g [] nothing_made) where
   created_all : can.wanted.created ≡ range_with_len 0 (length g.nodes)
   created_all = Selects-all (IsGone g nothing) (range_with_len 0 (length g.nodes)) can.wanted.created can.wanted.gone (all_gone g)
 

@@ -4,10 +4,10 @@ use Rattle.std.proofs.lemmas.Option.{same_Some, none-some}
 use Rattle.cfg_io.specs.Shelf.{Files}
 use Rattle.darwin_commands.specs.Answers.{Given, held, Fetch, file_limit, failed_names, fetch_of, Gave}
 use Rattle.darwin_commands.specs.Answers as answers
-use Rattle.darwin_commands.specs.Outcomes.{Tells, TellsTooLong}
+use Rattle.darwin_commands.specs.Outcomes.{HoldsFile, TellsTooLong}
 
 -- what is told of a file that was fetched
-pub held_told : (files : Option Files) (file text : List ℕ) → Gave files (fetch_of file (held text)) → Tells files file text
+pub held_told : (files : Option Files) (file text : List ℕ) → Gave files (fetch_of file (held text)) → HoldsFile files file text
 held_told None file text gave = tt
 held_told (Some f) file text gave = gave.1
 

@@ -3,7 +3,7 @@ use Rattle.std.proofs.Common.{◌≡◌, ◌∙◌, ◌⊎◌, inl, inr, ℕ, Li
 use Rattle.quiesce_core.specs.Start.{started}
 use Rattle.quiesce_core.specs.State.{State}
 use Rattle.quiesce_core.specs.declared.event.Event.{Event}
-use Rattle.event_replay.proofs.DenialLemmas as replaying
+use Rattle.event_replay.proofs.DenialLaws as replaying
 use Rattle.darwin_commands.specs.declared.status.Status.{Status}
 use Rattle.darwin_commands.specs.declared.status.Status.TheVariants as status
 use Rattle.darwin_commands.specs.Replays.{Replays, denied, replayed}

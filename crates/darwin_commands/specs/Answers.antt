@@ -11,7 +11,7 @@ use Rattle.darwin_commands.specs.declared.status.Status.{Status}
 use Rattle.darwin_commands.specs.declared.status.Status.TheVariants.{WriteFault}
 use Rattle.darwin_commands.specs.declared.status.Status.TheVariants as status
 use Rattle.darwin_commands.specs.declared.TheConstants.{HELP, VERSION}
-use Rattle.darwin_commands.specs.Words.{Command, help, version, flat, plan, replay, Asks}
+use Rattle.darwin_commands.specs.CommandLine.{Command, help, version, flat, plan, replay, Asks}
 use Rattle.darwin_commands.specs.Lines.{read_fault_line, description_line, script_line, script_words}
 use Rattle.darwin_lexer.specs.declared.lexing.TheConstants.{MAX_TEXT}
 use Rattle.darwin_commands.specs.Wanted.{Wanted, its_graph, its_plan, its_replay, IsRefused, Gives}
@@ -46,15 +46,15 @@ Holds file limit (held bytes) = file ≡ Some bytes
 Holds file limit too_long = IsSomeAnd file (λ bytes. limit < length bytes)
 Holds file limit failed = Unit {0}
 
-abbrev pub IsWithin : ℕ → Given → Type 0
-IsWithin limit (held bytes) = length bytes ≤ limit
-IsWithin limit too_long = Unit {0}
-IsWithin limit failed = Unit {0}
+abbrev pub KeepsLimit : ℕ → Given → Type 0
+KeepsLimit limit (held bytes) = length bytes ≤ limit
+KeepsLimit limit too_long = Unit {0}
+KeepsLimit limit failed = Unit {0}
 
 -- a fetch gave what the shelf's files hold, where the shelf tells them
 abbrev pub Gave : Option Files → Fetch → Type 0
-Gave None fetch = IsWithin fetch.limit fetch.given
-Gave (Some files) fetch = IsWithin fetch.limit fetch.given × Holds (files fetch.name) fetch.limit fetch.given
+Gave None fetch = KeepsLimit fetch.limit fetch.given
+Gave (Some files) fetch = KeepsLimit fetch.limit fetch.given × Holds (files fetch.name) fetch.limit fetch.given
 
 -- A text was written, and the run ends with its status; or the sink failed, and took no more than a front of the text.
 pub data Written (status : Status) (text : List ℕ) (taken taken' : Option (List ℕ)) (faults faults' : ℕ) : Status → Type 0 where

@@ -4,15 +4,15 @@ use Rattle.std.specs.Option.{option_map_or}
 use Rattle.darwin_lexer.specs.declared.token.At.{At}
 use Rattle.darwin_lexer.specs.declared.token.Token.{Token}
 use Rattle.darwin_lexer.specs.declared.front.Fault.{Fault}
-use Rattle.darwin_lexer.specs.Places.{place_of}
+use Rattle.darwin_lexer.specs.Positions.{place_of}
 use Rattle.darwin_lexer.specs.Tokens.{IsTokens, FirstFault, refusal}
 use Rattle.darwin_parser.specs.Grammar.{IsUnit}
 use Rattle.darwin_parser.specs.Refusals.{IsUnexpected, IsTooNested}
 use Rattle.darwin_parser.specs.Tree.{Name, Tree}
 use Rattle.darwin_types.specs.Faults.{Fault as NameFault, NoFault}
 use Rattle.darwin_types.specs.declared.error.TypeError.{TypeError}
-use Rattle.config_graph.specs.Graph.{Configuration}
-use Rattle.elaborator.specs.Elaboration.{HasNoFault, IsGraphOf}
+use Rattle.config_graph.specs.Graph.{Graph}
+use Rattle.elaborator.specs.Elaboration.{HasNoFault, ElaboratesTo}
 use Rattle.elaborator.specs.Faults.{Faults}
 use Rattle.elaborator.specs.declared.error.ElabError.{ElabError}
 use Rattle.darwin_commands.specs.Lines.{lex_words, expected_words, too_nested_words, check_words, elaborate_words}
@@ -33,11 +33,11 @@ pub record IsChecked (text : List ℕ) (tree : Tree) : Type 0 where
   pub sound : NoFault tree
 
 -- The graph of the component of a name with these arguments: no fault holds, and it is the one to which the description elaborates.
-pub record HasGraph (text : List ℕ) (name : Name) (args : List ℤ) (graph : Configuration) : Type 0 where
+pub record HasGraph (text : List ℕ) (name : Name) (args : List ℤ) (graph : Graph) : Type 0 where
   pub tree : Tree
   pub checked : IsChecked text tree
   pub no_fault : HasNoFault tree name args
-  pub is_graph : IsGraphOf tree name args graph
+  pub is_graph : ElaboratesTo tree name args graph
 
 -- The words of what refuses a description, of which the component of a name is wanted with these arguments: the first fault of its tokens; or
 -- else a token that no unit can have there, or that opens a level of nesting too many; or else a fault of its names; or else one of the elaboration.

@@ -8,7 +8,7 @@ pub mod Planning
 pub mod Plans
 pub mod Replays
 pub mod Requests
-pub mod Words
+pub mod CommandLine
 pub mod Running
 pub mod Statuses
 pub mod Wanted

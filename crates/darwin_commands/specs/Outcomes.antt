@@ -3,14 +3,14 @@ use Rattle.std.specs.Prelude.{◌≡◌, ◌≢◌, ◌≤◌, ◌<◌, ◌⊎�
 use Rattle.std.specs.List.{AllByRecursion}
 use Rattle.cfg_io.specs.Shelf.{Files}
 use Rattle.cfg_io.specs.Sink.{with_bytes}
-use Rattle.config_graph.specs.Graph.{Configuration}
+use Rattle.config_graph.specs.Graph.{Graph}
 use Rattle.config_graph.specs.GraphText.{graph_text}
 use Rattle.change_script.specs.declared.error.ScriptError.{ScriptError}
 use Rattle.change_script.specs.declared.event_files.EventFile.{EventFile}
 use Rattle.change_script.specs.EventFiles.{IsEventFile, IsFirstFault}
 use Rattle.darwin_commands.specs.declared.status.Status.{Status}
 use Rattle.darwin_commands.specs.declared.status.Status.TheVariants as status
-use Rattle.darwin_commands.specs.Words.{Command, help, version, flat, plan, replay, Asks}
+use Rattle.darwin_commands.specs.CommandLine.{Command, help, version, flat, plan, replay, Asks}
 use Rattle.darwin_commands.specs.Lines.{description_line, script_line, script_words}
 use Rattle.darwin_commands.specs.Descriptions.{HasGraph}
 use Rattle.darwin_commands.specs.Plans.{HasPlan}
@@ -23,16 +23,16 @@ abbrev pub HasNoForm : List (List ℕ) → Type 0
 HasNoForm words = (command : Command) → Asks words command → ⊥
 
 -- the command names the file
-abbrev pub Names : Command → List ℕ → Type 0
-Names help name = ⊥
-Names version name = ⊥
-Names (flat file top args) name = name ≡ file
-Names (plan file top args to to_args) name = name ≡ file
-Names (replay file events) name = (name ≡ file) ⊎ (name ≡ events)
+abbrev pub MentionsFile : Command → List ℕ → Type 0
+MentionsFile help name = ⊥
+MentionsFile version name = ⊥
+MentionsFile (flat file top args) name = name ≡ file
+MentionsFile (plan file top args to to_args) name = name ≡ file
+MentionsFile (replay file events) name = (name ≡ file) ⊎ (name ≡ events)
 
 -- the words name the file
 abbrev pub NamesFile : List (List ℕ) → List ℕ → Type 0
-NamesFile words file = (command : Command) × Asks words command × Names command file
+NamesFile words file = (command : Command) × Asks words command × MentionsFile command file
 
 -- the status, unless memory ran out or the sink failed
 abbrev pub Ends : Status → Status → Type 0
@@ -53,9 +53,9 @@ pub record WroteFront (words : List (List ℕ)) (files : Option Files) (failures
   pub front : taken' ≡ with_bytes taken (take count text)
 
 -- where the shelf tells its files, the file of the name holds these bytes
-abbrev pub Tells : Option Files → List ℕ → List ℕ → Type 0
-Tells None file text = Unit {0}
-Tells (Some files) file text = files file ≡ Some text
+abbrev pub HoldsFile : Option Files → List ℕ → List ℕ → Type 0
+HoldsFile None file text = Unit {0}
+HoldsFile (Some files) file text = files file ≡ Some text
 
 -- where the shelf tells its files, the file of the name has more bytes than a description may have
 abbrev pub TellsTooLong : Option Files → List ℕ → Type 0
@@ -67,13 +67,13 @@ abbrev pub Wants : Option Files → List (List ℕ) → List ℕ → Wanted → 
 Wants files words file (its_graph top args) = Asks words (flat file top args)
 Wants files words file (its_plan top args to to_args) = Asks words (plan file top args to to_args)
 Wants files words file (its_replay script) =
-    (name bytes : List ℕ) × Asks words (replay file name) × Tells files name bytes × (length bytes ≤ file_limit) × IsEventFile bytes script
+    (name bytes : List ℕ) × Asks words (replay file name) × HoldsFile files name bytes × (length bytes ≤ file_limit) × IsEventFile bytes script
 
 -- The file holds a description that has a graph for the component and its arguments, and the text of this graph was written.
 pub record Flattened (files : Option Files) (file top : List ℕ) (args : List ℤ) (taken taken' : Option (List ℕ)) : Type 0 where
   pub text : List ℕ
-  pub graph : Configuration
-  pub told : Tells files file text
+  pub graph : Graph
+  pub told : HoldsFile files file text
   pub within : length text ≤ file_limit
   pub has_graph : HasGraph text top args graph
   pub written : taken' ≡ with_bytes taken (graph_text graph)
@@ -82,7 +82,7 @@ pub record Flattened (files : Option Files) (file top : List ℕ) (args : List �
 pub record Planned (files : Option Files) (file top : List ℕ) (args : List ℤ) (to : List ℕ) (to_args : List ℤ) (taken taken' : Option (List ℕ)) : Type 0 where
   pub text : List ℕ
   pub plan : List ℕ
-  pub told : Tells files file text
+  pub told : HoldsFile files file text
   pub within : length text ≤ file_limit
   pub has_plan : HasPlan text top args to to_args plan
   pub written : taken' ≡ with_bytes taken plan
@@ -91,12 +91,12 @@ pub record Planned (files : Option Files) (file top : List ℕ) (args : List ℤ
 pub record Replayed (files : Option Files) (file events : List ℕ) (own : Status) (taken taken' : Option (List ℕ)) : Type 0 where
   pub bytes : List ℕ
   pub script : EventFile
-  pub told_events : Tells files events bytes
+  pub told_events : HoldsFile files events bytes
   pub within_events : length bytes ≤ file_limit
   pub is_script : IsEventFile bytes script
   pub text : List ℕ
   pub written : List ℕ
-  pub told : Tells files file text
+  pub told : HoldsFile files file text
   pub within : length text ≤ file_limit
   pub has_replay : HasReplay text script own written
   pub wrote : taken' ≡ with_bytes taken written
@@ -107,7 +107,7 @@ pub data Refused (files : Option Files) (file : List ℕ) (wanted : Wanted) (tak
       TellsTooLong files file → taken' ≡ with_bytes taken (description_line file (codes "TooLong" ∷ []))
       → Refused files file wanted taken taken'
   at_fault :
-      (text : List ℕ) (words : List (List ℕ)) → Tells files file text → length text ≤ file_limit → IsRefused wanted text words
+      (text : List ℕ) (words : List (List ℕ)) → HoldsFile files file text → length text ≤ file_limit → IsRefused wanted text words
       → taken' ≡ with_bytes taken (description_line file words) → Refused files file wanted taken taken'
 
 -- the file has more bytes than a description may have, or something refuses them
@@ -128,7 +128,7 @@ pub data ScriptRefused (files : Option Files) (name : List ℕ) (taken taken' : 
   events_too_long :
       TellsTooLong files name → taken' ≡ with_bytes taken (script_line name (codes "TooLong" ∷ [])) → ScriptRefused files name taken taken'
   events_at_fault :
-      (bytes : List ℕ) (fault : ScriptError) → Tells files name bytes → length bytes ≤ file_limit → IsFirstFault bytes fault
+      (bytes : List ℕ) (fault : ScriptError) → HoldsFile files name bytes → length bytes ≤ file_limit → IsFirstFault bytes fault
       → taken' ≡ with_bytes taken (script_line name (script_words fault)) → ScriptRefused files name taken taken'
 
 -- the file has more bytes than a file of events may have, or isn't one

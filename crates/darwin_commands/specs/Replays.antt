@@ -1,6 +1,6 @@
 -- What events come to over a component of a description.
 use Rattle.std.specs.Prelude.{ℕ, List, length}
-use Rattle.config_graph.specs.Graph.{Configuration}
+use Rattle.config_graph.specs.Graph.{Graph}
 use Rattle.quiesce_core.specs.declared.event.Event.{Event}
 use Rattle.quiesce_core.specs.Runs.{Steps}
 use Rattle.quiesce_core.specs.Start.{started}
@@ -20,6 +20,6 @@ pub data Replays (s : State) (events : List Event) : Status → List ℕ → Typ
 
 -- the same from the start with the component that the file of events names
 pub record HasReplay (text : List ℕ) (script : EventFile) (own : Status) (written : List ℕ) : Type 0 where
-  pub graph : Configuration
+  pub graph : Graph
   pub starts : Starts text script.name script.args graph
   pub replays : Replays (started graph) script.events own written

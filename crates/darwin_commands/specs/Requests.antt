@@ -4,7 +4,7 @@ use Rattle.darwin_commands.specs.declared.describing.Purpose.{Purpose}
 use Rattle.darwin_commands.specs.declared.describing.Purpose.TheVariants as purpose
 use Rattle.darwin_commands.specs.declared.words.Request.{Request}
 use Rattle.darwin_commands.specs.declared.words.Request.TheVariants as request
-use Rattle.darwin_commands.specs.Words.{Command, help, version, flat, plan, replay}
+use Rattle.darwin_commands.specs.CommandLine.{Command, help, version, flat, plan, replay}
 use Rattle.darwin_commands.specs.Wanted.{Wanted, its_graph, its_plan, its_replay}
 
 abbrev pub wanted_of : Purpose → Wanted

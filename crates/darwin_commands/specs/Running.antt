@@ -8,7 +8,7 @@ use Rattle.darwin_commands.specs.declared.scripts.Read.{Read}
 use Rattle.darwin_commands.specs.declared.scripts.Read.TheVariants.{Events, Refused}
 use Rattle.darwin_commands.specs.declared.status.Status.{Status}
 use Rattle.darwin_commands.specs.declared.status.Status.TheVariants as status
-use Rattle.darwin_commands.specs.Words.{Command}
+use Rattle.darwin_commands.specs.CommandLine.{Command}
 use Rattle.darwin_commands.specs.Wanted.{Wanted}
 use Rattle.darwin_commands.specs.Answers.{Given, held, Fetch, fetch_of, failed_names, Gave, DescriptionAnswers, ScriptAnswers, AnswersTo, MayFetch}
 

@@ -1,6 +1,6 @@
 -- What a command wants of a description: with which words its bytes are refused, and which status and text they give.
 use Rattle.std.specs.Prelude.{◌≡◌, ℕ, ℤ, List}
-use Rattle.config_graph.specs.Graph.{Configuration}
+use Rattle.config_graph.specs.Graph.{Graph}
 use Rattle.config_graph.specs.GraphText.{graph_text}
 use Rattle.change_script.specs.declared.event_files.EventFile.{EventFile}
 use Rattle.darwin_commands.specs.declared.status.Status.{Status}
@@ -25,6 +25,6 @@ IsRefused (its_replay script) text words = RefusesStart text script.name script.
 
 -- the bytes give this status and text
 abbrev pub Gives : Wanted → List ℕ → Status → List ℕ → Type 0
-Gives (its_graph top args) text own written = (own ≡ status.Ok) × ((graph : Configuration) × HasGraph text top args graph × (written ≡ graph_text graph))
+Gives (its_graph top args) text own written = (own ≡ status.Ok) × ((graph : Graph) × HasGraph text top args graph × (written ≡ graph_text graph))
 Gives (its_plan top args to to_args) text own written = (own ≡ status.Ok) × HasPlan text top args to to_args written
 Gives (its_replay script) text own written = HasReplay text script own written

@@ -2,7 +2,7 @@
 
 ghost use Rattle.darwin_commands.specs.Running.{DescribesBy, AnswersBy};
 ghost use Rattle.darwin_commands.specs.Requests.{wanted_of};
-ghost use Rattle.darwin_commands.specs.Words.{replay as replay_command};
+ghost use Rattle.darwin_commands.specs.CommandLine.{replay as replay_command};
 
 use crate::answer::Answer;
 use crate::describing::{Purpose, describe};

@@ -4,7 +4,7 @@ ghost use Rattle.std.specs.Prelude.{◌≡◌, ◌≢◌, ◌≤◌, ◌∷◌, 
 ghost use Rattle.cfg_io.specs.Count.{Rose};
 ghost use Rattle.cfg_io.specs.Shelf.{Files};
 ghost use Rattle.cfg_io.specs.Sink.{with_bytes};
-ghost use Rattle.config_graph.specs.Graph.{Configuration};
+ghost use Rattle.config_graph.specs.Graph.{Graph};
 ghost use Rattle.darwin_commands.specs.Answers.{Runs, file_limit};
 ghost use Rattle.darwin_commands.specs.Descriptions.{HasGraph};
 ghost use Rattle.darwin_commands.specs.Outcomes.{HasNoForm, NamesFile, Ends, WroteFront, Flattened, Planned, Replayed, Refused, ScriptRefused, MustRefuse, MustRefuseScript, NothingRefuses, EndsAsGiven, Wants};
@@ -16,7 +16,7 @@ ghost use Rattle.change_script.specs.declared.event_files.EventFile.{EventFile};
 ghost use Rattle.darwin_commands.specs.declared.status.Status.{Status};
 ghost use Rattle.darwin_commands.specs.Wanted.{Wanted, its_replay, Gives};
 ghost use Rattle.darwin_commands.specs.declared.status.Status.TheVariants.{Usage, ReadFault, WriteFault, Description, Script, Denied, NoMemory, Pending, Unfinished, Unlawful};
-ghost use Rattle.darwin_commands.specs.Words.{Asks, help, version, flat as flat_command, plan as plan_command, replay as replay_command};
+ghost use Rattle.darwin_commands.specs.CommandLine.{Asks, help, version, flat as flat_command, plan as plan_command, replay as replay_command};
 ghost use Rattle.darwin_commands.specs.Requests.{command_of};
 
 use crate::answer::{finish, no_memory, write};
@@ -81,13 +81,13 @@ pub fn still<H: Shelf, K: Sink>(
         → Wants (Some files) (map string_bytes words.now) file wanted → H.files shelf.old ≡ Some files → H.failed shelf.new ≡ H.failed shelf.old
         → files file ≡ Some text → length text ≤ file_limit → Gives wanted text own written → Ends result own }
     // A component that has a graph is flattened.
-    ensures every_graph { (file top : List ℕ) (args : List ℤ) (files : Files) (text : List ℕ) (graph : Configuration)
+    ensures every_graph { (file top : List ℕ) (args : List ℤ) (files : Files) (text : List ℕ) (graph : Graph)
         → Asks (map string_bytes words.now) (flat_command file top args) → H.files shelf.old ≡ Some files → files file ≡ Some text
         → length text ≤ file_limit → HasGraph text top args graph → H.failed shelf.new ≡ H.failed shelf.old → Ends result Status.Ok }
     // Denied, exactly where an event of the file is no step from the state before it: the first such, and its first failing rule.
     ensures denied { result ≡ Denied → (file events : List ℕ) × Asks (map string_bytes words.now) (replay_command file events)
         × Replayed (H.files shelf.old) file events Denied (K.taken out.old) (K.taken out.new) }
-    ensures every_denial { (file : List ℕ) (script : EventFile) (files : Files) (text : List ℕ) (graph : Configuration) (number rule : ℕ)
+    ensures every_denial { (file : List ℕ) (script : EventFile) (files : Files) (text : List ℕ) (graph : Graph) (number rule : ℕ)
         → Wants (Some files) (map string_bytes words.now) file (its_replay script) → H.files shelf.old ≡ Some files
         → H.failed shelf.new ≡ H.failed shelf.old → files file ≡ Some text → length text ≤ file_limit
         → Starts text script.name script.args graph → IsDenied (started graph) script.events number rule → Ends result Denied }

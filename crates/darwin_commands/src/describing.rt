@@ -2,7 +2,7 @@
 
 ghost use Rattle.std.specs.Prelude.{◌≡◌, ◌≤◌, ℕ, List, length, IfOk, IfErr};
 ghost use Rattle.darwin_types.specs.Checked.{description};
-ghost use Rattle.darwin_commands.specs.Answers.{DescriptionAnswers, IsWithin, file_limit, held};
+ghost use Rattle.darwin_commands.specs.Answers.{DescriptionAnswers, KeepsLimit, file_limit, held};
 ghost use Rattle.darwin_commands.specs.Descriptions.{IsChecked};
 ghost use Rattle.darwin_commands.specs.Wanted.{Wanted, its_graph, Gives, IsRefused};
 ghost use Rattle.darwin_commands.specs.Requests.{wanted_of};
@@ -39,7 +39,7 @@ pub fn describe(
     purpose: &Purpose<'_>,
     fetched: Fetched,
 ) -> Result<Answer, NoMemory>
-    requires { IsWithin file_limit (given_of fetched) }
+    requires { KeepsLimit file_limit (given_of fetched) }
     ensures { IfOk result (λ answer. DescriptionAnswers file.now (wanted_of purpose.now) (given_of fetched) answer.status answer.text.items) }
 {
     match fetched {

@@ -2,7 +2,7 @@
 
 ghost use Rattle.std.specs.Prelude.{◌≡◌, ◌≢◌, ◌≤◌, ◌↔◌, ℕ, List, length, IfOk, IsTrue};
 ghost use Rattle.change_script.specs.EventFiles.{IsFirstFault};
-ghost use Rattle.darwin_commands.specs.Answers.{IsWithin, file_limit, held};
+ghost use Rattle.darwin_commands.specs.Answers.{KeepsLimit, file_limit, held};
 ghost use Rattle.darwin_commands.specs.Fetching.{given_of};
 ghost use Rattle.darwin_commands.specs.Running.{Reads};
 
@@ -25,7 +25,7 @@ pub enum Read {
 
 /// What a file of events says, or the line that refuses it.
 pub fn read_script(alloc: Global, name: &str, fetched: Fetched) -> Result<Read, NoMemory>
-    requires { IsWithin file_limit (given_of fetched) }
+    requires { KeepsLimit file_limit (given_of fetched) }
     ensures { IfOk result (Reads name.now (given_of fetched)) }
 {
     match fetched {

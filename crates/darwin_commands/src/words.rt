@@ -3,7 +3,7 @@
 ghost use Rattle.std.specs.Prelude.{◌≡◌, ◌≢◌, ◌∷◌, [], ◌<◌, ℕ, ℤ, List, length, codes, map, string_bytes, IfOk, IfSome, IfNone};
 ghost use Rattle.std.specs.List.{AllByRecursion, prefix_len};
 ghost use Rattle.std.specs.Option.{SomeIff};
-ghost use Rattle.darwin_commands.specs.Words.{IsInteger, integer_of, IsCall, Asks, Command};
+ghost use Rattle.darwin_commands.specs.CommandLine.{IsInteger, integer_of, IsCall, Asks, Command};
 ghost use Rattle.darwin_commands.specs.Requests.{command_of, is_part};
 
 use config_graph::NoMemory;

@@ -1,5 +1,5 @@
 pub mod FrontLemmas
-pub mod TokensLemmas
+pub mod TokensLaws
 pub mod SpellingLemmas
 pub mod MeaningLemmas
 pub mod OrderLemmas

@@ -17,7 +17,7 @@ use Rattle.darwin_lexer.specs.declared.token.TokenKind.TheVariants as kinds
 use Rattle.darwin_lexer.specs.declared.front.Front.{Front}
 use Rattle.darwin_lexer.specs.declared.front.Front.TheVariants.{End, Gap, Lexeme, Broken}
 use Rattle.darwin_lexer.specs.declared.front.Fault.TheVariants.{BadByte, OpenComment, LongName, BigNumber}
-use Rattle.darwin_lexer.specs.Words.{begins_name, is_blank, keyword_bytes, keyword_of, kind_or_name, word_kind, sign_at, sign_bytes}
+use Rattle.darwin_lexer.specs.Keywords.{begins_name, is_blank, keyword_bytes, keyword_of, kind_or_name, word_kind, sign_at, sign_bytes}
 use Rattle.darwin_lexer.specs.Fronts.{line_comment, block_comment, front_of}
 use Rattle.darwin_lexer.specs.Spelling.{Spells, KeepsLimit, IsLongest, BeginsNothing, opens_line_comment, opens_block_comment, IsLineComment, IsBlockComment, NeverCloses, Means}
 use Rattle.darwin_lexer.proofs.SpellingLemmas.{spelled_as, letters_first, digits_first, sign_first, sign_length, found_is, at_most, above, line_is, block_or_open, front_means}

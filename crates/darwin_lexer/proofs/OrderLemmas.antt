@@ -4,9 +4,9 @@ use Rattle.darwin_lexer.specs.declared.token.At.{At}
 use Rattle.darwin_lexer.specs.declared.token.Token.{Token}
 use Rattle.darwin_lexer.specs.declared.front.Fault.{Fault}
 use Rattle.darwin_lexer.specs.declared.front.Front.TheVariants.{Gap, Lexeme, Broken}
-use Rattle.darwin_lexer.specs.Fronts.{IsWithin}
-use Rattle.darwin_lexer.specs.Places.{place_of}
-use Rattle.darwin_lexer.specs.Tokens.{Parts, ended, gap, token, token_at, FirstFault}
+use Rattle.darwin_lexer.specs.Fronts.{IsFrontWithin}
+use Rattle.darwin_lexer.specs.Positions.{place_of}
+use Rattle.darwin_lexer.specs.Tokens.{Tokenizes, ended, gap, token, token_at, FirstFault}
 use Rattle.darwin_lexer.specs.Spelling.{Means, IsGap, IsToken, OnlyGaps, nothing, one_more, Stands, InOrder, FaultStands}
 use Rattle.darwin_lexer.proofs.FrontLemmas.{front_of_within}
 use Rattle.darwin_lexer.proofs.SpellingLemmas.{front_means}
@@ -26,11 +26,11 @@ after_gap text from n to (first ∷ tokens) is rest = (
   rest.1,
 )
 
-pub in_order : (text : List ℕ) (from to : ℕ) (tokens : List Token) → Parts text from to tokens → InOrder text from to tokens
+pub in_order : (text : List ℕ) (from to : ℕ) (tokens : List Token) → Tokenizes text from to tokens → InOrder text from to tokens
 in_order text _ _ _ (ended from) = nothing from
 in_order text _ _ _ (gap from n to tokens is rest) = after_gap text from n to tokens (subst (Means (drop from text)) is (front_means (drop from text))) (in_order text (from + n) to tokens rest)
 in_order text _ _ _ (token from n to kind tokens is rest) =
-    let fits = subst (IsWithin (length (drop from text))) is (front_of_within (drop from text)) in
+    let fits = subst (IsFrontWithin (length (drop from text))) is (front_of_within (drop from text)) in
     let long : n ≡ from + n - from = omega arith in (
       record {
         gaps = nothing from;
@@ -45,22 +45,22 @@ in_order text _ _ _ (token from n to kind tokens is rest) =
 
 -- the other way
 
-before_parts : (text : List ℕ) (from at to : ℕ) (tokens : List Token) → OnlyGaps text from at → Parts text at to tokens → Parts text from to tokens
+before_parts : (text : List ℕ) (from at to : ℕ) (tokens : List Token) → OnlyGaps text from at → Tokenizes text at to tokens → Tokenizes text from to tokens
 before_parts text _ _ to tokens (nothing from) rest = rest
 before_parts text _ _ to tokens (one_more from n at is more) rest = gap from n to tokens (sym (meaning_decides (drop from text) (Gap n) is)) (before_parts text (from + n) at to tokens more rest)
 
 same_token : (text : List ℕ) (first : Token) (n : ℕ) → first.start + n ≡ first.end → first.at ≡ place_of text first.start → token_at text first.start first.kind n ≡ first
 same_token text first n far place = rw (far, sym place) refl
 
-token_stands : (text : List ℕ) (from to : ℕ) (first : Token) (tokens : List Token) → Stands text from first → Parts text first.end to tokens → Parts text from to (first ∷ tokens)
+token_stands : (text : List ℕ) (from to : ℕ) (first : Token) (tokens : List Token) → Stands text from first → Tokenizes text first.end to tokens → Tokenizes text from to (first ∷ tokens)
 token_stands text from to first tokens is rest =
     let n : ℕ = first.end - first.start in
     let far : first.start + n ≡ first.end = omega (arith, is.some) in
     before_parts text from first.start to (first ∷ tokens) is.gaps
-    (subst (λ one. Parts text first.start to (one ∷ tokens)) (same_token text first n far is.place)
-    (token first.start n to first.kind tokens (sym (meaning_decides (drop first.start text) (Lexeme first.kind n) is.longest)) (subst (λ k. Parts text k to tokens) (sym far) rest)))
+    (subst (λ one. Tokenizes text first.start to (one ∷ tokens)) (same_token text first n far is.place)
+    (token first.start n to first.kind tokens (sym (meaning_decides (drop first.start text) (Lexeme first.kind n) is.longest)) (subst (λ k. Tokenizes text k to tokens) (sym far) rest)))
 
-pub parted : (text : List ℕ) (from to : ℕ) (tokens : List Token) → InOrder text from to tokens → Parts text from to tokens
+pub parted : (text : List ℕ) (from to : ℕ) (tokens : List Token) → InOrder text from to tokens → Tokenizes text from to tokens
 parted text from to [] is = before_parts text from to to [] is (ended to)
 parted text from to (first ∷ tokens) is = token_stands text from to first tokens is.0 (parted text first.end to tokens is.1)
 

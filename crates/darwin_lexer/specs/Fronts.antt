@@ -8,7 +8,7 @@ use Rattle.darwin_lexer.specs.declared.token.TokenKind.TheVariants as kinds
 use Rattle.darwin_lexer.specs.declared.front.Front.{Front}
 use Rattle.darwin_lexer.specs.declared.front.Front.TheVariants.{End, Gap, Lexeme, Broken}
 use Rattle.darwin_lexer.specs.declared.front.Fault.TheVariants.{BadByte, OpenComment, LongName, BigNumber}
-use Rattle.darwin_lexer.specs.Words.{is_blank, begins_name, continues_name, word_kind, sign_at, sign_bytes}
+use Rattle.darwin_lexer.specs.Keywords.{is_blank, begins_name, continues_name, word_kind, sign_at, sign_bytes}
 
 -- a comment that ends before the next line feed, or with the text
 abbrev pub line_comment : List ℕ → Front
@@ -59,8 +59,8 @@ front_of (first ∷ rest) = let text = first ∷ rest in
     else sign text))))
 
 -- A piece has a byte at least, and lies within a text of that many bytes.
-abbrev pub IsWithin : ℕ → Front → Type 0
-IsWithin all End = all ≡ 0
-IsWithin all (Gap n) = (0 < n) × (n ≤ all)
-IsWithin all (Lexeme kind n) = (0 < n) × (n ≤ all)
-IsWithin all (Broken fault) = 0 < all
+abbrev pub IsFrontWithin : ℕ → Front → Type 0
+IsFrontWithin all End = all ≡ 0
+IsFrontWithin all (Gap n) = (0 < n) × (n ≤ all)
+IsFrontWithin all (Lexeme kind n) = (0 < n) × (n ≤ all)
+IsFrontWithin all (Broken fault) = 0 < all

@@ -1,5 +1,5 @@
-pub mod Words
-pub mod Places
+pub mod Keywords
+pub mod Positions
 pub mod Fronts
 pub mod Tokens
 pub mod Naming

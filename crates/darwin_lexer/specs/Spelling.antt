@@ -12,8 +12,8 @@ use Rattle.darwin_lexer.specs.declared.front.Front.{Front}
 use Rattle.darwin_lexer.specs.declared.front.Front.TheVariants.{End, Gap, Lexeme, Broken}
 use Rattle.darwin_lexer.specs.declared.front.Fault.{Fault}
 use Rattle.darwin_lexer.specs.declared.front.Fault.TheVariants.{BadByte, OpenComment, LongName, BigNumber}
-use Rattle.darwin_lexer.specs.Places.{place_of}
-use Rattle.darwin_lexer.specs.Words.{is_blank, begins_name, continues_name, keyword_bytes, sign_bytes}
+use Rattle.darwin_lexer.specs.Positions.{place_of}
+use Rattle.darwin_lexer.specs.Keywords.{is_blank, begins_name, continues_name, keyword_bytes, sign_bytes}
 
 -- a letter or `_`, then letters, digits and `_`, and no keyword
 pub record SpellsName (bytes : List ℕ) : Type 0 where

@@ -8,7 +8,7 @@ use Rattle.darwin_lexer.specs.declared.front.Fault.{Fault}
 use Rattle.darwin_lexer.specs.declared.front.Fault.TheVariants.{BadByte, OpenComment, LongName, BigNumber}
 use Rattle.darwin_lexer.specs.declared.token.LexError.{LexError}
 use Rattle.darwin_lexer.specs.declared.token.LexError.TheVariants as errors
-use Rattle.darwin_lexer.specs.Places.{place_of}
+use Rattle.darwin_lexer.specs.Positions.{place_of}
 use Rattle.darwin_lexer.specs.Fronts.{front_of}
 
 -- the bytes of a token's span
@@ -20,19 +20,19 @@ abbrev pub token_at : List ℕ → ℕ → TokenKind → ℕ → Token
 token_at text offset kind n = record { kind = kind; start = offset; end = offset + n; at = place_of text offset }
 
 -- From one offset to another a text is, piece by piece, blanks, comments and these tokens.
-pub data Parts (text : List ℕ) : ℕ → ℕ → List Token → Type 0 where
-  ended : (offset : ℕ) → Parts text offset offset []
-  gap : (offset n end : ℕ) (tokens : List Token) → front_of (drop offset text) ≡ Gap n → Parts text (offset + n) end tokens → Parts text offset end tokens
-  token : (offset n end : ℕ) (kind : TokenKind) (tokens : List Token) → front_of (drop offset text) ≡ Lexeme kind n → Parts text (offset + n) end tokens
-      → Parts text offset end (token_at text offset kind n ∷ tokens)
+pub data Tokenizes (text : List ℕ) : ℕ → ℕ → List Token → Type 0 where
+  ended : (offset : ℕ) → Tokenizes text offset offset []
+  gap : (offset n end : ℕ) (tokens : List Token) → front_of (drop offset text) ≡ Gap n → Tokenizes text (offset + n) end tokens → Tokenizes text offset end tokens
+  token : (offset n end : ℕ) (kind : TokenKind) (tokens : List Token) → front_of (drop offset text) ≡ Lexeme kind n → Tokenizes text (offset + n) end tokens
+      → Tokenizes text offset end (token_at text offset kind n ∷ tokens)
 
 -- the tokens of a text
 abbrev pub IsTokens : List ℕ → List Token → Type 0
-IsTokens text tokens = Parts text 0 (length text) tokens
+IsTokens text tokens = Tokenizes text 0 (length text) tokens
 
 -- A text has this fault at this place, and all that stands before it is blanks, comments and tokens.
 abbrev pub FirstFault : List ℕ → Fault → At → Type 0
-FirstFault text fault at = (offset : ℕ) × (tokens : List Token) × Parts text 0 offset tokens × (front_of (drop offset text) ≡ Broken fault) × (at ≡ place_of text offset)
+FirstFault text fault at = (offset : ℕ) × (tokens : List Token) × Tokenizes text 0 offset tokens × (front_of (drop offset text) ≡ Broken fault) × (at ≡ place_of text offset)
 
 -- the refusal that names a fault and its place
 abbrev pub refusal : Fault → At → LexError

@@ -5,7 +5,7 @@ ghost use Rattle.std.specs.Option.{SomeIff};
 ghost use Rattle.std.specs.Str.Parse.{digits_value};
 ghost use Rattle.std.specs.Char.{is_ascii_digit};
 ghost use Rattle.std.specs.List.{AllPass, prefix_len};
-ghost use Rattle.darwin_lexer.specs.Words.{is_blank, begins_name, continues_name};
+ghost use Rattle.darwin_lexer.specs.Keywords.{is_blank, begins_name, continues_name};
 ghost use Rattle.darwin_lexer.specs.Fronts as fronts;
 
 use crate::token::{At, LexError, TokenKind};
@@ -58,7 +58,7 @@ pub enum Front {
 /// What stands at the front of `text`.
 pub fn front_of(text: &[u8]) -> Front
     ensures front { result ≡ fronts.front_of text.now }
-    ensures within { fronts.IsWithin (length text.now) result }
+    ensures within { fronts.IsFrontWithin (length text.now) result }
 {
     match text.first() {
         None => Front::End,

@@ -5,7 +5,7 @@ ghost use Rattle.std.specs.Prelude.{◌≡◌, ◌+◌, ◌<◌, ◌≤◌, ◌^
 use crate::token::At;
 
 impl At {
-    ghost use Rattle.darwin_lexer.specs.Places.{next};
+    ghost use Rattle.darwin_lexer.specs.Positions.{next};
 
     /// The place of a text's first byte.
     pub const START: At = At { line: 1, column: 1 };

@@ -2,7 +2,7 @@
 
 ghost use Rattle.std.specs.Prelude.{◌≡◌, nat_eq};
 ghost use Rattle.std.specs.List.{starts_with};
-ghost use Rattle.darwin_lexer.specs.Words.{keyword_bytes, keyword_of, sign_at, sign_bytes, word_kind};
+ghost use Rattle.darwin_lexer.specs.Keywords.{keyword_bytes, keyword_of, sign_at, sign_bytes, word_kind};
 
 use crate::token::{Keyword, Sign, TokenKind};
 

@@ -11,7 +11,7 @@ use Rattle.darwin_parser.specs.Grammar.{IsUnit}
 use Rattle.darwin_parser.specs.Reading as reading
 use Rattle.darwin_parser.specs.Refusals.{IsUnexpected, IsTooNested}
 use Rattle.darwin_parser.specs.Views.{refusal_of}
-use Rattle.darwin_parser.proofs.Theorems.{unexpected_read, too_nested_read, not_unexpected, not_too_nested, one_unexpected, one_too_nested, not_both}
+use Rattle.darwin_parser.proofs.UnitLaws.{unexpected_read, too_nested_read, not_unexpected, not_too_nested, one_unexpected, one_too_nested, not_both}
 
 pub err_is : (a b : ParseError) → ◌≡◌ {A = Result code.Unit ParseError} (Err a) (Err b) → a ≡ b
 err_is a b e = cc

@@ -9,7 +9,8 @@ use Rattle.darwin_parser.specs.declared.cursor.Stop.TheVariants.{Expected, TooNe
 use Rattle.darwin_parser.specs.Language as lang
 use Rattle.darwin_parser.specs.Language.{Lang, Joined}
 use Rattle.darwin_parser.specs.Reading.{Reader, Outcome, and_then}
-use Rattle.darwin_parser.proofs.KindSets.{apart, apart_is, apart_not, both_true, class_of, implied, implies, member, member_right, no_is_yes, no_yes, self_implied, sum_first, sum_of, sum_second, within, within_is, within_left, within_not, within_right, within_self_at}
+use Rattle.darwin_parser.proofs.KindSets.{apart, apart_is, apart_not, class_of, implied, implies, member, member_right, no_is_yes, no_yes, self_implied, sum_first, sum_of, sum_second, within, within_is, within_left, within_not, within_right, within_self_at}
+use Rattle.std.proofs.lemmas.Bool.{and_parts}
 
 -- a list is empty only where that is allowed, and else begins with one of these kinds
 abbrev pub StartsOr : List TokenKind → Bool → List Token → Type 0
@@ -417,8 +418,8 @@ fits_wide F n C F' n' C' = within F F' && (implies n n' && within C C')
 
 pub exact_wide : {A : Type 0} {F C F' C' : List TokenKind} {n n' : Bool} {L : ℕ → Lang A} {p : Reader A} → Exact F n C L p → fits_wide F n C F' n' C' ≡ true → Exact F' n' C' L p
 exact_wide {F = F} {C = C} {F' = F'} {C' = C'} {n = n} {n' = n'} {L = L} {p = p} l e =
-    let a = both_true (within F F') (implies n n' && within C C') e in
-    let b = both_true (implies n n') (within C C') a.1 in
+    let a = and_parts (within F F') (implies n n' && within C C') e in
+    let b = and_parts (implies n n') (within C C') a.1 in
     record {
       shape = record { starts = λ i w x s. starts_within F F' n n' w a.0 (implied n n' b.0) (l.shape.starts i w x s); inhabited = l.shape.inhabited; grows = l.shape.grows };
       answers = λ tokens. weaken C C' L tokens (p tokens) b.1 (l.answers tokens);
@@ -430,7 +431,7 @@ decides S F1 F2 = within F1 S && apart F2 S
 
 pub choice_is : (S F1 C1 F2 : List TokenKind) (n2 : Bool) (C2 : List TokenKind) → decides S F1 F2 ≡ true → Choice S F1 C1 F2 n2 C2 (F1 ++ F2) n2 (C1 ++ sum_of n2 C2 S)
 choice_is S F1 C1 F2 n2 C2 e =
-    let a = both_true (within F1 S) (apart F2 S) e in
+    let a = and_parts (within F1 S) (apart F2 S) e in
     record {
       within_test = a.0;
       starts1 = within_left F1 F2;

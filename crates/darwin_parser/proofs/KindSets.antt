@@ -1,6 +1,6 @@
 -- Sets of kinds of tokens, in which all numbers are one: as lists, which compute.
 use Rattle.std.proofs.Common.{◌≡◌, Bool, true, false, not, ◌||◌, ◌&&◌, List, [], ◌∷◌, ◌++◌, refl, ap, ◌∙◌, inl, inr, ◌⊎◌}
-use Rattle.std.proofs.lemmas.Bool.{eq-eqb}
+use Rattle.std.proofs.lemmas.Bool.{eq-eqb, and_parts}
 use Rattle.std.proofs.lemmas.Bool.Decides.{eqb_tells}
 use denote.Enum.Bare.{same_true, true_same}
 use Rattle.darwin_lexer.specs.contracts.token.Keyword as keyword
@@ -59,10 +59,6 @@ pub not_true : (a b : Bool) → (not a && b) ≡ true → (a ≡ false) × (b �
 not_true true b e = absurd cc
 not_true false b e = (refl, e)
 
-pub both_true : (a b : Bool) → (a && b) ≡ true → (a ≡ true) × (b ≡ true)
-both_true true b e = (refl, e)
-both_true false b e = absurd cc
-
 pub apart_is : (xs ys : List TokenKind) (c : TokenKind) → apart xs ys ≡ true → member c xs ≡ true → member c ys ≡ false
 apart_is [] ys c e m = absurd cc
 apart_is (x ∷ xs) ys c e m =
@@ -72,7 +68,7 @@ apart_is (x ∷ xs) ys c e m =
 pub within_is : (xs ys : List TokenKind) (c : TokenKind) → within xs ys ≡ true → member c xs ≡ true → member c ys ≡ true
 within_is [] ys c e m = absurd cc
 within_is (x ∷ xs) ys c e m =
-    let s = both_true (member x ys) (within xs ys) e in
+    let s = and_parts (member x ys) (within xs ys) e in
     elim (or_split (same_kind c x) (member c xs) m) [ inl h ↦ ap (λ k. member k ys) (same_sound c x h) ∙ s.0 | inr h ↦ within_is xs ys c s.1 h ]
 
 pub within_not : (xs ys : List TokenKind) (c : TokenKind) → within xs ys ≡ true → member c ys ≡ false → member c xs ≡ false

@@ -7,5 +7,5 @@ pub mod Exact
 pub mod OneToken
 pub mod Repeats
 pub mod Productions
-pub mod Theorems
+pub mod UnitLaws
 pub mod Answered

@@ -8,9 +8,10 @@ use Rattle.darwin_parser.specs.Language as lang
 use Rattle.darwin_parser.specs.Language.{Lang, Joined}
 use Rattle.darwin_parser.specs.Reading as reading
 use Rattle.darwin_parser.specs.Reading.{Reader, Outcome, and_then, same_kind}
-use Rattle.darwin_parser.proofs.KindSets.{apart, both_true, member, no_yes, or_right, same_self, within, within_left, within_right, within_self, within_self_at}
+use Rattle.darwin_parser.proofs.KindSets.{apart, member, no_yes, or_right, same_self, within, within_left, within_right, within_self, within_self_at}
 use Rattle.darwin_parser.proofs.Exact.{Answer, Exact, Shape, StartsOr, Stops, Tells, Took, answer_same, answer_then, assoc, dead_off, dead_on, exact_give, exact_same, left_answer, right_answer, shape_then, starts_joined, starts_within}
 use Rattle.darwin_parser.proofs.OneToken.{eat_is, exact_plain, plain, tells_sees}
+use Rattle.std.proofs.lemmas.Bool.{and_parts}
 
 -- what the items make of a start, step by step
 pub record Gathered {S A : Type 0} (L : Lang A) (step : S → A → S) (s : S) (tokens : List Token) (end : S) : Type 0 where
@@ -200,7 +201,7 @@ module _ {S A : Type 0} {F C1 : List TokenKind} {L : ℕ → Lang A} {p : Reader
 pub exact_up_to : {S A : Type 0} {F C1 : List TokenKind} {L : ℕ → Lang A} {p : Reader A} (close : TokenKind) (step : S → A → S) (s : S) → plain close ≡ true → Exact F false C1 L p → fits_up_to close F C1 ≡ true
     → Exact (close ∷ F) false [] (λ i. Closed close (L i) step s) (λ tokens. reading.turns_up_to close step p (suc (length tokens)) s tokens)
 exact_up_to {F = F} {C1 = C1} close step s is_plain l fits =
-    let h = both_true (apart F (close ∷ [])) (apart C1 (close ∷ F)) fits in
+    let h = and_parts (apart F (close ∷ [])) (apart C1 (close ∷ F)) fits in
     record {
       shape = shape_closed close is_plain step l h.0 h.1 s;
       answers = λ tokens. up_to_answer close is_plain step l h.0 h.1 (suc (length tokens)) s tokens (omega arith);
@@ -232,7 +233,7 @@ repeats K F C1 = within F K && apart C1 F
 
 pub turns_are : (K F C1 : List TokenKind) → repeats K F C1 ≡ true → Turns K F C1 (C1 ++ K)
 turns_are K F C1 e =
-    let a = both_true (within F K) (apart C1 F) e in
+    let a = and_parts (within F K) (apart C1 F) e in
     record { starts = a.0; ends = a.1; goes_on = within_left C1 K; stops = within_right C1 K }
 
 pub exact_loop : {S A : Type 0} {F C1 : List TokenKind} {L : ℕ → Lang A} {p : Reader A} (test : List Token → Bool) (K : List TokenKind) (step : S → A → S) (s : S) (f : List A → S)

@@ -158,15 +158,15 @@ pub data Item : Type 0 where
   statements : List Stmt → Item
 
 -- the parts of a component, in the order of the text
-pub record Parts : Type 0 where
+pub record ComponentParts : Type 0 where
   pub ports : List PortDecl
   pub arrays : List ArrayDecl
   pub body : List Stmt
 
-abbrev pub no_parts : Parts
+abbrev pub no_parts : ComponentParts
 no_parts = record { ports = []; arrays = []; body = [] }
 
-abbrev pub with_item : Parts → Item → Parts
+abbrev pub with_item : ComponentParts → Item → ComponentParts
 with_item parts (ports more) = record parts { ports = parts.ports ++ more }
 with_item parts (arrays more) = record parts { arrays = parts.arrays ++ more }
 with_item parts (statements more) = record parts { body = parts.body ++ more }
@@ -175,7 +175,7 @@ abbrev pub side_word : Side → Keyword
 side_word sides.Provide = words.Provide
 side_word sides.Require = words.Require
 
-abbrev pub component_of : Token → Name → List Name → Parts → Component
+abbrev pub component_of : Token → Name → List Name → ComponentParts → Component
 component_of t name params parts =
     record { name = name; at = t.at; params = params; ports = parts.ports; arrays = parts.arrays; body = body_of parts.body }
 
@@ -334,7 +334,7 @@ module _ (text : List ℕ) (operands : ℕ) where
       or (do all ← statement statements_nested; give (statements all))
 
   -- { item } "}"
-  unfoldable pub parts : ℕ → Lang Parts
+  unfoldable pub parts : ℕ → Lang ComponentParts
   parts statements_nested = do
     items ← many (item statements_nested)
     sign signs.CloseBrace

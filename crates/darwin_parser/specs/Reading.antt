@@ -18,7 +18,7 @@ use Rattle.darwin_parser.specs.declared.tree.Op.{Op}
 use Rattle.darwin_parser.specs.declared.tree.Side.{Side}
 use Rattle.darwin_parser.specs.declared.tree.Side.TheVariants as sides
 use Rattle.darwin_parser.specs.Tree.{Name, Expr, num, var, neg, PortDecl, ArrayDecl, InstEntry, single, element, PortRef, BindEntry, Stmt, inst, bind, forall, when, Component, Tree}
-use Rattle.darwin_parser.specs.Grammar.{operation, with_right, body_of, Item, ports, arrays, statements, Parts, no_parts, with_item, component_of, side_word}
+use Rattle.darwin_parser.specs.Grammar.{operation, with_right, body_of, Item, ports, arrays, statements, ComponentParts, no_parts, with_item, component_of, side_word}
 
 -- ---- readers
 
@@ -387,7 +387,7 @@ module _ (text : List ℕ) (operands : ℕ) where
       (choose (sees (kinds.Word words.Array)) (do ars ← array_list; pure (arrays ars))
       (do ss ← statement statements_nested; pure (statements ss))))
 
-  abbrev pub parts : ℕ → Reader Parts
+  abbrev pub parts : ℕ → Reader ComponentParts
   parts statements_nested = up_to (kinds.Sign signs.CloseBrace) with_item (item statements_nested) no_parts
 
   unfoldable pub component : ℕ → Reader Component

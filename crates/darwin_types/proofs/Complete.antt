@@ -9,18 +9,19 @@ use Rattle.darwin_parser.specs.Tree.{Name, Tree, Component, ArrayDecl, InstEntry
 use Rattle.darwin_parser.specs.Tree.InstEntry.{single, element}
 use Rattle.darwin_types.specs.declared.error.TypeError.{TypeError}
 use Rattle.darwin_types.specs.declared.error.TypeError.TheVariants.{TwoComponents, TwoNames, UnknownName, UnknownComponent, ArgCount, UnknownKind, KindPorts}
-use Rattle.darwin_types.specs.Scope.{has, component_named, entries_of, port_named, array_named, single_of, singles_of, instances_of, instance_component, Made, made_by, lacks_port}
-use Rattle.darwin_types.specs.Places.{Place, value, variable, entry, binding_end, names_of, places, port_places, array_places, body_places}
+use Rattle.darwin_types.specs.Scope.{has, component_named, entries_of, port_named, array_named, single_of, singles_of, instances_of, instance_component, Instantiation, made_by, lacks_port}
+use Rattle.darwin_types.specs.Places.{NameUse, value, variable, entry, binding_end, names_of, places, port_places, array_places, body_places}
 use Rattle.darwin_types.specs.Primitive.{is_like_kind}
 use Rattle.darwin_types.specs.Faults.{carried, FaultIn, Fault}
 use Rattle.darwin_types.specs.Faults.FaultIn.{two_params, two_ports, two_arrays, array_and_single, two_singles, two_values, unknown_value, unknown_array, unknown_instance, unknown_inner_port, unknown_outer_port, unknown_component, arg_count, unknown_kind, kind_ports}
 use Rattle.darwin_types.specs.Faults.Fault.{two_components, within}
 use Rattle.darwin_types.specs.Check.{unless, clash_faults, call_faults, element_faults, entry_faults, inner_end_faults, outer_end_faults, is_first_like, place_faults, places_faults, array_faults, arrays_faults, repeat_faults, port_faults, param_faults, array_name_faults, primitive_faults, kind_faults, declared_faults, component_faults, unit_faults}
-use Rattle.darwin_types.proofs.Lists.{Contains-nil, Contains-here, Contains-one, Contains-from_map, Contains-flat_map, Contains-from_flat_map}
-use Rattle.darwin_types.proofs.Repeats.{same_bytes, repeated_there}
+use Rattle.darwin_types.proofs.Repeats.{repeated_there}
 use Rattle.darwin_types.proofs.Judged.{repeat_faults-there}
 use Rattle.darwin_types.proofs.EntryPlaces.{place_of_entry}
 use Rattle.darwin_types.proofs.Found.{to_unless}
+use Rattle.base.proofs.BytesLaws.{same_bytes}
+use Rattle.base.proofs.ContainsLaws.{Contains-flat_map, Contains-from_flat_map, Contains-from_map, Contains-here, Contains-nil, Contains-one}
 
 module _ (t : Tree) (c : Component) where
   in_declared : (e : TypeError) → Contains (declared_faults t c) e → Contains (component_faults t c) e
@@ -42,7 +43,7 @@ module _ (t : Tree) (c : Component) where
       in_declared e (Contains-append_right ports (arrays ++ (body ++ kind_faults c)) e (Contains-append_right arrays (body ++ kind_faults c) e (Contains-append_right body (kind_faults c) e h)))
 
   -- the faults of a place
-  at_place : (p : Place) (e : TypeError) → Contains (places c) p → Contains (place_faults t c p) e → Contains (component_faults t c) e
+  at_place : (p : NameUse) (e : TypeError) → Contains (places c) p → Contains (place_faults t c p) e → Contains (component_faults t c) e
   at_place p e there h =
       let port_list = flat_map (port_places c.params) c.ports in
       let array_list = flat_map (array_places c.params) c.arrays in
@@ -102,17 +103,17 @@ module _ (t : Tree) (c : Component) where
       let fault = ArgCount c.name x (carried (length d.params)) (carried given) in
       subst (λ o. Contains (option_map_or (λ wanted. unless (given == wanted) (ArgCount c.name x (carried wanted) (carried given))) (option_map (λ (d : Component). length d.params) o) (UnknownComponent c.name k ∷ [])) fault) (sym found) (to_unless (given == length d.params) fault (ne_eqb given (length d.params) differ))
 
-  element_call : (x : Name) (index : Expr) (args : Option (List Expr)) (at : At) (o : Option ArrayDecl) (m : Made) (e : TypeError) → array_named c x ≡ o → option_map (λ a. record { name = x; component = a.component; args = unwrap_or (option_or args a.args) [] }) o ≡ Some m → Contains (call_faults t c m.name m.component (length m.args)) e → Contains (element_faults t c x args) e
+  element_call : (x : Name) (index : Expr) (args : Option (List Expr)) (at : At) (o : Option ArrayDecl) (m : Instantiation) (e : TypeError) → array_named c x ≡ o → option_map (λ a. record { name = x; component = a.component; args = unwrap_or (option_or args a.args) [] }) o ≡ Some m → Contains (call_faults t c m.name m.component (length m.args)) e → Contains (element_faults t c x args) e
   element_call x index args at None m e found made h = cc
   element_call x index args at (Some a) m e found made h =
       let same : record { name = x; component = a.component; args = unwrap_or (option_or args a.args) [] } ≡ m = cc in
-      subst (λ o. Contains (option_map_or (λ b. call_faults t c x b.component (length (unwrap_or (option_or args b.args) []))) o (UnknownName c.name x ∷ [])) e) (sym found) (subst (λ (n : Made). Contains (call_faults t c n.name n.component (length n.args)) e) (sym same) h)
+      subst (λ o. Contains (option_map_or (λ b. call_faults t c x b.component (length (unwrap_or (option_or args b.args) []))) o (UnknownName c.name x ∷ [])) e) (sym found) (subst (λ (n : Instantiation). Contains (call_faults t c n.name n.component (length n.args)) e) (sym same) h)
 
-  made_call : (d : InstEntry) (m : Made) (e : TypeError) → made_by c d ≡ Some m → Contains (call_faults t c m.name m.component (length m.args)) e → Contains (entry_faults t c d) e
+  made_call : (d : InstEntry) (m : Instantiation) (e : TypeError) → made_by c d ≡ Some m → Contains (call_faults t c m.name m.component (length m.args)) e → Contains (entry_faults t c d) e
   made_call (single x k args at) m e made h =
-      let one : Made = record { name = x; component = k; args = args } in
+      let one : Instantiation = record { name = x; component = k; args = args } in
       let same : one ≡ m = cc in
-      Contains-append_right (clash_faults c x k) (call_faults t c x k (length args)) e (subst (λ (n : Made). Contains (call_faults t c n.name n.component (length n.args)) e) (sym same) h)
+      Contains-append_right (clash_faults c x k) (call_faults t c x k (length args)) e (subst (λ (n : Instantiation). Contains (call_faults t c n.name n.component (length n.args)) e) (sym same) h)
   made_call (element x index args at) m e made h = element_call x index args at (array_named c x) m e refl made h
 
   unknown_instance_of : (x k : Name) → Contains (instances_of c) (x, k) → component_named t k ≡ None → Contains (component_faults t c) (UnknownComponent c.name k)

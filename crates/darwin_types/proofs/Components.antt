@@ -8,7 +8,9 @@ use Rattle.darwin_parser.specs.declared.tree.Component as code
 use Rattle.darwin_parser.specs.Tree.{Name, component_of, port_of, array_of}
 use Rattle.darwin_types.specs.Scope.{has, component_named, port_named, array_named, lacks_port, params_of_named}
 use Rattle.darwin_types.specs.Check.{components_of, names_of_components, names_of_ports, names_in_component, names_of_arrays}
-use Rattle.darwin_types.proofs.Lists.{find-map, find-position, position-map, list_any-map, is_some-find, is_none-is_some, map-map}
+use Rattle.base.proofs.FindLaws.{find-map, find-position, is_some-find}
+use Rattle.base.proofs.MapLaws.{list_any-map, map-map, position-map}
+use Rattle.base.proofs.OptionLaws.{is_none-is_some}
 
 -- what has a name, at the place at which an index of the names has it
 named_at : {A B : Type 0} (f : A → B) (name_of : B → Name) (xs : List A) (name : Name) (place : Option ℕ) → place ≡ position (bytes_eq name) (map (λ x. name_of (f x)) xs) → find (λ b. bytes_eq name (name_of b)) (map f xs) ≡ option_map f (option_and_then (slice_get xs) place)

@@ -8,21 +8,21 @@ use Rattle.darwin_parser.specs.Tree.InstEntry.{single, element}
 use Rattle.darwin_parser.specs.Tree.Stmt.{inst, bind, forall, when}
 use Rattle.darwin_parser.specs.Tree.Stmts.{end, then}
 use Rattle.darwin_types.specs.Scope.{entries_of, entries_of_stmt}
-use Rattle.darwin_types.specs.Places.{Place, value, variable, entry, binding_end, values, args_of, entry_places, end_places, stmt_places, body_places, port_places, array_places, places}
-use Rattle.darwin_types.proofs.Lists.{Contains-flat_map, Contains-from_flat_map, Contains-here, Contains-one, Contains-nil}
+use Rattle.darwin_types.specs.Places.{NameUse, value, variable, entry, binding_end, values, args_of, entry_places, end_places, stmt_places, body_places, port_places, array_places, places}
+use Rattle.base.proofs.ContainsLaws.{Contains-flat_map, Contains-from_flat_map, Contains-here, Contains-nil, Contains-one}
 
 -- the entry at a place
-abbrev entry_at : Place → List InstEntry
+abbrev entry_at : NameUse → List InstEntry
 entry_at (value scope e) = []
 entry_at (variable scope x) = []
 entry_at (entry e) = e ∷ []
 entry_at (binding_end e) = []
 
 -- those at some places
-abbrev entries_at : List Place → List InstEntry
+abbrev entries_at : List NameUse → List InstEntry
 entries_at ps = flat_map entry_at ps
 
-entries_at-append : (ps qs : List Place) → entries_at (ps ++ qs) ≡ entries_at ps ++ entries_at qs
+entries_at-append : (ps qs : List NameUse) → entries_at (ps ++ qs) ≡ entries_at ps ++ entries_at qs
 entries_at-append ps qs = flat_map-append entry_at ps qs
 
 entries_at-values : (scope : List Name) (es : List Expr) → entries_at (values scope es) ≡ []
@@ -67,7 +67,7 @@ entries_at-places c =
     let body = body_places c.params c.body in
     entries_at-append (ports ++ arrays) body ∙ ap (λ es. es ++ entries_at body) (entries_at-append ports arrays ∙ ap (λ es. es ++ entries_at arrays) (entries_at-ports c.params c.ports) ∙ entries_at-arrays c.params c.arrays) ∙ entries_at-body c.params c.body
 
-at_itself : (p : Place) (e : InstEntry) → Contains (entry_at p) e → p ≡ entry e
+at_itself : (p : NameUse) (e : InstEntry) → Contains (entry_at p) e → p ≡ entry e
 at_itself (value scope x) e h = absurd (Contains-nil e h)
 at_itself (variable scope x) e h = absurd (Contains-nil e h)
 at_itself (entry d) e h = ap entry (sym (Contains-one d e h))

@@ -9,8 +9,9 @@ use Rattle.darwin_types.specs.Scope.{has}
 use Rattle.darwin_types.specs.declared.error.TypeError.{TypeError}
 use Rattle.darwin_types.specs.Faults.{is_repeated}
 use Rattle.darwin_types.specs.Check.{Judges, repeat_faults}
-use Rattle.darwin_types.proofs.Lists.{Contains-one, Contains-here, Contains-map, Contains-filter, map_parted, map-take_more}
-use Rattle.darwin_types.proofs.Repeats.{filter-none, is_repeated-there, is_repeated-push}
+use Rattle.darwin_types.proofs.Repeats.{is_repeated-there, is_repeated-push}
+use Rattle.base.proofs.ContainsLaws.{Contains-filter, Contains-here, Contains-map, Contains-one}
+use Rattle.base.proofs.MapLaws.{filter-none, map-take_more, map_parted}
 
 -- a refusal that names a fault of a part
 pub Judges-one : {T : Type 0} (fs : List TypeError) (f : TypeError) (r : Result T TypeError) → Contains fs f → Judges (f ∷ []) r → Judges fs r

@@ -1,4 +1,3 @@
-pub mod Lists
 pub mod Lookups
 pub mod Repeats
 pub mod Judged

@@ -5,13 +5,14 @@ use Rattle.std.specs.Option.{option_or}
 use Rattle.std.proofs.lemmas.List.{map-append, append_assoc, append-nil}
 use Rattle.std.proofs.lemmas.Grind.{flat_map-append}
 use Rattle.std.specs.List.{flat_map}
-use Rattle.darwin_types.proofs.Lists.{map-take_more}
 use Rattle.std.proofs.lemmas.Bool.{false≢true}
 use Rattle.std.proofs.lemmas.Slice.Eq.{bytes_eq-Decides}
 use Rattle.indexmap.specs.IndexMap.{insert_entry}
 use Rattle.indexmap.proofs.MapLemmas.{insert_entry-absent, absent_from_lookup}
 use Rattle.darwin_parser.specs.Tree.{Name}
 use Rattle.darwin_types.specs.Check.{SameLookups}
+use Rattle.base.proofs.BytesLaws.{lookup-append}
+use Rattle.base.proofs.MapLaws.{map-take_more}
 
 abbrev pub Entry : Type 0
 Entry = Bor (List ℕ) × Bor (List ℕ)
@@ -39,12 +40,6 @@ pub names_in-insert_entry : (es : List Entry) (k v : Bor (List ℕ)) → lookup 
 names_in-insert_entry es k v absent =
     let free : lookup (is_name k.now) es ≡ None = None-from_map (λ n. n.now) (lookup (is_name k.now) es) (sym (lookup-names_in es k.now) ∙ absent) in
     rw (insert_entry-absent (λ x y. bytes_eq x.now y.now) k v es (absent_from_lookup (is_name k.now) es free), map-append)
-
-pub lookup-append : {K X : Type 0} (test : K → Bool) (xs ys : List (K × X)) → lookup test (xs ++ ys) ≡ option_or (lookup test xs) (lookup test ys)
-lookup-append test [] ys = refl
-lookup-append {K} {X} test (x ∷ xs) ys =
-    elim (test x.0) as (λ b. cond b (Some x.1) (lookup test (xs ++ ys)) ≡ option_or (cond b (Some x.1) (lookup test xs)) (lookup test ys))
-    [ true ↦ refl | false ↦ lookup-append test xs ys ]
 
 hidden : (b : Bool) (o : Option Name) (k : Name) → (b ≡ true → is_some o ≡ true) → o ≡ option_or o (cond b (Some k) None)
 hidden b (Some y) k h = refl

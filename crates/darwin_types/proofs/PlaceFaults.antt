@@ -6,13 +6,13 @@ use Rattle.std.proofs.lemmas.List.{drop_more}
 use Rattle.std.proofs.lemmas.Grind.{flat_map-append}
 use Rattle.darwin_parser.specs.declared.tree.Stmt as code
 use Rattle.darwin_parser.specs.Tree.{Name, Tree, Component, PortRef, stmt_of, stmts_of}
-use Rattle.darwin_types.specs.Places.{Place, values, end_places, stmt_places, body_places}
+use Rattle.darwin_types.specs.Places.{NameUse, values, end_places, stmt_places, body_places}
 use Rattle.darwin_types.specs.Check.{places_faults, place_faults, end_faults}
 
-pub places_faults-append : (t : Tree) (c : Component) (ps qs : List Place) → places_faults t c (ps ++ qs) ≡ places_faults t c ps ++ places_faults t c qs
+pub places_faults-append : (t : Tree) (c : Component) (ps qs : List NameUse) → places_faults t c (ps ++ qs) ≡ places_faults t c ps ++ places_faults t c qs
 places_faults-append t c ps qs = flat_map-append (place_faults t c) ps qs
 
-pub places_faults-flat_map : {A : Type 0} (t : Tree) (c : Component) (g : A → List Place) (xs : List A) → places_faults t c (flat_map g xs) ≡ flat_map (λ x. places_faults t c (g x)) xs
+pub places_faults-flat_map : {A : Type 0} (t : Tree) (c : Component) (g : A → List NameUse) (xs : List A) → places_faults t c (flat_map g xs) ≡ flat_map (λ x. places_faults t c (g x)) xs
 places_faults-flat_map t c g [] = refl
 places_faults-flat_map t c g (x ∷ xs) =
     places_faults-append t c (g x) (flat_map g xs) ∙ ap (λ fs. places_faults t c (g x) ++ fs) (places_faults-flat_map t c g xs)

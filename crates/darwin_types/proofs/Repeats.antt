@@ -8,6 +8,8 @@ use Rattle.std.proofs.lemmas.Slice.Eq.{bytes_eq-Decides}
 use Rattle.darwin_parser.specs.Tree.{Name}
 use Rattle.darwin_types.specs.Scope.{has}
 use Rattle.darwin_types.specs.Faults.{is_repeated}
+use Rattle.base.proofs.BytesLaws.{bytes_eq_self, same_bytes}
+use Rattle.base.proofs.MapLaws.{count_by-append}
 
 none_step : (b c : Bool) (n : ℕ) → (b || c) ≡ false → (c ≡ false → n ≡ 0) → cond b 1 0 + n ≡ 0
 none_step true c n h k = absurd (true≢false h)
@@ -20,15 +22,6 @@ some_step false c n h k = omega (arith, k h)
 push_step : (b : Bool) (n m : ℕ) → m ≡ n + cond b 1 0 → nat_le 2 n ≡ false → (b ≡ true → n ≡ 0) → nat_le 2 m ≡ false
 push_step true n m e h k = lt-leb 2 m (omega (arith, k refl))
 push_step false n m e h k = lt-leb 2 m (omega (arith, leb-false 2 n h))
-
-pub bytes_eq_self : (x : Name) → bytes_eq x x ≡ true
-bytes_eq_self x = (bytes_eq-Decides x x).1 refl
-
-pub same_bytes : (x y : Name) → bytes_eq x y ≡ true → x ≡ y
-same_bytes x y h = (bytes_eq-Decides x y).0 h
-
-pub count_by-append : {A : Type 0} (p : A → Bool) (xs ys : List A) → count_by p (xs ++ ys) ≡ count_by p xs + count_by p ys
-count_by-append p xs ys = sum_by-append (λ y. cond (p y) 1 0) xs ys
 
 count_by-one : {A : Type 0} (p : A → Bool) (x : A) → count_by p (x ∷ []) ≡ cond (p x) 1 0
 count_by-one p x = zero-add (cond (p x) 1 0)
@@ -57,10 +50,6 @@ is_repeated-there xs ys y there =
     let parted = count_by-append (bytes_eq y) xs (y ∷ ys) in
     let first = count_by-cons (bytes_eq y) y ys in
     le-leb 2 (count_by (bytes_eq y) (xs ++ y ∷ ys)) (omega (arith, before, itself, parted, first))
-
-pub filter-none : {A : Type 0} (p : A → Bool) (xs : List A) → ((x : A) → p x ≡ false) → filter p xs ≡ []
-filter-none p [] h = refl
-filter-none p (x ∷ xs) h = rw (h x) (filter-none p xs h)
 
 -- a name that stands twice stands there
 pub repeated_there : (xs : List Name) (x : Name) → is_repeated xs x ≡ true → Contains xs x

@@ -12,17 +12,19 @@ use Rattle.darwin_parser.specs.Tree.{Name, Tree, Component, ArrayDecl, InstEntry
 use Rattle.darwin_parser.specs.Tree.InstEntry.{single, element}
 use Rattle.darwin_types.specs.declared.error.TypeError.{TypeError}
 use Rattle.darwin_types.specs.declared.error.TypeError.TheVariants.{TwoComponents, TwoNames, UnknownName, UnknownComponent, ArgCount, UnknownKind, KindPorts}
-use Rattle.darwin_types.specs.Scope.{has, component_named, entries_of, is_primitive, port_named, array_named, single_of, singles_of, instances_of, instance_component, Made, made_by, lacks_port}
-use Rattle.darwin_types.specs.Places.{Place, value, variable, entry, binding_end, names_of, places, port_places, array_places, body_places}
+use Rattle.darwin_types.specs.Scope.{has, component_named, entries_of, is_primitive, port_named, array_named, single_of, singles_of, instances_of, instance_component, Instantiation, made_by, lacks_port}
+use Rattle.darwin_types.specs.Places.{NameUse, value, variable, entry, binding_end, names_of, places, port_places, array_places, body_places}
 use Rattle.darwin_types.specs.Primitive.{is_like_kind}
 use Rattle.darwin_types.specs.Faults.{is_repeated, carried, FaultIn, Fault}
 use Rattle.darwin_types.specs.Faults.FaultIn.{two_params, two_ports, two_arrays, array_and_single, two_singles, two_values, unknown_value, unknown_array, unknown_instance, unknown_inner_port, unknown_outer_port, unknown_component, arg_count, unknown_kind, kind_ports}
 use Rattle.darwin_types.specs.Faults.Fault.{two_components, within}
 use Rattle.darwin_types.specs.Check.{unless, value_faults, variable_faults, clash_faults, call_faults, entry_faults, inner_end_faults, outer_end_faults, is_first_like, place_faults, places_faults, array_faults, arrays_faults, repeat_faults, port_faults, param_faults, array_name_faults, primitive_faults, kind_faults, declared_faults, component_faults, directory_faults, unit_faults}
-use Rattle.darwin_types.proofs.Lists.{Contains-nil, Contains-here, Contains-one, Contains-map, Contains-from_map, Contains-from_filter, Contains-flat_map, Contains-from_flat_map}
-use Rattle.darwin_types.proofs.Repeats.{same_bytes, bytes_eq_self}
 use Rattle.darwin_types.proofs.EntryPlaces.{entry_of_place}
-use Rattle.darwin_types.proofs.Found.{from_unless, true_from_not, None-from_is_some, different_bytes, find-Some, is_some-find_from, is_some-lookup_from}
+use Rattle.darwin_types.proofs.Found.{from_unless}
+use Rattle.base.proofs.BytesLaws.{bytes_eq_self, different_bytes, is_some-lookup_from, same_bytes}
+use Rattle.base.proofs.ContainsLaws.{Contains-flat_map, Contains-from_filter, Contains-from_flat_map, Contains-from_map, Contains-here, Contains-map, Contains-nil, Contains-one}
+use Rattle.base.proofs.FindLaws.{find-some, is_some-find_from}
+use Rattle.base.proofs.OptionLaws.{None-from_is_some, true_from_not}
 
 -- names that stand twice
 repeated_from : (g : Name → TypeError) (names : List Name) (e : TypeError) → Contains (repeat_faults g names) e → (x : Name) × (is_repeated names x ≡ true) × (e ≡ g x)
@@ -43,14 +45,14 @@ module _ (t : Tree) (c : Component) where
       subst (FaultIn t c) (sym u.1) (two_values scope x there (true_from_not (has scope x) u.0))
 
   -- of what an entry makes, whose component is o
-  call_of : (d : InstEntry) (m : Made) (o : Option Component) (e : TypeError) → Contains (entries_of c.body) d → made_by c d ≡ Some m → Contains (instances_of c) (m.name, m.component) → component_named t m.component ≡ o → Contains (option_map_or (λ wanted. unless (length m.args == wanted) (ArgCount c.name m.name (carried wanted) (carried (length m.args)))) (option_map (λ k. length k.params) o) (UnknownComponent c.name m.component ∷ [])) e → FaultIn t c e
+  call_of : (d : InstEntry) (m : Instantiation) (o : Option Component) (e : TypeError) → Contains (entries_of c.body) d → made_by c d ≡ Some m → Contains (instances_of c) (m.name, m.component) → component_named t m.component ≡ o → Contains (option_map_or (λ wanted. unless (length m.args == wanted) (ArgCount c.name m.name (carried wanted) (carried (length m.args)))) (option_map (λ k. length k.params) o) (UnknownComponent c.name m.component ∷ [])) e → FaultIn t c e
   call_of d m None e there made declared named h =
       subst (FaultIn t c) (sym (Contains-one (UnknownComponent c.name m.component) e h)) (unknown_component m.name m.component declared named)
   call_of d m (Some k) e there made declared named h =
       let u = from_unless (length m.args == length k.params) (ArgCount c.name m.name (carried (length k.params)) (carried (length m.args))) e h in
       subst (FaultIn t c) (sym u.1) (arg_count d m k there made named (eqb-false (length m.args) (length k.params) u.0))
 
-  call_sound : (d : InstEntry) (m : Made) (e : TypeError) → Contains (entries_of c.body) d → made_by c d ≡ Some m → Contains (instances_of c) (m.name, m.component) → Contains (call_faults t c m.name m.component (length m.args)) e → FaultIn t c e
+  call_sound : (d : InstEntry) (m : Instantiation) (e : TypeError) → Contains (entries_of c.body) d → made_by c d ≡ Some m → Contains (instances_of c) (m.name, m.component) → Contains (call_faults t c m.name m.component (length m.args)) e → FaultIn t c e
   call_sound d m e there made declared h = call_of d m (component_named t m.component) e there made declared refl h
 
   -- of a single instance whose name an index of instances has with the component o
@@ -90,7 +92,7 @@ module _ (t : Tree) (c : Component) where
   -- an array with a name is one of the instances
   array_there : (x : Name) (a : ArrayDecl) → array_named c x ≡ Some a → Contains (instances_of c) (x, a.component)
   array_there x a found =
-      let w = find-Some (λ (b : ArrayDecl). bytes_eq x b.name) c.arrays a found in
+      let w = find-some (λ (b : ArrayDecl). bytes_eq x b.name) c.arrays a found in
       let pair = Contains-map (λ (b : ArrayDecl). (b.name, b.component)) c.arrays a w.0 in
       Contains-append_left (map (λ b. (b.name, b.component)) c.arrays) (singles_of c) (x, a.component) (subst (λ y. Contains {X = Name × Name} (map (λ b. (b.name, b.component)) c.arrays) (y, a.component)) (sym (same_bytes x a.name w.1)) pair)
 
@@ -98,7 +100,7 @@ module _ (t : Tree) (c : Component) where
   element_of x index args at None e there found h =
       subst (FaultIn t c) (sym (Contains-one (UnknownName c.name x) e h)) (unknown_array x index args at there found)
   element_of x index args at (Some a) e there found h =
-      let m : Made = record { name = x; component = a.component; args = unwrap_or (option_or args a.args) [] } in
+      let m : Instantiation = record { name = x; component = a.component; args = unwrap_or (option_or args a.args) [] } in
       call_sound (element x index args at) m e there (ap (option_map (λ b. record { name = x; component = b.component; args = unwrap_or (option_or args b.args) [] })) found) (array_there x a found) h
 
   entry_sound : (d : InstEntry) (e : TypeError) → Contains (places c) (entry d) → Contains (entry_faults t c d) e → FaultIn t c e
@@ -130,29 +132,29 @@ module _ (t : Tree) (c : Component) where
   end_of r None e there at h = outer_sound r e there at h
   end_of r (Some x) e there at h = inner_of r x (instance_component c x) e there at refl h
 
-  place_sound : (p : Place) (e : TypeError) → Contains (places c) p → Contains (place_faults t c p) e → FaultIn t c e
+  place_sound : (p : NameUse) (e : TypeError) → Contains (places c) p → Contains (place_faults t c p) e → FaultIn t c e
   place_sound (value scope ex) e there h = value_sound scope ex e there h
   place_sound (variable scope x) e there h = variable_sound scope x e there h
   place_sound (entry d) e there h = entry_sound d e there h
   place_sound (binding_end r) e there h = end_of r r.inst e there refl h
 
   -- of places that are among those of the component
-  places_sound : (ps : List Place) (e : TypeError) → ((p : Place) → Contains ps p → Contains (places c) p) → Contains (places_faults t c ps) e → FaultIn t c e
+  places_sound : (ps : List NameUse) (e : TypeError) → ((p : NameUse) → Contains ps p → Contains (places c) p) → Contains (places_faults t c ps) e → FaultIn t c e
   places_sound ps e among h = let w = Contains-from_flat_map (place_faults t c) ps e h in place_sound w.0 e (among w.0 w.1) w.2
 
-  port_place_there : (p : Place) → Contains (flat_map (port_places c.params) c.ports) p → Contains (places c) p
+  port_place_there : (p : NameUse) → Contains (flat_map (port_places c.params) c.ports) p → Contains (places c) p
   port_place_there p h =
       let ports = flat_map (port_places c.params) c.ports in
       let arrays = flat_map (array_places c.params) c.arrays in
       Contains-append_left (ports ++ arrays) (body_places c.params c.body) p (Contains-append_left ports arrays p h)
 
-  array_place_there : (p : Place) → Contains (flat_map (array_places c.params) c.arrays) p → Contains (places c) p
+  array_place_there : (p : NameUse) → Contains (flat_map (array_places c.params) c.arrays) p → Contains (places c) p
   array_place_there p h =
       let ports = flat_map (port_places c.params) c.ports in
       let arrays = flat_map (array_places c.params) c.arrays in
       Contains-append_left (ports ++ arrays) (body_places c.params c.body) p (Contains-append_right ports arrays p h)
 
-  body_place_there : (p : Place) → Contains (body_places c.params c.body) p → Contains (places c) p
+  body_place_there : (p : NameUse) → Contains (body_places c.params c.body) p → Contains (places c) p
   body_place_there p h =
       let ports = flat_map (port_places c.params) c.ports in
       let arrays = flat_map (array_places c.params) c.arrays in

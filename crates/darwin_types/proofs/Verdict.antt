@@ -5,9 +5,9 @@ use Rattle.darwin_parser.specs.Tree.{Tree}
 use Rattle.darwin_types.specs.declared.error.TypeError.{TypeError}
 use Rattle.darwin_types.specs.Faults.{Fault, NoFault}
 use Rattle.darwin_types.specs.Check.{unit_faults}
-use Rattle.darwin_types.proofs.Lists.{Contains-here, Contains-nil}
 use Rattle.darwin_types.proofs.Sound.{unit_sound}
 use Rattle.darwin_types.proofs.Complete.{unit_complete}
+use Rattle.base.proofs.ContainsLaws.{Contains-here, Contains-nil}
 
 -- a check that found nothing
 pub no_fault : (t : Tree) → unit_faults t ≡ [] → NoFault t

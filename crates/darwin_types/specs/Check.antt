@@ -12,7 +12,7 @@ use Rattle.darwin_types.specs.declared.error.TypeError.TheVariants.{TwoComponent
 use Rattle.darwin_types.specs.Scope.{has, is_primitive, port_named, array_named, instance_component, params_of_named, lacks_port}
 use Rattle.config_graph.specs.Kinds.{kind_named}
 use Rattle.darwin_types.specs.Primitive.{is_like_kind}
-use Rattle.darwin_types.specs.Places.{Place, value, variable, entry, binding_end, names_of, array_places, port_places, body_places}
+use Rattle.darwin_types.specs.Places.{NameUse, value, variable, entry, binding_end, names_of, array_places, port_places, body_places}
 use Rattle.darwin_types.specs.Faults.{is_repeated, carried}
 
 -- what a check of a part with these faults answers: a value only where there is none, and else one of them
@@ -62,13 +62,13 @@ abbrev pub end_faults : Tree → Component → PortRef → List TypeError
 end_faults t c e = option_map_or (λ x. inner_end_faults t c x e.port) e.inst (outer_end_faults c e.port)
 
 -- the faults of a place
-abbrev pub place_faults : Tree → Component → Place → List TypeError
+abbrev pub place_faults : Tree → Component → NameUse → List TypeError
 place_faults t c (value scope e) = value_faults c scope e
 place_faults t c (variable scope x) = variable_faults c scope x
 place_faults t c (entry e) = entry_faults t c e
 place_faults t c (binding_end e) = end_faults t c e
 
-abbrev pub places_faults : Tree → Component → List Place → List TypeError
+abbrev pub places_faults : Tree → Component → List NameUse → List TypeError
 places_faults t c ps = flat_map (place_faults t c) ps
 
 -- of an array: its component, and then its places

@@ -6,7 +6,7 @@ use Rattle.darwin_parser.specs.Tree.{Name, Tree, Component, InstEntry, PortRef, 
 use Rattle.darwin_parser.specs.Tree.InstEntry.{element}
 use Rattle.darwin_types.specs.declared.error.TypeError.{TypeError}
 use Rattle.darwin_types.specs.declared.error.TypeError.TheVariants.{TwoComponents, TwoNames, UnknownName, UnknownComponent, ArgCount, UnknownKind, KindPorts}
-use Rattle.darwin_types.specs.Scope.{has, component_named, entries_of, is_primitive, port_named, array_named, singles_of, instances_of, instance_component, Made, made_by}
+use Rattle.darwin_types.specs.Scope.{has, component_named, entries_of, is_primitive, port_named, array_named, singles_of, instances_of, instance_component, Instantiation, made_by}
 use Rattle.config_graph.specs.declared.kind.Kind.{Kind}
 use Rattle.config_graph.specs.Kinds.{kind_named}
 use Rattle.darwin_types.specs.Primitive.{is_like_kind}
@@ -35,7 +35,7 @@ pub data FaultIn (t : Tree) (c : Component) : TypeError → Type 0 where
   unknown_inner_port : (e : PortRef) (x k : Name) (d : Component) → Contains (places c) (binding_end e) → e.inst ≡ Some x → instance_component c x ≡ Some k → component_named t k ≡ Some d → port_named d e.port ≡ None → FaultIn t c (UnknownName c.name e.port)
   unknown_outer_port : (e : PortRef) → Contains (places c) (binding_end e) → e.inst ≡ None → port_named c e.port ≡ None → FaultIn t c (UnknownName c.name e.port)
   unknown_component : (x k : Name) → Contains (instances_of c) (x, k) → component_named t k ≡ None → FaultIn t c (UnknownComponent c.name k)
-  arg_count : (e : InstEntry) (m : Made) (d : Component) → Contains (entries_of c.body) e → made_by c e ≡ Some m → component_named t m.component ≡ Some d → length m.args ≢ length d.params → FaultIn t c (ArgCount c.name m.name (carried (length d.params)) (carried (length m.args)))
+  arg_count : (e : InstEntry) (m : Instantiation) (d : Component) → Contains (entries_of c.body) e → made_by c e ≡ Some m → component_named t m.component ≡ Some d → length m.args ≢ length d.params → FaultIn t c (ArgCount c.name m.name (carried (length d.params)) (carried (length m.args)))
   unknown_kind : is_primitive c ≡ true → kind_named c.name ≡ None → FaultIn t c (UnknownKind c.name)
   kind_ports : (k : Kind) → is_primitive c ≡ true → kind_named c.name ≡ Some k → is_like_kind k c ≡ false → FaultIn t c (KindPorts c.name)
 

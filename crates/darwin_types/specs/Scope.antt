@@ -68,14 +68,14 @@ abbrev pub instance_component : Component → Name → Option Name
 instance_component c name = lookup (bytes_eq name) (instances_of c)
 
 -- what an entry makes: an instance of this name, its component and its arguments
-pub record Made : Type 0 where
+pub record Instantiation : Type 0 where
   pub name : Name
   pub component : Name
   pub args : List Expr
 
 -- The arguments of an element are its own, where it has a list of them, and else those of the array; an entry without
 -- arguments gives none. An element of no array makes nothing.
-abbrev pub made_by : Component → InstEntry → Option Made
+abbrev pub made_by : Component → InstEntry → Option Instantiation
 made_by c (single name component args at) = Some (record { name = name; component = component; args = args })
 made_by c (element array index args at) =
     option_map (λ a. record { name = array; component = a.component; args = unwrap_or (option_or args a.args) [] }) (array_named c array)

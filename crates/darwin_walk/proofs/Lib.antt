@@ -1,9 +1,9 @@
-pub mod CauseLemmas
+pub mod CauseLaws
 pub mod IntegerLemmas
 pub mod NamedLemmas
 pub mod ReachedLemmas
 mod Rows
 pub mod Sizes
 pub mod SpineLemmas
-pub mod TreeLemmas
+pub mod TreeLaws
 pub mod WalksLemmas

@@ -12,7 +12,7 @@ use Rattle.darwin_lexer.specs.declared.token.At.{At}
 use Rattle.darwin_parser.specs.Tree.{Expr, single, element, PortDecl, ArrayDecl, Stmts, Component}
 use Rattle.darwin_walk.specs.Value.{Env, Value, integer, out_of_range, zero_divisor, value}
 use Rattle.darwin_walk.specs.Reached.{Reached, valued, turn, made, bound, weight, port_size, array_size, reached, reached_in, count}
-use Rattle.darwin_walk.specs.Instance.{element_child, children_of, bindings_of, faults_of, faults, children, bindings, port_sizes}
+use Rattle.darwin_walk.specs.Instance.{element_child, children_of, bindings_of, faults_of, instance_faults, children, bindings, port_sizes}
 use Rattle.darwin_walk.specs.Scope.{port_faults, array_faults}
 use Rattle.darwin_walk.specs.Walked.{Adds, IsWalked, child_of, binding_of}
 use Rattle.darwin_walk.specs.declared.fault.Fault.{Fault}
@@ -79,7 +79,7 @@ parts f c p =
 
 pub faults-parts :
     (c : Component) (p : Env)
-    → faults c p ≡ (port_faults p c.ports ++ array_faults p c.arrays) ++ flat_map (faults_of c p) (reached_in c.body p)
+    → instance_faults c p ≡ (port_faults p c.ports ++ array_faults p c.arrays) ++ flat_map (faults_of c p) (reached_in c.body p)
 faults-parts c p =
     parts (faults_of c p) c p
     ∙ ap (λ ys. (ys ++ flat_map (faults_of c p) (map (array_size p) c.arrays)) ++ flat_map (faults_of c p) (reached_in c.body p))
@@ -157,21 +157,21 @@ IsWalked-body c p room old new sizes no_children no_bindings no_count adds =
 
 pub faults-none :
     (c : Component) (p : Env)
-    → port_faults p c.ports ≡ [] → array_faults p c.arrays ≡ [] → flat_map (faults_of c p) (reached_in c.body p) ≡ [] → faults c p ≡ []
+    → port_faults p c.ports ≡ [] → array_faults p c.arrays ≡ [] → flat_map (faults_of c p) (reached_in c.body p) ≡ [] → instance_faults c p ≡ []
 faults-none c p no_ports no_arrays no_body = rw (faults-parts c p, no_ports, no_arrays, no_body)
 
 -- a fault of a part is one of the instance
-pub faults-ports : (c : Component) (p : Env) (ports : List PortDecl) (f : Fault) → ports ≡ c.ports → Contains (port_faults p ports) f → Contains (faults c p) f
+pub faults-ports : (c : Component) (p : Env) (ports : List PortDecl) (f : Fault) → ports ≡ c.ports → Contains (port_faults p ports) f → Contains (instance_faults c p) f
 faults-ports c p ports f is has =
     rw (faults-parts c p) (Contains-append_left _ _ f (Contains-append_left _ _ f (subst (λ xs. Contains (port_faults p xs) f) is has)))
 
-pub faults-arrays : (c : Component) (p : Env) (arrays : List ArrayDecl) (f : Fault) → arrays ≡ c.arrays → Contains (array_faults p arrays) f → Contains (faults c p) f
+pub faults-arrays : (c : Component) (p : Env) (arrays : List ArrayDecl) (f : Fault) → arrays ≡ c.arrays → Contains (array_faults p arrays) f → Contains (instance_faults c p) f
 faults-arrays c p arrays f is has =
     rw (faults-parts c p)
     (Contains-append_left (port_faults p c.ports ++ array_faults p c.arrays) _ f (Contains-append_right (port_faults p c.ports) _ f (subst (λ xs. Contains (array_faults p xs) f) is has)))
 
 pub faults-body :
     (c : Component) (p : Env) (body : Stmts) (f : Fault)
-    → body ≡ c.body → Contains (flat_map (faults_of c p) (reached_in body p)) f → Contains (faults c p) f
+    → body ≡ c.body → Contains (flat_map (faults_of c p) (reached_in body p)) f → Contains (instance_faults c p) f
 faults-body c p body f is has =
     rw (faults-parts c p) (Contains-append_right _ _ f (subst (λ b. Contains (flat_map (faults_of c p) (reached_in b p)) f) is has))

@@ -6,7 +6,7 @@ use Rattle.darwin_parser.specs.declared.tree.Side.TheVariants.{Require}
 use Rattle.darwin_parser.specs.Tree.{Expr, num, var, neg, op, element, inst, bind, forall, when, end, then, Component}
 use Rattle.darwin_walk.specs.Value.{Value, integer, out_of_range, zero_divisor, value, parameters}
 use Rattle.darwin_walk.specs.Reached.{count}
-use Rattle.darwin_walk.specs.Instance.{Child, children, bindings, faults}
+use Rattle.darwin_walk.specs.Instance.{Child, children, bindings, instance_faults}
 use Rattle.darwin_walk.specs.declared.fault.Fault.TheVariants.{ZeroDivisor, BadIndex}
 
 -- ---- values
@@ -75,7 +75,7 @@ element_of i at =
     record { segment = record { name = codes "A"; index = Some i }; component = codes "sink"; arguments = Some []; at = at }
 
 -- the range is empty, and the array has no element 0
-no_element : faults Row (parameters Row (pos 0 ∷ [])) ≡ BadIndex (place 5 8) ∷ []
+no_element : instance_faults Row (parameters Row (pos 0 ∷ [])) ≡ BadIndex (place 5 8) ∷ []
 unfolding Row
 no_element = refl
 
@@ -85,7 +85,7 @@ unfolding Row element_of
 no_element_made = refl
 
 -- two elements, the first of which is made twice; two turns and three entries are counted
-two_elements : faults Row (parameters Row (pos 2 ∷ [])) ≡ []
+two_elements : instance_faults Row (parameters Row (pos 2 ∷ [])) ≡ []
 unfolding Row
 two_elements = refl
 
@@ -142,7 +142,7 @@ nine_turns : count Turns (parameters Turns (pos 0 ∷ [])) ≡ 10
 unfolding Turns
 nine_turns = refl
 
-unused_size : faults Turns (parameters Turns (pos 3 ∷ [])) ≡ ZeroDivisor (place 3 3) ∷ []
+unused_size : instance_faults Turns (parameters Turns (pos 3 ∷ [])) ≡ ZeroDivisor (place 3 3) ∷ []
 unfolding Turns
 unused_size = refl
 

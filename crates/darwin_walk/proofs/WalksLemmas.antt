@@ -22,7 +22,7 @@ use Rattle.darwin_walk.specs.declared.scope.Scope.{Scope}
 use Rattle.darwin_walk.specs.declared.walked.Walked.{Walked}
 use Rattle.darwin_walk.specs.declared.fault.WalkError.{WalkError}
 use Rattle.darwin_walk.specs.declared.fault.WalkError.TheVariants as error
-use Rattle.darwin_walk.proofs.CauseLemmas.{cause-grow, fault-grow}
+use Rattle.darwin_walk.proofs.CauseLaws.{cause-grow, fault-grow}
 
 -- a list with more, and more again
 longer :

@@ -151,5 +151,5 @@ faults_of c parameters (made (element name index args at) env) =
 faults_of c parameters (bound b env) = end_faults c parameters b.at b.left env ++ end_faults c parameters b.at b.right env
 
 -- the faults of an instance, as far as it shows them by itself
-abbrev pub faults : Component → Env → List Fault
-faults c parameters = flat_map (faults_of c parameters) (reached c parameters)
+abbrev pub instance_faults : Component → Env → List Fault
+instance_faults c parameters = flat_map (faults_of c parameters) (reached c parameters)

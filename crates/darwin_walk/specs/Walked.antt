@@ -23,11 +23,11 @@ abbrev pub child_of : code_child.Child → pure.Child
 child_of c =
     record { segment = segment_of c.segment; component = c.component.now; arguments = Some c.arguments.items; at = c.at }
 
-abbrev pub end_of : code_end.End → pure.End
-end_of e = record { inner = option_map segment_of e.inner; port = e.port.now; index = e.index }
+abbrev pub walked_end : code_end.End → pure.End
+walked_end e = record { inner = option_map segment_of e.inner; port = e.port.now; index = e.index }
 
 abbrev pub binding_of : code_binding.Binding → pure.Binding
-binding_of b = record { left = end_of b.left; right = end_of b.right; at = b.at }
+binding_of b = record { left = walked_end b.left; right = walked_end b.right; at = b.at }
 
 -- the cause of an error in a part of an instance whose faults are these: it is one of them, or the part counts for more
 -- than there is room for

@@ -7,7 +7,7 @@ ghost use Rattle.darwin_walk.specs.Value.{parameters};
 ghost use Rattle.darwin_walk.specs.Spine.{env_of};
 ghost use Rattle.darwin_walk.specs.Environment.{env_at};
 ghost use Rattle.darwin_walk.specs.Reached.{count};
-ghost use Rattle.darwin_walk.specs.Instance.{index_value, port_sizes, children, bindings, faults};
+ghost use Rattle.darwin_walk.specs.Instance.{index_value, port_sizes, children, bindings, instance_faults};
 ghost use Rattle.darwin_walk.specs.Walked.{Tells, IsWalked, child_of, binding_of};
 ghost use Rattle.darwin_walk.specs.Scope.{HasSize, array_faults, port_faults};
 ghost use Rattle.darwin_walk.specs.declared.fault.Fault.{Fault as ShownFault};
@@ -31,11 +31,11 @@ pub fn walk<'a>(
     parameters: &[Variable<'a>],
     room: u64,
 ) -> Result<Walked<'a>, WalkError>
-    ensures no_fault { IfOk result (λ _. faults (component_of component.now) (env_of parameters.now) ≡ []) }
+    ensures no_fault { IfOk result (λ _. instance_faults (component_of component.now) (env_of parameters.now) ≡ []) }
     ensures walked { IfOk result (IsWalked (component_of component.now) (env_of parameters.now) room) }
 
     // The fault that is named is one of the instance's, and all else that is refused is too much.
-    ensures fault { (f : ShownFault) → result ≡ Err (WalkError.Fault f) → Contains (faults (component_of component.now) (env_of parameters.now)) f }
+    ensures fault { (f : ShownFault) → result ≡ Err (WalkError.Fault f) → Contains (instance_faults (component_of component.now) (env_of parameters.now)) f }
     ensures too_many { result ≡ Err WalkError.TooMany → room < count (component_of component.now) (env_of parameters.now) }
 {
     walk_with(alloc, component, parameters, room)
@@ -48,7 +48,7 @@ fn walk_with<'a>(
     parameters: &[Variable<'a>],
     room: u64,
 ) -> Result<Walked<'a>, WalkError>
-    ensures { Tells (faults (component_of component.now) (env_of parameters.now)) (room < count (component_of component.now) (env_of parameters.now)) (IsWalked (component_of component.now) (env_of parameters.now) room) result }
+    ensures { Tells (instance_faults (component_of component.now) (env_of parameters.now)) (room < count (component_of component.now) (env_of parameters.now)) (IsWalked (component_of component.now) (env_of parameters.now) room) result }
 {
     let index = by_name(alloc, parameters)?;
     let env = Environment {
@@ -66,7 +66,7 @@ fn walk_within<'a>(
     env: &Environment<'a, '_>,
     room: u64,
 ) -> Result<Walked<'a>, WalkError>
-    ensures { Tells (faults (component_of component.now) (env_at env.now)) (room < count (component_of component.now) (env_at env.now)) (IsWalked (component_of component.now) (env_at env.now) room) result }
+    ensures { Tells (instance_faults (component_of component.now) (env_at env.now)) (room < count (component_of component.now) (env_at env.now)) (IsWalked (component_of component.now) (env_at env.now) room) result }
 {
     let port_sizes = port_sizes_of(alloc, &component.ports, env)?;
     let arrays = sized(alloc, &component.arrays, env)?;

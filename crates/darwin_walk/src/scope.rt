@@ -9,7 +9,7 @@ ghost use Rattle.darwin_types.specs.Scope.{array_named};
 ghost use Rattle.darwin_walk.specs.Value.{value as value_of, integer};
 ghost use Rattle.darwin_walk.specs.Environment.{env_at};
 ghost use Rattle.darwin_walk.specs.Instance.{values as values_of, integers, value_fault, element_faults, inner_faults, inner_value, index_value, end_faults, end_value};
-ghost use Rattle.darwin_walk.specs.Walked.{Tells, segment_of, end_of};
+ghost use Rattle.darwin_walk.specs.Walked.{Tells, segment_of, walked_end};
 ghost use Rattle.darwin_walk.specs.Scope.{IsScope, IsArray, IsPlace, exprs_of};
 
 use crate::environment::Environment;
@@ -172,7 +172,7 @@ pub(crate) fn end_at<'a>(
     at: At,
 ) -> Result<End<'a>, WalkError>
     requires { IsScope scope.now }
-    ensures { Tells (end_faults (component_of scope.now.component.now) (env_at scope.now.parameters.now) at (ref_of end.now) (env_at env.now)) ⊥ (λ e. end_value (ref_of end.now) (env_at env.now) ≡ Some (end_of e)) result }
+    ensures { Tells (end_faults (component_of scope.now.component.now) (env_at scope.now.parameters.now) at (ref_of end.now) (env_at env.now)) ⊥ (λ e. end_value (ref_of end.now) (env_at env.now) ≡ Some (walked_end e)) result }
 {
     let inner = inner_at(scope, &end.inst, &end.inst_index, env, at)?;
     let index = index_at(scope.alloc, &end.port_index, env, at)?;

@@ -7,17 +7,17 @@ use Rattle.std.proofs.lemmas.List.{append-nil}
 use Rattle.std.proofs.lemmas.List.Sums.{sum_by-cons}
 use Rattle.quiesce_core.specs.declared.event.Event.{Event}
 use Rattle.quiesce_core.specs.State.{State, exchange}
-use Rattle.quiesce_core.specs.Each.{EachAfter}
+use Rattle.base.specs.Each.{EachAfter}
 use Rattle.quiesce_core.specs.Effect.{effect}
 use Rattle.quiesce_core.specs.Legal.{Legal}
 use Rattle.quiesce_core.specs.Rest.{rest}
 use Rattle.quiesce_core.specs.Runs.{IsRun, state_after}
 use Rattle.quiesce_core.specs.Traffic.{IsConsistent}
 use Rattle.quiesce_core.specs.WellFormed.{IsWellFormed}
-use Rattle.quiesce_core.proofs.LegalLemmas.{legal}
-use Rattle.quiesce_core.proofs.RunLemmas.{runs_are_well_formed, runs_are_consistent}
-use Rattle.quiesce_core.proofs.Soundness.{well_formed_next}
-use Rattle.quiesce_core.proofs.TrafficLemmas.{consistent_next}
+use Rattle.quiesce_core.proofs.LegalLaws.{legal}
+use Rattle.quiesce_core.proofs.RunLaws.{runs_are_well_formed, runs_are_consistent}
+use Rattle.quiesce_core.proofs.SoundnessLaws.{well_formed_next}
+use Rattle.quiesce_core.proofs.TrafficLaws.{consistent_next}
 use Rattle.drain_laws.specs.Advances.{is_advance, is_begin}
 use Rattle.drain_laws.specs.Belongs.{belongs, open_in}
 use Rattle.drain_laws.specs.Drain.{rest_of, count_of}
@@ -25,7 +25,7 @@ use Rattle.drain_laws.proofs.Belonging.{member_belongs, open_parts}
 use Rattle.drain_laws.proofs.Carrying.{serials_grow, none_starts}
 use Rattle.drain_laws.proofs.Emptiness.{none_belongs}
 use Rattle.drain_laws.proofs.Portions.{part_next, part_of_all}
-use Rattle.quiesce_core.proofs.Running.{StepAt, run_parts}
+use Rattle.quiesce_core.proofs.RunPartLaws.{StepAt, run_parts}
 use Rattle.drain_laws.proofs.Steps.{rest_falls, rest_stays}
 
 bound_from : (old : State) (before es : List Event) → EachAfter StepAt before es → IsWellFormed (state_after before) → IsConsistent (state_after before)

@@ -13,7 +13,8 @@ use Rattle.quiesce_core.specs.Phases.{is_idle, is_asked, is_answered, is_in_more
 use Rattle.quiesce_core.specs.Rules.{is_live_port, is_taken}
 use Rattle.quiesce_core.specs.WellFormed.{IsWellFormed}
 use Rattle.quiesce_core.specs.Traffic.{IsConsistent}
-use Rattle.quiesce_core.proofs.Lookups.{taken_is, linked_to}
+use Rattle.quiesce_core.proofs.StateLaws.{taken_is}
+use Rattle.base.proofs.OptionLaws.{Some-from_is_some}
 
 pub busy_phases : (f : Phase) → is_idle f ≡ false → (is_asked f ≡ true) ⊎ ((is_answered f ≡ true) ⊎ (is_in_more f ≡ true))
 busy_phases phase.Idle h = absurd (both_ways true h refl)
@@ -23,7 +24,7 @@ busy_phases phase.More h = inr (inr refl)
 
 -- it leads somewhere
 pub busy_target : (s : State) (p : ℕ) → IsConsistent s → is_idle (exchange s p).phase ≡ false → (t : Target) × (target s.config p ≡ Some t)
-busy_target s p k busy = linked_to (target s.config p) (k.linked p busy)
+busy_target s p k busy = Some-from_is_some (target s.config p) (k.linked p busy)
 
 -- it was made
 pub busy_made : (s : State) (p : ℕ) → IsWellFormed s → is_idle (exchange s p).phase ≡ false → p < length s.config.gates

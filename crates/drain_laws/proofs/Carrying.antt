@@ -16,13 +16,14 @@ use Rattle.quiesce_core.specs.Legal.{Legal}
 use Rattle.quiesce_core.specs.Rules.{is_next_serial}
 use Rattle.quiesce_core.specs.Traffic.{IsConsistent}
 use Rattle.quiesce_core.specs.WellFormed.{IsWellFormed}
-use Rattle.quiesce_core.proofs.Places.{exchange_place}
+use Rattle.quiesce_core.proofs.TableLaws.{exchange_place}
 use Rattle.drain_laws.specs.Advances.{advanced}
 use Rattle.drain_laws.specs.Belongs.{Transactions, Belongs, member, consequent, belongs, open_in, starts}
 use Rattle.drain_laws.proofs.Belonging.{Keeps, carried, belongs_if, belongs_is_found}
 use Rattle.drain_laws.proofs.Falls.{Calling, call_calls}
 use Rattle.drain_laws.proofs.Sharing.{followed}
-use Rattle.quiesce_core.proofs.Lookups.{exchange_here, exchange_there, idle_unserved, answered_unserved, fresh_behind}
+use Rattle.quiesce_core.proofs.StateLaws.{exchange_here, exchange_there, idle_unserved, answered_unserved}
+use Rattle.base.proofs.PlaceLaws.{fresh_behind}
 
 -- the ports at which an event starts or ends no transaction
 abbrev pub Untouched : Event → ℕ → Type 0

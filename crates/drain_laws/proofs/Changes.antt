@@ -14,13 +14,13 @@ use Rattle.quiesce_core.specs.Rest.{call_events, messages_due, service_rest}
 use Rattle.quiesce_core.specs.Rules.{is_taken}
 use Rattle.quiesce_core.specs.Traffic.{IsConsistent}
 use Rattle.quiesce_core.specs.WellFormed.{IsWellFormed}
-use Rattle.quiesce_core.proofs.Places.{live_made}
+use Rattle.quiesce_core.proofs.TableLaws.{live_made}
 use Rattle.drain_laws.specs.Drain.{left, rest_where}
 use Rattle.drain_laws.proofs.Busy.{busy_phases, busy_target, untaken_if}
 use Rattle.drain_laws.proofs.Fewer.{HasNoNewLink, full_fewer, events_fewer}
 use Rattle.drain_laws.proofs.Sums.{sum_le, sum_longer, masked}
 use Rattle.drain_laws.proofs.Weights.{left_idle, left_answered, left_untaken, left_taken}
-use Rattle.quiesce_core.proofs.Lookups.{serving_busy, taken_is, is_taken_if}
+use Rattle.quiesce_core.proofs.StateLaws.{serving_busy, taken_is, is_taken_if}
 
 -- what an event of the change owes, so that nothing more is left
 pub record Spares (s s' : State) (Good : ℕ → ℕ → Type 0) : Type 0 where

@@ -10,7 +10,7 @@ use Rattle.quiesce_core.specs.Rest.{rest}
 use Rattle.quiesce_core.specs.Rules.{is_taken}
 use Rattle.quiesce_core.specs.Traffic.{IsConsistent}
 use Rattle.quiesce_core.specs.WellFormed.{IsWellFormed}
-use Rattle.quiesce_core.proofs.RestLemmas.{full_step}
+use Rattle.quiesce_core.proofs.RestLaws.{full_step}
 use Rattle.drain_laws.specs.Belongs.{Transactions, belongs}
 use Rattle.drain_laws.specs.Drain.{left, rest_where, rest_of}
 use Rattle.drain_laws.proofs.Busy.{busy_made, busy_phases, busy_target}
@@ -18,7 +18,7 @@ use Rattle.drain_laws.proofs.Falls.{due_two}
 use Rattle.drain_laws.proofs.Steps.{every, all_rest}
 use Rattle.drain_laws.proofs.Sums.{sum_place, sum_le}
 use Rattle.drain_laws.proofs.Weights.{left_idle, left_answered, left_untaken, left_taken}
-use Rattle.quiesce_core.proofs.Lookups.{taken_is}
+use Rattle.quiesce_core.proofs.StateLaws.{taken_is}
 
 asked_left : (s : State) (p : ℕ) → IsWellFormed s → IsConsistent s → is_idle (exchange s p).phase ≡ false → (is_asked (exchange s p).phase || is_in_more (exchange s p).phase) ≡ true → 1 ≤ left s p
 asked_left s p w c busy either_ =

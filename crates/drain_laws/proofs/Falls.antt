@@ -18,14 +18,15 @@ use Rattle.quiesce_core.specs.Rest.{full, call_events, events_through, messages_
 use Rattle.quiesce_core.specs.Rules.{is_taken, is_live_port, has_calls_left, serves_through, was_heard}
 use Rattle.quiesce_core.specs.Traffic.{IsConsistent}
 use Rattle.quiesce_core.specs.WellFormed.{IsWellFormed}
-use Rattle.quiesce_core.proofs.Cycles.{map_or_true, map_or_at}
-use Rattle.quiesce_core.proofs.Places.{gate_place, exchange_place, owner_place, target_place}
-use Rattle.quiesce_core.proofs.RestLemmas.{full_step}
+use Rattle.quiesce_core.proofs.CycleLaws.{map_or_true, map_or_at}
+use Rattle.quiesce_core.proofs.TableLaws.{gate_place, exchange_place, owner_place, target_place}
+use Rattle.quiesce_core.proofs.RestLaws.{full_step}
 use Rattle.drain_laws.specs.Drain.{left}
 use Rattle.drain_laws.proofs.Busy.{busy_made, busy_target, untaken_if}
 use Rattle.drain_laws.proofs.Greatest.{call_counted}
 use Rattle.drain_laws.proofs.Weights.{left_idle, left_answered, left_untaken, left_taken, left_same, left_elsewhere}
-use Rattle.quiesce_core.proofs.Lookups.{asked_busy, serving_busy, asked_not_more, exchange_here, exchange_there, service_here, service_there, taken_is, idle_unserved, served_busy, provision_is, put_is, target_service_is, linked_to}
+use Rattle.quiesce_core.proofs.StateLaws.{asked_busy, serving_busy, asked_not_more, exchange_here, exchange_there, service_here, service_there, taken_is, idle_unserved, served_busy, provision_is, put_is, target_service_is}
+use Rattle.base.proofs.OptionLaws.{Some-from_is_some}
 
 -- what is left of port p falls, and of no other port changes
 pub record Falls (s : State) (t' : Traffic) (p : ℕ) : Type 0 where
@@ -270,7 +271,7 @@ begin_rises s p k v w c l =
     let x : Exchange = record { phase = phase.Asked; serial = k; value = v; within = None } in
     let s' : State = with_exchange s p x in
     let here : exchange s' p ≡ x = exchange_here s p x (exchange_place s p w l.live) in
-    let t = linked_to (target s.config p) l.linked in
+    let t = Some-from_is_some (target s.config p) l.linked in
     record {
       made = gate_place s p l.live;
       before = left_idle s p l.idle;
@@ -300,7 +301,7 @@ call_moves s p k v w c l at =
     let mid : State = with_service s n (Some new) in
     let s' : State = with_exchange mid p x in
     let here : exchange s' p ≡ x = exchange_here mid p x (exchange_place s p w l.live) in
-    let t = linked_to (target s.config p) l.linked in
+    let t = Some-from_is_some (target s.config p) l.linked in
     let other : p ≡ old.port → ⊥ = λ same. idle_unserved s p c l.idle n old at.serviced (sym same) in
     let stays : (q : ℕ) → (q ≡ p → ⊥) → left s' q ≡ left mid q = λ q ne. left_same mid s'.traffic q (exchange_there mid p q x ne) (λ u e. inl refl) in
     let unserved : (m : ℕ) (u : Service) → service s' m ≡ Some u → u.port ≡ p → ⊥ = λ m u e same. ⊎_elim

@@ -12,9 +12,9 @@ use Rattle.quiesce_core.specs.State.{Configuration, slot, target, ports_of, depe
 use Rattle.quiesce_core.specs.Reach.{IsPortOf, can_walk, has_no_cycle}
 use Rattle.quiesce_core.specs.Rest.{greatest, full, events_through, call_events}
 use Rattle.quiesce_core.specs.WellFormed.{IsSound}
-use Rattle.quiesce_core.proofs.Cycles.{map_or_at, walk_to, no_walk}
-use Rattle.quiesce_core.proofs.Places.{live_made}
-use Rattle.quiesce_core.proofs.RestLemmas.{full_step}
+use Rattle.quiesce_core.proofs.CycleLaws.{map_or_at, walk_to, no_walk}
+use Rattle.quiesce_core.proofs.TableLaws.{live_made}
+use Rattle.quiesce_core.proofs.RestLaws.{full_step}
 
 -- d has the nodes of c, with their kinds and ports, and no link that c hasn't at a port through which a good provision goes
 pub record HasNoNewLink (c d : Configuration) (Good : ℕ → ℕ → Type 0) : Type 0 where

@@ -15,14 +15,14 @@ use Rattle.quiesce_core.specs.Rules.{is_called_within, was_heard, denial}
 use Rattle.quiesce_core.specs.Runs.{IsRun, state_after}
 use Rattle.quiesce_core.specs.WellFormed.{IsWellFormed}
 use Rattle.quiesce_core.specs.Traffic.{IsConsistent}
-use Rattle.quiesce_core.proofs.Cycles.{PassesOf, any_of, of_any, of_all, map_or_true, map_or_at, walk_to, no_walk}
-use Rattle.quiesce_core.proofs.Reaching.{owner_of}
-use Rattle.quiesce_core.proofs.LegalLemmas.{allowed}
-use Rattle.quiesce_core.proofs.RunLemmas.{runs_are_well_formed, runs_are_consistent}
+use Rattle.quiesce_core.proofs.CycleLaws.{PassesOf, any_of, of_any, of_all, map_or_true, map_or_at, walk_to, no_walk}
+use Rattle.quiesce_core.proofs.ReachLaws.{owner_of}
+use Rattle.quiesce_core.proofs.LegalLaws.{allowed}
+use Rattle.quiesce_core.proofs.RunLaws.{runs_are_well_formed, runs_are_consistent}
 use Rattle.drain_laws.specs.Advances.{is_advance}
 use Rattle.drain_laws.specs.Drain.{Possible}
 use Rattle.drain_laws.proofs.Busy.{busy_phases, busy_target, busy_live, untaken_if}
-use Rattle.quiesce_core.proofs.Lookups.{asked_busy, more_busy, serving_busy, answered_busy, is_taken_if, target_service_is}
+use Rattle.quiesce_core.proofs.StateLaws.{asked_busy, more_busy, serving_busy, answered_busy, is_taken_if, target_service_is}
 
 ends : (s : State) (p : ℕ) → IsWellFormed s → IsConsistent s → is_answered (exchange s p).phase ≡ true → Possible s
 ends s p w k h = record {

@@ -12,7 +12,7 @@ use Rattle.quiesce_core.specs.Rest.{rest}
 use Rattle.quiesce_core.specs.Runs.{Step}
 use Rattle.quiesce_core.specs.Traffic.{IsConsistent}
 use Rattle.quiesce_core.specs.WellFormed.{IsWellFormed}
-use Rattle.quiesce_core.proofs.LegalLemmas.{legal}
+use Rattle.quiesce_core.proofs.LegalLaws.{legal}
 use Rattle.drain_laws.specs.Belongs.{Transactions, belongs, is_of, one, open_in, starts}
 use Rattle.drain_laws.specs.Drain.{rest_where, rest_of}
 use Rattle.drain_laws.proofs.Belonging.{open_belongs}

@@ -10,24 +10,25 @@ use Rattle.quiesce_core.specs.declared.state.Exchange.{Exchange}
 use Rattle.quiesce_core.specs.declared.state.Phase.TheVariants as phase
 use Rattle.quiesce_core.specs.declared.state.Service.{Service}
 use Rattle.quiesce_core.specs.State.{State, fresh_exchange, owner, exchange, service, target_service}
-use Rattle.quiesce_core.specs.Each.{EachAfter}
+use Rattle.base.specs.Each.{EachAfter}
 use Rattle.quiesce_core.specs.Phases.{is_idle}
 use Rattle.quiesce_core.specs.Effect.{with_exchange, with_target_service, with_call, effect}
 use Rattle.quiesce_core.specs.Legal.{Legal}
 use Rattle.quiesce_core.specs.Runs.{IsRun, HasRoot, root, consequent, state_after}
 use Rattle.quiesce_core.specs.Traffic.{IsConsistent}
 use Rattle.quiesce_core.specs.WellFormed.{IsWellFormed}
-use Rattle.quiesce_core.proofs.LegalLemmas.{legal}
-use Rattle.quiesce_core.proofs.Places.{exchange_place}
-use Rattle.quiesce_core.proofs.RunLemmas.{runs_are_well_formed, runs_are_consistent}
-use Rattle.quiesce_core.proofs.Soundness.{well_formed_next}
-use Rattle.quiesce_core.proofs.TrafficLemmas.{consistent_next}
+use Rattle.quiesce_core.proofs.LegalLaws.{legal}
+use Rattle.quiesce_core.proofs.TableLaws.{exchange_place}
+use Rattle.quiesce_core.proofs.RunLaws.{runs_are_well_formed, runs_are_consistent}
+use Rattle.quiesce_core.proofs.SoundnessLaws.{well_formed_next}
+use Rattle.quiesce_core.proofs.TrafficLaws.{consistent_next}
 use Rattle.drain_laws.specs.Belongs as mine
 use Rattle.drain_laws.specs.Belongs.{Transactions, Belongs, belongs, one, open_in}
 use Rattle.drain_laws.proofs.Belonging.{belongs_is_found, open_parts}
 use Rattle.drain_laws.proofs.Carrying.{Untouched, keeps, next_is, serials_grow}
-use Rattle.quiesce_core.proofs.Running.{StepAt, run_parts}
-use Rattle.quiesce_core.proofs.Lookups.{more_busy, serving_busy, exchange_here, exchange_there, idle_unserved, fresh_behind, taken_busy}
+use Rattle.quiesce_core.proofs.RunPartLaws.{StepAt, run_parts}
+use Rattle.quiesce_core.proofs.StateLaws.{more_busy, serving_busy, exchange_here, exchange_there, idle_unserved, taken_busy}
+use Rattle.base.proofs.PlaceLaws.{fresh_behind}
 
 -- an event at another port, or of what isn't idle, leaves an idle port idle
 

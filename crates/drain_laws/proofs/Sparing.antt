@@ -19,14 +19,14 @@ use Rattle.quiesce_core.specs.Reach.{IsPortOf, has_no_cycle, wiring_of}
 use Rattle.config_graph.specs.Wiring.{Reach, direct, through}
 use Rattle.quiesce_core.specs.Rules.{is_quiet}
 use Rattle.quiesce_core.specs.WellFormed.{IsWellFormed}
-use Rattle.quiesce_core.proofs.Cycles.{map_or_true}
-use Rattle.quiesce_core.proofs.Places.{gate_place}
-use Rattle.quiesce_core.proofs.Reaching.{owner_of}
-use Rattle.quiesce_core.proofs.SettledLemmas.{settled_if}
-use Rattle.quiesce_core.proofs.Soundness.{put_here, put_elsewhere, put_require, kind_stays, old_gate, new_gate, grown_length, old_slot, well_formed_next}
+use Rattle.quiesce_core.proofs.CycleLaws.{map_or_true}
+use Rattle.quiesce_core.proofs.TableLaws.{gate_place}
+use Rattle.quiesce_core.proofs.ReachLaws.{owner_of}
+use Rattle.quiesce_core.proofs.SettledLaws.{settled_if}
+use Rattle.quiesce_core.proofs.SoundnessLaws.{put_here, put_elsewhere, put_require, kind_stays, old_gate, new_gate, grown_length, old_slot, well_formed_next}
 use Rattle.drain_laws.proofs.Busy.{busy_made}
 use Rattle.drain_laws.proofs.Changes.{Spares}
-use Rattle.quiesce_core.proofs.Lookups.{fresh_behind}
+use Rattle.base.proofs.PlaceLaws.{fresh_behind}
 
 -- each provision of each node
 abbrev pub All : ℕ → ℕ → Type 0

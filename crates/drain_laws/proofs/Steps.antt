@@ -14,7 +14,7 @@ use Rattle.quiesce_core.specs.Rest.{full, rest}
 use Rattle.quiesce_core.specs.Runs.{Step}
 use Rattle.quiesce_core.specs.Traffic.{IsConsistent}
 use Rattle.quiesce_core.specs.WellFormed.{IsWellFormed}
-use Rattle.quiesce_core.proofs.LegalLemmas.{legal}
+use Rattle.quiesce_core.proofs.LegalLaws.{legal}
 use Rattle.drain_laws.specs.Advances.{is_advance, is_begin}
 use Rattle.drain_laws.specs.Drain.{rest_where}
 use Rattle.drain_laws.proofs.Falls.{Calling, Moves, take_falls, hear_falls, ask_falls, end_falls, give_falls, more_falls, miss_calls, miss_falls, call_calls, call_moves, begin_rises}

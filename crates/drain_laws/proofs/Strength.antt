@@ -68,9 +68,6 @@ chain_lefts : lefts (state_after chain) (Begin 1 1 7 ∷ called) ≡ 7 ∷ 6 ∷
 unfolding full
 chain_lefts = refl
 
-chain_allowed : denials (state_after chain) (Begin 1 1 7 ∷ called) ≡ map (λ e. None) (Begin 1 1 7 ∷ called)
-chain_allowed = refl
-
 chain_counts : count_of (open_in (state_after (chain ++ Begin 1 1 7 ∷ []))) (state_after (chain ++ Begin 1 1 7 ∷ [])) called ≡ 7
 unfolding belongs
 chain_counts = refl
@@ -97,6 +94,3 @@ adding = Make 0 (node (codes "adder") Adder None) None ∷ Make 1 (node (codes "
 more_lefts : lefts (state_after adding) (Begin 0 1 7 ∷ Take 0 1 7 ∷ More 0 1 1 ∷ Ask 0 1 8 ∷ Hear 0 1 8 ∷ Give 0 1 9 ∷ End 0 1 9 ∷ []) ≡ 6 ∷ 5 ∷ 4 ∷ 3 ∷ 2 ∷ 1 ∷ 0 ∷ []
 unfolding full
 more_lefts = refl
-
-more_allowed : denials (state_after adding) (Begin 0 1 7 ∷ Take 0 1 7 ∷ More 0 1 1 ∷ Ask 0 1 8 ∷ Hear 0 1 8 ∷ Give 0 1 9 ∷ End 0 1 9 ∷ []) ≡ None ∷ None ∷ None ∷ None ∷ None ∷ None ∷ None ∷ []
-more_allowed = refl

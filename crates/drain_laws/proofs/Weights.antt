@@ -12,10 +12,10 @@ use Rattle.quiesce_core.specs.State.{Configuration, Traffic, State, target, exch
 use Rattle.quiesce_core.specs.Phases.{is_idle, is_asked, is_answered, is_in_more}
 use Rattle.quiesce_core.specs.Rest.{full, service_rest, asked_rest, port_rest}
 use Rattle.quiesce_core.specs.Rules.{is_taken}
-use Rattle.quiesce_core.proofs.Cycles.{map_or_at}
+use Rattle.quiesce_core.proofs.CycleLaws.{map_or_at}
 use Rattle.drain_laws.specs.Drain.{left}
 use Rattle.drain_laws.proofs.Busy.{untaken_if}
-use Rattle.quiesce_core.proofs.Lookups.{is_taken_if}
+use Rattle.quiesce_core.proofs.StateLaws.{is_taken_if}
 
 pub left_idle : (s : State) (p : ℕ) → is_idle (exchange s p).phase ≡ true → left s p ≡ 0
 left_idle s p h = at (exchange s p).phase h

@@ -12,12 +12,12 @@ use Rattle.darwin_parser.specs.Tree.{Name, Component, Expr, PortDecl, ArrayDecl,
 use Rattle.darwin_parser.specs.Tree.InstEntry.{single, element}
 use Rattle.darwin_parser.specs.Tree.Stmt.{inst, bind, forall, when}
 use Rattle.darwin_parser.specs.Tree.Stmts.{end, then}
-use Rattle.darwin_types.specs.Scope.{array_named, entries_of, entries_of_stmt, Made, made_by}
+use Rattle.darwin_types.specs.Scope.{array_named, entries_of, entries_of_stmt, Instantiation, made_by}
 use Rattle.darwin_walk.specs.Value.{Value, integer, out_of_range, zero_divisor, Variable, Env, parameters, value}
 use Rattle.darwin_walk.specs.Reached.{Reached, valued, turn, made, bound, range, holds, with_variable, reached_by, reached_in, port_size, array_size, reached}
 use Rattle.darwin_walk.specs.Instance.{Child, integers, values, element_arguments, element_child, children_of, children}
-use Rattle.darwin_types.proofs.Lists.{Contains-here, Contains-one, Contains-nil, Contains-cons_cases, Contains-from_map, Contains-from_flat_map}
-use Rattle.elaborator.proofs.Lists.{option_map_some}
+use Rattle.base.proofs.ContainsLaws.{Contains-cons_cases, Contains-from_flat_map, Contains-from_map, Contains-here, Contains-nil, Contains-one}
+use Rattle.base.proofs.OptionLaws.{option_map_some}
 
 -- ---- an entry that is reached stands in the body
 
@@ -108,7 +108,7 @@ length-values es env zs is = length-integers (values es env) zs is ∙ length-ma
 -- the entry by which a child is made, and what it makes
 pub record IsMadeBy (c : Component) (child : Child) (zs : List ℤ) : Type 0 where
   pub entry : InstEntry
-  pub made_ : Made
+  pub made_ : Instantiation
   pub stands : Contains (entries_of c.body) entry
   pub makes : made_by c entry ≡ Some made_
   pub component : child.component ≡ made_.component

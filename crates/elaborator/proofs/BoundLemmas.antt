@@ -12,11 +12,12 @@ use Rattle.darwin_types.specs.Scope.{port_named}
 use Rattle.darwin_walk.specs.Instance.{Segment, End, Binding}
 use Rattle.elaborator.specs.Paths.{within}
 use Rattle.elaborator.specs.Instances.{Instance, made_in}
-use Rattle.elaborator.specs.Bindings.{Port, Named, Pair, instance_at, named, port_of, is_indexed, is_form, may_lead, pair_of, bindings_in, pairs_in}
-use Rattle.elaborator.specs.Expanded.{Expanded, Made, Numbered, NumberedIn, IsExpanded}
-use Rattle.darwin_types.proofs.Lists.{Contains-one, Contains-nil, Contains-from_flat_map}
-use Rattle.elaborator.proofs.Lists.{find-some, made_of_found}
-use Rattle.elaborator.proofs.PairLemmas.{pair-forward, pair-backward, pair-of_no_form, pair-no_left, pair-no_right}
+use Rattle.elaborator.specs.Bindings.{Port, Named, Pair, instance_at, named, named_port, is_indexed, is_form, may_lead, pair_of, bindings_in, pairs_in}
+use Rattle.elaborator.specs.Numbering.{Expanded, NumberedInstance, Numbered, NumberedIn, IsExpanded}
+use Rattle.elaborator.proofs.PairLaws.{pair-forward, pair-backward, pair-of_no_form, pair-no_left, pair-no_right}
+use Rattle.base.proofs.ContainsLaws.{Contains-from_flat_map, Contains-nil, Contains-one}
+use Rattle.base.proofs.FindLaws.{find-some}
+use Rattle.base.proofs.OptionLaws.{made_of_found}
 
 -- ---- the parts of a pair
 
@@ -29,8 +30,8 @@ pub record Parts (tree : Tree) (i : Instance) (p : Pair) : Type 0 where
   pub is_source : named tree i source_end ≡ Some source
   pub is_target : named tree i target_end ≡ Some target
   pub leads : may_lead source target ≡ true
-  pub source_port : p.source ≡ port_of source
-  pub target_port : p.target ≡ port_of target
+  pub source_port : p.source ≡ named_port source
+  pub target_port : p.target ≡ named_port target
 
 pub parts : (tree : Tree) (i : Instance) (b : Binding) (p : Pair) → Contains (pair_of tree i b) p → Parts tree i p
 parts tree i b p there = by_ends (named tree i b.left) (named tree i b.right) refl refl
@@ -127,7 +128,7 @@ pub data Owner (e : Expanded) (n : ℕ) (x : Port) : Type 0 where
 one_owner : (e : Expanded) → IsExpanded e → (m n : ℕ) (x : Port) → Owner e m x → Owner e n x → m ≡ n
 one_owner e expanded m n x (within_it k i at side path depth) (within_it l j at' side' path' depth') =
     let number = expanded.distinct k l i j (record { maker = Some m; is_at = at }) (record { maker = Some n; is_at = at' }) (sym path ∙ path') (sym depth ∙ depth') in
-    same_Some m n (ap (λ (y : Made). y.maker) (same_Some _ _ (sym (subst (λ a. NumberedIn e m a i) number at) ∙ at')))
+    same_Some m n (ap (λ (y : NumberedInstance). y.maker) (same_Some _ _ (sym (subst (λ a. NumberedIn e m a i) number at) ∙ at')))
 one_owner e expanded m n x (within_it k i at side path depth) (its_own j at' side' path' depth') = absurd (both_sides (sym side ∙ side'))
   where
     both_sides : Require ≡ Provide → ⊥

@@ -5,7 +5,7 @@ use Rattle.darwin_walk.specs.Walked.{cause_of}
 use Rattle.darwin_walk.specs.declared.fault.Fault.{Fault}
 use Rattle.darwin_walk.specs.declared.fault.WalkError.{WalkError}
 use Rattle.darwin_walk.specs.declared.fault.WalkError.TheVariants as walk
-use Rattle.darwin_walk.proofs.CauseLemmas as walk_causes
+use Rattle.darwin_walk.proofs.CauseLaws as walk_causes
 use Rattle.elaborator.specs.Paths.{Path}
 use Rattle.elaborator.specs.Opening.{cause_at, error_at}
 use Rattle.elaborator.specs.declared.error.ElabError.{ElabError}

@@ -5,7 +5,7 @@ use Rattle.std.specs.Option.{option_and_then, option_map_or}
 use Rattle.std.proofs.lemmas.Bool.{false≢true, eqb-true}
 use Rattle.std.proofs.lemmas.Option.{none-some, same_Some}
 use Rattle.std.proofs.lemmas.List.Elements.{Contains-append_left, Contains-append_right, Contains-append_cases}
-use Rattle.config_graph.specs.Graph.{Configuration}
+use Rattle.config_graph.specs.Graph.{Graph}
 use Rattle.config_graph.specs.Cycles.{FirstOnCycle}
 use Rattle.darwin_lexer.specs.declared.token.At.{At}
 use Rattle.darwin_parser.specs.Tree.{Name, Tree, Component, Expr}
@@ -19,21 +19,21 @@ use Rattle.elaborator.specs.Instances.{Instance, top_instance, Inst}
 use Rattle.elaborator.specs.Bindings.{Named, named, bindings_in}
 use Rattle.elaborator.specs.Graph.{IsElab}
 use Rattle.elaborator.specs.Faults.{own_faults, port_faults, faults_in, CountsMore, Faults, Faults as fault}
-use Rattle.elaborator.specs.Expanded.{Expanded, IsOf}
+use Rattle.elaborator.specs.Numbering.{Expanded, IsOf}
 use Rattle.base.specs.Answers.{Answers}
-use Rattle.elaborator.specs.Index.{FaultOf, FaultOf as of, BindingFault, BindingFault as binding}
-use Rattle.elaborator.specs.Growth.{GrowthFault, GrowthFault as growth, IsClear}
+use Rattle.elaborator.specs.PortIndex.{FaultOf, FaultOf as of, BindingFault, BindingFault as binding}
+use Rattle.elaborator.specs.ExpansionFaults.{GrowthFault, GrowthFault as growth, IsClear}
 use Rattle.elaborator.specs.Built.{BuildFault, IsBuilt}
 use Rattle.elaborator.specs.Built.CycleFault.{first_on_cycle}
 use Rattle.elaborator.specs.Built.BuildFault.{in_bindings, in_graph}
-use Rattle.elaborator.specs.Elaboration.{HasNoFault, IsGraphOf}
+use Rattle.elaborator.specs.Elaboration.{HasNoFault, ElaboratesTo}
 use Rattle.elaborator.specs.declared.error.ElabError.{ElabError}
 use Rattle.elaborator.specs.declared.error.ElabError.TheVariants as error
-use Rattle.darwin_types.proofs.Lists.{Contains-nil, Contains-one, Contains-flat_map, Contains-from_flat_map}
-use Rattle.elaborator.proofs.CountLemmas.{counted-within}
-use Rattle.elaborator.proofs.LawLemmas.{single-if_none}
+use Rattle.elaborator.proofs.CountLaws.{counted-within}
+use Rattle.elaborator.proofs.InstanceLaws.{single-if_none}
 use Rattle.elaborator.proofs.SingleLemmas.{IsBoundOnce}
-use Rattle.elaborator.proofs.UniqueLemmas.{one_graph}
+use Rattle.elaborator.proofs.UniqueLaws.{one_graph}
+use Rattle.base.proofs.ContainsLaws.{Contains-flat_map, Contains-from_flat_map, Contains-nil, Contains-one}
 
 -- ---- the top
 
@@ -150,7 +150,7 @@ build_fault e name arguments top is_of is_top _ (in_graph g _ is_elab (first_on_
 -- ---- where no part has a fault, the whole has none
 
 pub no_fault :
-    (e : Expanded) (name : Name) (arguments : List ℤ) (top : Instance) (g : Configuration) → IsOf e top → top_instance e.tree name arguments ≡ Some top → IsClear e.tree top → IsBuilt e top g
+    (e : Expanded) (name : Name) (arguments : List ℤ) (top : Instance) (g : Graph) → IsOf e top → top_instance e.tree name arguments ≡ Some top → IsClear e.tree top → IsBuilt e top g
     → (f : ElabError) → ¬ Faults e.tree name arguments f
 no_fault e name arguments top g is_of is_top clear built = refuted
   where
@@ -208,14 +208,14 @@ no_fault e name arguments top g is_of is_top clear built = refuted
 -- ---- the answer
 
 pub answer-no_fault :
-    (e : Expanded) (tree : Tree) (name : Name) (arguments : List ℤ) (top : Instance) (r : Result Configuration ElabError) → e.tree ≡ tree → IsOf e top
+    (e : Expanded) (tree : Tree) (name : Name) (arguments : List ℤ) (top : Instance) (r : Result Graph ElabError) → e.tree ≡ tree → IsOf e top
     → top_instance tree name arguments ≡ Some top → IsClear tree top → Answers error.NoMemory (IsBuilt e top) (BuildFault e top) r → IfOk r (λ _. HasNoFault tree name arguments)
 answer-no_fault e tree name arguments top (Ok g) same is_of is_top clear built =
     subst (λ t. HasNoFault t name arguments) same (no_fault e name arguments top g is_of (subst (λ t. top_instance t name arguments ≡ Some top) (sym same) is_top) (subst (λ t. IsClear t top) (sym same) clear) built)
 answer-no_fault e tree name arguments top (Err f) same is_of is_top clear fault = tt
 
 pub answer-fault :
-    (e : Expanded) (tree : Tree) (name : Name) (arguments : List ℤ) (top : Instance) (r : Result Configuration ElabError) → e.tree ≡ tree → IsOf e top
+    (e : Expanded) (tree : Tree) (name : Name) (arguments : List ℤ) (top : Instance) (r : Result Graph ElabError) → e.tree ≡ tree → IsOf e top
     → top_instance tree name arguments ≡ Some top → Answers error.NoMemory (IsBuilt e top) (BuildFault e top) r → IfErr r (λ f. f ≢ error.NoMemory → Faults tree name arguments f)
 answer-fault e tree name arguments top (Ok g) same is_of is_top built = tt
 answer-fault e tree name arguments top (Err f) same is_of is_top fault_ = λ other.
@@ -223,7 +223,7 @@ answer-fault e tree name arguments top (Err f) same is_of is_top fault_ = λ oth
 
 -- ---- laws
 
-pub one_graph_of : (tree : Tree) (name : Name) (arguments : List ℤ) (g h : Configuration) → IsGraphOf tree name arguments g → IsGraphOf tree name arguments h → g ≡ h
+pub one_graph_of : (tree : Tree) (name : Name) (arguments : List ℤ) (g h : Graph) → ElaboratesTo tree name arguments g → ElaboratesTo tree name arguments h → g ≡ h
 one_graph_of tree name arguments g h a b =
     one_graph tree b.top g h (subst (λ t. IsElab tree t g) (same_Some a.top b.top (sym a.is_top ∙ b.is_top)) a.is_elab) b.is_elab
 

@@ -19,29 +19,29 @@ use Rattle.config_graph.specs.declared.node.Node.{Node}
 use Rattle.config_graph.specs.declared.node.Link.{Link}
 use Rattle.config_graph.specs.declared.node.Target.{Target}
 use Rattle.config_graph.specs.Kinds.{row, Provision}
-use Rattle.config_graph.specs.Graph.{Configuration, PathsRise, graph_of, requires_at}
-use Rattle.config_graph.proofs.IncomingLemmas.{Contains-filter_map, Contains-in_order}
-use Rattle.config_graph.proofs.OrderLemmas.{in_port_order-twice}
-use Rattle.config_graph.proofs.TellLemmas.{CanTell, any_or_none, told_by}
+use Rattle.config_graph.specs.Graph.{Graph, PathsRise, graph_of, requires_at}
+use Rattle.config_graph.proofs.IncomingLaws.{Contains-in_order}
+use Rattle.config_graph.proofs.OrderLaws.{in_port_order-twice}
 use Rattle.darwin_parser.specs.declared.tree.Side.{Side}
 use Rattle.darwin_parser.specs.declared.tree.Side.TheVariants.{Provide, Require}
 use Rattle.darwin_parser.specs.Tree.{Name, Tree}
-use Rattle.darwin_types.proofs.Lists.{Contains-here, Contains-there, Contains-nil, Contains-cons_cases, Contains-flat_map, Contains-from_flat_map}
 use Rattle.elaborator.specs.Instances.{Instance, instances}
-use Rattle.elaborator.specs.Bindings.{Port, Pair, pairs_in, Bound, bound, Leads, at_once, through}
+use Rattle.elaborator.specs.Bindings.{Port, Pair, pairs_in, Bound, bound, BoundThrough, at_once, through}
 use Rattle.elaborator.specs.Graph.{node_of, IsNode, port_at, Linked, IsLink, IsElab}
 use Rattle.elaborator.specs.Links.{link_to, IsTargeted, AreFirstLinks, AreLinks}
-use Rattle.elaborator.proofs.Lists.{Contains-from_filter_map}
 use Rattle.elaborator.proofs.RankLemmas.{rank, rank_falls}
 use Rattle.elaborator.proofs.NodeLemmas.{node_path}
 use Rattle.elaborator.proofs.LinkLemmas.{both_sides, one_provision}
-use Rattle.elaborator.proofs.TargetLemmas.{one_place}
-use Rattle.elaborator.proofs.LawLemmas.{instances-listed}
+use Rattle.elaborator.proofs.InstanceLaws.{instances-listed}
 use Rattle.elaborator.proofs.SingleLemmas.{IsBoundOnce, one_node, linked_once}
-use Rattle.config_graph.proofs.OrderedLists.{before_all, rest_rises}
-use Rattle.elaborator.proofs.UniqueLemmas.{elab_by_list}
-use Rattle.elaborator.proofs.WholeLemmas.{Contains-at, at_some_place}
+use Rattle.base.proofs.OrderedLaws.{before_all, rest_rises}
+use Rattle.elaborator.proofs.UniqueLaws.{elab_by_list}
 use Rattle.elaborator.proofs.AllLinksLemmas.{first_links-skip, first_links-push, first_links-node, links-all}
+use Rattle.base.proofs.BytesLaws.{equal_bytes}
+use Rattle.base.proofs.ContainsLaws.{Contains-at, Contains-cons_cases, Contains-filter_map, Contains-flat_map, Contains-from_filter_map, Contains-from_flat_map, Contains-here, Contains-nil, Contains-there, at_some_place}
+use Rattle.base.proofs.TellLaws.{any_or_none, told_by}
+use Rattle.base.specs.Telling.{CanTell}
+use Rattle.config_graph.proofs.PathLaws.{one_place}
 
 -- ---- what can be told
 
@@ -84,9 +84,6 @@ one_port x y = by (one_bytes x.path y.path) (one_number x.depth y.depth) (one_si
 
 abbrev Before : Node → Node → Type 0
 Before m n = slice_cmp nat_cmp m.path n.path ≡ Less
-
-equal_paths : (p q : List ℕ) → slice_cmp nat_cmp p q ≡ Equal → p ≡ q
-equal_paths p q e = (bytes_eq-Decides p q).0 (sym (is_eq-slice_cmp p q) ∙ ap is_eq e)
 
 -- a list in order with one node more
 record Inserted (x : Node) (ys : List Node) : Type 0 where
@@ -132,7 +129,7 @@ inserted x (y ∷ ys) rise one = by (slice_cmp nat_cmp x.path y.path) refl (inse
       list = y ∷ ys;
       rise = rise;
       holds = λ n there. inr there;
-      has = subst (Contains (y ∷ ys)) (sym (one y (Contains-here y ys) (equal_paths x.path y.path is))) (Contains-here y ys);
+      has = subst (Contains (y ∷ ys)) (sym (one y (Contains-here y ys) (equal_bytes x.path y.path is))) (Contains-here y ys);
       keeps = λ n there. there;
     }
     by Greater is rest = record {
@@ -200,17 +197,17 @@ module _ (tree : Tree) (top : Instance) (shallow : top.depth ≡ 0) where
 
   -- the pair is the first of a list that leads from the one port to the other
   abbrev Begins : Port → Port → Pair → Type 0
-  Begins x y p = (p.source ≡ x) × ((p.target ≡ y) ⊎ Leads tree top p.target y)
+  Begins x y p = (p.source ≡ x) × ((p.target ≡ y) ⊎ BoundThrough tree top p.target y)
 
-  begun : (x y : Port) (p : Pair) → Contains all_pairs p → Begins x y p → Leads tree top x y
+  begun : (x y : Port) (p : Pair) → Contains all_pairs p → Begins x y p → BoundThrough tree top x y
   begun x y p there (same, inl at) = at_once x y (subst (λ z. Bound tree top z y) same (subst (Bound tree top p.source) at (is_bound p there)))
   begun x y p there (same, inr rest) = through x p.target y (subst (λ z. Bound tree top z p.target) same (is_bound p there)) rest
 
-  beginning : (x y : Port) → Leads tree top x y → (p : Pair) × Contains all_pairs p × Begins x y p
+  beginning : (x y : Port) → BoundThrough tree top x y → (p : Pair) × Contains all_pairs p × Begins x y p
   beginning _ _ (at_once x y b) = let w = bound_there x y b in (w.0, w.1, (w.2, inl w.3))
-  beginning _ _ (through x y z b rest) = let w = bound_there x y b in (w.0, w.1, (w.2, inr (subst (λ v. Leads tree top v z) (sym w.3) rest)))
+  beginning _ _ (through x y z b rest) = let w = bound_there x y b in (w.0, w.1, (w.2, inr (subst (λ v. BoundThrough tree top v z) (sym w.3) rest)))
 
-  leads_or_not : (n : ℕ) (x y : Port) → rank x < n → Leads tree top x y ⊎ (Leads tree top x y → ⊥)
+  leads_or_not : (n : ℕ) (x y : Port) → rank x < n → BoundThrough tree top x y ⊎ (BoundThrough tree top x y → ⊥)
   leads_or_not zero x y low = absurd (omega (arith, low))
   leads_or_not (suc n) x y low =
       elim (any_or_none (Begins x y) all_pairs (λ p there. test p there (one_port p.source x) (λ less. leads_or_not n p.target y less))) [
@@ -220,11 +217,11 @@ module _ (tree : Tree) (top : Instance) (shallow : top.depth ≡ 0) where
     where
       test :
           (p : Pair) → Contains all_pairs p → (p.source ≡ x) ⊎ (p.source ≡ x → ⊥)
-          → (rank p.target < n → Leads tree top p.target y ⊎ (Leads tree top p.target y → ⊥)) → Begins x y p ⊎ (Begins x y p → ⊥)
+          → (rank p.target < n → BoundThrough tree top p.target y ⊎ (BoundThrough tree top p.target y → ⊥)) → Begins x y p ⊎ (Begins x y p → ⊥)
       test p there (inr differ) rest = inr (λ begins. differ begins.0)
       test p there (inl same) rest = by (one_port p.target y) (rest (omega (arith, low, pair_falls p there, ap rank same)))
         where
-          by : (p.target ≡ y) ⊎ (p.target ≡ y → ⊥) → Leads tree top p.target y ⊎ (Leads tree top p.target y → ⊥) → Begins x y p ⊎ (Begins x y p → ⊥)
+          by : (p.target ≡ y) ⊎ (p.target ≡ y → ⊥) → BoundThrough tree top p.target y ⊎ (BoundThrough tree top p.target y → ⊥) → Begins x y p ⊎ (Begins x y p → ⊥)
           by (inl at) leads = inl (same, inl at)
           by (inr past) (inl leads) = inl (same, inr leads)
           by (inr past) (inr refuted) = inr (λ begins. elim begins.1 [ inl at ↦ past at | inr leads ↦ refuted leads ])
@@ -248,14 +245,14 @@ module _ (tree : Tree) (top : Instance) (once : IsBoundOnce tree top) where
           y : Port
           y = port_at to.instance Provide p.name
 
-          at : Leads tree top x y ⊎ (Leads tree top x y → ⊥) → Linked tree top a require b provide ⊎ (Linked tree top a require b provide → ⊥)
+          at : BoundThrough tree top x y ⊎ (BoundThrough tree top x y → ⊥) → Linked tree top a require b provide ⊎ (Linked tree top a require b provide → ⊥)
           at (inl leads) = inl (record { from = from; to = to; required = r; provided = p; requires_it = is; provides_it = is'; leads = leads })
           at (inr refuted) = inr (λ l.
               let i = one_node tree top once a a l.from from (sym (node_path l.from.instance a l.from.is_node) ∙ node_path from.instance a from.is_node) in
               let j = one_node tree top once b b l.to to (sym (node_path l.to.instance b l.to.is_node) ∙ node_path to.instance b to.is_node) in
               let name = same_Some l.required r (sym l.requires_it ∙ is) in
               let provision = same_Some l.provided p (sym l.provides_it ∙ is') in
-              refuted (subst (λ z. Leads tree top x z) (λ k. port_at (j k) Provide (provision k).name) (subst (λ z. Leads tree top z (port_at l.to.instance Provide l.provided.name)) (λ k. port_at (i k) Require (name k)) l.leads)))
+              refuted (subst (λ z. BoundThrough tree top x z) (λ k. port_at (j k) Provide (provision k).name) (subst (λ z. BoundThrough tree top z (port_at l.to.instance Provide l.provided.name)) (λ k. port_at (i k) Require (name k)) l.leads)))
 
   -- the nodes, before they are in order
   abbrev all_nodes : List Node
@@ -359,7 +356,7 @@ module _ (tree : Tree) (top : Instance) (once : IsBoundOnce tree top) where
   links : (links : List Link) × AreLinks tree top nodes.list links
   links = let w = to_node (length nodes.list) in (w.0, links-all tree top nodes.list (length nodes.list) w.0 (omega arith) w.1)
 
-  pub elab_there : (g : Configuration) × IsElab tree top g
+  pub elab_there : (g : Graph) × IsElab tree top g
   elab_there =
       let same = Contains-in_order nodes.list links.0 links.1.within links.1.one_a_port in (
         graph_of nodes.list links.0,

@@ -21,27 +21,26 @@ use Rattle.darwin_walk.specs.declared.fault.WalkError.TheVariants as walk
 use Rattle.elaborator.specs.Paths.{Path}
 use Rattle.elaborator.specs.Instances.{Instance, made_in, paths_in, Inst, count_in}
 use Rattle.elaborator.specs.Faults.{own_faults, Twice, CountsMore}
-use Rattle.elaborator.specs.Expanded.{Made, Numbered, NumberedIn, IsExpanded, IsOf}
-use Rattle.elaborator.specs.Expansion.{made_of, instance_in, seen, number_at, IsKept, IsShown}
+use Rattle.elaborator.specs.Numbering.{NumberedInstance, Numbered, NumberedIn, IsExpanded, IsOf}
+use Rattle.elaborator.specs.Expansion.{made_of, instance_in, seen, number_at, IsNumbering, IsShown}
 use Rattle.elaborator.specs.Opening.{cause_at, error_at, Judges, IsNoted, IsFound}
 use Rattle.elaborator.specs.declared.opening.Found.{Found}
-use Rattle.elaborator.specs.Growth.{IsTop, GrowthFault, IsClear, IsWhole}
-use Rattle.elaborator.specs.Growth.GrowthFault.{out_of_range, zero_divisor, bad_index, two_instances, two_apart, too_deep, too_many}
-use Rattle.elaborator.specs.Grown.{made_by, IsOpened, IsGrown, IsMapped, IsGrowth, IsSpread, IsInPathOrder, IsClash, IsTold}
+use Rattle.elaborator.specs.ExpansionFaults.{IsTop, GrowthFault, IsClear, IsWhole}
+use Rattle.elaborator.specs.ExpansionFaults.GrowthFault.{out_of_range, zero_divisor, bad_index, two_instances, two_apart, too_deep, too_many}
+use Rattle.elaborator.specs.ExpansionState.{made_by, IsWalkedClean, IsGrown, IsMapped, IsGrowth, IsSpread, IsInPathOrder, IsClash, IsTold}
 use Rattle.elaborator.specs.declared.instance.Instance as code
 use Rattle.elaborator.specs.declared.growing.Growth.{Growth}
 use Rattle.elaborator.specs.declared.instance.Expansion.{Expansion}
 use Rattle.elaborator.specs.declared.error.ElabError.{ElabError}
 use Rattle.elaborator.specs.declared.error.ElabError.TheVariants as error
-use Rattle.darwin_types.proofs.Lists.{Contains-map, Contains-from_map}
 use Rattle.elaborator.proofs.NamingLemmas.{made_named}
-use Rattle.elaborator.proofs.Lists.{slice_get-set_cases, slice_get-set_same, slice_get-set_other}
-use Rattle.elaborator.proofs.WholeLemmas.{Contains-at, at_some_place}
-use Rattle.elaborator.proofs.Places.{slice_get-append_cases, slice_get-below, slice_get-before, slice_get-behind, slice_get-map_some, slice_get-map_at, twice_at, twice_before, twice_places}
+use Rattle.elaborator.proofs.TwiceLaws.{twice_at, twice_before, twice_places}
 use Rattle.elaborator.proofs.OrderLemmas.{rising}
 use Rattle.elaborator.proofs.MappedLemmas.{found-in_order, found-before_order}
 use Rattle.elaborator.proofs.GrowthLemmas.{AreApart, same_made, earlier_or_same, grown-top, grown-open, grown-sound, grown-complete, grown-distinct, once-made}
 use Rattle.elaborator.proofs.SpreadLemmas.{total-within, spread-top, spread-open, front-above, depth-next}
+use Rattle.base.proofs.ContainsLaws.{Contains-at, Contains-from_map, Contains-map, at_some_place}
+use Rattle.base.proofs.PlaceLaws.{slice_get-append_cases, slice_get-before, slice_get-behind, slice_get-below, slice_get-map_at, slice_get-map_some, slice_get-set_cases, slice_get-set_other, slice_get-set_same}
 
 -- ---- faults
 
@@ -67,7 +66,7 @@ makes_path tree i j path paths has is =
 
 -- two instances of one path, the second made in the instance at hand
 pub clash-fault :
-    (tree : Tree) (top : Instance) (made : List Made) (k : ℕ) (y : Made) (all : List code.Instance) (path : Path)
+    (tree : Tree) (top : Instance) (made : List NumberedInstance) (k : ℕ) (y : NumberedInstance) (all : List code.Instance) (path : Path)
     → IsGrown tree top made k → top.depth ≡ 0 → AreApart made → slice_get made k ≡ Some y → paths_in tree y.instance ≡ map (λ (x : Instance). x.path) (made_in tree y.instance)
     → map made_of all ≡ made ++ map (made_by k) (made_in tree y.instance) → IsClash all (length made) path → GrowthFault tree top (error.TwoInstances path)
 clash-fault tree top made k y all path grown shallow apart at paths is clash =
@@ -75,7 +74,7 @@ clash-fault tree top made k y all path grown shallow apart at paths is clash =
       | inl early ↦ absurd (omega (arith, clash.later, slice_get-below made clash.second _ early))
       | inr second ↦
           let other = slice_get-map_some (made_by k) (made_in tree y.instance) second.0 (made_of clash.other) second.2 in
-          let other_path : other.0.path ≡ path = ap (λ (z : Made). z.instance.path) other.2 ∙ clash.other_path in
+          let other_path : other.0.path ≡ path = ap (λ (z : NumberedInstance). z.instance.path) other.2 ∙ clash.other_path in
           elim (slice_get-append_cases made more clash.first (made_of clash.one) (in_all clash.first clash.one clash.one_at)) [
             | inl early ↦
                 let w = maker clash.first clash.made early in
@@ -86,7 +85,7 @@ clash-fault tree top made k y all path grown shallow apart at paths is clash =
                 (makes_path tree y.instance other.0 path paths (Contains-at _ second.0 other.0 other.1) other_path)
             | inr first ↦
                 let one = slice_get-map_some (made_by k) (made_in tree y.instance) first.0 (made_of clash.one) first.2 in
-                let one_path : one.0.path ≡ path = ap (λ (z : Made). z.instance.path) one.2 ∙ clash.one_path in
+                let one_path : one.0.path ≡ path = ap (λ (z : NumberedInstance). z.instance.path) one.2 ∙ clash.one_path in
                 two_instances y.instance path (grown-sound tree top made k grown k y at)
                 (subst (λ ps. Twice ps path) (sym paths)
                 (twice_at (map (λ (x : Instance). x.path) (made_in tree y.instance)) first.0 second.0 path (omega (arith, first.1, second.1, clash.in_order))
@@ -95,7 +94,7 @@ clash-fault tree top made k y all path grown shallow apart at paths is clash =
           ]
     ]
   where
-    more : List Made
+    more : List NumberedInstance
     more = map (made_by k) (made_in tree y.instance)
 
     in_all : (a : ℕ) (x : code.Instance) → slice_get all a ≡ Some x → slice_get (made ++ map (made_by k) (made_in tree y.instance)) a ≡ Some (made_of x)
@@ -103,7 +102,7 @@ clash-fault tree top made k y all path grown shallow apart at paths is clash =
 
     maker :
         (n : ℕ) → 0 < n → slice_get made n ≡ Some (made_of clash.one)
-        → (m : ℕ) × (z : Made) × (m < k) × (slice_get made m ≡ Some z) × Contains (made_in tree z.instance) (instance_in clash.one)
+        → (m : ℕ) × (z : NumberedInstance) × (m < k) × (slice_get made m ≡ Some z) × Contains (made_in tree z.instance) (instance_in clash.one)
     maker zero lt there = absurd (omega (arith, lt))
     maker (suc n) lt there = let w = grown.maker n (made_of clash.one) there in (w.0, w.1, w.4, w.5, w.6)
 
@@ -113,7 +112,7 @@ pub apart-mapped : (e : Expansion) → IsMapped e → AreApart (map made_of e.in
 apart-mapped e mapped m n x y positive positive' at at' same =
     let v = slice_get-map_some made_of e.instances.items m x at in
     let w = slice_get-map_some made_of e.instances.items n y at' in
-    let paths : v.0.path ≡ w.0.path = ap (λ (z : Made). z.instance.path) v.2 ∙ same ∙ ap (λ (z : Made). z.instance.path) (sym w.2) in
+    let paths : v.0.path ≡ w.0.path = ap (λ (z : NumberedInstance). z.instance.path) v.2 ∙ same ∙ ap (λ (z : NumberedInstance). z.instance.path) (sym w.2) in
     same_Some m n (sym (mapped.found m v.0 positive v.1) ∙ ap (number_at e) paths ∙ mapped.found n w.0 positive' w.1)
 
 pub whole-expanded :
@@ -131,14 +130,14 @@ whole-expanded top g growth shallow top_named composite all =
       composite_top = λ n i at. top_only n i at;
     }
   where
-    within : (n : ℕ) (x : Made) → slice_get (map made_of g.expansion.instances.items) n ≡ Some x → n < g.opened
+    within : (n : ℕ) (x : NumberedInstance) → slice_get (map made_of g.expansion.instances.items) n ≡ Some x → n < g.opened
     within n x at = omega (arith, all, slice_get-below _ n x at, length-map g.expansion.instances.items made_of)
 
-    distinct : (m n : ℕ) (x y : Made) → slice_get (map made_of g.expansion.instances.items) m ≡ Some x → slice_get (map made_of g.expansion.instances.items) n ≡ Some y → x.instance.path ≡ y.instance.path → x.instance.depth ≡ y.instance.depth → m ≡ n
+    distinct : (m n : ℕ) (x y : NumberedInstance) → slice_get (map made_of g.expansion.instances.items) m ≡ Some x → slice_get (map made_of g.expansion.instances.items) n ≡ Some y → x.instance.path ≡ y.instance.path → x.instance.depth ≡ y.instance.depth → m ≡ n
     distinct = grown-distinct (tree_of g.expansion.directory.unit.now) top (map made_of g.expansion.instances.items) g.opened growth.grown shallow (apart-mapped g.expansion growth.mapped)
 
     not_top : (m : ℕ) (i : Instance) → NumberedIn (seen g.expansion) m 0 i → ⊥
-    not_top m i at = none-some m (ap (λ (z : Made). z.maker) (same_made _ 0 _ _ growth.grown.first at))
+    not_top m i at = none-some m (ap (λ (z : NumberedInstance). z.maker) (same_made _ 0 _ _ growth.grown.first at))
 
     below_maker : (n m : ℕ) (i j : Instance) → Numbered (seen g.expansion) m i → NumberedIn (seen g.expansion) m n j → Contains (made_in (tree_of g.expansion.directory.unit.now) i) j
     below_maker zero m i j at at' = absurd (not_top m j at')
@@ -146,26 +145,26 @@ whole-expanded top g growth shallow top_named composite all =
         let w = growth.grown.maker n _ at' in
         let number : m ≡ w.0 = same_Some m w.0 w.2 in
         let one = same_made _ w.0 w.1 _ w.5 (subst (λ a. slice_get (map made_of g.expansion.instances.items) a ≡ Some (record { instance = i; maker = at.maker })) number at.is_at) in
-        subst (λ (z : Made). Contains (made_in (tree_of g.expansion.directory.unit.now) z.instance) j) one w.6
+        subst (λ (z : NumberedInstance). Contains (made_in (tree_of g.expansion.directory.unit.now) z.instance) j) one w.6
 
     one_path : (m n a b : ℕ) (i j : Instance) → NumberedIn (seen g.expansion) a m i → NumberedIn (seen g.expansion) b n j → i.path ≡ j.path → m ≡ n
     one_path zero n a b i j at at' same = absurd (not_top a i at)
     one_path (suc m) zero a b i j at at' same = absurd (not_top b j at')
     one_path (suc m) (suc n) a b i j at at' same = apart-mapped g.expansion growth.mapped (suc m) (suc n) _ _ (omega arith) (omega arith) at at' same
 
-    named : (n : ℕ) (x : Made) → slice_get (map made_of g.expansion.instances.items) n ≡ Some x → component_named (tree_of g.expansion.directory.unit.now) x.instance.component.name ≡ Some x.instance.component
+    named : (n : ℕ) (x : NumberedInstance) → slice_get (map made_of g.expansion.instances.items) n ≡ Some x → component_named (tree_of g.expansion.directory.unit.now) x.instance.component.name ≡ Some x.instance.component
     named zero x at =
-        subst (λ (z : Made). component_named (tree_of g.expansion.directory.unit.now) z.instance.component.name ≡ Some z.instance.component) (same_made _ 0 _ _ growth.grown.first at) top_named
+        subst (λ (z : NumberedInstance). component_named (tree_of g.expansion.directory.unit.now) z.instance.component.name ≡ Some z.instance.component) (same_made _ 0 _ _ growth.grown.first at) top_named
     named (suc n) x at = let w = growth.grown.maker n x at in made_named (tree_of g.expansion.directory.unit.now) w.1.instance x.instance w.6
 
     top_only : (n : ℕ) (i : Instance) → slice_get (map made_of g.expansion.instances.items) n ≡ Some (record { instance = i; maker = None }) → is_primitive i.component ≡ false
-    top_only zero i at = ap (λ (z : Made). is_primitive z.instance.component) (sym (same_made _ 0 _ _ growth.grown.first at)) ∙ composite
+    top_only zero i at = ap (λ (z : NumberedInstance). is_primitive z.instance.component) (sym (same_made _ 0 _ _ growth.grown.first at)) ∙ composite
     top_only (suc n) i at = let w = growth.grown.maker n _ at in absurd (none-some w.0 w.2)
 
 -- each instance of the elaboration is there, and opened
 standing :
     (top : Instance) (g : Growth) → IsGrowth top g → g.opened ≡ length g.expansion.instances.items → (i : Instance) → Inst (tree_of g.expansion.directory.unit.now) top i
-    → (n : ℕ) × (x : Made) × (n < g.opened) × (slice_get (map made_of g.expansion.instances.items) n ≡ Some x) × (x.instance ≡ i)
+    → (n : ℕ) × (x : NumberedInstance) × (n < g.opened) × (slice_get (map made_of g.expansion.instances.items) n ≡ Some x) × (x.instance ≡ i)
 standing top g growth all i inst =
     let made = map made_of g.expansion.instances.items in
     let number : g.opened ≡ length made = all ∙ sym (length-map g.expansion.instances.items made_of) in
@@ -174,16 +173,16 @@ standing top g growth all i inst =
 
 is_opened :
     (top : Instance) (g : Growth) → IsGrowth top g → g.opened ≡ length g.expansion.instances.items → (i : Instance) → Inst (tree_of g.expansion.directory.unit.now) top i
-    → IsOpened (tree_of g.expansion.directory.unit.now) i
+    → IsWalkedClean (tree_of g.expansion.directory.unit.now) i
 is_opened top g growth all i inst =
     let w = standing top g growth all i inst in
-    subst (IsOpened (tree_of g.expansion.directory.unit.now)) w.4 (growth.grown.clear w.0 w.1 w.2 w.3)
+    subst (IsWalkedClean (tree_of g.expansion.directory.unit.now)) w.4 (growth.grown.clear w.0 w.1 w.2 w.3)
 
 -- what an instance makes at a path has a number
 made_at :
     (top : Instance) (g : Growth) → IsGrowth top g → g.opened ≡ length g.expansion.instances.items → (i : Instance) (path : Path)
     → Inst (tree_of g.expansion.directory.unit.now) top i → Contains (paths_in (tree_of g.expansion.directory.unit.now) i) path
-    → (m : ℕ) × (n : ℕ) × (x : Made) × (y : Made) × (slice_get (map made_of g.expansion.instances.items) m ≡ Some x) × (x.instance ≡ i)
+    → (m : ℕ) × (n : ℕ) × (x : NumberedInstance) × (y : NumberedInstance) × (slice_get (map made_of g.expansion.instances.items) m ≡ Some x) × (x.instance ≡ i)
     × (slice_get (map made_of g.expansion.instances.items) (suc n) ≡ Some y) × (y.maker ≡ Some m) × (y.instance.path ≡ path)
 made_at top g growth all i path inst has =
     let tree = tree_of g.expansion.directory.unit.now in
@@ -193,11 +192,11 @@ made_at top g growth all i path inst has =
     later b.0 w.0 w.1 from.0 w.3 w.4 b.1 from.2
   where
     later :
-        (n m : ℕ) (x : Made) (j : Instance) → slice_get (map made_of g.expansion.instances.items) m ≡ Some x → x.instance ≡ i
+        (n m : ℕ) (x : NumberedInstance) (j : Instance) → slice_get (map made_of g.expansion.instances.items) m ≡ Some x → x.instance ≡ i
         → slice_get (map made_of g.expansion.instances.items) n ≡ Some (made_by m j) → path ≡ j.path
-        → (m : ℕ) × (n : ℕ) × (x : Made) × (y : Made) × (slice_get (map made_of g.expansion.instances.items) m ≡ Some x) × (x.instance ≡ i)
+        → (m : ℕ) × (n : ℕ) × (x : NumberedInstance) × (y : NumberedInstance) × (slice_get (map made_of g.expansion.instances.items) m ≡ Some x) × (x.instance ≡ i)
         × (slice_get (map made_of g.expansion.instances.items) (suc n) ≡ Some y) × (y.maker ≡ Some m) × (y.instance.path ≡ path)
-    later zero m x j at is there same = absurd (none-some m (ap (λ (z : Made). z.maker) (same_made _ 0 _ _ growth.grown.first there)))
+    later zero m x j at is there same = absurd (none-some m (ap (λ (z : NumberedInstance). z.maker) (same_made _ 0 _ _ growth.grown.first there)))
     later (suc n) m x j at is there same = (m, n, x, made_by m j, at, is, there, refl, sym same)
 
 pub whole-clear :
@@ -212,8 +211,8 @@ whole-clear top g growth all =
           let w = made_at top g growth all j path inst' has' in
           let number = apart-mapped g.expansion growth.mapped (suc v.1) (suc w.1) v.3 w.3 (omega arith) (omega arith) v.6 w.6 (v.8 ∙ sym w.8) in
           let one = same_made made (suc w.1) v.3 w.3 (subst (λ n. slice_get made n ≡ Some v.3) number v.6) w.6 in
-          let maker : v.0 ≡ w.0 = same_Some v.0 w.0 (sym v.7 ∙ ap (λ (z : Made). z.maker) one ∙ w.7) in
-          sym v.5 ∙ ap (λ (z : Made). z.instance) (same_made made w.0 v.2 w.2 (subst (λ n. slice_get made n ≡ Some v.2) maker v.4) w.4) ∙ w.5;
+          let maker : v.0 ≡ w.0 = same_Some v.0 w.0 (sym v.7 ∙ ap (λ (z : NumberedInstance). z.maker) one ∙ w.7) in
+          sym v.5 ∙ ap (λ (z : NumberedInstance). z.instance) (same_made made w.0 v.2 w.2 (subst (λ n. slice_get made n ≡ Some v.2) maker v.4) w.4) ∙ w.5;
       shallow = λ i inst. (is_opened top g growth all i inst).shallow;
       few =
           total-within (tree_of g.expansion.directory.unit.now) top (map instance_in g.expansion.instances.items) g.room
@@ -226,7 +225,7 @@ renumbered g e = record { directory = g.expansion.directory; instances = g.expan
 
 pub whole-kept :
     (top : Instance) (g : Growth) → IsGrowth top g → top.depth ≡ 0 → component_named (tree_of g.expansion.directory.unit.now) top.component.name ≡ Some top.component
-    → is_primitive top.component ≡ false → g.opened ≡ length g.expansion.instances.items → (e : Expansion) → IsInPathOrder g.expansion e → IsKept (renumbered g e)
+    → is_primitive top.component ≡ false → g.opened ≡ length g.expansion.instances.items → (e : Expansion) → IsInPathOrder g.expansion e → IsNumbering (renumbered g e)
 whole-kept top g growth shallow named composite all e ordered =
     record {
       is_expanded = whole-expanded top g growth shallow named composite all;
@@ -247,7 +246,7 @@ whole-kept top g growth shallow named composite all e ordered =
   where
     found : (n : ℕ) (i : code.Instance) → slice_get g.expansion.instances.items n ≡ Some i → IsSome i.maker → number_at g.expansion i.path ≡ Some n
     found zero i at made =
-        let none : i.maker ≡ None = ap (λ (z : Made). z.maker) (sym (same_made _ 0 _ _ growth.grown.first (slice_get-map_at made_of g.expansion.instances.items 0 i at))) in
+        let none : i.maker ≡ None = ap (λ (z : NumberedInstance). z.maker) (sym (same_made _ 0 _ _ growth.grown.first (slice_get-map_at made_of g.expansion.instances.items 0 i at))) in
         absurd (not_none i.maker none made)
       where
         not_none : (o : Option ℕ) → o ≡ None → IsSome o → ⊥
@@ -459,10 +458,10 @@ module _ (top : Instance) (g new : Growth) (x y : code.Instance) (f : Found) (s 
   all_seen =
       ap (map instance_in) s.grown ∙ map-append instance_in (set items g.opened y) f.made.items
       ∙ ap (λ is. is ++ map instance_in f.made.items)
-      (map-set_same instance_in items g.opened y x (ap (λ (z : Made). z.instance) s.same ∙ ap instance_in (sym (get_or_from_slice_get items g.opened x x s.at))))
+      (map-set_same instance_in items g.opened y x (ap (λ (z : NumberedInstance). z.instance) s.same ∙ ap instance_in (sym (get_or_from_slice_get items g.opened x x s.at))))
       ∙ ap (λ is. map instance_in items ++ is) s.found.made
 
-  opened_next : IsOpened tree next
+  opened_next : IsWalkedClean tree next
   opened_next =
       record {
         no_fault = s.faultless;

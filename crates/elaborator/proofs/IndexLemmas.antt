@@ -2,24 +2,17 @@
 use Rattle.std.proofs.Common.{◌≡◌, ◌∙◌, ℕ, ℤ, Bool, true, false, ◌&&◌, cond, eqb, int_eq, List, [], ◌∷◌, ◌++◌, Option, Some, None, refl, ap, sym, subst, inl, inr, ◌⊎◌}
 use Rattle.std.specs.List.{slice_get}
 use Rattle.std.specs.Option.{option_eq}
-use Rattle.std.proofs.lemmas.Bool.{false≢true, eqb-true, eq-eqb}
+use Rattle.std.proofs.lemmas.Bool.{false≢true, eqb-true, eq-eqb, and_parts}
 use Rattle.std.proofs.lemmas.Bool.Decides.{Decides-int_eq}
 use Rattle.std.proofs.lemmas.Option.{same_Some, none-some}
 use Rattle.std.proofs.lemmas.List.Elements.{Contains-append_left, Contains-push, Contains-push_cases}
 use Rattle.darwin_parser.specs.Tree.{PortDecl}
 use Rattle.elaborator.specs.Instances.{Instance}
 use Rattle.elaborator.specs.Bindings.{Port, Pair}
-use Rattle.elaborator.specs.Expanded.{Expanded, Made, Numbered, IsExpanded}
+use Rattle.elaborator.specs.Numbering.{Expanded, NumberedInstance, Numbered, IsExpanded}
 use Rattle.elaborator.specs.Ports.{place_of, IsPort}
-use Rattle.elaborator.specs.Chains.{port_eq, target_of, Updated}
-use Rattle.elaborator.specs.Index.{IsIndex}
+use Rattle.elaborator.specs.PortIndex.{port_eq, chain_target, Updated, IsIndex}
 use Rattle.elaborator.specs.declared.chains.PortId.{PortId}
-
--- ---- equal numbers
-
-both_true : (a b : Bool) → (a && b) ≡ true → (a ≡ true) × (b ≡ true)
-both_true true b e = (refl, e)
-both_true false b e = absurd (false≢true e)
 
 same_index : (i j : Option ℤ) → option_eq int_eq i j ≡ true → i ≡ j
 same_index None None e = refl
@@ -38,8 +31,8 @@ made_of_parts a b instance port index =
 
 pub same_port : (a b : PortId) → port_eq a b ≡ true → a ≡ b
 same_port a b e =
-    let first = both_true (eqb a.instance b.instance) _ e in
-    let second = both_true (eqb a.port b.port) _ first.1 in
+    let first = and_parts (eqb a.instance b.instance) _ e in
+    let second = and_parts (eqb a.port b.port) _ first.1 in
     made_of_parts a b (eqb-true a.instance b.instance first.0) (eqb-true a.port b.port second.0) (same_index a.index b.index second.1)
 
 pub port_itself : (a : PortId) → port_eq a a ≡ true
@@ -48,7 +41,7 @@ port_itself a = rw (eq-eqb a.instance a.instance refl, eq-eqb a.port a.port refl
 -- ---- numbers and what they stand for
 
 pub same_numbered : (e : Expanded) (n : ℕ) (i j : Instance) → Numbered e n i → Numbered e n j → i ≡ j
-same_numbered e n i j a b = ap (λ (x : Made). x.instance) (same_Some _ _ (sym a.is_at ∙ b.is_at))
+same_numbered e n i j a b = ap (λ (x : NumberedInstance). x.instance) (same_Some _ _ (sym a.is_at ∙ b.is_at))
 
 -- a port of an instance
 port_in : Instance → PortDecl → Option ℤ → Port
@@ -75,35 +68,35 @@ port_injective e expanded k l x a b =
 
 -- what the index has of another port, or of the one that was bound, after a port is bound
 after_cases :
-    (old new : List (PortId × PortId)) (k t : PortId) → Updated old new k t → (x y : PortId) → target_of new x ≡ Some y
-    → ((k ≡ x) × (t ≡ y)) ⊎ (target_of old x ≡ Some y)
+    (old new : List (PortId × PortId)) (k t : PortId) → Updated old new k t → (x y : PortId) → chain_target new x ≡ Some y
+    → ((k ≡ x) × (t ≡ y)) ⊎ (chain_target old x ≡ Some y)
 after_cases old new k t updated x y is = by_test (port_eq k x) refl (sym (updated x) ∙ is)
   where
-    by_test : (b : Bool) → port_eq k x ≡ b → cond b (Some t) (target_of old x) ≡ Some y → ((k ≡ x) × (t ≡ y)) ⊎ (target_of old x ≡ Some y)
+    by_test : (b : Bool) → port_eq k x ≡ b → cond b (Some t) (chain_target old x) ≡ Some y → ((k ≡ x) × (t ≡ y)) ⊎ (chain_target old x ≡ Some y)
     by_test true same is = inl (same_port k x same, same_Some t y is)
     by_test false other is = inr is
 
 -- a port that was bound has its target after another is bound, or the same one
 still_bound :
-    (old new : List (PortId × PortId)) (k t : PortId) → Updated old new k t → (target_of old k ≡ None) ⊎ (target_of old k ≡ Some t)
-    → (x y : PortId) → target_of old x ≡ Some y → target_of new x ≡ Some y
+    (old new : List (PortId × PortId)) (k t : PortId) → Updated old new k t → (chain_target old k ≡ None) ⊎ (chain_target old k ≡ Some t)
+    → (x y : PortId) → chain_target old x ≡ Some y → chain_target new x ≡ Some y
 still_bound old new k t updated before x y is = updated x ∙ by_test (port_eq k x) refl
   where
     at_same : k ≡ x → Some t ≡ Some y
     at_same same =
         elim before [
-          | inl none ↦ absurd (none-some y (sym none ∙ ap (target_of old) same ∙ is))
-          | inr some ↦ sym some ∙ ap (target_of old) same ∙ is
+          | inl none ↦ absurd (none-some y (sym none ∙ ap (chain_target old) same ∙ is))
+          | inr some ↦ sym some ∙ ap (chain_target old) same ∙ is
         ]
 
-    by_test : (b : Bool) → port_eq k x ≡ b → cond b (Some t) (target_of old x) ≡ Some y
+    by_test : (b : Bool) → port_eq k x ≡ b → cond b (Some t) (chain_target old x) ≡ Some y
     by_test true same = at_same (same_port k x same)
     by_test false other = is
 
 -- a pair more
 pub IsIndex-push :
     (e : Expanded) (pairs : List Pair) (old new : List (PortId × PortId)) (k t : PortId) (p : Pair) → IsIndex e pairs old → Updated old new k t
-    → IsPort e k p.source → IsPort e t p.target → (target_of old k ≡ None) ⊎ (target_of old k ≡ Some t) → IsIndex e (pairs ++ p ∷ []) new
+    → IsPort e k p.source → IsPort e t p.target → (chain_target old k ≡ None) ⊎ (chain_target old k ≡ Some t) → IsIndex e (pairs ++ p ∷ []) new
 IsIndex-push e pairs old new k t p index updated source target before = record {
   sound = λ x y is.
       elim (after_cases old new k t updated x y is) [

@@ -9,17 +9,13 @@ use Rattle.darwin_walk.specs.Instance.{Binding}
 use Rattle.elaborator.specs.Instances.{Instance}
 use Rattle.elaborator.specs.Bindings.{Pair, pair_of, bindings_in, pairs_in}
 use Rattle.elaborator.specs.Paths.{end_bytes}
-use Rattle.elaborator.specs.Expanded.{Expanded, Numbered, IsExpanded}
-use Rattle.elaborator.specs.Index.{IsLawful, AreLawful, AreBefore, Clashes, BindingFault}
-use Rattle.elaborator.specs.Index.BindingFault.{bound_twice}
+use Rattle.elaborator.specs.Numbering.{Expanded, Numbered, IsExpanded}
+use Rattle.elaborator.specs.PortIndex.{IsLawful, AreLawful, AreBefore, Clashes, BindingFault}
+use Rattle.elaborator.specs.PortIndex.BindingFault.{bound_twice}
 use Rattle.elaborator.specs.declared.error.ElabError.{ElabError}
 use Rattle.elaborator.specs.declared.error.ElabError.TheVariants as error
-use Rattle.darwin_types.proofs.Lists.{Contains-map}
 use Rattle.elaborator.proofs.BoundLemmas.{one_instance}
-
-pub map-take_more : {A B : Type 0} (f : A → B) (xs : List A) (k : ℕ) (x : A) → k < length xs → x ≡ get_or xs k x → map f (take (k + 1) xs) ≡ map f (take k xs) ++ f x ∷ []
-map-take_more f xs k x within is =
-    ap (map f) (take_more xs k x within) ∙ map-append f (take k xs) (get_or xs k x ∷ []) ∙ ap (λ y. map f (take k xs) ++ f y ∷ []) (sym is)
+use Rattle.base.proofs.ContainsLaws.{Contains-map}
 
 -- the first elements are elements
 pub front : {A B : Type 0} (f : A → B) (xs : List A) (k : ℕ) → map f xs ≡ map f (take k xs) ++ map f (drop k xs)

@@ -4,8 +4,8 @@ pub mod BoundLemmas
 pub mod BuildLemmas
 pub mod CauseLemmas
 pub mod ChainLemmas
-pub mod ChildLemmas
-pub mod CountLemmas
+pub mod ChildLaws
+pub mod CountLaws
 pub mod ElaborationLemmas
 pub mod ExistenceLemmas
 pub mod ExpandLemmas
@@ -13,18 +13,17 @@ pub mod FollowLemmas
 pub mod GrowthLemmas
 pub mod IndexLemmas
 pub mod InstanceLemmas
-pub mod LawLemmas
+pub mod InstanceLaws
 pub mod LinkLawLemmas
 pub mod LinkLemmas
-pub mod Lists
 pub mod MakingLemmas
 pub mod MappedLemmas
 pub mod NamingLemmas
 pub mod NodeLemmas
 pub mod OpeningLemmas
 pub mod OrderLemmas
-pub mod PairLemmas
-pub mod Places
+pub mod PairLaws
+pub mod TwiceLaws
 pub mod PortLemmas
 pub mod RankLemmas
 mod Rows
@@ -32,6 +31,6 @@ pub mod SingleLemmas
 pub mod SoundLemmas
 pub mod SpreadLemmas
 pub mod TargetLemmas
-pub mod UniqueLemmas
+pub mod UniqueLaws
 pub mod VerdictLemmas
 pub mod WholeLemmas

@@ -20,17 +20,18 @@ use Rattle.darwin_parser.specs.declared.tree.PortDecl as code_port
 use Rattle.elaborator.specs.Instances.{Instance}
 use Rattle.elaborator.specs.Bindings.{Port}
 use Rattle.elaborator.specs.Graph.{node_of, port_at}
-use Rattle.elaborator.specs.Expanded.{Expanded, Numbered, IsExpanded}
+use Rattle.elaborator.specs.Numbering.{Expanded, Numbered, IsExpanded}
 use Rattle.elaborator.specs.Expansion.{seen, made_of}
 use Rattle.elaborator.specs.Ports.{place_of, IsPort}
 use Rattle.elaborator.specs.declared.instance.Instance as code_instance
 use Rattle.elaborator.specs.declared.instance.Expansion.{Expansion}
 use Rattle.elaborator.proofs.PortLemmas.{same_instance, numbered_within}
-use Rattle.elaborator.specs.Nodes.{AreNodes}
+use Rattle.elaborator.specs.NodeOrder.{AreNodes}
 use Rattle.elaborator.specs.Links.{IsProvisionNamed, Provides, IsProvided}
 use Rattle.elaborator.specs.declared.chains.PortId.{PortId}
 use Rattle.elaborator.specs.declared.nodes.Nodes.{Nodes}
 use Rattle.elaborator.proofs.IndexLemmas.{same_numbered}
+use Rattle.base.proofs.OptionLaws.{None-from_is_some}
 
 -- no kind has a second provision
 pub one_provision : (k : Kind) (n : ℕ) (p : Provision) → slice_get (row k).provides n ≡ Some p → n ≡ 0
@@ -168,10 +169,6 @@ provided_by_name e expanded n id i d a node (Some number) are at declared place 
       is_port = plain_port e id i d Provide is.provision.name at declared (subst (λ x. place_of x i.component.ports ≡ Some id.port) (sym is.is_named) place) provides no_index;
     }
 
-pub none_from : {A : Type 0} (o : Option A) → is_some o ≡ false → o ≡ None
-none_from None e = refl
-none_from (Some x) e = absurd (false≢true (sym e))
-
 -- what the code read of a port of a node: its declaration, and the node
 pub record ReadPort (e : Expanded) (n : Nodes) (id : PortId) (d : PortDecl) (a : ℕ) (node : Node) : Type 0 where
   pub instance : Instance
@@ -207,4 +204,4 @@ pub provided_of_read :
     (e : Expanded) → IsExpanded e → (n : Nodes) (id : PortId) (d : PortDecl) (a : ℕ) (node : Node) (r : Option ℕ) → AreNodes e n → ReadPort e n id d a node → d.side ≡ Provide
     → is_some id.index ≡ false → IsProvisionNamed node.kind d.name r → IsProvided e n.nodes.items id (option_map (λ p. record { node = a; provide = p }) r)
 provided_of_read e expanded n id d a node r are read side index named =
-    provided_by_name e expanded n id read.instance d a node r are read.numbered read.declared read.place side (none_from id.index index) read.placed read.stands named
+    provided_by_name e expanded n id read.instance d a node r are read.numbered read.declared read.place side (None-from_is_some id.index index) read.placed read.stands named

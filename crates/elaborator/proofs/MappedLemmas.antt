@@ -11,14 +11,13 @@ use Rattle.std.proofs.lemmas.Map.Entries.{place_from_lookup}
 use Rattle.std.proofs.lemmas.Slice.Eq.{bytes_eq-Decides}
 use Rattle.indexmap.specs.IndexMap.{insert_entry}
 use Rattle.indexmap.proofs.MapLemmas.{insert_entry-absent, absent_from_lookup}
-use Rattle.darwin_types.proofs.Lookups.{lookup-append}
 use Rattle.elaborator.specs.Paths.{Path}
 use Rattle.elaborator.specs.Expansion.{number_at}
-use Rattle.elaborator.specs.Grown.{IsMapped, IsExtended, IsInPathOrder, IsClash}
+use Rattle.elaborator.specs.ExpansionState.{IsMapped, IsExtended, IsInPathOrder, IsClash}
 use Rattle.elaborator.specs.declared.instance.Instance as code
 use Rattle.elaborator.specs.declared.instance.Expansion.{Expansion}
-use Rattle.elaborator.proofs.Places.{slice_get-below, slice_get-there}
-use Rattle.elaborator.proofs.Lists.{slice_get-front, slice_get-last, slice_get-push_cases, slice_get-set_cases}
+use Rattle.base.proofs.BytesLaws.{lookup-append}
+use Rattle.base.proofs.PlaceLaws.{slice_get-below, slice_get-front, slice_get-last, slice_get-push_cases, slice_get-set_cases, slice_get-there}
 
 abbrev at_path : Path → Vec ℕ → Bool
 at_path path p = bytes_eq path p.items
@@ -186,13 +185,3 @@ clash-more items mid xs rest x path is clash =
       one_path = clash.one_path;
       other_path = clash.other_path;
     }
-
--- ---- the old value of an insertion
-
-pub there_is : {A : Type 0} (o : Option A) → is_some o ≡ true → (x : A) × (o ≡ Some x)
-there_is None is = absurd (false≢true is)
-there_is (Some x) is = (x, refl)
-
-pub there_is_none : {A : Type 0} (o : Option A) → is_some o ≡ false → o ≡ None
-there_is_none None is = refl
-there_is_none (Some x) is = absurd (false≢true (sym is))

@@ -13,16 +13,18 @@ use Rattle.darwin_parser.specs.declared.tree.Component as code
 use Rattle.darwin_parser.specs.declared.tree.PortDecl as code_port
 use Rattle.darwin_parser.specs.Tree.{Name, Tree, Component, component_of, port_of}
 use Rattle.darwin_types.specs.Scope.{component_named, is_primitive}
-use Rattle.darwin_types.proofs.Lookups.{lookup-append}
 use Rattle.darwin_walk.specs.Value.{Env, parameters}
 use Rattle.elaborator.specs.Instances.{Instance, top_instance, children_in, child_path, instance_of, made_in}
 use Rattle.elaborator.specs.Naming.{place_in, IsAdded, Indexes, ArePortsIndexed}
 use Rattle.elaborator.specs.Paths.{Path}
 use Rattle.elaborator.specs.Ports.{place_of}
 use Rattle.elaborator.specs.declared.name_index.NameIndex.{NameIndex}
-use Rattle.darwin_types.proofs.Lists.{position-map}
-use Rattle.elaborator.proofs.Lists.{find-no_position, find-position, find-some, Contains-from_filter_map, made_of_two, slice_get-push_cases}
-use Rattle.elaborator.proofs.Places.{slice_get-there, slice_get-below}
+use Rattle.base.proofs.BytesLaws.{lookup-append}
+use Rattle.base.proofs.ContainsLaws.{Contains-from_filter_map}
+use Rattle.base.proofs.FindLaws.{find-at_position, find-no_position, find-some}
+use Rattle.base.proofs.MapLaws.{position-map}
+use Rattle.base.proofs.OptionLaws.{made_of_two}
+use Rattle.base.proofs.PlaceLaws.{slice_get-below, slice_get-push_cases, slice_get-there}
 
 -- a name that the index lacks goes last
 pub added-new :
@@ -121,7 +123,7 @@ pub component-at :
     (cs : List code.Component) (name : Name) (k : ℕ) (x : code.Component) → position (λ c. bytes_eq name (component_name c)) cs ≡ Some k
     → slice_get cs k ≡ Some x → component_named (map component_of cs) name ≡ Some (component_of x)
 component-at cs name k x is at =
-    find-position (λ c. bytes_eq name c.name) (map component_of cs) k (position-map (λ c. bytes_eq name c.name) component_of cs ∙ is)
+    find-at_position (λ c. bytes_eq name c.name) (map component_of cs) k (position-map (λ c. bytes_eq name c.name) component_of cs ∙ is)
     ∙ slice_get-map component_of cs k ∙ ap (option_map component_of) at
 
 -- a component that a name finds is found by its own

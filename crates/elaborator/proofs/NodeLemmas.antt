@@ -17,12 +17,12 @@ use Rattle.config_graph.specs.Graph.{PathsRise}
 use Rattle.darwin_types.specs.Scope.{is_primitive}
 use Rattle.elaborator.specs.Instances.{Instance}
 use Rattle.elaborator.specs.Graph.{node_of, natural}
-use Rattle.elaborator.specs.Expanded.{Expanded, Numbered, IsExpanded}
-use Rattle.elaborator.specs.Order.{IsInOrder}
-use Rattle.elaborator.specs.Nodes.{AreNodes, AreFirstNodes}
+use Rattle.elaborator.specs.Numbering.{Expanded, Numbered, IsExpanded}
+use Rattle.elaborator.specs.NodeOrder.{IsInOrder, AreNodes, AreFirstNodes}
 use Rattle.elaborator.specs.declared.nodes.Nodes.{Nodes}
-use Rattle.elaborator.proofs.Lists.{slice_get-front, slice_get-last, slice_get-push_cases, slice_get-set_same, slice_get-set_cases, slice_get-set_other, option_map_some}
 use Rattle.elaborator.proofs.IndexLemmas.{same_numbered}
+use Rattle.base.proofs.OptionLaws.{option_map_some}
+use Rattle.base.proofs.PlaceLaws.{slice_get-front, slice_get-last, slice_get-push_cases, slice_get-set_cases, slice_get-set_other, slice_get-set_same}
 
 -- what an instance that is a node is
 pub record IsNodeOf (i : Instance) (n : Node) : Type 0 where

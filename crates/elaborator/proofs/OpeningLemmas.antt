@@ -10,7 +10,7 @@ use Rattle.std.proofs.lemmas.List.Elements.{Contains-append_left, Contains-appen
 use Rattle.darwin_parser.specs.Tree.{Tree, Component, PortDecl, component_of}
 use Rattle.darwin_types.specs.Scope.{is_primitive}
 use Rattle.darwin_walk.specs.Reached.{count}
-use Rattle.darwin_walk.specs.Instance.{Child, faults, children, index_value, port_sizes}
+use Rattle.darwin_walk.specs.Instance.{Child, instance_faults, children, index_value, port_sizes}
 use Rattle.darwin_walk.specs.Value.{Env}
 use Rattle.darwin_walk.specs.declared.fault.Fault.{Fault}
 use Rattle.elaborator.specs.Instances.{Instance, is_expanded, children_in, instance_of, path_of, count_in}
@@ -21,8 +21,8 @@ use Rattle.darwin_walk.specs.Spine.{env_of}
 use Rattle.darwin_walk.specs.Walked.{IsWalked, child_of}
 use Rattle.darwin_walk.specs.declared.walked.Walked.{Walked}
 use Rattle.elaborator.proofs.MakingLemmas.{made_paths}
-use Rattle.elaborator.proofs.Places.{length-filter_map}
 use Rattle.elaborator.specs.declared.instance.Instance as code
+use Rattle.base.proofs.MapLaws.{length-filter_map}
 
 below : (n m : ℕ) → n < m → nat_lt n m ≡ true
 below n m lt = grind (arith, nat_tests)
@@ -30,14 +30,14 @@ below n m lt = grind (arith, nat_tests)
 pub expanded : (i : code.Instance) → i.is_primitive ≡ is_primitive (component_of i.component.now) → i.depth < 33 → i.is_primitive ≡ false → is_expanded (instance_in i) ≡ true
 expanded i noted shallow composite = rw (← noted, composite, below i.depth 33 shallow)
 
-pub faults-own : (tree : Tree) (i : Instance) (f : Fault) → is_expanded i ≡ true → Contains (faults i.component i.env) f → Contains (own_faults tree i) f
+pub faults-own : (tree : Tree) (i : Instance) (f : Fault) → is_expanded i ≡ true → Contains (instance_faults i.component i.env) f → Contains (own_faults tree i) f
 faults-own tree i f is has = rw is (Contains-append_left _ _ f has)
 
 pub kinds-own :
     (tree : Tree) (i : Instance) (cs : List Child) (f : Fault)
     → is_expanded i ≡ true → cs ≡ children i.component i.env → Contains (flat_map (kind_faults tree) cs) f → Contains (own_faults tree i) f
 kinds-own tree i cs f is all has =
-    rw is (Contains-append_right (faults i.component i.env) _ f (subst (λ xs. Contains (flat_map (kind_faults tree) xs) f) all has))
+    rw is (Contains-append_right (instance_faults i.component i.env) _ f (subst (λ xs. Contains (flat_map (kind_faults tree) xs) f) all has))
 
 pub count-own : (room : ℕ) (i : Instance) → is_expanded i ≡ true → room < count i.component i.env → room < count_in i
 count-own room i is many = rw is many
@@ -52,7 +52,7 @@ sizes_walked c env sizes is k z d at declared =
 -- what is found in an instance that is expanded
 pub found-opened :
     (tree : Tree) (x : code.Instance) (number room : ℕ) (w : Walked) (made : Vec code.Instance Global) → is_expanded (instance_in x) ≡ true
-    → faults (component_of x.component.now) (env_of x.env.items) ≡ [] → IsWalked (component_of x.component.now) (env_of x.env.items) room w
+    → instance_faults (component_of x.component.now) (env_of x.env.items) ≡ [] → IsWalked (component_of x.component.now) (env_of x.env.items) room w
     → flat_map (kind_faults tree) (map child_of w.children.items) ≡ [] → AreMade tree (instance_in x) number (map child_of w.children.items) made
     → (own_faults tree (instance_in x) ≡ []) × IsFound tree (instance_in x) number room (record { bindings = w.bindings; port_sizes = w.port_sizes; made = made; count = w.count })
 found-opened tree x number room w made is no_fault walked no_kind all =

@@ -21,14 +21,14 @@ use Rattle.std.proofs.lemmas.Map.Keys.{Less-from_sorted, IsDistinct-from_sorted,
 use Rattle.std.proofs.lemmas.Map.Text.{is_eq-slice_cmp}
 use Rattle.std.proofs.lemmas.Map.Entries.{hash_map_get_place, place_from_lookup}
 use Rattle.elaborator.specs.Instances.{Instance}
-use Rattle.elaborator.specs.Expanded.{Made, Numbered}
-use Rattle.elaborator.specs.Expansion.{seen, made_of, number_at, IsKept}
-use Rattle.elaborator.specs.Order.{IsInOrder}
+use Rattle.elaborator.specs.Numbering.{NumberedInstance, Numbered}
+use Rattle.elaborator.specs.Expansion.{seen, made_of, number_at, IsNumbering}
+use Rattle.elaborator.specs.NodeOrder.{IsInOrder}
 use Rattle.elaborator.specs.declared.instance.Instance as code_instance
 use Rattle.elaborator.specs.declared.instance.Expansion.{Expansion}
-use Rattle.elaborator.proofs.Lists.{option_map_some}
-use Rattle.elaborator.proofs.ChildLemmas.{numbered}
+use Rattle.elaborator.proofs.ChildLaws.{numbered}
 use Rattle.elaborator.proofs.PortLemmas.{same_instance}
+use Rattle.base.proofs.OptionLaws.{option_map_some}
 
 abbrev pub path_cmp : Vec ℕ → Vec ℕ → Ordering
 path_cmp p q = slice_cmp nat_cmp p.items q.items
@@ -83,7 +83,7 @@ stands_at e m within = at e.instances.items m within
     at (x ∷ xs) zero within = (x, refl)
     at (x ∷ xs) (suc m) within = at xs m (omega arith)
 
-entry : (e : Expansion) → IsKept e → (a m : ℕ) → slice_get (values e.numbers) a ≡ Some m → Entry e a m
+entry : (e : Expansion) → IsNumbering e → (a m : ℕ) → slice_get (values e.numbers) a ≡ Some m → Entry e a m
 entry e kept a m at =
     let distinct : IsDistinct same_path (keys e.numbers) = subst (λ same. IsDistinct same (keys e.numbers)) same_by_cmp (IsDistinct-from_sorted path_cmp (keys e.numbers) kept.in_order) in
     let from = option_map_some (λ (p : Vec ℕ × ℕ). p.1) (slice_get e.numbers.entries a) m (sym (slice_get-map (λ (p : Vec ℕ × ℕ). p.1) e.numbers.entries a) ∙ at) in
@@ -97,7 +97,7 @@ entry e kept a m at =
 path_at : (e : Expansion) (a m : ℕ) (i : Instance) (w : Entry e a m) → Numbered (seen e) m i → i.path ≡ w.key.items
 path_at e a m i w at = ap (λ (j : Instance). j.path) (same_instance e m w.instance i (numbered e m w.instance w.stands) at) ∙ w.path
 
-pub in_order : (e : Expansion) → IsKept e → IsInOrder (seen e) (values e.numbers)
+pub in_order : (e : Expansion) → IsNumbering e → IsInOrder (seen e) (values e.numbers)
 in_order e kept = record {
   rising = λ a b m n i j below at_a at_b at_i at_j.
       let v = entry e kept a m at_a in
@@ -112,7 +112,7 @@ in_order e kept = record {
       omega (arith, slice_get_within e.instances.items m w.instance w.stands, length-map e.instances.items made_of);
   all = λ k m i at.
       let from = option_map_some made_of (slice_get e.instances.items m) _ (sym (slice_get-map made_of e.instances.items m) ∙ at) in
-      let maker : from.0.maker ≡ Some k = ap (λ (y : Made). y.maker) from.2 in
+      let maker : from.0.maker ≡ Some k = ap (λ (y : NumberedInstance). y.maker) from.2 in
       let found = kept.found m from.0 from.1 (subst IsSome (sym maker) refl) in
       let place = place_from_lookup (λ p. bytes_eq from.0.path p.items) e.numbers.entries m found in
       (place.0, slice_get-map (λ (p : Vec ℕ × ℕ). p.1) e.numbers.entries place.0 ∙ ap (option_map (λ (p : Vec ℕ × ℕ). p.1)) place.2);
@@ -120,6 +120,6 @@ in_order e kept = record {
 }
 
 -- the values that a call gives
-pub ordered_values : {E : Type 0} (e : Expansion) → IsKept e → (r : Result (Vec ℕ) E) → IfOk r (λ all. all.items ≡ values e.numbers) → IfOk r (λ order. IsInOrder (seen e) order.items)
+pub ordered_values : {E : Type 0} (e : Expansion) → IsNumbering e → (r : Result (Vec ℕ) E) → IfOk r (λ all. all.items ≡ values e.numbers) → IfOk r (λ order. IsInOrder (seen e) order.items)
 ordered_values e kept (Ok all) is = subst (IsInOrder (seen e)) (sym is) (in_order e kept)
 ordered_values e kept (Err x) is = tt

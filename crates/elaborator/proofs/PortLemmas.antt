@@ -15,23 +15,23 @@ use Rattle.darwin_lexer.specs.declared.token.At.{At}
 use Rattle.darwin_walk.specs.Value.{Value, integer, out_of_range, zero_divisor, value}
 use Rattle.darwin_walk.specs.Instance.{End, index_fault, index_value}
 use Rattle.darwin_walk.specs.declared.fault.Fault.{Fault}
-use Rattle.darwin_walk.specs.Walked.{segment_of, end_of}
+use Rattle.darwin_walk.specs.Walked.{segment_of, walked_end}
 use Rattle.darwin_walk.specs.declared.walked.End as code_end
 use Rattle.elaborator.specs.Instances.{Instance}
 use Rattle.elaborator.specs.Bindings.{Named, instance_at, named}
-use Rattle.elaborator.specs.Expanded.{Expanded, Made, Numbered}
-use Rattle.elaborator.specs.Expansion.{seen, made_of, instance_in, AreSizes, IsKept}
-use Rattle.elaborator.specs.Ports.{place_of, Stands, Names, bad_index, sized_fault, NotesDifferIn}
+use Rattle.elaborator.specs.Numbering.{Expanded, NumberedInstance, Numbered}
+use Rattle.elaborator.specs.Expansion.{seen, made_of, instance_in, AreSizes, IsNumbering}
+use Rattle.elaborator.specs.Ports.{place_of, Stands, ResolvesTo, bad_index, sized_fault, NotesDifferIn}
 use Rattle.elaborator.specs.declared.instance.Instance as code_instance
 use Rattle.elaborator.specs.declared.instance.Expansion.{Expansion}
-use Rattle.darwin_types.proofs.Lists.{position-map}
-use Rattle.elaborator.proofs.Lists.{find-position, find-no_position}
+use Rattle.base.proofs.FindLaws.{find-at_position, find-no_position}
+use Rattle.base.proofs.MapLaws.{position-map}
 
 -- the instance of a number that is within
 pub instance_numbered : (e : Expanded) (n : ℕ) → n < length e.made → (i : Instance) × Numbered e n i
 instance_numbered e n within = let w = at e.made n within in (w.0, record { maker = w.1; is_at = w.2 })
   where
-    at : (xs : List Made) (n : ℕ) → n < length xs → (i : Instance) × (maker : Option ℕ) × (slice_get xs n ≡ Some (record { instance = i; maker = maker }))
+    at : (xs : List NumberedInstance) (n : ℕ) → n < length xs → (i : Instance) × (maker : Option ℕ) × (slice_get xs n ≡ Some (record { instance = i; maker = maker }))
     at [] n within = absurd (omega arith)
     at (x ∷ xs) zero within = (x.instance, x.maker, refl)
     at (x ∷ xs) (suc n) within = at xs n (omega arith)
@@ -45,7 +45,7 @@ pub named-port :
     (tree : Tree) (i j : Instance) (e : End) (k : ℕ) (d : PortDecl) → instance_at tree i e.inner ≡ Some j → place_of e.port j.component.ports ≡ Some k
     → slice_get j.component.ports k ≡ Some d → named tree i e ≡ Some (record { is_inner = is_some e.inner; instance = j; decl = d; index = e.index })
 named-port tree i j e k d at place stands =
-    rw (at, find-position (λ p. bytes_eq e.port p.name) j.component.ports k place ∙ stands) refl
+    rw (at, find-at_position (λ p. bytes_eq e.port p.name) j.component.ports k place ∙ stands) refl
 
 -- notes that stand at both ports differ where the code says so
 pub differ_tells :
@@ -66,7 +66,7 @@ numbered_within e n i at = slice_get_within e.made n _ at.is_at
 pub same_instance :
     (e : Expansion) (n : ℕ) (x : code_instance.Instance) (i : Instance) → slice_get (seen e).made n ≡ Some (made_of x) → Numbered (seen e) n i
     → i ≡ instance_in x
-same_instance e n x i is at = ap (λ (y : Made). y.instance) (same_Some _ _ (sym at.is_at ∙ is))
+same_instance e n x i is at = ap (λ (y : NumberedInstance). y.instance) (same_Some _ _ (sym at.is_at ∙ is))
 
 -- the place of a name that the code found
 pub place_found :
@@ -82,22 +82,22 @@ is_some-map f (Some x) = refl
 -- what the code found is what the end names
 pub named_found :
     (e : Expansion) (n m k : ℕ) (i j : Instance) (x : code_instance.Instance) (end : code_end.End) (d : Bor code_port.PortDecl) (inner : Bool)
-    → instance_at (seen e).tree i (end_of end).inner ≡ Some j → Stands (seen e) n (is_some (end_of end).inner) m j
+    → instance_at (seen e).tree i (walked_end end).inner ≡ Some j → Stands (seen e) n (is_some (walked_end end).inner) m j
     → slice_get (seen e).made m ≡ Some (made_of x) → place_of end.port.now (instance_in x).component.ports ≡ Some k
     → slice_get x.component.now.ports.items k ≡ Some d.now → inner ≡ is_some end.inner
-    → Names (seen e) n (named (seen e).tree i (end_of end)) (Some (record { is_inner = inner; id = record { instance = m; port = k; index = end.index }; decl = d }))
+    → ResolvesTo (seen e) n (named (seen e).tree i (walked_end end)) (Some (record { is_inner = inner; id = record { instance = m; port = k; index = end.index }; decl = d }))
 named_found e n m k i j x end d inner at stands is place stands_at is_inner =
     let ports = (instance_in x).component.ports in
-    let same = same_instance e m x j is (stands_numbered (seen e) n (is_some (end_of end).inner) m j stands) in
+    let same = same_instance e m x j is (stands_numbered (seen e) n (is_some (walked_end end).inner) m j stands) in
     let declared : slice_get ports k ≡ Some (port_of d.now) = slice_get-map port_of x.component.now.ports.items k ∙ ap (option_map port_of) stands_at in
-    let found = named-port (seen e).tree i (instance_in x) (end_of end) k (port_of d.now) (at ∙ ap Some same) place declared in
+    let found = named-port (seen e).tree i (instance_in x) (walked_end end) k (port_of d.now) (at ∙ ap Some same) place declared in
     let its = is_some-map segment_of end.inner ∙ sym is_inner in
     let passes = (position-Some (λ p. bytes_eq end.port.now p.name) ports k (port_of d.now) place).1 in
     let name : end.port.now ≡ d.now.name = (bytes_eq-Decides _ _).0 (ap (λ (p : PortDecl). bytes_eq end.port.now p.name) (sym (get_or_from_slice_get ports k (port_of d.now) (port_of d.now) declared)) ∙ passes) in (
       instance_in x,
       found ∙ ap (λ b. Some (record { is_inner = b; instance = instance_in x; decl = port_of d.now; index = end.index })) its,
       record {
-        stands = subst (λ b. Stands (seen e) n b m (instance_in x)) its (subst (Stands (seen e) n (is_some (end_of end).inner) m) same stands);
+        stands = subst (λ b. Stands (seen e) n b m (instance_in x)) its (subst (Stands (seen e) n (is_some (walked_end end).inner) m) same stands);
         declared = declared;
         first = subst (λ b. place_of b ports ≡ Some k) name place;
       },
@@ -105,7 +105,7 @@ named_found e n m k i j x end d inner at stands is place stands_at is_inner =
 
 -- the place of the port of a name, where an index tells it of the component's name
 pub place_told :
-    (e : Expansion) → IsKept e → (n : ℕ) (x : code_instance.Instance) (component bytes name : Name) (r : Option ℕ)
+    (e : Expansion) → IsNumbering e → (n : ℕ) (x : code_instance.Instance) (component bytes name : Name) (r : Option ℕ)
     → slice_get (seen e).made n ≡ Some (made_of x) → component ≡ x.component.now.name → bytes ≡ name
     → ((c : Component) → component_named (seen e).tree component ≡ Some c → r ≡ place_of bytes c.ports)
     → place_of name (instance_in x).component.ports ≡ r

@@ -8,10 +8,10 @@ use Rattle.darwin_parser.specs.Tree.{Tree}
 use Rattle.darwin_types.specs.Scope.{is_primitive}
 use Rattle.darwin_walk.specs.Instance.{Binding, bindings}
 use Rattle.elaborator.specs.Instances.{Instance}
-use Rattle.elaborator.specs.Bindings.{Port, Pair, port_of, pair_of, bindings_in, pairs_in}
-use Rattle.darwin_types.proofs.Lists.{Contains-nil, Contains-from_flat_map}
-use Rattle.elaborator.proofs.ChildLemmas.{depth-made}
+use Rattle.elaborator.specs.Bindings.{Port, Pair, named_port, pair_of, bindings_in, pairs_in}
+use Rattle.elaborator.proofs.ChildLaws.{depth-made}
 use Rattle.elaborator.proofs.BoundLemmas.{parts, Where, inner, outer, stands_where, Form, across, outward, inward, form}
+use Rattle.base.proofs.ContainsLaws.{Contains-from_flat_map, Contains-nil}
 
 -- how many steps a chain from a port takes at most: outward from a requirement, once across, and inward
 pub rank_at : Side → ℕ → ℕ
@@ -53,7 +53,7 @@ rank_falls tree i p there =
     let from = Contains-from_flat_map (pair_of tree i) (bindings_in i) p there in
     let w = parts tree i from.0 p from.2 in
     let falls = falls_by_form tree i (expanded_depth i from.0 from.1) _ _ _ _ w.source.instance w.target.instance (form w.source w.target w.leads) (stands_where tree i w.source_end w.source w.is_source) (stands_where tree i w.target_end w.target w.is_target) in
-    subst (λ z. rank p.target < rank z) (sym w.source_port) (subst (λ z. rank z < rank (port_of w.source)) (sym w.target_port) falls)
+    subst (λ z. rank p.target < rank z) (sym w.source_port) (subst (λ z. rank z < rank (named_port w.source)) (sym w.target_port) falls)
 
 -- the rank of a requirement of an instance that isn't too deep
 pub rank_of_requirement : (x : Port) → x.side ≡ Require → x.depth < 33 → rank x < 68

@@ -12,20 +12,20 @@ use Rattle.darwin_parser.specs.declared.tree.Side.{Side}
 use Rattle.darwin_parser.specs.declared.tree.Side.TheVariants.{Provide, Require}
 use Rattle.darwin_parser.specs.Tree.{Name, Expr, num, single, inst, bind, end, then, Component, Stmt, Stmts, PortDecl, PortRef, Tree}
 use Rattle.darwin_walk.specs.Instance.{End}
-use Rattle.elaborator.proofs.UniqueLemmas.{elab_by_list}
+use Rattle.elaborator.proofs.UniqueLaws.{elab_by_list}
 use Rattle.elaborator.specs.Paths.{Path}
 use Rattle.elaborator.specs.Instances.{Instance, Inst, made_in, levels, instances, total, top_instance}
 use Rattle.elaborator.specs.Instances.Inst.{at_top, below}
-use Rattle.elaborator.specs.Bindings.{Pair, Port, Leads, pairs_in}
+use Rattle.elaborator.specs.Bindings.{Pair, Port, BoundThrough, pairs_in}
 use Rattle.elaborator.specs.Bindings.Bound.{bound}
-use Rattle.elaborator.specs.Bindings.Leads.{at_once, through}
+use Rattle.elaborator.specs.Bindings.BoundThrough.{at_once, through}
 use Rattle.elaborator.specs.Graph.{IsLink, IsNode, node_of}
 use Rattle.elaborator.specs.Faults.{Faults}
 use Rattle.elaborator.specs.Faults.Faults.{bound_twice}
-use Rattle.elaborator.specs.Elaboration.{IsGraphOf}
+use Rattle.elaborator.specs.Elaboration.{ElaboratesTo}
 use Rattle.elaborator.specs.declared.error.ElabError.TheVariants as error
-use Rattle.darwin_types.proofs.Lists.{Contains-here, Contains-nil, Contains-one, Contains-cons_cases}
-use Rattle.elaborator.proofs.LawLemmas.{instances-listed}
+use Rattle.elaborator.proofs.InstanceLaws.{instances-listed}
+use Rattle.base.proofs.ContainsLaws.{Contains-cons_cases, Contains-here, Contains-nil, Contains-one}
 
 -- every place is this one
 here : At
@@ -201,7 +201,7 @@ no_link l is =
     none-some is.linked.required (subst (λ (n : Node). slice_get (row n.kind).requires_ l.require ≡ Some is.linked.required) node is.linked.requires_it)
 
 -- the graph is the one node, without a link
-one_graph : IsGraphOf one (codes "One") [] (record { nodes = sink_node ∷ []; links = [] })
+one_graph : ElaboratesTo one (codes "One") [] (record { nodes = sink_node ∷ []; links = [] })
 unfolding sink One
 one_graph =
     record {
@@ -286,7 +286,7 @@ is_sink =
     }
 
 -- two bindings lead from the source outward and across to the sink
-line_leads : Leads line line_top box_pair.source (twice_pair (codes "t")).target
+line_leads : BoundThrough line line_top box_pair.source (twice_pair (codes "t")).target
 line_leads =
     let out = box_pair in
     let across = twice_pair (codes "t") in

@@ -14,15 +14,15 @@ use Rattle.darwin_parser.specs.Tree.{Name, Tree}
 use Rattle.darwin_types.specs.Scope.{is_primitive}
 use Rattle.elaborator.specs.Paths.{Path}
 use Rattle.elaborator.specs.Instances.{Instance, made_in, paths_in, Inst, at_top, below}
-use Rattle.elaborator.specs.Bindings.{Port, Pair, pair_of, bindings_in, pairs_in, Bound, bound, Leads, at_once, through}
+use Rattle.elaborator.specs.Bindings.{Port, Pair, pair_of, bindings_in, pairs_in, Bound, bound, BoundThrough, at_once, through}
 use Rattle.elaborator.specs.Graph.{node_of, IsNode, port_at, Linked}
-use Rattle.darwin_types.proofs.Lists.{Contains-from_flat_map}
-use Rattle.elaborator.proofs.ChildLemmas.{depth-made}
+use Rattle.elaborator.proofs.ChildLaws.{depth-made}
 use Rattle.elaborator.proofs.BoundLemmas.{Form, across, outward, inward, Where, inner, outer, parts, stands_where, form}
 use Rattle.elaborator.proofs.RankLemmas.{expanded_composite}
 use Rattle.elaborator.proofs.NodeLemmas.{node_parts, node_path}
 use Rattle.elaborator.proofs.LinkLemmas.{one_provision, both_sides}
-use Rattle.elaborator.proofs.LawLemmas.{IsSingle, path_made, told-by_level, told-below}
+use Rattle.elaborator.proofs.InstanceLaws.{IsSingle, path_made, told-by_level, told-below}
+use Rattle.base.proofs.ContainsLaws.{Contains-from_flat_map}
 
 -- ---- what can't differ is the same
 
@@ -155,16 +155,16 @@ abbrev IsLast : Tree → Instance → Port → Type 0
 IsLast tree top x = (y : Port) → Bound tree top x y → ⊥
 
 -- the first binding of a list, and those after it
-first_step : (tree : Tree) (top : Instance) (x z : Port) → Leads tree top x z → Bound tree top x z ⊎ ((y : Port) × Bound tree top x y × Leads tree top y z)
+first_step : (tree : Tree) (top : Instance) (x z : Port) → BoundThrough tree top x z → Bound tree top x z ⊎ ((y : Port) × Bound tree top x y × BoundThrough tree top y z)
 first_step tree top _ _ (at_once x z b) = inl b
 first_step tree top _ _ (through x y z b rest) = inr (y, b, rest)
 
-not_last : (tree : Tree) (top : Instance) (x z : Port) → Leads tree top x z → IsLast tree top x → ⊥
+not_last : (tree : Tree) (top : Instance) (x z : Port) → BoundThrough tree top x z → IsLast tree top x → ⊥
 not_last tree top x z leads last = elim (first_step tree top x z leads) [ inl b ↦ last z b | inr w ↦ last w.0 w.1 ]
 
 -- lists of bindings from one port that can't be gone on with end at one port
 one_end :
-    (tree : Tree) (top : Instance) → IsBoundOnce tree top → (x y : Port) → Leads tree top x y → (z : Port) → Leads tree top x z → IsLast tree top y → IsLast tree top z → y ≡ z
+    (tree : Tree) (top : Instance) → IsBoundOnce tree top → (x y : Port) → BoundThrough tree top x y → (z : Port) → BoundThrough tree top x z → IsLast tree top y → IsLast tree top z → y ≡ z
 one_end tree top s _ _ (at_once x y a) z leads last last' =
     elim (first_step tree top x z leads) [
       | inl b ↦ one_target tree top s x y z a b
@@ -173,7 +173,7 @@ one_end tree top s _ _ (at_once x y a) z leads last last' =
 one_end tree top s _ _ (through x w y a rest) z leads last last' =
     elim (first_step tree top x z leads) [
       | inl b ↦ absurd (not_last tree top w y rest (subst (IsLast tree top) (sym (one_target tree top s x w z a b)) last'))
-      | inr v ↦ one_end tree top s w y rest z (subst (λ u. Leads tree top u z) (sym (one_target tree top s x w v.0 a v.1)) v.2) last last'
+      | inr v ↦ one_end tree top s w y rest z (subst (λ u. BoundThrough tree top u z) (sym (one_target tree top s x w v.0 a v.1)) v.2) last last'
     ]
 
 -- ---- nodes
@@ -215,6 +215,6 @@ linked_once tree top s a b c require provide other l m =
     let start : port_at m.from.instance Require m.required ≡ port_at l.from.instance Require l.required = ap (λ i. port_at i Require m.required) (sym from) ∙ ap (port_at l.from.instance Require) (sym name) in
     let y = port_at l.to.instance Provide l.provided.name in
     let z = port_at m.to.instance Provide m.provided.name in
-    let ends = one_end tree top s (port_at l.from.instance Require l.required) y l.leads z (subst (λ x. Leads tree top x z) start m.leads) (node_last tree top s b l.to l.provided.name) (node_last tree top s c m.to m.provided.name) in
+    let ends = one_end tree top s (port_at l.from.instance Require l.required) y l.leads z (subst (λ x. BoundThrough tree top x z) start m.leads) (node_last tree top s b l.to l.provided.name) (node_last tree top s c m.to m.provided.name) in
     let to = one_node tree top s b c l.to m.to (ap (λ (x : Port). x.path) ends) in
     (same_Some b c (sym l.to.is_node ∙ ap node_of to ∙ m.to.is_node), one_provision b.kind provide l.provided l.provides_it ∙ sym (one_provision c.kind other m.provided m.provides_it))

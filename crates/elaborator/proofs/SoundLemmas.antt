@@ -9,7 +9,7 @@ use Rattle.std.proofs.lemmas.List.Elements.{Contains-append_right, Contains-get_
 use Rattle.config_graph.specs.declared.kind.Kind.{Kind}
 use Rattle.config_graph.specs.declared.node.Node.{Node}
 use Rattle.config_graph.specs.Kinds.{kind_named, row}
-use Rattle.config_graph.specs.Graph.{Configuration}
+use Rattle.config_graph.specs.Graph.{Graph}
 use Rattle.config_graph.specs.Cycles.{NoCycle}
 use Rattle.config_graph.specs.Sound.{HasItsArgument, Sound}
 use Rattle.darwin_parser.specs.Tree.{Name, Tree, Component}
@@ -18,25 +18,26 @@ use Rattle.darwin_types.specs.Primitive.{params_of_kind, is_end, has_ports_of, i
 use Rattle.darwin_types.specs.Faults.{NoFault, Fault as types}
 use Rattle.darwin_types.specs.Faults.FaultIn.{arg_count, kind_ports}
 use Rattle.darwin_walk.specs.Value.{Env, parameters}
-use Rattle.darwin_walk.specs.Instance.{Child, children, faults}
+use Rattle.darwin_walk.specs.Instance.{Child, children, instance_faults}
 use Rattle.darwin_walk.specs.declared.fault.Fault as walk
 use Rattle.darwin_walk.specs.declared.fault.Fault.TheVariants as shown
 use Rattle.base.specs.Answers.{Answers}
 use Rattle.elaborator.specs.Instances.{Instance, top_instance, is_expanded, child_path, children_in, instance_of, made_in, Inst, at_top, below}
 use Rattle.elaborator.specs.Graph.{natural, node_of, IsElab}
 use Rattle.elaborator.specs.Faults.{is_kind_argument, kind_faults, own_faults}
-use Rattle.elaborator.specs.Expanded.{Expanded}
-use Rattle.elaborator.specs.Growth.{IsClear}
+use Rattle.elaborator.specs.Numbering.{Expanded}
+use Rattle.elaborator.specs.ExpansionFaults.{IsClear}
 use Rattle.elaborator.specs.Built.{BuildFault, IsBuilt}
 use Rattle.elaborator.specs.declared.error.ElabError.{ElabError}
 use Rattle.elaborator.specs.declared.error.ElabError.TheVariants as error
-use Rattle.darwin_types.proofs.Lists.{Contains-here, Contains-nil, Contains-flat_map}
-use Rattle.elaborator.proofs.UniqueLemmas.{links_listed}
-use Rattle.elaborator.proofs.Lists.{Contains-from_filter_map, find-some, made_of_found}
+use Rattle.elaborator.proofs.UniqueLaws.{links_listed}
 use Rattle.elaborator.proofs.NodeLemmas.{node_parts}
 use Rattle.elaborator.proofs.AllLinksLemmas.{begins_within, ends_within}
 use Rattle.elaborator.proofs.ArgumentLemmas.{made_by_entry, length-parameters}
 use Rattle.elaborator.proofs.ElaborationLemmas.{top_parts}
+use Rattle.base.proofs.ContainsLaws.{Contains-flat_map, Contains-from_filter_map, Contains-here, Contains-nil}
+use Rattle.base.proofs.FindLaws.{find-some}
+use Rattle.base.proofs.OptionLaws.{made_of_found}
 
 -- ---- the components of instances are declared
 
@@ -152,14 +153,14 @@ kind_arguments tree i j child m none primitive = by (list_all is_kind_argument m
         ∙ ap (λ b. cond (b && not (list_all is_kind_argument m.arguments)) (out ∷ []) []) primitive
         ∙ ap (λ b. cond (not b) (out ∷ []) []) unlike
 
-    own : own_faults tree i ≡ faults i.component i.env ++ flat_map (kind_faults tree) (children i.component i.env)
-    own = ap (λ b. cond b (faults i.component i.env ++ flat_map (kind_faults tree) (children i.component i.env)) []) m.expanded
+    own : own_faults tree i ≡ instance_faults i.component i.env ++ flat_map (kind_faults tree) (children i.component i.env)
+    own = ap (λ b. cond b (instance_faults i.component i.env ++ flat_map (kind_faults tree) (children i.component i.env)) []) m.expanded
 
     by : (b : Bool) → list_all is_kind_argument m.arguments ≡ b → list_all is_kind_argument m.arguments ≡ true
     by true is = is
     by false is =
         let there = Contains-flat_map (kind_faults tree) (children i.component i.env) child out m.there (subst (λ fs. Contains fs out) (sym (shows is)) (Contains-here out [])) in
-        absurd (Contains-nil out (subst (λ fs. Contains fs out) (sym own ∙ none) (Contains-append_right (faults i.component i.env) _ out there)))
+        absurd (Contains-nil out (subst (λ fs. Contains fs out) (sym own ∙ none) (Contains-append_right (instance_faults i.component i.env) _ out there)))
 
 -- the argument of an instance, by how many parameters there are
 argument_present : (env : Env) (wanted : Bool) → length env ≡ cond wanted 1 0 → is_some (option_map (λ v. natural v.value) (slice_get env 0)) ≡ wanted
@@ -191,7 +192,7 @@ has_its_argument tree name arguments top no_fault is_top clear _ n (below i j in
 -- ---- the graph
 
 pub sound_graph :
-    (tree : Tree) (name : Name) (arguments : List ℤ) (top : Instance) (g : Configuration) → NoFault tree → top_instance tree name arguments ≡ Some top
+    (tree : Tree) (name : Name) (arguments : List ℤ) (top : Instance) (g : Graph) → NoFault tree → top_instance tree name arguments ≡ Some top
     → IsClear tree top → IsElab tree top g → NoCycle g → Sound g
 sound_graph tree name arguments top g no_fault is_top clear is_elab no_cycle = record {
   paths_rise = is_elab.paths_rise;
@@ -206,7 +207,7 @@ sound_graph tree name arguments top g no_fault is_top clear is_elab no_cycle = r
 }
 
 pub answer-sound :
-    (e : Expanded) (tree : Tree) (name : Name) (arguments : List ℤ) (top : Instance) (r : Result Configuration ElabError) → e.tree ≡ tree → NoFault tree
+    (e : Expanded) (tree : Tree) (name : Name) (arguments : List ℤ) (top : Instance) (r : Result Graph ElabError) → e.tree ≡ tree → NoFault tree
     → top_instance tree name arguments ≡ Some top → IsClear tree top → Answers error.NoMemory (IsBuilt e top) (BuildFault e top) r → IfOk r Sound
 answer-sound e tree name arguments top (Ok g) same no_fault is_top clear built =
     sound_graph tree name arguments top g no_fault is_top clear (subst (λ t. IsElab t top g) same built.is_elab) built.no_cycle

@@ -9,12 +9,11 @@ use Rattle.std.proofs.lemmas.List.Elements.{Contains-append_left, Contains-appen
 use Rattle.darwin_parser.specs.Tree.{Tree}
 use Rattle.darwin_walk.specs.Instance.{Child, children}
 use Rattle.elaborator.specs.Instances.{Instance, instance_of, is_expanded, children_in, made_in, levels, instances, count_in, total}
-use Rattle.elaborator.specs.Grown.{IsSpread}
-use Rattle.darwin_types.proofs.Lists.{Contains-here, Contains-one, Contains-nil, Contains-from_flat_map}
-use Rattle.elaborator.proofs.Lists.{Contains-from_filter_map}
-use Rattle.elaborator.proofs.WholeLemmas.{Contains-at}
-use Rattle.elaborator.proofs.ChildLemmas.{depth-made}
-use Rattle.elaborator.proofs.Places.{slice_get-after, no_length}
+use Rattle.elaborator.specs.ExpansionState.{IsSpread}
+use Rattle.elaborator.proofs.ChildLaws.{depth-made}
+use Rattle.base.proofs.ContainsLaws.{Contains-at, Contains-from_filter_map, Contains-from_flat_map, Contains-here, Contains-nil, Contains-one}
+use Rattle.base.proofs.MapLaws.{no_length}
+use Rattle.base.proofs.PlaceLaws.{slice_get-after}
 
 -- ---- levels
 

@@ -17,38 +17,38 @@ use Rattle.darwin_parser.specs.Tree.{Name, PortDecl, port_of}
 use Rattle.darwin_parser.specs.declared.tree.PortDecl as code_port
 use Rattle.darwin_types.specs.Scope.{is_primitive}
 use Rattle.elaborator.specs.Instances.{Instance}
-use Rattle.elaborator.specs.Bindings.{Port, pair_of, pairs_in, bindings_in, Bound, bound, Leads, at_once, through}
+use Rattle.elaborator.specs.Bindings.{Port, pair_of, pairs_in, bindings_in, Bound, bound, BoundThrough, at_once, through}
 use Rattle.elaborator.specs.Graph.{node_of, port_at, IsLink}
-use Rattle.elaborator.specs.Expanded.{Expanded, Numbered, NumberedIn, IsExpanded}
+use Rattle.elaborator.specs.Numbering.{Expanded, Numbered, NumberedIn, IsExpanded}
 use Rattle.elaborator.specs.Expansion.{seen, made_of, instance_in}
-use Rattle.elaborator.specs.Chains.{target_of, end_of}
+use Rattle.elaborator.specs.PortIndex.{chain_target, chain_end, IsIndex, all_pairs}
 use Rattle.elaborator.specs.Ports.{place_of, IsPort}
-use Rattle.elaborator.specs.Index.{IsIndex, all_pairs}
-use Rattle.elaborator.specs.Nodes.{AreNodes}
+use Rattle.elaborator.specs.NodeOrder.{AreNodes}
 use Rattle.elaborator.specs.Links.{Provides, IsProvided, link_to, IsTargeted}
 use Rattle.elaborator.specs.declared.chains.PortId.{PortId}
 use Rattle.elaborator.specs.declared.instance.Instance as code_instance
 use Rattle.elaborator.specs.declared.instance.Expansion.{Expansion}
 use Rattle.elaborator.specs.declared.nodes.Nodes.{Nodes}
-use Rattle.darwin_types.proofs.Lists.{Contains-from_flat_map, Contains-flat_map}
 use Rattle.elaborator.proofs.BoundLemmas.{Owner, within_it, its_own, owner}
 use Rattle.elaborator.proofs.RankLemmas.{rank_of_requirement, expanded_composite}
 use Rattle.elaborator.proofs.IndexLemmas.{same_numbered, port_functional}
-use Rattle.elaborator.proofs.WholeLemmas.{Contains-at, at_some_place, instances_of, instance_stands, numbered_at}
+use Rattle.elaborator.proofs.WholeLemmas.{instances_of, instance_stands, numbered_at}
 use Rattle.elaborator.proofs.FollowLemmas.{Indexed, end_reached, end_found}
 use Rattle.elaborator.proofs.NodeLemmas.{node_parts, node_path}
 use Rattle.elaborator.proofs.LinkLemmas.{both_sides, one_provision, Plain, plain, plain_port, value_read}
 use Rattle.elaborator.proofs.PortLemmas.{same_instance}
+use Rattle.base.proofs.ContainsLaws.{Contains-at, Contains-flat_map, Contains-from_flat_map, at_some_place}
+use Rattle.config_graph.proofs.PathLaws.{one_place}
 
 -- ---- the ports of a chain
 
 -- the end of a chain is a port
-pub end_port : (e : Expanded) (targets : List (PortId × PortId)) → IsIndex e (all_pairs e) targets → (n : ℕ) (k : PortId) (x : Port) → IsPort e k x → (y : Port) × IsPort e (end_of n targets k) y
-unfolding end_of
+pub end_port : (e : Expanded) (targets : List (PortId × PortId)) → IsIndex e (all_pairs e) targets → (n : ℕ) (k : PortId) (x : Port) → IsPort e k x → (y : Port) × IsPort e (chain_end n targets k) y
+unfolding chain_end
 end_port e targets index zero k x port = (x, port)
-end_port e targets index (suc n) k x port = by_target (λ t y at. end_port e targets index n t y at) (target_of targets k) refl
+end_port e targets index (suc n) k x port = by_target (λ t y at. end_port e targets index n t y at) (chain_target targets k) refl
   where
-    by_target : ((t : PortId) (y : Port) → IsPort e t y → (z : Port) × IsPort e (end_of n targets t) z) → (o : Option PortId) → target_of targets k ≡ o → (z : Port) × IsPort e (option_map_or (end_of n targets) o k) z
+    by_target : ((t : PortId) (y : Port) → IsPort e t y → (z : Port) × IsPort e (chain_end n targets t) z) → (o : Option PortId) → chain_target targets k ≡ o → (z : Port) × IsPort e (option_map_or (chain_end n targets) o k) z
     by_target rest None is = (x, port)
     by_target rest (Some t) is = let w = index.sound k t is in rest t w.0.target w.3
 
@@ -65,11 +65,11 @@ ends e top targets indexed _ _ (bound i p inst there) =
     let w = indexed.index.complete p (Contains-flat_map (pairs_in e.tree) (instances_of e) i p (Contains-at (instances_of e) at.0 i (instance_stands e at.0 i at.1)) there) in
     record { source = w.0; target = w.1; is_source = w.2; is_target = w.3 }
 
-source_port : (e : Expanded) (top : Instance) (targets : List (PortId × PortId)) → Indexed e top targets → (x y : Port) → Leads e.tree top x y → (k : PortId) × IsPort e k x
+source_port : (e : Expanded) (top : Instance) (targets : List (PortId × PortId)) → Indexed e top targets → (x y : Port) → BoundThrough e.tree top x y → (k : PortId) × IsPort e k x
 source_port e top targets indexed _ _ (at_once x y b) = let w = ends e top targets indexed x y b in (w.source, w.is_source)
 source_port e top targets indexed _ _ (through x y z b rest) = let w = ends e top targets indexed x y b in (w.source, w.is_source)
 
-target_port : (e : Expanded) (top : Instance) (targets : List (PortId × PortId)) → Indexed e top targets → (x y : Port) → Leads e.tree top x y → (k : PortId) × IsPort e k y
+target_port : (e : Expanded) (top : Instance) (targets : List (PortId × PortId)) → Indexed e top targets → (x y : Port) → BoundThrough e.tree top x y → (k : PortId) × IsPort e k y
 target_port e top targets indexed _ _ (at_once x y b) = let w = ends e top targets indexed x y b in (w.target, w.is_target)
 target_port e top targets indexed _ _ (through x y z b rest) = target_port e top targets indexed y z rest
 
@@ -94,8 +94,8 @@ one_node e expanded k l i j n at at' is is' =
 -- a provision of a node is no source
 node_no_source :
     (e : Expanded) (top : Instance) (targets : List (PortId × PortId)) → Indexed e top targets → (id : PortId) (k : ℕ) (i : Instance) (n : Node) (name : Name) → Numbered e k i
-    → node_of i ≡ Some n → IsPort e id (port_at i Provide name) → target_of targets id ≡ None
-node_no_source e top targets indexed id k i n name at is port = by_target (target_of targets id) refl
+    → node_of i ≡ Some n → IsPort e id (port_at i Provide name) → chain_target targets id ≡ None
+node_no_source e top targets indexed id k i n name at is port = by_target (chain_target targets id) refl
   where
     refuted : (m : ℕ) (j : Instance) (x : Port) → is_primitive j.component ≡ false → Numbered e m j → x ≡ port_at i Provide name → Owner e m x → ⊥
     refuted m j x composite at_j same (within_it l h at_h side path depth) = both_sides (sym side ∙ ap (λ (y : Port). y.side) same)
@@ -104,7 +104,7 @@ node_no_source e top targets indexed id k i n name at is port = by_target (targe
         let one = same_numbered e k j i (subst (λ q. Numbered e q j) number at_j) at in
         false≢true (sym composite ∙ ap (λ (q : Instance). is_primitive q.component) one ∙ (node_parts i n is).primitive)
 
-    by_target : (o : Option PortId) → target_of targets id ≡ o → target_of targets id ≡ None
+    by_target : (o : Option PortId) → chain_target targets id ≡ o → chain_target targets id ≡ None
     by_target None is_none = is_none
     by_target (Some t) is_some =
         let w = indexed.index.sound id t is_some in
@@ -113,25 +113,6 @@ node_no_source e top targets indexed id k i n name at is port = by_target (targe
         let at_j = numbered_at e place.0 from.0 place.1 in
         let b = Contains-from_flat_map (pair_of e.tree from.0) (bindings_in from.0) w.0 from.2 in
         absurd (refuted place.0 from.0 w.0.source (expanded_composite from.0 b.0 b.1) at_j (port_functional e id w.0.source (port_at i Provide name) w.2 port) (owner e indexed.expanded place.0 from.0 w.0 at_j from.2))
-
-not_below_itself : (o : Ordering) → o ≡ ordering_reverse o → o ≡ Less → ⊥
-not_below_itself Less same is = cc
-not_below_itself Equal same is = cc
-not_below_itself Greater same is = cc
-
--- nodes differ
-nodes_differ : (nodes : List Node) → PathsRise nodes → (a b : ℕ) (n : Node) → a < b → slice_get nodes a ≡ Some n → slice_get nodes b ≡ Some n → ⊥
-nodes_differ nodes rise a b n below at_a at_b =
-    let rises = rise a b n below (slice_get_within nodes b n at_b) in
-    let itself : slice_cmp nat_cmp n.path n.path ≡ Less = subst (λ (x : Node). slice_cmp nat_cmp x.path n.path ≡ Less) (get_or_from_slice_get nodes a n n at_a) (subst (λ (x : Node). slice_cmp nat_cmp (get_or nodes a n).path x.path ≡ Less) (get_or_from_slice_get nodes b n n at_b) rises) in
-    not_below_itself (slice_cmp nat_cmp n.path n.path) (nat_list_cmp_total.antisymm n.path n.path) itself
-
-pub one_place : (nodes : List Node) → PathsRise nodes → (a b : ℕ) (n : Node) → slice_get nodes a ≡ Some n → slice_get nodes b ≡ Some n → a ≡ b
-one_place nodes rise a b n at_a at_b =
-    elim (cases_lt a b) [
-      | inl below ↦ absurd (nodes_differ nodes rise a b n below at_a at_b)
-      | inr above ↦ elim (cases_lt b a) [ inl below ↦ absurd (nodes_differ nodes rise b a n below at_b at_a) | inr same ↦ omega (arith, above, same) ]
-    ]
 
 -- a port is one provision at most
 one_provided : (e : Expanded) (n : Nodes) → AreNodes e n → (id : PortId) (t u : Target) → Provides e n.nodes.items id t → Provides e n.nodes.items id u → t ≡ u
@@ -159,13 +140,13 @@ pub record Requirement (e : Expanded) (n : Nodes) (a require : ℕ) (start : Por
 -- a provision at the end of the chain is linked
 provided_linked :
     (e : Expanded) (top : Instance) (targets : List (PortId × PortId)) → Indexed e top targets → (n : Nodes) (a require : ℕ) (start : PortId) (r : Requirement e n a require start)
-    → (t : Target) → Provides e n.nodes.items (end_of 68 targets start) t → IsLink e.tree top n.nodes.items (link_to a require t)
+    → (t : Target) → Provides e n.nodes.items (chain_end 68 targets start) t → IsLink e.tree top n.nodes.items (link_to a require t)
 provided_linked e top targets indexed n a require start r t p =
     let end = end_reached e top targets indexed 68 start (port_at r.instance Require r.name) r.is_port in
-    let same = port_functional e (end_of 68 targets start) end.port (port_at p.instance Provide p.provision.name) end.is_port p.is_port in
-    let leads : Leads e.tree top (port_at r.instance Require r.name) (port_at p.instance Provide p.provision.name) = elim end.leads [
+    let same = port_functional e (chain_end 68 targets start) end.port (port_at p.instance Provide p.provision.name) end.is_port p.is_port in
+    let leads : BoundThrough e.tree top (port_at r.instance Require r.name) (port_at p.instance Provide p.provision.name) = elim end.leads [
       | inl itself ↦ absurd (both_sides (ap (λ (x : Port). x.side) (sym itself ∙ same)))
-      | inr way ↦ subst (Leads e.tree top (port_at r.instance Require r.name)) same way
+      | inr way ↦ subst (BoundThrough e.tree top (port_at r.instance Require r.name)) same way
     ] in
     record {
       from = r.node;
@@ -174,7 +155,7 @@ provided_linked e top targets indexed n a require start r t p =
       to_there = p.stands;
       linked = record {
         from = record { instance = r.instance; is_instance = indexed.is_of.sound r.number r.instance r.numbered; is_node = r.is_node };
-        to = record { instance = p.instance; is_instance = indexed.is_of.sound (end_of 68 targets start).instance p.instance p.numbered; is_node = p.is_node };
+        to = record { instance = p.instance; is_instance = indexed.is_of.sound (chain_end 68 targets start).instance p.instance p.numbered; is_node = p.is_node };
         required = r.name;
         provided = p.provision;
         requires_it = r.required;
@@ -186,7 +167,7 @@ provided_linked e top targets indexed n a require start r t p =
 -- what a requirement is linked to is at the end of its chain
 linked_provided :
     (e : Expanded) (top : Instance) (targets : List (PortId × PortId)) → Indexed e top targets → (n : Nodes) (a require : ℕ) (start : PortId) (r : Requirement e n a require start)
-    → (t : Target) → IsLink e.tree top n.nodes.items (link_to a require t) → Provides e n.nodes.items (end_of 68 targets start) t
+    → (t : Target) → IsLink e.tree top n.nodes.items (link_to a require t) → Provides e n.nodes.items (chain_end 68 targets start) t
 linked_provided e top targets indexed n a require start r t l =
     let k = l.linked in
     let from_node : l.from ≡ r.node = same_Some l.from r.node (sym l.from_there ∙ r.stands) in
@@ -196,7 +177,7 @@ linked_provided e top targets indexed n a require start r t l =
     let source : port_at k.from.instance Require k.required ≡ port_at r.instance Require r.name = ap (λ i. port_at i Require k.required) from ∙ ap (port_at r.instance Require) name in
     let to_at = indexed.is_of.complete k.to.instance k.to.is_instance in
     let target = port_at k.to.instance Provide k.provided.name in
-    let leads : Leads e.tree top (port_at r.instance Require r.name) target = subst (λ x. Leads e.tree top x target) source k.leads in
+    let leads : BoundThrough e.tree top (port_at r.instance Require r.name) target = subst (λ x. BoundThrough e.tree top x target) source k.leads in
     let id = target_port e top targets indexed (port_at r.instance Require r.name) target leads in
     let last = node_no_source e top targets indexed id.0 to_at.0 k.to.instance l.to k.provided.name to_at.1 k.to.is_node id.1 in
     let few = rank_of_requirement (port_at r.instance Require r.name) refl (indexed.expanded.shallow r.number r.instance r.numbered) in
@@ -216,11 +197,11 @@ linked_provided e top targets indexed n a require start r t l =
 -- the answer at the end of the chain is the answer for the requirement
 pub targeted :
     (e : Expanded) (top : Instance) (targets : List (PortId × PortId)) → Indexed e top targets → (n : Nodes) → AreNodes e n → (a require : ℕ) (start : PortId)
-    → Requirement e n a require start → (r : Option Target) → IsProvided e n.nodes.items (end_of 68 targets start) r → IsTargeted e.tree top n.nodes.items a require r
+    → Requirement e n a require start → (r : Option Target) → IsProvided e n.nodes.items (chain_end 68 targets start) r → IsTargeted e.tree top n.nodes.items a require r
 targeted e top targets indexed n are a require start req None none = λ t l. none t (linked_provided e top targets indexed n a require start req t l)
 targeted e top targets indexed n are a require start req (Some t) p = record {
   is_link = provided_linked e top targets indexed n a require start req t p;
-  only = λ u l. one_provided e n are (end_of 68 targets start) u t (linked_provided e top targets indexed n a require start req u l) p;
+  only = λ u l. one_provided e n are (chain_end 68 targets start) u t (linked_provided e top targets indexed n a require start req u l) p;
 }
 
 -- a requirement that is no port of the instance is linked to nothing

@@ -6,9 +6,9 @@ use Rattle.std.proofs.lemmas.Bool.{cases_Bool, cases_lt, false≢true}
 use Rattle.std.proofs.lemmas.Bool.Decides.{Decides-int_eq}
 use Rattle.std.proofs.lemmas.Option.{none-some, same_Some, slice_get_cases}
 use Rattle.std.proofs.lemmas.List.Elements.{Contains-get_or}
-use Rattle.config_graph.specs.Graph.{Configuration, IsWithin}
+use Rattle.config_graph.specs.Graph.{Graph, IsLinkWithin}
 use Rattle.config_graph.specs.Sound.{Sound}
-use Rattle.config_graph.proofs.SearchLemmas.{first_or_none}
+use Rattle.config_graph.proofs.SearchLaws.{first_or_none}
 use Rattle.darwin_parser.specs.Tree.{Name, Tree, Component}
 use Rattle.darwin_types.specs.Scope.{component_named, is_primitive}
 use Rattle.darwin_types.specs.Faults.{NoFault}
@@ -16,22 +16,20 @@ use Rattle.darwin_walk.specs.Value.{Variable}
 use Rattle.darwin_walk.specs.Instance.{Binding}
 use Rattle.darwin_walk.specs.declared.fault.Fault as walk
 use Rattle.darwin_walk.specs.declared.fault.Fault.TheVariants as shown
-use Rattle.darwin_types.proofs.Lists.{Contains-here, Contains-there, Contains-nil, Contains-cons_cases}
 use Rattle.elaborator.specs.Paths.{Path, end_bytes}
 use Rattle.elaborator.specs.Instances.{Instance, top_instance, instances, Inst, at_top, below, total, paths_in}
 use Rattle.elaborator.specs.Bindings.{Named, named, Pair, pair_of, bindings_in, pairs_in}
 use Rattle.elaborator.specs.Graph.{IsElab}
 use Rattle.elaborator.specs.Faults.{faults_in, CountsMore, Faults, Faults as fault, NotesDiffer, differ, Twice}
-use Rattle.elaborator.specs.Elaboration.{HasNoFault, IsGraphOf}
+use Rattle.elaborator.specs.Elaboration.{HasNoFault, ElaboratesTo}
 use Rattle.elaborator.specs.declared.error.ElabError.{ElabError}
 use Rattle.elaborator.specs.declared.error.ElabError.TheVariants as error
 use Rattle.elaborator.proofs.AllLinksLemmas.{begins_within, ends_within}
 use Rattle.elaborator.proofs.ElaborationLemmas.{top_parts}
-use Rattle.elaborator.proofs.CountLemmas.{counted-within, counted-all}
-use Rattle.elaborator.proofs.LawLemmas.{instances-listed, top_depth, twice_front}
-use Rattle.elaborator.proofs.Lists.{find-some}
+use Rattle.elaborator.proofs.CountLaws.{counted-within, counted-all}
+use Rattle.elaborator.proofs.InstanceLaws.{instances-listed, top_depth, twice_front}
 use Rattle.elaborator.proofs.NamingLemmas.{made_named}
-use Rattle.elaborator.proofs.Places.{twice_at, twice_there, twice_places}
+use Rattle.elaborator.proofs.TwiceLaws.{twice_at, twice_there, twice_places}
 use Rattle.elaborator.proofs.SingleLemmas.{IsBoundOnce}
 use Rattle.std.specs.Option.{option_and_then}
 use Rattle.std.proofs.lemmas.Bool.{eq-eqb}
@@ -40,16 +38,17 @@ use Rattle.config_graph.specs.Cycles.{NoCycle}
 use Rattle.elaborator.proofs.ElaborationLemmas.{IsTopOf}
 use Rattle.elaborator.proofs.BuildLemmas.{on_cycle_within}
 use Rattle.elaborator.specs.Faults.{own_faults}
-use Rattle.elaborator.specs.Growth.{IsClear}
-use Rattle.elaborator.proofs.ChildLemmas.{depth-made}
+use Rattle.elaborator.specs.ExpansionFaults.{IsClear}
+use Rattle.elaborator.proofs.ChildLaws.{depth-made}
 use Rattle.elaborator.proofs.SpreadLemmas.{shallow-maker}
 use Rattle.elaborator.proofs.SoundLemmas.{sound_graph}
 use Rattle.elaborator.proofs.SingleLemmas.{one_maker_of}
 use Rattle.elaborator.proofs.ElaborationLemmas.{is_own}
 use Rattle.elaborator.proofs.ExistenceLemmas.{one_bytes, one_number, one_port, elab_there}
-use Rattle.elaborator.proofs.UniqueLemmas.{links_listed, one_graph}
-use Rattle.elaborator.proofs.WholeLemmas.{Contains-at}
+use Rattle.elaborator.proofs.UniqueLaws.{links_listed, one_graph}
 use Rattle.std.proofs.lemmas.Slice.Eq.{bytes_eq-Decides}
+use Rattle.base.proofs.ContainsLaws.{Contains-at, Contains-cons_cases, Contains-here, Contains-nil, Contains-there}
+use Rattle.base.proofs.FindLaws.{find-some}
 
 -- some element of a list gives this, or all have that
 all_or : {A : Type 0} (F : Type 0) (P : A → Type 0) (xs : List A) → ((x : A) → Contains xs x → F ⊎ P x) → F ⊎ ((x : A) → Contains xs x → P x)
@@ -162,7 +161,7 @@ module _ (tree : Tree) (name : Name) (arguments : List ℤ) where
   Some_fault = (f : ElabError) × Faults tree name arguments f
 
   abbrev Graph_there : Type 0
-  Graph_there = (g : Configuration) × HasNoFault tree name arguments × IsGraphOf tree name arguments g × Sound g
+  Graph_there = (g : Graph) × HasNoFault tree name arguments × ElaboratesTo tree name arguments g × Sound g
 
   module _ (top : Instance) (is_top : top_instance tree name arguments ≡ Some top) where
     depth : top.depth ≡ 0
@@ -285,10 +284,10 @@ module _ (tree : Tree) (name : Name) (arguments : List ℤ) where
         once = λ i p q there h h' same differs. (all i (listed i there)).bound p h q h' same differs;
       }
 
-      elab : (g : Configuration) × IsElab tree top g
+      elab : (g : Graph) × IsElab tree top g
       elab = elab_there tree top bound_once
 
-      within : (g : Configuration) → IsElab tree top g → (i : ℕ) (d : _) → i < length g.links → IsWithin g.nodes (get_or g.links i d)
+      within : (g : Graph) → IsElab tree top g → (i : ℕ) (d : _) → i < length g.links → IsLinkWithin g.nodes (get_or g.links i d)
       within g is i d low =
           let l = (links_listed tree top g is (get_or g.links i d)).0 (Contains-get_or g.links i d low) in
           record { begins = begins_within tree top g.nodes (get_or g.links i d) l; ends = ends_within tree top g.nodes (get_or g.links i d) l }
@@ -418,5 +417,5 @@ module _ (tree : Tree) (name : Name) (arguments : List ℤ) where
 
 pub a_fault_or_a_graph :
     (tree : Tree) (name : Name) (arguments : List ℤ) → NoFault tree
-    → ((f : ElabError) × Faults tree name arguments f) ⊎ ((g : Configuration) × HasNoFault tree name arguments × IsGraphOf tree name arguments g × Sound g)
+    → ((f : ElabError) × Faults tree name arguments f) ⊎ ((g : Graph) × HasNoFault tree name arguments × ElaboratesTo tree name arguments g × Sound g)
 a_fault_or_a_graph tree name arguments no_fault = fault_or_graph tree name arguments no_fault

@@ -7,36 +7,29 @@ use Rattle.std.proofs.lemmas.Option.{slice_get-map, slice_get-get_or, slice_get_
 use Rattle.std.proofs.lemmas.Grind.{flat_map-append}
 use Rattle.elaborator.specs.Instances.{Instance}
 use Rattle.elaborator.specs.Bindings.{Pair, bindings_in, pairs_in}
-use Rattle.elaborator.specs.Expanded.{Expanded, Made, Numbered, IsExpanded}
-use Rattle.elaborator.specs.Chains.{target_of}
+use Rattle.elaborator.specs.Numbering.{Expanded, NumberedInstance, Numbered, IsExpanded}
+use Rattle.elaborator.specs.PortIndex.{chain_target, FaultOf, IsLawful, AreLawful, AreBefore, IsIndex, IsIndexed, BindingFault, all_pairs}
 use Rattle.elaborator.specs.Ports.{IsPort}
-use Rattle.elaborator.specs.Index.{FaultOf, IsLawful, AreLawful, AreBefore, IsIndex, IsIndexed, BindingFault, all_pairs}
-use Rattle.elaborator.specs.Index.FaultOf.{bad_binding, bad_index, annotation}
-use Rattle.elaborator.specs.Index.BindingFault.{of_binding, bound_twice}
+use Rattle.elaborator.specs.PortIndex.FaultOf.{bad_binding, bad_index, annotation}
+use Rattle.elaborator.specs.PortIndex.BindingFault.{of_binding, bound_twice}
 use Rattle.elaborator.specs.declared.chains.PortId.{PortId}
 use Rattle.elaborator.specs.declared.error.ElabError.{ElabError}
 use Rattle.darwin_walk.specs.Instance.{Binding}
 use Rattle.darwin_walk.specs.declared.fault.Fault.TheVariants as shown
-use Rattle.darwin_types.proofs.Lists.{Contains-nil, Contains-from_flat_map, Contains-flat_map}
-use Rattle.elaborator.proofs.Lists.{option_map_some}
 use Rattle.elaborator.proofs.IndexLemmas.{port_functional, port_injective}
-
-pub Contains-at : {A : Type 0} (xs : List A) (n : ℕ) (x : A) → slice_get xs n ≡ Some x → Contains xs x
-Contains-at xs n x at = (n, slice_get_within xs n x at, get_or_from_slice_get xs n x x at)
-
-pub at_some_place : {A : Type 0} (xs : List A) (x : A) → Contains xs x → (n : ℕ) × (slice_get xs n ≡ Some x)
-at_some_place xs x there = (there.0, slice_get-get_or xs there.0 x there.1 ∙ ap Some there.2)
+use Rattle.base.proofs.ContainsLaws.{Contains-at, Contains-flat_map, Contains-from_flat_map, Contains-nil}
+use Rattle.base.proofs.OptionLaws.{option_map_some}
 
 -- the instances, by their numbers
 abbrev pub instances_of : Expanded → List Instance
-instances_of e = map (λ (m : Made). m.instance) e.made
+instances_of e = map (λ (m : NumberedInstance). m.instance) e.made
 
 pub instance_stands : (e : Expanded) (n : ℕ) (i : Instance) → Numbered e n i → slice_get (instances_of e) n ≡ Some i
-instance_stands e n i at = slice_get-map (λ (m : Made). m.instance) e.made n ∙ ap (option_map (λ (m : Made). m.instance)) at.is_at
+instance_stands e n i at = slice_get-map (λ (m : NumberedInstance). m.instance) e.made n ∙ ap (option_map (λ (m : NumberedInstance). m.instance)) at.is_at
 
 pub numbered_at : (e : Expanded) (n : ℕ) (i : Instance) → slice_get (instances_of e) n ≡ Some i → Numbered e n i
 numbered_at e n i at =
-    let w = option_map_some (λ (m : Made). m.instance) (slice_get e.made n) i (sym (slice_get-map (λ (m : Made). m.instance) e.made n) ∙ at) in
+    let w = option_map_some (λ (m : NumberedInstance). m.instance) (slice_get e.made n) i (sym (slice_get-map (λ (m : NumberedInstance). m.instance) e.made n) ∙ at) in
     record { maker = w.0.maker; is_at = w.1 ∙ ap (λ j. Some (record { instance = j; maker = w.0.maker })) w.2 }
 
 -- the pairs of the first instances are those of instances before
@@ -46,7 +39,7 @@ first_before e n within = λ p there.
     let i = from.0 in
     let k = from.1.0 in
     let below : k < n = omega (arith, from.1.1, length-take n (instances_of e)) in
-    let stands : slice_get (instances_of e) k ≡ Some i = slice_get-get_or (instances_of e) k i (omega (arith, below, length-map e.made (λ (m : Made). m.instance))) ∙ ap Some (sym (get_or-take n (instances_of e) k i below) ∙ from.1.2) in
+    let stands : slice_get (instances_of e) k ≡ Some i = slice_get-get_or (instances_of e) k i (omega (arith, below, length-map e.made (λ (m : NumberedInstance). m.instance))) ∙ ap Some (sym (get_or-take n (instances_of e) k i below) ∙ from.1.2) in
     (k, i, below, numbered_at e k i stands, from.2)
 
 -- the pairs of the first instances, and of one more
@@ -83,5 +76,5 @@ whole_index e expanded targets index lawful = record { is_index = index; no_faul
         let a = index.complete p (in_all n i p at there) in
         let b = index.complete clash.other (in_all n i clash.other at clash.is_there) in
         let source = port_injective e expanded a.0 b.0 clash.other.source (subst (IsPort e a.0) clash.same_source a.2) b.2 in
-        let target : a.1 ≡ b.1 = same_Some a.1 b.1 (sym a.4 ∙ ap (target_of targets) source ∙ b.4) in
+        let target : a.1 ≡ b.1 = same_Some a.1 b.1 (sym a.4 ∙ ap (chain_target targets) source ∙ b.4) in
         clash.other_target (port_functional e b.1 p.target clash.other.target (subst (λ t. IsPort e t p.target) target a.3) b.3)

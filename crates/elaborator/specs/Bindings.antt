@@ -40,8 +40,8 @@ named tree i e = option_and_then named_in (instance_at tree i e.inner)
         (λ decl. record { is_inner = is_some e.inner; instance = j; decl = decl; index = e.index })
         (port_named j.component e.port)
 
-abbrev pub port_of : Named → Port
-port_of x =
+abbrev pub named_port : Named → Port
+named_port x =
     record { path = x.instance.path; depth = x.instance.depth; side = x.decl.side; name = x.decl.name; index = x.index }
 
 -- an index stands exactly where the port has a size
@@ -76,8 +76,8 @@ pair_of tree i b = pair (named tree i b.left) (named tree i b.right)
     pair : Option Named → Option Named → List Pair
     pair (Some x) (Some y) =
         if may_lead x y
-        then record { end = b.left; source = port_of x; target = port_of y } ∷ []
-        else (if may_lead y x then record { end = b.right; source = port_of y; target = port_of x } ∷ [] else [])
+        then record { end = b.left; source = named_port x; target = named_port y } ∷ []
+        else (if may_lead y x then record { end = b.right; source = named_port y; target = named_port x } ∷ [] else [])
     pair _ _ = []
 
 -- the bindings that are reached in an instance
@@ -92,6 +92,6 @@ pub data Bound (tree : Tree) (top : Instance) : Port → Port → Type 0 where
   bound : (i : Instance) (p : Pair) → Inst tree top i → Contains (pairs_in tree i) p → Bound tree top p.source p.target
 
 -- a list of one or more bindings leads from the first port to the second
-pub data Leads (tree : Tree) (top : Instance) : Port → Port → Type 0 where
-  at_once : (x y : Port) → Bound tree top x y → Leads tree top x y
-  through : (x y z : Port) → Bound tree top x y → Leads tree top y z → Leads tree top x z
+pub data BoundThrough (tree : Tree) (top : Instance) : Port → Port → Type 0 where
+  at_once : (x y : Port) → Bound tree top x y → BoundThrough tree top x y
+  through : (x y z : Port) → Bound tree top x y → BoundThrough tree top y z → BoundThrough tree top x z

@@ -1,14 +1,14 @@
 -- What an elaboration gives where none of its faults holds: the one graph.
 use Rattle.std.specs.Prelude.{◌≡◌, ℤ, List, Some}
 use Rattle.darwin_parser.specs.Tree.{Name, Tree}
-use Rattle.config_graph.specs.Graph.{Configuration}
+use Rattle.config_graph.specs.Graph.{Graph}
 use Rattle.elaborator.specs.Instances.{Instance, top_instance}
 use Rattle.elaborator.specs.Graph.{IsElab}
 use Rattle.elaborator.specs.Faults.{Faults}
 use Rattle.elaborator.specs.declared.error.ElabError.{ElabError}
 
 -- the graph of the elaboration of a description, with a component of a name at the top that has arguments
-pub record IsGraphOf (tree : Tree) (name : Name) (arguments : List ℤ) (g : Configuration) : Type 0 where
+pub record ElaboratesTo (tree : Tree) (name : Name) (arguments : List ℤ) (g : Graph) : Type 0 where
   pub top : Instance
   pub is_top : top_instance tree name arguments ≡ Some top
   pub is_elab : IsElab tree top g

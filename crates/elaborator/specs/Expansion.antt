@@ -14,7 +14,7 @@ use Rattle.darwin_walk.specs.Instance.{index_value}
 use Rattle.darwin_walk.specs.Spine.{env_of}
 use Rattle.darwin_walk.specs.Walked.{binding_of}
 use Rattle.elaborator.specs.Instances as pure
-use Rattle.elaborator.specs.Expanded.{Made, Expanded, IsExpanded}
+use Rattle.elaborator.specs.Numbering.{NumberedInstance, Expanded, IsExpanded}
 use Rattle.elaborator.specs.declared.instance.Instance.{Instance}
 use Rattle.elaborator.specs.declared.instance.Expansion.{Expansion}
 
@@ -25,7 +25,7 @@ tree_at = map component_of
 abbrev pub instance_in : Instance → pure.Instance
 instance_in i = record { path = i.path; depth = i.depth; component = component_of i.component.now; env = env_of i.env.items }
 
-abbrev pub made_of : Instance → Made
+abbrev pub made_of : Instance → NumberedInstance
 made_of i = record { instance = instance_in i; maker = i.maker }
 
 -- the instances of an expansion
@@ -47,7 +47,7 @@ pub record IsShown (i : Instance) : Type 0 where
   pub sizes : AreSizes (instance_in i) i.port_sizes.items
 
 -- the instances have their bindings, and each but the top is found by its path
-pub record IsKept (e : Expansion) : Type 0 where
+pub record IsNumbering (e : Expansion) : Type 0 where
   pub is_expanded : IsExpanded (seen e)
   pub few : length e.instances.items ≤ 65537
   -- each but the top has an entry, and the entries stand in the order of their paths

@@ -7,13 +7,13 @@ use Rattle.darwin_parser.specs.Tree.{Name, Tree, Component, Expr}
 use Rattle.darwin_types.specs.Scope.{component_named, is_primitive}
 use Rattle.config_graph.specs.declared.node.Node.{Node}
 use Rattle.darwin_walk.specs.Value.{integer, value}
-use Rattle.darwin_walk.specs.Instance.{Child, End, Binding, index_fault, children, faults}
+use Rattle.darwin_walk.specs.Instance.{Child, End, Binding, index_fault, children, instance_faults}
 use Rattle.darwin_walk.specs.declared.fault.Fault.{Fault}
 use Rattle.darwin_walk.specs.declared.fault.Fault.TheVariants as shown
 use Rattle.elaborator.specs.Paths.{Path, end_bytes}
 use Rattle.elaborator.specs.Instances.{Instance, top_instance, Inst, is_expanded, count_in, paths_in}
 use Rattle.elaborator.specs.Bindings.{Named, named, Pair, pair_of, pairs_in, bindings_in}
-use Rattle.config_graph.specs.Graph.{Configuration}
+use Rattle.config_graph.specs.Graph.{Graph}
 use Rattle.config_graph.specs.Cycles.{FirstOnCycle}
 use Rattle.elaborator.specs.Graph.{IsElab}
 use Rattle.elaborator.specs.declared.error.ElabError.{ElabError}
@@ -48,7 +48,7 @@ port_faults tree i at e = option_map_or faults_at (named tree i e) []
 
 -- the faults of values and of indexes of instances, in an instance
 abbrev pub own_faults : Tree → Instance → List Fault
-own_faults tree i = if is_expanded i then faults i.component i.env ++ flat_map (kind_faults tree) (children i.component i.env) else []
+own_faults tree i = if is_expanded i then instance_faults i.component i.env ++ flat_map (kind_faults tree) (children i.component i.env) else []
 
 -- those, and the faults of indexes of ports
 abbrev pub faults_in : Tree → Instance → List Fault
@@ -65,7 +65,7 @@ pub data NotesDiffer (x y : Option Named) : Type 0 where
 pub data Twice {X : Type 0} (xs : List X) (x : X) : Type 0 where
   twice : (before between after : List X) → xs ≡ before ++ (x ∷ between) ++ (x ∷ after) → Twice xs x
 
--- in instances of the elaboration, of which none is counted twice, more turns than so many are taken and entries reached
+-- different instances of the elaboration take more turns and reach more entries than so many
 pub record CountsMore (tree : Tree) (top : Instance) (limit : ℕ) : Type 0 where
   pub counted : List Instance
   pub once : (i : Instance) → ¬ Twice counted i
@@ -121,9 +121,9 @@ pub data Faults (tree : Tree) (name : Name) (arguments : List ℤ) : ElabError �
   too_deep :
       (top i : Instance) → top_instance tree name arguments ≡ Some top → Inst tree top i → i.depth ≡ 33
       → Faults tree name arguments (error.TooDeep i.path)
-  -- more than 65,536 turns are taken and entries reached
+  -- more than 65,536 turns are taken and entries reached, each instance counted once
   too_many : (top : Instance) → top_instance tree name arguments ≡ Some top → CountsMore tree top 65536 → Faults tree name arguments error.TooMany
   -- nodes lie on cycles of depended-on links; the first by its path is named
   depends_cycle :
-      (top : Instance) (g : Configuration) (i : ℕ) (n : Node) → top_instance tree name arguments ≡ Some top → IsElab tree top g
+      (top : Instance) (g : Graph) (i : ℕ) (n : Node) → top_instance tree name arguments ≡ Some top → IsElab tree top g
       → FirstOnCycle g i → slice_get g.nodes i ≡ Some n → Faults tree name arguments (error.DependsCycle n.path)

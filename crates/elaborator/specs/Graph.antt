@@ -9,10 +9,10 @@ use Rattle.config_graph.specs.declared.kind.Kind.{Kind}
 use Rattle.config_graph.specs.declared.node.Node.{Node}
 use Rattle.config_graph.specs.declared.node.Link.{Link}
 use Rattle.config_graph.specs.Kinds.{kind_named, row, Provision}
-use Rattle.config_graph.specs.Graph.{Configuration}
+use Rattle.config_graph.specs.Graph.{Graph}
 use Rattle.config_graph.specs.GraphBy.{AreLinkedAt, IsGraphBy}
 use Rattle.elaborator.specs.Instances.{Instance, Inst}
-use Rattle.elaborator.specs.Bindings.{Port, Leads}
+use Rattle.elaborator.specs.Bindings.{Port, BoundThrough}
 
 -- an argument of a kind, which is 0 or more
 abbrev pub natural : ℤ → ℕ
@@ -44,14 +44,14 @@ pub record Linked (tree : Tree) (top : Instance) (a : Node) (require : ℕ) (b :
   pub provided : Provision
   pub requires_it : slice_get (row a.kind).requires_ require ≡ Some required
   pub provides_it : slice_get (row b.kind).provides provide ≡ Some provided
-  pub leads : Leads tree top (port_at from.instance Require required) (port_at to.instance Provide provided.name)
+  pub leads : BoundThrough tree top (port_at from.instance Require required) (port_at to.instance Provide provided.name)
 
 -- a link of the graph, which names its nodes by their places in the list
 abbrev pub IsLink : Tree → Instance → List Node → Link → Type 0
 IsLink tree top nodes l = AreLinkedAt (Linked tree top) nodes l.from l.require l.to l.provide
 
 -- the graph of the elaboration with this top
-abbrev pub IsElab : Tree → Instance → Configuration → Type 0
+abbrev pub IsElab : Tree → Instance → Graph → Type 0
 IsElab tree top g = IsGraphBy (IsNode tree top) (Linked tree top) g
 
 -- the port that a requirement of the node at a place is

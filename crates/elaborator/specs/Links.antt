@@ -7,10 +7,10 @@ use Rattle.config_graph.specs.declared.node.Node.{Node}
 use Rattle.config_graph.specs.declared.node.Link.{Link}
 use Rattle.config_graph.specs.declared.node.Target.{Target}
 use Rattle.config_graph.specs.Kinds.{row, Provision}
-use Rattle.config_graph.specs.Graph.{OneLinkAPort, IsWithin}
+use Rattle.config_graph.specs.Graph.{OneLinkAPort, IsLinkWithin}
 use Rattle.elaborator.specs.Instances.{Instance}
 use Rattle.elaborator.specs.Graph.{node_of, port_at, IsLink}
-use Rattle.elaborator.specs.Expanded.{Expanded, Numbered}
+use Rattle.elaborator.specs.Numbering.{Expanded, Numbered}
 use Rattle.elaborator.specs.Ports.{IsPort}
 use Rattle.elaborator.specs.declared.chains.PortId.{PortId}
 
@@ -65,5 +65,5 @@ pub record AreFirstLinks (tree : Tree) (top : Instance) (nodes : List Node) (fro
 -- all links
 pub record AreLinks (tree : Tree) (top : Instance) (nodes : List Node) (links : List Link) : Type 0 where
   pub links_are : (l : Link) → Contains links l ↔ IsLink tree top nodes l
-  pub within : All (IsWithin nodes) links
+  pub within : All (IsLinkWithin nodes) links
   pub one_a_port : OneLinkAPort links

@@ -7,7 +7,7 @@ use Rattle.darwin_walk.specs.Instance.{Segment, index_fault}
 use Rattle.darwin_walk.specs.declared.fault.Fault.{Fault}
 use Rattle.elaborator.specs.Instances.{Instance}
 use Rattle.elaborator.specs.Bindings.{Named, Port, instance_at}
-use Rattle.elaborator.specs.Expanded.{Expanded, Numbered, NumberedIn}
+use Rattle.elaborator.specs.Numbering.{Expanded, Numbered, NumberedIn}
 use Rattle.elaborator.specs.declared.chains.PortId.{PortId}
 use Rattle.elaborator.specs.declared.ports.Named as code
 
@@ -43,8 +43,8 @@ pub record IsNamed (e : Expanded) (n : ℕ) (x : code.Named) (i : Instance) : Ty
   pub first : place_of x.decl.now.name i.component.ports ≡ Some x.id.port
 
 -- the answer to what an end names
-abbrev pub Names : Expanded → ℕ → Option Named → Option code.Named → Type 0
-Names e n named r = MatchOption r (named ≡ None) (λ x. (i : Instance) × (named ≡ Some (named_of i x)) × IsNamed e n x i)
+abbrev pub ResolvesTo : Expanded → ℕ → Option Named → Option code.Named → Type 0
+ResolvesTo e n named r = MatchOption r (named ≡ None) (λ x. (i : Instance) × (named ≡ Some (named_of i x)) × IsNamed e n x i)
 
 -- the fault of the index of what an end names
 abbrev pub bad_index : At → Named → List Fault

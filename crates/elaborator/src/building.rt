@@ -5,9 +5,9 @@ ghost use Rattle.base.specs.Answers.{Answers};
 ghost use Rattle.config_graph.specs.Cycles.{NoCycle};
 ghost use Rattle.elaborator.specs.Instances.{Instance};
 ghost use Rattle.elaborator.specs.Graph.{IsElab};
-ghost use Rattle.elaborator.specs.Expanded.{IsOf};
-ghost use Rattle.elaborator.specs.Expansion.{seen, IsKept};
-ghost use Rattle.elaborator.specs.Index.{IsIndexed};
+ghost use Rattle.elaborator.specs.Numbering.{IsOf};
+ghost use Rattle.elaborator.specs.Expansion.{seen, IsNumbering};
+ghost use Rattle.elaborator.specs.PortIndex.{IsIndexed};
 ghost use Rattle.elaborator.specs.Built.{CycleFault, BuildFault, IsBuilt};
 ghost use Rattle.elaborator.specs.declared.error.ElabError.TheVariants.{NoMemory};
 
@@ -22,7 +22,7 @@ use std::alloc::{AllocError, Global};
 
 /// The graph of an expansion.
 pub fn build_graph(alloc: Global, expansion: &Expansion) -> Result<Graph, ElabError>
-    requires kept { IsKept expansion.now }
+    requires kept { IsNumbering expansion.now }
     requires of_top { (top : Instance) × IsOf (seen expansion.now) top }
     ensures { (top : Instance) → IsOf (seen expansion.now) top
         → Answers NoMemory (IsBuilt (seen expansion.now) top) (BuildFault (seen expansion.now) top) result }
@@ -34,7 +34,7 @@ pub fn build_graph(alloc: Global, expansion: &Expansion) -> Result<Graph, ElabEr
 
 /// The nodes of an expansion, linked by its bindings.
 fn join(alloc: Global, expansion: &Expansion, targets: &Targets) -> Result<Graph, AllocError>
-    requires kept { IsKept expansion.now }
+    requires kept { IsNumbering expansion.now }
     requires of_top { (top : Instance) × IsOf (seen expansion.now) top }
     requires indexed { IsIndexed (seen expansion.now) targets.now }
     ensures { (top : Instance) → IsOf (seen expansion.now) top

@@ -1,7 +1,7 @@
 //! Chains of bindings: where lists of them lead.
 
 ghost use Rattle.std.specs.Prelude.{◌≡◌, [], IfOk, OnOk, None};
-ghost use Rattle.elaborator.specs.Chains.{target_of, end_of, Updated};
+ghost use Rattle.elaborator.specs.PortIndex.{chain_target, chain_end, Updated};
 
 use indexmap::IndexMap;
 use std::alloc::{AllocError, Global};
@@ -46,14 +46,14 @@ impl Targets {
 
     /// What the source is bound to.
     pub fn get(&self, source: PortId) -> Option<PortId>
-        ensures { result ≡ target_of self.now source }
+        ensures { result ≡ chain_target self.now source }
     {
         self.targets.get(&source).copied()
     }
 
     /// Binds a source to a target, and answers the target that it had before.
     pub fn bind(&mut self, source: PortId, target: PortId) -> Result<Option<PortId>, AllocError>
-        ensures before { IfOk result (λ before. before ≡ target_of self.old source) }
+        ensures before { IfOk result (λ before. before ≡ chain_target self.old source) }
         ensures bound { OnOk result (Updated self.old self.new source target) }
     {
         Ok(self.targets.insert(source, target)?)
@@ -61,7 +61,7 @@ impl Targets {
 
     /// The last end of the chain that begins with this port: the port itself where it is no source.
     pub fn follow(&self, start: PortId) -> PortId
-        ensures { result ≡ end_of CHAIN_STEPS self.now start }
+        ensures { result ≡ chain_end CHAIN_STEPS self.now start }
     {
         let mut end = start;
         for _ in 0..CHAIN_STEPS {

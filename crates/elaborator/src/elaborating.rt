@@ -7,9 +7,9 @@ ghost use Rattle.darwin_parser.specs.Tree.{tree_of};
 ghost use Rattle.darwin_types.specs.Checked.{description};
 ghost use Rattle.elaborator.specs.Instances.{top_instance};
 ghost use Rattle.elaborator.specs.Expansion.{instance_in};
-ghost use Rattle.elaborator.specs.Growth.{IsTop};
+ghost use Rattle.elaborator.specs.ExpansionFaults.{IsTop};
 ghost use Rattle.elaborator.specs.Faults.{Faults, capped};
-ghost use Rattle.elaborator.specs.Elaboration.{HasNoFault, IsGraphOf};
+ghost use Rattle.elaborator.specs.Elaboration.{HasNoFault, ElaboratesTo};
 ghost use Rattle.elaborator.specs.declared.error.ElabError.TheVariants.{NoMemory};
 
 use crate::ElabError;
@@ -37,7 +37,7 @@ pub fn elaborate(
     args: &[i32],
 ) -> Result<Graph, ElabError>
     ensures no_fault { IfOk result (λ _. HasNoFault (description checked.now) top.now args.now) }
-    ensures graph { IfOk result (λ g. IsGraphOf (description checked.now) top.now args.now g) }
+    ensures graph { IfOk result (λ g. ElaboratesTo (description checked.now) top.now args.now g) }
     ensures sound { IfOk result (λ g. Sound g) }
     ensures fault { IfErr result (Refuses NoMemory (Faults (description checked.now) top.now args.now)) }
 {

@@ -2,7 +2,7 @@
 
 ghost use Rattle.std.specs.Prelude.{◌≡◌, ◌<◌, length, map, slice_get, Some};
 ghost use Rattle.std.specs.Option.{option_flatten};
-ghost use Rattle.elaborator.specs.Expanded.{IsChild};
+ghost use Rattle.elaborator.specs.Numbering.{IsChild};
 
 use crate::directory::Directory;
 use config_graph::Text;
@@ -54,12 +54,12 @@ impl<'a> Expansion<'a> {
     ghost use Rattle.darwin_parser.specs.Tree.{component_of};
     ghost use Rattle.darwin_types.specs.Scope.{is_primitive};
     ghost use Rattle.elaborator.specs.Bindings.{bindings_in};
-    ghost use Rattle.elaborator.specs.Expansion.{seen, made_of, instance_in, AreSizes, IsKept};
+    ghost use Rattle.elaborator.specs.Expansion.{seen, made_of, instance_in, AreSizes, IsNumbering};
     ghost use Rattle.darwin_walk.specs.Walked.{binding_of};
 
     /// How many instances there are.
     pub fn len(&self) -> u32
-        requires { IsKept self.now }
+        requires { IsNumbering self.now }
         ensures { result ≡ length (seen self.now).made }
     {
         self.instances.len() as u32
@@ -68,7 +68,7 @@ impl<'a> Expansion<'a> {
     /// The instance of this number.
     pub fn instance(&self, number: u32) -> &Instance<'a>
         requires within { number < length (seen self.now).made }
-        requires kept { IsKept self.now }
+        requires kept { IsNumbering self.now }
         ensures made { slice_get (seen self.now).made number ≡ Some (made_of result.now) }
         ensures bindings { map binding_of result.now.bindings.items ≡ bindings_in (instance_in result.now) }
         ensures sizes { AreSizes (instance_in result.now) result.now.port_sizes.items }
@@ -79,7 +79,7 @@ impl<'a> Expansion<'a> {
 
     /// The number of the instance of this path among those made in an instance.
     pub fn child(&self, maker: u32, path: &[u8]) -> Option<u32>
-        requires { IsKept self.now }
+        requires { IsNumbering self.now }
         ensures { IsChild (seen self.now) maker path.now result }
     {
         let Some(number) = self.numbers.get(path).copied() else {

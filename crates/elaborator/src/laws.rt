@@ -1,7 +1,7 @@
 //! Laws of elaborations, each as the contract of a function that does nothing.
 
 ghost use Rattle.std.specs.Prelude.{◌≡◌, ◌⊎◌, ◌<◌, ◌↔◌, ℕ, ℤ, List, Some, Contains};
-ghost use Rattle.config_graph.specs.Graph.{Configuration};
+ghost use Rattle.config_graph.specs.Graph.{Graph};
 ghost use Rattle.config_graph.specs.declared.node.Link.{Link};
 ghost use Rattle.config_graph.specs.declared.node.Node.{Node};
 ghost use Rattle.config_graph.specs.Sound.{Sound};
@@ -9,10 +9,10 @@ ghost use Rattle.darwin_parser.specs.Tree.{Name, Tree};
 ghost use Rattle.darwin_types.specs.Faults.{NoFault};
 ghost use Rattle.elaborator.specs.Paths.{Path};
 ghost use Rattle.elaborator.specs.Instances.{Instance, Inst, instances, total, top_instance};
-ghost use Rattle.elaborator.specs.Bindings.{Port, Leads};
+ghost use Rattle.elaborator.specs.Bindings.{Port, BoundThrough};
 ghost use Rattle.elaborator.specs.Graph.{Linked, IsRequirementAt, IsProvisionAt};
 ghost use Rattle.elaborator.specs.Faults.{Faults, Twice, CountsMore};
-ghost use Rattle.elaborator.specs.Elaboration.{HasNoFault, IsGraphOf};
+ghost use Rattle.elaborator.specs.Elaboration.{HasNoFault, ElaboratesTo};
 ghost use Rattle.elaborator.specs.declared.error.ElabError.{ElabError};
 ghost use Rattle.elaborator.specs.declared.error.ElabError.TheVariants.{BoundTwice, TwoInstances};
 
@@ -42,14 +42,14 @@ pub fn an_instance_is_told_by_its_path()
 
 /// A description has one graph at most with this top and these arguments.
 pub fn one_graph()
-    ensures { (tree : Tree) (name : Name) (arguments : List ℤ) (g h : Configuration) → IsGraphOf tree name arguments g → IsGraphOf tree name arguments h → g ≡ h }
+    ensures { (tree : Tree) (name : Name) (arguments : List ℤ) (g h : Graph) → ElaboratesTo tree name arguments g → ElaboratesTo tree name arguments h → g ≡ h }
 {}
 
 /// Some fault of an elaboration holds, or none does and there is a graph, which may be run.
 pub fn a_graph_or_a_fault()
     ensures { (tree : Tree) (name : Name) (arguments : List ℤ) → NoFault tree
         → ((f : ElabError) × Faults tree name arguments f)
-        ⊎ ((g : Configuration) × HasNoFault tree name arguments × IsGraphOf tree name arguments g × Sound g) }
+        ⊎ ((g : Graph) × HasNoFault tree name arguments × ElaboratesTo tree name arguments g × Sound g) }
 {}
 
 /// Where no path is made twice and no end is bound twice, bindings lead from a requirement of a node to
@@ -66,10 +66,10 @@ pub fn one_provision()
 /// Each link of a graph leads from a requirement to a provision that a list of bindings joins, and no two
 /// links leave one requirement.
 pub fn links_join_what_bindings_do()
-    ensures joined { (tree : Tree) (name : Name) (arguments : List ℤ) (top : Instance) (g : Configuration) (l : Link)
-        → top_instance tree name arguments ≡ Some top → IsGraphOf tree name arguments g → Contains g.links l
-        → (x y : Port) × IsRequirementAt tree top g.nodes l.from l.require x × IsProvisionAt tree top g.nodes l.to l.provide y × Leads tree top x y }
-    ensures one_a_requirement { (tree : Tree) (name : Name) (arguments : List ℤ) (g : Configuration) (k l : Link)
-        → IsGraphOf tree name arguments g → Contains g.links k → Contains g.links l
+    ensures joined { (tree : Tree) (name : Name) (arguments : List ℤ) (top : Instance) (g : Graph) (l : Link)
+        → top_instance tree name arguments ≡ Some top → ElaboratesTo tree name arguments g → Contains g.links l
+        → (x y : Port) × IsRequirementAt tree top g.nodes l.from l.require x × IsProvisionAt tree top g.nodes l.to l.provide y × BoundThrough tree top x y }
+    ensures one_a_requirement { (tree : Tree) (name : Name) (arguments : List ℤ) (g : Graph) (k l : Link)
+        → ElaboratesTo tree name arguments g → Contains g.links k → Contains g.links l
         → k.from ≡ l.from → k.require ≡ l.require → k ≡ l }
 {}

@@ -4,11 +4,11 @@ ghost use Rattle.std.specs.Prelude.{◌≡◌, ◌+◌, ◌<◌, length, IfOk, O
 ghost use Rattle.config_graph.specs.Graph.{requires_at};
 ghost use Rattle.elaborator.specs.Instances.{Instance};
 ghost use Rattle.elaborator.specs.Bindings.{Port};
-ghost use Rattle.elaborator.specs.Expanded.{IsOf};
-ghost use Rattle.elaborator.specs.Expansion.{seen, IsKept};
+ghost use Rattle.elaborator.specs.Numbering.{IsOf};
+ghost use Rattle.elaborator.specs.Expansion.{seen, IsNumbering};
 ghost use Rattle.elaborator.specs.Ports.{IsPort};
-ghost use Rattle.elaborator.specs.Index.{IsIndexed};
-ghost use Rattle.elaborator.specs.Nodes.{AreNodes};
+ghost use Rattle.elaborator.specs.PortIndex.{IsIndexed};
+ghost use Rattle.elaborator.specs.NodeOrder.{AreNodes};
 ghost use Rattle.elaborator.specs.Links.{IsProvisionNamed, IsProvided, IsTargeted, AreFirstLinks, AreLinks};
 
 use crate::chains::{PortId, Targets};
@@ -26,7 +26,7 @@ pub fn links_of(
     nodes: &Nodes,
     targets: &Targets,
 ) -> Result<Vec<Link>, AllocError>
-    requires kept { IsKept expansion.now }
+    requires kept { IsNumbering expansion.now }
     requires nodes { AreNodes (seen expansion.now) nodes.now }
     requires indexed { IsIndexed (seen expansion.now) targets.now }
     ensures { (top : Instance) → IsOf (seen expansion.now) top
@@ -48,7 +48,7 @@ fn add_links(
     links: &mut Vec<Link>,
 ) -> Result<(), AllocError>
     requires within { from < length nodes.now.nodes.items }
-    requires kept { IsKept expansion.now }
+    requires kept { IsNumbering expansion.now }
     requires nodes { AreNodes (seen expansion.now) nodes.now }
     requires indexed { IsIndexed (seen expansion.now) targets.now }
     ensures { (top : Instance) → IsOf (seen expansion.now) top
@@ -78,7 +78,7 @@ fn target_of(
 ) -> Option<Target>
     requires within { from < length nodes.now.nodes.items }
     requires required { require < requires_at nodes.now.nodes.items from }
-    requires kept { IsKept expansion.now }
+    requires kept { IsNumbering expansion.now }
     requires nodes { AreNodes (seen expansion.now) nodes.now }
     requires indexed { IsIndexed (seen expansion.now) targets.now }
     ensures { (top : Instance) → IsOf (seen expansion.now) top
@@ -105,7 +105,7 @@ fn target_of(
 /// The provision of a node that a port is, where it is one.
 fn provision_at(expansion: &Expansion, nodes: &Nodes, id: PortId) -> Option<Target>
     requires port { (x : Port) × IsPort (seen expansion.now) id x }
-    requires kept { IsKept expansion.now }
+    requires kept { IsNumbering expansion.now }
     requires nodes { AreNodes (seen expansion.now) nodes.now }
     ensures { IsProvided (seen expansion.now) nodes.now.nodes.items id result }
 {

@@ -5,10 +5,9 @@ ghost use Rattle.indexmap.specs.IndexMap.{values};
 ghost use Rattle.darwin_parser.specs.Tree.{component_of};
 ghost use Rattle.darwin_types.specs.Scope.{is_primitive};
 ghost use Rattle.elaborator.specs.Graph.{node_of, natural};
-ghost use Rattle.elaborator.specs.Expanded.{Numbered};
-ghost use Rattle.elaborator.specs.Expansion.{seen, instance_in, IsKept};
-ghost use Rattle.elaborator.specs.Nodes.{AreNodes};
-ghost use Rattle.elaborator.specs.Order.{IsInOrder};
+ghost use Rattle.elaborator.specs.Numbering.{Numbered};
+ghost use Rattle.elaborator.specs.Expansion.{seen, instance_in, IsNumbering};
+ghost use Rattle.elaborator.specs.NodeOrder.{AreNodes, IsInOrder};
 
 use crate::instance::{Expansion, Instance};
 use config_graph::{Node, kind_of};
@@ -27,7 +26,7 @@ pub struct Nodes {
 
 /// The nodes of an expansion.
 pub fn nodes_of(alloc: Global, expansion: &Expansion) -> Result<Nodes, AllocError>
-    requires { IsKept expansion.now }
+    requires { IsNumbering expansion.now }
     ensures { IfOk result (AreNodes (seen expansion.now)) }
 {
     let order = in_path_order(alloc, expansion)?;
@@ -46,7 +45,7 @@ pub fn nodes_of(alloc: Global, expansion: &Expansion) -> Result<Nodes, AllocErro
 
 /// The numbers of all instances but the top, in the order of their paths.
 fn in_path_order(alloc: Global, expansion: &Expansion) -> Result<Vec<u32>, AllocError>
-    requires { IsKept expansion.now }
+    requires { IsNumbering expansion.now }
     ensures { IfOk result (λ order. IsInOrder (seen expansion.now) order.items) }
 {
     values_of(alloc, &expansion.numbers)

@@ -3,7 +3,7 @@
 ghost use Rattle.std.specs.Prelude.{◌≡◌, ◌<◌, ◌⊎◌};
 ghost use Rattle.darwin_parser.specs.Tree.{component_of, tree_of};
 ghost use Rattle.darwin_walk.specs.Reached.{count};
-ghost use Rattle.darwin_walk.specs.Instance.{faults};
+ghost use Rattle.darwin_walk.specs.Instance.{instance_faults};
 ghost use Rattle.darwin_walk.specs.Walked.{IsWalked};
 ghost use Rattle.elaborator.specs.Instances.{count_in};
 ghost use Rattle.elaborator.specs.Faults.{own_faults};
@@ -68,7 +68,7 @@ pub(crate) fn open_instance<'a>(
 
 /// Walks the statements of an instance.
 fn walk_in<'a>(alloc: Global, instance: &Instance<'a>, room: u64) -> Result<Walked<'a>, ElabError>
-    ensures { Judges instance.now.path (faults (component_of instance.now.component.now) (env_of instance.now.env.items)) (room < count (component_of instance.now.component.now) (env_of instance.now.env.items)) (IsWalked (component_of instance.now.component.now) (env_of instance.now.env.items) room) result }
+    ensures { Judges instance.now.path (instance_faults (component_of instance.now.component.now) (env_of instance.now.env.items)) (room < count (component_of instance.now.component.now) (env_of instance.now.env.items)) (IsWalked (component_of instance.now.component.now) (env_of instance.now.env.items) room) result }
 {
     match walk(alloc, instance.component, instance.env.as_slice(), room) {
         Ok(walked) => Ok(walked),

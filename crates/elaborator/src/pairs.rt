@@ -3,15 +3,15 @@
 ghost use Rattle.std.specs.Prelude.{◌≡◌, ℕ, ◌<◌, List, [], ◌∷◌, ◌++◌, length, slice_get, MatchOption, Some};
 ghost use Rattle.base.specs.Answers.{Answers};
 ghost use Rattle.darwin_parser.specs.Tree.{port_of};
-ghost use Rattle.darwin_walk.specs.Walked.{end_of, binding_of};
+ghost use Rattle.darwin_walk.specs.Walked.{walked_end, binding_of};
 ghost use Rattle.darwin_walk.specs.declared.fault.Fault.TheVariants as shown;
 ghost use Rattle.elaborator.specs.Instances.{Instance};
 ghost use Rattle.elaborator.specs.Bindings.{Pair as PurePair, named, pair_of, pairs_in, bindings_in};
-ghost use Rattle.elaborator.specs.Expanded.{Expanded, Numbered};
-ghost use Rattle.elaborator.specs.Expansion.{seen, IsKept};
+ghost use Rattle.elaborator.specs.Numbering.{Expanded, Numbered};
+ghost use Rattle.elaborator.specs.Expansion.{seen, IsNumbering};
 ghost use Rattle.elaborator.specs.Paths.{end_bytes};
-ghost use Rattle.elaborator.specs.Ports.{Names, named_of, bad_index, NotesDifferIn};
-ghost use Rattle.elaborator.specs.Index.{IsPair, FaultOf, IsLawful, AreLawful, IsIndex, IsIndexed, AreBefore, Clashes, BindingFault};
+ghost use Rattle.elaborator.specs.Ports.{ResolvesTo, named_of, bad_index, NotesDifferIn};
+ghost use Rattle.elaborator.specs.PortIndex.{IsPair, FaultOf, IsLawful, AreLawful, IsIndex, IsIndexed, AreBefore, Clashes, BindingFault};
 ghost use Rattle.elaborator.specs.declared.error.ElabError.TheVariants.{NoMemory, BoundTwice, BadBinding, BadIndex, Annotation};
 
 use crate::ElabError;
@@ -32,7 +32,7 @@ pub struct Pair<'a> {
 
 /// Indexes the bindings of all instances.
 pub fn index_bindings(alloc: Global, expansion: &Expansion) -> Result<Targets, ElabError>
-    requires { IsKept expansion.now }
+    requires { IsNumbering expansion.now }
     ensures { Answers NoMemory (λ targets. IsIndexed (seen expansion.now) targets) (BindingFault (seen expansion.now)) result }
 {
     let mut targets = Targets::new(alloc);
@@ -50,7 +50,7 @@ fn index_instance(
     targets: &mut Targets,
 ) -> Result<(), ElabError>
     requires within { number < length (seen expansion.now).made }
-    requires kept { IsKept expansion.now }
+    requires kept { IsNumbering expansion.now }
     ensures { (i : Instance) (pairs : List PurePair) → Numbered (seen expansion.now) number i
         → IsIndex (seen expansion.now) pairs targets.old → AreBefore (seen expansion.now) number pairs
         → Answers NoMemory (λ _. IsIndex (seen expansion.now) (pairs ++ pairs_in (seen expansion.now).tree i) targets.new
@@ -73,7 +73,7 @@ fn bind_pair(
     targets: &mut Targets,
 ) -> Result<(), ElabError>
     requires within { number < length (seen expansion.now).made }
-    requires kept { IsKept expansion.now }
+    requires kept { IsNumbering expansion.now }
     ensures { (i : Instance) (p : PurePair) (pairs : List PurePair) → Numbered (seen expansion.now) number i
         → IsPair (seen expansion.now) pair.now p → IsIndex (seen expansion.now) pairs targets.old
         → Answers NoMemory (λ _. IsIndex (seen expansion.now) (pairs ++ p ∷ []) targets.new)
@@ -98,7 +98,7 @@ fn pair_of_binding<'a>(
     binding: &Binding<'a>,
 ) -> Result<Pair<'a>, ElabError>
     requires within { number < length (seen expansion.now).made }
-    requires kept { IsKept expansion.now }
+    requires kept { IsNumbering expansion.now }
     ensures { (i : Instance) → Numbered (seen expansion.now) number i
         → Answers NoMemory (λ x. (p : PurePair) × IsLawful (seen expansion.now).tree i (binding_of binding.now) p × IsPair (seen expansion.now) x p)
         (FaultOf (seen expansion.now).tree i (binding_of binding.now)) result }
@@ -121,8 +121,8 @@ fn pair_of_binding<'a>(
 /// The pair of two ports that a binding binds, in either order.
 fn pair_of_ports<'a>(binding: &Binding<'a>, left: &Named, right: &Named) -> Option<Pair<'a>>
     ensures { (e : Expanded) (n : ℕ) (i : Instance)
-        → Names e n (named e.tree i (end_of binding.now.left)) (Some left.now)
-        → Names e n (named e.tree i (end_of binding.now.right)) (Some right.now)
+        → ResolvesTo e n (named e.tree i (walked_end binding.now.left)) (Some left.now)
+        → ResolvesTo e n (named e.tree i (walked_end binding.now.right)) (Some right.now)
         → MatchOption result (pair_of e.tree i (binding_of binding.now) ≡ [])
         (λ x. (p : PurePair) × (pair_of e.tree i (binding_of binding.now) ≡ p ∷ []) × IsPair e x p) }
 {
@@ -146,7 +146,7 @@ fn pair_of_ports<'a>(binding: &Binding<'a>, left: &Named, right: &Named) -> Opti
 /// The refusal of a binding that gives no pair.
 fn bad_binding<T>(expansion: &Expansion, number: u32, binding: &Binding) -> Result<T, ElabError>
     requires within { number < length (seen expansion.now).made }
-    requires kept { IsKept expansion.now }
+    requires kept { IsNumbering expansion.now }
     ensures { (i : Instance) → Numbered (seen expansion.now) number i
         → Answers NoMemory (λ _. ⊥) (λ f. f ≡ BadBinding i.path binding.now.at) result }
 {
@@ -164,7 +164,7 @@ fn check_index(
 ) -> Result<(), ElabError>
     requires within { number < length (seen expansion.now).made }
     requires port_within { port.now.id.instance < length (seen expansion.now).made }
-    requires kept { IsKept expansion.now }
+    requires kept { IsNumbering expansion.now }
     ensures { (i j : Instance) → Numbered (seen expansion.now) number i → Numbered (seen expansion.now) port.now.id.instance j
         → slice_get j.component.ports port.now.id.port ≡ Some (port_of port.now.decl.now)
         → Answers NoMemory (λ _. bad_index binding.now.at (named_of j port.now) ≡ [])
@@ -186,7 +186,7 @@ fn check_notes(
     right: &Named,
 ) -> Result<(), ElabError>
     requires within { number < length (seen expansion.now).made }
-    requires kept { IsKept expansion.now }
+    requires kept { IsNumbering expansion.now }
     ensures { (i : Instance) → Numbered (seen expansion.now) number i
         → Answers NoMemory (λ _. ¬ NotesDifferIn (port_of left.now.decl.now) (port_of right.now.decl.now))
         (λ f. NotesDifferIn (port_of left.now.decl.now) (port_of right.now.decl.now) × (f ≡ Annotation i.path binding.now.at)) result }

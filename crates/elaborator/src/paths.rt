@@ -2,7 +2,7 @@
 
 ghost use Rattle.std.specs.Prelude.{◌≡◌, ◌++◌, IfOk, OnOk};
 ghost use Rattle.elaborator.specs.Paths.{index_bytes, segment_bytes, within, end_bytes};
-ghost use Rattle.darwin_walk.specs.Walked.{segment_of, end_of};
+ghost use Rattle.darwin_walk.specs.Walked.{segment_of, walked_end};
 
 use config_graph::Text;
 use darwin_walk::{End, Segment};
@@ -49,7 +49,7 @@ pub fn path_within(alloc: Global, path: &[u8], segment: Segment) -> Result<Vec<u
 
 /// An end of a binding, as a fault names it.
 pub fn name_of_end(alloc: Global, end: End) -> Result<Text, AllocError>
-    ensures { IfOk result (λ name. name ≡ end_bytes (end_of end.entry)) }
+    ensures { IfOk result (λ name. name ≡ end_bytes (walked_end end.entry)) }
 {
     let mut name = Vec::new(alloc);
     if let Some(segment) = end.inner {

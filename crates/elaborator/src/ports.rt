@@ -3,13 +3,13 @@
 ghost use Rattle.std.specs.Prelude.{◌≡◌, ◌<◌, ◌↔◌, [], ◌∷◌, length, option_map, position, bytes_eq, slice_get, IfOk, IsTrue, Some, if◌then◌else◌};
 ghost use Rattle.darwin_lexer.specs.declared.token.At.{At as Place};
 ghost use Rattle.darwin_parser.specs.Tree.{port_of};
-ghost use Rattle.darwin_walk.specs.Walked.{segment_of, end_of};
+ghost use Rattle.darwin_walk.specs.Walked.{segment_of, walked_end};
 ghost use Rattle.darwin_walk.specs.declared.fault.Fault.TheVariants.{BadIndex};
 ghost use Rattle.elaborator.specs.Instances.{Instance};
 ghost use Rattle.elaborator.specs.Bindings.{named, is_form};
-ghost use Rattle.elaborator.specs.Expanded.{Numbered};
-ghost use Rattle.elaborator.specs.Expansion.{seen, IsKept};
-ghost use Rattle.elaborator.specs.Ports.{Standing, Names, bad_index};
+ghost use Rattle.elaborator.specs.Numbering.{Numbered};
+ghost use Rattle.elaborator.specs.Expansion.{seen, IsNumbering};
+ghost use Rattle.elaborator.specs.Ports.{Standing, ResolvesTo, bad_index};
 
 use crate::chains::PortId;
 use crate::instance::Expansion;
@@ -36,7 +36,7 @@ fn instance_at(
     inner: Option<Segment>,
 ) -> Result<Option<u32>, AllocError>
     requires within { number < length (seen expansion.now).made }
-    requires kept { IsKept expansion.now }
+    requires kept { IsNumbering expansion.now }
     ensures { (i : Instance) → Numbered (seen expansion.now) number i
         → IfOk result (Standing (seen expansion.now) number i (option_map segment_of inner.entry)) }
 {
@@ -57,9 +57,9 @@ pub fn find_named<'a>(
     end: End<'a>,
 ) -> Result<Option<Named<'a>>, AllocError>
     requires within { number < length (seen expansion.now).made }
-    requires kept { IsKept expansion.now }
+    requires kept { IsNumbering expansion.now }
     ensures { (i : Instance) → Numbered (seen expansion.now) number i
-        → IfOk result (Names (seen expansion.now) number (named (seen expansion.now).tree i (end_of end.entry))) }
+        → IfOk result (ResolvesTo (seen expansion.now) number (named (seen expansion.now).tree i (walked_end end.entry))) }
 {
     let Some(instance) = instance_at(alloc, expansion, number, end.inner)? else {
         return Ok(None);
@@ -115,7 +115,7 @@ impl Named<'_> {
     /// Whether the index isn't from 0 to the size less 1.
     pub fn has_bad_index(&self, alloc: Global, expansion: &Expansion) -> Result<bool, AllocError>
         requires within { self.now.id.instance < length (seen expansion.now).made }
-        requires kept { IsKept expansion.now }
+        requires kept { IsNumbering expansion.now }
         ensures { (i : Instance) → Numbered (seen expansion.now) self.now.id.instance i → slice_get i.component.ports self.now.id.port ≡ Some (port_of self.now.decl.now)
             → IfOk result (λ bad. (at : Place) → bad_index at (named_of i self.now) ≡ (if bad then BadIndex at ∷ [] else [])) }
     {
@@ -131,7 +131,7 @@ impl Named<'_> {
     /// The size of the port, where it has one with a value: that of the walk, or else valued here.
     fn size(&self, alloc: Global, expansion: &Expansion) -> Result<Option<i32>, AllocError>
         requires within { self.now.id.instance < length (seen expansion.now).made }
-        requires kept { IsKept expansion.now }
+        requires kept { IsNumbering expansion.now }
         ensures { (i : Instance) → Numbered (seen expansion.now) self.now.id.instance i → slice_get i.component.ports self.now.id.port ≡ Some (port_of self.now.decl.now)
             → IfOk result (λ size. (at : Place) → bad_index at (named_of i self.now) ≡ sized_fault at size self.now.id.index) }
     {

@@ -1,2 +1,2 @@
-pub mod DenialLemmas
+pub mod DenialLaws
 pub mod SettledLemmas

@@ -8,8 +8,8 @@ use Rattle.std.proofs.lemmas.List.Elements.{Contains-append_left, Contains-get_o
 use Rattle.quiesce_core.specs.Settled.{Settled}
 use Rattle.quiesce_core.specs.State.{State, is_live}
 use Rattle.quiesce_core.specs.declared.state.Slot.{Slot}
-use Rattle.config_graph.proofs.ListLemmas.{IsStrictlyIncreasing-push}
 use Rattle.event_replay.specs.Replay.{AreSettled}
+use Rattle.base.proofs.RisingLaws.{IsStrictlyIncreasing-push}
 
 -- a live node is in a slot
 live_low : (s : State) (n : ℕ) → IsTrue (is_live s.config n) → n < length s.config.slots

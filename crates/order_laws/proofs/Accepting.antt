@@ -18,16 +18,17 @@ use Rattle.elaborator.specs.Faults.{faults_in, NotesDiffer, differ, Faults, no_t
 use Rattle.elaborator.specs.Elaboration.{HasNoFault}
 use Rattle.elaborator.specs.declared.error.ElabError.{ElabError}
 use Rattle.elaborator.specs.declared.error.ElabError.TheVariants as error
-use Rattle.darwin_types.proofs.Lists.{Contains-flat_map, Contains-from_flat_map}
-use Rattle.elaborator.proofs.Lists.{Contains-from_filter_map, made_of_two, find-some}
-use Rattle.elaborator.proofs.LawLemmas.{told-by_path, single-if_none, top_depth}
-use Rattle.elaborator.proofs.CountLemmas.{counted-within, counted-all}
+use Rattle.elaborator.proofs.InstanceLaws.{told-by_path, single-if_none, top_depth}
+use Rattle.elaborator.proofs.CountLaws.{counted-within, counted-all}
 use Rattle.order_laws.proofs.Finding.{Both, neither, both_there}
 use Rattle.order_laws.proofs.Children.{Alike, AlikeTrees, alike_trees-sym, is_primitive-same, SameBound}
 use Rattle.order_laws.proofs.Instances.{SameInstance, same_instance-sym, top_of, may_be_top, top-missing, top-unfit, top-there, top-like, made_by, inst-like, paths_in-same, total-same}
 use Rattle.order_laws.proofs.Joining.{Setting, SameNamed, named-same, ports_of, pairs-same, bindings_in-like, pair-like, elab-back}
 use Rattle.order_laws.proofs.Faulting.{LikeFault, fault-back, is_out, is_zero, is_bad}
 use Rattle.order_laws.proofs.Twices.{contains-same, twice-same}
+use Rattle.base.proofs.ContainsLaws.{Contains-flat_map, Contains-from_filter_map, Contains-from_flat_map}
+use Rattle.base.proofs.FindLaws.{find-some}
+use Rattle.base.proofs.OptionLaws.{made_of_two}
 
 -- ---- what both have
 

@@ -13,12 +13,12 @@ use Rattle.darwin_types.specs.Faults.FaultIn.{two_ports, two_arrays}
 use Rattle.darwin_walk.specs.Value.{Env, Value, integer, out_of_range, zero_divisor, value}
 use Rattle.darwin_walk.specs.Reached.{Reached, valued, made, bound, port_size, array_size, reached, reached_in}
 use Rattle.darwin_walk.specs.Instance.{integers, Child, values, element_arguments, element_child, children_of, children, End, Binding, end_value, bindings_of, bindings}
-use Rattle.darwin_types.proofs.Lists.{Contains-here, Contains-one, Contains-nil, Contains-flat_map, Contains-from_flat_map}
-use Rattle.elaborator.proofs.Lists.{find-some}
 use Rattle.order_laws.specs.Reordering.{Reordered, no_elements, kept, SamePort, SameArray, SameEntry, same_single, same_element, SameBinding, SameStmts, SameComponent, SameDescription, through, through_stmts}
 use Rattle.order_laws.proofs.Finding.{Both, neither, both_there, Both-sym, Both-refl, Both-trans, hits, hits-count, agree}
 use Rattle.order_laws.proofs.Statements.{same_stmts-sym, same_stmts-refl, entries-same, SameReached, same_valued, same_turn, same_made, same_bound, same_reached-refl, same_reached-trans, ReachesSame, reached-same}
 use Rattle.order_laws.proofs.Reorders.{length-same, reordered-sym, reordered-same, reordered-append, reordered-map, reordered-flat_map, like_in}
+use Rattle.base.proofs.ContainsLaws.{Contains-flat_map, Contains-from_flat_map, Contains-here, Contains-nil, Contains-one}
+use Rattle.base.proofs.FindLaws.{find-some}
 
 -- ---- look-ups
 

@@ -10,20 +10,20 @@ use Rattle.darwin_parser.specs.Tree.{Name, Tree, Expr, ArrayDecl, PortRef, InstE
 use Rattle.darwin_types.specs.Scope.{component_named, array_named, is_primitive}
 use Rattle.darwin_walk.specs.Value.{Env, Value, integer, out_of_range, zero_divisor, value}
 use Rattle.darwin_walk.specs.Reached.{Reached, made, reached}
-use Rattle.darwin_walk.specs.Instance.{Child, children, End, Binding, values, element_arguments, value_fault, index_fault, element_faults, inner_faults, end_faults, faults_of, faults}
+use Rattle.darwin_walk.specs.Instance.{Child, children, End, Binding, values, element_arguments, value_fault, index_fault, element_faults, inner_faults, end_faults, faults_of, instance_faults}
 use Rattle.darwin_walk.specs.declared.fault.Fault.{Fault}
 use Rattle.darwin_walk.specs.declared.fault.Fault.TheVariants.{OutOfRange, ZeroDivisor, BadIndex}
 use Rattle.elaborator.specs.Instances.{Instance, is_expanded, Inst}
 use Rattle.elaborator.specs.Bindings.{Named, named, bindings_in}
 use Rattle.elaborator.specs.Faults.{is_kind_argument, kind_faults, port_faults, own_faults, faults_in}
 use Rattle.order_laws.specs.Reordering.{SameArray, SameEntry, same_single, same_element}
-use Rattle.darwin_types.proofs.Lists.{Contains-nil, Contains-map, Contains-from_map, Contains-flat_map, Contains-from_flat_map}
 use Rattle.order_laws.proofs.Finding.{Both, neither, both_there}
 use Rattle.order_laws.proofs.Reorders.{comes_of}
 use Rattle.order_laws.proofs.Statements.{SameReached, same_valued, same_turn, same_made, same_bound, same_reached-trans}
 use Rattle.order_laws.proofs.Children.{Alike, AlikeTrees, alike_trees-sym, is_primitive-same, reached-alike, arguments-same, SameChild, same_child-trans, children-same, SameBound}
 use Rattle.order_laws.proofs.Instances.{SameInstance, is_expanded-same}
 use Rattle.order_laws.proofs.Joining.{Setting, SameNamed, named-same, bindings_in-like}
+use Rattle.base.proofs.ContainsLaws.{Contains-flat_map, Contains-from_flat_map, Contains-from_map, Contains-map, Contains-nil}
 
 -- the fault at this place
 abbrev pub moved : At → Fault → Fault
@@ -196,23 +196,23 @@ binding_faults-same o t u top top' setting i i' inst same b b' ends =
 abbrev pub LikeFault : At → List Fault → Fault → Type 0
 LikeFault o fs f = (f' : Fault) × Contains fs f' × (moved o f ≡ moved o f')
 
-own_faults-expanded : (t : Tree) (i : Instance) → is_expanded i ≡ true → own_faults t i ≡ faults i.component i.env ++ flat_map (kind_faults t) (children i.component i.env)
+own_faults-expanded : (t : Tree) (i : Instance) → is_expanded i ≡ true → own_faults t i ≡ instance_faults i.component i.env ++ flat_map (kind_faults t) (children i.component i.env)
 own_faults-expanded t i is = rw is refl
 
 own_faults-closed : (t : Tree) (i : Instance) → is_expanded i ≡ false → own_faults t i ≡ []
 own_faults-closed t i is = rw is refl
 
 shown-like :
-    (o : At) (t u : Tree) → AlikeTrees t u → (c d : Component) → Alike c d → (env : Env) (f : Fault) → Contains (faults c env ++ flat_map (kind_faults t) (children c env)) f
-    → LikeFault o (faults d env ++ flat_map (kind_faults u) (children d env)) f
+    (o : At) (t u : Tree) → AlikeTrees t u → (c d : Component) → Alike c d → (env : Env) (f : Fault) → Contains (instance_faults c env ++ flat_map (kind_faults t) (children c env)) f
+    → LikeFault o (instance_faults d env ++ flat_map (kind_faults u) (children d env)) f
 shown-like o t u trees c d same env f there =
-    elim (Contains-append_cases (faults c env) (flat_map (kind_faults t) (children c env)) f there) [
+    elim (Contains-append_cases (instance_faults c env) (flat_map (kind_faults t) (children c env)) f there) [
       | inl of_values ↦
           let w = comes_of SameReached same_reached-trans (moved o) (faults_of c env) (faults_of d env) (faults_of-same o c d same env) (reached c env) (reached d env) f (reached-alike c d same env) of_values in
-          (w.0, Contains-append_left (faults d env) (flat_map (kind_faults u) (children d env)) w.0 w.1, w.2)
+          (w.0, Contains-append_left (instance_faults d env) (flat_map (kind_faults u) (children d env)) w.0 w.1, w.2)
       | inr of_kinds ↦
           let w = comes_of SameChild same_child-trans (moved o) (kind_faults t) (kind_faults u) (kind_faults-same o t u trees) (children c env) (children d env) f (children-same c d same env) of_kinds in
-          (w.0, Contains-append_right (faults d env) (flat_map (kind_faults u) (children d env)) w.0 w.1, w.2)
+          (w.0, Contains-append_right (instance_faults d env) (flat_map (kind_faults u) (children d env)) w.0 w.1, w.2)
     ]
 
 own-like : (o : At) (t u : Tree) → AlikeTrees t u → (i j : Instance) → SameInstance i j → (f : Fault) → Contains (own_faults t i) f → LikeFault o (own_faults u j) f
@@ -220,7 +220,7 @@ own-like o t u trees i j same f there = by (is_expanded i) refl
   where
     by : (b : Bool) → is_expanded i ≡ b → LikeFault o (own_faults u j) f
     by true is =
-        let here = subst (λ fs. Contains fs f) (own_faults-expanded t i is ∙ ap (λ env. faults i.component env ++ flat_map (kind_faults t) (children i.component env)) same.env) there in
+        let here = subst (λ fs. Contains fs f) (own_faults-expanded t i is ∙ ap (λ env. instance_faults i.component env ++ flat_map (kind_faults t) (children i.component env)) same.env) there in
         let w = shown-like o t u trees i.component j.component same.component j.env f here in
         (w.0, subst (λ fs. Contains fs w.0) (sym (own_faults-expanded u j (sym (is_expanded-same i j same) ∙ is))) w.1, w.2)
     by false is = absurd (Contains-nil f (subst (λ fs. Contains fs f) (own_faults-closed t i is) there))

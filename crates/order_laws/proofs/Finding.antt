@@ -3,9 +3,9 @@ use Rattle.std.proofs.Common.{◌≡◌, ◌∙◌, ℕ, ◌+◌, ◌<◌, ◌�
 use Rattle.std.specs.List.{Contains, find, count_by}
 use Rattle.std.proofs.lemmas.List.Recursion.{is_count_by}
 use Rattle.std.proofs.lemmas.Option.{none-some}
-use Rattle.darwin_types.proofs.Lists.{Contains-nil, Contains-cons_cases}
-use Rattle.elaborator.proofs.Lists.{find-none, find-only, find-some}
 use Rattle.order_laws.specs.Reordering.{Reordered, no_elements, kept, swapped, through}
+use Rattle.base.proofs.ContainsLaws.{Contains-cons_cases, Contains-nil}
+use Rattle.base.proofs.FindLaws.{find-none, find-only, find-some}
 
 -- both are there and alike, or neither is there
 pub data Both {A B : Type 0} (Like : A → B → Type 0) : Option A → Option B → Type 0 where

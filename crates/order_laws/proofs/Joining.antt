@@ -6,7 +6,7 @@ use Rattle.std.specs.Str.{bytes_eq}
 use Rattle.std.proofs.lemmas.Slice.Eq.{bytes_eq-Decides}
 use Rattle.config_graph.specs.declared.node.Node.{Node}
 use Rattle.config_graph.specs.declared.node.Link.{Link}
-use Rattle.config_graph.specs.Graph.{Configuration}
+use Rattle.config_graph.specs.Graph.{Graph}
 use Rattle.config_graph.specs.GraphBy.{AreLinkedAt}
 use Rattle.darwin_parser.specs.declared.tree.Side.{Side}
 use Rattle.darwin_parser.specs.declared.tree.Side.TheVariants.{Provide, Require}
@@ -15,15 +15,15 @@ use Rattle.darwin_types.specs.Scope.{port_named}
 use Rattle.darwin_walk.specs.Instance.{Segment, End, Binding, bindings}
 use Rattle.elaborator.specs.Paths.{within}
 use Rattle.elaborator.specs.Instances.{Instance, made_in, is_expanded, Inst, below}
-use Rattle.elaborator.specs.Bindings.{Port, instance_at, Named, named, port_of, may_lead, Pair, pair_of, bindings_in, Bound, bound, Leads, at_once, through}
+use Rattle.elaborator.specs.Bindings.{Port, instance_at, Named, named, named_port, may_lead, Pair, pair_of, bindings_in, Bound, bound, BoundThrough, at_once, through}
 use Rattle.elaborator.specs.Graph.{IsNode, port_at, Linked, IsLink, IsElab}
-use Rattle.darwin_types.proofs.Lists.{Contains-nil, Contains-flat_map, Contains-from_flat_map, Contains-map, Contains-from_map}
-use Rattle.elaborator.proofs.ChildLemmas.{depth-made}
-use Rattle.elaborator.proofs.PairLemmas.{pair-forward, pair-backward, pair-of_no_form, pair-no_left, pair-no_right}
+use Rattle.elaborator.proofs.ChildLaws.{depth-made}
+use Rattle.elaborator.proofs.PairLaws.{pair-forward, pair-backward, pair-of_no_form, pair-no_left, pair-no_right}
 use Rattle.order_laws.specs.Reordering.{SamePort}
 use Rattle.order_laws.proofs.Finding.{Both, neither, both_there, Both-find}
 use Rattle.order_laws.proofs.Children.{AlikeTrees, alike_trees-sym, SameBound, bindings-like}
 use Rattle.order_laws.proofs.Instances.{SameInstance, same_instance-sym, is_expanded-same, made_in-covers, made_in-covered, inst-like, node_of-same}
+use Rattle.base.proofs.ContainsLaws.{Contains-flat_map, Contains-from_flat_map, Contains-from_map, Contains-map, Contains-nil}
 
 -- two descriptions that are alike, with their tops; in the first a path tells an instance
 pub record Setting (t u : Tree) (top top' : Instance) : Type 0 where
@@ -85,7 +85,7 @@ pub named-same :
 named-same t u top top' setting i i' inst same e =
     named-with_instance t u i i' e (instance_at t i e.inner) (instance_at u i' e.inner) refl refl (instance_at-same t u top top' setting i i' inst same e.inner)
 
-port_of-same : (x y : Named) → SameNamed x y → port_of x ≡ port_of y
+port_of-same : (x y : Named) → SameNamed x y → named_port x ≡ named_port y
 port_of-same x y same = rw (same.instance.path, same.instance.depth, same.decl.side, same.decl.name, same.index) refl
 
 pub may_lead-same : (x x' y y' : Named) → SameNamed x x' → SameNamed y y' → may_lead x y ≡ may_lead x' y'
@@ -118,11 +118,11 @@ pairs-both t u i i' b b' x x' y y' left left' right right' same same' = by (may_
     by : (f g : Bool) → may_lead x y ≡ f → may_lead y x ≡ g → map ports_of (pair_of t i b) ≡ map ports_of (pair_of u i' b')
     by true g is is' =
         ap (map ports_of) (pair-forward t i b x y left right is)
-        ∙ joined (port_of x) (port_of x') (port_of y) (port_of y') (port_of-same x x' same) (port_of-same y y' same')
+        ∙ joined (named_port x) (named_port x') (named_port y) (named_port y') (port_of-same x x' same) (port_of-same y y' same')
         ∙ ap (map ports_of) (sym (pair-forward u i' b' x' y' left' right' (sym forward' ∙ is)))
     by false true is is' =
         ap (map ports_of) (pair-backward t i b x y left right is is')
-        ∙ joined (port_of y) (port_of y') (port_of x) (port_of x') (port_of-same y y' same') (port_of-same x x' same)
+        ∙ joined (named_port y) (named_port y') (named_port x) (named_port x') (port_of-same y y' same') (port_of-same x x' same)
         ∙ ap (map ports_of) (sym (pair-backward u i' b' x' y' left' right' (sym forward' ∙ is) (sym backward' ∙ is')))
     by false false is is' =
         ap (map ports_of) (pair-of_no_form t i b x y left right is is' ∙ sym (pair-of_no_form u i' b' x' y' left' right' (sym forward' ∙ is) (sym backward' ∙ is')))
@@ -197,7 +197,7 @@ bound-back t u top top' setting _ _ (bound j p inst there) =
     let q = pair-like u t j i.0 from.0 b.0 (sym (pairs-same t u top top' setting i.0 j i.1 same b.0 from.0 ends)) p from.2 in
     bound_by t top i.0 b.0 p q.0 i.1 b.1 q.1 q.2
 
-pub leads-by : (t u : Tree) (top top' : Instance) → ((x y : Port) → Bound t top x y → Bound u top' x y) → (x y : Port) → Leads t top x y → Leads u top' x y
+pub leads-by : (t u : Tree) (top top' : Instance) → ((x y : Port) → Bound t top x y → Bound u top' x y) → (x y : Port) → BoundThrough t top x y → BoundThrough u top' x y
 leads-by t u top top' turn _ _ (at_once x y joined) = at_once x y (turn x y joined)
 leads-by t u top top' turn _ _ (through x y z joined more_) = through x y z (turn x y joined) (leads-by t u top top' turn y z more_)
 
@@ -206,7 +206,7 @@ leads-by t u top top' turn _ _ (through x y z joined more_) = through x y z (tur
 -- what is needed to take the nodes and links of one description over to another
 record Turns (t u : Tree) (top top' : Instance) : Type 0 where
   inst : (i : Instance) → Inst t top i → (j : Instance) × Inst u top' j × SameInstance i j
-  leads : (x y : Port) → Leads t top x y → Leads u top' x y
+  leads : (x y : Port) → BoundThrough t top x y → BoundThrough u top' x y
 
 abbrev node-like : (t u : Tree) (top top' : Instance) → Turns t u top top' → (n : Node) → IsNode t top n → IsNode u top' n
 node-like t u top top' turns n is =
@@ -229,8 +229,8 @@ linked-like t u top top' turns a r b p is =
       requires_it = is.requires_it;
       provides_it = is.provides_it;
       leads =
-          subst (λ x. Leads u top' x (port_at to.0 Provide is.provided.name)) (port_at-same is.from.instance from.0 Require is.required from.2)
-          (subst (λ y. Leads u top' (port_at is.from.instance Require is.required) y) (port_at-same is.to.instance to.0 Provide is.provided.name to.2) (turns.leads _ _ is.leads));
+          subst (λ x. BoundThrough u top' x (port_at to.0 Provide is.provided.name)) (port_at-same is.from.instance from.0 Require is.required from.2)
+          (subst (λ y. BoundThrough u top' (port_at is.from.instance Require is.required) y) (port_at-same is.to.instance to.0 Provide is.provided.name to.2) (turns.leads _ _ is.leads));
     }
 
 link-like :
@@ -244,7 +244,7 @@ link-like t u top top' turns nodes i r j x is = record {
   linked = linked-like t u top top' turns is.from r is.to x is.linked;
 }
 
-elab-by : (t u : Tree) (top top' : Instance) → Turns t u top top' → Turns u t top' top → (g : Configuration) → IsElab t top g → IsElab u top' g
+elab-by : (t u : Tree) (top top' : Instance) → Turns t u top top' → Turns u t top' top → (g : Graph) → IsElab t top g → IsElab u top' g
 elab-by t u top top' onward back g is = record {
   paths_rise = is.paths_rise;
   nodes_are = λ n. ((λ there. node-like t u top top' onward n ((is.nodes_are n).0 there)), (λ made. (is.nodes_are n).1 (node-like u t top' top back n made)));
@@ -265,8 +265,8 @@ back t u top top' setting = record {
 }
 
 -- the graph of the one description is that of the other
-pub elab-like : (t u : Tree) (top top' : Instance) → Setting t u top top' → (g : Configuration) → IsElab t top g → IsElab u top' g
+pub elab-like : (t u : Tree) (top top' : Instance) → Setting t u top top' → (g : Graph) → IsElab t top g → IsElab u top' g
 elab-like t u top top' setting = elab-by t u top top' (onward t u top top' setting) (back t u top top' setting)
 
-pub elab-back : (t u : Tree) (top top' : Instance) → Setting t u top top' → (g : Configuration) → IsElab u top' g → IsElab t top g
+pub elab-back : (t u : Tree) (top top' : Instance) → Setting t u top top' → (g : Graph) → IsElab u top' g → IsElab t top g
 elab-back t u top top' setting = elab-by u t top' top (back t u top top' setting) (onward t u top top' setting)

@@ -14,16 +14,13 @@ use Rattle.darwin_parser.specs.declared.tree.Side.{Side}
 use Rattle.darwin_parser.specs.declared.tree.Side.TheVariants.{Provide, Require}
 use Rattle.darwin_parser.specs.Tree.{Name, Tree, Expr, PortDecl, ArrayDecl, InstEntry, Stmts, Component}
 use Rattle.darwin_parser.specs.Tree.InstEntry.{element}
-use Rattle.darwin_types.specs.Scope.{component_named, entries_of, port_named, array_named, singles_of, instances_of, instance_component, Made, made_by}
+use Rattle.darwin_types.specs.Scope.{component_named, entries_of, port_named, array_named, singles_of, instances_of, instance_component, Instantiation, made_by}
 use Rattle.darwin_types.specs.Primitive.{ports_of_kind, is_port, has_port, is_port_of, has_only_ports_of, has_ports_on, has_ports_of, params_of_kind, is_end, is_bare, is_like_kind}
 use Rattle.darwin_types.specs.Faults.{is_repeated, FaultIn, NoFault}
 use Rattle.darwin_types.specs.Faults.FaultIn.{two_params, two_ports, two_arrays, array_and_single, two_singles, two_values, unknown_value, unknown_array, unknown_instance, unknown_inner_port, unknown_outer_port, unknown_component, arg_count, unknown_kind, kind_ports}
 use Rattle.darwin_types.specs.Faults.Fault.{two_components, within}
 use Rattle.darwin_types.specs.declared.error.TypeError.{TypeError}
-use Rattle.darwin_types.proofs.Repeats.{same_bytes, bytes_eq_self}
-use Rattle.darwin_types.proofs.Found.{different_bytes, is_some-find_from, is_some-lookup_from}
 use Rattle.order_laws.specs.Reordering.{Reordered, SamePort, SameArray, SameEntry, same_single, same_element, SameStmts, no_stmts, kept_stmt, swapped_stmts, through_stmts, SameComponent, SameDescription}
-use Rattle.darwin_types.proofs.Lists.{Contains-from_map}
 use Rattle.order_laws.proofs.Finding.{Both, neither, both_there, hits, passes_once}
 use Rattle.order_laws.proofs.Reorders.{reordered-sym, reordered-map, length-same, sum-same, all-same, any-same, like_in}
 use Rattle.order_laws.proofs.Statements.{same_stmts-sym, same_entry-trans, entries-same}
@@ -31,6 +28,9 @@ use Rattle.order_laws.proofs.Children.{Alike, AlikeTrees, alike_trees, alike_of,
 use Rattle.order_laws.proofs.Twices.{contains-same}
 use Rattle.order_laws.proofs.Accepting.{both-none, both-some}
 use Rattle.order_laws.proofs.Placing.{declared, value-there, variable-there, end-there, singles-same, instances-same}
+use Rattle.base.proofs.BytesLaws.{bytes_eq_self, different_bytes, is_some-lookup_from, same_bytes}
+use Rattle.base.proofs.ContainsLaws.{Contains-from_map}
+use Rattle.base.proofs.FindLaws.{is_some-find_from}
 
 repeated-same :
     {A : Type 0} (R : A → A → Type 0) (f : A → Name) → ((a b : A) → R a b → f a ≡ f b) → (xs ys : List A) → Reordered R xs ys → (x : Name)
@@ -109,7 +109,7 @@ element-like :
     → (at' : At) × (e ≡ element array index args at')
 element-like array index args at _ (same_element _ _ _ _ at') = (at', refl)
 
-abbrev made_of : Name → Option (List Expr) → Name → Option (List Expr) → Made
+abbrev made_of : Name → Option (List Expr) → Name → Option (List Expr) → Instantiation
 made_of x args component others = record { name = x; component = component; args = unwrap_or (option_or args others) [] }
 
 made_by-array :

@@ -4,37 +4,37 @@ use Rattle.std.specs.List.{Contains, flat_map}
 use Rattle.std.specs.Option.{option_to_list}
 use Rattle.darwin_parser.specs.Tree.{Name, Expr, PortDecl, ArrayDecl, PortRef, InstEntry, Stmt, Stmts, Component}
 use Rattle.darwin_types.specs.Scope.{entries_of, single_of, singles_of, instances_of}
-use Rattle.darwin_types.specs.Places.{Place, value, variable, entry, binding_end, values, args_of, end_places, entry_places, stmt_places, body_places, port_places, array_places, places}
+use Rattle.darwin_types.specs.Places.{NameUse, value, variable, entry, binding_end, values, args_of, end_places, entry_places, stmt_places, body_places, port_places, array_places, places}
 use Rattle.order_laws.specs.Reordering.{Reordered, no_elements, kept, through, SamePort, SameArray, SameEntry, same_single, same_element, SameStmt, same_inst, same_bind, same_forall, same_when, SameStmts, no_stmts, kept_stmt, swapped_stmts, through_stmts, SameComponent}
 use Rattle.order_laws.proofs.Reorders.{reordered-is, reordered-append, swapped_likes, reordered-map, reordered-flat_map, like_in}
 use Rattle.order_laws.proofs.Statements.{entries-same}
 
 -- the same place, but for entries, which may be any
-pub data SamePlace : Place → Place → Type 0 where
+pub data SamePlace : NameUse → NameUse → Type 0 where
   is_value : (scope : List Name) (e : Expr) → SamePlace (value scope e) (value scope e)
   is_variable : (scope : List Name) (x : Name) → SamePlace (variable scope x) (variable scope x)
   is_entry : (e e' : InstEntry) → SamePlace (entry e) (entry e')
   is_end : (e : PortRef) → SamePlace (binding_end e) (binding_end e)
 
-same_place-refl : (p : Place) → SamePlace p p
+same_place-refl : (p : NameUse) → SamePlace p p
 same_place-refl (value scope e) = is_value scope e
 same_place-refl (variable scope x) = is_variable scope x
 same_place-refl (entry e) = is_entry e e
 same_place-refl (binding_end e) = is_end e
 
-entry_after : (d e : InstEntry) (p : Place) → SamePlace (entry e) p → SamePlace (entry d) p
+entry_after : (d e : InstEntry) (p : NameUse) → SamePlace (entry e) p → SamePlace (entry d) p
 entry_after d e _ (is_entry _ f) = is_entry d f
 
-same_place-trans : (x y z : Place) → SamePlace x y → SamePlace y z → SamePlace x z
+same_place-trans : (x y z : NameUse) → SamePlace x y → SamePlace y z → SamePlace x z
 same_place-trans _ _ z (is_value scope e) other = other
 same_place-trans _ _ z (is_variable scope x) other = other
 same_place-trans _ _ z (is_entry d e) other = entry_after d e z other
 same_place-trans _ _ z (is_end e) other = other
 
-abbrev SamePlaces : List Place → List Place → Type 0
+abbrev SamePlaces : List NameUse → List NameUse → Type 0
 SamePlaces ps others = Reordered SamePlace ps others
 
-equal : (ps others : List Place) → ps ≡ others → SamePlaces ps others
+equal : (ps others : List NameUse) → ps ≡ others → SamePlaces ps others
 equal ps others is = reordered-is SamePlace same_place-refl ps others is
 
 entry_places-same : (scope : List Name) (e e' : InstEntry) → SameEntry e e' → SamePlaces (entry_places scope e) (entry_places scope e')
@@ -86,16 +86,16 @@ places-same c d same =
     (places-with c.params c d same)
 
 -- the place is one of the same component
-abbrev place-like : (c d : Component) → SameComponent c d → (p : Place) → Contains (places c) p → (q : Place) × Contains (places d) q × SamePlace p q
+abbrev place-like : (c d : Component) → SameComponent c d → (p : NameUse) → Contains (places c) p → (q : NameUse) × Contains (places d) q × SamePlace p q
 place-like c d same p there = like_in SamePlace same_place-trans (places c) (places d) p (places-same c d same) there
 
-value_only : (scope : List Name) (e : Expr) (p : Place) → SamePlace (value scope e) p → p ≡ value scope e
+value_only : (scope : List Name) (e : Expr) (p : NameUse) → SamePlace (value scope e) p → p ≡ value scope e
 value_only scope e _ (is_value _ _) = refl
 
-variable_only : (scope : List Name) (x : Name) (p : Place) → SamePlace (variable scope x) p → p ≡ variable scope x
+variable_only : (scope : List Name) (x : Name) (p : NameUse) → SamePlace (variable scope x) p → p ≡ variable scope x
 variable_only scope x _ (is_variable _ _) = refl
 
-end_only : (e : PortRef) (p : Place) → SamePlace (binding_end e) p → p ≡ binding_end e
+end_only : (e : PortRef) (p : NameUse) → SamePlace (binding_end e) p → p ≡ binding_end e
 end_only e _ (is_end _) = refl
 
 pub value-there : (c d : Component) → SameComponent c d → (scope : List Name) (e : Expr) → Contains (places c) (value scope e) → Contains (places d) (value scope e)

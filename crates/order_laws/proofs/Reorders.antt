@@ -4,8 +4,8 @@ use Rattle.std.specs.List.{list_all, list_any, Contains, flat_map, filter_map, s
 use Rattle.std.specs.Option.{option_to_list}
 use Rattle.std.proofs.lemmas.List.Sums.{sum_by-cons}
 use Rattle.order_laws.specs.Reordering.{Reordered, no_elements, kept, swapped, through}
-use Rattle.darwin_types.proofs.Lists.{Contains-here, Contains-there, Contains-nil, Contains-cons_cases, Contains-map, Contains-from_map, Contains-flat_map, Contains-from_flat_map}
 use Rattle.order_laws.proofs.Finding.{Both, neither, both_there}
+use Rattle.base.proofs.ContainsLaws.{Contains-cons_cases, Contains-flat_map, Contains-from_flat_map, Contains-from_map, Contains-here, Contains-map, Contains-nil, Contains-there}
 
 pub reordered-sym : {A : Type 0} (R : A → A → Type 0) → ((x y : A) → R x y → R y x) → (xs ys : List A) → Reordered R xs ys → Reordered R ys xs
 reordered-sym R turn _ _ no_elements = no_elements

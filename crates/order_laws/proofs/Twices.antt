@@ -2,12 +2,11 @@
 use Rattle.std.proofs.Common.{◌≡◌, ◌∙◌, ◌⊎◌, inl, inr, ℕ, zero, suc, ◌<◌, List, ◌∷◌, Some, refl, sym, subst, arith}
 use Rattle.std.specs.List.{Contains}
 use Rattle.elaborator.specs.Faults.{Twice}
-use Rattle.darwin_types.proofs.Lists.{Contains-here, Contains-there, Contains-cons_cases}
-use Rattle.elaborator.proofs.Places.{twice_there, twice_at}
-use Rattle.elaborator.proofs.LawLemmas.{twice_cases}
-use Rattle.elaborator.proofs.WholeLemmas.{at_some_place}
+use Rattle.elaborator.proofs.TwiceLaws.{twice_there, twice_at}
+use Rattle.elaborator.proofs.InstanceLaws.{twice_cases}
 use Rattle.order_laws.specs.Reordering.{Reordered, no_elements, kept, swapped, through}
 use Rattle.order_laws.proofs.Reorders.{like_in}
+use Rattle.base.proofs.ContainsLaws.{Contains-cons_cases, Contains-here, Contains-there, at_some_place}
 
 pub contains-same : {A : Type 0} (xs ys : List A) (z : A) → Reordered ◌≡◌ xs ys → Contains xs z → Contains ys z
 contains-same xs ys z same there =

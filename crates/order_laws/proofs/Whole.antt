@@ -1,11 +1,11 @@
 -- A description, and the same in another order, step by step.
 use Rattle.std.proofs.Common.{ℤ, List}
-use Rattle.config_graph.specs.Graph.{Configuration}
+use Rattle.config_graph.specs.Graph.{Graph}
 use Rattle.darwin_parser.specs.Tree.{Name, Tree}
 use Rattle.darwin_types.specs.Faults.{NoFault}
-use Rattle.elaborator.specs.Elaboration.{HasNoFault, IsGraphOf}
+use Rattle.elaborator.specs.Elaboration.{HasNoFault, ElaboratesTo}
 use Rattle.elaborator.specs.declared.error.ElabError.TheVariants.{TwoInstances}
-use Rattle.elaborator.proofs.LawLemmas.{told-by_path}
+use Rattle.elaborator.proofs.InstanceLaws.{told-by_path}
 use Rattle.order_laws.specs.Accepted.{IsAccepted}
 use Rattle.order_laws.specs.Reordering.{SameComponent, SameDescription}
 use Rattle.order_laws.proofs.Reorders.{reordered-same, reordered-sym}
@@ -25,8 +25,8 @@ pub elaborating-like : (t u : Tree) (name : Name) (arguments : List ℤ) → Sam
 elaborating-like t u name arguments same sound lawful f = no_fault_back t u name arguments (alike_trees t u sound same) lawful f
 
 pub graph-like :
-    (t u : Tree) (name : Name) (arguments : List ℤ) (g : Configuration) → SameDescription t u → NoFault t → HasNoFault t name arguments
-    → IsGraphOf t name arguments g → IsGraphOf u name arguments g
+    (t u : Tree) (name : Name) (arguments : List ℤ) (g : Graph) → SameDescription t u → NoFault t → HasNoFault t name arguments
+    → ElaboratesTo t name arguments g → ElaboratesTo u name arguments g
 graph-like t u name arguments g same sound lawful is =
     let trees = alike_trees t u sound same in
     let top = top-like t u name arguments is.top trees is.is_top in
@@ -40,7 +40,7 @@ graph-like t u name arguments g same sound lawful is =
       }) g is.is_elab;
     }
 
-pub accepted-like : (t u : Tree) (name : Name) (arguments : List ℤ) (g : Configuration) → SameDescription t u → IsAccepted t name arguments g → IsAccepted u name arguments g
+pub accepted-like : (t u : Tree) (name : Name) (arguments : List ℤ) (g : Graph) → SameDescription t u → IsAccepted t name arguments g → IsAccepted u name arguments g
 accepted-like t u name arguments g same is = record {
   no_fault = no_fault_of_names t u same is.no_fault;
   elaborates = elaborating-like t u name arguments same is.no_fault is.elaborates;

@@ -1,17 +1,17 @@
 //! The order of what a description says means nothing for whether it is accepted, and for its graph.
 
 ghost use Rattle.std.specs.Prelude.{◌↔◌, ℤ, List};
-ghost use Rattle.config_graph.specs.Graph.{Configuration};
+ghost use Rattle.config_graph.specs.Graph.{Graph};
 ghost use Rattle.darwin_parser.specs.Tree.{Name, Tree};
 ghost use Rattle.darwin_types.specs.Faults.{NoFault};
-ghost use Rattle.elaborator.specs.Elaboration.{HasNoFault, IsGraphOf};
+ghost use Rattle.elaborator.specs.Elaboration.{HasNoFault, ElaboratesTo};
 ghost use Rattle.order_laws.specs.Accepted.{IsAccepted};
 ghost use Rattle.order_laws.specs.Reordering.{SameDescription};
 
 /// A description is accepted with a graph exactly where each description is that says the same in another order: with its
 /// components, and in a component the ports, the arrays and the statements, in any order and at any places.
 pub fn order_means_nothing()
-    ensures { (tree other : Tree) (name : Name) (arguments : List ℤ) (g : Configuration) → SameDescription tree other
+    ensures { (tree other : Tree) (name : Name) (arguments : List ℤ) (g : Graph) → SameDescription tree other
         → IsAccepted tree name arguments g ↔ IsAccepted other name arguments g }
 {}
 
@@ -21,8 +21,8 @@ pub fn order_means_nothing_at_each_step()
     ensures standing { (tree other : Tree) → SameDescription tree other → NoFault tree ↔ NoFault other }
     ensures elaborating { (tree other : Tree) (name : Name) (arguments : List ℤ) → SameDescription tree other → NoFault tree
         → HasNoFault tree name arguments ↔ HasNoFault other name arguments }
-    ensures graph { (tree other : Tree) (name : Name) (arguments : List ℤ) (g : Configuration) → SameDescription tree other → NoFault tree
-        → HasNoFault tree name arguments → IsGraphOf tree name arguments g ↔ IsGraphOf other name arguments g }
+    ensures graph { (tree other : Tree) (name : Name) (arguments : List ℤ) (g : Graph) → SameDescription tree other → NoFault tree
+        → HasNoFault tree name arguments → ElaboratesTo tree name arguments g ↔ ElaboratesTo other name arguments g }
 {}
 
 /// Each description says the same as itself, and what says the same in another order does so both ways, and over a third.

@@ -6,17 +6,17 @@ use Rattle.std.proofs.lemmas.Bool.{cases_eq, cases_lt, false≢true}
 use Rattle.std.proofs.lemmas.List.{get_or_append_left}
 use Rattle.std.proofs.lemmas.List.Elements.{All-append, All-contains, All-filter, All-map, All-same, All-weaker, Contains-append_left, Contains-get_or}
 use Rattle.std.proofs.lemmas.Option.{get_or_from_slice_get, none-some, slice_get_within, slice_get-get_or}
-use Rattle.config_graph.specs.Cycles.{IsLinked, depends_at, wiring_of}
-use Rattle.config_graph.specs.Graph.{Configuration, IsGraph, IsWithin, begins_at, ends_at, incoming_ports, link_at, port_number, ports, provides_at, requires_at}
+use Rattle.config_graph.specs.Cycles.{IsLinked, depends_at, graph_wiring}
+use Rattle.config_graph.specs.Graph.{Graph, IsGraph, IsLinkWithin, begins_at, ends_at, incoming_ports, link_at, port_number, ports, provides_at, requires_at}
 use Rattle.config_graph.specs.Kinds.{depends_on}
 use Rattle.config_graph.specs.Wiring.{Reach, direct, through}
 use Rattle.config_graph.specs.declared.node.Link.{Link}
 use Rattle.config_graph.specs.declared.node.Node.{Node}
 use Rattle.config_graph.specs.declared.node.Port.{Port}
 use Rattle.config_graph.specs.declared.node.Target.{Target}
-use Rattle.config_graph.proofs.IncomingLemmas.{incoming-linked}
-use Rattle.config_graph.proofs.LinkLemmas.{begins_there, Contains-find, find_passes, get-ports, port_number-place, require_within, target_within}
-use Rattle.config_graph.proofs.NumberingLemmas.{port_below}
+use Rattle.config_graph.proofs.IncomingLaws.{incoming-linked}
+use Rattle.config_graph.proofs.LinkLaws.{begins_there, get-ports, port_number-place, require_within, target_within}
+use Rattle.config_graph.proofs.NumberingLaws.{port_below}
 use Rattle.passive_set.specs.DirectSet.{IsLinkedTo}
 use Rattle.passive_set.specs.Feeding.{Closure, Feeds, FeedsMarked, FeedsNode, FeedsPort, Owns, SomeBelow}
 use Rattle.passive_set.specs.Feeding.Closure.{first, onward}
@@ -25,6 +25,7 @@ use Rattle.passive_set.specs.Ports.{Adds}
 use Rattle.config_graph.proofs.MarkLaws.{marked_more, marked_within}
 use Rattle.passive_set.proofs.MarkLemmas.{Contains_more, and_then, as_it_is, back, either, or_never}
 use Rattle.passive_set.proofs.PortLemmas.{Adds-has, Adds-more, Adds-same}
+use Rattle.base.proofs.FindLaws.{Contains-find, find_passes}
 
 -- one number more
 pub SomeBelow_more : (P : ℕ → Type 0) (n : ℕ) → SomeBelow (n + 1) P ↔ (SomeBelow n P ⊎ P n)
@@ -42,12 +43,12 @@ SomeBelow_more P n = (to, from)
     from (inr h) = (n, omega arith, h)
 
 -- the numbers of ports that are linked to a provision are those of ports
-pub incoming_below : (g : Configuration) → IsGraph g → (n x : ℕ) → All (λ p. p < length (ports g.nodes)) (incoming_ports g n x)
+pub incoming_below : (g : Graph) → IsGraph g → (n x : ℕ) → All (λ p. p < length (ports g.nodes)) (incoming_ports g n x)
 incoming_below g graph n x =
     let below : Link → Type 0 = λ l. port_number g.nodes l.from l.require < length (ports g.nodes) in
-    All-map (λ p. p < length (ports g.nodes)) (λ (l : Link). port_number g.nodes l.from l.require) (filter (ends_at n x) g.links) (All-filter (ends_at n x) below g.links (All-weaker (IsWithin g.nodes) below (λ l inside. port_below g.nodes l.from l.require inside.begins) g.links graph.within))
+    All-map (λ p. p < length (ports g.nodes)) (λ (l : Link). port_number g.nodes l.from l.require) (filter (ends_at n x) g.links) (All-filter (ends_at n x) below g.links (All-weaker (IsLinkWithin g.nodes) below (λ l inside. port_below g.nodes l.from l.require inside.begins) g.links graph.within))
 
-module _ (g : Configuration) (graph : IsGraph g) where
+module _ (g : Graph) (graph : IsGraph g) where
   -- a link begins at a requirement of a node
   linked_begins : (i r n x : ℕ) → IsLinked g i r n x → r < requires_at g.nodes i
   linked_begins i r n x h = by (link_at g.links i r) refl h
@@ -56,7 +57,7 @@ module _ (g : Configuration) (graph : IsGraph g) where
       by None e f = cc
       by (Some l) e f =
           let there = Contains-find (begins_at i r) g.links l e in
-          let inside : IsWithin g.nodes l = All-contains (IsWithin g.nodes) g.links l graph.within there in
+          let inside : IsLinkWithin g.nodes l = All-contains (IsLinkWithin g.nodes) g.links l graph.within there in
           let at = begins_there i r l (find_passes (begins_at i r) g.links l e) in
           subst (λ (p : ℕ × ℕ). p.1 < requires_at g.nodes p.0) (λ j. (at.0 j, at.1 j)) inside.begins
 
@@ -110,7 +111,7 @@ module _ (g : Configuration) (graph : IsGraph g) where
             }
 
     -- a port of the closure reaches a member
-    closure_reaches : HasLinked → (p : ℕ) → Closure g ps p → (q : Port) → slice_get (ports g.nodes) p ≡ Some q → (n : ℕ) × set n × Reach (wiring_of g) n q
+    closure_reaches : HasLinked → (p : ℕ) → Closure g ps p → (q : Port) → slice_get (ports g.nodes) p ≡ Some q → (n : ℕ) × set n × Reach (graph_wiring g) n q
     closure_reaches ports_are p (first h) q at =
         let l = listed_from ports_are p q.node q.require at h in
         (l.0, l.2, direct l.3)
@@ -122,7 +123,7 @@ module _ (g : Configuration) (graph : IsGraph g) where
         (earlier.0, earlier.1, through earlier.2 (refl, feeds.feeds.2.0) linked)
 
     -- a port that reaches a node is one
-    reach_begins : (n : ℕ) (q : Port) → Reach (wiring_of g) n q → q.require < requires_at g.nodes q.node
+    reach_begins : (n : ℕ) (q : Port) → Reach (graph_wiring g) n q → q.require < requires_at g.nodes q.node
     reach_begins n _ (direct {p} {x} h) = linked_begins p.node p.require n x h
     reach_begins n _ (through {q} {m} {x} before d h) = linked_begins q.node q.require m x h
 
@@ -130,7 +131,7 @@ module _ (g : Configuration) (graph : IsGraph g) where
     number_of q = port_number g.nodes q.node q.require
 
     -- a port that reaches a member is in the closure
-    reach_closed : HasLinked → (n : ℕ) (q : Port) → set n → Reach (wiring_of g) n q → Closure g ps (number_of q)
+    reach_closed : HasLinked → (n : ℕ) (q : Port) → set n → Reach (graph_wiring g) n q → Closure g ps (number_of q)
     reach_closed ports_are n _ member (direct {p} {x} h) = first (listed_to ports_are p.node p.require n x member h)
     reach_closed ports_are n _ member (through {p} {q} {m} {x} before d h) =
         onward (reach_closed ports_are n p member before) (record {
@@ -142,18 +143,18 @@ module _ (g : Configuration) (graph : IsGraph g) where
         })
 
     -- the owners of the ports that reach members
-    pub Owns-reach : HasLinked → (all : List ℕ) → ((p : ℕ) → Contains all p ↔ Closure g ps p) → (i : ℕ) → Owns g all i ↔ ((n : ℕ) × (r : ℕ) × set n × Reach (wiring_of g) n (record { node = i; require = r }))
+    pub Owns-reach : HasLinked → (all : List ℕ) → ((p : ℕ) → Contains all p ↔ Closure g ps p) → (i : ℕ) → Owns g all i ↔ ((n : ℕ) × (r : ℕ) × set n × Reach (graph_wiring g) n (record { node = i; require = r }))
     Owns-reach ports_are all closed i = (to, from)
       where
-        to : Owns g all i → (n : ℕ) × (r : ℕ) × set n × Reach (wiring_of g) n (record { node = i; require = r })
+        to : Owns g all i → (n : ℕ) × (r : ℕ) × set n × Reach (graph_wiring g) n (record { node = i; require = r })
         to o =
             let reaches = closure_reaches ports_are o.number ((closed o.number).0 o.there) (record { node = i; require = o.require }) o.at in
             (reaches.0, o.require, reaches.1, reaches.2)
 
-        from : (n : ℕ) × (r : ℕ) × set n × Reach (wiring_of g) n (record { node = i; require = r }) → Owns g all i
+        from : (n : ℕ) × (r : ℕ) × set n × Reach (graph_wiring g) n (record { node = i; require = r }) → Owns g all i
         from h =
             let q : Port = record { node = i; require = h.1 } in
-            let reach : Reach (wiring_of g) h.0 q = h.3 in
+            let reach : Reach (graph_wiring g) h.0 q = h.3 in
             record {
               number = number_of q;
               require = h.1;
@@ -162,7 +163,7 @@ module _ (g : Configuration) (graph : IsGraph g) where
             }
 
 -- the owners of the ports as far as one place more
-pub Owns_more : (g : Configuration) (ps : List ℕ) (k p d : ℕ) (port : Port) → k < length ps → p ≡ get_or ps k d → slice_get (ports g.nodes) p ≡ Some port → (i : ℕ) → Owns g (take (k + 1) ps) i ↔ (Owns g (take k ps) i ⊎ (port.node ≡ i))
+pub Owns_more : (g : Graph) (ps : List ℕ) (k p d : ℕ) (port : Port) → k < length ps → p ≡ get_or ps k d → slice_get (ports g.nodes) p ≡ Some port → (i : ℕ) → Owns g (take (k + 1) ps) i ↔ (Owns g (take k ps) i ⊎ (port.node ≡ i))
 Owns_more g ps k p d port low p_is at i = (to, from)
   where
     to : Owns g (take (k + 1) ps) i → Owns g (take k ps) i ⊎ (port.node ≡ i)
@@ -190,13 +191,13 @@ Owns_more g ps k p d port low p_is at i = (to, from)
     }
 
 -- how far a closure has come: its first ports are done, and all that feed these are there
-pub record SoFar (g : Configuration) (start now : List ℕ) (next : ℕ) : Type 0 where
+pub record SoFar (g : Graph) (start now : List ℕ) (next : ℕ) : Type 0 where
   pub later : List ℕ
   pub is : now ≡ start ++ later
   pub sound : All (Closure g start) now
   pub closed : (k d q : ℕ) → k < next → k < length now → Feeds g (get_or now k d) q → Contains now q
 
-pub SoFar-start : (g : Configuration) (start : List ℕ) → SoFar g start start 0
+pub SoFar-start : (g : Graph) (start : List ℕ) → SoFar g start start 0
 SoFar-start g start = record {
   later = [];
   is = sym (append-nil start);
@@ -205,7 +206,7 @@ SoFar-start g start = record {
 }
 
 -- one port more is done
-pub SoFar_more : (g : Configuration) (start now new : List ℕ) (next p : ℕ) → SoFar g start now next → slice_get now next ≡ Some p → Adds now new (Feeds g p) → SoFar g start new (next + 1)
+pub SoFar_more : (g : Graph) (start now new : List ℕ) (next p : ℕ) → SoFar g start now next → slice_get now next ≡ Some p → Adds now new (Feeds g p) → SoFar g start new (next + 1)
 SoFar_more g start now new next p so_far at adds = record {
   later = so_far.later ++ adds.later;
   is = adds.is ∙ ap (λ l. l ++ adds.later) so_far.is ∙ append_assoc start so_far.later adds.later;
@@ -239,7 +240,7 @@ SoFar_more g start now new next p so_far at adds = record {
         ]
 
 -- when all are done the list is the closure
-pub SoFar-done : (g : Configuration) (start now : List ℕ) (next : ℕ) → SoFar g start now next → slice_get now next ≡ None → (p : ℕ) → Contains now p ↔ Closure g start p
+pub SoFar-done : (g : Graph) (start now : List ℕ) (next : ℕ) → SoFar g start now next → slice_get now next ≡ None → (p : ℕ) → Contains now p ↔ Closure g start p
 SoFar-done g start now next so_far none p = (to, from p)
   where
     to : Contains now p → Closure g start p
@@ -258,7 +259,7 @@ SoFar-done g start now next so_far none p = (to, from p)
         let there = from p before in
         so_far.closed there.0 p q (omega (arith, there.1, all)) there.1 (subst (λ p. Feeds g p q) (sym there.2) feeds)
 
-module _ (g : Configuration) (n r x : ℕ) where
+module _ (g : Graph) (n r x : ℕ) where
   -- one provision more, which depends on the requirement
   pub FeedsPort_yes : (old mid new : List ℕ) → IsTrue (depends_at g.nodes n x r) → Adds old mid (FeedsPort g n r x) → Adds mid new (Contains (incoming_ports g n x)) → Adds old new (FeedsPort g n r (x + 1))
   FeedsPort_yes old mid new depends so_far adds =
@@ -274,7 +275,7 @@ module _ (g : Configuration) (n r x : ℕ) where
       Adds-same old mid (FeedsPort g n r x) (FeedsPort g n r (x + 1)) (λ p. and_then (or_never (never p)) (back (SomeBelow_more (one p) x))) so_far
 
 -- what feeds a port is linked to a provision that depends on it
-pub Feeds-port : (g : Configuration) (p : ℕ) (port : Port) → slice_get (ports g.nodes) p ≡ Some port → (q : ℕ) → FeedsPort g port.node port.require (provides_at g.nodes port.node) q ↔ Feeds g p q
+pub Feeds-port : (g : Graph) (p : ℕ) (port : Port) → slice_get (ports g.nodes) p ≡ Some port → (q : ℕ) → FeedsPort g port.node port.require (provides_at g.nodes port.node) q ↔ Feeds g p q
 Feeds-port g p port at q = (to, from)
   where
     to : FeedsPort g port.node port.require (provides_at g.nodes port.node) q → Feeds g p q
@@ -286,7 +287,7 @@ Feeds-port g p port at q = (to, from)
         let same : h.port ≡ port = cc in
         subst (λ (o : Port). FeedsPort g o.node o.require (provides_at g.nodes o.node) q) same h.feeds
 
-module _ (g : Configuration) (marks : List Bool) (n : ℕ) (mid : List ℕ) (so_far : (p : ℕ) → Contains mid p ↔ FeedsMarked g marks n p) where
+module _ (g : Graph) (marks : List Bool) (n : ℕ) (mid : List ℕ) (so_far : (p : ℕ) → Contains mid p ↔ FeedsMarked g marks n p) where
   abbrev here : ℕ → Type 0
   here p = IsMarked marks n × FeedsNode g n (provides_at g.nodes n) p
 
@@ -304,7 +305,7 @@ module _ (g : Configuration) (marks : List Bool) (n : ℕ) (mid : List ℕ) (so_
       and_then (so_far p) (and_then (or_never (λ h. false≢true (sym unset ∙ h.0))) (back (more_marked p)))
 
 -- the marks after the owner of one port more is marked
-pub owners_more : (g : Configuration) (start marks : List Bool) (ps : List ℕ) (k p d : ℕ) (port : Port) → k < length ps → p ≡ get_or ps k d → slice_get (ports g.nodes) p ≡ Some port → port.node < length marks → ((i : ℕ) → IsMarked marks i ↔ (IsMarked start i ⊎ Owns g (take k ps) i)) → (i : ℕ) → IsMarked (set marks port.node true) i ↔ (IsMarked start i ⊎ Owns g (take (k + 1) ps) i)
+pub owners_more : (g : Graph) (start marks : List Bool) (ps : List ℕ) (k p d : ℕ) (port : Port) → k < length ps → p ≡ get_or ps k d → slice_get (ports g.nodes) p ≡ Some port → port.node < length marks → ((i : ℕ) → IsMarked marks i ↔ (IsMarked start i ⊎ Owns g (take k ps) i)) → (i : ℕ) → IsMarked (set marks port.node true) i ↔ (IsMarked start i ⊎ Owns g (take (k + 1) ps) i)
 owners_more g start marks ps k p d port low p_is at within so_far i =
     and_then (marked_more marks port.node within i) (and_then (either (so_far i) as_it_is) (and_then grouped (either as_it_is (back (Owns_more g ps k p d port low p_is at i)))))
   where
@@ -312,7 +313,7 @@ owners_more g start marks ps k p d port low p_is at within so_far i =
     grouped = (⊎_elim (⊎_map (λ a. a) (λ b. inl b)) (λ c. inr (inr c)), ⊎_elim (λ a. inl (inl a)) (⊎_map (λ b. inr b) (λ c. c)))
 
 -- the nodes whose marks are set at the end
-pub members_are : (g : Configuration) (members marked all : List ℕ) (start marks : List Bool) (P : ℕ → Type 0) → ((i : ℕ) → IsMarked start i ↔ Contains members i) → ((i : ℕ) → Owns g all i ↔ P i) → ((i : ℕ) → IsMarked marks i ↔ (IsMarked start i ⊎ Owns g all i)) → ((i : ℕ) → Contains marked i ↔ IsMarked marks i) → (i : ℕ) → Contains marked i ↔ (Contains members i ⊎ P i)
+pub members_are : (g : Graph) (members marked all : List ℕ) (start marks : List Bool) (P : ℕ → Type 0) → ((i : ℕ) → IsMarked start i ↔ Contains members i) → ((i : ℕ) → Owns g all i ↔ P i) → ((i : ℕ) → IsMarked marks i ↔ (IsMarked start i ⊎ Owns g all i)) → ((i : ℕ) → Contains marked i ↔ IsMarked marks i) → (i : ℕ) → Contains marked i ↔ (Contains members i ⊎ P i)
 members_are g members marked all start marks P first_ owned then listed i =
     and_then (listed i) (and_then (then i) (either (first_ i) (owned i)))
 

@@ -1,15 +1,16 @@
 -- Lemmas on marks and on the list of those that are set.
-use Rattle.std.proofs.Common.{◌≡◌, ◌⊎◌, ◌↔◌, ℕ, zero, suc, ◌+◌, ◌<◌, ◌≤◌, Bool, true, false, cond, List, [], ◌∷◌, ◌++◌, length, take, set, get_or, sym, ◌∙◌, ap, subst, inl, arith, filter, Contains}
+use Rattle.std.proofs.Common.{◌≡◌, ◌⊎◌, ◌↔◌, ℕ, ◌+◌, ◌<◌, ◌≤◌, Bool, true, false, cond, List, [], ◌∷◌, ◌++◌, length, take, set, get_or, sym, ◌∙◌, ap, subst, inl, arith, filter, Contains}
 use Rattle.std.specs.List.{range_with_len}
 use Rattle.std.specs.List.Sorted.{IsStrictlyIncreasing}
 use Rattle.std.proofs.Math.Logic.{⊎_elim, ⊎_map}
 use Rattle.std.proofs.lemmas.List.{take_more}
-use Rattle.std.proofs.lemmas.List.Elements.{All-contains, Contains-append_left, Contains-append_right, Contains-get_or, Contains-push, Contains-push_cases, filter-append, filter_passes}
+use Rattle.std.proofs.lemmas.List.Elements.{All-contains, Contains-append_left, Contains-push, Contains-push_cases, filter-append, filter_passes}
 use Rattle.std.proofs.lemmas.List.FromFn.{get_or-range_with_len, length-range_with_len}
 use Rattle.std.proofs.lemmas.List.Kept.{IsStrictlyIncreasing-filter}
-use Rattle.config_graph.proofs.ListLemmas.{places_more}
 use Rattle.config_graph.specs.Marks.{IsMarked}
 use Rattle.config_graph.proofs.MarkLaws.{marked_more, marked_within}
+use Rattle.base.proofs.ContainsLaws.{Contains-filter}
+use Rattle.base.proofs.RisingLaws.{places_more}
 
 -- equivalences, one after another, the other way round, and side by side
 module _ {A B : Type 0} where
@@ -53,17 +54,6 @@ pub marked_in_more : (marks : List Bool) (n : ℕ) → marked_in marks (n + 1) �
 marked_in_more marks n =
     let p : ℕ → Bool = λ i. get_or marks i false in
     ap (filter p) (places_more n) ∙ filter-append p (range_with_len 0 n) (n ∷ [])
-
-Contains-filter : {A : Type 0} (p : A → Bool) (xs : List A) (a : A) → Contains xs a → p a ≡ true → Contains (filter p xs) a
-Contains-filter p [] a h passes = absurd (omega (arith, h.1))
-Contains-filter p (x ∷ xs) a (zero, low, same) passes =
-    let here : p x ≡ true = ap p same ∙ passes in
-    subst (λ b. Contains (cond b (x ∷ filter p xs) (filter p xs)) a) (sym here) (subst (Contains (x ∷ filter p xs)) same (Contains-get_or (x ∷ filter p xs) 0 x (omega arith)))
-Contains-filter p (x ∷ xs) a (suc k, low, same) passes = by (p x) (Contains-filter p xs a (k, omega arith, same) passes)
-  where
-    by : (b : Bool) → Contains (filter p xs) a → Contains (cond b (x ∷ filter p xs) (filter p xs)) a
-    by false h = h
-    by true h = Contains-append_right (x ∷ []) (filter p xs) a h
 
 pub Contains-marked_in : (marks : List Bool) (n : ℕ) → length marks ≤ n → (i : ℕ) → Contains (marked_in marks n) i ↔ IsMarked marks i
 Contains-marked_in marks n all i = (to, from)

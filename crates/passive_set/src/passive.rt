@@ -3,7 +3,7 @@
 ghost use Rattle.std.specs.Prelude.{◌≡◌, ◌<◌, ◌⊎◌, ◌↔◌, ℕ, length, All, Contains, IfOk, OnOk};
 ghost use Rattle.std.specs.List.Sorted.{IsStrictlyIncreasing};
 ghost use Rattle.config_graph.specs.Graph.{IsGraph, incoming_ports, ports, provides_at, requires_at};
-ghost use Rattle.config_graph.specs.Reach.{Enlarged};
+ghost use Rattle.config_graph.specs.Enlarged.{Enlarged};
 ghost use Rattle.passive_set.specs.DirectSet.{Direct};
 ghost use Rattle.config_graph.specs.Marks.{IsMarked};
 ghost use Rattle.passive_set.specs.Ports.{Adds};

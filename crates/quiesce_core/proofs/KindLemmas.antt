@@ -1,22 +1,8 @@
 -- What all kinds have in common: at most one provision, so that a requirement on which one depends is one on which the first does.
-use Rattle.std.proofs.Common.{ℕ, zero, suc, ◌≤◌, length, arith}
-use Rattle.config_graph.specs.Kinds.{row, calls_of, mores_of}
+use Rattle.std.proofs.Common.{ℕ, zero, suc, ◌≤◌, arith}
+use Rattle.config_graph.specs.Kinds.{calls_of, mores_of}
 use Rattle.config_graph.specs.declared.kind.Kind.{Kind}
 use Rattle.config_graph.specs.declared.kind.Kind.TheVariants.{Philosopher, Place, Fork, Source, Map, Buffer, Sink, Teller, Branch, Account, Asker, Adder}
-
-pub one_provision : (k : Kind) → length (row k).provides ≤ 1
-one_provision Philosopher = omega arith
-one_provision Place = omega arith
-one_provision Fork = omega arith
-one_provision Source = omega arith
-one_provision Map = omega arith
-one_provision Buffer = omega arith
-one_provision Sink = omega arith
-one_provision Teller = omega arith
-one_provision Branch = omega arith
-one_provision Account = omega arith
-one_provision Asker = omega arith
-one_provision Adder = omega arith
 
 pub few_calls : (k : Kind) (x : ℕ) → calls_of k x ≤ 4
 few_calls Philosopher x = omega arith
@@ -61,17 +47,3 @@ few_mores Account (suc x) = omega arith
 few_mores Asker x = omega arith
 few_mores Adder zero = omega arith
 few_mores Adder (suc x) = omega arith
-
-pub two_requires : (k : Kind) → length (row k).requires_ ≤ 2
-two_requires Philosopher = omega arith
-two_requires Place = omega arith
-two_requires Fork = omega arith
-two_requires Source = omega arith
-two_requires Map = omega arith
-two_requires Buffer = omega arith
-two_requires Sink = omega arith
-two_requires Teller = omega arith
-two_requires Branch = omega arith
-two_requires Account = omega arith
-two_requires Asker = omega arith
-two_requires Adder = omega arith

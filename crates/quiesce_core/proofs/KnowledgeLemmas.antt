@@ -25,10 +25,12 @@ use Rattle.quiesce_core.specs.WellFormed.{IsWellFormed}
 use Rattle.quiesce_core.specs.Traffic.{IsConsistent}
 use Rattle.quiesce_core.specs.Knowledge.{OwnPort, served_next, served_after, own_port_next, own_port_after}
 use Rattle.quiesce_core.specs.Knows.{IsServed, KnowsService, own_port}
-use Rattle.quiesce_core.proofs.Soundness.{put_owner}
-use Rattle.quiesce_core.proofs.Places.{gate_place, exchange_place, owner_place, target_place}
-use Rattle.quiesce_core.proofs.TrafficLemmas.{only_target}
-use Rattle.quiesce_core.proofs.Lookups.{asked_busy, more_busy, exchange_here, exchange_there, service_here, service_there, taken_is, idle_unserved, answered_unserved, put_is, target_service_is, linked_to, fresh_behind, taken_busy}
+use Rattle.quiesce_core.proofs.SoundnessLaws.{put_owner}
+use Rattle.quiesce_core.proofs.TableLaws.{gate_place, exchange_place, owner_place, target_place}
+use Rattle.quiesce_core.proofs.TrafficLaws.{only_target}
+use Rattle.quiesce_core.proofs.StateLaws.{asked_busy, more_busy, exchange_here, exchange_there, service_here, service_there, taken_is, idle_unserved, answered_unserved, put_is, target_service_is, taken_busy}
+use Rattle.base.proofs.OptionLaws.{Some-from_is_some}
+use Rattle.base.proofs.PlaceLaws.{fresh_behind}
 
 -- the event, where node n does it
 
@@ -261,7 +263,7 @@ service_next s (Miss q) n u w c l h =
     (turned s s' d called called_known u (service_here s d (option_map called (service s d)) (owner_place s q w l.live)) (λ v x e k. call_step s s' v x (record { serial = refl; value = λ h. refl }) k))
     (λ ne. kept s s' n u (service_there s d n (option_map called (service s d)) ne) (λ v e. record { serial = refl; value = λ h. refl })) h
 service_next s (Take q k j) n u w c l h =
-    let leads = linked_to (target s.config q) (c.linked q (asked_busy (exchange s q).phase l.asked)) in
+    let leads = Some-from_is_some (target s.config q) (c.linked q (asked_busy (exchange s q).phase l.asked)) in
     let t = leads.0 in
     let s' = effect s (Take q k j) in
     let new : Service = record { port = q; calls = 0; mores = 0; heard = true } in

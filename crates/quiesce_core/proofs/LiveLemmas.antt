@@ -1,41 +1,43 @@
 -- The graph that is built from the live nodes and their links is the graph of the configuration.
-use Rattle.std.proofs.Common.{◌≡◌, ◌∙◌, ℕ, zero, suc, ◌+◌, ◌*◌, ◌<◌, ◌≤◌, ◌^◌, true, false, List, [], ◌∷◌, Option, Some, None, Result, Ok, Err, length, get_or, refl, ap, sym, subst, arith}
+use Rattle.std.proofs.Common.{◌≡◌, ◌∙◌, ℕ, zero, suc, ◌+◌, ◌<◌, ◌≤◌, ◌^◌, true, false, List, Option, Some, None, Result, Ok, Err, length, get_or, refl, ap, sym, subst, arith}
 use Rattle.std.specs.Prelude.{◌↔◌, slice_get, filter_map, option_map, option_and_then, Contains, All, AllPairs, IfOk}
-use Rattle.std.specs.List.{range_with_len, flat_map, enumerate_from}
+use Rattle.std.specs.List.{range_with_len}
 use Rattle.std.proofs.lemmas.Bool.{false_from_ne_true}
 use Rattle.std.specs.Ordering.{nat_cmp}
 use Rattle.std.specs.Cmp.Lexicographic.{slice_cmp}
 use Rattle.std.specs.declared.cmp.Ordering.TheVariants.{Less}
 use Rattle.std.proofs.lemmas.List.Elements.{All-contains}
-use Rattle.std.proofs.lemmas.List.{length-append, length-map}
 use Rattle.std.proofs.lemmas.List.FromFn.{get_or-range_with_len, length-range_with_len}
 use Rattle.std.proofs.lemmas.List.Kept.{AllPairs-cons}
 use Rattle.std.proofs.lemmas.Option.{slice_get-get_or, slice_get_within, get_or_from_slice_get, same_Some}
 use Rattle.config_graph.specs.Kinds.{row}
-use Rattle.config_graph.specs.Graph.{Configuration as Graph, IsGraph, IsWithin, OneLinkAPort, PathsRise, begins_at, graph_of, in_port_order, link_at, ports, ports_of, provides_of, requires_of}
+use Rattle.config_graph.specs.Graph.{Graph, IsGraph, IsLinkWithin, OneLinkAPort, PathsRise, begins_at, graph_of, in_port_order, link_at, ports, provides_of, requires_of}
 use Rattle.config_graph.specs.Cycles as cycles
 use Rattle.config_graph.specs.Sound.{Sound, HasItsArgument}
 use Rattle.config_graph.specs.declared.node.Node.{Node}
 use Rattle.config_graph.specs.declared.node.Link.{Link}
 use Rattle.config_graph.specs.declared.node.Target.{Target}
-use Rattle.config_graph.proofs.LinkLemmas.{Contains-find, find_passes, begins_there}
-use Rattle.config_graph.proofs.OrderLemmas.{All-filter_map, IsGraph-graph_of, in_port_order-twice, one_link-in_order}
-use Rattle.config_graph.proofs.IncomingLemmas.{Contains-filter_map, Contains-in_order, link_at-own}
+use Rattle.config_graph.proofs.LinkLaws.{begins_there}
+use Rattle.config_graph.proofs.OrderLaws.{IsGraph-graph_of, in_port_order-twice, one_link-in_order}
+use Rattle.config_graph.proofs.IncomingLaws.{Contains-in_order, link_at-own}
 use Rattle.quiesce_core.specs.declared.state.Slot.{Slot}
 use Rattle.quiesce_core.specs.State.{Configuration, slot, gate, owner, target}
 use Rattle.quiesce_core.specs.Reach.{wiring_of}
 use Rattle.quiesce_core.specs.SameWiring.{IsPortAt}
-use Rattle.config_graph.specs.Cycles.{wiring_of as wiring_of_graph}
-use Rattle.config_graph.proofs.WiringLemmas.{no_cycle_there}
+use Rattle.config_graph.specs.Cycles.{graph_wiring}
+use Rattle.config_graph.proofs.WiringLaws.{no_cycle_there}
 use Rattle.quiesce_core.specs.WellFormed.{IsSound}
 use Rattle.quiesce_core.specs.Named.{AreNamed}
 use Rattle.quiesce_core.specs.Live.{StandsAt, IsGraphOf}
 use Rattle.quiesce_core.specs.Listed.{path_at, InPathOrder, ArePlaces, AreNodesOf, link_in}
-use Rattle.quiesce_core.proofs.Cycles.{map_or_at, cycles_are_found}
+use Rattle.quiesce_core.proofs.CycleLaws.{map_or_at, cycles_are_found}
 use Rattle.quiesce_core.proofs.LiveLinks.{IsLiveLink, linked_at}
 use Rattle.quiesce_core.proofs.SameWiring.{linked_made, port_is, to_configuration}
-use Rattle.quiesce_core.proofs.KindLemmas.{two_requires}
-use Rattle.quiesce_core.proofs.OrderLemmas.{contains_at, stands_in, live_at, range_at}
+use Rattle.quiesce_core.proofs.OrderLemmas.{live_at, range_at}
+use Rattle.base.proofs.ContainsLaws.{Contains-at, Contains-filter_map, at_some_place}
+use Rattle.base.proofs.FindLaws.{Contains-find, find_passes}
+use Rattle.base.proofs.MapLaws.{All-filter_map}
+use Rattle.config_graph.proofs.NumberingLaws.{ports_from}
 
 -- what the link of a port is made of
 pub record IsLinkOf (c : Configuration) (places : List (Option ℕ)) (p : ℕ) (l : Link) : Type 0 where
@@ -106,14 +108,6 @@ from_range f a n x h =
 in_range : {A : Type 0} (f : ℕ → Option A) (n p : ℕ) (x : A) → p < n → f p ≡ Some x → Contains (filter_map f (range_with_len 0 n)) x
 in_range f n p x h e = Contains-filter_map f (range_with_len 0 n) p p x (range_at n p h) e
 
-ports_from : (k : ℕ) (nodes : List Node) → length (flat_map (λ p. ports_of p.0 (requires_of p.1)) (enumerate_from k nodes)) ≤ 2 * length nodes
-ports_from k [] = omega arith
-ports_from k (n ∷ nodes) =
-    let rest = flat_map (λ p. ports_of p.0 (requires_of p.1)) (enumerate_from (k + 1) nodes) in
-    let whole : length (flat_map (λ p. ports_of p.0 (requires_of p.1)) (enumerate_from k (n ∷ nodes))) ≡ requires_of n + length rest =
-    length-append (ports_of k (requires_of n)) rest ∙ ap (λ m. m + length rest) (length-map (range_with_len 0 (requires_of n)) (λ r. record { node = k; require = r }) ∙ length-range_with_len 0 (requires_of n)) in
-    omega (arith, whole, two_requires n.kind, ports_from (k + 1) nodes)
-
 abbrev pub links_of : Configuration → List (Option ℕ) → List Link
 links_of c places = filter_map (link_in c places) (range_with_len 0 (length c.gates))
 
@@ -173,8 +167,8 @@ module _ (c : Configuration) (sound : IsSound c) (named : AreNamed c) (order : L
   link_there : (p : ℕ) (l : Link) → IsLinkOf c places p l → Contains (links_of c places) l
   link_there p l w = in_range (link_in c places) (length c.gates) p l (linked_made c p w.to w.leads) (link_if c places p l w)
 
-  pub within : All (IsWithin nodes) (links_of c places)
-  within = All-filter_map (link_in c places) (IsWithin nodes) (range_with_len 0 (length c.gates)) (λ k p l at is.
+  pub within : All (IsLinkWithin nodes) (links_of c places)
+  within = All-filter_map (link_in c places) (IsLinkWithin nodes) (range_with_len 0 (length c.gates)) (λ k p l at is.
       let w = link_is c places p l is in
       let from = stands_at (owner c p) l.from w.from_there in
       let to = stands_at w.to.node l.to w.to_there in
@@ -246,13 +240,13 @@ module _ (c : Configuration) (sound : IsSound c) (named : AreNamed c) (order : L
     paths_rise = paths_rise;
     nodes_are = λ node. (
       λ h.
-          let a = stands_in nodes node h in
+          let a = at_some_place nodes node h in
           let w = at_place a.0 (slice_get_within nodes a.0 node a.1) in
           (w.number, record { made = w.made; there = w.there; live = w.live; is_node = same_Some w.made.node node (sym w.stands ∙ a.1) }),
       λ l.
           let v = l.1 in
           let a = in_order.all l.0 (map_or_at (λ (m : Slot). m.live) (slot c l.0) false v.made v.there ∙ v.live) in
-          contains_at nodes a.0 node (are_nodes.stands a.0 l.0 v.made (slice_get_within order a.0 l.0 a.1) a.1 v.there ∙ ap Some v.is_node),
+          Contains-at nodes a.0 node (are_nodes.stands a.0 l.0 v.made (slice_get_within order a.0 l.0 a.1) a.1 v.there ∙ ap Some v.is_node),
     );
     links_are = λ i r j x. (λ l. (linked_at c nodes i r j x).0 (linked_live i r j x l), λ l. live_linked i r j x ((linked_at c nodes i r j x).1 l));
     in_order = in_port_order-twice nodes (links_of c places);
@@ -266,7 +260,7 @@ module _ (c : Configuration) (sound : IsSound c) (named : AreNamed c) (order : L
         subst HasItsArgument (sym (get_or_from_slice_get nodes i w.made.node d w.stands)) (named.arguments w.number w.made w.there);
     within = is_graph.within;
     in_order = in_port_order-twice nodes (links_of c places);
-    no_cycle = no_cycle_there (wiring_of_graph (graph_of nodes (links_of c places))) (wiring_of c) (λ j m. StandsAt c nodes m j) (λ q p. IsPortAt c (graph_of nodes (links_of c places)) p q)
+    no_cycle = no_cycle_there (graph_wiring (graph_of nodes (links_of c places))) (wiring_of c) (λ j m. StandsAt c nodes m j) (λ q p. IsPortAt c (graph_of nodes (links_of c places)) p q)
         (to_configuration c named (graph_of nodes (links_of c places)) graph_is sound.ports) ((cycles_are_found c).0 sound.no_cycle);
   }
 
@@ -295,8 +289,8 @@ module _ (c : Configuration) (sound : IsSound c) (named : AreNamed c) (nodes : L
   pub parts_rise : PathsRise nodes
   parts_rise = paths_rise c sound named p.order p.in_order p.places p.are_places nodes p.are_nodes
 
-  pub parts_within : All (IsWithin nodes) links
-  parts_within = subst (All (IsWithin nodes)) (sym p.are_links) (within c sound named p.order p.in_order p.places p.are_places nodes p.are_nodes)
+  pub parts_within : All (IsLinkWithin nodes) links
+  parts_within = subst (All (IsLinkWithin nodes)) (sym p.are_links) (within c sound named p.order p.in_order p.places p.are_places nodes p.are_nodes)
 
   pub parts_apart : OneLinkAPort links
   parts_apart = subst OneLinkAPort (sym p.are_links) (one_link c sound named p.order p.in_order p.places p.are_places nodes p.are_nodes)

@@ -17,9 +17,9 @@ use Rattle.quiesce_core.specs.Effect.{with_node, removed, effect}
 use Rattle.quiesce_core.specs.Rules.{is_value, is_path_taken, has_its_argument}
 use Rattle.quiesce_core.specs.Legal.{Legal}
 use Rattle.quiesce_core.specs.Named.{AreNamed}
-use Rattle.quiesce_core.proofs.Lists.{slice_get_snoc}
-use Rattle.quiesce_core.proofs.Cycles.{map_or_true}
-use Rattle.quiesce_core.proofs.Soundness.{here_gone, slot_elsewhere}
+use Rattle.quiesce_core.proofs.CycleLaws.{map_or_true}
+use Rattle.quiesce_core.proofs.SoundnessLaws.{here_gone, slot_elsewhere}
+use Rattle.base.proofs.PlaceLaws.{slice_get-snoc}
 
 argument_if : (b : Bool) (o : Option ℕ) → cond b (option_map_or is_value o false) (is_none o) ≡ true → (is_some o ≡ b) × IfSome o (λ a. a < 2 ^ 24)
 argument_if true None h = absurd (both_ways false refl h)
@@ -47,16 +47,16 @@ named_with_node c node from a new_ argument = record {
       (λ (v : (i < length c.slots) × (slot c i ≡ Some m)). ⊎_elim
       (λ (w : (j < length c.slots) × (slot c j ≡ Some n)). a.paths i j m n v.1 w.1 live_i live_j same)
       (λ (w : (j ≡ length c.slots) × (last ≡ n)). absurd (path_new c node.path new_ i m v.1 live_i (same ∙ sym (ap (λ (x : Slot). x.node.path) w.1))))
-      (slice_get_snoc c.slots last n j at_j))
+      (slice_get-snoc c.slots last n j at_j))
       (λ (v : (i ≡ length c.slots) × (last ≡ m)). ⊎_elim
       (λ (w : (j < length c.slots) × (slot c j ≡ Some n)). absurd (path_new c node.path new_ j n w.1 live_j (sym same ∙ sym (ap (λ (x : Slot). x.node.path) v.1))))
       (λ (w : (j ≡ length c.slots) × (last ≡ n)). v.0 ∙ sym w.0)
-      (slice_get_snoc c.slots last n j at_j))
-      (slice_get_snoc c.slots last m i at_i);
+      (slice_get-snoc c.slots last n j at_j))
+      (slice_get-snoc c.slots last m i at_i);
   arguments = λ i m at. ⊎_elim
       (λ (v : (i < length c.slots) × (slot c i ≡ Some m)). a.arguments i m v.1)
       (λ (v : (i ≡ length c.slots) × (last ≡ m)). subst (λ (x : Slot). HasItsArgument x.node) v.1 argument)
-      (slice_get_snoc c.slots last m i at);
+      (slice_get-snoc c.slots last m i at);
 }
   where
     last : Slot

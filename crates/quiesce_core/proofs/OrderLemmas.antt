@@ -1,9 +1,9 @@
 -- The slots of the live nodes in the order of their paths, their places, and their nodes.
 use Rattle.std.proofs.Common.{◌≡◌, ◌∙◌, ℕ, zero, suc, ◌+◌, ◌<◌, ◌≤◌, Bool, true, false, eqb, List, [], ◌∷◌, ◌++◌, Option, Some, None, length, get_or, set, replicate, refl, ap, sym, ⊎_elim, arith, get_or-set_same, get_or-set_other, length-append}
-use Rattle.std.specs.Prelude.{slice_get, filter, Contains}
+use Rattle.std.specs.Prelude.{slice_get, filter}
 use Rattle.std.specs.List.{range_with_len, IsDistinct}
 use Rattle.std.specs.List.Sorted.{IsPermutation, IsSortedBy}
-use Rattle.std.specs.Ordering.{nat_cmp, is_lt, is_eq, ordering_reverse}
+use Rattle.std.specs.Ordering.{nat_cmp, is_lt, ordering_reverse}
 use Rattle.std.specs.Cmp.Lexicographic.{slice_cmp, nat_list_cmp_total}
 use Rattle.std.specs.declared.cmp.Ordering.{Ordering}
 use Rattle.std.specs.declared.cmp.Ordering.TheVariants.{Less, Equal, Greater}
@@ -14,23 +14,17 @@ use Rattle.std.proofs.lemmas.List.Sorted.{ranks_by, sorted_far, Contains-permuta
 use Rattle.std.proofs.lemmas.List.Kept.{AllPairs-filter}
 use Rattle.std.proofs.lemmas.List.Elements.{All-contains, filter_passes}
 use Rattle.std.proofs.lemmas.Map.Keys.{IsDistinct-from_apart, apart_from_distinct, IsDistinct-IsPermutation}
-use Rattle.std.proofs.lemmas.Map.Text.{is_eq-slice_cmp}
-use Rattle.std.proofs.lemmas.Slice.Eq.{bytes_eq-Decides}
 use Rattle.config_graph.specs.declared.node.Node.{Node}
 use Rattle.quiesce_core.specs.declared.state.Slot.{Slot}
 use Rattle.quiesce_core.specs.State.{Configuration, slot, is_live}
 use Rattle.quiesce_core.specs.Named.{AreNamed}
 use Rattle.quiesce_core.specs.Listed.{path_at, InPathOrder, ArePlaces, AreNodesOf}
-use Rattle.config_graph.proofs.PathLemmas.{irreflexive}
-use Rattle.quiesce_core.proofs.Lists.{slice_get_front, slice_get_last}
-use Rattle.quiesce_core.proofs.Cycles.{map_or_true, map_or_at}
-use Rattle.quiesce_core.proofs.Places.{live_made}
-
-pub contains_at : {A : Type 0} (xs : List A) (a : ℕ) (x : A) → slice_get xs a ≡ Some x → Contains xs x
-contains_at xs a x e = (a, slice_get_within xs a x e, get_or_from_slice_get xs a x x e)
-
-pub stands_in : {A : Type 0} (xs : List A) (x : A) → Contains xs x → (a : ℕ) × (slice_get xs a ≡ Some x)
-stands_in xs x h = (h.0, slice_get-get_or xs h.0 x h.1 ∙ ap Some h.2)
+use Rattle.config_graph.proofs.PathLaws.{irreflexive}
+use Rattle.quiesce_core.proofs.CycleLaws.{map_or_true, map_or_at}
+use Rattle.quiesce_core.proofs.TableLaws.{live_made}
+use Rattle.base.proofs.BytesLaws.{equal_bytes}
+use Rattle.base.proofs.ContainsLaws.{Contains-at, at_some_place}
+use Rattle.base.proofs.PlaceLaws.{slice_get-append_front, slice_get-last}
 
 -- what a filter of a range keeps
 
@@ -67,12 +61,9 @@ distinct_kept p k = IsDistinct-from_apart eqb (filter p (range_with_len 0 k)) (�
 abbrev pub below : Configuration → ℕ → ℕ → Bool
 below c m n = is_lt (slice_cmp nat_cmp (path_at c m) (path_at c n))
 
-equal_paths : (p q : List ℕ) → slice_cmp nat_cmp p q ≡ Equal → p ≡ q
-equal_paths p q e = (bytes_eq-Decides p q).0 (sym (is_eq-slice_cmp p q) ∙ ap is_eq e)
-
 turned : (p q : List ℕ) (o : Ordering) → slice_cmp nat_cmp q p ≡ o → is_lt o ≡ false → (p ≡ q → ⊥) → slice_cmp nat_cmp p q ≡ Less
 turned p q Less e h ne = absurd (both_ways true h refl)
-turned p q Equal e h ne = absurd (ne (sym (equal_paths q p e)))
+turned p q Equal e h ne = absurd (ne (sym (equal_bytes q p e)))
 turned p q Greater e h ne = nat_list_cmp_total.antisymm p q ∙ ap ordering_reverse e
 
 -- a live slot
@@ -96,7 +87,7 @@ in_order c named order moved sorted = record {
   live = live;
   all = λ n h.
       let kept = filter_has (is_live c) (range_with_len 0 (length c.slots)) n n (range_at (length c.slots) n (live_made c n h)) h in
-      stands_in order n (Contains-permutation (live_slots c) order n moved (contains_at (live_slots c) kept.0 n kept.1));
+      at_some_place order n (Contains-permutation (live_slots c) order n moved (Contains-at (live_slots c) kept.0 n kept.1));
   rising = λ a b m n before at_a at_b.
       let within : b < length order = slice_get_within order b n at_b in
       let far : below c (get_or order b 0) (get_or order a 0) ≡ false = sorted_far (below c) (ranks_by nat_list_cmp_total (path_at c)) order sorted a b 0 (omega arith) within in
@@ -117,7 +108,7 @@ in_order c named order moved sorted = record {
     live : (a n : ℕ) → slice_get order a ≡ Some n → is_live c n ≡ true
     live a n at =
         All-contains (λ i. is_live c i ≡ true) (live_slots c) n (filter_passes (is_live c) (range_with_len 0 (length c.slots)))
-        (Contains-permutation order (live_slots c) n (IsPermutation-sym (live_slots c) order moved) (contains_at order a n at))
+        (Contains-permutation order (live_slots c) n (IsPermutation-sym (live_slots c) order moved) (Contains-at order a n at))
 
 -- a slot has one place
 pub one_place : (c : Configuration) (order : List ℕ) → InPathOrder c order → (a b n : ℕ) → slice_get order a ≡ Some n → slice_get order b ≡ Some n → a ≡ b
@@ -126,16 +117,6 @@ one_place c order o a b n at_a at_b = ⊎_elim
     (λ (rest : b ≤ a). ⊎_elim
     (λ (after : b < a). absurd (irreflexive (path_at c n) (o.rising b a n n after at_b at_a)))
     (λ (same : a ≤ b). omega arith) (cases_lt b a)) (cases_lt a b)
-
--- places
-
-none_at : (o : Option ℕ) (k n : ℕ) → get_or (replicate k o) n o ≡ o
-none_at o zero n = refl
-none_at o (suc k) zero = refl
-none_at o (suc k) (suc n) = none_at o k n
-
-pub no_places : (order : List ℕ) (k : ℕ) → ArePlaces order 0 (replicate k None)
-no_places order k n i = (λ e. absurd (cc (none_at None k n, e)), λ w. absurd (omega (arith, w.0)))
 
 pub places_more :
     (c : Configuration) (order : List ℕ) → InPathOrder c order → (k n : ℕ) (places : List (Option ℕ)) → slice_get order k ≡ Some n → n < length places → ArePlaces order k places
@@ -165,11 +146,11 @@ pub nodes_more :
 nodes_more c order k n m nodes at made are = record {
   count = length-append nodes (m.node ∷ []) ∙ ap (λ j. j + 1) are.count;
   stands = λ a i x within at_a made_a. ⊎_elim
-      (λ (before : a < k). slice_get_front nodes (m.node ∷ []) a (omega (arith, are.count)) ∙ are.stands a i x before at_a made_a)
+      (λ (before : a < k). slice_get-append_front nodes (m.node ∷ []) a (omega (arith, are.count)) ∙ are.stands a i x before at_a made_a)
       (λ (past : k ≤ a).
       let last : a ≡ k = omega arith in
       let one : n ≡ i = same_Some n i (sym at ∙ ap (slice_get order) (sym last) ∙ at_a) in
       let same : m ≡ x = same_Some m x (sym made ∙ ap (slot c) one ∙ made_a) in
-      ap (slice_get (nodes ++ m.node ∷ [])) (last ∙ sym are.count) ∙ slice_get_last nodes m.node ∙ ap (λ (s : Slot). Some s.node) same)
+      ap (slice_get (nodes ++ m.node ∷ [])) (last ∙ sym are.count) ∙ slice_get-last nodes m.node ∙ ap (λ (s : Slot). Some s.node) same)
       (cases_lt a k);
 }

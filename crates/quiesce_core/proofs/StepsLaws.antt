@@ -4,7 +4,7 @@ use Rattle.std.specs.Prelude.{◌↔◌, fold}
 use Rattle.std.proofs.lemmas.List.{append-nil}
 use Rattle.std.proofs.lemmas.List.Sums.{fold_push}
 use Rattle.quiesce_core.specs.declared.event.Event.{Event}
-use Rattle.quiesce_core.specs.Each.{EachAfter}
+use Rattle.base.specs.Each.{EachAfter}
 use Rattle.quiesce_core.specs.Effect.{effect}
 use Rattle.quiesce_core.specs.Runs.{IsRun, Step, Steps, onward, state_after, stays}
 use Rattle.quiesce_core.specs.State.{State, empty}

@@ -7,7 +7,7 @@ use Rattle.config_graph.specs.declared.node.Target.{Target}
 use Rattle.quiesce_core.specs.declared.state.Phase.{Phase}
 use Rattle.quiesce_core.specs.declared.state.Phase.TheVariants as phase
 use Rattle.quiesce_core.specs.declared.word.Word.{Word}
-use Rattle.quiesce_core.specs.Words.{pack, unpack, phase_bits, flag, slot_bits, provide_bits, phase_of, target_of}
+use Rattle.quiesce_core.specs.GateWord.{pack, unpack, phase_bits, flag, slot_bits, provide_bits, phase_of, word_target}
 use Rattle.quiesce_core.specs.WordFields.{FitsTarget, FitsWord}
 
 -- the field of c places at a, with what is below it and above it
@@ -59,7 +59,7 @@ flag_few : (b : Bool) → flag b < 2
 flag_few true = omega arith
 flag_few false = omega arith
 
-target_again : (t : Option Target) → target_of (slot_bits t) (provide_bits t) ≡ t
+target_again : (t : Option Target) → word_target (slot_bits t) (provide_bits t) ≡ t
 target_again None = refl
 target_again (Some t) =
     let some_ : (t.node + 1 == 0) ≡ false = ne_eqb (t.node + 1) 0 (λ e. omega arith) in
@@ -91,8 +91,8 @@ words_decode w fits =
     (ap (λ k. k == 1) (closed_in w.value w.serial x t c p d fits.value fits.serial xf tf cf pf df) ∙ flag_again w.closed)
     (ap phase_of (phase_in w.value w.serial x t c p d fits.value fits.serial xf tf cf pf df) ∙ phase_again w.phase)
     (ap (λ k. k == 1) (consequent_in w.value w.serial x t c p d fits.value fits.serial xf tf cf pf df) ∙ flag_again w.consequent)
-    (ap (λ k. target_of k (pack w / 281474976710656 % 4)) (slot_in w.value w.serial x t c p d fits.value fits.serial xf tf cf pf df)
-    ∙ ap (λ k. target_of t k) (provide_in w.value w.serial x t c p d fits.value fits.serial xf tf cf pf df) ∙ target_again w.target)
+    (ap (λ k. word_target k (pack w / 281474976710656 % 4)) (slot_in w.value w.serial x t c p d fits.value fits.serial xf tf cf pf df)
+    ∙ ap (λ k. word_target t k) (provide_in w.value w.serial x t c p d fits.value fits.serial xf tf cf pf df) ∙ target_again w.target)
     (serial_in w.value w.serial x t c p d fits.value fits.serial xf tf cf pf df)
     (value_in w.value w.serial x t c p d fits.value fits.serial xf tf cf pf df)
   where

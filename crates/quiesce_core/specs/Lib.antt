@@ -4,11 +4,10 @@ pub mod Reach
 pub mod Effect
 pub mod Rules
 pub mod Legal
-pub mod Each
 pub mod Runs
 pub mod Settled
 pub mod Rest
-pub mod Words
+pub mod GateWord
 pub mod Knowledge
 pub mod WellFormed
 pub mod Known

@@ -1,6 +1,6 @@
 -- The graph of the nodes that are live and of their links.
 use Rattle.std.specs.Prelude.{◌≡◌, ℕ, true, List, Some, slice_get}
-use Rattle.config_graph.specs.Graph.{Configuration as Graph}
+use Rattle.config_graph.specs.Graph.{Graph}
 use Rattle.config_graph.specs.GraphBy.{IsGraphBy}
 use Rattle.config_graph.specs.declared.node.Node.{Node}
 use Rattle.quiesce_core.specs.declared.state.Slot.{Slot}

@@ -18,7 +18,7 @@ is_make (Make n node from) = true
 is_make _ = false
 
 -- there is room in the tables for so many nodes, of two ports at most each
-pub record HasRoom (t : Tables) (spare : ℕ) : Type 0 where
+pub record HasRoomToMake (t : Tables) (spare : ℕ) : Type 0 where
   pub slots : length t.slots.items + spare ≤ vec_capacity t.slots
   pub services : length t.services.items + spare ≤ vec_capacity t.services
   pub gates : length t.gates.items + 2 * spare ≤ vec_capacity t.gates
@@ -26,10 +26,10 @@ pub record HasRoom (t : Tables) (spare : ℕ) : Type 0 where
 
 -- what there was room for there is room for still
 abbrev pub KeepsRoom : Tables → Tables → Type 0
-KeepsRoom old new = (spare : ℕ) → HasRoom old spare → HasRoom new spare
+KeepsRoom old new = (spare : ℕ) → HasRoomToMake old spare → HasRoomToMake new spare
 
 -- what holds of the tables of a machine with this number in reserve
-pub record IsKept (t : Tables) (spare : ℕ) : Type 0 where
+pub record IsMachine (t : Tables) (spare : ℕ) : Type 0 where
   pub well_formed : IsWellFormed (state_of t)
   pub named : AreNamed (state_of t).config
-  pub room : HasRoom t spare
+  pub room : HasRoomToMake t spare

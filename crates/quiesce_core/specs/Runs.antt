@@ -10,7 +10,7 @@ use Rattle.quiesce_core.specs.declared.state.Service.{Service}
 use Rattle.quiesce_core.specs.State.{State, empty, owner, target, exchange, service}
 use Rattle.quiesce_core.specs.Rules.{denial}
 use Rattle.quiesce_core.specs.Effect.{effect}
-use Rattle.quiesce_core.specs.Each.{Each}
+use Rattle.base.specs.Each.{Each}
 
 -- the event may happen in the old state, and leads to the new one
 pub record Step (old : State) (e : Event) (new : State) : Type 0 where

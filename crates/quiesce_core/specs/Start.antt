@@ -2,7 +2,7 @@
 -- open and idle.
 use Rattle.std.specs.Prelude.{ℕ, true, false, List, map, Option, None}
 use Rattle.std.specs.List.{enumerate_from}
-use Rattle.config_graph.specs.Graph.{Configuration as Graph, first_port, ports, target_of}
+use Rattle.config_graph.specs.Graph.{Graph, first_port, ports, target_of}
 use Rattle.config_graph.specs.declared.node.Node.{Node}
 use Rattle.config_graph.specs.declared.node.Port.{Port}
 use Rattle.quiesce_core.specs.declared.state.Slot.{Slot}

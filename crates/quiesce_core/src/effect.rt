@@ -35,7 +35,7 @@ impl Tables {
     }
 
     /// The node to which the port is linked services this.
-    #[tactic(auto, using(crate::proofs::Places::places))]
+    #[tactic(auto, using(crate::proofs::TableLaws::places))]
     fn put_target_service(&mut self, port: u32, service: Option<Service>)
         requires { IsWellFormed (state_of self.old) }
         ensures state { state_of self.new ≡ effect.with_target_service (state_of self.old) port service }
@@ -47,7 +47,7 @@ impl Tables {
     }
 
     /// One more call was made in the service of the port's owner.
-    #[tactic(auto, using(crate::proofs::Places::places))]
+    #[tactic(auto, using(crate::proofs::TableLaws::places))]
     fn count_call(&mut self, port: u32)
         requires well_formed { IsWellFormed (state_of self.old) }
         requires live { rules.is_live_port (state_of self.old) port ≡ true }
@@ -65,7 +65,7 @@ impl Tables {
         }
     }
 
-    #[tactic(auto, using(crate::proofs::Places::places))]
+    #[tactic(auto, using(crate::proofs::TableLaws::places))]
     pub fn begin(&mut self, port: u32, serial: u32, value: u32)
         requires well_formed { IsWellFormed (state_of self.old) }
         requires legal { legal.CanBegin (state_of self.old) port serial value }
@@ -81,7 +81,7 @@ impl Tables {
         self.put_exchange(port, exchange);
     }
 
-    #[tactic(auto, using(crate::proofs::Places::places))]
+    #[tactic(auto, using(crate::proofs::TableLaws::places))]
     pub fn call(&mut self, port: u32, serial: u32, value: u32)
         requires well_formed { IsWellFormed (state_of self.old) }
         requires legal { legal.CanCall (state_of self.old) port serial value }
@@ -102,7 +102,7 @@ impl Tables {
         self.put_exchange(port, exchange);
     }
 
-    #[tactic(auto, using(crate::proofs::Places::places))]
+    #[tactic(auto, using(crate::proofs::TableLaws::places))]
     pub fn miss(&mut self, port: u32)
         requires well_formed { IsWellFormed (state_of self.old) }
         requires legal { legal.CanMiss (state_of self.old) port }
@@ -112,7 +112,7 @@ impl Tables {
         self.count_call(port);
     }
 
-    #[tactic(auto, using(crate::proofs::Places::places))]
+    #[tactic(auto, using(crate::proofs::TableLaws::places))]
     pub fn take(&mut self, port: u32, serial: u32, value: u32)
         requires well_formed { IsWellFormed (state_of self.old) }
         requires legal { legal.CanTake (state_of self.old) port serial value }
@@ -128,7 +128,7 @@ impl Tables {
         self.put_target_service(port, Some(service));
     }
 
-    #[tactic(auto, using(crate::proofs::Places::places))]
+    #[tactic(auto, using(crate::proofs::TableLaws::places))]
     pub fn give(&mut self, port: u32, serial: u32, value: u32)
         requires well_formed { IsWellFormed (state_of self.old) }
         requires legal { legal.CanGive (state_of self.old) port serial value }
@@ -144,7 +144,7 @@ impl Tables {
         self.put_exchange(port, exchange);
     }
 
-    #[tactic(auto, using(crate::proofs::Places::places))]
+    #[tactic(auto, using(crate::proofs::TableLaws::places))]
     pub fn more(&mut self, port: u32, serial: u32, value: u32)
         requires well_formed { IsWellFormed (state_of self.old) }
         requires legal { legal.CanMore (state_of self.old) port serial value }
@@ -160,7 +160,7 @@ impl Tables {
         self.put_exchange(port, exchange);
     }
 
-    #[tactic(auto, using(crate::proofs::Places::places))]
+    #[tactic(auto, using(crate::proofs::TableLaws::places))]
     pub fn ask(&mut self, port: u32, serial: u32, value: u32)
         requires well_formed { IsWellFormed (state_of self.old) }
         requires legal { legal.CanAsk (state_of self.old) port serial value }
@@ -175,7 +175,7 @@ impl Tables {
         self.put_exchange(port, exchange);
     }
 
-    #[tactic(auto, using(crate::proofs::Places::places))]
+    #[tactic(auto, using(crate::proofs::TableLaws::places))]
     pub fn hear(&mut self, port: u32, serial: u32, value: u32)
         requires well_formed { IsWellFormed (state_of self.old) }
         requires legal { legal.CanHear (state_of self.old) port serial value }
@@ -191,7 +191,7 @@ impl Tables {
         }
     }
 
-    #[tactic(auto, using(crate::proofs::Places::places))]
+    #[tactic(auto, using(crate::proofs::TableLaws::places))]
     pub fn end(&mut self, port: u32, serial: u32, value: u32)
         requires well_formed { IsWellFormed (state_of self.old) }
         requires legal { legal.CanEnd (state_of self.old) port serial value }
@@ -207,7 +207,7 @@ impl Tables {
         self.put_exchange(port, exchange);
     }
 
-    #[tactic(auto, using(crate::proofs::Places::places))]
+    #[tactic(auto, using(crate::proofs::TableLaws::places))]
     fn count_more(&mut self, port: u32)
         requires well_formed { IsWellFormed (state_of self.old) }
         requires left { rules.has_mores_left (state_of self.old) port ≡ true }
@@ -224,7 +224,7 @@ impl Tables {
         }
     }
 
-    #[tactic(auto, using(crate::proofs::Places::places))]
+    #[tactic(auto, using(crate::proofs::TableLaws::places))]
     pub fn set_closed(&mut self, port: u32, closed: bool)
         requires { rules.is_live_port (state_of self.old) port ≡ true }
         ensures state { state_of self.new ≡ record (state_of self.old) { config = effect.closed (state_of self.old).config port closed } }
@@ -237,7 +237,7 @@ impl Tables {
         self.gates[port as usize] = gate;
     }
 
-    #[tactic(auto, using(crate::proofs::Places::places))]
+    #[tactic(auto, using(crate::proofs::TableLaws::places))]
     pub fn set_target(&mut self, port: u32, target: Option<Target>)
         requires { rules.is_live_port (state_of self.old) port ≡ true }
         ensures state { state_of self.new ≡ record (state_of self.old) { config = effect.linked (state_of self.old).config port target } }
@@ -259,7 +259,7 @@ impl Tables {
     }
 
     /// Lets the event happen. Nodes are added elsewhere, since that takes memory.
-    #[tactic(auto, using(crate::proofs::LegalLemmas::legal))]
+    #[tactic(auto, using(crate::proofs::LegalLaws::legal))]
     pub fn perform(&mut self, event: &Event)
         requires well_formed { IsWellFormed (state_of self.old) }
         requires allowed { rules.denial (state_of self.old) event.now ≡ None }
@@ -294,7 +294,7 @@ impl Tables {
     }
 
     /// The same of what a port's owner doesn't do.
-    #[tactic(auto, using(crate::proofs::LegalLemmas::legal))]
+    #[tactic(auto, using(crate::proofs::LegalLaws::legal))]
     fn perform_of_others(&mut self, event: &Event)
         requires well_formed { IsWellFormed (state_of self.old) }
         requires allowed { rules.denial (state_of self.old) event.now ≡ None }
@@ -329,7 +329,7 @@ impl Tables {
     }
 
     /// The same of what the change does.
-    #[tactic(auto, using(crate::proofs::LegalLemmas::legal))]
+    #[tactic(auto, using(crate::proofs::LegalLaws::legal))]
     fn perform_of_change(&mut self, event: &Event)
         requires well_formed { IsWellFormed (state_of self.old) }
         requires allowed { rules.denial (state_of self.old) event.now ≡ None }

@@ -18,31 +18,31 @@ ghost use Rattle.config_graph.specs.declared.TheConstants.{MAX_NODES, MAX_PORTS}
 ghost use Rattle.config_graph.specs.declared.node.Target.{Target};
 ghost use Rattle.quiesce_core.specs.Knows.{Knows};
 ghost use Rattle.quiesce_core.specs.WordFields.{FitsWord};
-ghost use Rattle.quiesce_core.specs.Words.{fields_of, pack, unpack, word_of};
+ghost use Rattle.quiesce_core.specs.GateWord.{fields_of, pack, unpack, word_of};
 ghost use Rattle.quiesce_core.specs.declared.word.Word.{Word};
 ghost use Rattle.quiesce_core.specs.Traffic.{IsConsistent};
 ghost use Rattle.quiesce_core.specs.WellFormed.{IsSound, IsWellFormed};
 ghost use Rattle.quiesce_core.specs.Live.{IsGraphOf, StandsAt};
 ghost use Rattle.quiesce_core.specs.SameWiring.{IsPortAt};
-ghost use Rattle.config_graph.specs.Cycles.{wiring_of as graph_wiring};
+ghost use Rattle.config_graph.specs.Cycles.{graph_wiring};
 ghost use Rattle.config_graph.specs.declared.node.Port.{Port};
-ghost use Rattle.config_graph.specs.Graph.{Configuration as Graph, ports};
+ghost use Rattle.config_graph.specs.Graph.{Graph, ports};
 
 /// An event is denied by no rule exactly where each of its rules holds.
-#[tactic(auto, using(crate::proofs::LegalLemmas::legal_events))]
+#[tactic(auto, using(crate::proofs::LegalLaws::legal_events))]
 pub fn each_rule_holds()
     ensures { (s : State) (e : Event) → (denial s e ≡ None) ↔ Legal s e }
 {}
 
 /// The test for cycles finds none exactly where no path of calls comes back to the node at which it begins.
-#[tactic(auto, using(crate::proofs::Cycles::cycles_are_found))]
+#[tactic(auto, using(crate::proofs::CycleLaws::cycles_are_found))]
 pub fn cycles_are_found()
     ensures { (c : Configuration) → IsTrue (has_no_cycle c) ↔ HasNoCycle (wiring_of c) }
 {}
 
 /// Where there is no cycle, the test that a port reaches a node finds exactly the least set that holds what is linked to the
 /// node, and what is linked to a provision that depends on a port of the set.
-#[tactic(auto, using(crate::proofs::SettledLemmas::reach_is_found))]
+#[tactic(auto, using(crate::proofs::SettledLaws::reach_is_found))]
 pub fn reach_is_found()
     ensures { (c : Configuration) → IsSound c → (n p : ℕ) → IsTrue (reaches c n p) ↔ Reach (wiring_of c) n p }
 {}
@@ -120,12 +120,14 @@ pub fn started_systems_are_consistent()
 {}
 
 /// In a state that is consistent, a port reaches a node exactly where, in the graph, what stands for the port reaches what stands for
-/// the node; and each port that reaches a node stands in the graph.
+/// the node; each port that reaches a node stands in the graph, and each requirement that reaches one there stands for a port.
 pub fn reach_is_that_of_the_graph()
     ensures there { (s : State) (g : Graph) → IsSound s.config → IsConsistent s → AreNamed s.config → IsGraphOf s.config g → (n i p : ℕ) → StandsAt s.config g.nodes n i
         → Reach (wiring_of s.config) n p → (q : Port) × IsPortAt s.config g p q × Reach (graph_wiring g) i q }
     ensures here { (s : State) (g : Graph) → IsSound s.config → IsConsistent s → AreNamed s.config → IsGraphOf s.config g → (n i p : ℕ) (q : Port) → StandsAt s.config g.nodes n i
         → IsPortAt s.config g p q → Reach (graph_wiring g) i q → Reach (wiring_of s.config) n p }
+    ensures stands { (s : State) (g : Graph) → IsSound s.config → IsConsistent s → AreNamed s.config → IsGraphOf s.config g → (n i : ℕ) (q : Port) → StandsAt s.config g.nodes n i
+        → Reach (graph_wiring g) i q → (p : ℕ) × IsPortAt s.config g p q × Reach (wiring_of s.config) n p }
 {}
 
 /// In a state that is consistent there is a cycle exactly where there is one in the graph.

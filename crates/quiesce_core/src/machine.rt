@@ -11,7 +11,7 @@ ghost use Rattle.quiesce_core.specs.Settled.{Settled};
 ghost use Rattle.quiesce_core.specs.Open.{open_txns};
 ghost use Rattle.quiesce_core.specs.Live.{IsGraphOf};
 ghost use Rattle.quiesce_core.specs.Rest.{rest};
-ghost use Rattle.quiesce_core.specs.Words as words;
+ghost use Rattle.quiesce_core.specs.GateWord as words;
 ghost use Rattle.quiesce_core.specs.declared.state.Slot.{Slot};
 ghost use Rattle.quiesce_core.specs.Runs.{Step};
 ghost use Rattle.quiesce_core.specs.Machine.{is_make};
@@ -35,14 +35,14 @@ pub struct Core {
 }
 
 impl Model for Core {
-    ghost use Rattle.quiesce_core.specs.Machine.{Machine, IsKept};
+    ghost use Rattle.quiesce_core.specs.Machine.{Machine, IsMachine};
     ghost use Rattle.quiesce_core.specs.Tables.{state_of};
 
     ghost Value = { Machine };
 
     ghost view = { λ c. record { state = state_of c.tables; spare = c.spare } };
 
-    ghost invariant = { λ c. IsKept c.tables c.spare };
+    ghost invariant = { λ c. IsMachine c.tables c.spare };
 }
 
 impl Core {

@@ -5,7 +5,7 @@ ghost use Rattle.config_graph.specs.Kinds.{row};
 ghost use Rattle.config_graph.specs.declared.TheConstants.{MAX_NODES, MAX_PORTS};
 ghost use Rattle.quiesce_core.specs.State.{fresh_exchange};
 ghost use Rattle.quiesce_core.specs.Effect as effect;
-ghost use Rattle.quiesce_core.specs.Machine.{HasRoom, KeepsRoom};
+ghost use Rattle.quiesce_core.specs.Machine.{HasRoomToMake, KeepsRoom};
 ghost use Rattle.quiesce_core.specs.WellFormed.{IsWellFormed};
 ghost use Rattle.quiesce_core.specs.Tables.{state_of};
 ghost use Rattle.quiesce_core.specs.declared.event.Event.TheVariants as event;
@@ -49,7 +49,7 @@ impl Tables {
     pub fn reserve(&mut self, nodes: usize) -> Result<(), NoMemory>
         requires { nodes ≤ MAX_NODES }
         ensures state { state_of self.new ≡ state_of self.old }
-        ensures ok { OnOk result (HasRoom self.new nodes) }
+        ensures ok { OnOk result (HasRoomToMake self.new nodes) }
         ensures kept { KeepsRoom self.old self.new }
     {
         self.slots.reserve(nodes)?;
@@ -62,11 +62,11 @@ impl Tables {
     /// The node is in the next slot, and its ports follow those made before. There is room for it.
     pub fn add(&mut self, node: Node, from: Option<u32>)
         requires well_formed { IsWellFormed (state_of self.old) }
-        requires room { (spare : ℕ) × (0 < spare) × HasRoom self.old spare }
+        requires room { (spare : ℕ) × (0 < spare) × HasRoomToMake self.old spare }
         requires few { length self.old.slots.items < MAX_NODES }
         requires ports { length self.old.gates.items + length (row node.kind).requires_ ≤ MAX_PORTS }
         ensures state { state_of self.new ≡ effect.effect (state_of self.old) (event.Make (length self.old.slots.items) node from) }
-        ensures room { (spare : ℕ) → HasRoom self.old (spare + 1) → HasRoom self.new spare }
+        ensures room { (spare : ℕ) → HasRoomToMake self.old (spare + 1) → HasRoomToMake self.new spare }
     {
         let owner = self.slots.len() as u32;
         let requires_ = node.kind.requires_();

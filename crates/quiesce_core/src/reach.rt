@@ -134,7 +134,7 @@ impl Tables {
     }
 
     /// The same, by a search from each port that isn't.
-    #[tactic(auto, using(crate::proofs::Reaching::searched))]
+    #[tactic(auto, using(crate::proofs::ReachLaws::searched))]
     fn searched_ports_are_quiet(&self, node: u32) -> bool
         requires { IsSound (state_of self.now).config }
         ensures { result ≡ list_all (λ p. rules.is_quiet (state_of self.now) p || not (reach.reaches (state_of self.now).config node p)) (range_with_len 0 (length (state_of self.now).config.gates)) }
@@ -184,7 +184,7 @@ impl Tables {
     }
 
     /// Whether some provision of the node depends on the port. No kind has a provision past the first.
-    #[tactic(auto, using(config_graph::proofs::KindLemmas::depended_by_first))]
+    #[tactic(auto, using(config_graph::proofs::KindLaws::depended_by_first))]
     fn is_depended(&self, node: u32, port: u32) -> bool
         ensures { result ≡ state.is_depended (state_of self.now).config node port }
     {
@@ -218,7 +218,7 @@ impl Tables {
     }
 
     /// Whether the node leads to another, in any number of steps.
-    #[tactic(auto, using(crate::proofs::Reaching::searched))]
+    #[tactic(auto, using(crate::proofs::ReachLaws::searched))]
     fn leads_to(&self, node: u32, other: u32) -> bool
         requires { IsSound (state_of self.now).config }
         ensures { result ≡ leads_up (state_of self.now).config other node }

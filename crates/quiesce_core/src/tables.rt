@@ -5,7 +5,7 @@ ghost use Rattle.quiesce_core.specs.State as state;
 ghost use Rattle.quiesce_core.specs.Tables.{state_of};
 ghost use Rattle.quiesce_core.specs.WellFormed.{IsWellFormed};
 ghost use Rattle.quiesce_core.specs.WordFields.{FitsWord};
-ghost use Rattle.quiesce_core.specs.Words as words;
+ghost use Rattle.quiesce_core.specs.GateWord as words;
 
 use crate::state::{Exchange, Gate, Phase, Service, Slot};
 use crate::word::Word;

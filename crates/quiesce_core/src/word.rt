@@ -1,7 +1,7 @@
 //! The word of a port: what gates keep of it in one number.
 
 ghost use Rattle.std.specs.Prelude.{◌≡◌, ◌^◌, ◌<◌};
-ghost use Rattle.quiesce_core.specs.Words as words;
+ghost use Rattle.quiesce_core.specs.GateWord as words;
 ghost use Rattle.quiesce_core.specs.WordFields.{FitsWord};
 
 use crate::state::Phase;

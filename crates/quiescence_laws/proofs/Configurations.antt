@@ -1,5 +1,5 @@
 -- How an event changes who owns and leads where.
-use Rattle.std.proofs.Common.{◌≡◌, ℕ, ◌+◌, ◌-◌, ◌<◌, ◌≤◌, true, false, ◌&&◌, length, set, Option, Some, None, refl, sym, ap, ◌∙◌, subst, ⊎_elim, arith}
+use Rattle.std.proofs.Common.{◌≡◌, ℕ, ◌+◌, ◌<◌, ◌≤◌, true, false, ◌&&◌, length, set, Option, Some, None, refl, sym, ap, ◌∙◌, subst, ⊎_elim, arith}
 use Rattle.std.specs.Prelude.{◌⊎◌, ◌==◌, nat_lt, nat_le, is_some}
 use Rattle.std.specs.Option.{option_map_or}
 use Rattle.std.proofs.lemmas.Bool.{and_parts, both_ways, cases_eq, cases_lt, eqb-true, ltb-true, leb-true}
@@ -20,17 +20,11 @@ use Rattle.quiesce_core.specs.Legal.{Legal}
 use Rattle.quiesce_core.specs.Reach.{IsPortOf, wiring_of}
 use Rattle.config_graph.specs.Wiring.{Reach, direct, through}
 use Rattle.quiesce_core.specs.Settled.{is_opening}
-use Rattle.quiesce_core.specs.WellFormed.{IsSound, IsWellFormed}
-use Rattle.quiesce_core.proofs.Cycles.{map_or_true}
-use Rattle.quiesce_core.proofs.Places.{gate_place}
-use Rattle.quiesce_core.proofs.SettledLemmas.{settled_if}
-use Rattle.quiesce_core.proofs.Soundness.{put_here, put_elsewhere, put_owner, put_require, here_gone, slot_elsewhere, kind_stays, old_gate}
-
--- a port of a node is owned by it
-pub port_owner : (c : Configuration) → IsSound c → (n p : ℕ) → IsPortOf c n p → owner c p ≡ n
-port_owner c s n p o =
-    let at : o.node.first_port + (p - o.node.first_port) ≡ p = omega (arith, o.from) in
-    sym (ap (λ i. owner c i) at) ∙ (s.rows n o.node o.made).owned (p - o.node.first_port) (omega (arith, o.from, o.below))
+use Rattle.quiesce_core.specs.WellFormed.{IsWellFormed}
+use Rattle.quiesce_core.proofs.CycleLaws.{map_or_true}
+use Rattle.quiesce_core.proofs.TableLaws.{gate_place}
+use Rattle.quiesce_core.proofs.SettledLaws.{settled_if}
+use Rattle.quiesce_core.proofs.SoundnessLaws.{put_here, put_elsewhere, put_owner, put_require, here_gone, slot_elsewhere, kind_stays, old_gate}
 
 -- each link and each port of the later configuration is one of the earlier, and provisions depend on no more
 pub record Shrinks (c d : Configuration) : Type 0 where

@@ -1,9 +1,9 @@
 -- The events of a transaction come in the order of its course.
 use Rattle.std.proofs.Common.{◌≡◌, ℕ, ◌+◌, ◌<◌, ◌≤◌, Bool, true, false, cond, ◌&&◌, ◌||◌, List, length, get_or, set, Option, Some, None, refl, sym, ap, ◌∙◌, subst, ⊎_elim, arith, get_or-set_same, get_or-set_other}
-use Rattle.std.specs.Prelude.{◌==◌, nat_lt, is_none, is_some, option_map, option_and_then}
+use Rattle.std.specs.Prelude.{◌==◌, nat_lt, option_map, option_and_then}
 use Rattle.std.specs.List.{count_by}
 use Rattle.std.specs.Option.{option_map_or}
-use Rattle.std.proofs.lemmas.Bool.{and_parts, both_ways, cases_eq, cases_lt, eqb-true, eq-eqb, ne_eqb, lt-ltb, le-ltb, not-true, or_right, or_left}
+use Rattle.std.proofs.lemmas.Bool.{and_parts, cases_eq, cases_lt, eqb-true, eq-eqb, ne_eqb, lt-ltb, le-ltb, not-true, or_right, or_left}
 use Rattle.std.proofs.lemmas.List.Sums.{fold_push}
 use Rattle.config_graph.specs.Kinds.{row}
 use Rattle.config_graph.specs.declared.node.Target.{Target}
@@ -21,7 +21,7 @@ use Rattle.quiesce_core.specs.Rules.{is_taken}
 use Rattle.quiesce_core.specs.Runs.{IsRun, state_after}
 use Rattle.quiesce_core.specs.Traffic.{IsConsistent}
 use Rattle.quiesce_core.specs.WellFormed.{IsWellFormed}
-use Rattle.quiesce_core.proofs.Places.{exchange_place, target_place}
+use Rattle.quiesce_core.proofs.TableLaws.{exchange_place, target_place}
 use Rattle.quiescence_laws.specs.Events.{ends_at}
 use Rattle.quiescence_laws.specs.Courses.{Course, begun, taken, replied_to, asked, heard, given, finished, course_next, course_after, heard_at, course_in, course_of, course_at}
 use Rattle.quiescence_laws.specs.Courses as course
@@ -29,7 +29,9 @@ use Rattle.quiescence_laws.proofs.Configurations.{target_next}
 use Rattle.quiescence_laws.proofs.Induction.{always}
 use Rattle.quiescence_laws.proofs.Serials.{IsTallied, next_serial, tallied_next, tallied_empty, busy_serial}
 use Rattle.quiescence_laws.proofs.Hearing.{hears, idle_is, asked_is, answered_is, more_is, target_given, call_given, given_here, untaken, idle_unheard, taken_hears, taken_service, taken_heard, others_unheard, others_unheard_after, heard_asked, more_unheard, heard_apart}
-use Rattle.quiesce_core.proofs.Lookups.{asked_busy, more_busy, answered_busy, taken_is, taken_busy, fresh_behind}
+use Rattle.quiesce_core.proofs.StateLaws.{asked_busy, more_busy, answered_busy, taken_is, taken_busy}
+use Rattle.base.proofs.OptionLaws.{None-from_is_none, Some-from_is_some}
+use Rattle.base.proofs.PlaceLaws.{fresh_behind}
 
 -- what is said of one serial
 
@@ -127,14 +129,6 @@ of_its_own f s s' q j k c d one serial kept was is e =
     ∙ leads_on f n k (q == q && j == k) c d one e (its_own q j k n serial)
     ∙ ap (λ x. Some (course_of n x k)) (sym is) ∙ ap (λ i. Some (course_of i (course_in (exchange s' q).phase (heard_at s' q)) k)) (sym kept)
 
-none_is : (v : Option Service) → is_none v ≡ true → v ≡ None
-none_is None h = refl
-none_is (Some v) h = absurd (both_ways false refl h)
-
-some_is : (o : Option Target) → is_some o ≡ true → (t : Target) × (o ≡ Some t)
-some_is None h = absurd (both_ways false refl h)
-some_is (Some t) h = (t, refl)
-
 module _ (s : State) (w : IsWellFormed s) (t : IsConsistent s) (positive : (p : ℕ) → is_idle (exchange s p).phase ≡ false → 1 ≤ (exchange s p).serial) where
   -- an event of one port steps both its own course and those of the others
   either : (e : Event) (q p k : ℕ) → ((p ≡ q → ⊥) → StepsTo s e p k) → StepsTo s e q k → StepsTo s e p k
@@ -179,13 +173,13 @@ module _ (s : State) (w : IsWellFormed s) (t : IsConsistent s) (positive : (p : 
   take_steps q j v p k l =
       let s' = effect s (Take q j v) in
       let busy = asked_busy (exchange s q).phase l.asked in
-      let to = some_is (target s.config q) (t.linked q busy) in
+      let to = Some-from_is_some (target s.config q) (t.linked q busy) in
       let is_asked_ = asked_is (exchange s q).phase l.asked in
       let new_ : Service = record { port = q; calls = 0; mores = 0; heard = true } in
       either (Take q j v) q p k
       (λ other. of_another taken q p j k (course_at s p k) (course_at s' p k) other (course_same s s' p k refl (λ busy. target_given s q p (Some new_) (λ u e.
       heard_apart p new_ (λ same. other (sym same))
-      ∙ sym (ap (λ o. hears p o) (sym (ap (λ o. option_and_then (λ (x : Target). service s x.node) o) e) ∙ none_is (target_service s q) l.free))))))
+      ∙ sym (ap (λ o. hears p o) (sym (ap (λ o. option_and_then (λ (x : Target). service s x.node) o) e) ∙ None-from_is_none (target_service s q) l.free))))))
       (of_its_own taken s s' q j k course.waiting course.serving (positive q busy) (eqb-true j (exchange s q).serial (and_parts (j == (exchange s q).serial) (v == (exchange s q).value) l.message).0) refl
       (ap (λ f. course_in f (heard_at s q)) is_asked_ ∙ ap (λ g. course_in phase.Asked g) (untaken s q (not-true (is_taken s q) l.untaken)))
       (ap (λ f. course_in f (heard_at s' q)) is_asked_ ∙ ap (λ g. course_in phase.Asked g) (given_here s q to.0 new_ to.1 (target_place s q to.0 w to.1) refl))

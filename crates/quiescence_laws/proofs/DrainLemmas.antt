@@ -17,17 +17,17 @@ use Rattle.quiesce_core.specs.Runs.{IsRun, state_after}
 use Rattle.quiesce_core.specs.Settled.{Settled}
 use Rattle.quiesce_core.specs.Traffic.{IsServing, IsConsistent}
 use Rattle.quiesce_core.specs.WellFormed.{IsWellFormed}
-use Rattle.quiesce_core.proofs.Cycles.{call_by, map_or_at, map_or_true, walk_to}
-use Rattle.config_graph.proofs.KindLemmas.{depended_if}
-use Rattle.quiesce_core.proofs.Reaching.{no_walk_plus}
-use Rattle.quiesce_core.proofs.RunLemmas.{runs_are_well_formed, runs_are_consistent}
+use Rattle.quiesce_core.proofs.CycleLaws.{call_by, map_or_at, map_or_true, walk_to}
+use Rattle.config_graph.proofs.KindLaws.{depended_if}
+use Rattle.quiesce_core.proofs.ReachLaws.{no_walk_plus, owner_of}
+use Rattle.quiesce_core.proofs.RunLaws.{runs_are_well_formed, runs_are_consistent}
 use Rattle.quiescence_laws.specs.Drained.{is_drained}
 use Rattle.quiescence_laws.specs.Events.{reopens}
 use Rattle.quiescence_laws.specs.Roots.{has_root}
-use Rattle.quiescence_laws.proofs.Configurations.{port_owner, busy_made}
+use Rattle.quiescence_laws.proofs.Configurations.{busy_made}
 use Rattle.quiescence_laws.proofs.RootLemmas.{old_further, has_no_root}
 use Rattle.quiescence_laws.proofs.Stillness.{Concerns}
-use Rattle.quiesce_core.proofs.Lookups.{serving_busy}
+use Rattle.quiesce_core.proofs.StateLaws.{serving_busy}
 
 -- idle or consequent, where there is no root
 rootless : (s : State) (p : ℕ) → (has_root s p (exchange s p).serial ≡ true → ⊥) → (is_idle (exchange s p).phase || is_some (exchange s p).within) ≡ true
@@ -67,7 +67,7 @@ module _ (s : State) (n : ℕ) (w : IsWellFormed s) (t : IsConsistent s) (draine
       let by : provision s.config v.port ≡ h.provide = map_or_at (λ (u : Target). u.provide) (target s.config v.port) 0 (record { node = m; provide = h.provide }) h.linked in
       ⊎_elim
       (λ (own : IsPortOf s.config n p).
-      let is_n : m ≡ n = sym owned ∙ port_owner s.config w.sound n p own in
+      let is_n : m ≡ n = sym owned ∙ owner_of s.config w.sound n p own in
       inr (direct {x = h.provide} (h.linked ∙ ap (λ i. Some (record { node = i; provide = h.provide })) is_n)))
       (λ (r : Reach (wiring_of s.config) n p).
       inr (through {p = p} {m = m} {x = h.provide} r (subst (λ i. IsPortOf s.config i p) owned (w.sound.ports p made), sym (ap (λ x. depends s.config m x p) by) ∙ dep) h.linked))

@@ -17,14 +17,14 @@ use Rattle.quiesce_core.specs.Reach.{IsPortOf, wiring_of}
 use Rattle.config_graph.specs.Wiring.{Reach, direct}
 use Rattle.quiesce_core.specs.Runs.{IsRun, state_after, is_begin_of, is_end_of, is_open_after, Begun, initiator, target_at_begin}
 use Rattle.quiesce_core.specs.Rules.{is_settled}
-use Rattle.quiesce_core.proofs.SettledLemmas.{settled_if}
+use Rattle.quiesce_core.proofs.SettledLaws.{settled_if}
 use Rattle.quiesce_core.specs.Settled.{Settled, Quiescent, Continues, later_target, is_opening}
 use Rattle.quiesce_core.specs.Traffic.{IsConsistent}
 use Rattle.quiesce_core.specs.WellFormed.{IsWellFormed}
-use Rattle.quiesce_core.proofs.Cycles.{map_or_true}
-use Rattle.quiesce_core.proofs.Places.{gate_place}
-use Rattle.quiesce_core.proofs.Soundness.{here_gone, slot_elsewhere}
-use Rattle.quiesce_core.proofs.RunLemmas.{runs_are_well_formed, runs_are_consistent}
+use Rattle.quiesce_core.proofs.CycleLaws.{map_or_true}
+use Rattle.quiesce_core.proofs.TableLaws.{gate_place}
+use Rattle.quiesce_core.proofs.SoundnessLaws.{here_gone, slot_elsewhere}
+use Rattle.quiesce_core.proofs.RunLaws.{runs_are_well_formed, runs_are_consistent}
 use Rattle.quiescence_laws.specs.Events.{removes}
 use Rattle.quiescence_laws.proofs.Configurations.{busy_made, owner_next}
 use Rattle.quiescence_laws.proofs.Induction.{IsNext, place, further, along, front_runs}

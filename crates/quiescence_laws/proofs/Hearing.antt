@@ -13,7 +13,7 @@ use Rattle.quiesce_core.specs.Phases.{is_idle, is_asked, is_answered, is_in_more
 use Rattle.quiesce_core.specs.Rules.{is_taken, was_heard}
 use Rattle.quiesce_core.specs.Traffic.{IsConsistent}
 use Rattle.quiescence_laws.specs.Courses.{heard_by, heard_at}
-use Rattle.quiesce_core.proofs.Lookups.{Taken, taken_busy}
+use Rattle.quiesce_core.proofs.StateLaws.{Taken, taken_busy}
 
 -- a phase that passes a test
 pub idle_is : (f : Phase) → is_idle f ≡ true → f ≡ phase.Idle

@@ -8,15 +8,16 @@ use Rattle.std.proofs.lemmas.List.Sums.{fold_push}
 use Rattle.quiesce_core.specs.Rules.{denial}
 use Rattle.quiesce_core.specs.State.{State, empty}
 use Rattle.quiesce_core.specs.declared.event.Event.{Event}
-use Rattle.quiesce_core.specs.Each.{EachAfter}
+use Rattle.base.specs.Each.{EachAfter}
 use Rattle.quiesce_core.specs.Effect.{effect}
 use Rattle.quiesce_core.specs.Legal.{Legal}
 use Rattle.quiesce_core.specs.Runs.{IsRun, state_after}
 use Rattle.quiesce_core.specs.Traffic.{IsConsistent}
 use Rattle.quiesce_core.specs.WellFormed.{IsWellFormed}
-use Rattle.quiesce_core.proofs.LegalLemmas.{legal}
-use Rattle.quiesce_core.proofs.RunLemmas.{runs_are_well_formed, runs_are_consistent}
-use Rattle.quiesce_core.proofs.Running.{StepAt, run_parts}
+use Rattle.quiesce_core.proofs.LegalLaws.{legal}
+use Rattle.quiesce_core.proofs.RunLaws.{runs_are_well_formed, runs_are_consistent}
+use Rattle.quiesce_core.proofs.RunPartLaws.{StepAt, run_parts}
+use Rattle.base.proofs.OptionLaws.{None-from_is_none}
 
 -- an event that stands behind a run and may happen there
 pub record IsNext (before : List Event) (e : Event) : Type 0 where
@@ -82,16 +83,12 @@ abbrev pub can_all : State → List Event → Bool
 can_all s [] = true
 can_all s (e ∷ es) = is_none (denial s e) && can_all (effect s e) es
 
-undenied : (o : Option ℕ) → is_none o ≡ true → o ≡ None
-undenied None h = refl
-undenied (Some r) h = absurd (both_ways false refl h)
-
 run_from : (before es : List Event) → can_all (state_after before) es ≡ true → EachAfter StepAt before es
 run_from before [] h = tt
 run_from before (e ∷ es) h =
     let next = fold_push effect empty before e in
     let parts = and_parts (is_none (denial (state_after before) e)) (can_all (effect (state_after before) e) es) h in
-    (record { allowed = undenied (denial (state_after before) e) parts.0; changed = next }, run_from (before ++ e ∷ []) es (ap (λ s. can_all s es) next ∙ parts.1))
+    (record { allowed = None-from_is_none (denial (state_after before) e) parts.0; changed = next }, run_from (before ++ e ∷ []) es (ap (λ s. can_all s es) next ∙ parts.1))
 
 -- so a run is found by computing
 pub run_if : (es : List Event) → can_all empty es ≡ true → IsRun es

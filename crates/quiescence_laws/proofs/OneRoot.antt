@@ -10,8 +10,8 @@ use Rattle.quiesce_core.specs.declared.state.Service.{Service}
 use Rattle.quiesce_core.specs.State.{depends, exchange, owner, provision, service}
 use Rattle.quiesce_core.specs.Phases.{is_idle}
 use Rattle.quiesce_core.specs.Runs.{Begun, HasRoot, root, consequent, IsRun, is_begin_of, is_end_of, is_open_after, state_after}
-use Rattle.quiesce_core.proofs.Cycles.{map_or_true}
-use Rattle.quiesce_core.proofs.Lookups.{serving_busy}
+use Rattle.quiesce_core.proofs.CycleLaws.{map_or_true}
+use Rattle.quiesce_core.proofs.StateLaws.{serving_busy}
 use Rattle.quiescence_laws.specs.Roots.{IsRooted}
 use Rattle.quiescence_laws.proofs.Induction.{place}
 use Rattle.quiescence_laws.proofs.Orders.{in_order, open_is_seen}

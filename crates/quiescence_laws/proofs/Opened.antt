@@ -14,10 +14,10 @@ use Rattle.quiesce_core.specs.Effect.{effect}
 use Rattle.quiesce_core.specs.Legal.{Legal}
 use Rattle.quiesce_core.specs.Runs.{IsRun, state_after, is_begin_of, is_end_of}
 use Rattle.quiesce_core.specs.WellFormed.{IsWellFormed}
-use Rattle.quiesce_core.proofs.Places.{exchange_place}
+use Rattle.quiesce_core.proofs.TableLaws.{exchange_place}
 use Rattle.quiescence_laws.proofs.Configurations.{busy_made, owner_next, target_next}
 use Rattle.quiescence_laws.proofs.Induction.{IsNext, place, along}
-use Rattle.quiesce_core.proofs.Lookups.{fresh_behind}
+use Rattle.base.proofs.PlaceLaws.{fresh_behind}
 
 -- the last transaction of a port has this serial and has not ended
 pub record IsOpen (x : Exchange) (k : ℕ) : Type 0 where

@@ -20,13 +20,14 @@ use Rattle.quiesce_core.specs.Effect.{with_gate, effect}
 use Rattle.quiesce_core.specs.Legal.{Legal}
 use Rattle.quiesce_core.specs.Runs.{IsRun, state_after}
 use Rattle.quiesce_core.specs.Traffic.{IsConsistent}
-use Rattle.quiesce_core.proofs.Places.{gate_place}
-use Rattle.quiesce_core.proofs.Soundness.{put_here, put_elsewhere}
+use Rattle.quiesce_core.proofs.TableLaws.{gate_place}
+use Rattle.quiesce_core.proofs.SoundnessLaws.{put_here, put_elsewhere}
 use Rattle.quiescence_laws.specs.Events.{reopens}
 use Rattle.quiescence_laws.specs.Roots.{is_root, has_root}
 use Rattle.quiescence_laws.proofs.Behind.{closed_behind}
 use Rattle.quiescence_laws.proofs.Induction.{place, along, front_runs}
-use Rattle.quiesce_core.proofs.Lookups.{more_busy, taken_busy, fresh_behind}
+use Rattle.quiesce_core.proofs.StateLaws.{more_busy, taken_busy}
+use Rattle.base.proofs.PlaceLaws.{fresh_behind}
 
 -- the parts of the test
 record IsRoot (x : Exchange) (k : ℕ) : Type 0 where

@@ -15,14 +15,15 @@ use Rattle.quiesce_core.specs.State.{fresh_exchange, owner, provision, depends, 
 use Rattle.quiesce_core.specs.Phases.{is_idle}
 use Rattle.quiesce_core.specs.Effect.{effect}
 use Rattle.quiesce_core.specs.Runs.{IsRun, state_after, is_begin_of, is_end_of, is_open_after}
-use Rattle.quiesce_core.proofs.Places.{exchange_place}
+use Rattle.quiesce_core.proofs.TableLaws.{exchange_place}
 use Rattle.quiescence_laws.specs.Events.{is_root_of}
 use Rattle.quiescence_laws.specs.Roots.{has_root, is_open_root_after}
 use Rattle.quiescence_laws.proofs.Induction.{IsNext, always}
 use Rattle.quiescence_laws.proofs.Opened.{IsOpen}
 use Rattle.quiescence_laws.proofs.Orders.{any_counted, begun_count, was_begun, le_false, open_is_seen}
 use Rattle.quiescence_laws.proofs.Serials.{next_serial}
-use Rattle.quiesce_core.proofs.Lookups.{more_busy, taken_busy, fresh_behind}
+use Rattle.quiesce_core.proofs.StateLaws.{more_busy, taken_busy}
+use Rattle.base.proofs.PlaceLaws.{fresh_behind}
 
 -- a begin of a root is a begin
 root_begins : (p k : ℕ) (e : Event) → is_root_of p k e ≡ true → is_begin_of p k e ≡ true

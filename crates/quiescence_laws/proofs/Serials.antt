@@ -15,10 +15,11 @@ use Rattle.quiesce_core.specs.Legal.{Legal}
 use Rattle.quiesce_core.specs.Runs.{IsRun, state_after}
 use Rattle.quiesce_core.specs.Traffic.{IsConsistent}
 use Rattle.quiesce_core.specs.WellFormed.{IsWellFormed}
-use Rattle.quiesce_core.proofs.Places.{exchange_place}
+use Rattle.quiesce_core.proofs.TableLaws.{exchange_place}
 use Rattle.quiescence_laws.specs.Events.{ends_at}
 use Rattle.quiescence_laws.proofs.Induction.{IsNext, always}
-use Rattle.quiesce_core.proofs.Lookups.{more_busy, answered_busy, taken_busy, fresh_behind}
+use Rattle.quiesce_core.proofs.StateLaws.{more_busy, answered_busy, taken_busy}
+use Rattle.base.proofs.PlaceLaws.{fresh_behind}
 
 -- so many ended, and one more where one is open
 pub record IsTallied (n : ℕ) (x : Exchange) : Type 0 where

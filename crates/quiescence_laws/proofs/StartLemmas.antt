@@ -11,18 +11,17 @@ use Rattle.std.proofs.lemmas.Bool.{and_from, eq-eqb, lt-ltb, le-leb, not_from_fa
 use Rattle.std.proofs.lemmas.Grind.{flat_map-append}
 use Rattle.std.proofs.lemmas.List.{append-nil, length-append, length-map, map-append}
 use Rattle.std.proofs.lemmas.Option.{slice_get_within, get_or_from_slice_get}
-use Rattle.quiesce_core.proofs.Lists.{slice_get_front}
 use Rattle.std.proofs.lemmas.List.Elements.{All-contains}
 use Rattle.std.proofs.lemmas.List.Sums.{sum_by-append, sum_by-cons}
 use Rattle.std.proofs.lemmas.Simd.{map-map}
 use Rattle.std.proofs.lemmas.Slice.Eq.{bytes_eq-Decides}
-use Rattle.config_graph.specs.Graph.{Configuration as Graph, first_port, ports, ports_of, target_of, requires_of}
+use Rattle.config_graph.specs.Graph.{Graph, first_port, ports, ports_of, target_of, requires_of}
 use Rattle.config_graph.specs.Kinds.{row, depends_on}
 use Rattle.config_graph.specs.Sound.{Sound, HasItsArgument}
 use Rattle.config_graph.specs.declared.node.Node.{Node}
 use Rattle.config_graph.specs.declared.node.Port.{Port}
 use Rattle.config_graph.specs.declared.node.Target.{Target}
-use Rattle.config_graph.proofs.NumberingLemmas.{length-ports}
+use Rattle.config_graph.proofs.NumberingLaws.{length-ports}
 use Rattle.quiesce_core.specs.declared.event.Event.{Event}
 use Rattle.quiesce_core.specs.declared.event.Event.TheVariants.{Make, Link, Reopen}
 use Rattle.quiesce_core.specs.declared.state.Gate.{Gate}
@@ -36,14 +35,15 @@ use Rattle.quiesce_core.specs.Phases.{is_idle}
 use Rattle.quiesce_core.specs.Reach.{has_no_cycle}
 use Rattle.quiesce_core.specs.Start.{slot_of, gate_of, free, unused, started}
 use Rattle.quiesce_core.specs.WellFormed.{IsWellFormed}
-use Rattle.quiesce_core.proofs.Cycles.{map_or_at, no_cycle_if_ranked, ranked_if_no_cycle}
-use Rattle.quiesce_core.proofs.GraphLemmas.{length-numbered_from, well_formed_started}
-use Rattle.quiesce_core.proofs.LegalLemmas.{allowed}
-use Rattle.config_graph.proofs.PathLemmas.{irreflexive}
-use Rattle.quiesce_core.proofs.OrderLemmas.{contains_at}
-use Rattle.quiesce_core.proofs.SettledLemmas.{if_settled}
+use Rattle.quiesce_core.proofs.CycleLaws.{map_or_at, no_cycle_if_ranked, ranked_if_no_cycle}
+use Rattle.quiesce_core.proofs.GraphLaws.{length-numbered_from, well_formed_started}
+use Rattle.quiesce_core.proofs.LegalLaws.{allowed}
+use Rattle.config_graph.proofs.PathLaws.{irreflexive}
+use Rattle.quiesce_core.proofs.SettledLaws.{if_settled}
 use Rattle.quiescence_laws.specs.Starts.{make_of, link_of, reopen_of, start_of}
 use Rattle.quiesce_core.proofs.StepsLaws.{both}
+use Rattle.base.proofs.ContainsLaws.{Contains-at}
+use Rattle.base.proofs.PlaceLaws.{slice_get-append_front}
 
 -- steps that lead to a state, and one before them
 none_yet : (s t : State) → s ≡ t → Steps s [] t
@@ -202,7 +202,7 @@ module _ (g : Graph) (sound : Sound g) (few_nodes : length g.nodes ≤ 1023) (fe
       let within : i < length ns = slice_get_within ns i x.1 node in
       let rises : slice_cmp nat_cmp (get_or g.nodes i n).path (get_or g.nodes (length ns) n).path ≡ Less =
       sound.paths_rise i (length ns) n within (omega (arith, ap length e, front_length ns n ms)) in
-      let here : get_or g.nodes i n ≡ x.1 = get_or_from_slice_get g.nodes i x.1 n (ap (λ xs. slice_get xs i) e ∙ slice_get_front ns (n ∷ ms) i within ∙ node) in
+      let here : get_or g.nodes i n ≡ x.1 = get_or_from_slice_get g.nodes i x.1 n (ap (λ xs. slice_get xs i) e ∙ slice_get-append_front ns (n ∷ ms) i within ∙ node) in
       let last : get_or g.nodes (length ns) n ≡ n = get_or_from_slice_get g.nodes (length ns) n n (ap (λ xs. slice_get xs (length ns)) e ∙ behind ns n ms) in
       false_from_ne_true (bytes_eq x.1.path n.path) (λ same.
       irreflexive n.path (subst (λ p. slice_cmp nat_cmp p n.path ≡ Less) ((bytes_eq-Decides x.1.path n.path).0 same)
@@ -215,7 +215,7 @@ module _ (g : Graph) (sound : Sound g) (few_nodes : length g.nodes ≤ 1023) (fe
 
   argument_there : (ns ms : List Node) (n : Node) → g.nodes ≡ ns ++ n ∷ ms → has_its_argument n ≡ true
   argument_there ns ms n e =
-      let a = All-contains HasItsArgument g.nodes n sound.arguments (contains_at g.nodes (length ns) n (ap (λ xs. slice_get xs (length ns)) e ∙ behind ns n ms)) in
+      let a = All-contains HasItsArgument g.nodes n sound.arguments (Contains-at g.nodes (length ns) n (ap (λ xs. slice_get xs (length ns)) e ∙ behind ns n ms)) in
       argument_held (is_some (row n.kind).arg) n.arg a.present a.below
 
   can_make : (ns ms : List Node) (n : Node) → g.nodes ≡ ns ++ n ∷ ms → CanMake (made g ns) (length ns) n None

@@ -20,11 +20,12 @@ use Rattle.quiesce_core.specs.Rules.{is_live_port, is_quiet, serves_through}
 use Rattle.quiesce_core.specs.Settled.{is_opening}
 use Rattle.quiesce_core.specs.Traffic.{IsConsistent}
 use Rattle.quiesce_core.specs.WellFormed.{IsWellFormed}
-use Rattle.quiesce_core.proofs.Cycles.{map_or_true, map_or_at}
-use Rattle.quiesce_core.proofs.Places.{gate_place}
-use Rattle.quiesce_core.proofs.Soundness.{put_here, put_elsewhere}
-use Rattle.quiescence_laws.proofs.Configurations.{port_owner, reached_before, shrinks_next}
-use Rattle.quiesce_core.proofs.Lookups.{asked_busy, more_busy, serving_busy, answered_busy, taken_busy}
+use Rattle.quiesce_core.proofs.CycleLaws.{map_or_true, map_or_at}
+use Rattle.quiesce_core.proofs.TableLaws.{gate_place}
+use Rattle.quiesce_core.proofs.SoundnessLaws.{put_here, put_elsewhere}
+use Rattle.quiescence_laws.proofs.Configurations.{reached_before, shrinks_next}
+use Rattle.quiesce_core.proofs.StateLaws.{asked_busy, more_busy, serving_busy, answered_busy, taken_busy}
+use Rattle.quiesce_core.proofs.ReachLaws.{owner_of}
 
 -- p is a port of the node, or reaches it
 abbrev pub Concerns : Configuration → ℕ → ℕ → Type 0
@@ -52,7 +53,7 @@ none_called s n p w k h c live by_it =
     let by : provision s.config v.0.port ≡ serving.provide =
     map_or_at (λ (t : Target). t.provide) (target s.config v.0.port) 0 (record { node = owner s.config p; provide = serving.provide }) serving.linked in
     ⊎_elim
-    (λ (own : IsPortOf s.config n p). let is_n : owner s.config p ≡ n = port_owner s.config w.sound n p own in
+    (λ (own : IsPortOf s.config n p). let is_n : owner s.config p ≡ n = owner_of s.config w.sound n p own in
     let none_ : service s (owner s.config p) ≡ None = ap (λ i. service s i) is_n ∙ h.services_nothing in absurd (cc (none_, v.1)))
     (λ (r : Reach (wiring_of s.config) n p).
     let above : Reach (wiring_of s.config) n v.0.port =

@@ -10,9 +10,9 @@ use Rattle.quiesce_core.specs.Effect.{linked}
 use Rattle.quiesce_core.specs.Reach.{wiring_of, has_no_cycle}
 use Rattle.config_graph.specs.Walks.{Ranks}
 use Rattle.config_graph.specs.Wiring.{CallPath, HasNoCycle, MayCall}
-use Rattle.config_graph.proofs.WalkLemmas.{acyclic_if_ranked}
-use Rattle.quiesce_core.proofs.Cycles.{cycles_are_found, no_cycle_if_acyclic, ranked_if_no_cycle, walk_found}
-use Rattle.quiesce_core.proofs.LegalLemmas.{legal}
+use Rattle.config_graph.proofs.WalkLaws.{acyclic_if_ranked}
+use Rattle.quiesce_core.proofs.CycleLaws.{cycles_are_found, no_cycle_if_acyclic, ranked_if_no_cycle, walk_found}
+use Rattle.quiesce_core.proofs.LegalLaws.{legal}
 
 pub cycles_are_closed_walks : (c : Configuration) → (has_no_cycle c ≡ false) ↔ ((n : ℕ) × CallPath (wiring_of c) n n)
 cycles_are_closed_walks c = (walk_found c, λ w. false_from_ne_true (has_no_cycle c) (λ h. (cycles_are_found c).0 h w.0 w.1))

@@ -2,7 +2,7 @@
 -- opened, in the order of the ports. And how it goes on from there.
 use Rattle.std.specs.Prelude.{ℕ, List, ◌++◌, map, Option, None, option_map, fold, filter_map}
 use Rattle.std.specs.List.{enumerate_from}
-use Rattle.config_graph.specs.Graph.{Configuration as Graph, ports, target_of}
+use Rattle.config_graph.specs.Graph.{Graph, ports, target_of}
 use Rattle.config_graph.specs.declared.node.Node.{Node}
 use Rattle.config_graph.specs.declared.node.Port.{Port}
 use Rattle.config_graph.specs.declared.node.Target.{Target}

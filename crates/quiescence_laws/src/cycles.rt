@@ -15,7 +15,7 @@ ghost use Rattle.quiesce_core.specs.State.{Configuration, State, owner};
 /// where nodes can't be ranked so that the rank falls along each link that a service may use.
 pub fn cycles_are_closed_walks()
     ensures found { (c : Configuration) → (has_no_cycle c ≡ false) ↔ ((n : ℕ) × CallPath (wiring_of c) n n) }
-    ensures unranked { (c : Configuration) → HasNoCycle (wiring_of c) ↔ Ranks (MayCall (wiring_of c)) }
+    ensures ranked { (c : Configuration) → HasNoCycle (wiring_of c) ↔ Ranks (MayCall (wiring_of c)) }
 {}
 
 /// A link that is denied by the rule against cycles would lead a node back to itself, and one that may be made leads none back. Where

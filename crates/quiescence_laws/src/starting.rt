@@ -1,7 +1,7 @@
 //! A system that was started as a graph says is reached by a run, so the laws of runs speak of it too.
 
 ghost use Rattle.std.specs.Prelude.{◌≡◌, ◌↔◌, ◌≤◌, length, List, ◌++◌};
-ghost use Rattle.config_graph.specs.Graph.{Configuration as Graph, ports};
+ghost use Rattle.config_graph.specs.Graph.{Graph, ports};
 ghost use Rattle.config_graph.specs.Sound.{Sound};
 ghost use Rattle.config_graph.specs.declared.TheConstants.{MAX_NODES, MAX_PORTS};
 ghost use Rattle.quiesce_core.specs.declared.event.Event.{Event};

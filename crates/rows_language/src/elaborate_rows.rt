@@ -28,6 +28,9 @@ const NESTED_TURNS: &str =
 /// Turns from one integer to another.
 const RANGE: &str = "component Range(int a, int b) { inst t:sink; forall i:a..b { } }";
 
+/// Two entries that make one instance: it counts once.
+const ONE_TWICE: &str = "component Twice(int n) { inst a:Turns(n); inst a:Turns(n); }";
+
 /// An element a turn.
 const RANGE_ENDS: &str =
     "component Ends(int a, int b) { array A[2]:sink; forall i:a..b inst A[i - a]; }";
@@ -62,7 +65,8 @@ static DEPTHS_AND_COUNTS: [Elaborated; 5] = [
 ];
 
 /// How deep instances may lie, and how much may be counted.
-static FURTHER_DEPTHS_AND_COUNTS: [Elaborated; 7] = [
+static FURTHER_DEPTHS_AND_COUNTS: [Elaborated; 8] = [
+    (&[ONE_TWICE, TURNS], "Twice", &[40000], "TwoInstances a"),
     (&[BOUND_OFTEN, KINDS], "Often", &[32768], "TooMany"),
     (
         &[NESTED_TURNS, KINDS],

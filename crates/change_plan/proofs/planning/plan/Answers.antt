@@ -1,8 +1,8 @@
 use Rattle.std.proofs.Common.{◌<◌, ◌^◌, ◌↔◌, ℕ, All, Contains, List, length, subst, sum_by, sym}
 use Rattle.std.specs.List.Sorted.{IsStrictlyIncreasing}
 use Rattle.std.proofs.lemmas.Result.{err_from_is_err_and}
-use Rattle.config_graph.specs.Graph.{IsWithin, requires_at}
-use Rattle.config_graph.specs.Reach.{Enlarged}
+use Rattle.config_graph.specs.Graph.{IsLinkWithin, requires_at}
+use Rattle.config_graph.specs.Enlarged.{Enlarged}
 use Rattle.change_plan.specs.Differences.{GoneLinks, GoneNodes, GonePorts}
 use Rattle.change_plan.specs.Moves.{IsShifts}
 use Rattle.config_graph.specs.declared.node.Port.{Port}
@@ -75,12 +75,14 @@ returns-clause-plan c =
     let is = λ (freeze nodes : List ℕ). (i : ℕ) → Contains freeze i ↔ Enlarged old (Contains nodes) i in
     let members : is c.of-6.result touched = subst (λ freeze. is freeze touched) (sym c.of-6.ensures) (subst (is c.in_ok-enlarged.field-0.items) c.deref-2.ensures.value c.in_ok-enlarged.ensures.members) in
     record {
-      unlink = subst (GonePorts old new) (sym c.of.ensures) c.in_ok-list_gone_ports.ensures;
-      remove = subst (GoneNodes old new) (sym c.of-2.ensures) c.in_ok-list_gone.ensures.gone;
-      create = subst (GoneNodes new old) (sym c.of-3.ensures) c.in_ok-create.ensures.gone;
-      link = subst (GoneLinks new old) (sym c.of-4.ensures) c.in_ok-list_gone_links.ensures;
+      steps = record {
+        unlink = subst (GonePorts old new) (sym c.of.ensures) c.in_ok-list_gone_ports.ensures;
+        remove = subst (GoneNodes old new) (sym c.of-2.ensures) c.in_ok-list_gone.ensures.gone;
+        create = subst (GoneNodes new old) (sym c.of-3.ensures) c.in_ok-create.ensures.gone;
+        link = subst (GoneLinks new old) (sym c.of-4.ensures) c.in_ok-list_gone_links.ensures;
+        freeze = λ i. (λ there. (same i).0 ((members i).0 there), λ frozen. (members i).1 ((same i).1 frozen));
+      };
       moves = subst (IsShifts old new asked) (sym c.of-5.ensures) c.in_ok-shifts.ensures.shifts;
-      freeze = λ i. (λ there. (same i).0 ((members i).0 there), λ frozen. (members i).1 ((same i).1 frozen));
       freeze_rises = subst IsStrictlyIncreasing (sym c.of-6.ensures) c.in_ok-enlarged.ensures.rising;
     }
 
@@ -94,7 +96,7 @@ returns-clause-within c =
       unlink = subst (All (λ (q : Port). q.require < requires_at old.nodes q.node)) (sym c.of.ensures) (gone_ports_within old new told.old c.in_ok-list_gone_ports.field-0.items c.in_ok-list_gone_ports.ensures);
       remove = subst (All (λ i. i < length old.nodes)) (sym c.of-2.ensures) (gone_within old new told.old c.in_ok-list_gone.field-0.items c.in_ok-list_gone.ensures.gone);
       create = subst (All (λ i. i < length new.nodes)) (sym c.of-3.ensures) (gone_within new old told.new c.in_ok-create.create.items c.in_ok-create.ensures.gone);
-      link = subst (All (IsWithin new.nodes)) (sym c.of-4.ensures) (gone_links_within new old told.new c.in_ok-list_gone_links.field-0.items c.in_ok-list_gone_links.ensures);
+      link = subst (All (IsLinkWithin new.nodes)) (sym c.of-4.ensures) (gone_links_within new old told.new c.in_ok-list_gone_links.field-0.items c.in_ok-list_gone_links.ensures);
     }
 
 pub returns-clause-accepted : goal.returns-clause-accepted

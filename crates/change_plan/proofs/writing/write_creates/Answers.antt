@@ -1,6 +1,6 @@
 use Rattle.change_plan.specs.PlanText.{create_line}
-use Rattle.config_graph.proofs.ListLemmas.{lines_all, lines_more}
 use Rattle.change_plan.proofs.writing.write_creates.Goals as goal
+use Rattle.base.proofs.LinesLaws.{lines_all, lines_more}
 
 pub loop-node-preserved : goal.loop-node-preserved
 loop-node-preserved c =

@@ -1,6 +1,6 @@
 use Rattle.change_plan.specs.PlanText.{link_line}
-use Rattle.config_graph.proofs.ListLemmas.{lines_all, lines_more}
 use Rattle.change_plan.proofs.writing.write_links.Goals as goal
+use Rattle.base.proofs.LinesLaws.{lines_all, lines_more}
 
 pub loop-link-preserved : goal.loop-link-preserved
 loop-link-preserved c =

@@ -1,6 +1,6 @@
 use Rattle.change_plan.specs.PlanText.{unlink_line}
-use Rattle.config_graph.proofs.ListLemmas.{lines_all, lines_more}
 use Rattle.change_plan.proofs.writing.write_unlinks.Goals as goal
+use Rattle.base.proofs.LinesLaws.{lines_all, lines_more}
 
 pub loop-port-preserved : goal.loop-port-preserved
 loop-port-preserved c =

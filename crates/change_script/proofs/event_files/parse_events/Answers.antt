@@ -1,7 +1,7 @@
 -- The first line starts, and what stands behind it is events, or the first fault is behind it.
 use Rattle.std.proofs.Common.{inl, inr, ◌∙◌, sym, ap, Ok}
 use Rattle.std.proofs.lemmas.Result.{err_from_is_err_and}
-use Rattle.change_script.proofs.EventFileLemmas.{file_is, fault_is, refused_file, refused_fault, one_file, never_both}
+use Rattle.change_script.proofs.EventFileLaws.{file_is, fault_is, refused_file, refused_fault, one_file, never_both}
 use Rattle.change_script.proofs.event_files.parse_events.Goals as goal
 
 pub returns-in_err-events-clause-fault : goal.returns-in_err-events-clause-fault

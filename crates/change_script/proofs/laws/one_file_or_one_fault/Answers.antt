@@ -1,4 +1,4 @@
-use Rattle.change_script.proofs.EventFileLemmas.{one_file, one_fault, never_both, always_one, no_want_of_memory}
+use Rattle.change_script.proofs.EventFileLaws.{one_file, one_fault, never_both, always_one, no_want_of_memory}
 use Rattle.change_script.proofs.laws.one_file_or_one_fault.Goals as goal
 
 pub returns : goal.returns

@@ -1,7 +1,7 @@
 use Rattle.std.proofs.Common.{arith}
-use Rattle.change_script.proofs.LineLemmas.{rest_is}
 use Rattle.change_script.proofs.TokenLemmas.{blanks_skipped, no_blank_left}
 use Rattle.change_script.proofs.tokens.without_blanks.Goals as goal
+use Rattle.base.proofs.PlaceLaws.{rest_is}
 
 pub returns-clause-tokens : goal.returns-clause-tokens
 returns-clause-tokens c =

@@ -1,4 +1,4 @@
-use Rattle.config_graph.proofs.SearchLemmas.{first_or_none}
+use Rattle.config_graph.proofs.SearchLaws.{first_or_none}
 use Rattle.config_graph.proofs.cycles.a_first_on_a_cycle_or_none.Goals as goal
 
 pub returns : goal.returns

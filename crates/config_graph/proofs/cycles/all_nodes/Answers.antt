@@ -1,6 +1,6 @@
 use Rattle.std.proofs.Common.{◌++◌, ◌∷◌, [], ◌∙◌, ap, sym}
-use Rattle.config_graph.proofs.ListLemmas.{places_more}
 use Rattle.config_graph.proofs.cycles.all_nodes.Goals as goal
+use Rattle.base.proofs.RisingLaws.{places_more}
 
 pub loop-node-preserved : goal.loop-node-preserved
 loop-node-preserved c =

@@ -2,7 +2,7 @@ use Rattle.std.proofs.Common.{◌≤◌, ◌<◌, arith, IfSome, below_more, len
 use Rattle.config_graph.specs.Cycles.{leads_by}
 use Rattle.config_graph.specs.Graph.{requires_at}
 use Rattle.config_graph.specs.Marks.{IsMarked}
-use Rattle.config_graph.proofs.CycleLemmas.{ForSome-from_IfSome, leads_only, requires_is}
+use Rattle.config_graph.proofs.CycleLaws.{ForSome-from_IfSome, leads_only, requires_is}
 use Rattle.config_graph.proofs.cycles.leads_only_to.Goals as goal
 
 pub is_set-requires : goal.is_set-requires

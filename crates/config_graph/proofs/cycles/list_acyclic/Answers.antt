@@ -1,12 +1,12 @@
 use Rattle.std.proofs.Common.{◌≡◌, ℕ, ◌∷◌, [], ◌++◌, ◌<◌, ◌∙◌, ap, sym, arith, false, true, length, refl, get_or, inl, inr, subst, vec_len, All}
 use Rattle.std.proofs.lemmas.List.{length-replicate, get_or_read}
-use Rattle.config_graph.specs.Cycles.{OnCycle, wiring_of}
+use Rattle.config_graph.specs.Cycles.{OnCycle, graph_wiring}
 use Rattle.config_graph.specs.Wiring.{MayCall}
 use Rattle.config_graph.specs.Marks.{IsMarked}
-use Rattle.config_graph.proofs.CycleLemmas.{range_below}
-use Rattle.config_graph.proofs.WalkLemmas.{acyclic_next}
+use Rattle.config_graph.proofs.CycleLaws.{range_below}
+use Rattle.config_graph.proofs.WalkLaws.{acyclic_next}
 use Rattle.config_graph.proofs.MarkLaws.{marked_only, none_marked}
-use Rattle.config_graph.proofs.SearchLemmas.{All-before_last, All-last, clear_falls}
+use Rattle.config_graph.proofs.SearchLaws.{All-before_last, All-last, clear_falls}
 use Rattle.config_graph.proofs.cycles.list_acyclic.Goals as goal
 use Rattle.config_graph.proofs.cycles.list_acyclic.Goals.{In_ok-push_predecessors}
 
@@ -48,7 +48,7 @@ loop-node-preserved-then-leads_only_to c =
           elim (marked_only acyclic i node has) [
             | inl before ↦ c.loop-node.invariant.acyclic i before
             | inr same ↦
-                let leads = λ (j : ℕ) (h : MayCall (wiring_of g) node j). c.loop-node.invariant.acyclic j (subst (λ bits. IsMarked bits j) c.deref.ensures.value (c.if-leads_only_to.ensures refl j h)) in
-                subst (λ k. ¬ OnCycle g k) (sym same) (acyclic_next (MayCall (wiring_of g)) node leads)
+                let leads = λ (j : ℕ) (h : MayCall (graph_wiring g) node j). c.loop-node.invariant.acyclic j (subst (λ bits. IsMarked bits j) c.deref.ensures.value (c.if-leads_only_to.ensures refl j h)) in
+                subst (λ k. ¬ OnCycle g k) (sym same) (acyclic_next (MayCall (graph_wiring g)) node leads)
           ];
     }

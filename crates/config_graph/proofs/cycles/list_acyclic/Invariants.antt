@@ -1,7 +1,7 @@
 use Rattle.std.proofs.Common.{◌≡◌, ◌+◌, ◌*◌, ◌<◌, ℕ, All, length, vec_len}
 use Rattle.config_graph.specs.Cycles.{OnCycle}
 use Rattle.config_graph.specs.Marks.{IsMarked}
-use Rattle.config_graph.proofs.SearchLemmas.{unseen}
+use Rattle.config_graph.proofs.SearchLaws.{unseen}
 use Rattle.config_graph.proofs.cycles.list_acyclic.Given as goal
 
 abbrev pub invariant-loop-node : goal.invariant-loop-node

@@ -1,7 +1,7 @@
 use Rattle.std.proofs.Common.{◌<◌, ◌≤◌, ◌∙◌, ap, false, replicate, length, arith}
 use Rattle.std.proofs.lemmas.List.{get_or_read, length-replicate}
 use Rattle.config_graph.specs.Search.{see_all, seen_of, successors}
-use Rattle.config_graph.proofs.SearchLemmas.{search_begins, search_ends, search_goes_on}
+use Rattle.config_graph.proofs.SearchLaws.{search_begins, search_ends, search_goes_on}
 use Rattle.config_graph.proofs.cycles.list_reached.Goals as goal
 
 pub see_successors-requires-clause-bits : goal.see_successors-requires-clause-bits

@@ -1,6 +1,6 @@
 use Rattle.std.proofs.Common.{◌-◌, length}
 use Rattle.config_graph.specs.Search.{seen_of}
-use Rattle.config_graph.proofs.SearchLemmas.{Searched}
+use Rattle.config_graph.proofs.SearchLaws.{Searched}
 use Rattle.config_graph.proofs.cycles.list_reached.Given as goal
 
 abbrev pub invariant-loop-next : goal.invariant-loop-next

@@ -1,5 +1,5 @@
 use Rattle.std.proofs.Common.{ap, arith, length}
-use Rattle.config_graph.proofs.IncomingLemmas.{incoming-length}
+use Rattle.config_graph.proofs.IncomingLaws.{incoming-length}
 use Rattle.config_graph.proofs.cycles.push_predecessors.Goals as goal
 
 pub loop-provide-preserved : goal.loop-provide-preserved

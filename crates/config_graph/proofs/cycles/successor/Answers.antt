@@ -1,6 +1,6 @@
 use Rattle.std.proofs.Common.{◌∙◌, ap, sym, option_map}
 use Rattle.config_graph.specs.declared.node.Target.{Target}
-use Rattle.config_graph.proofs.CycleLemmas.{IfSome-node, depended_is, leads_by-depended, leads_by-not}
+use Rattle.config_graph.proofs.CycleLaws.{IfSome-node, depended_is, leads_by-depended, leads_by-not}
 use Rattle.config_graph.proofs.cycles.successor.Goals as goal
 
 pub returns-then-is_depended_on : goal.returns-then-is_depended_on

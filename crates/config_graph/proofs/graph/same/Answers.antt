@@ -1,6 +1,6 @@
 use Rattle.std.proofs.Common.{◌∙◌, ap, sym}
 use Rattle.std.proofs.lemmas.Bool.{true≢false}
-use Rattle.config_graph.proofs.SameLemmas.{links_decide, nodes_decide}
+use Rattle.config_graph.proofs.SameLaws.{links_decide, nodes_decide}
 use Rattle.config_graph.proofs.graph.same.Goals as goal
 
 pub returns-then-eq : goal.returns-then-eq

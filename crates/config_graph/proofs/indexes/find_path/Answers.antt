@@ -2,7 +2,7 @@ use Rattle.std.proofs.Common.{rules, sym}
 use Rattle.std.specs.Ordering.{nat_cmp}
 use Rattle.std.specs.Cmp.Lexicographic.{slice_cmp}
 use Rattle.std.proofs.lemmas.Fn.{always_returns_same}
-use Rattle.config_graph.proofs.PathLemmas.{found_path, no_path}
+use Rattle.config_graph.proofs.PathLaws.{found_path, no_path}
 use Rattle.config_graph.proofs.indexes.find_path.Goals as goal
 
 pub returns-in-Ok : goal.returns-in-Ok

@@ -1,7 +1,8 @@
 use Rattle.std.proofs.Common.{◌∙◌, []}
 use Rattle.config_graph.specs.Numbering.{provisions}
-use Rattle.config_graph.proofs.LinkLemmas.{lists_more, map_constant}
+use Rattle.config_graph.proofs.LinkLaws.{lists_more}
 use Rattle.config_graph.proofs.indexes.list_incoming.Goals as goal
+use Rattle.base.proofs.MapLaws.{map_constant}
 
 pub loop-link-init : goal.loop-link-init
 loop-link-init c =

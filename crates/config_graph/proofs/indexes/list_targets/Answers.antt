@@ -1,6 +1,6 @@
 use Rattle.std.proofs.Common.{◌∙◌, ap, map}
 use Rattle.config_graph.specs.Indexes.{no_target}
-use Rattle.config_graph.proofs.LinkLemmas.{targets_more}
+use Rattle.config_graph.proofs.LinkLaws.{targets_more}
 use Rattle.config_graph.proofs.indexes.list_targets.Goals as goal
 
 pub loop-link-init : goal.loop-link-init

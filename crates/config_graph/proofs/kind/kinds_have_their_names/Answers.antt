@@ -1,4 +1,4 @@
-use Rattle.config_graph.proofs.KindLemmas.{kind_named-name}
+use Rattle.config_graph.proofs.KindLaws.{kind_named-name}
 use Rattle.config_graph.proofs.kind.kinds_have_their_names.Goals as goal
 
 pub returns : goal.returns

@@ -1,4 +1,4 @@
-use Rattle.config_graph.proofs.NumberingLemmas.{ports_more}
+use Rattle.config_graph.proofs.NumberingLaws.{ports_more}
 use Rattle.config_graph.proofs.numbering.list_ports.Goals as goal
 
 pub loop-index-preserved : goal.loop-index-preserved

@@ -3,7 +3,7 @@ use Rattle.std.specs.List.{range_with_len}
 use Rattle.std.proofs.lemmas.List.Sums.{sum_by-take-le}
 use Rattle.config_graph.specs.Graph.{requires_of, provides_of, first_port}
 use Rattle.config_graph.specs.Numbering.{start, first_provision}
-use Rattle.config_graph.proofs.NumberingLemmas.{starts_more, places_more, first_provision-le, length-ports}
+use Rattle.config_graph.proofs.NumberingLaws.{starts_more, places_more, first_provision-le, length-ports}
 use Rattle.config_graph.proofs.numbering.list_starts.Goals as goal
 use Rattle.config_graph.proofs.numbering.list_starts.Goals.{After-provides-provision, After-requires_-port}
 

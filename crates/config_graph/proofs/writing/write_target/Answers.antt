@@ -1,5 +1,5 @@
 use Rattle.config_graph.specs.Graph.{provides_of}
-use Rattle.config_graph.proofs.NumberingLemmas.{within_list}
+use Rattle.config_graph.proofs.NumberingLaws.{within_list}
 use Rattle.config_graph.proofs.writing.write_target.Goals as goal
 
 pub node-node-requires : goal.node-node-requires

@@ -2,7 +2,7 @@
 use Rattle.std.proofs.Common.{[], sym, append-nil}
 use Rattle.darwin_commands.specs.declared.status.Status.TheVariants as status
 use Rattle.darwin_commands.specs.declared.TheConstants.{HELP, VERSION}
-use Rattle.darwin_commands.specs.Words.{help, version, flat, plan, replay}
+use Rattle.darwin_commands.specs.CommandLine.{help, version, flat, plan, replay}
 use Rattle.darwin_commands.specs.Answers.{helped, versioned, answered_to}
 use Rattle.darwin_commands.proofs.Running.{runs_by, flat_answers, plan_answers}
 use Rattle.darwin_commands.proofs.commands.run_request.Goals as goal

@@ -1,7 +1,7 @@
 -- What is left has to be integers exactly where all words have to be, and completes the values.
 use Rattle.std.proofs.Common.{◌≡◌, ◌++◌, map, drop, string_bytes}
 use Rattle.std.specs.List.{AllByRecursion}
-use Rattle.darwin_commands.specs.Words.{IsInteger, integer_of}
+use Rattle.darwin_commands.specs.CommandLine.{IsInteger, integer_of}
 use Rattle.darwin_commands.proofs.words.integers.Given as goal
 
 abbrev pub invariant-loop-word : goal.invariant-loop-word

@@ -2,7 +2,7 @@
 use Rattle.std.proofs.Common.{map, string_bytes, ◌+◌, ◌∷◌, ℕ, ℤ, List, codes, take, drop, ap, refl, subst, arith}
 use Rattle.darwin_commands.proofs.Asking.{no_call, no_target, not_parted}
 use Rattle.darwin_commands.proofs.Parting.{parted_by, parted_nowhere, rest_is}
-use Rattle.darwin_commands.specs.Words.{IsCall}
+use Rattle.darwin_commands.specs.CommandLine.{IsCall}
 use Rattle.darwin_commands.proofs.words.read_plan.Goals as goal
 
 pub returns-then-at-words-clause-none : goal.returns-then-at-words-clause-none

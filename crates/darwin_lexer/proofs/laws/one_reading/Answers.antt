@@ -1,4 +1,4 @@
-use Rattle.darwin_lexer.proofs.TokensLemmas.{one_parting, one_first_fault, never_both, always_one}
+use Rattle.darwin_lexer.proofs.TokensLaws.{one_parting, one_first_fault, never_both, always_one}
 use Rattle.darwin_lexer.proofs.laws.one_reading.Goals as goal
 
 pub returns : goal.returns

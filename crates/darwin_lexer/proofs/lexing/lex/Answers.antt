@@ -1,15 +1,15 @@
 use Rattle.std.proofs.Common.{inl, ◌≡◌, ◌+◌, subst, sym, ap, refl, ◌∙◌, arith, length, take, drop, fold, ◌-◌, ◌≤◌, length-drop, length-take-le, length-append}
 use Rattle.darwin_lexer.specs.declared.token.Token.{Token}
-use Rattle.darwin_lexer.specs.Tokens.{Parts, ended, FirstFault}
+use Rattle.darwin_lexer.specs.Tokens.{Tokenizes, ended, FirstFault}
 use Rattle.darwin_lexer.specs.Fronts.{front_of}
-use Rattle.darwin_lexer.specs.Places.{next, place_of}
-use Rattle.darwin_lexer.proofs.FrontLemmas.{rest_is}
-use Rattle.darwin_lexer.proofs.TokensLemmas.{gap_more, token_more, place_of-add, one_parting, never_both, refuses_tokens, refuses_fault}
+use Rattle.darwin_lexer.specs.Positions.{next, place_of}
+use Rattle.darwin_lexer.proofs.TokensLaws.{gap_more, token_more, place_of-add, one_parting, never_both, refuses_tokens, refuses_fault}
 use Rattle.darwin_lexer.proofs.lexing.lex.Goals as goal
 use Rattle.darwin_lexer.proofs.lexing.lex.Goals.{in-Gap, in-Lexeme+in_ok-push-in-Lexeme}
+use Rattle.base.proofs.PlaceLaws.{rest_is}
 
 pub pieces-init : goal.pieces-init
-pieces-init c = record { parted = subst (Parts c.args.text.now 0 0) (sym c.new-tokens.ensures.items) (ended 0); within = omega arith; few = omega (arith, ap length c.new-tokens.ensures.items); place = refl; line = omega arith; column = omega arith }
+pieces-init c = record { parted = subst (Tokenizes c.args.text.now 0 0) (sym c.new-tokens.ensures.items) (ended 0); within = omega arith; few = omega (arith, ap length c.new-tokens.ensures.items); place = refl; line = omega arith; column = omega arith }
 
 pub pieces-preserved : goal.pieces-preserved
 pieces-preserved c =
@@ -50,7 +50,7 @@ returns-in-End c =
     let rest = rest_is text c.pieces.start kept.within in
     let len = length-drop c.pieces.start text in
     let at_end : c.pieces.start ≡ length text = omega (arith, ap length rest, c.in-End.ensures.within) in
-    let parts = subst (λ k. Parts text 0 k c.pieces.tokens.items) at_end kept.parted in
+    let parts = subst (λ k. Tokenizes text 0 k c.pieces.tokens.items) at_end kept.parted in
     record {
       tokens = parts;
       few = omega (arith, kept.few, kept.within);

@@ -1,11 +1,11 @@
 use Rattle.std.proofs.Common.{◌≡◌, ◌-◌, ◌≤◌, length, ◌+◌}
-use Rattle.darwin_lexer.specs.Places.{place_of}
-use Rattle.darwin_lexer.specs.Tokens.{Parts}
+use Rattle.darwin_lexer.specs.Positions.{place_of}
+use Rattle.darwin_lexer.specs.Tokens.{Tokenizes}
 use Rattle.darwin_lexer.proofs.lexing.lex.Given as goal
 
 abbrev pub invariant-pieces : goal.invariant-pieces
 invariant-pieces l = record {
-  parted : Parts l.text 0 l.start l.tokens.items;
+  parted : Tokenizes l.text 0 l.start l.tokens.items;
   within : l.start ≤ length l.text;
   few : length l.tokens.items ≤ l.start;
   place : l.at ≡ place_of l.text l.start;

@@ -1,4 +1,4 @@
-use Rattle.darwin_parser.proofs.Theorems.{one_tree}
+use Rattle.darwin_parser.proofs.UnitLaws.{one_tree}
 use Rattle.darwin_parser.proofs.parsing.one_tree.Goals as goal
 
 pub returns : goal.returns

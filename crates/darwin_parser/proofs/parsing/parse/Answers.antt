@@ -1,7 +1,7 @@
 use Rattle.std.proofs.Common.{◌≡◌, length, Ok, Err, ap, sym, ◌∙◌}
 use Rattle.darwin_parser.specs.Tree.{tree_of}
 use Rattle.darwin_parser.specs.Views.{refusal_of}
-use Rattle.darwin_parser.proofs.Theorems.{one_tree, tree_read, not_unexpected, not_too_nested}
+use Rattle.darwin_parser.proofs.UnitLaws.{one_tree, tree_read, not_unexpected, not_too_nested}
 use Rattle.darwin_parser.proofs.Answered.{err_is, stopped_unit, stopped_unexpected, every_unexpected, stopped_nested, every_nested}
 use Rattle.darwin_parser.proofs.parsing.parse.Goals as goal
 use Rattle.darwin_parser.proofs.parsing.parse.Goals.{In-Ok, After-numbered}

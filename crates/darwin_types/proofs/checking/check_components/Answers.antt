@@ -4,12 +4,12 @@ use Rattle.std.proofs.lemmas.List.{length-map}
 use Rattle.std.proofs.lemmas.List.Elements.{Contains-append_left, Contains-append_right}
 use Rattle.std.specs.List.{Contains}
 use Rattle.base.proofs.AnswerLaws.{Answers-exit}
-use Rattle.darwin_types.proofs.Lists.{Contains-from}
 use Rattle.darwin_parser.specs.Tree.{component_of}
 use Rattle.darwin_types.specs.Check.{components_of, component_faults, directory_faults, names_in_component}
 use Rattle.darwin_types.proofs.Components.{ports_at}
 use Rattle.darwin_types.proofs.Judged.{flat_map-drop, flat_map-done, none-append}
 use Rattle.darwin_types.proofs.checking.check_components.Goals as goal
+use Rattle.base.proofs.ContainsLaws.{Contains-from}
 
 pub returns-in_err-directory : goal.returns-in_err-directory
 returns-in_err-directory c =

@@ -2,8 +2,8 @@ use Rattle.std.proofs.Common.{sym, subst}
 use Rattle.darwin_parser.specs.Tree.{port_of}
 use Rattle.darwin_types.specs.declared.error.TypeError.TheVariants.{TwoNames}
 use Rattle.darwin_types.specs.Check.{Judges, repeat_faults}
-use Rattle.darwin_types.proofs.Lists.{map-map}
 use Rattle.darwin_types.proofs.directory.ports_of.Goals as goal
+use Rattle.base.proofs.MapLaws.{map-map}
 
 pub returns-clause-judged : goal.returns-clause-judged
 returns-clause-judged c =

@@ -3,9 +3,9 @@ use Rattle.std.specs.List.{flat_map}
 use Rattle.std.specs.Map.{lookup}
 use Rattle.darwin_parser.specs.Tree.{component_of, array_of, entry_of}
 use Rattle.darwin_types.specs.Scope.{single_of}
-use Rattle.darwin_types.proofs.Lists.{map-map}
 use Rattle.darwin_types.proofs.Lookups.{SameLookups_after}
 use Rattle.darwin_types.proofs.instances.instances_of.Goals as goal
+use Rattle.base.proofs.MapLaws.{map-map}
 
 pub returns : goal.returns
 returns c x =

@@ -4,9 +4,9 @@ use Rattle.std.proofs.lemmas.List.{take_all}
 use Rattle.darwin_types.specs.Check.{repeat_fault, repeat_faults}
 use Rattle.std.specs.List.{Contains}
 use Rattle.darwin_types.specs.Faults.{is_repeated}
-use Rattle.darwin_types.proofs.Lists.{map-take_more}
 use Rattle.darwin_types.proofs.Judged.{Judges-one, repeat_faults-none, repeat_faults-at, is_repeated-at}
 use Rattle.darwin_types.proofs.names.distinct.Goals as goal
+use Rattle.base.proofs.MapLaws.{map-take_more}
 
 pub returns-then-not-branch-clause-judged : goal.returns-then-not-branch-clause-judged
 returns-then-not-branch-clause-judged g c =

@@ -2,12 +2,12 @@ use Rattle.std.proofs.Common.{◌≡◌, List, [], Option, Some, None, option_ma
 use Rattle.std.specs.Option.{option_map_or}
 use Rattle.base.proofs.AnswerLaws.{Answers-exit}
 use Rattle.darwin_parser.specs.Tree.{port_of, expr_of}
-use Rattle.darwin_types.proofs.Lists.{Contains-from}
 use Rattle.darwin_walk.specs.Value.{value}
 use Rattle.darwin_walk.specs.Environment.{env_at}
 use Rattle.darwin_walk.specs.Instance.{value_fault}
-use Rattle.darwin_walk.proofs.CauseLemmas.{fault-grow}
+use Rattle.darwin_walk.proofs.CauseLaws.{fault-grow}
 use Rattle.darwin_walk.proofs.instance.port_sizes_of.Goals as goal
+use Rattle.base.proofs.ContainsLaws.{Contains-from}
 
 through : {A B C : Type 0} (g : B → List C) (h : A → B) (o : Option A) → option_map_or g (option_map h o) [] ≡ option_map_or (λ x. g (h x)) o []
 through g h None = refl

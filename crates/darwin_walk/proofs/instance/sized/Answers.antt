@@ -1,11 +1,11 @@
 use Rattle.base.proofs.AnswerLaws.{Answers-exit}
 use Rattle.darwin_parser.specs.Tree.{array_of}
-use Rattle.darwin_types.proofs.Lists.{Contains-from}
 use Rattle.darwin_walk.specs.Value.{value}
 use Rattle.darwin_walk.specs.Environment.{env_at}
 use Rattle.darwin_walk.specs.Instance.{value_fault}
-use Rattle.darwin_walk.proofs.CauseLemmas.{fault-grow}
+use Rattle.darwin_walk.proofs.CauseLaws.{fault-grow}
 use Rattle.darwin_walk.proofs.instance.sized.Goals as goal
+use Rattle.base.proofs.ContainsLaws.{Contains-from}
 
 pub returns-in_err-size : goal.returns-in_err-size
 returns-in_err-size c =

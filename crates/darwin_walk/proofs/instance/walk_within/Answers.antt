@@ -3,7 +3,7 @@ use Rattle.base.proofs.AnswerLaws.{Answers-exit}
 use Rattle.darwin_parser.specs.Tree.{component_of, port_of, array_of, stmts_of}
 use Rattle.darwin_walk.specs.Environment.{env_at}
 use Rattle.darwin_walk.specs.Reached.{reached_in, weight}
-use Rattle.darwin_walk.proofs.CauseLemmas.{cause-grow, fault-grow}
+use Rattle.darwin_walk.proofs.CauseLaws.{cause-grow, fault-grow}
 use Rattle.darwin_walk.proofs.ReachedLemmas.{faults-none, faults-ports, faults-arrays, faults-body, count-body, IsWalked-body}
 use Rattle.darwin_walk.proofs.NamedLemmas.{IsScope-found}
 use Rattle.darwin_walk.proofs.instance.walk_within.Goals as goal

@@ -10,7 +10,7 @@ use Rattle.darwin_walk.specs.Value.{Env, value}
 use Rattle.darwin_walk.specs.Instance.{values, value_fault}
 use Rattle.darwin_walk.specs.Scope.{exprs_of}
 use Rattle.darwin_walk.specs.declared.fault.Fault.{Fault}
-use Rattle.darwin_walk.proofs.CauseLemmas.{fault-grow}
+use Rattle.darwin_walk.proofs.CauseLaws.{fault-grow}
 use Rattle.darwin_walk.proofs.scope.values_at.Goals as goal
 
 -- a fault of the expression at an index is one of those from there on

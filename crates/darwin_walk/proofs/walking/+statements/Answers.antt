@@ -6,7 +6,7 @@ use Rattle.darwin_parser.specs.Tree.{stmt_of, stmts_of, expr_of}
 use Rattle.darwin_walk.specs.Spine.{env_of}
 use Rattle.darwin_walk.specs.Environment.{env_at}
 use Rattle.darwin_walk.specs.Reached.{integers_to, turns, with_variable, reached_by, reached_in}
-use Rattle.darwin_walk.proofs.TreeLemmas.{stmt_of-Forall, stmt_of-When}
+use Rattle.darwin_walk.proofs.TreeLaws.{stmt_of-Forall, stmt_of-When}
 use Rattle.darwin_walk.proofs.Sizes.{stmt_size, stmts_size, stmts_of-drop, stmt_size-below}
 use Rattle.darwin_walk.proofs.WalksLemmas.{Walks-exit, Walks-append, Walks-stop, Walks-none, Walks-turn, Walks-turn-stop, Walks-turn-many, Walks-turns-many, Walks-forall, Walks-forall-stop, Walks-when, env_at-push}
 use Rattle.darwin_walk.proofs.walking.+statements.Goals as goal

@@ -1,6 +1,6 @@
 use Rattle.std.proofs.lemmas.List.Elements.{Contains-append_left}
 use Rattle.base.proofs.AnswerLaws.{Answers-exit}
-use Rattle.darwin_walk.proofs.CauseLemmas.{fault-grow}
+use Rattle.darwin_walk.proofs.CauseLaws.{fault-grow}
 use Rattle.darwin_walk.proofs.walking.binding_at.Goals as goal
 
 pub returns-in_err-left : goal.returns-in_err-left

@@ -1,4 +1,4 @@
-use Rattle.quiesce_core.proofs.LegalLemmas.{legal}
+use Rattle.quiesce_core.proofs.LegalLaws.{legal}
 use Rattle.drain_laws.specs.Belongs.{one}
 use Rattle.drain_laws.proofs.Portions.{part_falls, part_stays, open_one}
 use Rattle.drain_laws.proofs.parts.part_of_one_falls_by_steps.Goals as goal

@@ -1,7 +1,7 @@
 use Rattle.std.proofs.Common.{◌==◌, ◌∙◌, length, sym, ap}
 use Rattle.darwin_parser.specs.Tree.{stmt_of, stmts_of}
 use Rattle.darwin_types.specs.Scope.{entries_of, entries_of_stmt}
-use Rattle.darwin_walk.proofs.TreeLemmas.{stmt_of-Forall, stmt_of-When}
+use Rattle.darwin_walk.proofs.TreeLaws.{stmt_of-Forall, stmt_of-When}
 use Rattle.elaborator.proofs.directory.+entries.Goals as goal
 
 pub lacks_entry-returns-in-Forall : goal.lacks_entry-returns-in-Forall

@@ -3,7 +3,7 @@ use Rattle.darwin_parser.specs.Tree.{tree_of}
 use Rattle.darwin_types.specs.Faults.{NoFault}
 use Rattle.elaborator.specs.Expansion.{instance_in, seen}
 use Rattle.elaborator.specs.Faults.{Faults}
-use Rattle.elaborator.specs.Growth.{GrowthFault}
+use Rattle.elaborator.specs.ExpansionFaults.{GrowthFault}
 use Rattle.elaborator.specs.Elaboration.{HasNoFault}
 use Rattle.elaborator.specs.declared.error.ElabError.TheVariants.{NoMemory}
 use Rattle.base.proofs.AnswerLaws.{Answers-exit}

@@ -1,4 +1,4 @@
-use Rattle.elaborator.proofs.LawLemmas.{told-by_path}
+use Rattle.elaborator.proofs.InstanceLaws.{told-by_path}
 use Rattle.elaborator.proofs.laws.an_instance_is_told_by_its_path.Goals as goal
 
 pub returns : goal.returns

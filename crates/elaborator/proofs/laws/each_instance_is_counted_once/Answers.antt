@@ -1,5 +1,5 @@
-use Rattle.elaborator.proofs.LawLemmas.{single-if_none, top_depth}
-use Rattle.elaborator.proofs.CountLemmas.{instances-once, counted-within, counted-all}
+use Rattle.elaborator.proofs.InstanceLaws.{single-if_none, top_depth}
+use Rattle.elaborator.proofs.CountLaws.{instances-once, counted-within, counted-all}
 use Rattle.elaborator.proofs.laws.each_instance_is_counted_once.Goals as goal
 
 pub returns-clause-once : goal.returns-clause-once

@@ -1,4 +1,4 @@
-use Rattle.elaborator.proofs.LawLemmas.{instances-listed}
+use Rattle.elaborator.proofs.InstanceLaws.{instances-listed}
 use Rattle.elaborator.proofs.laws.instances_are_those_of_the_list.Goals as goal
 
 pub returns : goal.returns

@@ -1,5 +1,5 @@
 use Rattle.elaborator.specs.Instances.{Instance}
-use Rattle.elaborator.specs.Expanded.{IsOf}
+use Rattle.elaborator.specs.Numbering.{IsOf}
 use Rattle.elaborator.specs.Expansion.{seen}
 use Rattle.elaborator.specs.Links.{AreFirstLinks}
 use Rattle.elaborator.proofs.links.add_links.Given as goal

@@ -8,11 +8,11 @@ use Rattle.elaborator.specs.Faults.{kind_faults}
 use Rattle.elaborator.specs.Expansion.{instance_in}
 use Rattle.elaborator.specs.Opening.{IsNoted}
 use Rattle.base.proofs.AnswerLaws.{Answers-exit}
-use Rattle.darwin_types.proofs.Lists.{Contains-from}
 use Rattle.elaborator.proofs.CauseLemmas.{fault-grow}
 use Rattle.elaborator.proofs.MakingLemmas.{instances-push, instances-skip, faults-next, next, noted-push}
 use Rattle.elaborator.proofs.making.make_all.Goals as goal
 use Rattle.elaborator.proofs.making.make_all.Goals.{in-Some+in_ok-push, in_default}
+use Rattle.base.proofs.ContainsLaws.{Contains-from}
 
 pub returns-in_err-instance : goal.returns-in_err-instance
 returns-in_err-instance c =

@@ -1,10 +1,9 @@
 use Rattle.std.proofs.Common.{◌≡◌, ◌∙◌, ◌+◌, Some, None, sym, subst, get_or, arith}
 use Rattle.std.proofs.lemmas.Option.{slice_get-get_or}
 use Rattle.elaborator.specs.Graph.{node_of}
-use Rattle.elaborator.specs.Expanded.{Numbered}
+use Rattle.elaborator.specs.Numbering.{Numbered}
 use Rattle.elaborator.specs.Expansion.{seen, instance_in}
-use Rattle.elaborator.specs.Nodes.{AreFirstNodes}
-use Rattle.elaborator.specs.Order.{IsInOrder}
+use Rattle.elaborator.specs.NodeOrder.{AreFirstNodes, IsInOrder}
 use Rattle.elaborator.proofs.NodeLemmas.{first_nodes-skip, first_nodes-push, nodes-all}
 use Rattle.elaborator.proofs.nodes.nodes_of.Goals as goal
 use Rattle.elaborator.proofs.nodes.nodes_of.Goals.{in-Some+in_ok-add, in_default}

@@ -1,5 +1,5 @@
 use Rattle.elaborator.specs.Expansion.{seen}
-use Rattle.elaborator.specs.Nodes.{AreFirstNodes}
+use Rattle.elaborator.specs.NodeOrder.{AreFirstNodes}
 use Rattle.elaborator.proofs.nodes.nodes_of.Given as goal
 
 abbrev pub invariant-loop-number : goal.invariant-loop-number

@@ -5,7 +5,7 @@ use Rattle.elaborator.specs.Instances.{Instance}
 use Rattle.elaborator.specs.declared.error.ElabError.TheVariants.{BoundTwice}
 use Rattle.elaborator.specs.Expansion.{seen}
 use Rattle.elaborator.specs.Ports.{IsPort}
-use Rattle.elaborator.specs.Chains.{port_eq}
+use Rattle.elaborator.specs.PortIndex.{port_eq}
 use Rattle.elaborator.proofs.PortLemmas.{same_instance}
 use Rattle.elaborator.proofs.IndexLemmas.{IsIndex-push, same_port, port_itself, port_functional, port_injective}
 use Rattle.elaborator.proofs.pairs.bind_pair.Goals as goal

@@ -4,9 +4,9 @@ use Rattle.std.proofs.lemmas.List.{take_all, length-map}
 use Rattle.std.proofs.lemmas.Bool.{cases_lt}
 use Rattle.elaborator.specs.Instances.{Instance}
 use Rattle.elaborator.specs.Bindings.{pairs_in, bindings_in}
-use Rattle.elaborator.specs.Expanded.{Made, Numbered}
+use Rattle.elaborator.specs.Numbering.{NumberedInstance, Numbered}
 use Rattle.elaborator.specs.Expansion.{seen}
-use Rattle.elaborator.specs.Index.{IsIndex, AreLawful}
+use Rattle.elaborator.specs.PortIndex.{IsIndex, AreLawful}
 use Rattle.base.proofs.AnswerLaws.{Answers-exit}
 use Rattle.elaborator.proofs.PortLemmas.{instance_numbered, numbered_within}
 use Rattle.elaborator.proofs.IndexLemmas.{same_numbered}
@@ -44,5 +44,5 @@ pub returns : goal.returns
 returns c =
     let e = seen c.args.expansion.now in
     let n = c.loop-number.number in
-    let all : length (instances_of e) ≤ n = omega (arith, length-map e.made (λ (m : Made). m.instance), c.len-number-end.ensures, c.loop-number-test.false) in
+    let all : length (instances_of e) ≤ n = omega (arith, length-map e.made (λ (m : NumberedInstance). m.instance), c.len-number-end.ensures, c.loop-number-test.false) in
     whole_index e c.requires.is_expanded c.loop-number.targets (subst (λ is. IsIndex e (flat_map (pairs_in e.tree) is) c.loop-number.targets) (take_all n (instances_of e) all) c.loop-number.invariant.indexed) (λ m i at. c.loop-number.invariant.lawful m i (omega (arith, numbered_within e m i at, c.len-number-end.ensures, c.loop-number-test.false)) at)

@@ -2,9 +2,9 @@ use Rattle.std.proofs.Common.{ℕ, ◌<◌, take}
 use Rattle.std.specs.List.{flat_map}
 use Rattle.elaborator.specs.Instances.{Instance}
 use Rattle.elaborator.specs.Bindings.{bindings_in, pairs_in}
-use Rattle.elaborator.specs.Expanded.{Numbered}
+use Rattle.elaborator.specs.Numbering.{Numbered}
 use Rattle.elaborator.specs.Expansion.{seen}
-use Rattle.elaborator.specs.Index.{IsIndex, AreLawful}
+use Rattle.elaborator.specs.PortIndex.{IsIndex, AreLawful}
 use Rattle.elaborator.proofs.WholeLemmas.{instances_of}
 use Rattle.elaborator.proofs.pairs.index_bindings.Given as goal
 

@@ -4,13 +4,14 @@ use Rattle.std.proofs.lemmas.List.{take_all}
 use Rattle.darwin_walk.specs.Walked.{binding_of}
 use Rattle.elaborator.specs.Bindings.{pair_of, bindings_in}
 use Rattle.elaborator.specs.Expansion.{seen}
-use Rattle.elaborator.specs.Index.{IsIndex, AreLawful}
-use Rattle.elaborator.specs.Index.BindingFault.{of_binding}
-use Rattle.darwin_types.proofs.Lists.{Contains-here, Contains-flat_map}
+use Rattle.elaborator.specs.PortIndex.{IsIndex, AreLawful}
+use Rattle.elaborator.specs.PortIndex.BindingFault.{of_binding}
 use Rattle.base.proofs.AnswerLaws.{Answers-exit}
 use Rattle.elaborator.proofs.PortLemmas.{same_instance}
-use Rattle.elaborator.proofs.InstanceLemmas.{map-take_more, front, next_there, pairs-more, lawful-more, twice}
+use Rattle.elaborator.proofs.InstanceLemmas.{front, next_there, pairs-more, lawful-more, twice}
 use Rattle.elaborator.proofs.pairs.index_instance.Goals as goal
+use Rattle.base.proofs.ContainsLaws.{Contains-flat_map, Contains-here}
+use Rattle.base.proofs.MapLaws.{map-take_more}
 
 pub returns-in_err-pair : goal.returns-in_err-pair
 returns-in_err-pair c = λ i pairs at index before.

@@ -3,9 +3,9 @@ use Rattle.std.specs.List.{flat_map}
 use Rattle.darwin_walk.specs.Walked.{binding_of}
 use Rattle.elaborator.specs.Instances.{Instance}
 use Rattle.elaborator.specs.Bindings.{Pair, pair_of}
-use Rattle.elaborator.specs.Expanded.{Numbered}
+use Rattle.elaborator.specs.Numbering.{Numbered}
 use Rattle.elaborator.specs.Expansion.{seen}
-use Rattle.elaborator.specs.Index.{IsIndex, AreLawful}
+use Rattle.elaborator.specs.PortIndex.{IsIndex, AreLawful}
 use Rattle.elaborator.proofs.pairs.index_instance.Given as goal
 
 -- the pairs so far are indexed, and lawful

@@ -3,7 +3,7 @@ use Rattle.elaborator.specs.Expansion.{seen}
 use Rattle.elaborator.specs.Ports.{named_of}
 use Rattle.base.proofs.AnswerLaws.{Answers-exit, Answers-weaker}
 use Rattle.elaborator.proofs.PortLemmas.{instance_numbered, stands_numbered, numbered_within}
-use Rattle.elaborator.proofs.PairLemmas.{pair-no_left, pair-no_right, fault_of_form, fault_of_left_index, fault_of_right_index, fault_of_notes, lawful}
+use Rattle.elaborator.proofs.PairLaws.{pair-no_left, pair-no_right, fault_of_form, fault_of_left_index, fault_of_right_index, fault_of_notes, lawful}
 use Rattle.elaborator.proofs.pairs.pair_of_binding.Goals as goal
 
 pub returns-in_default : goal.returns-in_default

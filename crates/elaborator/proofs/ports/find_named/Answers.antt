@@ -4,7 +4,7 @@ use Rattle.std.proofs.lemmas.List.{length-map}
 use Rattle.std.proofs.lemmas.Option.{slice_get_read}
 use Rattle.std.proofs.lemmas.List.Quantifiers.{position-Some}
 use Rattle.darwin_parser.specs.Tree.{port_of}
-use Rattle.darwin_walk.specs.Walked.{end_of}
+use Rattle.darwin_walk.specs.Walked.{walked_end}
 use Rattle.elaborator.specs.Expansion.{seen, instance_in}
 use Rattle.elaborator.proofs.NamingLemmas.{position_within}
 use Rattle.elaborator.proofs.PortLemmas.{instance_numbered, stands_numbered, numbered_within, same_instance, place_told, named-no_port, named_found}
@@ -32,7 +32,7 @@ returns-in_default-port_place c = λ i at.
     let w = rw c.in-Some.is at (c.in_ok-instance.ensures i at) in
     let same = same_instance e c.in-Some.instance x w.0 c.instance.ensures.made (stands_numbered (seen e) c.args.number _ c.in-Some.instance w.0 w.2) in
     let place = place_told e c.requires.kept c.in-Some.instance x c.as_bytes.result.now c.as_bytes-2.result.now c.args.end.port.now c.port_place.result c.instance.ensures.made c.as_bytes.ensures c.as_bytes-2.ensures c.port_place.ensures in
-    named-no_port (seen e).tree i (instance_in x) (end_of c.args.end) (w.1 ∙ ap Some same) (place ∙ c.in_default-port_place.is)
+    named-no_port (seen e).tree i (instance_in x) (walked_end c.args.end) (w.1 ∙ ap Some same) (place ∙ c.in_default-port_place.is)
 
 pub returns : goal.returns
 returns c = λ i at.

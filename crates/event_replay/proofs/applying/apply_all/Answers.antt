@@ -2,7 +2,7 @@
 use Rattle.std.proofs.Common.{◌≡◌, ◌∙◌, Some, Err, ap, subst}
 use Rattle.quiesce_core.specs.Rules.{denial}
 use Rattle.quiesce_core.specs.Runs.{Step, stays}
-use Rattle.event_replay.proofs.DenialLemmas.{steps_at, steps_all, denied_at}
+use Rattle.event_replay.proofs.DenialLaws.{steps_at, steps_all, denied_at}
 use Rattle.event_replay.proofs.applying.apply_all.Goals as goal
 
 pub loop-index-init : goal.loop-index-init

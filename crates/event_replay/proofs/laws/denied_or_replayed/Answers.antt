@@ -1,4 +1,4 @@
-use Rattle.event_replay.proofs.DenialLemmas.{always_one, never_both, one_end, one_denial}
+use Rattle.event_replay.proofs.DenialLaws.{always_one, never_both, one_end, one_denial}
 use Rattle.event_replay.proofs.laws.denied_or_replayed.Goals as goal
 
 pub returns : goal.returns

@@ -1,6 +1,6 @@
 use Rattle.event_replay.specs.ReplayText.{open_line}
-use Rattle.config_graph.proofs.ListLemmas.{lines_all, lines_more}
 use Rattle.event_replay.proofs.writing.push_opens.Goals as goal
+use Rattle.base.proofs.LinesLaws.{lines_all, lines_more}
 
 pub loop-transaction-preserved : goal.loop-transaction-preserved
 loop-transaction-preserved c =

@@ -1,6 +1,6 @@
 use Rattle.event_replay.specs.ReplayText.{settled_line}
-use Rattle.config_graph.proofs.ListLemmas.{lines_all, lines_more}
 use Rattle.event_replay.proofs.writing.push_settled.Goals as goal
+use Rattle.base.proofs.LinesLaws.{lines_all, lines_more}
 
 pub loop-slot-preserved : goal.loop-slot-preserved
 loop-slot-preserved c =

@@ -1,7 +1,7 @@
 use Rattle.std.proofs.Common.{◌≡◌, ◌<◌, ◌∙◌, ◌↔◌, ℕ, All, Contains, arith, length}
 use Rattle.std.proofs.lemmas.Result.{IfOk-weaker}
-use Rattle.config_graph.specs.Cycles.{wiring_of}
-use Rattle.config_graph.specs.Reach.{Enlarged}
+use Rattle.config_graph.specs.Cycles.{graph_wiring}
+use Rattle.config_graph.specs.Enlarged.{Enlarged}
 use Rattle.config_graph.specs.Wiring.{Reach}
 use Rattle.passive_set.specs.Feeding.{FeedsMarked}
 use Rattle.passive_set.proofs.FeedingLemmas.{Listed, marked_below, members_are, Owns-reach}
@@ -18,7 +18,7 @@ returns-clause-members c =
     let marks_are : length start ≡ length g.nodes = c.in_ok-marks.ensures.length ∙ c.node_count.ensures.count in
     let linked : (p : ℕ) → Contains first p ↔ FeedsMarked g start (length start) p = rw c.deref.ensures.value at c.in_ok-ports.ensures.linked in
     let owned = Owns-reach g c.node_count.ensures.graph start marks_are (Contains nodes) c.in_ok-marks.ensures.marked first linked ports c.in_ok-add_dependent.ensures.closure in
-    IfOk-weaker c.list_marked.result (Listed marks) (λ set. (i : ℕ) → Contains set.items i ↔ Enlarged g (Contains nodes) i) (λ set listed. members_are g nodes set.items ports start marks (λ i. (n : ℕ) × (require : ℕ) × Contains nodes n × Reach (wiring_of g) n (record { node = i; require = require })) c.in_ok-marks.ensures.marked owned c.with_owners-marks.ensures.marked listed) (rw c.deref-2.ensures.value at c.list_marked.ensures.marked)
+    IfOk-weaker c.list_marked.result (Listed marks) (λ set. (i : ℕ) → Contains set.items i ↔ Enlarged g (Contains nodes) i) (λ set listed. members_are g nodes set.items ports start marks (λ i. (n : ℕ) × (require : ℕ) × Contains nodes n × Reach (graph_wiring g) n (record { node = i; require = require })) c.in_ok-marks.ensures.marked owned c.with_owners-marks.ensures.marked listed) (rw c.deref-2.ensures.value at c.list_marked.ensures.marked)
 
 pub returns-clause-within : goal.returns-clause-within
 returns-clause-within c =

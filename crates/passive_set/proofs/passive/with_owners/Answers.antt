@@ -1,7 +1,7 @@
 use Rattle.std.proofs.Common.{◌<◌, ◌∙◌, arith, length, refl}
 use Rattle.std.proofs.Math.ListN.{length-set}
 use Rattle.config_graph.specs.Graph.{requires_of}
-use Rattle.config_graph.proofs.NumberingLemmas.{within_list}
+use Rattle.config_graph.proofs.NumberingLaws.{within_list}
 use Rattle.passive_set.proofs.FeedingLemmas.{owners_more}
 use Rattle.passive_set.proofs.passive.with_owners.Goals as goal
 

@@ -1,4 +1,4 @@
-use Rattle.quiesce_core.proofs.GraphLemmas.{graph_started}
+use Rattle.quiesce_core.proofs.GraphLaws.{graph_started}
 use Rattle.quiesce_core.proofs.laws.a_started_system_has_its_graph.Goals as goal
 
 pub returns : goal.returns

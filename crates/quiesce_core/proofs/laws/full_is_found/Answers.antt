@@ -1,4 +1,4 @@
-use Rattle.quiesce_core.proofs.RestLemmas.{full_step}
+use Rattle.quiesce_core.proofs.RestLaws.{full_step}
 use Rattle.quiesce_core.proofs.laws.full_is_found.Goals as goal
 
 pub returns : goal.returns

@@ -1,4 +1,4 @@
-use Rattle.quiesce_core.proofs.RunLemmas.{node_events_keep_the_configuration}
+use Rattle.quiesce_core.proofs.RunLaws.{node_events_keep_the_configuration}
 use Rattle.quiesce_core.proofs.laws.node_events_keep_the_configuration.Goals as goal
 
 pub returns : goal.returns

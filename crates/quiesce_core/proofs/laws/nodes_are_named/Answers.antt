@@ -1,4 +1,4 @@
-use Rattle.quiesce_core.proofs.RunLemmas.{nodes_are_named}
+use Rattle.quiesce_core.proofs.RunLaws.{nodes_are_named}
 use Rattle.quiesce_core.proofs.laws.nodes_are_named.Goals as goal
 
 pub returns : goal.returns

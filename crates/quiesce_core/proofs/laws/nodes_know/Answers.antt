@@ -1,4 +1,4 @@
-use Rattle.quiesce_core.proofs.RunLemmas.{nodes_know}
+use Rattle.quiesce_core.proofs.RunLaws.{nodes_know}
 use Rattle.quiesce_core.proofs.laws.nodes_know.Goals as goal
 
 pub returns : goal.returns

@@ -1,4 +1,4 @@
-use Rattle.quiesce_core.proofs.RunLemmas.{runs_are_consistent}
+use Rattle.quiesce_core.proofs.RunLaws.{runs_are_consistent}
 use Rattle.quiesce_core.proofs.laws.runs_are_consistent.Goals as goal
 
 pub returns : goal.returns

@@ -1,4 +1,4 @@
-use Rattle.quiesce_core.proofs.GraphLemmas.{consistent_started, well_formed_started}
+use Rattle.quiesce_core.proofs.GraphLaws.{consistent_started, well_formed_started}
 use Rattle.quiesce_core.proofs.laws.started_systems_are_consistent.Goals as goal
 
 pub returns : goal.returns

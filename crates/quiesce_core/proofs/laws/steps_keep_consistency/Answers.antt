@@ -1,4 +1,4 @@
-use Rattle.quiesce_core.proofs.RunLemmas.{steps_keep_consistency}
+use Rattle.quiesce_core.proofs.RunLaws.{steps_keep_consistency}
 use Rattle.quiesce_core.proofs.laws.steps_keep_consistency.Goals as goal
 
 pub returns : goal.returns

@@ -1,4 +1,4 @@
-use Rattle.quiesce_core.proofs.RunLemmas.{words_of_runs_decode}
+use Rattle.quiesce_core.proofs.RunLaws.{words_of_runs_decode}
 use Rattle.quiesce_core.proofs.laws.words_of_runs_decode.Goals as goal
 
 pub returns : goal.returns

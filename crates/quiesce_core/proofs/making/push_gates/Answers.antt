@@ -1,7 +1,7 @@
 use Rattle.std.proofs.Common.{◌≡◌, ◌<◌, ◌+◌, ◌++◌, ◌∷◌, [], length, cond, true, None, ap, ◌∙◌, arith}
 use Rattle.std.specs.Prelude.{vec_len, vec_capacity}
 use Rattle.quiesce_core.specs.declared.state.Gate.{Gate}
-use Rattle.quiesce_core.proofs.Places.{new_gates_more, new_gates_length}
+use Rattle.quiesce_core.proofs.TableLaws.{new_gates_more, new_gates_length}
 use Rattle.quiesce_core.proofs.making.push_gates.Goals as goal
 
 pub loop-require-preserved : goal.loop-require-preserved

@@ -2,9 +2,9 @@ use Rattle.std.proofs.Common.{◌<◌, length, refl, arith}
 use Rattle.config_graph.specs.Graph.{ports}
 use Rattle.quiesce_core.specs.State.{fresh_exchange}
 use Rattle.quiesce_core.specs.Start.{unused}
-use Rattle.quiesce_core.proofs.Lists.{mapped_more}
-use Rattle.quiesce_core.proofs.GraphLemmas.{there}
 use Rattle.quiesce_core.proofs.starting.list_exchanges.Goals as goal
+use Rattle.base.proofs.MapLaws.{mapped_more}
+use Rattle.base.proofs.PlaceLaws.{slice_get-there as there}
 
 pub loop-number-preserved : goal.loop-number-preserved
 loop-number-preserved c =

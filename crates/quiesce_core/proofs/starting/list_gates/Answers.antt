@@ -3,8 +3,8 @@ use Rattle.config_graph.specs.Graph.{ports}
 use Rattle.quiesce_core.specs.declared.state.Gate.{Gate}
 use Rattle.std.proofs.Common.{false}
 use Rattle.quiesce_core.specs.Start.{gate_of}
-use Rattle.quiesce_core.proofs.Lists.{mapped_more}
 use Rattle.quiesce_core.proofs.starting.list_gates.Goals as goal
+use Rattle.base.proofs.MapLaws.{mapped_more}
 
 pub loop-number-preserved : goal.loop-number-preserved
 loop-number-preserved c =

@@ -1,6 +1,6 @@
 use Rattle.quiesce_core.specs.Runs.{state_after}
-use Rattle.quiesce_core.proofs.Cycles.{cycles_are_found}
-use Rattle.quiesce_core.proofs.RunLemmas.{runs_are_well_formed}
+use Rattle.quiesce_core.proofs.CycleLaws.{cycles_are_found}
+use Rattle.quiesce_core.proofs.RunLaws.{runs_are_well_formed}
 use Rattle.quiescence_laws.proofs.cycles.runs_close_no_walk.Goals as goal
 
 pub returns : goal.returns

@@ -1,8 +1,8 @@
 use Rattle.std.proofs.Common.{◌≡◌, ◌<◌, ◌^◌, ◌∙◌, ap, sym, subst, length, All}
-use Rattle.config_graph.specs.Graph.{IsGraph, IsWithin, PathsRise, graph_of, in_port_order, ports}
+use Rattle.config_graph.specs.Graph.{IsGraph, IsLinkWithin, PathsRise, graph_of, in_port_order, ports}
 use Rattle.config_graph.specs.Indexes.{incoming, links_in, targets}
-use Rattle.config_graph.proofs.IncomingLemmas.{Contains-in_order}
-use Rattle.config_graph.proofs.OrderLemmas.{All-ordered, IsGraph-graph_of, links_in-targets, targets-ordered}
+use Rattle.config_graph.proofs.IncomingLaws.{Contains-in_order}
+use Rattle.config_graph.proofs.OrderLaws.{All-ordered, IsGraph-graph_of, links_in-targets, targets-ordered}
 use Rattle.config_graph.proofs.graph.Graph.build.Goals as goal
 use Rattle.config_graph.proofs.graph.Graph.build.Goals.{After-deref-3}
 
@@ -13,13 +13,13 @@ links_are : (c : After-deref-3) → c.in_ok-links.links.items ≡ in_port_order 
 links_are c =
     c.in_ok-links.ensures ∙ (λ i. links_in (c.ports.ensures.ports i) ((c.deref-2.ensures.value ∙ targets_are c) i)) ∙ links_in-targets c.in_ok-nodes.nodes c.args.links.items
 
-within : (c : After-deref-3) → All (IsWithin c.in_ok-nodes.nodes) c.args.links.items
+within : (c : After-deref-3) → All (IsLinkWithin c.in_ok-nodes.nodes) c.args.links.items
 within c = rw c.in_ok-nodes.ensures c.requires.within
 
 pub list_incoming-requires : goal.list_incoming-requires
 list_incoming-requires c =
     let nodes = c.in_ok-nodes.nodes in
-    subst (All (IsWithin nodes)) (sym (c.deref-3.ensures.value ∙ links_are c)) (All-ordered c.args.links.items (IsWithin nodes) (within c) (ports nodes))
+    subst (All (IsLinkWithin nodes)) (sym (c.deref-3.ensures.value ∙ links_are c)) (All-ordered c.args.links.items (IsLinkWithin nodes) (within c) (ports nodes))
 
 pub invariant_of-result : goal.invariant_of-result
 invariant_of-result c =

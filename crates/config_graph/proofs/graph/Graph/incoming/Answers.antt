@@ -3,8 +3,8 @@ use Rattle.std.proofs.Math.ListN.{get_or-map}
 use Rattle.config_graph.specs.Graph.{IsGraph, provides_at, incoming_ports}
 use Rattle.config_graph.specs.Indexes.{graph_in}
 use Rattle.config_graph.specs.Numbering.{provisions}
-use Rattle.config_graph.proofs.IncomingLemmas.{incoming-linked, incoming-rising, incoming-within}
-use Rattle.config_graph.proofs.LinkLemmas.{get-provisions, table_read}
+use Rattle.config_graph.proofs.IncomingLaws.{incoming-linked, incoming-rising, incoming-within}
+use Rattle.config_graph.proofs.LinkLaws.{get-provisions, table_read}
 use Rattle.config_graph.proofs.graph.Graph.incoming.Goals as goal
 use Rattle.config_graph.proofs.graph.Graph.incoming.Goals.{After-as_slice}
 

@@ -1,6 +1,6 @@
 use Rattle.std.proofs.Common.{◌∙◌, ap}
 use Rattle.config_graph.specs.Graph.{ports}
-use Rattle.config_graph.proofs.LinkLemmas.{number_read, require_read}
+use Rattle.config_graph.proofs.LinkLaws.{number_read, require_read}
 use Rattle.config_graph.proofs.graph.Graph.port.Goals as goal
 
 pub returns-clause-number : goal.returns-clause-number

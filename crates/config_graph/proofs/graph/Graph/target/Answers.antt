@@ -1,6 +1,6 @@
 use Rattle.std.proofs.Common.{◌≡◌, ◌<◌, ◌∙◌, ap, slice_get, All}
-use Rattle.config_graph.specs.Graph.{IsWithin, ports, target_of, requires_at}
-use Rattle.config_graph.proofs.LinkLemmas.{IfSome-target, get-ports, table_read}
+use Rattle.config_graph.specs.Graph.{IsLinkWithin, ports, target_of, requires_at}
+use Rattle.config_graph.proofs.LinkLaws.{IfSome-target, get-ports, table_read}
 use Rattle.config_graph.proofs.graph.Graph.target.Goals as goal
 use Rattle.config_graph.proofs.graph.Graph.target.Goals.{After-index}
 
@@ -19,5 +19,5 @@ returns-clause-target c = is_target (goal.at.returns-clause-target c).After-inde
 pub returns-clause-within : goal.returns-clause-within
 returns-clause-within c =
     let g = c.args.self.now in
-    let within : All (IsWithin g.nodes) g.links = rw (← c.self.view_is) c.self.invariant.graph.within in
+    let within : All (IsLinkWithin g.nodes) g.links = rw (← c.self.view_is) c.self.invariant.graph.within in
     IfSome-target g.nodes g.links c.args.index c.args.require c.index.result.now within (is_target (goal.at.returns-clause-within c).After-index)

@@ -1,6 +1,6 @@
 use Rattle.std.proofs.Common.{◌≡◌, ◌+◌, ◌<◌, ◌^◌, arith, length}
 use Rattle.config_graph.specs.Graph.{requires_of, ports, port_number}
-use Rattle.config_graph.proofs.NumberingLemmas.{start_within, port_is, port_below}
+use Rattle.config_graph.proofs.NumberingLaws.{start_within, port_is, port_below}
 use Rattle.config_graph.proofs.numbering.Numbering.port_number.Goals as goal
 use Rattle.config_graph.proofs.numbering.Numbering.port_number.Goals.{After-index}
 

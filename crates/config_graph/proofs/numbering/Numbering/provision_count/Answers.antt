@@ -1,5 +1,5 @@
 use Rattle.std.proofs.Common.{arith, ◌∙◌}
-use Rattle.config_graph.proofs.NumberingLemmas.{length-starts, total_is}
+use Rattle.config_graph.proofs.NumberingLaws.{length-starts, total_is}
 use Rattle.config_graph.proofs.numbering.Numbering.provision_count.Goals as goal
 
 pub index-requires : goal.index-requires

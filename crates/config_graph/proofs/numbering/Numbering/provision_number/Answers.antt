@@ -1,7 +1,7 @@
 use Rattle.std.proofs.Common.{◌≡◌, ◌+◌, ◌<◌, ◌^◌, arith, length}
 use Rattle.config_graph.specs.Graph.{provides_of}
 use Rattle.config_graph.specs.Numbering.{provision_number}
-use Rattle.config_graph.proofs.NumberingLemmas.{start_within, provision_is, provision_below, provisions-le}
+use Rattle.config_graph.proofs.NumberingLaws.{start_within, provision_is, provision_below, provisions-le}
 use Rattle.config_graph.proofs.numbering.Numbering.provision_number.Goals as goal
 use Rattle.config_graph.proofs.numbering.Numbering.provision_number.Goals.{After-index}
 

@@ -1,5 +1,5 @@
 use Rattle.std.proofs.Common.{◌≡◌, ◌+◌, ◌≤◌, take, fold}
-use Rattle.darwin_lexer.specs.Places.{next}
+use Rattle.darwin_lexer.specs.Positions.{next}
 use Rattle.darwin_lexer.proofs.token.At.after.Given as goal
 
 abbrev pub invariant-loop-byte : goal.invariant-loop-byte

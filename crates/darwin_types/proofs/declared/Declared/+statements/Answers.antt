@@ -8,10 +8,10 @@ use Rattle.darwin_types.specs.Places.{stmt_places, body_places}
 use Rattle.darwin_types.specs.Check.{Judges, value_faults, places_faults}
 use Rattle.darwin_types.specs.Within.{tree_in, component_in}
 use Rattle.darwin_types.proofs.Bodies.{stmt_of_forall, stmt_of_when}
-use Rattle.darwin_types.proofs.Lists.{take_pushed}
 use Rattle.darwin_types.proofs.PlaceFaults.{body_faults-drop}
 use Rattle.darwin_types.proofs.Judged.{Judges_after, none-append}
 use Rattle.darwin_types.proofs.declared.Declared.+statements.Goals as goal
+use Rattle.base.proofs.MapLaws.{take_pushed}
 
 pub check_body-returns-in_err-check_stmt-clause-judged : goal.check_body-returns-in_err-check_stmt-clause-judged
 check_body-returns-in_err-check_stmt-clause-judged t c =

@@ -1,9 +1,9 @@
 use Rattle.base.proofs.AnswerLaws.{Answers-exit}
-use Rattle.darwin_types.proofs.Lists.{Contains-from}
 use Rattle.darwin_parser.specs.Tree.{array_of}
 use Rattle.darwin_types.specs.Check.{array_faults}
 use Rattle.darwin_types.specs.Within.{tree_in, component_in}
 use Rattle.darwin_types.proofs.declared.Declared.check_arrays.Goals as goal
+use Rattle.base.proofs.ContainsLaws.{Contains-from}
 
 pub returns-in_err-check_array : goal.returns-in_err-check_array
 returns-in_err-check_array c =

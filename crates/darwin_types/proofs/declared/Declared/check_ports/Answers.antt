@@ -1,12 +1,12 @@
 use Rattle.std.proofs.Common.{◌∙◌, map, drop}
 use Rattle.base.proofs.AnswerLaws.{Answers-exit}
-use Rattle.darwin_types.proofs.Lists.{Contains-from}
 use Rattle.darwin_parser.specs.Tree.{port_of}
 use Rattle.darwin_types.specs.Places.{port_places}
 use Rattle.darwin_types.specs.Check.{places_faults}
 use Rattle.darwin_types.specs.Within.{tree_in, component_in}
 use Rattle.darwin_types.proofs.PlaceFaults.{places_faults-flat_map}
 use Rattle.darwin_types.proofs.declared.Declared.check_ports.Goals as goal
+use Rattle.base.proofs.ContainsLaws.{Contains-from}
 
 pub returns-in_err-check_optional_value : goal.returns-in_err-check_optional_value
 returns-in_err-check_optional_value c =

@@ -1,13 +1,13 @@
 use Rattle.std.proofs.Common.{ap, ◌∙◌, drop}
 use Rattle.std.specs.List.{flat_map}
 use Rattle.base.proofs.AnswerLaws.{Answers-exit}
-use Rattle.darwin_types.proofs.Lists.{Contains-from}
 use Rattle.darwin_parser.specs.Tree.{expr_of}
 use Rattle.darwin_types.specs.Places.{value}
 use Rattle.darwin_types.specs.Check.{place_faults}
 use Rattle.darwin_types.specs.Within.{tree_in, component_in}
-use Rattle.darwin_types.proofs.Lists.{map-map}
 use Rattle.darwin_types.proofs.declared.Declared.check_values.Goals as goal
+use Rattle.base.proofs.ContainsLaws.{Contains-from}
+use Rattle.base.proofs.MapLaws.{map-map}
 
 pub returns-in_err-check_value : goal.returns-in_err-check_value
 returns-in_err-check_value c =

@@ -6,9 +6,9 @@ use Rattle.darwin_parser.specs.Tree.{component_of}
 use Rattle.darwin_types.specs.declared.error.TypeError.TheVariants.{TwoComponents}
 use Rattle.darwin_types.specs.Check.{repeat_faults, port_faults, components_of}
 use Rattle.darwin_types.proofs.Components.{names_of_components-pure}
-use Rattle.darwin_types.proofs.Lists.{Contains-from}
 use Rattle.darwin_types.proofs.Judged.{flat_map-done, none-append}
 use Rattle.darwin_types.proofs.directory.Directory.of.Goals as goal
+use Rattle.base.proofs.ContainsLaws.{Contains-from}
 
 pub returns-in_err-names-clause-judged : goal.returns-in_err-names-clause-judged
 returns-in_err-names-clause-judged c =

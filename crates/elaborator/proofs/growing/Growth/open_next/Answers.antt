@@ -2,14 +2,14 @@ use Rattle.std.proofs.Common.{◌≡◌, ◌++◌, refl, sym, subst, set, length
 use Rattle.std.proofs.lemmas.Option.{slice_get_read}
 use Rattle.darwin_parser.specs.Tree.{tree_of}
 use Rattle.elaborator.specs.Paths.{Path}
-use Rattle.elaborator.specs.Growth.{GrowthFault}
-use Rattle.elaborator.specs.Grown.{IsClash}
+use Rattle.elaborator.specs.ExpansionFaults.{GrowthFault}
+use Rattle.elaborator.specs.ExpansionState.{IsClash}
 use Rattle.elaborator.specs.declared.error.ElabError.TheVariants.{TwoInstances}
 use Rattle.base.proofs.AnswerLaws.{Answers-exit}
 use Rattle.elaborator.proofs.MappedLemmas.{mapped-set}
-use Rattle.elaborator.proofs.Places.{slice_get-there}
 use Rattle.elaborator.proofs.ExpandLemmas.{clash-next, growth-next}
 use Rattle.elaborator.proofs.growing.Growth.open_next.Goals as goal
+use Rattle.base.proofs.PlaceLaws.{slice_get-there}
 
 pub returns-in_err-found : goal.returns-in_err-found
 returns-in_err-found c = λ top growth.

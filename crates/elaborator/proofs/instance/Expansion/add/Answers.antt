@@ -1,16 +1,17 @@
 use Rattle.std.proofs.Common.{◌∙◌, refl, sym}
-use Rattle.elaborator.proofs.MappedLemmas.{mapped-add, clash-add, there_is, there_is_none}
+use Rattle.elaborator.proofs.MappedLemmas.{mapped-add, clash-add}
 use Rattle.elaborator.proofs.instance.Expansion.add.Goals as goal
+use Rattle.base.proofs.OptionLaws.{None-from_is_some, Some-from_is_some}
 
 pub returns-then-is_some : goal.returns-then-is_some
 returns-then-is_some c = λ other.
-    let old = there_is c.in_ok-insert.field-0 (sym c.is_some.ensures ∙ c.if-is_some.true) in
+    let old = Some-from_is_some c.in_ok-insert.field-0 (sym c.is_some.ensures ∙ c.if-is_some.true) in
     (refl, clash-add c.args.self.now c.args.instance c.in_ok-key.key old.0 c.requires.mapped (c.in_ok-key.ensures.items ∙ c.as_bytes.ensures) (sym c.in_ok-insert.ensures.old ∙ old.1))
 
 pub returns : goal.returns
 returns c =
     let e = c.args.self.now in
-    let none = there_is_none c.in_ok-insert.field-0 (sym c.is_some.ensures ∙ c.if-is_some.false) in
+    let none = None-from_is_some c.in_ok-insert.field-0 (sym c.is_some.ensures ∙ c.if-is_some.false) in
     record {
       instances = c.in_ok-push.ensures.items;
       same_unit = refl;

@@ -4,7 +4,7 @@ use Rattle.std.proofs.lemmas.Bool.{false≢true}
 use Rattle.std.proofs.lemmas.Option.{slice_get_read, same_Some, none-some}
 use Rattle.elaborator.specs.Expansion.{number_at, instance_in}
 use Rattle.elaborator.specs.declared.instance.Instance as code_instance
-use Rattle.elaborator.proofs.ChildLemmas.{find-child, find-no_child, same_option, same_option_back}
+use Rattle.elaborator.proofs.ChildLaws.{find-child, find-no_child, same_option, same_option_back}
 use Rattle.elaborator.proofs.instance.Expansion.child.Goals as goal
 
 pub index-requires : goal.index-requires

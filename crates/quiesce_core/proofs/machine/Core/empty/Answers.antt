@@ -2,7 +2,7 @@ use Rattle.std.proofs.Common.{sym, subst, arith}
 use Rattle.quiesce_core.specs.WellFormed.{IsWellFormed}
 use Rattle.quiesce_core.specs.Named.{AreNamed}
 use Rattle.quiesce_core.proofs.NamedLemmas.{named_empty}
-use Rattle.quiesce_core.proofs.Soundness.{well_formed_empty}
+use Rattle.quiesce_core.proofs.SoundnessLaws.{well_formed_empty}
 use Rattle.quiesce_core.proofs.machine.Core.empty.Goals as goal
 
 pub invariant_of-result : goal.invariant_of-result

@@ -1,13 +1,13 @@
 use Rattle.std.proofs.Common.{◌≡◌, ◌+◌, ◌-◌, None, length, sym, subst, ap, ◌∙◌, arith}
 use Rattle.quiesce_core.specs.declared.event.Event.TheVariants.{Make}
-use Rattle.quiesce_core.specs.Machine.{HasRoom}
+use Rattle.quiesce_core.specs.Machine.{HasRoomToMake}
 use Rattle.quiesce_core.specs.WellFormed.{IsWellFormed}
 use Rattle.quiesce_core.specs.Named.{AreNamed}
 use Rattle.quiesce_core.proofs.NamedLemmas.{named_next}
 use Rattle.quiesce_core.specs.Tables.{state_of}
 use Rattle.quiesce_core.specs.Rules.{denial}
-use Rattle.quiesce_core.proofs.LegalLemmas.{legal}
-use Rattle.quiesce_core.proofs.Soundness.{well_formed_next}
+use Rattle.quiesce_core.proofs.LegalLaws.{legal}
+use Rattle.quiesce_core.proofs.SoundnessLaws.{well_formed_next}
 use Rattle.quiesce_core.proofs.machine.Core.make.Goals as goal
 
 pub invariant_of-self : goal.invariant_of-self
@@ -20,5 +20,5 @@ invariant_of-self c =
     record {
       well_formed = subst (λ s. IsWellFormed s) (sym c.add.ensures.state) (well_formed_next before event c.self.invariant.well_formed (legal before event allowed));
       named = subst (λ s. AreNamed s.config) (sym c.add.ensures.state) (named_next before event c.self.invariant.named (legal before event allowed));
-      room = c.add.ensures.room (c.self.inside.spare - 1) (subst (λ k. HasRoom c.self.inside.tables k) (sym one) c.self.invariant.room);
+      room = c.add.ensures.room (c.self.inside.spare - 1) (subst (λ k. HasRoomToMake c.self.inside.tables k) (sym one) c.self.invariant.room);
     }

@@ -1,7 +1,7 @@
 use Rattle.std.proofs.Common.{sym, subst, arith}
 use Rattle.quiesce_core.specs.WellFormed.{IsWellFormed}
 use Rattle.quiesce_core.specs.Named.{AreNamed}
-use Rattle.quiesce_core.proofs.GraphLemmas.{named_started, well_formed_started}
+use Rattle.quiesce_core.proofs.GraphLaws.{named_started, well_formed_started}
 use Rattle.quiesce_core.proofs.machine.Core.of.Goals as goal
 
 pub invariant_of-result : goal.invariant_of-result

@@ -4,8 +4,8 @@ use Rattle.quiesce_core.specs.Rules.{denial}
 use Rattle.quiesce_core.specs.Named.{AreNamed}
 use Rattle.quiesce_core.proofs.NamedLemmas.{named_next}
 use Rattle.quiesce_core.specs.Tables.{state_of}
-use Rattle.quiesce_core.proofs.LegalLemmas.{legal}
-use Rattle.quiesce_core.proofs.Soundness.{well_formed_next}
+use Rattle.quiesce_core.proofs.LegalLaws.{legal}
+use Rattle.quiesce_core.proofs.SoundnessLaws.{well_formed_next}
 use Rattle.quiesce_core.proofs.machine.Core.perform.Goals as goal
 
 pub invariant_of-self : goal.invariant_of-self

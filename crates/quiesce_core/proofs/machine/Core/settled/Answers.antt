@@ -2,7 +2,7 @@ use Rattle.std.proofs.Common.{subst}
 use Rattle.std.specs.Prelude.{◌↔◌, IsTrue}
 use Rattle.quiesce_core.specs.Settled.{Settled}
 use Rattle.quiesce_core.specs.Tables.{state_of}
-use Rattle.quiesce_core.proofs.SettledLemmas.{settled_iff}
+use Rattle.quiesce_core.proofs.SettledLaws.{settled_iff}
 use Rattle.quiesce_core.proofs.machine.Core.settled.Goals as goal
 
 pub returns-clause-settled : goal.returns-clause-settled

@@ -4,10 +4,10 @@ use Rattle.quiesce_core.specs.Reach.{IsPortOf}
 use Rattle.quiesce_core.specs.Rest.{call_events}
 use Rattle.quiesce_core.specs.Counted.{capped, events_within}
 use Rattle.quiesce_core.specs.Tables.{state_of}
-use Rattle.quiesce_core.proofs.Cycles.{port_in}
-use Rattle.quiesce_core.proofs.Reaching.{fewer_steps, walks_zero}
-use Rattle.quiesce_core.proofs.Places.{live_made}
-use Rattle.quiesce_core.proofs.RestLemmas.{full_step, capped_full, greatest_after, counted_more}
+use Rattle.quiesce_core.proofs.CycleLaws.{port_in}
+use Rattle.quiesce_core.proofs.ReachLaws.{fewer_steps, walks_zero}
+use Rattle.quiesce_core.proofs.TableLaws.{live_made}
+use Rattle.quiesce_core.proofs.RestLaws.{full_step, capped_full, greatest_after, counted_more}
 use Rattle.quiesce_core.proofs.tables.Tables.+filling.Goals as goal
 
 pub call_events-events_within-requires : goal.call_events-events_within-requires

@@ -4,8 +4,8 @@ use Rattle.quiesce_core.specs.State as state
 use Rattle.quiesce_core.specs.Reach as reach
 use Rattle.quiesce_core.specs.Known.{reaches_through}
 use Rattle.quiesce_core.specs.Tables.{state_of}
-use Rattle.quiesce_core.proofs.Cycles.{port_in}
-use Rattle.quiesce_core.proofs.Reaching.{reaches_none, reaches_some, known_more, range_after, range_at, fewer_steps, walks_zero}
+use Rattle.quiesce_core.proofs.CycleLaws.{port_in}
+use Rattle.quiesce_core.proofs.ReachLaws.{reaches_none, reaches_some, known_more, range_after, range_at, fewer_steps, walks_zero}
 use Rattle.quiesce_core.proofs.tables.Tables.+reaching.Goals as goal
 use Rattle.quiesce_core.proofs.tables.Tables.+reaching.Goals.{reaches_from-else-depends-via-then-depends+else-reaches, reaches_from-else-depends-via-else-depends}
 

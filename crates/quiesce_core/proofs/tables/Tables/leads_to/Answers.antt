@@ -3,7 +3,7 @@ use Rattle.std.specs.List.{list_any}
 use Rattle.quiesce_core.specs.State.{is_depended}
 use Rattle.quiesce_core.specs.Reach.{reaches}
 use Rattle.quiesce_core.specs.Tables.{state_of}
-use Rattle.quiesce_core.proofs.Reaching.{none_known}
+use Rattle.quiesce_core.proofs.ReachLaws.{none_known}
 use Rattle.quiesce_core.proofs.tables.Tables.leads_to.Goals as goal
 
 pub loop-port-init : goal.loop-port-init

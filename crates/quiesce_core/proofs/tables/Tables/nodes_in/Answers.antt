@@ -4,7 +4,7 @@ use Rattle.std.proofs.lemmas.Option.{slice_get-get_or}
 use Rattle.quiesce_core.specs.State.{slot}
 use Rattle.quiesce_core.specs.Tables.{state_of}
 use Rattle.quiesce_core.specs.Listed.{AreNodesOf}
-use Rattle.quiesce_core.proofs.Places.{live_made}
+use Rattle.quiesce_core.proofs.TableLaws.{live_made}
 use Rattle.quiesce_core.proofs.OrderLemmas.{nodes_more}
 use Rattle.quiesce_core.proofs.tables.Tables.nodes_in.Goals as goal
 

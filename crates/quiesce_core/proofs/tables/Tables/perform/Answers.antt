@@ -2,7 +2,7 @@ use Rattle.std.proofs.Common.{sym, ap, ◌∙◌}
 use Rattle.quiesce_core.specs.declared.event.Event.TheVariants.{Call, Miss}
 use Rattle.quiesce_core.specs.Rules.{denial}
 use Rattle.quiesce_core.specs.Tables.{state_of}
-use Rattle.quiesce_core.proofs.LegalLemmas.{legal}
+use Rattle.quiesce_core.proofs.LegalLaws.{legal}
 use Rattle.quiesce_core.proofs.tables.Tables.perform.Goals as goal
 
 pub call-requires-clause-legal : goal.call-requires-clause-legal

@@ -3,7 +3,7 @@ use Rattle.std.specs.Prelude.{slice_get}
 use Rattle.std.proofs.lemmas.Option.{slice_get-get_or}
 use Rattle.quiesce_core.specs.Tables.{state_of}
 use Rattle.quiesce_core.specs.Listed.{ArePlaces}
-use Rattle.quiesce_core.proofs.Places.{live_made}
+use Rattle.quiesce_core.proofs.TableLaws.{live_made}
 use Rattle.quiesce_core.proofs.OrderLemmas.{places_more}
 use Rattle.quiesce_core.proofs.tables.Tables.places_in.Goals as goal
 

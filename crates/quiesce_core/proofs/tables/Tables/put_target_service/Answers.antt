@@ -1,6 +1,6 @@
 use Rattle.std.proofs.Common.{sym, ap, ◌∙◌}
 use Rattle.quiesce_core.specs.Tables.{state_of}
-use Rattle.quiesce_core.proofs.Places.{target_place}
+use Rattle.quiesce_core.proofs.TableLaws.{target_place}
 use Rattle.quiesce_core.proofs.tables.Tables.put_target_service.Goals as goal
 
 pub put_service-requires : goal.put_service-requires

@@ -1,6 +1,6 @@
 use Rattle.std.proofs.Common.{sym, ◌∙◌, length}
 use Rattle.quiesce_core.specs.Tables.{state_of}
-use Rattle.quiesce_core.proofs.Reaching.{all_quiet}
+use Rattle.quiesce_core.proofs.ReachLaws.{all_quiet}
 use Rattle.quiesce_core.proofs.tables.Tables.reaching_ports_are_quiet.Goals as goal
 
 pub returns-then-all_are_quiet : goal.returns-then-all_are_quiet

@@ -1,5 +1,5 @@
 use Rattle.quiesce_core.specs.Tables.{state_of}
-use Rattle.quiesce_core.proofs.RestLemmas.{none_counted}
+use Rattle.quiesce_core.proofs.RestLaws.{none_counted}
 use Rattle.quiesce_core.proofs.tables.Tables.rest.Goals as goal
 
 pub rest_with-requires-clause-known : goal.rest_with-requires-clause-known

@@ -3,7 +3,7 @@ use Rattle.quiesce_core.specs.State.{exchange}
 use Rattle.quiesce_core.specs.Rest.{port_rest, rest}
 use Rattle.quiesce_core.specs.Counted.{capped}
 use Rattle.quiesce_core.specs.Tables.{state_of}
-use Rattle.quiesce_core.proofs.RestLemmas.{sum_after, sum_done}
+use Rattle.quiesce_core.proofs.RestLaws.{sum_after, sum_done}
 use Rattle.quiesce_core.proofs.tables.Tables.rest_with.Goals as goal
 
 pub loop-port-preserved : goal.loop-port-preserved

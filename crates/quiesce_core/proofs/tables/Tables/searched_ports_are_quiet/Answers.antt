@@ -3,7 +3,7 @@ use Rattle.std.specs.List.{list_all, range_with_len}
 use Rattle.quiesce_core.specs.Reach.{reaches}
 use Rattle.quiesce_core.specs.Rules.{is_quiet}
 use Rattle.quiesce_core.specs.Tables.{state_of}
-use Rattle.quiesce_core.proofs.Reaching.{none_known}
+use Rattle.quiesce_core.proofs.ReachLaws.{none_known}
 use Rattle.quiesce_core.proofs.tables.Tables.searched_ports_are_quiet.Goals as goal
 
 pub loop-port-init : goal.loop-port-init

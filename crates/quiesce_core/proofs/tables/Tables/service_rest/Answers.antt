@@ -3,7 +3,7 @@ use Rattle.quiesce_core.specs.State.{calls_allowed, mores_allowed}
 use Rattle.quiesce_core.specs.Rest.{call_events, messages_due}
 use Rattle.quiesce_core.specs.Counted.{capped}
 use Rattle.quiesce_core.specs.Tables.{state_of}
-use Rattle.quiesce_core.proofs.RestLemmas.{capped_full}
+use Rattle.quiesce_core.proofs.RestLaws.{capped_full}
 use Rattle.quiesce_core.proofs.tables.Tables.service_rest.Goals as goal
 
 pub returns-clause-value : goal.returns-clause-value

@@ -3,7 +3,7 @@ use Rattle.std.proofs.lemmas.Bool.{and_left}
 use Rattle.quiesce_core.specs.State.{owner, is_depended}
 use Rattle.quiesce_core.specs.Known.{leads_up}
 use Rattle.quiesce_core.specs.Tables.{state_of}
-use Rattle.quiesce_core.proofs.Reaching.{no_cycle-linked}
+use Rattle.quiesce_core.proofs.ReachLaws.{no_cycle-linked}
 use Rattle.quiesce_core.proofs.tables.Tables.stays_without_cycle.Goals as goal
 use Rattle.quiesce_core.proofs.tables.Tables.stays_without_cycle.Goals.{then-is_depended, else-is_depended}
 

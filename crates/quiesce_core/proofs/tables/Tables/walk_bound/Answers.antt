@@ -1,7 +1,7 @@
 use Rattle.std.proofs.Common.{◌≡◌, ◌+◌, length, ap, ◌∙◌}
 use Rattle.quiesce_core.specs.Reach.{can_walk}
 use Rattle.quiesce_core.specs.Tables.{state_of}
-use Rattle.quiesce_core.proofs.Reaching.{no_walk_plus}
+use Rattle.quiesce_core.proofs.ReachLaws.{no_walk_plus}
 use Rattle.quiesce_core.proofs.tables.Tables.walk_bound.Goals as goal
 
 pub returns : goal.returns

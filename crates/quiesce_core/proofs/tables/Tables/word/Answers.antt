@@ -1,7 +1,7 @@
 use Rattle.std.proofs.Common.{sym, ap, ◌∙◌, subst, arith}
 use Rattle.quiesce_core.specs.Tables.{state_of}
 use Rattle.quiesce_core.specs.WellFormed.{IsWithinBounds}
-use Rattle.quiesce_core.proofs.Places.{fits_target}
+use Rattle.quiesce_core.proofs.TableLaws.{fits_target}
 use Rattle.quiesce_core.proofs.tables.Tables.word.Goals as goal
 
 pub returns-clause-fits : goal.returns-clause-fits

@@ -1,0 +1,32 @@
+-- What holds at each place of a list, as the list grows at its end and as it is looked at in parts.
+use Rattle.std.proofs.Common.{◌↔◌, List, [], ◌∷◌, ◌++◌, sym, subst}
+use Rattle.std.proofs.lemmas.List.{append_assoc, append-nil}
+use Rattle.base.specs.Each.{Each, EachAfter}
+
+-- each place of a list that is put together is one of the first part or one of the second
+pub each_parts : {A : Type 0} (P : List A → A → Type 0) (before xs ys : List A) → EachAfter P before (xs ++ ys) → EachAfter P before xs × EachAfter P (before ++ xs) ys
+each_parts P before [] ys each = (tt, subst (λ zs. EachAfter P zs ys) (sym (append-nil before)) each)
+each_parts P before (x ∷ xs) ys each =
+    let parts = each_parts P (before ++ x ∷ []) xs ys each.1 in
+    ((each.0, parts.0), subst (λ zs. EachAfter P zs ys) (append_assoc before (x ∷ []) xs) parts.1)
+
+pub each_joined : {A : Type 0} (P : List A → A → Type 0) (before xs ys : List A) → EachAfter P before xs → EachAfter P (before ++ xs) ys → EachAfter P before (xs ++ ys)
+each_joined P before [] ys first second = subst (λ zs. EachAfter P zs ys) (append-nil before) second
+each_joined P before (x ∷ xs) ys first second =
+    (first.0, each_joined P (before ++ x ∷ []) xs ys first.1 (subst (λ zs. EachAfter P zs ys) (sym (append_assoc before (x ∷ []) xs)) second))
+
+-- a list with one member more
+pub each_pushed : {A : Type 0} (P : List A → A → Type 0) (xs : List A) (x : A) → Each P (xs ++ x ∷ []) ↔ (Each P xs × P xs x)
+each_pushed P xs x = (
+  λ each. let parts = each_parts P [] xs (x ∷ []) each in (parts.0, parts.1.0),
+  λ both. each_joined P [] xs (x ∷ []) both.0 (both.1, tt),
+)
+
+-- the member at a place, after those before it
+pub each_at : {A : Type 0} (P : List A → A → Type 0) (before after : List A) (x : A) → Each P (before ++ x ∷ after) → P before x
+each_at P before after x each = (each_parts P [] before (x ∷ after) each).1.0
+
+-- what follows at each place holds at each place
+pub each_weaker : {A : Type 0} (P Q : List A → A → Type 0) (before xs : List A) → ((ys : List A) (x : A) → P ys x → Q ys x) → EachAfter P before xs → EachAfter Q before xs
+each_weaker P Q before [] follows each = tt
+each_weaker P Q before (x ∷ xs) follows each = (follows before x each.0, each_weaker P Q (before ++ x ∷ []) xs follows each.1)

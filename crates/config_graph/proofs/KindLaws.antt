@@ -1,0 +1,85 @@
+-- The table of kinds: how many services and requirements a kind has, and which of them depend on which.
+use Rattle.std.proofs.Common.{◌≡◌, ℕ, zero, suc, Some, true, false, refl}
+use Rattle.std.proofs.lemmas.Bool.{both_ways}
+use Rattle.std.proofs.Math.Bool.{or-false}
+use Rattle.config_graph.specs.Kinds.{row, kind_named, depends_on, is_depended_on}
+use Rattle.config_graph.specs.declared.kind.Kind.{Kind}
+use Rattle.config_graph.specs.declared.kind.Kind.TheVariants.{Philosopher, Place, Fork, Source, Map, Buffer, Sink, Teller, Branch, Account, Asker, Adder}
+use Rattle.std.proofs.Common.{◌≤◌, arith, length}
+
+-- each kind is found by its name
+pub kind_named-name : (k : Kind) → kind_named (row k).name ≡ Some k
+kind_named-name Philosopher = refl
+kind_named-name Place = refl
+kind_named-name Fork = refl
+kind_named-name Source = refl
+kind_named-name Map = refl
+kind_named-name Buffer = refl
+kind_named-name Sink = refl
+kind_named-name Teller = refl
+kind_named-name Branch = refl
+kind_named-name Account = refl
+kind_named-name Asker = refl
+kind_named-name Adder = refl
+
+-- a requirement on which a provision depends is one on which the first does
+pub depended_by_first : (k : Kind) (r : ℕ) → is_depended_on k r ≡ depends_on k 0 r
+depended_by_first Philosopher r = refl
+depended_by_first Place r = or-false (depends_on Place 0 r)
+depended_by_first Fork r = refl
+depended_by_first Source r = refl
+depended_by_first Map r = or-false (depends_on Map 0 r)
+depended_by_first Buffer r = refl
+depended_by_first Sink r = refl
+depended_by_first Teller r = refl
+depended_by_first Branch r = or-false (depends_on Branch 0 r)
+depended_by_first Account r = refl
+depended_by_first Asker r = refl
+depended_by_first Adder r = refl
+
+-- no provision past the first depends on anything, or calls
+pub no_second : (k : Kind) (x r : ℕ) → depends_on k (suc x) r ≡ false
+no_second Philosopher x r = refl
+no_second Place x r = refl
+no_second Fork x r = refl
+no_second Source x r = refl
+no_second Map x r = refl
+no_second Buffer x r = refl
+no_second Sink x r = refl
+no_second Teller x r = refl
+no_second Branch x r = refl
+no_second Account x r = refl
+no_second Asker x r = refl
+no_second Adder x r = refl
+
+pub depended_if : (k : Kind) (x r : ℕ) → depends_on k x r ≡ true → is_depended_on k r ≡ true
+depended_if k zero r h = rw (depended_by_first k r) h
+depended_if k (suc x) r h = absurd (both_ways (depends_on k (suc x) r) (no_second k x r) h)
+
+pub one_provision : (k : Kind) → length (row k).provides ≤ 1
+one_provision Philosopher = omega arith
+one_provision Place = omega arith
+one_provision Fork = omega arith
+one_provision Source = omega arith
+one_provision Map = omega arith
+one_provision Buffer = omega arith
+one_provision Sink = omega arith
+one_provision Teller = omega arith
+one_provision Branch = omega arith
+one_provision Account = omega arith
+one_provision Asker = omega arith
+one_provision Adder = omega arith
+
+pub two_requires : (k : Kind) → length (row k).requires_ ≤ 2
+two_requires Philosopher = omega arith
+two_requires Place = omega arith
+two_requires Fork = omega arith
+two_requires Source = omega arith
+two_requires Map = omega arith
+two_requires Buffer = omega arith
+two_requires Sink = omega arith
+two_requires Teller = omega arith
+two_requires Branch = omega arith
+two_requires Account = omega arith
+two_requires Asker = omega arith
+two_requires Adder = omega arith

@@ -1,9 +1,0 @@
--- The passive set of a change, enlarged for dependent transactions (Kramer and Magee 1990).
-use Rattle.std.specs.Prelude.{ℕ, ◌⊎◌}
-use Rattle.config_graph.specs.Cycles.{wiring_of}
-use Rattle.config_graph.specs.Graph.{Configuration}
-use Rattle.config_graph.specs.Wiring.{Reach}
-
--- the nodes of a set, and the owners of the ports that reach a node of it
-abbrev pub Enlarged : Configuration → (ℕ → Type 0) → ℕ → Type 0
-Enlarged g set i = set i ⊎ ((n : ℕ) × (require : ℕ) × set n × Reach (wiring_of g) n (record { node = i; require = require }))

@@ -1,0 +1,54 @@
+-- The nodes of a description in the order of their paths.
+use Rattle.std.specs.Prelude.{◌≡◌, ℕ, ◌<◌, ◌≤◌, List, Some, length, slice_get}
+use Rattle.std.specs.Ordering.{nat_cmp}
+use Rattle.std.specs.Cmp.Lexicographic.{slice_cmp}
+use Rattle.std.specs.declared.cmp.Ordering.TheVariants.{Less}
+use Rattle.config_graph.specs.Graph.{PathsRise}
+use Rattle.config_graph.specs.declared.node.Node.{Node}
+use Rattle.elaborator.specs.Instances.{Instance}
+use Rattle.elaborator.specs.Graph.{node_of}
+use Rattle.elaborator.specs.Numbering.{Expanded, Numbered, NumberedIn}
+use Rattle.elaborator.specs.declared.nodes.Nodes.{Nodes}
+
+pub record AreNodes (e : Expanded) (n : Nodes) : Type 0 where
+  pub paths_rise : PathsRise n.nodes.items
+  pub node_at :
+      (a : ℕ) (node : Node) → slice_get n.nodes.items a ≡ Some node
+      → (k : ℕ) × (i : Instance) × (slice_get n.instances.items a ≡ Some k) × Numbered e k i × (node_of i ≡ Some node)
+  pub place_at :
+      (k : ℕ) (i : Instance) (node : Node) → Numbered e k i → node_of i ≡ Some node
+      → (a : ℕ) × (slice_get n.nodes.items a ≡ Some node) × (slice_get n.places.items k ≡ Some (Some a))
+  pub placed :
+      (k a : ℕ) → slice_get n.places.items k ≡ Some (Some a)
+      → (node : Node) × (i : Instance) × (slice_get n.nodes.items a ≡ Some node) × Numbered e k i × (node_of i ≡ Some node)
+  pub all_placed : length n.places.items ≡ length e.made
+  pub same_length : length n.instances.items ≡ length n.nodes.items
+  pub few : length n.nodes.items ≤ 65536
+
+-- the same of the first instances of an order
+pub record AreFirstNodes (e : Expanded) (order : List ℕ) (first : ℕ) (n : Nodes) : Type 0 where
+  pub paths_rise : PathsRise n.nodes.items
+  -- those to come have greater paths
+  pub below :
+      (a b m : ℕ) (node : Node) (i : Instance) → slice_get n.nodes.items a ≡ Some node → first ≤ b → slice_get order b ≡ Some m → Numbered e m i
+      → slice_cmp nat_cmp node.path i.path ≡ Less
+  pub node_at :
+      (a : ℕ) (node : Node) → slice_get n.nodes.items a ≡ Some node
+      → (k : ℕ) × (i : Instance) × (slice_get n.instances.items a ≡ Some k) × Numbered e k i × (node_of i ≡ Some node)
+  pub place_at :
+      (b k : ℕ) (i : Instance) (node : Node) → b < first → slice_get order b ≡ Some k → Numbered e k i → node_of i ≡ Some node
+      → (a : ℕ) × (slice_get n.nodes.items a ≡ Some node) × (slice_get n.places.items k ≡ Some (Some a))
+  pub placed :
+      (k a : ℕ) → slice_get n.places.items k ≡ Some (Some a)
+      → (node : Node) × (i : Instance) × (slice_get n.nodes.items a ≡ Some node) × Numbered e k i × (node_of i ≡ Some node)
+  pub all_placed : length n.places.items ≡ length e.made
+  pub same_length : length n.instances.items ≡ length n.nodes.items
+  pub few : length n.nodes.items ≤ first
+
+pub record IsInOrder (e : Expanded) (order : List ℕ) : Type 0 where
+  pub rising :
+      (a b m n : ℕ) (i j : Instance) → a < b → slice_get order a ≡ Some m → slice_get order b ≡ Some n → Numbered e m i → Numbered e n j
+      → slice_cmp nat_cmp i.path j.path ≡ Less
+  pub within : (a m : ℕ) → slice_get order a ≡ Some m → m < length e.made
+  pub all : (k m : ℕ) (i : Instance) → NumberedIn e k m i → (a : ℕ) × (slice_get order a ≡ Some m)
+  pub few : length order ≤ 65536
