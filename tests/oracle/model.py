@@ -2,7 +2,7 @@
 
 A graph is the pair (nodes, links) that `forms.graph` reads.
 """
-from descriptions import KINDS
+from tables import KINDS
 
 M = 1 << 24
 MAX_NODES, MAX_PORTS = 1023, 4096

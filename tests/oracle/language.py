@@ -6,7 +6,7 @@ faults hold the program may name any of them, so a set of faults comes out, each
 import re
 from collections import Counter
 
-from descriptions import KEYWORDS, KINDS, SIGNS
+from tables import KEYWORDS, KINDS, SIGNS
 
 LEAST, GREATEST = -(1 << 31), (1 << 31) - 1
 ARGUMENT_LIMIT = 1 << 24
@@ -472,9 +472,14 @@ class Elaboration:
             raise Stopped
 
     def instances(self, top):
-        work, walked = [top], []
+        # an instance that two entries make is one instance, and counts once
+        work, walked, opened = [top], [], set()
         while work:
             here = work.pop()
+            told = (here.path, here.component.name, tuple(here.values.items()))
+            if told in opened:
+                continue
+            opened.add(told)
             self.sizes(here)
             self.walk(here, here.component.body, here.values)
             walked.append(here)

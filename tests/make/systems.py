@@ -2,7 +2,8 @@
 
 `checked(rng)` gives the tokens, the name of the top and its arguments.
 """
-from descriptions import KINDS, Lawful
+from descriptions import Lawful
+from tables import KINDS
 
 SIGNS = "+ + - - * / % == != < <= > >= and or".split()
 EXTREMES = ["2147483647", "(-2147483647-1)", "16777215", "16777216", "65536", "65537", "46341"]

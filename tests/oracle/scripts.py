@@ -1,7 +1,7 @@
 """Event files once more, written plainly from docs/formats.md and apart from the proved code."""
 import re
 
-from descriptions import KEYWORDS, KINDS
+from tables import KEYWORDS, KINDS
 from language import GREATEST, LEAST, NAME_LIMIT
 
 NUMBER_LIMIT = (1 << 32) - 1

@@ -2,7 +2,7 @@
 import os
 import re
 
-from descriptions import KINDS
+from tables import KINDS
 
 NAME = rb"[A-Za-z_][A-Za-z_0-9]{0,63}"
 PATH = rb"(?:%s(?:\[\d+\])?)(?:\.%s(?:\[\d+\])?)*" % (NAME, NAME)

@@ -5,23 +5,8 @@ name and its arguments. Lawful descriptions come as a list of tokens, so that on
 """
 import re
 
+from tables import KEYWORDS, KINDS, SIGNS
 
-KINDS = {
-    "philosopher": ([], ["dine"], True),
-    "place": (["dine"], ["left", "right"], True),
-    "fork": (["hold"], [], False),
-    "source": ([], ["out"], True),
-    "map": (["in"], ["next"], True),
-    "buffer": (["in"], ["next"], True),
-    "sink": (["in"], [], False),
-    "teller": ([], ["move"], True),
-    "branch": (["move"], ["from", "to"], False),
-    "account": (["post"], [], True),
-    "asker": ([], ["sum"], True),
-    "adder": (["sum"], [], False),
-}
-KEYWORDS = "component provide require inst array bind forall when int and or".split()
-SIGNS = "{ } ( ) [ ] ; : , . .. -- < > <= >= == != + - * / %".split()
 LIMIT = 1 << 20
 
 
@@ -500,6 +485,7 @@ HOSTILE = {
     "doubling": lambda n: SINK + "component D(int n) { inst t:sink; when n > 0 { inst a:D(n-1); b:D(n-1); } } component Top { inst d:D(%d); }" % min(n, 31),
     "many entries": lambda n: SINK + "component Top {" + "".join("inst t%d:sink;" % i for i in range(n)) + "}",
     "same entries": lambda n: SINK + "component Top {" + "inst t:sink;" * n + "}",
+    "made twice": lambda n: SINK + "component D { inst t:sink; forall i:1..%d { } } component Top { inst d:D; d:D; }" % n,
     "many bindings": lambda n: SINK + "component source(int n) { require out; } component Top { inst s:source(1); t:sink; bind " + "s.out--t.in;" * n + "}",
     "many components": lambda n: SINK + "".join("component C%d { inst t:sink; }" % i for i in range(n)) + "component Top { inst t:sink; }",
     "same components": lambda n: SINK + "component Top { inst t:sink; }" * n,
