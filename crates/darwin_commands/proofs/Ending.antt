@@ -6,11 +6,15 @@ use Rattle.cfg_io.specs.Shelf.{Files}
 use Rattle.cfg_io.specs.Sink.{with_bytes}
 use Rattle.darwin_commands.specs.declared.status.Status.{Status}
 use Rattle.darwin_commands.specs.declared.status.Status.TheVariants as status
-use Rattle.darwin_commands.specs.declared.TheConstants.{HELP, VERSION}
 use Rattle.darwin_commands.specs.Lines.{read_fault_line}
-use Rattle.darwin_commands.specs.CommandLine.{Command, help, version, flat, plan, replay, Asks}
-use Rattle.darwin_commands.specs.Wanted.{Wanted, its_graph, its_plan, its_replay}
-use Rattle.darwin_commands.specs.Answers.{Given, held, Fetch, Written, whole, stopped, DescriptionAnswers, cannot_read, is_too_long, refused, answered, ScriptAnswers, cannot_read_script, script_too_long, script_at_fault, Answers, no_form, answered_to, unread, no_memory, Runs, failed_names, fetch_of}
+use Rattle.darwin_commands.specs.declared.words.Command.{Command}
+use Rattle.darwin_commands.specs.declared.words.Command.TheVariants as commands
+use Rattle.darwin_commands.specs.CommandLine.{Asks}
+use Rattle.darwin_commands.specs.declared.describing.Query.{Query}
+use Rattle.darwin_commands.specs.declared.describing.Query.TheVariants as queries
+use Rattle.darwin_commands.specs.declared.fetching.Fetched.{Fetched}
+use Rattle.darwin_commands.specs.declared.fetching.Fetched.TheVariants.{Held}
+use Rattle.darwin_commands.specs.Answers.{Fetch, Written, whole, stopped, DescriptionAnswers, cannot_read, is_too_long, refused, answered, ScriptAnswers, cannot_read_script, script_too_long, script_at_fault, AnswersCommand, no_form, answered_to, unread, no_memory, Runs, failed_names, fetch_of, help_text, version_text}
 use Rattle.darwin_commands.specs.Outcomes.{HasNoForm, NamesFile, MentionsFile, Ends, WroteFront}
 use Rattle.darwin_commands.proofs.Inverting.{Answer, of_command, of_words, Plain, command_status, not_usage, not_write_fault, not_no_memory, not_pending, not_unfinished, not_unlawful}
 use Rattle.darwin_commands.proofs.Statuses.{not_two, ok_read_fault, denied_read_fault, memory_ok, write_fault_ok, usage_pending, usage_unfinished, usage_unlawful, memory_pending, memory_unfinished, memory_unlawful, write_fault_pending, write_fault_unfinished, write_fault_unlawful}
@@ -18,7 +22,7 @@ use Rattle.darwin_commands.proofs.Wanting.{gives_status}
 
 -- ---- statuses of answers
 
-own_no_write_fault : (words : List (List ℕ)) (fetches : List Fetch) (own : Status) (text : List ℕ) → Answers words fetches own text → own ≢ status.WriteFault
+own_no_write_fault : (words : List (List ℕ)) (fetches : List Fetch) (own : Status) (text : List ℕ) → AnswersCommand words fetches own text → own ≢ status.WriteFault
 own_no_write_fault words _ _ _ (no_form none) is = cc
 own_no_write_fault words _ _ _ (answered_to command fetches own text asks to) is =
     not_write_fault own (command_status command fetches own text (of_command command fetches own text to)) is
@@ -28,34 +32,34 @@ own_no_write_fault words _ _ _ (no_memory command fetches asks may) is = cc
 -- ---- what a status says of a fetch
 
 description_fault :
-    (file : List ℕ) (wanted : Wanted) (given : Given) (own : Status) (text : List ℕ) → DescriptionAnswers file wanted given own text
+    (file : List ℕ) (query : Query) (given : Fetched) (own : Status) (text : List ℕ) → DescriptionAnswers file query given own text
     → own ≡ status.ReadFault → (failed_names (fetch_of file given ∷ []) ≡ file ∷ []) × (text ≡ read_fault_line file)
-description_fault file wanted _ _ _ cannot_read is = (refl, refl)
-description_fault file wanted _ _ _ is_too_long is = cc
-description_fault file wanted _ _ _ (refused text why refuses) is = cc
-description_fault file wanted _ _ _ (answered text own written gives) is = by (gives_status wanted text own written gives)
+description_fault file query _ _ _ cannot_read is = (refl, refl)
+description_fault file query _ _ _ is_too_long is = cc
+description_fault file query _ _ _ (refused text why refuses) is = cc
+description_fault file query _ _ _ (answered text own written gives) is = by (gives_status query text own written gives)
   where
-    by : (own ≡ status.Ok) ⊎ (own ≡ status.Denied) → (failed_names (fetch_of file (held text) ∷ []) ≡ file ∷ []) × (written ≡ read_fault_line file)
+    by : (own ≡ status.Ok) ⊎ (own ≡ status.Denied) → (failed_names (fetch_of file (Held text) ∷ []) ≡ file ∷ []) × (written ≡ read_fault_line file)
     by (inl well) = absurd (not_two own status.Ok status.ReadFault well is ok_read_fault)
     by (inr denied) = absurd (not_two own status.Denied status.ReadFault denied is denied_read_fault)
 
 description_failed :
-    (file : List ℕ) (wanted : Wanted) (given : Given) (own : Status) (text : List ℕ) → DescriptionAnswers file wanted given own text
+    (file : List ℕ) (query : Query) (given : Fetched) (own : Status) (text : List ℕ) → DescriptionAnswers file query given own text
     → failed_names (fetch_of file given ∷ []) ≢ [] → own ≡ status.ReadFault
-description_failed file wanted _ _ _ cannot_read some = refl
-description_failed file wanted _ _ _ is_too_long some = absurd (some refl)
-description_failed file wanted _ _ _ (refused text why refuses) some = absurd (some refl)
-description_failed file wanted _ _ _ (answered text own written gives) some = absurd (some refl)
+description_failed file query _ _ _ cannot_read some = refl
+description_failed file query _ _ _ is_too_long some = absurd (some refl)
+description_failed file query _ _ _ (refused text why refuses) some = absurd (some refl)
+description_failed file query _ _ _ (answered text own written gives) some = absurd (some refl)
 
 script_fault :
-    (name : List ℕ) (given : Given) (own : Status) (text : List ℕ) → ScriptAnswers name given own text
+    (name : List ℕ) (given : Fetched) (own : Status) (text : List ℕ) → ScriptAnswers name given own text
     → own ≡ status.ReadFault → (failed_names (fetch_of name given ∷ []) ≡ name ∷ []) × (text ≡ read_fault_line name)
 script_fault name _ _ _ cannot_read_script is = (refl, refl)
 script_fault name _ _ _ script_too_long is = cc
 script_fault name _ _ _ (script_at_fault bytes fault first) is = cc
 
 script_failed :
-    (name : List ℕ) (given : Given) (own : Status) (text : List ℕ) → ScriptAnswers name given own text
+    (name : List ℕ) (given : Fetched) (own : Status) (text : List ℕ) → ScriptAnswers name given own text
     → failed_names (fetch_of name given ∷ []) ≢ [] → own ≡ status.ReadFault
 script_failed name _ _ _ cannot_read_script some = refl
 script_failed name _ _ _ script_too_long some = absurd (some refl)
@@ -65,34 +69,34 @@ script_failed name _ _ _ (script_at_fault bytes fault first) some = absurd (some
 failed_file :
     (command : Command) (fetches : List Fetch) (own : Status) (text : List ℕ) → Answer command fetches own text → own ≡ status.ReadFault
     → (file : List ℕ) × MentionsFile command file × (failed_names fetches ≡ file ∷ []) × (text ≡ read_fault_line file)
-failed_file help fetches own text answer is = cc (answer.0, is)
-failed_file version fetches own text answer is = cc (answer.0, is)
-failed_file (flat file top args) fetches own text answer is =
-    let told = description_fault file (its_graph top args) answer.given own text answer.answer is in
+failed_file commands.Help fetches own text answer is = cc (answer.0, is)
+failed_file commands.Version fetches own text answer is = cc (answer.0, is)
+failed_file (commands.Flat file call) fetches own text answer is =
+    let told = description_fault file (queries.Graph call) answer.given own text answer.answer is in
     (file, refl, ap failed_names answer.is ∙ told.0, told.1)
-failed_file (plan file top args to to_args) fetches own text answer is =
-    let told = description_fault file (its_plan top args to to_args) answer.given own text answer.answer is in
+failed_file (commands.Plan file call target) fetches own text answer is =
+    let told = description_fault file (queries.Plan call target) answer.given own text answer.answer is in
     (file, refl, ap failed_names answer.is ∙ told.0, told.1)
-failed_file (replay file name) fetches own text (inl answer) is =
+failed_file (commands.Replay file name) fetches own text (inl answer) is =
     let told = script_fault name answer.given own text answer.answer is in
     (name, inr refl, ap failed_names answer.is ∙ told.0, told.1)
-failed_file (replay file name) fetches own text (inr answer) is =
-    let told = description_fault file (its_replay answer.script) answer.given own text answer.answer is in
+failed_file (commands.Replay file name) fetches own text (inr answer) is =
+    let told = description_fault file (queries.Replay answer.script) answer.given own text answer.answer is in
     (file, inl refl, ap failed_names answer.is ∙ told.0, told.1)
 
 any_failed :
     (command : Command) (fetches : List Fetch) (own : Status) (text : List ℕ) → Answer command fetches own text → failed_names fetches ≢ []
     → own ≡ status.ReadFault
-any_failed help fetches own text answer some = absurd (some (ap failed_names answer.1))
-any_failed version fetches own text answer some = absurd (some (ap failed_names answer.1))
-any_failed (flat file top args) fetches own text answer some =
-    description_failed file (its_graph top args) answer.given own text answer.answer (λ none. some (ap failed_names answer.is ∙ none))
-any_failed (plan file top args to to_args) fetches own text answer some =
-    description_failed file (its_plan top args to to_args) answer.given own text answer.answer (λ none. some (ap failed_names answer.is ∙ none))
-any_failed (replay file name) fetches own text (inl answer) some =
+any_failed commands.Help fetches own text answer some = absurd (some (ap failed_names answer.1))
+any_failed commands.Version fetches own text answer some = absurd (some (ap failed_names answer.1))
+any_failed (commands.Flat file call) fetches own text answer some =
+    description_failed file (queries.Graph call) answer.given own text answer.answer (λ none. some (ap failed_names answer.is ∙ none))
+any_failed (commands.Plan file call target) fetches own text answer some =
+    description_failed file (queries.Plan call target) answer.given own text answer.answer (λ none. some (ap failed_names answer.is ∙ none))
+any_failed (commands.Replay file name) fetches own text (inl answer) some =
     script_failed name answer.given own text answer.answer (λ none. some (ap failed_names answer.is ∙ none))
-any_failed (replay file name) fetches own text (inr answer) some =
-    description_failed file (its_replay answer.script) answer.given own text answer.answer (λ none. some (ap failed_names answer.is ∙ none))
+any_failed (commands.Replay file name) fetches own text (inr answer) some =
+    description_failed file (queries.Replay answer.script) answer.given own text answer.answer (λ none. some (ap failed_names answer.is ∙ none))
 
 -- ---- the clauses
 
@@ -100,7 +104,7 @@ module _ (words : List (List ℕ)) (files : Option Files) (failures failures' : 
   pub usage : result ≡ status.Usage → HasNoForm words × (taken' ≡ with_bytes taken (codes "usage" ++ 10 ∷ []))
   usage is = by result run.written is
     where
-      own : (fetches : List Fetch) (s : Status) (text : List ℕ) → Answers words fetches s text → s ≡ status.Usage → taken' ≡ with_bytes taken text
+      own : (fetches : List Fetch) (s : Status) (text : List ℕ) → AnswersCommand words fetches s text → s ≡ status.Usage → taken' ≡ with_bytes taken text
           → HasNoForm words × (taken' ≡ with_bytes taken (codes "usage" ++ 10 ∷ []))
       own _ _ _ (no_form none) is took = (none, took)
       own _ _ _ (answered_to command fetches s text asks to) is took =
@@ -115,7 +119,7 @@ module _ (words : List (List ℕ)) (files : Option Files) (failures failures' : 
   pub every_usage : HasNoForm words → Ends result status.Usage
   every_usage none = by result run.written
     where
-      own : (fetches : List Fetch) (s : Status) (text : List ℕ) → Answers words fetches s text → Ends s status.Usage
+      own : (fetches : List Fetch) (s : Status) (text : List ℕ) → AnswersCommand words fetches s text → Ends s status.Usage
       own _ _ _ (no_form other) = inl refl
       own _ _ _ (answered_to command fetches s text asks to) = absurd (none command asks)
       own _ _ _ unread = inr (inl refl)
@@ -128,7 +132,7 @@ module _ (words : List (List ℕ)) (files : Option Files) (failures failures' : 
   pub read_fault : result ≡ status.ReadFault → (file : List ℕ) × NamesFile words file × (failures' ≡ failures ++ file ∷ []) × (taken' ≡ with_bytes taken (read_fault_line file))
   read_fault is = by result run.written is
     where
-      own : (fetches : List Fetch) (s : Status) (text : List ℕ) → Answers words fetches s text → s ≡ status.ReadFault → failures' ≡ failures ++ failed_names fetches → taken' ≡ with_bytes taken text
+      own : (fetches : List Fetch) (s : Status) (text : List ℕ) → AnswersCommand words fetches s text → s ≡ status.ReadFault → failures' ≡ failures ++ failed_names fetches → taken' ≡ with_bytes taken text
           → (file : List ℕ) × NamesFile words file × (failures' ≡ failures ++ file ∷ []) × (taken' ≡ with_bytes taken (read_fault_line file))
       own _ _ _ (no_form none) is noted took = cc
       own _ _ _ (answered_to command fetches s text asks to) is noted took =
@@ -148,7 +152,7 @@ module _ (words : List (List ℕ)) (files : Option Files) (failures failures' : 
       no_names : (names : List (List ℕ)) → failures' ≡ failures ++ names → names ≢ []
       no_names names noted is = changed (noted ∙ ap (λ ns. failures ++ ns) is ∙ append-nil failures)
 
-      own : (fetches : List Fetch) (s : Status) (text : List ℕ) → Answers words fetches s text → failures' ≡ failures ++ failed_names fetches → Ends s status.ReadFault
+      own : (fetches : List Fetch) (s : Status) (text : List ℕ) → AnswersCommand words fetches s text → failures' ≡ failures ++ failed_names fetches → Ends s status.ReadFault
       own _ _ _ (no_form none) noted = absurd (no_names [] noted refl)
       own _ _ _ (answered_to command fetches s text asks to) noted =
           inl (any_failed command fetches s text (of_command command fetches s text to) (no_names (failed_names fetches) noted))
@@ -180,7 +184,7 @@ module _ (words : List (List ℕ)) (files : Option Files) (failures failures' : 
   pub no_memory_line : result ≡ status.NoMemory → taken' ≡ with_bytes taken (codes "no memory" ++ 10 ∷ [])
   no_memory_line is = by result run.written is
     where
-      own : (fetches : List Fetch) (s : Status) (text : List ℕ) → Answers words fetches s text → s ≡ status.NoMemory → taken' ≡ with_bytes taken text
+      own : (fetches : List Fetch) (s : Status) (text : List ℕ) → AnswersCommand words fetches s text → s ≡ status.NoMemory → taken' ≡ with_bytes taken text
           → taken' ≡ with_bytes taken (codes "no memory" ++ 10 ∷ [])
       own _ _ _ (no_form none) is took = cc
       own _ _ _ (answered_to command fetches s text asks to) is took =
@@ -209,17 +213,17 @@ module _ (words : List (List ℕ)) (files : Option Files) (failures failures' : 
       by _ (whole took same) = own (of_words words command run.fetches run.own run.text asks run.answers) took
       by _ (stopped n short took rose) = (inr (inr refl), λ well. absurd (write_fault_ok well))
 
-  pub helped : Asks words help → Ends result status.Ok × (result ≡ status.Ok → taken' ≡ with_bytes taken HELP.now)
-  helped asks = its_text help HELP.now asks (λ fetches s text answer. (answer.0, answer.2))
+  pub helped : Asks words commands.Help → Ends result status.Ok × (result ≡ status.Ok → taken' ≡ with_bytes taken help_text)
+  helped asks = its_text commands.Help help_text asks (λ fetches s text answer. (answer.0, answer.2))
 
-  pub versioned : Asks words version → Ends result status.Ok × (result ≡ status.Ok → taken' ≡ with_bytes taken VERSION.now)
-  versioned asks = its_text version VERSION.now asks (λ fetches s text answer. (answer.0, answer.2))
+  pub versioned : Asks words commands.Version → Ends result status.Ok × (result ≡ status.Ok → taken' ≡ with_bytes taken version_text)
+  versioned asks = its_text commands.Version version_text asks (λ fetches s text answer. (answer.0, answer.2))
 
   -- no answer of words has this status, and no failing sink gives it
   never : (other : Status) → ((s : Status) → Plain s → s ≢ other) → status.Usage ≢ other → status.NoMemory ≢ other → status.WriteFault ≢ other → result ≢ other
   never other plain not_used not_short not_failed = by result run.written
     where
-      own : (fetches : List Fetch) (s : Status) (text : List ℕ) → Answers words fetches s text → s ≢ other
+      own : (fetches : List Fetch) (s : Status) (text : List ℕ) → AnswersCommand words fetches s text → s ≢ other
       own _ _ _ (no_form none) = not_used
       own _ _ _ (answered_to command fetches s text asks to) = plain s (command_status command fetches s text (of_command command fetches s text to))
       own _ _ _ unread = not_short

@@ -7,7 +7,6 @@ pub mod Planning
 pub mod Readings
 pub mod Refusing
 pub mod Running
-pub mod Starting
 pub mod Statuses
 pub mod Telling
 pub mod Wanting

@@ -2,7 +2,7 @@
 use Rattle.std.proofs.lemmas.List.{take_all}
 use Rattle.std.proofs.Common.{◌≡◌, ◌+◌, ◌-◌, length-drop, ◌<◌, ◌≤◌, ℕ, zero, suc, Bool, true, false, not, cond, List, [], ◌∷◌, map, length, take, drop, codes, bytes_eq, refl, ap, arith}
 use Rattle.std.specs.List.{AllByRecursion, prefix_len}
-use Rattle.darwin_commands.specs.Requests.{is_part}
+use Rattle.darwin_commands.specs.CommandLine.{is_part}
 use Rattle.darwin_commands.proofs.Asking.{IsPart, Parted}
 use Rattle.base.proofs.BytesLaws.{different_bytes, same_bytes}
 

@@ -1,9 +1,9 @@
 -- A description isn't both refused a plan and given one.
-use Rattle.std.proofs.Common.{◌≡◌, ◌≢◌, false, ◌∙◌, ◌⊎◌, inl, inr, ℕ, ℤ, List, [], Some, Result, Ok, Err, IfOk, IfErr, refl, sym, subst}
-use Rattle.config_graph.specs.Graph.{Graph}
+use Rattle.std.proofs.Common.{◌≡◌, ◌≢◌, false, ◌∙◌, ◌⊎◌, inl, inr, ℕ, ℤ, List, [], Some, Result, Ok, Err, IfOk, IfErr, length, refl, sym, subst}
+use Rattle.config_graph.specs.Graph.{Graph, ports}
 use Rattle.config_graph.specs.declared.node.Made.{Made}
 use Rattle.change_plan.specs.Refusals.{CanPlan, IsRefusal}
-use Rattle.change_plan.specs.Room.{RoomFault}
+use Rattle.change_plan.specs.Room.{RoomFault, LacksRoomFor}
 use Rattle.change_plan.specs.declared.error.PlanError.{PlanError}
 use Rattle.change_plan.specs.declared.error.PlanError.TheVariants.{NoMemory}
 use Rattle.change_plan.proofs.RoomLaws.{no_room, one_wanted}
@@ -13,15 +13,16 @@ use Rattle.elaborator.specs.Elaboration.{ElaboratesTo}
 use Rattle.elaborator.specs.Graph.{IsElab}
 use Rattle.elaborator.specs.Instances.{Instance, top_instance}
 use Rattle.std.proofs.lemmas.Option.{same_Some}
-use Rattle.darwin_commands.specs.Descriptions.{HasGraph, Refuses}
-use Rattle.darwin_commands.specs.Plans.{Starts, RefusesStart, has_no_graph, is_full, HasPlan, HasSteps, RefusesPlan, starts_not, leads_nowhere, gets_full, nothing, nothing_made, made_of}
+use Rattle.darwin_commands.specs.declared.words.TopCall.{TopCall}
+use Rattle.darwin_commands.specs.Descriptions.{HasGraph, IsDescriptionRefusal}
+use Rattle.darwin_commands.specs.Plans.{Starts, RefusesStart, has_no_graph, is_full, HasPlan, HasSteps, RefusesPlan, starts_not, leads_nowhere, gets_full, nothing_made, made_of}
 use Rattle.darwin_commands.specs.Planning.{IsFull}
-use Rattle.darwin_commands.specs.Wanted.{Wanted, its_graph, its_plan, its_replay, IsRefused, Gives}
-use Rattle.darwin_commands.specs.declared.status.Status.{Status}
-use Rattle.darwin_commands.specs.declared.status.Status.TheVariants as status
+use Rattle.darwin_commands.specs.declared.describing.Query.{Query}
+use Rattle.darwin_commands.specs.declared.describing.Query.TheVariants as queries
+use Rattle.darwin_commands.specs.Queries.{IsRefused}
 use Rattle.darwin_commands.specs.DescriptionFaults.{MayRefuse, fault_words, is_no_memory}
-use Rattle.darwin_commands.specs.declared.description.DescriptionFault.{DescriptionFault}
-use Rattle.darwin_commands.specs.declared.description.DescriptionFault.TheVariants as fault
+use Rattle.darwin_commands.specs.declared.error.DescriptionFault.{DescriptionFault}
+use Rattle.darwin_commands.specs.declared.error.DescriptionFault.TheVariants as fault
 use Rattle.darwin_commands.proofs.Readings as readings
 
 -- ---- room is full or not
@@ -53,20 +54,20 @@ pub never_both_start :
     → Starts text top args graph → RefusesStart text top args words → ⊥
 never_both_start text top args graph _ starts (has_no_graph words refuses) = readings.never_both text top args graph words starts.has_graph refuses
 never_both_start text top args graph _ starts (is_full other e has refuses) =
-    not_full nothing graph nothing_made e starts.has_room
-    (subst (λ g. IsRefusal nothing g [] nothing_made e) (one_graph text top args other graph has starts.has_graph) refuses)
+    no_room nothing_made (length graph.nodes) (length (ports graph.nodes)) e starts.has_room
+    (subst (λ g. LacksRoomFor nothing_made g e) (one_graph text top args other graph has starts.has_graph) refuses)
 
 pub never_both :
-    (text top to : List ℕ) (args to_args : List ℤ) (written : List ℕ) (words : List (List ℕ))
-    → HasPlan text top args to to_args written → RefusesPlan text top args to to_args words → ⊥
-never_both text top to args to_args written _ plan (starts_not words refuses) =
-    never_both_start text top args plan.old words plan.starts refuses
-never_both text top to args to_args written _ plan (leads_nowhere old words starts refuses) =
-    readings.never_both text to to_args plan.new words plan.has_graph refuses
-never_both text top to args to_args written _ plan (gets_full old new e starts has refuses) =
+    (text : List ℕ) (call target : TopCall) (written : List ℕ) (words : List (List ℕ))
+    → HasPlan text call target written → RefusesPlan text call target words → ⊥
+never_both text call target written _ plan (starts_not words refuses) =
+    never_both_start text call.top call.args plan.old words plan.starts refuses
+never_both text call target written _ plan (leads_nowhere old words starts refuses) =
+    readings.never_both text target.top target.args plan.new words plan.has_graph refuses
+never_both text call target written _ plan (gets_full old new e starts has refuses) =
     not_full plan.old plan.new (made_of plan.old) e plan.has_steps.has_room
-    (subst (λ g. IsRefusal g plan.new [] (made_of g) e) (one_graph text top args old plan.old starts.has_graph plan.starts.has_graph)
-    (subst (λ g. IsRefusal old g [] (made_of old) e) (one_graph text to to_args new plan.new has plan.has_graph) refuses))
+    (subst (λ g. IsRefusal g plan.new [] (made_of g) e) (one_graph text call.top call.args old plan.old starts.has_graph plan.starts.has_graph)
+    (subst (λ g. IsRefusal old g [] (made_of old) e) (one_graph text target.top target.args new plan.new has plan.has_graph) refuses))
 
 -- ---- what the parts of planning answer
 
@@ -79,21 +80,16 @@ full_words old new made e (inl memory) plain = absurd (is_memory e memory plain)
     is_memory e none = rw none (λ is. cc)
 full_words old new made e (inr refuses) plain = record { fault = e; refuses = refuses; named = refl }
 
-pub start_refused :
-    (text top : List ℕ) (args : List ℤ) (graph : Graph) (words : List (List ℕ)) → HasGraph text top args graph → IsFull nothing graph nothing_made words
-    → RefusesStart text top args words
-start_refused text top args graph words has full = subst (RefusesStart text top args) (sym full.named) (is_full graph full.fault has full.refuses)
-
 pub plan_refused :
-    (text top to : List ℕ) (args to_args : List ℤ) (old new : Graph) (words : List (List ℕ)) → Starts text top args old → HasGraph text to to_args new
-    → IsFull old new (made_of old) words → RefusesPlan text top args to to_args words
-plan_refused text top to args to_args old new words starts has full =
-    subst (RefusesPlan text top args to to_args) (sym full.named) (gets_full old new full.fault starts has full.refuses)
+    (text : List ℕ) (call target : TopCall) (old new : Graph) (words : List (List ℕ)) → Starts text call.top call.args old → HasGraph text target.top target.args new
+    → IsFull old new (made_of old) words → RefusesPlan text call target words
+plan_refused text call target old new words starts has full =
+    subst (RefusesPlan text call target) (sym full.named) (gets_full old new full.fault starts has full.refuses)
 
 pub plan_of :
-    (text top to : List ℕ) (args to_args : List ℤ) (old new : Graph) (written : List ℕ) → Starts text top args old → HasGraph text to to_args new
-    → HasSteps old new written → HasPlan text top args to to_args written
-plan_of text top to args to_args old new written starts has s = record {
+    (text : List ℕ) (call target : TopCall) (old new : Graph) (written : List ℕ) → Starts text call.top call.args old → HasGraph text target.top target.args new
+    → HasSteps old new written → HasPlan text call target written
+plan_of text call target old new written starts has s = record {
   old = old;
   new = new;
   starts = starts;
@@ -107,10 +103,10 @@ pub refused_through :
 refused_through P Q e leads refuses plain = leads (fault_words e) (refuses plain)
 
 -- what reading refuses, whatever is wanted
-pub reading_refused : (wanted : Wanted) (text : List ℕ) (e : DescriptionFault) → ((top : List ℕ) (args : List ℤ) → MayRefuse (Refuses text top args) e) → MayRefuse (IsRefused wanted text) e
-reading_refused (its_graph top args) text e refuses plain = refuses top args plain
-reading_refused (its_plan top args to to_args) text e refuses plain = starts_not (fault_words e) (has_no_graph (fault_words e) (refuses top args plain))
-reading_refused (its_replay script) text e refuses plain = has_no_graph (fault_words e) (refuses script.name script.args plain)
+pub reading_refused : (query : Query) (text : List ℕ) (e : DescriptionFault) → ((top : List ℕ) (args : List ℤ) → MayRefuse (IsDescriptionRefusal text top args) e) → MayRefuse (IsRefused query text) e
+reading_refused (queries.Graph call) text e refuses plain = refuses call.top call.args plain
+reading_refused (queries.Plan call target) text e refuses plain = starts_not (fault_words e) (has_no_graph (fault_words e) (refuses call.top call.args plain))
+reading_refused (queries.Replay script) text e refuses plain = has_no_graph (fault_words e) (refuses script.name script.args plain)
 
 pub if_ok : {A E : Type 0} (r : Result A E) (P Q : A → Type 0) → ((a : A) → P a → Q a) → IfOk r P → IfOk r Q
 if_ok (Ok a) P Q leads holds = leads a holds
@@ -119,17 +115,3 @@ if_ok (Err e) P Q leads holds = tt
 pub if_err : {A E : Type 0} (r : Result A E) (P Q : E → Type 0) → ((e : E) → P e → Q e) → IfErr r P → IfErr r Q
 if_err (Ok a) P Q leads holds = tt
 if_err (Err e) P Q leads holds = leads e holds
-
--- a text with which a run ends well
-pub finished_gives :
-    {V A F : Type 0} (items : V → List ℕ) (status_ : A → Status) (value : A → V) (wanted : Wanted) (text : List ℕ) (r : Result V F) (s : Result A F)
-    → IfOk r (λ v. Gives wanted text status.Ok (items v)) → IfOk s (λ a. (status_ a ≡ status.Ok) × (r ≡ Ok (value a)))
-    → IfOk s (λ a. Gives wanted text (status_ a) (items (value a)))
-finished_gives {V = V} {F = F} items status_ value wanted text r (Ok a) gives is =
-    subst (λ st. Gives wanted text st (items (value a))) (sym is.0)
-    (subst (λ (x : Result V F). IfOk x (λ v. Gives wanted text status.Ok (items v))) is.1 gives)
-finished_gives items status_ value wanted text r (Err e) gives is = tt
-
-pub finished_refused : {V A F : Type 0} (r : Result V F) (s : Result A F) (P : F → Type 0) → IfErr s (λ e. r ≡ Err e) → IfErr r P → IfErr s P
-finished_refused r (Ok a) P is refused = tt
-finished_refused {V = V} {F = F} r (Err e) P is refused = subst (λ (x : Result V F). IfErr x P) is refused

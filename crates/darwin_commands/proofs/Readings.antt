@@ -9,7 +9,7 @@ use Rattle.darwin_parser.specs.Tree.{Tree}
 use Rattle.config_graph.specs.Graph.{Graph}
 use Rattle.darwin_types.specs.Faults.{Fault}
 use Rattle.elaborator.specs.Faults.{Faults}
-use Rattle.darwin_commands.specs.Descriptions.{IsTree, HasGraph, Refuses, by_lexer, by_grammar, by_nesting, by_names, by_elaboration}
+use Rattle.darwin_commands.specs.Descriptions.{IsTree, HasGraph, IsDescriptionRefusal, by_lexer, by_grammar, by_nesting, by_names, by_elaboration}
 
 -- the tokens of a tree's text are those of each parting
 tokens_are : (text : List ℕ) (tree : Tree) (tokens : List Token) (is : IsTree text tree) → IsTokens text tokens → is.tokens ≡ tokens
@@ -23,7 +23,7 @@ one_tree text a b x y = parsing.one_tree text 32 16 y.tokens a b (spelled_by tex
 
 pub never_both :
     (text name : List ℕ) (args : List ℤ) (graph : Graph) (words : List (List ℕ))
-    → HasGraph text name args graph → Refuses text name args words → ⊥
+    → HasGraph text name args graph → IsDescriptionRefusal text name args words → ⊥
 never_both text name args graph _ has (by_lexer fault at first) =
     lexing.never_both text has.checked.is_tree.tokens fault at has.checked.is_tree.parted first
 never_both text name args graph _ has (by_grammar tokens n parted unexpected) =

@@ -4,7 +4,7 @@ use Rattle.darwin_lexer.specs.declared.token.LexError.{LexError}
 use Rattle.darwin_lexer.specs.declared.token.LexError.TheVariants as lexing
 use Rattle.darwin_lexer.specs.declared.front.Fault.TheVariants as fronts
 use Rattle.darwin_lexer.specs.Tokens.{RefusesExactly}
-use Rattle.darwin_commands.specs.declared.description.DescriptionFault.TheVariants as fault
+use Rattle.darwin_commands.specs.declared.error.DescriptionFault.TheVariants as fault
 use Rattle.darwin_commands.specs.DescriptionFaults.{MayRefuse, is_no_memory}
 use Rattle.darwin_parser.specs.Tree.{Tree}
 use Rattle.darwin_types.specs.Faults.{Fault}
@@ -13,14 +13,14 @@ use Rattle.darwin_types.specs.declared.error.TypeError.TheVariants as checking
 use Rattle.elaborator.specs.Faults.{Faults}
 use Rattle.elaborator.specs.declared.error.ElabError.{ElabError}
 use Rattle.elaborator.specs.declared.error.ElabError.TheVariants as elaborating
-use Rattle.darwin_commands.specs.Descriptions.{IsTree, IsChecked, Refuses, by_lexer, by_names, by_elaboration}
+use Rattle.darwin_commands.specs.Descriptions.{IsTree, IsChecked, IsDescriptionRefusal, by_lexer, by_names, by_elaboration}
 
 -- a refusal of the lexer
 pub lexer_refuses :
     {T : Type 0} (text : List ℕ) (e : LexError) (name : List ℕ) (args : List ℤ)
     → RefusesExactly {T = T} text (Err e) fronts.BadByte → RefusesExactly {T = T} text (Err e) fronts.OpenComment
     → RefusesExactly {T = T} text (Err e) fronts.LongName → RefusesExactly {T = T} text (Err e) fronts.BigNumber
-    → MayRefuse (Refuses text name args) (fault.Lex e)
+    → MayRefuse (IsDescriptionRefusal text name args) (fault.Lex e)
 lexer_refuses text (lexing.BadByte at) name args bad comment long big _ = by_lexer fronts.BadByte at ((bad at).0 refl)
 lexer_refuses text (lexing.OpenComment at) name args bad comment long big _ = by_lexer fronts.OpenComment at ((comment at).0 refl)
 lexer_refuses text (lexing.LongName at) name args bad comment long big _ = by_lexer fronts.LongName at ((long at).0 refl)
@@ -30,7 +30,7 @@ lexer_refuses text lexing.NoMemory name args bad comment long big is = absurd (c
 -- a refusal of the names of a tree
 pub checker_refuses :
     (text : List ℕ) (tree : Tree) (e : TypeError) (name : List ℕ) (args : List ℤ) → (e ≢ checking.NoMemory → Fault tree e) → IsTree text tree
-    → MayRefuse (Refuses text name args) (fault.Check e)
+    → MayRefuse (IsDescriptionRefusal text name args) (fault.Check e)
 checker_refuses text tree e name args faulty is memory = by_names tree e is (faulty (λ none. absurd (is_memory e none memory)))
   where
     is_memory : (e : TypeError) → e ≡ checking.NoMemory → is_no_memory (fault.Check e) ≢ false
@@ -39,7 +39,7 @@ checker_refuses text tree e name args faulty is memory = by_names tree e is (fau
 -- a refusal of the elaboration of a tree whose names are sound
 pub elaborator_refuses :
     (text : List ℕ) (tree : Tree) (e : ElabError) (name : List ℕ) (args : List ℤ) → (e ≢ elaborating.NoMemory → Faults tree name args e) → IsChecked text tree
-    → MayRefuse (Refuses text name args) (fault.Elaborate e)
+    → MayRefuse (IsDescriptionRefusal text name args) (fault.Elaborate e)
 elaborator_refuses text tree e name args faulty is memory = by_elaboration tree e is (faulty (λ none. absurd (is_memory e none memory)))
   where
     is_memory : (e : ElabError) → e ≡ elaborating.NoMemory → is_no_memory (fault.Elaborate e) ≢ false

@@ -2,20 +2,20 @@
 use Rattle.std.proofs.Common.{◌≡◌, ◌∙◌, ◌≤◌, ◌<◌, ℕ, List, [], ◌∷◌, ◌++◌, Option, Some, None, length, length-append, refl, sym, ap, IsSomeAnd, arith}
 use Rattle.std.proofs.lemmas.Option.{same_Some, none-some}
 use Rattle.cfg_io.specs.Shelf.{Files}
-use Rattle.darwin_commands.specs.Answers.{Given, held, Fetch, file_limit, failed_names, fetch_of, Gave}
-use Rattle.darwin_commands.specs.Answers as answers
+use Rattle.darwin_commands.specs.declared.fetching.Fetched.TheVariants.{Held, TooLong}
+use Rattle.darwin_commands.specs.Answers.{file_limit, fetch_of, Gave}
 use Rattle.darwin_commands.specs.Outcomes.{HoldsFile, TellsTooLong}
 
 -- what is told of a file that was fetched
-pub held_told : (files : Option Files) (file text : List ℕ) → Gave files (fetch_of file (held text)) → HoldsFile files file text
+pub held_told : (files : Option Files) (file text : List ℕ) → Gave files (fetch_of file (Held text)) → HoldsFile files file text
 held_told None file text gave = tt
 held_told (Some f) file text gave = gave.1
 
-pub held_within : (files : Option Files) (file text : List ℕ) → Gave files (fetch_of file (held text)) → length text ≤ file_limit
+pub held_within : (files : Option Files) (file text : List ℕ) → Gave files (fetch_of file (Held text)) → length text ≤ file_limit
 held_within None file text gave = gave
 held_within (Some f) file text gave = gave.0
 
-pub long_told : (files : Option Files) (file : List ℕ) → Gave files (fetch_of file answers.too_long) → TellsTooLong files file
+pub long_told : (files : Option Files) (file : List ℕ) → Gave files (fetch_of file TooLong) → TellsTooLong files file
 long_told None file gave = tt
 long_told (Some f) file gave = gave.1
 

@@ -7,7 +7,9 @@ use Rattle.event_replay.proofs.DenialLaws as replaying
 use Rattle.darwin_commands.specs.declared.status.Status.{Status}
 use Rattle.darwin_commands.specs.declared.status.Status.TheVariants as status
 use Rattle.darwin_commands.specs.Replays.{Replays, denied, replayed}
-use Rattle.darwin_commands.specs.Wanted.{Wanted, its_graph, its_plan, its_replay, IsRefused, Gives}
+use Rattle.darwin_commands.specs.declared.describing.Query.{Query}
+use Rattle.darwin_commands.specs.declared.describing.Query.TheVariants as queries
+use Rattle.darwin_commands.specs.Queries.{IsRefused, AnswersQuery}
 use Rattle.darwin_commands.proofs.Readings as readings
 use Rattle.darwin_commands.proofs.Planning as planning
 
@@ -16,17 +18,17 @@ pub replays_status : (s : State) (events : List Event) (own : Status) (written :
 replays_status s events _ _ (denied number rule is) = inr refl
 replays_status s events _ _ (replayed t written leads text) = inl refl
 
-pub gives_status : (wanted : Wanted) (text : List ℕ) (own : Status) (written : List ℕ) → Gives wanted text own written → (own ≡ status.Ok) ⊎ (own ≡ status.Denied)
-gives_status (its_graph top args) text own written gives = inl gives.0
-gives_status (its_plan top args to to_args) text own written gives = inl gives.0
-gives_status (its_replay script) text own written gives = replays_status (started gives.graph) script.events own written gives.replays
+pub gives_status : (query : Query) (text : List ℕ) (own : Status) (written : List ℕ) → AnswersQuery query text own written → (own ≡ status.Ok) ⊎ (own ≡ status.Denied)
+gives_status (queries.Graph call) text own written gives = inl gives.0
+gives_status (queries.Plan call target) text own written gives = inl gives.0
+gives_status (queries.Replay script) text own written gives = replays_status (started gives.graph) script.events own written gives.replays
 
 pub never_both :
-    (wanted : Wanted) (text : List ℕ) (own : Status) (written : List ℕ) (words : List (List ℕ))
-    → Gives wanted text own written → IsRefused wanted text words → ⊥
-never_both (its_graph top args) text own written words gives refuses = readings.never_both text top args gives.1.0 words gives.1.1 refuses
-never_both (its_plan top args to to_args) text own written words gives refuses = planning.never_both text top to args to_args written words gives.1 refuses
-never_both (its_replay script) text own written words gives refuses =
+    (query : Query) (text : List ℕ) (own : Status) (written : List ℕ) (words : List (List ℕ))
+    → AnswersQuery query text own written → IsRefused query text words → ⊥
+never_both (queries.Graph call) text own written words gives refuses = readings.never_both text call.top call.args gives.1.0 words gives.1.1 refuses
+never_both (queries.Plan call target) text own written words gives refuses = planning.never_both text call target written words gives.1 refuses
+never_both (queries.Replay script) text own written words gives refuses =
     planning.never_both_start text script.name script.args gives.graph words gives.starts refuses
 
 -- events come to one status
@@ -38,11 +40,11 @@ replays_one s events _ _ _ _ (replayed t written leads text) (denied n r is) = a
 replays_one s events _ _ _ _ (replayed t written leads text) (replayed u also goes shows) = refl
 
 pub gives_one :
-    (wanted : Wanted) (text : List ℕ) (own other : Status) (written also : List ℕ)
-    → Gives wanted text own written → Gives wanted text other also → own ≡ other
-gives_one (its_graph top args) text own other written also x y = x.0 ∙ sym y.0
-gives_one (its_plan top args to to_args) text own other written also x y = x.0 ∙ sym y.0
-gives_one (its_replay script) text own other written also x y =
+    (query : Query) (text : List ℕ) (own other : Status) (written also : List ℕ)
+    → AnswersQuery query text own written → AnswersQuery query text other also → own ≡ other
+gives_one (queries.Graph call) text own other written also x y = x.0 ∙ sym y.0
+gives_one (queries.Plan call target) text own other written also x y = x.0 ∙ sym y.0
+gives_one (queries.Replay script) text own other written also x y =
     replays_one (started y.graph) script.events own other written also
     (subst (λ g. Replays (started g) script.events own written)
     (planning.one_graph text script.name script.args x.graph y.graph x.starts.has_graph y.starts.has_graph) x.replays)

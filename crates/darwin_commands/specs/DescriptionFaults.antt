@@ -4,8 +4,8 @@ use Rattle.darwin_lexer.specs.declared.token.LexError.TheVariants as lexing
 use Rattle.darwin_types.specs.declared.error.TypeError.TheVariants as checking
 use Rattle.elaborator.specs.declared.error.ElabError.TheVariants as elaborating
 use Rattle.change_plan.specs.declared.error.PlanError.TheVariants as planning
-use Rattle.darwin_commands.specs.declared.description.DescriptionFault.{DescriptionFault}
-use Rattle.darwin_commands.specs.declared.description.DescriptionFault.TheVariants as fault
+use Rattle.darwin_commands.specs.declared.error.DescriptionFault.{DescriptionFault}
+use Rattle.darwin_commands.specs.declared.error.DescriptionFault.TheVariants as fault
 use Rattle.darwin_commands.specs.Lines.{lex_words, expected_words, too_nested_words, check_words, elaborate_words, plan_words}
 
 abbrev pub fault_words : DescriptionFault → List (List ℕ)

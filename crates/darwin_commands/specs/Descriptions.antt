@@ -41,13 +41,13 @@ pub record HasGraph (text : List ℕ) (name : Name) (args : List ℤ) (graph : G
 
 -- The words of what refuses a description, of which the component of a name is wanted with these arguments: the first fault of its tokens; or
 -- else a token that no unit can have there, or that opens a level of nesting too many; or else a fault of its names; or else one of the elaboration.
-pub data Refuses (text : List ℕ) (name : Name) (args : List ℤ) : List (List ℕ) → Type 0 where
-  by_lexer : (fault : Fault) (at : At) → FirstFault text fault at → Refuses text name args (lex_words (refusal fault at))
+pub data IsDescriptionRefusal (text : List ℕ) (name : Name) (args : List ℤ) : List (List ℕ) → Type 0 where
+  by_lexer : (fault : Fault) (at : At) → FirstFault text fault at → IsDescriptionRefusal text name args (lex_words (refusal fault at))
   by_grammar :
       (tokens : List Token) (n : ℕ) → IsTokens text tokens → IsUnexpected text tokens n
-      → Refuses text name args (expected_words (place_at text tokens n))
+      → IsDescriptionRefusal text name args (expected_words (place_at text tokens n))
   by_nesting :
       (tokens : List Token) (n : ℕ) → IsTokens text tokens → IsTooNested text tokens n
-      → Refuses text name args (too_nested_words (place_at text tokens n))
-  by_names : (tree : Tree) (e : TypeError) → IsTree text tree → NameFault tree e → Refuses text name args (check_words e)
-  by_elaboration : (tree : Tree) (e : ElabError) → IsChecked text tree → Faults tree name args e → Refuses text name args (elaborate_words e)
+      → IsDescriptionRefusal text name args (too_nested_words (place_at text tokens n))
+  by_names : (tree : Tree) (e : TypeError) → IsTree text tree → NameFault tree e → IsDescriptionRefusal text name args (check_words e)
+  by_elaboration : (tree : Tree) (e : ElabError) → IsChecked text tree → Faults tree name args e → IsDescriptionRefusal text name args (elaborate_words e)

@@ -7,8 +7,7 @@ pub mod Outcomes
 pub mod Planning
 pub mod Plans
 pub mod Replays
-pub mod Requests
 pub mod CommandLine
 pub mod Running
 pub mod Statuses
-pub mod Wanted
+pub mod Queries

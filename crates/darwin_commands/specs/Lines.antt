@@ -13,6 +13,7 @@ use Rattle.change_script.specs.declared.error.ScriptError.{ScriptError}
 use Rattle.change_script.specs.declared.error.ScriptError.TheVariants as scripting
 use Rattle.change_plan.specs.declared.error.PlanError.{PlanError}
 use Rattle.change_plan.specs.declared.error.PlanError.TheVariants as planning
+use Rattle.change_script.specs.Writing.{spaced}
 
 abbrev pub place_word : At → List ℕ
 place_word at = decimal at.line ++ codes ":" ++ decimal at.column
@@ -20,9 +21,6 @@ place_word at = decimal at.line ++ codes ":" ++ decimal at.column
 abbrev pub path_word : List ℕ → List ℕ
 path_word [] = codes "."
 path_word (byte ∷ path) = byte ∷ path
-
-abbrev pub spaced : List (List ℕ) → List ℕ
-spaced words = flat_map (λ word. 32 ∷ word) words
 
 abbrev pub lex_words : LexError → List (List ℕ)
 lex_words (lexing.BadByte at) = codes "BadByte" ∷ place_word at ∷ []

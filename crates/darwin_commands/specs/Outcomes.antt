@@ -1,5 +1,5 @@
 -- What each status of a run says, of the words and of what was fetched and written.
-use Rattle.std.specs.Prelude.{◌≡◌, ◌≢◌, ◌≤◌, ◌<◌, ◌⊎◌, ℕ, ℤ, List, [], ◌∷◌, ◌++◌, Option, Some, None, IsSomeAnd, length, take, codes}
+use Rattle.std.specs.Prelude.{◌≡◌, ◌≢◌, ◌≤◌, ◌<◌, ◌⊎◌, ℕ, List, [], ◌∷◌, ◌++◌, Option, Some, None, IsSomeAnd, length, take, codes}
 use Rattle.std.specs.List.{AllByRecursion}
 use Rattle.cfg_io.specs.Shelf.{Files}
 use Rattle.cfg_io.specs.Sink.{with_bytes}
@@ -8,15 +8,20 @@ use Rattle.config_graph.specs.GraphText.{graph_text}
 use Rattle.change_script.specs.declared.error.ScriptError.{ScriptError}
 use Rattle.change_script.specs.declared.event_files.EventFile.{EventFile}
 use Rattle.change_script.specs.EventFiles.{IsEventFile, IsFirstFault}
+use Rattle.darwin_commands.specs.declared.words.TopCall.{TopCall}
 use Rattle.darwin_commands.specs.declared.status.Status.{Status}
 use Rattle.darwin_commands.specs.declared.status.Status.TheVariants as status
-use Rattle.darwin_commands.specs.CommandLine.{Command, help, version, flat, plan, replay, Asks}
+use Rattle.darwin_commands.specs.declared.words.Command.{Command}
+use Rattle.darwin_commands.specs.declared.words.Command.TheVariants as commands
+use Rattle.darwin_commands.specs.CommandLine.{Asks}
 use Rattle.darwin_commands.specs.Lines.{description_line, script_line, script_words}
 use Rattle.darwin_commands.specs.Descriptions.{HasGraph}
 use Rattle.darwin_commands.specs.Plans.{HasPlan}
 use Rattle.darwin_commands.specs.Replays.{HasReplay}
-use Rattle.darwin_commands.specs.Wanted.{Wanted, its_graph, its_plan, its_replay, IsRefused, Gives}
-use Rattle.darwin_commands.specs.Answers.{Fetch, Gave, Answers, failed_names, file_limit}
+use Rattle.darwin_commands.specs.declared.describing.Query.{Query}
+use Rattle.darwin_commands.specs.declared.describing.Query.TheVariants as queries
+use Rattle.darwin_commands.specs.Queries.{IsRefused, AnswersQuery}
+use Rattle.darwin_commands.specs.Answers.{Fetch, Gave, AnswersCommand, failed_names, file_limit}
 
 -- the words ask for nothing
 abbrev pub HasNoForm : List (List ℕ) → Type 0
@@ -24,11 +29,11 @@ HasNoForm words = (command : Command) → Asks words command → ⊥
 
 -- the command names the file
 abbrev pub MentionsFile : Command → List ℕ → Type 0
-MentionsFile help name = ⊥
-MentionsFile version name = ⊥
-MentionsFile (flat file top args) name = name ≡ file
-MentionsFile (plan file top args to to_args) name = name ≡ file
-MentionsFile (replay file events) name = (name ≡ file) ⊎ (name ≡ events)
+MentionsFile commands.Help name = ⊥
+MentionsFile commands.Version name = ⊥
+MentionsFile (commands.Flat file call) name = name ≡ file
+MentionsFile (commands.Plan file call target) name = name ≡ file
+MentionsFile (commands.Replay file events) name = (name ≡ file) ⊎ (name ≡ events)
 
 -- the words name the file
 abbrev pub NamesFile : List (List ℕ) → List ℕ → Type 0
@@ -44,7 +49,7 @@ pub record WroteFront (words : List (List ℕ)) (files : Option Files) (failures
   pub fetches : List Fetch
   pub own : Status
   pub text : List ℕ
-  pub answers : Answers words fetches own text
+  pub answers : AnswersCommand words fetches own text
   pub noted : failures' ≡ failures ++ failed_names fetches
   pub told : AllByRecursion (Gave files) fetches
   pub other : own ≢ status.WriteFault
@@ -63,28 +68,28 @@ TellsTooLong None file = Unit {0}
 TellsTooLong (Some files) file = IsSomeAnd (files file) (λ bytes. file_limit < length bytes)
 
 -- The words ask for this of the description in a file, where the shelf tells of events what the file of events holds.
-abbrev pub Wants : Option Files → List (List ℕ) → List ℕ → Wanted → Type 0
-Wants files words file (its_graph top args) = Asks words (flat file top args)
-Wants files words file (its_plan top args to to_args) = Asks words (plan file top args to to_args)
-Wants files words file (its_replay script) =
-    (name bytes : List ℕ) × Asks words (replay file name) × HoldsFile files name bytes × (length bytes ≤ file_limit) × IsEventFile bytes script
+abbrev pub Wants : Option Files → List (List ℕ) → List ℕ → Query → Type 0
+Wants files words file (queries.Graph call) = Asks words (commands.Flat file call)
+Wants files words file (queries.Plan call target) = Asks words (commands.Plan file call target)
+Wants files words file (queries.Replay script) =
+    (name bytes : List ℕ) × Asks words (commands.Replay file name) × HoldsFile files name bytes × (length bytes ≤ file_limit) × IsEventFile bytes script
 
 -- The file holds a description that has a graph for the component and its arguments, and the text of this graph was written.
-pub record Flattened (files : Option Files) (file top : List ℕ) (args : List ℤ) (taken taken' : Option (List ℕ)) : Type 0 where
+pub record Flattened (files : Option Files) (file : List ℕ) (call : TopCall) (taken taken' : Option (List ℕ)) : Type 0 where
   pub text : List ℕ
   pub graph : Graph
   pub told : HoldsFile files file text
   pub within : length text ≤ file_limit
-  pub has_graph : HasGraph text top args graph
+  pub has_graph : HasGraph text call.top call.args graph
   pub written : taken' ≡ with_bytes taken (graph_text graph)
 
 -- The file holds a description that has a plan from the first component to the second, and its text was written.
-pub record Planned (files : Option Files) (file top : List ℕ) (args : List ℤ) (to : List ℕ) (to_args : List ℤ) (taken taken' : Option (List ℕ)) : Type 0 where
+pub record Planned (files : Option Files) (file : List ℕ) (call target : TopCall) (taken taken' : Option (List ℕ)) : Type 0 where
   pub text : List ℕ
   pub plan : List ℕ
   pub told : HoldsFile files file text
   pub within : length text ≤ file_limit
-  pub has_plan : HasPlan text top args to to_args plan
+  pub has_plan : HasPlan text call target plan
   pub written : taken' ≡ with_bytes taken plan
 
 -- The file of events is one, and what its events come to over the description was written, with this status.
@@ -102,26 +107,26 @@ pub record Replayed (files : Option Files) (file events : List ℕ) (own : Statu
   pub wrote : taken' ≡ with_bytes taken written
 
 -- The file is too long, or a fault of what it holds was named; and the line that says so was written.
-pub data Refused (files : Option Files) (file : List ℕ) (wanted : Wanted) (taken taken' : Option (List ℕ)) : Type 0 where
+pub data Refused (files : Option Files) (file : List ℕ) (query : Query) (taken taken' : Option (List ℕ)) : Type 0 where
   too_long :
       TellsTooLong files file → taken' ≡ with_bytes taken (description_line file (codes "TooLong" ∷ []))
-      → Refused files file wanted taken taken'
+      → Refused files file query taken taken'
   at_fault :
-      (text : List ℕ) (words : List (List ℕ)) → HoldsFile files file text → length text ≤ file_limit → IsRefused wanted text words
-      → taken' ≡ with_bytes taken (description_line file words) → Refused files file wanted taken taken'
+      (text : List ℕ) (words : List (List ℕ)) → HoldsFile files file text → length text ≤ file_limit → IsRefused query text words
+      → taken' ≡ with_bytes taken (description_line file words) → Refused files file query taken taken'
 
 -- the file has more bytes than a description may have, or something refuses them
-abbrev pub MustRefuse : Wanted → Option (List ℕ) → Type 0
-MustRefuse wanted file = IsSomeAnd file (λ text. (file_limit < length text) ⊎ ((words : List (List ℕ)) × IsRefused wanted text words))
+abbrev pub MustRefuse : Query → Option (List ℕ) → Type 0
+MustRefuse query file = IsSomeAnd file (λ text. (file_limit < length text) ⊎ ((words : List (List ℕ)) × IsRefused query text words))
 
 -- the file has no more bytes than a description may have, and nothing refuses them
-abbrev pub NothingRefuses : Wanted → Option (List ℕ) → Type 0
-NothingRefuses wanted file = IsSomeAnd file (λ text. (length text ≤ file_limit) × ((words : List (List ℕ)) → ¬ IsRefused wanted text words))
+abbrev pub NothingRefuses : Query → Option (List ℕ) → Type 0
+NothingRefuses query file = IsSomeAnd file (λ text. (length text ≤ file_limit) × ((words : List (List ℕ)) → ¬ IsRefused query text words))
 
 -- the bytes give this status for what is wanted, unless memory ran out or the sink failed
-abbrev pub EndsAsGiven : Wanted → Option (List ℕ) → Status → Type 0
-EndsAsGiven wanted file result =
-    IsSomeAnd file (λ text. (written : List ℕ) × Gives wanted text result written) ⊎ (result ≡ status.NoMemory) ⊎ (result ≡ status.WriteFault)
+abbrev pub EndsAsGiven : Query → Option (List ℕ) → Status → Type 0
+EndsAsGiven query file result =
+    IsSomeAnd file (λ text. (written : List ℕ) × AnswersQuery query text result written) ⊎ (result ≡ status.NoMemory) ⊎ (result ≡ status.WriteFault)
 
 -- The file of events is too long, or the fault of its first line at fault was named; and the line that says so was written.
 pub data ScriptRefused (files : Option Files) (name : List ℕ) (taken taken' : Option (List ℕ)) : Type 0 where

@@ -8,9 +8,11 @@ use Rattle.darwin_commands.specs.declared.scripts.Read.{Read}
 use Rattle.darwin_commands.specs.declared.scripts.Read.TheVariants.{Events, Refused}
 use Rattle.darwin_commands.specs.declared.status.Status.{Status}
 use Rattle.darwin_commands.specs.declared.status.Status.TheVariants as status
-use Rattle.darwin_commands.specs.CommandLine.{Command}
-use Rattle.darwin_commands.specs.Wanted.{Wanted}
-use Rattle.darwin_commands.specs.Answers.{Given, held, Fetch, fetch_of, failed_names, Gave, DescriptionAnswers, ScriptAnswers, AnswersTo, MayFetch}
+use Rattle.darwin_commands.specs.declared.words.Command.{Command}
+use Rattle.darwin_commands.specs.declared.describing.Query.{Query}
+use Rattle.darwin_commands.specs.declared.fetching.Fetched.{Fetched}
+use Rattle.darwin_commands.specs.declared.fetching.Fetched.TheVariants.{Held}
+use Rattle.darwin_commands.specs.Answers.{Fetch, fetch_of, failed_names, Gave, DescriptionAnswers, ScriptAnswers, AnswersTo, MayFetch}
 
 -- the status and the text of an answer, or those for want of memory
 abbrev pub status_of : {E : Type 0} → Result Answer E → Status
@@ -22,19 +24,19 @@ text_of (Ok answer) = answer.text.items
 text_of (Err _) = codes "no memory" ++ 10 ∷ []
 
 -- an answer of a description by what one fetch gave, or want of memory before or after it
-pub data IsDescription {E : Type 0} (file : List ℕ) (wanted : Wanted) : List Fetch → Result Answer E → Type 0 where
-  not_fetched : (e : E) → IsDescription file wanted [] (Err e)
-  fetched : (given : Given) (e : E) → IsDescription file wanted (fetch_of file given ∷ []) (Err e)
+pub data IsDescription {E : Type 0} (file : List ℕ) (query : Query) : List Fetch → Result Answer E → Type 0 where
+  not_fetched : (e : E) → IsDescription file query [] (Err e)
+  fetched : (given : Fetched) (e : E) → IsDescription file query (fetch_of file given ∷ []) (Err e)
   answers :
-      (given : Given) (answer : Answer) → DescriptionAnswers file wanted given answer.status answer.text.items
-      → IsDescription file wanted (fetch_of file given ∷ []) (Ok answer)
+      (given : Fetched) (answer : Answer) → DescriptionAnswers file query given answer.status answer.text.items
+      → IsDescription file query (fetch_of file given ∷ []) (Ok answer)
 
 -- the same of a shelf
-pub record DescribesBy {E : Type 0} (files : Option Files) (file : List ℕ) (wanted : Wanted) (failures failures' : List (List ℕ)) (result : Result Answer E) : Type 0 where
+pub record DescribesBy {E : Type 0} (files : Option Files) (file : List ℕ) (query : Query) (failures failures' : List (List ℕ)) (result : Result Answer E) : Type 0 where
   pub fetches : List Fetch
   pub noted : failures' ≡ failures ++ failed_names fetches
   pub told : AllByRecursion (Gave files) fetches
-  pub is_description : IsDescription file wanted fetches result
+  pub is_description : IsDescription file query fetches result
 
 -- an answer of a command by its fetches, or want of memory after some of them
 abbrev pub IsAnswer : {E : Type 0} → Command → List Fetch → Result Answer E → Type 0
@@ -48,6 +50,6 @@ pub record AnswersBy {E : Type 0} (files : Option Files) (command : Command) (fa
   pub is_answer : IsAnswer command fetches result
 
 -- what was read of a file of events: what it says, or the answer that refuses it
-abbrev pub Reads : List ℕ → Given → Read → Type 0
-Reads name given (Events script) = (bytes : List ℕ) × (given ≡ held bytes) × IsEventFile bytes script
+abbrev pub Reads : List ℕ → Fetched → Read → Type 0
+Reads name given (Events script) = (bytes : List ℕ) × (given ≡ Held bytes) × IsEventFile bytes script
 Reads name given (Refused answer) = ScriptAnswers name given answer.status answer.text.items

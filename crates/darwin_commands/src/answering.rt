@@ -1,49 +1,95 @@
-//! What is answered of descriptions and of files of events, by fetches.
+//! What is done for words and for commands, by fetches.
 
+ghost use Rattle.std.specs.Prelude.{◌≡◌, ℕ, List, map, string_bytes};
+ghost use Rattle.darwin_commands.specs.Answers.{Runs};
+ghost use Rattle.darwin_commands.specs.CommandLine.{Asks};
 ghost use Rattle.darwin_commands.specs.Running.{DescribesBy, AnswersBy};
-ghost use Rattle.darwin_commands.specs.Requests.{wanted_of};
-ghost use Rattle.darwin_commands.specs.CommandLine.{replay as replay_command};
+ghost use Rattle.darwin_commands.specs.declared.words.Command.TheVariants as commands;
 
-use crate::answer::Answer;
-use crate::describing::{Purpose, describe};
+use crate::answer::{Answer, finish, no_memory, write};
+use crate::describing::{Query, describe};
 use crate::fetching::fetch_file;
 use crate::scripts::{Read, read_script};
-use cfg_io::Shelf;
+use crate::status::Status;
+use crate::words::{Command, read_words};
+use crate::{HELP, USAGE, VERSION};
+use cfg_io::{Shelf, Sink};
 use config_graph::NoMemory;
 use std::alloc::Global;
 
-/// Fetches a description, and answers what is wanted of it.
-pub fn answer_description<H: Shelf>(
+/// Does what the words ask for, or says that they have none of the forms. The program's own texts are written from where they stand.
+pub fn run_words<H: Shelf, K: Sink>(
     alloc: Global,
+    words: &[String],
     shelf: &mut H,
-    file: &str,
-    purpose: &Purpose<'_>,
-) -> Result<Answer, NoMemory>
-    ensures { DescribesBy (H.files shelf.old) file.now (wanted_of purpose.now) (H.failed shelf.old) (H.failed shelf.new) result }
+    out: &mut K,
+) -> Status
+    ensures runs { Runs (map string_bytes words.now) (H.files shelf.old) (H.failed shelf.old) (H.failed shelf.new) (K.taken out.old) (K.taken out.new) (K.faults out.old) (K.faults out.new) result }
+    ensures kept { H.files shelf.new ≡ H.files shelf.old }
 {
-    match fetch_file(shelf, file) {
-        Ok(fetched) => describe(alloc, file, purpose, fetched),
-        Err(failed) => Err(failed),
+    match read_words(alloc, words) {
+        Ok(None) => write(out, Status::Usage, USAGE.as_bytes()),
+        Ok(Some(command)) => run_command(alloc, shelf, out, command),
+        Err(_) => no_memory(out),
     }
 }
 
+/// Does what a command asks for.
+fn run_command<H: Shelf, K: Sink>(
+    alloc: Global,
+    shelf: &mut H,
+    out: &mut K,
+    command: Command<'_>,
+) -> Status
+    ensures runs { (words : List (List ℕ)) → Asks words command.entry
+        → Runs words (H.files shelf.old) (H.failed shelf.old) (H.failed shelf.new) (K.taken out.old) (K.taken out.new) (K.faults out.old) (K.faults out.new) result }
+    ensures kept { H.files shelf.new ≡ H.files shelf.old }
+{
+    match command {
+        Command::Help => write(out, Status::Ok, HELP.as_bytes()),
+        Command::Version => write(out, Status::Ok, VERSION.as_bytes()),
+        Command::Flat { file, call } => finish(
+            out,
+            answer_description(alloc, shelf, file.as_str(), &Query::Graph(call)),
+        ),
+        Command::Plan { file, call, target } => finish(
+            out,
+            answer_description(alloc, shelf, file.as_str(), &Query::Plan(call, target)),
+        ),
+        Command::Replay { file, events } => finish(
+            out,
+            answer_replay(alloc, shelf, file.as_str(), events.as_str()),
+        ),
+    }
+}
+
+/// Fetches a description, and answers what is wanted of it.
+fn answer_description<H: Shelf>(
+    alloc: Global,
+    shelf: &mut H,
+    file: &str,
+    query: &Query<'_>,
+) -> Result<Answer, NoMemory>
+    ensures answers { DescribesBy (H.files shelf.old) file.now query.now (H.failed shelf.old) (H.failed shelf.new) result }
+    ensures kept { H.files shelf.new ≡ H.files shelf.old }
+{
+    let fetched = fetch_file(shelf, file)?;
+    describe(alloc, file, query, fetched)
+}
+
 /// Fetches a file of events and then a description, and answers what the events come to.
-pub fn answer_replay<H: Shelf>(
+fn answer_replay<H: Shelf>(
     alloc: Global,
     shelf: &mut H,
     file: &str,
     events: &str,
 ) -> Result<Answer, NoMemory>
-    ensures { AnswersBy (H.files shelf.old) (replay_command file.now events.now) (H.failed shelf.old) (H.failed shelf.new) result }
+    ensures answers { AnswersBy (H.files shelf.old) (commands.Replay file.now events.now) (H.failed shelf.old) (H.failed shelf.new) result }
+    ensures kept { H.files shelf.new ≡ H.files shelf.old }
 {
-    match fetch_file(shelf, events) {
-        Ok(fetched) => match read_script(alloc, events, fetched) {
-            Ok(Read::Events(script)) => {
-                answer_description(alloc, shelf, file, &Purpose::Replay(script))
-            }
-            Ok(Read::Refused(answer)) => Ok(answer),
-            Err(failed) => Err(failed),
-        },
-        Err(failed) => Err(failed),
+    let fetched = fetch_file(shelf, events)?;
+    match read_script(alloc, events, fetched)? {
+        Read::Events(script) => answer_description(alloc, shelf, file, &Query::Replay(script)),
+        Read::Refused(answer) => Ok(answer),
     }
 }

@@ -2,21 +2,22 @@
 
 ghost use Rattle.std.specs.Prelude.{◌≡◌, ◌≤◌, ℕ, List, length, IfOk, IfErr};
 ghost use Rattle.darwin_types.specs.Checked.{description};
-ghost use Rattle.darwin_commands.specs.Answers.{DescriptionAnswers, KeepsLimit, file_limit, held};
+ghost use Rattle.darwin_commands.specs.Answers.{DescriptionAnswers, FitsFileLimit, file_limit};
 ghost use Rattle.darwin_commands.specs.Descriptions.{IsChecked};
-ghost use Rattle.darwin_commands.specs.Wanted.{Wanted, its_graph, Gives, IsRefused};
-ghost use Rattle.darwin_commands.specs.Requests.{wanted_of};
-ghost use Rattle.darwin_commands.specs.Fetching.{given_of};
+ghost use Rattle.darwin_commands.specs.Queries.{AnswersQuery, IsRefused};
+ghost use Rattle.darwin_commands.specs.declared.describing.Query.{Query};
+ghost use Rattle.darwin_commands.specs.declared.fetching.Fetched.TheVariants.{Held};
 ghost use Rattle.darwin_commands.specs.DescriptionFaults.{MayRefuse};
 
 use crate::answer::Answer;
-use crate::description::{DescriptionFault, checked_of, graph_of};
+use crate::description::{checked_of, graph_of_call};
+use crate::error::DescriptionFault;
 use crate::fetching::Fetched;
 use crate::lines::{description_line, read_fault_line, too_long_line};
 use crate::plans::plan_between;
 use crate::replaying::replay_over;
 use crate::status::Status;
-use crate::words::Call;
+use crate::words::TopCall;
 use change_script::EventFile;
 use config_graph::{NoMemory, graph_text};
 use darwin_types::Checked;
@@ -24,10 +25,10 @@ use std::alloc::{AllocError, Global};
 
 /// What is wanted of a description.
 #[derive(Debug, Drop)]
-pub enum Purpose<'a> {
-    Graph(Call<'a>),
+pub enum Query<'a> {
+    Graph(TopCall<'a>),
     /// The plan from the first component to the second.
-    Plan(Call<'a>, Call<'a>),
+    Plan(TopCall<'a>, TopCall<'a>),
     /// What events come to.
     Replay(EventFile),
 }
@@ -36,14 +37,14 @@ pub enum Purpose<'a> {
 pub fn describe(
     alloc: Global,
     file: &str,
-    purpose: &Purpose<'_>,
+    query: &Query<'_>,
     fetched: Fetched,
 ) -> Result<Answer, NoMemory>
-    requires { KeepsLimit file_limit (given_of fetched) }
-    ensures { IfOk result (λ answer. DescriptionAnswers file.now (wanted_of purpose.now) (given_of fetched) answer.status answer.text.items) }
+    requires { FitsFileLimit file_limit fetched }
+    ensures { IfOk result (λ answer. DescriptionAnswers file.now query.now fetched answer.status answer.text.items) }
 {
     match fetched {
-        Fetched::Held(text) => describe_text(alloc, file, purpose, text.as_slice()),
+        Fetched::Held(text) => describe_text(alloc, file, query, text.items()),
         Fetched::TooLong => Ok(Answer {
             status: Status::Description,
             text: too_long_line(alloc, file)?,
@@ -59,59 +60,49 @@ pub fn describe(
 fn describe_text(
     alloc: Global,
     file: &str,
-    purpose: &Purpose<'_>,
+    query: &Query<'_>,
     text: &[u8],
 ) -> Result<Answer, NoMemory>
     requires { length text.now ≤ file_limit }
-    ensures { IfOk result (λ answer. DescriptionAnswers file.now (wanted_of purpose.now) (held text.now) answer.status answer.text.items) }
+    ensures { IfOk result (λ answer. DescriptionAnswers file.now query.now (Held text.now) answer.status answer.text.items) }
 {
-    match answer_of(alloc, purpose, text) {
+    match answer_of(alloc, query, text) {
         Ok(answer) => Ok(answer),
         Err(fault) => refuse(alloc, file, &fault),
     }
 }
 
 /// What the bytes of a description give, or what refuses them.
-fn answer_of(alloc: Global, purpose: &Purpose<'_>, text: &[u8]) -> Result<Answer, DescriptionFault>
+fn answer_of(alloc: Global, query: &Query<'_>, text: &[u8]) -> Result<Answer, DescriptionFault>
     requires { length text.now ≤ file_limit }
-    ensures gives { IfOk result (λ answer. Gives (wanted_of purpose.now) text.now answer.status answer.text.items) }
-    ensures refused { IfErr result (MayRefuse (IsRefused (wanted_of purpose.now) text.now)) }
+    ensures gives { IfOk result (λ answer. AnswersQuery query.now text.now answer.status answer.text.items) }
+    ensures refused { IfErr result (MayRefuse (IsRefused query.now text.now)) }
 {
-    match checked_of(alloc, text) {
-        Ok(checked) => use_checked(alloc, purpose, &checked),
-        Err(fault) => Err(fault),
-    }
+    let checked = checked_of(alloc, text)?;
+    use_checked(alloc, query, &checked)
 }
 
 /// What a description gives in which no name is at fault, or what refuses it.
 fn use_checked(
     alloc: Global,
-    purpose: &Purpose<'_>,
+    query: &Query<'_>,
     checked: &Checked,
 ) -> Result<Answer, DescriptionFault>
     ensures gives { (text : List ℕ) → IsChecked text (description checked.now)
-        → IfOk result (λ answer. Gives (wanted_of purpose.now) text answer.status answer.text.items) }
+        → IfOk result (λ answer. AnswersQuery query.now text answer.status answer.text.items) }
     ensures refused { (text : List ℕ) → IsChecked text (description checked.now)
-        → IfErr result (MayRefuse (IsRefused (wanted_of purpose.now) text)) }
+        → IfErr result (MayRefuse (IsRefused query.now text)) }
 {
-    match purpose {
-        Purpose::Graph(call) => finished(graph_text_of(alloc, checked, call)),
-        Purpose::Plan(call, target) => finished(plan_between(alloc, checked, call, target)),
-        Purpose::Replay(script) => replay_over(alloc, checked, script),
-    }
-}
-
-/// A text with which a run ends well.
-fn finished(text: Result<Vec<u8>, DescriptionFault>) -> Result<Answer, DescriptionFault>
-    ensures text { IfOk result (λ answer. (answer.status ≡ Status.Ok) × (text ≡ Ok answer.text)) }
-    ensures fault { IfErr result (λ fault. text ≡ Err fault) }
-{
-    match text {
-        Ok(text) => Ok(Answer {
+    match query {
+        Query::Graph(call) => Ok(Answer {
             status: Status::Ok,
-            text,
+            text: graph_text_of(alloc, checked, call)?,
         }),
-        Err(fault) => Err(fault),
+        Query::Plan(call, target) => Ok(Answer {
+            status: Status::Ok,
+            text: plan_between(alloc, checked, call, target)?,
+        }),
+        Query::Replay(script) => replay_over(alloc, checked, script),
     }
 }
 
@@ -119,26 +110,21 @@ fn finished(text: Result<Vec<u8>, DescriptionFault>) -> Result<Answer, Descripti
 fn graph_text_of(
     alloc: Global,
     checked: &Checked,
-    call: &Call<'_>,
+    call: &TopCall<'_>,
 ) -> Result<Vec<u8>, DescriptionFault>
     ensures gives { (text : List ℕ) → IsChecked text (description checked.now)
-        → IfOk result (λ written. Gives (its_graph call.now.top.now call.now.args.items) text Status.Ok written.items) }
+        → IfOk result (λ written. AnswersQuery (Query.Graph call.now) text Status.Ok written.items) }
     ensures refused { (text : List ℕ) → IsChecked text (description checked.now)
-        → IfErr result (MayRefuse (IsRefused (its_graph call.now.top.now call.now.args.items) text)) }
+        → IfErr result (MayRefuse (IsRefused (Query.Graph call.now) text)) }
 {
-    match graph_of(alloc, checked, call.top.as_bytes(), call.args.as_slice()) {
-        Ok(graph) => match graph_text(alloc, &graph) {
-            Ok(text) => Ok(text),
-            Err(_) => Err(DescriptionFault::NoMemory),
-        },
-        Err(fault) => Err(fault),
-    }
+    let graph = graph_of_call(alloc, checked, call)?;
+    Ok(graph_text(alloc, &graph)?)
 }
 
 /// The line that refuses a description.
 fn refuse(alloc: Global, file: &str, fault: &DescriptionFault) -> Result<Answer, NoMemory>
-    ensures { (wanted : Wanted) (text : List ℕ) → MayRefuse (IsRefused wanted text) fault.now
-        → IfOk result (λ answer. DescriptionAnswers file.now wanted (held text) answer.status answer.text.items) }
+    ensures { (query : Query) (text : List ℕ) → MayRefuse (IsRefused query text) fault.now
+        → IfOk result (λ answer. DescriptionAnswers file.now query (Held text) answer.status answer.text.items) }
 {
     if fault.is_no_memory() {
         return Err(AllocError);

@@ -1,10 +1,10 @@
 //! Fetches of descriptions and of files of events.
 
 ghost use Rattle.std.specs.Prelude.{◌≡◌, ◌≤◌, vec_len};
-ghost use Rattle.darwin_commands.specs.Fetching.{Fetches, given_of};
+ghost use Rattle.darwin_commands.specs.Fetching.{Fetches};
 
 use cfg_io::{Shelf, ShelfError};
-use config_graph::NoMemory;
+use config_graph::{List, NoMemory};
 use darwin_lexer::MAX_TEXT;
 use std::alloc::AllocError;
 
@@ -14,7 +14,7 @@ const FILE_LIMIT: u32 = MAX_TEXT as u32;
 /// What a fetch gave.
 #[derive(Debug, Drop)]
 pub enum Fetched {
-    Held(Vec<u8>),
+    Held(List<u8>),
     TooLong,
     Failed,
 }
@@ -25,7 +25,7 @@ pub fn fetch_file<H: Shelf>(shelf: &mut H, file: &str) -> Result<Fetched, NoMemo
     ensures kept { H.files shelf.new ≡ H.files shelf.old }
 {
     match shelf.fetch(file, FILE_LIMIT) {
-        Ok(text) => Ok(Fetched::Held(text)),
+        Ok(text) => Ok(Fetched::Held(List::of(text))),
         Err(ShelfError::Failed) => Ok(Fetched::Failed),
         Err(ShelfError::TooLong { .. }) => Ok(Fetched::TooLong),
         Err(ShelfError::NoMemory) => Err(AllocError),

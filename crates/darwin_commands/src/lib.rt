@@ -6,12 +6,13 @@ mod answering;
 mod commands;
 mod describing;
 mod description;
+mod error;
 mod fetching;
 mod lines;
 mod places;
 mod plans;
+mod rendering;
 mod replaying;
-mod script_lines;
 mod scripts;
 mod status;
 mod words;
@@ -19,6 +20,9 @@ mod words;
 pub use answer::no_memory;
 pub use commands::still;
 pub use status::Status;
+
+/// What is written where the words have none of the forms.
+const USAGE: &str = "usage\n";
 
 /// What `--help` writes: the commands with their forms.
 const HELP: &str =

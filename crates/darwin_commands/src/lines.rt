@@ -1,238 +1,16 @@
 //! The lines that refuse.
 
-ghost use Rattle.std.specs.Prelude.{◌≡◌, ◌++◌, ◌∷◌, [], IfOk, OnOk, codes, decimal};
+ghost use Rattle.std.specs.Prelude.{◌≡◌, ◌++◌, ◌∷◌, [], IfOk, codes};
 ghost use Rattle.darwin_commands.specs.Lines as lines;
 ghost use Rattle.darwin_commands.specs.DescriptionFaults.{fault_words};
 
-use crate::description::DescriptionFault;
-use change_plan::PlanError;
-use config_graph::{NoMemory, Text};
-use darwin_lexer::{At, LexError};
-use darwin_types::TypeError;
-use elaborator::ElabError;
+use crate::error::DescriptionFault;
+use crate::rendering::{push_fault, push_script_fault, push_word};
+use change_script::ScriptError;
+use config_graph::NoMemory;
+use event_replay::Denial;
 use itoa::Buffer;
 use std::alloc::Global;
-
-/// Writes a place, as LINE:COLUMN, after a space.
-fn push_place(line: &mut Vec<u8>, at: At) -> Result<(), NoMemory>
-    ensures { OnOk result (line.new.items ≡ line.old.items ++ lines.spaced (lines.place_word at ∷ [])) }
-{
-    let mut row = Buffer::new();
-    let mut column = Buffer::new();
-    line.extend_from_slice(b" ")?;
-    line.extend_from_slice(row.format(at.line).as_bytes())?;
-    line.extend_from_slice(b":")?;
-    line.extend_from_slice(column.format(at.column).as_bytes())
-}
-
-/// Writes a word after a space.
-pub fn push_word(line: &mut Vec<u8>, word: &[u8]) -> Result<(), NoMemory>
-    ensures { OnOk result (line.new.items ≡ line.old.items ++ lines.spaced (word.now ∷ [])) }
-{
-    line.extend_from_slice(b" ")?;
-    line.extend_from_slice(word)
-}
-
-/// Writes a path after a space, that of the top as a full stop.
-fn push_path(line: &mut Vec<u8>, path: &Text) -> Result<(), NoMemory>
-    ensures { OnOk result (line.new.items ≡ line.old.items ++ lines.spaced (lines.path_word path.now ∷ [])) }
-{
-    match path.as_bytes() {
-        [] => push_word(line, b"."),
-        bytes => push_word(line, bytes),
-    }
-}
-
-/// Writes the name of a fault and its place.
-pub fn push_placed(line: &mut Vec<u8>, name: &[u8], at: At) -> Result<(), NoMemory>
-    ensures { OnOk result (line.new.items ≡ line.old.items ++ lines.spaced (name.now ∷ lines.place_word at ∷ [])) }
-{
-    push_word(line, name)?;
-    push_place(line, at)
-}
-
-/// Writes the name of a fault, the path of an instance, and a place.
-fn push_placed_in(line: &mut Vec<u8>, name: &[u8], path: &Text, at: At) -> Result<(), NoMemory>
-    ensures { OnOk result (line.new.items ≡ line.old.items ++ lines.spaced (name.now ∷ lines.path_word path.now ∷ lines.place_word at ∷ [])) }
-{
-    push_word(line, name)?;
-    push_path(line, path)?;
-    push_place(line, at)
-}
-
-/// Writes a fault of the lexer.
-pub fn push_lex_fault(line: &mut Vec<u8>, fault: &LexError) -> Result<(), NoMemory>
-    ensures { OnOk result (line.new.items ≡ line.old.items ++ lines.spaced (lines.lex_words fault.now)) }
-{
-    match fault {
-        LexError::BadByte(at) => push_placed(line, b"BadByte", *at),
-        LexError::OpenComment(at) => push_placed(line, b"OpenComment", *at),
-        LexError::LongName(at) => push_placed(line, b"LongName", *at),
-        LexError::BigNumber(at) => push_placed(line, b"BigNumber", *at),
-        LexError::NoMemory => Ok(()),
-    }
-}
-
-/// Writes a number after a space.
-fn push_number(line: &mut Vec<u8>, number: u32) -> Result<(), NoMemory>
-    ensures { OnOk result (line.new.items ≡ line.old.items ++ lines.spaced (decimal number ∷ [])) }
-{
-    let mut digits = Buffer::new();
-    push_word(line, digits.format(number).as_bytes())
-}
-
-/// Writes the name of a fault and the path of an instance.
-fn push_pathed(line: &mut Vec<u8>, name: &[u8], path: &Text) -> Result<(), NoMemory>
-    ensures { OnOk result (line.new.items ≡ line.old.items ++ lines.spaced (name.now ∷ lines.path_word path.now ∷ [])) }
-{
-    push_word(line, name)?;
-    push_path(line, path)
-}
-
-/// Writes the name of a fault, the path of an instance, and an end of a binding in it.
-fn push_end_in(line: &mut Vec<u8>, name: &[u8], path: &Text, end: &Text) -> Result<(), NoMemory>
-    ensures { OnOk result (line.new.items ≡ line.old.items ++ lines.spaced (name.now ∷ lines.path_word path.now ∷ end.now ∷ [])) }
-{
-    push_word(line, name)?;
-    push_path(line, path)?;
-    push_word(line, end.as_bytes())
-}
-
-/// Writes the name of a fault and a name.
-fn push_named(line: &mut Vec<u8>, name: &[u8], what: &Text) -> Result<(), NoMemory>
-    ensures { OnOk result (line.new.items ≡ line.old.items ++ lines.spaced (name.now ∷ what.now ∷ [])) }
-{
-    push_word(line, name)?;
-    push_word(line, what.as_bytes())
-}
-
-/// Writes the name of a fault, that of a component, and a name in it.
-fn push_named_in(
-    line: &mut Vec<u8>,
-    name: &[u8],
-    component: &Text,
-    what: &Text,
-) -> Result<(), NoMemory>
-    ensures { OnOk result (line.new.items ≡ line.old.items ++ lines.spaced (name.now ∷ component.now ∷ what.now ∷ [])) }
-{
-    push_named(line, name, component)?;
-    push_word(line, what.as_bytes())
-}
-
-/// Writes two numbers, each after a space.
-fn push_numbers(line: &mut Vec<u8>, wanted: u32, given: u32) -> Result<(), NoMemory>
-    ensures { OnOk result (line.new.items ≡ line.old.items ++ lines.spaced (decimal wanted ∷ decimal given ∷ [])) }
-{
-    push_number(line, wanted)?;
-    push_number(line, given)
-}
-
-/// Writes a fault of the names of a description.
-pub fn push_check_fault(line: &mut Vec<u8>, fault: &TypeError) -> Result<(), NoMemory>
-    ensures { OnOk result (line.new.items ≡ line.old.items ++ lines.spaced (lines.check_words fault.now)) }
-{
-    match fault {
-        TypeError::TwoComponents(name) => push_named(line, b"TwoComponents", name),
-        TypeError::TwoNames(component, name) => push_named_in(line, b"TwoNames", component, name),
-        TypeError::UnknownName(component, name) => push_named_in(
-            line,
-            b"UnknownName",
-            component,
-            name,
-        ),
-        TypeError::UnknownComponent(component, name) => push_named_in(
-            line,
-            b"UnknownComponent",
-            component,
-            name,
-        ),
-        TypeError::ArgCount {
-            component,
-            name,
-            wanted,
-            given,
-        } => {
-            push_named_in(line, b"ArgCount", component, name)?;
-            push_numbers(line, *wanted, *given)
-        }
-        TypeError::UnknownKind(name) => push_named(line, b"UnknownKind", name),
-        TypeError::KindPorts(name) => push_named(line, b"KindPorts", name),
-        TypeError::NoMemory => Ok(()),
-    }
-}
-
-/// Writes a fault of the elaboration.
-pub fn push_elaborate_fault(line: &mut Vec<u8>, fault: &ElabError) -> Result<(), NoMemory>
-    ensures { OnOk result (line.new.items ≡ line.old.items ++ lines.spaced (lines.elaborate_words fault.now)) }
-{
-    match fault {
-        ElabError::NoTop(name) => push_named(line, b"NoTop", name),
-        ElabError::TopIsKind(name) => push_named(line, b"TopIsKind", name),
-        ElabError::TopArgs { wanted, given } => {
-            push_word(line, b"TopArgs")?;
-            push_number(line, *wanted)?;
-            push_number(line, *given)
-        }
-        ElabError::OutOfRange(path, at) => push_placed_in(line, b"OutOfRange", path, *at),
-        ElabError::ZeroDivisor(path, at) => push_placed_in(line, b"ZeroDivisor", path, *at),
-        ElabError::BadIndex(path, at) => push_placed_in(line, b"BadIndex", path, *at),
-        ElabError::TwoInstances(path) => push_pathed(line, b"TwoInstances", path),
-        ElabError::BoundTwice(path, end) => push_end_in(line, b"BoundTwice", path, end),
-        ElabError::BadBinding(path, at) => push_placed_in(line, b"BadBinding", path, *at),
-        ElabError::Annotation(path, at) => push_placed_in(line, b"Annotation", path, *at),
-        ElabError::TooDeep(path) => push_pathed(line, b"TooDeep", path),
-        ElabError::TooMany => push_word(line, b"TooMany"),
-        ElabError::DependsCycle(path) => push_pathed(line, b"DependsCycle", path),
-        ElabError::NoMemory => Ok(()),
-    }
-}
-
-/// Writes two paths, each after a space.
-fn push_paths(line: &mut Vec<u8>, from: &Text, to: &Text) -> Result<(), NoMemory>
-    ensures { OnOk result (line.new.items ≡ line.old.items ++ lines.spaced (lines.path_word from.now ∷ lines.path_word to.now ∷ [])) }
-{
-    push_path(line, from)?;
-    push_path(line, to)
-}
-
-/// Writes why there is no plan.
-pub fn push_plan_fault(line: &mut Vec<u8>, fault: &PlanError) -> Result<(), NoMemory>
-    ensures { OnOk result (line.new.items ≡ line.old.items ++ lines.spaced (lines.plan_words fault.now)) }
-{
-    match fault {
-        PlanError::NotRemoved(path) => push_pathed(line, b"NotRemoved", path),
-        PlanError::NotCreated(path) => push_pathed(line, b"NotCreated", path),
-        PlanError::KindsDiffer(from, to) => {
-            push_word(line, b"KindsDiffer")?;
-            push_paths(line, from, to)
-        }
-        PlanError::MovedTwice(path) => push_pathed(line, b"MovedTwice", path),
-        PlanError::NodesFull { made, wanted } => {
-            push_word(line, b"NodesFull")?;
-            push_numbers(line, *made, *wanted)
-        }
-        PlanError::PortsFull { made, wanted } => {
-            push_word(line, b"PortsFull")?;
-            push_numbers(line, *made, *wanted)
-        }
-        PlanError::NoMemory => Ok(()),
-    }
-}
-
-/// Writes what names a fault of a description, each word after a space.
-fn push_fault(line: &mut Vec<u8>, fault: &DescriptionFault) -> Result<(), NoMemory>
-    ensures { OnOk result (line.new.items ≡ line.old.items ++ lines.spaced (fault_words fault.now)) }
-{
-    match fault {
-        DescriptionFault::NoMemory => Ok(()),
-        DescriptionFault::Lex(fault) => push_lex_fault(line, fault),
-        DescriptionFault::Expected(at) => push_placed(line, b"Expected", *at),
-        DescriptionFault::TooNested(at) => push_placed(line, b"TooNested", *at),
-        DescriptionFault::Check(fault) => push_check_fault(line, fault),
-        DescriptionFault::Elaborate(fault) => push_elaborate_fault(line, fault),
-        DescriptionFault::Plan(fault) => push_plan_fault(line, fault),
-    }
-}
 
 /// The line of a description with a fault.
 pub fn description_line(
@@ -242,7 +20,7 @@ pub fn description_line(
 ) -> Result<Vec<u8>, NoMemory>
     ensures { IfOk result (λ line. line.items ≡ lines.description_line file.now (fault_words fault.now)) }
 {
-    let mut line = begun(alloc, file)?;
+    let mut line = begun(alloc, b"description ", file)?;
     push_fault(&mut line, fault)?;
     line.extend_from_slice(b"\n")?;
     Ok(line)
@@ -252,7 +30,7 @@ pub fn description_line(
 pub fn too_long_line(alloc: Global, file: &str) -> Result<Vec<u8>, NoMemory>
     ensures { IfOk result (λ line. line.items ≡ lines.description_line file.now (codes "TooLong" ∷ [])) }
 {
-    let mut line = begun(alloc, file)?;
+    let mut line = begun(alloc, b"description ", file)?;
     push_word(&mut line, b"TooLong")?;
     line.extend_from_slice(b"\n")?;
     Ok(line)
@@ -268,11 +46,44 @@ pub fn read_fault_line(alloc: Global, file: &str) -> Result<Vec<u8>, NoMemory>
     Ok(line)
 }
 
-/// A line that names a description.
-fn begun(alloc: Global, file: &str) -> Result<Vec<u8>, NoMemory>
-    ensures { IfOk result (λ line. line.items ≡ codes "description " ++ file.now ++ codes ":") }
+/// The line of a file of events with a fault.
+pub fn script_line(alloc: Global, name: &str, fault: &ScriptError) -> Result<Vec<u8>, NoMemory>
+    ensures { IfOk result (λ line. line.items ≡ lines.script_line name.now (lines.script_words fault.now)) }
 {
-    let mut line = Vec::from_slice(alloc, b"description ")?;
+    let mut line = begun(alloc, b"script ", name)?;
+    push_script_fault(&mut line, fault)?;
+    line.extend_from_slice(b"\n")?;
+    Ok(line)
+}
+
+/// The line of a file of events that is too long.
+pub fn script_too_long_line(alloc: Global, name: &str) -> Result<Vec<u8>, NoMemory>
+    ensures { IfOk result (λ line. line.items ≡ lines.script_line name.now (codes "TooLong" ∷ [])) }
+{
+    let mut line = begun(alloc, b"script ", name)?;
+    push_word(&mut line, b"TooLong")?;
+    line.extend_from_slice(b"\n")?;
+    Ok(line)
+}
+
+/// The line of an event that is denied.
+pub fn denied_line(alloc: Global, denial: Denial) -> Result<Vec<u8>, NoMemory>
+    ensures { IfOk result (λ line. line.items ≡ lines.denied_line denial.number denial.rule) }
+{
+    let mut number = Buffer::new();
+    let mut rule = Buffer::new();
+    let mut line = Vec::from_slice(alloc, b"denied")?;
+    push_word(&mut line, number.format(denial.number).as_bytes())?;
+    push_word(&mut line, rule.format(denial.rule).as_bytes())?;
+    line.extend_from_slice(b"\n")?;
+    Ok(line)
+}
+
+/// A line that says what is refused, and names its file.
+fn begun(alloc: Global, what: &[u8], file: &str) -> Result<Vec<u8>, NoMemory>
+    ensures { IfOk result (λ line. line.items ≡ what.now ++ file.now ++ codes ":") }
+{
+    let mut line = Vec::from_slice(alloc, what)?;
     line.extend_from_slice(file.as_bytes())?;
     line.extend_from_slice(b":")?;
     Ok(line)

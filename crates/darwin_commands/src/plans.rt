@@ -1,58 +1,59 @@
 //! Plans between components of a description.
 
-ghost use Rattle.std.specs.Prelude.{◌≡◌, ℕ, List, [], IfOk, IfErr, OnOk};
+ghost use Rattle.std.specs.Prelude.{ℕ, List, IfOk, IfErr};
 ghost use Rattle.config_graph.specs.Sound.{Sound};
 ghost use Rattle.darwin_types.specs.Checked.{description};
-ghost use Rattle.change_plan.specs.Refusals.{CanPlan};
+ghost use Rattle.change_plan.specs.Room.{HasRoomFor};
 ghost use Rattle.darwin_commands.specs.Descriptions.{IsChecked};
-ghost use Rattle.darwin_commands.specs.Plans.{Starts, RefusesStart, HasPlan, HasSteps, RefusesPlan, nothing, nothing_made, made_of};
+ghost use Rattle.darwin_commands.specs.Plans.{Starts, RefusesStart, HasPlan, HasSteps, RefusesPlan, nothing_made, made_of};
 ghost use Rattle.darwin_commands.specs.Planning.{IsFull};
 ghost use Rattle.darwin_commands.specs.DescriptionFaults.{MayRefuse};
 
-use crate::description::{DescriptionFault, graph_of};
-use crate::words::Call;
-use change_plan::{plan, plan_text};
+use crate::description::{graph_of, graph_of_call};
+use crate::error::DescriptionFault;
+use crate::words::TopCall;
+use change_plan::{plan, plan_text, require_room};
 use config_graph::{Graph, Made};
 use darwin_types::Checked;
 use std::alloc::Global;
 
-/// Nothing was made.
+/// What was made before a start.
 const NOTHING_MADE: Made = Made { nodes: 0, ports: 0 };
 
 /// The text of the plan from the graph of one component to that of another.
 pub fn plan_between(
     alloc: Global,
     checked: &Checked,
-    call: &Call<'_>,
-    target: &Call<'_>,
+    call: &TopCall<'_>,
+    target: &TopCall<'_>,
 ) -> Result<Vec<u8>, DescriptionFault>
     ensures plan { (text : List ℕ) → IsChecked text (description checked.now)
-        → IfOk result (λ written. HasPlan text call.now.top.now call.now.args.items target.now.top.now target.now.args.items written.items) }
+        → IfOk result (λ written. HasPlan text call.now target.now written.items) }
     ensures refused { (text : List ℕ) → IsChecked text (description checked.now)
-        → IfErr result (MayRefuse (RefusesPlan text call.now.top.now call.now.args.items target.now.top.now target.now.args.items)) }
+        → IfErr result (MayRefuse (RefusesPlan text call.now target.now)) }
 {
-    match start_call(alloc, checked, call) {
-        Ok(old) => match graph_of(
-            alloc,
-            checked,
-            target.top.as_bytes(),
-            target.args.as_slice(),
-        ) {
-            Ok(new) => steps_between(alloc, &old, &new),
-            Err(fault) => Err(fault),
-        },
-        Err(fault) => Err(fault),
-    }
+    let old = start_call(alloc, checked, call)?;
+    let new = graph_of_call(alloc, checked, target)?;
+    steps_between(alloc, &old, &new)
 }
 
 /// The graph with which a run can start with a call's component.
-fn start_call(alloc: Global, checked: &Checked, call: &Call<'_>) -> Result<Graph, DescriptionFault>
+fn start_call(
+    alloc: Global,
+    checked: &Checked,
+    call: &TopCall<'_>,
+) -> Result<Graph, DescriptionFault>
     ensures starts { (text : List ℕ) → IsChecked text (description checked.now)
-        → IfOk result (Starts text call.now.top.now call.now.args.items) }
+        → IfOk result (Starts text call.now.top call.now.args) }
     ensures refused { (text : List ℕ) → IsChecked text (description checked.now)
-        → IfErr result (MayRefuse (RefusesStart text call.now.top.now call.now.args.items)) }
+        → IfErr result (MayRefuse (RefusesStart text call.now.top call.now.args)) }
 {
-    start(alloc, checked, call.top.as_bytes(), call.args.as_slice())
+    start(
+        alloc,
+        checked,
+        call.top.as_str().as_bytes(),
+        call.args.items(),
+    )
 }
 
 /// The graph of a component with which a run can start.
@@ -65,29 +66,11 @@ pub fn start(
     ensures starts { (text : List ℕ) → IsChecked text (description checked.now) → IfOk result (Starts text top.now args.now) }
     ensures refused { (text : List ℕ) → IsChecked text (description checked.now) → IfErr result (MayRefuse (RefusesStart text top.now args.now)) }
     ensures sound { IfOk result (λ graph. Sound graph) }
-    ensures room { IfOk result (λ graph. CanPlan nothing graph [] nothing_made) }
+    ensures room { IfOk result (λ graph. HasRoomFor nothing_made graph) }
 {
-    match graph_of(alloc, checked, top, args) {
-        Ok(graph) => match require_room(alloc, &graph) {
-            Ok(()) => Ok(graph),
-            Err(fault) => Err(fault),
-        },
-        Err(fault) => Err(fault),
-    }
-}
-
-/// Tests whether a run can start with the graph.
-fn require_room(alloc: Global, graph: &Graph) -> Result<(), DescriptionFault>
-    ensures room { OnOk result (CanPlan nothing graph.now [] nothing_made) }
-    ensures full { IfErr result (MayRefuse (IsFull nothing graph.now nothing_made)) }
-{
-    match Graph::build(alloc, Vec::new(alloc), Vec::new(alloc)) {
-        Ok(empty) => match plan(alloc, &empty, graph, &[], NOTHING_MADE) {
-            Ok(_steps) => Ok(()),
-            Err(fault) => Err(DescriptionFault::Plan(fault)),
-        },
-        Err(_) => Err(DescriptionFault::NoMemory),
-    }
+    let graph = graph_of(alloc, checked, top, args)?;
+    require_room(&graph, NOTHING_MADE)?;
+    Ok(graph)
 }
 
 /// The text of the plan from one graph to another, where a run has started with the first.
@@ -99,11 +82,6 @@ fn steps_between(alloc: Global, old: &Graph, new: &Graph) -> Result<Vec<u8>, Des
         nodes: old.node_count(),
         ports: old.port_count(),
     };
-    match plan(alloc, old, new, &[], made) {
-        Ok(steps) => match plan_text(alloc, old, new, &steps) {
-            Ok(text) => Ok(text),
-            Err(_) => Err(DescriptionFault::NoMemory),
-        },
-        Err(fault) => Err(DescriptionFault::Plan(fault)),
-    }
+    let steps = plan(alloc, old, new, &[], made)?;
+    Ok(plan_text(alloc, old, new, &steps)?)
 }

@@ -1,9 +1,9 @@
 //! Events over a component of a description.
 
 ghost use Rattle.std.specs.Prelude.{◌≤◌, ℕ, List, length, IfOk, IfErr};
+ghost use Rattle.config_graph.specs.declared.TheConstants.{MAX_NODES, MAX_PORTS};
 ghost use Rattle.config_graph.specs.Graph.{ports};
 ghost use Rattle.config_graph.specs.Sound.{Sound};
-ghost use Rattle.config_graph.specs.declared.TheConstants.{MAX_NODES, MAX_PORTS};
 ghost use Rattle.darwin_types.specs.Checked.{description};
 ghost use Rattle.quiesce_core.specs.Start.{started};
 ghost use Rattle.darwin_commands.specs.Descriptions.{IsChecked};
@@ -12,9 +12,9 @@ ghost use Rattle.darwin_commands.specs.Replays.{HasReplay, Replays};
 ghost use Rattle.darwin_commands.specs.DescriptionFaults.{MayRefuse};
 
 use crate::answer::Answer;
-use crate::description::DescriptionFault;
+use crate::error::DescriptionFault;
+use crate::lines::denied_line;
 use crate::plans::start;
-use crate::script_lines::denied_line;
 use crate::status::Status;
 use change_script::EventFile;
 use config_graph::{Graph, NoMemory};
@@ -34,13 +34,8 @@ pub fn replay_over(
     ensures refused { (text : List ℕ) → IsChecked text (description checked.now)
         → IfErr result (MayRefuse (RefusesStart text script.now.name script.now.args)) }
 {
-    match start(alloc, checked, script.name.as_bytes(), script.args.items()) {
-        Ok(graph) => match replay_events(alloc, &graph, script.events.items()) {
-            Ok(answer) => Ok(answer),
-            Err(_) => Err(DescriptionFault::NoMemory),
-        },
-        Err(fault) => Err(fault),
-    }
+    let graph = start(alloc, checked, script.name.as_bytes(), script.args.items())?;
+    Ok(replay_events(alloc, &graph, script.events.items())?)
 }
 
 /// What events come to in a system that was started with the graph.

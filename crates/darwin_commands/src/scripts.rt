@@ -2,14 +2,13 @@
 
 ghost use Rattle.std.specs.Prelude.{◌≡◌, ◌≢◌, ◌≤◌, ◌↔◌, ℕ, List, length, IfOk, IsTrue};
 ghost use Rattle.change_script.specs.EventFiles.{IsFirstFault};
-ghost use Rattle.darwin_commands.specs.Answers.{KeepsLimit, file_limit, held};
-ghost use Rattle.darwin_commands.specs.Fetching.{given_of};
+ghost use Rattle.darwin_commands.specs.Answers.{FitsFileLimit, file_limit};
+ghost use Rattle.darwin_commands.specs.declared.fetching.Fetched.TheVariants.{Held};
 ghost use Rattle.darwin_commands.specs.Running.{Reads};
 
 use crate::answer::Answer;
 use crate::fetching::Fetched;
-use crate::lines::read_fault_line;
-use crate::script_lines::{script_line, script_too_long_line};
+use crate::lines::{read_fault_line, script_line, script_too_long_line};
 use crate::status::Status;
 use change_script::{EventFile, ScriptError, parse_events};
 use config_graph::NoMemory;
@@ -25,11 +24,11 @@ pub enum Read {
 
 /// What a file of events says, or the line that refuses it.
 pub fn read_script(alloc: Global, name: &str, fetched: Fetched) -> Result<Read, NoMemory>
-    requires { KeepsLimit file_limit (given_of fetched) }
-    ensures { IfOk result (Reads name.now (given_of fetched)) }
+    requires { FitsFileLimit file_limit fetched }
+    ensures { IfOk result (Reads name.now fetched) }
 {
     match fetched {
-        Fetched::Held(bytes) => read_bytes(alloc, name, bytes.as_slice()),
+        Fetched::Held(bytes) => read_bytes(alloc, name, bytes.items()),
         Fetched::TooLong => Ok(Read::Refused(Answer {
             status: Status::Script,
             text: script_too_long_line(alloc, name)?,
@@ -44,7 +43,7 @@ pub fn read_script(alloc: Global, name: &str, fetched: Fetched) -> Result<Read, 
 /// The same for its bytes.
 fn read_bytes(alloc: Global, name: &str, bytes: &[u8]) -> Result<Read, NoMemory>
     requires { length bytes.now ≤ file_limit }
-    ensures { IfOk result (Reads name.now (held bytes.now)) }
+    ensures { IfOk result (Reads name.now (Held bytes.now)) }
 {
     match parse_events(alloc, bytes) {
         Ok(script) => Ok(Read::Events(script)),
@@ -54,7 +53,7 @@ fn read_bytes(alloc: Global, name: &str, bytes: &[u8]) -> Result<Read, NoMemory>
 
 /// The line that refuses a file of events.
 fn refuse_script(alloc: Global, name: &str, fault: &ScriptError) -> Result<Read, NoMemory>
-    ensures { (bytes : List ℕ) → (fault.now ≢ ScriptError.NoMemory → IsFirstFault bytes fault.now) → IfOk result (Reads name.now (held bytes)) }
+    ensures { (bytes : List ℕ) → (fault.now ≢ ScriptError.NoMemory → IsFirstFault bytes fault.now) → IfOk result (Reads name.now (Held bytes)) }
 {
     if is_no_memory(fault) {
         return Err(AllocError);

@@ -1,47 +1,78 @@
 //! The words of a command line.
 
-ghost use Rattle.std.specs.Prelude.{◌≡◌, ◌≢◌, ◌∷◌, [], ◌<◌, ℕ, ℤ, List, length, codes, map, string_bytes, IfOk, IfSome, IfNone};
+ghost use Rattle.std.specs.Prelude.{◌≡◌, ◌≢◌, ◌∷◌, [], ◌<◌, length, codes, map, string_bytes, IfOk, IfSome, IfNone};
 ghost use Rattle.std.specs.List.{AllByRecursion, prefix_len};
 ghost use Rattle.std.specs.Option.{SomeIff};
-ghost use Rattle.darwin_commands.specs.CommandLine.{IsInteger, integer_of, IsCall, Asks, Command};
-ghost use Rattle.darwin_commands.specs.Requests.{command_of, is_part};
+ghost use Rattle.darwin_commands.specs.CommandLine.{IsInteger, integer_of, IsCall, Asks, is_part};
+ghost use Rattle.darwin_commands.specs.declared.words.Command.{Command};
+ghost use Rattle.darwin_commands.specs.declared.words.TopCall.{TopCall};
 
-use config_graph::NoMemory;
+use config_graph::{List, NoMemory};
 use darwin_lexer::is_name;
 use std::alloc::Global;
+use std::marker::Model;
+
+/// A word of the command line, which contracts see as its bytes.
+#[derive(Debug, Drop)]
+pub struct Word<'a> {
+    text: &'a str,
+}
+
+impl<'a> Model for Word<'a> {
+    ghost use Rattle.std.specs.Prelude.{List, ℕ};
+
+    ghost Value = { List ℕ };
+
+    ghost view = { λ word. word.text.now };
+}
+
+impl<'a> Word<'a> {
+    fn of(text: &'a str) -> Word<'a>
+        ensures { result ≡ text.now }
+    {
+        Word { text }
+    }
+
+    pub fn as_str(&self) -> &str
+        ensures { result.now ≡ self.now }
+    {
+        self.text
+    }
+}
 
 /// A component, and its arguments.
 #[derive(Debug, Drop)]
-pub struct Call<'a> {
-    pub top: &'a str,
-    pub args: Vec<i32>,
+pub struct TopCall<'a> {
+    pub top: Word<'a>,
+    pub args: List<i32>,
 }
 
-/// What the words ask for.
+/// What words may ask for.
 #[derive(Debug, Drop)]
-pub enum Request<'a> {
+pub enum Command<'a> {
     Help,
     Version,
+    /// The graph of a component of a file.
     Flat {
-        file: &'a str,
-        call: Call<'a>,
+        file: Word<'a>,
+        call: TopCall<'a>,
     },
     /// The plan from the first component to the second.
     Plan {
-        file: &'a str,
-        call: Call<'a>,
-        target: Call<'a>,
+        file: Word<'a>,
+        call: TopCall<'a>,
+        target: TopCall<'a>,
     },
     /// The events of a file, over a component of a description.
     Replay {
-        file: &'a str,
-        events: &'a str,
+        file: Word<'a>,
+        events: Word<'a>,
     },
 }
 
 /// What the words ask for, where they have one of the forms.
-pub fn read_words(alloc: Global, words: &[String]) -> Result<Option<Request<'_>>, NoMemory>
-    ensures found { IfOk result (λ found. IfSome found (λ request. Asks (map string_bytes words.now) (command_of request))) }
+pub fn read_words(alloc: Global, words: &[String]) -> Result<Option<Command<'_>>, NoMemory>
+    ensures found { IfOk result (λ found. IfSome found (λ command. Asks (map string_bytes words.now) command)) }
     ensures none { IfOk result (λ found. IfNone found ((command : Command) → Asks (map string_bytes words.now) command → ⊥)) }
 {
     match words {
@@ -56,9 +87,9 @@ fn read_command<'a>(
     alloc: Global,
     first: &str,
     words: &'a [String],
-) -> Result<Option<Request<'a>>, NoMemory>
+) -> Result<Option<Command<'a>>, NoMemory>
     requires { 0 < length words.now }
-    ensures found { IfOk result (λ found. IfSome found (λ request. Asks (first.now ∷ map string_bytes words.now) (command_of request))) }
+    ensures found { IfOk result (λ found. IfSome found (λ command. Asks (first.now ∷ map string_bytes words.now) command)) }
     ensures none { IfOk result (λ found. IfNone found ((command : Command) → Asks (first.now ∷ map string_bytes words.now) command → ⊥)) }
 {
     let file = words[0].as_str();
@@ -74,14 +105,14 @@ fn read_command<'a>(
 }
 
 /// What a word asks for by itself.
-fn read_lone(word: &str) -> Option<Request<'_>>
-    ensures found { IfSome result (λ request. Asks (word.now ∷ []) (command_of request)) }
+fn read_lone(word: &str) -> Option<Command<'_>>
+    ensures found { IfSome result (λ command. Asks (word.now ∷ []) command) }
     ensures none { IfNone result ((command : Command) → Asks (word.now ∷ []) command → ⊥) }
 {
     if word == "--help" {
-        Some(Request::Help)
+        Some(Command::Help)
     } else if word == "--version" {
-        Some(Request::Version)
+        Some(Command::Version)
     } else {
         None
     }
@@ -92,13 +123,16 @@ fn read_flat<'a>(
     alloc: Global,
     file: &'a str,
     words: &'a [String],
-) -> Result<Option<Request<'a>>, NoMemory>
+) -> Result<Option<Command<'a>>, NoMemory>
     requires { file.now ≢ [] }
-    ensures found { IfOk result (λ found. IfSome found (λ request. Asks (codes "flat" ∷ file.now ∷ map string_bytes words.now) (command_of request))) }
+    ensures found { IfOk result (λ found. IfSome found (λ command. Asks (codes "flat" ∷ file.now ∷ map string_bytes words.now) command)) }
     ensures none { IfOk result (λ found. IfNone found ((command : Command) → Asks (codes "flat" ∷ file.now ∷ map string_bytes words.now) command → ⊥)) }
 {
     match read_call(alloc, words)? {
-        Some(call) => Ok(Some(Request::Flat { file, call })),
+        Some(call) => Ok(Some(Command::Flat {
+            file: Word::of(file),
+            call,
+        })),
         None => Ok(None),
     }
 }
@@ -108,9 +142,9 @@ fn read_plan<'a>(
     alloc: Global,
     file: &'a str,
     words: &'a [String],
-) -> Result<Option<Request<'a>>, NoMemory>
+) -> Result<Option<Command<'a>>, NoMemory>
     requires { file.now ≢ [] }
-    ensures found { IfOk result (λ found. IfSome found (λ request. Asks (codes "plan" ∷ file.now ∷ map string_bytes words.now) (command_of request))) }
+    ensures found { IfOk result (λ found. IfSome found (λ command. Asks (codes "plan" ∷ file.now ∷ map string_bytes words.now) command)) }
     ensures none { IfOk result (λ found. IfNone found ((command : Command) → Asks (codes "plan" ∷ file.now ∷ map string_bytes words.now) command → ⊥)) }
 {
     let at = parting(words);
@@ -123,13 +157,17 @@ fn read_plan<'a>(
     let Some(target) = read_call(alloc, &words[at + 1..])? else {
         return Ok(None);
     };
-    Ok(Some(Request::Plan { file, call, target }))
+    Ok(Some(Command::Plan {
+        file: Word::of(file),
+        call,
+        target,
+    }))
 }
 
 /// What the word `replay` asks for with a file and these words behind it.
-fn read_replay<'a>(file: &'a str, words: &'a [String]) -> Option<Request<'a>>
+fn read_replay<'a>(file: &'a str, words: &'a [String]) -> Option<Command<'a>>
     requires { file.now ≢ [] }
-    ensures found { IfSome result (λ request. Asks (codes "replay" ∷ file.now ∷ map string_bytes words.now) (command_of request)) }
+    ensures found { IfSome result (λ command. Asks (codes "replay" ∷ file.now ∷ map string_bytes words.now) command) }
     ensures none { IfNone result ((command : Command) → Asks (codes "replay" ∷ file.now ∷ map string_bytes words.now) command → ⊥) }
 {
     match words {
@@ -140,15 +178,18 @@ fn read_replay<'a>(file: &'a str, words: &'a [String]) -> Option<Request<'a>>
 }
 
 /// What the word `replay` asks for with a file and a word behind it.
-fn read_events_name<'a>(file: &'a str, events: &'a str) -> Option<Request<'a>>
+fn read_events_name<'a>(file: &'a str, events: &'a str) -> Option<Command<'a>>
     requires { file.now ≢ [] }
-    ensures found { IfSome result (λ request. Asks (codes "replay" ∷ file.now ∷ events.now ∷ []) (command_of request)) }
+    ensures found { IfSome result (λ command. Asks (codes "replay" ∷ file.now ∷ events.now ∷ []) command) }
     ensures none { IfNone result ((command : Command) → Asks (codes "replay" ∷ file.now ∷ events.now ∷ []) command → ⊥) }
 {
     if events.is_empty() {
         return None;
     }
-    Some(Request::Replay { file, events })
+    Some(Command::Replay {
+        file: Word::of(file),
+        events: Word::of(events),
+    })
 }
 
 /// How many words stand before the first `--`, or how many there are where none is.
@@ -162,9 +203,9 @@ fn parting(words: &[String]) -> usize
 }
 
 /// The component and the arguments that these words are.
-fn read_call(alloc: Global, words: &[String]) -> Result<Option<Call<'_>>, NoMemory>
-    ensures found { IfOk result (λ found. IfSome found (λ call. IsCall (map string_bytes words.now) call.top.now call.args.items)) }
-    ensures none { IfOk result (λ found. IfNone found ((top : List ℕ) (args : List ℤ) → IsCall (map string_bytes words.now) top args → ⊥)) }
+fn read_call(alloc: Global, words: &[String]) -> Result<Option<TopCall<'_>>, NoMemory>
+    ensures found { IfOk result (λ found. IfSome found (λ call. IsCall (map string_bytes words.now) call)) }
+    ensures none { IfOk result (λ found. IfNone found ((call : TopCall) → IsCall (map string_bytes words.now) call → ⊥)) }
 {
     if words.is_empty() {
         return Ok(None);
@@ -173,8 +214,13 @@ fn read_call(alloc: Global, words: &[String]) -> Result<Option<Call<'_>>, NoMemo
     if !is_name(top.as_bytes()) {
         return Ok(None);
     }
-    let args = integers(alloc, &words[1..])?;
-    Ok(args.map(|args| Call { top, args }))
+    let Some(args) = integers(alloc, &words[1..])? else {
+        return Ok(None);
+    };
+    Ok(Some(TopCall {
+        top: Word::of(top),
+        args: List::of(args),
+    }))
 }
 
 /// The values of words that are all integers.

@@ -1,19 +1,27 @@
 //! A description that was checked.
 
+ghost use Rattle.std.specs.Prelude.{◌≡◌, map};
 ghost use Rattle.darwin_parser.specs.Tree.{tree_of};
 ghost use Rattle.darwin_types.specs.Faults.{NoFault};
+ghost use Rattle.darwin_types.specs.Check.{names_of_components};
+ghost use Rattle.darwin_types.specs.Scope.{is_primitive};
 
+use crate::component_names::ComponentNames;
 use darwin_parser::Unit;
 
-/// A description without a fault.
+/// A description without a fault, with its components by name, of which it is noted whether they are primitive.
 #[derive(Debug, Drop)]
 pub struct Checked {
     pub(crate) unit: Unit,
+    pub(crate) names: ComponentNames,
+    pub(crate) primitive: Vec<bool>,
     ghost no_fault: { NoFault (tree_of unit) },
+    ghost named: { names ≡ names_of_components unit.components.items },
+    ghost noted: { primitive.items ≡ map is_primitive (tree_of unit) },
 }
 
 impl Checked {
-    ghost use Rattle.std.specs.Prelude.{◌≡◌};
+    ghost use Rattle.std.specs.Prelude.{◌<◌, length, position, bytes_eq, slice_get, option_map, IfSome, Some};
     ghost use Rattle.darwin_types.specs.Checked.{description};
 
     /// The syntax tree, in which no fault stands.
@@ -22,5 +30,21 @@ impl Checked {
         ensures no_fault { NoFault (description self.now) }
     {
         &self.unit
+    }
+
+    /// The place of the first component with the name.
+    pub fn component(&self, name: &[u8]) -> Option<usize>
+        ensures place { result ≡ position (λ c. bytes_eq name.now c.name) (description self.now) }
+        ensures within { IfSome result (λ place. place < length (description self.now)) }
+    {
+        self.names.position(name)
+    }
+
+    /// Whether the component at this place is primitive.
+    pub fn is_primitive(&self, place: usize) -> bool
+        requires { place < length (description self.now) }
+        ensures { option_map is_primitive (slice_get (description self.now) place) ≡ Some result }
+    {
+        self.primitive[place]
     }
 }

@@ -1,16 +1,19 @@
 //! The check of a description.
 
-ghost use Rattle.std.specs.Prelude.{◌≡◌, ◌⊎◌, IfOk, IfErr};
+ghost use Rattle.std.specs.Prelude.{◌≡◌, ◌⊎◌, IfOk, IfErr, map};
+ghost use Rattle.std.specs.List.{flat_map};
 ghost use Rattle.base.specs.Answers.{Refuses};
 ghost use Rattle.darwin_parser.specs.Tree.{Tree, component_of, tree_of};
 ghost use Rattle.darwin_types.specs.declared.error.TypeError.{TypeError};
 ghost use Rattle.darwin_types.specs.declared.error.TypeError.TheVariants.{NoMemory};
 ghost use Rattle.darwin_types.specs.Faults.{Fault, NoFault};
 ghost use Rattle.darwin_types.specs.Checked.{description, Takes};
-ghost use Rattle.darwin_types.specs.Check.{Judges, components_of, unit_faults, component_faults, param_faults, array_name_faults, names_of_arrays, names_in_component};
+ghost use Rattle.darwin_types.specs.Check.{Judges, components_of, unit_faults, component_faults, param_faults, array_name_faults, names_of_arrays, names_of_components, names_in_component};
+ghost use Rattle.darwin_types.specs.Scope.{is_primitive};
 
 use crate::TypeError;
 use crate::checked::Checked;
+use crate::component_names::ComponentNames;
 use crate::declared::Declared;
 use crate::directory::Directory;
 use crate::entries::add_entries;
@@ -33,8 +36,13 @@ pub fn check(alloc: Global, unit: Unit) -> Result<Checked, TypeError>
     // A fault that is named stands.
     ensures fault { IfErr result (Refuses NoMemory (Fault (tree_of unit))) }
 {
-    check_components(alloc, unit.components.as_slice())?;
-    Ok(Checked { unit })
+    let index = check_components(alloc, unit.components.as_slice())?;
+    let ComponentIndex { names, primitive } = index;
+    Ok(Checked {
+        unit,
+        names,
+        primitive,
+    })
 }
 
 /// A fault stands in a description, or none does.
@@ -42,32 +50,52 @@ pub fn a_fault_or_none()
     ensures { (t : Tree) → NoFault t ⊎ ((e : TypeError) × Fault t e) }
 {}
 
-fn check_components(alloc: Global, components: &[Component]) -> Result<(), TypeError>
-    ensures { Judges (unit_faults (components_of components.now)) result }
-{
-    let directory = Directory::of(alloc, components)?;
-    for index in 0..components.len() {
-        check_component(
-            alloc,
-            &directory,
-            &components[index],
-            &directory.ports[index],
-        )?;
-    }
-    Ok(())
+/// The names of the components of a description, and which of them are primitive.
+#[derive(Drop)]
+struct ComponentIndex {
+    names: ComponentNames,
+    primitive: Vec<bool>,
 }
 
-/// A component, whose ports are indexed.
+fn check_components(alloc: Global, components: &[Component]) -> Result<ComponentIndex, TypeError>
+    ensures judged { Judges (unit_faults (components_of components.now)) result }
+    ensures names { IfOk result (λ index. index.names ≡ names_of_components components.now) }
+    ensures primitive { IfOk result (λ index. index.primitive.items ≡ map is_primitive (components_of components.now)) }
+{
+    let directory = Directory::of(alloc, components)?;
+    let primitive = check_each(alloc, &directory)?;
+    let Directory { names, .. } = directory;
+    Ok(ComponentIndex { names, primitive })
+}
+
+/// Checks the components one by one, and says of each whether it is primitive.
+fn check_each(alloc: Global, directory: &Directory) -> Result<Vec<bool>, TypeError>
+    ensures judged { Judges
+        (flat_map (component_faults (components_of directory.now.components.now)) (components_of directory.now.components.now))
+        result }
+    ensures primitive { IfOk result (λ noted. noted.items ≡ map is_primitive (components_of directory.now.components.now)) }
+{
+    let mut primitive = Vec::new(alloc);
+    for index in 0..directory.components.len() {
+        let component = &directory.components[index];
+        let noted = check_component(alloc, directory, component, &directory.ports[index])?;
+        primitive.push(noted)?;
+    }
+    Ok(primitive)
+}
+
+/// A component, whose ports are indexed. It is said whether it is primitive.
 fn check_component<'d, 'a>(
     alloc: Global,
     directory: &'d Directory<'a>,
     component: &'a Component,
     ports: &'d Names<'a>,
-) -> Result<(), TypeError>
+) -> Result<bool, TypeError>
     requires { ports.now ≡ names_in_component component.now }
-    ensures { Judges
+    ensures judged { Judges
         (component_faults (components_of directory.now.components.now) (component_of component.now))
         result }
+    ensures primitive { IfOk result (λ primitive. primitive ≡ is_primitive (component_of component.now)) }
 {
     let mut scope = params_of(alloc, component)?;
     let arrays = arrays_of(alloc, component)?;
@@ -81,7 +109,9 @@ fn check_component<'d, 'a>(
         arrays,
         instances,
     };
-    declared.check(&mut scope, entries.is_empty())
+    let is_primitive = entries.is_empty();
+    declared.check(&mut scope, is_primitive)?;
+    Ok(is_primitive)
 }
 
 /// The parameters of a component by name.

@@ -6,6 +6,7 @@ ghost use Rattle.darwin_types.specs.Check.{Judges, components_of, directory_faul
 ghost use Rattle.darwin_parser.specs.Tree.{component_of};
 
 use crate::TypeError;
+use crate::component_names::{ComponentNames, component_names};
 use crate::names::{Names, distinct};
 use darwin_parser::Component;
 use std::alloc::Global;
@@ -14,7 +15,7 @@ use std::alloc::Global;
 #[derive(Drop)]
 pub struct Directory<'a> {
     pub components: &'a [Component],
-    pub names: Names<'a>,
+    pub names: ComponentNames,
     pub ports: Vec<Names<'a>>,
     ghost named: { names ≡ names_of_components components.now },
     ghost with_ports: { ports.items ≡ names_of_ports components.now },
@@ -27,7 +28,7 @@ impl<'a> Directory<'a> {
         ensures judged { Judges (directory_faults (components_of components.now)) result }
         ensures components { IfOk result (λ d. d.components.now ≡ components.now) }
     {
-        let names = distinct(alloc, None, components)?;
+        let names = component_names(alloc, components)?;
         let mut ports = Vec::new(alloc);
         for component in components {
             ports.push(ports_of(alloc, component)?)?;

@@ -4,6 +4,7 @@
 
 mod checked;
 mod checking;
+mod component_names;
 mod declared;
 mod directory;
 mod entries;

@@ -2,6 +2,7 @@
 
 ghost use Rattle.std.specs.Prelude.{◌≡◌, ◌++◌, [], ◌∷◌, IfOk, IfSome, ◌<◌, not, map, option_map, bytes_eq, position, take, length, ◌-◌};
 ghost use Rattle.std.specs.Bool.{OnTrue, OnFalse};
+ghost use Rattle.std.specs.List.{list_any};
 ghost use Rattle.darwin_types.specs.Scope.{has};
 ghost use Rattle.darwin_types.specs.Check.{Judges, repeat_fault, repeat_faults};
 
@@ -11,6 +12,9 @@ use base::Text;
 use indexmap::IndexSet;
 use std::alloc::{AllocError, Global};
 use std::marker::Model;
+
+/// So many names are looked through one after another, which takes less time than a hash.
+pub const FEW_NAMES: usize = 8;
 
 /// Names that differ, in the order in which they were added. Contracts see the list of them.
 #[derive(Drop)]
@@ -40,7 +44,12 @@ impl<'a> Names<'a> {
     pub fn contains(&self, name: &[u8]) -> bool
         ensures { result ≡ has self.now name.now }
     {
-        self.set.contains(name)
+        let names = self.set.as_slice();
+        if names.len() <= FEW_NAMES {
+            is_among(names, name)
+        } else {
+            self.set.contains(name)
+        }
     }
 
     /// The place of the name among them.
@@ -66,6 +75,13 @@ impl<'a> Names<'a> {
     {
         let _ = self.set.pop();
     }
+}
+
+/// Whether the name is one of these.
+fn is_among(names: &[&[u8]], name: &[u8]) -> bool
+    ensures { result ≡ list_any (λ k. bytes_eq name.now k.now) names.now }
+{
+    names.iter().any(|known| name == *known)
 }
 
 /// A declaration that gives a name.

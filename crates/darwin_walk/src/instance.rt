@@ -16,10 +16,10 @@ use crate::environment::Environment;
 use crate::named::by_name;
 use crate::scope::{Array, Scope, index_at, value_at};
 use crate::valuing::Variable;
-use crate::walked::Walked;
+use crate::walked::{Binding, Walked};
 use crate::walking::statements;
 use crate::{Fault, WalkError};
-use darwin_parser::{ArrayDecl, Component, PortDecl};
+use darwin_parser::{ArrayDecl, Component, PortDecl, Stmt};
 use std::alloc::{AllocError, Global};
 
 /// Walks an instance of the component whose parameters have these values: values all that is reached in
@@ -78,14 +78,27 @@ fn walk_within<'a>(
         arrays: &arrays,
         room,
     };
+    let bindings = room_for_bindings(alloc, &component.body)?;
     let mut walked = Walked {
         port_sizes,
         children: Vec::new(alloc),
-        bindings: Vec::new(alloc),
+        bindings,
         count: 0,
     };
     statements(&scope, env, &mut walked, &component.body)?;
     Ok(walked)
+}
+
+/// No bindings, with room for those that stand right in the body, each of which is reached. They are kept
+/// while the description is elaborated.
+fn room_for_bindings<'a>(alloc: Global, body: &[Stmt]) -> Result<Vec<Binding<'a>>, AllocError>
+    ensures { IfOk result (λ bindings. bindings.items ≡ []) }
+{
+    let count = body
+        .iter()
+        .filter(|stmt| matches!(stmt, Stmt::Bind(_)))
+        .count();
+    Vec::with_capacity(alloc, count)
 }
 
 /// The parameters of a component, with the values of the arguments.
@@ -96,7 +109,7 @@ pub fn parameters_of<'a>(
 ) -> Result<Vec<Variable<'a>>, AllocError>
     ensures { IfOk result (λ vs. env_of vs.items ≡ parameters (component_of component.now) arguments.now) }
 {
-    let mut variables = Vec::new(alloc);
+    let mut variables = Vec::with_capacity(alloc, component.params.len())?;
     for (name, value) in component.params.iter().zip(arguments) {
         variables.push(Variable {
             name,
@@ -114,7 +127,7 @@ fn port_sizes_of(
 ) -> Result<Vec<Option<i32>>, WalkError>
     ensures { Tells (port_faults (env_at env.now) (map port_of ports.now)) ⊥ (λ sizes. map Some sizes.items ≡ map (λ p. index_value p.size (env_at env.now)) (map port_of ports.now)) result }
 {
-    let mut sizes = Vec::new(alloc);
+    let mut sizes = Vec::with_capacity(alloc, ports.len())?;
     for port in ports {
         sizes.push(index_at(alloc, &port.size, env, port.at)?)?;
     }

@@ -2,7 +2,7 @@
 use Rattle.std.proofs.Common.{◌≡◌, ◌∙◌, ℕ, suc, ◌+◌, ◌<◌, ◌≤◌, ℤ, eqb, Bool, true, false, not, cond, ltb, List, [], ◌∷◌, ◌++◌, Option, Some, None, Bor, length, map, take, drop, get_or, position, bytes_eq, is_some, refl, ap, sym, subst, arith, inl, inr}
 use Rattle.std.specs.List.{Contains, position_from, position_or_len, slice_get}
 use Rattle.std.specs.Map.{lookup}
-use Rattle.std.specs.Option.{option_map, option_map_or, option_or}
+use Rattle.std.specs.Option.{option_map, option_or}
 use Rattle.std.proofs.lemmas.Bool.{false≢true, lt-ltb, le-ltb, cases_lt, eq-eqb}
 use Rattle.std.proofs.lemmas.List.{drop_more, drop_all, length-append, take_more}
 use Rattle.std.proofs.lemmas.Option.{none-some, same_Some, slice_get-map}
@@ -139,15 +139,23 @@ made_named tree i j made =
     let parts = made_of_two (λ c args. record { path = child_path i child; depth = suc i.depth; component = c; env = parameters c args }) (component_named tree child.component) child.arguments j from.2 in
     subst (λ (x : Instance). component_named tree x.component.name ≡ Some x.component) parts.4 (named_own tree child.component parts.0 parts.2)
 
--- whether the component of the name is primitive, where it is noted of each
+-- a place among the names of components, where another tree has the same names
+pub place_among :
+    (cs : List code.Component) (u : Tree) (name : Name) (o : Option ℕ) → map (λ c. c.name) u ≡ map (λ c. c.name) (map component_of cs)
+    → o ≡ position (λ c. bytes_eq name c.name) u → position (λ c. bytes_eq name (component_name c)) cs ≡ o
+place_among cs u name o same told =
+    let name_of : Component → Name = λ c. c.name in
+    sym (told ∙ sym (position-map (bytes_eq name) name_of u) ∙ ap (position (bytes_eq name)) same ∙ position-map (bytes_eq name) name_of (map component_of cs) ∙ position-map (λ c. bytes_eq name c.name) component_of cs)
+
+-- whether the component at a place is primitive, where another tree has primitive ones at the same places
 pub primitive_told :
-    (noted : List Bool) (cs : List code.Component) (name : Name) (k : ℕ) (b : Bool) → noted ≡ map (λ c. is_primitive (component_of c)) cs
-    → position (λ c. bytes_eq name (component_name c)) cs ≡ Some k → slice_get noted k ≡ Some b
-    → b ≡ option_map_or is_primitive (component_named (map component_of cs) name) false
-primitive_told noted cs name k b each is at =
-    let c = slice_get-there cs k (position_within (λ c. bytes_eq name (component_name c)) cs k is) in
-    let told = ap (λ xs. slice_get xs k) each ∙ slice_get-map (λ c. is_primitive (component_of c)) cs k ∙ ap (option_map (λ c. is_primitive (component_of c))) c.1 in
-    same_Some _ _ (sym at ∙ told) ∙ ap (λ o. option_map_or is_primitive o false) (sym (component-at cs name k c.0 is c.1))
+    (cs : List code.Component) (u : Tree) (k : ℕ) (x : code.Component) (b : Bool) → map is_primitive u ≡ map is_primitive (map component_of cs)
+    → option_map is_primitive (slice_get u k) ≡ Some b → slice_get cs k ≡ Some x → b ≡ is_primitive (component_of x)
+primitive_told cs u k x b same told at =
+    let there : slice_get (map is_primitive u) k ≡ Some b = slice_get-map is_primitive u k ∙ told in
+    let here : slice_get (map is_primitive (map component_of cs)) k ≡ Some (is_primitive (component_of x)) =
+    slice_get-map is_primitive (map component_of cs) k ∙ ap (option_map is_primitive) (slice_get-map component_of cs k ∙ ap (option_map component_of) at) in
+    same_Some b (is_primitive (component_of x)) (sym there ∙ ap (λ bs. slice_get bs k) same ∙ here)
 
 -- ---- ports by their names
 

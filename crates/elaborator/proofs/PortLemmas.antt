@@ -10,7 +10,6 @@ use Rattle.std.proofs.lemmas.List.Quantifiers.{position-Some}
 use lib.Pointwise.{pointwise}
 use Rattle.darwin_parser.specs.Tree.{Name, Tree, Component, Expr, PortDecl, port_of}
 use Rattle.darwin_parser.specs.declared.tree.PortDecl as code_port
-use Rattle.darwin_types.specs.Scope.{component_named}
 use Rattle.darwin_lexer.specs.declared.token.At.{At}
 use Rattle.darwin_walk.specs.Value.{Value, integer, out_of_range, zero_divisor, value}
 use Rattle.darwin_walk.specs.Instance.{End, index_fault, index_value}
@@ -102,16 +101,6 @@ named_found e n m k i j x end d inner at stands is place stands_at is_inner =
         first = subst (λ b. place_of b ports ≡ Some k) name place;
       },
     )
-
--- the place of the port of a name, where an index tells it of the component's name
-pub place_told :
-    (e : Expansion) → IsNumbering e → (n : ℕ) (x : code_instance.Instance) (component bytes name : Name) (r : Option ℕ)
-    → slice_get (seen e).made n ≡ Some (made_of x) → component ≡ x.component.now.name → bytes ≡ name
-    → ((c : Component) → component_named (seen e).tree component ≡ Some c → r ≡ place_of bytes c.ports)
-    → place_of name (instance_in x).component.ports ≡ r
-place_told e kept n x component bytes name r at same_component same_name told =
-    let named = kept.is_expanded.named n (instance_in x) (record { maker = x.maker; is_at = at }) in
-    ap (λ b. place_of b (instance_in x).component.ports) (sym same_name) ∙ sym (told (instance_in x).component (ap (component_named (seen e).tree) same_component ∙ named))
 
 -- a size that is kept
 pub kept_size : (o : Option (Option ℤ)) (size : Option ℤ) → size ≡ option_flatten o → IfSome size (λ z. o ≡ Some (Some z))

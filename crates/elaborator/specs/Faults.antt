@@ -18,10 +18,7 @@ use Rattle.config_graph.specs.Cycles.{FirstOnCycle}
 use Rattle.elaborator.specs.Graph.{IsElab}
 use Rattle.elaborator.specs.declared.error.ElabError.{ElabError}
 use Rattle.elaborator.specs.declared.error.ElabError.TheVariants as error
-
--- a number as an error carries it
-abbrev pub capped : ℕ → ℕ
-capped n = min n 4294967295
+use Rattle.darwin_types.specs.Faults.{carried}
 
 -- the arguments of an instance of a primitive component are from 0 to 16,777,215
 abbrev pub is_kind_argument : ℤ → Bool
@@ -82,7 +79,7 @@ pub data Faults (tree : Tree) (name : Name) (arguments : List ℤ) : ElabError �
   -- the numbers of parameters and arguments differ
   top_args :
       (c : Component) → component_named tree name ≡ Some c → length c.params ≢ length arguments
-      → Faults tree name arguments (error.TopArgs (capped (length c.params)) (capped (length arguments)))
+      → Faults tree name arguments (error.TopArgs (carried (length c.params)) (carried (length arguments)))
   -- a result isn't from -2,147,483,648 to 2,147,483,647, or a kind's argument isn't from 0 to 16,777,215
   out_of_range :
       (top i : Instance) (at : At) → top_instance tree name arguments ≡ Some top → Inst tree top i

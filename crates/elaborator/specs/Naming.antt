@@ -3,8 +3,10 @@ use Rattle.std.specs.Prelude.{◌≡◌, ℕ, List, length, slice_get, Option, S
 use Rattle.std.specs.Map.{lookup}
 use Rattle.std.specs.Option.{option_or}
 use Rattle.darwin_parser.specs.declared.tree.Component.{Component}
-use Rattle.darwin_parser.specs.Tree.{Name}
+use Rattle.darwin_parser.specs.Tree.{Name, Tree, component_of}
+use Rattle.darwin_types.specs.Scope.{component_named, is_primitive}
 use Rattle.elaborator.specs.declared.name_index.NameIndex.{NameIndex}
+use Rattle.elaborator.specs.declared.directory.Entry.{Entry}
 
 abbrev pub place_in : NameIndex → Name → Option ℕ
 place_in index x = lookup (λ k. bytes_eq x k.now) index.places.entries
@@ -23,3 +25,8 @@ pub record ArePortsIndexed (indexes : List NameIndex) (components : List Compone
   pub each :
       (k : ℕ) (index : NameIndex) (c : Component) → slice_get indexes k ≡ Some index → slice_get components k ≡ Some c
       → Indexes (λ p. p.name) index c.ports.items
+
+-- the component that a tree has under a name, and whether it is primitive
+pub record IsEntry (tree : Tree) (name : Name) (e : Entry) : Type 0 where
+  pub named : component_named tree name ≡ Some (component_of e.component.now)
+  pub primitive : e.is_primitive ≡ is_primitive (component_of e.component.now)

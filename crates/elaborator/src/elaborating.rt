@@ -8,7 +8,8 @@ ghost use Rattle.darwin_types.specs.Checked.{description};
 ghost use Rattle.elaborator.specs.Instances.{top_instance};
 ghost use Rattle.elaborator.specs.Expansion.{instance_in};
 ghost use Rattle.elaborator.specs.ExpansionFaults.{IsTop};
-ghost use Rattle.elaborator.specs.Faults.{Faults, capped};
+ghost use Rattle.elaborator.specs.Faults.{Faults};
+ghost use Rattle.darwin_types.specs.Faults.{carried};
 ghost use Rattle.elaborator.specs.Elaboration.{HasNoFault, ElaboratesTo};
 ghost use Rattle.elaborator.specs.declared.error.ElabError.TheVariants.{NoMemory};
 
@@ -41,8 +42,7 @@ pub fn elaborate(
     ensures sound { IfOk result (λ g. Sound g) }
     ensures fault { IfErr result (Refuses NoMemory (Faults (description checked.now) top.now args.now)) }
 {
-    let unit = checked.unit();
-    let directory = Directory::of(alloc, unit)?;
+    let directory = Directory::of(alloc, checked)?;
     let instance = top_of(alloc, &directory, top, args)?;
     let expansion = expand(alloc, directory, instance)?;
     build_graph(alloc, &expansion)
@@ -57,16 +57,17 @@ fn top_of<'a>(
 ) -> Result<Instance<'a>, ElabError>
     ensures { Answers NoMemory (λ i. IsTop (tree_of directory.now.unit.now) i × (top_instance (tree_of directory.now.unit.now) name.now args.now ≡ Some (instance_in i))) (Faults (tree_of directory.now.unit.now) name.now args.now) result }
 {
-    let Some(component) = directory.find(name) else {
+    let Some(entry) = directory.find(name) else {
         return Err(ElabError::NoTop(Text::from_bytes(alloc, name)?));
     };
-    if directory.is_primitive(name) {
+    if entry.is_primitive {
         return Err(ElabError::TopIsKind(Text::from_bytes(alloc, name)?));
     }
+    let component = entry.component;
     if component.params.len() != args.len() {
         return Err(ElabError::TopArgs {
-            wanted: capped(component.params.len()),
-            given: capped(args.len()),
+            wanted: carried(component.params.len()),
+            given: carried(args.len()),
         });
     }
     Ok(Instance {
@@ -82,8 +83,8 @@ fn top_of<'a>(
 }
 
 /// A number as an error carries it.
-fn capped(number: usize) -> u32
-    ensures { result ≡ capped number }
+fn carried(number: usize) -> u32
+    ensures { result ≡ carried number }
 {
     u32::try_from(number).unwrap_or(u32::MAX)
 }

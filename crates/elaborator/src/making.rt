@@ -37,11 +37,10 @@ fn make<'a>(
     requires { within.now.depth < 33 }
     ensures { Judges within.now.path (kind_faults (tree_of directory.now.unit.now) (child_of child.now)) ⊥ (IsMade (tree_of directory.now.unit.now) (instance_in within.now) number (child_of child.now)) result }
 {
-    let Some(component) = directory.find(child.component.as_bytes()) else {
+    let Some(entry) = directory.find(child.component.as_bytes()) else {
         return Ok(None);
     };
-    let is_primitive = directory.is_primitive(child.component.as_bytes());
-    if is_primitive && !are_kind_arguments(child.arguments.as_slice()) {
+    if entry.is_primitive && !are_kind_arguments(child.arguments.as_slice()) {
         return Err(ElabError::OutOfRange(within.path.try_clone()?, child.at));
     }
     let path = path_within(alloc, within.path.as_bytes(), child.segment)?;
@@ -49,9 +48,9 @@ fn make<'a>(
         path: Text::of(path),
         depth: within.depth + 1,
         maker: Some(number),
-        component,
-        is_primitive,
-        env: parameters_of(alloc, component, child.arguments.as_slice())?,
+        component: entry.component,
+        is_primitive: entry.is_primitive,
+        env: parameters_of(alloc, entry.component, child.arguments.as_slice())?,
         bindings: Vec::new(alloc),
         port_sizes: Vec::new(alloc),
     }))
@@ -68,7 +67,7 @@ pub(crate) fn make_all<'a>(
     requires { within.now.depth < 33 }
     ensures { Judges within.now.path (flat_map (kind_faults (tree_of directory.now.unit.now)) (map child_of children.now)) ⊥ (AreMade (tree_of directory.now.unit.now) (instance_in within.now) number (map child_of children.now)) result }
 {
-    let mut made = Vec::new(alloc);
+    let mut made = Vec::with_capacity(alloc, children.len())?;
     for child in children {
         if let Some(instance) = make(alloc, directory, within, number, child)? {
             made.push(instance)?;

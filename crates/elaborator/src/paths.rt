@@ -9,8 +9,8 @@ use darwin_walk::{End, Segment};
 use itoa::Buffer;
 use std::alloc::{AllocError, Global};
 
-/// So many bytes a dot and the longest index in brackets take, so that a path is made in one piece.
-const INDEX_ROOM: usize = 14;
+/// So many bytes the longest index in brackets takes.
+const INDEX_ROOM: usize = 13;
 
 /// Adds an index in brackets, where there is one.
 fn push_index(out: &mut Vec<u8>, index: Option<i32>) -> Result<(), AllocError>
@@ -33,12 +33,22 @@ fn push_segment(out: &mut Vec<u8>, segment: Segment) -> Result<(), AllocError>
     push_index(out, segment.index)
 }
 
+/// The most bytes of such a path, so that it is made in one piece.
+fn room_within(path: &[u8], segment: Segment) -> usize {
+    let index_room = if segment.index.is_some() {
+        INDEX_ROOM
+    } else {
+        0
+    };
+    let names = path.len() + segment.name.as_bytes().len();
+    names.saturating_add(1 + index_room)
+}
+
 /// The path of the instance of a segment within the instance of a path.
 pub fn path_within(alloc: Global, path: &[u8], segment: Segment) -> Result<Vec<u8>, AllocError>
     ensures { IfOk result (λ made. made.items ≡ within path.now (segment_of segment.entry)) }
 {
-    let names = path.len() + segment.name.as_bytes().len();
-    let mut made = Vec::with_capacity(alloc, names.saturating_add(INDEX_ROOM))?;
+    let mut made = Vec::with_capacity(alloc, room_within(path, segment))?;
     made.extend_from_slice(path)?;
     if !path.is_empty() {
         made.push(b'.')?;

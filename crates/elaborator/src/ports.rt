@@ -2,21 +2,26 @@
 
 ghost use Rattle.std.specs.Prelude.{◌≡◌, ◌<◌, ◌↔◌, [], ◌∷◌, length, option_map, position, bytes_eq, slice_get, IfOk, IsTrue, Some, if◌then◌else◌};
 ghost use Rattle.darwin_lexer.specs.declared.token.At.{At as Place};
-ghost use Rattle.darwin_parser.specs.Tree.{port_of};
+ghost use Rattle.darwin_parser.specs.Tree.{component_of, port_of, tree_of};
+ghost use Rattle.darwin_types.specs.Scope.{component_named};
 ghost use Rattle.darwin_walk.specs.Walked.{segment_of, walked_end};
 ghost use Rattle.darwin_walk.specs.declared.fault.Fault.TheVariants.{BadIndex};
 ghost use Rattle.elaborator.specs.Instances.{Instance};
 ghost use Rattle.elaborator.specs.Bindings.{named, is_form};
 ghost use Rattle.elaborator.specs.Numbering.{Numbered};
 ghost use Rattle.elaborator.specs.Expansion.{seen, IsNumbering};
-ghost use Rattle.elaborator.specs.Ports.{Standing, ResolvesTo, bad_index};
+ghost use Rattle.elaborator.specs.Ports.{Standing, ResolvesTo, bad_index, place_of};
 
 use crate::chains::PortId;
+use crate::directory::Directory;
 use crate::instance::Expansion;
 use crate::paths::path_within;
-use darwin_parser::{PortDecl, Side};
+use darwin_parser::{Component, PortDecl, Side};
 use darwin_walk::{End, Segment, ValueError, value};
 use std::alloc::{AllocError, Global};
+
+/// So many ports are looked through one after another, which takes less time than two hashes.
+const FEW_PORTS: usize = 8;
 
 /// The port that an end of a binding names.
 #[derive(Clone, Copy)]
@@ -65,8 +70,7 @@ pub fn find_named<'a>(
         return Ok(None);
     };
     let component = expansion.instance(instance).component;
-    let directory = &expansion.directory;
-    let Some(port) = directory.port_place(component.name.as_bytes(), end.port.as_bytes()) else {
+    let Some(port) = place_in(&expansion.directory, component, end.port.as_bytes()) else {
         return Ok(None);
     };
     Ok(Some(Named {
@@ -78,6 +82,18 @@ pub fn find_named<'a>(
         },
         decl: &component.ports[port],
     }))
+}
+
+/// The place of the first port with the name in a component of the description.
+fn place_in(directory: &Directory, component: &Component, name: &[u8]) -> Option<usize>
+    requires { component_named (tree_of directory.now.unit.now) component.now.name ≡ Some (component_of component.now) }
+    ensures { result ≡ place_of name.now (component_of component.now).ports }
+{
+    if component.ports.len() <= FEW_PORTS {
+        port_place(component.ports.as_slice(), name)
+    } else {
+        directory.port_place(component.name.as_bytes(), name)
+    }
 }
 
 /// The place of the first port with the name.

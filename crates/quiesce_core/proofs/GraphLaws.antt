@@ -262,7 +262,7 @@ module _ (g : Graph) (sound : Sound g) (few_nodes : length g.nodes ≤ 1023) (fe
     rows = rows_started;
     ports = ports_started;
     targets = targets_started;
-    no_cycle = no_cycle_if_acyclic (started g).config (no_cycle_there (wiring_of (started g).config) (cycles.wiring_of g) (StandsAt (started g).config g.nodes) (IsPortAt (started g).config g)
+    no_cycle = no_cycle_if_acyclic (started g).config (no_cycle_there (wiring_of (started g).config) (cycles.graph_wiring g) (StandsAt (started g).config g.nodes) (IsPortAt (started g).config g)
         (to_graph (started g).config named_started g graph_started (record {
           from = λ p t e. let o = ports_started p (linked_made (started g).config p t e) in live_started (owner (started g).config p) o.node o.made;
           to = λ p t e. (targets_started p t e).live;

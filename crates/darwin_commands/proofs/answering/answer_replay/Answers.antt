@@ -1,23 +1,24 @@
 -- The file of events is fetched and read, and then the description.
-use Rattle.darwin_commands.specs.Fetching.{given_of}
+use Rattle.std.proofs.lemmas.Result.{err_from_is_err_and}
 use Rattle.darwin_commands.proofs.Running.{replay_read, script_read, script_unread, script_unfetched}
 use Rattle.darwin_commands.proofs.answering.answer_replay.Goals as goal
 
-pub returns-in-Ok-Events : goal.returns-in-Ok-Events
-returns-in-Ok-Events g c =
-    let step = c.in-Ok-Events in
-    replay_read _ _ c.args.file.now c.args.events.now (given_of c.in-Ok.fetched) step.script _ _ _ c.answer_description.result c.in-Ok.ensures.kept
-    c.in-Ok.ensures.fetches.0 c.in-Ok.ensures.fetches.1 (rw step.field-0-is at step.ensures) c.answer_description.ensures
+pub returns-in-Events-clause-answers : goal.returns-in-Events-clause-answers
+returns-in-Events-clause-answers g c =
+    replay_read _ _ c.args.file.now c.args.events.now c.in_ok-fetched.fetched c.in-Events.script _ _ _ c.answer_description.result c.in_ok-fetched.ensures.kept
+    c.in_ok-fetched.ensures.fetches.0 c.in_ok-fetched.ensures.fetches.1 (rw c.in-Events.is at c.in_ok-script.ensures) c.answer_description.ensures.answers
 
-pub returns-in-Ok-Refused : goal.returns-in-Ok-Refused
-returns-in-Ok-Refused g c =
-    let step = c.in-Ok-Refused in
-    script_read _ c.args.file.now c.args.events.now (given_of c.in-Ok.fetched) step.answer _ _ c.in-Ok.ensures.fetches.0 c.in-Ok.ensures.fetches.1
-    (rw step.field-0-is at step.ensures)
+pub returns-in-Refused-clause-answers : goal.returns-in-Refused-clause-answers
+returns-in-Refused-clause-answers g c =
+    script_read _ c.args.file.now c.args.events.now c.in_ok-fetched.fetched c.in-Refused.answer _ _ c.in_ok-fetched.ensures.fetches.0
+    c.in_ok-fetched.ensures.fetches.1 (rw c.in-Refused.is at c.in_ok-script.ensures)
 
-pub returns-in-Err-read_script : goal.returns-in-Err-read_script
-returns-in-Err-read_script g c =
-    script_unread _ c.args.file.now c.args.events.now (given_of c.in-Ok.fetched) c.in-Err-read_script.failed _ _ c.in-Ok.ensures.fetches.0 c.in-Ok.ensures.fetches.1
+pub returns-in_err-script-clause-answers : goal.returns-in_err-script-clause-answers
+returns-in_err-script-clause-answers g c =
+    let p = err_from_is_err_and c.from_residual-in_err-script.result c.from_residual-in_err-script.ensures.1 in
+    rw p.1 (script_unread _ c.args.file.now c.args.events.now c.in_ok-fetched.fetched p.0 _ _ c.in_ok-fetched.ensures.fetches.0 c.in_ok-fetched.ensures.fetches.1)
 
-pub returns-in-Err : goal.returns-in-Err
-returns-in-Err g c = script_unfetched _ c.args.file.now c.args.events.now c.in-Err.failed _ _ c.in-Err.ensures.fetches
+pub returns-in_err-fetched-clause-answers : goal.returns-in_err-fetched-clause-answers
+returns-in_err-fetched-clause-answers g c =
+    let p = err_from_is_err_and c.from_residual.result c.from_residual.ensures.1 in
+    rw p.1 (script_unfetched _ c.args.file.now c.args.events.now p.0 _ _ c.in_err-fetched.ensures.fetches)

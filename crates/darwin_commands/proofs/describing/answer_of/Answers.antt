@@ -1,7 +1,9 @@
 -- What refuses the reading refuses what is wanted.
-use Rattle.darwin_commands.specs.Requests.{wanted_of}
+use Rattle.std.proofs.lemmas.Result.{err_from_is_err_and}
 use Rattle.darwin_commands.proofs.Planning.{reading_refused}
 use Rattle.darwin_commands.proofs.describing.answer_of.Goals as goal
 
-pub returns-in-Err-clause-refused : goal.returns-in-Err-clause-refused
-returns-in-Err-clause-refused c = reading_refused (wanted_of c.args.purpose.now) c.args.text.now c.in-Err.fault c.in-Err.ensures.refused
+pub returns-in_err-checked-clause-refused : goal.returns-in_err-checked-clause-refused
+returns-in_err-checked-clause-refused c =
+    let p = err_from_is_err_and c.from_residual.result c.from_residual.ensures.1 in
+    rw (p.1, p.2) (reading_refused c.args.query.now c.args.text.now c.in_err-checked.field-0.0 c.in_err-checked.ensures.refused)

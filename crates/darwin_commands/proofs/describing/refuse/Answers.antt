@@ -4,5 +4,5 @@ use Rattle.darwin_commands.specs.DescriptionFaults.{fault_words}
 use Rattle.darwin_commands.proofs.describing.refuse.Goals as goal
 
 pub returns : goal.returns
-returns c wanted text may =
+returns c query text may =
     rw c.in_ok-description_line.ensures (refused text (fault_words c.args.fault.now) (may cc))

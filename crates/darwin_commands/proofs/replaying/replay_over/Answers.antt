@@ -1,9 +1,9 @@
--- A graph with which a run can start keeps the limits of a run.
-use Rattle.darwin_commands.proofs.Starting.{few_nodes, few_ports}
+-- The graph with which a run can start, and what the events come to from there.
 use Rattle.darwin_commands.proofs.replaying.replay_over.Goals as goal
 
-pub replay_events-requires-clause-few_nodes : goal.replay_events-requires-clause-few_nodes
-replay_events-requires-clause-few_nodes c = few_nodes c.in-Ok.graph c.in-Ok.ensures.room
-
-pub replay_events-requires-clause-few_ports : goal.replay_events-requires-clause-few_ports
-replay_events-requires-clause-few_ports c = few_ports c.in-Ok.graph c.in-Ok.ensures.room
+pub returns-clause-replay : goal.returns-clause-replay
+returns-clause-replay c text checked = record {
+  graph = c.in_ok-graph.graph;
+  starts = rw (c.as_bytes.ensures, c.items.ensures) at (c.in_ok-graph.ensures.starts text checked);
+  replays = rw c.items-2.ensures at c.in_ok-replay_events.ensures;
+}

@@ -1,7 +1,8 @@
 -- The first `--` parts the words into two calls, or else they have no form.
-use Rattle.std.proofs.Common.{map, string_bytes, ◌+◌, ◌∷◌, ℕ, ℤ, List, codes, take, drop, ap, refl, subst, arith}
+use Rattle.std.proofs.Common.{map, string_bytes, ◌+◌, ◌∷◌, codes, take, drop, ap, refl, subst, arith}
 use Rattle.darwin_commands.proofs.Asking.{no_call, no_target, not_parted}
 use Rattle.darwin_commands.proofs.Parting.{parted_by, parted_nowhere, rest_is}
+use Rattle.darwin_commands.specs.declared.words.TopCall.{TopCall}
 use Rattle.darwin_commands.specs.CommandLine.{IsCall}
 use Rattle.darwin_commands.proofs.words.read_plan.Goals as goal
 
@@ -23,7 +24,7 @@ returns-in_default-2-clause-none c =
     let at = c.parting-at.result in
     let parts = parted_by string_bytes words at (at + 1) c.parting-at.ensures refl (omega arith) in
     no_target c.args.file.now (map string_bytes words) (map string_bytes (take at words)) (map string_bytes (drop (at + 1) words)) parts
-    (subst (λ ws. (top : List ℕ) (args : List ℤ) → IsCall (map string_bytes ws) top args → ⊥) (rest_is words (at + 1)) (rw c.in_default-2.is at c.in_ok-target.ensures.none))
+    (subst (λ ws. (call : TopCall) → IsCall (map string_bytes ws) call → ⊥) (rest_is words (at + 1)) (rw c.in_default-2.is at c.in_ok-target.ensures.none))
 
 pub returns-clause-found : goal.returns-clause-found
 returns-clause-found c =
@@ -31,11 +32,12 @@ returns-clause-found c =
     let at = c.parting-at.result in
     let parts = parted_by string_bytes words at (at + 1) c.parting-at.ensures refl (omega arith) in
     let call = rw c.in-Some.is at c.in_ok-call.ensures.found in
-    let target = rw c.in-Some-2.is at c.in_ok-target.ensures.found in (
+    let target = rw c.in-Some-2.is at c.in_ok-target.ensures.found in
+    rw c.of.ensures (
       map string_bytes (take at words),
       map string_bytes (drop (at + 1) words),
       ap (λ rest. codes "plan" ∷ c.args.file.now ∷ rest) parts.parted,
       c.requires,
       call,
-      subst (λ ws. IsCall (map string_bytes ws) c.in-Some-2.target.top.now c.in-Some-2.target.args.items) (rest_is words (at + 1)) target,
+      subst (λ ws. IsCall (map string_bytes ws) c.in-Some-2.target) (rest_is words (at + 1)) target,
     )

@@ -15,7 +15,7 @@ through g h (Some x) = refl
 
 pub returns-in_err-index_at : goal.returns-in_err-index_at
 returns-in_err-index_at c =
-    Answers-exit _ _ c.from_residual.ensures.1
+    Answers-exit _ _ c.from_residual-in_err-index_at.ensures.1
     (fault-grow _ _ _
     (λ f has.
     Contains-from (λ p. option_map_or (λ e. value_fault p.at (value e (env_at c.args.env.now))) p.size []) port_of _ _ _ _

@@ -26,8 +26,8 @@ pub returns-in_err-statements : goal.returns-in_err-statements
 returns-in_err-statements c =
     let p = env_at c.args.env.now in
     let component = component_of c.args.component.now in
-    let body = stmts_of c.deref-4.result.now in
-    let is : body ≡ component.body = ap stmts_of c.deref-4.ensures.value in
+    let body = stmts_of c.deref-5.result.now in
+    let is : body ≡ component.body = ap stmts_of c.deref-5.ensures.value in
     Answers-exit _ _ c.from_residual-in_err-statements.ensures.1
     (cause-grow _ _ _ _ (λ f. faults-body component p body f is)
     (λ (many : c.args.room < 0 + sum_by weight (reached_in body p)). omega (arith, many, count-body component p, ap (λ b. sum_by weight (reached_in b p)) is)))
@@ -37,10 +37,10 @@ pub returns : goal.returns
 returns c =
     let p = env_at c.args.env.now in
     let component = component_of c.args.component.now in
-    let told = rw c.deref-4.ensures.value at c.in_ok-statements.ensures in (
+    let told = rw c.deref-5.ensures.value at c.in_ok-statements.ensures in (
       faults-none component p (rw c.deref.ensures.value at c.in_ok-port_sizes.ensures.0) (rw c.deref-2.ensures.value at c.in_ok-arrays.ensures.0)
           told.0,
-      IsWalked-body component p c.args.room _ _ (rw c.deref.ensures.value at c.in_ok-port_sizes.ensures.1) c.new.ensures.items c.new-2.ensures.items
+      IsWalked-body component p c.args.room _ _ (rw c.deref.ensures.value at c.in_ok-port_sizes.ensures.1) c.new.ensures.items c.in_ok-bindings.ensures
           refl told.1,
     )
 
