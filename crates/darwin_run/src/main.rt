@@ -31,6 +31,8 @@ fn run<H: Shelf, K: Sink>(
         → Runs [] (H.files shelf.old) (H.failed shelf.old) (H.failed shelf.new) (K.taken out.old) (K.taken out.new) (K.faults out.old) (K.faults out.new) result) }
     ensures no_memory { IfErr words (λ fault. error_kind fault ≡ ErrorKind.OutOfMemory
         → Written Status.NoMemory (codes "no memory" ++ 10 ∷ []) (K.taken out.old) (K.taken out.new) (K.faults out.old) (K.faults out.new) result × (H.failed shelf.new ≡ H.failed shelf.old)) }
+    // No fetch changes the files.
+    ensures kept { H.files shelf.new ≡ H.files shelf.old }
 {
     match words {
         Ok(words) => still(alloc, words.as_slice(), shelf, out),
