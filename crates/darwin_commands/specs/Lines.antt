@@ -13,7 +13,7 @@ use Rattle.change_script.specs.declared.error.ScriptError.{ScriptError}
 use Rattle.change_script.specs.declared.error.ScriptError.TheVariants as scripting
 use Rattle.change_plan.specs.declared.error.PlanError.{PlanError}
 use Rattle.change_plan.specs.declared.error.PlanError.TheVariants as planning
-use Rattle.change_script.specs.Writing.{spaced}
+pub use Rattle.change_script.specs.Writing.{spaced}
 
 abbrev pub place_word : At → List ℕ
 place_word at = decimal at.line ++ codes ":" ++ decimal at.column
