@@ -20,11 +20,10 @@ use Rattle.quiesce_core.specs.Phases.{is_idle, is_in_more}
 use Rattle.quiesce_core.specs.Rules.{is_live_port, is_last_message, was_heard}
 use Rattle.quiesce_core.specs.Effect.{with_gate, with_exchange, with_target_service, with_call, new_gates, effect}
 use Rattle.quiesce_core.specs.Legal.{Legal}
-use Rattle.quiesce_core.specs.Runs.{doer, done_from}
+use Rattle.quiesce_core.specs.Runs.{doer, done_from, is_doer}
 use Rattle.quiesce_core.specs.WellFormed.{IsWellFormed}
 use Rattle.quiesce_core.specs.Traffic.{IsConsistent}
-use Rattle.quiesce_core.specs.Knowledge.{OwnPort, served_next, served_after, own_port_next, own_port_after}
-use Rattle.quiesce_core.specs.Knows.{IsServed, KnowsService, own_port}
+use Rattle.quiesce_core.specs.Knowledge.{IsServed, KnowsService, OwnPort, own_port, served_next, served_after, own_port_next, own_port_after}
 use Rattle.quiesce_core.proofs.SoundnessLaws.{put_owner}
 use Rattle.quiesce_core.proofs.TableLaws.{gate_place, exchange_place, owner_place, target_place}
 use Rattle.quiesce_core.proofs.TrafficLaws.{only_target}
@@ -33,9 +32,6 @@ use Rattle.base.proofs.OptionLaws.{Some-from_is_some}
 use Rattle.base.proofs.PlaceLaws.{fresh_behind}
 
 -- the event, where node n does it
-
-abbrev pub is_doer : State → ℕ → Event → Bool
-is_doer s n e = option_map_or (λ m. m == n) (doer s e) false
 
 abbrev pub mine : State → ℕ → Event → List Event
 mine s n e = cond (is_doer s n e) (e ∷ []) []
@@ -107,7 +103,7 @@ port_step s (Unlink q) p w c l = refl
 port_step s (Remove n) p w c l = refl
 
 -- an event of another node tells nothing of the port
-other_port : (s : State) (q p n : ℕ) → is_live_port s q ≡ true → (owner s.config q == n) ≡ false → (p < length s.config.gates → owner s.config p ≡ n) → q ≡ p → ⊥
+other_port : (s : State) (q p n : ℕ) → is_live_port s.config q ≡ true → (owner s.config q == n) ≡ false → (p < length s.config.gates → owner s.config p ≡ n) → q ≡ p → ⊥
 other_port s q p n live other owned same =
     both_ways (owner s.config q == n) other
     (eq-eqb (owner s.config q) n (ap (λ i. owner s.config i) same ∙ owned (subst (λ i. i < length s.config.gates) same (gate_place s q live))))
@@ -134,7 +130,7 @@ record Stays (s s' : State) (p : ℕ) : Type 0 where
   made : p < length s'.config.gates
   owned : owner s'.config p ≡ owner s.config p
 
-gate_put : (s : State) (q p : ℕ) (g : Gate) → is_live_port s q ≡ true → g.owner ≡ owner s.config q → g.require ≡ (gate s.config q).require → p < length s.config.gates
+gate_put : (s : State) (q p : ℕ) (g : Gate) → is_live_port s.config q ≡ true → g.owner ≡ owner s.config q → g.require ≡ (gate s.config q).require → p < length s.config.gates
     → Stays s (record s { config = with_gate s.config q g }) p
 gate_put s q p g live same same' h =
     record { made = omega (arith, h, length-set s.config.gates q g); owned = put_owner s.config q g (gate_place s q live) same same' p }

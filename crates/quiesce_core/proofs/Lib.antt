@@ -10,7 +10,6 @@ pub mod GraphLaws
 pub mod WordLemmas
 pub mod StateLaws
 pub mod TrafficLaws
-pub mod RunPartLaws
 pub mod StepsLaws
 pub mod RunLaws
 pub mod OrderLemmas

@@ -13,7 +13,7 @@ use Rattle.quiesce_core.specs.declared.event.Event.{Event}
 use Rattle.quiesce_core.specs.declared.event.Event.TheVariants.{Begin, Call, Take, Give, End, More, Ask, Hear, Miss, Close, Reopen, Make, Link, Unlink, Remove}
 use Rattle.quiesce_core.specs.declared.state.Slot.{Slot}
 use Rattle.quiesce_core.specs.State.{Configuration, State, empty, slot}
-use Rattle.quiesce_core.specs.Effect.{with_node, removed, effect}
+use Rattle.quiesce_core.specs.Effect.{with_node, with_removed, effect}
 use Rattle.quiesce_core.specs.Rules.{is_value, is_path_taken, has_its_argument}
 use Rattle.quiesce_core.specs.Legal.{Legal}
 use Rattle.quiesce_core.specs.Named.{AreNamed}
@@ -62,7 +62,7 @@ named_with_node c node from a new_ argument = record {
     last : Slot
     last = record { node = node; first_port = length c.gates; from = from; live = true }
 
-named_removed : (c : Configuration) (n : ℕ) (old : Slot) → slot c n ≡ Some old → AreNamed c → AreNamed (removed c n)
+named_removed : (c : Configuration) (n : ℕ) (old : Slot) → slot c n ≡ Some old → AreNamed c → AreNamed (with_removed c n)
 named_removed c n old there a =
     subst (λ o. AreNamed (record c { slots = option_map_or (λ (m : Slot). set c.slots n (record m { live = false })) o c.slots })) (sym there) (record {
       paths = λ i j m k at_i at_j live_i live_j same.

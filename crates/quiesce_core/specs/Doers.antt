@@ -19,3 +19,8 @@ is_of_change (Link p n x) = true
 is_of_change (Unlink p) = true
 is_of_change (Remove n) = true
 is_of_change _ = false
+
+-- an event by which a node comes to be
+abbrev pub is_make : Event → Bool
+is_make (Make n node from) = true
+is_make _ = false

@@ -10,9 +10,9 @@ pub mod Rest
 pub mod GateWord
 pub mod Knowledge
 pub mod WellFormed
-pub mod Known
+pub mod Searched
 pub mod Tables
-pub mod Machine
+pub mod CoreState
 pub mod Doers
 pub mod WordFields
 pub mod Open
@@ -22,5 +22,4 @@ pub mod Traffic
 pub mod Named
 pub mod Live
 pub mod Listed
-pub mod Knows
 pub mod SameWiring

@@ -16,7 +16,7 @@ ghost use Rattle.quiesce_core.specs.Start.{started};
 ghost use Rattle.config_graph.specs.Sound.{Sound};
 ghost use Rattle.config_graph.specs.declared.TheConstants.{MAX_NODES, MAX_PORTS};
 ghost use Rattle.config_graph.specs.declared.node.Target.{Target};
-ghost use Rattle.quiesce_core.specs.Knows.{Knows};
+ghost use Rattle.quiesce_core.specs.Knowledge.{Knows};
 ghost use Rattle.quiesce_core.specs.WordFields.{FitsWord};
 ghost use Rattle.quiesce_core.specs.GateWord.{fields_of, pack, unpack, word_of};
 ghost use Rattle.quiesce_core.specs.declared.word.Word.{Word};
@@ -75,11 +75,6 @@ pub fn one_graph()
 /// After every run no two live nodes have one path, and each node has its argument.
 pub fn nodes_are_named()
     ensures { (es : List Event) → IsRun es → AreNamed (state_after es).config }
-{}
-
-/// What nodes do leaves the configuration as it is.
-pub fn node_events_keep_the_configuration()
-    ensures { (s : State) (e : Event) (n : ℕ) → doer s e ≡ Some n → (effect s e).config ≡ s.config }
 {}
 
 /// The graph of a system that was just started is the one that it was started as.

@@ -16,6 +16,7 @@ mod open;
 mod reach;
 mod rest;
 mod rules;
+mod run_laws;
 mod starting;
 mod state;
 mod tables;
@@ -26,11 +27,11 @@ pub use event::Event;
 pub use known::Served;
 pub use laws::{
     a_started_system_has_its_graph, cycles_are_found, cycles_are_those_of_the_graph,
-    each_rule_holds, full_is_found, node_events_keep_the_configuration, nodes_are_named,
-    nodes_know, one_graph, reach_is_found, reach_is_that_of_the_graph, runs_are_consistent,
-    runs_are_steps, runs_are_well_formed, started_systems_are_consistent, steps_keep_consistency,
-    words_decode, words_of_runs_decode,
+    each_rule_holds, full_is_found, nodes_are_named, nodes_know, one_graph, reach_is_found,
+    reach_is_that_of_the_graph, runs_are_consistent, runs_are_steps, runs_are_well_formed,
+    started_systems_are_consistent, steps_keep_consistency, words_decode, words_of_runs_decode,
 };
 pub use machine::Core;
+pub use run_laws::{changes_are_of_no_node, changes_make_the_configuration, logs_grow, runs_grow};
 pub use state::{Exchange, Gate, OpenTxn, Phase, Service, Slot, Stage};
 pub use word::Word;
