@@ -11,7 +11,10 @@ pub mod WordLemmas
 pub mod StateLaws
 pub mod TrafficLaws
 pub mod StepsLaws
+pub mod AlterLaws
+pub mod StabilityLaws
 pub mod RunLaws
+pub mod InductionLaws
 pub mod OrderLemmas
 pub mod LiveLinks
 pub mod SameWiring

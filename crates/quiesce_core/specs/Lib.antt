@@ -23,3 +23,4 @@ pub mod Named
 pub mod Live
 pub mod Listed
 pub mod SameWiring
+pub mod Alters

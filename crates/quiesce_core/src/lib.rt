@@ -19,6 +19,7 @@ mod rules;
 mod run_laws;
 mod starting;
 mod state;
+mod step_laws;
 mod tables;
 mod word;
 
@@ -34,4 +35,5 @@ pub use laws::{
 pub use machine::Core;
 pub use run_laws::{changes_are_of_no_node, changes_make_the_configuration, logs_grow, runs_grow};
 pub use state::{Exchange, Gate, OpenTxn, Phase, Service, Slot, Stage};
+pub use step_laws::{replies_stay, steps_alter, targets_stay};
 pub use word::Word;
