@@ -36,7 +36,8 @@ use Rattle.quiesce_core.specs.Live.{StandsAt, IsGraphOf}
 use Rattle.config_graph.specs.declared.node.Link.{Link}
 use Rattle.quiesce_core.specs.Start.{slot_of, gate_of, no_service, no_exchange, started}
 use Rattle.quiesce_core.proofs.CycleLaws.{no_cycle_if_acyclic, map_or_at}
-use Rattle.quiesce_core.proofs.SameWiring.{linked_made, to_graph}
+use Rattle.quiesce_core.proofs.ConfigurationLaws.{linked_made}
+use Rattle.quiesce_core.proofs.SameWiring.{to_graph}
 use Rattle.config_graph.proofs.WiringLaws.{no_cycle_there}
 use Rattle.base.proofs.ContainsLaws.{Contains-at, at_some_place}
 use Rattle.base.proofs.FindLaws.{Contains-find, find_passes}

@@ -1,4 +1,3 @@
-pub mod KindLemmas
 pub mod CycleLaws
 pub mod ReachLaws
 pub mod LegalLaws
@@ -12,6 +11,13 @@ pub mod StateLaws
 pub mod TrafficLaws
 pub mod StepsLaws
 pub mod AlterLaws
+pub mod ConfigurationLaws
+pub mod SortLemmas
+pub mod GraphExistsLaws
+pub mod SourceLaws
+pub mod KnownLaws
+pub mod CarryLaws
+pub mod EngagedLaws
 pub mod StabilityLaws
 pub mod RunLaws
 pub mod InductionLaws

@@ -30,7 +30,7 @@ argument_if false (Some a) h = absurd (both_ways false refl h)
 has_argument : (node : Node) → has_its_argument node ≡ true → HasItsArgument node
 has_argument node h = let w = argument_if (is_some (row node.kind).arg) node.arg h in record { present = w.0; below = w.1 }
 
-any_at : {A : Type 0} (f : A → Bool) (xs : List A) (i : ℕ) (x : A) → slice_get xs i ≡ Some x → f x ≡ true → list_any f xs ≡ true
+pub any_at : {A : Type 0} (f : A → Bool) (xs : List A) (i : ℕ) (x : A) → slice_get xs i ≡ Some x → f x ≡ true → list_any f xs ≡ true
 any_at f [] i x e h = absurd (cc)
 any_at f (y ∷ xs) zero x e h = let same : y ≡ x = cc in or_left (f y) (list_any f xs) (ap f same ∙ h)
 any_at f (y ∷ xs) (suc i) x e h = or_right (f y) (list_any f xs) (any_at f xs i x e h)

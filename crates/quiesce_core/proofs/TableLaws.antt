@@ -15,9 +15,8 @@ use Rattle.quiesce_core.specs.State.{Configuration, State, slot, is_live, owner,
 use Rattle.quiesce_core.specs.Rules.{is_live_port, has_calls_left, has_mores_left}
 use Rattle.quiesce_core.specs.WordFields.{FitsTarget}
 use Rattle.quiesce_core.specs.WellFormed.{IsWellFormed}
-use Rattle.quiesce_core.proofs.KindLemmas.{few_calls, few_mores}
 use Rattle.quiesce_core.proofs.CycleLaws.{map_or_true, map_or_at}
-use Rattle.config_graph.proofs.KindLaws.{one_provision}
+use Rattle.config_graph.proofs.KindLaws.{few_calls, few_mores, one_provision}
 
 pub live_made : (c : Configuration) (n : ℕ) → is_live c n ≡ true → n < length c.slots
 live_made c n h = let m = map_or_true (λ (m : Slot). m.live) (slot c n) h in slice_get_within c.slots n m.0 m.1

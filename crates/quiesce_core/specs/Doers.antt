@@ -33,7 +33,11 @@ abbrev pub is_end_at : ℕ → Event → Bool
 is_end_at p (End q k v) = q == p
 is_end_at p _ = false
 
--- an event by which a node comes to be
+-- an event by which a node goes, or comes to be
+abbrev pub is_remove : Event → Bool
+is_remove (Remove n) = true
+is_remove _ = false
+
 abbrev pub is_make : Event → Bool
 is_make (Make n node from) = true
 is_make _ = false

@@ -24,3 +24,4 @@ pub mod Live
 pub mod Listed
 pub mod SameWiring
 pub mod Alters
+pub mod Sources

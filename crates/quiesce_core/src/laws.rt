@@ -16,7 +16,6 @@ ghost use Rattle.quiesce_core.specs.Start.{started};
 ghost use Rattle.config_graph.specs.Sound.{Sound};
 ghost use Rattle.config_graph.specs.declared.TheConstants.{MAX_NODES, MAX_PORTS};
 ghost use Rattle.config_graph.specs.declared.node.Target.{Target};
-ghost use Rattle.quiesce_core.specs.Knowledge.{Knows};
 ghost use Rattle.quiesce_core.specs.WordFields.{FitsWord};
 ghost use Rattle.quiesce_core.specs.GateWord.{fields_of, pack, unpack, word_of};
 ghost use Rattle.quiesce_core.specs.declared.word.Word.{Word};
@@ -80,12 +79,6 @@ pub fn nodes_are_named()
 /// The graph of a system that was just started is the one that it was started as.
 pub fn a_started_system_has_its_graph()
     ensures { (g : Graph) → Sound g → length g.nodes ≤ MAX_NODES → length (ports g.nodes) ≤ MAX_PORTS → IsGraphOf (started g).config g }
-{}
-
-/// In every run a node's own events tell it exactly what the state has of it: what it services, and how far each of its ports has
-/// come.
-pub fn nodes_know()
-    ensures { (es : List Event) → IsRun es → (n : ℕ) → Knows (state_after es) n (done_by n es) }
 {}
 
 /// A number spells the fields that it was packed from.
