@@ -7,12 +7,12 @@ pub mod SoundnessLaws
 pub mod SettledLaws
 pub mod RestLaws
 pub mod GraphLaws
-pub mod WordLemmas
 pub mod StateLaws
 pub mod TrafficLaws
 pub mod RunPartLaws
 pub mod StepsLaws
 pub mod RunLaws
+pub mod WordLaws
 pub mod OrderLemmas
 pub mod LiveLinks
 pub mod SameWiring

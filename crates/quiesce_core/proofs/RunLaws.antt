@@ -1,5 +1,5 @@
 -- What runs keep.
-use Rattle.std.proofs.Common.{◌≡◌, ◌∙◌, ℕ, ◌+◌, ◌-◌, List, [], ◌∷◌, ◌++◌, append_assoc, Some, refl, ap, sym, subst, arith}
+use Rattle.std.proofs.Common.{◌≡◌, ℕ, List, [], ◌∷◌, ◌++◌, append_assoc, Some, refl, sym, subst}
 use Rattle.std.proofs.lemmas.List.{append-nil}
 use Rattle.quiesce_core.specs.declared.event.Event.{Event}
 use Rattle.base.specs.Each.{EachAfter}
@@ -8,19 +8,14 @@ use Rattle.quiesce_core.specs.declared.event.Event.TheVariants.{Begin, Call, Tak
 use Rattle.quiesce_core.specs.Effect.{effect}
 use Rattle.quiesce_core.specs.Named.{AreNamed}
 use Rattle.quiesce_core.proofs.NamedLemmas.{named_next, named_empty}
-use Rattle.quiesce_core.specs.State.{Configuration, State, empty, owner}
-use Rattle.quiesce_core.specs.Reach.{IsPortOf}
+use Rattle.quiesce_core.specs.State.{State, empty}
 use Rattle.quiesce_core.specs.Knows.{Knows}
 use Rattle.quiesce_core.proofs.KnowledgeLemmas.{Told, mine, done_more, told_next, told_empty}
-use Rattle.quiesce_core.specs.WellFormed.{IsSound, IsWellFormed}
+use Rattle.quiesce_core.specs.WellFormed.{IsWellFormed}
 use Rattle.quiesce_core.specs.Traffic.{IsConsistent}
 use Rattle.quiesce_core.proofs.TrafficLaws.{consistent_next, consistent_empty}
 use Rattle.quiesce_core.proofs.LegalLaws.{legal}
 use Rattle.quiesce_core.proofs.SoundnessLaws.{well_formed_next, well_formed_empty}
-use Rattle.quiesce_core.specs.WordFields.{FitsWord}
-use Rattle.quiesce_core.specs.GateWord.{fields_of, unpack, word_of}
-use Rattle.quiesce_core.proofs.TableLaws.{fits_target}
-use Rattle.quiesce_core.proofs.WordLemmas.{words_decode}
 use Rattle.quiesce_core.proofs.RunPartLaws.{StepAt}
 use Rattle.quiesce_core.proofs.ReachLaws.{owner_of}
 
@@ -52,15 +47,6 @@ pub steps_keep_consistency : (s t : State) (e : Event) → IsWellFormed s → Is
 steps_keep_consistency s t e w k step =
     let may = legal s e step.allowed in
     (subst (λ u. IsWellFormed u) (sym step.changed) (well_formed_next s e w may), subst (λ u. IsConsistent u) (sym step.changed) (consistent_next s e w k may))
-
-fields_fit : (s : State) → IsWellFormed s → (p : ℕ) → FitsWord (fields_of s p)
-fields_fit s w p =
-    let bounds = w.bounds p in
-    record { value = bounds.value; serial = omega (arith, bounds.serial); target = λ t e. fits_target s w p t e }
-
--- the words of a run spell what the state has of the ports
-pub words_of_runs_decode : (es : List Event) (p : ℕ) → IsRun es → unpack (word_of (state_after es) p) ≡ fields_of (state_after es) p
-words_of_runs_decode es p h = words_decode (fields_of (state_after es) p) (fields_fit (state_after es) (runs_are_well_formed es h) p)
 
 told_from :
     (n : ℕ) (before es : List Event) → EachAfter StepAt before es → IsWellFormed (state_after before) → IsConsistent (state_after before) → Told (state_after before) n (done_by n before)

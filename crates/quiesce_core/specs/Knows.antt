@@ -4,7 +4,7 @@ use Rattle.quiesce_core.specs.declared.event.Event.{Event}
 use Rattle.quiesce_core.specs.declared.known.Served.{Served}
 use Rattle.quiesce_core.specs.declared.state.Service.{Service}
 use Rattle.quiesce_core.specs.State.{State, exchange, service}
-use Rattle.quiesce_core.specs.Phases.{is_idle}
+use Rattle.gate_word.specs.Phases.{is_idle}
 use Rattle.quiesce_core.specs.Reach.{IsPortOf}
 use Rattle.quiesce_core.specs.Knowledge.{OwnPort, served_after, own_port_after}
 

@@ -19,7 +19,7 @@ mod rules;
 mod starting;
 mod state;
 mod tables;
-mod word;
+mod words;
 
 pub use error::CoreError;
 pub use event::Event;
@@ -29,8 +29,10 @@ pub use laws::{
     each_rule_holds, full_is_found, node_events_keep_the_configuration, nodes_are_named,
     nodes_know, one_graph, reach_is_found, reach_is_that_of_the_graph, runs_are_consistent,
     runs_are_steps, runs_are_well_formed, started_systems_are_consistent, steps_keep_consistency,
-    words_decode, words_of_runs_decode,
 };
 pub use machine::Core;
 pub use state::{Exchange, Gate, OpenTxn, Phase, Service, Slot, Stage};
-pub use word::Word;
+pub use words::{
+    sources_were_made, words_fit, words_follow_events, words_of_runs_decode,
+    words_of_states_decode, words_tell_of_transactions,
+};
