@@ -8,10 +8,10 @@ use Rattle.config_graph.specs.declared.node.Target.{Target}
 use Rattle.quiesce_core.specs.declared.event.Event.TheVariants.{Begin, Call, Take, Give, End, More, Ask, Hear, Miss}
 use Rattle.quiesce_core.specs.declared.state.Exchange.{Exchange}
 use Rattle.quiesce_core.specs.declared.state.Service.{Service}
-use Rattle.quiesce_core.specs.declared.state.Phase.{Phase}
-use Rattle.quiesce_core.specs.declared.state.Phase.TheVariants as phase
+use Rattle.gate_word.specs.declared.phase.Phase.{Phase}
+use Rattle.gate_word.specs.declared.phase.Phase.TheVariants as phase
 use Rattle.quiesce_core.specs.State.{Traffic, State, owner, target, provision, calls_allowed, mores_allowed, depends, exchange, service, target_service}
-use Rattle.quiesce_core.specs.Phases.{is_idle, is_asked, is_answered, is_in_more}
+use Rattle.gate_word.specs.Phases.{is_idle, is_asked, is_answered, is_in_more}
 use Rattle.quiesce_core.specs.Effect.{with_exchange, with_service, with_target_service, effect}
 use Rattle.quiesce_core.specs.Legal.{Legal}
 use Rattle.quiesce_core.specs.Rest.{full, call_events, events_through, messages_due}

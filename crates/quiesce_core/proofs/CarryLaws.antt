@@ -7,10 +7,10 @@ use Rattle.std.proofs.lemmas.Bool.{and_parts, both_ways, cases_Bool, eq-eqb, eqb
 use Rattle.quiesce_core.specs.declared.event.Event.{Event}
 use Rattle.quiesce_core.specs.declared.event.Event.TheVariants.{Begin, Call, Take, Give, End, More, Ask, Hear, Miss, Close, Reopen, Make, Link, Unlink, Remove}
 use Rattle.quiesce_core.specs.declared.state.Exchange.{Exchange}
-use Rattle.quiesce_core.specs.declared.state.Phase.{Phase}
-use Rattle.quiesce_core.specs.declared.state.Phase.TheVariants as phase
+use Rattle.gate_word.specs.declared.phase.Phase.{Phase}
+use Rattle.gate_word.specs.declared.phase.Phase.TheVariants as phase
 use Rattle.quiesce_core.specs.State.{State, exchange}
-use Rattle.quiesce_core.specs.Phases.{is_answered, is_asked, is_in_more}
+use Rattle.gate_word.specs.Phases.{is_answered, is_asked, is_in_more}
 use Rattle.quiesce_core.specs.Rules.{is_last_message, is_next_serial, is_port_serial, is_taken, last_serial}
 use Rattle.quiesce_core.specs.Knowledge.{StandsThere}
 use Rattle.quiesce_core.specs.Doers.{is_ask_at, is_end_at, is_give_at}

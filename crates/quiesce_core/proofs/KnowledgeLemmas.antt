@@ -14,9 +14,9 @@ use Rattle.quiesce_core.specs.declared.known.Served.{Served}
 use Rattle.quiesce_core.specs.declared.state.Service.{Service}
 use Rattle.quiesce_core.specs.declared.state.Exchange.{Exchange}
 use Rattle.quiesce_core.specs.declared.state.Gate.{Gate}
-use Rattle.quiesce_core.specs.declared.state.Phase.TheVariants as phase
+use Rattle.gate_word.specs.declared.phase.Phase.TheVariants as phase
 use Rattle.quiesce_core.specs.State.{State, empty, fresh_exchange, fresh_gate, gate, owner, target, exchange, service, target_service}
-use Rattle.quiesce_core.specs.Phases.{is_idle, is_in_more}
+use Rattle.gate_word.specs.Phases.{is_idle, is_in_more}
 use Rattle.quiesce_core.specs.Rules.{is_live_port, is_last_message, was_heard}
 use Rattle.quiesce_core.specs.Effect.{with_gate, with_exchange, with_target_service, with_call, new_gates, effect}
 use Rattle.quiesce_core.specs.Legal.{Legal}

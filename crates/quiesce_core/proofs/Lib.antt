@@ -6,7 +6,6 @@ pub mod SoundnessLaws
 pub mod SettledLaws
 pub mod RestLaws
 pub mod GraphLaws
-pub mod WordLemmas
 pub mod StateLaws
 pub mod TrafficLaws
 pub mod StepsLaws
@@ -21,6 +20,7 @@ pub mod EngagedLaws
 pub mod StabilityLaws
 pub mod RunLaws
 pub mod InductionLaws
+pub mod WordLaws
 pub mod OrderLemmas
 pub mod LiveLinks
 pub mod SameWiring

@@ -21,16 +21,12 @@ use Rattle.quiesce_core.specs.Named.{AreNamed}
 use Rattle.quiesce_core.specs.Knowledge.{Knows}
 use Rattle.quiesce_core.specs.WellFormed.{IsSound, IsWellFormed}
 use Rattle.quiesce_core.specs.Traffic.{IsConsistent}
-use Rattle.quiesce_core.specs.WordFields.{FitsWord}
-use Rattle.quiesce_core.specs.GateWord.{fields_of, unpack, word_of}
 use Rattle.quiesce_core.proofs.LegalLaws.{legal}
 use Rattle.quiesce_core.proofs.SoundnessLaws.{well_formed_next, well_formed_empty}
 use Rattle.quiesce_core.proofs.StateLaws.{asked_busy, taken_is}
 use Rattle.quiesce_core.proofs.TrafficLaws.{consistent_next, consistent_empty}
 use Rattle.quiesce_core.proofs.NamedLemmas.{named_next, named_empty}
 use Rattle.quiesce_core.proofs.KnowledgeLemmas.{Told, mine, done_more, told_next, told_empty}
-use Rattle.quiesce_core.proofs.TableLaws.{fits_target}
-use Rattle.quiesce_core.proofs.WordLemmas.{words_decode}
 use Rattle.quiesce_core.proofs.ReachLaws.{owner_of}
 
 abbrev pub StepAt : List Event → Event → Type 0
@@ -213,15 +209,6 @@ pub steps_keep_consistency : (s t : State) (e : Event) → IsWellFormed s → Is
 steps_keep_consistency s t e w k step =
     let may = legal s e step.allowed in
     (subst (λ u. IsWellFormed u) (sym step.changed) (well_formed_next s e w may), subst (λ u. IsConsistent u) (sym step.changed) (consistent_next s e w k may))
-
-fields_fit : (s : State) → IsWellFormed s → (p : ℕ) → FitsWord (fields_of s p)
-fields_fit s w p =
-    let bounds = w.bounds p in
-    record { value = bounds.value; serial = omega (arith, bounds.serial); target = λ t e. fits_target s w p t e }
-
--- the words of a run spell what the state has of the ports
-pub words_of_runs_decode : (es : List Event) (p : ℕ) → IsRun es → unpack (word_of (state_after es) p) ≡ fields_of (state_after es) p
-words_of_runs_decode es p h = words_decode (fields_of (state_after es) p) (fields_fit (state_after es) (runs_are_well_formed es h) p)
 
 told_from :
     (n : ℕ) (before es : List Event) → EachAfter StepAt before es → IsWellFormed (state_after before) → IsConsistent (state_after before) → Told (state_after before) n (done_by n before)

@@ -15,10 +15,10 @@ use Rattle.quiesce_core.specs.declared.state.Slot.{Slot}
 use Rattle.quiesce_core.specs.declared.state.Gate.{Gate}
 use Rattle.quiesce_core.specs.declared.state.Service.{Service}
 use Rattle.quiesce_core.specs.declared.state.Exchange.{Exchange}
-use Rattle.quiesce_core.specs.declared.state.Phase.TheVariants as phase
+use Rattle.gate_word.specs.declared.phase.Phase.TheVariants as phase
 use Rattle.quiesce_core.specs.State.{Configuration, State, empty, fresh_gate, fresh_exchange, slot, gate, owner, target, provision, ports_of, calls_allowed, mores_allowed, depends, is_live, exchange, service, target_service}
 use Rattle.quiesce_core.specs.Reach.{IsPortOf, reaches}
-use Rattle.quiesce_core.specs.Phases.{is_idle, is_asked, is_in_more}
+use Rattle.gate_word.specs.Phases.{is_idle, is_asked, is_in_more}
 use Rattle.quiesce_core.specs.Rules.{is_linked, is_taken, is_called_within, has_calls_left, is_live_port, is_quiet, is_settled}
 use Rattle.quiesce_core.specs.Effect.{with_exchange, with_service, with_target_service, with_gate, with_closed, with_target, with_node, effect}
 use Rattle.quiesce_core.specs.Legal.{Legal}

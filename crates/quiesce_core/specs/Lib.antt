@@ -1,5 +1,4 @@
 pub mod State
-pub mod Phases
 pub mod Reach
 pub mod Effect
 pub mod Rules
@@ -7,14 +6,13 @@ pub mod Legal
 pub mod Runs
 pub mod Settled
 pub mod Rest
-pub mod GateWord
+pub mod Words
 pub mod Knowledge
 pub mod WellFormed
 pub mod Searched
 pub mod Tables
 pub mod CoreState
 pub mod Doers
-pub mod WordFields
 pub mod Open
 pub mod Counted
 pub mod Start

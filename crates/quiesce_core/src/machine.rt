@@ -11,7 +11,7 @@ ghost use Rattle.quiesce_core.specs.Settled.{Settled};
 ghost use Rattle.quiesce_core.specs.Open.{open_txns};
 ghost use Rattle.quiesce_core.specs.Live.{IsGraphOf};
 ghost use Rattle.quiesce_core.specs.Rest.{rest};
-ghost use Rattle.quiesce_core.specs.GateWord as words;
+ghost use Rattle.quiesce_core.specs.Words as words;
 ghost use Rattle.quiesce_core.specs.Runs.{Step};
 ghost use Rattle.quiesce_core.specs.Doers.{is_make};
 ghost use Rattle.quiesce_core.specs.Named.{AreNamed};

@@ -12,7 +12,7 @@ use Rattle.quiesce_core.specs.declared.event.Event.TheVariants.{Begin, Call, Tak
 use Rattle.quiesce_core.specs.declared.state.Slot.{Slot}
 use Rattle.quiesce_core.specs.declared.state.Gate.{Gate}
 use Rattle.quiesce_core.specs.State.{Configuration, State, fresh_gate, slot, gate, owner, target, depends, exchange}
-use Rattle.quiesce_core.specs.Phases.{is_idle}
+use Rattle.gate_word.specs.Phases.{is_idle}
 use Rattle.quiesce_core.specs.Rules.{is_live_port, is_settled}
 use Rattle.quiesce_core.specs.Traffic.{IsConsistent}
 use Rattle.quiesce_core.specs.Effect.{with_gate, with_removed, with_node, effect}

@@ -31,7 +31,7 @@ use Rattle.quiesce_core.specs.Runs.{Steps, onward, stays}
 use Rattle.quiesce_core.specs.Rules.{denial, has_its_argument, is_path_taken, is_value, is_quiet, is_live_port}
 use Rattle.quiesce_core.specs.Effect.{effect, new_gates, with_target}
 use Rattle.quiesce_core.specs.Legal.{CanMake, CanLink}
-use Rattle.quiesce_core.specs.Phases.{is_idle}
+use Rattle.gate_word.specs.Phases.{is_idle}
 use Rattle.quiesce_core.specs.Reach.{has_no_cycle}
 use Rattle.quiesce_core.specs.Start.{slot_of, gate_of, no_service, no_exchange, started}
 use Rattle.quiesce_core.specs.WellFormed.{IsWellFormed}

@@ -1,7 +1,7 @@
 -- Tests of how far a port's transaction has come.
 use Rattle.std.specs.Prelude.{Bool, true, false}
-use Rattle.quiesce_core.specs.declared.state.Phase.{Phase}
-use Rattle.quiesce_core.specs.declared.state.Phase.TheVariants as phase
+use Rattle.gate_word.specs.declared.phase.Phase.{Phase}
+use Rattle.gate_word.specs.declared.phase.Phase.TheVariants as phase
 
 abbrev pub is_idle : Phase → Bool
 is_idle phase.Idle = true
