@@ -157,7 +157,7 @@ replies_stay s e w c l p more_ not_ask = exchanges_next s e w l p ∙ stays e l 
 -- ---- who services a port
 
 -- what the node that services a port services after an event that isn't the port's Give: the same port still
-serves_on : (s : State) (e : Event) → IsConsistent s → Legal s e → (n : ℕ) (v : Service) → service s n ≡ Some v → is_give_at v.port e ≡ false
+pub serves_on : (s : State) (e : Event) → IsConsistent s → Legal s e → (n : ℕ) (v : Service) → service s n ≡ Some v → is_give_at v.port e ≡ false
     → (u : Service) × (service_next s n e ≡ Some u) × (u.port ≡ v.port)
 serves_on s e c l n v serves not_give = by (is_doer s n e) refl
   where
