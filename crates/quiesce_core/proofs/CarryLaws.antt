@@ -1,17 +1,16 @@
 -- Which values the events of a transaction carry: the Take has that of the Begin or Call, the Hear that of the Ask, and the End that of
 -- the Give.
-use Rattle.std.proofs.Common.{◌≡◌, ◌∙◌, ℕ, ◌+◌, ◌<◌, ◌≤◌, Bool, true, false, cond, ◌||◌, List, [], ◌∷◌, ◌++◌, append_assoc, Option, Some, None, refl, ap, sym, subst, ⊎_elim, arith}
-use Rattle.std.specs.Prelude.{◌==◌, nat_le}
+use Rattle.std.proofs.Common.{◌≡◌, ◌∙◌, ℕ, ◌≤◌, Bool, true, false, ◌||◌, List, [], ◌∷◌, ◌++◌, append_assoc, None, refl, ap, sym, subst, ⊎_elim, arith}
 use Rattle.std.specs.List.{list_any}
-use Rattle.std.proofs.lemmas.Bool.{and_parts, both_ways, cases_Bool, eq-eqb, eqb-true, not-true}
+use Rattle.std.proofs.lemmas.Bool.{both_ways, cases_Bool, eq-eqb, eqb-true, not-true}
 use Rattle.quiesce_core.specs.declared.event.Event.{Event}
-use Rattle.quiesce_core.specs.declared.event.Event.TheVariants.{Begin, Call, Take, Give, End, More, Ask, Hear, Miss, Close, Reopen, Make, Link, Unlink, Remove}
+use Rattle.quiesce_core.specs.declared.event.Event.TheVariants.{Begin, Call, Take, Give, End, More, Ask, Hear}
 use Rattle.quiesce_core.specs.declared.state.Exchange.{Exchange}
 use Rattle.gate_word.specs.declared.phase.Phase.{Phase}
 use Rattle.gate_word.specs.declared.phase.Phase.TheVariants as phase
 use Rattle.quiesce_core.specs.State.{State, exchange}
 use Rattle.gate_word.specs.Phases.{is_answered, is_asked, is_in_more}
-use Rattle.quiesce_core.specs.Rules.{is_last_message, is_next_serial, is_port_serial, is_taken, last_serial}
+use Rattle.quiesce_core.specs.Rules.{is_port_serial, is_taken}
 use Rattle.quiesce_core.specs.Knowledge.{StandsThere}
 use Rattle.quiesce_core.specs.Doers.{is_ask_at, is_end_at, is_give_at}
 use Rattle.quiesce_core.specs.Effect.{effect}
@@ -21,7 +20,7 @@ use Rattle.quiesce_core.specs.Traffic.{IsConsistent}
 use Rattle.quiesce_core.specs.WellFormed.{IsWellFormed}
 use Rattle.quiesce_core.proofs.AlterLaws.{exchanges_next}
 use Rattle.quiesce_core.proofs.TurnLaws.{Starts, Turn, asks, ends, gives, passes, replies, starts, turn_of}
-use Rattle.quiesce_core.proofs.InductionLaws.{IsNext, along, place}
+use Rattle.quiesce_core.proofs.InductionLaws.{IsNext, along, none_barred, place, unbarred}
 use Rattle.quiesce_core.proofs.RunLaws.{fronts_are_runs}
 use Rattle.quiesce_core.proofs.StabilityLaws.{answers_stay, replies_stay, taken_ports_stay}
 use Rattle.quiesce_core.proofs.KnowledgeLemmas.{message_is}
@@ -34,7 +33,7 @@ serial_rises s p k e (starts start) h = subst (λ i. k ≤ i) (sym (ap (λ (x : 
 serial_rises s p k e (gives v t g now) h = subst (λ (x : Exchange). k ≤ x.serial) (sym now) h
 serial_rises s p k e (replies v t m now) h = subst (λ (x : Exchange). k ≤ x.serial) (sym now) h
 serial_rises s p k e (asks v m a g now) h = subst (λ (x : Exchange). k ≤ x.serial) (sym now) h
-serial_rises s p k e (ends a now) h = subst (λ (x : Exchange). k ≤ x.serial) (sym now) h
+serial_rises s p k e (ends a d now) h = subst (λ (x : Exchange). k ≤ x.serial) (sym now) h
 
 -- a transaction that was begun is not begun again
 new_serial : (s : State) (p k : ℕ) (e : Event) → k ≤ (exchange s p).serial → Starts s p e → (exchange (effect s e) p).serial ≡ k → ⊥
@@ -59,7 +58,7 @@ module _ (p k v : ℕ) where
       by (gives u t g now) same asked untaken = absurd (both_ways false refl (sym (ap (λ (x : Exchange). is_asked x.phase) now) ∙ asked))
       by (replies u t m now) same asked untaken = absurd (both_ways false refl (sym (ap (λ (x : Exchange). is_asked x.phase) now) ∙ asked))
       by (asks u m a g now) same asked untaken = absurd (still g (c.taken p m) untaken)
-      by (ends a now) same asked untaken = absurd (both_ways false refl (sym (ap (λ (x : Exchange). is_asked x.phase) now) ∙ asked))
+      by (ends a d now) same asked untaken = absurd (both_ways false refl (sym (ap (λ (x : Exchange). is_asked x.phase) now) ∙ asked))
 
   -- until a further message is sent, the last one stands
   record IsSent (s : State) : Type 0 where
@@ -75,7 +74,7 @@ module _ (p k v : ℕ) where
       by (gives u t g now) same asked = absurd (both_ways false refl (sym (ap (λ (x : Exchange). is_asked x.phase) now) ∙ asked))
       by (replies u t m now) same asked = absurd (both_ways false refl (sym (ap (λ (x : Exchange). is_asked x.phase) now) ∙ asked))
       by (asks u m a g now) same asked = absurd (both_ways (is_ask_at p e) none_ a)
-      by (ends a now) same asked = absurd (both_ways false refl (sym (ap (λ (x : Exchange). is_asked x.phase) now) ∙ asked))
+      by (ends a d now) same asked = absurd (both_ways false refl (sym (ap (λ (x : Exchange). is_asked x.phase) now) ∙ asked))
 
   -- once it is answered, the answer stands until its end, and nothing more is asked
   record IsGiven (s : State) : Type 0 where
@@ -130,22 +129,14 @@ module _ (p k v : ℕ) where
         not_more = λ same. ap (λ (x : Exchange). is_in_more x.phase) now;
         stands = λ same answered. absurd (both_ways false refl (sym (ap (λ (x : Exchange). is_answered x.phase) now) ∙ answered));
       }
-      by (ends a now) = record {
-        since = serial_rises s p k e (ends a now) h.since;
+      by (ends a d now) = record {
+        since = serial_rises s p k e (ends a d now) h.since;
         unasked = λ same. ap (λ (x : Exchange). is_asked x.phase) now;
         not_more = λ same. ap (λ (x : Exchange). is_in_more x.phase) now;
         stands = λ same answered. absurd (both_ways false refl (sym (ap (λ (x : Exchange). is_answered x.phase) now) ∙ answered));
       }
 
 -- ---- along a run
-
-unbarred : Event → Bool
-unbarred e = false
-
-none_barred : (es : List Event) → list_any unbarred es ≡ false
-unfolding unbarred
-none_barred [] = refl
-none_barred (e ∷ es) = none_barred es
 
 -- what each step keeps goes from behind an event to a later one
 carried : (Q : State → Type 0) (bars : Event → Bool) → ((s : State) (e : Event) → IsWellFormed s → IsConsistent s → Legal s e → bars e ≡ false → Q s → Q (effect s e))

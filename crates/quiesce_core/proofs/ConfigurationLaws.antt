@@ -1,6 +1,6 @@
 -- What is read in configurations, and after an event of the change.
 use Rattle.std.proofs.Common.{◌≡◌, ◌∙◌, ℕ, ◌+◌, ◌-◌, ◌<◌, ◌≤◌, ◌⊎◌, inl, inr, Bool, true, false, cond, ◌&&◌, length, set, Option, Some, None, refl, ap, sym, subst, ⊎_elim, arith}
-use Rattle.std.specs.Prelude.{◌↔◌, ◌==◌, nat_lt, nat_le, slice_get, option_map}
+use Rattle.std.specs.Prelude.{◌↔◌, ◌==◌, nat_lt, nat_le, option_map}
 use Rattle.std.specs.Option.{option_map_or}
 use Rattle.std.proofs.lemmas.Bool.{and_parts, both_ways, cases_Bool, cases_eq, cases_lt, eq-eqb, ne_eqb, leb-true}
 use Rattle.std.proofs.lemmas.List.{get_or_past}
@@ -13,7 +13,7 @@ use Rattle.quiesce_core.specs.declared.event.Event.{Event}
 use Rattle.quiesce_core.specs.declared.event.Event.TheVariants.{Begin, Call, Take, Give, End, More, Ask, Hear, Miss, Close, Reopen, Make, Link, Unlink, Remove}
 use Rattle.quiesce_core.specs.declared.state.Slot.{Slot}
 use Rattle.quiesce_core.specs.declared.state.Gate.{Gate}
-use Rattle.quiesce_core.specs.State.{Configuration, fresh_gate, slot, gate, is_live, owner, target}
+use Rattle.quiesce_core.specs.State.{Configuration, fresh_gate, slot, gate, owner, target}
 use Rattle.quiesce_core.specs.Alters.{Reconfigures, gate_next, slot_next}
 use Rattle.quiesce_core.specs.Doers.{is_make, is_remove}
 use Rattle.quiesce_core.specs.Effect.{with_removed}

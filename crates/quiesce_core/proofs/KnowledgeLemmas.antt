@@ -1,12 +1,9 @@
 -- Each event keeps what a node's own events tell it.
 use Rattle.std.proofs.Common.{◌≡◌, ◌∙◌, ℕ, ◌+◌, ◌<◌, ◌≤◌, Bool, true, false, cond, List, [], ◌∷◌, ◌++◌, length, Option, Some, None, refl, sym, ap, subst, ⊎_elim, arith}
 use Rattle.std.specs.Prelude.{◌==◌, fold, option_map, is_some}
-use Rattle.std.specs.Option.{option_map_or}
 use Rattle.std.proofs.lemmas.Bool.{and_parts, both_ways, cases_Bool, eqb-true, eq-eqb, ne_eqb}
 use Rattle.std.proofs.lemmas.List.Sums.{fold-append}
 use Rattle.std.proofs.lemmas.Option.{same_Some}
-use Rattle.config_graph.specs.Kinds.{row}
-use Rattle.config_graph.specs.declared.node.Target.{Target}
 use Rattle.gate_word.specs.Phases.{is_idle}
 use Rattle.gate_word.specs.declared.phase.Phase.TheVariants as phase
 use Rattle.quiesce_core.specs.declared.event.Event.{Event}
@@ -14,9 +11,9 @@ use Rattle.quiesce_core.specs.declared.event.Event.TheVariants.{Begin, Call, Tak
 use Rattle.quiesce_core.specs.declared.known.Served.{Served}
 use Rattle.quiesce_core.specs.declared.state.Service.{Service}
 use Rattle.quiesce_core.specs.declared.state.Exchange.{Exchange}
-use Rattle.quiesce_core.specs.State.{Configuration, State, empty, gate, owner, exchange, service, target, target_service}
+use Rattle.quiesce_core.specs.State.{Configuration, State, empty, owner, exchange, service}
 use Rattle.quiesce_core.specs.Alters.{exchange_next, ports_next, service_by}
-use Rattle.quiesce_core.specs.Rules.{is_last_message, is_live_port, is_taken, was_heard}
+use Rattle.quiesce_core.specs.Rules.{is_last_message, is_live_port, was_heard}
 use Rattle.quiesce_core.specs.Effect.{effect}
 use Rattle.quiesce_core.specs.Legal.{Legal}
 use Rattle.quiesce_core.specs.Runs.{done_from, is_doer}

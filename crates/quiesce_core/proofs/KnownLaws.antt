@@ -1,13 +1,13 @@
 -- What a node knows by the indexes of its requirements: it is told by its own events, each step moves it as the fold does and leaves
 -- what others know, and rules of its own events can be judged by it.
-use Rattle.std.proofs.Common.{◌≡◌, ◌∙◌, ℕ, zero, suc, ◌+◌, ◌<◌, ◌≤◌, Bool, true, false, cond, not, ◌&&◌, List, [], ◌∷◌, ◌++◌, length, get_or, Option, Some, None, refl, ap, sym, subst, ⊎_elim, arith}
-use Rattle.std.specs.Prelude.{◌↔◌, ◌==◌, nat_lt, nat_le, fold, is_some, slice_get, option_map}
+use Rattle.std.proofs.Common.{◌≡◌, ◌∙◌, ℕ, zero, suc, ◌+◌, ◌<◌, ◌≤◌, Bool, true, false, cond, not, ◌&&◌, List, [], ◌∷◌, ◌++◌, length, Option, Some, None, refl, ap, sym, subst, ⊎_elim, arith}
+use Rattle.std.specs.Prelude.{◌↔◌, ◌==◌, nat_lt, nat_le, fold, is_some, slice_get}
 use Rattle.std.specs.List.{list_all}
 use Rattle.std.specs.Option.{option_map_or}
-use Rattle.std.proofs.lemmas.Bool.{and_parts, both_ways, cases_Bool, cases_eq, cases_lt, eq-eqb, eqb-true, ne_eqb, not_from_false, not-true, false_from_ne_true}
+use Rattle.std.proofs.lemmas.Bool.{and_parts, both_ways, cases_Bool, eq-eqb, eqb-true, not_from_false, not-true, false_from_ne_true}
 use Rattle.std.proofs.lemmas.List.{get_or_past}
 use Rattle.std.proofs.lemmas.List.Sums.{fold_push}
-use Rattle.std.proofs.lemmas.Option.{same_Some, slice_get_within}
+use Rattle.std.proofs.lemmas.Option.{same_Some}
 use Rattle.config_graph.specs.Kinds.{row, calls_of, depends_on, mores_of}
 use Rattle.config_graph.specs.declared.node.Target.{Target}
 use Rattle.quiesce_core.specs.declared.event.Event.{Event}
@@ -18,7 +18,7 @@ use Rattle.quiesce_core.specs.declared.known.Served.{Served}
 use Rattle.quiesce_core.specs.declared.state.Exchange.{Exchange}
 use Rattle.quiesce_core.specs.declared.state.Service.{Service}
 use Rattle.quiesce_core.specs.declared.state.Slot.{Slot}
-use Rattle.quiesce_core.specs.State.{Configuration, State, calls_allowed, depends, fresh_exchange, gate, mores_allowed, slot, owner, ports_of, provision, target, target_service, exchange, service}
+use Rattle.quiesce_core.specs.State.{State, calls_allowed, depends, fresh_exchange, gate, mores_allowed, slot, owner, ports_of, provision, target, target_service, exchange, service}
 use Rattle.gate_word.specs.Phases.{is_answered, is_idle, is_in_more}
 use Rattle.quiesce_core.specs.Rules.{calls_have_ended, has_calls_left, has_mores_left, is_called_within, is_taken, serves_through, was_heard}
 use Rattle.config_graph.specs.declared.TheConstants.{MAX_NODES, MAX_PORTS}
@@ -31,10 +31,10 @@ use Rattle.quiesce_core.specs.Reach.{IsPortOf}
 use Rattle.quiesce_core.specs.Runs.{IsRun, done_by, is_doer, state_after}
 use Rattle.quiesce_core.specs.Traffic.{IsConsistent}
 use Rattle.quiesce_core.specs.WellFormed.{IsWellFormed}
-use Rattle.quiesce_core.specs.Knowledge.{IsKnown, IsPortKnown, IsServed, KnowsService, OwnPort, StandsThere, known_after, known_next, own_port, own_port_after, own_port_next, port_known_next, ports_known_next, served_after, served_next, unknown, unknown_port}
+use Rattle.quiesce_core.specs.Knowledge.{IsKnown, IsPortKnown, IsServed, KnowsService, OwnPort, StandsThere, known_after, known_next, own_port, own_port_after, own_port_next, port_known_next, ports_known_next, served_after, served_next, nothing_known, port_at_start}
 use Rattle.quiesce_core.proofs.ConfigurationLaws.{slot_was}
 use Rattle.quiesce_core.proofs.AlterLaws.{reconfigured}
-use Rattle.quiesce_core.proofs.KnowledgeLemmas.{mine, port_other, port_step, service_next}
+use Rattle.quiesce_core.proofs.KnowledgeLemmas.{port_other, port_step, service_next}
 use Rattle.quiesce_core.proofs.ReachLaws.{owner_of}
 use Rattle.quiesce_core.proofs.RunLaws.{nodes_know}
 use Rattle.quiesce_core.proofs.CycleLaws.{all_of, map_or_at, of_all}
@@ -198,7 +198,7 @@ known_by_others s e n first k w c l made other h = record {
 
 -- the fold of a log is what the fold of each port and of the service gives
 pub known_after_more : (first : ℕ) (es : List Event) (e : Event) → known_after first (es ++ e ∷ []) ≡ known_next first (known_after first es) e
-known_after_more first es e = fold_push (known_next first) unknown es e
+known_after_more first es e = fold_push (known_next first) nothing_known es e
 
 -- what it has of a port, where nothing was seen
 pub record IsPortOfLog (p : ℕ) (es : List Event) (k : PortKnown) : Type 0 where
@@ -247,21 +247,21 @@ port_from first w (e ∷ es) r k at =
       λ h. rest.3 (ap (λ (x : PortKnown). x.seen) here.2 ∙ unseen_next (first + r) here.0 e h),
     )
 
-unknown_at : (r : ℕ) (k : PortKnown) → slice_get unknown.ports r ≡ Some k → unknown_port ≡ k
-unknown_at zero k at = same_Some unknown_port k at
-unknown_at (suc zero) k at = same_Some unknown_port k at
-unknown_at (suc (suc r)) k at = absurd (cc)
+start_at : (r : ℕ) (k : PortKnown) → slice_get nothing_known.ports r ≡ Some k → port_at_start ≡ k
+start_at zero k at = same_Some port_at_start k at
+start_at (suc zero) k at = same_Some port_at_start k at
+start_at (suc (suc r)) k at = absurd (cc)
 
 pub service_of_log : (first : ℕ) (es : List Event) → (known_after first es).service ≡ served_after es
-service_of_log first es = service_from first unknown es
+service_of_log first es = service_from first nothing_known es
 
 pub ports_of_log : (first : ℕ) (es : List Event) → length (known_after first es).ports ≡ 2
-ports_of_log first es = two_from first unknown es
+ports_of_log first es = two_from first nothing_known es
 
 pub port_of_log : (first : ℕ) (es : List Event) (r : ℕ) (k : PortKnown) → slice_get (known_after first es).ports r ≡ Some k → IsPortOfLog (first + r) es k
 port_of_log first es r k at =
-    let w = port_from first unknown es r k at in
-    let start = unknown_at r w.0 w.1 in
+    let w = port_from first nothing_known es r k at in
+    let start = start_at r w.0 w.1 in
     record {
       port = w.2 ∙ ap (λ o. fold (own_port_next (first + r)) (as_own_port o) es) (sym start);
       unseen = w.3 (ap (λ (x : PortKnown). x.seen) (sym start));
@@ -279,7 +279,7 @@ nodes_know_by_index es run n first =
     }
 
 -- a node that was just made knows of nothing
-pub new_nodes_know_nothing : (s : State) (n : ℕ) (node : Node) (from : Option ℕ) → IsWellFormed s → Legal s (Make n node from) → IsKnown (effect s (Make n node from)) n (length s.config.gates) unknown
+pub new_nodes_know_nothing : (s : State) (n : ℕ) (node : Node) (from : Option ℕ) → IsWellFormed s → Legal s (Make n node from) → IsKnown (effect s (Make n node from)) n (length s.config.gates) nothing_known
 new_nodes_know_nothing s n node from w l =
     let room = (and_parts (n == length s.config.slots && nat_lt n MAX_NODES) (nat_le (length s.config.gates + length (row node.kind).requires_) MAX_PORTS) l.room).0 in
     let next : n ≡ length s.config.slots = eqb-true n (length s.config.slots) (and_parts (n == length s.config.slots) (nat_lt n MAX_NODES) room).0 in
@@ -291,7 +291,7 @@ new_nodes_know_nothing s n node from w l =
           let fresh : exchange s' (length s.config.gates + r) ≡ fresh_exchange =
           fresh_behind s.traffic.exchanges fresh_exchange (length (row node.kind).requires_) (length s.config.gates + r)
           ∙ get_or_past s.traffic.exchanges (length s.config.gates + r) fresh_exchange (omega (arith, w.exchanges)) in
-          let start = unknown_at r k at in
+          let start = start_at r k at in
           port_known s' (length s.config.gates + r) k
           (ap as_own_port (sym start) ∙ ap (λ (x : Exchange). record { idle = is_idle x.phase; serial = x.serial; consequent = is_some x.within }) (sym fresh))
           (λ v seen. absurd (cc (ap (λ (x : PortKnown). x.seen) start, seen)));

@@ -1,9 +1,9 @@
 -- Each event keeps the traffic consistent.
 use Rattle.std.proofs.Common.{◌≡◌, ◌∙◌, ℕ, ◌+◌, ◌-◌, ◌<◌, ◌≤◌, Bool, true, false, not, cond, ◌&&◌, ◌||◌, length, Option, Some, None, refl, sym, ap, subst, ⊎_elim, arith}
-use Rattle.std.specs.Prelude.{◌⊎◌, ◌==◌, nat_lt, nat_le, is_none, is_some, option_map}
+use Rattle.std.specs.Prelude.{◌==◌, nat_lt, nat_le, is_none, is_some, option_map}
 use Rattle.std.specs.List.{list_all, range_with_len}
 use Rattle.std.specs.Option.{option_map_or}
-use Rattle.std.proofs.lemmas.Bool.{and_parts, both_ways, cases_Bool, cases_eq, cases_lt, eq-eqb, eqb-true, false_from_ne_true, leb-true, ltb-true, ne_eqb, not-true, or_left, or_right}
+use Rattle.std.proofs.lemmas.Bool.{and_parts, both_ways, cases_Bool, cases_eq, cases_lt, eq-eqb, eqb-true, false_from_ne_true, ltb-true, ne_eqb, not-true, or_left}
 use Rattle.std.proofs.lemmas.List.{get_or_past}
 use Rattle.std.proofs.lemmas.Option.{same_Some}
 use Rattle.config_graph.specs.Kinds.{row, depends_on, calls_of, mores_of}
@@ -11,15 +11,14 @@ use Rattle.config_graph.specs.declared.kind.Kind.{Kind}
 use Rattle.config_graph.specs.declared.node.Target.{Target}
 use Rattle.gate_word.specs.Phases.{is_idle, is_asked, is_in_more}
 use Rattle.gate_word.specs.declared.phase.Phase.{Phase}
-use Rattle.gate_word.specs.declared.phase.Phase.TheVariants as phase
 use Rattle.quiesce_core.specs.declared.event.Event.{Event}
 use Rattle.quiesce_core.specs.declared.event.Event.TheVariants.{Begin, Call, Take, Give, End, More, Ask, Hear, Miss, Close, Reopen, Make, Link, Unlink, Remove}
 use Rattle.quiesce_core.specs.declared.state.Slot.{Slot}
 use Rattle.quiesce_core.specs.declared.state.Gate.{Gate}
 use Rattle.quiesce_core.specs.declared.state.Service.{Service}
 use Rattle.quiesce_core.specs.declared.state.Exchange.{Exchange}
-use Rattle.quiesce_core.specs.State.{Configuration, State, empty, fresh_gate, slot, gate, owner, target, provision, ports_of, calls_allowed, mores_allowed, depends, is_live, exchange, service, target_service}
-use Rattle.quiesce_core.specs.Alters.{gate_next, service_by, service_next}
+use Rattle.quiesce_core.specs.State.{Configuration, State, empty, fresh_gate, slot, gate, owner, target, provision, ports_of, calls_allowed, mores_allowed, depends, is_live, exchange, service}
+use Rattle.quiesce_core.specs.Alters.{service_by, service_next}
 use Rattle.quiesce_core.specs.Doers.{is_give_at, is_more_at}
 use Rattle.quiesce_core.specs.Reach.{IsPortOf}
 use Rattle.quiesce_core.specs.Rules.{has_calls_left, is_called_within, is_linked, is_live_port, is_taken, serves_through}
@@ -30,12 +29,12 @@ use Rattle.quiesce_core.specs.WellFormed.{IsWellFormed}
 use Rattle.quiesce_core.specs.Traffic.{IsServing, IsConsequent, IsConsistent}
 use Rattle.quiesce_core.proofs.AlterLaws.{reconfigured, services_next}
 use Rattle.quiesce_core.proofs.ConfigurationLaws.{kind_kept, linked_made, owner_kept, require_kept}
-use Rattle.quiesce_core.proofs.CycleLaws.{map_or_true, map_or_at, all_of}
+use Rattle.quiesce_core.proofs.CycleLaws.{map_or_at, all_of}
 use Rattle.quiesce_core.proofs.SettledLaws.{settled_if}
 use Rattle.quiesce_core.proofs.StabilityLaws.{busy_ports_stay, serves_on, taken_ports_stay}
 use Rattle.quiesce_core.proofs.StateLaws.{asked_not_more, busy_made, idle_unserved, more_busy, provision_is, serving_busy, serving_unanswered, taken_busy, taken_is, target_service_is}
 use Rattle.quiesce_core.proofs.TableLaws.{live_made}
-use Rattle.quiesce_core.proofs.TurnLaws.{Starts, Turn, asks, ends, gives, passes, replies, replies_are_of_servers, served_there, starts, turn_of}
+use Rattle.quiesce_core.proofs.TurnLaws.{Turn, asks, ends, gives, passes, replies, replies_are_of_servers, served_there, starts, turn_of}
 use Rattle.base.proofs.OptionLaws.{None-from_is_none, Some-from_is_some, option_map_some}
 
 -- the one that services a port is the one to which it is linked
@@ -73,7 +72,7 @@ module _ (s : State) (e : Event) (w : IsWellFormed s) (c : IsConsistent s) (l : 
       by (gives v t g now) = links_on p (taken_busy s p c t)
       by (replies v t m now) = links_on p (taken_busy s p c t)
       by (asks v m a g now) = links_on p (more_busy (exchange s p).phase m)
-      by (ends a now) = absurd (both_ways (is_idle (exchange (effect s e) p).phase) busy (phase_now s p e is_idle _ now))
+      by (ends a d now) = absurd (both_ways (is_idle (exchange (effect s e) p).phase) busy (phase_now s p e is_idle _ now))
 
   taken_next : (p : ℕ) → is_in_more (exchange (effect s e) p).phase ≡ true → is_taken (effect s e) p ≡ true
   taken_next p more_ = by (turn_of s e w l p)
@@ -84,7 +83,7 @@ module _ (s : State) (e : Event) (w : IsWellFormed s) (c : IsConsistent s) (l : 
       by (gives v t g now) = absurd (not_now s p e is_in_more _ now refl more_)
       by (replies v t m now) = taken_ports_stay s e w c l p t (more_no_give p e m)
       by (asks v m a g now) = absurd (not_now s p e is_in_more _ now refl more_)
-      by (ends a now) = absurd (not_now s p e is_in_more _ now refl more_)
+      by (ends a d now) = absurd (not_now s p e is_in_more _ now refl more_)
 
   -- ---- services
 
@@ -107,7 +106,7 @@ module _ (s : State) (e : Event) (w : IsWellFormed s) (c : IsConsistent s) (l : 
       by (gives v t g now) = absurd (both_ways (is_give_at u.port e) no_give g)
       by (replies v t m now) = phase_now s u.port e (λ f. is_asked f || is_in_more f) _ now
       by (asks v m a g now) = phase_now s u.port e (λ f. is_asked f || is_in_more f) _ now
-      by (ends a now) = absurd (serving_unanswered (exchange s u.port).phase old a)
+      by (ends a d now) = absurd (serving_unanswered (exchange s u.port).phase old a)
 
   -- a service that stays at its port, with calls and replies within bounds
   serving_on : (n : ℕ) (u v : Service) (serves : service s n ≡ Some u) → v.port ≡ u.port → is_give_at u.port e ≡ false
@@ -137,7 +136,7 @@ module _ (s : State) (e : Event) (w : IsWellFormed s) (c : IsConsistent s) (l : 
       by (gives v t g now) = absurd (not_now s u.port e is_in_more _ now refl more_)
       by (replies v t m now) = absurd (both_ways (is_more_at u.port e) no_more m)
       by (asks v m a g now) = absurd (not_now s u.port e is_in_more _ now refl more_)
-      by (ends a now) = absurd (not_now s u.port e is_in_more _ now refl more_)
+      by (ends a d now) = absurd (not_now s u.port e is_in_more _ now refl more_)
 
   -- as it was
   bounds_on : (n : ℕ) (u : Service) → service s n ≡ Some u → (x : ℕ) → target s.config u.port ≡ Some (record { node = n; provide = x }) → (u.calls ≤ calls_allowed s.config n x) × (u.mores ≤ mores_allowed s.config n x)
@@ -299,7 +298,7 @@ module _ (s : State) (e : Event) (w : IsWellFormed s) (c : IsConsistent s) (l : 
       by (gives v t g now) = consequent_on p q (before _ now) (phase_now s p e is_idle _ now)
       by (replies v t m now) = consequent_on p q (before _ now) (phase_now s p e is_idle _ now)
       by (asks v m a g now) = consequent_on p q (before _ now) (phase_now s p e is_idle _ now)
-      by (ends a now) = absurd (cc (before _ now))
+      by (ends a d now) = absurd (cc (before _ now))
 
 -- ---- the ports of removed nodes
 

@@ -1,10 +1,10 @@
 -- What an event that may happen is to a port, and what it leaves of a service.
-use Rattle.std.proofs.Common.{◌≡◌, ◌∙◌, ℕ, ◌+◌, ◌≤◌, Bool, true, false, cond, ◌⊎◌, inl, inr, Option, Some, None, refl, ap, sym, subst, ⊎_elim}
+use Rattle.std.proofs.Common.{◌≡◌, ◌∙◌, ℕ, ◌+◌, Bool, true, false, cond, ◌⊎◌, inl, inr, Option, Some, None, refl, ap, sym}
 use Rattle.std.specs.Prelude.{◌==◌, nat_le, option_map}
 use Rattle.std.specs.Option.{option_map_or}
 use Rattle.std.proofs.lemmas.Bool.{and_parts, both_ways, eq-eqb, eqb-true, false_from_ne_true}
 use Rattle.config_graph.specs.declared.node.Target.{Target}
-use Rattle.gate_word.specs.Phases.{is_answered, is_asked, is_idle, is_in_more}
+use Rattle.gate_word.specs.Phases.{is_answered, is_idle, is_in_more}
 use Rattle.gate_word.specs.declared.phase.Phase.TheVariants as phase
 use Rattle.quiesce_core.specs.declared.event.Event.{Event}
 use Rattle.quiesce_core.specs.declared.event.Event.TheVariants.{Begin, Call, Take, Give, End, More, Ask, Hear, Miss, Close, Reopen, Make, Link, Unlink, Remove}
@@ -12,7 +12,7 @@ use Rattle.quiesce_core.specs.declared.state.Exchange.{Exchange}
 use Rattle.quiesce_core.specs.declared.state.Service.{Service}
 use Rattle.quiesce_core.specs.State.{State, exchange, owner, service, target, target_service}
 use Rattle.quiesce_core.specs.Rules.{is_linked, is_next_serial, is_taken, last_serial, serves_through}
-use Rattle.quiesce_core.specs.Doers.{is_ask_at, is_give_at, is_more_at}
+use Rattle.quiesce_core.specs.Doers.{is_ask_at, is_end_at, is_give_at, is_more_at}
 use Rattle.quiesce_core.specs.Effect.{effect}
 use Rattle.quiesce_core.specs.Legal.{Legal}
 use Rattle.quiesce_core.specs.Runs.{is_doer}
@@ -38,7 +38,7 @@ pub data Turn (s : State) (p : ℕ) (e : Event) : Type 0 where
   gives : (v : ℕ) → is_taken s p ≡ true → is_give_at p e ≡ true → exchange (effect s e) p ≡ record (exchange s p) { phase = phase.Answered; value = v } → Turn s p e
   replies : (v : ℕ) → is_taken s p ≡ true → is_more_at p e ≡ true → exchange (effect s e) p ≡ record (exchange s p) { phase = phase.More; value = v } → Turn s p e
   asks : (v : ℕ) → is_in_more (exchange s p).phase ≡ true → is_ask_at p e ≡ true → is_give_at p e ≡ false → exchange (effect s e) p ≡ record (exchange s p) { phase = phase.Asked; value = v } → Turn s p e
-  ends : is_answered (exchange s p).phase ≡ true → exchange (effect s e) p ≡ record (exchange s p) { phase = phase.Idle; value = 0; within = None } → Turn s p e
+  ends : is_answered (exchange s p).phase ≡ true → is_end_at p e ≡ true → exchange (effect s e) p ≡ record (exchange s p) { phase = phase.Idle; value = 0; within = None } → Turn s p e
 
 chosen : (s : State) (p : ℕ) (e : Event) (b : Bool) (x y : Exchange) → exchange (effect s e) p ≡ cond b x y → (b ≡ true → exchange (effect s e) p ≡ x → Turn s p e)
     → (b ≡ false → exchange (effect s e) p ≡ y → Turn s p e) → Turn s p e
@@ -85,7 +85,7 @@ turn_of s (More q k v) w l p = chosen s p (More q k v) (q == p) _ _ (exchanges_n
 turn_of s (Ask q k v) w l p = chosen s p (Ask q k v) (q == p) _ _ (exchanges_next s (Ask q k v) w l p)
     (λ h now. asks v (ap (λ i. is_in_more (exchange s i).phase) (sym (eqb-true q p h)) ∙ l.in_more) h refl now) (λ h now. passes now refl refl)
 turn_of s (End q k v) w l p = chosen s p (End q k v) (q == p) _ _ (exchanges_next s (End q k v) w l p)
-    (λ h now. ends (ap (λ i. is_answered (exchange s i).phase) (sym (eqb-true q p h)) ∙ l.answered) now) (λ h now. passes now refl refl)
+    (λ h now. ends (ap (λ i. is_answered (exchange s i).phase) (sym (eqb-true q p h)) ∙ l.answered) h now) (λ h now. passes now refl refl)
 turn_of s (Take q k v) w l p = passes (exchanges_next s (Take q k v) w l p) refl refl
 turn_of s (Hear q k v) w l p = passes (exchanges_next s (Hear q k v) w l p) refl refl
 turn_of s (Miss q) w l p = passes (exchanges_next s (Miss q) w l p) refl refl
@@ -103,7 +103,7 @@ serial_kept s p e (starts h) busy = absurd (both_ways (is_idle (exchange s p).ph
 serial_kept s p e (gives v t g now) busy = ap (λ (x : Exchange). x.serial) now
 serial_kept s p e (replies v t m now) busy = ap (λ (x : Exchange). x.serial) now
 serial_kept s p e (asks v m a g now) busy = ap (λ (x : Exchange). x.serial) now
-serial_kept s p e (ends a now) busy = ap (λ (x : Exchange). x.serial) now
+serial_kept s p e (ends a d now) busy = ap (λ (x : Exchange). x.serial) now
 
 -- an exchange has what is known of a service there
 pub record Kept (s s' : State) (v : Service) : Type 0 where
@@ -121,7 +121,7 @@ port_kept s e w c l n v serves no_give no_more = by (turn_of s e w l v.port)
     by (gives u t g now) = absurd (both_ways (is_give_at v.port e) no_give g)
     by (replies u t m now) = absurd (both_ways (is_more_at v.port e) no_more m)
     by (asks u m a g now) = record { serial = ap (λ (x : Exchange). x.serial) now; value = λ h. absurd (both_ways v.heard ((c.serving n v serves).waits m) h) }
-    by (ends a now) = absurd (answered_unserved s v.port c a n v serves refl)
+    by (ends a d now) = absurd (answered_unserved s v.port c a n v serves refl)
 
 -- those are of the node that services the port
 does_if : (s : State) (q n x : ℕ) → target s.config q ≡ Some (record { node = n; provide = x }) → option_map_or (λ m. m == n) (option_map (λ (t : Target). t.node) (target s.config q)) false ≡ true

@@ -67,12 +67,12 @@ pub record Knows (s : State) (n : ℕ) (es : List Event) : Type 0 where
 -- ---- the same by require index
 
 -- nothing is known to have happened at the port
-abbrev pub unknown_port : PortKnown
-unknown_port = record { idle = true; serial = 0; consequent = false; seen = None; more = false }
+abbrev pub port_at_start : PortKnown
+port_at_start = record { idle = true; serial = 0; consequent = false; seen = None; more = false }
 
 -- what a node knows of itself before its first event
-abbrev pub unknown : Known
-unknown = record { service = None; ports = unknown_port ∷ unknown_port ∷ [] }
+abbrev pub nothing_known : Known
+nothing_known = record { service = None; ports = port_at_start ∷ port_at_start ∷ [] }
 
 -- of port p, after one more event of its owner: what was seen there is replied to by the Ask or the End
 abbrev pub port_known_next : ℕ → PortKnown → Event → PortKnown
@@ -92,7 +92,7 @@ abbrev pub known_next : ℕ → Known → Event → Known
 known_next first w e = record { service = served_next w.service e; ports = ports_known_next first w.ports e }
 
 abbrev pub known_after : ℕ → List Event → Known
-known_after first es = fold (known_next first) unknown es
+known_after first es = fold (known_next first) nothing_known es
 
 -- a reply of this value stands at the port: an intermediate one, or the answer
 pub record StandsThere (s : State) (p : ℕ) (more_ : Bool) (v : ℕ) : Type 0 where

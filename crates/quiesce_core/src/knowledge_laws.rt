@@ -9,7 +9,7 @@ ghost use Rattle.quiesce_core.specs.declared.known.Known.{Known};
 ghost use Rattle.quiesce_core.specs.declared.known.PortKnown.{PortKnown};
 ghost use Rattle.quiesce_core.specs.declared.known.Served.{Served};
 ghost use Rattle.quiesce_core.specs.declared.state.Slot.{Slot};
-ghost use Rattle.quiesce_core.specs.Knowledge.{IsKnown, Knows, known_after, known_next, own_port_after, served_after, unknown};
+ghost use Rattle.quiesce_core.specs.Knowledge.{IsKnown, Knows, known_after, known_next, own_port_after, served_after, nothing_known};
 ghost use Rattle.quiesce_core.specs.Reach.{IsPortOf};
 ghost use Rattle.quiesce_core.specs.Rules.{calls_have_ended, has_calls_left, has_mores_left, is_taken, serves_through, was_heard};
 ghost use Rattle.quiesce_core.specs.Runs.{IsRun, Step, done_by, is_doer, state_after};
@@ -40,7 +40,7 @@ pub fn logs_tell()
 pub fn steps_keep_what_is_known()
     ensures own { (s t : State) (e : Event) (n first : ℕ) (w : Known) → IsWellFormed s → IsConsistent s → Step s e t → n < length s.config.slots → is_doer s n e ≡ true → IsKnown s n first w → IsKnown t n first (known_next first w e) }
     ensures others { (s t : State) (e : Event) (n first : ℕ) (w : Known) → IsWellFormed s → IsConsistent s → Step s e t → n < length s.config.slots → is_doer s n e ≡ false → IsKnown s n first w → IsKnown t n first w }
-    ensures new { (s t : State) (n : ℕ) (node : Node) (from : Option ℕ) → IsWellFormed s → Step s (Make n node from) t → IsKnown t n (length s.config.gates) unknown }
+    ensures new { (s t : State) (n : ℕ) (node : Node) (from : Option ℕ) → IsWellFormed s → Step s (Make n node from) t → IsKnown t n (length s.config.gates) nothing_known }
 {}
 
 /// Of the rules of its own events a node that is in a service can judge these by what it knows: 14, 29 and 30, 7, 8, 28, and 16.
