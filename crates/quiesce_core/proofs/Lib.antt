@@ -13,6 +13,7 @@ pub mod RunPartLaws
 pub mod StepsLaws
 pub mod RunLaws
 pub mod WordLaws
+pub mod OperationLaws
 pub mod OrderLemmas
 pub mod LiveLinks
 pub mod SameWiring
