@@ -1,3 +1,4 @@
 pub mod PackLaws
 pub mod WordLaws
 pub mod SlotWordLaws
+pub mod OperandLaws

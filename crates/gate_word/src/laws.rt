@@ -3,6 +3,7 @@
 ghost use Rattle.std.specs.Prelude.{◌≡◌, ◌+◌, ◌*◌, ◌^◌, ◌<◌, ℕ, List, Option, Some, None, true, false, bit_and, bit_or, bit_xor};
 ghost use Rattle.std.specs.Option.{option_map_or};
 ghost use Rattle.config_graph.specs.Kinds.{row};
+ghost use Rattle.gate_word.specs.Operands.{link_difference, message_difference};
 ghost use Rattle.gate_word.specs.Packs.{FitIn, bits, by_fields, plus_one, spell};
 ghost use Rattle.gate_word.specs.SlotWords.{FitsSlotWord, pack_slot, unpack_slot};
 ghost use Rattle.gate_word.specs.Words.{FitsWord, flag, pack, phase_bits, provide_bits, slot_bits, unpack};
@@ -20,6 +21,12 @@ pub fn worked_words()
     ensures begun { pack (record { closed = false; phase = Phase.Asked; consequent = false; target = Some (record { node = 0; provide = 0 }); serial = 1; value = 1 }) ≡ 0x2004_0000_0100_0001 }
     ensures called { pack (record { closed = false; phase = Phase.Asked; consequent = true; target = Some (record { node = 2; provide = 0 }); serial = 1; value = 11 }) ≡ 0x300c_0000_0100_000b }
     ensures made { pack_slot (record { kind = Kind.Map; first_port = 2; arg = Some 10; from = Some 0 }) ≡ 0x1000_00a0_0025 }
+{}
+
+/// Operands as they are worked out by hand: of the answer 7 to a message of value 1, and of a link to the node in slot 2.
+pub fn worked_operands()
+    ensures given { message_difference Phase.Asked 1 Phase.Answered 7 ≡ 0x6000_0000_0000_0006 }
+    ensures linked { link_difference (record { node = 2; provide = 0 }) ≡ 0x000c_0000_0000_0000 }
 {}
 
 /// A word is the sum of its fields, each times the place of its first bit.

@@ -1,6 +1,6 @@
 //! The word of a slot.
 
-ghost use Rattle.std.specs.Prelude.{◌≡◌, IfSome};
+ghost use Rattle.std.specs.Prelude.{◌≡◌};
 ghost use Rattle.gate_word.specs.SlotWords.{FitsSlotWord, kind_of_bits, pack_slot, unpack_slot};
 
 use crate::bits::{bits, less_one};

@@ -22,6 +22,7 @@ pub mod StabilityLaws
 pub mod RunLaws
 pub mod InductionLaws
 pub mod WordLaws
+pub mod OperationLaws
 pub mod OrderLemmas
 pub mod LiveLinks
 pub mod SameWiring

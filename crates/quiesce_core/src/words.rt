@@ -1,22 +1,27 @@
 //! Laws of words: what the words of ports and slots tell of a state, and what each event makes of them.
 
-ghost use Rattle.std.specs.Prelude.{◌≡◌, ◌&&◌, ◌||◌, ℕ, List, Option, Some, false, length, is_some, option_map};
+ghost use Rattle.std.specs.Prelude.{◌≡◌, ◌&&◌, ◌||◌, ℕ, List, Option, Some, false, bit_and, bit_or, bit_xor, length, is_some, option_map};
 ghost use Rattle.std.specs.Option.{option_map_or};
 ghost use Rattle.config_graph.specs.declared.node.Node.{Node};
+ghost use Rattle.config_graph.specs.declared.node.Target.{Target};
 ghost use Rattle.gate_word.specs.Phases.{is_idle};
 ghost use Rattle.gate_word.specs.SlotWords.{FitsSlotWord, pack_slot, unpack_slot};
-ghost use Rattle.gate_word.specs.Words.{FitsWord, has_root, is_drained, unpack};
+ghost use Rattle.gate_word.specs.Operands.{call_difference, end_difference, link_difference, message_difference};
+ghost use Rattle.gate_word.specs.Words.{FitsWord, has_root, is_drained, pack, unpack};
 ghost use Rattle.quiesce_core.specs.declared.event.Event.{Event};
 ghost use Rattle.quiesce_core.specs.declared.state.OpenTxn.{OpenTxn};
 ghost use Rattle.quiesce_core.specs.declared.state.Slot.{Slot};
 ghost use Rattle.quiesce_core.specs.Named.{AreNamed};
 ghost use Rattle.quiesce_core.specs.Open.{open_txn};
 ghost use Rattle.quiesce_core.specs.Runs.{IsRun, Step, state_after};
-ghost use Rattle.quiesce_core.specs.State.{Configuration, State, exchange, gate, slot};
+ghost use Rattle.quiesce_core.specs.State.{Configuration, State, exchange, gate, slot, target};
+ghost use Rattle.quiesce_core.specs.Traffic.{IsConsistent};
 ghost use Rattle.quiesce_core.specs.WellFormed.{IsSound, IsWellFormed};
 ghost use Rattle.quiesce_core.specs.Words.{SourcesWereMade, changed_port, changed_slot, fields_after, fields_of, slot_fields_of, slot_word_of, word_of};
 
 use crate::event::Event;
+use crate::state::Phase;
+use gate_word::{ALL_BUT_CLOSED, CLOSED};
 
 /// What ports and slots show has its room in their words.
 pub fn words_fit()
@@ -65,4 +70,31 @@ pub fn words_tell_of_transactions()
         → is_drained (unpack (word_of s p)) ≡ ((gate s.config p).closed && (is_idle (exchange s p).phase || is_some (exchange s p).within)) }
     ensures root { (s : State) → IsWellFormed s → (p : ℕ)
         → has_root (unpack (word_of s p)) ≡ option_map_or (λ (t : OpenTxn). t.root) (open_txn s p) false }
+{}
+
+/// By which operation of the gates, with which operand, each step comes to the word of `words_follow_events`. A Begin compares and
+/// exchanges, a Call, an answer, a message and an End turn fields by exclusive or, so do Link and Unlink; Close and Make set bits, and
+/// Reopen clears one.
+pub fn words_follow_operations()
+    ensures begin { (s t : State) (p k v : ℕ) → IsWellFormed s → Step s (Event.Begin p k v) t
+        → word_of t p ≡ pack (record (fields_of s p) { phase = Phase.Asked; serial = k; value = v; consequent = false }) }
+    ensures call { (s t : State) (p k v : ℕ) → IsWellFormed s → Step s (Event.Call p k v) t
+        → word_of t p ≡ bit_xor (word_of s p) (call_difference (fields_of s p) v) }
+    ensures give { (s t : State) (p k v : ℕ) → IsWellFormed s → IsConsistent s → Step s (Event.Give p k v) t
+        → word_of t p ≡ bit_xor (word_of s p) (message_difference Phase.Asked (exchange s p).value Phase.Answered v) }
+    ensures more_ { (s t : State) (p k v : ℕ) → IsWellFormed s → IsConsistent s → Step s (Event.More p k v) t
+        → word_of t p ≡ bit_xor (word_of s p) (message_difference Phase.Asked (exchange s p).value Phase.More v) }
+    ensures ask { (s t : State) (p k v : ℕ) → IsWellFormed s → Step s (Event.Ask p k v) t
+        → word_of t p ≡ bit_xor (word_of s p) (message_difference Phase.More (exchange s p).value Phase.Asked v) }
+    ensures end { (s t : State) (p k v : ℕ) → IsWellFormed s → Step s (Event.End p k v) t
+        → word_of t p ≡ bit_xor (word_of s p) (end_difference v (is_some (exchange s p).within)) }
+    ensures close { (s t : State) (p : ℕ) → IsWellFormed s → Step s (Event.Close p) t → word_of t p ≡ bit_or (word_of s p) CLOSED }
+    ensures reopen { (s t : State) (p : ℕ) → IsWellFormed s → Step s (Event.Reopen p) t → word_of t p ≡ bit_and (word_of s p) ALL_BUT_CLOSED }
+    ensures link { (s t : State) (p n x : ℕ) → IsWellFormed s → Step s (Event.Link p n x) t
+        → word_of t p ≡ bit_xor (word_of s p) (link_difference (record { node = n; provide = x })) }
+    ensures unlink { (s t : State) (p : ℕ) (to : Target) → IsWellFormed s → target s.config p ≡ Some to → Step s (Event.Unlink p) t
+        → word_of t p ≡ bit_xor (word_of s p) (link_difference to) }
+    ensures make { (s t : State) (n : ℕ) (node : Node) (from : Option ℕ) → Step s (Event.Make n node from) t
+        → slot_word_of t.config n ≡ bit_or (slot_word_of s.config n)
+        (pack_slot (record { kind = node.kind; first_port = length s.config.gates; arg = node.arg; from = from })) }
 {}
