@@ -2,7 +2,7 @@
 use Rattle.std.proofs.Common.{◌≡◌, ◌∙◌, ℕ, ◌+◌, Bool, true, false, cond, ◌&&◌, length, Some, refl, sym, ap}
 use Rattle.std.specs.Prelude.{◌==◌, nat_lt, nat_le, option_map}
 use Rattle.std.specs.Option.{option_map_or}
-use Rattle.std.proofs.lemmas.Bool.{and_parts, both_ways, eqb-true, eq-eqb, false_from_ne_true, leb-true}
+use Rattle.std.proofs.lemmas.Bool.{and_from, and_parts, both_ways, eqb-true, eq-eqb, false_from_ne_true, leb-true, lt-ltb, true_from_ne_false}
 use Rattle.std.proofs.lemmas.List.{get_or_past}
 use Rattle.std.proofs.lemmas.Option.{same_Some}
 use Rattle.config_graph.specs.Kinds.{row}
@@ -13,9 +13,9 @@ use Rattle.quiesce_core.specs.declared.state.Gate.{Gate}
 use Rattle.quiesce_core.specs.declared.state.Service.{Service}
 use Rattle.gate_word.specs.declared.phase.Phase.{Phase}
 use Rattle.gate_word.specs.declared.phase.Phase.TheVariants as phase
-use Rattle.quiesce_core.specs.State.{State, fresh_gate, gate, owner, target, exchange, service, target_service}
+use Rattle.quiesce_core.specs.State.{State, fresh_gate, gate, owner, is_live, target, exchange, service, target_service}
 use Rattle.gate_word.specs.Phases.{is_idle, is_answered, is_in_more}
-use Rattle.quiesce_core.specs.Rules.{is_settled, is_taken, was_heard}
+use Rattle.quiesce_core.specs.Rules.{is_live_port, is_settled, is_taken, was_heard}
 use Rattle.quiesce_core.specs.Doers.{is_ask_at, is_end_at, is_give_at, is_more_at}
 use Rattle.quiesce_core.specs.Effect.{effect}
 use Rattle.quiesce_core.specs.Runs.{is_doer}
@@ -27,7 +27,7 @@ use Rattle.quiesce_core.proofs.AlterLaws.{reconfigured, services_next}
 use Rattle.quiesce_core.proofs.SettledLaws.{settled_if}
 use Rattle.quiesce_core.proofs.TurnLaws.{Turn, asks, ends, gives, passes, replies, served_there, starts, turn_of}
 use Rattle.quiesce_core.proofs.StateLaws.{answered_busy, busy_made, is_taken_if, more_busy, serving_unanswered, taken_busy, taken_is, target_service_is}
-use Rattle.base.proofs.OptionLaws.{None-from_is_none}
+use Rattle.base.proofs.OptionLaws.{None-from_is_none, Some-from_is_some}
 
 -- ---- where a port leads
 
@@ -67,6 +67,13 @@ pub busy_ports_stay : (s : State) (e : Event) → IsWellFormed s → IsConsisten
 busy_ports_stay s e w c l p busy = unsettled_ports_stay s e l p (λ settled.
     let own = (settled_if s w.sound (owner s.config p) settled).own p (w.sound.ports p (busy_made s p c busy)) in
     both_ways (is_idle (exchange s p).phase) busy (and_parts (gate s.config p).closed (is_idle (exchange s p).phase) own).1)
+
+-- and its owner is live
+pub busy_is_live : (s : State) (p : ℕ) → IsConsistent s → is_idle (exchange s p).phase ≡ false → is_live_port s.config p ≡ true
+busy_is_live s p c busy =
+    and_from (nat_lt p (length s.config.gates)) (is_live s.config (owner s.config p)) (lt-ltb p (length s.config.gates) (busy_made s p c busy))
+    (true_from_ne_false (is_live s.config (owner s.config p)) (λ gone.
+    let t = Some-from_is_some (target s.config p) (c.linked p busy) in cc (t.1, (c.removed p gone).1)))
 
 -- while a node services, its own ports keep theirs
 pub serving_nodes_stay : (s : State) (e : Event) → IsWellFormed s → Legal s e → (n : ℕ) (v : Service) → service s n ≡ Some v → (p : ℕ) → owner s.config p ≡ n

@@ -32,6 +32,7 @@ exchange_by s x (Ask q k v) = record x { phase = phase.Asked; value = v }
 exchange_by s x (End q k v) = record x { phase = phase.Idle; value = 0; within = None }
 exchange_by s x _ = x
 
+-- what is at port p then
 abbrev pub exchange_next : State → ℕ → Event → Exchange
 exchange_next s p e = if is_message_at p e then exchange_by (service s (owner s.config p)) (exchange s p) e else exchange s p
 
@@ -45,9 +46,11 @@ service_by s (More q k v) = option_map (λ (w : Service). record w { mores = w.m
 service_by s (Hear q k v) = option_map (λ (w : Service). record w { heard = true }) s
 service_by s _ = s
 
+-- what node n services then
 abbrev pub service_next : State → ℕ → Event → Option Service
 service_next s n e = if is_doer s n e then service_by (service s n) e else service s n
 
+-- the gate of port p then: a new node's ports are behind all others
 abbrev pub gate_next : Configuration → ℕ → Event → Gate
 gate_next c p (Close q) = if q == p then record (gate c p) { closed = true } else gate c p
 gate_next c p (Reopen q) = if q == p then record (gate c p) { closed = false } else gate c p
@@ -58,6 +61,7 @@ gate_next c p (Make n node from) =
     then record { owner = length c.slots; require = p - length c.gates; closed = true; target = None } else gate c p
 gate_next c p _ = gate c p
 
+-- what was made in slot m then
 abbrev pub slot_next : Configuration → ℕ → Event → Option Slot
 slot_next c m (Make n node from) =
     if m == length c.slots then Some (record { node = node; first_port = length c.gates; from = from; live = true }) else slot c m

@@ -1,6 +1,6 @@
 //! Laws of configurations: what an event of the change leaves of them, and what holds of them after every run.
 
-ghost use Rattle.std.specs.Prelude.{◌≡◌, ◌↔◌, ◌⊎◌, ℕ, false, List, length, Option, None, Some, ◌==◌, if◌then◌else◌};
+ghost use Rattle.std.specs.Prelude.{◌≡◌, ◌↔◌, ◌⊎◌, ◌+◌, ◌<◌, ℕ, false, List, length, Option, None, Some, ◌==◌, if◌then◌else◌};
 ghost use Rattle.config_graph.specs.Graph.{Graph};
 ghost use Rattle.config_graph.specs.Sound.{Sound};
 ghost use Rattle.config_graph.specs.declared.node.Node.{Node};
@@ -12,7 +12,10 @@ ghost use Rattle.quiesce_core.specs.Live.{IsGraphOf, IsLiveAt};
 ghost use Rattle.quiesce_core.specs.Named.{AreNamed};
 ghost use Rattle.quiesce_core.specs.Runs.{IsRun, state_after};
 ghost use Rattle.quiesce_core.specs.Sources.{SourcesAreGone};
-ghost use Rattle.quiesce_core.specs.State.{Configuration, slot, target};
+ghost use Rattle.quiesce_core.specs.State.{Configuration, gate, owner, slot, target};
+ghost use Rattle.quiesce_core.specs.declared.state.Slot.{Slot};
+ghost use Rattle.config_graph.specs.Kinds.{row};
+ghost use Rattle.config_graph.specs.declared.node.Target.{Target};
 ghost use Rattle.quiesce_core.specs.WellFormed.{IsSound};
 
 /// Who is live after a node is made and after one is removed. All other events leave the slots as they are.
@@ -46,4 +49,23 @@ pub fn sources_are_gone()
 pub fn graphs_of_runs()
     ensures there { (es : List Event) → IsRun es → (g : Graph) × IsGraphOf (state_after es).config g × Sound g }
     ensures sound { (c : Configuration) (g : Graph) → IsSound c → AreNamed c → IsGraphOf c g → Sound g }
+{}
+
+/// What was made stays as it was made, whatever happens: a node its slot, first port, path, kind and argument, a port its owner and
+/// the requirement that it is.
+pub fn what_was_made_stays()
+    ensures nodes { (c d : Configuration) (e : Event) → Reconfigures c e d → (n : ℕ) (m : Slot) → n < length c.slots
+        → slot d n ≡ Some m → (old : Slot) × (slot c n ≡ Some old) × (old.first_port ≡ m.first_port) × (old.node ≡ m.node) }
+    ensures owners { (c d : Configuration) (e : Event) → Reconfigures c e d → (p : ℕ) → p < length c.gates
+        → owner d p ≡ owner c p }
+    ensures requirements { (c d : Configuration) (e : Event) → Reconfigures c e d → (p : ℕ) → p < length c.gates
+        → (gate d p).require ≡ (gate c p).require }
+{}
+
+/// A port's number is told by its owner's first port and by its requirement. A port that is linked was made.
+pub fn ports_are_numbered()
+    ensures numbers { (c : Configuration) → IsSound c → (p : ℕ) (m : Slot) → p < length c.gates
+        → slot c (owner c p) ≡ Some m
+        → (p ≡ m.first_port + (gate c p).require) × ((gate c p).require < length (row m.node.kind).requires_) }
+    ensures linked { (c : Configuration) (p : ℕ) (t : Target) → target c p ≡ Some t → p < length c.gates }
 {}

@@ -25,7 +25,10 @@ mod step_laws;
 mod tables;
 mod words;
 
-pub use configuration_laws::{graphs_of_runs, live_nodes_change, sources_are_gone, targets_change};
+pub use configuration_laws::{
+    graphs_of_runs, live_nodes_change, ports_are_numbered, sources_are_gone, targets_change,
+    what_was_made_stays,
+};
 pub use error::CoreError;
 pub use event::Event;
 pub use knowledge_laws::{logs_tell, nodes_judge_rules, nodes_know, steps_keep_what_is_known};
@@ -42,7 +45,7 @@ pub use run_laws::{
     services_keep_their_bounds, transactions_engage_two_nodes, values_carry,
 };
 pub use state::{Exchange, Gate, OpenTxn, Phase, Service, Slot, Stage};
-pub use step_laws::{replies_stay, steps_alter, targets_stay};
+pub use step_laws::{busy_ports_are_linked_and_live, replies_stay, steps_alter, targets_stay};
 pub use words::{
     sources_were_made, words_fit, words_follow_events, words_follow_operations,
     words_of_runs_decode, words_of_states_decode, words_tell_of_transactions,

@@ -1,12 +1,12 @@
 //! What an event changes, and what stays while a transaction is open.
 
-ghost use Rattle.std.specs.Prelude.{◌≡◌, ℕ, true, false, Some};
+ghost use Rattle.std.specs.Prelude.{◌≡◌, ◌<◌, ℕ, true, false, IsTrue, length, Some};
 ghost use Rattle.quiesce_core.specs.declared.event.Event.{Event};
 ghost use Rattle.quiesce_core.specs.declared.state.Service.{Service};
 ghost use Rattle.quiesce_core.specs.Alters.{Alters};
 ghost use Rattle.quiesce_core.specs.Doers.{is_ask_at, is_end_at, is_give_at};
 ghost use Rattle.gate_word.specs.Phases.{is_answered, is_idle, is_in_more};
-ghost use Rattle.quiesce_core.specs.Rules.{is_taken};
+ghost use Rattle.quiesce_core.specs.Rules.{is_linked, is_live_port, is_taken};
 ghost use Rattle.quiesce_core.specs.Runs.{Step};
 ghost use Rattle.quiesce_core.specs.State.{State, exchange, owner, service, target};
 ghost use Rattle.quiesce_core.specs.Traffic.{IsConsistent};
@@ -34,4 +34,13 @@ pub fn replies_stay()
         → is_in_more (exchange s p).phase ≡ true → is_ask_at p e ≡ false → exchange t p ≡ exchange s p }
     ensures taken { (s t : State) (e : Event) (p : ℕ) → IsWellFormed s → IsConsistent s → Step s e t
         → is_taken s p ≡ true → is_give_at p e ≡ false → is_taken t p ≡ true }
+{}
+
+/// A port that isn't idle was made, is linked, and its owner is live.
+pub fn busy_ports_are_linked_and_live()
+    ensures made { (s : State) (p : ℕ) → IsConsistent s → is_idle (exchange s p).phase ≡ false → p < length s.config.gates }
+    ensures linked { (s : State) (p : ℕ) → IsConsistent s → is_idle (exchange s p).phase ≡ false
+        → IsTrue (is_linked s.config p) }
+    ensures live { (s : State) (p : ℕ) → IsConsistent s → is_idle (exchange s p).phase ≡ false
+        → IsTrue (is_live_port s.config p) }
 {}
