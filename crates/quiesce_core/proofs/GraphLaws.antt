@@ -15,6 +15,7 @@ use Rattle.config_graph.specs.Kinds.{row}
 use Rattle.config_graph.specs.Graph.{Graph, IsLinkWithin, begins_at, link_at, port_number, first_port, ports, target_of, requires_of, requires_at, provides_at, provides_of}
 use Rattle.config_graph.specs.Cycles as cycles
 use Rattle.config_graph.specs.Sound.{Sound, HasItsArgument}
+use Rattle.config_graph.specs.declared.TheConstants.{MAX_NODES, MAX_PORTS}
 use Rattle.config_graph.specs.declared.node.Node.{Node}
 use Rattle.config_graph.specs.declared.node.Port.{Port}
 use Rattle.config_graph.specs.declared.node.Target.{Target}
@@ -67,7 +68,7 @@ sum_taken f (y ∷ xs) zero x h =
 sum_taken f (y ∷ xs) (suc i) x h =
     rw (sum_by-cons f y (take i xs), sum_by-cons f y xs) (omega (arith, sum_taken f xs i x h))
 
-module _ (g : Graph) (sound : Sound g) (few_nodes : length g.nodes ≤ 1023) (few_ports : length (ports g.nodes) ≤ 4096) where
+module _ (g : Graph) (sound : Sound g) (few_nodes : length g.nodes ≤ MAX_NODES) (few_ports : length (ports g.nodes) ≤ MAX_PORTS) where
   slot_made : (n : ℕ) (node : Node) → slice_get g.nodes n ≡ Some node → slot (started g).config n ≡ Some (slot_of g.nodes (n, node))
   slot_made n node e =
       get_mapped (slot_of g.nodes) (enumerate_from 0 g.nodes) n ∙ ap (λ o. option_map (slot_of g.nodes) o) (get_numbered 0 g.nodes n node e)

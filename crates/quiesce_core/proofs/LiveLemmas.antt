@@ -14,6 +14,7 @@ use Rattle.config_graph.specs.Kinds.{row}
 use Rattle.config_graph.specs.Graph.{Graph, IsGraph, IsLinkWithin, OneLinkAPort, PathsRise, begins_at, graph_of, in_port_order, link_at, ports, provides_of, requires_of}
 use Rattle.config_graph.specs.Cycles as cycles
 use Rattle.config_graph.specs.Sound.{Sound, HasItsArgument}
+use Rattle.config_graph.specs.declared.TheConstants.{MAX_NODES, MAX_PORTS}
 use Rattle.config_graph.specs.declared.node.Node.{Node}
 use Rattle.config_graph.specs.declared.node.Link.{Link}
 use Rattle.config_graph.specs.declared.node.Target.{Target}
@@ -309,11 +310,11 @@ module _ (c : Configuration) (sound : IsSound c) (named : AreNamed c) (nodes : L
       subst Sound (sym (is ∙ ap (graph_of nodes) p.are_links)) (graph_sound c sound named p.order p.in_order p.places p.are_places nodes p.are_nodes)
   parts_sound (Err e) is = tt
 
-  pub parts_small : {A : Type 0} (r : Result Graph A) → IfOk r (λ g. g ≡ graph_of nodes links) → IfOk r (λ g. length g.nodes ≤ 1023)
+  pub parts_small : {A : Type 0} (r : Result Graph A) → IfOk r (λ g. g ≡ graph_of nodes links) → IfOk r (λ g. length g.nodes ≤ MAX_NODES)
   parts_small (Ok g) is = omega (arith, ap (λ (h : Graph). length h.nodes) is, p.are_nodes.count, p.in_order.few, sound.few_nodes)
   parts_small (Err e) is = tt
 
-  pub parts_few_ports : {A : Type 0} (r : Result Graph A) → IfOk r (λ g. g ≡ graph_of nodes links) → IfOk r (λ g. length (ports g.nodes) ≤ 4096)
+  pub parts_few_ports : {A : Type 0} (r : Result Graph A) → IfOk r (λ g. g ≡ graph_of nodes links) → IfOk r (λ g. length (ports g.nodes) ≤ MAX_PORTS)
   parts_few_ports (Ok g) is =
       omega (arith, ap (λ (h : Graph). length (ports h.nodes)) is, ports_from 0 nodes, p.are_nodes.count, p.in_order.few, sound.few_nodes)
   parts_few_ports (Err e) is = tt

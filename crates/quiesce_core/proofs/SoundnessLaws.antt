@@ -8,6 +8,7 @@ use Rattle.std.proofs.lemmas.Option.{slice_get_within}
 use Rattle.std.proofs.lemmas.List.{length-replicate, get_or_append_left, get_or-append-add, get_or-append_right, get_or_past, set_past}
 use Rattle.std.proofs.lemmas.List.FromFn.{get_or-map-range_with_len, length-map-range_with_len}
 use Rattle.config_graph.specs.Kinds.{row, depends_on}
+use Rattle.config_graph.specs.declared.TheConstants.{MAX_NODES, MAX_PORTS}
 use Rattle.config_graph.specs.declared.node.Node.{Node}
 use Rattle.config_graph.specs.declared.node.Target.{Target}
 use Rattle.quiesce_core.specs.declared.event.Event.{Event}
@@ -205,7 +206,7 @@ module _ (c : Configuration) (n : ℕ) (old : Slot) (there : slot c n ≡ Some o
       subst (λ o. IsSound (record c { slots = option_map_or (λ (m : Slot). set c.slots n (record m { live = false })) o c.slots })) (sym there) (sound_without s apart)
 
 -- A node is made, with ports of its own after all others.
-module _ (c : Configuration) (s : IsSound c) (node : Node) (from : Option ℕ) (few : length c.slots < 1023) (room : length c.gates + length (row node.kind).requires_ ≤ 4096) where
+module _ (c : Configuration) (s : IsSound c) (node : Node) (from : Option ℕ) (few : length c.slots < MAX_NODES) (room : length c.gates + length (row node.kind).requires_ ≤ MAX_PORTS) where
   requires_ : ℕ
   requires_ = length (row node.kind).requires_
 
@@ -373,17 +374,17 @@ well_formed_next s (End p k v) w l = record { sound = w.sound; services = w.serv
 well_formed_next s (Close p) w l = record { sound = sound_closed s.config p true (gate_place s p l.live) w.sound; services = w.services; exchanges = w.exchanges ∙ sym (length-set s.config.gates p _); bounds = w.bounds }
 well_formed_next s (Reopen p) w l = record { sound = sound_closed s.config p false (gate_place s p l.live) w.sound; services = w.services; exchanges = w.exchanges ∙ sym (length-set s.config.gates p _); bounds = w.bounds }
 well_formed_next s (Make n node from) w l =
-    let a = and_parts (n == length s.config.slots && nat_lt n 1023) (nat_le (length s.config.gates + length (row node.kind).requires_) 4096) l.room in
-    let b = and_parts (n == length s.config.slots) (nat_lt n 1023) a.0 in
+    let a = and_parts (n == length s.config.slots && nat_lt n MAX_NODES) (nat_le (length s.config.gates + length (row node.kind).requires_) MAX_PORTS) l.room in
+    let b = and_parts (n == length s.config.slots) (nat_lt n MAX_NODES) a.0 in
     let next : n ≡ length s.config.slots = eqb-true n (length s.config.slots) b.0 in
     record {
-      sound = sound_made s.config w.sound node from (omega (arith, next, ltb-true n 1023 b.1)) (leb-true (length s.config.gates + length (row node.kind).requires_) 4096 a.1);
+      sound = sound_made s.config w.sound node from (omega (arith, next, ltb-true n MAX_NODES b.1)) (leb-true (length s.config.gates + length (row node.kind).requires_) MAX_PORTS a.1);
       services = length-append s.traffic.services (None ∷ []) ∙ ap (λ k. k + 1) w.services
           ∙ sym (length-append s.config.slots (record { node = node; first_port = length s.config.gates; from = from; live = true } ∷ []));
       exchanges = length-append s.traffic.exchanges (replicate (length (row node.kind).requires_) fresh_exchange)
           ∙ ap (λ k. length s.traffic.exchanges + k) (length-replicate (length (row node.kind).requires_) fresh_exchange)
           ∙ ap (λ k. k + length (row node.kind).requires_) w.exchanges
-          ∙ sym (grown_length s.config w.sound node from (omega (arith, next, ltb-true n 1023 b.1)) (leb-true (length s.config.gates + length (row node.kind).requires_) 4096 a.1));
+          ∙ sym (grown_length s.config w.sound node from (omega (arith, next, ltb-true n MAX_NODES b.1)) (leb-true (length s.config.gates + length (row node.kind).requires_) MAX_PORTS a.1));
       bounds = bounds_append s.traffic.exchanges w.bounds (length (row node.kind).requires_);
     }
 well_formed_next s (Link p n x) w l =
