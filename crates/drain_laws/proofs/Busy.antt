@@ -35,7 +35,7 @@ busy_made s p w busy = ⊎_elim (λ (h : p < length s.config.gates). h)
     (cases_lt p (length s.config.gates))
 
 -- its owner is live
-pub busy_live : (s : State) (p : ℕ) → IsWellFormed s → IsConsistent s → is_idle (exchange s p).phase ≡ false → is_live_port s p ≡ true
+pub busy_live : (s : State) (p : ℕ) → IsWellFormed s → IsConsistent s → is_idle (exchange s p).phase ≡ false → is_live_port s.config p ≡ true
 busy_live s p w k busy =
     and_from (nat_lt p (length s.config.gates)) (is_live s.config (owner s.config p)) (lt-ltb p (length s.config.gates) (busy_made s p w busy))
     (true_from_ne_false (is_live s.config (owner s.config p)) (λ gone.

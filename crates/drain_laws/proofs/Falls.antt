@@ -214,7 +214,7 @@ pub record Calling (s : State) (p : ℕ) : Type 0 where
   pub falls : left (with_service s (owner s.config p) (Some (record serving { calls = serving.calls + 1 }))) serving.port + events_through s.config p ≤ left s serving.port
   pub others : (q : ℕ) → (q ≡ serving.port → ⊥) → left (with_service s (owner s.config p) (Some (record serving { calls = serving.calls + 1 }))) q ≡ left s q
 
-calling : (s : State) (p : ℕ) → IsWellFormed s → IsConsistent s → is_live_port s p ≡ true → serves_through s (owner s.config p) p ≡ true → has_calls_left s (owner s.config p) ≡ true → Calling s p
+calling : (s : State) (p : ℕ) → IsWellFormed s → IsConsistent s → is_live_port s.config p ≡ true → serves_through s (owner s.config p) p ≡ true → has_calls_left s (owner s.config p) ≡ true → Calling s p
 calling s p w c live through calls =
     let n = owner s.config p in
     let served = map_or_true (λ (v : Service). nat_lt v.calls (calls_allowed s.config n (provision s.config v.port))) (service s n) calls in

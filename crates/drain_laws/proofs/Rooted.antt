@@ -26,7 +26,7 @@ use Rattle.drain_laws.specs.Belongs as mine
 use Rattle.drain_laws.specs.Belongs.{Transactions, Belongs, belongs, one, open_in}
 use Rattle.drain_laws.proofs.Belonging.{belongs_is_found, open_parts}
 use Rattle.drain_laws.proofs.Carrying.{Untouched, keeps, next_is, serials_grow}
-use Rattle.quiesce_core.proofs.RunPartLaws.{StepAt, run_parts}
+use Rattle.quiesce_core.proofs.RunLaws.{StepAt, run_parts}
 use Rattle.quiesce_core.proofs.StateLaws.{more_busy, serving_busy, exchange_here, exchange_there, idle_unserved, taken_busy}
 use Rattle.base.proofs.PlaceLaws.{fresh_behind}
 

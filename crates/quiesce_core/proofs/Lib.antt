@@ -1,4 +1,3 @@
-pub mod KindLemmas
 pub mod CycleLaws
 pub mod ReachLaws
 pub mod LegalLaws
@@ -9,9 +8,18 @@ pub mod RestLaws
 pub mod GraphLaws
 pub mod StateLaws
 pub mod TrafficLaws
-pub mod RunPartLaws
 pub mod StepsLaws
+pub mod AlterLaws
+pub mod ConfigurationLaws
+pub mod SortLemmas
+pub mod GraphExistsLaws
+pub mod SourceLaws
+pub mod KnownLaws
+pub mod CarryLaws
+pub mod EngagedLaws
+pub mod StabilityLaws
 pub mod RunLaws
+pub mod InductionLaws
 pub mod WordLaws
 pub mod OperationLaws
 pub mod OrderLemmas

@@ -119,7 +119,7 @@ link_by s t p n x w step =
     let next : IsWellFormed t = subst (λ u. IsWellFormed u) (sym step.changed) (well_formed_next s (Link p n x) w l) in
     let follows = port_word_follows s t (Link p n x) w step p refl in
     let fits : FitsTarget to = (port_words_fit t next p).target to (ap (λ f. f.target) follows) in
-    ap pack follows ∙ sym (link_turns to fits (fields_of s p) (port_words_fit s w p) (no_target (target s.config p) (not-true (is_linked s p) l.unlinked)))
+    ap pack follows ∙ sym (link_turns to fits (fields_of s p) (port_words_fit s w p) (no_target (target s.config p) (not-true (is_linked s.config p) l.unlinked)))
 
 pub unlink_by : (s t : State) (p : ℕ) (to : Target) → IsWellFormed s → target s.config p ≡ Some to → Step s (Unlink p) t → word_of t p ≡ bit_xor (word_of s p) (link_difference to)
 unlink_by s t p to w linked step =
@@ -132,8 +132,8 @@ begin_by s t p k v w step = ap pack (port_word_follows s t (Begin p k v) w step 
 
 -- ---- slots
 
-pub make_by : (s t : State) (n : ℕ) (node : Node) (from : Option ℕ) → Step s (Make n node from) t
+pub make_by : (s t : State) (n : ℕ) (node : Node) (from : Option ℕ) → IsWellFormed s → Step s (Make n node from) t
     → slot_word_of t.config n ≡ bit_or (slot_word_of s.config n) (pack_slot (record { kind = node.kind; first_port = length s.config.gates; arg = node.arg; from = from }))
-make_by s t n node from step =
+make_by s t n node from w step =
     let filled = pack_slot (record { kind = node.kind; first_port = length s.config.gates; arg = node.arg; from = from }) in
-    slot_word_made s t n node from step ∙ sym (or_zero_l filled) ∙ sym (ap (λ k. bit_or k filled) (slot_word_unmade s t n node from step))
+    slot_word_made s t n node from w step ∙ sym (or_zero_l filled) ∙ sym (ap (λ k. bit_or k filled) (slot_word_unmade s t n node from step))

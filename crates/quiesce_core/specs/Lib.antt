@@ -9,9 +9,9 @@ pub mod Rest
 pub mod Words
 pub mod Knowledge
 pub mod WellFormed
-pub mod Known
+pub mod Searched
 pub mod Tables
-pub mod Machine
+pub mod CoreState
 pub mod Doers
 pub mod Open
 pub mod Counted
@@ -20,5 +20,6 @@ pub mod Traffic
 pub mod Named
 pub mod Live
 pub mod Listed
-pub mod Knows
 pub mod SameWiring
+pub mod Alters
+pub mod Sources

@@ -1,5 +1,5 @@
 -- The words of a state: what each port and each slot shows of itself in one number, and what an event makes of them.
-use Rattle.std.specs.Prelude.{◌≡◌, ℕ, ◌<◌, true, false, length, Option, Some, None, is_some}
+use Rattle.std.specs.Prelude.{ℕ, true, false, Option, Some, None, is_some}
 use Rattle.std.specs.Option.{option_map_or}
 use Rattle.gate_word.specs.Words.{pack}
 use Rattle.gate_word.specs.SlotWords.{pack_slot}
@@ -88,7 +88,3 @@ changed_slot (Reopen p) = None
 changed_slot (Link p n x) = None
 changed_slot (Unlink p) = None
 changed_slot (Remove n) = None
-
--- each node that took over the state of another names a slot in which one was made
-pub record SourcesWereMade (c : Configuration) : Type 0 where
-  pub source : (n k : ℕ) (m : Slot) → slot c n ≡ Some m → m.from ≡ Some k → k < length c.slots

@@ -14,10 +14,11 @@ ghost use Rattle.quiesce_core.specs.declared.state.Slot.{Slot};
 ghost use Rattle.quiesce_core.specs.Named.{AreNamed};
 ghost use Rattle.quiesce_core.specs.Open.{open_txn};
 ghost use Rattle.quiesce_core.specs.Runs.{IsRun, Step, state_after};
+ghost use Rattle.quiesce_core.specs.Sources.{SourcesAreGone};
 ghost use Rattle.quiesce_core.specs.State.{Configuration, State, exchange, gate, slot, target};
 ghost use Rattle.quiesce_core.specs.Traffic.{IsConsistent};
 ghost use Rattle.quiesce_core.specs.WellFormed.{IsSound, IsWellFormed};
-ghost use Rattle.quiesce_core.specs.Words.{SourcesWereMade, changed_port, changed_slot, fields_after, fields_of, slot_fields_of, slot_word_of, word_of};
+ghost use Rattle.quiesce_core.specs.Words.{changed_port, changed_slot, fields_after, fields_of, slot_fields_of, slot_word_of, word_of};
 
 use crate::event::Event;
 use crate::state::Phase;
@@ -26,20 +27,14 @@ use gate_word::{ALL_BUT_CLOSED, CLOSED};
 /// What ports and slots show has its room in their words.
 pub fn words_fit()
     ensures port { (s : State) → IsWellFormed s → (p : ℕ) → FitsWord (fields_of s p) }
-    ensures slot { (c : Configuration) → IsSound c → AreNamed c → SourcesWereMade c
+    ensures slot { (c : Configuration) → IsSound c → AreNamed c → SourcesAreGone c
         → (n : ℕ) (m : Slot) → slot c n ≡ Some m → FitsSlotWord (slot_fields_of m) }
-{}
-
-/// In every run each node that took over another's state names a slot in which a node was made.
-pub fn sources_were_made()
-    ensures step { (s t : State) (e : Event) → SourcesWereMade s.config → Step s e t → SourcesWereMade t.config }
-    ensures run { (es : List Event) → IsRun es → SourcesWereMade (state_after es).config }
 {}
 
 /// The words of a state spell what it has of its ports and slots.
 pub fn words_of_states_decode()
     ensures port { (s : State) → IsWellFormed s → (p : ℕ) → unpack (word_of s p) ≡ fields_of s p }
-    ensures slot { (c : Configuration) → IsSound c → AreNamed c → SourcesWereMade c
+    ensures slot { (c : Configuration) → IsSound c → AreNamed c → SourcesAreGone c
         → (n : ℕ) → unpack_slot (slot_word_of c n) ≡ option_map slot_fields_of (slot c n) }
 {}
 
@@ -55,11 +50,11 @@ pub fn words_of_runs_decode()
 pub fn words_follow_events()
     ensures port { (s t : State) (e : Event) → IsWellFormed s → Step s e t → (p : ℕ) → changed_port e ≡ Some p
         → fields_of t p ≡ fields_after e (fields_of s p) }
-    ensures other_ports { (s t : State) (e : Event) → Step s e t → (p : ℕ) → (¬ changed_port e ≡ Some p) → fields_of t p ≡ fields_of s p }
+    ensures other_ports { (s t : State) (e : Event) → IsWellFormed s → Step s e t → (p : ℕ) → (¬ changed_port e ≡ Some p) → fields_of t p ≡ fields_of s p }
     ensures unmade { (s t : State) (n : ℕ) (node : Node) (from : Option ℕ) → Step s (Event.Make n node from) t → slot_word_of s.config n ≡ 0 }
-    ensures made { (s t : State) (n : ℕ) (node : Node) (from : Option ℕ) → Step s (Event.Make n node from) t
+    ensures made { (s t : State) (n : ℕ) (node : Node) (from : Option ℕ) → IsWellFormed s → Step s (Event.Make n node from) t
         → slot_word_of t.config n ≡ pack_slot (record { kind = node.kind; first_port = length s.config.gates; arg = node.arg; from = from }) }
-    ensures other_slots { (s t : State) (e : Event) → Step s e t → (n : ℕ) → (¬ changed_slot e ≡ Some n)
+    ensures other_slots { (s t : State) (e : Event) → IsWellFormed s → Step s e t → (n : ℕ) → (¬ changed_slot e ≡ Some n)
         → slot_word_of t.config n ≡ slot_word_of s.config n }
 {}
 
@@ -94,7 +89,7 @@ pub fn words_follow_operations()
         → word_of t p ≡ bit_xor (word_of s p) (link_difference (record { node = n; provide = x })) }
     ensures unlink { (s t : State) (p : ℕ) (to : Target) → IsWellFormed s → target s.config p ≡ Some to → Step s (Event.Unlink p) t
         → word_of t p ≡ bit_xor (word_of s p) (link_difference to) }
-    ensures make { (s t : State) (n : ℕ) (node : Node) (from : Option ℕ) → Step s (Event.Make n node from) t
+    ensures make { (s t : State) (n : ℕ) (node : Node) (from : Option ℕ) → IsWellFormed s → Step s (Event.Make n node from) t
         → slot_word_of t.config n ≡ bit_or (slot_word_of s.config n)
         (pack_slot (record { kind = node.kind; first_port = length s.config.gates; arg = node.arg; from = from })) }
 {}
