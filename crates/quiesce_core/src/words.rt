@@ -1,24 +1,26 @@
 //! Laws of words: what the words of ports and slots tell of a state, and what each event makes of them.
 
-ghost use Rattle.std.specs.Prelude.{◌≡◌, ◌&&◌, ◌||◌, ℕ, List, Option, Some, false, bit_and, bit_or, bit_xor, length, is_some, option_map};
+ghost use Rattle.std.specs.Prelude.{◌≡◌, ◌+◌, ◌≤◌, ◌&&◌, ◌||◌, ℕ, IsTrue, List, None, Option, Some, false, true, bit_and, bit_or, bit_xor, length, is_some, option_map};
 ghost use Rattle.std.specs.Option.{option_map_or};
 ghost use Rattle.config_graph.specs.declared.node.Node.{Node};
 ghost use Rattle.config_graph.specs.declared.node.Target.{Target};
-ghost use Rattle.gate_word.specs.Phases.{is_idle};
+ghost use Rattle.gate_word.specs.Phases.{is_answered, is_asked, is_idle, is_in_more};
 ghost use Rattle.gate_word.specs.SlotWords.{FitsSlotWord, pack_slot, unpack_slot};
 ghost use Rattle.gate_word.specs.Operands.{call_difference, end_difference, link_difference, message_difference};
-ghost use Rattle.gate_word.specs.Words.{FitsWord, has_root, is_drained, pack, unpack};
+ghost use Rattle.gate_word.specs.Words.{FitsWord, has_root, is_drained, is_message_to, is_missing, pack, unpack};
 ghost use Rattle.quiesce_core.specs.declared.event.Event.{Event};
 ghost use Rattle.quiesce_core.specs.declared.state.OpenTxn.{OpenTxn};
+ghost use Rattle.quiesce_core.specs.declared.state.Service.{Service};
 ghost use Rattle.quiesce_core.specs.declared.state.Slot.{Slot};
 ghost use Rattle.quiesce_core.specs.Named.{AreNamed};
 ghost use Rattle.quiesce_core.specs.Open.{open_txn};
-ghost use Rattle.quiesce_core.specs.Runs.{IsRun, Step, state_after};
+ghost use Rattle.quiesce_core.specs.Rules.{denial, is_live_port, is_value};
+ghost use Rattle.quiesce_core.specs.Runs.{IsRun, Step, is_doer, state_after};
 ghost use Rattle.quiesce_core.specs.Sources.{SourcesAreGone};
-ghost use Rattle.quiesce_core.specs.State.{Configuration, State, exchange, gate, slot, target};
+ghost use Rattle.quiesce_core.specs.State.{Configuration, State, exchange, gate, service, slot, target};
 ghost use Rattle.quiesce_core.specs.Traffic.{IsConsistent};
 ghost use Rattle.quiesce_core.specs.WellFormed.{IsSound, IsWellFormed};
-ghost use Rattle.quiesce_core.specs.Words.{changed_port, changed_slot, fields_after, fields_of, slot_fields_of, slot_word_of, word_of};
+ghost use Rattle.quiesce_core.specs.Words.{CallsThrough, changed_port, changed_slot, fields_after, fields_of, root_denial, slot_fields_of, slot_word_of, word_of};
 
 use crate::event::Event;
 use crate::state::Phase;
@@ -92,4 +94,31 @@ pub fn words_follow_operations()
     ensures make { (s t : State) (n : ℕ) (node : Node) (from : Option ℕ) → IsWellFormed s → Step s (Event.Make n node from) t
         → slot_word_of t.config n ≡ bit_or (slot_word_of s.config n)
         (pack_slot (record { kind = node.kind; first_port = length s.config.gates; arg = node.arg; from = from })) }
+{}
+
+/// What was never made has the word of a closed, idle and unlinked port, or of an empty slot.
+pub fn unmade_words()
+    ensures port { (s : State) → IsWellFormed s → (p : ℕ) → length s.config.gates ≤ p → word_of s p ≡ CLOSED }
+    ensures slot { (c : Configuration) (n : ℕ) → length c.slots ≤ n → slot_word_of c n ≡ 0 }
+{}
+
+/// Which event a step may do at a port, by the word that it loads. The rest of the event's rules the node knows itself: that it is live
+/// and the value is one, and for a call that its service allows it.
+pub fn words_judge_events()
+    ensures begin { (s : State) (p v : ℕ) → IsWellFormed s → IsTrue (is_live_port s.config p) → IsTrue (is_value v)
+        → let w = unpack (word_of s p) in IsTrue (is_idle w.phase) → denial s (Event.Begin p (w.serial + 1) v) ≡ root_denial w }
+    ensures call { (s : State) (p v : ℕ) → IsWellFormed s → CallsThrough s p → IsTrue (is_value v)
+        → let w = unpack (word_of s p) in is_missing w ≡ false → denial s (Event.Call p (w.serial + 1) v) ≡ None }
+    ensures miss { (s : State) (p : ℕ) → IsWellFormed s → CallsThrough s p
+        → let w = unpack (word_of s p) in is_missing w ≡ true → denial s (Event.Miss p) ≡ None }
+    ensures take { (s : State) (p n : ℕ) → IsWellFormed s → IsConsistent s → service s n ≡ None
+        → let w = unpack (word_of s p) in is_message_to n w ≡ true → denial s (Event.Take p w.serial w.value) ≡ None }
+    ensures stale { (s : State) (p n k v : ℕ) → IsWellFormed s
+        → let w = unpack (word_of s p) in is_message_to n w ≡ false → denial s (Event.Take p k v) ≡ None → is_doer s n (Event.Take p k v) ≡ false }
+    ensures hear { (s : State) (p n : ℕ) (u : Service) → IsWellFormed s → IsConsistent s → service s n ≡ Some u → u.port ≡ p → u.heard ≡ false
+        → let w = unpack (word_of s p) in IsTrue (is_asked w.phase) → denial s (Event.Hear p w.serial w.value) ≡ None }
+    ensures ask { (s : State) (p v : ℕ) → IsWellFormed s → IsConsistent s → IsTrue (is_value v)
+        → let w = unpack (word_of s p) in IsTrue (is_in_more w.phase) → denial s (Event.Ask p w.serial v) ≡ None }
+    ensures end { (s : State) (p : ℕ) → IsWellFormed s → IsConsistent s
+        → let w = unpack (word_of s p) in IsTrue (is_answered w.phase) → denial s (Event.End p w.serial w.value) ≡ None }
 {}
