@@ -1,5 +1,5 @@
 -- The word of a port: the fields that it spells, and at which bits.
-use Rattle.std.specs.Prelude.{◌≡◌, ℕ, ◌^◌, ◌<◌, Bool, not, ◌&&◌, ◌||◌, ◌==◌, List, [], ◌∷◌, Option, Some, option_map, if◌then◌else◌}
+use Rattle.std.specs.Prelude.{◌≡◌, ℕ, ◌-◌, ◌^◌, ◌<◌, Bool, false, not, ◌&&◌, ◌||◌, ◌==◌, List, [], ◌∷◌, Option, Some, is_none, option_map, if◌then◌else◌}
 use Rattle.std.specs.Option.{option_map_or}
 use Rattle.config_graph.specs.declared.TheConstants.{MAX_NODES}
 use Rattle.config_graph.specs.declared.node.Target.{Target}
@@ -7,7 +7,7 @@ use Rattle.gate_word.specs.declared.phase.Phase.{Phase}
 use Rattle.gate_word.specs.declared.phase.Phase.TheVariants as phase
 use Rattle.gate_word.specs.declared.word.Word.{Word}
 use Rattle.gate_word.specs.Packs.{spell, bits, plus_one, less_one}
-use Rattle.gate_word.specs.Phases.{is_idle}
+use Rattle.gate_word.specs.Phases.{is_asked, is_idle}
 
 abbrev pub phase_bits : Phase → ℕ
 phase_bits phase.Idle = 0
@@ -73,3 +73,15 @@ is_drained w = w.closed && (is_idle w.phase || w.consequent)
 -- whether the port has a transaction that is no consequent one
 abbrev pub has_root : Word → Bool
 has_root w = not (is_idle w.phase) && not w.consequent
+
+-- whether the port had its last transaction
+abbrev pub is_spent : Word → Bool
+is_spent w = w.serial == 2 ^ 24 - 1
+
+-- whether a call finds no target, or no transaction left
+abbrev pub is_missing : Word → Bool
+is_missing w = is_none w.target || is_spent w
+
+-- whether a message stands there for this node
+abbrev pub is_message_to : ℕ → Word → Bool
+is_message_to n w = is_asked w.phase && option_map_or (λ (t : Target). t.node == n) w.target false

@@ -11,7 +11,8 @@ mod word;
 
 pub use laws::{
     each_field_has_its_bits, packs_meet_field_by_field, slot_words_decode, slot_words_differ,
-    words_are_sums, words_decode, words_differ, words_have_their_room, worked_operands, worked_words,
+    words_are_sums, words_decode, words_differ, words_have_their_room, worked_operands,
+    worked_words,
 };
 pub use operands::{
     ALL_BUT_CLOSED, CLOSED, ask_operand, call_operand, closed_bits_turn, differences_turn_fields,

@@ -11,6 +11,8 @@ use config_graph::Target;
 /// How many values and how many serials a word can spell, how many provisions of a target, and how many targets, none among them.
 const VALUES: u64 = 1 << 24;
 
+const LAST_SERIAL: u32 = (1 << 24) - 1;
+
 const PROVISIONS: u64 = 1 << 2;
 
 const TARGETS: u64 = 1 << 10;
@@ -87,5 +89,26 @@ impl Word {
         ensures { result ≡ words.has_root self }
     {
         !self.phase.is_idle() && !self.consequent
+    }
+
+    /// Whether the port had its last transaction.
+    pub fn is_spent(self) -> bool
+        ensures { result ≡ words.is_spent self }
+    {
+        self.serial == LAST_SERIAL
+    }
+
+    /// Whether a call finds no target, or no transaction left.
+    pub fn is_missing(self) -> bool
+        ensures { result ≡ words.is_missing self }
+    {
+        self.target.is_none() || self.is_spent()
+    }
+
+    /// Whether a message stands there for this node.
+    pub fn is_message_to(self, node: u32) -> bool
+        ensures { result ≡ words.is_message_to node self }
+    {
+        self.phase.is_asked() && self.target.map_or(false, |target| target.node == node)
     }
 }

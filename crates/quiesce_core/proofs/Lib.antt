@@ -23,6 +23,7 @@ pub mod RunLaws
 pub mod InductionLaws
 pub mod WordLaws
 pub mod OperationLaws
+pub mod LoadLaws
 pub mod OrderLemmas
 pub mod LiveLinks
 pub mod SameWiring

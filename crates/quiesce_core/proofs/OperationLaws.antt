@@ -132,8 +132,8 @@ begin_by s t p k v w step = ap pack (port_word_follows s t (Begin p k v) w step 
 
 -- ---- slots
 
-pub make_by : (s t : State) (n : ℕ) (node : Node) (from : Option ℕ) → Step s (Make n node from) t
+pub make_by : (s t : State) (n : ℕ) (node : Node) (from : Option ℕ) → IsWellFormed s → Step s (Make n node from) t
     → slot_word_of t.config n ≡ bit_or (slot_word_of s.config n) (pack_slot (record { kind = node.kind; first_port = length s.config.gates; arg = node.arg; from = from }))
-make_by s t n node from step =
+make_by s t n node from w step =
     let filled = pack_slot (record { kind = node.kind; first_port = length s.config.gates; arg = node.arg; from = from }) in
-    slot_word_made s t n node from step ∙ sym (or_zero_l filled) ∙ sym (ap (λ k. bit_or k filled) (slot_word_unmade s t n node from step))
+    slot_word_made s t n node from w step ∙ sym (or_zero_l filled) ∙ sym (ap (λ k. bit_or k filled) (slot_word_unmade s t n node from step))

@@ -1,7 +1,7 @@
 -- The words of a state: what each port and each slot shows of itself in one number, and what an event makes of them.
-use Rattle.std.specs.Prelude.{◌≡◌, ℕ, ◌<◌, true, false, length, Option, Some, None, is_some}
+use Rattle.std.specs.Prelude.{ℕ, IsTrue, true, false, Option, Some, None, is_none, is_some, if◌then◌else◌}
 use Rattle.std.specs.Option.{option_map_or}
-use Rattle.gate_word.specs.Words.{pack}
+use Rattle.gate_word.specs.Words.{is_spent, pack}
 use Rattle.gate_word.specs.SlotWords.{pack_slot}
 use Rattle.gate_word.specs.declared.phase.Phase.TheVariants as phase
 use Rattle.gate_word.specs.declared.word.Word.{Word}
@@ -9,7 +9,9 @@ use Rattle.gate_word.specs.declared.slot_word.SlotWord.{SlotWord}
 use Rattle.quiesce_core.specs.declared.event.Event.{Event}
 use Rattle.quiesce_core.specs.declared.event.Event.TheVariants.{Begin, Call, Take, Give, End, More, Ask, Hear, Miss, Close, Reopen, Make, Link, Unlink, Remove}
 use Rattle.quiesce_core.specs.declared.state.Slot.{Slot}
-use Rattle.quiesce_core.specs.State.{Configuration, State, slot, gate, exchange}
+use Rattle.gate_word.specs.Phases.{is_idle}
+use Rattle.quiesce_core.specs.Rules.{has_calls_left, is_live_port, serves_through, was_heard}
+use Rattle.quiesce_core.specs.State.{Configuration, State, slot, gate, owner, exchange, service}
 
 -- what a port shows of its gate and its exchange
 abbrev pub fields_of : State → ℕ → Word
@@ -89,6 +91,14 @@ changed_slot (Link p n x) = None
 changed_slot (Unlink p) = None
 changed_slot (Remove n) = None
 
--- each node that took over the state of another names a slot in which one was made
-pub record SourcesWereMade (c : Configuration) : Type 0 where
-  pub source : (n k : ℕ) (m : Slot) → slot c n ≡ Some m → m.from ≡ Some k → k < length c.slots
+-- the rule by which a root is denied at an idle port of a live node, by what the port shows: it is closed, unlinked or spent
+abbrev pub root_denial : Word → Option ℕ
+root_denial w = if w.closed then Some 2 else if is_none w.target then Some 3 else if is_spent w then Some 5 else None
+
+-- what the owner of an idle port knows before it calls there: its service may call through the port, and heard the last message
+pub record CallsThrough (s : State) (p : ℕ) : Type 0 where
+  pub live : IsTrue (is_live_port s.config p)
+  pub serves_through : IsTrue (serves_through s (owner s.config p) p)
+  pub calls_left : IsTrue (has_calls_left s (owner s.config p))
+  pub heard : IsTrue (was_heard (service s (owner s.config p)))
+  pub idle : IsTrue (is_idle (exchange s p).phase)
