@@ -59,22 +59,15 @@ exchanges_next s (Begin q k v) w l p = put_exchange s s q (λ i. record { phase 
 exchanges_next s (Call q k v) w l p =
     put_exchange s (with_call s (owner s.config q)) q
     (λ i. record { phase = phase.Asked; serial = k; value = v; within = option_map (λ (u : Service). u.port) (service s (owner s.config i)) }) (λ i. refl) (exchange_place s q w l.live) p
-exchanges_next s (Miss q) w l p = refl
-exchanges_next s (Take q k v) w l p = refl
 exchanges_next s (Give q k v) w l p =
     put_exchange s (with_target_service s q None) q (λ i. record (exchange s i) { phase = phase.Answered; value = v }) (λ i. refl) (exchange_place s q w l.live) p
 exchanges_next s (More q k v) w l p =
     put_exchange s (with_target_service s q (option_map (λ (u : Service). record u { mores = u.mores + 1; heard = false }) (target_service s q))) q
     (λ i. record (exchange s i) { phase = phase.More; value = v }) (λ i. refl) (exchange_place s q w l.live) p
 exchanges_next s (Ask q k v) w l p = put_exchange s s q (λ i. record (exchange s i) { phase = phase.Asked; value = v }) (λ i. refl) (exchange_place s q w l.live) p
-exchanges_next s (Hear q k v) w l p = refl
 exchanges_next s (End q k v) w l p = put_exchange s s q (λ i. record (exchange s i) { phase = phase.Idle; value = 0; within = None }) (λ i. refl) (exchange_place s q w l.live) p
-exchanges_next s (Close q) w l p = refl
-exchanges_next s (Reopen q) w l p = refl
 exchanges_next s (Make n node from) w l p = fresh_behind s.traffic.exchanges fresh_exchange (length (row node.kind).requires_) p
-exchanges_next s (Link q n x) w l p = refl
-exchanges_next s (Unlink q) w l p = refl
-exchanges_next s (Remove n) w l p = refl
+exchanges_next s _ w l p = refl
 
 either : {A : Type 0} (b : Bool) (x : A) → x ≡ cond b x x
 either true x = refl
@@ -92,12 +85,8 @@ services_next s (More q k v) w l n = at_target s q (More q k v) (λ u. option_ma
 services_next s (Ask q k v) w l n = either (owner s.config q == n) (service s n)
 services_next s (Hear q k v) w l n = at_target s q (Hear q k v) (λ u. option_map (λ (u : Service). record u { heard = true }) u) w n
 services_next s (End q k v) w l n = either (owner s.config q == n) (service s n)
-services_next s (Close q) w l n = refl
-services_next s (Reopen q) w l n = refl
 services_next s (Make m node from) w l n = fresh_behind s.traffic.services None 1 n
-services_next s (Link q m x) w l n = refl
-services_next s (Unlink q) w l n = refl
-services_next s (Remove m) w l n = refl
+services_next s _ w l n = refl
 
 -- configurations
 

@@ -10,7 +10,7 @@ use Rattle.config_graph.specs.declared.kind.Kind.{Kind}
 use Rattle.config_graph.specs.declared.node.Node.{Node}
 use Rattle.config_graph.specs.declared.node.Target.{Target}
 use Rattle.quiesce_core.specs.declared.event.Event.{Event}
-use Rattle.quiesce_core.specs.declared.event.Event.TheVariants.{Begin, Call, Take, Give, End, More, Ask, Hear, Miss, Close, Reopen, Make, Link, Unlink, Remove}
+use Rattle.quiesce_core.specs.declared.event.Event.TheVariants.{Close, Reopen, Make, Link, Unlink, Remove}
 use Rattle.quiesce_core.specs.declared.state.Slot.{Slot}
 use Rattle.quiesce_core.specs.declared.state.Gate.{Gate}
 use Rattle.quiesce_core.specs.State.{Configuration, fresh_gate, slot, gate, owner, target}
@@ -80,21 +80,9 @@ live_removed_then c d n r m other = (
 )
 
 slots_kept : (c : Configuration) (e : Event) (m : ℕ) → is_make e ≡ false → is_remove e ≡ false → slot_next c m e ≡ slot c m
-slots_kept c (Begin q k v) m make remove = refl
-slots_kept c (Call q k v) m make remove = refl
-slots_kept c (Miss q) m make remove = refl
-slots_kept c (Take q k v) m make remove = refl
-slots_kept c (Give q k v) m make remove = refl
-slots_kept c (More q k v) m make remove = refl
-slots_kept c (Ask q k v) m make remove = refl
-slots_kept c (Hear q k v) m make remove = refl
-slots_kept c (End q k v) m make remove = refl
-slots_kept c (Close q) m make remove = refl
-slots_kept c (Reopen q) m make remove = refl
 slots_kept c (Make n node from) m make remove = absurd (both_ways true make refl)
-slots_kept c (Link q n x) m make remove = refl
-slots_kept c (Unlink q) m make remove = refl
 slots_kept c (Remove n) m make remove = absurd (both_ways true remove refl)
+slots_kept c _ m make remove = refl
 
 -- the nodes stay as they are but where one is made or removed
 pub slots_stay : (c d : Configuration) (e : Event) → Reconfigures c e d → is_make e ≡ false → is_remove e ≡ false → (m : ℕ) → slot d m ≡ slot c m
@@ -103,26 +91,14 @@ slots_stay c d e r make remove m = r.slots m ∙ slots_kept c e m make remove
 -- what was made in a slot stays there, live or removed
 pub slot_was : (c d : Configuration) (e : Event) → Reconfigures c e d → (n : ℕ) (m : Slot) → n < length c.slots → slot d n ≡ Some m
     → (old : Slot) × (slot c n ≡ Some old) × (old.first_port ≡ m.first_port) × (old.node ≡ m.node)
-slot_was c d (Begin q k v) r n m h at = (m, sym (r.slots n) ∙ at, refl, refl)
-slot_was c d (Call q k v) r n m h at = (m, sym (r.slots n) ∙ at, refl, refl)
-slot_was c d (Miss q) r n m h at = (m, sym (r.slots n) ∙ at, refl, refl)
-slot_was c d (Take q k v) r n m h at = (m, sym (r.slots n) ∙ at, refl, refl)
-slot_was c d (Give q k v) r n m h at = (m, sym (r.slots n) ∙ at, refl, refl)
-slot_was c d (More q k v) r n m h at = (m, sym (r.slots n) ∙ at, refl, refl)
-slot_was c d (Ask q k v) r n m h at = (m, sym (r.slots n) ∙ at, refl, refl)
-slot_was c d (Hear q k v) r n m h at = (m, sym (r.slots n) ∙ at, refl, refl)
-slot_was c d (End q k v) r n m h at = (m, sym (r.slots n) ∙ at, refl, refl)
-slot_was c d (Close q) r n m h at = (m, sym (r.slots n) ∙ at, refl, refl)
-slot_was c d (Reopen q) r n m h at = (m, sym (r.slots n) ∙ at, refl, refl)
 slot_was c d (Make k node from) r n m h at = (m, sym (r.slots n ∙ rw (ne_eqb n (length c.slots) (λ same. omega (arith, h, same))) refl) ∙ at, refl, refl)
-slot_was c d (Link q k x) r n m h at = (m, sym (r.slots n) ∙ at, refl, refl)
-slot_was c d (Unlink q) r n m h at = (m, sym (r.slots n) ∙ at, refl, refl)
 slot_was c d (Remove k) r n m h at = ⊎_elim
     (λ (same : n ≡ k).
     let old = option_map_some (λ (k : Slot). record k { live = false }) (slot c n) m (sym (r.slots n ∙ rw (eq-eqb n k same) refl) ∙ at) in
     (old.0, old.1, ap (λ (x : Slot). x.first_port) old.2, ap (λ (x : Slot). x.node) old.2))
     (λ (other : n ≡ k → ⊥). (m, sym (r.slots n ∙ rw (ne_eqb n k other) refl) ∙ at, refl, refl))
     (cases_eq n k)
+slot_was c d _ r n m h at = (m, sym (r.slots n) ∙ at, refl, refl)
 
 -- ---- what all events keep of what was made
 

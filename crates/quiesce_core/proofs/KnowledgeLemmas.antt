@@ -7,7 +7,7 @@ use Rattle.std.proofs.lemmas.Option.{same_Some}
 use Rattle.gate_word.specs.Phases.{is_idle}
 use Rattle.gate_word.specs.declared.phase.Phase.TheVariants as phase
 use Rattle.quiesce_core.specs.declared.event.Event.{Event}
-use Rattle.quiesce_core.specs.declared.event.Event.TheVariants.{Begin, Call, Take, Give, End, More, Ask, Hear, Miss, Close, Reopen, Make, Link, Unlink, Remove}
+use Rattle.quiesce_core.specs.declared.event.Event.TheVariants.{Begin, Call, Take, Give, End, More, Ask, Hear, Miss, Make}
 use Rattle.quiesce_core.specs.declared.known.Served.{Served}
 use Rattle.quiesce_core.specs.declared.state.Service.{Service}
 use Rattle.quiesce_core.specs.declared.state.Exchange.{Exchange}
@@ -156,12 +156,7 @@ module _ (s : State) (w : IsWellFormed s) (c : IsConsistent s) (n : ℕ) where
       let of_port : v.port ≡ q =
       ap (λ (y : Service). y.port) (same_Some v at.serving (sym e ∙ sym (served_there s q n does) ∙ target_service_is s q at.to at.leads ∙ at.serviced)) ∙ at.of_port in
       record { port = k_.port; serial = k_.serial; calls = k_.calls; mores = k_.mores; heard = refl; value = λ h. (message_is s q k j l.message).1 ∙ sym (ap (λ i. (exchange s i).value) of_port) }) h
-  service_by_own (Close q) u l does h = absurd (both_ways false refl does)
-  service_by_own (Reopen q) u l does h = absurd (both_ways false refl does)
-  service_by_own (Make m node from) u l does h = absurd (both_ways false refl does)
-  service_by_own (Link q m x) u l does h = absurd (both_ways false refl does)
-  service_by_own (Unlink q) u l does h = absurd (both_ways false refl does)
-  service_by_own (Remove m) u l does h = absurd (both_ways false refl does)
+  service_by_own _ u l does h = absurd (both_ways false refl does)
 
 pub service_next : (s : State) (e : Event) (n : ℕ) (u : Option Served) → IsWellFormed s → IsConsistent s → Legal s e → KnowsService s (service s n) u
     → KnowsService (effect s e) (service (effect s e) n) (fold served_next u (mine s n e))

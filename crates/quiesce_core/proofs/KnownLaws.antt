@@ -11,7 +11,7 @@ use Rattle.std.proofs.lemmas.Option.{same_Some}
 use Rattle.config_graph.specs.Kinds.{row, calls_of, depends_on, mores_of}
 use Rattle.config_graph.specs.declared.node.Target.{Target}
 use Rattle.quiesce_core.specs.declared.event.Event.{Event}
-use Rattle.quiesce_core.specs.declared.event.Event.TheVariants.{Begin, Call, Take, Give, End, More, Ask, Hear, Miss, Close, Reopen, Make, Link, Unlink, Remove}
+use Rattle.quiesce_core.specs.declared.event.Event.TheVariants.{Begin, Call, End, Ask, Make}
 use Rattle.quiesce_core.specs.declared.known.Known.{Known}
 use Rattle.quiesce_core.specs.declared.known.PortKnown.{PortKnown}
 use Rattle.quiesce_core.specs.declared.known.Served.{Served}
@@ -52,17 +52,7 @@ own_next p k (Begin q j v) = ⊎_elim (λ (h : (q == p) ≡ true). rw h refl) (�
 own_next p k (Call q j v) = ⊎_elim (λ (h : (q == p) ≡ true). rw h refl) (λ (h : (q == p) ≡ false). rw h refl) (cases_Bool (q == p))
 own_next p k (End q j v) = ⊎_elim (λ (h : (q == p) ≡ true). rw h refl) (λ (h : (q == p) ≡ false). rw h refl) (cases_Bool (q == p))
 own_next p k (Ask q j v) = ⊎_elim (λ (h : (q == p) ≡ true). rw h refl) (λ (h : (q == p) ≡ false). rw h refl) (cases_Bool (q == p))
-own_next p k (Take q j v) = refl
-own_next p k (Give q j v) = refl
-own_next p k (More q j v) = refl
-own_next p k (Hear q j v) = refl
-own_next p k (Miss q) = refl
-own_next p k (Close q) = refl
-own_next p k (Reopen q) = refl
-own_next p k (Make n node from) = refl
-own_next p k (Link q n x) = refl
-own_next p k (Unlink q) = refl
-own_next p k (Remove n) = refl
+own_next p k _ = refl
 
 -- ports in a row
 next_at : (p : ℕ) (ws : List PortKnown) (e : Event) (r : ℕ) (k : PortKnown) → slice_get (ports_known_next p ws e) r ≡ Some k
@@ -104,17 +94,7 @@ unreplied p k (Begin q j u) v h = let other = forgotten (q == p) _ k v refl h in
 unreplied p k (Call q j u) v h = let other = forgotten (q == p) _ k v refl h in record { seen = rw other refl; more_ = rw other refl; no_ask = refl; no_end = refl }
 unreplied p k (Ask q j u) v h = let other = forgotten (q == p) _ k v refl h in record { seen = rw other refl; more_ = rw other refl; no_ask = other; no_end = refl }
 unreplied p k (End q j u) v h = let other = forgotten (q == p) _ k v refl h in record { seen = rw other refl; more_ = rw other refl; no_ask = refl; no_end = other }
-unreplied p k (Take q j u) v h = record { seen = refl; more_ = refl; no_ask = refl; no_end = refl }
-unreplied p k (Give q j u) v h = record { seen = refl; more_ = refl; no_ask = refl; no_end = refl }
-unreplied p k (More q j u) v h = record { seen = refl; more_ = refl; no_ask = refl; no_end = refl }
-unreplied p k (Hear q j u) v h = record { seen = refl; more_ = refl; no_ask = refl; no_end = refl }
-unreplied p k (Miss q) v h = record { seen = refl; more_ = refl; no_ask = refl; no_end = refl }
-unreplied p k (Close q) v h = record { seen = refl; more_ = refl; no_ask = refl; no_end = refl }
-unreplied p k (Reopen q) v h = record { seen = refl; more_ = refl; no_ask = refl; no_end = refl }
-unreplied p k (Make n node from) v h = record { seen = refl; more_ = refl; no_ask = refl; no_end = refl }
-unreplied p k (Link q n x) v h = record { seen = refl; more_ = refl; no_ask = refl; no_end = refl }
-unreplied p k (Unlink q) v h = record { seen = refl; more_ = refl; no_ask = refl; no_end = refl }
-unreplied p k (Remove n) v h = record { seen = refl; more_ = refl; no_ask = refl; no_end = refl }
+unreplied p k _ v h = record { seen = refl; more_ = refl; no_ask = refl; no_end = refl }
 
 -- an Ask or an End at a port is done by the port's owner
 reply_mine : (s : State) (e : Event) (n p : ℕ) → owner s.config p ≡ n → is_doer s n e ≡ false → (is_ask_at p e ≡ false) × (is_end_at p e ≡ false)
@@ -122,19 +102,7 @@ reply_mine s (Ask q j u) n p owned other =
     (false_from_ne_true (q == p) (λ h. both_ways (owner s.config q == n) other (eq-eqb (owner s.config q) n (ap (λ i. owner s.config i) (eqb-true q p h) ∙ owned))), refl)
 reply_mine s (End q j u) n p owned other =
     (refl, false_from_ne_true (q == p) (λ h. both_ways (owner s.config q == n) other (eq-eqb (owner s.config q) n (ap (λ i. owner s.config i) (eqb-true q p h) ∙ owned))))
-reply_mine s (Begin q j u) n p owned other = (refl, refl)
-reply_mine s (Call q j u) n p owned other = (refl, refl)
-reply_mine s (Take q j u) n p owned other = (refl, refl)
-reply_mine s (Give q j u) n p owned other = (refl, refl)
-reply_mine s (More q j u) n p owned other = (refl, refl)
-reply_mine s (Hear q j u) n p owned other = (refl, refl)
-reply_mine s (Miss q) n p owned other = (refl, refl)
-reply_mine s (Close q) n p owned other = (refl, refl)
-reply_mine s (Reopen q) n p owned other = (refl, refl)
-reply_mine s (Make m node from) n p owned other = (refl, refl)
-reply_mine s (Link q m x) n p owned other = (refl, refl)
-reply_mine s (Unlink q) n p owned other = (refl, refl)
-reply_mine s (Remove m) n p owned other = (refl, refl)
+reply_mine s _ n p owned other = (refl, refl)
 
 -- what is known of a port as one equation
 as_one : (s : State) (p : ℕ) (k : PortKnown) → IsPortKnown s p k → as_own_port k ≡ own_port s p
@@ -216,17 +184,7 @@ unseen_next p k (Begin q j v) h = ⊎_elim (λ (t : (q == p) ≡ true). rw t ref
 unseen_next p k (Call q j v) h = ⊎_elim (λ (t : (q == p) ≡ true). rw t refl) (λ (f : (q == p) ≡ false). rw f h) (cases_Bool (q == p))
 unseen_next p k (Ask q j v) h = ⊎_elim (λ (t : (q == p) ≡ true). rw t refl) (λ (f : (q == p) ≡ false). rw f h) (cases_Bool (q == p))
 unseen_next p k (End q j v) h = ⊎_elim (λ (t : (q == p) ≡ true). rw t refl) (λ (f : (q == p) ≡ false). rw f h) (cases_Bool (q == p))
-unseen_next p k (Take q j v) h = h
-unseen_next p k (Give q j v) h = h
-unseen_next p k (More q j v) h = h
-unseen_next p k (Hear q j v) h = h
-unseen_next p k (Miss q) h = h
-unseen_next p k (Close q) h = h
-unseen_next p k (Reopen q) h = h
-unseen_next p k (Make n node from) h = h
-unseen_next p k (Link q n x) h = h
-unseen_next p k (Unlink q) h = h
-unseen_next p k (Remove n) h = h
+unseen_next p k _ h = h
 
 -- folds from anywhere
 service_from : (first : ℕ) (w : Known) (es : List Event) → (fold (known_next first) w es).service ≡ fold served_next w.service es

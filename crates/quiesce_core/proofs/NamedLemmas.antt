@@ -10,7 +10,7 @@ use Rattle.config_graph.specs.Kinds.{row}
 use Rattle.config_graph.specs.Sound.{HasItsArgument}
 use Rattle.config_graph.specs.declared.node.Node.{Node}
 use Rattle.quiesce_core.specs.declared.event.Event.{Event}
-use Rattle.quiesce_core.specs.declared.event.Event.TheVariants.{Begin, Call, Take, Give, End, More, Ask, Hear, Miss, Close, Reopen, Make, Link, Unlink, Remove}
+use Rattle.quiesce_core.specs.declared.event.Event.TheVariants.{Close, Reopen, Make, Link, Unlink, Remove}
 use Rattle.quiesce_core.specs.declared.state.Slot.{Slot}
 use Rattle.quiesce_core.specs.State.{Configuration, State, empty, slot}
 use Rattle.quiesce_core.specs.Effect.{with_node, with_removed, effect}
@@ -85,15 +85,6 @@ named_removed c n old there a =
 
 -- each event that may happen
 pub named_next : (s : State) (e : Event) → AreNamed s.config → Legal s e → AreNamed (effect s e).config
-named_next s (Begin p k v) a l = a
-named_next s (Call p k v) a l = a
-named_next s (Miss p) a l = a
-named_next s (Take p k v) a l = a
-named_next s (Give p k v) a l = a
-named_next s (More p k v) a l = a
-named_next s (Ask p k v) a l = a
-named_next s (Hear p k v) a l = a
-named_next s (End p k v) a l = a
 named_next s (Close p) a l = record { paths = a.paths; arguments = a.arguments }
 named_next s (Reopen p) a l = record { paths = a.paths; arguments = a.arguments }
 named_next s (Make n node from) a l =
@@ -102,6 +93,7 @@ named_next s (Make n node from) a l =
 named_next s (Link p n x) a l = record { paths = a.paths; arguments = a.arguments }
 named_next s (Unlink p) a l = record { paths = a.paths; arguments = a.arguments }
 named_next s (Remove n) a l = let m = map_or_true (λ (m : Slot). m.live) (slot s.config n) l.live in named_removed s.config n m.0 m.1 a
+named_next s _ a l = a
 
 pub named_empty : AreNamed empty.config
 named_empty = record { paths = λ i j m n e. absurd (cc); arguments = λ i m e. absurd (cc) }

@@ -79,21 +79,13 @@ run_if es h = (runs_are_found es).1 h
 -- what the change does no node does, and the other way round
 
 no_node_if : (s : State) (e : Event) → is_of_change e ≡ true → doer s e ≡ None
-no_node_if s (Begin p k v) h = absurd (both_ways false refl h)
-no_node_if s (Call p k v) h = absurd (both_ways false refl h)
-no_node_if s (Miss p) h = absurd (both_ways false refl h)
-no_node_if s (Take p k v) h = absurd (both_ways false refl h)
-no_node_if s (Give p k v) h = absurd (both_ways false refl h)
-no_node_if s (More p k v) h = absurd (both_ways false refl h)
-no_node_if s (Ask p k v) h = absurd (both_ways false refl h)
-no_node_if s (Hear p k v) h = absurd (both_ways false refl h)
-no_node_if s (End p k v) h = absurd (both_ways false refl h)
 no_node_if s (Close p) h = refl
 no_node_if s (Reopen p) h = refl
 no_node_if s (Make n node from) h = refl
 no_node_if s (Link p n x) h = refl
 no_node_if s (Unlink p) h = refl
 no_node_if s (Remove n) h = refl
+no_node_if s _ h = absurd (both_ways false refl h)
 
 -- an event of a node that may happen has its doer: who is to take, give, reply or hear is there, since a busy port is linked
 pub doer_there : (s : State) (e : Event) → IsConsistent s → Legal s e → is_of_change e ≡ false → (n : ℕ) × (doer s e ≡ Some n)
@@ -108,12 +100,7 @@ doer_there s (Take p k v) c l h =
 doer_there s (Give p k v) c l h = let t = taken_is s p l.taken in (t.to.node, ap (λ o. option_map (λ (u : Target). u.node) o) t.leads)
 doer_there s (More p k v) c l h = let t = taken_is s p l.taken in (t.to.node, ap (λ o. option_map (λ (u : Target). u.node) o) t.leads)
 doer_there s (Hear p k v) c l h = let t = taken_is s p l.taken in (t.to.node, ap (λ o. option_map (λ (u : Target). u.node) o) t.leads)
-doer_there s (Close p) c l h = absurd (both_ways true h refl)
-doer_there s (Reopen p) c l h = absurd (both_ways true h refl)
-doer_there s (Make n node from) c l h = absurd (both_ways true h refl)
-doer_there s (Link p n x) c l h = absurd (both_ways true h refl)
-doer_there s (Unlink p) c l h = absurd (both_ways true h refl)
-doer_there s (Remove n) c l h = absurd (both_ways true h refl)
+doer_there s _ c l h = absurd (both_ways true h refl)
 
 pub changes_are_of_no_node : (s : State) (e : Event) → IsConsistent s → denial s e ≡ None → (is_of_change e ≡ true) ↔ (doer s e ≡ None)
 changes_are_of_no_node s e c allowed = (
@@ -128,37 +115,16 @@ changes_are_of_no_node s e c allowed = (
 
 pub effect_config : (s : State) (e : Event) → (effect s e).config ≡ change_next s.config e
 effect_config s (Begin p k v) = refl
-effect_config s (Call p k v) = refl
-effect_config s (Miss p) = refl
-effect_config s (Take p k v) = refl
-effect_config s (Give p k v) = refl
-effect_config s (More p k v) = refl
-effect_config s (Ask p k v) = refl
-effect_config s (Hear p k v) = refl
-effect_config s (End p k v) = refl
-effect_config s (Close p) = refl
-effect_config s (Reopen p) = refl
-effect_config s (Make n node from) = refl
-effect_config s (Link p n x) = refl
-effect_config s (Unlink p) = refl
-effect_config s (Remove n) = refl
+effect_config s _ = refl
 
 change_only : (c : Configuration) (e : Event) → is_of_change e ≡ false → change_next c e ≡ c
-change_only c (Begin p k v) h = refl
-change_only c (Call p k v) h = refl
-change_only c (Miss p) h = refl
-change_only c (Take p k v) h = refl
-change_only c (Give p k v) h = refl
-change_only c (More p k v) h = refl
-change_only c (Ask p k v) h = refl
-change_only c (Hear p k v) h = refl
-change_only c (End p k v) h = refl
 change_only c (Close p) h = absurd (both_ways true h refl)
 change_only c (Reopen p) h = absurd (both_ways true h refl)
 change_only c (Make n node from) h = absurd (both_ways true h refl)
 change_only c (Link p n x) h = absurd (both_ways true h refl)
 change_only c (Unlink p) h = absurd (both_ways true h refl)
 change_only c (Remove n) h = absurd (both_ways true h refl)
+change_only c _ h = refl
 
 pub node_events_keep_the_configuration : (s : State) (e : Event) → is_of_change e ≡ false → (effect s e).config ≡ s.config
 node_events_keep_the_configuration s e h = effect_config s e ∙ change_only s.config e h

@@ -6,7 +6,7 @@ use Rattle.std.proofs.lemmas.Bool.{and_parts, both_ways, cases_eq, eq-eqb, ne_eq
 use Rattle.std.proofs.lemmas.Option.{same_Some, slice_get_within}
 use Rattle.config_graph.specs.declared.node.Node.{Node}
 use Rattle.quiesce_core.specs.declared.event.Event.{Event}
-use Rattle.quiesce_core.specs.declared.event.Event.TheVariants.{Begin, Call, Take, Give, End, More, Ask, Hear, Miss, Close, Reopen, Make, Link, Unlink, Remove}
+use Rattle.quiesce_core.specs.declared.event.Event.TheVariants.{Make, Remove}
 use Rattle.quiesce_core.specs.declared.state.Slot.{Slot}
 use Rattle.quiesce_core.specs.State.{Configuration, State, empty, slot}
 use Rattle.quiesce_core.specs.Effect.{effect}
@@ -16,6 +16,7 @@ use Rattle.quiesce_core.specs.Runs.{IsRun, state_after}
 use Rattle.quiesce_core.specs.Alters.{Reconfigures}
 use Rattle.quiesce_core.specs.Sources.{SourcesAreGone}
 use Rattle.quiesce_core.proofs.AlterLaws.{reconfigured}
+use Rattle.quiesce_core.proofs.ConfigurationLaws.{slots_stay}
 use Rattle.quiesce_core.proofs.CycleLaws.{map_or_true}
 use Rattle.quiesce_core.proofs.InductionLaws.{always}
 use Rattle.quiesce_core.proofs.NamedLemmas.{any_at}
@@ -121,21 +122,9 @@ removed c d n r h = record {
 }
 
 pub sources_next : (s : State) (e : Event) → Legal s e → SourcesAreGone s.config → SourcesAreGone (effect s e).config
-sources_next s (Begin q k v) l h = h
-sources_next s (Call q k v) l h = h
-sources_next s (Miss q) l h = h
-sources_next s (Take q k v) l h = h
-sources_next s (Give q k v) l h = h
-sources_next s (More q k v) l h = h
-sources_next s (Ask q k v) l h = h
-sources_next s (Hear q k v) l h = h
-sources_next s (End q k v) l h = h
-sources_next s (Close q) l h = kept s.config (effect s (Close q)).config (λ n. refl) h
-sources_next s (Reopen q) l h = kept s.config (effect s (Reopen q)).config (λ n. refl) h
 sources_next s (Make n node from) l h = made s.config (effect s (Make n node from)).config n node from (reconfigured s (Make n node from) l) l h
-sources_next s (Link q n x) l h = kept s.config (effect s (Link q n x)).config (λ n. refl) h
-sources_next s (Unlink q) l h = kept s.config (effect s (Unlink q)).config (λ n. refl) h
 sources_next s (Remove n) l h = removed s.config (effect s (Remove n)).config n (reconfigured s (Remove n) l) h
+sources_next s e l h = kept s.config (effect s e).config (slots_stay s.config (effect s e).config e (reconfigured s e l) refl refl) h
 
 pub sources_empty : SourcesAreGone empty.config
 sources_empty = record { gone = λ n k m at. absurd (cc); once = λ i j k m n at. absurd (cc) }

@@ -8,7 +8,7 @@ use Rattle.std.proofs.lemmas.Option.{same_Some}
 use Rattle.config_graph.specs.Kinds.{row}
 use Rattle.config_graph.specs.declared.node.Target.{Target}
 use Rattle.quiesce_core.specs.declared.event.Event.{Event}
-use Rattle.quiesce_core.specs.declared.event.Event.TheVariants.{Begin, Call, Take, Give, End, More, Ask, Hear, Miss, Close, Reopen, Make, Link, Unlink, Remove}
+use Rattle.quiesce_core.specs.declared.event.Event.TheVariants.{Call, Take, Give, More, Hear, Miss, Close, Reopen, Make, Link, Unlink}
 use Rattle.quiesce_core.specs.declared.state.Gate.{Gate}
 use Rattle.quiesce_core.specs.declared.state.Service.{Service}
 use Rattle.gate_word.specs.declared.phase.Phase.{Phase}
@@ -37,15 +37,6 @@ target_written true g h same = same refl
 target_written false g h same = refl
 
 target_at : (s : State) (e : Event) → Legal s e → (p : ℕ) → (is_settled s (owner s.config p) ≡ true → ⊥) → (gate_next s.config p e).target ≡ target s.config p
-target_at s (Begin q k v) l p busy = refl
-target_at s (Call q k v) l p busy = refl
-target_at s (Miss q) l p busy = refl
-target_at s (Take q k v) l p busy = refl
-target_at s (Give q k v) l p busy = refl
-target_at s (More q k v) l p busy = refl
-target_at s (Ask q k v) l p busy = refl
-target_at s (Hear q k v) l p busy = refl
-target_at s (End q k v) l p busy = refl
 target_at s (Close q) l p busy = target_written (q == p) (record (gate s.config p) { closed = true }) (gate s.config p) (λ h. refl)
 target_at s (Reopen q) l p busy = target_written (q == p) (record (gate s.config p) { closed = false }) (gate s.config p) (λ h. refl)
 target_at s (Make n node from) l p busy =
@@ -56,7 +47,7 @@ target_at s (Link q n x) l p busy =
     target_written (q == p) _ (gate s.config p) (λ h. absurd (busy (ap (λ i. is_settled s (owner s.config i)) (sym (eqb-true q p h)) ∙ l.settled)))
 target_at s (Unlink q) l p busy =
     target_written (q == p) _ (gate s.config p) (λ h. absurd (busy (ap (λ i. is_settled s (owner s.config i)) (sym (eqb-true q p h)) ∙ l.settled)))
-target_at s (Remove n) l p busy = refl
+target_at s _ l p busy = refl
 
 -- the ports of a node that isn't settled keep their targets
 pub unsettled_ports_stay : (s : State) (e : Event) → Legal s e → (p : ℕ) → (is_settled s (owner s.config p) ≡ true → ⊥) → target (effect s e).config p ≡ target s.config p
@@ -154,7 +145,6 @@ serves_on s e c l n v serves not_give = by (is_doer s n e) refl
     led q h = served_there s q n h ∙ serves
 
     turn : (e : Event) → Legal s e → is_give_at v.port e ≡ false → is_doer s n e ≡ true → (u : Service) × (service_by (service s n) e ≡ Some u) × (u.port ≡ v.port)
-    turn (Begin q k j) l never does = same_service
     turn (Call q k j) l never does = mapped (λ (w : Service). record w { calls = w.calls + 1 }) (λ x. refl)
     turn (Miss q) l never does = mapped (λ (w : Service). record w { calls = w.calls + 1 }) (λ x. refl)
     turn (Take q k j) l never does = let free = None-from_is_none (target_service s q) l.free in absurd (cc (free, led q does))
@@ -163,15 +153,8 @@ serves_on s e c l n v serves not_give = by (is_doer s n e) refl
         let one : Some t.serving ≡ Some v = sym (target_service_is s q t.to t.leads ∙ t.serviced) ∙ led q does in
         absurd (both_ways (q == v.port) never (eq-eqb q v.port (sym t.of_port ∙ ap (λ (w : Service). w.port) (same_Some t.serving v one))))
     turn (More q k j) l never does = mapped (λ (w : Service). record w { mores = w.mores + 1; heard = false }) (λ x. refl)
-    turn (Ask q k j) l never does = same_service
     turn (Hear q k j) l never does = mapped (λ (w : Service). record w { heard = true }) (λ x. refl)
-    turn (End q k j) l never does = same_service
-    turn (Close q) l never does = same_service
-    turn (Reopen q) l never does = same_service
-    turn (Make m node from) l never does = same_service
-    turn (Link q m x) l never does = same_service
-    turn (Unlink q) l never does = same_service
-    turn (Remove m) l never does = same_service
+    turn _ l never does = same_service
 
     by : (b : Bool) → is_doer s n e ≡ b → (u : Service) × (service_next s n e ≡ Some u) × (u.port ≡ v.port)
     by true does = rw does (turn e l not_give does)

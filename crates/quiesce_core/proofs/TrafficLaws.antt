@@ -212,12 +212,7 @@ serving_by_own s (Hear q k j) w c l n v does is =
     subst (λ y. IsServing (effect s (Hear q k j)) n y) u.2
     (serving_on s (Hear q k j) w c l n u.0 (record u.0 { heard = true }) u.1 refl refl (bounds_on s (Hear q k j) w c l n u.0 u.1)
     (λ h. absurd (both_ways (is_in_more (exchange s q).phase) (asked_not_more (exchange s q).phase l.asked) (ap (λ i. is_in_more (exchange s i).phase) (sym of_port) ∙ h))))
-serving_by_own s (Close q) w c l n v does is = absurd (both_ways false refl does)
-serving_by_own s (Reopen q) w c l n v does is = absurd (both_ways false refl does)
-serving_by_own s (Make m node from) w c l n v does is = absurd (both_ways false refl does)
-serving_by_own s (Link q m x) w c l n v does is = absurd (both_ways false refl does)
-serving_by_own s (Unlink q) w c l n v does is = absurd (both_ways false refl does)
-serving_by_own s (Remove m) w c l n v does is = absurd (both_ways false refl does)
+serving_by_own s _ w c l n v does is = absurd (both_ways false refl does)
 
 serving_next : (s : State) (e : Event) → IsWellFormed s → IsConsistent s → Legal s e → (n : ℕ) (v : Service) → service (effect s e) n ≡ Some v → IsServing (effect s e) n v
 serving_next s e w c l n v is = by (is_doer s n e) refl (sym (services_next s e w l n) ∙ is)
@@ -321,15 +316,6 @@ shut_put s e q p g c live now same alive h = by (q == p) refl now
 
 -- the gate of a port that is not of a live node
 shut_next : (s : State) (e : Event) → IsWellFormed s → IsConsistent s → Legal s e → (p : ℕ) → is_live (effect s e).config (owner (effect s e).config p) ≡ false → IsShut (effect s e).config p
-shut_next s (Begin q k v) w c l p h = c.removed p h
-shut_next s (Call q k v) w c l p h = c.removed p h
-shut_next s (Miss q) w c l p h = c.removed p h
-shut_next s (Take q k v) w c l p h = c.removed p h
-shut_next s (Give q k v) w c l p h = c.removed p h
-shut_next s (More q k v) w c l p h = c.removed p h
-shut_next s (Ask q k v) w c l p h = c.removed p h
-shut_next s (Hear q k v) w c l p h = c.removed p h
-shut_next s (End q k v) w c l p h = c.removed p h
 shut_next s (Close q) w c l p h = shut_put s (Close q) q p _ c l.live ((reconfigured s (Close q) l).gates p) refl (λ m. refl) h
 shut_next s (Reopen q) w c l p h = shut_put s (Reopen q) q p _ c l.live ((reconfigured s (Reopen q) l).gates p) refl (λ m. refl) h
 shut_next s (Link q n x) w c l p h = shut_put s (Link q n x) q p _ c l.live ((reconfigured s (Link q n x) l).gates p) refl (λ m. refl) h
@@ -374,6 +360,7 @@ shut_next s (Remove n) w c l p h = ⊎_elim
     r.slots (owner s.config p) ∙ rw (ne_eqb (owner s.config p) n other) refl in
     c.removed p (sym (ap (λ o. option_map_or (λ (m : Slot). m.live) o false) at) ∙ h))
     (cases_eq (owner s.config p) n)
+shut_next s _ w c l p h = c.removed p h
 
 -- each event that may happen keeps the traffic consistent
 pub consistent_next : (s : State) (e : Event) → IsWellFormed s → IsConsistent s → Legal s e → IsConsistent (effect s e)

@@ -7,7 +7,7 @@ use Rattle.config_graph.specs.declared.node.Target.{Target}
 use Rattle.gate_word.specs.Phases.{is_answered, is_idle, is_in_more}
 use Rattle.gate_word.specs.declared.phase.Phase.TheVariants as phase
 use Rattle.quiesce_core.specs.declared.event.Event.{Event}
-use Rattle.quiesce_core.specs.declared.event.Event.TheVariants.{Begin, Call, Take, Give, End, More, Ask, Hear, Miss, Close, Reopen, Make, Link, Unlink, Remove}
+use Rattle.quiesce_core.specs.declared.event.Event.TheVariants.{Begin, Call, Give, End, More, Ask}
 use Rattle.quiesce_core.specs.declared.state.Exchange.{Exchange}
 use Rattle.quiesce_core.specs.declared.state.Service.{Service}
 use Rattle.quiesce_core.specs.State.{State, exchange, owner, service, target, target_service}
@@ -86,15 +86,7 @@ turn_of s (Ask q k v) w l p = chosen s p (Ask q k v) (q == p) _ _ (exchanges_nex
     (λ h now. asks v (ap (λ i. is_in_more (exchange s i).phase) (sym (eqb-true q p h)) ∙ l.in_more) h refl now) (λ h now. passes now refl refl)
 turn_of s (End q k v) w l p = chosen s p (End q k v) (q == p) _ _ (exchanges_next s (End q k v) w l p)
     (λ h now. ends (ap (λ i. is_answered (exchange s i).phase) (sym (eqb-true q p h)) ∙ l.answered) h now) (λ h now. passes now refl refl)
-turn_of s (Take q k v) w l p = passes (exchanges_next s (Take q k v) w l p) refl refl
-turn_of s (Hear q k v) w l p = passes (exchanges_next s (Hear q k v) w l p) refl refl
-turn_of s (Miss q) w l p = passes (exchanges_next s (Miss q) w l p) refl refl
-turn_of s (Close q) w l p = passes (exchanges_next s (Close q) w l p) refl refl
-turn_of s (Reopen q) w l p = passes (exchanges_next s (Reopen q) w l p) refl refl
-turn_of s (Make n node from) w l p = passes (exchanges_next s (Make n node from) w l p) refl refl
-turn_of s (Link q n x) w l p = passes (exchanges_next s (Link q n x) w l p) refl refl
-turn_of s (Unlink q) w l p = passes (exchanges_next s (Unlink q) w l p) refl refl
-turn_of s (Remove n) w l p = passes (exchanges_next s (Remove n) w l p) refl refl
+turn_of s e w l p = passes (exchanges_next s e w l p) refl refl
 
 -- the serial stays but where a transaction starts, and then the port was idle
 pub serial_kept : (s : State) (p : ℕ) (e : Event) → Turn s p e → is_idle (exchange s p).phase ≡ false → (exchange (effect s e) p).serial ≡ (exchange s p).serial
