@@ -16,12 +16,11 @@ use Rattle.quiesce_core.specs.declared.state.Exchange.{Exchange}
 use Rattle.quiesce_core.specs.declared.state.Service.{Service}
 use Rattle.gate_word.specs.declared.phase.Phase.TheVariants as phase
 use Rattle.quiesce_core.specs.State.{Configuration, State, fresh_gate, fresh_exchange, slot, gate, owner, target, exchange, service, target_service}
-use Rattle.quiesce_core.specs.Effect.{with_gate, with_exchange, with_service, with_target_service, with_call, with_node, with_removed, new_gates, change_next, effect}
+use Rattle.quiesce_core.specs.Effect.{with_gate, with_exchange, with_service, with_target_service, with_call, with_node, with_removed, new_gates, effect}
 use Rattle.quiesce_core.specs.Legal.{Legal}
-use Rattle.quiesce_core.specs.Rules.{is_live_port}
-use Rattle.quiesce_core.specs.Runs.{Step, is_doer}
+use Rattle.quiesce_core.specs.Runs.{Step}
 use Rattle.quiesce_core.specs.WellFormed.{IsWellFormed}
-use Rattle.quiesce_core.specs.Alters.{Alters, Reconfigures, exchange_by, exchange_next, gate_next, nodes_next, ports_next, service_by, service_next, slot_next}
+use Rattle.quiesce_core.specs.Alters.{Alters, Reconfigures, exchange_next, gate_next, nodes_next, ports_next, service_next, slot_next}
 use Rattle.quiesce_core.proofs.LegalLaws.{legal}
 use Rattle.quiesce_core.proofs.StateLaws.{exchange_here, exchange_there, service_here, service_there, put_is, target_service_is}
 use Rattle.quiesce_core.proofs.TableLaws.{gate_place, exchange_place, owner_place, target_place}

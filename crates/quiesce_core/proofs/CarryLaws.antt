@@ -1,17 +1,16 @@
 -- Which values the events of a transaction carry: the Take has that of the Begin or Call, the Hear that of the Ask, and the End that of
 -- the Give.
-use Rattle.std.proofs.Common.{◌≡◌, ◌∙◌, ℕ, ◌+◌, ◌<◌, ◌≤◌, Bool, true, false, cond, ◌||◌, List, [], ◌∷◌, ◌++◌, append_assoc, Option, Some, None, refl, ap, sym, subst, ⊎_elim, arith}
-use Rattle.std.specs.Prelude.{◌==◌, nat_le}
+use Rattle.std.proofs.Common.{◌≡◌, ◌∙◌, ℕ, ◌≤◌, Bool, true, false, ◌||◌, List, [], ◌∷◌, ◌++◌, append_assoc, None, refl, ap, sym, subst, ⊎_elim, arith}
 use Rattle.std.specs.List.{list_any}
-use Rattle.std.proofs.lemmas.Bool.{and_parts, both_ways, cases_Bool, eq-eqb, eqb-true, not-true}
+use Rattle.std.proofs.lemmas.Bool.{both_ways, cases_Bool, eq-eqb, eqb-true, not-true}
 use Rattle.quiesce_core.specs.declared.event.Event.{Event}
-use Rattle.quiesce_core.specs.declared.event.Event.TheVariants.{Begin, Call, Take, Give, End, More, Ask, Hear, Miss, Close, Reopen, Make, Link, Unlink, Remove}
+use Rattle.quiesce_core.specs.declared.event.Event.TheVariants.{Begin, Call, Take, Give, End, More, Ask, Hear}
 use Rattle.quiesce_core.specs.declared.state.Exchange.{Exchange}
 use Rattle.gate_word.specs.declared.phase.Phase.{Phase}
 use Rattle.gate_word.specs.declared.phase.Phase.TheVariants as phase
 use Rattle.quiesce_core.specs.State.{State, exchange}
 use Rattle.gate_word.specs.Phases.{is_answered, is_asked, is_in_more}
-use Rattle.quiesce_core.specs.Rules.{is_last_message, is_next_serial, is_port_serial, is_taken, last_serial}
+use Rattle.quiesce_core.specs.Rules.{is_port_serial, is_taken}
 use Rattle.quiesce_core.specs.Knowledge.{StandsThere}
 use Rattle.quiesce_core.specs.Doers.{is_ask_at, is_end_at, is_give_at}
 use Rattle.quiesce_core.specs.Effect.{effect}
@@ -20,64 +19,25 @@ use Rattle.quiesce_core.specs.Runs.{IsRun, state_after}
 use Rattle.quiesce_core.specs.Traffic.{IsConsistent}
 use Rattle.quiesce_core.specs.WellFormed.{IsWellFormed}
 use Rattle.quiesce_core.proofs.AlterLaws.{exchanges_next}
-use Rattle.quiesce_core.proofs.InductionLaws.{IsNext, along, place}
+use Rattle.quiesce_core.proofs.TurnLaws.{Starts, Turn, asks, ends, gives, passes, replies, starts, turn_of}
+use Rattle.quiesce_core.proofs.InductionLaws.{IsNext, along, none_barred, place, unbarred}
 use Rattle.quiesce_core.proofs.RunLaws.{fronts_are_runs}
 use Rattle.quiesce_core.proofs.StabilityLaws.{answers_stay, replies_stay, taken_ports_stay}
 use Rattle.quiesce_core.proofs.KnowledgeLemmas.{message_is}
 use Rattle.quiesce_core.proofs.StateLaws.{taken_is}
 
--- what an event that may happen is to port p
-data Turn (s : State) (p : ℕ) (e : Event) : Type 0 where
-  passes : exchange (effect s e) p ≡ exchange s p → is_give_at p e ≡ false → Turn s p e
-  starts : (exchange (effect s e) p).serial ≡ (exchange s p).serial + 1 → Turn s p e
-  gives : (v : ℕ) → is_taken s p ≡ true → exchange (effect s e) p ≡ record (exchange s p) { phase = phase.Answered; value = v } → Turn s p e
-  replies : (v : ℕ) → is_taken s p ≡ true → exchange (effect s e) p ≡ record (exchange s p) { phase = phase.More; value = v } → Turn s p e
-  asks : (v : ℕ) → is_in_more (exchange s p).phase ≡ true → is_ask_at p e ≡ true → is_give_at p e ≡ false → exchange (effect s e) p ≡ record (exchange s p) { phase = phase.Asked; value = v } → Turn s p e
-  ends : exchange (effect s e) p ≡ record (exchange s p) { phase = phase.Idle; value = 0; within = None } → Turn s p e
-
-chosen : (s : State) (p : ℕ) (e : Event) (b : Bool) (x y : Exchange) → exchange (effect s e) p ≡ cond b x y → (b ≡ true → exchange (effect s e) p ≡ x → Turn s p e) → (b ≡ false → exchange (effect s e) p ≡ y → Turn s p e) → Turn s p e
-chosen s p e true x y now here there = here refl now
-chosen s p e false x y now here there = there refl now
-
-next_is : (s : State) (p k : ℕ) → is_next_serial s p k ≡ true → k ≡ (exchange s p).serial + 1
-next_is s p k h = eqb-true k ((exchange s p).serial + 1) (and_parts (k == (exchange s p).serial + 1) (nat_le k last_serial) h).0
-
-turn_of : (s : State) (e : Event) → IsWellFormed s → Legal s e → (p : ℕ) → Turn s p e
-turn_of s (Begin q k v) w l p = chosen s p (Begin q k v) (q == p) _ _ (exchanges_next s (Begin q k v) w l p)
-    (λ h now. starts (ap (λ (x : Exchange). x.serial) now ∙ next_is s q k l.next_serial ∙ ap (λ i. (exchange s i).serial + 1) (eqb-true q p h)))
-    (λ h now. passes now refl)
-turn_of s (Call q k v) w l p = chosen s p (Call q k v) (q == p) _ _ (exchanges_next s (Call q k v) w l p)
-    (λ h now. starts (ap (λ (x : Exchange). x.serial) now ∙ next_is s q k l.next_serial ∙ ap (λ i. (exchange s i).serial + 1) (eqb-true q p h)))
-    (λ h now. passes now refl)
-turn_of s (Give q k v) w l p = chosen s p (Give q k v) (q == p) _ _ (exchanges_next s (Give q k v) w l p)
-    (λ h now. gives v (ap (λ i. is_taken s i) (sym (eqb-true q p h)) ∙ l.taken) now) (λ h now. passes now h)
-turn_of s (More q k v) w l p = chosen s p (More q k v) (q == p) _ _ (exchanges_next s (More q k v) w l p)
-    (λ h now. replies v (ap (λ i. is_taken s i) (sym (eqb-true q p h)) ∙ l.taken) now) (λ h now. passes now refl)
-turn_of s (Ask q k v) w l p = chosen s p (Ask q k v) (q == p) _ _ (exchanges_next s (Ask q k v) w l p)
-    (λ h now. asks v (ap (λ i. is_in_more (exchange s i).phase) (sym (eqb-true q p h)) ∙ l.in_more) h refl now) (λ h now. passes now refl)
-turn_of s (End q k v) w l p = chosen s p (End q k v) (q == p) _ _ (exchanges_next s (End q k v) w l p) (λ h now. ends now) (λ h now. passes now refl)
-turn_of s (Take q k v) w l p = passes (exchanges_next s (Take q k v) w l p) refl
-turn_of s (Hear q k v) w l p = passes (exchanges_next s (Hear q k v) w l p) refl
-turn_of s (Miss q) w l p = passes (exchanges_next s (Miss q) w l p) refl
-turn_of s (Close q) w l p = passes (exchanges_next s (Close q) w l p) refl
-turn_of s (Reopen q) w l p = passes (exchanges_next s (Reopen q) w l p) refl
-turn_of s (Make n node from) w l p = passes (exchanges_next s (Make n node from) w l p) refl
-turn_of s (Link q n x) w l p = passes (exchanges_next s (Link q n x) w l p) refl
-turn_of s (Unlink q) w l p = passes (exchanges_next s (Unlink q) w l p) refl
-turn_of s (Remove n) w l p = passes (exchanges_next s (Remove n) w l p) refl
-
 -- the serial never falls
 serial_rises : (s : State) (p k : ℕ) (e : Event) → Turn s p e → k ≤ (exchange s p).serial → k ≤ (exchange (effect s e) p).serial
-serial_rises s p k e (passes now g) h = subst (λ (x : Exchange). k ≤ x.serial) (sym now) h
-serial_rises s p k e (starts now) h = subst (λ i. k ≤ i) (sym now) (omega (arith, h))
-serial_rises s p k e (gives v t now) h = subst (λ (x : Exchange). k ≤ x.serial) (sym now) h
-serial_rises s p k e (replies v t now) h = subst (λ (x : Exchange). k ≤ x.serial) (sym now) h
+serial_rises s p k e (passes now g m) h = subst (λ (x : Exchange). k ≤ x.serial) (sym now) h
+serial_rises s p k e (starts start) h = subst (λ i. k ≤ i) (sym (ap (λ (x : Exchange). x.serial) start.now)) (omega (arith, h))
+serial_rises s p k e (gives v t g now) h = subst (λ (x : Exchange). k ≤ x.serial) (sym now) h
+serial_rises s p k e (replies v t m now) h = subst (λ (x : Exchange). k ≤ x.serial) (sym now) h
 serial_rises s p k e (asks v m a g now) h = subst (λ (x : Exchange). k ≤ x.serial) (sym now) h
-serial_rises s p k e (ends now) h = subst (λ (x : Exchange). k ≤ x.serial) (sym now) h
+serial_rises s p k e (ends a d now) h = subst (λ (x : Exchange). k ≤ x.serial) (sym now) h
 
 -- a transaction that was begun is not begun again
-new_serial : (s : State) (p k : ℕ) (e : Event) → k ≤ (exchange s p).serial → (exchange (effect s e) p).serial ≡ (exchange s p).serial + 1 → (exchange (effect s e) p).serial ≡ k → ⊥
-new_serial s p k e h now same = omega (arith, h, now, same)
+new_serial : (s : State) (p k : ℕ) (e : Event) → k ≤ (exchange s p).serial → Starts s p e → (exchange (effect s e) p).serial ≡ k → ⊥
+new_serial s p k e h start same = omega (arith, h, ap (λ (x : Exchange). x.serial) start.now, same)
 
 module _ (p k v : ℕ) where
   -- until the request is taken, its value stands at the port
@@ -92,13 +52,13 @@ module _ (p k v : ℕ) where
       still g taken untaken = both_ways (is_taken (effect s e) p) untaken (taken_ports_stay s e w c l p taken g)
 
       by : Turn s p e → (exchange (effect s e) p).serial ≡ k → is_asked (exchange (effect s e) p).phase ≡ true → is_taken (effect s e) p ≡ false → (exchange (effect s e) p).value ≡ v
-      by (passes now g) same asked untaken = ap (λ (x : Exchange). x.value) now ∙ h.stands (sym (ap (λ (x : Exchange). x.serial) now) ∙ same) (sym (ap (λ (x : Exchange). is_asked x.phase) now) ∙ asked)
+      by (passes now g m) same asked untaken = ap (λ (x : Exchange). x.value) now ∙ h.stands (sym (ap (λ (x : Exchange). x.serial) now) ∙ same) (sym (ap (λ (x : Exchange). is_asked x.phase) now) ∙ asked)
           (⊎_elim (λ (t : is_taken s p ≡ true). absurd (still g t untaken)) (λ (f : is_taken s p ≡ false). f) (cases_Bool (is_taken s p)))
-      by (starts now) same asked untaken = absurd (new_serial s p k e h.since now same)
-      by (gives u t now) same asked untaken = absurd (both_ways false refl (sym (ap (λ (x : Exchange). is_asked x.phase) now) ∙ asked))
-      by (replies u t now) same asked untaken = absurd (both_ways false refl (sym (ap (λ (x : Exchange). is_asked x.phase) now) ∙ asked))
+      by (starts start) same asked untaken = absurd (new_serial s p k e h.since start same)
+      by (gives u t g now) same asked untaken = absurd (both_ways false refl (sym (ap (λ (x : Exchange). is_asked x.phase) now) ∙ asked))
+      by (replies u t m now) same asked untaken = absurd (both_ways false refl (sym (ap (λ (x : Exchange). is_asked x.phase) now) ∙ asked))
       by (asks u m a g now) same asked untaken = absurd (still g (c.taken p m) untaken)
-      by (ends now) same asked untaken = absurd (both_ways false refl (sym (ap (λ (x : Exchange). is_asked x.phase) now) ∙ asked))
+      by (ends a d now) same asked untaken = absurd (both_ways false refl (sym (ap (λ (x : Exchange). is_asked x.phase) now) ∙ asked))
 
   -- until a further message is sent, the last one stands
   record IsSent (s : State) : Type 0 where
@@ -109,12 +69,12 @@ module _ (p k v : ℕ) where
   sent_next s e w c l none_ h = record { since = serial_rises s p k e (turn_of s e w l p) h.since; stands = by (turn_of s e w l p) }
     where
       by : Turn s p e → (exchange (effect s e) p).serial ≡ k → is_asked (exchange (effect s e) p).phase ≡ true → (exchange (effect s e) p).value ≡ v
-      by (passes now g) same asked = ap (λ (x : Exchange). x.value) now ∙ h.stands (sym (ap (λ (x : Exchange). x.serial) now) ∙ same) (sym (ap (λ (x : Exchange). is_asked x.phase) now) ∙ asked)
-      by (starts now) same asked = absurd (new_serial s p k e h.since now same)
-      by (gives u t now) same asked = absurd (both_ways false refl (sym (ap (λ (x : Exchange). is_asked x.phase) now) ∙ asked))
-      by (replies u t now) same asked = absurd (both_ways false refl (sym (ap (λ (x : Exchange). is_asked x.phase) now) ∙ asked))
+      by (passes now g m) same asked = ap (λ (x : Exchange). x.value) now ∙ h.stands (sym (ap (λ (x : Exchange). x.serial) now) ∙ same) (sym (ap (λ (x : Exchange). is_asked x.phase) now) ∙ asked)
+      by (starts start) same asked = absurd (new_serial s p k e h.since start same)
+      by (gives u t g now) same asked = absurd (both_ways false refl (sym (ap (λ (x : Exchange). is_asked x.phase) now) ∙ asked))
+      by (replies u t m now) same asked = absurd (both_ways false refl (sym (ap (λ (x : Exchange). is_asked x.phase) now) ∙ asked))
       by (asks u m a g now) same asked = absurd (both_ways (is_ask_at p e) none_ a)
-      by (ends now) same asked = absurd (both_ways false refl (sym (ap (λ (x : Exchange). is_asked x.phase) now) ∙ asked))
+      by (ends a d now) same asked = absurd (both_ways false refl (sym (ap (λ (x : Exchange). is_asked x.phase) now) ∙ asked))
 
   -- once it is answered, the answer stands until its end, and nothing more is asked
   record IsGiven (s : State) : Type 0 where
@@ -139,26 +99,26 @@ module _ (p k v : ℕ) where
       before now same = sym (ap (λ (x : Exchange). x.serial) now) ∙ same
 
       by : Turn s p e → IsGiven (effect s e)
-      by (passes now g) = record {
-        since = serial_rises s p k e (passes now g) h.since;
+      by (passes now g m) = record {
+        since = serial_rises s p k e (passes now g m) h.since;
         unasked = λ same. ap (λ (x : Exchange). is_asked x.phase) now ∙ h.unasked (before now same);
         not_more = λ same. ap (λ (x : Exchange). is_in_more x.phase) now ∙ h.not_more (before now same);
         stands = λ same answered. ap (λ (x : Exchange). x.value) now ∙ h.stands (before now same) (sym (ap (λ (x : Exchange). is_answered x.phase) now) ∙ answered);
       }
-      by (starts now) = record {
-        since = serial_rises s p k e (starts now) h.since;
-        unasked = λ same. absurd (new_serial s p k e h.since now same);
-        not_more = λ same. absurd (new_serial s p k e h.since now same);
-        stands = λ same answered. absurd (new_serial s p k e h.since now same);
+      by (starts start) = record {
+        since = serial_rises s p k e (starts start) h.since;
+        unasked = λ same. absurd (new_serial s p k e h.since start same);
+        not_more = λ same. absurd (new_serial s p k e h.since start same);
+        stands = λ same answered. absurd (new_serial s p k e h.since start same);
       }
-      by (gives u t now) = record {
-        since = serial_rises s p k e (gives u t now) h.since;
+      by (gives u t g now) = record {
+        since = serial_rises s p k e (gives u t g now) h.since;
         unasked = λ same. absurd (untaken s c h (sym (ap (λ (x : Exchange). x.serial) now) ∙ same) t);
         not_more = λ same. absurd (untaken s c h (sym (ap (λ (x : Exchange). x.serial) now) ∙ same) t);
         stands = λ same answered. absurd (untaken s c h (sym (ap (λ (x : Exchange). x.serial) now) ∙ same) t);
       }
-      by (replies u t now) = record {
-        since = serial_rises s p k e (replies u t now) h.since;
+      by (replies u t m now) = record {
+        since = serial_rises s p k e (replies u t m now) h.since;
         unasked = λ same. absurd (untaken s c h (sym (ap (λ (x : Exchange). x.serial) now) ∙ same) t);
         not_more = λ same. absurd (untaken s c h (sym (ap (λ (x : Exchange). x.serial) now) ∙ same) t);
         stands = λ same answered. absurd (untaken s c h (sym (ap (λ (x : Exchange). x.serial) now) ∙ same) t);
@@ -169,22 +129,14 @@ module _ (p k v : ℕ) where
         not_more = λ same. ap (λ (x : Exchange). is_in_more x.phase) now;
         stands = λ same answered. absurd (both_ways false refl (sym (ap (λ (x : Exchange). is_answered x.phase) now) ∙ answered));
       }
-      by (ends now) = record {
-        since = serial_rises s p k e (ends now) h.since;
+      by (ends a d now) = record {
+        since = serial_rises s p k e (ends a d now) h.since;
         unasked = λ same. ap (λ (x : Exchange). is_asked x.phase) now;
         not_more = λ same. ap (λ (x : Exchange). is_in_more x.phase) now;
         stands = λ same answered. absurd (both_ways false refl (sym (ap (λ (x : Exchange). is_answered x.phase) now) ∙ answered));
       }
 
 -- ---- along a run
-
-unbarred : Event → Bool
-unbarred e = false
-
-none_barred : (es : List Event) → list_any unbarred es ≡ false
-unfolding unbarred
-none_barred [] = refl
-none_barred (e ∷ es) = none_barred es
 
 -- what each step keeps goes from behind an event to a later one
 carried : (Q : State → Type 0) (bars : Event → Bool) → ((s : State) (e : Event) → IsWellFormed s → IsConsistent s → Legal s e → bars e ≡ false → Q s → Q (effect s e))

@@ -1,18 +1,19 @@
 -- What is read in configurations, and after an event of the change.
-use Rattle.std.proofs.Common.{◌≡◌, ◌∙◌, ℕ, ◌+◌, ◌-◌, ◌<◌, ◌≤◌, ◌⊎◌, inl, inr, true, false, cond, ◌&&◌, length, set, Option, Some, None, refl, ap, sym, subst, ⊎_elim, arith}
-use Rattle.std.specs.Prelude.{◌↔◌, ◌==◌, nat_lt, nat_le, slice_get, option_map}
+use Rattle.std.proofs.Common.{◌≡◌, ◌∙◌, ℕ, ◌+◌, ◌-◌, ◌<◌, ◌≤◌, ◌⊎◌, inl, inr, Bool, true, false, cond, ◌&&◌, length, set, Option, Some, None, refl, ap, sym, subst, ⊎_elim, arith}
+use Rattle.std.specs.Prelude.{◌↔◌, ◌==◌, nat_lt, nat_le, option_map}
 use Rattle.std.specs.Option.{option_map_or}
 use Rattle.std.proofs.lemmas.Bool.{and_parts, both_ways, cases_Bool, cases_eq, cases_lt, eq-eqb, ne_eqb, leb-true}
 use Rattle.std.proofs.lemmas.List.{get_or_past}
 use Rattle.std.proofs.lemmas.Option.{same_Some, slice_get_within}
 use Rattle.config_graph.specs.Kinds.{row}
+use Rattle.config_graph.specs.declared.kind.Kind.{Kind}
 use Rattle.config_graph.specs.declared.node.Node.{Node}
 use Rattle.config_graph.specs.declared.node.Target.{Target}
 use Rattle.quiesce_core.specs.declared.event.Event.{Event}
 use Rattle.quiesce_core.specs.declared.event.Event.TheVariants.{Begin, Call, Take, Give, End, More, Ask, Hear, Miss, Close, Reopen, Make, Link, Unlink, Remove}
 use Rattle.quiesce_core.specs.declared.state.Slot.{Slot}
 use Rattle.quiesce_core.specs.declared.state.Gate.{Gate}
-use Rattle.quiesce_core.specs.State.{Configuration, fresh_gate, slot, gate, is_live, owner, target}
+use Rattle.quiesce_core.specs.State.{Configuration, fresh_gate, slot, gate, owner, target}
 use Rattle.quiesce_core.specs.Alters.{Reconfigures, gate_next, slot_next}
 use Rattle.quiesce_core.specs.Doers.{is_make, is_remove}
 use Rattle.quiesce_core.specs.Effect.{with_removed}
@@ -122,6 +123,47 @@ slot_was c d (Remove k) r n m h at = ⊎_elim
     (old.0, old.1, ap (λ (x : Slot). x.first_port) old.2, ap (λ (x : Slot). x.node) old.2))
     (λ (other : n ≡ k → ⊥). (m, sym (r.slots n ∙ rw (ne_eqb n k other) refl) ∙ at, refl, refl))
     (cases_eq n k)
+
+-- ---- what all events keep of what was made
+
+-- of a node, its kind
+pub kind_kept : {A : Type 0} (c d : Configuration) (e : Event) → Reconfigures c e d → (n : ℕ) (f : Kind → A) (a : A) → n < length c.slots
+    → option_map_or (λ (m : Slot). f m.node.kind) (slot d n) a ≡ option_map_or (λ (m : Slot). f m.node.kind) (slot c n) a
+kind_kept c d (Make k node from) r n f a h =
+    ap (λ o. option_map_or (λ (m : Slot). f m.node.kind) o a) (r.slots n ∙ rw (ne_eqb n (length c.slots) (λ same. omega (arith, h, same))) refl)
+kind_kept c d (Remove k) r n f a h =
+    ap (λ o. option_map_or (λ (m : Slot). f m.node.kind) o a) (r.slots n) ∙ ⊎_elim
+    (λ (same : n ≡ k). rw (eq-eqb n k same) (dead (slot c n))) (λ (other : n ≡ k → ⊥). rw (ne_eqb n k other) refl) (cases_eq n k)
+  where
+    dead : (o : Option Slot) → option_map_or (λ (m : Slot). f m.node.kind) (option_map (λ (m : Slot). record m { live = false }) o) a ≡ option_map_or (λ (m : Slot). f m.node.kind) o a
+    dead None = refl
+    dead (Some m) = refl
+kind_kept c d _ r n f a h = ap (λ o. option_map_or (λ (m : Slot). f m.node.kind) o a) (r.slots n)
+
+-- of a port, what is neither its gate's state nor its target
+gate_kept : {A : Type 0} (f : Gate → A) → ((g : Gate) (b : Bool) → f (record g { closed = b }) ≡ f g) → ((g : Gate) (t : Option Target) → f (record g { target = t }) ≡ f g) → (c : Configuration) (e : Event) (p : ℕ)
+    → p < length c.gates → f (gate_next c p e) ≡ f (gate c p)
+gate_kept f closed target_ c e p made = by e
+  where
+    written : (b : Bool) (g : Gate) → (b ≡ true → f g ≡ f (gate c p)) → f (cond b g (gate c p)) ≡ f (gate c p)
+    written true g same = same refl
+    written false g same = refl
+
+    by : (e : Event) → f (gate_next c p e) ≡ f (gate c p)
+    by (Close q) = written (q == p) _ (λ h. closed (gate c p) true)
+    by (Reopen q) = written (q == p) _ (λ h. closed (gate c p) false)
+    by (Link q n x) = written (q == p) _ (λ h. target_ (gate c p) (Some (record { node = n; provide = x })))
+    by (Unlink q) = written (q == p) _ (λ h. target_ (gate c p) None)
+    by (Make n node from) = written (nat_le (length c.gates) p && nat_lt p (length c.gates + length (row node.kind).requires_)) _ (λ h.
+        absurd (omega (arith, made, leb-true (length c.gates) p (and_parts (nat_le (length c.gates) p) (nat_lt p (length c.gates + length (row node.kind).requires_)) h).0)))
+    by _ = refl
+
+-- its owner and its requirement
+pub owner_kept : (c d : Configuration) (e : Event) → Reconfigures c e d → (p : ℕ) → p < length c.gates → owner d p ≡ owner c p
+owner_kept c d e r p made = ap (λ (g : Gate). g.owner) (r.gates p) ∙ gate_kept (λ (g : Gate). g.owner) (λ g b. refl) (λ g t. refl) c e p made
+
+pub require_kept : (c d : Configuration) (e : Event) → Reconfigures c e d → (p : ℕ) → p < length c.gates → (gate d p).require ≡ (gate c p).require
+require_kept c d e r p made = ap (λ (g : Gate). g.require) (r.gates p) ∙ gate_kept (λ (g : Gate). g.require) (λ g b. refl) (λ g t. refl) c e p made
 
 -- where ports lead after a link, an unlink, a make and a removal
 

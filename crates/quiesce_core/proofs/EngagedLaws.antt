@@ -1,11 +1,10 @@
 -- Which nodes a transaction engages, and how much a service does.
-use Rattle.std.proofs.Common.{◌≡◌, ◌∙◌, ℕ, ◌<◌, ◌≤◌, ◌⊎◌, inl, inr, true, false, ◌&&◌, List, ◌∷◌, ◌++◌, length, Option, Some, None, refl, ap, sym, subst, ⊎_elim, arith}
+use Rattle.std.proofs.Common.{◌≡◌, ◌∙◌, ℕ, ◌<◌, ◌≤◌, ◌⊎◌, inl, inr, true, false, List, length, Some, refl, ap, sym, subst, ⊎_elim}
 use Rattle.std.specs.Prelude.{◌==◌, option_map}
-use Rattle.std.specs.Option.{option_map_or}
 use Rattle.std.proofs.lemmas.Bool.{and_parts, both_ways, eqb-true}
 use Rattle.std.proofs.lemmas.Option.{same_Some}
 use Rattle.config_graph.specs.Kinds.{row, depends_on}
-use Rattle.config_graph.specs.Wiring.{HasNoCycle, MayCall}
+use Rattle.config_graph.specs.Wiring.{MayCall}
 use Rattle.config_graph.specs.Walks.{step}
 use Rattle.config_graph.specs.declared.kind.Kind.{Kind}
 use Rattle.config_graph.specs.declared.kind.Kind.TheVariants.{Philosopher, Place, Fork, Source, Map, Buffer, Sink, Teller, Branch, Account, Asker, Adder}
@@ -15,14 +14,13 @@ use Rattle.quiesce_core.specs.declared.event.Event.{Event}
 use Rattle.quiesce_core.specs.declared.event.Event.TheVariants.{Begin, Call}
 use Rattle.quiesce_core.specs.declared.state.Service.{Service}
 use Rattle.quiesce_core.specs.declared.state.Slot.{Slot}
-use Rattle.quiesce_core.specs.State.{Configuration, State, calls_allowed, depends, gate, mores_allowed, owner, provides, provision, service, slot, target}
+use Rattle.quiesce_core.specs.State.{Configuration, State, calls_allowed, gate, mores_allowed, owner, provides, provision, service, slot, target}
 use Rattle.quiesce_core.specs.Legal.{Legal}
 use Rattle.quiesce_core.specs.Reach.{wiring_of}
 use Rattle.quiesce_core.specs.Runs.{Begun, IsRun, initiator, is_begin_of, state_after, target_at_begin}
-use Rattle.quiesce_core.specs.Traffic.{IsConsistent}
 use Rattle.quiesce_core.specs.WellFormed.{IsSound}
 use Rattle.quiesce_core.proofs.ConfigurationLaws.{linked_made, port_is}
-use Rattle.quiesce_core.proofs.CycleLaws.{cycles_are_found, map_or_at, map_or_true}
+use Rattle.quiesce_core.proofs.CycleLaws.{cycles_are_found, map_or_at}
 use Rattle.quiesce_core.proofs.InductionLaws.{place}
 use Rattle.quiesce_core.proofs.RunLaws.{runs_are_consistent}
 use Rattle.quiesce_core.proofs.StateLaws.{provision_is}

@@ -1,13 +1,13 @@
 -- What a node knows by the indexes of its requirements: it is told by its own events, each step moves it as the fold does and leaves
 -- what others know, and rules of its own events can be judged by it.
-use Rattle.std.proofs.Common.{◌≡◌, ◌∙◌, ℕ, zero, suc, ◌+◌, ◌<◌, ◌≤◌, Bool, true, false, cond, not, ◌&&◌, List, [], ◌∷◌, ◌++◌, length, get_or, Option, Some, None, refl, ap, sym, subst, ⊎_elim, arith}
-use Rattle.std.specs.Prelude.{◌↔◌, ◌==◌, nat_lt, nat_le, fold, is_some, slice_get, option_map}
+use Rattle.std.proofs.Common.{◌≡◌, ◌∙◌, ℕ, zero, suc, ◌+◌, ◌-◌, ◌<◌, ◌≤◌, Bool, true, false, cond, not, ◌&&◌, List, [], ◌∷◌, ◌++◌, length, Option, Some, None, refl, ap, sym, subst, ⊎_elim, arith}
+use Rattle.std.specs.Prelude.{◌↔◌, ◌==◌, nat_lt, nat_le, fold, is_some, slice_get}
 use Rattle.std.specs.List.{list_all}
 use Rattle.std.specs.Option.{option_map_or}
-use Rattle.std.proofs.lemmas.Bool.{and_parts, both_ways, cases_Bool, cases_eq, cases_lt, eq-eqb, eqb-true, ne_eqb, not_from_false, not-true, false_from_ne_true}
+use Rattle.std.proofs.lemmas.Bool.{and_parts, both_ways, cases_Bool, eq-eqb, eqb-true, not_from_false, not-true, false_from_ne_true}
 use Rattle.std.proofs.lemmas.List.{get_or_past}
 use Rattle.std.proofs.lemmas.List.Sums.{fold_push}
-use Rattle.std.proofs.lemmas.Option.{same_Some, slice_get_within}
+use Rattle.std.proofs.lemmas.Option.{same_Some}
 use Rattle.config_graph.specs.Kinds.{row, calls_of, depends_on, mores_of}
 use Rattle.config_graph.specs.declared.node.Target.{Target}
 use Rattle.quiesce_core.specs.declared.event.Event.{Event}
@@ -18,12 +18,12 @@ use Rattle.quiesce_core.specs.declared.known.Served.{Served}
 use Rattle.quiesce_core.specs.declared.state.Exchange.{Exchange}
 use Rattle.quiesce_core.specs.declared.state.Service.{Service}
 use Rattle.quiesce_core.specs.declared.state.Slot.{Slot}
-use Rattle.quiesce_core.specs.State.{Configuration, State, calls_allowed, depends, fresh_exchange, gate, mores_allowed, slot, owner, ports_of, provision, target, target_service, exchange, service}
+use Rattle.quiesce_core.specs.State.{State, calls_allowed, depends, fresh_exchange, gate, mores_allowed, slot, owner, ports_of, provision, target, target_service, exchange, service}
 use Rattle.gate_word.specs.Phases.{is_answered, is_idle, is_in_more}
 use Rattle.quiesce_core.specs.Rules.{calls_have_ended, has_calls_left, has_mores_left, is_called_within, is_taken, serves_through, was_heard}
 use Rattle.config_graph.specs.declared.TheConstants.{MAX_NODES, MAX_PORTS}
 use Rattle.config_graph.specs.declared.node.Node.{Node}
-use Rattle.config_graph.proofs.KindLaws.{one_provision}
+use Rattle.config_graph.proofs.KindLaws.{one_provision, two_requires}
 use Rattle.quiesce_core.specs.Doers.{is_ask_at, is_end_at}
 use Rattle.quiesce_core.specs.Effect.{effect}
 use Rattle.quiesce_core.specs.Legal.{Legal}
@@ -31,17 +31,17 @@ use Rattle.quiesce_core.specs.Reach.{IsPortOf}
 use Rattle.quiesce_core.specs.Runs.{IsRun, done_by, is_doer, state_after}
 use Rattle.quiesce_core.specs.Traffic.{IsConsistent}
 use Rattle.quiesce_core.specs.WellFormed.{IsWellFormed}
-use Rattle.quiesce_core.specs.Knowledge.{IsKnown, IsPortKnown, IsServed, KnowsService, OwnPort, StandsThere, known_after, known_next, own_port, own_port_after, own_port_next, port_known_next, ports_known_next, served_after, served_next, unknown, unknown_port}
+use Rattle.quiesce_core.specs.Knowledge.{IsKnown, IsPortKnown, IsServed, KnowsService, OwnPort, StandsThere, known_after, known_next, own_port, own_port_after, own_port_next, port_known_next, ports_known_next, served_after, served_next, nothing_known, port_at_start}
 use Rattle.quiesce_core.proofs.ConfigurationLaws.{slot_was}
 use Rattle.quiesce_core.proofs.AlterLaws.{reconfigured}
-use Rattle.quiesce_core.proofs.KnowledgeLemmas.{mine, port_other, port_step, service_next}
+use Rattle.quiesce_core.proofs.KnowledgeLemmas.{port_other, port_step, service_next}
 use Rattle.quiesce_core.proofs.ReachLaws.{owner_of}
 use Rattle.quiesce_core.proofs.RunLaws.{nodes_know}
 use Rattle.quiesce_core.proofs.CycleLaws.{all_of, map_or_at, of_all}
 use Rattle.quiesce_core.proofs.StateLaws.{is_taken_if, provision_is, target_service_is}
 use Rattle.quiesce_core.proofs.StabilityLaws.{answers_stay, replies_stay}
 use Rattle.base.proofs.OptionLaws.{None-from_is_some}
-use Rattle.base.proofs.PlaceLaws.{fresh_behind}
+use Rattle.base.proofs.PlaceLaws.{fresh_behind, slice_get-there}
 
 -- what the fold has of a port, but for what was seen there
 abbrev pub as_own_port : PortKnown → OwnPort
@@ -71,6 +71,10 @@ next_at p [] e r k at = absurd (cc)
 next_at p (w ∷ ws) e zero k at = (w, refl, sym (same_Some _ k at) ∙ ap (λ i. port_known_next i w e) (omega arith))
 next_at p (w ∷ ws) e (suc r) k at =
     let rest = next_at (p + 1) ws e r k at in (rest.0, rest.1, rest.2 ∙ ap (λ i. port_known_next i rest.0 e) (omega arith))
+
+same_ports : (p : ℕ) (ws : List PortKnown) (e : Event) → length (ports_known_next p ws e) ≡ length ws
+same_ports p [] e = refl
+same_ports p (x ∷ xs) e = ap suc (same_ports (p + 1) xs e)
 
 -- ---- the state form
 
@@ -178,6 +182,7 @@ port_was s e l n q made o =
 pub known_by_own : (s : State) (e : Event) (n first : ℕ) (w : Known) → IsWellFormed s → IsConsistent s → Legal s e → n < length s.config.slots → is_doer s n e ≡ true → IsKnown s n first w
     → IsKnown (effect s e) n first (known_next first w e)
 known_by_own s e n first k w c l made does h = record {
+  two_ports = same_ports first k.ports e ∙ h.two_ports;
   service = subst (λ es. KnowsService (effect s e) (service (effect s e) n) (fold served_next k.service es)) (ap (λ b. cond b (e ∷ []) []) does) (service_next s e n k.service w c l h.service);
   ports = λ r x at o.
       let old = next_at first k.ports e r x at in
@@ -188,6 +193,7 @@ known_by_own s e n first k w c l made does h = record {
 pub known_by_others : (s : State) (e : Event) (n first : ℕ) (w : Known) → IsWellFormed s → IsConsistent s → Legal s e → n < length s.config.slots → is_doer s n e ≡ false → IsKnown s n first w
     → IsKnown (effect s e) n first w
 known_by_others s e n first k w c l made other h = record {
+  two_ports = h.two_ports;
   service = subst (λ es. KnowsService (effect s e) (service (effect s e) n) (fold served_next k.service es)) (ap (λ b. cond b (e ∷ []) []) other) (service_next s e n k.service w c l h.service);
   ports = λ r x at o.
       let before = port_was s e l n (first + r) made o in
@@ -198,7 +204,7 @@ known_by_others s e n first k w c l made other h = record {
 
 -- the fold of a log is what the fold of each port and of the service gives
 pub known_after_more : (first : ℕ) (es : List Event) (e : Event) → known_after first (es ++ e ∷ []) ≡ known_next first (known_after first es) e
-known_after_more first es e = fold_push (known_next first) unknown es e
+known_after_more first es e = fold_push (known_next first) nothing_known es e
 
 -- what it has of a port, where nothing was seen
 pub record IsPortOfLog (p : ℕ) (es : List Event) (k : PortKnown) : Type 0 where
@@ -229,11 +235,7 @@ service_from first w (e ∷ es) = service_from first (known_next first w e) es
 
 two_from : (first : ℕ) (w : Known) (es : List Event) → length (fold (known_next first) w es).ports ≡ length w.ports
 two_from first w [] = refl
-two_from first w (e ∷ es) = two_from first (known_next first w e) es ∙ same first w.ports
-  where
-    same : (p : ℕ) (ws : List PortKnown) → length (ports_known_next p ws e) ≡ length ws
-    same p [] = refl
-    same p (x ∷ xs) = ap suc (same (p + 1) xs)
+two_from first w (e ∷ es) = two_from first (known_next first w e) es ∙ same_ports first w.ports e
 
 port_from : (first : ℕ) (w : Known) (es : List Event) (r : ℕ) (k : PortKnown) → slice_get (fold (known_next first) w es).ports r ≡ Some k
     → (old : PortKnown) × (slice_get w.ports r ≡ Some old) × (as_own_port k ≡ fold (own_port_next (first + r)) (as_own_port old) es) × (old.seen ≡ None → k.seen ≡ None)
@@ -247,21 +249,21 @@ port_from first w (e ∷ es) r k at =
       λ h. rest.3 (ap (λ (x : PortKnown). x.seen) here.2 ∙ unseen_next (first + r) here.0 e h),
     )
 
-unknown_at : (r : ℕ) (k : PortKnown) → slice_get unknown.ports r ≡ Some k → unknown_port ≡ k
-unknown_at zero k at = same_Some unknown_port k at
-unknown_at (suc zero) k at = same_Some unknown_port k at
-unknown_at (suc (suc r)) k at = absurd (cc)
+start_at : (r : ℕ) (k : PortKnown) → slice_get nothing_known.ports r ≡ Some k → port_at_start ≡ k
+start_at zero k at = same_Some port_at_start k at
+start_at (suc zero) k at = same_Some port_at_start k at
+start_at (suc (suc r)) k at = absurd (cc)
 
 pub service_of_log : (first : ℕ) (es : List Event) → (known_after first es).service ≡ served_after es
-service_of_log first es = service_from first unknown es
+service_of_log first es = service_from first nothing_known es
 
 pub ports_of_log : (first : ℕ) (es : List Event) → length (known_after first es).ports ≡ 2
-ports_of_log first es = two_from first unknown es
+ports_of_log first es = two_from first nothing_known es
 
 pub port_of_log : (first : ℕ) (es : List Event) (r : ℕ) (k : PortKnown) → slice_get (known_after first es).ports r ≡ Some k → IsPortOfLog (first + r) es k
 port_of_log first es r k at =
-    let w = port_from first unknown es r k at in
-    let start = unknown_at r w.0 w.1 in
+    let w = port_from first nothing_known es r k at in
+    let start = start_at r w.0 w.1 in
     record {
       port = w.2 ∙ ap (λ o. fold (own_port_next (first + r)) (as_own_port o) es) (sym start);
       unseen = w.3 (ap (λ (x : PortKnown). x.seen) (sym start));
@@ -272,6 +274,7 @@ pub nodes_know_by_index : (es : List Event) → IsRun es → (n first : ℕ) →
 nodes_know_by_index es run n first =
     let k = nodes_know es run n in
     record {
+      two_ports = ports_of_log first (done_by n es);
       service = subst (λ u. KnowsService (state_after es) (service (state_after es) n) u) (sym (service_of_log first (done_by n es))) k.services;
       ports = λ r x at o.
           let log = port_of_log first (done_by n es) r x at in
@@ -279,19 +282,20 @@ nodes_know_by_index es run n first =
     }
 
 -- a node that was just made knows of nothing
-pub new_nodes_know_nothing : (s : State) (n : ℕ) (node : Node) (from : Option ℕ) → IsWellFormed s → Legal s (Make n node from) → IsKnown (effect s (Make n node from)) n (length s.config.gates) unknown
+pub new_nodes_know_nothing : (s : State) (n : ℕ) (node : Node) (from : Option ℕ) → IsWellFormed s → Legal s (Make n node from) → IsKnown (effect s (Make n node from)) n (length s.config.gates) nothing_known
 new_nodes_know_nothing s n node from w l =
     let room = (and_parts (n == length s.config.slots && nat_lt n MAX_NODES) (nat_le (length s.config.gates + length (row node.kind).requires_) MAX_PORTS) l.room).0 in
     let next : n ≡ length s.config.slots = eqb-true n (length s.config.slots) (and_parts (n == length s.config.slots) (nat_lt n MAX_NODES) room).0 in
     let s' : State = effect s (Make n node from) in
     let none_ : service s' n ≡ None = fresh_behind s.traffic.services None 1 n ∙ get_or_past s.traffic.services n None (omega (arith, next, w.services)) in
     record {
+      two_ports = refl;
       service = subst (λ o. KnowsService s' o None) (sym none_) tt;
       ports = λ r k at o.
           let fresh : exchange s' (length s.config.gates + r) ≡ fresh_exchange =
           fresh_behind s.traffic.exchanges fresh_exchange (length (row node.kind).requires_) (length s.config.gates + r)
           ∙ get_or_past s.traffic.exchanges (length s.config.gates + r) fresh_exchange (omega (arith, w.exchanges)) in
-          let start = unknown_at r k at in
+          let start = start_at r k at in
           port_known s' (length s.config.gates + r) k
           (ap as_own_port (sym start) ∙ ap (λ (x : Exchange). record { idle = is_idle x.phase; serial = x.serial; consequent = is_some x.within }) (sym fresh))
           (λ v seen. absurd (cc (ap (λ (x : PortKnown). x.seen) start, seen)));
@@ -364,9 +368,9 @@ module _ (s : State) (w : IsWellFormed s) (c : IsConsistent s) (n : ℕ) (m : Sl
       ∙ ap (nat_lt serving.served.mores) (map_or_at (λ (m : Slot). mores_of m.node.kind 0) (slot s.config n) 0 m there)
       ∙ ap (λ i. nat_lt i (mores_of m.node.kind 0)) (sym serving.same.mores)
 
-  -- rule 16: its calls have ended exactly where no port of its own is consequent
-  pub judged_ended : (calls_have_ended s u.port ≡ true) ↔ ((p : ℕ) → IsPortOf s.config n p → is_some (exchange s p).within ≡ false)
-  judged_ended = (
+  -- its calls have ended exactly where no port of its own is consequent
+  ended_if : (calls_have_ended s u.port ≡ true) ↔ ((p : ℕ) → IsPortOf s.config n p → is_some (exchange s p).within ≡ false)
+  ended_if = (
     λ h p o.
         let all : list_all (λ q. not (is_called_within s u.port q)) (ports_of s.config n) ≡ true =
         sym (map_or_at (λ (t : Target). list_all (λ q. not (is_called_within s u.port q)) (ports_of s.config t.node)) (target s.config u.port) true (record { node = n; provide = 0 }) serving.leads) ∙ h in
@@ -385,3 +389,20 @@ module _ (s : State) (w : IsWellFormed s) (c : IsConsistent s) (n : ℕ) (m : Sl
           let one : serving.served ≡ h.serving = same_Some serving.served h.serving (sym serving.is ∙ ap (service s) (sym mine) ∙ h.serviced) in
           let same : q ≡ u.port = sym h.of_port ∙ sym (ap (λ (v : Service). v.port) one) ∙ sym serving.same.port in
           absurd (both_ways (is_called_within s u.port p) never (ap (λ i. option_map_or (λ w. w == u.port) i false) at ∙ eq-eqb q u.port same))
+
+  -- rule 16: which it knows of each
+  pub judged_ended : (calls_have_ended s u.port ≡ true) ↔ ((r : ℕ) (x : PortKnown) → r < length (row m.node.kind).requires_ → slice_get k.ports r ≡ Some x → x.consequent ≡ false)
+  judged_ended = (
+    λ h r x within at.
+        let o : IsPortOf s.config n (m.first_port + r) = record { node = m; made = there; from = omega arith; below = omega (arith, within) } in
+        (known.ports r x at o).consequent ∙ ended_if.0 h (m.first_port + r) o,
+    λ none_. ended_if.1 (λ p o.
+        let one : o.node ≡ m = same_Some o.node m (sym o.made ∙ there) in
+        let from : m.first_port ≤ p = subst (λ (j : Slot). j.first_port ≤ p) one o.from in
+        let below : p < m.first_port + length (row m.node.kind).requires_ = subst (λ (j : Slot). p < j.first_port + length (row j.node.kind).requires_) one o.below in
+        let within : p - m.first_port < length (row m.node.kind).requires_ = omega (arith, from, below) in
+        let x = slice_get-there k.ports (p - m.first_port) (omega (arith, within, two_requires m.node.kind, known.two_ports)) in
+        let at : m.first_port + (p - m.first_port) ≡ p = omega (arith, from) in
+        let here : IsPortKnown s p x.0 = subst (λ i. IsPortKnown s i x.0) at (known.ports (p - m.first_port) x.0 x.1 (subst (λ i. IsPortOf s.config n i) (sym at) o)) in
+        sym here.consequent ∙ none_ (p - m.first_port) x.0 within x.1),
+  )

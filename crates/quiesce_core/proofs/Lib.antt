@@ -10,6 +10,7 @@ pub mod StateLaws
 pub mod TrafficLaws
 pub mod StepsLaws
 pub mod AlterLaws
+pub mod TurnLaws
 pub mod ConfigurationLaws
 pub mod SortLemmas
 pub mod GraphExistsLaws

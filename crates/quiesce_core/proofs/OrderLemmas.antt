@@ -1,5 +1,5 @@
 -- The slots of the live nodes in the order of their paths, their places, and their nodes.
-use Rattle.std.proofs.Common.{◌≡◌, ◌∙◌, ℕ, zero, suc, ◌+◌, ◌<◌, ◌≤◌, Bool, true, false, eqb, List, [], ◌∷◌, ◌++◌, Option, Some, None, length, get_or, set, replicate, refl, ap, sym, ⊎_elim, arith, get_or-set_same, get_or-set_other, length-append}
+use Rattle.std.proofs.Common.{◌≡◌, ◌∙◌, ℕ, zero, suc, ◌+◌, ◌<◌, ◌≤◌, Bool, true, false, eqb, List, [], ◌∷◌, ◌++◌, Option, Some, None, length, get_or, set, refl, ap, sym, ⊎_elim, arith, get_or-set_same, get_or-set_other, length-append}
 use Rattle.std.specs.Prelude.{slice_get, filter}
 use Rattle.std.specs.List.{range_with_len, IsDistinct}
 use Rattle.std.specs.List.Sorted.{IsPermutation, IsSortedBy}

@@ -1,5 +1,5 @@
 -- Runs: their fronts, one event more, runs on literals, who does what in them, and what holds after each.
-use Rattle.std.proofs.Common.{◌≡◌, ◌∙◌, ℕ, Bool, true, false, cond, ◌&&◌, List, [], ◌∷◌, ◌++◌, append_assoc, length, Option, Some, None, arith, refl, ap, sym, subst, ⊎_elim}
+use Rattle.std.proofs.Common.{◌≡◌, ◌∙◌, ℕ, true, false, cond, List, [], ◌∷◌, ◌++◌, append_assoc, Some, None, refl, ap, sym, subst, ⊎_elim}
 use Rattle.std.specs.Prelude.{◌↔◌, fold, filter, is_none, option_map}
 use Rattle.std.proofs.lemmas.Bool.{and_from, and_parts, both_ways, cases_Bool}
 use Rattle.std.proofs.lemmas.List.{append-nil}
@@ -16,10 +16,9 @@ use Rattle.quiesce_core.specs.Doers.{is_of_change}
 use Rattle.quiesce_core.specs.Effect.{change_next, configuration_after, effect}
 use Rattle.quiesce_core.specs.Legal.{Legal}
 use Rattle.quiesce_core.specs.Runs.{Step, IsRun, can_run, doer, done_by, is_doer, state_after}
-use Rattle.quiesce_core.specs.Reach.{IsPortOf}
 use Rattle.quiesce_core.specs.Named.{AreNamed}
 use Rattle.quiesce_core.specs.Knowledge.{Knows}
-use Rattle.quiesce_core.specs.WellFormed.{IsSound, IsWellFormed}
+use Rattle.quiesce_core.specs.WellFormed.{IsWellFormed}
 use Rattle.quiesce_core.specs.Traffic.{IsConsistent}
 use Rattle.quiesce_core.proofs.LegalLaws.{legal}
 use Rattle.quiesce_core.proofs.SoundnessLaws.{well_formed_next, well_formed_empty}

@@ -1,6 +1,6 @@
 -- The sources of nodes are gone after every run.
-use Rattle.std.proofs.Common.{◌≡◌, ◌∙◌, ℕ, zero, suc, ◌+◌, ◌<◌, true, false, not, ◌&&◌, List, [], ◌∷◌, length, Option, Some, None, refl, ap, sym, subst, ⊎_elim, arith}
-use Rattle.std.specs.Prelude.{◌==◌, slice_get, option_map}
+use Rattle.std.proofs.Common.{◌≡◌, ◌∙◌, ℕ, true, false, not, ◌&&◌, List, length, Option, Some, refl, ap, sym, subst, ⊎_elim, arith}
+use Rattle.std.specs.Prelude.{◌==◌, option_map}
 use Rattle.std.specs.Option.{option_map_or}
 use Rattle.std.proofs.lemmas.Bool.{and_parts, both_ways, cases_eq, eq-eqb, ne_eqb, not-true}
 use Rattle.std.proofs.lemmas.Option.{same_Some, slice_get_within}
@@ -13,11 +13,11 @@ use Rattle.quiesce_core.specs.Effect.{effect}
 use Rattle.quiesce_core.specs.Legal.{CanMake, Legal}
 use Rattle.quiesce_core.specs.Rules.{can_move, is_kind, was_moved}
 use Rattle.quiesce_core.specs.Runs.{IsRun, state_after}
-use Rattle.quiesce_core.specs.Alters.{Reconfigures, slot_next}
-use Rattle.quiesce_core.specs.Sources.{IsGoneSource, SourcesAreGone}
+use Rattle.quiesce_core.specs.Alters.{Reconfigures}
+use Rattle.quiesce_core.specs.Sources.{SourcesAreGone}
 use Rattle.quiesce_core.proofs.AlterLaws.{reconfigured}
 use Rattle.quiesce_core.proofs.CycleLaws.{map_or_true}
-use Rattle.quiesce_core.proofs.InductionLaws.{IsNext, always}
+use Rattle.quiesce_core.proofs.InductionLaws.{always}
 use Rattle.quiesce_core.proofs.NamedLemmas.{any_at}
 use Rattle.base.proofs.OptionLaws.{option_map_some}
 

@@ -1,8 +1,8 @@
 -- What stays while a transaction is open: where its port leads, and what the port holds until the event that answers to it.
-use Rattle.std.proofs.Common.{◌≡◌, ◌∙◌, ℕ, ◌+◌, ◌<◌, ◌≤◌, Bool, true, false, cond, ◌&&◌, length, Option, Some, None, refl, sym, ap, subst, ⊎_elim, arith}
-use Rattle.std.specs.Prelude.{◌==◌, nat_lt, nat_le, option_map, is_some}
+use Rattle.std.proofs.Common.{◌≡◌, ◌∙◌, ℕ, ◌+◌, Bool, true, false, cond, ◌&&◌, length, Some, refl, sym, ap}
+use Rattle.std.specs.Prelude.{◌==◌, nat_lt, nat_le, option_map}
 use Rattle.std.specs.Option.{option_map_or}
-use Rattle.std.proofs.lemmas.Bool.{and_parts, both_ways, cases_lt, eqb-true, eq-eqb, leb-true}
+use Rattle.std.proofs.lemmas.Bool.{and_parts, both_ways, eqb-true, eq-eqb, false_from_ne_true, leb-true}
 use Rattle.std.proofs.lemmas.List.{get_or_past}
 use Rattle.std.proofs.lemmas.Option.{same_Some}
 use Rattle.config_graph.specs.Kinds.{row}
@@ -10,22 +10,22 @@ use Rattle.config_graph.specs.declared.node.Target.{Target}
 use Rattle.quiesce_core.specs.declared.event.Event.{Event}
 use Rattle.quiesce_core.specs.declared.event.Event.TheVariants.{Begin, Call, Take, Give, End, More, Ask, Hear, Miss, Close, Reopen, Make, Link, Unlink, Remove}
 use Rattle.quiesce_core.specs.declared.state.Gate.{Gate}
-use Rattle.quiesce_core.specs.declared.state.Exchange.{Exchange}
 use Rattle.quiesce_core.specs.declared.state.Service.{Service}
 use Rattle.gate_word.specs.declared.phase.Phase.{Phase}
 use Rattle.gate_word.specs.declared.phase.Phase.TheVariants as phase
-use Rattle.quiesce_core.specs.State.{Configuration, State, fresh_gate, gate, owner, target, exchange, service, target_service}
-use Rattle.gate_word.specs.Phases.{is_idle, is_asked, is_answered, is_in_more}
+use Rattle.quiesce_core.specs.State.{State, fresh_gate, gate, owner, target, exchange, service, target_service}
+use Rattle.gate_word.specs.Phases.{is_idle, is_answered, is_in_more}
 use Rattle.quiesce_core.specs.Rules.{is_settled, is_taken, was_heard}
-use Rattle.quiesce_core.specs.Doers.{is_ask_at, is_end_at, is_give_at}
+use Rattle.quiesce_core.specs.Doers.{is_ask_at, is_end_at, is_give_at, is_more_at}
 use Rattle.quiesce_core.specs.Effect.{effect}
 use Rattle.quiesce_core.specs.Runs.{is_doer}
 use Rattle.quiesce_core.specs.Legal.{Legal}
 use Rattle.quiesce_core.specs.Traffic.{IsConsistent}
 use Rattle.quiesce_core.specs.WellFormed.{IsWellFormed}
-use Rattle.quiesce_core.specs.Alters.{gate_next, exchange_next, service_next, service_by}
-use Rattle.quiesce_core.proofs.AlterLaws.{reconfigured, exchanges_next, services_next}
+use Rattle.quiesce_core.specs.Alters.{gate_next, service_next, service_by}
+use Rattle.quiesce_core.proofs.AlterLaws.{reconfigured, services_next}
 use Rattle.quiesce_core.proofs.SettledLaws.{settled_if}
+use Rattle.quiesce_core.proofs.TurnLaws.{Turn, asks, ends, gives, passes, replies, served_there, starts, turn_of}
 use Rattle.quiesce_core.proofs.StateLaws.{answered_busy, busy_made, is_taken_if, more_busy, serving_unanswered, taken_busy, taken_is, target_service_is}
 use Rattle.base.proofs.OptionLaws.{None-from_is_none}
 
@@ -76,17 +76,6 @@ serving_nodes_stay s e w l n v serves p owned = unsettled_ports_stay s e l p (λ
 
 -- ---- what a port holds
 
-written : {A : Type 0} (b : Bool) (x y : A) → (b ≡ true → ⊥) → cond b x y ≡ y
-written true x y never = absurd (never refl)
-written false x y never = refl
-
--- the port where the test holds
-at_port : (s : State) (q p : ℕ) (f : Phase → Bool) → (q == p) ≡ true → f (exchange s p).phase ≡ true → f (exchange s q).phase ≡ true
-at_port s q p f h holds = ap (λ i. f (exchange s i).phase) (eqb-true q p h) ∙ holds
-
-answered_not_idle : (f : Phase) → is_answered f ≡ true → is_idle f ≡ true → ⊥
-answered_not_idle f h e = both_ways (is_idle f) (answered_busy f h) e
-
 answered_not_more : (f : Phase) → is_answered f ≡ true → is_in_more f ≡ true → ⊥
 answered_not_more phase.Idle h e = both_ways false refl e
 answered_not_more phase.Asked h e = both_ways false refl e
@@ -102,24 +91,15 @@ taken_not_answered s p c h answered =
 -- it holds its answer until its owner's End
 pub answers_stay : (s : State) (e : Event) → IsWellFormed s → IsConsistent s → Legal s e → (p : ℕ) → is_answered (exchange s p).phase ≡ true → is_end_at p e ≡ false
     → exchange (effect s e) p ≡ exchange s p
-answers_stay s e w c l p answered not_end = exchanges_next s e w l p ∙ stays e l not_end
+answers_stay s e w c l p answered not_end = by (turn_of s e w l p)
   where
-    stays : (e : Event) → Legal s e → is_end_at p e ≡ false → exchange_next s p e ≡ exchange s p
-    stays (Begin q k v) l never = written (q == p) _ _ (λ h. answered_not_idle (exchange s q).phase (at_port s q p is_answered h answered) l.idle)
-    stays (Call q k v) l never = written (q == p) _ _ (λ h. answered_not_idle (exchange s q).phase (at_port s q p is_answered h answered) l.idle)
-    stays (Miss q) l never = refl
-    stays (Take q k v) l never = refl
-    stays (Give q k v) l never = written (q == p) _ _ (λ h. taken_not_answered s q c l.taken (at_port s q p is_answered h answered))
-    stays (More q k v) l never = written (q == p) _ _ (λ h. taken_not_answered s q c l.taken (at_port s q p is_answered h answered))
-    stays (Ask q k v) l never = written (q == p) _ _ (λ h. answered_not_more (exchange s q).phase (at_port s q p is_answered h answered) l.in_more)
-    stays (Hear q k v) l never = refl
-    stays (End q k v) l never = written (q == p) _ _ (λ h. both_ways (q == p) never h)
-    stays (Close q) l never = refl
-    stays (Reopen q) l never = refl
-    stays (Make n node from) l never = refl
-    stays (Link q n x) l never = refl
-    stays (Unlink q) l never = refl
-    stays (Remove n) l never = refl
+    by : Turn s p e → exchange (effect s e) p ≡ exchange s p
+    by (passes now g m) = now
+    by (starts h) = absurd (both_ways (is_idle (exchange s p).phase) (answered_busy (exchange s p).phase answered) h.idle)
+    by (gives v t g now) = absurd (taken_not_answered s p c t answered)
+    by (replies v t m now) = absurd (taken_not_answered s p c t answered)
+    by (asks v m a g now) = absurd (answered_not_more (exchange s p).phase answered m)
+    by (ends a d now) = absurd (both_ways (is_end_at p e) not_end d)
 
 -- what the target of a port that is in more services waits for a further message
 more_waits : (s : State) (p : ℕ) → IsConsistent s → is_in_more (exchange s p).phase ≡ true → is_taken s p ≡ true → was_heard (target_service s p) ≡ true → ⊥
@@ -129,35 +109,31 @@ more_waits s p c more_ taken heard =
     let same : was_heard (target_service s p) ≡ t.serving.heard = ap was_heard (target_service_is s p t.to t.leads ∙ t.serviced) in
     both_ways t.serving.heard waits (sym same ∙ heard)
 
+-- so it sends nothing more before it has heard one
+unheard : (s : State) (p : ℕ) (e : Event) → IsConsistent s → Legal s e → is_in_more (exchange s p).phase ≡ true → (is_give_at p e ≡ false) × (is_more_at p e ≡ false)
+unheard s p (Give q k v) c l more_ =
+    (false_from_ne_true (q == p) (λ h. more_waits s q c (ap (λ i. is_in_more (exchange s i).phase) (eqb-true q p h) ∙ more_) l.taken l.heard), refl)
+unheard s p (More q k v) c l more_ =
+    (refl, false_from_ne_true (q == p) (λ h. more_waits s q c (ap (λ i. is_in_more (exchange s i).phase) (eqb-true q p h) ∙ more_) l.taken l.heard))
+unheard s p _ c l more_ = (refl, refl)
+
 -- an intermediate reply stands until its owner's Ask
 pub replies_stay : (s : State) (e : Event) → IsWellFormed s → IsConsistent s → Legal s e → (p : ℕ) → is_in_more (exchange s p).phase ≡ true → is_ask_at p e ≡ false
     → exchange (effect s e) p ≡ exchange s p
-replies_stay s e w c l p more_ not_ask = exchanges_next s e w l p ∙ stays e l not_ask
+replies_stay s e w c l p more_ not_ask = by (turn_of s e w l p)
   where
-    idle_not : (f : Phase) → is_in_more f ≡ true → is_idle f ≡ true → ⊥
-    idle_not f h e = both_ways (is_idle f) (more_busy f h) e
-
-    stays : (e : Event) → Legal s e → is_ask_at p e ≡ false → exchange_next s p e ≡ exchange s p
-    stays (Begin q k v) l never = written (q == p) _ _ (λ h. idle_not (exchange s q).phase (at_port s q p is_in_more h more_) l.idle)
-    stays (Call q k v) l never = written (q == p) _ _ (λ h. idle_not (exchange s q).phase (at_port s q p is_in_more h more_) l.idle)
-    stays (Miss q) l never = refl
-    stays (Take q k v) l never = refl
-    stays (Give q k v) l never = written (q == p) _ _ (λ h. more_waits s q c (at_port s q p is_in_more h more_) l.taken l.heard)
-    stays (More q k v) l never = written (q == p) _ _ (λ h. more_waits s q c (at_port s q p is_in_more h more_) l.taken l.heard)
-    stays (Ask q k v) l never = written (q == p) _ _ (λ h. both_ways (q == p) never h)
-    stays (Hear q k v) l never = refl
-    stays (End q k v) l never = written (q == p) _ _ (λ h. answered_not_more (exchange s q).phase l.answered (at_port s q p is_in_more h more_))
-    stays (Close q) l never = refl
-    stays (Reopen q) l never = refl
-    stays (Make n node from) l never = refl
-    stays (Link q n x) l never = refl
-    stays (Unlink q) l never = refl
-    stays (Remove n) l never = refl
+    by : Turn s p e → exchange (effect s e) p ≡ exchange s p
+    by (passes now g m) = now
+    by (starts h) = absurd (both_ways (is_idle (exchange s p).phase) (more_busy (exchange s p).phase more_) h.idle)
+    by (gives v t g now) = absurd (both_ways (is_give_at p e) (unheard s p e c l more_).0 g)
+    by (replies v t m now) = absurd (both_ways (is_more_at p e) (unheard s p e c l more_).1 m)
+    by (asks v m a g now) = absurd (both_ways (is_ask_at p e) not_ask a)
+    by (ends a d now) = absurd (answered_not_more (exchange s p).phase a more_)
 
 -- ---- who services a port
 
 -- what the node that services a port services after an event that isn't the port's Give: the same port still
-serves_on : (s : State) (e : Event) → IsConsistent s → Legal s e → (n : ℕ) (v : Service) → service s n ≡ Some v → is_give_at v.port e ≡ false
+pub serves_on : (s : State) (e : Event) → IsConsistent s → Legal s e → (n : ℕ) (v : Service) → service s n ≡ Some v → is_give_at v.port e ≡ false
     → (u : Service) × (service_next s n e ≡ Some u) × (u.port ≡ v.port)
 serves_on s e c l n v serves not_give = by (is_doer s n e) refl
   where
@@ -167,13 +143,8 @@ serves_on s e c l n v serves not_give = by (is_doer s n e) refl
     same_service : (u : Service) × (service s n ≡ Some u) × (u.port ≡ v.port)
     same_service = (v, serves, refl)
 
-    -- it is the target of the port of the event
     led : (q : ℕ) → option_map_or (λ m. m == n) (option_map (λ (t : Target). t.node) (target s.config q)) false ≡ true → target_service s q ≡ Some v
-    led q h = at (target s.config q) refl h
-      where
-        at : (o : Option Target) → target s.config q ≡ o → option_map_or (λ m. m == n) (option_map (λ (t : Target). t.node) o) false ≡ true → target_service s q ≡ Some v
-        at None leads h = absurd (both_ways false refl h)
-        at (Some t) leads h = target_service_is s q t leads ∙ ap (service s) (eqb-true t.node n h) ∙ serves
+    led q h = served_there s q n h ∙ serves
 
     turn : (e : Event) → Legal s e → is_give_at v.port e ≡ false → is_doer s n e ≡ true → (u : Service) × (service_by (service s n) e ≡ Some u) × (u.port ≡ v.port)
     turn (Begin q k j) l never does = same_service

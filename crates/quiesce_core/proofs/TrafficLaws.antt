@@ -1,352 +1,41 @@
 -- Each event keeps the traffic consistent.
-use Rattle.std.proofs.Common.{◌≡◌, ℕ, ◌+◌, ◌-◌, ◌<◌, ◌≤◌, Bool, true, false, not, ◌&&◌, ◌||◌, length, set, Option, Some, None, refl, sym, ap, ◌∙◌, subst, ⊎_elim, arith}
+use Rattle.std.proofs.Common.{◌≡◌, ◌∙◌, ℕ, ◌+◌, ◌-◌, ◌<◌, ◌≤◌, Bool, true, false, not, cond, ◌&&◌, ◌||◌, length, Option, Some, None, refl, sym, ap, subst, ⊎_elim, arith}
 use Rattle.std.specs.Prelude.{◌==◌, nat_lt, nat_le, is_none, is_some, option_map}
 use Rattle.std.specs.List.{list_all, range_with_len}
 use Rattle.std.specs.Option.{option_map_or}
-use Rattle.std.proofs.lemmas.Bool.{leb-true, and_parts, both_ways, cases_eq, cases_lt, or_left, eqb-true, eq-eqb, ltb-true, not-true}
+use Rattle.std.proofs.lemmas.Bool.{and_parts, both_ways, cases_Bool, cases_eq, cases_lt, eq-eqb, eqb-true, false_from_ne_true, ltb-true, ne_eqb, not-true, or_left}
 use Rattle.std.proofs.lemmas.List.{get_or_past}
-use Rattle.std.proofs.lemmas.Option.{slice_get_within}
+use Rattle.std.proofs.lemmas.Option.{same_Some}
+use Rattle.config_graph.specs.Kinds.{row, depends_on, calls_of, mores_of}
+use Rattle.config_graph.specs.declared.kind.Kind.{Kind}
 use Rattle.config_graph.specs.declared.node.Target.{Target}
+use Rattle.gate_word.specs.Phases.{is_idle, is_asked, is_in_more}
+use Rattle.gate_word.specs.declared.phase.Phase.{Phase}
 use Rattle.quiesce_core.specs.declared.event.Event.{Event}
 use Rattle.quiesce_core.specs.declared.event.Event.TheVariants.{Begin, Call, Take, Give, End, More, Ask, Hear, Miss, Close, Reopen, Make, Link, Unlink, Remove}
-use Rattle.config_graph.specs.Kinds.{row, depends_on, calls_of, mores_of}
-use Rattle.config_graph.specs.declared.node.Node.{Node}
 use Rattle.quiesce_core.specs.declared.state.Slot.{Slot}
 use Rattle.quiesce_core.specs.declared.state.Gate.{Gate}
 use Rattle.quiesce_core.specs.declared.state.Service.{Service}
 use Rattle.quiesce_core.specs.declared.state.Exchange.{Exchange}
-use Rattle.gate_word.specs.declared.phase.Phase.TheVariants as phase
-use Rattle.quiesce_core.specs.State.{Configuration, State, empty, fresh_gate, fresh_exchange, slot, gate, owner, target, provision, ports_of, calls_allowed, mores_allowed, depends, is_live, exchange, service, target_service}
-use Rattle.quiesce_core.specs.Reach.{IsPortOf, reaches}
-use Rattle.gate_word.specs.Phases.{is_idle, is_asked, is_in_more}
-use Rattle.quiesce_core.specs.Rules.{is_linked, is_taken, is_called_within, has_calls_left, is_live_port, is_quiet, is_settled}
-use Rattle.quiesce_core.specs.Effect.{with_exchange, with_service, with_target_service, with_gate, with_closed, with_target, with_node, effect}
+use Rattle.quiesce_core.specs.State.{Configuration, State, empty, fresh_gate, slot, gate, owner, target, provision, ports_of, calls_allowed, mores_allowed, depends, is_live, exchange, service}
+use Rattle.quiesce_core.specs.Alters.{service_by, service_next}
+use Rattle.quiesce_core.specs.Doers.{is_give_at, is_more_at}
+use Rattle.quiesce_core.specs.Reach.{IsPortOf}
+use Rattle.quiesce_core.specs.Rules.{has_calls_left, is_called_within, is_linked, is_live_port, is_taken, serves_through}
+use Rattle.quiesce_core.specs.Effect.{effect}
 use Rattle.quiesce_core.specs.Legal.{Legal}
+use Rattle.quiesce_core.specs.Runs.{is_doer}
 use Rattle.quiesce_core.specs.WellFormed.{IsWellFormed}
 use Rattle.quiesce_core.specs.Traffic.{IsServing, IsConsequent, IsConsistent}
-use Rattle.quiesce_core.proofs.SoundnessLaws.{put_here, put_elsewhere, put_owner, put_require, old_gate, new_gate, grown_length, old_slot, slot_elsewhere, kind_stays}
-use Rattle.quiesce_core.proofs.TableLaws.{live_made, gate_place, exchange_place, owner_place, target_place}
-use Rattle.quiesce_core.proofs.CycleLaws.{map_or_true, map_or_at, all_of}
-use Rattle.quiesce_core.proofs.StateLaws.{asked_busy, more_busy, serving_busy, asked_not_more, exchange_here, exchange_there, service_here, service_there, taken_is, is_taken_if, idle_unserved, answered_unserved, provision_is, put_is, target_service_is}
-use Rattle.base.proofs.OptionLaws.{None-from_is_none, Some-from_is_some}
-use Rattle.base.proofs.PlaceLaws.{fresh_behind}
-
--- A node's event changes what is done at port p, and what node n services.
-pub record Changes (s s' : State) (p n : ℕ) : Type 0 where
-  pub config : s'.config ≡ s.config
-  pub exchanges : (q : ℕ) → (q ≡ p → ⊥) → exchange s' q ≡ exchange s q
-  pub services : (m : ℕ) → (m ≡ n → ⊥) → service s' m ≡ service s m
-
--- a service goes on where nothing changes at its port
-serving_stays : (s s' : State) (m : ℕ) (v : Service) → s'.config ≡ s.config → exchange s' v.port ≡ exchange s v.port → IsServing s m v → IsServing s' m v
-serving_stays s s' m v c e h = record {
-  provide = h.provide;
-  linked = ap (λ d. target d v.port) c ∙ h.linked;
-  busy = ap (λ (x : Exchange). is_asked x.phase || is_in_more x.phase) e ∙ h.busy;
-  waits = λ w. h.waits (sym (ap (λ (x : Exchange). is_in_more x.phase) e) ∙ w);
-  calls = subst (λ d. v.calls ≤ calls_allowed d m h.provide) (sym c) h.calls;
-  mores = subst (λ d. v.mores ≤ mores_allowed d m h.provide) (sym c) h.mores;
-}
-
--- a consequent transaction goes on where its owner's service does
-consequent_stays : (s s' : State) (q r : ℕ) (w : Service) → s'.config ≡ s.config → is_idle (exchange s' q).phase ≡ false → service s' (owner s.config q) ≡ Some w → w.port ≡ r
-    → IsConsequent s q r → IsConsequent s' q r
-consequent_stays s s' q r w c busy serviced same h = record {
-  busy = busy;
-  serving = w;
-  serviced = ap (λ d. service s' (owner d q)) c ∙ serviced;
-  of_port = same;
-  depends_on = ap (λ d. depends d (owner d q) (provision d r) q) c ∙ h.depends_on;
-}
-
-linked_stays : (s s' : State) (q : ℕ) → s'.config ≡ s.config → is_linked s.config q ≡ true → is_linked s'.config q ≡ true
-linked_stays s s' q c h = ap (λ d. is_some (target d q)) c ∙ h
-
-removed_stays : (s s' : State) → s'.config ≡ s.config → IsConsistent s → (q : ℕ) → is_live s'.config (owner s'.config q) ≡ false → ((gate s'.config q).closed ≡ true) × (target s'.config q ≡ None)
-removed_stays s s' c k q h = subst (λ d. is_live d (owner d q) ≡ false → ((gate d q).closed ≡ true) × (target d q ≡ None)) (sym c) (k.removed q) h
-
-busy_there : (s s' : State) (q r : ℕ) → exchange s' q ≡ exchange s q → IsConsequent s q r → is_idle (exchange s' q).phase ≡ false
-busy_there s s' q r e h = ap (λ (x : Exchange). is_idle x.phase) e ∙ h.busy
-
--- what a node's event owes, so that the traffic stays consistent
-pub record Owes (s s' : State) (p n : ℕ) : Type 0 where
-  pub linked : is_idle (exchange s' p).phase ≡ false → is_linked s.config p ≡ true
-  pub serving : (v : Service) → service s' n ≡ Some v → IsServing s' n v
-  pub others : (m : ℕ) (v : Service) → (m ≡ n → ⊥) → service s m ≡ Some v → v.port ≡ p → IsServing s' m v
-  pub taken : is_in_more (exchange s' p).phase ≡ true → is_taken s' p ≡ true
-  pub others_taken : (q : ℕ) → (q ≡ p → ⊥) → is_taken s q ≡ true → is_taken s' q ≡ true
-  pub consequent : (r : ℕ) → (exchange s' p).within ≡ Some r → IsConsequent s' p r
-  pub others_consequent : (q r : ℕ) → (q ≡ p → ⊥) → (exchange s q).within ≡ Some r → IsConsequent s q r → IsConsequent s' q r
-
-steps : (s s' : State) (p n : ℕ) → IsConsistent s → Changes s s' p n → Owes s s' p n → IsConsistent s'
-steps s s' p n k c o = record {
-  linked = λ q h. linked_stays s s' q c.config (⊎_elim
-      (λ (same : q ≡ p). ap (λ i. is_linked s.config i) same ∙ o.linked (sym (ap (λ i. is_idle (exchange s' i).phase) same) ∙ h))
-      (λ (other : q ≡ p → ⊥). k.linked q (sym (ap (λ (x : Exchange). is_idle x.phase) (c.exchanges q other)) ∙ h))
-      (cases_eq q p));
-  serving = λ m v e. ⊎_elim
-      (λ (same : m ≡ n). subst (λ i. IsServing s' i v) (sym same) (o.serving v (sym (ap (λ i. service s' i) same) ∙ e)))
-      (λ (other : m ≡ n → ⊥).
-      let before : service s m ≡ Some v = sym (c.services m other) ∙ e in
-      ⊎_elim
-      (λ (here : v.port ≡ p). o.others m v other before here)
-      (λ (there : v.port ≡ p → ⊥). serving_stays s s' m v c.config (c.exchanges v.port there) (k.serving m v before))
-      (cases_eq v.port p))
-      (cases_eq m n);
-  taken = λ q h. ⊎_elim
-      (λ (same : q ≡ p). ap (λ i. is_taken s' i) same ∙ o.taken (sym (ap (λ i. is_in_more (exchange s' i).phase) same) ∙ h))
-      (λ (other : q ≡ p → ⊥). o.others_taken q other (k.taken q (sym (ap (λ (x : Exchange). is_in_more x.phase) (c.exchanges q other)) ∙ h)))
-      (cases_eq q p);
-  consequent = λ q r e. ⊎_elim
-      (λ (same : q ≡ p). subst (λ i. IsConsequent s' i r) (sym same) (o.consequent r (sym (ap (λ i. (exchange s' i).within) same) ∙ e)))
-      (λ (other : q ≡ p → ⊥).
-      let before : (exchange s q).within ≡ Some r = sym (ap (λ (x : Exchange). x.within) (c.exchanges q other)) ∙ e in
-      o.others_consequent q r other before (k.consequent q r before))
-      (cases_eq q p);
-  removed = λ q h. removed_stays s s' c.config k q h;
-}
-
--- only the exchange at p changes
-
-exchanged : (s : State) (p : ℕ) (x : Exchange) → Changes s (with_exchange s p x) p 0
-exchanged s p x = record { config = refl; exchanges = λ q ne. exchange_there s p q x ne; services = λ m ne. refl }
-
-others_same : (s : State) (p : ℕ) (x : Exchange) (q r : ℕ) → (q ≡ p → ⊥) → IsConsequent s q r → IsConsequent (with_exchange s p x) q r
-others_same s p x q r ne h =
-    consequent_stays s (with_exchange s p x) q r h.serving refl (busy_there s (with_exchange s p x) q r (exchange_there s p q x ne) h) h.serviced h.of_port h
-
-begin_consistent : (s : State) (p k v : ℕ) → IsWellFormed s → IsConsistent s → Legal s (Begin p k v) → IsConsistent (effect s (Begin p k v))
-begin_consistent s p k v w c l =
-    let x : Exchange = record { phase = phase.Asked; serial = k; value = v; within = None } in
-    let here = exchange_here s p x (exchange_place s p w l.live) in
-    steps s (with_exchange s p x) p 0 c (exchanged s p x) (record {
-      linked = λ h. l.linked;
-      serving = λ u e. serving_stays s (with_exchange s p x) 0 u refl (exchange_there s p u.port x (idle_unserved s p c l.idle 0 u e)) (c.serving 0 u e);
-      others = λ m u ne e same. absurd (idle_unserved s p c l.idle m u e same);
-      taken = λ h. absurd (both_ways false refl (sym (ap (λ (y : Exchange). is_in_more y.phase) here) ∙ h));
-      others_taken = λ q ne h. h;
-      consequent = λ r e. absurd (cc (here, e));
-      others_consequent = λ q r ne e h. others_same s p x q r ne h;
-    })
-
-ask_consistent : (s : State) (p k v : ℕ) → IsWellFormed s → IsConsistent s → Legal s (Ask p k v) → IsConsistent (effect s (Ask p k v))
-ask_consistent s p k v w c l =
-    let x : Exchange = record (exchange s p) { phase = phase.Asked; value = v } in
-    let here = exchange_here s p x (exchange_place s p w l.live) in
-    let busy = more_busy (exchange s p).phase l.in_more in
-    let served : (m : ℕ) (u : Service) → service s m ≡ Some u → u.port ≡ p → IsServing (with_exchange s p x) m u =
-    λ m u e same.
-    let old = c.serving m u e in
-    let now : exchange (with_exchange s p x) u.port ≡ x = ap (λ i. exchange (with_exchange s p x) i) same ∙ here in record {
-      provide = old.provide;
-      linked = old.linked;
-      busy = ap (λ (y : Exchange). is_asked y.phase || is_in_more y.phase) now;
-      waits = λ h. absurd (both_ways false refl (sym (ap (λ (y : Exchange). is_in_more y.phase) now) ∙ h));
-      calls = old.calls;
-      mores = old.mores;
-    } in
-    steps s (with_exchange s p x) p 0 c (exchanged s p x) (record {
-      linked = λ h. c.linked p busy;
-      serving = λ u e. ⊎_elim (λ (same : u.port ≡ p). served 0 u e same)
-          (λ (other : u.port ≡ p → ⊥). serving_stays s (with_exchange s p x) 0 u refl (exchange_there s p u.port x other) (c.serving 0 u e)) (cases_eq u.port p);
-      others = λ m u ne e same. served m u e same;
-      taken = λ h. absurd (both_ways false refl (sym (ap (λ (y : Exchange). is_in_more y.phase) here) ∙ h));
-      others_taken = λ q ne h. h;
-      consequent = λ r e.
-          let old = c.consequent p r (sym (ap (λ (y : Exchange). y.within) here) ∙ e) in
-          consequent_stays s (with_exchange s p x) p r old.serving refl (ap (λ (y : Exchange). is_idle y.phase) here) old.serviced old.of_port old;
-      others_consequent = λ q r ne e h. others_same s p x q r ne h;
-    })
-
-end_consistent : (s : State) (p k v : ℕ) → IsWellFormed s → IsConsistent s → Legal s (End p k v) → IsConsistent (effect s (End p k v))
-end_consistent s p k v w c l =
-    let x : Exchange = record (exchange s p) { phase = phase.Idle; value = 0; within = None } in
-    let here = exchange_here s p x (exchange_place s p w l.live) in
-    steps s (with_exchange s p x) p 0 c (exchanged s p x) (record {
-      linked = λ h. absurd (both_ways true (sym (ap (λ (y : Exchange). is_idle y.phase) here) ∙ h) refl);
-      serving = λ u e. serving_stays s (with_exchange s p x) 0 u refl (exchange_there s p u.port x (answered_unserved s p c l.answered 0 u e)) (c.serving 0 u e);
-      others = λ m u ne e same. absurd (answered_unserved s p c l.answered m u e same);
-      taken = λ h. absurd (both_ways false refl (sym (ap (λ (y : Exchange). is_in_more y.phase) here) ∙ h));
-      others_taken = λ q ne h. h;
-      consequent = λ r e. absurd (cc (here, e));
-      others_consequent = λ q r ne e h. others_same s p x q r ne h;
-    })
-
--- a service of the same port goes on at node n
-
-taken_kept : (s s' : State) (n : ℕ) (v w : Service) → s'.config ≡ s.config → ((m : ℕ) → (m ≡ n → ⊥) → service s' m ≡ service s m) → service s n ≡ Some v → service s' n ≡ Some w → w.port ≡ v.port
-    → (q : ℕ) → is_taken s q ≡ true → is_taken s' q ≡ true
-taken_kept s s' n v w c there before now same q h =
-    let t = taken_is s q h in
-    let leads : target s'.config q ≡ Some t.to = ap (λ d. target d q) c ∙ t.leads in
-    ⊎_elim
-    (λ (here : t.to.node ≡ n).
-    let one : v ≡ t.serving = cc (before, t.serviced, ap (λ i. service s i) here) in
-    is_taken_if s' q t.to w leads (ap (λ i. service s' i) here ∙ now) (same ∙ ap (λ (u : Service). u.port) one ∙ t.of_port))
-    (λ (other : t.to.node ≡ n → ⊥). is_taken_if s' q t.to t.serving leads (there t.to.node other ∙ t.serviced) t.of_port)
-    (cases_eq t.to.node n)
-
-consequent_kept : (s s' : State) (n : ℕ) (v w : Service) → s'.config ≡ s.config → ((m : ℕ) → (m ≡ n → ⊥) → service s' m ≡ service s m) → service s n ≡ Some v → service s' n ≡ Some w → w.port ≡ v.port
-    → (q r : ℕ) → is_idle (exchange s' q).phase ≡ false → IsConsequent s q r → IsConsequent s' q r
-consequent_kept s s' n v w c there before now same q r busy h = ⊎_elim
-    (λ (here : owner s.config q ≡ n).
-    let one : v ≡ h.serving = cc (before, h.serviced, ap (λ i. service s i) here) in
-    consequent_stays s s' q r w c busy (ap (λ i. service s' i) here ∙ now) (same ∙ ap (λ (u : Service). u.port) one ∙ h.of_port) h)
-    (λ (other : owner s.config q ≡ n → ⊥). consequent_stays s s' q r h.serving c busy (there (owner s.config q) other ∙ h.serviced) h.of_port h)
-    (cases_eq (owner s.config q) n)
-
-served_next_call : (s s' : State) (n : ℕ) (v : Service) → s'.config ≡ s.config → exchange s' v.port ≡ exchange s v.port → has_calls_left s n ≡ true → service s n ≡ Some v → IsServing s n v
-    → IsServing s' n (record v { calls = v.calls + 1 })
-unfolding serving_stays
-served_next_call s s' n v c e left before h =
-    let below : nat_lt v.calls (calls_allowed s.config n (provision s.config v.port)) ≡ true =
-    sym (map_or_at (λ (u : Service). nat_lt u.calls (calls_allowed s.config n (provision s.config u.port))) (service s n) false v before) ∙ left in
-    let few : v.calls < calls_allowed s.config n h.provide =
-    subst (λ x. v.calls < calls_allowed s.config n x) (provision_is s.config v.port n h.provide h.linked) (ltb-true v.calls (calls_allowed s.config n (provision s.config v.port)) below) in
-    let old = serving_stays s s' n v c e h in
-    record {
-      provide = h.provide;
-      linked = old.linked;
-      busy = old.busy;
-      waits = old.waits;
-      calls = subst (λ d. v.calls + 1 ≤ calls_allowed d n h.provide) (sym c) (omega arith);
-      mores = old.mores;
-    }
-
-served_by : (s : State) (n : ℕ) → has_calls_left s n ≡ true → (v : Service) × (service s n ≡ Some v)
-served_by s n h =
-    let w = map_or_true (λ (v : Service). nat_lt v.calls (calls_allowed s.config n (provision s.config v.port))) (service s n) h in (w.0, w.1)
-
-call_consistent : (s : State) (p k v : ℕ) → IsWellFormed s → IsConsistent s → Legal s (Call p k v) → IsConsistent (effect s (Call p k v))
-call_consistent s p k v w c l =
-    let n = owner s.config p in
-    let served = served_by s n l.calls_left in
-    let old = served.0 in
-    let new : Service = record old { calls = old.calls + 1 } in
-    let x : Exchange = record { phase = phase.Asked; serial = k; value = v; within = Some old.port } in
-    let s' : State = with_exchange (with_service s n (Some new)) p x in
-    let here : exchange s' p ≡ x = exchange_here (with_service s n (Some new)) p x (exchange_place s p w l.live) in
-    let now : service s' n ≡ Some new = service_here s n (Some new) (owner_place s p w l.live) in
-    let there : (m : ℕ) → (m ≡ n → ⊥) → service s' m ≡ service s m = λ m ne. service_there s n m (Some new) ne in
-    let elsewhere : (q : ℕ) → (q ≡ p → ⊥) → exchange s' q ≡ exchange s q = λ q ne. exchange_there (with_service s n (Some new)) p q x ne in
-    let mine = c.serving n old served.1 in
-    let result : IsConsistent s' = steps s s' p n c (record { config = refl; exchanges = elsewhere; services = there }) (record {
-      linked = λ h. l.linked;
-      serving = λ u e.
-          let one : new ≡ u = cc (now, e) in
-          subst (λ y. IsServing s' n y) one (served_next_call s s' n old refl (elsewhere old.port (idle_unserved s p c l.idle n old served.1)) l.calls_left served.1 mine);
-      others = λ m u ne e same. absurd (idle_unserved s p c l.idle m u e same);
-      taken = λ h. absurd (both_ways false refl (sym (ap (λ (y : Exchange). is_in_more y.phase) here) ∙ h));
-      others_taken = λ q ne h. taken_kept s s' n old new refl there served.1 now refl q h;
-      consequent = λ r e.
-          let one : old.port ≡ r = cc (here, e) in
-          let dep : depends s.config n (provision s.config old.port) p ≡ true =
-          sym (map_or_at (λ (u : Service). depends s.config n (provision s.config u.port) p) (service s n) false old served.1) ∙ l.serves_through in
-          record {
-            busy = ap (λ (y : Exchange). is_idle y.phase) here;
-            serving = new;
-            serviced = now;
-            of_port = one;
-            depends_on = sym (ap (λ i. depends s.config n (provision s.config i) p) one) ∙ dep;
-          };
-      others_consequent = λ q r ne e h. consequent_kept s s' n old new refl there served.1 now refl q r (busy_there s s' q r (elsewhere q ne) h) h;
-    }) in
-    subst (λ o. IsConsistent (with_exchange (with_service s n (option_map (λ (u : Service). record u { calls = u.calls + 1 }) o)) p (record { phase = phase.Asked; serial = k; value = v; within = option_map (λ (u : Service). u.port) o })))
-    (sym served.1) result
-
-miss_consistent : (s : State) (p : ℕ) → IsWellFormed s → IsConsistent s → Legal s (Miss p) → IsConsistent (effect s (Miss p))
-miss_consistent s p w c l =
-    let n = owner s.config p in
-    let served = served_by s n l.calls_left in
-    let old = served.0 in
-    let new : Service = record old { calls = old.calls + 1 } in
-    let s' : State = with_service s n (Some new) in
-    let now : service s' n ≡ Some new = service_here s n (Some new) (owner_place s p w l.live) in
-    let there : (m : ℕ) → (m ≡ n → ⊥) → service s' m ≡ service s m = λ m ne. service_there s n m (Some new) ne in
-    let result : IsConsistent s' = steps s s' p n c (record { config = refl; exchanges = λ q ne. refl; services = there }) (record {
-      linked = λ h. c.linked p h;
-      serving = λ u e.
-          let one : new ≡ u = cc (now, e) in
-          subst (λ y. IsServing s' n y) one (served_next_call s s' n old refl refl l.calls_left served.1 (c.serving n old served.1));
-      others = λ m u ne e same. absurd (idle_unserved s p c l.idle m u e same);
-      taken = λ h. absurd (both_ways (is_idle (exchange s p).phase) (more_busy (exchange s p).phase h) l.idle);
-      others_taken = λ q ne h. taken_kept s s' n old new refl there served.1 now refl q h;
-      consequent = λ r e. consequent_kept s s' n old new refl there served.1 now refl p r (c.consequent p r e).busy (c.consequent p r e);
-      others_consequent = λ q r ne e h. consequent_kept s s' n old new refl there served.1 now refl q r h.busy h;
-    }) in
-    subst (λ o. IsConsistent (with_service s n (option_map (λ (u : Service). record u { calls = u.calls + 1 }) o))) (sym served.1) result
-
-take_consistent : (s : State) (p k v : ℕ) → IsWellFormed s → IsConsistent s → Legal s (Take p k v) → IsConsistent (effect s (Take p k v))
-take_consistent s p k v w c l =
-    let leads = Some-from_is_some (target s.config p) (c.linked p (asked_busy (exchange s p).phase l.asked)) in
-    let t = leads.0 in
-    let new : Service = record { port = p; calls = 0; mores = 0; heard = true } in
-    let s' : State = with_service s t.node (Some new) in
-    let free : service s t.node ≡ None = sym (target_service_is s p t leads.1) ∙ None-from_is_none (target_service s p) l.free in
-    let now : service s' t.node ≡ Some new = service_here s t.node (Some new) (target_place s p t w leads.1) in
-    let there : (m : ℕ) → (m ≡ t.node → ⊥) → service s' m ≡ service s m = λ m ne. service_there s t.node m (Some new) ne in
-    let others_on : (q r : ℕ) → IsConsequent s q r → IsConsequent s' q r = λ q r h.
-    consequent_stays s s' q r h.serving refl h.busy (there (owner s.config q) (λ here. cc (free, h.serviced, ap (λ i. service s i) here)) ∙ h.serviced) h.of_port h in
-    let result : IsConsistent s' = steps s s' p t.node c (record { config = refl; exchanges = λ q ne. refl; services = there }) (record {
-      linked = λ h. c.linked p h;
-      serving = λ u e.
-          let one : new ≡ u = cc (now, e) in
-          subst (λ y. IsServing s' t.node y) one (record {
-            provide = t.provide;
-            linked = leads.1;
-            busy = or_left (is_asked (exchange s p).phase) (is_in_more (exchange s p).phase) l.asked;
-            waits = λ h. absurd (both_ways (is_in_more (exchange s p).phase) (asked_not_more (exchange s p).phase l.asked) h);
-            calls = omega arith;
-            mores = omega arith;
-          });
-      others = λ m u ne e same.
-          let old = c.serving m u e in
-          let at : target s.config p ≡ Some (record { node = m; provide = old.provide }) = ap (λ i. target s.config i) (sym same) ∙ old.linked in
-          let one : m ≡ t.node = ap (λ o. option_map_or (λ (y : Target). y.node) o 0) (sym at ∙ leads.1) in absurd (ne one);
-      taken = λ h. absurd (both_ways (is_in_more (exchange s p).phase) (asked_not_more (exchange s p).phase l.asked) h);
-      others_taken = λ q ne h.
-          let u = taken_is s q h in
-          is_taken_if s' q u.to u.serving u.leads (there u.to.node (λ here. cc (free, u.serviced, ap (λ i. service s i) here)) ∙ u.serviced) u.of_port;
-      consequent = λ r e. others_on p r (c.consequent p r e);
-      others_consequent = λ q r ne e h. others_on q r h;
-    }) in
-    subst (λ y. IsConsistent y) (sym (put_is s p t (Some new) leads.1)) result
-
-hear_consistent : (s : State) (p k v : ℕ) → IsWellFormed s → IsConsistent s → Legal s (Hear p k v) → IsConsistent (effect s (Hear p k v))
-hear_consistent s p k v w c l =
-    let at = taken_is s p l.taken in
-    let t = at.to in
-    let old = at.serving in
-    let new : Service = record old { heard = true } in
-    let s' : State = with_service s t.node (Some new) in
-    let now : service s' t.node ≡ Some new = service_here s t.node (Some new) (target_place s p t w at.leads) in
-    let there : (m : ℕ) → (m ≡ t.node → ⊥) → service s' m ≡ service s m = λ m ne. service_there s t.node m (Some new) ne in
-    let not_more : is_in_more (exchange s p).phase ≡ false = asked_not_more (exchange s p).phase l.asked in
-    let mine = c.serving t.node old at.serviced in
-    let result : IsConsistent s' = steps s s' p t.node c (record { config = refl; exchanges = λ q ne. refl; services = there }) (record {
-      linked = λ h. c.linked p h;
-      serving = λ u e.
-          let one : new ≡ u = cc (now, e) in
-          subst (λ y. IsServing s' t.node y) one (record {
-            provide = mine.provide;
-            linked = mine.linked;
-            busy = mine.busy;
-            waits = λ h. absurd (both_ways (is_in_more (exchange s p).phase) not_more (sym (ap (λ i. is_in_more (exchange s i).phase) at.of_port) ∙ h));
-            calls = mine.calls;
-            mores = mine.mores;
-          });
-      others = λ m u ne e same.
-          let other = c.serving m u e in
-          let on : target s.config p ≡ Some (record { node = m; provide = other.provide }) = ap (λ i. target s.config i) (sym same) ∙ other.linked in
-          absurd (ne (ap (λ o. option_map_or (λ (y : Target). y.node) o 0) (sym on ∙ at.leads)));
-      taken = λ h. absurd (both_ways (is_in_more (exchange s p).phase) not_more h);
-      others_taken = λ q ne h. taken_kept s s' t.node old new refl there at.serviced now refl q h;
-      consequent = λ r e. consequent_kept s s' t.node old new refl there at.serviced now refl p r (c.consequent p r e).busy (c.consequent p r e);
-      others_consequent = λ q r ne e h. consequent_kept s s' t.node old new refl there at.serviced now refl q r h.busy h;
-    }) in
-    let put : effect s (Hear p k v) ≡ s' =
-    ap (λ o. with_target_service s p (option_map (λ (u : Service). record u { heard = true }) o)) (target_service_is s p t at.leads ∙ at.serviced) ∙ put_is s p t (Some new) at.leads in
-    subst (λ y. IsConsistent y) (sym put) result
+use Rattle.quiesce_core.proofs.AlterLaws.{reconfigured, services_next}
+use Rattle.quiesce_core.proofs.ConfigurationLaws.{kind_kept, linked_made, owner_kept, require_kept}
+use Rattle.quiesce_core.proofs.CycleLaws.{map_or_at, all_of}
+use Rattle.quiesce_core.proofs.SettledLaws.{settled_if}
+use Rattle.quiesce_core.proofs.StabilityLaws.{busy_ports_stay, serves_on, taken_ports_stay}
+use Rattle.quiesce_core.proofs.StateLaws.{asked_not_more, busy_made, idle_unserved, more_busy, provision_is, serving_busy, serving_unanswered, taken_busy, taken_is, target_service_is}
+use Rattle.quiesce_core.proofs.TableLaws.{live_made}
+use Rattle.quiesce_core.proofs.TurnLaws.{Turn, asks, ends, gives, passes, replies, replies_are_of_servers, served_there, starts, turn_of}
+use Rattle.base.proofs.OptionLaws.{None-from_is_none, Some-from_is_some, option_map_some}
 
 -- the one that services a port is the one to which it is linked
 pub only_target : (s : State) (p : ℕ) (t : Target) → IsConsistent s → target s.config p ≡ Some t → (m : ℕ) (u : Service) → service s m ≡ Some u → u.port ≡ p → m ≡ t.node
@@ -355,320 +44,346 @@ only_target s p t c leads m u e same =
     let on : target s.config p ≡ Some (record { node = m; provide = other.provide }) = ap (λ i. target s.config i) (sym same) ∙ other.linked in
     ap (λ o. option_map_or (λ (y : Target). y.node) o 0) (sym on ∙ leads)
 
-more_consistent : (s : State) (p k v : ℕ) → IsWellFormed s → IsConsistent s → Legal s (More p k v) → IsConsistent (effect s (More p k v))
-more_consistent s p k v w c l =
-    let at = taken_is s p l.taken in
-    let t = at.to in
-    let old = at.serving in
-    let new : Service = record old { mores = old.mores + 1; heard = false } in
-    let x : Exchange = record (exchange s p) { phase = phase.More; value = v } in
-    let s' : State = with_exchange (with_service s t.node (Some new)) p x in
-    let here : exchange s' p ≡ x = exchange_here (with_service s t.node (Some new)) p x (exchange_place s p w l.live) in
-    let now : service s' t.node ≡ Some new = service_here s t.node (Some new) (target_place s p t w at.leads) in
-    let there : (m : ℕ) → (m ≡ t.node → ⊥) → service s' m ≡ service s m = λ m ne. service_there s t.node m (Some new) ne in
-    let elsewhere : (q : ℕ) → (q ≡ p → ⊥) → exchange s' q ≡ exchange s q = λ q ne. exchange_there (with_service s t.node (Some new)) p q x ne in
-    let mine = c.serving t.node old at.serviced in
-    let busy : is_idle (exchange s p).phase ≡ false = sym (ap (λ i. is_idle (exchange s i).phase) at.of_port) ∙ serving_busy (exchange s old.port).phase mine.busy in
-    let provide : mine.provide ≡ t.provide = ap (λ o. option_map_or (λ (y : Target). y.provide) o 0) (sym mine.linked ∙ ap (λ i. target s.config i) at.of_port ∙ at.leads) in
-    let below : nat_lt old.mores (mores_allowed s.config t.node t.provide) ≡ true =
-    sym (map_or_at (λ (u : Service). nat_lt u.mores (mores_allowed s.config t.node t.provide)) (service s t.node) false old at.serviced)
-    ∙ sym (map_or_at (λ (y : Target). option_map_or (λ (u : Service). nat_lt u.mores (mores_allowed s.config y.node y.provide)) (service s y.node) false) (target s.config p) false t at.leads)
+more_no_give : (p : ℕ) (e : Event) → is_more_at p e ≡ true → is_give_at p e ≡ false
+more_no_give p (More q k v) h = refl
+more_no_give p _ h = absurd (both_ways false refl h)
+
+-- what is in a phase after the event
+module _ (s : State) (p : ℕ) (e : Event) where
+  phase_now : (f : Phase → Bool) (x : Exchange) → exchange (effect s e) p ≡ x → f (exchange (effect s e) p).phase ≡ f x.phase
+  phase_now f x now = ap (λ (y : Exchange). f y.phase) now
+
+  not_now : (f : Phase → Bool) (x : Exchange) → exchange (effect s e) p ≡ x → f x.phase ≡ false → f (exchange (effect s e) p).phase ≡ true → ⊥
+  not_now f x now no_ yes_ = both_ways (f x.phase) no_ (sym (phase_now f x now) ∙ yes_)
+
+module _ (s : State) (e : Event) (w : IsWellFormed s) (c : IsConsistent s) (l : Legal s e) where
+  target_stays : (p : ℕ) → is_idle (exchange s p).phase ≡ false → target (effect s e).config p ≡ target s.config p
+  target_stays p busy = busy_ports_stay s e w c l p busy
+
+  links_on : (p : ℕ) → is_idle (exchange s p).phase ≡ false → is_linked (effect s e).config p ≡ true
+  links_on p busy = ap (λ o. is_some o) (target_stays p busy) ∙ c.linked p busy
+
+  linked_next : (p : ℕ) → is_idle (exchange (effect s e) p).phase ≡ false → is_linked (effect s e).config p ≡ true
+  linked_next p busy = by (turn_of s e w l p)
+    where
+      by : Turn s p e → is_linked (effect s e).config p ≡ true
+      by (passes now g m) = links_on p (sym (phase_now s p e is_idle _ now) ∙ busy)
+      by (starts h) = ap (λ d. is_linked d p) h.same ∙ h.linked
+      by (gives v t g now) = links_on p (taken_busy s p c t)
+      by (replies v t m now) = links_on p (taken_busy s p c t)
+      by (asks v m a g now) = links_on p (more_busy (exchange s p).phase m)
+      by (ends a d now) = absurd (both_ways (is_idle (exchange (effect s e) p).phase) busy (phase_now s p e is_idle _ now))
+
+  taken_next : (p : ℕ) → is_in_more (exchange (effect s e) p).phase ≡ true → is_taken (effect s e) p ≡ true
+  taken_next p more_ = by (turn_of s e w l p)
+    where
+      by : Turn s p e → is_taken (effect s e) p ≡ true
+      by (passes now g m) = taken_ports_stay s e w c l p (c.taken p (sym (phase_now s p e is_in_more _ now) ∙ more_)) g
+      by (starts h) = absurd (not_now s p e is_in_more _ h.now refl more_)
+      by (gives v t g now) = absurd (not_now s p e is_in_more _ now refl more_)
+      by (replies v t m now) = taken_ports_stay s e w c l p t (more_no_give p e m)
+      by (asks v m a g now) = absurd (not_now s p e is_in_more _ now refl more_)
+      by (ends a d now) = absurd (not_now s p e is_in_more _ now refl more_)
+
+  -- ---- services
+
+  -- the node that services a port was made, and keeps its kind
+  server_made : (n : ℕ) (v : Service) → service s n ≡ Some v → n < length s.config.slots
+  server_made n v serves =
+      let it = c.serving n v serves in
+      live_made s.config n (w.sound.targets v.port (record { node = n; provide = it.provide }) it.linked).live
+
+  -- its port is asked or in more still
+  served_still : (n : ℕ) (u : Service) → service s n ≡ Some u → is_give_at u.port e ≡ false → (is_asked (exchange (effect s e) u.port).phase || is_in_more (exchange (effect s e) u.port).phase) ≡ true
+  served_still n u serves no_give = by (turn_of s e w l u.port)
+    where
+      old : (is_asked (exchange s u.port).phase || is_in_more (exchange s u.port).phase) ≡ true
+      old = (c.serving n u serves).busy
+
+      by : Turn s u.port e → (is_asked (exchange (effect s e) u.port).phase || is_in_more (exchange (effect s e) u.port).phase) ≡ true
+      by (passes now g m) = phase_now s u.port e (λ f. is_asked f || is_in_more f) _ now ∙ old
+      by (starts h) = absurd (idle_unserved s u.port c h.idle n u serves refl)
+      by (gives v t g now) = absurd (both_ways (is_give_at u.port e) no_give g)
+      by (replies v t m now) = phase_now s u.port e (λ f. is_asked f || is_in_more f) _ now
+      by (asks v m a g now) = phase_now s u.port e (λ f. is_asked f || is_in_more f) _ now
+      by (ends a d now) = absurd (serving_unanswered (exchange s u.port).phase old a)
+
+  -- a service that stays at its port, with calls and replies within bounds
+  serving_on : (n : ℕ) (u v : Service) (serves : service s n ≡ Some u) → v.port ≡ u.port → is_give_at u.port e ≡ false
+      → ((x : ℕ) → target s.config u.port ≡ Some (record { node = n; provide = x }) → (v.calls ≤ calls_allowed s.config n x) × (v.mores ≤ mores_allowed s.config n x))
+      → (is_in_more (exchange (effect s e) u.port).phase ≡ true → v.heard ≡ false) → IsServing (effect s e) n v
+  serving_on n u v serves same no_give few waits =
+      let old = c.serving n u serves in
+      let bounds = few old.provide old.linked in
+      let kinds : (f : Kind → ℕ) → option_map_or (λ (m : Slot). f m.node.kind) (slot (effect s e).config n) 0 ≡ option_map_or (λ (m : Slot). f m.node.kind) (slot s.config n) 0 =
+      λ f. kind_kept s.config (effect s e).config e (reconfigured s e l) n f 0 (server_made n u serves) in
+      record {
+        provide = old.provide;
+        linked = ap (λ i. target (effect s e).config i) same ∙ target_stays u.port (serving_busy (exchange s u.port).phase old.busy) ∙ old.linked;
+        busy = ap (λ i. is_asked (exchange (effect s e) i).phase || is_in_more (exchange (effect s e) i).phase) same ∙ served_still n u serves no_give;
+        waits = λ h. waits (ap (λ i. is_in_more (exchange (effect s e) i).phase) (sym same) ∙ h);
+        calls = subst (λ i. v.calls ≤ i) (sym (kinds (λ k. calls_of k old.provide))) bounds.0;
+        mores = subst (λ i. v.mores ≤ i) (sym (kinds (λ k. mores_of k old.provide))) bounds.1;
+      }
+
+  -- it waits as before, where no reply is sent
+  waits_on : (n : ℕ) (u : Service) → service s n ≡ Some u → is_give_at u.port e ≡ false → is_more_at u.port e ≡ false → is_in_more (exchange (effect s e) u.port).phase ≡ true → u.heard ≡ false
+  waits_on n u serves no_give no_more more_ = by (turn_of s e w l u.port)
+    where
+      by : Turn s u.port e → u.heard ≡ false
+      by (passes now g m) = (c.serving n u serves).waits (sym (phase_now s u.port e is_in_more _ now) ∙ more_)
+      by (starts h) = absurd (not_now s u.port e is_in_more _ h.now refl more_)
+      by (gives v t g now) = absurd (not_now s u.port e is_in_more _ now refl more_)
+      by (replies v t m now) = absurd (both_ways (is_more_at u.port e) no_more m)
+      by (asks v m a g now) = absurd (not_now s u.port e is_in_more _ now refl more_)
+      by (ends a d now) = absurd (not_now s u.port e is_in_more _ now refl more_)
+
+  -- as it was
+  bounds_on : (n : ℕ) (u : Service) → service s n ≡ Some u → (x : ℕ) → target s.config u.port ≡ Some (record { node = n; provide = x }) → (u.calls ≤ calls_allowed s.config n x) × (u.mores ≤ mores_allowed s.config n x)
+  bounds_on n u serves x leads =
+      let old = c.serving n u serves in
+      let one : old.provide ≡ x = ap (λ o. option_map_or (λ (y : Target). y.provide) o 0) (sym old.linked ∙ leads) in
+      (subst (λ i. u.calls ≤ calls_allowed s.config n i) one old.calls, subst (λ i. u.mores ≤ mores_allowed s.config n i) one old.mores)
+
+  unchanged : (n : ℕ) (u : Service) → service s n ≡ Some u → is_give_at u.port e ≡ false → is_more_at u.port e ≡ false → IsServing (effect s e) n u
+  unchanged n u serves no_give no_more = serving_on n u u serves refl no_give (bounds_on n u serves) (waits_on n u serves no_give no_more)
+
+-- the node that does a target's event is where the port leads
+led : (s : State) (q n : ℕ) → option_map_or (λ m. m == n) (option_map (λ (t : Target). t.node) (target s.config q)) false ≡ true → (x : ℕ) × (target s.config q ≡ Some (record { node = n; provide = x }))
+led s q n h = at (target s.config q) h
+  where
+    at : (o : Option Target) → option_map_or (λ m. m == n) (option_map (λ (t : Target). t.node) o) false ≡ true → (x : ℕ) × (o ≡ Some (record { node = n; provide = x }))
+    at None h = absurd (both_ways false refl h)
+    at (Some t) h = (t.provide, ap (λ i. Some (record { node = i; provide = t.provide })) (eqb-true t.node n h))
+
+-- what a call counts is within bounds
+called_on : (s : State) (e : Event) (w : IsWellFormed s) (c : IsConsistent s) (l : Legal s e) (n : ℕ) (v : Service) → has_calls_left s n ≡ true → ((r : ℕ) → is_give_at r e ≡ false) → ((r : ℕ) → is_more_at r e ≡ false)
+    → option_map (λ (u : Service). record u { calls = u.calls + 1 }) (service s n) ≡ Some v → IsServing (effect s e) n v
+called_on s e w c l n v left no_give no_more is =
+    let u = option_map_some (λ (u : Service). record u { calls = u.calls + 1 }) (service s n) v is in
+    subst (λ y. IsServing (effect s e) n y) u.2
+    (serving_on s e w c l n u.0 (record u.0 { calls = u.0.calls + 1 }) u.1 refl (no_give u.0.port) (λ x leads.
+    let below : nat_lt u.0.calls (calls_allowed s.config n (provision s.config u.0.port)) ≡ true =
+    sym (map_or_at (λ (u : Service). nat_lt u.calls (calls_allowed s.config n (provision s.config u.port))) (service s n) false u.0 u.1) ∙ left in
+    let few : u.0.calls < calls_allowed s.config n x =
+    subst (λ i. u.0.calls < calls_allowed s.config n i) (provision_is s.config u.0.port n x leads) (ltb-true u.0.calls (calls_allowed s.config n (provision s.config u.0.port)) below) in
+    (omega (arith, few), (bounds_on s e w c l n u.0 u.1 x leads).1))
+    (waits_on s e w c l n u.0 u.1 (no_give u.0.port) (no_more u.0.port)))
+
+-- where the node does the event
+serving_by_own : (s : State) (e : Event) (w : IsWellFormed s) (c : IsConsistent s) (l : Legal s e) (n : ℕ) (v : Service) → is_doer s n e ≡ true → service_by (service s n) e ≡ Some v → IsServing (effect s e) n v
+serving_by_own s (Begin q k j) w c l n v does is = unchanged s (Begin q k j) w c l n v is refl refl
+serving_by_own s (Ask q k j) w c l n v does is = unchanged s (Ask q k j) w c l n v is refl refl
+serving_by_own s (End q k j) w c l n v does is = unchanged s (End q k j) w c l n v is refl refl
+serving_by_own s (Call q k j) w c l n v does is =
+    called_on s (Call q k j) w c l n v (ap (λ i. has_calls_left s i) (sym (eqb-true (owner s.config q) n does)) ∙ l.calls_left) (λ r. refl) (λ r. refl) is
+serving_by_own s (Miss q) w c l n v does is =
+    called_on s (Miss q) w c l n v (ap (λ i. has_calls_left s i) (sym (eqb-true (owner s.config q) n does)) ∙ l.calls_left) (λ r. refl) (λ r. refl) is
+serving_by_own s (Take q k j) w c l n v does is =
+    let leads = led s q n does in
+    subst (λ y. IsServing (effect s (Take q k j)) n y) (same_Some _ v is) (record {
+      provide = leads.0;
+      linked = leads.1;
+      busy = or_left (is_asked (exchange s q).phase) (is_in_more (exchange s q).phase) l.asked;
+      waits = λ h. absurd (both_ways (is_in_more (exchange s q).phase) (asked_not_more (exchange s q).phase l.asked) h);
+      calls = omega arith;
+      mores = omega arith;
+    })
+serving_by_own s (Give q k j) w c l n v does is = absurd (cc)
+serving_by_own s (More q k j) w c l n v does is =
+    let u = option_map_some (λ (u : Service). record u { mores = u.mores + 1; heard = false }) (service s n) v is in
+    let at = taken_is s q l.taken in
+    let one : u.0 ≡ at.serving = same_Some u.0 at.serving (sym u.1 ∙ sym (served_there s q n does) ∙ target_service_is s q at.to at.leads ∙ at.serviced) in
+    let of_port : u.0.port ≡ q = ap (λ (y : Service). y.port) one ∙ at.of_port in
+    subst (λ y. IsServing (effect s (More q k j)) n y) u.2
+    (serving_on s (More q k j) w c l n u.0 (record u.0 { mores = u.0.mores + 1; heard = false }) u.1 refl refl (λ x leads.
+    let here : target s.config q ≡ Some (record { node = n; provide = x }) = ap (λ i. target s.config i) (sym of_port) ∙ leads in
+    let below : nat_lt u.0.mores (mores_allowed s.config n x) ≡ true =
+    sym (map_or_at (λ (u : Service). nat_lt u.mores (mores_allowed s.config n x)) (service s n) false u.0 u.1)
+    ∙ sym (map_or_at (λ (y : Target). option_map_or (λ (u : Service). nat_lt u.mores (mores_allowed s.config y.node y.provide)) (service s y.node) false) (target s.config q) false (record { node = n; provide = x }) here)
     ∙ l.mores_left in
-    let few : old.mores < mores_allowed s.config t.node mine.provide =
-    subst (λ i. old.mores < mores_allowed s.config t.node i) (sym provide) (ltb-true old.mores (mores_allowed s.config t.node t.provide) below) in
-    let at_port : exchange s' old.port ≡ x = ap (λ i. exchange s' i) at.of_port ∙ here in
-    let result : IsConsistent s' = steps s s' p t.node c (record { config = refl; exchanges = elsewhere; services = there }) (record {
-      linked = λ h. c.linked p busy;
-      serving = λ u e.
-          let one : new ≡ u = cc (now, e) in
-          subst (λ y. IsServing s' t.node y) one (record {
-            provide = mine.provide;
-            linked = mine.linked;
-            busy = ap (λ (y : Exchange). is_asked y.phase || is_in_more y.phase) at_port;
-            waits = λ h. refl;
-            calls = mine.calls;
-            mores = omega (arith, few);
-          });
-      others = λ m u ne e same. absurd (ne (only_target s p t c at.leads m u e same));
-      taken = λ h. is_taken_if s' p t new at.leads now at.of_port;
-      others_taken = λ q ne h. taken_kept s s' t.node old new refl there at.serviced now refl q h;
-      consequent = λ r e.
-          let before = c.consequent p r (sym (ap (λ (y : Exchange). y.within) here) ∙ e) in
-          consequent_kept s s' t.node old new refl there at.serviced now refl p r (ap (λ (y : Exchange). is_idle y.phase) here) before;
-      others_consequent = λ q r ne e h. consequent_kept s s' t.node old new refl there at.serviced now refl q r (busy_there s s' q r (elsewhere q ne) h) h;
-    }) in
-    let put : with_target_service s p (option_map (λ (u : Service). record u { mores = u.mores + 1; heard = false }) (target_service s p)) ≡ with_service s t.node (Some new) =
-    ap (λ o. with_target_service s p (option_map (λ (u : Service). record u { mores = u.mores + 1; heard = false }) o)) (target_service_is s p t at.leads ∙ at.serviced) ∙ put_is s p t (Some new) at.leads in
-    subst (λ y. IsConsistent (with_exchange y p (record (exchange s p) { phase = phase.More; value = v }))) (sym put) result
+    ((bounds_on s (More q k j) w c l n u.0 u.1 x leads).0, omega (arith, ltb-true u.0.mores (mores_allowed s.config n x) below)))
+    (λ h. refl))
+serving_by_own s (Hear q k j) w c l n v does is =
+    let u = option_map_some (λ (u : Service). record u { heard = true }) (service s n) v is in
+    let at = taken_is s q l.taken in
+    let one : u.0 ≡ at.serving = same_Some u.0 at.serving (sym u.1 ∙ sym (served_there s q n does) ∙ target_service_is s q at.to at.leads ∙ at.serviced) in
+    let of_port : u.0.port ≡ q = ap (λ (y : Service). y.port) one ∙ at.of_port in
+    subst (λ y. IsServing (effect s (Hear q k j)) n y) u.2
+    (serving_on s (Hear q k j) w c l n u.0 (record u.0 { heard = true }) u.1 refl refl (bounds_on s (Hear q k j) w c l n u.0 u.1)
+    (λ h. absurd (both_ways (is_in_more (exchange s q).phase) (asked_not_more (exchange s q).phase l.asked) (ap (λ i. is_in_more (exchange s i).phase) (sym of_port) ∙ h))))
+serving_by_own s (Close q) w c l n v does is = absurd (both_ways false refl does)
+serving_by_own s (Reopen q) w c l n v does is = absurd (both_ways false refl does)
+serving_by_own s (Make m node from) w c l n v does is = absurd (both_ways false refl does)
+serving_by_own s (Link q m x) w c l n v does is = absurd (both_ways false refl does)
+serving_by_own s (Unlink q) w c l n v does is = absurd (both_ways false refl does)
+serving_by_own s (Remove m) w c l n v does is = absurd (both_ways false refl does)
 
-give_consistent : (s : State) (p k v : ℕ) → IsWellFormed s → IsConsistent s → Legal s (Give p k v) → IsConsistent (effect s (Give p k v))
-give_consistent s p k v w c l =
-    let at = taken_is s p l.taken in
-    let t = at.to in
-    let old = at.serving in
-    let x : Exchange = record (exchange s p) { phase = phase.Answered; value = v } in
-    let s' : State = with_exchange (with_service s t.node None) p x in
-    let here : exchange s' p ≡ x = exchange_here (with_service s t.node None) p x (exchange_place s p w l.live) in
-    let now : service s' t.node ≡ None = service_here s t.node None (target_place s p t w at.leads) in
-    let there : (m : ℕ) → (m ≡ t.node → ⊥) → service s' m ≡ service s m = λ m ne. service_there s t.node m None ne in
-    let elsewhere : (q : ℕ) → (q ≡ p → ⊥) → exchange s' q ≡ exchange s q = λ q ne. exchange_there (with_service s t.node None) p q x ne in
-    let mine = c.serving t.node old at.serviced in
-    let busy : is_idle (exchange s p).phase ≡ false = sym (ap (λ i. is_idle (exchange s i).phase) at.of_port) ∙ serving_busy (exchange s old.port).phase mine.busy in
-    -- no call of this service is left
-    let not_mine : (q r : ℕ) → (exchange s q).within ≡ Some r → IsConsequent s q r → owner s.config q ≡ t.node → ⊥ = λ q r e h same.
-    let one : old ≡ h.serving = cc (at.serviced, h.serviced, ap (λ i. service s i) same) in
-    let of_p : r ≡ p = sym h.of_port ∙ sym (ap (λ (u : Service). u.port) one) ∙ at.of_port in
-    let made : q < length s.traffic.exchanges = within_made s q r e in
-    let owned = subst (λ i. IsPortOf s.config i q) same (w.sound.ports q (omega (arith, made, w.exchanges))) in
-    let ended : not (is_called_within s p q) ≡ true =
-    all_of s.config t.node (λ i. not (is_called_within s p i)) q
-    (sym (map_or_at (λ (y : Target). list_all (λ i. not (is_called_within s p i)) (ports_of s.config y.node)) (target s.config p) true t at.leads) ∙ l.calls_ended) owned in
-    let called : is_called_within s p q ≡ true = map_or_at (λ i. i == p) (exchange s q).within false r e ∙ eq-eqb r p of_p in
-    both_ways (is_called_within s p q) (not-true (is_called_within s p q) ended) called in
-    let result : IsConsistent s' = steps s s' p t.node c (record { config = refl; exchanges = elsewhere; services = there }) (record {
-      linked = λ h. c.linked p busy;
-      serving = λ u e. absurd (cc (now, e));
-      others = λ m u ne e same. absurd (ne (only_target s p t c at.leads m u e same));
-      taken = λ h. absurd (both_ways false refl (sym (ap (λ (y : Exchange). is_in_more y.phase) here) ∙ h));
-      others_taken = λ q ne h.
-          let u = taken_is s q h in
-          is_taken_if s' q u.to u.serving u.leads
-          (there u.to.node (λ same.
-          let one : old ≡ u.serving = cc (at.serviced, u.serviced, ap (λ i. service s i) same) in
-          ne (sym u.of_port ∙ sym (ap (λ (y : Service). y.port) one) ∙ at.of_port)) ∙ u.serviced) u.of_port;
-      consequent = λ r e.
-          let within : (exchange s p).within ≡ Some r = sym (ap (λ (y : Exchange). y.within) here) ∙ e in
-          let h = c.consequent p r within in
-          consequent_stays s s' p r h.serving refl (ap (λ (y : Exchange). is_idle y.phase) here) (there (owner s.config p) (not_mine p r within h) ∙ h.serviced) h.of_port h;
-      others_consequent = λ q r ne e h.
-          consequent_stays s s' q r h.serving refl (busy_there s s' q r (elsewhere q ne) h) (there (owner s.config q) (not_mine q r e h) ∙ h.serviced) h.of_port h;
-    }) in
-    subst (λ y. IsConsistent (with_exchange y p (record (exchange s p) { phase = phase.Answered; value = v }))) (sym (put_is s p t None at.leads)) result
+serving_next : (s : State) (e : Event) → IsWellFormed s → IsConsistent s → Legal s e → (n : ℕ) (v : Service) → service (effect s e) n ≡ Some v → IsServing (effect s e) n v
+serving_next s e w c l n v is = by (is_doer s n e) refl (sym (services_next s e w l n) ∙ is)
   where
-    within_made : (s : State) (q r : ℕ) → (exchange s q).within ≡ Some r → q < length s.traffic.exchanges
-    within_made s q r e = ⊎_elim (λ (h : q < length s.traffic.exchanges). h)
-        (λ (past : length s.traffic.exchanges ≤ q).
-        let none_ : (exchange s q).within ≡ None = ap (λ (y : Exchange). y.within) (get_or_past s.traffic.exchanges q fresh_exchange past) in absurd (cc (none_, e)))
-        (cases_lt q (length s.traffic.exchanges))
+    by : (b : Bool) → is_doer s n e ≡ b → service_next s n e ≡ Some v → IsServing (effect s e) n v
+    by true does h = serving_by_own s e w c l n v does (sym (ap (λ b. cond b (service_by (service s n) e) (service s n)) does) ∙ h)
+    by false other h =
+        let serves : service s n ≡ Some v = sym (ap (λ b. cond b (service_by (service s n) e) (service s n)) other) ∙ h in
+        let none_ = replies_are_of_servers s e c n v serves other in
+        unchanged s e w c l n v serves none_.0 none_.1
 
--- a gate is put at port p, which leads elsewhere only where the port is idle
-regated : (s : State) (p : ℕ) (g : Gate) (made : p < length s.config.gates) (same_owner : g.owner ≡ owner s.config p) (same_require : g.require ≡ (gate s.config p).require)
-    → (is_idle (exchange s p).phase ≡ false → g.target ≡ target s.config p) → is_live s.config (owner s.config p) ≡ true → IsConsistent s
-    → IsConsistent (record s { config = with_gate s.config p g })
-regated s p g made same_owner same_require busy_target live k =
-    let d = with_gate s.config p g in
-    let s' : State = record s { config = with_gate s.config p g } in
-    let leads : (q : ℕ) → is_idle (exchange s q).phase ≡ false → target d q ≡ target s.config q = λ q busy. ⊎_elim
-    (λ (same : q ≡ p).
-    ap (λ i. target d i) same ∙ ap (λ (h : Gate). h.target) (put_here s.config p g made same_owner same_require)
-    ∙ busy_target (sym (ap (λ i. is_idle (exchange s i).phase) same) ∙ busy) ∙ sym (ap (λ i. target s.config i) same))
-    (λ (other : q ≡ p → ⊥). ap (λ (h : Gate). h.target) (put_elsewhere s.config p g made same_owner same_require q other))
-    (cases_eq q p) in
-    let owns : (q : ℕ) → owner d q ≡ owner s.config q = λ q. put_owner s.config p g made same_owner same_require q in
-    record {
-      linked = λ q h. ap (λ o. is_some o) (leads q h) ∙ k.linked q h;
-      serving = λ m v e.
-          let old = k.serving m v e in record {
-            provide = old.provide;
-            linked = leads v.port (serving_busy (exchange s v.port).phase old.busy) ∙ old.linked;
-            busy = old.busy;
-            waits = old.waits;
-            calls = old.calls;
-            mores = old.mores;
-          };
-      taken = λ q h.
-          let u = taken_is s q (k.taken q h) in
-          is_taken_if s' q u.to u.serving (leads q (more_busy (exchange s q).phase h) ∙ u.leads) u.serviced u.of_port;
-      consequent = λ q r e.
-          let old = k.consequent q r e in
-          let theirs = k.serving (owner s.config q) old.serving old.serviced in
-          let busy_r : is_idle (exchange s r).phase ≡ false = sym (ap (λ i. is_idle (exchange s i).phase) old.of_port) ∙ serving_busy (exchange s old.serving.port).phase theirs.busy in
-          let by : provision d r ≡ provision s.config r = ap (λ o. option_map_or (λ (t : Target). t.provide) o 0) (leads r busy_r) in
-          record {
-            busy = old.busy;
-            serving = old.serving;
-            serviced = ap (λ i. service s i) (owns q) ∙ old.serviced;
-            of_port = old.of_port;
-            depends_on =
-                ap (λ i. option_map_or (λ (m : Slot). depends_on m.node.kind (provision d r) (gate d q).require) (slot s.config i) false) (owns q)
-                ∙ ap (λ i. option_map_or (λ (m : Slot). depends_on m.node.kind i (gate d q).require) (slot s.config (owner s.config q)) false) by
-                ∙ ap (λ i. option_map_or (λ (m : Slot). depends_on m.node.kind (provision s.config r) i) (slot s.config (owner s.config q)) false) (put_require s.config p g made same_owner same_require q)
-                ∙ old.depends_on;
-          };
-      removed = λ q h.
-          let gone : is_live s.config (owner s.config q) ≡ false = sym (ap (λ i. is_live s.config i) (owns q)) ∙ h in ⊎_elim
-          (λ (same : q ≡ p). absurd (both_ways (is_live s.config (owner s.config p)) (sym (ap (λ i. is_live s.config (owner s.config i)) same) ∙ gone) live))
-          (λ (other : q ≡ p → ⊥).
-          let here = put_elsewhere s.config p g made same_owner same_require q other in
-          let old = k.removed q gone in
-          (ap (λ (h : Gate). h.closed) here ∙ old.0, ap (λ (h : Gate). h.target) here ∙ old.1))
-          (cases_eq q p);
-    }
+-- ---- consequent transactions
 
-live_owner : (s : State) (p : ℕ) → is_live_port s.config p ≡ true → is_live s.config (owner s.config p) ≡ true
-live_owner s p h = (and_parts (nat_lt p (length s.config.gates)) (is_live s.config (owner s.config p)) h).1
+linked_at_made : (s : State) (p : ℕ) → is_linked s.config p ≡ true → p < length s.config.gates
+linked_at_made s p h = let t = Some-from_is_some (target s.config p) h in linked_made s.config p t.0 t.1
 
-turned_consistent : (s : State) (p : ℕ) (b : Bool) → is_live_port s.config p ≡ true → IsConsistent s → IsConsistent (record s { config = with_closed s.config p b })
-turned_consistent s p b live k = regated s p (record (gate s.config p) { closed = b }) (gate_place s p live) refl refl (λ h. refl) (live_owner s p live) k
+-- what is given has no call left
+given_ended : (s : State) (e : Event) → IsWellFormed s → IsConsistent s → Legal s e → (p q : ℕ) → (exchange s p).within ≡ Some q → is_give_at q e ≡ false
+given_ended s (Give r k j) w c l p q within = false_from_ne_true (r == q) (λ h.
+    let same : r ≡ q = eqb-true r q h in
+    let at = taken_is s r l.taken in
+    let it = c.consequent p q within in
+    let mine : owner s.config p ≡ at.to.node =
+    only_target s r at.to c at.leads (owner s.config p) it.serving it.serviced (it.of_port ∙ sym same) in
+    let made : p < length s.config.gates = busy_made s p c it.busy in
+    let owned = subst (λ i. IsPortOf s.config i p) mine (w.sound.ports p made) in
+    let ended : not (is_called_within s r p) ≡ true =
+    all_of s.config at.to.node (λ i. not (is_called_within s r i)) p
+    (sym (map_or_at (λ (y : Target). list_all (λ i. not (is_called_within s r i)) (ports_of s.config y.node)) (target s.config r) true at.to at.leads) ∙ l.calls_ended) owned in
+    both_ways (is_called_within s r p) (not-true (is_called_within s r p) ended) (map_or_at (λ i. i == r) (exchange s p).within false q within ∙ eq-eqb q r (sym same)))
+given_ended s _ w c l p q within = refl
 
--- a port of a settled node is idle
-settled_idle : (s : State) (n p : ℕ) → is_settled s n ≡ true → IsPortOf s.config n p → is_quiet s p ≡ true
-settled_idle s n p h owned =
-    let a = and_parts (is_live s.config n && list_all (λ p. is_quiet s p) (ports_of s.config n) && is_none (service s n))
-    (list_all (λ p. is_quiet s p || not (reaches s.config n p)) (range_with_len 0 (length s.config.gates))) h in
-    let b = and_parts (is_live s.config n && list_all (λ p. is_quiet s p) (ports_of s.config n)) (is_none (service s n)) a.0 in
-    all_of s.config n (λ p. is_quiet s p) p (and_parts (is_live s.config n) (list_all (λ p. is_quiet s p) (ports_of s.config n)) b.0).1 owned
+module _ (s : State) (e : Event) (w : IsWellFormed s) (c : IsConsistent s) (l : Legal s e) where
+  -- it belongs to the service as before
+  belongs_on : (p q : ℕ) → p < length s.config.gates → is_idle (exchange (effect s e) p).phase ≡ false → (v : Service) → service s (owner s.config p) ≡ Some v → v.port ≡ q
+      → depends s.config (owner s.config p) (provision s.config q) p ≡ true → is_give_at q e ≡ false → IsConsequent (effect s e) p q
+  belongs_on p q made busy v serves of_port dep no_give =
+      let r = reconfigured s e l in
+      let owns : owner (effect s e).config p ≡ owner s.config p = owner_kept s.config (effect s e).config e r p made in
+      let on = serves_on s e c l (owner s.config p) v serves (ap (λ i. is_give_at i e) of_port ∙ no_give) in
+      let it = c.serving (owner s.config p) v serves in
+      let busy_q : is_idle (exchange s q).phase ≡ false = ap (λ i. is_idle (exchange s i).phase) (sym of_port) ∙ serving_busy (exchange s v.port).phase it.busy in
+      let by : provision (effect s e).config q ≡ provision s.config q = ap (λ o. option_map_or (λ (t : Target). t.provide) o 0) (busy_ports_stay s e w c l q busy_q) in
+      record {
+        busy = busy;
+        serving = on.0;
+        serviced = ap (λ i. service (effect s e) i) owns ∙ services_next s e w l (owner s.config p) ∙ on.1;
+        of_port = on.2 ∙ of_port;
+        depends_on =
+            ap (λ i. depends (effect s e).config i (provision (effect s e).config q) p) owns
+            ∙ ap (λ x. depends (effect s e).config (owner s.config p) x p) by
+            ∙ ap (λ i. option_map_or (λ (m : Slot). depends_on m.node.kind (provision s.config q) i) (slot (effect s e).config (owner s.config p)) false) (require_kept s.config (effect s e).config e r p made)
+            ∙ kind_kept s.config (effect s e).config e r (owner s.config p) (λ k. depends_on k (provision s.config q) (gate s.config p).require) false (server_made s e w c l (owner s.config p) v serves)
+            ∙ dep;
+      }
 
-relinked_consistent : (s : State) (p : ℕ) (t : Option Target) → is_live_port s.config p ≡ true → is_settled s (owner s.config p) ≡ true → IsWellFormed s → IsConsistent s
-    → IsConsistent (record s { config = with_target s.config p t })
-relinked_consistent s p t live settled w k =
-    let made = gate_place s p live in
-    let quiet = settled_idle s (owner s.config p) p settled (w.sound.ports p made) in
-    let idle : is_idle (exchange s p).phase ≡ true = (and_parts (gate s.config p).closed (is_idle (exchange s p).phase) quiet).1 in
-    regated s p (record (gate s.config p) { target = t }) made refl refl (λ h. absurd (both_ways (is_idle (exchange s p).phase) h idle)) (live_owner s p live) k
+  consequent_on : (p q : ℕ) → (exchange s p).within ≡ Some q → is_idle (exchange (effect s e) p).phase ≡ false → IsConsequent (effect s e) p q
+  consequent_on p q within busy =
+      let old = c.consequent p q within in
+      belongs_on p q (busy_made s p c old.busy) busy old.serving old.serviced old.of_port old.depends_on (given_ended s e w c l p q within)
 
-remove_consistent : (s : State) (n : ℕ) → IsWellFormed s → IsConsistent s → Legal s (Remove n) → IsConsistent (effect s (Remove n))
-remove_consistent s n w k l =
-    let m = map_or_true (λ (m : Slot). m.live) (slot s.config n) l.live in
-    let old = m.0 in
-    let d : Configuration = record s.config { slots = set s.config.slots n (record old { live = false }) } in
-    let s' : State = record s { config = d } in
-    let result : IsConsistent s' = record {
-      linked = λ q h. k.linked q h;
-      serving = λ j v e.
-          let before = k.serving j v e in record {
-            provide = before.provide;
-            linked = before.linked;
-            busy = before.busy;
-            waits = before.waits;
-            calls = subst (λ i. v.calls ≤ i) (sym (kind_stays s.config n old m.1 (λ (x : Slot). calls_of x.node.kind before.provide) 0 refl j)) before.calls;
-            mores = subst (λ i. v.mores ≤ i) (sym (kind_stays s.config n old m.1 (λ (x : Slot). mores_of x.node.kind before.provide) 0 refl j)) before.mores;
-          };
-      taken = λ q h. k.taken q h;
-      consequent = λ q r e.
-          let before = k.consequent q r e in record {
-            busy = before.busy;
-            serving = before.serving;
-            serviced = before.serviced;
-            of_port = before.of_port;
-            depends_on =
-                kind_stays s.config n old m.1 (λ (x : Slot). depends_on x.node.kind (provision s.config r) (gate s.config q).require) false refl (owner s.config q) ∙ before.depends_on;
-          };
-      removed = λ q h. ⊎_elim
-          (λ (mine : owner s.config q ≡ n). ⊎_elim
-          (λ (made : q < length s.config.gates).
-          let owned = subst (λ i. IsPortOf s.config i q) mine (w.sound.ports q made) in
-          let quiet = settled_idle s n q l.settled owned in
-          let apart = (and_parts (list_all (λ p. is_none (target s.config p)) (ports_of s.config n))
-          (list_all (λ p. option_map_or (λ (t : Target). not (t.node == n)) (target s.config p) true) (range_with_len 0 (length s.config.gates))) l.apart).0 in
-          ((and_parts (gate s.config q).closed (is_idle (exchange s q).phase) quiet).0, no_target (target s.config q) (all_of s.config n (λ p. is_none (target s.config p)) q apart owned)))
-          (λ (past : length s.config.gates ≤ q).
-          let fresh = get_or_past s.config.gates q fresh_gate past in (ap (λ (g : Gate). g.closed) fresh, ap (λ (g : Gate). g.target) fresh))
-          (cases_lt q (length s.config.gates)))
-          (λ (other : owner s.config q ≡ n → ⊥).
-          k.removed q (sym (ap (λ o. option_map_or (λ (x : Slot). x.live) o false) (slot_elsewhere s.config n old m.1 (owner s.config q) other)) ∙ h))
-          (cases_eq (owner s.config q) n);
-    } in
-    subst (λ o. IsConsistent (record s { config = record s.config { slots = option_map_or (λ (x : Slot). set s.config.slots n (record x { live = false })) o s.config.slots } })) (sym m.1) result
+  consequent_next : (p q : ℕ) → (exchange (effect s e) p).within ≡ Some q → IsConsequent (effect s e) p q
+  consequent_next p q is = by (turn_of s e w l p)
+    where
+      before : (x : Exchange) → exchange (effect s e) p ≡ x → x.within ≡ Some q
+      before x now = sym (ap (λ (y : Exchange). y.within) now) ∙ is
+
+      by : Turn s p e → IsConsequent (effect s e) p q
+      by (passes now g m) = consequent_on p q (before _ now) (phase_now s p e is_idle _ now ∙ (c.consequent p q (before _ now)).busy)
+      by (starts h) = ⊎_elim
+          (λ (root : h.within ≡ None). absurd (cc (before _ h.now, root)))
+          (λ (call : (serves_through s (owner s.config p) p ≡ true) × (h.within ≡ option_map (λ (w : Service). w.port) (service s (owner s.config p)))).
+          let u = option_map_some (λ (w : Service). w.port) (service s (owner s.config p)) q (sym call.1 ∙ before _ h.now) in
+          let dep : depends s.config (owner s.config p) (provision s.config u.0.port) p ≡ true =
+          sym (map_or_at (λ (v : Service). depends s.config (owner s.config p) (provision s.config v.port) p) (service s (owner s.config p)) false u.0 u.1) ∙ call.0 in
+          belongs_on p q (linked_at_made s p h.linked) (phase_now s p e is_idle _ h.now) u.0 u.1 u.2 (ap (λ i. depends s.config (owner s.config p) (provision s.config i) p) (sym u.2) ∙ dep) (h.no_give q))
+          h.belongs
+      by (gives v t g now) = consequent_on p q (before _ now) (phase_now s p e is_idle _ now)
+      by (replies v t m now) = consequent_on p q (before _ now) (phase_now s p e is_idle _ now)
+      by (asks v m a g now) = consequent_on p q (before _ now) (phase_now s p e is_idle _ now)
+      by (ends a d now) = absurd (cc (before _ now))
+
+-- ---- the ports of removed nodes
+
+abbrev IsShut : Configuration → ℕ → Type 0
+IsShut c p = ((gate c p).closed ≡ true) × (target c p ≡ None)
+
+-- a gate of a live node is written, and no other
+shut_put : (s : State) (e : Event) (q p : ℕ) (g : Gate) → IsConsistent s → is_live_port s.config q ≡ true → gate (effect s e).config p ≡ cond (q == p) g (gate s.config p) → g.owner ≡ owner s.config p
+    → ((m : ℕ) → is_live (effect s e).config m ≡ is_live s.config m) → is_live (effect s e).config (owner (effect s e).config p) ≡ false → IsShut (effect s e).config p
+shut_put s e q p g c live now same alive h = by (q == p) refl now
   where
-    no_target : (o : Option Target) → is_none o ≡ true → o ≡ None
-    no_target None h = refl
-    no_target (Some t) h = absurd (both_ways false refl h)
+    by : (b : Bool) → (q == p) ≡ b → gate (effect s e).config p ≡ cond b g (gate s.config p) → IsShut (effect s e).config p
+    by true here now =
+        let owns : owner (effect s e).config p ≡ owner s.config q = ap (λ (y : Gate). y.owner) now ∙ same ∙ ap (λ i. owner s.config i) (sym (eqb-true q p here)) in
+        absurd (both_ways (is_live s.config (owner s.config q)) (sym (alive (owner s.config q)) ∙ ap (λ i. is_live (effect s e).config i) (sym owns) ∙ h)
+        (and_parts (nat_lt q (length s.config.gates)) (is_live s.config (owner s.config q)) live).1)
+    by false there now =
+        let before = c.removed p (sym (alive (owner s.config p)) ∙ ap (λ (y : Gate). is_live (effect s e).config y.owner) (sym now) ∙ h) in
+        (ap (λ (y : Gate). y.closed) now ∙ before.0, ap (λ (y : Gate). y.target) now ∙ before.1)
 
-make_consistent : (s : State) (n : ℕ) (node : Node) (from : Option ℕ) → IsWellFormed s → IsConsistent s → Legal s (Make n node from) → IsConsistent (effect s (Make n node from))
-make_consistent s n node from w k l =
-    let a = and_parts (n == length s.config.slots && nat_lt n 1023) (nat_le (length s.config.gates + length (row node.kind).requires_) 4096) l.room in
-    let b = and_parts (n == length s.config.slots) (nat_lt n 1023) a.0 in
-    let few : length s.config.slots < 1023 = omega (arith, eqb-true n (length s.config.slots) b.0, ltb-true n 1023 b.1) in
-    let room : length s.config.gates + length (row node.kind).requires_ ≤ 4096 = leb-true (length s.config.gates + length (row node.kind).requires_) 4096 a.1 in
-    let d = with_node s.config node from in
-    let s' : State = effect s (Make n node from) in
-    let exchanges : (q : ℕ) → exchange s' q ≡ exchange s q = λ q. fresh_behind s.traffic.exchanges fresh_exchange (length (row node.kind).requires_) q in
-    let services : (m : ℕ) → service s' m ≡ service s m = λ m. fresh_behind s.traffic.services None 1 m in
-    let old_port : (q : ℕ) → q < length s.config.gates → gate d q ≡ gate s.config q = λ q h. old_gate s.config w.sound node from few room q h in
-    -- a busy port was made before
-    let made : (q : ℕ) → is_idle (exchange s q).phase ≡ false → q < length s.config.gates = λ q busy. ⊎_elim (λ (h : q < length s.config.gates). h)
-    (λ (past : length s.config.gates ≤ q).
-    let none_ = get_or_past s.traffic.exchanges q fresh_exchange (omega (arith, past, w.exchanges)) in
-    absurd (both_ways true (sym (ap (λ (y : Exchange). is_idle y.phase) none_) ∙ busy) refl))
-    (cases_lt q (length s.config.gates)) in
-    let leads : (q : ℕ) → is_idle (exchange s q).phase ≡ false → target d q ≡ target s.config q = λ q busy. ap (λ (g : Gate). g.target) (old_port q (made q busy)) in
-    let same_slot : (m : ℕ) → m < length s.config.slots → slot d m ≡ slot s.config m = λ m h. old_slot s.config w.sound node from few room m h in
-    let busy_before : (q : ℕ) → is_idle (exchange s' q).phase ≡ false → is_idle (exchange s q).phase ≡ false = λ q h. sym (ap (λ (y : Exchange). is_idle y.phase) (exchanges q)) ∙ h in
-    record {
-      linked = λ q h. ap (λ o. is_some o) (leads q (busy_before q h)) ∙ k.linked q (busy_before q h);
-      serving = λ m v e.
-          let old = k.serving m v (sym (services m) ∙ e) in
-          let busy = serving_busy (exchange s v.port).phase old.busy in
-          let within : m < length s.config.slots = live_made s.config m (w.sound.targets v.port (record { node = m; provide = old.provide }) old.linked).live in
-          record {
-            provide = old.provide;
-            linked = leads v.port busy ∙ old.linked;
-            busy = ap (λ (y : Exchange). is_asked y.phase || is_in_more y.phase) (exchanges v.port) ∙ old.busy;
-            waits = λ h. old.waits (sym (ap (λ (y : Exchange). is_in_more y.phase) (exchanges v.port)) ∙ h);
-            calls = subst (λ i. v.calls ≤ i) (sym (ap (λ o. option_map_or (λ (x : Slot). calls_of x.node.kind old.provide) o 0) (same_slot m within))) old.calls;
-            mores = subst (λ i. v.mores ≤ i) (sym (ap (λ o. option_map_or (λ (x : Slot). mores_of x.node.kind old.provide) o 0) (same_slot m within))) old.mores;
-          };
-      taken = λ q h.
-          let before : is_in_more (exchange s q).phase ≡ true = sym (ap (λ (y : Exchange). is_in_more y.phase) (exchanges q)) ∙ h in
-          let u = taken_is s q (k.taken q before) in
-          is_taken_if s' q u.to u.serving (leads q (more_busy (exchange s q).phase before) ∙ u.leads) (services u.to.node ∙ u.serviced) u.of_port;
-      consequent = λ q r e.
-          let old = k.consequent q r (sym (ap (λ (y : Exchange). y.within) (exchanges q)) ∙ e) in
-          let here = old_port q (made q old.busy) in
-          let theirs = k.serving (owner s.config q) old.serving old.serviced in
-          let busy_r : is_idle (exchange s r).phase ≡ false = sym (ap (λ i. is_idle (exchange s i).phase) old.of_port) ∙ serving_busy (exchange s old.serving.port).phase theirs.busy in
-          let owned = w.sound.ports q (made q old.busy) in
-          let within : owner s.config q < length s.config.slots = slice_get_within s.config.slots (owner s.config q) owned.node owned.made in
-          record {
-            busy = ap (λ (y : Exchange). is_idle y.phase) (exchanges q) ∙ old.busy;
-            serving = old.serving;
-            serviced = ap (λ (g : Gate). service s' g.owner) here ∙ services (owner s.config q) ∙ old.serviced;
-            of_port = old.of_port;
-            depends_on =
-                ap (λ (g : Gate). option_map_or (λ (x : Slot). depends_on x.node.kind (provision d r) g.require) (slot d g.owner) false) here
-                ∙ ap (λ o. option_map_or (λ (x : Slot). depends_on x.node.kind (provision d r) (gate s.config q).require) o false) (same_slot (owner s.config q) within)
-                ∙ ap (λ o. option_map_or (λ (x : Slot). depends_on x.node.kind (option_map_or (λ (t : Target). t.provide) o 0) (gate s.config q).require) (slot s.config (owner s.config q)) false) (leads r busy_r)
-                ∙ old.depends_on;
-          };
-      removed = λ q h. ⊎_elim
-          (λ (before : q < length s.config.gates).
-          let here = old_port q before in
-          let owned = w.sound.ports q before in
-          let within : owner s.config q < length s.config.slots = slice_get_within s.config.slots (owner s.config q) owned.node owned.made in
-          let gone : is_live s.config (owner s.config q) ≡ false =
-          sym (ap (λ o. option_map_or (λ (x : Slot). x.live) o false) (same_slot (owner s.config q) within)) ∙ sym (ap (λ (g : Gate). is_live d g.owner) here) ∙ h in
-          let old = k.removed q gone in
-          (ap (λ (g : Gate). g.closed) here ∙ old.0, ap (λ (g : Gate). g.target) here ∙ old.1))
-          (λ (past : length s.config.gates ≤ q). ⊎_elim
-          (λ (new_ : q < length s.config.gates + length (row node.kind).requires_).
-          let at : length s.config.gates + (q - length s.config.gates) ≡ q = omega arith in
-          let here = sym (ap (λ i. gate d i) at) ∙ new_gate s.config w.sound node from few room (q - length s.config.gates) (omega arith) in
-          (ap (λ (g : Gate). g.closed) here, ap (λ (g : Gate). g.target) here))
-          (λ (beyond : length s.config.gates + length (row node.kind).requires_ ≤ q).
-          let here = get_or_past d.gates q fresh_gate (omega (arith, grown_length s.config w.sound node from few room)) in
-          (ap (λ (g : Gate). g.closed) here, ap (λ (g : Gate). g.target) here))
-          (cases_lt q (length s.config.gates + length (row node.kind).requires_)))
-          (cases_lt q (length s.config.gates));
-    }
+-- the gate of a port that is not of a live node
+shut_next : (s : State) (e : Event) → IsWellFormed s → IsConsistent s → Legal s e → (p : ℕ) → is_live (effect s e).config (owner (effect s e).config p) ≡ false → IsShut (effect s e).config p
+shut_next s (Begin q k v) w c l p h = c.removed p h
+shut_next s (Call q k v) w c l p h = c.removed p h
+shut_next s (Miss q) w c l p h = c.removed p h
+shut_next s (Take q k v) w c l p h = c.removed p h
+shut_next s (Give q k v) w c l p h = c.removed p h
+shut_next s (More q k v) w c l p h = c.removed p h
+shut_next s (Ask q k v) w c l p h = c.removed p h
+shut_next s (Hear q k v) w c l p h = c.removed p h
+shut_next s (End q k v) w c l p h = c.removed p h
+shut_next s (Close q) w c l p h = shut_put s (Close q) q p _ c l.live ((reconfigured s (Close q) l).gates p) refl (λ m. refl) h
+shut_next s (Reopen q) w c l p h = shut_put s (Reopen q) q p _ c l.live ((reconfigured s (Reopen q) l).gates p) refl (λ m. refl) h
+shut_next s (Link q n x) w c l p h = shut_put s (Link q n x) q p _ c l.live ((reconfigured s (Link q n x) l).gates p) refl (λ m. refl) h
+shut_next s (Unlink q) w c l p h = shut_put s (Unlink q) q p _ c l.live ((reconfigured s (Unlink q) l).gates p) refl (λ m. refl) h
+shut_next s (Make n node from) w c l p h =
+    let r = reconfigured s (Make n node from) l in
+    ⊎_elim
+    (λ (new_ : (nat_le (length s.config.gates) p && nat_lt p (length s.config.gates + length (row node.kind).requires_)) ≡ true).
+    let now : gate (effect s (Make n node from)).config p ≡ record { owner = length s.config.slots; require = p - length s.config.gates; closed = true; target = None } = r.gates p ∙ rw new_ refl in
+    (ap (λ (g : Gate). g.closed) now, ap (λ (g : Gate). g.target) now))
+    (λ (old : (nat_le (length s.config.gates) p && nat_lt p (length s.config.gates + length (row node.kind).requires_)) ≡ false).
+    let now : gate (effect s (Make n node from)).config p ≡ gate s.config p = r.gates p ∙ rw old refl in
+    let dead : is_live s.config (owner s.config p) ≡ false = ⊎_elim
+    (λ (last : owner s.config p ≡ length s.config.slots).
+    let at : slot (effect s (Make n node from)).config (owner s.config p) ≡ Some (record { node = node; first_port = length s.config.gates; from = from; live = true }) =
+    r.slots (owner s.config p) ∙ rw (eq-eqb (owner s.config p) (length s.config.slots) last) refl in
+    absurd (both_ways (is_live (effect s (Make n node from)).config (owner s.config p)) (ap (λ (g : Gate). is_live (effect s (Make n node from)).config g.owner) (sym now) ∙ h)
+    (ap (λ o. option_map_or (λ (m : Slot). m.live) o false) at)))
+    (λ (before : owner s.config p ≡ length s.config.slots → ⊥).
+    let at : slot (effect s (Make n node from)).config (owner s.config p) ≡ slot s.config (owner s.config p) =
+    r.slots (owner s.config p) ∙ rw (ne_eqb (owner s.config p) (length s.config.slots) before) refl in
+    sym (ap (λ o. option_map_or (λ (m : Slot). m.live) o false) at)
+    ∙ ap (λ (g : Gate). is_live (effect s (Make n node from)).config g.owner) (sym now) ∙ h)
+    (cases_eq (owner s.config p) (length s.config.slots)) in
+    let before = c.removed p dead in
+    (ap (λ (g : Gate). g.closed) now ∙ before.0, ap (λ (g : Gate). g.target) now ∙ before.1))
+    (cases_Bool (nat_le (length s.config.gates) p && nat_lt p (length s.config.gates + length (row node.kind).requires_)))
+shut_next s (Remove n) w c l p h = ⊎_elim
+    (λ (mine : owner s.config p ≡ n). ⊎_elim
+    (λ (made : p < length s.config.gates).
+    let owned = subst (λ i. IsPortOf s.config i p) mine (w.sound.ports p made) in
+    let quiet = (settled_if s w.sound n l.settled).own p owned in
+    let apart = (and_parts (list_all (λ p. is_none (target s.config p)) (ports_of s.config n))
+    (list_all (λ p. option_map_or (λ (t : Target). not (t.node == n)) (target s.config p) true) (range_with_len 0 (length s.config.gates))) l.apart).0 in
+    ((and_parts (gate s.config p).closed (is_idle (exchange s p).phase) quiet).0, None-from_is_none (target s.config p) (all_of s.config n (λ p. is_none (target s.config p)) p apart owned)))
+    (λ (past : length s.config.gates ≤ p).
+    let fresh = get_or_past s.config.gates p fresh_gate past in (ap (λ (g : Gate). g.closed) fresh, ap (λ (g : Gate). g.target) fresh))
+    (cases_lt p (length s.config.gates)))
+    (λ (other : owner s.config p ≡ n → ⊥).
+    let r = reconfigured s (Remove n) l in
+    let at : slot (effect s (Remove n)).config (owner s.config p) ≡ slot s.config (owner s.config p) =
+    r.slots (owner s.config p) ∙ rw (ne_eqb (owner s.config p) n other) refl in
+    c.removed p (sym (ap (λ o. option_map_or (λ (m : Slot). m.live) o false) at) ∙ h))
+    (cases_eq (owner s.config p) n)
 
 -- each event that may happen keeps the traffic consistent
 pub consistent_next : (s : State) (e : Event) → IsWellFormed s → IsConsistent s → Legal s e → IsConsistent (effect s e)
-consistent_next s (Begin p j v) w k l = begin_consistent s p j v w k l
-consistent_next s (Call p j v) w k l = call_consistent s p j v w k l
-consistent_next s (Miss p) w k l = miss_consistent s p w k l
-consistent_next s (Take p j v) w k l = take_consistent s p j v w k l
-consistent_next s (Give p j v) w k l = give_consistent s p j v w k l
-consistent_next s (More p j v) w k l = more_consistent s p j v w k l
-consistent_next s (Ask p j v) w k l = ask_consistent s p j v w k l
-consistent_next s (Hear p j v) w k l = hear_consistent s p j v w k l
-consistent_next s (End p j v) w k l = end_consistent s p j v w k l
-consistent_next s (Close p) w k l = turned_consistent s p true l.live k
-consistent_next s (Reopen p) w k l = turned_consistent s p false l.live k
-consistent_next s (Make n node from) w k l = make_consistent s n node from w k l
-consistent_next s (Link p n x) w k l = relinked_consistent s p (Some (record { node = n; provide = x })) l.live l.settled w k
-consistent_next s (Unlink p) w k l = relinked_consistent s p None l.live l.settled w k
-consistent_next s (Remove n) w k l = remove_consistent s n w k l
+consistent_next s e w c l = record {
+  linked = linked_next s e w c l;
+  serving = serving_next s e w c l;
+  taken = taken_next s e w c l;
+  consequent = consequent_next s e w c l;
+  removed = shut_next s e w c l;
+}
 
 pub consistent_empty : IsConsistent empty
 consistent_empty = record {

@@ -1,7 +1,7 @@
 -- Who does an event: a port's owner, its target, or the change; and tests of single events.
 use Rattle.std.specs.Prelude.{ℕ, Bool, true, false, ◌==◌}
 use Rattle.quiesce_core.specs.declared.event.Event.{Event}
-use Rattle.quiesce_core.specs.declared.event.Event.TheVariants.{Begin, Call, Give, Ask, End, Miss, Close, Reopen, Make, Link, Unlink, Remove}
+use Rattle.quiesce_core.specs.declared.event.Event.TheVariants.{Begin, Call, Give, More, Ask, End, Miss, Close, Reopen, Make, Link, Unlink, Remove}
 
 abbrev pub is_of_owner : Event → Bool
 is_of_owner (Begin p k v) = true
@@ -20,10 +20,14 @@ is_of_change (Unlink p) = true
 is_of_change (Remove n) = true
 is_of_change _ = false
 
--- whether the target answers at port p, its owner sends a further message there, or ends the transaction
+-- whether the target answers at port p or replies there, or its owner sends a further message or ends the transaction
 abbrev pub is_give_at : ℕ → Event → Bool
 is_give_at p (Give q k v) = q == p
 is_give_at p _ = false
+
+abbrev pub is_more_at : ℕ → Event → Bool
+is_more_at p (More q k v) = q == p
+is_more_at p _ = false
 
 abbrev pub is_ask_at : ℕ → Event → Bool
 is_ask_at p (Ask q k v) = q == p

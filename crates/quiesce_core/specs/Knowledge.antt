@@ -1,15 +1,18 @@
 -- What a node knows from its own events alone: what it services, and how far each port of its own has come; and that the state has
 -- of it exactly that.
-use Rattle.std.specs.Prelude.{◌≡◌, ℕ, ◌+◌, Bool, true, false, not, ◌==◌, List, [], ◌∷◌, slice_get, Option, Some, None, is_some, option_map, fold, if◌then◌else◌, ⊤}
+use Rattle.std.specs.Prelude.{◌≡◌, ℕ, ◌+◌, Bool, true, false, not, ◌==◌, List, [], ◌∷◌, length, slice_get, Option, Some, None, is_some, option_map, fold, if◌then◌else◌, ⊤}
 use Rattle.quiesce_core.specs.declared.event.Event.{Event}
 use Rattle.quiesce_core.specs.declared.event.Event.TheVariants.{Begin, Call, Take, Give, End, More, Ask, Hear, Miss}
 use Rattle.quiesce_core.specs.declared.known.Known.{Known}
 use Rattle.quiesce_core.specs.declared.known.PortKnown.{PortKnown}
 use Rattle.quiesce_core.specs.declared.known.Served.{Served}
 use Rattle.quiesce_core.specs.declared.state.Service.{Service}
-use Rattle.quiesce_core.specs.State.{State, exchange, service}
+use Rattle.quiesce_core.specs.State.{State, exchange, service, slot}
 use Rattle.gate_word.specs.Phases.{is_answered, is_idle, is_in_more}
 use Rattle.quiesce_core.specs.Reach.{IsPortOf}
+use Rattle.quiesce_core.specs.WellFormed.{IsWellFormed}
+use Rattle.quiesce_core.specs.Traffic.{IsConsistent}
+use Rattle.quiesce_core.specs.declared.state.Slot.{Slot}
 
 -- what it services after one more event of its own
 abbrev pub served_next : Option Served → Event → Option Served
@@ -67,12 +70,12 @@ pub record Knows (s : State) (n : ℕ) (es : List Event) : Type 0 where
 -- ---- the same by require index
 
 -- nothing is known to have happened at the port
-abbrev pub unknown_port : PortKnown
-unknown_port = record { idle = true; serial = 0; consequent = false; seen = None; more = false }
+abbrev pub port_at_start : PortKnown
+port_at_start = record { idle = true; serial = 0; consequent = false; seen = None; more = false }
 
 -- what a node knows of itself before its first event
-abbrev pub unknown : Known
-unknown = record { service = None; ports = unknown_port ∷ unknown_port ∷ [] }
+abbrev pub nothing_known : Known
+nothing_known = record { service = None; ports = port_at_start ∷ port_at_start ∷ [] }
 
 -- of port p, after one more event of its owner: what was seen there is replied to by the Ask or the End
 abbrev pub port_known_next : ℕ → PortKnown → Event → PortKnown
@@ -92,7 +95,7 @@ abbrev pub known_next : ℕ → Known → Event → Known
 known_next first w e = record { service = served_next w.service e; ports = ports_known_next first w.ports e }
 
 abbrev pub known_after : ℕ → List Event → Known
-known_after first es = fold (known_next first) unknown es
+known_after first es = fold (known_next first) nothing_known es
 
 -- a reply of this value stands at the port: an intermediate one, or the answer
 pub record StandsThere (s : State) (p : ℕ) (more_ : Bool) (v : ℕ) : Type 0 where
@@ -109,5 +112,14 @@ pub record IsPortKnown (s : State) (p : ℕ) (k : PortKnown) : Type 0 where
 
 -- what is known of node n, whose first port this is, is what the state has of it
 pub record IsKnown (s : State) (n first : ℕ) (w : Known) : Type 0 where
+  pub two_ports : length w.ports ≡ 2
   pub service : KnowsService s (service s n) w.service
   pub ports : (r : ℕ) (k : PortKnown) → slice_get w.ports r ≡ Some k → IsPortOf s.config n (first + r) → IsPortKnown s (first + r) k
+
+-- node n, which was made as this, is in service u, and this is known of it
+pub record KnowsItsService (s : State) (n : ℕ) (m : Slot) (k : Known) (u : Served) : Type 0 where
+  pub well_formed : IsWellFormed s
+  pub consistent : IsConsistent s
+  pub made : slot s.config n ≡ Some m
+  pub known : IsKnown s n m.first_port k
+  pub serves : k.service ≡ Some u

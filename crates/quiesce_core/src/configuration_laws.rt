@@ -17,16 +17,23 @@ ghost use Rattle.quiesce_core.specs.WellFormed.{IsSound};
 
 /// Who is live after a node is made and after one is removed. All other events leave the slots as they are.
 pub fn live_nodes_change()
-    ensures made { (c d : Configuration) (k : ℕ) (node : Node) (from : Option ℕ) → Reconfigures c (Make k node from) d → (m : ℕ) (other : Node) → IsLiveAt d m other ↔ (IsLiveAt c m other ⊎ ((m ≡ length c.slots) × (node ≡ other))) }
-    ensures removed { (c d : Configuration) (n : ℕ) → Reconfigures c (Remove n) d → (m : ℕ) (other : Node) → IsLiveAt d m other ↔ (IsLiveAt c m other × (m ≡ n → ⊥)) }
-    ensures kept { (c d : Configuration) (e : Event) → Reconfigures c e d → is_make e ≡ false → is_remove e ≡ false → (m : ℕ) → slot d m ≡ slot c m }
+    ensures made { (c d : Configuration) (k : ℕ) (node : Node) (from : Option ℕ)
+        → Reconfigures c (Make k node from) d → (m : ℕ) (other : Node)
+        → IsLiveAt d m other ↔ (IsLiveAt c m other ⊎ ((m ≡ length c.slots) × (node ≡ other))) }
+    ensures removed { (c d : Configuration) (n : ℕ) → Reconfigures c (Remove n) d → (m : ℕ) (other : Node)
+        → IsLiveAt d m other ↔ (IsLiveAt c m other × (m ≡ n → ⊥)) }
+    ensures kept { (c d : Configuration) (e : Event) → Reconfigures c e d → is_make e ≡ false → is_remove e ≡ false
+        → (m : ℕ) → slot d m ≡ slot c m }
 {}
 
 /// Where ports lead after a link, an unlink, a make and a removal.
 pub fn targets_change()
-    ensures linked { (c d : Configuration) (q n x : ℕ) → Reconfigures c (Link q n x) d → (p : ℕ) → target d p ≡ (if q == p then Some (record { node = n; provide = x }) else target c p) }
-    ensures unlinked { (c d : Configuration) (q : ℕ) → Reconfigures c (Unlink q) d → (p : ℕ) → target d p ≡ (if q == p then None else target c p) }
-    ensures made { (c d : Configuration) (k : ℕ) (node : Node) (from : Option ℕ) → Reconfigures c (Make k node from) d → (p : ℕ) → target d p ≡ target c p }
+    ensures linked { (c d : Configuration) (q n x : ℕ) → Reconfigures c (Link q n x) d → (p : ℕ)
+        → target d p ≡ (if q == p then Some (record { node = n; provide = x }) else target c p) }
+    ensures unlinked { (c d : Configuration) (q : ℕ) → Reconfigures c (Unlink q) d → (p : ℕ)
+        → target d p ≡ (if q == p then None else target c p) }
+    ensures made { (c d : Configuration) (k : ℕ) (node : Node) (from : Option ℕ)
+        → Reconfigures c (Make k node from) d → (p : ℕ) → target d p ≡ target c p }
     ensures removed { (c d : Configuration) (n : ℕ) → Reconfigures c (Remove n) d → (p : ℕ) → target d p ≡ target c p }
 {}
 

@@ -44,6 +44,6 @@ pub use run_laws::{
 pub use state::{Exchange, Gate, OpenTxn, Phase, Service, Slot, Stage};
 pub use step_laws::{replies_stay, steps_alter, targets_stay};
 pub use words::{
-    unmade_words, words_fit, words_follow_events, words_follow_operations, words_of_runs_decode,
-    words_judge_events, words_of_states_decode, words_tell_of_transactions,
+    unmade_words, words_fit, words_follow_events, words_follow_operations, words_judge_events,
+    words_of_runs_decode, words_of_states_decode, words_tell_of_transactions,
 };

@@ -27,7 +27,8 @@ use config_graph::{Graph, Made, NoMemory, Node};
 use std::alloc::Global;
 use std::marker::Model;
 
-/// The state of a system that is changed while it runs. Contracts see the state, and for how many nodes memory is reserved.
+/// The state of a system that is changed while it runs. Contracts see the state, and for how many nodes memory is reserved. The state
+/// of each is well formed and consistent, and its nodes are named apart: `made` tells it.
 #[derive(Debug, Drop)]
 pub struct Core {
     tables: Tables,

@@ -19,14 +19,19 @@ pub fn steps_alter()
 
 /// A port that isn't idle keeps its target, with the provision. While a node services, its own ports keep theirs.
 pub fn targets_stay()
-    ensures busy { (s t : State) (e : Event) (p : ℕ) → IsWellFormed s → IsConsistent s → Step s e t → is_idle (exchange s p).phase ≡ false → target t.config p ≡ target s.config p }
-    ensures serving { (s t : State) (e : Event) (n p : ℕ) (v : Service) → IsWellFormed s → Step s e t → service s n ≡ Some v → owner s.config p ≡ n → target t.config p ≡ target s.config p }
+    ensures busy { (s t : State) (e : Event) (p : ℕ) → IsWellFormed s → IsConsistent s → Step s e t
+        → is_idle (exchange s p).phase ≡ false → target t.config p ≡ target s.config p }
+    ensures serving { (s t : State) (e : Event) (n p : ℕ) (v : Service) → IsWellFormed s → Step s e t
+        → service s n ≡ Some v → owner s.config p ≡ n → target t.config p ≡ target s.config p }
 {}
 
 /// An answer stands at its port until the owner's End, and an intermediate reply until the owner's Ask. A request that was taken stays
 /// so until it is answered.
 pub fn replies_stay()
-    ensures answered { (s t : State) (e : Event) (p : ℕ) → IsWellFormed s → IsConsistent s → Step s e t → is_answered (exchange s p).phase ≡ true → is_end_at p e ≡ false → exchange t p ≡ exchange s p }
-    ensures in_more { (s t : State) (e : Event) (p : ℕ) → IsWellFormed s → IsConsistent s → Step s e t → is_in_more (exchange s p).phase ≡ true → is_ask_at p e ≡ false → exchange t p ≡ exchange s p }
-    ensures taken { (s t : State) (e : Event) (p : ℕ) → IsWellFormed s → IsConsistent s → Step s e t → is_taken s p ≡ true → is_give_at p e ≡ false → is_taken t p ≡ true }
+    ensures answered { (s t : State) (e : Event) (p : ℕ) → IsWellFormed s → IsConsistent s → Step s e t
+        → is_answered (exchange s p).phase ≡ true → is_end_at p e ≡ false → exchange t p ≡ exchange s p }
+    ensures in_more { (s t : State) (e : Event) (p : ℕ) → IsWellFormed s → IsConsistent s → Step s e t
+        → is_in_more (exchange s p).phase ≡ true → is_ask_at p e ≡ false → exchange t p ≡ exchange s p }
+    ensures taken { (s t : State) (e : Event) (p : ℕ) → IsWellFormed s → IsConsistent s → Step s e t
+        → is_taken s p ≡ true → is_give_at p e ≡ false → is_taken t p ≡ true }
 {}

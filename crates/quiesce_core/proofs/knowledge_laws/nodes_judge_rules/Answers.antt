@@ -3,10 +3,10 @@ use Rattle.quiesce_core.proofs.knowledge_laws.nodes_judge_rules.Goals as goal
 
 pub returns : goal.returns
 returns c = record {
-  taken = λ s n m k u w consistent there known serves. judged_taken s w consistent n m there k known u serves;
-  heard = λ s n m k u w consistent there known serves. judged_heard s w consistent n m there k known u serves;
-  depends = λ s n m k u w consistent there known serves. judged_serves_through s w consistent n m there k known u serves;
-  calls = λ s n m k u w consistent there known serves. judged_calls s w consistent n m there k known u serves;
-  mores = λ s n m k u w consistent there known serves. judged_mores s w consistent n m there k known u serves;
-  ended = λ s n m k u w consistent there known serves. judged_ended s w consistent n m there k known u serves;
+  taken = λ s n m k u h. judged_taken s h.well_formed h.consistent n m h.made k h.known u h.serves;
+  heard = λ s n m k u h. judged_heard s h.well_formed h.consistent n m h.made k h.known u h.serves;
+  depends = λ s n m k u h. judged_serves_through s h.well_formed h.consistent n m h.made k h.known u h.serves;
+  calls = λ s n m k u h. judged_calls s h.well_formed h.consistent n m h.made k h.known u h.serves;
+  mores = λ s n m k u h. judged_mores s h.well_formed h.consistent n m h.made k h.known u h.serves;
+  ended = λ s n m k u h. judged_ended s h.well_formed h.consistent n m h.made k h.known u h.serves;
 }

@@ -1,5 +1,5 @@
 use Rattle.std.proofs.Common.{length, subst, sym}
-use Rattle.quiesce_core.specs.Knowledge.{IsKnown, known_next, unknown}
+use Rattle.quiesce_core.specs.Knowledge.{IsKnown, known_next, nothing_known}
 use Rattle.quiesce_core.specs.State.{State}
 use Rattle.quiesce_core.specs.declared.event.Event.TheVariants.{Make}
 use Rattle.quiesce_core.proofs.KnownLaws.{known_by_others, known_by_own, new_nodes_know_nothing}
@@ -13,5 +13,5 @@ returns c = record {
   others = λ s t e n first w well consistent step made other known.
       subst (λ (u : State). IsKnown u n first w) (sym step.changed) (known_by_others s e n first w well consistent (legal s e step.allowed) made other known);
   new = λ s t n node from well step.
-      subst (λ (u : State). IsKnown u n (length s.config.gates) unknown) (sym step.changed) (new_nodes_know_nothing s n node from well (legal s (Make n node from) step.allowed));
+      subst (λ (u : State). IsKnown u n (length s.config.gates) nothing_known) (sym step.changed) (new_nodes_know_nothing s n node from well (legal s (Make n node from) step.allowed));
 }
