@@ -12,7 +12,9 @@ IsApart op = (k a b r s : ℕ) → r < 2 ^ k → s < 2 ^ k → op (a * 2 ^ k + r
 turned : (a b c : ℕ) → a + b * c ≡ c * b + a
 turned a b c = add_comm a (b * c) ∙ ap (λ n. n + a) (mul_comm b c)
 
-meet : (op : ℕ → ℕ → ℕ) → op 0 0 ≡ 0 → IsApart op → (widths xs ys : List ℕ) → FitIn widths xs → FitIn widths ys → op (spell widths xs) (spell widths ys) ≡ spell widths (by_fields op xs ys)
+meet :
+    (op : ℕ → ℕ → ℕ) → op 0 0 ≡ 0 → IsApart op → (widths xs ys : List ℕ) → FitIn widths xs → FitIn widths ys
+    → op (spell widths xs) (spell widths ys) ≡ spell widths (by_fields op xs ys)
 meet op none apart [] [] [] f g = none
 meet op none apart [] [] (y ∷ ys) f g = absurd g
 meet op none apart [] (x ∷ xs) ys f g = absurd f
@@ -24,13 +26,16 @@ meet op none apart (w ∷ widths) (x ∷ xs) (y ∷ ys) f g =
     ap (λ n. op n (y + 2 ^ w * b)) (turned x (2 ^ w) a) ∙ ap (λ n. op (a * 2 ^ w + x) n) (turned y (2 ^ w) b) ∙ apart w a b x y f.0 g.0
     ∙ sym (turned (op x y) (2 ^ w) (op a b)) ∙ ap (λ n. op x y + 2 ^ w * n) (meet op none apart widths xs ys f.1 g.1)
 
-pub xor_meets : (widths xs ys : List ℕ) → FitIn widths xs → FitIn widths ys → bit_xor (spell widths xs) (spell widths ys) ≡ spell widths (by_fields bit_xor xs ys)
+pub xor_meets : (widths xs ys : List ℕ) → FitIn widths xs → FitIn widths ys
+    → bit_xor (spell widths xs) (spell widths ys) ≡ spell widths (by_fields bit_xor xs ys)
 xor_meets = meet bit_xor refl xor_block
 
-pub or_meets : (widths xs ys : List ℕ) → FitIn widths xs → FitIn widths ys → bit_or (spell widths xs) (spell widths ys) ≡ spell widths (by_fields bit_or xs ys)
+pub or_meets : (widths xs ys : List ℕ) → FitIn widths xs → FitIn widths ys
+    → bit_or (spell widths xs) (spell widths ys) ≡ spell widths (by_fields bit_or xs ys)
 or_meets = meet bit_or refl or_block
 
-pub and_meets : (widths xs ys : List ℕ) → FitIn widths xs → FitIn widths ys → bit_and (spell widths xs) (spell widths ys) ≡ spell widths (by_fields bit_and xs ys)
+pub and_meets : (widths xs ys : List ℕ) → FitIn widths xs → FitIn widths ys
+    → bit_and (spell widths xs) (spell widths ys) ≡ spell widths (by_fields bit_and xs ys)
 and_meets = meet bit_and refl and_block
 
 -- the field of c places at a, with what is below it and above it

@@ -30,8 +30,19 @@ provide_few None h = omega arith
 provide_few (Some t) h = (h t refl).provide
 
 pub fields_fit : (w : Word) → FitsWord w → FitIn widths (fields w)
-fields_fit w f =
-    (f.value, (f.serial, (provide_few w.target f.target, (slot_few w.target f.target, (flag_few w.consequent, (phase_few w.phase, (flag_few w.closed, tt)))))))
+fields_fit w f = (
+  f.value,
+  (
+    f.serial,
+    (
+      provide_few w.target f.target,
+      (
+        slot_few w.target f.target,
+        (flag_few w.consequent, (phase_few w.phase, (flag_few w.closed, tt))),
+      ),
+    ),
+  ),
+)
 
 -- each field stands at its bits
 
@@ -44,7 +55,8 @@ pub record StandAtTheirBits (n v s x t c p d : ℕ) : Type 0 where
   pub phase : bits 61 62 n ≡ p
   pub closed : bits 63 63 n ≡ d
 
-stand : (v s x t c p d : ℕ) → FitIn widths (v ∷ s ∷ x ∷ t ∷ c ∷ p ∷ d ∷ []) → StandAtTheirBits (spell widths (v ∷ s ∷ x ∷ t ∷ c ∷ p ∷ d ∷ [])) v s x t c p d
+stand : (v s x t c p d : ℕ) → FitIn widths (v ∷ s ∷ x ∷ t ∷ c ∷ p ∷ d ∷ [])
+    → StandAtTheirBits (spell widths (v ∷ s ∷ x ∷ t ∷ c ∷ p ∷ d ∷ [])) v s x t c p d
 stand v s x t c p d f =
     let v_fits : v < 2 ^ 24 = f.0 in
     let s_fits : s < 2 ^ 24 = f.1.0 in
@@ -63,7 +75,8 @@ stand v s x t c p d f =
       closed = field _ (2 ^ 63) (2 ^ 1) (v + 2 ^ 24 * s + 2 ^ 48 * x + 2 ^ 50 * t + 2 ^ 60 * c + 2 ^ 61 * p) d 0 (omega arith) (omega arith) d_fits;
     }
 
-pub fields_stand : (w : Word) → FitsWord w → StandAtTheirBits (pack w) w.value w.serial (provide_bits w.target) (slot_bits w.target) (flag w.consequent) (phase_bits w.phase) (flag w.closed)
+pub fields_stand : (w : Word) → FitsWord w
+    → StandAtTheirBits (pack w) w.value w.serial (provide_bits w.target) (slot_bits w.target) (flag w.consequent) (phase_bits w.phase) (flag w.closed)
 fields_stand w f =
     stand w.value w.serial (provide_bits w.target) (slot_bits w.target) (flag w.consequent) (phase_bits w.phase) (flag w.closed) (fields_fit w f)
 
@@ -93,7 +106,8 @@ words_decode w f =
     (ap (λ k. target_of k (bits 48 49 (pack w))) at.slot ∙ ap (target_of (slot_bits w.target)) at.provide ∙ target_again w.target)
     at.serial at.value
   where
-    whole : (u w : Word) → u.closed ≡ w.closed → u.phase ≡ w.phase → u.consequent ≡ w.consequent → u.target ≡ w.target → u.serial ≡ w.serial → u.value ≡ w.value → u ≡ w
+    whole : (u w : Word) → u.closed ≡ w.closed → u.phase ≡ w.phase → u.consequent ≡ w.consequent → u.target ≡ w.target
+        → u.serial ≡ w.serial → u.value ≡ w.value → u ≡ w
     whole u w a b c d e f = λ i. record { closed = a i; phase = b i; consequent = c i; target = d i; serial = e i; value = f i }
 
 pub words_differ : (v w : Word) → FitsWord v → FitsWord w → pack v ≡ pack w → v ≡ w

@@ -1,5 +1,5 @@
--- What the operations of the gates make of a word, by which operand. A gate's word may be changed by others meanwhile, so an operand
--- turns some fields and leaves the others as they are, whatever they are.
+-- What the operations of the gates make of a word, by which operand. A gate's word may be changed by others meanwhile,
+-- so an operand turns some fields and leaves the others as they are, whatever they are.
 use Rattle.std.specs.Prelude.{◌≡◌, ℕ, ◌+◌, Bool, true, false, Some, None, bit_xor, ◌⊎◌}
 use Rattle.config_graph.specs.declared.node.Target.{Target}
 use Rattle.gate_word.specs.declared.phase.Phase.{Phase}

@@ -1,4 +1,5 @@
--- The word of a slot: the fields that it spells of the node that was made there, and at which bits. The word is 0 where none was.
+-- The word of a slot: the fields that it spells of the node that was made there, and at which bits. The word is 0 where
+-- none was.
 use Rattle.std.specs.Prelude.{◌≡◌, ℕ, ◌+◌, ◌^◌, ◌<◌, ◌≤◌, List, [], ◌∷◌, Option, Some, None, IfSome, is_some, option_map, option_and_then, slice_get, if◌then◌else◌}
 use Rattle.std.specs.Option.{option_map_or}
 use Rattle.config_graph.specs.Kinds.{row, kinds}
@@ -7,8 +8,8 @@ use Rattle.config_graph.specs.declared.kind.Kind.{Kind}
 use Rattle.gate_word.specs.declared.slot_word.SlotWord.{SlotWord}
 use Rattle.gate_word.specs.Packs.{spell, bits, plus_one, less_one}
 
--- the widths of the fields, from bit 0 on: 4 bits for one more than the kind's number, 16 for the first port, 24 for the argument,
--- 10 for one more than the slot whose state was taken over
+-- the widths of the fields, from bit 0 on: 4 bits for one more than the kind's number, 16 for the first port, 24 for the
+-- argument, 10 for one more than the slot whose state was taken over
 abbrev pub slot_widths : List ℕ
 slot_widths = 4 ∷ 16 ∷ 24 ∷ 10 ∷ []
 

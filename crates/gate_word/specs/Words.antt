@@ -16,7 +16,8 @@ phase_bits phase.Answered = 2
 phase_bits phase.More = 3
 
 abbrev pub phase_of : ℕ → Phase
-phase_of n = if n == 0 then phase.Idle else if n == 1 then phase.Asked else if n == 2 then phase.Answered else phase.More
+phase_of n =
+    if n == 0 then phase.Idle else if n == 1 then phase.Asked else if n == 2 then phase.Answered else phase.More
 
 abbrev pub flag : Bool → ℕ
 flag b = if b then 1 else 0
@@ -31,14 +32,15 @@ provide_bits t = option_map_or (λ (u : Target). u.provide) t 0
 abbrev pub target_of : ℕ → ℕ → Option Target
 target_of slot provide = option_map (λ n. record { node = n; provide = provide }) (less_one slot)
 
--- the widths of the fields, from bit 0 on: 24 bits for the value, 24 for the serial, 2 for the provision, 10 for the target's
--- slot, 1 for whether it is consequent, 2 for the phase, 1 for whether it is closed
+-- the widths of the fields, from bit 0 on: 24 bits for the value, 24 for the serial, 2 for the provision, 10 for the
+-- target's slot, 1 for whether it is consequent, 2 for the phase, 1 for whether it is closed
 abbrev pub widths : List ℕ
 widths = 24 ∷ 24 ∷ 2 ∷ 10 ∷ 1 ∷ 2 ∷ 1 ∷ []
 
 abbrev pub fields : Word → List ℕ
 fields w =
-    w.value ∷ w.serial ∷ provide_bits w.target ∷ slot_bits w.target ∷ flag w.consequent ∷ phase_bits w.phase ∷ flag w.closed ∷ []
+    w.value ∷ w.serial ∷ provide_bits w.target ∷ slot_bits w.target ∷ flag w.consequent ∷ phase_bits w.phase
+    ∷ flag w.closed ∷ []
 
 -- the number that spells the fields
 abbrev pub pack : Word → ℕ

@@ -8,22 +8,44 @@ ghost use Rattle.gate_word.specs.Packs.{FitIn, bits, by_fields, plus_one, spell}
 ghost use Rattle.gate_word.specs.SlotWords.{FitsSlotWord, pack_slot, unpack_slot};
 ghost use Rattle.gate_word.specs.Words.{FitsWord, flag, pack, phase_bits, provide_bits, slot_bits, unpack};
 ghost use Rattle.gate_word.specs.declared.slot_word.SlotWord.{SlotWord};
+ghost use Rattle.config_graph.specs.declared.node.Target.{Target};
 ghost use Rattle.gate_word.specs.declared.word.Word.{Word};
 
 use crate::phase::Phase;
 use config_graph::Kind;
 
-/// Words as they are worked out by hand: the word of a port that was never made; of a port whose root was just begun, the first,
-/// with value 1, to the node in slot 0; of one whose first transaction was called with value 11, to the node in slot 2; and the
-/// word of a slot in which a map that adds 10 was made from the node of slot 0, with port 2 as its first.
+/// Words as they are worked out by hand: the word of a port that was never made; of a port whose root was just begun,
+/// the first, with value 1, to the node in slot 0; of one whose first transaction was called with value 11, to the node
+/// in slot 2; and the word of a slot in which a map that adds 10 was made from the node of slot 0, with port 2 as its
+/// first.
 pub fn worked_words()
-    ensures unmade { pack (record { closed = true; phase = Phase.Idle; consequent = false; target = None; serial = 0; value = 0 }) ≡ 0x8000_0000_0000_0000 }
-    ensures begun { pack (record { closed = false; phase = Phase.Asked; consequent = false; target = Some (record { node = 0; provide = 0 }); serial = 1; value = 1 }) ≡ 0x2004_0000_0100_0001 }
-    ensures called { pack (record { closed = false; phase = Phase.Asked; consequent = true; target = Some (record { node = 2; provide = 0 }); serial = 1; value = 11 }) ≡ 0x300c_0000_0100_000b }
+    ensures unmade { pack (record { closed = true; phase = Phase.Idle; consequent = false; target = None; serial = 0; value = 0 })
+        ≡ 0x8000_0000_0000_0000 }
+    ensures begun { let first : Target = record { node = 0; provide = 0 } in
+        pack (record {
+          closed = false;
+          phase = Phase.Asked;
+          consequent = false;
+          target = Some first;
+          serial = 1;
+          value = 1;
+        })
+        ≡ 0x2004_0000_0100_0001 }
+    ensures called { let third : Target = record { node = 2; provide = 0 } in
+        pack (record {
+          closed = false;
+          phase = Phase.Asked;
+          consequent = true;
+          target = Some third;
+          serial = 1;
+          value = 11;
+        })
+        ≡ 0x300c_0000_0100_000b }
     ensures made { pack_slot (record { kind = Kind.Map; first_port = 2; arg = Some 10; from = Some 0 }) ≡ 0x1000_00a0_0025 }
 {}
 
-/// Operands as they are worked out by hand: of the answer 7 to a message of value 1, and of a link to the node in slot 2.
+/// Operands as they are worked out by hand: of the answer 7 to a message of value 1, and of a link to the node in
+/// slot 2.
 pub fn worked_operands()
     ensures given { message_difference Phase.Asked 1 Phase.Answered 7 ≡ 0x6000_0000_0000_0006 }
     ensures linked { link_difference (record { node = 2; provide = 0 }) ≡ 0x000c_0000_0000_0000 }
@@ -31,9 +53,11 @@ pub fn worked_operands()
 
 /// A word is the sum of its fields, each times the place of its first bit.
 pub fn words_are_sums()
-    ensures port { (w : Word) → pack w ≡ w.value + 2 ^ 24 * w.serial + 2 ^ 48 * provide_bits w.target + 2 ^ 50 * slot_bits w.target
+    ensures port { (w : Word) → pack w
+        ≡ w.value + 2 ^ 24 * w.serial + 2 ^ 48 * provide_bits w.target + 2 ^ 50 * slot_bits w.target
         + 2 ^ 60 * flag w.consequent + 2 ^ 61 * phase_bits w.phase + 2 ^ 63 * flag w.closed }
-    ensures slot { (w : SlotWord) → pack_slot w ≡ 1 + (row w.kind).number + 16 * w.first_port + 2 ^ 20 * option_map_or (λ a. a) w.arg 0
+    ensures slot { (w : SlotWord) → pack_slot w
+        ≡ 1 + (row w.kind).number + 16 * w.first_port + 2 ^ 20 * option_map_or (λ a. a) w.arg 0
         + 2 ^ 44 * plus_one w.from }
 {}
 

@@ -1,5 +1,5 @@
-//! Gate words: what the gates keep of a port, and what they keep of a slot, each in one number of 64 bits. A word is packed from
-//! fields that have their bits in it, and spells them again.
+//! Gate words: what the gates keep of a port, and what they keep of a slot, each in one number of 64 bits. A word is
+//! packed from fields that have their bits in it, and spells them again.
 #![tactic(auto)]
 
 mod bits;

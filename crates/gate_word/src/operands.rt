@@ -1,6 +1,6 @@
-//! Operands of the steps by which gates change a word: what exclusive or takes to turn some of its fields, and what or and and take
-//! for its closed bit. Each says what it makes of any word that is as the step finds it, whatever the other fields are, since the
-//! change closes and opens gates while nodes take their steps.
+//! Operands of the steps by which gates change a word: what exclusive or takes to turn some of its fields, and what
+//! or and and take for its closed bit. Each says what it makes of any word that is as the step finds it, whatever the
+//! other fields are, since the change closes and opens gates while nodes take their steps.
 
 ghost use Rattle.std.specs.Prelude.{◌≡◌, ◌+◌, ◌^◌, ◌<◌, Some, None, true, false, bit_and, bit_or, bit_xor};
 ghost use Rattle.config_graph.specs.declared.node.Target.{Target as Linked};
@@ -32,7 +32,8 @@ const BLANK: Word = Word {
 /// A law: or and and with these close and open a gate, and leave the rest of its word as it is.
 pub fn closed_bits_turn()
     ensures closing { (w : Fields) → FitsWord w → bit_or (pack w) CLOSED ≡ pack (record w { closed = true }) }
-    ensures opening { (w : Fields) → FitsWord w → bit_and (pack w) ALL_BUT_CLOSED ≡ pack (record w { closed = false }) }
+    ensures opening { (w : Fields) → FitsWord w
+        → bit_and (pack w) ALL_BUT_CLOSED ≡ pack (record w { closed = false }) }
 {}
 
 /// A law: or with the word of a node fills a slot in which none was made.
@@ -42,7 +43,8 @@ pub fn slots_are_filled()
 
 /// A law: exclusive or with the difference of two words turns the fields in which they differ, and no others.
 pub fn differences_turn_fields()
-    ensures { (from to old new : Fields) → FitsWord from → FitsWord to → FitsWord old → AreTurned from to old new
+    ensures { (from to old new : Fields) → FitsWord from → FitsWord to → FitsWord old
+        → AreTurned from to old new
         → bit_xor (pack old) (difference from to) ≡ pack new }
 {}
 
@@ -61,9 +63,10 @@ pub fn call_operand(loaded: Word, value: u32) -> u64
     requires serial { loaded.serial + 1 < 2 ^ 24 }
     requires value { value < 2 ^ 24 }
     ensures operand { result ≡ call_difference loaded value }
-    ensures turns { (w : Fields) → FitsWord w → w.phase ≡ loaded.phase → w.consequent ≡ loaded.consequent → w.serial ≡ loaded.serial
-        → w.value ≡ loaded.value
-        → bit_xor (pack w) result ≡ pack (record w { phase = Phase.Asked; consequent = true; serial = loaded.serial + 1; value = value }) }
+    ensures turns { (w : Fields) → FitsWord w → w.phase ≡ loaded.phase → w.consequent ≡ loaded.consequent
+        → w.serial ≡ loaded.serial → w.value ≡ loaded.value
+        → bit_xor (pack w) result
+        ≡ pack (record w { phase = Phase.Asked; consequent = true; serial = loaded.serial + 1; value = value }) }
 {
     let asked = Word {
         phase: Phase::Asked,
@@ -158,8 +161,10 @@ pub fn end_operand(seen: u32, consequent: bool) -> u64
 pub fn link_operand(target: Target) -> u64
     requires { FitsTarget target }
     ensures operand { result ≡ link_difference target }
-    ensures link { (w : Fields) → FitsWord w → w.target ≡ None → bit_xor (pack w) result ≡ pack (record w { target = Some target }) }
-    ensures unlink { (w : Fields) → FitsWord w → w.target ≡ Some target → bit_xor (pack w) result ≡ pack (record w { target = None }) }
+    ensures link { (w : Fields) → FitsWord w → w.target ≡ None
+        → bit_xor (pack w) result ≡ pack (record w { target = Some target }) }
+    ensures unlink { (w : Fields) → FitsWord w → w.target ≡ Some target
+        → bit_xor (pack w) result ≡ pack (record w { target = None }) }
 {
     let linked = Word {
         target: Some(target),

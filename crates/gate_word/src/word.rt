@@ -8,11 +8,12 @@ use crate::bits::{bits, less_one};
 use crate::phase::Phase;
 use config_graph::Target;
 
-/// How many values and how many serials a word can spell, how many provisions of a target, and how many targets, none among them.
+/// How many values and how many serials a word can spell.
 const VALUES: u64 = 1 << 24;
 
 const LAST_SERIAL: u32 = (1 << 24) - 1;
 
+/// How many provisions of a target, and how many targets, none among them.
 const PROVISIONS: u64 = 1 << 2;
 
 const TARGETS: u64 = 1 << 10;
