@@ -5,3 +5,4 @@ pub mod Fold
 pub mod Bounds
 pub mod Serving
 pub mod Rows
+pub mod Following

@@ -3,11 +3,13 @@
 #![tactic(auto)]
 
 mod component;
+mod following;
 mod laws;
 mod next;
 mod serving;
 
 pub use component::Component;
+pub use following::follow;
 pub use laws::{folds_keep_kind_and_argument, logs_evaluate, services_are_bounded};
 pub use next::{Ask, Next};
 pub use serving::{Serving, hand, wait, waits};
