@@ -4,6 +4,8 @@
 #[cfg(test)]
 mod handover_rows;
 #[cfg(test)]
+mod inbox_rows;
+#[cfg(test)]
 mod kind_rows;
 #[cfg(test)]
 mod steps;
