@@ -1,0 +1,4 @@
+pub mod BoundLaws
+pub mod FoldLaws
+mod FollowLemmas
+mod Logs

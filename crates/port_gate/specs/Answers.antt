@@ -1,0 +1,65 @@
+-- What each answer of a gate says of the port's word and of its own numbers.
+use Rattle.std.specs.Prelude.{◌≡◌, ◌≢◌, ℕ, ◌<◌, ◌≤◌, Bool, true, false, not, ◌==◌, ◌&&◌, ◌||◌, length, Option, Some, None, is_none, ⊤}
+use Rattle.std.specs.Option.{option_map_or}
+use Rattle.config_graph.specs.Kinds.{row}
+use Rattle.config_graph.specs.declared.TheConstants.{MAX_NODES}
+use Rattle.config_graph.specs.declared.node.Target.{Target}
+use Rattle.gate_word.specs.Phases.{is_asked, is_in_more}
+use Rattle.gate_word.specs.Words.{unpack}
+use Rattle.gate_word.specs.declared.word.Word.{Word}
+use Rattle.quiesce_core.specs.Rules.{last_serial, value_limit}
+use Rattle.quiesce_core.specs.State.{State}
+use Rattle.quiesce_core.specs.Words.{word_of}
+use Rattle.port_gate.specs.Seats.{NodeAt}
+use Rattle.port_gate.specs.declared.answers.BeginAnswer.{BeginAnswer}
+use Rattle.port_gate.specs.declared.answers.BeginAnswer.TheVariants.{Again, Begun, Closed, Spent, Unlinked}
+use Rattle.port_gate.specs.declared.answers.CallAnswer.{CallAnswer}
+use Rattle.port_gate.specs.declared.answers.CallAnswer.TheVariants.{Called, Missed}
+use Rattle.port_gate.specs.declared.answers.HearAnswer.{HearAnswer}
+use Rattle.port_gate.specs.declared.answers.HearAnswer.TheVariants as hear
+use Rattle.port_gate.specs.declared.answers.SeeAnswer.{SeeAnswer}
+use Rattle.port_gate.specs.declared.answers.SeeAnswer.TheVariants as see
+use Rattle.port_gate.specs.declared.answers.TakeAnswer.{TakeAnswer}
+use Rattle.port_gate.specs.declared.answers.TakeAnswer.TheVariants.{Stale, Taken}
+
+-- where the gate tells its state, a word is the one that the port has there
+abbrev pub IsWordAt : Option State → ℕ → ℕ → Type 0
+IsWordAt None p w = ⊤
+IsWordAt (Some s) p w = w ≡ word_of s p
+
+-- a request or message is asked of this node
+abbrev pub is_asked_of : ℕ → Word → Bool
+is_asked_of n w = is_asked w.phase && option_map_or (λ (t : Target). t.node == n) w.target false
+
+-- no call can be made: there is no target, or no further serial
+abbrev pub is_missing : Word → Bool
+is_missing w = is_none w.target || w.serial == last_serial
+
+-- the cause of a refusal, by the word that it carries; a gate that tells its state answers it exactly where that holds of the state
+pub record HasWord (s : Option State) (p w : ℕ) (shows : Word → Bool) : Type 0 where
+  pub cause : shows (unpack w) ≡ true
+  pub there : IsWordAt s p w
+
+abbrev pub BeginSays : Option State → ℕ → BeginAnswer → Type 0
+BeginSays s p (Begun k t) = (k ≤ last_serial) × (t < MAX_NODES)
+BeginSays s p (Closed w) = HasWord s p w (λ x. x.closed)
+BeginSays s p (Unlinked w) = HasWord s p w (λ x. not x.closed && is_none x.target)
+BeginSays s p (Spent k) = k ≡ last_serial
+BeginSays s p (Again l f) = (s ≡ None) × ((unpack f).closed ≡ false) × (f ≢ l)
+
+abbrev pub CallSays : Option State → ℕ → CallAnswer → Type 0
+CallSays s p (Called k t) = (k ≤ last_serial) × (t < MAX_NODES)
+CallSays s p (Missed w) = HasWord s p w is_missing
+
+abbrev pub TakeSays : Option State → NodeAt → ℕ → TakeAnswer → Type 0
+TakeSays s n p (Taken x k v) = (x < length (row n.kind).provides) × (k ≤ last_serial) × (v < value_limit)
+TakeSays s n p (Stale w) = HasWord s p w (λ x. not (is_asked_of n.slot x))
+
+abbrev pub SeeSays : Option State → ℕ → SeeAnswer → Type 0
+SeeSays s p (see.Answer v) = v < value_limit
+SeeSays s p (see.More v) = v < value_limit
+SeeSays s p (see.NotYet w) = HasWord s p w (λ x. is_asked x.phase)
+
+abbrev pub HearSays : Option State → ℕ → HearAnswer → Type 0
+HearSays s p (hear.Heard v) = v < value_limit
+HearSays s p (hear.NotYet w) = HasWord s p w (λ x. is_in_more x.phase)

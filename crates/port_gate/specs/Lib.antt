@@ -1,0 +1,4 @@
+pub mod Seats
+pub mod Moves
+pub mod Answers
+pub mod Noting

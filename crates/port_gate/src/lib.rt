@@ -1,0 +1,10 @@
+//! Gates: where a node does its events. A call of a gate is at most one event of the node at whose seat it is made.
+#![tactic(auto)]
+
+mod answers;
+mod gate;
+mod noting;
+
+pub use answers::{BeginAnswer, CallAnswer, HearAnswer, SeeAnswer, TakeAnswer};
+pub use gate::{GateSeat, PortGate};
+pub use noting::{note, note_seen, unknown};

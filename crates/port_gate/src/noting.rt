@@ -1,0 +1,131 @@
+//! What a node knows, as data: it grows with each event of the node's own.
+
+ghost use Rattle.std.specs.Prelude.{◌≡◌, ◌<◌, ◌^◌};
+ghost use Rattle.port_gate.specs.Moves.{seen_by};
+ghost use Rattle.port_gate.specs.Noting.{CanCount};
+ghost use Rattle.quiesce_core.specs.Knowledge as knowledge;
+
+use crate::answers::SeeAnswer;
+use quiesce_core::{Event, Known, PortKnown, Served};
+
+/// What a node knows before its first event.
+pub fn unknown() -> Known
+    ensures { result ≡ knowledge.unknown }
+{
+    let port = PortKnown {
+        idle: true,
+        serial: 0,
+        consequent: false,
+        seen: None,
+        more: false,
+    };
+    Known {
+        service: None,
+        ports: [port, port],
+    }
+}
+
+/// What it knows of the port after one more event.
+fn port_next(number: u32, port: PortKnown, event: &Event) -> PortKnown
+    ensures { result ≡ knowledge.port_known_next number port event.now }
+{
+    let (idle, consequent, serial) = match event {
+        Event::Begin {
+            port: at,
+            serial,
+            ..
+        } if *at == number => (false, false, *serial),
+        Event::Call {
+            port: at,
+            serial,
+            ..
+        } if *at == number => (false, true, *serial),
+        Event::End {
+            port: at,
+            serial,
+            ..
+        } if *at == number => (true, false, *serial),
+        Event::Ask { port: at, .. } if *at == number => (port.idle, port.consequent, port.serial),
+        _ => return port,
+    };
+    PortKnown {
+        idle,
+        serial,
+        consequent,
+        seen: None,
+        more: false,
+    }
+}
+
+/// What it services after one more event.
+fn service_next(service: Option<Served>, event: &Event) -> Option<Served>
+    requires { CanCount service event.now }
+    ensures { result ≡ knowledge.served_next service event.now }
+{
+    if let Event::Take {
+        port,
+        serial,
+        value,
+    } = event
+    {
+        return Some(Served {
+            port: *port,
+            serial: *serial,
+            value: *value,
+            calls: 0,
+            mores: 0,
+            heard: true,
+        });
+    }
+    let served = service?;
+    match event {
+        Event::Call { .. } | Event::Miss { .. } => Some(Served {
+            calls: served.calls + 1,
+            ..served
+        }),
+        Event::More { .. } => Some(Served {
+            mores: served.mores + 1,
+            heard: false,
+            ..served
+        }),
+        Event::Hear { value, .. } => Some(Served {
+            value: *value,
+            heard: true,
+            ..served
+        }),
+        Event::Give { .. } => None,
+        _ => Some(served),
+    }
+}
+
+/// The node at whose seat it is, and whose first port this is, did one more event.
+pub fn note(known: &mut Known, first_port: u32, event: &Event)
+    requires small { first_port < 2 ^ 31 }
+    requires count { CanCount known.old.service event.now }
+    ensures { known.new ≡ knowledge.known_next first_port known.old event.now }
+{
+    known.service = service_next(known.service, event);
+    known.ports = [
+        port_next(first_port, known.ports[0], event),
+        port_next(first_port + 1, known.ports[1], event),
+    ];
+}
+
+/// What it knows of a port once a reply was looked for there.
+pub fn note_seen(port: PortKnown, answer: SeeAnswer) -> PortKnown
+    ensures { result ≡ seen_by answer port }
+{
+    match answer {
+        SeeAnswer::Answer { value } => PortKnown {
+            seen: Some(value),
+            more: false,
+            ..port
+        },
+        SeeAnswer::More { value } => PortKnown {
+            seen: Some(value),
+            more: true,
+            ..port
+        },
+        SeeAnswer::NotYet { .. } => port,
+    }
+}
