@@ -1,5 +1,5 @@
 use Rattle.darwin_parser.proofs.UnitLaws.{always_one, not_both, not_too_nested, not_unexpected, one_too_nested, one_unexpected}
-use Rattle.darwin_parser.proofs.parsing.one_answer.Goals as goal
+use Rattle.darwin_parser.proofs.laws.one_answer.Goals as goal
 
 pub returns-clause-always_one : goal.returns-clause-always_one
 returns-clause-always_one c = λ text tokens. always_one text tokens
