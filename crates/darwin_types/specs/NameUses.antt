@@ -1,4 +1,4 @@
--- The places of a component where a name is used or given: each expression and each variable of a `forall` with the
+-- Where a component uses names or gives them: each expression and each variable of a `forall` with the
 -- names of values round it, each `inst` entry, and each end of a binding.
 use Rattle.std.specs.Prelude.{List, [], ◌∷◌, ◌++◌, Option, map, unwrap_or}
 use Rattle.std.specs.List.{flat_map}
@@ -32,38 +32,38 @@ values scope es = map (value scope) es
 abbrev pub args_of : Option (List Expr) → List Expr
 args_of args = unwrap_or args []
 
-abbrev pub entry_places : List Name → InstEntry → List NameUse
-entry_places scope (single name component args at) = entry (single name component args at) ∷ values scope args
-entry_places scope (element array index args at) =
+abbrev pub entry_uses : List Name → InstEntry → List NameUse
+entry_uses scope (single name component args at) = entry (single name component args at) ∷ values scope args
+entry_uses scope (element array index args at) =
     entry (element array index args at) ∷ value scope index ∷ values scope (args_of args)
 
-abbrev pub end_places : List Name → PortRef → List NameUse
-end_places scope e =
+abbrev pub end_uses : List Name → PortRef → List NameUse
+end_uses scope e =
     binding_end e ∷ values scope (option_to_list e.inst_index) ++ values scope (option_to_list e.port_index)
 
 abbrev mutual
-  -- the places of a statement, where these names are round it
-  pub stmt_places : List Name → Stmt → List NameUse
-  stmt_places scope (inst e) = entry_places scope e
-  stmt_places scope (bind b) = end_places scope b.left ++ end_places scope b.right
+  -- those of a statement, where these names are round it
+  pub stmt_uses : List Name → Stmt → List NameUse
+  stmt_uses scope (inst e) = entry_uses scope e
+  stmt_uses scope (bind b) = end_uses scope b.left ++ end_uses scope b.right
   -- the range doesn't see the variable
-  stmt_places scope (forall x low high body at) =
-      value scope low ∷ value scope high ∷ variable scope x ∷ body_places (scope ++ x ∷ []) body
-  stmt_places scope (when test body at) = value scope test ∷ body_places scope body
+  stmt_uses scope (forall x low high body at) =
+      value scope low ∷ value scope high ∷ variable scope x ∷ body_uses (scope ++ x ∷ []) body
+  stmt_uses scope (when test body at) = value scope test ∷ body_uses scope body
 
-  -- the places of a list of statements
-  pub body_places : List Name → Stmts → List NameUse
-  body_places scope end = []
-  body_places scope (then s rest) = stmt_places scope s ++ body_places scope rest
+  -- those of a list of statements
+  pub body_uses : List Name → Stmts → List NameUse
+  body_uses scope end = []
+  body_uses scope (then s rest) = stmt_uses scope s ++ body_uses scope rest
 
 -- the sizes of ports and arrays, and the arguments of arrays, see parameters alone
-abbrev pub port_places : List Name → PortDecl → List NameUse
-port_places params p = values params (option_to_list p.size)
+abbrev pub port_uses : List Name → PortDecl → List NameUse
+port_uses params p = values params (option_to_list p.size)
 
-abbrev pub array_places : List Name → ArrayDecl → List NameUse
-array_places params a = value params a.size ∷ values params (args_of a.args)
+abbrev pub array_uses : List Name → ArrayDecl → List NameUse
+array_uses params a = value params a.size ∷ values params (args_of a.args)
 
--- the places of a component
-abbrev pub places : Component → List NameUse
-places c =
-    flat_map (port_places c.params) c.ports ++ flat_map (array_places c.params) c.arrays ++ body_places c.params c.body
+-- those of a component
+abbrev pub name_uses : Component → List NameUse
+name_uses c =
+    flat_map (port_uses c.params) c.ports ++ flat_map (array_uses c.params) c.arrays ++ body_uses c.params c.body
