@@ -19,4 +19,3 @@ pub use checked::Checked;
 pub use checking::check;
 pub use error::TypeError;
 pub use laws::a_fault_or_none;
-pub use names::Named;
