@@ -6,18 +6,18 @@ ghost use Rattle.darwin_walk.specs.Finds.{Finds};
 use indexmap::IndexMap;
 use std::alloc::{AllocError, Global};
 
-/// What has a name.
-pub(crate) trait Named<'a>: Copy {
+/// What is found by its name, which outlives it.
+pub(crate) trait Keyed<'a>: Copy {
     ghost use Rattle.std.specs.Prelude.{List, ℕ, ◌≡◌};
 
     ghost name_of: { Self → List ℕ };
 
-    fn name(&self) -> &'a [u8]
+    fn key(&self) -> &'a [u8]
         ensures { result.now ≡ name_of self.now };
 }
 
 /// An index of these by their names; of those with one name it has the first.
-pub(crate) fn by_name<'a, T: Named<'a>>(
+pub(crate) fn by_name<'a, T: Keyed<'a>>(
     alloc: Global,
     items: &[T],
 ) -> Result<IndexMap<&'a [u8], T>, AllocError>
@@ -27,7 +27,7 @@ pub(crate) fn by_name<'a, T: Named<'a>>(
     let mut left = items;
     // From the last on, so that the first of a name comes to stand for it.
     while let Some((item, before)) = left.split_last() {
-        index.insert(item.name(), *item)?;
+        index.insert(item.key(), *item)?;
         left = before;
     }
     Ok(index)

@@ -4,7 +4,7 @@ use Rattle.darwin_walk.specs.Value.{value}
 use Rattle.darwin_walk.specs.Environment.{env_at}
 use Rattle.darwin_walk.specs.Instance.{value_fault}
 use Rattle.darwin_walk.proofs.CauseLaws.{fault-grow}
-use Rattle.darwin_walk.proofs.instance.sized.Goals as goal
+use Rattle.darwin_walk.proofs.instance.arrays_with_sizes.Goals as goal
 use Rattle.base.proofs.ContainsLaws.{Contains-from}
 
 pub returns-in_err-size : goal.returns-in_err-size

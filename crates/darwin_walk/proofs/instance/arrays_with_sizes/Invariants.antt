@@ -2,7 +2,7 @@ use Rattle.std.proofs.Common.{◌≡◌, ◌++◌, drop, map, All}
 use Rattle.darwin_parser.specs.Tree.{array_of}
 use Rattle.darwin_walk.specs.Environment.{env_at}
 use Rattle.darwin_walk.specs.Scope.{array_faults, HasSize}
-use Rattle.darwin_walk.proofs.instance.sized.Given as goal
+use Rattle.darwin_walk.proofs.instance.arrays_with_sizes.Given as goal
 
 -- the arrays so far, and what is told of those that are left
 abbrev pub invariant-loop-decl : goal.invariant-loop-decl
