@@ -1,14 +1,13 @@
 use Rattle.std.proofs.Common.{◌≢◌, IfErr, IfOk, subst}
 use Rattle.darwin_parser.specs.Tree.{tree_of}
-use Rattle.elaborator.specs.Expansion.{instance_in, seen}
+use Rattle.elaborator.specs.Expansion.{instance_in, expanded_of}
 use Rattle.elaborator.specs.Faults.{Faults}
-use Rattle.elaborator.specs.ExpansionFaults.{GrowthFault}
 use Rattle.elaborator.specs.Elaboration.{HasNoFault}
 use Rattle.elaborator.specs.declared.error.ElabError.TheVariants.{NoMemory}
 use Rattle.base.proofs.AnswerLaws.{Answers-exit}
 use Rattle.elaborator.proofs.ElaborationLemmas.{growth_fault, answer-no_fault, answer-fault}
 use Rattle.elaborator.proofs.SoundLemmas.{answer-sound}
-use Rattle.elaborator.proofs.elaborating.elaborate.Goals as goal
+use Rattle.elaborator.proofs.elaborating.graph_or_fault.Goals as goal
 
 pub returns-in_err-expansion-clause-fault : goal.returns-in_err-expansion-clause-fault
 returns-in_err-expansion-clause-fault c =
@@ -22,7 +21,7 @@ returns-in_err-expansion-clause-fault c =
 
 pub returns-clause-no_fault : goal.returns-clause-no_fault
 returns-clause-no_fault c =
-    let e = seen c.in_ok-expansion.expansion in
+    let e = expanded_of c.in_ok-expansion.expansion in
     let tree = tree_of c.in_ok-directory.directory.unit.now in
     let top = instance_in c.in_ok-instance.instance in
     let whole = c.in_ok-expansion.ensures in
@@ -30,7 +29,7 @@ returns-clause-no_fault c =
 
 pub returns-clause-sound : goal.returns-clause-sound
 returns-clause-sound c =
-    let e = seen c.in_ok-expansion.expansion in
+    let e = expanded_of c.in_ok-expansion.expansion in
     let tree = tree_of c.in_ok-directory.directory.unit.now in
     let top = instance_in c.in_ok-instance.instance in
     let whole = c.in_ok-expansion.ensures in
@@ -38,7 +37,7 @@ returns-clause-sound c =
 
 pub returns-clause-fault : goal.returns-clause-fault
 returns-clause-fault c =
-    let e = seen c.in_ok-expansion.expansion in
+    let e = expanded_of c.in_ok-expansion.expansion in
     let tree = tree_of c.in_ok-directory.directory.unit.now in
     let top = instance_in c.in_ok-instance.instance in
     let whole = c.in_ok-expansion.ensures in
