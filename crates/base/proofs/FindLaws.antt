@@ -4,9 +4,10 @@ use Rattle.std.specs.List.{Contains, find, list_any, position_or_len}
 use Rattle.std.specs.Option.{option_and_then}
 use Rattle.std.proofs.lemmas.Option.{slice_get_past, none-some, same_Some, cond_some}
 use Rattle.std.proofs.lemmas.List.Folds.{find_at}
-use Rattle.std.proofs.lemmas.Bool.{false≢true, ltb-false}
+use Rattle.std.proofs.lemmas.Bool.{false≢true, ltb-false, ltb-true}
 use Rattle.std.proofs.lemmas.List.Elements.{Contains-append_right, Contains-get_or}
 use Rattle.std.proofs.lemmas.Bool.Decides.{nat_tests}
+use Rattle.base.proofs.PlaceLaws.{slice_get-there}
 use Rattle.base.proofs.ContainsLaws.{Contains-cons_cases, Contains-here, Contains-nil, Contains-there}
 
 pub find-map : {A B : Type 0} (p : B → Bool) (f : A → B) (xs : List A) → find p (map f xs) ≡ option_map f (find (λ x. p (f x)) xs)
@@ -27,6 +28,17 @@ find-position p xs = find_at p xs ∙ at_place (nat_lt (position_or_len p xs) (l
     at_place : (b : Bool) → nat_lt (position_or_len p xs) (length xs) ≡ b → slice_get xs (position_or_len p xs) ≡ option_and_then (slice_get xs) (cond b (Some (position_or_len p xs)) None)
     at_place true h = refl
     at_place false h = slice_get_past xs (position_or_len p xs) (ltb-false (position_or_len p xs) (length xs) h)
+
+-- a place is found exactly where an element passes
+pub is_some-position : {A : Type 0} (p : A → Bool) (xs : List A) → is_some (position p xs) ≡ list_any p xs
+is_some-position {A} p xs = by (ltb first (length xs)) refl ∙ ap is_some (sym (find_at p xs)) ∙ is_some-find p xs
+  where
+    first : ℕ
+    first = position_or_len p xs
+
+    by : (b : Bool) → ltb first (length xs) ≡ b → is_some (cond b (Some first) None) ≡ is_some (slice_get xs first)
+    by true within = sym (ap is_some (slice_get-there xs first (ltb-true first (length xs) within)).1)
+    by false past = sym (ap is_some (slice_get_past xs first (ltb-false first (length xs) past)))
 
 -- ---- look-ups
 

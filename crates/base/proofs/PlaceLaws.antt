@@ -9,6 +9,17 @@ use Rattle.std.proofs.lemmas.List.{get_or_past, get_or_append_left, get_or-appen
 
 -- ---- elements by their places
 
+-- lists that are the same begin with the same element, and go on alike
+pub heads_are : {A : Type 0} (x y : A) (xs ys : List A) → x ∷ xs ≡ y ∷ ys → x ≡ y
+heads_are x y xs ys is = cc
+
+pub tails_are : {A : Type 0} (x y : A) (xs ys : List A) → x ∷ xs ≡ y ∷ ys → xs ≡ ys
+tails_are x y xs ys is = cc
+
+-- one place has one element
+pub one_at : {A : Type 0} (xs : List A) (n : ℕ) (x y : A) → slice_get xs n ≡ Some x → slice_get xs n ≡ Some y → x ≡ y
+one_at xs n x y is is' = same_Some x y (sym is ∙ is')
+
 pub slice_get-front : {A : Type 0} (xs ys : List A) (a : ℕ) (x : A) → slice_get xs a ≡ Some x → slice_get (xs ++ ys) a ≡ Some x
 slice_get-front [] ys a x at = absurd (none-some x at)
 slice_get-front (y ∷ xs) ys zero x at = at

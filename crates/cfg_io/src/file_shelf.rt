@@ -1,7 +1,7 @@
 //! The files of the system as a shelf.
 
-ghost use Rattle.std.specs.Prelude.{◌≡◌, ◌≤◌, IfOk, [], vec_len};
-ghost use Rattle.cfg_io.specs.Shelf.{CarriesLimit};
+ghost use Rattle.std.specs.Prelude.{◌≡◌, ◌≤◌, ◌⊎◌, IfOk, IfSome, Some, [], vec_len};
+ghost use Rattle.cfg_io.specs.Shelf.{CarriesLimit, MayAnswer};
 
 use crate::shelf::{Shelf, ShelfError};
 use std::alloc::Global;
@@ -59,23 +59,40 @@ impl<R: Files> Shelf for FileShelf<R> {
     }
 }
 
-// The bytes of a file that keeps the limit. One byte past the limit is read to tell a longer one.
+// The bytes of a file that keeps the limit.
 fn read_file<R: Files>(rt: &R, alloc: Global, name: &str, limit: u32) -> Result<Vec<u8>, ShelfError>
     ensures within { IfOk result (λ bytes. vec_len bytes ≤ limit) }
     ensures carries { CarriesLimit result limit }
 {
-    match read_front(rt, alloc, name, u64::from(limit) + 1) {
-        Ok(bytes) if bytes.len() > limit as usize => Err(ShelfError::TooLong { limit }),
-        Ok(bytes) => Ok(bytes),
-        Err(error) if error.kind() == ErrorKind::OutOfMemory => Err(ShelfError::NoMemory),
-        Err(_) => Err(ShelfError::Failed),
+    match fs::open(rt, name) {
+        Ok(file) => read_within(alloc, file, limit),
+        Err(error) => Err(refusal(&error)),
     }
 }
 
-// The bytes at the front of a file, at most so many. They are read in pieces, so that the memory
-// goes with the bytes that are there.
-fn read_front<R: Files>(rt: &R, alloc: Global, name: &str, most: u64) -> io::Result<Vec<u8>> {
+// All that a reader has left, where it keeps the limit. One byte past the limit is read to tell more. Bytes
+// are read in pieces, so that the memory goes with those that are there.
+fn read_within<R: Read + Drop>(alloc: Global, reader: R, limit: u32) -> Result<Vec<u8>, ShelfError>
+    ensures within { IfOk result (λ bytes. vec_len bytes ≤ limit) }
+    ensures carries { CarriesLimit result limit }
+    ensures told { IfSome (R.remaining reader) (λ left. MayAnswer (Some left) limit result) }
+{
     let mut bytes = Vec::new(alloc);
-    fs::open(rt, name)?.take(most).read_to_end(&mut bytes)?;
-    Ok(bytes)
+    let read = reader.take(u64::from(limit) + 1).read_to_end(&mut bytes);
+    match read {
+        Ok(_) if bytes.len() > limit as usize => Err(ShelfError::TooLong { limit }),
+        Ok(_) => Ok(bytes),
+        Err(error) => Err(refusal(&error)),
+    }
+}
+
+// Why a file isn't read.
+fn refusal(error: &io::Error) -> ShelfError
+    ensures { (result ≡ ShelfError.Failed) ⊎ (result ≡ ShelfError.NoMemory) }
+{
+    if error.kind() == ErrorKind::OutOfMemory {
+        ShelfError::NoMemory
+    } else {
+        ShelfError::Failed
+    }
 }

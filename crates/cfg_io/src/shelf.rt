@@ -3,19 +3,15 @@
 ghost use Rattle.std.specs.Prelude.{◌≡◌, ◌≤◌, ℕ, List, Option, IfOk, IfSome, vec_len};
 
 use std::alloc::{AllocError, AllocFailed};
-use thiserror::Error;
 
 /// Why a fetch gave no bytes.
-#[derive(Debug, Drop, Error)]
+#[derive(Debug, Drop)]
 pub enum ShelfError {
     /// The file isn't there or can't be read. The shelf keeps its name.
-    #[error("the file can't be read")]
     Failed,
     /// The file has more bytes than the limit of the call.
-    #[error("the file has more than {limit} bytes")]
     TooLong { limit: u32 },
     /// Memory ran out. The shelf is as it was.
-    #[error("no memory")]
     NoMemory,
 }
 

@@ -4,16 +4,12 @@ ghost use Rattle.std.specs.Prelude.{◌≡◌, ◌≤◌, ◌<◌, ℕ, List, Op
 ghost use Rattle.cfg_io.specs.Count.{Rose};
 ghost use Rattle.cfg_io.specs.Sink.{taken_after, with_bytes};
 
-use thiserror::Error;
-
 /// A sink took nothing of a piece.
-#[derive(Clone, Copy, Debug, PartialEq, Eq, Error)]
-#[error("nothing was taken")]
+#[derive(Clone, Copy, Debug, PartialEq, Eq)]
 pub struct SinkFailed;
 
 /// A sink failed after it took this many bytes.
-#[derive(Clone, Copy, Debug, PartialEq, Eq, Error)]
-#[error("stopped after {written} bytes")]
+#[derive(Clone, Copy, Debug, PartialEq, Eq)]
 pub struct Stopped {
     pub written: usize,
 }

@@ -10,9 +10,9 @@ use Rattle.std.proofs.lemmas.Bool.{false≢true}
 use Rattle.std.proofs.lemmas.Bool.Decides.{nat_tests}
 use Rattle.config_graph.specs.Kinds.{row, depends_on, is_depended_on}
 use Rattle.config_graph.specs.Graph.{Graph, IsLinkWithin, provides_at, provides_of, requires_at, requires_of, target_of}
-use Rattle.config_graph.specs.Cycles.{FirstOnCycle, OnCycle, NoCycle, IsLinked, depends_at, is_depended_at, leads_by, graph_wiring}
+use Rattle.config_graph.specs.Cycles.{FirstOnCycle, OnCycle, IsLinked, depends_at, is_depended_at, leads_by, graph_wiring}
 use Rattle.config_graph.specs.Walks.{onward, step}
-use Rattle.config_graph.specs.Wiring.{MayCall, CallPath}
+use Rattle.config_graph.specs.Wiring.{MayCall, CallPath, HasNoCycle}
 use Rattle.config_graph.specs.declared.kind.Kind.{Kind}
 use Rattle.config_graph.specs.declared.kind.Kind.TheVariants.{Philosopher, Place, Fork, Source, Map, Buffer, Sink, Teller, Branch, Account, Asker, Adder}
 use Rattle.config_graph.specs.declared.node.Node.{Node}
@@ -77,8 +77,8 @@ depended_by nodes i x r h = by (slice_get nodes i) h
     by (Some n) h = depended_if n.kind x r h
 
 -- a node may call the nodes to which its ports lead
-pub leads_by-Leads : (g : Graph) (i r j : ℕ) → leads_by g i r ≡ Some j → MayCall (graph_wiring g) i j
-leads_by-Leads g i r j h = by (is_depended_at g.nodes i r) refl (target_of g.links i r) refl h
+pub leads_by-MayCall : (g : Graph) (i r j : ℕ) → leads_by g i r ≡ Some j → MayCall (graph_wiring g) i j
+leads_by-MayCall g i r j h = by (is_depended_at g.nodes i r) refl (target_of g.links i r) refl h
   where
     by : (b : Bool) → is_depended_at g.nodes i r ≡ b → (o : Option Target) → target_of g.links i r ≡ o → (if b then option_map (λ (t : Target). t.node) o else None) ≡ Some j → MayCall (graph_wiring g) i j
     by false e o f k = cc
@@ -99,36 +99,36 @@ depended g i j h = depended_by g.nodes i h.serves h.port.require h.depends.1
 linked : (g : Graph) (i j : ℕ) (h : MayCall (graph_wiring g) i j) → IsLinked g i h.port.require j h.provide
 linked g i j h = subst (λ k. IsLinked g k h.port.require j h.provide) h.depends.0 h.linked
 
-pub Leads-leads_by : (g : Graph) (i j : ℕ) (h : MayCall (graph_wiring g) i j) → leads_by g i h.port.require ≡ Some j
-Leads-leads_by g i j h =
+pub MayCall-leads_by : (g : Graph) (i j : ℕ) (h : MayCall (graph_wiring g) i j) → leads_by g i h.port.require ≡ Some j
+MayCall-leads_by g i j h =
     leads_by-depended g i h.port.require (depended g i j h) ∙ ap (option_map (λ (t : Target). t.node)) (linked g i j h)
 
-pub Leads-require : (g : Graph) (i j : ℕ) (h : MayCall (graph_wiring g) i j) → h.port.require < requires_at g.nodes i
-Leads-require g i j h = depended_at_within g.nodes i h.port.require (depended g i j h)
+pub MayCall-require : (g : Graph) (i j : ℕ) (h : MayCall (graph_wiring g) i j) → h.port.require < requires_at g.nodes i
+MayCall-require g i j h = depended_at_within g.nodes i h.port.require (depended g i j h)
 
 -- only nodes of the graph lead anywhere
-pub Leads-within : (g : Graph) (i j : ℕ) → MayCall (graph_wiring g) i j → i < length g.nodes
-Leads-within g i j h = within_list requires_of g.nodes i h.port.require (Leads-require g i j h)
+pub MayCall-within : (g : Graph) (i j : ℕ) → MayCall (graph_wiring g) i j → i < length g.nodes
+MayCall-within g i j h = within_list requires_of g.nodes i h.port.require (MayCall-require g i j h)
 
-pub Way-within : (g : Graph) (i j : ℕ) → CallPath (graph_wiring g) i j → i < length g.nodes
-Way-within g i j (step h) = Leads-within g i j h
-Way-within g i j (onward h rest) = Leads-within g i _ h
+pub CallPath-within : (g : Graph) (i j : ℕ) → CallPath (graph_wiring g) i j → i < length g.nodes
+CallPath-within g i j (step h) = MayCall-within g i j h
+CallPath-within g i j (onward h rest) = MayCall-within g i _ h
 
 -- the node of a target is within
 pub IfSome-node : (nodes : List Node) (o : Option Target) → IfSome o (λ t. t.provide < provides_at nodes t.node) → IfSome (option_map (λ (t : Target). t.node) o) (λ j. j < length nodes)
 IfSome-node nodes None h = tt
 IfSome-node nodes (Some t) h = within_list provides_of nodes t.node t.provide h
 
-pub Leads-ends : (g : Graph) → All (IsLinkWithin g.nodes) g.links → (i j : ℕ) → MayCall (graph_wiring g) i j → j < length g.nodes
-Leads-ends g graph i j h =
+pub MayCall-ends : (g : Graph) → All (IsLinkWithin g.nodes) g.links → (i j : ℕ) → MayCall (graph_wiring g) i j → j < length g.nodes
+MayCall-ends g graph i j h =
     within_list provides_of g.nodes j h.provide (target_within g.nodes g.links i h.port.require (record { node = j; provide = h.provide }) graph (linked g i j h))
 
 -- where no node of the graph is on a cycle, there is none
-pub no_cycle : (g : Graph) → ((i : ℕ) → i < length g.nodes → ¬ OnCycle g i) → NoCycle g
-no_cycle g h i way = h i (Way-within g i i way) way
+pub no_cycle : (g : Graph) → ((i : ℕ) → i < length g.nodes → ¬ OnCycle g i) → HasNoCycle (graph_wiring g)
+no_cycle g h i way = h i (CallPath-within g i i way) way
 
 -- where no node is the first on a cycle, none is on one
-pub no_first : (g : Graph) → ((i : ℕ) → ¬ FirstOnCycle g i) → NoCycle g
+pub no_first : (g : Graph) → ((i : ℕ) → ¬ FirstOnCycle g i) → HasNoCycle (graph_wiring g)
 no_first g none i way = below (suc i) i (omega arith) way
   where
     below : (n j : ℕ) → j < n → ¬ OnCycle g j
@@ -146,8 +146,8 @@ IfSome-at o P x h e = ForSome-from_IfSome o P P h (λ y p. p) x e
 -- where each port leads only to nodes of a set, the node does
 pub leads_only : (g : Graph) (i count : ℕ) (P : ℕ → Type 0) → requires_at g.nodes i ≤ count → ((r : ℕ) → r < count → IfSome (leads_by g i r) P) → (j : ℕ) → MayCall (graph_wiring g) i j → P j
 leads_only g i count P all h j leads =
-    let low = Leads-require g i j leads in
-    IfSome-at (leads_by g i leads.port.require) P j (h leads.port.require (omega arith)) (Leads-leads_by g i j leads)
+    let low = MayCall-require g i j leads in
+    IfSome-at (leads_by g i leads.port.require) P j (h leads.port.require (omega arith)) (MayCall-leads_by g i j leads)
 
 -- how many services the node at an index requires and provides
 pub requires_is : (nodes : List Node) (i count : ℕ) (n : Node) → slice_get nodes i ≡ Some n → count ≡ requires_of n → count ≡ requires_at nodes i

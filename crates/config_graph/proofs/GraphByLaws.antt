@@ -1,4 +1,4 @@
--- There is one graph of some nodes and their links. A public clause can't range over the sets of nodes and links, so this stands here for
+-- There is one graph of some nodes and their links. A public clause can't range over the sets of nodes and links, so that stands here for
 -- the laws `one_graph` of the crates above.
 use Rattle.std.proofs.Common.{◌≡◌, ◌∙◌, ℕ, List, Option, Some, None, refl, ap, sym, subst}
 use Rattle.std.specs.Prelude.{◌↔◌, All, Contains, filter_map, option_map}
@@ -55,29 +55,32 @@ same_links_at ls ks i r to from = by (link_at ls i r) (link_at ks i r) refl refl
     by (Some l) q at at' = sym (same_link ls ks i r to l at) ∙ at'
     by None (Some k) at at' = sym at ∙ same_link ks ls i r from k at'
 
-module _ (IsNode : Node → Type 0) (Linked : Node → ℕ → Node → ℕ → Type 0) where
-  same_nodes : (g h : Graph) → IsGraphBy IsNode Linked g → IsGraphBy IsNode Linked h → g.nodes ≡ h.nodes
-  same_nodes g h a b =
-      one_order (λ (m n : Node). slice_cmp nat_cmp m.path n.path ≡ Less) paths_apart g.nodes h.nodes a.paths_rise b.paths_rise
-      (λ n held. (b.nodes_are n).1 ((a.nodes_are n).0 held)) (λ n held. (a.nodes_are n).1 ((b.nodes_are n).0 held))
+-- graphs with the same nodes, whose ports are linked alike
+pub same_graph : (g h : Graph) → in_port_order g.nodes g.links ≡ g.links → in_port_order h.nodes h.links ≡ h.links → g.nodes ≡ h.nodes
+    → ((i require j provide : ℕ) → IsLinked g i require j provide ↔ IsLinked h i require j provide) → g ≡ h
+same_graph g h in_order in_order' nodes alike = λ n. record { nodes = nodes n; links = links n }
+  where
+    same_at : (p : Port) → link_at g.links p.node p.require ≡ link_at h.links p.node p.require
+    same_at p = same_links_at g.links h.links p.node p.require (λ j x. (alike p.node p.require j x).0) (λ j x. (alike p.node p.require j x).1)
 
+    links : g.links ≡ h.links
+    links =
+        sym in_order ∙ ap (λ ns. in_port_order ns g.links) nodes ∙ (λ n. filter_map (λ p. same_at p n) (ports h.nodes)) ∙ in_order'
+
+module _ (IsNode : Node → Type 0) (Linked : Node → ℕ → Node → ℕ → Type 0) where
   pub one_graph : (g h : Graph) → IsGraphBy IsNode Linked g → IsGraphBy IsNode Linked h → g ≡ h
-  one_graph g h a b = λ n. record { nodes = nodes n; links = links n }
+  one_graph g h a b = same_graph g h a.in_order b.in_order nodes alike
     where
       nodes : g.nodes ≡ h.nodes
-      nodes = same_nodes g h a b
+      nodes =
+          one_order (λ (m n : Node). slice_cmp nat_cmp m.path n.path ≡ Less) paths_apart g.nodes h.nodes a.paths_rise b.paths_rise
+          (λ n held. (b.nodes_are n).1 ((a.nodes_are n).0 held)) (λ n held. (a.nodes_are n).1 ((b.nodes_are n).0 held))
 
-      same_at : (p : Port) → link_at g.links p.node p.require ≡ link_at h.links p.node p.require
-      same_at p = same_links_at g.links h.links p.node p.require
-          (λ j x e. (b.links_are p.node p.require j x).1 (subst (λ ns. AreLinkedAt Linked ns p.node p.require j x) nodes ((a.links_are p.node p.require j x).0 e)))
-          (λ j x e. (a.links_are p.node p.require j x).1 (subst (λ ns. AreLinkedAt Linked ns p.node p.require j x) (sym nodes) ((b.links_are p.node p.require j x).0 e)))
-
-      links : g.links ≡ h.links
-      links =
-          sym a.in_order
-          ∙ ap (λ ns. in_port_order ns g.links) nodes
-          ∙ (λ n. filter_map (λ p. same_at p n) (ports h.nodes))
-          ∙ b.in_order
+      alike : (i require j provide : ℕ) → IsLinked g i require j provide ↔ IsLinked h i require j provide
+      alike i r j x = (
+        λ is. (b.links_are i r j x).1 (subst (λ ns. AreLinkedAt Linked ns i r j x) nodes ((a.links_are i r j x).0 is)),
+        λ is. (a.links_are i r j x).1 (subst (λ ns. AreLinkedAt Linked ns i r j x) (sym nodes) ((b.links_are i r j x).0 is)),
+      )
 
 -- ---- links that are in a list and links of ports
 

@@ -12,12 +12,12 @@ use Rattle.std.proofs.lemmas.List.Elements.{All-cons, All-push, Contains-append_
 use Rattle.std.proofs.lemmas.List.Sums.{sum_by-set}
 use Rattle.std.proofs.Math.ListN.{get_or-eq_default}
 use Rattle.config_graph.specs.Graph.{Graph, IsLinkWithin, requires_at}
-use Rattle.config_graph.specs.Cycles.{FirstOnCycle, NoCycle, OnCycle, leads_by, graph_wiring}
+use Rattle.config_graph.specs.Cycles.{FirstOnCycle, OnCycle, leads_by, graph_wiring}
 use Rattle.config_graph.specs.Marks.{IsMarked}
 use Rattle.config_graph.specs.Walks.{onward, step}
-use Rattle.config_graph.specs.Wiring.{CallPath, MayCall}
+use Rattle.config_graph.specs.Wiring.{CallPath, MayCall, HasNoCycle}
 use Rattle.config_graph.specs.Search.{Seen, see, see_all, seen_of, successors, successors_by}
-use Rattle.config_graph.proofs.CycleLaws.{no_cycle, leads_by-Leads, Leads-ends, Leads-leads_by, Leads-require}
+use Rattle.config_graph.proofs.CycleLaws.{no_cycle, leads_by-MayCall, MayCall-ends, MayCall-leads_by, MayCall-require}
 use Rattle.config_graph.proofs.MarkLaws.{marked_here, marked_kept, marked_only, none_marked}
 use Rattle.config_graph.proofs.WalkLaws.{walk_then}
 use Rattle.base.proofs.ContainsLaws.{Contains-filter_map}
@@ -160,7 +160,7 @@ see_all-append (x ∷ xs) ys s = see_all-append xs ys (see x s)
 -- the successors of a node
 pub successors-lead : (g : Graph) (i : ℕ) → All (MayCall (graph_wiring g) i) (successors g i)
 successors-lead g i =
-    All-filter_map (leads_by g i) (MayCall (graph_wiring g) i) (range_with_len 0 (requires_at g.nodes i)) (λ k r j at_k h. leads_by-Leads g i r j h)
+    All-filter_map (leads_by g i) (MayCall (graph_wiring g) i) (range_with_len 0 (requires_at g.nodes i)) (λ k r j at_k h. leads_by-MayCall g i r j h)
 
 pub successors_by-more : (g : Graph) (i r : ℕ) → successors_by g i (r + 1) ≡ successors_by g i r ++ option_to_list (leads_by g i r)
 successors_by-more g i r =
@@ -172,18 +172,18 @@ successors_by-more g i r =
 
 pub successors-within : (g : Graph) → All (IsLinkWithin g.nodes) g.links → (i : ℕ) → All (λ j. j < length g.nodes) (successors g i)
 successors-within g graph i =
-    All-filter_map (leads_by g i) (λ j. j < length g.nodes) (range_with_len 0 (requires_at g.nodes i)) (λ k r j at_k h. Leads-ends g graph i j (leads_by-Leads g i r j h))
+    All-filter_map (leads_by g i) (λ j. j < length g.nodes) (range_with_len 0 (requires_at g.nodes i)) (λ k r j at_k h. MayCall-ends g graph i j (leads_by-MayCall g i r j h))
 
 -- every node to which a node leads is seen with its successors
 pub see_all-leads : (g : Graph) → All (IsLinkWithin g.nodes) g.links → (i j : ℕ) (s : Seen) → length s.bits ≡ length g.nodes → MayCall (graph_wiring g) i j → IsMarked (see_all (successors g i) s).bits j
 see_all-leads g graph i j s long h =
     let requires_ = requires_at g.nodes i in
     let r = h.port.require in
-    let low : r < requires_ = Leads-require g i j h in
+    let low : r < requires_ = MayCall-require g i j h in
     let in_range : r < length (range_with_len 0 requires_) = rw length-range_with_len low in
     let here : slice_get (range_with_len 0 requires_) r ≡ Some r =
     slice_get-get_or (range_with_len 0 requires_) r r in_range ∙ ap Some (get_or-range_with_len 0 requires_ r r low ∙ zero-add r) in
-    let there = Contains-filter_map (leads_by g i) (range_with_len 0 requires_) r r j here (Leads-leads_by g i j h) in
+    let there = Contains-filter_map (leads_by g i) (range_with_len 0 requires_) r r j here (MayCall-leads_by g i j h) in
     subst (IsMarked (see_all (successors g i) s).bits) there.2 (see_all-here (successors g i) s (λ k d l. rw long (successors-within g graph i k d l)) there.0 j there.1)
 
 -- where the search stands: the first `next` nodes that were reached have had their successors seen
@@ -312,7 +312,7 @@ module _ (g : Graph) (graph : All (IsLinkWithin g.nodes) g.links) (start : ℕ) 
       by bits false is iff = inr (λ way. false≢true (sym is ∙ iff.1 way))
 
 -- the first node that is on a cycle, or none is on one
-pub first_or_none : (g : Graph) → All (IsLinkWithin g.nodes) g.links → ((i : ℕ) × FirstOnCycle g i) ⊎ NoCycle g
+pub first_or_none : (g : Graph) → All (IsLinkWithin g.nodes) g.links → ((i : ℕ) × FirstOnCycle g i) ⊎ HasNoCycle (graph_wiring g)
 first_or_none g graph = elim (up_to (length g.nodes)) [ inl first ↦ inl first | inr none ↦ inr (no_cycle g none) ]
   where
     up_to : (n : ℕ) → ((i : ℕ) × FirstOnCycle g i) ⊎ ((i : ℕ) → i < n → ¬ OnCycle g i)

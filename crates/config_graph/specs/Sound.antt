@@ -2,7 +2,8 @@
 use Rattle.std.specs.Prelude.{◌≡◌, ◌<◌, ◌^◌, All, IfSome, is_some}
 use Rattle.config_graph.specs.Kinds.{row}
 use Rattle.config_graph.specs.Graph.{Graph, IsLinkWithin, PathsRise, in_port_order}
-use Rattle.config_graph.specs.Cycles.{NoCycle}
+use Rattle.config_graph.specs.Cycles.{graph_wiring}
+use Rattle.config_graph.specs.Wiring.{HasNoCycle}
 use Rattle.config_graph.specs.declared.node.Node.{Node}
 
 -- an argument below 2^24 is there exactly where the kind has one
@@ -15,4 +16,4 @@ pub record Sound (g : Graph) : Type 0 where
   pub arguments : All HasItsArgument g.nodes
   pub within : All (IsLinkWithin g.nodes) g.links
   pub in_order : in_port_order g.nodes g.links ≡ g.links
-  pub no_cycle : NoCycle g
+  pub no_cycle : HasNoCycle (graph_wiring g)

@@ -1,12 +1,12 @@
 //! Cycles of depended-on links.
 
-ghost use Rattle.std.specs.Prelude.{◌≡◌, ◌⊎◌, ◌+◌, ◌<◌, ◌≤◌, ◌↔◌, ℕ, length, All, IfNone, IfOk, IfSome, IsTrue, OnOk, false, option_map, option_to_list, replicate, vec_len};
+ghost use Rattle.std.specs.Prelude.{◌≡◌, ◌+◌, ◌<◌, ◌≤◌, ◌↔◌, ℕ, length, All, IfNone, IfOk, IfSome, IsTrue, OnOk, false, option_map, option_to_list, replicate, vec_len};
 ghost use Rattle.std.specs.List.{range_with_len};
 ghost use Rattle.std.specs.Option.{ForSome};
-ghost use Rattle.config_graph.specs.Cycles.{FirstOnCycle, NoCycle, OnCycle, leads_by, graph_wiring};
+ghost use Rattle.config_graph.specs.Cycles.{FirstOnCycle, OnCycle, leads_by, graph_wiring};
 ghost use Rattle.config_graph.specs.Marks.{IsMarked};
-ghost use Rattle.config_graph.specs.Wiring.{CallPath, MayCall};
-ghost use Rattle.config_graph.specs.Graph.{Graph, IsGraph, ports as ports_of, requires_at};
+ghost use Rattle.config_graph.specs.Wiring.{CallPath, HasNoCycle, MayCall};
+ghost use Rattle.config_graph.specs.Graph.{Graph, ports as ports_of, requires_at};
 ghost use Rattle.config_graph.specs.declared.node.Target.{Target};
 ghost use Rattle.config_graph.specs.Search.{see_all, seen_of, successors};
 
@@ -19,7 +19,7 @@ use std::alloc::Global;
 /// on a cycle from which a way leads to a cycle costs a search of its own.
 pub fn first_on_cycle(alloc: Global, graph: &Graph) -> Result<Option<u32>, NoMemory>
     ensures found { IfOk result (λ node. IfSome node (FirstOnCycle graph.now)) }
-    ensures absent { IfOk result (λ node. IfNone node (NoCycle graph.now)) }
+    ensures absent { IfOk result (λ node. IfNone node (HasNoCycle (graph_wiring graph.now))) }
 {
     let acyclic = list_acyclic(alloc, graph)?;
     for node in 0..graph.node_count() {
@@ -29,11 +29,6 @@ pub fn first_on_cycle(alloc: Global, graph: &Graph) -> Result<Option<u32>, NoMem
     }
     Ok(None)
 }
-
-/// Some node of a graph is the first on a cycle, or none is on one.
-pub fn a_first_on_a_cycle_or_none()
-    ensures { (g : Graph) → IsGraph g → ((i : ℕ) × FirstOnCycle g i) ⊎ NoCycle g }
-{}
 
 /// The nodes that lead only to nodes of this list, as a bit for each node, taken in until there are no more. None of them is
 /// on a cycle.

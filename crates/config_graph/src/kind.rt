@@ -37,11 +37,6 @@ const KINDS: [Kind; 12] = [
     Kind::Adder,
 ];
 
-/// A law: each kind is found by its name, so no kind has a name for which none is found.
-pub fn kinds_have_their_names()
-    ensures { (kind : Kind) → kind_named (row kind).name ≡ Some kind }
-{}
-
 /// The kind of this name, or `None` where no kind has it.
 pub fn kind_of(name: &[u8]) -> Option<Kind>
     ensures named { result ≡ kind_named name.now }

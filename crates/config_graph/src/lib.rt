@@ -11,12 +11,15 @@ mod numbering;
 mod writing;
 
 pub use base::{List, NoMemory, Text};
-pub use cycles::{a_first_on_a_cycle_or_none, first_on_cycle};
+pub use cycles::first_on_cycle;
 pub use graph::{Graph, same};
-pub use kind::{Kind, kind_of, kinds_have_their_names};
-pub use laws::{kinds_are_small, limits_of_one_run, one_graph};
+pub use kind::{Kind, kind_of};
+pub use laws::{
+    a_first_on_a_cycle_or_none, kinds_are_small, kinds_have_their_names, limits_of_one_run,
+    one_graph, texts_tell_sound_graphs,
+};
 pub use node::{Link, Made, Node, Port, Target};
-pub use writing::{graph_text, kind_text, texts_tell_sound_graphs};
+pub use writing::{graph_text, kind_text};
 
 /// How many nodes one run makes at most.
 pub const MAX_NODES: u32 = 1_023;

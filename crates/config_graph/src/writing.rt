@@ -1,10 +1,9 @@
 //! The text of a graph.
 
-ghost use Rattle.std.specs.Prelude.{◌≡◌, ◌++◌, ◌<◌, slice_get, All, IfOk, OnOk};
+ghost use Rattle.std.specs.Prelude.{◌≡◌, ◌++◌, ◌<◌, slice_get, IfOk, OnOk};
 ghost use Rattle.std.specs.Option.{ForSome};
 ghost use Rattle.config_graph.specs.Graph.{Graph, provides_at, requires_of};
-ghost use Rattle.config_graph.specs.Sound.{Sound};
-ghost use Rattle.config_graph.specs.GraphText.{IsOneWord, graph_text, kind_text, node_line, port_line, port_lines, target_text};
+ghost use Rattle.config_graph.specs.GraphText.{graph_text, kind_text, node_line, port_line, port_lines, target_text};
 
 use crate::{Graph, Kind, NoMemory, Node, Target};
 use itoa::Buffer;
@@ -43,13 +42,6 @@ fn push_kind(text: &mut Vec<u8>, kind: Kind, arg: Option<u32>) -> Result<(), NoM
     }
     text.extend_from_slice(b")")
 }
-
-/// A law: where the paths of two sound graphs hold no space and no line feed, the graphs are equal if their texts are.
-pub fn texts_tell_sound_graphs()
-    ensures { (a b : Graph) → Sound a → Sound b
-        → All (λ n. IsOneWord n.path) a.nodes → All (λ n. IsOneWord n.path) b.nodes
-        → graph_text a ≡ graph_text b → a ≡ b }
-{}
 
 /// `node PATH KIND(ARG)`
 fn write_node(text: &mut Vec<u8>, node: &Node) -> Result<(), NoMemory>

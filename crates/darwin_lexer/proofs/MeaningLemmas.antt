@@ -3,7 +3,7 @@ use Rattle.std.proofs.Common.{◌≡◌, ℕ, ◌-◌, ◌<◌, ◌≤◌, ◌�
 use Rattle.std.specs.List.{starts_with}
 use Rattle.std.specs.Char.{is_ascii_digit}
 use Rattle.std.specs.Str.Parse.{digits_value}
-use Rattle.std.proofs.lemmas.Bool.{cond-true, cond-false, false≢true, false_from_ne_true}
+use Rattle.std.proofs.lemmas.Bool.{le-leb, lt-leb, cond-true, cond-false, false≢true, false_from_ne_true}
 use Rattle.std.proofs.lemmas.Bool.Decides.{nat_tests, Decides-eqb}
 use Rattle.std.proofs.lemmas.List.{get_or-take, length-take-le}
 use Rattle.std.proofs.lemmas.Slice.Eq.{starts_is}
@@ -112,23 +112,17 @@ verdict (kinds.Number value) n = if nat_le value 2147483647 then Lexeme (kinds.N
 verdict (kinds.Word keyword) n = Lexeme (kinds.Word keyword) n
 verdict (kinds.Sign sign) n = Lexeme (kinds.Sign sign) n
 
-passes : (n most : ℕ) → n ≤ most → nat_le n most ≡ true
-passes n most is = grind (arith, nat_tests)
-
-fails : (n most : ℕ) → most < n → nat_le n most ≡ false
-fails n most is = grind (arith, nat_tests)
-
 kept : (kind : TokenKind) (n : ℕ) → KeepsLimit kind n → Lexeme kind n ≡ verdict kind n
-kept kinds.Name n short = sym (cond-true _ _ _ (passes n 64 short))
-kept (kinds.Number value) n small = sym (cond-true _ _ _ (passes value 2147483647 small))
+kept kinds.Name n short = sym (cond-true _ _ _ (le-leb n 64 short))
+kept (kinds.Number value) n small = sym (cond-true _ _ _ (le-leb value 2147483647 small))
 kept (kinds.Word keyword) n _ = refl
 kept (kinds.Sign sign) n _ = refl
 
 too_long : (n : ℕ) → 64 < n → Broken LongName ≡ verdict kinds.Name n
-too_long n long = sym (cond-false _ _ _ (fails n 64 long))
+too_long n long = sym (cond-false _ _ _ (lt-leb n 64 long))
 
 too_big : (value n : ℕ) → 2147483647 < value → Broken BigNumber ≡ verdict (kinds.Number value) n
-too_big value n big = sym (cond-false _ _ _ (fails value 2147483647 big))
+too_big value n big = sym (cond-false _ _ _ (lt-leb value 2147483647 big))
 
 abbrev IsTokenOrBad : List ℕ → Front → Type 0
 IsTokenOrBad text front = ((kind : TokenKind) × (n : ℕ) × IsLongest text kind n × (front ≡ verdict kind n)) ⊎ (BeginsNothing text × (front ≡ Broken BadByte))

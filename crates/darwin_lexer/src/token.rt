@@ -1,7 +1,6 @@
 //! What a text of a description is made of.
 
 use std::alloc::{AllocError, AllocFailed};
-use thiserror::Error;
 
 /// A place in a text. Lines and columns count from 1, columns in bytes; only a line feed ends a line.
 #[derive(Clone, Copy, Debug, PartialEq, Eq)]
@@ -73,21 +72,16 @@ pub struct Token {
 }
 
 /// Why a text can't be parted into tokens: its first fault, with its place.
-#[derive(Debug, Drop, Error)]
+#[derive(Debug, Drop)]
 pub enum LexError {
     /// No token begins with this byte.
-    #[error("no token begins at {}:{}", .0.line, .0.column)]
     BadByte(At),
     /// A comment that begins here has no end.
-    #[error("the comment at {}:{} has no end", .0.line, .0.column)]
     OpenComment(At),
     /// A name of more than 64 bytes begins here.
-    #[error("the name at {}:{} is longer than 64 bytes", .0.line, .0.column)]
     LongName(At),
     /// A number above 2,147,483,647 begins here.
-    #[error("the number at {}:{} is above 2147483647", .0.line, .0.column)]
     BigNumber(At),
-    #[error("no memory")]
     NoMemory,
 }
 

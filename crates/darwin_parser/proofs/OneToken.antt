@@ -1,5 +1,7 @@
 -- Readers of one token, and the tests of the next one, are exact.
 use Rattle.std.proofs.Common.{◌≡◌, ℕ, Bool, true, false, ◌||◌, ◌&&◌, cond, List, [], ◌∷◌, ◌++◌, length, Ok, Err, refl, ap, sym, subst, ◌∙◌, inl, inr, ◌⊎◌, Option, Some, None, is_some, drop}
+use Rattle.std.proofs.lemmas.Option.{none-some, same_Some}
+use Rattle.base.proofs.PlaceLaws.{heads_are}
 use Rattle.darwin_lexer.specs.declared.token.Token.{Token}
 use Rattle.darwin_lexer.specs.declared.token.TokenKind.{TokenKind}
 use Rattle.darwin_lexer.specs.declared.token.TokenKind.TheVariants as kinds
@@ -17,9 +19,6 @@ use Rattle.darwin_parser.specs.Reading.{Reader, Outcome, and_then, same_kind}
 use Rattle.darwin_parser.proofs.KindSets.{class_of, member, or_both_false, or_false, or_joins, or_split, same_self, same_sound, sum_of, within_is}
 use Rattle.darwin_parser.proofs.Exact.{Answer, Begun, Exact, SameHead, StartsOr, Stops, Tells, decides, exact_if, exact_reads, exact_same}
 
-pub heads_are : (t u : Token) (ts us : List Token) → t ∷ ts ≡ u ∷ us → t ≡ u
-heads_are t u ts us e = cc
-
 -- one token of which f tells the value
 abbrev pub one : {A : Type 0} → (Token → Option A) → Lang A
 one f = λ tokens a. (t : Token) × (tokens ≡ t ∷ []) × (f t ≡ Some a)
@@ -32,12 +31,6 @@ pub record Example {A : Type 0} (f : Token → Option A) : Type 0 where
 abbrev pub one_reads : {A : Type 0} → (Token → Option A) → Reader A
 one_reads f [] = Err (Expected 0)
 one_reads f (t ∷ ts) = reading.value_or_refuse (f t) (t ∷ ts) ts
-
-pub some_is : {A : Type 0} (a b : A) → Some a ≡ Some b → a ≡ b
-some_is a b e = cc
-
-pub none_some : {A : Type 0} (a : A) → None ≡ Some a → ⊥
-none_some a e = cc
 
 pub dead_end : (t : Token) (v x : List Token) → t ∷ v ≡ x → SameHead x [] → ⊥
 dead_end t v [] e h = absurd cc
@@ -59,7 +52,7 @@ module _ {A : Type 0} (f : Token → Option A) (ex : Example f) where
     left = refl;
     dead = λ i u v x b l stops same head.
         let same_token : l.0 ≡ t = head_is l.0 t v x ts (ap (λ w. w ++ v) (sym l.1) ∙ same) head in
-        none_some b (sym is ∙ (ap f (sym same_token) ∙ l.2));
+        none-some b (sym is ∙ (ap f (sym same_token) ∙ l.2));
     begun = one_begun 0;
   }
   one_at t ts (Some a) is = record {
@@ -68,7 +61,7 @@ module _ {A : Type 0} (f : Token → Option A) (ex : Example f) where
     spelled = (t, refl, is);
     only = λ i u v x b l stops same head.
         let same_token : l.0 ≡ t = heads_are l.0 t v x (ap (λ w. w ++ v) (sym l.1) ∙ same) in
-        (l.1 ∙ ap (λ z. z ∷ []) same_token, some_is b a (sym l.2 ∙ (ap f same_token ∙ is)));
+        (l.1 ∙ ap (λ z. z ∷ []) same_token, same_Some b a (sym l.2 ∙ (ap f same_token ∙ is)));
   }
 
   pub one_answers : (tokens : List Token) → Answer [] (λ i. one f) tokens (one_reads f tokens)
@@ -92,8 +85,8 @@ abbrev pub of_kind : TokenKind → Token → Option Token
 of_kind kind t = cond (same_kind t.kind kind) (Some t) None
 
 pub of_kind_at : (b : Bool) (t u : Token) → cond b (Some t) None ≡ Some u → (b ≡ true) × (t ≡ u)
-of_kind_at true t u e = (refl, some_is t u e)
-of_kind_at false t u e = absurd (none_some u e)
+of_kind_at true t u e = (refl, same_Some t u e)
+of_kind_at false t u e = absurd (none-some u e)
 
 pub class_same : (k kind : TokenKind) → k ≡ kind → member (class_of k) (class_of kind ∷ []) ≡ true
 class_same k kind e = ap (λ z. same_kind (class_of z) (class_of kind) || false) e ∙ ap (λ b. b || false) (same_self (class_of kind))
@@ -165,10 +158,10 @@ tells_either {p = p} {q = q} a b s t = record {
 }
 
 pub number_is : (k : TokenKind) (n : ℕ) → reading.number_of k ≡ Some n → k ≡ kinds.Number n
-number_is (kinds.Number m) n e = ap kinds.Number (some_is m n e)
-number_is kinds.Name n e = absurd (none_some n e)
-number_is (kinds.Word w) n e = absurd (none_some n e)
-number_is (kinds.Sign s) n e = absurd (none_some n e)
+number_is (kinds.Number m) n e = ap kinds.Number (same_Some m n e)
+number_is kinds.Name n e = absurd (none-some n e)
+number_is (kinds.Word w) n e = absurd (none-some n e)
+number_is (kinds.Sign s) n e = absurd (none-some n e)
 
 pub number_reads : (tokens : List Token) → one_reads (λ t. reading.number_of t.kind) tokens ≡ reading.number tokens
 unfolding reading.number

@@ -1,9 +1,8 @@
 //! From the tokens of a text to its syntax tree.
 
-ghost use Rattle.std.specs.Prelude.{◌≡◌, ◌⊎◌, ℕ, ◌<◌, ◌^◌, List, length, IfOk, IsErrOf};
-ghost use Rattle.darwin_lexer.specs.declared.token.Token as token;
+ghost use Rattle.std.specs.Prelude.{◌≡◌, ℕ, ◌<◌, ◌^◌, length, IfOk, IsErrOf};
 ghost use Rattle.darwin_parser.specs.Tree.{Tree, tree_of};
-ghost use Rattle.darwin_parser.specs.Grammar.{IsUnit, IsUnitWithin};
+ghost use Rattle.darwin_parser.specs.Grammar.{IsUnit};
 ghost use Rattle.darwin_parser.specs.Refusals.{IsUnexpected, IsTooNested, Gives};
 ghost use Rattle.darwin_parser.specs.Views.{refusal_of};
 
@@ -35,19 +34,6 @@ pub fn parse(alloc: Global, text: &[u8], tokens: &[Token]) -> Result<Unit, Parse
         Err(stop) => Err(numbered(tokens.len(), stop)),
     }
 }
-
-/// Tokens are a unit of one tree at most, however deep units may nest.
-pub fn one_tree()
-    ensures { (operands statements : ℕ) (text : List ℕ) (tokens : List token.Token) (a b : Tree) → IsUnitWithin operands statements text tokens a → IsUnitWithin operands statements text tokens b → a ≡ b }
-{}
-
-/// Tokens are a unit, or one of them can't stand where it does, or one is too nested: always one of these, and never two.
-pub fn one_answer()
-    ensures always_one { (text : List ℕ) (tokens : List token.Token) → ((tree : Tree) × IsUnit text tokens tree) ⊎ ((n : ℕ) × IsUnexpected text tokens n) ⊎ ((n : ℕ) × IsTooNested text tokens n) }
-    ensures unit_alone { (text : List ℕ) (tokens : List token.Token) (tree : Tree) (n : ℕ) → IsUnit text tokens tree → (¬ IsUnexpected text tokens n) × (¬ IsTooNested text tokens n) }
-    ensures unexpected_alone { (text : List ℕ) (tokens : List token.Token) (m n : ℕ) → IsUnexpected text tokens m → (¬ IsTooNested text tokens n) × (IsUnexpected text tokens n → m ≡ n) }
-    ensures too_nested_alone { (text : List ℕ) (tokens : List token.Token) (m n : ℕ) → IsTooNested text tokens m → IsTooNested text tokens n → m ≡ n }
-{}
 
 /// The refusal of a rule, with the token's number in place of what is left of this many tokens.
 fn numbered(count: usize, stop: Stop) -> ParseError

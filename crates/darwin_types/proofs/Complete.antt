@@ -10,15 +10,15 @@ use Rattle.darwin_parser.specs.Tree.InstEntry.{single, element}
 use Rattle.darwin_types.specs.declared.error.TypeError.{TypeError}
 use Rattle.darwin_types.specs.declared.error.TypeError.TheVariants.{TwoComponents, TwoNames, UnknownName, UnknownComponent, ArgCount, UnknownKind, KindPorts}
 use Rattle.darwin_types.specs.Scope.{has, component_named, entries_of, port_named, array_named, single_of, singles_of, instances_of, instance_component, Instantiation, made_by, lacks_port}
-use Rattle.darwin_types.specs.Places.{NameUse, value, variable, entry, binding_end, names_of, places, port_places, array_places, body_places}
+use Rattle.darwin_types.specs.NameUses.{NameUse, value, variable, entry, binding_end, names_of, name_uses, port_uses, array_uses, body_uses}
 use Rattle.darwin_types.specs.Primitive.{is_like_kind}
 use Rattle.darwin_types.specs.Faults.{carried, FaultIn, Fault}
 use Rattle.darwin_types.specs.Faults.FaultIn.{two_params, two_ports, two_arrays, array_and_single, two_singles, two_values, unknown_value, unknown_array, unknown_instance, unknown_inner_port, unknown_outer_port, unknown_component, arg_count, unknown_kind, kind_ports}
 use Rattle.darwin_types.specs.Faults.Fault.{two_components, within}
-use Rattle.darwin_types.specs.Check.{unless, clash_faults, call_faults, element_faults, entry_faults, inner_end_faults, outer_end_faults, is_first_like, place_faults, places_faults, array_faults, arrays_faults, repeat_faults, port_faults, param_faults, array_name_faults, primitive_faults, kind_faults, declared_faults, component_faults, unit_faults}
+use Rattle.darwin_types.specs.Check.{unless, clash_faults, call_faults, element_faults, entry_faults, inner_end_faults, outer_end_faults, is_first_like, use_faults, uses_faults, array_faults, arrays_faults, repeat_faults, port_faults, param_faults, array_name_faults, primitive_faults, kind_faults, declared_faults, component_faults, unit_faults}
 use Rattle.darwin_types.proofs.Repeats.{repeated_there}
 use Rattle.darwin_types.proofs.Judged.{repeat_faults-there}
-use Rattle.darwin_types.proofs.EntryPlaces.{place_of_entry}
+use Rattle.darwin_types.proofs.EntryUses.{use_of_entry}
 use Rattle.darwin_types.proofs.Found.{to_unless}
 use Rattle.base.proofs.BytesLaws.{same_bytes}
 use Rattle.base.proofs.ContainsLaws.{Contains-flat_map, Contains-from_flat_map, Contains-from_map, Contains-here, Contains-nil, Contains-one}
@@ -30,40 +30,40 @@ module _ (t : Tree) (c : Component) where
 
   in_array : (a : ArrayDecl) (e : TypeError) → Contains c.arrays a → Contains (array_faults t c c.params a) e → Contains (component_faults t c) e
   in_array a e there h =
-      let ports = places_faults t c (flat_map (port_places c.params) c.ports) in
+      let ports = uses_faults t c (flat_map (port_uses c.params) c.ports) in
       let arrays = arrays_faults t c c.params c.arrays in
-      let rest = places_faults t c (body_places c.params c.body) ++ kind_faults c in
+      let rest = uses_faults t c (body_uses c.params c.body) ++ kind_faults c in
       in_declared e (Contains-append_right ports (arrays ++ rest) e (Contains-append_left arrays rest e (Contains-flat_map (array_faults t c c.params) c.arrays a e there h)))
 
   in_kind : (e : TypeError) → Contains (kind_faults c) e → Contains (component_faults t c) e
   in_kind e h =
-      let ports = places_faults t c (flat_map (port_places c.params) c.ports) in
+      let ports = uses_faults t c (flat_map (port_uses c.params) c.ports) in
       let arrays = arrays_faults t c c.params c.arrays in
-      let body = places_faults t c (body_places c.params c.body) in
+      let body = uses_faults t c (body_uses c.params c.body) in
       in_declared e (Contains-append_right ports (arrays ++ (body ++ kind_faults c)) e (Contains-append_right arrays (body ++ kind_faults c) e (Contains-append_right body (kind_faults c) e h)))
 
-  -- the faults of a place
-  at_place : (p : NameUse) (e : TypeError) → Contains (places c) p → Contains (place_faults t c p) e → Contains (component_faults t c) e
-  at_place p e there h =
-      let port_list = flat_map (port_places c.params) c.ports in
-      let array_list = flat_map (array_places c.params) c.arrays in
-      let body_list = body_places c.params c.body in
-      let rest = arrays_faults t c c.params c.arrays ++ (places_faults t c body_list ++ kind_faults c) in
+  -- the faults of a use
+  at_use : (p : NameUse) (e : TypeError) → Contains (name_uses c) p → Contains (use_faults t c p) e → Contains (component_faults t c) e
+  at_use p e there h =
+      let port_list = flat_map (port_uses c.params) c.ports in
+      let array_list = flat_map (array_uses c.params) c.arrays in
+      let body_list = body_uses c.params c.body in
+      let rest = arrays_faults t c c.params c.arrays ++ (uses_faults t c body_list ++ kind_faults c) in
       elim (Contains-append_cases (port_list ++ array_list) body_list p there) [
         | inl l ↦
             elim (Contains-append_cases port_list array_list p l) [
-              | inl a ↦ in_declared e (Contains-append_left (places_faults t c port_list) rest e (Contains-flat_map (place_faults t c) port_list p e a h))
+              | inl a ↦ in_declared e (Contains-append_left (uses_faults t c port_list) rest e (Contains-flat_map (use_faults t c) port_list p e a h))
               | inr b ↦
-                  let w = Contains-from_flat_map (array_places c.params) c.arrays p b in
+                  let w = Contains-from_flat_map (array_uses c.params) c.arrays p b in
                   let known = unless (is_some (option_map (λ (k : Component). length k.params) (component_named t (w.0).component))) (UnknownComponent c.name (w.0).component) in
-                  in_array w.0 e w.1 (Contains-append_right known (places_faults t c (array_places c.params w.0)) e (Contains-flat_map (place_faults t c) (array_places c.params w.0) p e w.2 h))
+                  in_array w.0 e w.1 (Contains-append_right known (uses_faults t c (array_uses c.params w.0)) e (Contains-flat_map (use_faults t c) (array_uses c.params w.0) p e w.2 h))
             ]
         | inr b ↦
-            in_declared e (Contains-append_right (places_faults t c port_list) rest e (Contains-append_right (arrays_faults t c c.params c.arrays) (places_faults t c body_list ++ kind_faults c) e (Contains-append_left (places_faults t c body_list) (kind_faults c) e (Contains-flat_map (place_faults t c) body_list p e b h))))
+            in_declared e (Contains-append_right (uses_faults t c port_list) rest e (Contains-append_right (arrays_faults t c c.params c.arrays) (uses_faults t c body_list ++ kind_faults c) e (Contains-append_left (uses_faults t c body_list) (kind_faults c) e (Contains-flat_map (use_faults t c) body_list p e b h))))
       ]
 
   at_entry : (d : InstEntry) (e : TypeError) → Contains (entries_of c.body) d → Contains (entry_faults t c d) e → Contains (component_faults t c) e
-  at_entry d e there h = at_place (entry d) e (place_of_entry c d there) h
+  at_entry d e there h = at_use (entry d) e (use_of_entry c d there) h
 
   -- the faults of the entry of a single instance
   of_single : (d : InstEntry) (x k : Name) (e : TypeError) → Contains (entries_of c.body) d → Contains (single_of d) (x, k) → ((args : List Expr) → Contains (clash_faults c x k ++ call_faults t c x k (length args)) e) → Contains (component_faults t c) e
@@ -125,15 +125,15 @@ module _ (t : Tree) (c : Component) where
             let missing = is_some (option_map (λ (d : Component). length d.params) (component_named t (w.0).component)) in
             let fault = UnknownComponent c.name (w.0).component in
             let known : missing ≡ false = ap (λ o. is_some (option_map (λ (d : Component). length d.params) o)) (subst (λ y. component_named t y ≡ None) same none) in
-            subst (λ y. Contains (component_faults t c) (UnknownComponent c.name y)) (sym same) (in_array w.0 fault w.1 (Contains-append_left (unless missing fault) (places_faults t c (array_places c.params w.0)) fault (to_unless missing fault known)))
+            subst (λ y. Contains (component_faults t c) (UnknownComponent c.name y)) (sym same) (in_array w.0 fault w.1 (Contains-append_left (unless missing fault) (uses_faults t c (array_uses c.params w.0)) fault (to_unless missing fault known)))
         | inr r ↦
             at_single x k (UnknownComponent c.name k) r (λ args. Contains-append_right (clash_faults c x k) (call_faults t c x k (length args)) (UnknownComponent c.name k) (unknown_call x k (length args) none))
       ]
 
   -- of the ends of bindings
-  at_end : (r : PortRef) (o : Option Name) (e : TypeError) → Contains (places c) (binding_end r) → r.inst ≡ o → Contains (option_map_or (λ x. inner_end_faults t c x r.port) o (outer_end_faults c r.port)) e → Contains (component_faults t c) e
+  at_end : (r : PortRef) (o : Option Name) (e : TypeError) → Contains (name_uses c) (binding_end r) → r.inst ≡ o → Contains (option_map_or (λ x. inner_end_faults t c x r.port) o (outer_end_faults c r.port)) e → Contains (component_faults t c) e
   at_end r o e there is h =
-      at_place (binding_end r) e there (subst (λ i. Contains (option_map_or (λ x. inner_end_faults t c x r.port) i (outer_end_faults c r.port)) e) (sym is) h)
+      at_use (binding_end r) e there (subst (λ i. Contains (option_map_or (λ x. inner_end_faults t c x r.port) i (outer_end_faults c r.port)) e) (sym is) h)
 
   inner_faults : (x port : Name) (o : Option Name) (e : TypeError) → instance_component c x ≡ o → Contains (option_map_or (λ k. unless (not (lacks_port t k port)) (UnknownName c.name port)) o (UnknownName c.name x ∷ [])) e → Contains (inner_end_faults t c x port) e
   inner_faults x port o e found h =
@@ -154,9 +154,9 @@ module _ (t : Tree) (c : Component) where
   component_complete _ (two_singles x k l hk hl differ) =
       inl (one_unlike x k l (is_first_like c x k) (is_first_like c x l) refl refl hk hl differ)
   component_complete _ (two_values scope x there h) =
-      inl (at_place (variable scope x) (TwoNames c.name x) there (to_unless (not (has scope x)) (TwoNames c.name x) (ap not h)))
+      inl (at_use (variable scope x) (TwoNames c.name x) there (to_unless (not (has scope x)) (TwoNames c.name x) (ap not h)))
   component_complete _ (unknown_value scope ex x there used h) =
-      inl (at_place (value scope ex) (UnknownName c.name x) there (Contains-flat_map (λ y. unless (has scope y) (UnknownName c.name y)) (names_of ex) x (UnknownName c.name x) used (to_unless (has scope x) (UnknownName c.name x) h)))
+      inl (at_use (value scope ex) (UnknownName c.name x) there (Contains-flat_map (λ y. unless (has scope y) (UnknownName c.name y)) (names_of ex) x (UnknownName c.name x) used (to_unless (has scope x) (UnknownName c.name x) h)))
   component_complete _ (unknown_array x index args at there none) =
       inl (at_entry (element x index args at) (UnknownName c.name x) there (subst (λ o. Contains (option_map_or (λ b. call_faults t c x b.component (length (unwrap_or (option_or args b.args) []))) o (UnknownName c.name x ∷ [])) (UnknownName c.name x)) (sym none) (Contains-here (UnknownName c.name x) [])))
   component_complete _ (unknown_instance r x there is none) =

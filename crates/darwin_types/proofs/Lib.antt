@@ -4,8 +4,8 @@ pub mod Judged
 pub mod Components
 pub mod Values
 pub mod Bodies
-pub mod PlaceFaults
-pub mod EntryPlaces
+pub mod UseFaults
+pub mod EntryUses
 pub mod Found
 pub mod Sound
 pub mod Complete

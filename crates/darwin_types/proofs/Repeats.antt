@@ -1,10 +1,8 @@
 -- Names that stand twice in a list of names.
 use Rattle.std.proofs.Common.{◌≡◌, ℕ, ◌+◌, ◌≤◌, Bool, true, false, cond, ◌||◌, List, [], ◌∷◌, ◌++◌, bytes_eq, nat_le, refl, ap, sym, subst, zero-add, ◌∙◌, arith}
-use Rattle.std.specs.List.{Contains, count_by, list_any, filter}
+use Rattle.std.specs.List.{Contains, count_by, list_any}
 use Rattle.std.proofs.lemmas.Bool.{false≢true, true≢false, le-leb, lt-leb, leb-false, leb-true}
 use Rattle.std.proofs.lemmas.Map.Views.{Contains-from_any}
-use Rattle.std.proofs.lemmas.List.Sums.{sum_by-append}
-use Rattle.std.proofs.lemmas.Slice.Eq.{bytes_eq-Decides}
 use Rattle.darwin_parser.specs.Tree.{Name}
 use Rattle.darwin_types.specs.Scope.{has}
 use Rattle.darwin_types.specs.Faults.{is_repeated}

@@ -13,18 +13,18 @@ use Rattle.darwin_parser.specs.Tree.InstEntry.{single, element}
 use Rattle.darwin_types.specs.declared.error.TypeError.{TypeError}
 use Rattle.darwin_types.specs.declared.error.TypeError.TheVariants.{TwoComponents, TwoNames, UnknownName, UnknownComponent, ArgCount, UnknownKind, KindPorts}
 use Rattle.darwin_types.specs.Scope.{has, component_named, entries_of, is_primitive, port_named, array_named, single_of, singles_of, instances_of, instance_component, Instantiation, made_by, lacks_port}
-use Rattle.darwin_types.specs.Places.{NameUse, value, variable, entry, binding_end, names_of, places, port_places, array_places, body_places}
+use Rattle.darwin_types.specs.NameUses.{NameUse, value, variable, entry, binding_end, names_of, name_uses, port_uses, array_uses, body_uses}
 use Rattle.darwin_types.specs.Primitive.{is_like_kind}
 use Rattle.darwin_types.specs.Faults.{is_repeated, carried, FaultIn, Fault}
 use Rattle.darwin_types.specs.Faults.FaultIn.{two_params, two_ports, two_arrays, array_and_single, two_singles, two_values, unknown_value, unknown_array, unknown_instance, unknown_inner_port, unknown_outer_port, unknown_component, arg_count, unknown_kind, kind_ports}
 use Rattle.darwin_types.specs.Faults.Fault.{two_components, within}
-use Rattle.darwin_types.specs.Check.{unless, value_faults, variable_faults, clash_faults, call_faults, entry_faults, inner_end_faults, outer_end_faults, is_first_like, place_faults, places_faults, array_faults, arrays_faults, repeat_faults, port_faults, param_faults, array_name_faults, primitive_faults, kind_faults, declared_faults, component_faults, directory_faults, unit_faults}
-use Rattle.darwin_types.proofs.EntryPlaces.{entry_of_place}
+use Rattle.darwin_types.specs.Check.{unless, value_faults, variable_faults, clash_faults, call_faults, entry_faults, inner_end_faults, outer_end_faults, is_first_like, use_faults, uses_faults, array_faults, arrays_faults, repeat_faults, port_faults, param_faults, array_name_faults, primitive_faults, kind_faults, declared_faults, component_faults, directory_faults, unit_faults}
+use Rattle.darwin_types.proofs.EntryUses.{entry_of_use}
 use Rattle.darwin_types.proofs.Found.{from_unless}
 use Rattle.base.proofs.BytesLaws.{bytes_eq_self, different_bytes, is_some-lookup_from, same_bytes}
 use Rattle.base.proofs.ContainsLaws.{Contains-flat_map, Contains-from_filter, Contains-from_flat_map, Contains-from_map, Contains-here, Contains-map, Contains-nil, Contains-one}
 use Rattle.base.proofs.FindLaws.{find-some, is_some-find_from}
-use Rattle.base.proofs.OptionLaws.{None-from_is_some, true_from_not}
+use Rattle.base.proofs.OptionLaws.{None-from_is_none, None-from_is_some, true_from_not}
 
 -- names that stand twice
 repeated_from : (g : Name → TypeError) (names : List Name) (e : TypeError) → Contains (repeat_faults g names) e → (x : Name) × (is_repeated names x ≡ true) × (e ≡ g x)
@@ -33,13 +33,13 @@ repeated_from g names e h =
     (w.0, (Contains-from_filter (is_repeated names) names w.0 w.1).1, w.2)
 
 module _ (t : Tree) (c : Component) where
-  value_sound : (scope : List Name) (ex : Expr) (e : TypeError) → Contains (places c) (value scope ex) → Contains (value_faults c scope ex) e → FaultIn t c e
+  value_sound : (scope : List Name) (ex : Expr) (e : TypeError) → Contains (name_uses c) (value scope ex) → Contains (value_faults c scope ex) e → FaultIn t c e
   value_sound scope ex e there h =
       let w = Contains-from_flat_map (λ x. unless (has scope x) (UnknownName c.name x)) (names_of ex) e h in
       let u = from_unless (has scope w.0) (UnknownName c.name w.0) e w.2 in
       subst (FaultIn t c) (sym u.1) (unknown_value scope ex w.0 there w.1 u.0)
 
-  variable_sound : (scope : List Name) (x : Name) (e : TypeError) → Contains (places c) (variable scope x) → Contains (variable_faults c scope x) e → FaultIn t c e
+  variable_sound : (scope : List Name) (x : Name) (e : TypeError) → Contains (name_uses c) (variable scope x) → Contains (variable_faults c scope x) e → FaultIn t c e
   variable_sound scope x e there h =
       let u = from_unless (not (has scope x)) (TwoNames c.name x) e h in
       subst (FaultIn t c) (sym u.1) (two_values scope x there (true_from_not (has scope x) u.0))
@@ -103,72 +103,68 @@ module _ (t : Tree) (c : Component) where
       let m : Instantiation = record { name = x; component = a.component; args = unwrap_or (option_or args a.args) [] } in
       call_sound (element x index args at) m e there (ap (option_map (λ b. record { name = x; component = b.component; args = unwrap_or (option_or args b.args) [] })) found) (array_there x a found) h
 
-  entry_sound : (d : InstEntry) (e : TypeError) → Contains (places c) (entry d) → Contains (entry_faults t c d) e → FaultIn t c e
-  entry_sound (single x k args at) e there h = single_sound x k args at e (entry_of_place c (single x k args at) there) h
+  entry_sound : (d : InstEntry) (e : TypeError) → Contains (name_uses c) (entry d) → Contains (entry_faults t c d) e → FaultIn t c e
+  entry_sound (single x k args at) e there h = single_sound x k args at e (entry_of_use c (single x k args at) there) h
   entry_sound (element x index args at) e there h =
-      element_of x index args at (array_named c x) e (entry_of_place c (element x index args at) there) refl h
+      element_of x index args at (array_named c x) e (entry_of_use c (element x index args at) there) refl h
 
-  outer_sound : (r : PortRef) (e : TypeError) → Contains (places c) (binding_end r) → r.inst ≡ None → Contains (outer_end_faults c r.port) e → FaultIn t c e
+  outer_sound : (r : PortRef) (e : TypeError) → Contains (name_uses c) (binding_end r) → r.inst ≡ None → Contains (outer_end_faults c r.port) e → FaultIn t c e
   outer_sound r e there outer h =
       let u = from_unless (is_some (port_named c r.port)) (UnknownName c.name r.port) e h in
       subst (FaultIn t c) (sym u.1) (unknown_outer_port r there outer (None-from_is_some (port_named c r.port) u.0))
 
-  lacking : (r : PortRef) (x k : Name) (o : Option Component) → Contains (places c) (binding_end r) → r.inst ≡ Some x → instance_component c x ≡ Some k → component_named t k ≡ o → option_map_or (λ d. is_none (port_named d r.port)) o false ≡ true → FaultIn t c (UnknownName c.name r.port)
+  lacking : (r : PortRef) (x k : Name) (o : Option Component) → Contains (name_uses c) (binding_end r) → r.inst ≡ Some x → instance_component c x ≡ Some k → component_named t k ≡ o → option_map_or (λ d. is_none (port_named d r.port)) o false ≡ true → FaultIn t c (UnknownName c.name r.port)
   lacking r x k None there inner found named h = absurd (false≢true h)
-  lacking r x k (Some d) there inner found named h = unknown_inner_port r x k d there inner found named (none_there (port_named d r.port) h)
-    where
-      none_there : {A : Type 0} (o : Option A) → is_none o ≡ true → o ≡ None
-      none_there None h = refl
-      none_there (Some y) h = absurd (false≢true h)
+  lacking r x k (Some d) there inner found named h = unknown_inner_port r x k d there inner found named (None-from_is_none (port_named d r.port) h)
 
-  inner_of : (r : PortRef) (x : Name) (o : Option Name) (e : TypeError) → Contains (places c) (binding_end r) → r.inst ≡ Some x → instance_component c x ≡ o → Contains (option_map_or (λ k. unless (not (lacks_port t k r.port)) (UnknownName c.name r.port)) o (UnknownName c.name x ∷ [])) e → FaultIn t c e
+  inner_of : (r : PortRef) (x : Name) (o : Option Name) (e : TypeError) → Contains (name_uses c) (binding_end r) → r.inst ≡ Some x → instance_component c x ≡ o → Contains (option_map_or (λ k. unless (not (lacks_port t k r.port)) (UnknownName c.name r.port)) o (UnknownName c.name x ∷ [])) e → FaultIn t c e
   inner_of r x None e there inner found h =
       subst (FaultIn t c) (sym (Contains-one (UnknownName c.name x) e h)) (unknown_instance r x there inner found)
   inner_of r x (Some k) e there inner found h =
       let u = from_unless (not (lacks_port t k r.port)) (UnknownName c.name r.port) e h in
       subst (FaultIn t c) (sym u.1) (lacking r x k (component_named t k) there inner found refl (true_from_not (lacks_port t k r.port) u.0))
 
-  end_of : (r : PortRef) (o : Option Name) (e : TypeError) → Contains (places c) (binding_end r) → r.inst ≡ o → Contains (option_map_or (λ x. inner_end_faults t c x r.port) o (outer_end_faults c r.port)) e → FaultIn t c e
+  end_of : (r : PortRef) (o : Option Name) (e : TypeError) → Contains (name_uses c) (binding_end r) → r.inst ≡ o → Contains (option_map_or (λ x. inner_end_faults t c x r.port) o (outer_end_faults c r.port)) e → FaultIn t c e
   end_of r None e there at h = outer_sound r e there at h
   end_of r (Some x) e there at h = inner_of r x (instance_component c x) e there at refl h
 
-  place_sound : (p : NameUse) (e : TypeError) → Contains (places c) p → Contains (place_faults t c p) e → FaultIn t c e
-  place_sound (value scope ex) e there h = value_sound scope ex e there h
-  place_sound (variable scope x) e there h = variable_sound scope x e there h
-  place_sound (entry d) e there h = entry_sound d e there h
-  place_sound (binding_end r) e there h = end_of r r.inst e there refl h
+  use_sound : (p : NameUse) (e : TypeError) → Contains (name_uses c) p → Contains (use_faults t c p) e → FaultIn t c e
+  use_sound (value scope ex) e there h = value_sound scope ex e there h
+  use_sound (variable scope x) e there h = variable_sound scope x e there h
+  use_sound (entry d) e there h = entry_sound d e there h
+  use_sound (binding_end r) e there h = end_of r r.inst e there refl h
 
-  -- of places that are among those of the component
-  places_sound : (ps : List NameUse) (e : TypeError) → ((p : NameUse) → Contains ps p → Contains (places c) p) → Contains (places_faults t c ps) e → FaultIn t c e
-  places_sound ps e among h = let w = Contains-from_flat_map (place_faults t c) ps e h in place_sound w.0 e (among w.0 w.1) w.2
+  -- of uses that are among those of the component
+  uses_sound : (ps : List NameUse) (e : TypeError) → ((p : NameUse) → Contains ps p → Contains (name_uses c) p) → Contains (uses_faults t c ps) e → FaultIn t c e
+  uses_sound ps e among h = let w = Contains-from_flat_map (use_faults t c) ps e h in use_sound w.0 e (among w.0 w.1) w.2
 
-  port_place_there : (p : NameUse) → Contains (flat_map (port_places c.params) c.ports) p → Contains (places c) p
-  port_place_there p h =
-      let ports = flat_map (port_places c.params) c.ports in
-      let arrays = flat_map (array_places c.params) c.arrays in
-      Contains-append_left (ports ++ arrays) (body_places c.params c.body) p (Contains-append_left ports arrays p h)
+  port_use_there : (p : NameUse) → Contains (flat_map (port_uses c.params) c.ports) p → Contains (name_uses c) p
+  port_use_there p h =
+      let ports = flat_map (port_uses c.params) c.ports in
+      let arrays = flat_map (array_uses c.params) c.arrays in
+      Contains-append_left (ports ++ arrays) (body_uses c.params c.body) p (Contains-append_left ports arrays p h)
 
-  array_place_there : (p : NameUse) → Contains (flat_map (array_places c.params) c.arrays) p → Contains (places c) p
-  array_place_there p h =
-      let ports = flat_map (port_places c.params) c.ports in
-      let arrays = flat_map (array_places c.params) c.arrays in
-      Contains-append_left (ports ++ arrays) (body_places c.params c.body) p (Contains-append_right ports arrays p h)
+  array_use_there : (p : NameUse) → Contains (flat_map (array_uses c.params) c.arrays) p → Contains (name_uses c) p
+  array_use_there p h =
+      let ports = flat_map (port_uses c.params) c.ports in
+      let arrays = flat_map (array_uses c.params) c.arrays in
+      Contains-append_left (ports ++ arrays) (body_uses c.params c.body) p (Contains-append_right ports arrays p h)
 
-  body_place_there : (p : NameUse) → Contains (body_places c.params c.body) p → Contains (places c) p
-  body_place_there p h =
-      let ports = flat_map (port_places c.params) c.ports in
-      let arrays = flat_map (array_places c.params) c.arrays in
-      Contains-append_right (ports ++ arrays) (body_places c.params c.body) p h
+  body_use_there : (p : NameUse) → Contains (body_uses c.params c.body) p → Contains (name_uses c) p
+  body_use_there p h =
+      let ports = flat_map (port_uses c.params) c.ports in
+      let arrays = flat_map (array_uses c.params) c.arrays in
+      Contains-append_right (ports ++ arrays) (body_uses c.params c.body) p h
 
   array_sound : (a : ArrayDecl) (e : TypeError) → Contains c.arrays a → Contains (array_faults t c c.params a) e → FaultIn t c e
   array_sound a e there h =
       let known = is_some (option_map (λ (k : Component). length k.params) (component_named t a.component)) in
-      elim (Contains-append_cases (unless known (UnknownComponent c.name a.component)) (places_faults t c (array_places c.params a)) e h) [
+      elim (Contains-append_cases (unless known (UnknownComponent c.name a.component)) (uses_faults t c (array_uses c.params a)) e h) [
         | inl l ↦
             let u = from_unless known (UnknownComponent c.name a.component) e l in
             subst (FaultIn t c) (sym u.1) (unknown_component a.name a.component (Contains-append_left (map (λ b. (b.name, b.component)) c.arrays) (singles_of c) (a.name, a.component) (Contains-map (λ (b : ArrayDecl). (b.name, b.component)) c.arrays a there)) (none_under (component_named t a.component) u.0))
         | inr r ↦
-            places_sound (array_places c.params a) e (λ p q. array_place_there p (Contains-flat_map (array_places c.params) c.arrays a p there q)) r
+            uses_sound (array_uses c.params a) e (λ p q. array_use_there p (Contains-flat_map (array_uses c.params) c.arrays a p there q)) r
       ]
     where
       none_under : (o : Option Component) → is_some (option_map (λ (k : Component). length k.params) o) ≡ false → o ≡ None
@@ -187,9 +183,9 @@ module _ (t : Tree) (c : Component) where
 
   component_sound : (e : TypeError) → Contains (component_faults t c) e → FaultIn t c e
   component_sound e h =
-      let ports = places_faults t c (flat_map (port_places c.params) c.ports) in
+      let ports = uses_faults t c (flat_map (port_uses c.params) c.ports) in
       let arrays = arrays_faults t c c.params c.arrays in
-      let body = places_faults t c (body_places c.params c.body) in
+      let body = uses_faults t c (body_uses c.params c.body) in
       elim (Contains-append_cases (param_faults c) (array_name_faults c ++ declared_faults t c) e h) [
         | inl a ↦ let w = repeated_from (TwoNames c.name) c.params e a in subst (FaultIn t c) (sym w.2) (two_params w.0 w.1)
         | inr b ↦
@@ -197,13 +193,13 @@ module _ (t : Tree) (c : Component) where
               | inl a ↦ let w = repeated_from (TwoNames c.name) (map (λ a. a.name) c.arrays) e a in subst (FaultIn t c) (sym w.2) (two_arrays w.0 w.1)
               | inr b ↦
                   elim (Contains-append_cases ports (arrays ++ (body ++ kind_faults c)) e b) [
-                    | inl a ↦ places_sound (flat_map (port_places c.params) c.ports) e port_place_there a
+                    | inl a ↦ uses_sound (flat_map (port_uses c.params) c.ports) e port_use_there a
                     | inr b ↦
                         elim (Contains-append_cases arrays (body ++ kind_faults c) e b) [
                           | inl a ↦ let w = Contains-from_flat_map (array_faults t c c.params) c.arrays e a in array_sound w.0 e w.1 w.2
                           | inr b ↦
                               elim (Contains-append_cases body (kind_faults c) e b) [
-                                | inl a ↦ places_sound (body_places c.params c.body) e body_place_there a
+                                | inl a ↦ uses_sound (body_uses c.params c.body) e body_use_there a
                                 | inr b ↦ kind_by (is_primitive c) e refl b
                               ]
                         ]

@@ -10,7 +10,7 @@ use Rattle.darwin_parser.specs.Tree.Expr.{op}
 use Rattle.darwin_types.specs.Scope.{has}
 use Rattle.darwin_types.specs.declared.error.TypeError.{TypeError}
 use Rattle.darwin_types.specs.declared.error.TypeError.TheVariants.{UnknownName}
-use Rattle.darwin_types.specs.Places.{names_of}
+use Rattle.darwin_types.specs.NameUses.{names_of}
 use Rattle.darwin_types.specs.Check.{value_faults, unless}
 
 pub value_faults-op : (c : Component) (scope : List Name) (o : Op) (a b : Expr) → value_faults c scope (op o a b) ≡ value_faults c scope a ++ value_faults c scope b

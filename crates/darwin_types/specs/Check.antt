@@ -12,7 +12,7 @@ use Rattle.darwin_types.specs.declared.error.TypeError.TheVariants.{TwoComponent
 use Rattle.darwin_types.specs.Scope.{has, is_primitive, port_named, array_named, instance_component, params_of_named, lacks_port}
 use Rattle.config_graph.specs.Kinds.{kind_named}
 use Rattle.darwin_types.specs.Primitive.{is_like_kind}
-use Rattle.darwin_types.specs.Places.{NameUse, value, variable, entry, binding_end, names_of, array_places, port_places, body_places}
+use Rattle.darwin_types.specs.NameUses.{NameUse, value, variable, entry, binding_end, names_of, array_uses, port_uses, body_uses}
 use Rattle.darwin_types.specs.Faults.{is_repeated, carried}
 
 -- what a check of a part with these faults answers: a value only where there is none, and else one of them
@@ -61,20 +61,20 @@ outer_end_faults c port = unless (is_some (port_named c port)) (UnknownName c.na
 abbrev pub end_faults : Tree → Component → PortRef → List TypeError
 end_faults t c e = option_map_or (λ x. inner_end_faults t c x e.port) e.inst (outer_end_faults c e.port)
 
--- the faults of a place
-abbrev pub place_faults : Tree → Component → NameUse → List TypeError
-place_faults t c (value scope e) = value_faults c scope e
-place_faults t c (variable scope x) = variable_faults c scope x
-place_faults t c (entry e) = entry_faults t c e
-place_faults t c (binding_end e) = end_faults t c e
+-- the faults of a use of names
+abbrev pub use_faults : Tree → Component → NameUse → List TypeError
+use_faults t c (value scope e) = value_faults c scope e
+use_faults t c (variable scope x) = variable_faults c scope x
+use_faults t c (entry e) = entry_faults t c e
+use_faults t c (binding_end e) = end_faults t c e
 
-abbrev pub places_faults : Tree → Component → List NameUse → List TypeError
-places_faults t c ps = flat_map (place_faults t c) ps
+abbrev pub uses_faults : Tree → Component → List NameUse → List TypeError
+uses_faults t c ps = flat_map (use_faults t c) ps
 
--- of an array: its component, and then its places
+-- of an array: its component, and then the names that it uses
 abbrev pub array_faults : Tree → Component → List Name → ArrayDecl → List TypeError
 array_faults t c params a =
-    unless (is_some (params_of_named t a.component)) (UnknownComponent c.name a.component) ++ places_faults t c (array_places params a)
+    unless (is_some (params_of_named t a.component)) (UnknownComponent c.name a.component) ++ uses_faults t c (array_uses params a)
 
 abbrev pub arrays_faults : Tree → Component → List Name → List ArrayDecl → List TypeError
 arrays_faults t c params arrays = flat_map (array_faults t c params) arrays
@@ -137,10 +137,10 @@ array_name_faults c = repeat_faults (TwoNames c.name) (map (λ a. a.name) c.arra
 abbrev pub kind_faults : Component → List TypeError
 kind_faults c = if is_primitive c then primitive_faults c else []
 
--- of a component's places, of its arrays, and of it as a kind
+-- of the names that a component uses, of its arrays, and of it as a kind
 abbrev pub declared_faults : Tree → Component → List TypeError
 declared_faults t c =
-    places_faults t c (flat_map (port_places c.params) c.ports) ++ (arrays_faults t c c.params c.arrays ++ (places_faults t c (body_places c.params c.body) ++ kind_faults c))
+    uses_faults t c (flat_map (port_uses c.params) c.ports) ++ (arrays_faults t c c.params c.arrays ++ (uses_faults t c (body_uses c.params c.body) ++ kind_faults c))
 
 -- of a component but for its ports' names
 abbrev pub component_faults : Tree → Component → List TypeError

@@ -1,5 +1,5 @@
 pub mod Scope
-pub mod Places
+pub mod NameUses
 pub mod Primitive
 pub mod Faults
 pub mod Checked

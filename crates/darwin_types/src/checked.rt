@@ -6,14 +6,14 @@ ghost use Rattle.darwin_types.specs.Faults.{NoFault};
 ghost use Rattle.darwin_types.specs.Check.{names_of_components};
 ghost use Rattle.darwin_types.specs.Scope.{is_primitive};
 
-use crate::component_names::ComponentNames;
+use crate::names::Names;
 use darwin_parser::Unit;
 
 /// A description without a fault, with its components by name, of which it is noted whether they are primitive.
 #[derive(Debug, Drop)]
 pub struct Checked {
     pub(crate) unit: Unit,
-    pub(crate) names: ComponentNames,
+    pub(crate) names: Names,
     pub(crate) primitive: Vec<bool>,
     ghost no_fault: { NoFault (tree_of unit) },
     ghost named: { names ≡ names_of_components unit.components.items },

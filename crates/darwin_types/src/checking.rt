@@ -1,10 +1,9 @@
 //! The check of a description.
 
-ghost use Rattle.std.specs.Prelude.{◌≡◌, ◌⊎◌, IfOk, IfErr, map};
+ghost use Rattle.std.specs.Prelude.{◌≡◌, IfOk, IfErr, map};
 ghost use Rattle.std.specs.List.{flat_map};
 ghost use Rattle.base.specs.Answers.{Refuses};
-ghost use Rattle.darwin_parser.specs.Tree.{Tree, component_of, tree_of};
-ghost use Rattle.darwin_types.specs.declared.error.TypeError.{TypeError};
+ghost use Rattle.darwin_parser.specs.Tree.{component_of, tree_of};
 ghost use Rattle.darwin_types.specs.declared.error.TypeError.TheVariants.{NoMemory};
 ghost use Rattle.darwin_types.specs.Faults.{Fault, NoFault};
 ghost use Rattle.darwin_types.specs.Checked.{description, Takes};
@@ -13,7 +12,6 @@ ghost use Rattle.darwin_types.specs.Scope.{is_primitive};
 
 use crate::TypeError;
 use crate::checked::Checked;
-use crate::component_names::ComponentNames;
 use crate::declared::Declared;
 use crate::directory::Directory;
 use crate::entries::add_entries;
@@ -45,15 +43,10 @@ pub fn check(alloc: Global, unit: Unit) -> Result<Checked, TypeError>
     })
 }
 
-/// A fault stands in a description, or none does.
-pub fn a_fault_or_none()
-    ensures { (t : Tree) → NoFault t ⊎ ((e : TypeError) × Fault t e) }
-{}
-
 /// The names of the components of a description, and which of them are primitive.
 #[derive(Drop)]
 struct ComponentIndex {
-    names: ComponentNames,
+    names: Names,
     primitive: Vec<bool>,
 }
 
@@ -89,7 +82,7 @@ fn check_component<'d, 'a>(
     alloc: Global,
     directory: &'d Directory<'a>,
     component: &'a Component,
-    ports: &'d Names<'a>,
+    ports: &'d Names,
 ) -> Result<bool, TypeError>
     requires { ports.now ≡ names_in_component component.now }
     ensures judged { Judges
@@ -103,6 +96,7 @@ fn check_component<'d, 'a>(
     add_entries(&mut entries, component.body.as_slice())?;
     let instances = instances_of(alloc, component, entries.as_slice())?;
     let declared = Declared {
+        alloc,
         directory,
         component,
         ports,
@@ -115,7 +109,7 @@ fn check_component<'d, 'a>(
 }
 
 /// The parameters of a component by name.
-fn params_of<'a>(alloc: Global, component: &'a Component) -> Result<Names<'a>, TypeError>
+fn params_of(alloc: Global, component: &Component) -> Result<Names, TypeError>
     ensures judged { Judges (param_faults (component_of component.now)) result }
     ensures names { IfOk result (λ n. n ≡ (component_of component.now).params) }
 {
@@ -123,7 +117,7 @@ fn params_of<'a>(alloc: Global, component: &'a Component) -> Result<Names<'a>, T
 }
 
 /// The arrays of a component by name.
-fn arrays_of<'a>(alloc: Global, component: &'a Component) -> Result<Names<'a>, TypeError>
+fn arrays_of(alloc: Global, component: &Component) -> Result<Names, TypeError>
     ensures judged { Judges (array_name_faults (component_of component.now)) result }
     ensures names { IfOk result (λ n. n ≡ names_of_arrays component.now) }
 {

@@ -1,12 +1,12 @@
-//! A component whose declarations are indexed, and the checks of its places against them.
+//! A component whose declarations are indexed, and the checks of the names that it uses.
 
 ghost use Rattle.std.specs.Prelude.{◌≡◌, ◌++◌, [], ◌∷◌, OnOk, map, option_map, length, bytes_eq, is_some, unwrap_or, false};
 ghost use Rattle.std.specs.List.{flat_map};
 ghost use Rattle.std.specs.Option.{option_to_list, option_map_or, option_or};
 ghost use Rattle.darwin_parser.specs.Tree.{expr_of, entry_of, end_of, binding_of, stmt_of, stmts_of, array_of, port_of};
-ghost use Rattle.darwin_types.specs.Places.{values, args_of, entry_places, end_places, stmt_places, body_places, port_places, array_places};
+ghost use Rattle.darwin_types.specs.NameUses.{values, args_of, entry_uses, end_uses, stmt_uses, body_uses, port_uses, array_uses};
 ghost use Rattle.darwin_types.specs.Scope.{has, is_primitive as is_primitive_component, array_named, port_named, params_of_named};
-ghost use Rattle.darwin_types.specs.Check.{Judges, declared_faults, kind_faults, value_faults, variable_faults, clash_faults, call_faults, element_faults, end_faults, outer_end_faults, inner_end_faults, places_faults, array_faults, arrays_faults, names_in_component, names_of_arrays, FindsInstances, is_first_like, unless};
+ghost use Rattle.darwin_types.specs.Check.{Judges, declared_faults, kind_faults, value_faults, variable_faults, clash_faults, call_faults, element_faults, end_faults, outer_end_faults, inner_end_faults, uses_faults, array_faults, arrays_faults, names_in_component, names_of_arrays, FindsInstances, is_first_like, unless};
 ghost use Rattle.darwin_types.specs.declared.error.TypeError.TheVariants.{UnknownName, UnknownComponent};
 
 use crate::directory::Directory;
@@ -16,14 +16,16 @@ use crate::primitive::check_primitive;
 use crate::{TypeError, refusal};
 use base::Text;
 use darwin_parser::{ArrayDecl, BindEntry, Component, Expr, InstEntry, PortDecl, PortRef, Stmt};
+use std::alloc::Global;
 
 /// A component of a description, with its ports, arrays and instances by name.
 #[derive(Drop)]
 pub struct Declared<'d, 'a> {
+    pub alloc: Global,
     pub directory: &'d Directory<'a>,
     pub component: &'a Component,
-    pub ports: &'d Names<'a>,
-    pub arrays: Names<'a>,
+    pub ports: &'d Names,
+    pub arrays: Names,
     pub instances: Instances<'a>,
     ghost ports_named: { ports.now ≡ names_in_component component.now },
     ghost arrays_named: { arrays ≡ names_of_arrays component.now },
@@ -35,7 +37,7 @@ impl<'d, 'a> Declared<'d, 'a> {
 
     /// Everything of the component but for names that stand twice among its parameters, ports or
     /// arrays. These are its parameters, and it is primitive where it has no entry.
-    pub fn check(&self, params: &mut Names<'a>, is_primitive: bool) -> Result<(), TypeError>
+    pub fn check(&self, params: &mut Names, is_primitive: bool) -> Result<(), TypeError>
         requires params { params.old ≡ (component_in self.now).params }
         requires is_primitive { is_primitive ≡ is_primitive_component (component_in self.now) }
         ensures { Judges (declared_faults (tree_in self.now) (component_in self.now)) result }
@@ -90,7 +92,7 @@ impl<'d, 'a> Declared<'d, 'a> {
     }
 
     fn check_values(&self, scope: &Names, exprs: &[Expr]) -> Result<(), TypeError>
-        ensures { Judges (places_faults (tree_in self.now) (component_in self.now) (values scope.now (map expr_of exprs.now))) result }
+        ensures { Judges (uses_faults (tree_in self.now) (component_in self.now) (values scope.now (map expr_of exprs.now))) result }
     {
         for value in exprs {
             self.check_value(scope, value)?;
@@ -99,7 +101,7 @@ impl<'d, 'a> Declared<'d, 'a> {
     }
 
     fn check_optional_value(&self, scope: &Names, value: &Option<Expr>) -> Result<(), TypeError>
-        ensures { Judges (places_faults (tree_in self.now) (component_in self.now) (values scope.now (option_to_list (option_map expr_of value.now)))) result }
+        ensures { Judges (uses_faults (tree_in self.now) (component_in self.now) (values scope.now (option_to_list (option_map expr_of value.now)))) result }
     {
         match value {
             None => Ok(()),
@@ -112,7 +114,7 @@ impl<'d, 'a> Declared<'d, 'a> {
         scope: &Names,
         args: &Option<Vec<Expr>>,
     ) -> Result<(), TypeError>
-        ensures { Judges (places_faults (tree_in self.now) (component_in self.now) (values scope.now (args_of (option_map (λ l. map expr_of l.items) args.now)))) result }
+        ensures { Judges (uses_faults (tree_in self.now) (component_in self.now) (values scope.now (args_of (option_map (λ l. map expr_of l.items) args.now)))) result }
     {
         match args {
             None => Ok(()),
@@ -165,7 +167,7 @@ impl<'d, 'a> Declared<'d, 'a> {
     }
 
     fn check_entry(&self, scope: &Names, entry: &InstEntry) -> Result<(), TypeError>
-        ensures { Judges (places_faults (tree_in self.now) (component_in self.now) (entry_places scope.now (entry_of entry.now))) result }
+        ensures { Judges (uses_faults (tree_in self.now) (component_in self.now) (entry_uses scope.now (entry_of entry.now))) result }
     {
         match entry {
             InstEntry::Single {
@@ -222,14 +224,14 @@ impl<'d, 'a> Declared<'d, 'a> {
     }
 
     fn check_binding(&self, scope: &Names, entry: &BindEntry) -> Result<(), TypeError>
-        ensures { Judges (places_faults (tree_in self.now) (component_in self.now) (end_places scope.now (binding_of entry.now).left ++ end_places scope.now (binding_of entry.now).right)) result }
+        ensures { Judges (uses_faults (tree_in self.now) (component_in self.now) (end_uses scope.now (binding_of entry.now).left ++ end_uses scope.now (binding_of entry.now).right)) result }
     {
         self.check_end(scope, &entry.left)?;
         self.check_end(scope, &entry.right)
     }
 
     fn check_end(&self, scope: &Names, end: &PortRef) -> Result<(), TypeError>
-        ensures { Judges (places_faults (tree_in self.now) (component_in self.now) (end_places scope.now (end_of end.now))) result }
+        ensures { Judges (uses_faults (tree_in self.now) (component_in self.now) (end_uses scope.now (end_of end.now))) result }
     {
         self.check_end_port(end)?;
         self.check_optional_value(scope, &end.inst_index)?;
@@ -271,7 +273,7 @@ impl<'d, 'a> Declared<'d, 'a> {
 
     /// The sizes of ports, which see parameters alone.
     fn check_ports(&self, params: &Names, ports: &[PortDecl]) -> Result<(), TypeError>
-        ensures { Judges (places_faults (tree_in self.now) (component_in self.now) (flat_map (port_places params.now) (map port_of ports.now))) result }
+        ensures { Judges (uses_faults (tree_in self.now) (component_in self.now) (flat_map (port_uses params.now) (map port_of ports.now))) result }
     {
         for port in ports {
             self.check_optional_value(params, &port.size)?;
@@ -316,8 +318,8 @@ impl<'d, 'a> Declared<'d, 'a> {
 
     /// The statements of a body, where these names are round it.
     #[cycle(statements)]
-    fn check_body(&self, scope: &mut Names<'a>, body: &'a [Stmt]) -> Result<(), TypeError>
-        ensures judged { Judges (places_faults (tree_in self.now) (component_in self.now) (body_places scope.old (stmts_of body.now))) result }
+    fn check_body(&self, scope: &mut Names, body: &[Stmt]) -> Result<(), TypeError>
+        ensures judged { Judges (uses_faults (tree_in self.now) (component_in self.now) (body_uses scope.old (stmts_of body.now))) result }
         ensures scope_kept { OnOk result (scope.new ≡ scope.old) }
     {
         for stmt in body {
@@ -327,8 +329,8 @@ impl<'d, 'a> Declared<'d, 'a> {
     }
 
     #[cycle(statements)]
-    fn check_stmt(&self, scope: &mut Names<'a>, stmt: &'a Stmt) -> Result<(), TypeError>
-        ensures judged { Judges (places_faults (tree_in self.now) (component_in self.now) (stmt_places scope.old (stmt_of stmt.now))) result }
+    fn check_stmt(&self, scope: &mut Names, stmt: &Stmt) -> Result<(), TypeError>
+        ensures judged { Judges (uses_faults (tree_in self.now) (component_in self.now) (stmt_uses scope.old (stmt_of stmt.now))) result }
         ensures scope_kept { OnOk result (scope.new ≡ scope.old) }
     {
         match stmt {
@@ -357,12 +359,12 @@ impl<'d, 'a> Declared<'d, 'a> {
     #[cycle(statements)]
     fn check_turns(
         &self,
-        scope: &mut Names<'a>,
-        variable: &'a Text,
-        body: &'a [Stmt],
+        scope: &mut Names,
+        variable: &Text,
+        body: &[Stmt],
     ) -> Result<(), TypeError>
         ensures judged { Judges
-            (variable_faults (component_in self.now) scope.old variable.now ++ places_faults (tree_in self.now) (component_in self.now) (body_places (scope.old ++ variable.now ∷ []) (stmts_of body.now)))
+            (variable_faults (component_in self.now) scope.old variable.now ++ uses_faults (tree_in self.now) (component_in self.now) (body_uses (scope.old ++ variable.now ∷ []) (stmts_of body.now)))
             result }
         ensures scope_kept { OnOk result (scope.new ≡ scope.old) }
     {
@@ -373,11 +375,11 @@ impl<'d, 'a> Declared<'d, 'a> {
     }
 
     /// Adds the variable of a `forall`, whose name no parameter and no variable round it has.
-    fn enter(&self, scope: &mut Names<'a>, variable: &'a Text) -> Result<(), TypeError>
+    fn enter(&self, scope: &mut Names, variable: &Text) -> Result<(), TypeError>
         ensures judged { Judges (variable_faults (component_in self.now) scope.old variable.now) result }
         ensures added { OnOk result (scope.new ≡ scope.old ++ variable.now ∷ []) }
     {
-        if scope.add(variable.as_bytes())? {
+        if scope.add(self.alloc, variable.as_bytes())? {
             Ok(())
         } else {
             refusal::two_names(&self.component.name, variable)

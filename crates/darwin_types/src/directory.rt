@@ -6,7 +6,6 @@ ghost use Rattle.darwin_types.specs.Check.{Judges, components_of, directory_faul
 ghost use Rattle.darwin_parser.specs.Tree.{component_of};
 
 use crate::TypeError;
-use crate::component_names::{ComponentNames, component_names};
 use crate::names::{Names, distinct};
 use darwin_parser::Component;
 use std::alloc::Global;
@@ -15,8 +14,8 @@ use std::alloc::Global;
 #[derive(Drop)]
 pub struct Directory<'a> {
     pub components: &'a [Component],
-    pub names: ComponentNames,
-    pub ports: Vec<Names<'a>>,
+    pub names: Names,
+    pub ports: Vec<Names>,
     ghost named: { names ≡ names_of_components components.now },
     ghost with_ports: { ports.items ≡ names_of_ports components.now },
 }
@@ -28,7 +27,7 @@ impl<'a> Directory<'a> {
         ensures judged { Judges (directory_faults (components_of components.now)) result }
         ensures components { IfOk result (λ d. d.components.now ≡ components.now) }
     {
-        let names = component_names(alloc, components)?;
+        let names = distinct(alloc, None, components)?;
         let mut ports = Vec::new(alloc);
         for component in components {
             ports.push(ports_of(alloc, component)?)?;
@@ -60,7 +59,7 @@ impl<'a> Directory<'a> {
 }
 
 /// The ports of a component by name.
-fn ports_of<'a>(alloc: Global, component: &'a Component) -> Result<Names<'a>, TypeError>
+fn ports_of(alloc: Global, component: &Component) -> Result<Names, TypeError>
     ensures judged { Judges (port_faults (component_of component.now)) result }
     ensures names { IfOk result (λ n. n ≡ names_in_component component.now) }
 {

@@ -4,17 +4,18 @@
 
 mod checked;
 mod checking;
-mod component_names;
 mod declared;
 mod directory;
 mod entries;
 mod error;
 mod instances;
-mod named;
+mod laws;
 mod names;
+mod naming;
 mod primitive;
 mod refusal;
 
 pub use checked::Checked;
-pub use checking::{a_fault_or_none, check};
+pub use checking::check;
 pub use error::TypeError;
+pub use laws::a_fault_or_none;

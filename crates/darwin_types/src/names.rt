@@ -14,25 +14,26 @@ use std::alloc::{AllocError, Global};
 use std::marker::Model;
 
 /// So many names are looked through one after another, which takes less time than a hash.
-pub const FEW_NAMES: usize = 8;
+const FEW_NAMES: usize = 8;
 
-/// Names that differ, in the order in which they were added. Contracts see the list of them.
-#[derive(Drop)]
-pub struct Names<'a> {
-    set: IndexSet<&'a [u8]>,
+/// Names that differ, in the order in which they were added. They are copies, since those of components are
+/// kept beside their description. Contracts see the list of them.
+#[derive(Debug, Drop)]
+pub struct Names {
+    set: IndexSet<Vec<u8>>,
 }
 
-impl<'a> Model for Names<'a> {
+impl Model for Names {
     ghost use Rattle.std.specs.Prelude.{List, ℕ, map};
 
     ghost Value = { List (List ℕ) };
 
-    ghost view = { λ n. map (λ k. k.now) n.set.keys };
+    ghost view = { λ n. map (λ k. k.items) n.set.keys };
 }
 
-impl<'a> Names<'a> {
+impl Names {
     /// No names.
-    pub fn new(alloc: Global) -> Names<'a>
+    pub fn new(alloc: Global) -> Names
         ensures { result ≡ [] }
     {
         Names {
@@ -44,12 +45,7 @@ impl<'a> Names<'a> {
     pub fn contains(&self, name: &[u8]) -> bool
         ensures { result ≡ has self.now name.now }
     {
-        let names = self.set.as_slice();
-        if names.len() <= FEW_NAMES {
-            is_among(names, name)
-        } else {
-            self.set.contains(name)
-        }
+        self.position(name).is_some()
     }
 
     /// The place of the name among them.
@@ -57,16 +53,22 @@ impl<'a> Names<'a> {
         ensures place { result ≡ position (bytes_eq name.now) self.now }
         ensures within { IfSome result (λ i. i < length self.now) }
     {
-        self.set.get_index_of(name)
+        let names = self.set.as_slice();
+        if names.len() <= FEW_NAMES {
+            position_among(names, name)
+        } else {
+            self.set.get_index_of(name)
+        }
     }
 
     /// Adds the name at the end, and says whether it wasn't there before; if it was, nothing changes.
-    pub fn add(&mut self, name: &'a [u8]) -> Result<bool, AllocError>
+    pub fn add(&mut self, alloc: Global, name: &[u8]) -> Result<bool, AllocError>
         ensures added { IfOk result (λ new. OnTrue new (self.new ≡ self.old ++ name.now ∷ [])) }
         ensures kept { IfOk result (λ new. OnFalse new (self.new ≡ self.old)) }
         ensures before { IfOk result (λ new. has self.old name.now ≡ not new) }
     {
-        Ok(self.set.insert(name)?)
+        let key = Vec::from_slice(alloc, name)?;
+        Ok(self.set.insert(key)?)
     }
 
     /// Takes the last name away.
@@ -77,14 +79,15 @@ impl<'a> Names<'a> {
     }
 }
 
-/// Whether the name is one of these.
-fn is_among(names: &[&[u8]], name: &[u8]) -> bool
-    ensures { result ≡ list_any (λ k. bytes_eq name.now k.now) names.now }
+/// The place of the name among these.
+fn position_among(names: &[Vec<u8>], name: &[u8]) -> Option<usize>
+    ensures place { result ≡ position (λ k. bytes_eq name.now k.items) names.now }
+    ensures within { IfSome result (λ i. i < length names.now) }
 {
-    names.iter().any(|known| name == *known)
+    names.iter().position(|known| name == known.as_slice())
 }
 
-/// A declaration that gives a name.
+/// What has a name.
 pub trait Named {
     ghost use Rattle.std.specs.Prelude.{List, ℕ};
 
@@ -95,11 +98,11 @@ pub trait Named {
 }
 
 /// Indexes names that have to differ: those of one class in a component, or else in the description.
-pub fn distinct<'a, T: Named>(
+pub fn distinct<T: Named>(
     alloc: Global,
     component: Option<&Text>,
-    items: &'a [T],
-) -> Result<Names<'a>, TypeError>
+    items: &[T],
+) -> Result<Names, TypeError>
     ensures judged { Judges
         (repeat_faults (repeat_fault (option_map (λ c. c.now) component.entry)) (map T.name_of items.now))
         result }
@@ -108,7 +111,7 @@ pub fn distinct<'a, T: Named>(
     let mut index = Names::new(alloc);
     for item in items {
         let name = item.name();
-        if !index.add(name.as_bytes())? {
+        if !index.add(alloc, name.as_bytes())? {
             return repeated(component, name);
         }
     }

@@ -2,6 +2,7 @@ pub mod CauseLaws
 pub mod IntegerLemmas
 pub mod NamedLemmas
 pub mod ReachedLemmas
+pub mod ReachesLemmas
 mod Rows
 pub mod Sizes
 pub mod SpineLemmas

@@ -11,7 +11,7 @@ use Rattle.darwin_types.specs.Scope.{array_named}
 use Rattle.darwin_lexer.specs.declared.token.At.{At}
 use Rattle.darwin_parser.specs.Tree.{Expr, single, element, PortDecl, ArrayDecl, Stmts, Component}
 use Rattle.darwin_walk.specs.Value.{Env, Value, integer, out_of_range, zero_divisor, value}
-use Rattle.darwin_walk.specs.Reached.{Reached, valued, turn, made, bound, weight, port_size, array_size, reached, reached_in, count}
+use Rattle.darwin_walk.specs.Reached.{Reached, valued, turn, made, bound, weight, port_size, array_size, reached_in_component, reached_in, count}
 use Rattle.darwin_walk.specs.Instance.{element_child, children_of, bindings_of, faults_of, instance_faults, children, bindings, port_sizes}
 use Rattle.darwin_walk.specs.Scope.{port_faults, array_faults}
 use Rattle.darwin_walk.specs.Walked.{Adds, IsWalked, child_of, binding_of}
@@ -71,7 +71,7 @@ arrays_weight p (a ∷ arrays) = omega (arith, sum_by-cons weight (array_size p 
 
 parts :
     {B : Type 0} (f : Reached → List B) (c : Component) (p : Env)
-    → flat_map f (reached c p)
+    → flat_map f (reached_in_component c p)
     ≡ (flat_map f (flat_map (port_size p) c.ports) ++ flat_map f (map (array_size p) c.arrays)) ++ flat_map f (reached_in c.body p)
 parts f c p =
     flat_map-append f (flat_map (port_size p) c.ports ++ map (array_size p) c.arrays) (reached_in c.body p)

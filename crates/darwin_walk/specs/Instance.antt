@@ -8,7 +8,7 @@ use Rattle.darwin_types.specs.Scope.{array_named}
 use Rattle.darwin_parser.specs.Tree.{Name, Expr, ArrayDecl, PortRef, Component}
 use Rattle.darwin_parser.specs.Tree.InstEntry.{single, element}
 use Rattle.darwin_walk.specs.Value.{Value, integer, out_of_range, zero_divisor, Env, value}
-use Rattle.darwin_walk.specs.Reached.{Reached, valued, turn, made, bound, reached}
+use Rattle.darwin_walk.specs.Reached.{Reached, valued, turn, made, bound, reached_in_component}
 use Rattle.darwin_walk.specs.declared.fault.Fault.{Fault}
 use Rattle.darwin_walk.specs.declared.fault.Fault.TheVariants.{OutOfRange, ZeroDivisor, BadIndex}
 
@@ -66,7 +66,7 @@ children_of c parameters _ = []
 
 -- the instances that the reached entries make, in order
 abbrev pub children : Component → Env → List Child
-children c parameters = flat_map (children_of c parameters) (reached c parameters)
+children c parameters = flat_map (children_of c parameters) (reached_in_component c parameters)
 
 -- ---- bindings
 
@@ -110,7 +110,7 @@ bindings_of _ = []
 
 -- the bindings that are reached, in order, with the values of their indexes
 abbrev pub bindings : Component → Env → List Binding
-bindings c parameters = flat_map bindings_of (reached c parameters)
+bindings c parameters = flat_map bindings_of (reached_in_component c parameters)
 
 -- the sizes of the ports, in order, for those that have one; none where it has no value
 abbrev pub port_sizes : Component → Env → List (Option (Option ℤ))
@@ -152,4 +152,4 @@ faults_of c parameters (bound b env) = end_faults c parameters b.at b.left env +
 
 -- the faults of an instance, as far as it shows them by itself
 abbrev pub instance_faults : Component → Env → List Fault
-instance_faults c parameters = flat_map (faults_of c parameters) (reached c parameters)
+instance_faults c parameters = flat_map (faults_of c parameters) (reached_in_component c parameters)

@@ -2,6 +2,7 @@ pub mod Environment
 pub mod Finds
 pub mod Instance
 pub mod Reached
+pub mod Reaches
 pub mod Scope
 pub mod Spine
 pub mod Value

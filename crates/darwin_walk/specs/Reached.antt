@@ -60,8 +60,8 @@ abbrev pub array_size : Env → ArrayDecl → Reached
 array_size env a = valued a.size env a.at
 
 -- all that is reached in an instance of the component whose parameters have these values
-abbrev pub reached : Component → Env → List Reached
-reached c env = flat_map (port_size env) c.ports ++ map (array_size env) c.arrays ++ reached_in c.body env
+abbrev pub reached_in_component : Component → Env → List Reached
+reached_in_component c env = flat_map (port_size env) c.ports ++ map (array_size env) c.arrays ++ reached_in c.body env
 
 -- one for each turn and each reached entry
 abbrev pub weight : Reached → ℕ
@@ -71,7 +71,7 @@ weight (made _ _) = 1
 weight (bound _ _) = 1
 
 abbrev pub count : Component → Env → ℕ
-count c env = sum_by weight (reached c env)
+count c env = sum_by weight (reached_in_component c env)
 
 -- what the turns of a `forall` over these integers reach
 abbrev pub turns : Stmts → Env → Name → List ℤ → List Reached

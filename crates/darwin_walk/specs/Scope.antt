@@ -18,7 +18,7 @@ use Rattle.darwin_walk.specs.declared.walked.Child as code_child
 use Rattle.darwin_walk.specs.declared.walked.Binding as code_binding
 use Rattle.darwin_walk.specs.declared.walked.Walked.{Walked}
 use Rattle.darwin_walk.specs.declared.scope.Array.{Array}
-use Rattle.darwin_walk.specs.declared.scope.Place.{Place}
+use Rattle.darwin_walk.specs.declared.scope.ElementIndex.{ElementIndex}
 use Rattle.darwin_walk.specs.declared.scope.Scope.{Scope}
 
 abbrev pub exprs_of : List code_expr.Expr → List Expr
@@ -55,8 +55,8 @@ ArrayAt s name a = MatchOption a (array_named (component_at s) name ≡ None) (�
 abbrev pub IsScope : Scope → Type 0
 IsScope s = (name : Name) → ArrayAt s name (lookup (λ k. bytes_eq name k.now) s.arrays.now.entries)
 
--- the place of an index of this value in the array of the name, where there is one
-pub record IsPlace (s : Scope) (name : Name) (v : Value) (p : Place) : Type 0 where
+-- an index of this value, in the array of the name where there is one
+pub record IsElementIndex (s : Scope) (name : Name) (v : Value) (p : ElementIndex) : Type 0 where
   pub is_index : v ≡ integer p.index
   pub fits : FitsSigned w32 p.index
   pub is_array : ArrayAt s name p.array

@@ -41,26 +41,26 @@ abbrev pub is_true : ℤ → Bool
 is_true z = not (int_eq z (pos 0))
 
 -- an operation on two integers that needs both. `/` cuts towards zero, `%` has the sign of the left side.
-abbrev pub operated : Op → ℤ → ℤ → Value
-operated Or x y = truth (is_true y)
-operated And x y = truth (is_true y)
-operated Eq x y = truth (int_eq x y)
-operated Ne x y = truth (not (int_eq x y))
-operated Lt x y = truth (int_lt x y)
-operated Le x y = truth (int_le x y)
-operated Gt x y = truth (int_lt y x)
-operated Ge x y = truth (int_le y x)
-operated Add x y = exact (x +ℤ y)
-operated Sub x y = exact (x -ℤ y)
-operated Mul x y = exact (x *ℤ y)
-operated Div x y = if int_eq y (pos 0) then zero_divisor else exact (int_div x y)
-operated Rem x y = if int_eq y (pos 0) then zero_divisor else exact (int_rem x y)
+abbrev pub integer_operation : Op → ℤ → ℤ → Value
+integer_operation Or x y = truth (is_true y)
+integer_operation And x y = truth (is_true y)
+integer_operation Eq x y = truth (int_eq x y)
+integer_operation Ne x y = truth (not (int_eq x y))
+integer_operation Lt x y = truth (int_lt x y)
+integer_operation Le x y = truth (int_le x y)
+integer_operation Gt x y = truth (int_lt y x)
+integer_operation Ge x y = truth (int_le y x)
+integer_operation Add x y = exact (x +ℤ y)
+integer_operation Sub x y = exact (x -ℤ y)
+integer_operation Mul x y = exact (x *ℤ y)
+integer_operation Div x y = if int_eq y (pos 0) then zero_divisor else exact (int_div x y)
+integer_operation Rem x y = if int_eq y (pos 0) then zero_divisor else exact (int_rem x y)
 
 -- where the left side decides alone: an `or` whose left side is true, an `and` whose left side is not
-abbrev pub decided : Op → ℤ → Bool
-decided Or x = is_true x
-decided And x = not (is_true x)
-decided _ x = false
+abbrev pub is_decided : Op → ℤ → Bool
+is_decided Or x = is_true x
+is_decided And x = not (is_true x)
+is_decided _ x = false
 
 abbrev pub on_integer : Value → (ℤ → Value) → Value
 on_integer (integer z) f = f z
@@ -69,7 +69,7 @@ on_integer zero_divisor f = zero_divisor
 
 -- an operation, its left side first; where that decides, the right side is not valued
 abbrev pub operation : Op → Value → Value → Value
-operation o left right = on_integer left (λ x. if decided o x then truth (is_true x) else on_integer right (operated o x))
+operation o left right = on_integer left (λ x. if is_decided o x then truth (is_true x) else on_integer right (integer_operation o x))
 
 abbrev pub value : Expr → Env → Value
 value (num n) env = exact (pos n)

@@ -5,15 +5,15 @@ ghost use Rattle.darwin_walk.specs.Value.{value_of_name};
 ghost use Rattle.darwin_walk.specs.Spine.{env_of};
 ghost use Rattle.darwin_walk.specs.Finds.{Finds};
 
-use crate::named::Named;
+use crate::keyed::Keyed;
 use crate::valuing::Variable;
 use base::Text;
 use indexmap::IndexMap;
 
-impl<'a> Named<'a> for Variable<'a> {
+impl<'a> Keyed<'a> for Variable<'a> {
     ghost name_of = { λ v. v.name.now };
 
-    fn name(&self) -> &'a [u8] {
+    fn key(&self) -> &'a [u8] {
         self.name.as_bytes()
     }
 }

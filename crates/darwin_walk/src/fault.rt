@@ -4,7 +4,6 @@ ghost use Rattle.std.specs.Prelude.{◌≡◌};
 
 use darwin_lexer::At;
 use std::alloc::{AllocError, AllocFailed};
-use thiserror::Error;
 
 /// A fault that an instance shows, with the place of the statement or declaration in which it stands.
 #[derive(Clone, Copy, Debug, PartialEq, Eq)]
@@ -18,15 +17,12 @@ pub enum Fault {
 }
 
 /// Why an instance can't be walked.
-#[derive(Clone, Copy, Debug, Error)]
+#[derive(Clone, Copy, Debug)]
 pub enum WalkError {
     /// The instance shows this fault.
-    #[error("an instance has a fault")]
     Fault(Fault),
     /// The instance takes more turns and reaches more entries than there is room for.
-    #[error("too many turns and entries are reached")]
     TooMany,
-    #[error("no memory")]
     NoMemory,
 }
 

@@ -13,7 +13,7 @@ ghost use Rattle.darwin_walk.specs.Scope.{HasSize, array_faults, port_faults};
 ghost use Rattle.darwin_walk.specs.declared.fault.Fault.{Fault as ShownFault};
 
 use crate::environment::Environment;
-use crate::named::by_name;
+use crate::keyed::by_name;
 use crate::scope::{Array, Scope, index_at, value_at};
 use crate::valuing::Variable;
 use crate::walked::{Binding, Walked};
@@ -69,13 +69,13 @@ fn walk_within<'a>(
     ensures { Tells (instance_faults (component_of component.now) (env_at env.now)) (room < count (component_of component.now) (env_at env.now)) (IsWalked (component_of component.now) (env_at env.now) room) result }
 {
     let port_sizes = port_sizes_of(alloc, &component.ports, env)?;
-    let arrays = sized(alloc, &component.arrays, env)?;
-    let arrays = by_name(alloc, &arrays)?;
+    let arrays = arrays_with_sizes(alloc, &component.arrays, env)?;
+    let arrays_by_name = by_name(alloc, &arrays)?;
     let scope = Scope {
         alloc,
         component,
         parameters: env,
-        arrays: &arrays,
+        arrays: &arrays_by_name,
         room,
     };
     let bindings = room_for_bindings(alloc, &component.body)?;
@@ -135,7 +135,7 @@ fn port_sizes_of(
 }
 
 /// The arrays with their sizes.
-fn sized<'a>(
+fn arrays_with_sizes<'a>(
     alloc: Global,
     arrays: &'a [ArrayDecl],
     env: &Environment,

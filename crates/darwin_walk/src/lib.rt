@@ -4,7 +4,8 @@
 mod environment;
 mod fault;
 mod instance;
-mod named;
+mod keyed;
+mod laws;
 mod scope;
 mod valuing;
 mod walked;
@@ -12,5 +13,6 @@ mod walking;
 
 pub use fault::{Fault, WalkError};
 pub use instance::{parameters_of, walk};
+pub use laws::{ranges_have_their_integers, what_is_reached};
 pub use valuing::{ValueError, Variable, value};
 pub use walked::{Binding, Child, End, Segment, Walked};

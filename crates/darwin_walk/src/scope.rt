@@ -10,10 +10,10 @@ ghost use Rattle.darwin_walk.specs.Value.{value as value_of, integer};
 ghost use Rattle.darwin_walk.specs.Environment.{env_at};
 ghost use Rattle.darwin_walk.specs.Instance.{values as values_of, integers, value_fault, element_faults, inner_faults, inner_value, index_value, end_faults, end_value};
 ghost use Rattle.darwin_walk.specs.Walked.{Tells, segment_of, walked_end};
-ghost use Rattle.darwin_walk.specs.Scope.{IsScope, IsArray, IsPlace, exprs_of};
+ghost use Rattle.darwin_walk.specs.Scope.{IsScope, IsArray, IsElementIndex, exprs_of};
 
 use crate::environment::Environment;
-use crate::named::Named;
+use crate::keyed::Keyed;
 use crate::valuing::{ValueError, worth};
 use crate::walked::{End, Segment};
 use crate::{Fault, WalkError};
@@ -40,10 +40,10 @@ pub(crate) struct Scope<'a, 'b> {
     pub room: u64,
 }
 
-impl<'a> Named<'a> for Array<'a> {
+impl<'a> Keyed<'a> for Array<'a> {
     ghost name_of = { λ a. a.decl.now.name };
 
-    fn name(&self) -> &'a [u8] {
+    fn key(&self) -> &'a [u8] {
         self.decl.name.as_bytes()
     }
 }
@@ -100,7 +100,7 @@ pub(crate) fn values_at(
 
 /// An index, and the array in which it is one.
 #[derive(Clone, Copy)]
-pub(crate) struct Place<'a> {
+pub(crate) struct ElementIndex<'a> {
     pub index: i32,
     pub array: Option<Array<'a>>,
 }
@@ -112,14 +112,14 @@ pub(crate) fn element_at<'a>(
     index: &Expr,
     env: &Environment,
     at: At,
-) -> Result<Place<'a>, WalkError>
+) -> Result<ElementIndex<'a>, WalkError>
     requires { IsScope scope.now }
-    ensures { Tells (element_faults (component_of scope.now.component.now) (env_at scope.now.parameters.now) name.now at (value_of (expr_of index.now) (env_at env.now))) ⊥ (IsPlace scope.now name.now (value_of (expr_of index.now) (env_at env.now))) result }
+    ensures { Tells (element_faults (component_of scope.now.component.now) (env_at scope.now.parameters.now) name.now at (value_of (expr_of index.now) (env_at env.now))) ⊥ (IsElementIndex scope.now name.now (value_of (expr_of index.now) (env_at env.now))) result }
 {
     let index = value_at(scope.alloc, index, env, at)?;
     let array = array_at(scope, name);
     if array.is_none_or(|a| a.has(index)) {
-        Ok(Place { index, array })
+        Ok(ElementIndex { index, array })
     } else {
         Err(WalkError::Fault(Fault::BadIndex(at)))
     }
@@ -140,10 +140,10 @@ fn inner_at<'a>(
         (None, _) => Ok(None),
         (Some(name), None) => Ok(Some(Segment { name, index: None })),
         (Some(name), Some(index)) => {
-            let place = element_at(scope, name, index, env, at)?;
+            let element = element_at(scope, name, index, env, at)?;
             Ok(Some(Segment {
                 name,
-                index: Some(place.index),
+                index: Some(element.index),
             }))
         }
     }

@@ -3,16 +3,15 @@
 ghost use Rattle.std.specs.Prelude.{◌≡◌, ◌-ℤ◌, pos, IfOk, FitsSigned};
 ghost use Rattle.std.specs.Int.{w32};
 ghost use Rattle.darwin_parser.specs.Tree.{expr_of};
-ghost use Rattle.darwin_walk.specs.Value.{value as value_of, operation, operated, decided, exact, integer, is_true as truly, truth as truth_of};
+ghost use Rattle.darwin_walk.specs.Value.{value as value_of, operation, integer_operation, is_decided, exact, integer, is_true as truly, truth as truth_of};
 ghost use Rattle.darwin_walk.specs.Environment.{env_at};
 ghost use Rattle.darwin_walk.specs.Spine.{Says, env_of, IsOperand, IsSpine};
 
 use crate::environment::Environment;
-use crate::named::by_name;
+use crate::keyed::by_name;
 use base::Text;
 use darwin_parser::{Expr, Op};
 use std::alloc::{AllocError, AllocFailed, Global};
-use thiserror::Error;
 
 /// A parameter or a variable of a `forall`, with its value.
 #[derive(Clone, Copy)]
@@ -22,15 +21,12 @@ pub struct Variable<'a> {
 }
 
 /// Why an expression has no value.
-#[derive(Clone, Copy, Debug, Error)]
+#[derive(Clone, Copy, Debug)]
 pub enum ValueError {
     /// The exact result of an operation isn't from -2,147,483,648 to 2,147,483,647.
-    #[error("a value is out of range")]
     OutOfRange,
     /// The right side of a division is 0.
-    #[error("a division is by 0")]
     ZeroDivisor,
-    #[error("no memory")]
     NoMemory,
 }
 
@@ -162,7 +158,7 @@ fn truth(holds: bool) -> i32
 
 /// The operation on two integers.
 fn operate(op: Op, left: i32, right: i32) -> Result<i32, ValueError>
-    ensures { Says result (operated op left right) }
+    ensures { Says result (integer_operation op left right) }
 {
     match op {
         Op::Or | Op::And => Ok(truth(is_true(right))),
@@ -182,7 +178,7 @@ fn operate(op: Op, left: i32, right: i32) -> Result<i32, ValueError>
 
 /// The quotient, cut towards zero.
 fn divided(left: i32, right: i32) -> Result<i32, ValueError>
-    ensures { Says result (operated Op.Div left right) }
+    ensures { Says result (integer_operation Op.Div left right) }
 {
     if right == 0 {
         return Err(ValueError::ZeroDivisor);
@@ -192,7 +188,7 @@ fn divided(left: i32, right: i32) -> Result<i32, ValueError>
 
 /// The remainder, with the sign of the left side.
 fn remainder(left: i32, right: i32) -> Result<i32, ValueError>
-    ensures { Says result (operated Op.Rem left right) }
+    ensures { Says result (integer_operation Op.Rem left right) }
 {
     if right == 0 {
         return Err(ValueError::ZeroDivisor);
@@ -216,7 +212,7 @@ fn literal(n: u32) -> Result<i32, ValueError>
 
 /// Whether the left side decides alone.
 fn is_decided(op: Op, left: i32) -> bool
-    ensures { result ≡ decided op left }
+    ensures { result ≡ is_decided op left }
 {
     match op {
         Op::Or => is_true(left),

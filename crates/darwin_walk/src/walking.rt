@@ -1,6 +1,6 @@
 //! The walk of one instance: statement by statement, with the variables round it.
 
-ghost use Rattle.std.specs.Prelude.{◌≡◌, ◌+◌, ◌<◌, [], ◌∷◌, ◌++◌, Some, option_map, cond, negsuc, pos, ◌≤ℤ◌, FitsSigned, IfSome, MatchOption, length};
+ghost use Rattle.std.specs.Prelude.{◌≡◌, ◌+◌, ◌<◌, ◌≤◌, ◌-◌, [], ◌∷◌, ◌++◌, Some, option_map, cond, negsuc, pos, ◌≤ℤ◌, FitsSigned, IfSome, MatchOption, length};
 ghost use Rattle.std.specs.Int.{w32};
 ghost use Rattle.std.specs.List.{flat_map};
 ghost use Rattle.darwin_parser.specs.Tree.{array_of, entry_of, element, binding_of as bind_of, stmt_of, stmts_of, expr_of};
@@ -61,14 +61,14 @@ fn element_child<'a>(
     requires { IsScope scope.now }
     ensures { Makes scope.now (made (element name.now (expr_of index.now) (option_map (λ l. exprs_of l.items) args.now) at) (env_at env.now)) result }
 {
-    let place = element_at(scope, name, index, env, at)?;
-    let Some(array) = place.array else {
+    let element = element_at(scope, name, index, env, at)?;
+    let Some(array) = element.array else {
         return Ok(None);
     };
     let arguments = element_arguments_at(scope, &array, args, env, at)?;
     let segment = Segment {
         name: &array.decl.name,
-        index: Some(place.index),
+        index: Some(element.index),
     };
     Ok(Some(Child {
         segment,
@@ -198,7 +198,7 @@ impl Integers {
 
 /// Refuses as many turns as there is no room for: each counts, whatever it reaches.
 fn check_room(left: &Integers, walked: &Walked, room: u64) -> Result<(), WalkError>
-    ensures { Tells [] (room < walked.now.count + length (integers_to left.now.low left.now.high)) (λ _. Unit {0}) result }
+    ensures { Tells [] (room < walked.now.count + length (integers_to left.now.low left.now.high)) (λ _. length (integers_to left.now.low left.now.high) ≤ room - walked.now.count) result }
 {
     if left.count() > room.saturating_sub(walked.count) {
         return Err(WalkError::TooMany);

@@ -14,7 +14,7 @@ use Rattle.darwin_parser.specs.Tree.Stmt.{inst, bind, forall, when}
 use Rattle.darwin_parser.specs.Tree.Stmts.{end, then}
 use Rattle.darwin_types.specs.Scope.{array_named, entries_of, entries_of_stmt, Instantiation, made_by}
 use Rattle.darwin_walk.specs.Value.{Value, integer, out_of_range, zero_divisor, Variable, Env, parameters, value}
-use Rattle.darwin_walk.specs.Reached.{Reached, valued, turn, made, bound, range, holds, with_variable, reached_by, reached_in, port_size, array_size, reached}
+use Rattle.darwin_walk.specs.Reached.{Reached, valued, turn, made, bound, range, holds, with_variable, reached_by, reached_in, port_size, array_size, reached_in_component}
 use Rattle.darwin_walk.specs.Instance.{Child, integers, values, element_arguments, element_child, children_of, children}
 use Rattle.base.proofs.ContainsLaws.{Contains-cons_cases, Contains-from_flat_map, Contains-from_map, Contains-here, Contains-nil, Contains-one}
 use Rattle.base.proofs.OptionLaws.{option_map_some}
@@ -79,7 +79,7 @@ port_size_only env p r there = by p.size there
     by None there = absurd (Contains-nil r there)
     by (Some size) there = ap entry_in (Contains-one (valued size env p.at) r there)
 
-reached_entry : (c : Component) (env : Env) (e : InstEntry) (at : Env) → Contains (reached c env) (made e at) → Contains (entries_of c.body) e
+reached_entry : (c : Component) (env : Env) (e : InstEntry) (at : Env) → Contains (reached_in_component c env) (made e at) → Contains (entries_of c.body) e
 reached_entry c env e at there =
     elim (Contains-append_cases (flat_map (port_size env) c.ports ++ map (array_size env) c.arrays) (reached_in c.body env) (made e at) there) [
       | inl size ↦
@@ -124,9 +124,9 @@ length-element parameters array None env zs is = by array.args is
 
 pub made_by_entry : (c : Component) (env : Env) (child : Child) (zs : List ℤ) → Contains (children c env) child → child.arguments ≡ Some zs → IsMadeBy c child zs
 made_by_entry c env child zs there is =
-    let w = Contains-from_flat_map (children_of c env) (reached c env) child there in by w.0 w.1 w.2
+    let w = Contains-from_flat_map (children_of c env) (reached_in_component c env) child there in by w.0 w.1 w.2
   where
-    by_single : (name component : Name) (args : List Expr) (place : At) (at : Env) → Contains (reached c env) (made (single name component args place) at) → Contains (children_of c env (made (single name component args place) at)) child → IsMadeBy c child zs
+    by_single : (name component : Name) (args : List Expr) (place : At) (at : Env) → Contains (reached_in_component c env) (made (single name component args place) at) → Contains (children_of c env (made (single name component args place) at)) child → IsMadeBy c child zs
     by_single name component args place at reached_ there =
         let same = Contains-one _ child there in
         record {
@@ -138,7 +138,7 @@ made_by_entry c env child zs there is =
           arguments = length-values args at zs (sym (ap (λ (x : Child). x.arguments) same) ∙ is);
         }
 
-    by_element : (name : Name) (index : Expr) (args : Option (List Expr)) (place : At) (at : Env) → Contains (reached c env) (made (element name index args place) at) → (o : Option ArrayDecl) (v : Value) → array_named c name ≡ o → Contains (element_child o v (λ array. element_arguments env array args at) place) child → IsMadeBy c child zs
+    by_element : (name : Name) (index : Expr) (args : Option (List Expr)) (place : At) (at : Env) → Contains (reached_in_component c env) (made (element name index args place) at) → (o : Option ArrayDecl) (v : Value) → array_named c name ≡ o → Contains (element_child o v (λ array. element_arguments env array args at) place) child → IsMadeBy c child zs
     by_element name index args place at reached_ None v named there = absurd (Contains-nil child there)
     by_element name index args place at reached_ (Some array) out_of_range named there = absurd (Contains-nil child there)
     by_element name index args place at reached_ (Some array) zero_divisor named there = absurd (Contains-nil child there)
@@ -153,7 +153,7 @@ made_by_entry c env child zs there is =
           arguments = length-element env array args at zs (sym (ap (λ (x : Child). x.arguments) same) ∙ is);
         }
 
-    by : (r : Reached) → Contains (reached c env) r → Contains (children_of c env r) child → IsMadeBy c child zs
+    by : (r : Reached) → Contains (reached_in_component c env) r → Contains (children_of c env r) child → IsMadeBy c child zs
     by (made (single name component args place) at) reached_ there = by_single name component args place at reached_ there
     by (made (element name index args place) at) reached_ there = by_element name index args place at reached_ (array_named c name) (value index at) refl there
     by (valued e at place) reached_ there = absurd (Contains-nil child there)

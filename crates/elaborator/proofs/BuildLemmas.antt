@@ -1,19 +1,12 @@
 -- From nodes and links to the graph.
-use Rattle.std.proofs.Common.{◌≡◌, ◌∙◌, Result, Ok, Err, ℕ, ◌+◌, ◌*◌, ◌<◌, ◌≤◌, ◌^◌, false, List, [], ◌∷◌, Option, Some, None, length, refl, ap, sym, subst, arith, IsTrue}
-use Rattle.std.specs.List.{Contains, slice_get, flat_map, enumerate_from, range_with_len}
-use Rattle.std.specs.Option.{option_map_or}
-use Rattle.std.proofs.lemmas.Bool.{false≢true}
-use Rattle.std.proofs.lemmas.List.{length-append, length-map}
-use Rattle.std.proofs.lemmas.List.FromFn.{length-range_with_len}
-use Rattle.std.proofs.lemmas.Option.{slice_get_within}
-use Rattle.config_graph.specs.declared.kind.Kind.{Kind}
-use Rattle.config_graph.specs.declared.kind.Kind.TheVariants.{Philosopher, Place, Fork, Source, Map, Buffer, Sink, Teller, Branch, Account, Asker, Adder}
+use Rattle.std.proofs.Common.{◌≡◌, Result, ℕ, ◌<◌, ◌≤◌, ◌^◌, List, length, ap, sym, subst, arith}
+use Rattle.std.specs.List.{Contains}
 use Rattle.config_graph.specs.declared.node.Node.{Node}
 use Rattle.config_graph.specs.declared.node.Link.{Link}
-use Rattle.config_graph.specs.Kinds.{row, is_depended_on}
-use Rattle.config_graph.specs.Graph.{Graph, PathsRise, requires_of, ports_of, ports, graph_of}
-use Rattle.config_graph.specs.Cycles.{NoCycle, FirstOnCycle}
-use Rattle.config_graph.proofs.CycleLaws.{Way-within}
+use Rattle.config_graph.specs.Graph.{Graph, PathsRise, ports, graph_of}
+use Rattle.config_graph.specs.Cycles.{graph_wiring, FirstOnCycle}
+use Rattle.config_graph.specs.Wiring.{HasNoCycle}
+use Rattle.config_graph.proofs.CycleLaws.{CallPath-within}
 use Rattle.elaborator.specs.Instances.{Instance}
 use Rattle.elaborator.specs.Graph.{IsNode, IsLink, IsElab}
 use Rattle.elaborator.specs.Numbering.{Expanded, IsOf}
@@ -65,13 +58,13 @@ elab_of e top is_of n links g nodes all is same =
 -- ---- cycles
 
 pub on_cycle_within : (g : Graph) (i : ℕ) → FirstOnCycle g i → i < length g.nodes
-on_cycle_within g i first = Way-within g i i first.on_cycle
+on_cycle_within g i first = CallPath-within g i i first.on_cycle
 
 -- ---- the answer
 
 -- what comes of the graph is what comes of the expansion
 pub built :
     (e : Expanded) (top : Instance) (g : Graph) (r : Result Graph ElabError) → ((f : ElabError) → ¬ BindingFault e f) → IsElab e.tree top g
-    → Answers error.NoMemory (λ h. (h ≡ g) × NoCycle h) (CycleFault g) r → Answers error.NoMemory (IsBuilt e top) (BuildFault e top) r
+    → Answers error.NoMemory (λ h. (h ≡ g) × HasNoCycle (graph_wiring h)) (CycleFault g) r → Answers error.NoMemory (IsBuilt e top) (BuildFault e top) r
 built e top g r none is_elab =
     Answers-weaker _ r (λ h is. record { is_elab = subst (IsElab e.tree top) (sym is.0) is_elab; no_cycle = is.1; no_fault = none }) (λ f. in_graph g f is_elab)

@@ -1,7 +1,6 @@
 -- The cause of an error in a part of an instance is one in the whole.
-use Rattle.std.proofs.Common.{◌≡◌, ◌⊎◌, ◌∙◌, inl, inr, List, Result, Err, Contains, refl}
+use Rattle.std.proofs.Common.{◌≡◌, ◌⊎◌, inl, inr, List, Result, Err, Contains}
 use Rattle.base.specs.Answers.{Refuses}
-use Rattle.darwin_walk.specs.Walked.{cause_of}
 use Rattle.darwin_walk.specs.declared.fault.Fault.{Fault}
 use Rattle.darwin_walk.specs.declared.fault.WalkError.{WalkError}
 use Rattle.darwin_walk.specs.declared.fault.WalkError.TheVariants as walk

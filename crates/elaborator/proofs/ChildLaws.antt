@@ -5,18 +5,19 @@ use Rattle.std.specs.Option.{IsSome, option_eq, option_map}
 use Rattle.std.specs.Str.{bytes_eq}
 use Rattle.std.proofs.lemmas.Bool.{false_from_ne_true, eqb-true, eq-eqb}
 use Rattle.std.proofs.lemmas.Slice.Eq.{bytes_eq-Decides}
-use Rattle.std.proofs.lemmas.Option.{slice_get-map, same_Some}
+use Rattle.std.proofs.lemmas.Option.{slice_get-map}
 use Rattle.darwin_parser.specs.Tree.{Tree}
 use Rattle.darwin_types.specs.Scope.{component_named}
 use Rattle.darwin_walk.specs.Value.{parameters}
 use Rattle.elaborator.specs.Paths.{Path}
 use Rattle.elaborator.specs.Instances.{Instance, children_in, child_path, instance_of, made_in}
 use Rattle.elaborator.specs.Numbering.{Expanded, NumberedInstance, Numbered, NumberedIn, IsExpanded}
-use Rattle.elaborator.specs.Expansion.{seen, made_of, instance_in, number_at, IsNumbering}
+use Rattle.elaborator.specs.Expansion.{expanded_of, made_of, instance_in, number_at, IsNumbering}
 use Rattle.elaborator.specs.declared.instance.Instance as code_instance
 use Rattle.elaborator.specs.declared.instance.Expansion.{Expansion}
 use Rattle.base.proofs.ContainsLaws.{Contains-from_filter_map}
 use Rattle.base.proofs.FindLaws.{find-none, find-only}
+use Rattle.base.proofs.PlaceLaws.{one_at}
 use Rattle.base.proofs.OptionLaws.{made_of_two, option_map_some}
 
 -- an instance that is made stands one deeper
@@ -27,10 +28,6 @@ depth-made tree i j c =
     let parts = made_of_two (λ c args. record { path = child_path i child; depth = suc i.depth; component = c; env = parameters c args }) (component_named tree child.component) child.arguments j from.2 in
     ap (λ (x : Instance). x.depth) (sym parts.4)
 
--- a number stands for one instance, with one maker
-pub same_number : (e : Expanded) (n : ℕ) (x y : NumberedInstance) → slice_get e.made n ≡ Some x → slice_get e.made n ≡ Some y → x ≡ y
-same_number e n x y p q = same_Some x y (sym p ∙ q)
-
 -- two instances that are made in one, and have one path, are one
 pub same_made :
     (e : Expanded) → IsExpanded e → (m : ℕ) (i j k : Instance) → Numbered e m i → Contains (made_in e.tree i) j → Contains (made_in e.tree i) k
@@ -39,26 +36,26 @@ same_made e x m i j k at cj ck same =
     let nj = x.below_made m i j at cj in
     let nk = x.below_made m i k at ck in
     let number = x.distinct nj.0 nk.0 j k (record { maker = Some m; is_at = nj.1 }) (record { maker = Some m; is_at = nk.1 }) same (depth-made e.tree i j cj ∙ sym (depth-made e.tree i k ck)) in
-    ap (λ (y : NumberedInstance). y.instance) (same_number e nk.0 _ _ (subst (λ n. NumberedIn e m n j) number nj.1) nk.1)
+    ap (λ (y : NumberedInstance). y.instance) (one_at e.made nk.0 _ _ (subst (λ n. NumberedIn e m n j) number nj.1) nk.1)
 
 -- an instance of the code stands under its number
-pub numbered : (e : Expansion) (n : ℕ) (x : code_instance.Instance) → slice_get e.instances.items n ≡ Some x → slice_get (seen e).made n ≡ Some (made_of x)
+pub numbered : (e : Expansion) (n : ℕ) (x : code_instance.Instance) → slice_get e.instances.items n ≡ Some x → slice_get (expanded_of e).made n ≡ Some (made_of x)
 numbered e n x at = slice_get-map made_of e.instances.items n ∙ ap (option_map made_of) at
 
 numbered_in :
     (e : Expansion) (m n : ℕ) (x : code_instance.Instance) → slice_get e.instances.items n ≡ Some x → x.maker ≡ Some m
-    → NumberedIn (seen e) m n (instance_in x)
+    → NumberedIn (expanded_of e) m n (instance_in x)
 numbered_in e m n x at is = numbered e n x at ∙ ap (λ o. Some (record { instance = instance_in x; maker = o })) is
 
 -- the instance of a path among those made in an instance is found
 pub find-child :
-    (e : Expansion) → IsNumbering e → (m n : ℕ) (path : Path) (i : Instance) (x : code_instance.Instance) → Numbered (seen e) m i
+    (e : Expansion) → IsNumbering e → (m n : ℕ) (path : Path) (i : Instance) (x : code_instance.Instance) → Numbered (expanded_of e) m i
     → slice_get e.instances.items n ≡ Some x → x.maker ≡ Some m → x.path ≡ path
-    → NumberedIn (seen e) m n (instance_in x) × (find (λ j. bytes_eq path j.path) (made_in (seen e).tree i) ≡ Some (instance_in x))
+    → NumberedIn (expanded_of e) m n (instance_in x) × (find (λ j. bytes_eq path j.path) (made_in (expanded_of e).tree i) ≡ Some (instance_in x))
 find-child e kept m n path i x at is_at is_made is_path =
     let is_in = numbered_in e m n x is_at is_made in
     let made = kept.is_expanded.made_below m n i (instance_in x) at is_in in
-    (is_in, find-only (λ j. bytes_eq path j.path) (made_in (seen e).tree i) (instance_in x) made (same_bytes path x.path (sym is_path)) (λ k ck pk. same_made (seen e) kept.is_expanded m i k (instance_in x) at ck made (sym (is_path ∙ bytes_same path k.path pk))))
+    (is_in, find-only (λ j. bytes_eq path j.path) (made_in (expanded_of e).tree i) (instance_in x) made (same_bytes path x.path (sym is_path)) (λ k ck pk. same_made (expanded_of e) kept.is_expanded m i k (instance_in x) at ck made (sym (is_path ∙ bytes_same path k.path pk))))
   where
     same_bytes : (p q : Path) → p ≡ q → bytes_eq p q ≡ true
     same_bytes p q = (bytes_eq-Decides p q).1
@@ -68,13 +65,13 @@ find-child e kept m n path i x at is_at is_made is_path =
 
 -- where no number of the path is that of an instance made there, none is found
 pub find-no_child :
-    (e : Expansion) → IsNumbering e → (m : ℕ) (path : Path) (i : Instance) → Numbered (seen e) m i
+    (e : Expansion) → IsNumbering e → (m : ℕ) (path : Path) (i : Instance) → Numbered (expanded_of e) m i
     → ((n : ℕ) (x : code_instance.Instance) → number_at e path ≡ Some n → slice_get e.instances.items n ≡ Some x → x.maker ≡ Some m → ⊥)
-    → find (λ j. bytes_eq path j.path) (made_in (seen e).tree i) ≡ None
+    → find (λ j. bytes_eq path j.path) (made_in (expanded_of e).tree i) ≡ None
 find-no_child e kept m path i at not_there =
-    find-none (λ j. bytes_eq path j.path) (made_in (seen e).tree i) (λ j cj. false_from_ne_true (bytes_eq path j.path) (λ same. refuted j cj ((bytes_eq-Decides path j.path).0 same)))
+    find-none (λ j. bytes_eq path j.path) (made_in (expanded_of e).tree i) (λ j cj. false_from_ne_true (bytes_eq path j.path) (λ same. refuted j cj ((bytes_eq-Decides path j.path).0 same)))
   where
-    refuted : (j : Instance) → Contains (made_in (seen e).tree i) j → path ≡ j.path → ⊥
+    refuted : (j : Instance) → Contains (made_in (expanded_of e).tree i) j → path ≡ j.path → ⊥
     refuted j cj same =
         let below = kept.is_expanded.below_made m i j at cj in
         let n = below.0 in

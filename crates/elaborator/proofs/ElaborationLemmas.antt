@@ -1,5 +1,5 @@
 -- From what the parts of an elaboration tell to the faults of the whole.
-use Rattle.std.proofs.Common.{◌≡◌, ◌≢◌, ◌∙◌, Result, Ok, Err, IfOk, IfErr, ◌<◌, Bool, true, false, ◌&&◌, not, eqb, cond, ℤ, List, [], ◌∷◌, ◌++◌, Option, Some, None, length, refl, ap, sym, subst, inl, inr, ◌⊎◌, arith}
+use Rattle.std.proofs.Common.{◌≡◌, ◌≢◌, ◌∙◌, Result, Ok, Err, IfOk, IfErr, Bool, true, false, ◌&&◌, not, eqb, cond, ℤ, List, [], ◌∷◌, ◌++◌, Option, Some, None, length, refl, ap, sym, subst, inl, inr, ◌⊎◌, arith}
 use Rattle.std.specs.List.{Contains, flat_map}
 use Rattle.std.specs.Option.{option_and_then, option_map_or}
 use Rattle.std.proofs.lemmas.Bool.{false≢true, eqb-true}
@@ -16,17 +16,17 @@ use Rattle.darwin_walk.specs.declared.fault.Fault.{Fault}
 use Rattle.darwin_walk.specs.declared.fault.Fault.TheVariants as shown
 use Rattle.elaborator.specs.Paths.{Path, end_bytes}
 use Rattle.elaborator.specs.Instances.{Instance, top_instance, Inst}
-use Rattle.elaborator.specs.Bindings.{Named, named, bindings_in}
+use Rattle.elaborator.specs.Bindings.{Named, resolve, bindings_in}
 use Rattle.elaborator.specs.Graph.{IsElab}
 use Rattle.elaborator.specs.Faults.{own_faults, port_faults, faults_in, CountsMore, Faults, Faults as fault}
 use Rattle.elaborator.specs.Numbering.{Expanded, IsOf}
-use Rattle.base.specs.Answers.{Answers}
+use Rattle.base.specs.Answers.{Answers, Refuses}
 use Rattle.elaborator.specs.PortIndex.{FaultOf, FaultOf as of, BindingFault, BindingFault as binding}
 use Rattle.elaborator.specs.ExpansionFaults.{GrowthFault, GrowthFault as growth, IsClear}
 use Rattle.elaborator.specs.Built.{BuildFault, IsBuilt}
 use Rattle.elaborator.specs.Built.CycleFault.{first_on_cycle}
 use Rattle.elaborator.specs.Built.BuildFault.{in_bindings, in_graph}
-use Rattle.elaborator.specs.Elaboration.{HasNoFault, ElaboratesTo}
+use Rattle.elaborator.specs.Elaboration.{HasNoFault, ElaboratesTo, Gives}
 use Rattle.elaborator.specs.declared.error.ElabError.{ElabError}
 use Rattle.elaborator.specs.declared.error.ElabError.TheVariants as error
 use Rattle.elaborator.proofs.CountLaws.{counted-within}
@@ -80,7 +80,7 @@ only_bad_index at size i f there = by size i there
     by zero_divisor i there = absurd (Contains-nil f there)
 
 port_fault : (tree : Tree) (i : Instance) (at : At) (e : End) (f : Fault) → Contains (port_faults tree i at e) f → f ≡ shown.BadIndex at
-port_fault tree i at e f there = by (named tree i e) there
+port_fault tree i at e f there = by (resolve tree i e) there
   where
     indexed : Instance → Option Expr → Option ℤ → List Fault
     indexed j (Some size) (Some index) = index_fault at (value size j.env) (integer index)
@@ -239,3 +239,10 @@ bound_once tree name arguments top is_top made_once none = record {
   where
     parts : IsTopOf tree name arguments top
     parts = top_parts tree name arguments top is_top
+
+-- where no fault holds, what is given is the graph
+pub answer-every_graph :
+    (tree : Tree) (name : Name) (arguments : List ℤ) (r : Result Graph ElabError) (g : Graph) → IfOk r (ElaboratesTo tree name arguments)
+    → IfErr r (Refuses error.NoMemory (Faults tree name arguments)) → HasNoFault tree name arguments → ElaboratesTo tree name arguments g → Gives r g
+answer-every_graph tree name arguments (Ok h) g graph fault none is = one_graph_of tree name arguments h g graph is
+answer-every_graph tree name arguments (Err f) g graph fault none is = λ other. none f (fault other)

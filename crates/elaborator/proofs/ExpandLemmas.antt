@@ -1,5 +1,5 @@
 -- What an expansion tells: the faults that it finds, and the whole where there are none.
-use Rattle.std.proofs.Common.{◌≡◌, ◌≢◌, ◌∙◌, inl, inr, ℕ, zero, suc, ◌+◌, ◌<◌, ◌≤◌, false, List, [], ◌∷◌, ◌++◌, length, length-append, length-set, set, map, sum_by, All, Option, Some, None, Result, Ok, Err, refl, sym, ap, subst, arith}
+use Rattle.std.proofs.Common.{◌≡◌, ◌∙◌, inl, inr, ℕ, zero, suc, ◌+◌, ◌<◌, ◌≤◌, false, List, [], ◌∷◌, ◌++◌, length, length-append, length-set, set, map, sum_by, All, Option, Some, None, Result, refl, sym, ap, subst, arith}
 use Rattle.std.specs.List.{Contains, slice_get}
 use Rattle.std.specs.Option.{IsSome}
 use Rattle.std.specs.Map.{lookup}
@@ -22,12 +22,12 @@ use Rattle.elaborator.specs.Paths.{Path}
 use Rattle.elaborator.specs.Instances.{Instance, made_in, paths_in, Inst, count_in}
 use Rattle.elaborator.specs.Faults.{own_faults, Twice, CountsMore}
 use Rattle.elaborator.specs.Numbering.{NumberedInstance, Numbered, NumberedIn, IsExpanded, IsOf}
-use Rattle.elaborator.specs.Expansion.{made_of, instance_in, seen, number_at, IsNumbering, IsShown}
+use Rattle.elaborator.specs.Expansion.{made_of, instance_in, expanded_of, number_at, IsNumbering, IsShown}
 use Rattle.elaborator.specs.Opening.{cause_at, error_at, Judges, IsNoted, IsFound}
 use Rattle.elaborator.specs.declared.opening.Found.{Found}
 use Rattle.elaborator.specs.ExpansionFaults.{IsTop, GrowthFault, IsClear, IsWhole}
 use Rattle.elaborator.specs.ExpansionFaults.GrowthFault.{out_of_range, zero_divisor, bad_index, two_instances, two_apart, too_deep, too_many}
-use Rattle.elaborator.specs.ExpansionState.{made_by, IsWalkedClean, IsGrown, IsMapped, IsGrowth, IsSpread, IsInPathOrder, IsClash, IsTold}
+use Rattle.elaborator.specs.Growth.{made_by, IsWalkedClean, IsGrown, IsMapped, IsGrowth, IsSpread, IsInPathOrder, IsClash, IsTold}
 use Rattle.elaborator.specs.declared.instance.Instance as code
 use Rattle.elaborator.specs.declared.growing.Growth.{Growth}
 use Rattle.elaborator.specs.declared.instance.Expansion.{Expansion}
@@ -37,10 +37,10 @@ use Rattle.elaborator.proofs.NamingLemmas.{made_named}
 use Rattle.elaborator.proofs.TwiceLaws.{twice_at, twice_before, twice_places}
 use Rattle.elaborator.proofs.OrderLemmas.{rising}
 use Rattle.elaborator.proofs.MappedLemmas.{found-in_order, found-before_order}
-use Rattle.elaborator.proofs.GrowthLemmas.{AreApart, same_made, earlier_or_same, grown-top, grown-open, grown-sound, grown-complete, grown-distinct, once-made}
+use Rattle.elaborator.proofs.GrowthLemmas.{AreApart, earlier_or_same, grown-top, grown-open, grown-sound, grown-complete, grown-distinct, once-made}
 use Rattle.elaborator.proofs.SpreadLemmas.{total-within, spread-top, spread-open, front-above, depth-next}
 use Rattle.base.proofs.ContainsLaws.{Contains-at, Contains-from_map, Contains-map, at_some_place}
-use Rattle.base.proofs.PlaceLaws.{slice_get-append_cases, slice_get-before, slice_get-behind, slice_get-below, slice_get-map_at, slice_get-map_some, slice_get-set_cases, slice_get-set_other, slice_get-set_same}
+use Rattle.base.proofs.PlaceLaws.{one_at, slice_get-append_cases, slice_get-before, slice_get-behind, slice_get-below, slice_get-map_at, slice_get-map_some, slice_get-set_cases, slice_get-set_other, slice_get-set_same}
 
 -- ---- faults
 
@@ -117,7 +117,7 @@ apart-mapped e mapped m n x y positive positive' at at' same =
 
 pub whole-expanded :
     (top : Instance) (g : Growth) → IsGrowth top g → top.depth ≡ 0 → component_named (tree_of g.expansion.directory.unit.now) top.component.name ≡ Some top.component
-    → is_primitive top.component ≡ false → g.opened ≡ length g.expansion.instances.items → IsExpanded (seen g.expansion)
+    → is_primitive top.component ≡ false → g.opened ≡ length g.expansion.instances.items → IsExpanded (expanded_of g.expansion)
 whole-expanded top g growth shallow top_named composite all =
     record {
       made_below = λ m n i j at at'. below_maker n m i j at at';
@@ -136,29 +136,29 @@ whole-expanded top g growth shallow top_named composite all =
     distinct : (m n : ℕ) (x y : NumberedInstance) → slice_get (map made_of g.expansion.instances.items) m ≡ Some x → slice_get (map made_of g.expansion.instances.items) n ≡ Some y → x.instance.path ≡ y.instance.path → x.instance.depth ≡ y.instance.depth → m ≡ n
     distinct = grown-distinct (tree_of g.expansion.directory.unit.now) top (map made_of g.expansion.instances.items) g.opened growth.grown shallow (apart-mapped g.expansion growth.mapped)
 
-    not_top : (m : ℕ) (i : Instance) → NumberedIn (seen g.expansion) m 0 i → ⊥
-    not_top m i at = none-some m (ap (λ (z : NumberedInstance). z.maker) (same_made _ 0 _ _ growth.grown.first at))
+    not_top : (m : ℕ) (i : Instance) → NumberedIn (expanded_of g.expansion) m 0 i → ⊥
+    not_top m i at = none-some m (ap (λ (z : NumberedInstance). z.maker) (one_at _ 0 _ _ growth.grown.first at))
 
-    below_maker : (n m : ℕ) (i j : Instance) → Numbered (seen g.expansion) m i → NumberedIn (seen g.expansion) m n j → Contains (made_in (tree_of g.expansion.directory.unit.now) i) j
+    below_maker : (n m : ℕ) (i j : Instance) → Numbered (expanded_of g.expansion) m i → NumberedIn (expanded_of g.expansion) m n j → Contains (made_in (tree_of g.expansion.directory.unit.now) i) j
     below_maker zero m i j at at' = absurd (not_top m j at')
     below_maker (suc n) m i j at at' =
         let w = growth.grown.maker n _ at' in
         let number : m ≡ w.0 = same_Some m w.0 w.2 in
-        let one = same_made _ w.0 w.1 _ w.5 (subst (λ a. slice_get (map made_of g.expansion.instances.items) a ≡ Some (record { instance = i; maker = at.maker })) number at.is_at) in
+        let one = one_at _ w.0 w.1 _ w.5 (subst (λ a. slice_get (map made_of g.expansion.instances.items) a ≡ Some (record { instance = i; maker = at.maker })) number at.is_at) in
         subst (λ (z : NumberedInstance). Contains (made_in (tree_of g.expansion.directory.unit.now) z.instance) j) one w.6
 
-    one_path : (m n a b : ℕ) (i j : Instance) → NumberedIn (seen g.expansion) a m i → NumberedIn (seen g.expansion) b n j → i.path ≡ j.path → m ≡ n
+    one_path : (m n a b : ℕ) (i j : Instance) → NumberedIn (expanded_of g.expansion) a m i → NumberedIn (expanded_of g.expansion) b n j → i.path ≡ j.path → m ≡ n
     one_path zero n a b i j at at' same = absurd (not_top a i at)
     one_path (suc m) zero a b i j at at' same = absurd (not_top b j at')
     one_path (suc m) (suc n) a b i j at at' same = apart-mapped g.expansion growth.mapped (suc m) (suc n) _ _ (omega arith) (omega arith) at at' same
 
     named : (n : ℕ) (x : NumberedInstance) → slice_get (map made_of g.expansion.instances.items) n ≡ Some x → component_named (tree_of g.expansion.directory.unit.now) x.instance.component.name ≡ Some x.instance.component
     named zero x at =
-        subst (λ (z : NumberedInstance). component_named (tree_of g.expansion.directory.unit.now) z.instance.component.name ≡ Some z.instance.component) (same_made _ 0 _ _ growth.grown.first at) top_named
+        subst (λ (z : NumberedInstance). component_named (tree_of g.expansion.directory.unit.now) z.instance.component.name ≡ Some z.instance.component) (one_at _ 0 _ _ growth.grown.first at) top_named
     named (suc n) x at = let w = growth.grown.maker n x at in made_named (tree_of g.expansion.directory.unit.now) w.1.instance x.instance w.6
 
     top_only : (n : ℕ) (i : Instance) → slice_get (map made_of g.expansion.instances.items) n ≡ Some (record { instance = i; maker = None }) → is_primitive i.component ≡ false
-    top_only zero i at = ap (λ (z : NumberedInstance). is_primitive z.instance.component) (sym (same_made _ 0 _ _ growth.grown.first at)) ∙ composite
+    top_only zero i at = ap (λ (z : NumberedInstance). is_primitive z.instance.component) (sym (one_at _ 0 _ _ growth.grown.first at)) ∙ composite
     top_only (suc n) i at = let w = growth.grown.maker n _ at in absurd (none-some w.0 w.2)
 
 -- each instance of the elaboration is there, and opened
@@ -196,7 +196,7 @@ made_at top g growth all i path inst has =
         → slice_get (map made_of g.expansion.instances.items) n ≡ Some (made_by m j) → path ≡ j.path
         → (m : ℕ) × (n : ℕ) × (x : NumberedInstance) × (y : NumberedInstance) × (slice_get (map made_of g.expansion.instances.items) m ≡ Some x) × (x.instance ≡ i)
         × (slice_get (map made_of g.expansion.instances.items) (suc n) ≡ Some y) × (y.maker ≡ Some m) × (y.instance.path ≡ path)
-    later zero m x j at is there same = absurd (none-some m (ap (λ (z : NumberedInstance). z.maker) (same_made _ 0 _ _ growth.grown.first there)))
+    later zero m x j at is there same = absurd (none-some m (ap (λ (z : NumberedInstance). z.maker) (one_at _ 0 _ _ growth.grown.first there)))
     later (suc n) m x j at is there same = (m, n, x, made_by m j, at, is, there, refl, sym same)
 
 pub whole-clear :
@@ -210,9 +210,9 @@ whole-clear top g growth all =
           let v = made_at top g growth all i path inst has in
           let w = made_at top g growth all j path inst' has' in
           let number = apart-mapped g.expansion growth.mapped (suc v.1) (suc w.1) v.3 w.3 (omega arith) (omega arith) v.6 w.6 (v.8 ∙ sym w.8) in
-          let one = same_made made (suc w.1) v.3 w.3 (subst (λ n. slice_get made n ≡ Some v.3) number v.6) w.6 in
+          let one = one_at made (suc w.1) v.3 w.3 (subst (λ n. slice_get made n ≡ Some v.3) number v.6) w.6 in
           let maker : v.0 ≡ w.0 = same_Some v.0 w.0 (sym v.7 ∙ ap (λ (z : NumberedInstance). z.maker) one ∙ w.7) in
-          sym v.5 ∙ ap (λ (z : NumberedInstance). z.instance) (same_made made w.0 v.2 w.2 (subst (λ n. slice_get made n ≡ Some v.2) maker v.4) w.4) ∙ w.5;
+          sym v.5 ∙ ap (λ (z : NumberedInstance). z.instance) (one_at made w.0 v.2 w.2 (subst (λ n. slice_get made n ≡ Some v.2) maker v.4) w.4) ∙ w.5;
       shallow = λ i inst. (is_opened top g growth all i inst).shallow;
       few =
           total-within (tree_of g.expansion.directory.unit.now) top (map instance_in g.expansion.instances.items) g.room
@@ -246,14 +246,14 @@ whole-kept top g growth shallow named composite all e ordered =
   where
     found : (n : ℕ) (i : code.Instance) → slice_get g.expansion.instances.items n ≡ Some i → IsSome i.maker → number_at g.expansion i.path ≡ Some n
     found zero i at made =
-        let none : i.maker ≡ None = ap (λ (z : NumberedInstance). z.maker) (sym (same_made _ 0 _ _ growth.grown.first (slice_get-map_at made_of g.expansion.instances.items 0 i at))) in
+        let none : i.maker ≡ None = ap (λ (z : NumberedInstance). z.maker) (sym (one_at _ 0 _ _ growth.grown.first (slice_get-map_at made_of g.expansion.instances.items 0 i at))) in
         absurd (not_none i.maker none made)
       where
         not_none : (o : Option ℕ) → o ≡ None → IsSome o → ⊥
         not_none o none some = cc
     found (suc n) i at made = growth.mapped.found (suc n) i (omega arith) at
 
-pub whole-of : (top : Instance) (g : Growth) → IsGrowth top g → g.opened ≡ length g.expansion.instances.items → IsOf (seen g.expansion) top
+pub whole-of : (top : Instance) (g : Growth) → IsGrowth top g → g.opened ≡ length g.expansion.instances.items → IsOf (expanded_of g.expansion) top
 whole-of top g growth all =
     record {
       sound = λ n i at. grown-sound _ top _ g.opened growth.grown n _ at.is_at;

@@ -8,14 +8,11 @@ use Rattle.elaborator.specs.Instances.{Instance, made_in, paths_in, Inst}
 use Rattle.elaborator.specs.Instances.Inst.{at_top, below}
 use Rattle.elaborator.specs.Faults.{Twice}
 use Rattle.elaborator.specs.Numbering.{NumberedInstance}
-use Rattle.elaborator.specs.ExpansionState.{made_by, IsWalkedClean, IsGrown}
+use Rattle.elaborator.specs.Growth.{made_by, IsWalkedClean, IsGrown}
 use Rattle.elaborator.proofs.ChildLaws.{depth-made}
 use Rattle.elaborator.proofs.TwiceLaws.{twice_places}
 use Rattle.base.proofs.ContainsLaws.{Contains-at, at_some_place}
-use Rattle.base.proofs.PlaceLaws.{slice_get-append_cases, slice_get-before, slice_get-behind, slice_get-below, slice_get-front, slice_get-map_at, slice_get-map_some}
-
-pub same_made : (made : List NumberedInstance) (n : ℕ) (x y : NumberedInstance) → slice_get made n ≡ Some x → slice_get made n ≡ Some y → x ≡ y
-same_made made n x y at at' = same_Some x y (sym at ∙ at')
+use Rattle.base.proofs.PlaceLaws.{one_at, slice_get-append_cases, slice_get-before, slice_get-behind, slice_get-below, slice_get-front, slice_get-map_at, slice_get-map_some}
 
 -- a place before the one at hand, or that one
 pub earlier_or_same : (m k : ℕ) → m < k + 1 → (m < k) ⊎ (m ≡ k)
@@ -86,7 +83,7 @@ grown-top tree top =
 sound_below : (tree : Tree) (top : Instance) (made : List NumberedInstance) (k : ℕ) → IsGrown tree top made k → (bound n : ℕ) (x : NumberedInstance) → n < bound → slice_get made n ≡ Some x → Inst tree top x.instance
 sound_below tree top made k grown zero n x lt at = absurd (omega (arith, lt))
 sound_below tree top made k grown (suc bound) zero x lt at =
-    subst (λ (y : NumberedInstance). Inst tree top y.instance) (same_made made 0 _ x grown.first at) at_top
+    subst (λ (y : NumberedInstance). Inst tree top y.instance) (one_at made 0 _ x grown.first at) at_top
 sound_below tree top made k grown (suc bound) (suc n) x lt at =
     let w = grown.maker n x at in
     below w.1.instance x.instance (sound_below tree top made k grown bound w.0 w.1 (omega (arith, w.3, lt)) w.5) w.6
@@ -120,9 +117,9 @@ pub grown-distinct :
     → (m n : ℕ) (x y : NumberedInstance) → slice_get made m ≡ Some x → slice_get made n ≡ Some y → x.instance.path ≡ y.instance.path → x.instance.depth ≡ y.instance.depth → m ≡ n
 grown-distinct tree top made k grown shallow apart zero zero x y at at' same level = refl
 grown-distinct tree top made k grown shallow apart zero (suc n) x y at at' same level =
-    absurd (omega (arith, deep tree top made k grown n y at', level, shallow, ap (λ (z : NumberedInstance). z.instance.depth) (same_made made 0 _ x grown.first at)))
+    absurd (omega (arith, deep tree top made k grown n y at', level, shallow, ap (λ (z : NumberedInstance). z.instance.depth) (one_at made 0 _ x grown.first at)))
 grown-distinct tree top made k grown shallow apart (suc m) zero x y at at' same level =
-    absurd (omega (arith, deep tree top made k grown m x at, level, shallow, ap (λ (z : NumberedInstance). z.instance.depth) (same_made made 0 _ y grown.first at')))
+    absurd (omega (arith, deep tree top made k grown m x at, level, shallow, ap (λ (z : NumberedInstance). z.instance.depth) (one_at made 0 _ y grown.first at')))
 grown-distinct tree top made k grown shallow apart (suc m) (suc n) x y at at' same level = apart (suc m) (suc n) x y (omega arith) (omega arith) at at' same
 
 -- no path is made twice in an instance all of whose instances have different paths

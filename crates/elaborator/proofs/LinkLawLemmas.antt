@@ -3,15 +3,14 @@ use Rattle.std.proofs.Common.{◌≡◌, ◌∙◌, ℤ, List, Some, refl, sym, 
 use Rattle.std.specs.List.{Contains}
 use Rattle.std.proofs.lemmas.Option.{same_Some}
 use Rattle.config_graph.specs.declared.node.Link.{Link}
-use Rattle.config_graph.specs.Graph.{Graph, link_at, ports, in_port_order}
+use Rattle.config_graph.specs.Graph.{Graph, link_at}
 use Rattle.darwin_parser.specs.declared.tree.Side.TheVariants.{Provide, Require}
 use Rattle.darwin_parser.specs.Tree.{Name, Tree}
 use Rattle.elaborator.specs.Instances.{Instance, top_instance}
 use Rattle.elaborator.specs.Bindings.{Port, BoundThrough}
 use Rattle.elaborator.specs.Graph.{IsLink, IsRequirementAt, IsProvisionAt, port_at}
 use Rattle.elaborator.specs.Elaboration.{ElaboratesTo}
-use Rattle.elaborator.proofs.UniqueLaws.{link_found, links_listed}
-use Rattle.base.proofs.ContainsLaws.{Contains-from_filter_map}
+use Rattle.elaborator.proofs.UniqueLaws.{links_listed}
 use Rattle.config_graph.proofs.GraphByLaws.{own_link}
 
 -- the ends of a link, to the one of which bindings lead from the other

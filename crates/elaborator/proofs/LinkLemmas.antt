@@ -3,7 +3,6 @@ use Rattle.std.proofs.Common.{◌≡◌, ◌∙◌, ℕ, zero, suc, ◌<◌, fal
 use Rattle.std.specs.List.{slice_get}
 use Rattle.std.specs.Option.{is_some, option_map}
 use Rattle.std.specs.Str.{bytes_eq}
-use Rattle.std.proofs.lemmas.Bool.{false≢true}
 use Rattle.std.proofs.lemmas.Option.{slice_get-map, slice_get_within, slice_get_read, same_Some, none-some, get_or_from_slice_get}
 use Rattle.std.proofs.lemmas.List.{length-map}
 use Rattle.std.proofs.lemmas.List.Quantifiers.{position-Some}
@@ -21,7 +20,7 @@ use Rattle.elaborator.specs.Instances.{Instance}
 use Rattle.elaborator.specs.Bindings.{Port}
 use Rattle.elaborator.specs.Graph.{node_of, port_at}
 use Rattle.elaborator.specs.Numbering.{Expanded, Numbered, IsExpanded}
-use Rattle.elaborator.specs.Expansion.{seen, made_of}
+use Rattle.elaborator.specs.Expansion.{expanded_of, made_of}
 use Rattle.elaborator.specs.Ports.{place_of, IsPort}
 use Rattle.elaborator.specs.declared.instance.Instance as code_instance
 use Rattle.elaborator.specs.declared.instance.Expansion.{Expansion}
@@ -98,7 +97,7 @@ plain_port e id i d side name at declared place has_side no_index =
 
 -- a declaration that the code read
 pub decl_read :
-    (e : Expansion) (n k : ℕ) (x : code_instance.Instance) (i : Instance) (d : code_port.PortDecl) → slice_get (seen e).made n ≡ Some (made_of x) → Numbered (seen e) n i
+    (e : Expansion) (n k : ℕ) (x : code_instance.Instance) (i : Instance) (d : code_port.PortDecl) → slice_get (expanded_of e).made n ≡ Some (made_of x) → Numbered (expanded_of e) n i
     → k < length i.component.ports → d ≡ get_or x.component.now.ports.items k d → slice_get i.component.ports k ≡ Some (port_of d)
 decl_read e n k x i d made at within read =
     let same = same_instance e n x i made at in
@@ -185,9 +184,9 @@ pub node_within : (e : Expanded) (n : Nodes) (k a : ℕ) → AreNodes e n → sl
 node_within e n k a are placed = let w = are.placed k a placed in slice_get_within n.nodes.items a w.0 w.2
 
 pub port_read :
-    (e : Expansion) (n : Nodes) (id : PortId) (x : Port) (i : code_instance.Instance) (d : code_port.PortDecl) (a : ℕ) (node : Node) → AreNodes (seen e) n → IsPort (seen e) id x
-    → slice_get (seen e).made id.instance ≡ Some (made_of i) → d ≡ get_or i.component.now.ports.items id.port d → slice_get n.places.items id.instance ≡ Some (Some a)
-    → node ≡ get_or n.nodes.items a node → ReadPort (seen e) n id (port_of d) a node
+    (e : Expansion) (n : Nodes) (id : PortId) (x : Port) (i : code_instance.Instance) (d : code_port.PortDecl) (a : ℕ) (node : Node) → AreNodes (expanded_of e) n → IsPort (expanded_of e) id x
+    → slice_get (expanded_of e).made id.instance ≡ Some (made_of i) → d ≡ get_or i.component.now.ports.items id.port d → slice_get n.places.items id.instance ≡ Some (Some a)
+    → node ≡ get_or n.nodes.items a node → ReadPort (expanded_of e) n id (port_of d) a node
 port_read e n id x i d a node are port made read placed node_is =
     let declared = decl_read e id.instance id.port i port.instance d made port.numbered (slice_get_within port.instance.component.ports id.port port.decl port.declared) read in
     let same : port.decl ≡ port_of d = same_Some port.decl (port_of d) (sym port.declared ∙ declared) in
@@ -197,7 +196,7 @@ port_read e n id x i d a node are port made read placed node_is =
       declared = declared;
       place = subst (λ (y : PortDecl). place_of y.name port.instance.component.ports ≡ Some id.port) same port.first;
       placed = placed;
-      stands = value_read n.nodes.items a node (node_within (seen e) n id.instance a are placed) node_is;
+      stands = value_read n.nodes.items a node (node_within (expanded_of e) n id.instance a are placed) node_is;
     }
 
 pub provided_of_read :

@@ -1,7 +1,7 @@
 -- Instances by their paths: one more is added, or another has its path.
-use Rattle.std.proofs.Common.{◌≡◌, ◌≢◌, ◌∙◌, ◌⊎◌, inl, inr, ℕ, Bool, true, false, ◌+◌, List, [], ◌∷◌, ◌++◌, length, set, cond, Option, Some, None, refl, sym, ap, subst, arith, length-append, append_assoc, length-set}
+use Rattle.std.proofs.Common.{◌≡◌, ◌≢◌, ◌∙◌, ◌⊎◌, inl, inr, ℕ, Bool, List, [], ◌∷◌, ◌++◌, length, set, cond, Option, Some, None, refl, sym, ap, subst, arith, length-append, append_assoc, length-set}
 use Rattle.std.specs.List.{slice_get}
-use Rattle.std.specs.Option.{is_some, option_or}
+use Rattle.std.specs.Option.{option_or}
 use Rattle.std.specs.Str.{bytes_eq}
 use Rattle.std.specs.Map.{lookup}
 use Rattle.std.specs.Global.{Vec}
@@ -13,7 +13,7 @@ use Rattle.indexmap.specs.IndexMap.{insert_entry}
 use Rattle.indexmap.proofs.MapLemmas.{insert_entry-absent, absent_from_lookup}
 use Rattle.elaborator.specs.Paths.{Path}
 use Rattle.elaborator.specs.Expansion.{number_at}
-use Rattle.elaborator.specs.ExpansionState.{IsMapped, IsExtended, IsInPathOrder, IsClash}
+use Rattle.elaborator.specs.Growth.{IsMapped, IsExtended, IsInPathOrder, IsClash}
 use Rattle.elaborator.specs.declared.instance.Instance as code
 use Rattle.elaborator.specs.declared.instance.Expansion.{Expansion}
 use Rattle.base.proofs.BytesLaws.{lookup-append}

@@ -22,7 +22,7 @@ use Rattle.std.proofs.lemmas.Map.Text.{is_eq-slice_cmp}
 use Rattle.std.proofs.lemmas.Map.Entries.{hash_map_get_place, place_from_lookup}
 use Rattle.elaborator.specs.Instances.{Instance}
 use Rattle.elaborator.specs.Numbering.{NumberedInstance, Numbered}
-use Rattle.elaborator.specs.Expansion.{seen, made_of, number_at, IsNumbering}
+use Rattle.elaborator.specs.Expansion.{expanded_of, made_of, number_at, IsNumbering}
 use Rattle.elaborator.specs.NodeOrder.{IsInOrder}
 use Rattle.elaborator.specs.declared.instance.Instance as code_instance
 use Rattle.elaborator.specs.declared.instance.Expansion.{Expansion}
@@ -94,10 +94,10 @@ entry e kept a m at =
     record { key = key; instance = x.0; is_at = is_at; stands = x.1; path = kept.told m key.items x.0 found x.1 }
 
 -- the path of the instance of an entry
-path_at : (e : Expansion) (a m : ℕ) (i : Instance) (w : Entry e a m) → Numbered (seen e) m i → i.path ≡ w.key.items
+path_at : (e : Expansion) (a m : ℕ) (i : Instance) (w : Entry e a m) → Numbered (expanded_of e) m i → i.path ≡ w.key.items
 path_at e a m i w at = ap (λ (j : Instance). j.path) (same_instance e m w.instance i (numbered e m w.instance w.stands) at) ∙ w.path
 
-pub in_order : (e : Expansion) → IsNumbering e → IsInOrder (seen e) (values e.numbers)
+pub in_order : (e : Expansion) → IsNumbering e → IsInOrder (expanded_of e) (values e.numbers)
 in_order e kept = record {
   rising = λ a b m n i j below at_a at_b at_i at_j.
       let v = entry e kept a m at_a in
@@ -120,6 +120,6 @@ in_order e kept = record {
 }
 
 -- the values that a call gives
-pub ordered_values : {E : Type 0} (e : Expansion) → IsNumbering e → (r : Result (Vec ℕ) E) → IfOk r (λ all. all.items ≡ values e.numbers) → IfOk r (λ order. IsInOrder (seen e) order.items)
-ordered_values e kept (Ok all) is = subst (IsInOrder (seen e)) (sym is) (in_order e kept)
+pub ordered_values : {E : Type 0} (e : Expansion) → IsNumbering e → (r : Result (Vec ℕ) E) → IfOk r (λ all. all.items ≡ values e.numbers) → IfOk r (λ order. IsInOrder (expanded_of e) order.items)
+ordered_values e kept (Ok all) is = subst (IsInOrder (expanded_of e)) (sym is) (in_order e kept)
 ordered_values e kept (Err x) is = tt

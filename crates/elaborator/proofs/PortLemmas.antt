@@ -8,7 +8,7 @@ use Rattle.std.proofs.lemmas.Slice.Eq.{bytes_eq-Decides, slice_eq-Decides}
 use Rattle.std.proofs.lemmas.Option.{slice_get-map, slice_get_within, same_Some, none-some, get_or_from_slice_get}
 use Rattle.std.proofs.lemmas.List.Quantifiers.{position-Some}
 use lib.Pointwise.{pointwise}
-use Rattle.darwin_parser.specs.Tree.{Name, Tree, Component, Expr, PortDecl, port_of}
+use Rattle.darwin_parser.specs.Tree.{Name, Tree, Expr, PortDecl, port_of}
 use Rattle.darwin_parser.specs.declared.tree.PortDecl as code_port
 use Rattle.darwin_lexer.specs.declared.token.At.{At}
 use Rattle.darwin_walk.specs.Value.{Value, integer, out_of_range, zero_divisor, value}
@@ -17,9 +17,9 @@ use Rattle.darwin_walk.specs.declared.fault.Fault.{Fault}
 use Rattle.darwin_walk.specs.Walked.{segment_of, walked_end}
 use Rattle.darwin_walk.specs.declared.walked.End as code_end
 use Rattle.elaborator.specs.Instances.{Instance}
-use Rattle.elaborator.specs.Bindings.{Named, instance_at, named}
+use Rattle.elaborator.specs.Bindings.{Named, instance_at, resolve}
 use Rattle.elaborator.specs.Numbering.{Expanded, NumberedInstance, Numbered}
-use Rattle.elaborator.specs.Expansion.{seen, made_of, instance_in, AreSizes, IsNumbering}
+use Rattle.elaborator.specs.Expansion.{expanded_of, made_of, instance_in, AreSizes}
 use Rattle.elaborator.specs.Ports.{place_of, Stands, ResolvesTo, bad_index, sized_fault, NotesDifferIn}
 use Rattle.elaborator.specs.declared.instance.Instance as code_instance
 use Rattle.elaborator.specs.declared.instance.Expansion.{Expansion}
@@ -36,13 +36,13 @@ instance_numbered e n within = let w = at e.made n within in (w.0, record { make
     at (x ∷ xs) (suc n) within = at xs n (omega arith)
 
 -- an end of a name that no port has names nothing
-pub named-no_port : (tree : Tree) (i j : Instance) (e : End) → instance_at tree i e.inner ≡ Some j → place_of e.port j.component.ports ≡ None → named tree i e ≡ None
-named-no_port tree i j e at no_place = rw (at, find-no_position (λ p. bytes_eq e.port p.name) j.component.ports no_place) refl
+pub resolve-no_port : (tree : Tree) (i j : Instance) (e : End) → instance_at tree i e.inner ≡ Some j → place_of e.port j.component.ports ≡ None → resolve tree i e ≡ None
+resolve-no_port tree i j e at no_place = rw (at, find-no_position (λ p. bytes_eq e.port p.name) j.component.ports no_place) refl
 
 -- what an end names
 pub named-port :
     (tree : Tree) (i j : Instance) (e : End) (k : ℕ) (d : PortDecl) → instance_at tree i e.inner ≡ Some j → place_of e.port j.component.ports ≡ Some k
-    → slice_get j.component.ports k ≡ Some d → named tree i e ≡ Some (record { is_inner = is_some e.inner; instance = j; decl = d; index = e.index })
+    → slice_get j.component.ports k ≡ Some d → resolve tree i e ≡ Some (record { is_inner = is_some e.inner; instance = j; decl = d; index = e.index })
 named-port tree i j e k d at place stands =
     rw (at, find-at_position (λ p. bytes_eq e.port p.name) j.component.ports k place ∙ stands) refl
 
@@ -63,7 +63,7 @@ numbered_within e n i at = slice_get_within e.made n _ at.is_at
 
 -- the instance of a number is that of the code
 pub same_instance :
-    (e : Expansion) (n : ℕ) (x : code_instance.Instance) (i : Instance) → slice_get (seen e).made n ≡ Some (made_of x) → Numbered (seen e) n i
+    (e : Expansion) (n : ℕ) (x : code_instance.Instance) (i : Instance) → slice_get (expanded_of e).made n ≡ Some (made_of x) → Numbered (expanded_of e) n i
     → i ≡ instance_in x
 same_instance e n x i is at = ap (λ (y : NumberedInstance). y.instance) (same_Some _ _ (sym at.is_at ∙ is))
 
@@ -81,22 +81,22 @@ is_some-map f (Some x) = refl
 -- what the code found is what the end names
 pub named_found :
     (e : Expansion) (n m k : ℕ) (i j : Instance) (x : code_instance.Instance) (end : code_end.End) (d : Bor code_port.PortDecl) (inner : Bool)
-    → instance_at (seen e).tree i (walked_end end).inner ≡ Some j → Stands (seen e) n (is_some (walked_end end).inner) m j
-    → slice_get (seen e).made m ≡ Some (made_of x) → place_of end.port.now (instance_in x).component.ports ≡ Some k
+    → instance_at (expanded_of e).tree i (walked_end end).inner ≡ Some j → Stands (expanded_of e) n (is_some (walked_end end).inner) m j
+    → slice_get (expanded_of e).made m ≡ Some (made_of x) → place_of end.port.now (instance_in x).component.ports ≡ Some k
     → slice_get x.component.now.ports.items k ≡ Some d.now → inner ≡ is_some end.inner
-    → ResolvesTo (seen e) n (named (seen e).tree i (walked_end end)) (Some (record { is_inner = inner; id = record { instance = m; port = k; index = end.index }; decl = d }))
+    → ResolvesTo (expanded_of e) n (resolve (expanded_of e).tree i (walked_end end)) (Some (record { is_inner = inner; id = record { instance = m; port = k; index = end.index }; decl = d }))
 named_found e n m k i j x end d inner at stands is place stands_at is_inner =
     let ports = (instance_in x).component.ports in
-    let same = same_instance e m x j is (stands_numbered (seen e) n (is_some (walked_end end).inner) m j stands) in
+    let same = same_instance e m x j is (stands_numbered (expanded_of e) n (is_some (walked_end end).inner) m j stands) in
     let declared : slice_get ports k ≡ Some (port_of d.now) = slice_get-map port_of x.component.now.ports.items k ∙ ap (option_map port_of) stands_at in
-    let found = named-port (seen e).tree i (instance_in x) (walked_end end) k (port_of d.now) (at ∙ ap Some same) place declared in
+    let found = named-port (expanded_of e).tree i (instance_in x) (walked_end end) k (port_of d.now) (at ∙ ap Some same) place declared in
     let its = is_some-map segment_of end.inner ∙ sym is_inner in
     let passes = (position-Some (λ p. bytes_eq end.port.now p.name) ports k (port_of d.now) place).1 in
     let name : end.port.now ≡ d.now.name = (bytes_eq-Decides _ _).0 (ap (λ (p : PortDecl). bytes_eq end.port.now p.name) (sym (get_or_from_slice_get ports k (port_of d.now) (port_of d.now) declared)) ∙ passes) in (
       instance_in x,
       found ∙ ap (λ b. Some (record { is_inner = b; instance = instance_in x; decl = port_of d.now; index = end.index })) its,
       record {
-        stands = subst (λ b. Stands (seen e) n b m (instance_in x)) its (subst (Stands (seen e) n (is_some (walked_end end).inner) m) same stands);
+        stands = subst (λ b. Stands (expanded_of e) n b m (instance_in x)) its (subst (Stands (expanded_of e) n (is_some (walked_end end).inner) m) same stands);
         declared = declared;
         first = subst (λ b. place_of b ports ≡ Some k) name place;
       },

@@ -10,7 +10,8 @@ use Rattle.config_graph.specs.declared.kind.Kind.{Kind}
 use Rattle.config_graph.specs.declared.node.Node.{Node}
 use Rattle.config_graph.specs.Kinds.{kind_named, row}
 use Rattle.config_graph.specs.Graph.{Graph}
-use Rattle.config_graph.specs.Cycles.{NoCycle}
+use Rattle.config_graph.specs.Cycles.{graph_wiring}
+use Rattle.config_graph.specs.Wiring.{HasNoCycle}
 use Rattle.config_graph.specs.Sound.{HasItsArgument, Sound}
 use Rattle.darwin_parser.specs.Tree.{Name, Tree, Component}
 use Rattle.darwin_types.specs.Scope.{component_named, is_primitive}
@@ -193,7 +194,7 @@ has_its_argument tree name arguments top no_fault is_top clear _ n (below i j in
 
 pub sound_graph :
     (tree : Tree) (name : Name) (arguments : List ℤ) (top : Instance) (g : Graph) → NoFault tree → top_instance tree name arguments ≡ Some top
-    → IsClear tree top → IsElab tree top g → NoCycle g → Sound g
+    → IsClear tree top → IsElab tree top g → HasNoCycle (graph_wiring g) → Sound g
 sound_graph tree name arguments top g no_fault is_top clear is_elab no_cycle = record {
   paths_rise = is_elab.paths_rise;
   arguments = λ i d within.

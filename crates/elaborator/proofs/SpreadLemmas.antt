@@ -9,7 +9,7 @@ use Rattle.std.proofs.lemmas.List.Elements.{Contains-append_left, Contains-appen
 use Rattle.darwin_parser.specs.Tree.{Tree}
 use Rattle.darwin_walk.specs.Instance.{Child, children}
 use Rattle.elaborator.specs.Instances.{Instance, instance_of, is_expanded, children_in, made_in, levels, instances, count_in, total}
-use Rattle.elaborator.specs.ExpansionState.{IsSpread}
+use Rattle.elaborator.specs.Growth.{IsSpread}
 use Rattle.elaborator.proofs.ChildLaws.{depth-made}
 use Rattle.base.proofs.ContainsLaws.{Contains-at, Contains-from_filter_map, Contains-from_flat_map, Contains-here, Contains-nil, Contains-one}
 use Rattle.base.proofs.MapLaws.{no_length}

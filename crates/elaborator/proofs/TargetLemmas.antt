@@ -2,16 +2,11 @@
 use Rattle.std.proofs.Common.{◌≡◌, ◌∙◌, ℕ, zero, suc, ◌<◌, false, List, length, get_or, Option, Some, None, refl, ap, sym, subst, inl, inr, arith}
 use Rattle.std.specs.List.{slice_get}
 use Rattle.std.specs.Option.{option_map_or}
-use Rattle.std.specs.Ordering.{nat_cmp, ordering_reverse}
-use Rattle.std.specs.Cmp.Lexicographic.{slice_cmp, nat_list_cmp_total}
-use Rattle.std.specs.declared.cmp.Ordering.{Ordering}
-use Rattle.std.specs.declared.cmp.Ordering.TheVariants.{Less, Equal, Greater}
-use Rattle.std.proofs.lemmas.Bool.{false≢true, cases_lt}
-use Rattle.std.proofs.lemmas.Option.{same_Some, none-some, slice_get_within, get_or_from_slice_get}
+use Rattle.std.proofs.lemmas.Bool.{false≢true}
+use Rattle.std.proofs.lemmas.Option.{same_Some, none-some}
 use Rattle.config_graph.specs.declared.node.Node.{Node}
 use Rattle.config_graph.specs.declared.node.Target.{Target}
 use Rattle.config_graph.specs.Kinds.{row}
-use Rattle.config_graph.specs.Graph.{PathsRise}
 use Rattle.darwin_parser.specs.declared.tree.Side.TheVariants.{Provide, Require}
 use Rattle.darwin_parser.specs.Tree.{Name, PortDecl, port_of}
 use Rattle.darwin_parser.specs.declared.tree.PortDecl as code_port
@@ -20,7 +15,7 @@ use Rattle.elaborator.specs.Instances.{Instance}
 use Rattle.elaborator.specs.Bindings.{Port, pair_of, pairs_in, bindings_in, Bound, bound, BoundThrough, at_once, through}
 use Rattle.elaborator.specs.Graph.{node_of, port_at, IsLink}
 use Rattle.elaborator.specs.Numbering.{Expanded, Numbered, NumberedIn, IsExpanded}
-use Rattle.elaborator.specs.Expansion.{seen, made_of, instance_in}
+use Rattle.elaborator.specs.Expansion.{expanded_of, made_of, instance_in}
 use Rattle.elaborator.specs.PortIndex.{chain_target, chain_end, IsIndex, all_pairs}
 use Rattle.elaborator.specs.Ports.{place_of, IsPort}
 use Rattle.elaborator.specs.NodeOrder.{AreNodes}
@@ -224,26 +219,26 @@ untargeted e top targets indexed n a require node name number i stands required 
 -- a node, and its instance
 pub record ReadNode (e : Expansion) (n : Nodes) (a number : ℕ) (node : Node) (x : code_instance.Instance) : Type 0 where
   pub stands : slice_get n.nodes.items a ≡ Some node
-  pub numbered : Numbered (seen e) number (instance_in x)
+  pub numbered : Numbered (expanded_of e) number (instance_in x)
   pub is_node : node_of (instance_in x) ≡ Some node
 
 pub node_read :
-    (e : Expansion) (n : Nodes) (a number : ℕ) (node : Node) (x : code_instance.Instance) → AreNodes (seen e) n → a < length n.nodes.items → node ≡ get_or n.nodes.items a node
-    → number ≡ get_or n.instances.items a number → slice_get (seen e).made number ≡ Some (made_of x) → ReadNode e n a number node x
+    (e : Expansion) (n : Nodes) (a number : ℕ) (node : Node) (x : code_instance.Instance) → AreNodes (expanded_of e) n → a < length n.nodes.items → node ≡ get_or n.nodes.items a node
+    → number ≡ get_or n.instances.items a number → slice_get (expanded_of e).made number ≡ Some (made_of x) → ReadNode e n a number node x
 node_read e n a number node x are within read_node read_number made =
     let stands = value_read n.nodes.items a node within read_node in
     let w = are.node_at a node stands in
     let same : w.0 ≡ number = same_Some w.0 number (sym w.2 ∙ value_read n.instances.items a number (omega (arith, within, are.same_length)) read_number) in
-    let numbered : Numbered (seen e) number w.1 = subst (λ k. Numbered (seen e) k w.1) same w.3 in
+    let numbered : Numbered (expanded_of e) number w.1 = subst (λ k. Numbered (expanded_of e) k w.1) same w.3 in
     let one = same_instance e number x w.1 made numbered in
-    record { stands = stands; numbered = subst (Numbered (seen e) number) one numbered; is_node = ap node_of (sym one) ∙ w.4 }
+    record { stands = stands; numbered = subst (Numbered (expanded_of e) number) one numbered; is_node = ap node_of (sym one) ∙ w.4 }
 
 -- its requirement, as a port
 pub start_read :
     (e : Expansion) (n : Nodes) (a require number port : ℕ) (node : Node) (name : Name) (x : code_instance.Instance) (d : code_port.PortDecl) → ReadNode e n a number node x
     → slice_get (row node.kind).requires_ require ≡ Some name → place_of name (instance_in x).component.ports ≡ Some port
     → slice_get (instance_in x).component.ports port ≡ Some (port_of d) → d.side ≡ Require
-    → Requirement (seen e) n a require (record { instance = number; port = port; index = None })
+    → Requirement (expanded_of e) n a require (record { instance = number; port = port; index = None })
 start_read e n a require number port node name x d read required place declared side = record {
   node = node;
   name = name;
@@ -253,7 +248,7 @@ start_read e n a require number port node name x d read required place declared 
   required = required;
   numbered = read.numbered;
   is_node = read.is_node;
-  is_port = plain_port (seen e) (record { instance = number; port = port; index = None }) (instance_in x) (port_of d) Require name read.numbered declared place side refl;
+  is_port = plain_port (expanded_of e) (record { instance = number; port = port; index = None }) (instance_in x) (port_of d) Require name read.numbered declared place side refl;
 }
 
 -- no requirement has the name

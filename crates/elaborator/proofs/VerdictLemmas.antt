@@ -18,7 +18,7 @@ use Rattle.darwin_walk.specs.declared.fault.Fault as walk
 use Rattle.darwin_walk.specs.declared.fault.Fault.TheVariants as shown
 use Rattle.elaborator.specs.Paths.{Path, end_bytes}
 use Rattle.elaborator.specs.Instances.{Instance, top_instance, instances, Inst, at_top, below, total, paths_in}
-use Rattle.elaborator.specs.Bindings.{Named, named, Pair, pair_of, bindings_in, pairs_in}
+use Rattle.elaborator.specs.Bindings.{Named, resolve, Pair, pair_of, bindings_in, pairs_in}
 use Rattle.elaborator.specs.Graph.{IsElab}
 use Rattle.elaborator.specs.Faults.{faults_in, CountsMore, Faults, Faults as fault, NotesDiffer, differ, Twice}
 use Rattle.elaborator.specs.Elaboration.{HasNoFault, ElaboratesTo}
@@ -34,7 +34,8 @@ use Rattle.elaborator.proofs.SingleLemmas.{IsBoundOnce}
 use Rattle.std.specs.Option.{option_and_then}
 use Rattle.std.proofs.lemmas.Bool.{eq-eqb}
 use Rattle.darwin_walk.specs.Value.{parameters}
-use Rattle.config_graph.specs.Cycles.{NoCycle}
+use Rattle.config_graph.specs.Cycles.{graph_wiring}
+use Rattle.config_graph.specs.Wiring.{HasNoCycle}
 use Rattle.elaborator.proofs.ElaborationLemmas.{IsTopOf}
 use Rattle.elaborator.proofs.BuildLemmas.{on_cycle_within}
 use Rattle.elaborator.specs.Faults.{own_faults}
@@ -153,7 +154,7 @@ record IsFaultless (tree : Tree) (top i : Instance) : Type 0 where
   pub apart : (j : Instance) → Contains (instances tree top) j → i ≢ j → (path : Path) → Contains (paths_in tree i) path → Contains (paths_in tree j) path → ⊥
   pub bound : (p : Pair) → Contains (pairs_in tree i) p → (q : Pair) → Contains (pairs_in tree i) q → p.source ≡ q.source → p.target ≢ q.target → ⊥
   pub formed : (b : Binding) → Contains (bindings_in i) b → pair_of tree i b ≡ [] → ⊥
-  pub noted : (b : Binding) → Contains (bindings_in i) b → NotesDiffer (named tree i b.left) (named tree i b.right) → ⊥
+  pub noted : (b : Binding) → Contains (bindings_in i) b → NotesDiffer (resolve tree i b.left) (resolve tree i b.right) → ⊥
   pub shallow : i.depth ≡ 33 → ⊥
 
 module _ (tree : Tree) (name : Name) (arguments : List ℤ) where
@@ -234,9 +235,9 @@ module _ (tree : Tree) (name : Name) (arguments : List ℤ) where
           by b there [] is = inl (error.BadBinding i.path b.at, fault.bad_binding top i b is_top here there is)
           by b there (p ∷ ps) is = inr (λ none. Contains-nil p (subst (λ qs. Contains qs p) (sym is ∙ none) (Contains-here p ps)))
 
-      tell_noted : Some_fault ⊎ ((b : Binding) → Contains (bindings_in i) b → NotesDiffer (named tree i b.left) (named tree i b.right) → ⊥)
-      tell_noted = all_or Some_fault (λ b. NotesDiffer (named tree i b.left) (named tree i b.right) → ⊥) (bindings_in i) (λ b there.
-          elim (notes_or_not (named tree i b.left) (named tree i b.right)) [
+      tell_noted : Some_fault ⊎ ((b : Binding) → Contains (bindings_in i) b → NotesDiffer (resolve tree i b.left) (resolve tree i b.right) → ⊥)
+      tell_noted = all_or Some_fault (λ b. NotesDiffer (resolve tree i b.left) (resolve tree i b.right) → ⊥) (bindings_in i) (λ b there.
+          elim (notes_or_not (resolve tree i b.left) (resolve tree i b.right)) [
             | inl notes ↦ inl (error.Annotation i.path b.at, fault.annotation top i b is_top here there notes)
             | inr same ↦ inr same
           ])
@@ -252,7 +253,7 @@ module _ (tree : Tree) (name : Name) (arguments : List ℤ) where
               → Some_fault ⊎ ((j : Instance) → Contains (instances tree top) j → i ≢ j → (path : Path) → Contains (paths_in tree i) path → Contains (paths_in tree j) path → ⊥)
               → Some_fault ⊎ ((p : Pair) → Contains (pairs_in tree i) p → (q : Pair) → Contains (pairs_in tree i) q → p.source ≡ q.source → p.target ≢ q.target → ⊥)
               → Some_fault ⊎ ((b : Binding) → Contains (bindings_in i) b → pair_of tree i b ≡ [] → ⊥)
-              → Some_fault ⊎ ((b : Binding) → Contains (bindings_in i) b → NotesDiffer (named tree i b.left) (named tree i b.right) → ⊥)
+              → Some_fault ⊎ ((b : Binding) → Contains (bindings_in i) b → NotesDiffer (resolve tree i b.left) (resolve tree i b.right) → ⊥)
               → Some_fault ⊎ (i.depth ≡ 33 → ⊥) → Some_fault ⊎ IsFaultless tree top i
           by (inr values) (inr once) (inr apart) (inr bound) (inr formed) (inr noted) (inr shallow) =
               inr (record { values = values; once = once; apart = apart; bound = bound; formed = formed; noted = noted; shallow = shallow })
@@ -292,7 +293,7 @@ module _ (tree : Tree) (name : Name) (arguments : List ℤ) where
           let l = (links_listed tree top g is (get_or g.links i d)).0 (Contains-get_or g.links i d low) in
           record { begins = begins_within tree top g.nodes (get_or g.links i d) l; ends = ends_within tree top g.nodes (get_or g.links i d) l }
 
-      cycle_or_none : Some_fault ⊎ NoCycle elab.0
+      cycle_or_none : Some_fault ⊎ HasNoCycle (graph_wiring elab.0)
       cycle_or_none =
           elim (first_or_none elab.0 (λ i d low. within elab.0 elab.1 i d low)) [
             | inr none ↦ inr none
@@ -315,7 +316,7 @@ module _ (tree : Tree) (name : Name) (arguments : List ℤ) where
       no_value : (t i : Instance) (f : walk.Fault) → top_instance tree name arguments ≡ Some t → Inst tree t i → Contains (faults_in tree i) f → ⊥
       no_value t i f is there has = Contains-nil f (subst (λ fs. Contains fs f) (faultless t i is there).values has)
 
-      none_holds : ¬ (65536 < total tree top) → NoCycle elab.0 → HasNoFault tree name arguments
+      none_holds : ¬ (65536 < total tree top) → HasNoCycle (graph_wiring elab.0) → HasNoFault tree name arguments
       none_holds few acyclic = refuted
         where
           refuted : (f : ElabError) → ¬ Faults tree name arguments f
@@ -333,7 +334,7 @@ module _ (tree : Tree) (name : Name) (arguments : List ℤ) where
           refuted _ (fault.too_deep t i is there deep) = (faultless t i is there).shallow deep
           refuted _ (fault.too_many t is many) = few (counted-within tree top 65536 depth (subst (λ s. CountsMore tree s 65536) (one t is) many))
           refuted _ (fault.depends_cycle t g i n is is_elab first at) =
-              subst NoCycle (one_graph tree top elab.0 g elab.1 (subst (λ s. IsElab tree s g) (one t is) is_elab)) acyclic i first.on_cycle
+              subst (λ g. HasNoCycle (graph_wiring g)) (one_graph tree top elab.0 g elab.1 (subst (λ s. IsElab tree s g) (one t is) is_elab)) acyclic i first.on_cycle
 
       not_deeper : (i : Instance) → Inst tree top i → i.depth ≤ 33
       not_deeper _ at_top = omega (arith, depth)
@@ -368,7 +369,7 @@ module _ (tree : Tree) (name : Name) (arguments : List ℤ) where
       fault_or_none : NoFault tree → Some_fault ⊎ Graph_there
       fault_or_none no_fault = by many_or_few cycle_or_none
         where
-          by : Some_fault ⊎ (¬ (65536 < total tree top)) → Some_fault ⊎ NoCycle elab.0 → Some_fault ⊎ Graph_there
+          by : Some_fault ⊎ (¬ (65536 < total tree top)) → Some_fault ⊎ HasNoCycle (graph_wiring elab.0) → Some_fault ⊎ Graph_there
           by (inl f) cycle = inl f
           by (inr few) (inl f) = inl f
           by (inr few) (inr acyclic) =

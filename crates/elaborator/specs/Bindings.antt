@@ -31,8 +31,8 @@ pub record Named : Type 0 where
   pub decl : PortDecl
   pub index : Option ℤ
 
-abbrev pub named : Tree → Instance → End → Option Named
-named tree i e = option_and_then named_in (instance_at tree i e.inner)
+abbrev pub resolve : Tree → Instance → End → Option Named
+resolve tree i e = option_and_then named_in (instance_at tree i e.inner)
   where
     named_in : Instance → Option Named
     named_in j =
@@ -71,7 +71,7 @@ pub record Pair : Type 0 where
 
 -- the pair that a binding gives; a bad one gives none. The ends may stand in either order.
 abbrev pub pair_of : Tree → Instance → Binding → List Pair
-pair_of tree i b = pair (named tree i b.left) (named tree i b.right)
+pair_of tree i b = pair (resolve tree i b.left) (resolve tree i b.right)
   where
     pair : Option Named → Option Named → List Pair
     pair (Some x) (Some y) =

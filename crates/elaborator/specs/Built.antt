@@ -2,7 +2,8 @@
 use Rattle.std.specs.Prelude.{◌≡◌, ℕ, Some, slice_get}
 use Rattle.config_graph.specs.declared.node.Node.{Node}
 use Rattle.config_graph.specs.Graph.{Graph}
-use Rattle.config_graph.specs.Cycles.{NoCycle, FirstOnCycle}
+use Rattle.config_graph.specs.Cycles.{graph_wiring, FirstOnCycle}
+use Rattle.config_graph.specs.Wiring.{HasNoCycle}
 use Rattle.elaborator.specs.Instances.{Instance}
 use Rattle.elaborator.specs.Graph.{IsElab}
 use Rattle.elaborator.specs.Numbering.{Expanded}
@@ -21,5 +22,5 @@ pub data BuildFault (e : Expanded) (top : Instance) : ElabError → Type 0 where
 -- the graph, where there is none
 pub record IsBuilt (e : Expanded) (top : Instance) (g : Graph) : Type 0 where
   pub is_elab : IsElab e.tree top g
-  pub no_cycle : NoCycle g
+  pub no_cycle : HasNoCycle (graph_wiring g)
   pub no_fault : (f : ElabError) → ¬ BindingFault e f

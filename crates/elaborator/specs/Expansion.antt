@@ -29,8 +29,8 @@ abbrev pub made_of : Instance → NumberedInstance
 made_of i = record { instance = instance_in i; maker = i.maker }
 
 -- the instances of an expansion
-abbrev pub seen : Expansion → Expanded
-seen e = record { tree = tree_of e.directory.unit.now; made = map made_of e.instances.items }
+abbrev pub expanded_of : Expansion → Expanded
+expanded_of e = record { tree = tree_of e.directory.unit.now; made = map made_of e.instances.items }
 
 -- the number that stands under a path
 abbrev pub number_at : Expansion → Path → Option ℕ
@@ -48,7 +48,7 @@ pub record IsShown (i : Instance) : Type 0 where
 
 -- the instances have their bindings, and each but the top is found by its path
 pub record IsNumbering (e : Expansion) : Type 0 where
-  pub is_expanded : IsExpanded (seen e)
+  pub is_expanded : IsExpanded (expanded_of e)
   pub few : length e.instances.items ≤ 65537
   -- each but the top has an entry, and the entries stand in the order of their paths
   pub counted : length e.numbers.entries + 1 ≡ length e.instances.items

@@ -9,7 +9,7 @@ use Rattle.elaborator.specs.Paths.{Path}
 use Rattle.elaborator.specs.Instances.{Instance, Inst, total, paths_in}
 use Rattle.elaborator.specs.Faults.{own_faults, Twice, CountsMore}
 use Rattle.elaborator.specs.Numbering.{IsOf}
-use Rattle.elaborator.specs.Expansion.{instance_in, seen, IsNumbering}
+use Rattle.elaborator.specs.Expansion.{instance_in, expanded_of, IsNumbering}
 use Rattle.elaborator.specs.declared.instance.Instance as code
 use Rattle.elaborator.specs.declared.instance.Expansion.{Expansion}
 use Rattle.elaborator.specs.declared.error.ElabError.{ElabError}
@@ -48,5 +48,5 @@ pub record IsClear (tree : Tree) (top : Instance) : Type 0 where
 pub record IsWhole (unit : Description) (top : code.Instance) (e : Expansion) : Type 0 where
   pub kept : IsNumbering e
   pub same_tree : tree_of e.directory.unit.now ≡ tree_of unit
-  pub is_of : IsOf (seen e) (instance_in top)
+  pub is_of : IsOf (expanded_of e) (instance_in top)
   pub clear : IsClear (tree_of unit) (instance_in top)

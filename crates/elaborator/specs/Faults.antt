@@ -1,5 +1,5 @@
 -- The faults of an elaboration: the set of those that hold. Where it is empty the elaboration is the graph.
-use Rattle.std.specs.Prelude.{Bool, ◌≡◌, ◌≢◌, ◌<◌, ℕ, true, ◌&&◌, not, ℤ, pos, int_le, int_lt, List, [], ◌∷◌, ◌++◌, length, min, sum_by, Option, Some, None, if◌then◌else◌, Contains, slice_get}
+use Rattle.std.specs.Prelude.{Bool, ◌≡◌, ◌≢◌, ◌<◌, ℕ, true, ◌&&◌, not, ℤ, pos, int_le, int_lt, List, [], ◌∷◌, ◌++◌, length, sum_by, Option, Some, None, if◌then◌else◌, Contains, slice_get}
 use Rattle.std.specs.List.{flat_map, list_all}
 use Rattle.std.specs.Option.{option_map_or}
 use Rattle.darwin_lexer.specs.declared.token.At.{At}
@@ -12,7 +12,7 @@ use Rattle.darwin_walk.specs.declared.fault.Fault.{Fault}
 use Rattle.darwin_walk.specs.declared.fault.Fault.TheVariants as shown
 use Rattle.elaborator.specs.Paths.{Path, end_bytes}
 use Rattle.elaborator.specs.Instances.{Instance, top_instance, Inst, is_expanded, count_in, paths_in}
-use Rattle.elaborator.specs.Bindings.{Named, named, Pair, pair_of, pairs_in, bindings_in}
+use Rattle.elaborator.specs.Bindings.{Named, resolve, Pair, pair_of, pairs_in, bindings_in}
 use Rattle.config_graph.specs.Graph.{Graph}
 use Rattle.config_graph.specs.Cycles.{FirstOnCycle}
 use Rattle.elaborator.specs.Graph.{IsElab}
@@ -34,7 +34,7 @@ kind_faults tree child =
 
 -- an index of a port isn't from 0 to the size less 1
 abbrev pub port_faults : Tree → Instance → At → End → List Fault
-port_faults tree i at e = option_map_or faults_at (named tree i e) []
+port_faults tree i at e = option_map_or faults_at (resolve tree i e) []
   where
     indexed : Instance → Option Expr → Option ℤ → List Fault
     indexed j (Some size) (Some index) = index_fault at (value size j.env) (integer index)
@@ -112,7 +112,7 @@ pub data Faults (tree : Tree) (name : Name) (arguments : List ℤ) : ElabError �
   -- both ports of a reached binding have a note, and the notes differ
   annotation :
       (top i : Instance) (b : Binding) → top_instance tree name arguments ≡ Some top → Inst tree top i
-      → Contains (bindings_in i) b → NotesDiffer (named tree i b.left) (named tree i b.right)
+      → Contains (bindings_in i) b → NotesDiffer (resolve tree i b.left) (resolve tree i b.right)
       → Faults tree name arguments (error.Annotation i.path b.at)
   -- a reached entry makes an instance of depth 33
   too_deep :

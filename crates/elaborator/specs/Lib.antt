@@ -3,7 +3,7 @@ pub mod Built
 pub mod Elaboration
 pub mod Expansion
 pub mod ExpansionFaults
-pub mod ExpansionState
+pub mod Growth
 pub mod Faults
 pub mod Graph
 pub mod Instances

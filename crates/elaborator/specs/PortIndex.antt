@@ -12,7 +12,7 @@ use Rattle.darwin_walk.specs.Walked.{walked_end}
 use Rattle.darwin_walk.specs.declared.fault.Fault.TheVariants as shown
 use Rattle.elaborator.specs.Paths.{end_bytes}
 use Rattle.elaborator.specs.Instances.{Instance}
-use Rattle.elaborator.specs.Bindings.{Pair, named, pair_of, bindings_in, pairs_in}
+use Rattle.elaborator.specs.Bindings.{Pair, resolve, pair_of, bindings_in, pairs_in}
 use Rattle.elaborator.specs.Faults.{port_faults, NotesDiffer}
 use Rattle.elaborator.specs.Numbering.{Expanded, Numbered}
 use Rattle.elaborator.specs.Ports.{IsPort}
@@ -49,13 +49,13 @@ pub data FaultOf (tree : Tree) (i : Instance) (b : Binding) : ElabError → Type
   bad_index :
       (at : At) → Contains (port_faults tree i b.at b.left ++ port_faults tree i b.at b.right) (shown.BadIndex at)
       → FaultOf tree i b (error.BadIndex i.path at)
-  annotation : NotesDiffer (named tree i b.left) (named tree i b.right) → FaultOf tree i b (error.Annotation i.path b.at)
+  annotation : NotesDiffer (resolve tree i b.left) (resolve tree i b.right) → FaultOf tree i b (error.Annotation i.path b.at)
 
 -- the pair of a binding that has none of them
 pub record IsLawful (tree : Tree) (i : Instance) (b : Binding) (p : Pair) : Type 0 where
   pub is_pair : pair_of tree i b ≡ p ∷ []
   pub indexes : port_faults tree i b.at b.left ++ port_faults tree i b.at b.right ≡ []
-  pub notes : ¬ NotesDiffer (named tree i b.left) (named tree i b.right)
+  pub notes : ¬ NotesDiffer (resolve tree i b.left) (resolve tree i b.right)
 
 -- the bindings of a list have none of them
 abbrev pub AreLawful : Tree → Instance → List Binding → Type 0

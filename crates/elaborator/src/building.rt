@@ -2,11 +2,12 @@
 
 ghost use Rattle.std.specs.Prelude.{◌≡◌, IfOk};
 ghost use Rattle.base.specs.Answers.{Answers};
-ghost use Rattle.config_graph.specs.Cycles.{NoCycle};
+ghost use Rattle.config_graph.specs.Cycles.{graph_wiring};
+ghost use Rattle.config_graph.specs.Wiring.{HasNoCycle};
 ghost use Rattle.elaborator.specs.Instances.{Instance};
 ghost use Rattle.elaborator.specs.Graph.{IsElab};
 ghost use Rattle.elaborator.specs.Numbering.{IsOf};
-ghost use Rattle.elaborator.specs.Expansion.{seen, IsNumbering};
+ghost use Rattle.elaborator.specs.Expansion.{expanded_of, IsNumbering};
 ghost use Rattle.elaborator.specs.PortIndex.{IsIndexed};
 ghost use Rattle.elaborator.specs.Built.{CycleFault, BuildFault, IsBuilt};
 ghost use Rattle.elaborator.specs.declared.error.ElabError.TheVariants.{NoMemory};
@@ -23,9 +24,9 @@ use std::alloc::{AllocError, Global};
 /// The graph of an expansion.
 pub fn build_graph(alloc: Global, expansion: &Expansion) -> Result<Graph, ElabError>
     requires kept { IsNumbering expansion.now }
-    requires of_top { (top : Instance) × IsOf (seen expansion.now) top }
-    ensures { (top : Instance) → IsOf (seen expansion.now) top
-        → Answers NoMemory (IsBuilt (seen expansion.now) top) (BuildFault (seen expansion.now) top) result }
+    requires of_top { (top : Instance) × IsOf (expanded_of expansion.now) top }
+    ensures { (top : Instance) → IsOf (expanded_of expansion.now) top
+        → Answers NoMemory (IsBuilt (expanded_of expansion.now) top) (BuildFault (expanded_of expansion.now) top) result }
 {
     let targets = index_bindings(alloc, expansion)?;
     let graph = join(alloc, expansion, &targets)?;
@@ -35,10 +36,10 @@ pub fn build_graph(alloc: Global, expansion: &Expansion) -> Result<Graph, ElabEr
 /// The nodes of an expansion, linked by its bindings.
 fn join(alloc: Global, expansion: &Expansion, targets: &Targets) -> Result<Graph, AllocError>
     requires kept { IsNumbering expansion.now }
-    requires of_top { (top : Instance) × IsOf (seen expansion.now) top }
-    requires indexed { IsIndexed (seen expansion.now) targets.now }
-    ensures { (top : Instance) → IsOf (seen expansion.now) top
-        → IfOk result (IsElab (seen expansion.now).tree top) }
+    requires of_top { (top : Instance) × IsOf (expanded_of expansion.now) top }
+    requires indexed { IsIndexed (expanded_of expansion.now) targets.now }
+    ensures { (top : Instance) → IsOf (expanded_of expansion.now) top
+        → IfOk result (IsElab (expanded_of expansion.now).tree top) }
 {
     let nodes = nodes_of(alloc, expansion)?;
     let links = links_of(alloc, expansion, &nodes, targets)?;
@@ -49,7 +50,7 @@ fn join(alloc: Global, expansion: &Expansion, targets: &Targets) -> Result<Graph
 
 /// The graph, where no node depends on itself.
 fn without_cycle(alloc: Global, graph: Graph) -> Result<Graph, ElabError>
-    ensures { Answers NoMemory (λ g. (g ≡ graph) × NoCycle g) (CycleFault graph) result }
+    ensures { Answers NoMemory (λ g. (g ≡ graph) × HasNoCycle (graph_wiring g)) (CycleFault graph) result }
 {
     check_cycle(alloc, &graph)?;
     Ok(graph)
@@ -57,7 +58,7 @@ fn without_cycle(alloc: Global, graph: Graph) -> Result<Graph, ElabError>
 
 /// Refuses a graph in which a node depends on itself; the first of them is named.
 fn check_cycle(alloc: Global, graph: &Graph) -> Result<(), ElabError>
-    ensures { Answers NoMemory (λ _. NoCycle graph.now) (CycleFault graph.now) result }
+    ensures { Answers NoMemory (λ _. HasNoCycle (graph_wiring graph.now)) (CycleFault graph.now) result }
 {
     match first_on_cycle(alloc, graph)? {
         None => Ok(()),

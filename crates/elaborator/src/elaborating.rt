@@ -2,6 +2,7 @@
 
 ghost use Rattle.std.specs.Prelude.{◌≡◌, IfErr, IfOk, Some};
 ghost use Rattle.base.specs.Answers.{Answers, Refuses};
+ghost use Rattle.config_graph.specs.Graph.{Graph as GraphValue};
 ghost use Rattle.config_graph.specs.Sound.{Sound};
 ghost use Rattle.darwin_parser.specs.Tree.{tree_of};
 ghost use Rattle.darwin_types.specs.Checked.{description};
@@ -10,7 +11,7 @@ ghost use Rattle.elaborator.specs.Expansion.{instance_in};
 ghost use Rattle.elaborator.specs.ExpansionFaults.{IsTop};
 ghost use Rattle.elaborator.specs.Faults.{Faults};
 ghost use Rattle.darwin_types.specs.Faults.{carried};
-ghost use Rattle.elaborator.specs.Elaboration.{HasNoFault, ElaboratesTo};
+ghost use Rattle.elaborator.specs.Elaboration.{HasNoFault, ElaboratesTo, Gives};
 ghost use Rattle.elaborator.specs.declared.error.ElabError.TheVariants.{NoMemory};
 
 use crate::ElabError;
@@ -32,6 +33,26 @@ use std::alloc::Global;
 ///
 /// Each of `ElabError` comes where its fault holds. Where several hold any one may be named.
 pub fn elaborate(
+    alloc: Global,
+    checked: &Checked,
+    top: &[u8],
+    args: &[i32],
+) -> Result<Graph, ElabError>
+    // What is given is the graph of this description, in which no fault holds, and each such graph is given.
+    ensures no_fault { IfOk result (λ _. HasNoFault (description checked.now) top.now args.now) }
+    ensures graph { IfOk result (λ g. ElaboratesTo (description checked.now) top.now args.now g) }
+    ensures every_graph { (g : GraphValue) → HasNoFault (description checked.now) top.now args.now
+        → ElaboratesTo (description checked.now) top.now args.now g → Gives result g }
+    // It may be run.
+    ensures sound { IfOk result (λ g. Sound g) }
+    // A fault that is named holds.
+    ensures fault { IfErr result (Refuses NoMemory (Faults (description checked.now) top.now args.now)) }
+{
+    graph_or_fault(alloc, checked, top, args)
+}
+
+/// The graph, or a fault that holds.
+fn graph_or_fault(
     alloc: Global,
     checked: &Checked,
     top: &[u8],

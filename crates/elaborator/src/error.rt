@@ -5,55 +5,40 @@ ghost use Rattle.std.specs.Prelude.{◌≡◌};
 use config_graph::Text;
 use darwin_lexer::At;
 use std::alloc::{AllocError, AllocFailed};
-use thiserror::Error;
 
 /// A fault of an elaboration. The first text is the path of the composite instance in which the fault
 /// stands, and the place is that of the statement or declaration; in `TwoInstances` and `TooDeep` the
 /// path is that of the instance, in `DependsCycle` that of the node. A number above 4,294,967,295 is
 /// carried as that.
-#[derive(Debug, Drop, Error)]
+#[derive(Debug, Drop)]
 pub enum ElabError {
     /// No component has the name.
-    #[error("no component has the name of the top")]
     NoTop(Text),
     /// The top component has `wanted` parameters.
-    #[error("the top has {given} arguments in place of {wanted}")]
     TopArgs { wanted: u32, given: u32 },
     /// The exact result of an operation is no integer of the language, or an argument of a node kind lies
     /// outside its range.
-    #[error("a value at {}:{} is out of range", .1.line, .1.column)]
     OutOfRange(Text, At),
     /// A division by 0.
-    #[error("a division at {}:{} is by 0", .1.line, .1.column)]
     ZeroDivisor(Text, At),
     /// An index isn't from 0 to the size less 1.
-    #[error("an index at {}:{} is out of range", .1.line, .1.column)]
     BadIndex(Text, At),
     /// Two reached entries make the instance of this path.
-    #[error("two entries make one instance")]
     TwoInstances(Text),
     /// In the instance the end is bound to two different ends.
-    #[error("an end is bound twice")]
     BoundTwice(Text, Text),
     /// The two ends can't be bound to one another.
-    #[error("the binding at {}:{} has no form that is allowed", .1.line, .1.column)]
     BadBinding(Text, At),
     /// The notes of the two ports differ.
-    #[error("the ports of the binding at {}:{} have different notes", .1.line, .1.column)]
     Annotation(Text, At),
     /// The instance of this path is nested too deep.
-    #[error("instances are nested too deep")]
     TooDeep(Text),
     /// More turns and entries are reached than may be.
-    #[error("too many turns and entries are reached")]
     TooMany,
     /// The node depends on itself.
-    #[error("a node depends on itself")]
     DependsCycle(Text),
     /// The top component is primitive.
-    #[error("the top is a node kind")]
     TopIsKind(Text),
-    #[error("no memory")]
     NoMemory,
 }
 

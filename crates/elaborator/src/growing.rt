@@ -8,7 +8,7 @@ ghost use Rattle.elaborator.specs.Instances.{Instance as PureInstance};
 ghost use Rattle.elaborator.specs.Faults.{own_faults};
 ghost use Rattle.elaborator.specs.Expansion.{instance_in};
 ghost use Rattle.elaborator.specs.ExpansionFaults.{IsTop, IsWhole, GrowthFault};
-ghost use Rattle.elaborator.specs.ExpansionState.{IsGrowth, IsMapped, IsExtended, IsInPathOrder, IsClash};
+ghost use Rattle.elaborator.specs.Growth.{IsGrowth, IsMapped, IsExtended, IsInPathOrder, IsClash};
 ghost use Rattle.elaborator.specs.Opening.{IsFound};
 ghost use Rattle.elaborator.specs.declared.instance.Instance as shown;
 ghost use Rattle.elaborator.specs.declared.error.ElabError.TheVariants.{NoMemory, TwoInstances};

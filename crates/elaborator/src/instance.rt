@@ -54,22 +54,22 @@ impl<'a> Expansion<'a> {
     ghost use Rattle.darwin_parser.specs.Tree.{component_of};
     ghost use Rattle.darwin_types.specs.Scope.{is_primitive};
     ghost use Rattle.elaborator.specs.Bindings.{bindings_in};
-    ghost use Rattle.elaborator.specs.Expansion.{seen, made_of, instance_in, AreSizes, IsNumbering};
+    ghost use Rattle.elaborator.specs.Expansion.{expanded_of, made_of, instance_in, AreSizes, IsNumbering};
     ghost use Rattle.darwin_walk.specs.Walked.{binding_of};
 
     /// How many instances there are.
     pub fn len(&self) -> u32
         requires { IsNumbering self.now }
-        ensures { result ≡ length (seen self.now).made }
+        ensures { result ≡ length (expanded_of self.now).made }
     {
         self.instances.len() as u32
     }
 
     /// The instance of this number.
     pub fn instance(&self, number: u32) -> &Instance<'a>
-        requires within { number < length (seen self.now).made }
+        requires within { number < length (expanded_of self.now).made }
         requires kept { IsNumbering self.now }
-        ensures made { slice_get (seen self.now).made number ≡ Some (made_of result.now) }
+        ensures made { slice_get (expanded_of self.now).made number ≡ Some (made_of result.now) }
         ensures bindings { map binding_of result.now.bindings.items ≡ bindings_in (instance_in result.now) }
         ensures sizes { AreSizes (instance_in result.now) result.now.port_sizes.items }
         ensures primitive { result.now.is_primitive ≡ is_primitive (component_of result.now.component.now) }
@@ -80,7 +80,7 @@ impl<'a> Expansion<'a> {
     /// The number of the instance of this path among those made in an instance.
     pub fn child(&self, maker: u32, path: &[u8]) -> Option<u32>
         requires { IsNumbering self.now }
-        ensures { IsChild (seen self.now) maker path.now result }
+        ensures { IsChild (expanded_of self.now) maker path.now result }
     {
         let Some(number) = self.numbers.get(path).copied() else {
             return None;

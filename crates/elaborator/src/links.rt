@@ -5,7 +5,7 @@ ghost use Rattle.config_graph.specs.Graph.{requires_at};
 ghost use Rattle.elaborator.specs.Instances.{Instance};
 ghost use Rattle.elaborator.specs.Bindings.{Port};
 ghost use Rattle.elaborator.specs.Numbering.{IsOf};
-ghost use Rattle.elaborator.specs.Expansion.{seen, IsNumbering};
+ghost use Rattle.elaborator.specs.Expansion.{expanded_of, IsNumbering};
 ghost use Rattle.elaborator.specs.Ports.{IsPort};
 ghost use Rattle.elaborator.specs.PortIndex.{IsIndexed};
 ghost use Rattle.elaborator.specs.NodeOrder.{AreNodes};
@@ -27,10 +27,10 @@ pub fn links_of(
     targets: &Targets,
 ) -> Result<Vec<Link>, AllocError>
     requires kept { IsNumbering expansion.now }
-    requires nodes { AreNodes (seen expansion.now) nodes.now }
-    requires indexed { IsIndexed (seen expansion.now) targets.now }
-    ensures { (top : Instance) → IsOf (seen expansion.now) top
-        → IfOk result (λ links. AreLinks (seen expansion.now).tree top nodes.now.nodes.items links.items) }
+    requires nodes { AreNodes (expanded_of expansion.now) nodes.now }
+    requires indexed { IsIndexed (expanded_of expansion.now) targets.now }
+    ensures { (top : Instance) → IsOf (expanded_of expansion.now) top
+        → IfOk result (λ links. AreLinks (expanded_of expansion.now).tree top nodes.now.nodes.items links.items) }
 {
     let mut links = Vec::new(alloc);
     for from in 0..nodes.nodes.len() {
@@ -49,11 +49,11 @@ fn add_links(
 ) -> Result<(), AllocError>
     requires within { from < length nodes.now.nodes.items }
     requires kept { IsNumbering expansion.now }
-    requires nodes { AreNodes (seen expansion.now) nodes.now }
-    requires indexed { IsIndexed (seen expansion.now) targets.now }
-    ensures { (top : Instance) → IsOf (seen expansion.now) top
-        → AreFirstLinks (seen expansion.now).tree top nodes.now.nodes.items from 0 links.old.items
-        → OnOk result (AreFirstLinks (seen expansion.now).tree top nodes.now.nodes.items (from + 1) 0 links.new.items) }
+    requires nodes { AreNodes (expanded_of expansion.now) nodes.now }
+    requires indexed { IsIndexed (expanded_of expansion.now) targets.now }
+    ensures { (top : Instance) → IsOf (expanded_of expansion.now) top
+        → AreFirstLinks (expanded_of expansion.now).tree top nodes.now.nodes.items from 0 links.old.items
+        → OnOk result (AreFirstLinks (expanded_of expansion.now).tree top nodes.now.nodes.items (from + 1) 0 links.new.items) }
 {
     for require in 0..nodes.nodes[from as usize].kind.requires_() {
         if let Some(target) = target_of(expansion, nodes, targets, from, require) {
@@ -79,10 +79,10 @@ fn target_of(
     requires within { from < length nodes.now.nodes.items }
     requires required { require < requires_at nodes.now.nodes.items from }
     requires kept { IsNumbering expansion.now }
-    requires nodes { AreNodes (seen expansion.now) nodes.now }
-    requires indexed { IsIndexed (seen expansion.now) targets.now }
-    ensures { (top : Instance) → IsOf (seen expansion.now) top
-        → IsTargeted (seen expansion.now).tree top nodes.now.nodes.items from require result }
+    requires nodes { AreNodes (expanded_of expansion.now) nodes.now }
+    requires indexed { IsIndexed (expanded_of expansion.now) targets.now }
+    ensures { (top : Instance) → IsOf (expanded_of expansion.now) top
+        → IsTargeted (expanded_of expansion.now).tree top nodes.now.nodes.items from require result }
 {
     let instance = nodes.instances[from as usize];
     let name = nodes.nodes[from as usize].kind.require_name(require);
@@ -104,10 +104,10 @@ fn target_of(
 
 /// The provision of a node that a port is, where it is one.
 fn provision_at(expansion: &Expansion, nodes: &Nodes, id: PortId) -> Option<Target>
-    requires port { (x : Port) × IsPort (seen expansion.now) id x }
+    requires port { (x : Port) × IsPort (expanded_of expansion.now) id x }
     requires kept { IsNumbering expansion.now }
-    requires nodes { AreNodes (seen expansion.now) nodes.now }
-    ensures { IsProvided (seen expansion.now) nodes.now.nodes.items id result }
+    requires nodes { AreNodes (expanded_of expansion.now) nodes.now }
+    ensures { IsProvided (expanded_of expansion.now) nodes.now.nodes.items id result }
 {
     let node = nodes.places[id.instance as usize]?;
     if id.index.is_some() {

@@ -6,7 +6,7 @@ ghost use Rattle.darwin_parser.specs.Tree.{component_of};
 ghost use Rattle.darwin_types.specs.Scope.{is_primitive};
 ghost use Rattle.elaborator.specs.Graph.{node_of, natural};
 ghost use Rattle.elaborator.specs.Numbering.{Numbered};
-ghost use Rattle.elaborator.specs.Expansion.{seen, instance_in, IsNumbering};
+ghost use Rattle.elaborator.specs.Expansion.{expanded_of, instance_in, IsNumbering};
 ghost use Rattle.elaborator.specs.NodeOrder.{AreNodes, IsInOrder};
 
 use crate::instance::{Expansion, Instance};
@@ -27,7 +27,7 @@ pub struct Nodes {
 /// The nodes of an expansion.
 pub fn nodes_of(alloc: Global, expansion: &Expansion) -> Result<Nodes, AllocError>
     requires { IsNumbering expansion.now }
-    ensures { IfOk result (AreNodes (seen expansion.now)) }
+    ensures { IfOk result (AreNodes (expanded_of expansion.now)) }
 {
     let order = in_path_order(alloc, expansion)?;
     let mut nodes = Nodes {
@@ -46,7 +46,7 @@ pub fn nodes_of(alloc: Global, expansion: &Expansion) -> Result<Nodes, AllocErro
 /// The numbers of all instances but the top, in the order of their paths.
 fn in_path_order(alloc: Global, expansion: &Expansion) -> Result<Vec<u32>, AllocError>
     requires { IsNumbering expansion.now }
-    ensures { IfOk result (λ order. IsInOrder (seen expansion.now) order.items) }
+    ensures { IfOk result (λ order. IsInOrder (expanded_of expansion.now) order.items) }
 {
     values_of(alloc, &expansion.numbers)
 }

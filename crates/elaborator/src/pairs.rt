@@ -6,9 +6,9 @@ ghost use Rattle.darwin_parser.specs.Tree.{port_of};
 ghost use Rattle.darwin_walk.specs.Walked.{walked_end, binding_of};
 ghost use Rattle.darwin_walk.specs.declared.fault.Fault.TheVariants as shown;
 ghost use Rattle.elaborator.specs.Instances.{Instance};
-ghost use Rattle.elaborator.specs.Bindings.{Pair as PurePair, named, pair_of, pairs_in, bindings_in};
+ghost use Rattle.elaborator.specs.Bindings.{Pair as PurePair, resolve, pair_of, pairs_in, bindings_in};
 ghost use Rattle.elaborator.specs.Numbering.{Expanded, Numbered};
-ghost use Rattle.elaborator.specs.Expansion.{seen, IsNumbering};
+ghost use Rattle.elaborator.specs.Expansion.{expanded_of, IsNumbering};
 ghost use Rattle.elaborator.specs.Paths.{end_bytes};
 ghost use Rattle.elaborator.specs.Ports.{ResolvesTo, named_of, bad_index, NotesDifferIn};
 ghost use Rattle.elaborator.specs.PortIndex.{IsPair, FaultOf, IsLawful, AreLawful, IsIndex, IsIndexed, AreBefore, Clashes, BindingFault};
@@ -33,7 +33,7 @@ pub struct Pair<'a> {
 /// Indexes the bindings of all instances.
 pub fn index_bindings(alloc: Global, expansion: &Expansion) -> Result<Targets, ElabError>
     requires { IsNumbering expansion.now }
-    ensures { Answers NoMemory (λ targets. IsIndexed (seen expansion.now) targets) (BindingFault (seen expansion.now)) result }
+    ensures { Answers NoMemory (λ targets. IsIndexed (expanded_of expansion.now) targets) (BindingFault (expanded_of expansion.now)) result }
 {
     let mut targets = Targets::new(alloc);
     for number in 0..expansion.len() {
@@ -49,12 +49,12 @@ fn index_instance(
     number: u32,
     targets: &mut Targets,
 ) -> Result<(), ElabError>
-    requires within { number < length (seen expansion.now).made }
+    requires within { number < length (expanded_of expansion.now).made }
     requires kept { IsNumbering expansion.now }
-    ensures { (i : Instance) (pairs : List PurePair) → Numbered (seen expansion.now) number i
-        → IsIndex (seen expansion.now) pairs targets.old → AreBefore (seen expansion.now) number pairs
-        → Answers NoMemory (λ _. IsIndex (seen expansion.now) (pairs ++ pairs_in (seen expansion.now).tree i) targets.new
-        × AreLawful (seen expansion.now).tree i (bindings_in i)) (BindingFault (seen expansion.now)) result }
+    ensures { (i : Instance) (pairs : List PurePair) → Numbered (expanded_of expansion.now) number i
+        → IsIndex (expanded_of expansion.now) pairs targets.old → AreBefore (expanded_of expansion.now) number pairs
+        → Answers NoMemory (λ _. IsIndex (expanded_of expansion.now) (pairs ++ pairs_in (expanded_of expansion.now).tree i) targets.new
+        × AreLawful (expanded_of expansion.now).tree i (bindings_in i)) (BindingFault (expanded_of expansion.now)) result }
 {
     let instance = expansion.instance(number);
     for binding in &instance.bindings {
@@ -72,11 +72,11 @@ fn bind_pair(
     pair: &Pair,
     targets: &mut Targets,
 ) -> Result<(), ElabError>
-    requires within { number < length (seen expansion.now).made }
+    requires within { number < length (expanded_of expansion.now).made }
     requires kept { IsNumbering expansion.now }
-    ensures { (i : Instance) (p : PurePair) (pairs : List PurePair) → Numbered (seen expansion.now) number i
-        → IsPair (seen expansion.now) pair.now p → IsIndex (seen expansion.now) pairs targets.old
-        → Answers NoMemory (λ _. IsIndex (seen expansion.now) (pairs ++ p ∷ []) targets.new)
+    ensures { (i : Instance) (p : PurePair) (pairs : List PurePair) → Numbered (expanded_of expansion.now) number i
+        → IsPair (expanded_of expansion.now) pair.now p → IsIndex (expanded_of expansion.now) pairs targets.old
+        → Answers NoMemory (λ _. IsIndex (expanded_of expansion.now) (pairs ++ p ∷ []) targets.new)
         (λ f. Clashes pairs p × (f ≡ BoundTwice i.path (end_bytes p.end))) result }
 {
     let Some(before) = targets.bind(pair.source, pair.target)? else {
@@ -97,11 +97,11 @@ fn pair_of_binding<'a>(
     number: u32,
     binding: &Binding<'a>,
 ) -> Result<Pair<'a>, ElabError>
-    requires within { number < length (seen expansion.now).made }
+    requires within { number < length (expanded_of expansion.now).made }
     requires kept { IsNumbering expansion.now }
-    ensures { (i : Instance) → Numbered (seen expansion.now) number i
-        → Answers NoMemory (λ x. (p : PurePair) × IsLawful (seen expansion.now).tree i (binding_of binding.now) p × IsPair (seen expansion.now) x p)
-        (FaultOf (seen expansion.now).tree i (binding_of binding.now)) result }
+    ensures { (i : Instance) → Numbered (expanded_of expansion.now) number i
+        → Answers NoMemory (λ x. (p : PurePair) × IsLawful (expanded_of expansion.now).tree i (binding_of binding.now) p × IsPair (expanded_of expansion.now) x p)
+        (FaultOf (expanded_of expansion.now).tree i (binding_of binding.now)) result }
 {
     let Some(left) = find_named(alloc, expansion, number, binding.left)? else {
         return bad_binding(expansion, number, binding);
@@ -121,8 +121,8 @@ fn pair_of_binding<'a>(
 /// The pair of two ports that a binding binds, in either order.
 fn pair_of_ports<'a>(binding: &Binding<'a>, left: &Named, right: &Named) -> Option<Pair<'a>>
     ensures { (e : Expanded) (n : ℕ) (i : Instance)
-        → ResolvesTo e n (named e.tree i (walked_end binding.now.left)) (Some left.now)
-        → ResolvesTo e n (named e.tree i (walked_end binding.now.right)) (Some right.now)
+        → ResolvesTo e n (resolve e.tree i (walked_end binding.now.left)) (Some left.now)
+        → ResolvesTo e n (resolve e.tree i (walked_end binding.now.right)) (Some right.now)
         → MatchOption result (pair_of e.tree i (binding_of binding.now) ≡ [])
         (λ x. (p : PurePair) × (pair_of e.tree i (binding_of binding.now) ≡ p ∷ []) × IsPair e x p) }
 {
@@ -145,9 +145,9 @@ fn pair_of_ports<'a>(binding: &Binding<'a>, left: &Named, right: &Named) -> Opti
 
 /// The refusal of a binding that gives no pair.
 fn bad_binding<T>(expansion: &Expansion, number: u32, binding: &Binding) -> Result<T, ElabError>
-    requires within { number < length (seen expansion.now).made }
+    requires within { number < length (expanded_of expansion.now).made }
     requires kept { IsNumbering expansion.now }
-    ensures { (i : Instance) → Numbered (seen expansion.now) number i
+    ensures { (i : Instance) → Numbered (expanded_of expansion.now) number i
         → Answers NoMemory (λ _. ⊥) (λ f. f ≡ BadBinding i.path binding.now.at) result }
 {
     let path = expansion.instance(number).path.try_clone()?;
@@ -162,10 +162,10 @@ fn check_index(
     binding: &Binding,
     port: &Named,
 ) -> Result<(), ElabError>
-    requires within { number < length (seen expansion.now).made }
-    requires port_within { port.now.id.instance < length (seen expansion.now).made }
+    requires within { number < length (expanded_of expansion.now).made }
+    requires port_within { port.now.id.instance < length (expanded_of expansion.now).made }
     requires kept { IsNumbering expansion.now }
-    ensures { (i j : Instance) → Numbered (seen expansion.now) number i → Numbered (seen expansion.now) port.now.id.instance j
+    ensures { (i j : Instance) → Numbered (expanded_of expansion.now) number i → Numbered (expanded_of expansion.now) port.now.id.instance j
         → slice_get j.component.ports port.now.id.port ≡ Some (port_of port.now.decl.now)
         → Answers NoMemory (λ _. bad_index binding.now.at (named_of j port.now) ≡ [])
         (λ f. (bad_index binding.now.at (named_of j port.now) ≡ shown.BadIndex binding.now.at ∷ []) × (f ≡ BadIndex i.path binding.now.at)) result }
@@ -185,9 +185,9 @@ fn check_notes(
     left: &Named,
     right: &Named,
 ) -> Result<(), ElabError>
-    requires within { number < length (seen expansion.now).made }
+    requires within { number < length (expanded_of expansion.now).made }
     requires kept { IsNumbering expansion.now }
-    ensures { (i : Instance) → Numbered (seen expansion.now) number i
+    ensures { (i : Instance) → Numbered (expanded_of expansion.now) number i
         → Answers NoMemory (λ _. ¬ NotesDifferIn (port_of left.now.decl.now) (port_of right.now.decl.now))
         (λ f. NotesDifferIn (port_of left.now.decl.now) (port_of right.now.decl.now) × (f ≡ Annotation i.path binding.now.at)) result }
 {

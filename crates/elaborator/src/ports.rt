@@ -7,9 +7,9 @@ ghost use Rattle.darwin_types.specs.Scope.{component_named};
 ghost use Rattle.darwin_walk.specs.Walked.{segment_of, walked_end};
 ghost use Rattle.darwin_walk.specs.declared.fault.Fault.TheVariants.{BadIndex};
 ghost use Rattle.elaborator.specs.Instances.{Instance};
-ghost use Rattle.elaborator.specs.Bindings.{named, is_form};
+ghost use Rattle.elaborator.specs.Bindings.{resolve, is_form};
 ghost use Rattle.elaborator.specs.Numbering.{Numbered};
-ghost use Rattle.elaborator.specs.Expansion.{seen, IsNumbering};
+ghost use Rattle.elaborator.specs.Expansion.{expanded_of, IsNumbering};
 ghost use Rattle.elaborator.specs.Ports.{Standing, ResolvesTo, bad_index, place_of};
 
 use crate::chains::PortId;
@@ -40,10 +40,10 @@ fn instance_at(
     number: u32,
     inner: Option<Segment>,
 ) -> Result<Option<u32>, AllocError>
-    requires within { number < length (seen expansion.now).made }
+    requires within { number < length (expanded_of expansion.now).made }
     requires kept { IsNumbering expansion.now }
-    ensures { (i : Instance) → Numbered (seen expansion.now) number i
-        → IfOk result (Standing (seen expansion.now) number i (option_map segment_of inner.entry)) }
+    ensures { (i : Instance) → Numbered (expanded_of expansion.now) number i
+        → IfOk result (Standing (expanded_of expansion.now) number i (option_map segment_of inner.entry)) }
 {
     match inner {
         None => Ok(Some(number)),
@@ -61,10 +61,10 @@ pub fn find_named<'a>(
     number: u32,
     end: End<'a>,
 ) -> Result<Option<Named<'a>>, AllocError>
-    requires within { number < length (seen expansion.now).made }
+    requires within { number < length (expanded_of expansion.now).made }
     requires kept { IsNumbering expansion.now }
-    ensures { (i : Instance) → Numbered (seen expansion.now) number i
-        → IfOk result (ResolvesTo (seen expansion.now) number (named (seen expansion.now).tree i (walked_end end.entry))) }
+    ensures { (i : Instance) → Numbered (expanded_of expansion.now) number i
+        → IfOk result (ResolvesTo (expanded_of expansion.now) number (resolve (expanded_of expansion.now).tree i (walked_end end.entry))) }
 {
     let Some(instance) = instance_at(alloc, expansion, number, end.inner)? else {
         return Ok(None);
@@ -130,9 +130,9 @@ impl Named<'_> {
 
     /// Whether the index isn't from 0 to the size less 1.
     pub fn has_bad_index(&self, alloc: Global, expansion: &Expansion) -> Result<bool, AllocError>
-        requires within { self.now.id.instance < length (seen expansion.now).made }
+        requires within { self.now.id.instance < length (expanded_of expansion.now).made }
         requires kept { IsNumbering expansion.now }
-        ensures { (i : Instance) → Numbered (seen expansion.now) self.now.id.instance i → slice_get i.component.ports self.now.id.port ≡ Some (port_of self.now.decl.now)
+        ensures { (i : Instance) → Numbered (expanded_of expansion.now) self.now.id.instance i → slice_get i.component.ports self.now.id.port ≡ Some (port_of self.now.decl.now)
             → IfOk result (λ bad. (at : Place) → bad_index at (named_of i self.now) ≡ (if bad then BadIndex at ∷ [] else [])) }
     {
         let Some(index) = self.id.index else {
@@ -146,9 +146,9 @@ impl Named<'_> {
 
     /// The size of the port, where it has one with a value: that of the walk, or else valued here.
     fn size(&self, alloc: Global, expansion: &Expansion) -> Result<Option<i32>, AllocError>
-        requires within { self.now.id.instance < length (seen expansion.now).made }
+        requires within { self.now.id.instance < length (expanded_of expansion.now).made }
         requires kept { IsNumbering expansion.now }
-        ensures { (i : Instance) → Numbered (seen expansion.now) self.now.id.instance i → slice_get i.component.ports self.now.id.port ≡ Some (port_of self.now.decl.now)
+        ensures { (i : Instance) → Numbered (expanded_of expansion.now) self.now.id.instance i → slice_get i.component.ports self.now.id.port ≡ Some (port_of self.now.decl.now)
             → IfOk result (λ size. (at : Place) → bad_index at (named_of i self.now) ≡ sized_fault at size self.now.id.index) }
     {
         let instance = expansion.instance(self.id.instance);

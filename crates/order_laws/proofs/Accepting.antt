@@ -13,7 +13,7 @@ use Rattle.darwin_walk.specs.declared.fault.Fault.{Fault}
 use Rattle.darwin_walk.specs.declared.fault.Fault.TheVariants as shown
 use Rattle.elaborator.specs.Paths.{Path}
 use Rattle.elaborator.specs.Instances.{Instance, top_instance, children_in, instance_of, paths_in, Inst, at_top, below}
-use Rattle.elaborator.specs.Bindings.{named, Pair, Port, pair_of, pairs_in, bindings_in}
+use Rattle.elaborator.specs.Bindings.{resolve, Pair, Port, pair_of, pairs_in, bindings_in}
 use Rattle.elaborator.specs.Faults.{faults_in, NotesDiffer, differ, Faults, no_top, top_is_kind, top_args, out_of_range, zero_divisor, bad_index, two_instances, two_apart, bound_twice, bad_binding, annotation, too_deep, too_many, depends_cycle}
 use Rattle.elaborator.specs.Elaboration.{HasNoFault}
 use Rattle.elaborator.specs.declared.error.ElabError.{ElabError}
@@ -23,7 +23,7 @@ use Rattle.elaborator.proofs.CountLaws.{counted-within, counted-all}
 use Rattle.order_laws.proofs.Finding.{Both, neither, both_there}
 use Rattle.order_laws.proofs.Children.{Alike, AlikeTrees, alike_trees-sym, is_primitive-same, SameBound}
 use Rattle.order_laws.proofs.Instances.{SameInstance, same_instance-sym, top_of, may_be_top, top-missing, top-unfit, top-there, top-like, made_by, inst-like, paths_in-same, total-same}
-use Rattle.order_laws.proofs.Joining.{Setting, SameNamed, named-same, ports_of, pairs-same, bindings_in-like, pair-like, elab-back}
+use Rattle.order_laws.proofs.Joining.{Setting, SameNamed, resolve-same, ports_of, pairs-same, bindings_in-like, pair-like, elab-back}
 use Rattle.order_laws.proofs.Faulting.{LikeFault, fault-back, is_out, is_zero, is_bad}
 use Rattle.order_laws.proofs.Twices.{contains-same, twice-same}
 use Rattle.base.proofs.ContainsLaws.{Contains-flat_map, Contains-from_filter_map, Contains-from_flat_map}
@@ -100,11 +100,11 @@ pairs_in-back t u top top' setting i i' inst same p there =
 
 notes-back :
     (t u : Tree) (top top' : Instance) → Setting t u top top' → (i i' : Instance) → Inst t top i → SameInstance i i' → (b b' : Binding) → SameBound b b'
-    → NotesDiffer (named u i' b'.left) (named u i' b'.right) → NotesDiffer (named t i b.left) (named t i b.right)
+    → NotesDiffer (resolve u i' b'.left) (resolve u i' b'.right) → NotesDiffer (resolve t i b.left) (resolve t i b.right)
 notes-back t u top top' setting i i' inst same b b' ends (differ m n note note' is is' noted noted' other) =
-    let at = named-same t u top top' setting i i' inst same in
-    let x = both-some SameNamed (named t i b.left) (named u i' b.left) m (at b.left) (ap (named u i') ends.left ∙ is) in
-    let y = both-some SameNamed (named t i b.right) (named u i' b.right) n (at b.right) (ap (named u i') ends.right ∙ is') in
+    let at = resolve-same t u top top' setting i i' inst same in
+    let x = both-some SameNamed (resolve t i b.left) (resolve u i' b.left) m (at b.left) (ap (resolve u i') ends.left ∙ is) in
+    let y = both-some SameNamed (resolve t i b.right) (resolve u i' b.right) n (at b.right) (ap (resolve u i') ends.right ∙ is') in
     differ x.0 y.0 note note' x.1 y.1 (x.2.decl.note ∙ noted) (y.2.decl.note ∙ noted') other
 
 -- ---- no fault

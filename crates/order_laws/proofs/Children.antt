@@ -11,7 +11,7 @@ use Rattle.darwin_types.specs.Scope.{entries_of, component_named, port_named, ar
 use Rattle.darwin_types.specs.Faults.{NoFault, two_components, within}
 use Rattle.darwin_types.specs.Faults.FaultIn.{two_ports, two_arrays}
 use Rattle.darwin_walk.specs.Value.{Env, Value, integer, out_of_range, zero_divisor, value}
-use Rattle.darwin_walk.specs.Reached.{Reached, valued, made, bound, port_size, array_size, reached, reached_in}
+use Rattle.darwin_walk.specs.Reached.{Reached, valued, made, bound, port_size, array_size, reached_in_component, reached_in}
 use Rattle.darwin_walk.specs.Instance.{integers, Child, values, element_arguments, element_child, children_of, children, End, Binding, end_value, bindings_of, bindings}
 use Rattle.order_laws.specs.Reordering.{Reordered, no_elements, kept, SamePort, SameArray, SameEntry, same_single, same_element, SameBinding, SameStmts, SameComponent, SameDescription, through, through_stmts}
 use Rattle.order_laws.proofs.Finding.{Both, neither, both_there, Both-sym, Both-refl, Both-trans, hits, hits-count, agree}
@@ -170,7 +170,7 @@ array_size-same : (env : Env) (a b : ArrayDecl) → SameArray a b → SameReache
 array_size-same env a b same = subst (λ e. SameReached (array_size env a) (valued e env b.at)) same.size (same_valued a.size env a.at b.at)
 
 -- the same is reached in an instance of the one component as in one of the other
-pub reached-alike : (c d : Component) → Alike c d → (env : Env) → ReachesSame (reached c env) (reached d env)
+pub reached-alike : (c d : Component) → Alike c d → (env : Env) → ReachesSame (reached_in_component c env) (reached_in_component d env)
 reached-alike c d same env =
     let ports = reordered-flat_map SamePort SameReached same_reached-refl (port_size env) (port_size env)
     (port_size-same env) (port_size-same env) c.ports d.ports same.ports in
@@ -224,7 +224,7 @@ child-same c d same par _ _ (same_bound b b' env bindings) = no_elements
 pub children-same : (c d : Component) → Alike c d → (par : Env) → Reordered SameChild (children c par) (children d par)
 children-same c d same par =
     reordered-flat_map SameReached SameChild same_child-refl (children_of c par) (children_of d par) (child-same c d same par) (child-same d d (alike-refl d) par)
-    (reached c par) (reached d par) (reached-alike c d same par)
+    (reached_in_component c par) (reached_in_component d par) (reached-alike c d same par)
 
 -- the same binding, reached at any place
 pub record SameBound (b c : Binding) : Type 0 where
@@ -262,7 +262,7 @@ reached_binding-like _ _ (same_bound b b' env same) x there = binding-like env b
 -- what is bound in an instance of the one component is bound in one of the other
 pub bindings-like : (c d : Component) → Alike c d → (par : Env) (x : Binding) → Contains (bindings c par) x → LikeBinding (bindings d par) x
 bindings-like c d same par x there =
-    let w = Contains-from_flat_map bindings_of (reached c par) x there in
-    let v = like_in SameReached same_reached-trans (reached c par) (reached d par) w.0 (reached-alike c d same par) w.1 in
+    let w = Contains-from_flat_map bindings_of (reached_in_component c par) x there in
+    let v = like_in SameReached same_reached-trans (reached_in_component c par) (reached_in_component d par) w.0 (reached-alike c d same par) w.1 in
     let y = reached_binding-like w.0 v.0 v.2 x w.2 in
-    (y.0, Contains-flat_map bindings_of (reached d par) v.0 y.0 v.1 y.1, y.2)
+    (y.0, Contains-flat_map bindings_of (reached_in_component d par) v.0 y.0 v.1 y.1, y.2)

@@ -9,12 +9,12 @@ use Rattle.darwin_lexer.specs.declared.token.At.{At}
 use Rattle.darwin_parser.specs.Tree.{Name, Tree, Expr, ArrayDecl, PortRef, InstEntry, Component}
 use Rattle.darwin_types.specs.Scope.{component_named, array_named, is_primitive}
 use Rattle.darwin_walk.specs.Value.{Env, Value, integer, out_of_range, zero_divisor, value}
-use Rattle.darwin_walk.specs.Reached.{Reached, made, reached}
+use Rattle.darwin_walk.specs.Reached.{Reached, made, reached_in_component}
 use Rattle.darwin_walk.specs.Instance.{Child, children, End, Binding, values, element_arguments, value_fault, index_fault, element_faults, inner_faults, end_faults, faults_of, instance_faults}
 use Rattle.darwin_walk.specs.declared.fault.Fault.{Fault}
 use Rattle.darwin_walk.specs.declared.fault.Fault.TheVariants.{OutOfRange, ZeroDivisor, BadIndex}
 use Rattle.elaborator.specs.Instances.{Instance, is_expanded, Inst}
-use Rattle.elaborator.specs.Bindings.{Named, named, bindings_in}
+use Rattle.elaborator.specs.Bindings.{Named, resolve, bindings_in}
 use Rattle.elaborator.specs.Faults.{is_kind_argument, kind_faults, port_faults, own_faults, faults_in}
 use Rattle.order_laws.specs.Reordering.{SameArray, SameEntry, same_single, same_element}
 use Rattle.order_laws.proofs.Finding.{Both, neither, both_there}
@@ -22,7 +22,7 @@ use Rattle.order_laws.proofs.Reorders.{comes_of}
 use Rattle.order_laws.proofs.Statements.{SameReached, same_valued, same_turn, same_made, same_bound, same_reached-trans}
 use Rattle.order_laws.proofs.Children.{Alike, AlikeTrees, alike_trees-sym, is_primitive-same, reached-alike, arguments-same, SameChild, same_child-trans, children-same, SameBound}
 use Rattle.order_laws.proofs.Instances.{SameInstance, is_expanded-same}
-use Rattle.order_laws.proofs.Joining.{Setting, SameNamed, named-same, bindings_in-like}
+use Rattle.order_laws.proofs.Joining.{Setting, SameNamed, resolve-same, bindings_in-like}
 use Rattle.base.proofs.ContainsLaws.{Contains-flat_map, Contains-from_flat_map, Contains-from_map, Contains-map, Contains-nil}
 
 -- the fault at this place
@@ -148,7 +148,7 @@ abbrev indexed_fault : At → Env → Option Expr → Option ℤ → List Fault
 indexed_fault at env (Some size) (Some index) = index_fault at (value size env) (integer index)
 indexed_fault at env _ _ = []
 
-port_fault-there : (t : Tree) (i : Instance) (at : At) (e : End) (x : Named) → named t i e ≡ Some x → port_faults t i at e ≡ indexed_fault at x.instance.env x.decl.size x.index
+port_fault-there : (t : Tree) (i : Instance) (at : At) (e : End) (x : Named) → resolve t i e ≡ Some x → port_faults t i at e ≡ indexed_fault at x.instance.env x.decl.size x.index
 port_fault-there t i at e x is = by x.decl.size x.index refl refl
   where
     by : (o : Option Expr) (q : Option ℤ) → x.decl.size ≡ o → x.index ≡ q → port_faults t i at e ≡ indexed_fault at x.instance.env x.decl.size x.index
@@ -156,7 +156,7 @@ port_fault-there t i at e x is = by x.decl.size x.index refl refl
     by (Some size) None size_is index_is = rw (is, size_is, index_is) refl
     by None q size_is index_is = rw (is, size_is) refl
 
-port_fault-nowhere : (t : Tree) (i : Instance) (at : At) (e : End) → named t i e ≡ None → port_faults t i at e ≡ []
+port_fault-nowhere : (t : Tree) (i : Instance) (at : At) (e : End) → resolve t i e ≡ None → port_faults t i at e ≡ []
 port_fault-nowhere t i at e is = rw is refl
 
 indexed_fault-same : (o at at' : At) (env : Env) (size : Option Expr) (index : Option ℤ) → SameFaults o (indexed_fault at env size index) (indexed_fault at' env size index)
@@ -165,7 +165,7 @@ indexed_fault-same o at at' env (Some size) None = refl
 indexed_fault-same o at at' env None index = refl
 
 port_faults-by :
-    (o : At) (t u : Tree) (i i' : Instance) (at at' : At) (e : End) (x y : Option Named) → named t i e ≡ x → named u i' e ≡ y → Both SameNamed x y
+    (o : At) (t u : Tree) (i i' : Instance) (at at' : At) (e : End) (x y : Option Named) → resolve t i e ≡ x → resolve u i' e ≡ y → Both SameNamed x y
     → SameFaults o (port_faults t i at e) (port_faults u i' at' e)
 port_faults-by o t u i i' at at' e _ _ is is' neither = ap (map (moved o)) (port_fault-nowhere t i at e is ∙ sym (port_fault-nowhere u i' at' e is'))
 port_faults-by o t u i i' at at' e _ _ is is' (both_there x y same) =
@@ -188,7 +188,7 @@ binding_faults-same o t u top top' setting i i' inst same b b' ends =
     (subst (λ e. SameFaults o (port_faults t i b.at b.right) (port_faults u i' b'.at e)) ends.right (at b.right))
   where
     at : (e : End) → SameFaults o (port_faults t i b.at e) (port_faults u i' b'.at e)
-    at e = port_faults-by o t u i i' b.at b'.at e (named t i e) (named u i' e) refl refl (named-same t u top top' setting i i' inst same e)
+    at e = port_faults-by o t u i i' b.at b'.at e (resolve t i e) (resolve u i' e) refl refl (resolve-same t u top top' setting i i' inst same e)
 
 -- ---- all of them
 
@@ -208,7 +208,7 @@ shown-like :
 shown-like o t u trees c d same env f there =
     elim (Contains-append_cases (instance_faults c env) (flat_map (kind_faults t) (children c env)) f there) [
       | inl of_values ↦
-          let w = comes_of SameReached same_reached-trans (moved o) (faults_of c env) (faults_of d env) (faults_of-same o c d same env) (reached c env) (reached d env) f (reached-alike c d same env) of_values in
+          let w = comes_of SameReached same_reached-trans (moved o) (faults_of c env) (faults_of d env) (faults_of-same o c d same env) (reached_in_component c env) (reached_in_component d env) f (reached-alike c d same env) of_values in
           (w.0, Contains-append_left (instance_faults d env) (flat_map (kind_faults u) (children d env)) w.0 w.1, w.2)
       | inr of_kinds ↦
           let w = comes_of SameChild same_child-trans (moved o) (kind_faults t) (kind_faults u) (kind_faults-same o t u trees) (children c env) (children d env) f (children-same c d same env) of_kinds in

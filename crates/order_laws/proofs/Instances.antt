@@ -6,7 +6,7 @@ use Rattle.std.proofs.lemmas.Option.{none-some, same_Some}
 use Rattle.darwin_parser.specs.Tree.{Name, Tree, Component}
 use Rattle.darwin_types.specs.Scope.{component_named, is_primitive}
 use Rattle.darwin_walk.specs.Value.{Env, parameters}
-use Rattle.darwin_walk.specs.Reached.{Reached, reached, weight, count}
+use Rattle.darwin_walk.specs.Reached.{Reached, reached_in_component, weight, count}
 use Rattle.darwin_walk.specs.Instance.{Child, children}
 use Rattle.elaborator.specs.Paths.{within}
 use Rattle.elaborator.specs.Instances.{Instance, top_instance, is_expanded, children_in, child_path, instance_of, made_in, path_of, paths_in, levels, instances, count_in, total, Inst, at_top, below}
@@ -144,7 +144,7 @@ weight-same _ _ (same_made e e' env same) = refl
 weight-same _ _ (same_bound b b' env same) = refl
 
 count-same : (c d : Component) (env : Env) → Alike c d → count c env ≡ count d env
-count-same c d env same = sum-same SameReached weight weight-same (reached c env) (reached d env) (reached-alike c d same env)
+count-same c d env same = sum-same SameReached weight weight-same (reached_in_component c env) (reached_in_component d env) (reached-alike c d same env)
 
 count_in-same : (i j : Instance) → SameInstance i j → count_in i ≡ count_in j
 count_in-same i j same = rw (is_expanded-same i j same, same.env, count-same i.component j.component j.env same.component) refl

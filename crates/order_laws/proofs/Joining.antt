@@ -5,7 +5,6 @@ use Rattle.std.specs.Option.{is_some}
 use Rattle.std.specs.Str.{bytes_eq}
 use Rattle.std.proofs.lemmas.Slice.Eq.{bytes_eq-Decides}
 use Rattle.config_graph.specs.declared.node.Node.{Node}
-use Rattle.config_graph.specs.declared.node.Link.{Link}
 use Rattle.config_graph.specs.Graph.{Graph}
 use Rattle.config_graph.specs.GraphBy.{AreLinkedAt}
 use Rattle.darwin_parser.specs.declared.tree.Side.{Side}
@@ -15,8 +14,8 @@ use Rattle.darwin_types.specs.Scope.{port_named}
 use Rattle.darwin_walk.specs.Instance.{Segment, End, Binding, bindings}
 use Rattle.elaborator.specs.Paths.{within}
 use Rattle.elaborator.specs.Instances.{Instance, made_in, is_expanded, Inst, below}
-use Rattle.elaborator.specs.Bindings.{Port, instance_at, Named, named, named_port, may_lead, Pair, pair_of, bindings_in, Bound, bound, BoundThrough, at_once, through}
-use Rattle.elaborator.specs.Graph.{IsNode, port_at, Linked, IsLink, IsElab}
+use Rattle.elaborator.specs.Bindings.{Port, instance_at, Named, resolve, named_port, may_lead, Pair, pair_of, bindings_in, Bound, bound, BoundThrough, at_once, through}
+use Rattle.elaborator.specs.Graph.{IsNode, port_at, Linked, IsElab}
 use Rattle.elaborator.proofs.ChildLaws.{depth-made}
 use Rattle.elaborator.proofs.PairLaws.{pair-forward, pair-backward, pair-of_no_form, pair-no_left, pair-no_right}
 use Rattle.order_laws.specs.Reordering.{SamePort}
@@ -55,34 +54,34 @@ pub record SameNamed (x y : Named) : Type 0 where
 abbrev named_as : End → Instance → PortDecl → Named
 named_as e j decl = record { is_inner = is_some e.inner; instance = j; decl = decl; index = e.index }
 
-named-nowhere : (t : Tree) (i : Instance) (e : End) → instance_at t i e.inner ≡ None → named t i e ≡ None
-named-nowhere t i e none = rw none refl
+resolve-nowhere : (t : Tree) (i : Instance) (e : End) → instance_at t i e.inner ≡ None → resolve t i e ≡ None
+resolve-nowhere t i e none = rw none refl
 
-named-no_port : (t : Tree) (i : Instance) (e : End) (j : Instance) → instance_at t i e.inner ≡ Some j → port_named j.component e.port ≡ None → named t i e ≡ None
-named-no_port t i e j at none = rw (at, none) refl
+resolve-no_port : (t : Tree) (i : Instance) (e : End) (j : Instance) → instance_at t i e.inner ≡ Some j → port_named j.component e.port ≡ None → resolve t i e ≡ None
+resolve-no_port t i e j at none = rw (at, none) refl
 
-named-there : (t : Tree) (i : Instance) (e : End) (j : Instance) (p : PortDecl) → instance_at t i e.inner ≡ Some j → port_named j.component e.port ≡ Some p → named t i e ≡ Some (named_as e j p)
-named-there t i e j p at there = rw (at, there) refl
+resolve-there : (t : Tree) (i : Instance) (e : End) (j : Instance) (p : PortDecl) → instance_at t i e.inner ≡ Some j → port_named j.component e.port ≡ Some p → resolve t i e ≡ Some (named_as e j p)
+resolve-there t i e j p at there = rw (at, there) refl
 
 named-with_port :
     (t u : Tree) (i i' : Instance) (e : End) (j j' : Instance) → instance_at t i e.inner ≡ Some j → instance_at u i' e.inner ≡ Some j' → SameInstance j j'
-    → (a b : Option PortDecl) → port_named j.component e.port ≡ a → port_named j'.component e.port ≡ b → Both SamePort a b → Both SameNamed (named t i e) (named u i' e)
-named-with_port t u i i' e j j' at at' same _ _ is is' neither = rw (named-no_port t i e j at is, named-no_port u i' e j' at' is') neither
+    → (a b : Option PortDecl) → port_named j.component e.port ≡ a → port_named j'.component e.port ≡ b → Both SamePort a b → Both SameNamed (resolve t i e) (resolve u i' e)
+named-with_port t u i i' e j j' at at' same _ _ is is' neither = rw (resolve-no_port t i e j at is, resolve-no_port u i' e j' at' is') neither
 named-with_port t u i i' e j j' at at' same _ _ is is' (both_there p q ports) =
-    rw (named-there t i e j p at is, named-there u i' e j' q at' is')
+    rw (resolve-there t i e j p at is, resolve-there u i' e j' q at' is')
     (both_there (named_as e j p) (named_as e j' q) (record { is_inner = refl; instance = same; decl = ports; index = refl }))
 
 named-with_instance :
     (t u : Tree) (i i' : Instance) (e : End) (a b : Option Instance) → instance_at t i e.inner ≡ a → instance_at u i' e.inner ≡ b → Both SameInstance a b
-    → Both SameNamed (named t i e) (named u i' e)
-named-with_instance t u i i' e _ _ is is' neither = rw (named-nowhere t i e is, named-nowhere u i' e is') neither
+    → Both SameNamed (resolve t i e) (resolve u i' e)
+named-with_instance t u i i' e _ _ is is' neither = rw (resolve-nowhere t i e is, resolve-nowhere u i' e is') neither
 named-with_instance t u i i' e _ _ is is' (both_there j j' same) =
     named-with_port t u i i' e j j' is is' same (port_named j.component e.port) (port_named j'.component e.port) refl refl (same.component.port e.port)
 
-pub named-same :
+pub resolve-same :
     (t u : Tree) (top top' : Instance) → Setting t u top top' → (i i' : Instance) → Inst t top i → SameInstance i i' → (e : End)
-    → Both SameNamed (named t i e) (named u i' e)
-named-same t u top top' setting i i' inst same e =
+    → Both SameNamed (resolve t i e) (resolve u i' e)
+resolve-same t u top top' setting i i' inst same e =
     named-with_instance t u i i' e (instance_at t i e.inner) (instance_at u i' e.inner) refl refl (instance_at-same t u top top' setting i i' inst same e.inner)
 
 port_of-same : (x y : Named) → SameNamed x y → named_port x ≡ named_port y
@@ -102,8 +101,8 @@ abbrev one_pair : Port → Port → List (Port × Port)
 one_pair x y = (x, y) ∷ []
 
 pairs-both :
-    (t u : Tree) (i i' : Instance) (b b' : Binding) (x x' y y' : Named) → named t i b.left ≡ Some x → named u i' b'.left ≡ Some x' → named t i b.right ≡ Some y
-    → named u i' b'.right ≡ Some y' → SameNamed x x' → SameNamed y y' → map ports_of (pair_of t i b) ≡ map ports_of (pair_of u i' b')
+    (t u : Tree) (i i' : Instance) (b b' : Binding) (x x' y y' : Named) → resolve t i b.left ≡ Some x → resolve u i' b'.left ≡ Some x' → resolve t i b.right ≡ Some y
+    → resolve u i' b'.right ≡ Some y' → SameNamed x x' → SameNamed y y' → map ports_of (pair_of t i b) ≡ map ports_of (pair_of u i' b')
 pairs-both t u i i' b b' x x' y y' left left' right right' same same' = by (may_lead x y) (may_lead y x) refl refl
   where
     forward' : may_lead x y ≡ may_lead x' y'
@@ -128,27 +127,27 @@ pairs-both t u i i' b b' x x' y y' left left' right right' same same' = by (may_
         ap (map ports_of) (pair-of_no_form t i b x y left right is is' ∙ sym (pair-of_no_form u i' b' x' y' left' right' (sym forward' ∙ is) (sym backward' ∙ is')))
 
 pairs-right :
-    (t u : Tree) (i i' : Instance) (b b' : Binding) (x x' : Named) → named t i b.left ≡ Some x → named u i' b'.left ≡ Some x' → SameNamed x x'
-    → (c d : Option Named) → named t i b.right ≡ c → named u i' b'.right ≡ d → Both SameNamed c d → map ports_of (pair_of t i b) ≡ map ports_of (pair_of u i' b')
+    (t u : Tree) (i i' : Instance) (b b' : Binding) (x x' : Named) → resolve t i b.left ≡ Some x → resolve u i' b'.left ≡ Some x' → SameNamed x x'
+    → (c d : Option Named) → resolve t i b.right ≡ c → resolve u i' b'.right ≡ d → Both SameNamed c d → map ports_of (pair_of t i b) ≡ map ports_of (pair_of u i' b')
 pairs-right t u i i' b b' x x' left left' same _ _ right right' neither =
     ap (map ports_of) (pair-no_right t i b x left right ∙ sym (pair-no_right u i' b' x' left' right'))
 pairs-right t u i i' b b' x x' left left' same _ _ right right' (both_there y y' same') = pairs-both t u i i' b b' x x' y y' left left' right right' same same'
 
 pairs-left :
-    (t u : Tree) (i i' : Instance) (b b' : Binding) → (a c : Option Named) → named t i b.left ≡ a → named u i' b'.left ≡ c → Both SameNamed a c
-    → Both SameNamed (named t i b.right) (named u i' b'.right) → map ports_of (pair_of t i b) ≡ map ports_of (pair_of u i' b')
+    (t u : Tree) (i i' : Instance) (b b' : Binding) → (a c : Option Named) → resolve t i b.left ≡ a → resolve u i' b'.left ≡ c → Both SameNamed a c
+    → Both SameNamed (resolve t i b.right) (resolve u i' b'.right) → map ports_of (pair_of t i b) ≡ map ports_of (pair_of u i' b')
 pairs-left t u i i' b b' _ _ left left' neither rights = ap (map ports_of) (pair-no_left t i b left ∙ sym (pair-no_left u i' b' left'))
 pairs-left t u i i' b b' _ _ left left' (both_there x x' same) rights =
-    pairs-right t u i i' b b' x x' left left' same (named t i b.right) (named u i' b'.right) refl refl rights
+    pairs-right t u i i' b b' x x' left left' same (resolve t i b.right) (resolve u i' b'.right) refl refl rights
 
 pub pairs-same :
     (t u : Tree) (top top' : Instance) → Setting t u top top' → (i i' : Instance) → Inst t top i → SameInstance i i' → (b b' : Binding) → SameBound b b'
     → map ports_of (pair_of t i b) ≡ map ports_of (pair_of u i' b')
 pairs-same t u top top' setting i i' inst same b b' ends =
-    let at = named-same t u top top' setting i i' inst same in
-    pairs-left t u i i' b b' (named t i b.left) (named u i' b'.left) refl refl
-    (subst (λ e. Both SameNamed (named t i b.left) (named u i' e)) ends.left (at b.left))
-    (subst (λ e. Both SameNamed (named t i b.right) (named u i' e)) ends.right (at b.right))
+    let at = resolve-same t u top top' setting i i' inst same in
+    pairs-left t u i i' b b' (resolve t i b.left) (resolve u i' b'.left) refl refl
+    (subst (λ e. Both SameNamed (resolve t i b.left) (resolve u i' e)) ends.left (at b.left))
+    (subst (λ e. Both SameNamed (resolve t i b.right) (resolve u i' e)) ends.right (at b.right))
 
 bindings_in-expanded : (i : Instance) → is_expanded i ≡ true → bindings_in i ≡ bindings i.component i.env
 bindings_in-expanded i is = rw is refl

@@ -7,6 +7,6 @@ pub mod Joining
 pub mod Faulting
 pub mod Twices
 pub mod Accepting
-pub mod Placing
+pub mod NameUses
 pub mod Naming
 pub mod Whole

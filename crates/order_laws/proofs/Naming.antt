@@ -27,7 +27,7 @@ use Rattle.order_laws.proofs.Statements.{same_stmts-sym, same_entry-trans, entri
 use Rattle.order_laws.proofs.Children.{Alike, AlikeTrees, alike_trees, alike_of, alike-sym, few_hits, is_primitive-same, same_component-sym, same_component-trans}
 use Rattle.order_laws.proofs.Twices.{contains-same}
 use Rattle.order_laws.proofs.Accepting.{both-none, both-some}
-use Rattle.order_laws.proofs.Placing.{declared, value-there, variable-there, end-there, singles-same, instances-same}
+use Rattle.order_laws.proofs.NameUses.{declared, value-there, variable-there, end-there, singles-same, instances-same}
 use Rattle.base.proofs.BytesLaws.{bytes_eq_self, different_bytes, is_some-lookup_from, same_bytes}
 use Rattle.base.proofs.ContainsLaws.{Contains-from_map}
 use Rattle.base.proofs.FindLaws.{is_some-find_from}

@@ -1,5 +1,5 @@
 -- An element that stands twice in a list stands twice in each reordering of it.
-use Rattle.std.proofs.Common.{◌≡◌, ◌∙◌, ◌⊎◌, inl, inr, ℕ, zero, suc, ◌<◌, List, ◌∷◌, Some, refl, sym, subst, arith}
+use Rattle.std.proofs.Common.{◌≡◌, ◌∙◌, inl, inr, suc, List, ◌∷◌, refl, sym, subst, arith}
 use Rattle.std.specs.List.{Contains}
 use Rattle.elaborator.specs.Faults.{Twice}
 use Rattle.elaborator.proofs.TwiceLaws.{twice_there, twice_at}

@@ -47,4 +47,4 @@ returns c =
 pub statements-requires : goal.statements-requires
 statements-requires c =
     IsScope-found _ c.in_ok-arrays.arrays.items (c.in_ok-arrays.ensures.1.0 ∙ ap (map array_of) c.deref-2.ensures.value)
-    c.in_ok-arrays.ensures.1.1 (rw c.deref-3.ensures.value at c.in_ok-arrays-2.ensures)
+    c.in_ok-arrays.ensures.1.1 (rw c.deref-3.ensures.value at c.in_ok-arrays_by_name.ensures)

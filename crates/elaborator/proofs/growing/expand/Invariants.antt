@@ -1,7 +1,7 @@
 use Rattle.std.proofs.Common.{◌≡◌, ◌-◌}
 use Rattle.darwin_parser.specs.Tree.{tree_of}
 use Rattle.elaborator.specs.Expansion.{instance_in}
-use Rattle.elaborator.specs.ExpansionState.{IsGrowth}
+use Rattle.elaborator.specs.Growth.{IsGrowth}
 use Rattle.elaborator.proofs.growing.expand.Given as goal
 
 abbrev pub invariant-loop-growth : goal.invariant-loop-growth

@@ -1,7 +1,7 @@
 use Rattle.std.proofs.Common.{◌+◌, ◌≤◌, sym, ap, subst, arith}
 use Rattle.std.specs.Option.{option_map_or}
 use Rattle.config_graph.specs.Graph.{requires_of, requires_at}
-use Rattle.elaborator.specs.Expansion.{seen}
+use Rattle.elaborator.specs.Expansion.{expanded_of}
 use Rattle.elaborator.specs.Links.{AreFirstLinks}
 use Rattle.elaborator.proofs.LinkLemmas.{value_read}
 use Rattle.elaborator.proofs.AllLinksLemmas.{first_links-skip, first_links-push, first_links-node}
@@ -10,7 +10,7 @@ use Rattle.elaborator.proofs.links.add_links.Goals.{in-Some+in_ok-push, in_defau
 
 pub loop-require-preserved : goal.loop-require-preserved
 loop-require-preserved c = λ top is_of first.
-    let tree = (seen c.args.expansion.now).tree in
+    let tree = (expanded_of c.args.expansion.now).tree in
     let nodes = c.args.nodes.now.nodes.items in
     let from = c.args.from in
     let require = c.loop-require.require in
@@ -30,4 +30,4 @@ returns c = λ top is_of first.
     let node = c.index.result.now in
     let stands = value_read nodes c.args.from node c.requires.within c.index.ensures in
     let all : requires_at nodes c.args.from ≤ c.loop-require.require = omega (arith, ap (λ o. option_map_or requires_of o 0) stands, c.requires_-require-end.ensures, c.loop-require-test.false) in
-    first_links-node (seen c.args.expansion.now).tree top nodes c.args.from c.loop-require.require c.loop-require.links.items all (c.loop-require.invariant top is_of first)
+    first_links-node (expanded_of c.args.expansion.now).tree top nodes c.args.from c.loop-require.require c.loop-require.links.items all (c.loop-require.invariant top is_of first)

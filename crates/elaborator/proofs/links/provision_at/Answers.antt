@@ -1,7 +1,7 @@
 use Rattle.std.proofs.Common.{◌∙◌, Some, None, sym, ap, subst, arith}
 use Rattle.std.proofs.lemmas.Option.{slice_get_within}
 use Rattle.darwin_parser.specs.Tree.{port_of}
-use Rattle.elaborator.specs.Expansion.{seen}
+use Rattle.elaborator.specs.Expansion.{expanded_of}
 use Rattle.elaborator.specs.Links.{IsProvisionNamed}
 use Rattle.elaborator.proofs.PortLemmas.{numbered_within}
 use Rattle.elaborator.proofs.LinkLemmas.{value_read, decl_read, place_within, node_within, port_read, not_provided-composite, not_provided-requirement, provided_of_read}
@@ -9,7 +9,7 @@ use Rattle.elaborator.proofs.links.provision_at.Goals as goal
 
 pub returns-in_err-node : goal.returns-in_err-node
 returns-in_err-node c =
-    let e = seen c.args.expansion.now in
+    let e = expanded_of c.args.expansion.now in
     let n = c.args.nodes.now in
     let id = c.args.id in
     let within = place_within e n id c.requires.port.0 c.requires.nodes c.requires.port.1 in
@@ -17,11 +17,11 @@ returns-in_err-node c =
 
 pub instance-requires-clause-within : goal.instance-requires-clause-within
 instance-requires-clause-within c =
-    numbered_within (seen c.args.expansion.now) c.args.id.instance c.requires.port.1.instance c.requires.port.1.numbered
+    numbered_within (expanded_of c.args.expansion.now) c.args.id.instance c.requires.port.1.instance c.requires.port.1.numbered
 
 pub index-requires-in-Provide : goal.index-requires-in-Provide
 index-requires-in-Provide c =
-    let e = seen c.args.expansion.now in
+    let e = expanded_of c.args.expansion.now in
     let n = c.args.nodes.now in
     let id = c.args.id in
     let within = place_within e n id c.requires.port.0 c.requires.nodes c.requires.port.1 in
@@ -30,14 +30,14 @@ index-requires-in-Provide c =
 
 pub returns-in-Require : goal.returns-in-Require
 returns-in-Require c =
-    let e = seen c.args.expansion.now in
+    let e = expanded_of c.args.expansion.now in
     let port = c.requires.port.1 in
     let declared = decl_read c.args.expansion.now c.args.id.instance c.args.id.port c.instance.result.now port.instance c.index-port.result.now c.instance.ensures.made port.numbered (slice_get_within port.instance.component.ports c.args.id.port port.decl port.declared) c.index-port.ensures in
     not_provided-requirement e c.requires.kept.is_expanded c.args.nodes.now c.args.id port.instance (port_of c.index-port.result.now) port.numbered declared c.in-Require.is
 
 pub returns-in_err-provide-in-Provide : goal.returns-in_err-provide-in-Provide
 returns-in_err-provide-in-Provide c =
-    let e = seen c.args.expansion.now in
+    let e = expanded_of c.args.expansion.now in
     let n = c.args.nodes.now in
     let id = c.args.id in
     let within = place_within e n id c.requires.port.0 c.requires.nodes c.requires.port.1 in
@@ -49,7 +49,7 @@ returns-in_err-provide-in-Provide c =
 
 pub returns-in_ok-provide-in-Provide : goal.returns-in_ok-provide-in-Provide
 returns-in_ok-provide-in-Provide c =
-    let e = seen c.args.expansion.now in
+    let e = expanded_of c.args.expansion.now in
     let n = c.args.nodes.now in
     let id = c.args.id in
     let within = place_within e n id c.requires.port.0 c.requires.nodes c.requires.port.1 in

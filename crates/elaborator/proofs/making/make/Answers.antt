@@ -1,4 +1,4 @@
-use Rattle.std.proofs.Common.{rules, ◌≡◌, ◌∙◌, ap}
+use Rattle.std.proofs.Common.{rules, ap}
 use Rattle.darwin_walk.specs.declared.fault.Fault.TheVariants as shown
 use Rattle.darwin_walk.specs.declared.fault.WalkError.TheVariants as walk
 use Rattle.elaborator.specs.declared.error.ElabError.TheVariants as error

@@ -2,7 +2,7 @@ use Rattle.std.proofs.Common.{◌≡◌, ◌∙◌, ◌+◌, Some, None, sym, su
 use Rattle.std.proofs.lemmas.Option.{slice_get-get_or}
 use Rattle.elaborator.specs.Graph.{node_of}
 use Rattle.elaborator.specs.Numbering.{Numbered}
-use Rattle.elaborator.specs.Expansion.{seen, instance_in}
+use Rattle.elaborator.specs.Expansion.{expanded_of, instance_in}
 use Rattle.elaborator.specs.NodeOrder.{AreFirstNodes, IsInOrder}
 use Rattle.elaborator.proofs.NodeLemmas.{first_nodes-skip, first_nodes-push, nodes-all}
 use Rattle.elaborator.proofs.nodes.nodes_of.Goals as goal
@@ -10,7 +10,7 @@ use Rattle.elaborator.proofs.nodes.nodes_of.Goals.{in-Some+in_ok-add, in_default
 
 pub add-requires-clause-within : goal.add-requires-clause-within
 add-requires-clause-within c =
-    let e = seen c.args.expansion.now in
+    let e = expanded_of c.args.expansion.now in
     let items = c.deref-number-items.result.now in
     let k = c.loop-number.number-index in
     let in_order = subst (IsInOrder e) (sym c.deref-number-items.ensures.value) c.in_ok-order.ensures in
@@ -18,7 +18,7 @@ add-requires-clause-within c =
 
 pub loop-number-preserved : goal.loop-number-preserved
 loop-number-preserved c =
-    let e = seen c.args.expansion.now in
+    let e = expanded_of c.args.expansion.now in
     let items = c.deref-number-items.result.now in
     let k = c.loop-number.number-index in
     let m = get_or items k 0 in
@@ -37,7 +37,7 @@ loop-number-preserved c =
 
 pub returns : goal.returns
 returns c =
-    let e = seen c.args.expansion.now in
+    let e = expanded_of c.args.expansion.now in
     let items = c.deref-number-items.result.now in
     let in_order = subst (IsInOrder e) (sym c.deref-number-items.ensures.value) c.in_ok-order.ensures in
     nodes-all e c.requires.is_expanded items c.loop-number.nodes c.loop-number.number-index in_order c.loop-number-test.false (omega arith) c.loop-number.invariant

@@ -3,7 +3,7 @@ use Rattle.std.proofs.lemmas.Bool.{false≢true}
 use Rattle.elaborator.specs.Paths.{end_bytes}
 use Rattle.elaborator.specs.Instances.{Instance}
 use Rattle.elaborator.specs.declared.error.ElabError.TheVariants.{BoundTwice}
-use Rattle.elaborator.specs.Expansion.{seen}
+use Rattle.elaborator.specs.Expansion.{expanded_of}
 use Rattle.elaborator.specs.Ports.{IsPort}
 use Rattle.elaborator.specs.PortIndex.{port_eq}
 use Rattle.elaborator.proofs.PortLemmas.{same_instance}
@@ -12,16 +12,16 @@ use Rattle.elaborator.proofs.pairs.bind_pair.Goals as goal
 
 pub returns-in_default : goal.returns-in_default
 returns-in_default c = λ i p pairs at is index.
-    IsIndex-push (seen c.args.expansion.now) pairs c.args.targets.now c.bind.new.self c.args.pair.now.source c.args.pair.now.target p index c.in_ok-before.ensures.bound is.source is.target (inl (sym c.in_ok-before.ensures.before ∙ c.in_default.is))
+    IsIndex-push (expanded_of c.args.expansion.now) pairs c.args.targets.now c.bind.new.self c.args.pair.now.source c.args.pair.now.target p index c.in_ok-before.ensures.bound is.source is.target (inl (sym c.in_ok-before.ensures.before ∙ c.in_default.is))
 
 pub returns-then-eq : goal.returns-then-eq
 returns-then-eq c = λ i p pairs at is index.
     let same = same_port c.in-Some.before c.args.pair.now.target (sym c.eq.ensures ∙ c.if-eq.true) in
-    IsIndex-push (seen c.args.expansion.now) pairs c.args.targets.now c.bind.new.self c.args.pair.now.source c.args.pair.now.target p index c.in_ok-before.ensures.bound is.source is.target (inr (sym c.in_ok-before.ensures.before ∙ c.in-Some.is ∙ ap Some same))
+    IsIndex-push (expanded_of c.args.expansion.now) pairs c.args.targets.now c.bind.new.self c.args.pair.now.source c.args.pair.now.target p index c.in_ok-before.ensures.bound is.source is.target (inr (sym c.in_ok-before.ensures.before ∙ c.in-Some.is ∙ ap Some same))
 
 pub returns : goal.returns
 returns c = λ i p pairs at is index memory.
-    let e = seen c.args.expansion.now in
+    let e = expanded_of c.args.expansion.now in
     let k = c.args.pair.now.source in
     let w = index.sound k c.in-Some.before (sym c.in_ok-before.ensures.before ∙ c.in-Some.is) in
     let inst = same_instance c.args.expansion.now c.args.number c.instance.result.now i c.instance.ensures.made at in (

@@ -5,7 +5,7 @@ use Rattle.std.proofs.lemmas.Bool.{cases_lt}
 use Rattle.elaborator.specs.Instances.{Instance}
 use Rattle.elaborator.specs.Bindings.{pairs_in, bindings_in}
 use Rattle.elaborator.specs.Numbering.{NumberedInstance, Numbered}
-use Rattle.elaborator.specs.Expansion.{seen}
+use Rattle.elaborator.specs.Expansion.{expanded_of}
 use Rattle.elaborator.specs.PortIndex.{IsIndex, AreLawful}
 use Rattle.base.proofs.AnswerLaws.{Answers-exit}
 use Rattle.elaborator.proofs.PortLemmas.{instance_numbered, numbered_within}
@@ -15,7 +15,7 @@ use Rattle.elaborator.proofs.pairs.index_bindings.Goals as goal
 
 pub returns-in_err-index_instance : goal.returns-in_err-index_instance
 returns-in_err-index_instance c =
-    let e = seen c.args.expansion.now in
+    let e = expanded_of c.args.expansion.now in
     let n = c.loop-number.number in
     let below : n < length e.made = omega (arith, c.len-number-end.ensures, c.loop-number-test.true) in
     let here = instance_numbered e n below in
@@ -23,7 +23,7 @@ returns-in_err-index_instance c =
 
 pub loop-number-preserved : goal.loop-number-preserved
 loop-number-preserved c =
-    let e = seen c.args.expansion.now in
+    let e = expanded_of c.args.expansion.now in
     let n = c.loop-number.number in
     let below : n < length e.made = omega (arith, c.len-number-end.ensures, c.loop-number-test.true) in
     let here = instance_numbered e n below in
@@ -42,7 +42,7 @@ loop-number-preserved c =
 
 pub returns : goal.returns
 returns c =
-    let e = seen c.args.expansion.now in
+    let e = expanded_of c.args.expansion.now in
     let n = c.loop-number.number in
     let all : length (instances_of e) ≤ n = omega (arith, length-map e.made (λ (m : NumberedInstance). m.instance), c.len-number-end.ensures, c.loop-number-test.false) in
     whole_index e c.requires.is_expanded c.loop-number.targets (subst (λ is. IsIndex e (flat_map (pairs_in e.tree) is) c.loop-number.targets) (take_all n (instances_of e) all) c.loop-number.invariant.indexed) (λ m i at. c.loop-number.invariant.lawful m i (omega (arith, numbered_within e m i at, c.len-number-end.ensures, c.loop-number-test.false)) at)

@@ -3,7 +3,7 @@ use Rattle.std.specs.List.{Contains, flat_map}
 use Rattle.std.proofs.lemmas.List.{take_all}
 use Rattle.darwin_walk.specs.Walked.{binding_of}
 use Rattle.elaborator.specs.Bindings.{pair_of, bindings_in}
-use Rattle.elaborator.specs.Expansion.{seen}
+use Rattle.elaborator.specs.Expansion.{expanded_of}
 use Rattle.elaborator.specs.PortIndex.{IsIndex, AreLawful}
 use Rattle.elaborator.specs.PortIndex.BindingFault.{of_binding}
 use Rattle.base.proofs.AnswerLaws.{Answers-exit}
@@ -23,7 +23,7 @@ returns-in_err-pair c = λ i pairs at index before.
 
 pub returns-in_err-bind_pair : goal.returns-in_err-bind_pair
 returns-in_err-bind_pair c = λ i pairs at index before.
-    let e = seen c.args.expansion.now in
+    let e = expanded_of c.args.expansion.now in
     let items = c.deref-binding-items.result.now in
     let k = c.loop-binding.binding-index in
     let b = binding_of c.binding-item.result in
@@ -37,7 +37,7 @@ returns-in_err-bind_pair c = λ i pairs at index before.
 
 pub loop-binding-preserved : goal.loop-binding-preserved
 loop-binding-preserved c = λ i pairs at index.
-    let e = seen c.args.expansion.now in
+    let e = expanded_of c.args.expansion.now in
     let items = c.deref-binding-items.result.now in
     let k = c.loop-binding.binding-index in
     let b = binding_of c.binding-item.result in
@@ -50,7 +50,7 @@ loop-binding-preserved c = λ i pairs at index.
 
 pub returns : goal.returns
 returns c = λ i pairs at index earlier.
-    let e = seen c.args.expansion.now in
+    let e = expanded_of c.args.expansion.now in
     let items = c.deref-binding-items.result.now in
     let k = c.loop-binding.binding-index in
     let same = same_instance c.args.expansion.now c.args.number c.instance-instance.result.now i c.instance-instance.ensures.made at in

@@ -5,15 +5,15 @@ use Rattle.std.proofs.lemmas.Option.{slice_get_read}
 use Rattle.std.proofs.lemmas.List.Quantifiers.{position-Some}
 use Rattle.darwin_parser.specs.Tree.{port_of}
 use Rattle.darwin_walk.specs.Walked.{walked_end}
-use Rattle.elaborator.specs.Expansion.{seen, instance_in}
+use Rattle.elaborator.specs.Expansion.{expanded_of, instance_in}
 use Rattle.elaborator.specs.Ports.{place_of}
 use Rattle.elaborator.proofs.NamingLemmas.{position_within}
-use Rattle.elaborator.proofs.PortLemmas.{instance_numbered, stands_numbered, numbered_within, same_instance, named-no_port, named_found}
+use Rattle.elaborator.proofs.PortLemmas.{instance_numbered, stands_numbered, numbered_within, same_instance, resolve-no_port, named_found}
 use Rattle.elaborator.proofs.ports.find_named.Goals as goal
 
 pub instance-requires-clause-within : goal.instance-requires-clause-within
 instance-requires-clause-within c =
-    let e = seen c.args.expansion.now in
+    let e = expanded_of c.args.expansion.now in
     let here = instance_numbered e c.args.number c.requires.within in
     let w = rw c.in-Some.is at (c.in_ok-instance.ensures here.0 here.1) in
     numbered_within e c.in-Some.instance w.0 (stands_numbered e c.args.number _ c.in-Some.instance w.0 w.2)
@@ -36,9 +36,9 @@ returns-in_default-place_in c = λ i at.
     let e = c.args.expansion.now in
     let x = c.instance.result.now in
     let w = rw c.in-Some.is at (c.in_ok-instance.ensures i at) in
-    let same = same_instance e c.in-Some.instance x w.0 c.instance.ensures.made (stands_numbered (seen e) c.args.number _ c.in-Some.instance w.0 w.2) in
+    let same = same_instance e c.in-Some.instance x w.0 c.instance.ensures.made (stands_numbered (expanded_of e) c.args.number _ c.in-Some.instance w.0 w.2) in
     let place = ap (λ b. place_of b (instance_in x).component.ports) (sym c.as_bytes.ensures) ∙ sym c.place_in.ensures in
-    named-no_port (seen e).tree i (instance_in x) (walked_end c.args.end) (w.1 ∙ ap Some same) (place ∙ c.in_default-place_in.is)
+    resolve-no_port (expanded_of e).tree i (instance_in x) (walked_end c.args.end) (w.1 ∙ ap Some same) (place ∙ c.in_default-place_in.is)
 
 pub returns : goal.returns
 returns c = λ i at.

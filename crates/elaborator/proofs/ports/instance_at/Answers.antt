@@ -5,7 +5,7 @@ use Rattle.darwin_parser.specs.Tree.{Name}
 use Rattle.darwin_walk.specs.Instance.{Segment}
 use Rattle.darwin_walk.specs.Walked.{segment_of}
 use Rattle.elaborator.specs.Instances.{Instance, made_in}
-use Rattle.elaborator.specs.Expansion.{seen}
+use Rattle.elaborator.specs.Expansion.{expanded_of}
 use Rattle.elaborator.specs.Numbering.{Expanded, NumberedIn}
 use Rattle.elaborator.specs.Paths.{within}
 use Rattle.elaborator.specs.Ports.{Standing}
@@ -30,4 +30,4 @@ returns-in_ok-path-in-Some c = λ i at.
     let segment = segment_of c.in-Some.segment in
     let same = same_instance e c.args.number x i c.instance.ensures.made at in
     let path = c.as_slice.ensures.value ∙ c.in_ok-path-in-Some.ensures ∙ ap (λ b. within b segment) (c.as_bytes.ensures ∙ sym (ap (λ (j : Instance). j.path) same)) in
-    rw c.in-Some.is (standing_inner (seen e) c.args.number i segment c.as_slice.result.now c.child.result path (c.child.ensures i at))
+    rw c.in-Some.is (standing_inner (expanded_of e) c.args.number i segment c.as_slice.result.now c.child.result path (c.child.ensures i at))

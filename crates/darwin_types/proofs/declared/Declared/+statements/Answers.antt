@@ -4,11 +4,11 @@ use Rattle.std.proofs.lemmas.List.Elements.{Contains-append_left, Contains-appen
 use Rattle.std.specs.List.{Contains}
 use Rattle.base.proofs.AnswerLaws.{Answers-exit}
 use Rattle.darwin_parser.specs.Tree.{expr_of, stmt_of, stmts_of}
-use Rattle.darwin_types.specs.Places.{stmt_places, body_places}
-use Rattle.darwin_types.specs.Check.{Judges, value_faults, places_faults}
+use Rattle.darwin_types.specs.NameUses.{stmt_uses, body_uses}
+use Rattle.darwin_types.specs.Check.{Judges, value_faults, uses_faults}
 use Rattle.darwin_types.specs.Within.{tree_in, component_in}
 use Rattle.darwin_types.proofs.Bodies.{stmt_of_forall, stmt_of_when}
-use Rattle.darwin_types.proofs.PlaceFaults.{body_faults-drop}
+use Rattle.darwin_types.proofs.UseFaults.{body_faults-drop}
 use Rattle.darwin_types.proofs.Judged.{Judges_after, none-append}
 use Rattle.darwin_types.proofs.declared.Declared.+statements.Goals as goal
 use Rattle.base.proofs.MapLaws.{take_pushed}
@@ -30,14 +30,14 @@ check_body-loop-stmt-preserved t c =
     let none = rw c.loop-stmt.invariant.scope_kept at c.in_ok-check_stmt.ensures.judged in
     record {
       scope_kept = c.in_ok-check_stmt.ensures.scope_kept ∙ c.loop-stmt.invariant.scope_kept;
-      rest = c.loop-stmt.invariant.rest ∙ left ∙ ap (λ fs. fs ++ places_faults tree k (body_places c.args.scope.now (stmts_of (drop (i + 1) body)))) none;
+      rest = c.loop-stmt.invariant.rest ∙ left ∙ ap (λ fs. fs ++ uses_faults tree k (body_uses c.args.scope.now (stmts_of (drop (i + 1) body)))) none;
     }
 
 pub check_body-returns-clause-judged : goal.check_body-returns-clause-judged
 check_body-returns-clause-judged t c =
     let tree = tree_in c.args.self.now in
     let k = component_in c.args.self.now in
-    c.loop-stmt.invariant.rest ∙ ap (λ b. places_faults tree k (body_places c.args.scope.now (stmts_of b))) (drop_all c.loop-stmt.stmt-index c.args.body.now c.loop-stmt-test.false)
+    c.loop-stmt.invariant.rest ∙ ap (λ b. uses_faults tree k (body_uses c.args.scope.now (stmts_of b))) (drop_all c.loop-stmt.stmt-index c.args.body.now c.loop-stmt-test.false)
 
 pub check_stmt-returns-in_err-check_value-in-Forall-clause-judged : goal.check_stmt-returns-in_err-check_value-in-Forall-clause-judged
 check_stmt-returns-in_err-check_value-in-Forall-clause-judged t c =
@@ -45,7 +45,7 @@ check_stmt-returns-in_err-check_value-in-Forall-clause-judged t c =
     let k = component_in c.args.self.now in
     let w = c.in-Forall in
     let is = ap stmt_of w.is ∙ stmt_of_forall w.var w.low w.high w.body w.at in
-    Answers-exit {Cause = Contains _} _ _ c.from_residual.ensures.1 (λ f has. subst (λ v. Contains (places_faults tree k (stmt_places c.args.scope.now v)) f) (sym is) (Contains-append_left _ _ f has)) c.in_err-check_value-in-Forall.ensures
+    Answers-exit {Cause = Contains _} _ _ c.from_residual.ensures.1 (λ f has. subst (λ v. Contains (uses_faults tree k (stmt_uses c.args.scope.now v)) f) (sym is) (Contains-append_left _ _ f has)) c.in_err-check_value-in-Forall.ensures
 
 pub check_stmt-returns-in_err-check_value-in-Forall-2-clause-judged : goal.check_stmt-returns-in_err-check_value-in-Forall-2-clause-judged
 check_stmt-returns-in_err-check_value-in-Forall-2-clause-judged t c =
@@ -54,7 +54,7 @@ check_stmt-returns-in_err-check_value-in-Forall-2-clause-judged t c =
     let w = c.in-Forall in
     let is = ap stmt_of w.is ∙ stmt_of_forall w.var w.low w.high w.body w.at in
     let low = value_faults k c.args.scope.now (expr_of w.low) in
-    Answers-exit {Cause = Contains _} _ _ c.from_residual-in_err-check_value-in-Forall-2.ensures.1 (λ f has. subst (λ v. Contains (places_faults tree k (stmt_places c.args.scope.now v)) f) (sym is) (Contains-append_right low _ f (Contains-append_left _ _ f has))) c.in_err-check_value-in-Forall-2.ensures
+    Answers-exit {Cause = Contains _} _ _ c.from_residual-in_err-check_value-in-Forall-2.ensures.1 (λ f has. subst (λ v. Contains (uses_faults tree k (stmt_uses c.args.scope.now v)) f) (sym is) (Contains-append_right low _ f (Contains-append_left _ _ f has))) c.in_err-check_value-in-Forall-2.ensures
 
 pub check_stmt-returns-in_ok-check_value-in-Forall-2-clause-judged : goal.check_stmt-returns-in_ok-check_value-in-Forall-2-clause-judged
 check_stmt-returns-in_ok-check_value-in-Forall-2-clause-judged t c =
@@ -65,7 +65,7 @@ check_stmt-returns-in_ok-check_value-in-Forall-2-clause-judged t c =
     let is = ap stmt_of w.is ∙ stmt_of_forall w.var w.low w.high w.body w.at in
     let low = value_faults k c.args.scope.now (expr_of w.low) in
     let high = value_faults k c.args.scope.now (expr_of w.high) in
-    subst (λ v. Judges (places_faults tree k (stmt_places c.args.scope.now v)) r) (sym is) (Judges_after low _ r c.in_ok-check_value-in-Forall.ensures (Judges_after high _ r c.in_ok-check_value-in-Forall-2.ensures (rw c.as_slice.ensures.value at c.check_turns.ensures.judged)))
+    subst (λ v. Judges (uses_faults tree k (stmt_uses c.args.scope.now v)) r) (sym is) (Judges_after low _ r c.in_ok-check_value-in-Forall.ensures (Judges_after high _ r c.in_ok-check_value-in-Forall-2.ensures (rw c.as_slice.ensures.value at c.check_turns.ensures.judged)))
 
 pub check_stmt-returns-in_err-check_value-in-When-clause-judged : goal.check_stmt-returns-in_err-check_value-in-When-clause-judged
 check_stmt-returns-in_err-check_value-in-When-clause-judged t c =
@@ -73,7 +73,7 @@ check_stmt-returns-in_err-check_value-in-When-clause-judged t c =
     let k = component_in c.args.self.now in
     let w = c.in-When in
     let is = ap stmt_of w.is ∙ stmt_of_when w.test w.body w.at in
-    Answers-exit {Cause = Contains _} _ _ c.from_residual-in_err-check_value-in-When.ensures.1 (λ f has. subst (λ v. Contains (places_faults tree k (stmt_places c.args.scope.now v)) f) (sym is) (Contains-append_left _ _ f has)) c.in_err-check_value-in-When.ensures
+    Answers-exit {Cause = Contains _} _ _ c.from_residual-in_err-check_value-in-When.ensures.1 (λ f has. subst (λ v. Contains (uses_faults tree k (stmt_uses c.args.scope.now v)) f) (sym is) (Contains-append_left _ _ f has)) c.in_err-check_value-in-When.ensures
 
 pub check_stmt-returns-in_ok-check_value-in-When-clause-judged : goal.check_stmt-returns-in_ok-check_value-in-When-clause-judged
 check_stmt-returns-in_ok-check_value-in-When-clause-judged t c =
@@ -83,17 +83,17 @@ check_stmt-returns-in_ok-check_value-in-When-clause-judged t c =
     let r = c.check_body.result in
     let is = ap stmt_of w.is ∙ stmt_of_when w.test w.body w.at in
     let test = value_faults k c.args.scope.now (expr_of w.test) in
-    subst (λ v. Judges (places_faults tree k (stmt_places c.args.scope.now v)) r) (sym is) (Judges_after test _ r c.in_ok-check_value-in-When.ensures (rw c.as_slice-in-When.ensures.value at c.check_body.ensures.judged))
+    subst (λ v. Judges (uses_faults tree k (stmt_uses c.args.scope.now v)) r) (sym is) (Judges_after test _ r c.in_ok-check_value-in-When.ensures (rw c.as_slice-in-When.ensures.value at c.check_body.ensures.judged))
 
 pub check_stmt-returns-in-Inst-clause-judged : goal.check_stmt-returns-in-Inst-clause-judged
 check_stmt-returns-in-Inst-clause-judged t c =
     let d = c.args.self.now in
-    subst (λ v. Judges (places_faults (tree_in d) (component_in d) (stmt_places c.args.scope.now (stmt_of v))) c.check_entry.result) (sym c.in-Inst.is) c.check_entry.ensures
+    subst (λ v. Judges (uses_faults (tree_in d) (component_in d) (stmt_uses c.args.scope.now (stmt_of v))) c.check_entry.result) (sym c.in-Inst.is) c.check_entry.ensures
 
 pub check_stmt-returns-in-Bind-clause-judged : goal.check_stmt-returns-in-Bind-clause-judged
 check_stmt-returns-in-Bind-clause-judged t c =
     let d = c.args.self.now in
-    subst (λ v. Judges (places_faults (tree_in d) (component_in d) (stmt_places c.args.scope.now (stmt_of v))) c.check_binding.result) (sym c.in-Bind.is) c.check_binding.ensures
+    subst (λ v. Judges (uses_faults (tree_in d) (component_in d) (stmt_uses c.args.scope.now (stmt_of v))) c.check_binding.result) (sym c.in-Bind.is) c.check_binding.ensures
 
 pub check_turns-returns-in_err-enter-clause-judged : goal.check_turns-returns-in_err-enter-clause-judged
 check_turns-returns-in_err-enter-clause-judged t c =

@@ -4,10 +4,10 @@ use Rattle.std.proofs.lemmas.List.Elements.{Contains-append_left, Contains-appen
 use Rattle.std.specs.List.{Contains}
 use Rattle.base.proofs.AnswerLaws.{Answers-exit}
 use Rattle.darwin_parser.specs.Tree.{end_of}
-use Rattle.darwin_types.specs.Places.{values}
-use Rattle.darwin_types.specs.Check.{Judges, places_faults, end_faults}
+use Rattle.darwin_types.specs.NameUses.{values}
+use Rattle.darwin_types.specs.Check.{Judges, uses_faults, end_faults}
 use Rattle.darwin_types.specs.Within.{tree_in, component_in}
-use Rattle.darwin_types.proofs.PlaceFaults.{places_faults-end}
+use Rattle.darwin_types.proofs.UseFaults.{uses_faults-end}
 use Rattle.darwin_types.proofs.Judged.{Judges_after}
 use Rattle.darwin_types.proofs.declared.Declared.check_end.Goals as goal
 
@@ -22,9 +22,9 @@ returns-in_err-check_optional_value c =
     let scope = c.args.scope.now in
     let e = end_of c.args.end.now in
     let port = end_faults t k e in
-    let first = places_faults t k (values scope (option_to_list e.inst_index)) in
-    let second = places_faults t k (values scope (option_to_list e.port_index)) in
-    Answers-exit {Cause = Contains _} _ _ c.from_residual-in_err-check_optional_value.ensures.1 (λ f has. subst (λ fs. Contains fs f) (sym (places_faults-end t k scope e)) (Contains-append_right port (first ++ second) f (Contains-append_left first second f has))) c.in_err-check_optional_value.ensures
+    let first = uses_faults t k (values scope (option_to_list e.inst_index)) in
+    let second = uses_faults t k (values scope (option_to_list e.port_index)) in
+    Answers-exit {Cause = Contains _} _ _ c.from_residual-in_err-check_optional_value.ensures.1 (λ f has. subst (λ fs. Contains fs f) (sym (uses_faults-end t k scope e)) (Contains-append_right port (first ++ second) f (Contains-append_left first second f has))) c.in_err-check_optional_value.ensures
 
 pub returns : goal.returns
 returns c =
@@ -33,7 +33,7 @@ returns c =
     let scope = c.args.scope.now in
     let e = end_of c.args.end.now in
     let port = end_faults t k e in
-    let first = places_faults t k (values scope (option_to_list e.inst_index)) in
-    let second = places_faults t k (values scope (option_to_list e.port_index)) in
+    let first = uses_faults t k (values scope (option_to_list e.inst_index)) in
+    let second = uses_faults t k (values scope (option_to_list e.port_index)) in
     let last = c.check_optional_value-2 in
-    subst (λ fs. Judges fs last.result) (sym (places_faults-end t k scope e)) (Judges_after port (first ++ second) last.result c.in_ok-check_end_port.ensures (Judges_after first second last.result c.in_ok-check_optional_value.ensures last.ensures))
+    subst (λ fs. Judges fs last.result) (sym (uses_faults-end t k scope e)) (Judges_after port (first ++ second) last.result c.in_ok-check_end_port.ensures (Judges_after first second last.result c.in_ok-check_optional_value.ensures last.ensures))

@@ -3,7 +3,7 @@ use Rattle.std.proofs.lemmas.Option.{slice_get_read}
 use Rattle.darwin_parser.specs.Tree.{tree_of}
 use Rattle.elaborator.specs.Paths.{Path}
 use Rattle.elaborator.specs.ExpansionFaults.{GrowthFault}
-use Rattle.elaborator.specs.ExpansionState.{IsClash}
+use Rattle.elaborator.specs.Growth.{IsClash}
 use Rattle.elaborator.specs.declared.error.ElabError.TheVariants.{TwoInstances}
 use Rattle.base.proofs.AnswerLaws.{Answers-exit}
 use Rattle.elaborator.proofs.MappedLemmas.{mapped-set}

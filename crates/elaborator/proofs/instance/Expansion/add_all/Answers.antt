@@ -1,6 +1,6 @@
 use Rattle.std.proofs.Common.{◌≡◌, ◌∙◌, ◌++◌, ◌∷◌, [], length, sym, ap, subst, append_assoc}
 use Rattle.std.specs.Vec.Iter.{into_iter_items}
-use Rattle.elaborator.specs.ExpansionState.{IsClash}
+use Rattle.elaborator.specs.Growth.{IsClash}
 use Rattle.elaborator.specs.declared.error.ElabError.TheVariants.{TwoInstances}
 use Rattle.base.proofs.AnswerLaws.{Answers-exit}
 use Rattle.elaborator.proofs.MappedLemmas.{extended-more, clash-more}

@@ -1,6 +1,6 @@
 use Rattle.std.proofs.Common.{◌≡◌, ◌++◌, List}
 use Rattle.std.specs.Vec.Iter.{into_iter_items}
-use Rattle.elaborator.specs.ExpansionState.{IsExtended}
+use Rattle.elaborator.specs.Growth.{IsExtended}
 use Rattle.elaborator.specs.declared.instance.Instance as code
 use Rattle.elaborator.proofs.instance.Expansion.add_all.Given as goal
 

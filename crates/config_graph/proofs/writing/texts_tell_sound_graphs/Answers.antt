@@ -1,5 +1,0 @@
-use Rattle.config_graph.proofs.TextLaws.{same_from_text}
-use Rattle.config_graph.proofs.writing.texts_tell_sound_graphs.Goals as goal
-
-pub returns : goal.returns
-returns c = same_from_text

@@ -1,5 +1,0 @@
-use Rattle.darwin_types.proofs.Verdict.{fault_or_none}
-use Rattle.darwin_types.proofs.checking.a_fault_or_none.Goals as goal
-
-pub returns : goal.returns
-returns c = fault_or_none

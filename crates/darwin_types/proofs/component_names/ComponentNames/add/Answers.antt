@@ -1,6 +1,0 @@
-use Rattle.darwin_types.proofs.component_names.ComponentNames.add.Goals as goal
-use Rattle.base.proofs.MapLaws.{list_any-map}
-use Rattle.base.proofs.OptionLaws.{flip}
-
-pub returns-clause-before : goal.returns-clause-before
-returns-clause-before c = rw (← c.self.view_is, ← c.in_ok-key.ensures.items) simp list_any-map (flip _ _ c.in_ok-insert.ensures.added)
