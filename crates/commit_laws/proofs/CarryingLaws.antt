@@ -32,7 +32,7 @@ use Rattle.commit_laws.proofs.MakingLaws.{Making}
 use Rattle.commit_laws.proofs.MeanwhileLaws.{allowed_meanwhile, may_at, none_reopened, now_is}
 use Rattle.commit_laws.proofs.PhaseLaws.{EachConfig, each_place, each_then, may_then, phase_each, phase_ends, phase_may}
 use Rattle.commit_laws.proofs.RemovingLaws.{Removing}
-use Rattle.commit_laws.proofs.ReopeningLaws.{IsLivePort, Reopening, reopen_may, reopen_next}
+use Rattle.commit_laws.proofs.TurningLaws.{IsLivePort, SameLinks, Turning, same_graph, turn_may, turn_next, turn_start}
 use Rattle.commit_laws.proofs.SourceLaws.{owners_live, paths_apart, sources_gone}
 use Rattle.commit_laws.proofs.UnlinkingLaws.{Unlinking}
 use Rattle.commit_laws.specs.Commits.{IsCommit}
@@ -155,46 +155,39 @@ module _ (c : Configuration) (new : Graph) (Touched : ℕ → Type 0) (noted : �
     }
 
   module _ (ports : List ℕ) (live : (p : ℕ) → In ports p → IsLivePort (change_all c (steps_of w links)) p) where
-    reopening : Reopening (change_all c (steps_of w links)) new ports (change_all c (steps_of w links)) ports
-    reopening = record {
-      listed = λ p i. i;
-      live = live;
-      graph = steps_graph;
-      targets = λ q. refl;
-      opened = λ q i. inl i;
-      others = λ q out. refl;
-    }
+    reopening : Turning (change_all c (steps_of w links)) false ports (change_all c (steps_of w links)) ports
+    reopening = turn_start (change_all c (steps_of w links)) false ports live
 
     events_may : MayStepAll noted c (events_of w links ports)
     events_may =
         let d = change_all c (steps_of w links) in
         may_then noted c (steps_of w links) (map Reopen ports) steps_may
-        (phase_may noted Reopen (Reopening d new ports) (reopen_may d new ports noted) (reopen_next d new ports noted) d ports reopening)
+        (phase_may noted Reopen (Turning d false ports) (turn_may d false ports) (turn_next d false ports) d ports reopening)
 
-    last : Reopening (change_all c (steps_of w links)) new ports (change_all (change_all c (steps_of w links)) (map Reopen ports)) []
+    pub last : Turning (change_all c (steps_of w links)) false ports (change_all (change_all c (steps_of w links)) (map Reopen ports)) []
     last =
         let d = change_all c (steps_of w links) in
-        phase_ends noted Reopen (Reopening d new ports) (reopen_may d new ports noted) (reopen_next d new ports noted) d ports reopening
+        phase_ends noted Reopen (Turning d false ports) (turn_may d false ports) (turn_next d false ports) d ports reopening
 
-    reopens_each : (P : Configuration → Type 0) → ((d : Configuration) (left : List ℕ) → Reopening (change_all c (steps_of w links)) new ports d left → P d) → EachConfig P (change_all c (steps_of w links)) (map Reopen ports)
+    reopens_each : (P : Configuration → Type 0) → ((d : Configuration) (left : List ℕ) → Turning (change_all c (steps_of w links)) false ports d left → P d) → EachConfig P (change_all c (steps_of w links)) (map Reopen ports)
     reopens_each P so =
         let d = change_all c (steps_of w links) in
-        phase_each noted Reopen (Reopening d new ports) (reopen_may d new ports noted) (reopen_next d new ports noted) P so d ports reopening
+        phase_each noted Reopen (Turning d false ports) (turn_may d false ports) (turn_next d false ports) P so d ports reopening
 
     -- at each place, to the last reopening
-    events_each : (P : Configuration → Type 0) → InPhases P c new Touched w → ((d : Configuration) (left : List ℕ) → Reopening (change_all c (steps_of w links)) new ports d left → P d) → EachConfig P c (events_of w links ports)
+    events_each : (P : Configuration → Type 0) → InPhases P c new Touched w → ((d : Configuration) (left : List ℕ) → Turning (change_all c (steps_of w links)) false ports d left → P d) → EachConfig P c (events_of w links ports)
     events_each P h so = each_then P c (steps_of w links) (map Reopen ports) (steps_each P h) (reopens_each P so)
 
     opened_last : (p : ℕ) → In ports p → (gate (change_all c (events_of w links ports)) p).closed ≡ false
     opened_last p i =
         ap (λ d. (gate d p).closed) (after_both c (steps_of w links) (map Reopen ports))
-        ∙ ⊎_elim (λ (j : In [] p). absurd j) (λ (e : (gate (change_all (change_all c (steps_of w links)) (map Reopen ports)) p).closed ≡ false). e) (last.opened p i)
+        ∙ ⊎_elim (λ (j : In [] p). absurd j) (λ (e : (gate (change_all (change_all c (steps_of w links)) (map Reopen ports)) p).closed ≡ false). e) (last.turned p i)
 
     kept_each : (p : ℕ) → p < length c.gates → (Touched (owner c p) → ⊥) → (In ports p → ⊥) → EachConfig (Keeps p) c (events_of w links ports)
     kept_each p low untouched out =
         let d = change_all c (steps_of w links) in
         let there : Keeps p d = each_place (Keeps p) c (steps_of w links) [] (subst (EachConfig (Keeps p) c) (end (steps_of w links)) (steps_each (Keeps p) (keeps_in_phases p low untouched))) in
-        events_each (Keeps p) (keeps_in_phases p low untouched) (λ x left h. record { same_target = h.targets p ∙ there.same_target; same_flag = h.others p out ∙ there.same_flag })
+        events_each (Keeps p) (keeps_in_phases p low untouched) (λ x left h. record { same_target = h.same.targets p ∙ there.same_target; same_flag = h.others p out ∙ there.same_flag })
       where
         end : (es : List Event) → es ≡ es ++ []
         end [] = refl
@@ -207,7 +200,7 @@ module _ (c : Configuration) (new : Graph) (Touched : ℕ → Type 0) (noted : �
         let there : target d p ≡ target c p = (each_place (Keeps p) c (steps_of w links) [] (subst (EachConfig (Keeps p) c) (end (steps_of w links)) (steps_each (Keeps p) h))).same_target in
         events_each (λ x. target x p ≡ target c p)
         (record { unlinking = λ x left y. (h.unlinking x left y).same_target; removing = λ x left y. (h.removing x left y).same_target; making = λ x left y. (h.making x left y).same_target; linking = λ x left y. (h.linking x left y).same_target })
-        (λ x left y. y.targets p ∙ there)
+        (λ x left y. y.same.targets p ∙ there)
       where
         end : (es : List Event) → es ≡ es ++ []
         end [] = refl
@@ -260,7 +253,7 @@ module _ (es : List Event) (new : Graph) (Touched : ℕ → Type 0) (noted : ℕ
     graph_reopening more_ done left is parts =
         let c = (state_after es).config in
         let d = change_all c (steps_of w links) in
-        let each = reopens_each c new Touched noted w links (after_run es run_before) k ports live (λ x. IsGraphOf x new) (λ x xs h. h.graph) in
+        let each = reopens_each c new Touched noted w links (after_run es run_before) k ports live (λ x. IsGraphOf x new) (λ x xs h. same_graph d x new h.same (steps_graph c new Touched noted w links (after_run es run_before) k)) in
         subst (λ x. IsGraphOf x new) (sym (now_is es more_ ∙ ap (change_all c) is ∙ after_both c (steps_of w links) done))
         (each_place (λ x. IsGraphOf x new) d done left (subst (EachConfig (λ x. IsGraphOf x new) d) (sym parts) each))
 
@@ -277,3 +270,10 @@ module _ (es : List Event) (new : Graph) (Touched : ℕ → Type 0) (noted : ℕ
     -- a port that is reopened is open in the end
     pub opened_at : (p : ℕ) → In ports p → (more_ : List Event) → filter is_of_change more_ ≡ events_of w links ports → (gate (state_after (es ++ more_)).config p).closed ≡ false
     opened_at p i more_ is = ap (λ d. (gate d p).closed) (now_is es more_ ∙ ap (change_all (state_after es).config) is) ∙ opened_last (state_after es).config new Touched noted w links (after_run es run_before) k ports live p i
+
+    -- and each node and port is live there that was so after the last link
+    pub same_links : (more_ : List Event) → filter is_of_change more_ ≡ events_of w links ports → SameLinks (change_all (state_after es).config (steps_of w links)) (state_after (es ++ more_)).config
+    same_links more_ is =
+        let c = (state_after es).config in
+        subst (SameLinks (change_all c (steps_of w links))) (sym (now_is es more_ ∙ ap (change_all c) is ∙ after_both c (steps_of w links) (map Reopen ports)))
+        (last c new Touched noted w links (after_run es run_before) k ports live).same

@@ -1,5 +1,5 @@
 -- How changes that are given up end, and how a system stops.
-use Rattle.std.proofs.Common.{◌≡◌, ℕ, ◌<◌, true, false, not, ◌&&◌, List, ◌++◌, length, Some, refl, sym, ap, ◌∙◌, subst, ⊎_elim, arith}
+use Rattle.std.proofs.Common.{◌≡◌, ℕ, ◌<◌, Bool, true, false, not, ◌&&◌, List, ◌++◌, length, Some, refl, sym, ap, ◌∙◌, subst, ⊎_elim, arith}
 use Rattle.std.specs.Prelude.{◌==◌}
 use Rattle.std.specs.List.{list_any}
 use Rattle.std.proofs.lemmas.Bool.{and_parts, both_ways, cases_Bool}
@@ -7,14 +7,14 @@ use Rattle.config_graph.specs.Graph.{Graph}
 use Rattle.config_graph.specs.declared.node.Target.{Target}
 use Rattle.quiesce_core.specs.declared.event.Event.{Event}
 use Rattle.quiesce_core.specs.declared.event.Event.TheVariants.{Begin, Call, Take, Give, End, More, Ask, Hear, Miss, Close, Reopen, Make, Link, Unlink, Remove}
-use Rattle.quiesce_core.specs.Effect.{effect}
+use Rattle.quiesce_core.specs.Effect.{closed, effect}
 use Rattle.quiesce_core.specs.Legal.{Legal}
 use Rattle.quiesce_core.specs.Live.{IsGraphOf}
 use Rattle.quiesce_core.specs.Phases.{is_idle}
 use Rattle.quiesce_core.specs.Reach.{IsPortOf, wiring_of}
 use Rattle.config_graph.specs.Wiring.{Reach}
 use Rattle.quiesce_core.specs.Runs.{IsRun, is_open_after, state_after}
-use Rattle.quiesce_core.specs.State.{State, exchange, gate, is_live, owner, target}
+use Rattle.quiesce_core.specs.State.{Configuration, State, exchange, gate, is_live, owner, target}
 use Rattle.base.proofs.OptionLaws.{Some-from_is_some}
 use Rattle.config_graph.proofs.WiringLaws.{reach_linked}
 use Rattle.quiesce_core.proofs.TableLaws.{gate_place}
@@ -26,8 +26,11 @@ use Rattle.quiescence_laws.proofs.Induction.{along}
 use Rattle.quiescence_laws.proofs.Orders.{open_is_seen}
 use Rattle.commit_laws.specs.Steps.{is_shaping}
 use Rattle.commit_laws.proofs.BetweenLaws.{linked_made}
-use Rattle.commit_laws.proofs.ClosingLaws.{graph_closed}
+use Rattle.commit_laws.proofs.TurningLaws.{same_graph, same_turned}
 use Rattle.commit_laws.proofs.SourceLaws.{owners_live}
+
+turned_graph : (g : Graph) (c : Configuration) (p : ℕ) (flag : Bool) → p < length c.gates → IsGraphOf c g → IsGraphOf (closed c p flag) g
+turned_graph g c p flag made is = same_graph c (closed c p flag) g (same_turned c c p flag made (record { slots = refl; long = refl; owners = λ q. refl; requirements = λ q. refl; targets = λ q. refl })) is
 
 graph_next : (g : Graph) (s : State) (e : Event) → Legal s e → is_shaping e ≡ false → IsGraphOf s.config g → IsGraphOf (effect s e).config g
 graph_next g s (Begin p k v) l h is = is
@@ -39,8 +42,8 @@ graph_next g s (More p k v) l h is = is
 graph_next g s (Ask p k v) l h is = is
 graph_next g s (Hear p k v) l h is = is
 graph_next g s (End p k v) l h is = is
-graph_next g s (Close p) l h is = graph_closed s.config p true (gate_place s p l.live) g is
-graph_next g s (Reopen p) l h is = graph_closed s.config p false (gate_place s p l.live) g is
+graph_next g s (Close p) l h is = turned_graph g s.config p true (gate_place s p l.live) is
+graph_next g s (Reopen p) l h is = turned_graph g s.config p false (gate_place s p l.live) is
 graph_next g s (Make n node from) l h is = absurd (both_ways true h refl)
 graph_next g s (Link p n x) l h is = absurd (both_ways true h refl)
 graph_next g s (Unlink p) l h is = absurd (both_ways true h refl)

@@ -26,7 +26,7 @@ use Rattle.commit_laws.specs.Work.{work_of}
 use Rattle.commit_laws.proofs.CarryingLaws as carrying
 use Rattle.commit_laws.specs.Commits.{IsCommit}
 use Rattle.commit_laws.proofs.PartLaws.{part_of_one}
-use Rattle.commit_laws.proofs.ReopeningLaws.{IsLivePort}
+use Rattle.commit_laws.proofs.TurningLaws.{IsLivePort}
 use Rattle.plan_laws.specs.Commit.{commit_events, commit_steps, is_one_of, new_links, reopens, work}
 use Rattle.plan_laws.specs.Committing.{IsTouchedSlot, MayCommit}
 use Rattle.plan_laws.proofs.PlannedLemmas.{linked_if, old_link}

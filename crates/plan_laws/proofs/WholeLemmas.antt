@@ -12,7 +12,7 @@ use Rattle.commit_laws.specs.Work.{work_of}
 use Rattle.commit_laws.proofs.BetweenLaws.{Ground}
 use Rattle.commit_laws.proofs.CommitLaws.{all_made, made_is}
 use Rattle.commit_laws.proofs.MakingLaws.{Making}
-use Rattle.commit_laws.proofs.ReopeningLaws.{IsLivePort}
+use Rattle.commit_laws.proofs.TurningLaws.{IsLivePort}
 use Rattle.plan_laws.specs.Commit.{is_one_of, new_links, reopens, stands_in, work}
 use Rattle.plan_laws.specs.Committing.{IsTouchedSlot}
 use Rattle.plan_laws.proofs.LinkedLemmas.{are_links}

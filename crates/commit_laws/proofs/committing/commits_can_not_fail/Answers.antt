@@ -3,7 +3,7 @@ use Rattle.quiesce_core.specs.Runs.{state_after}
 use Rattle.commit_laws.specs.Steps.{change_all}
 use Rattle.commit_laws.specs.Work.{steps_of}
 use Rattle.commit_laws.proofs.CarryingLaws.{allowed_at, run_front}
-use Rattle.commit_laws.proofs.ReopeningLaws.{live_port}
+use Rattle.commit_laws.proofs.TurningLaws.{live_port}
 use Rattle.commit_laws.proofs.committing.commits_can_not_fail.Goals as goal
 
 pub returns : goal.returns
