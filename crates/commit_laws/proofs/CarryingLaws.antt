@@ -40,7 +40,7 @@ use Rattle.commit_laws.specs.Commits.{Changed}
 
 -- nothing is reopened before the last phase
 
-append_closed : (p : ℕ) (es fs : List Event) → list_any (reopens p) es ≡ false → list_any (reopens p) fs ≡ false → list_any (reopens p) (es ++ fs) ≡ false
+pub append_closed : (p : ℕ) (es fs : List Event) → list_any (reopens p) es ≡ false → list_any (reopens p) fs ≡ false → list_any (reopens p) (es ++ fs) ≡ false
 append_closed p [] fs h k = k
 append_closed p (e ∷ es) fs h k =
     let parts = or_parts (reopens p e) (list_any (reopens p) es) h in
@@ -52,7 +52,7 @@ front_closed p (e ∷ es) fs h =
     let parts = or_parts (reopens p e) (list_any (reopens p) (es ++ fs)) h in
     ap (λ b. b || list_any (reopens p) es) parts.0 ∙ front_closed p es fs parts.1
 
-map_closed : {A : Type 0} (p : ℕ) (f : A → Event) → ((x : A) → reopens p (f x) ≡ false) → (xs : List A) → list_any (reopens p) (map f xs) ≡ false
+pub map_closed : {A : Type 0} (p : ℕ) (f : A → Event) → ((x : A) → reopens p (f x) ≡ false) → (xs : List A) → list_any (reopens p) (map f xs) ≡ false
 map_closed p f h [] = refl
 map_closed p f h (x ∷ xs) = ap (λ b. b || list_any (reopens p) (map f xs)) (h x) ∙ map_closed p f h xs
 
@@ -62,23 +62,40 @@ steps_closed w links p = append_closed p (work_of w) (map link_of links)
     (append_closed p (map Remove w.removes) (map make_of w.makes) (map_closed p Remove (λ x. refl) w.removes) (map_closed p make_of (λ x. refl) w.makes)))
     (map_closed p link_of (λ x. refl) links)
 
-in_reopens : (ports : List ℕ) (done : List Event) (e : Event) (left : List Event) → done ++ e ∷ left ≡ map Reopen ports → (q : ℕ) × (e ≡ Reopen q)
-in_reopens [] [] e left h = absurd (cc (h))
-in_reopens [] (d ∷ done) e left h = absurd (cc (h))
-in_reopens (r ∷ ports) [] e left h = let same : e ≡ Reopen r = cc (h) in (r, same)
-in_reopens (r ∷ ports) (d ∷ done) e left h = let rest : done ++ e ∷ left ≡ map Reopen ports = cc (h) in in_reopens ports done e left rest
+-- an event that stands among events each of which is a reopening
+in_reopens : {A : Type 0} (f : A → Event) → ((x : A) → (q : ℕ) × (f x ≡ Reopen q)) → (xs : List A) (done : List Event) (e : Event) (left : List Event) → done ++ e ∷ left ≡ map f xs → (q : ℕ) × (e ≡ Reopen q)
+in_reopens f is [] [] e left h = absurd (cc (h))
+in_reopens f is [] (d ∷ done) e left h = absurd (cc (h))
+in_reopens f is (x ∷ xs) [] e left h = let same : e ≡ f x = cc (h) in let w = is x in (w.0, same ∙ w.1)
+in_reopens f is (x ∷ xs) (d ∷ done) e left h = let rest : done ++ e ∷ left ≡ map f xs = cc (h) in in_reopens f is xs done e left rest
 
-before_reopens : (steps : List Event) (ports : List ℕ) (done : List Event) (e : Event) (left : List Event) → done ++ e ∷ left ≡ steps ++ map Reopen ports → ((p : ℕ) → list_any (reopens p) steps ≡ false)
-    → ((q : ℕ) × (e ≡ Reopen q)) ⊎ ((p : ℕ) → list_any (reopens p) done ≡ false)
-before_reopens [] ports done e left h k = inl (in_reopens ports done e left h)
-before_reopens (s ∷ steps) ports [] e left h k = inr (λ p. refl)
-before_reopens (s ∷ steps) ports (d ∷ done) e left h k =
+-- where reopenings stand at the end alone, an event is one of them, or none came before it
+pub before_reopens : {A : Type 0} (f : A → Event) → ((x : A) → (q : ℕ) × (f x ≡ Reopen q)) → (steps : List Event) (xs : List A) (done : List Event) (e : Event) (left : List Event)
+    → done ++ e ∷ left ≡ steps ++ map f xs → ((p : ℕ) → list_any (reopens p) steps ≡ false) → ((q : ℕ) × (e ≡ Reopen q)) ⊎ ((p : ℕ) → list_any (reopens p) done ≡ false)
+before_reopens f is [] xs done e left h k = inl (in_reopens f is xs done e left h)
+before_reopens f is (s ∷ steps) xs [] e left h k = inr (λ p. refl)
+before_reopens f is (s ∷ steps) xs (d ∷ done) e left h k =
     let same : d ≡ s = cc (h) in
-    let rest : done ++ e ∷ left ≡ steps ++ map Reopen ports = cc (h) in
+    let rest : done ++ e ∷ left ≡ steps ++ map f xs = cc (h) in
     ⊎_elim
     (λ (w : (q : ℕ) × (e ≡ Reopen q)). inl w)
     (λ (w : (p : ℕ) → list_any (reopens p) done ≡ false). inr (λ p. ap (λ b. b || list_any (reopens p) done) (ap (reopens p) same ∙ (or_parts (reopens p s) (list_any (reopens p) steps) (k p)).0) ∙ w p))
-    (before_reopens steps ports done e left rest (λ p. (or_parts (reopens p s) (list_any (reopens p) steps) (k p)).1))
+    (before_reopens f is steps xs done e left rest (λ p. (or_parts (reopens p s) (list_any (reopens p) steps) (k p)).1))
+
+-- Steps that may be made, with reopenings at the end alone: each is allowed after those before it, whatever nodes do in between.
+pub allowed_in_order : {A : Type 0} (f : A → Event) → ((x : A) → (q : ℕ) × (f x ≡ Reopen q)) → (noted : ℕ → Bool) (es : List Event) → ((p : ℕ) → noted p ≡ true → is_drained (state_after es) p ≡ true)
+    → (steps : List Event) (xs : List A) → ((p : ℕ) → list_any (reopens p) steps ≡ false) → MayStepAll noted (state_after es).config (steps ++ map f xs)
+    → (more_ left : List Event) (e : Event) → IsRun (es ++ more_) → filter is_of_change more_ ++ e ∷ left ≡ steps ++ map f xs → denial (state_after (es ++ more_)) e ≡ None
+allowed_in_order f of noted es drained steps xs unopened all_may more_ left e run is =
+    let c = (state_after es).config in
+    let may = subst (MayStepAll noted c) (sym is) all_may in
+    ⊎_elim
+    (λ (q : (q : ℕ) × (e ≡ Reopen q)).
+    let here = may_at noted c (filter is_of_change more_) (Reopen q.0) left (subst (λ g. MayStepAll noted c (filter is_of_change more_ ++ g ∷ left)) q.1 may) in
+    ap (denial (state_after (es ++ more_))) q.1
+    ∙ step_allowed (λ x. false) (es ++ more_) run (λ x h. absurd (both_ways false refl h)) (Reopen q.0) (subst (λ d. MayStep (λ x. false) d (Reopen q.0)) (sym (now_is es more_)) here))
+    (λ (closed_ : (p : ℕ) → list_any (reopens p) (filter is_of_change more_) ≡ false). allowed_meanwhile noted es more_ left e run drained closed_ may)
+    (before_reopens f of steps xs (filter is_of_change more_) e left is unopened)
 
 -- what holds of the configuration after each run
 pub record IsAfterRun (c : Configuration) : Type 0 where
@@ -229,16 +246,7 @@ module _ (es : List Event) (new : Graph) (Touched : ℕ → Type 0) (noted : ℕ
     -- each event is allowed after those before it
     pub allowed_at : (ports : List ℕ) → ((p : ℕ) → In ports p → IsLivePort (change_all (state_after es).config (steps_of w links)) p)
         → (more_ left : List Event) (e : Event) → IsRun (es ++ more_) → filter is_of_change more_ ++ e ∷ left ≡ events_of w links ports → denial (state_after (es ++ more_)) e ≡ None
-    allowed_at ports live more_ left e run is =
-        let c = (state_after es).config in
-        let may = subst (MayStepAll noted c) (sym is) (events_may c new Touched noted w links (after_run es run_before) k ports live) in
-        ⊎_elim
-        (λ (q : (q : ℕ) × (e ≡ Reopen q)).
-        let here = may_at noted c (filter is_of_change more_) (Reopen q.0) left (subst (λ f. MayStepAll noted c (filter is_of_change more_ ++ f ∷ left)) q.1 may) in
-        ap (denial (state_after (es ++ more_))) q.1
-        ∙ step_allowed (λ x. false) (es ++ more_) run (λ x h. absurd (both_ways false refl h)) (Reopen q.0) (subst (λ d. MayStep (λ x. false) d (Reopen q.0)) (sym (now_is es more_)) here))
-        (λ (closed_ : (p : ℕ) → list_any (reopens p) (filter is_of_change more_) ≡ false). allowed_meanwhile noted es more_ left e run drained closed_ may)
-        (before_reopens (steps_of w links) ports (filter is_of_change more_) e left is (steps_closed w links))
+    allowed_at ports live = allowed_in_order Reopen (λ p. (p, refl)) noted es drained (steps_of w links) ports (steps_closed w links) (events_may (state_after es).config new Touched noted w links (after_run es run_before) k ports live)
 
   -- once the last link is made, the graph is the new one
   pub graph_linked : (more_ : List Event) → filter is_of_change more_ ≡ steps_of w links → IsGraphOf (state_after (es ++ more_)).config new

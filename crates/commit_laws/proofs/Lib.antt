@@ -13,5 +13,6 @@ pub mod PartLaws
 pub mod PhaseLaws
 pub mod RemovingLaws
 pub mod SourceLaws
+pub mod StartingLaws
 pub mod TurningLaws
 pub mod UnlinkingLaws
