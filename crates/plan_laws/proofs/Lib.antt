@@ -1,3 +1,4 @@
+pub mod GateLemmas
 pub mod LinkedLemmas
 pub mod PlannedLemmas
 pub mod ReadyLemmas

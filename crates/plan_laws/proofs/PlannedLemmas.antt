@@ -1,9 +1,9 @@
 -- What a plan removes, makes and unlinks, by slots and ports of the configuration whose graph is the old one.
-use Rattle.std.proofs.Common.{◌≡◌, ℕ, zero, suc, ◌+◌, true, ◌&&◌, List, [], ◌∷◌, length, Option, Some, None, refl, sym, ap, ◌∙◌, subst, inl, inr, ⊎_elim, arith, Contains}
+use Rattle.std.proofs.Common.{◌≡◌, ℕ, suc, ◌+◌, true, ◌&&◌, List, [], ◌∷◌, length, Option, Some, None, refl, sym, ap, ◌∙◌, subst, inl, inr, ⊎_elim, arith, Contains}
 use Rattle.std.specs.Prelude.{◌⊎◌, ◌==◌, find, slice_get, unwrap_or, option_map, option_and_then}
 use Rattle.std.specs.List.{range_with_len}
 use Rattle.std.proofs.lemmas.Bool.{and_from, and_parts, eq-eqb, eqb-true}
-use Rattle.std.proofs.lemmas.List.Elements.{All-contains, Contains-append_right, Contains-get_or}
+use Rattle.std.proofs.lemmas.List.Elements.{All-contains}
 use Rattle.std.proofs.lemmas.Option.{same_Some, slice_get_within}
 use Rattle.change_plan.specs.Differences.{IsGone, IsKeptLink, IsTwin, link_port}
 use Rattle.config_graph.specs.declared.node.Port.{Port}
@@ -42,7 +42,7 @@ use Rattle.commit_laws.specs.Lists.{Apart, In}
 use Rattle.commit_laws.specs.Work.{AreNumbered, NewNode}
 use Rattle.commit_laws.proofs.BetweenLaws.{linked_made}
 use Rattle.commit_laws.proofs.MakingLaws.{argument_test}
-use Rattle.plan_laws.proofs.SelectingLemmas.{selects_apart, any_if, any_of, select, select_apart, selected}
+use Rattle.plan_laws.proofs.SelectingLemmas.{contains_in, in_contains, selects_apart, any_if, any_of, select, select_apart, selected}
 use Rattle.plan_laws.proofs.StandingLemmas.{in_if_stands, one_port, one_slot, stands_if_in, stands_if_live, stands_if_slot, stands_live_at}
 use Rattle.commit_laws.specs.Commits.{Differ, IsToRemove, IsToUnlink, IsWork, OtherPath, OtherSource}
 
@@ -252,17 +252,6 @@ module _ (old new : Graph) (plan : Plan) (c : Configuration) (ready : IsReady ol
 
   create_gone : (j : ℕ) → Contains plan.create j → IsGone new old j
   create_gone j h = All-contains (IsGone new old) plan.create j (Selects-only (IsGone new old) (range_with_len 0 (length new.nodes)) plan.create ready.steps.create) h
-
-  in_contains : (js : List ℕ) (j : ℕ) → In js j → Contains js j
-  in_contains [] j h = absurd h
-  in_contains (i ∷ js) j h = ⊎_elim
-      (λ (here : i ≡ j). subst (Contains (i ∷ js)) here (Contains-get_or (i ∷ js) 0 i (omega arith)))
-      (λ (later : In js j). Contains-append_right (i ∷ []) js j (in_contains js j later)) h
-
-  contains_in : (js : List ℕ) (j : ℕ) → Contains js j → In js j
-  contains_in [] j h = absurd (omega (arith, h.1))
-  contains_in (i ∷ js) j (zero, low, same) = inl same
-  contains_in (i ∷ js) j (suc k, low, same) = inr (contains_in js j (k, omega arith, same))
 
   node_is : (g : Graph) (i : ℕ) (node : Node) → slice_get g.nodes i ≡ Some node → node_at g i ≡ node
   node_is g i node e = ap (λ o. unwrap_or o (record { path = []; kind = Fork; arg = None })) e

@@ -26,7 +26,7 @@ use Rattle.commit_laws.specs.Work.{work_of}
 use Rattle.commit_laws.proofs.CarryingLaws as carrying
 use Rattle.commit_laws.specs.Commits.{IsCommit}
 use Rattle.commit_laws.proofs.PartLaws.{part_of_one}
-use Rattle.commit_laws.proofs.TurningLaws.{IsLivePort}
+use Rattle.commit_laws.proofs.TurningLaws.{IsLivePort, SameLinks}
 use Rattle.plan_laws.specs.Commit.{commit_events, commit_steps, is_one_of, new_links, reopens, work}
 use Rattle.plan_laws.specs.Committing.{IsTouchedSlot, MayCommit}
 use Rattle.plan_laws.proofs.PlannedLemmas.{linked_if, old_link}
@@ -140,3 +140,12 @@ module _ (old new : Graph) (moves : List Move) (plan : Plan) (es : List Event) (
       let w = work old new plan c in
       carrying.opened_at es new (IsTouchedSlot old new c) (is_noted_in old plan c) w (new_links new plan (change_all c (work_of w))) may.run whole
       (reopens old plan c (change_all c (commit_steps old new plan c))) reopens_live p i more_ is
+
+  -- each node and port is live after the commit that was so after the last link
+  pub same_links : (more_ : List Event) → filter is_of_change more_ ≡ commit_events old new plan (state_after es).config
+      → SameLinks (change_all (state_after es).config (commit_steps old new plan (state_after es).config)) (state_after (es ++ more_)).config
+  same_links more_ is =
+      let c = (state_after es).config in
+      let w = work old new plan c in
+      carrying.same_links es new (IsTouchedSlot old new c) (is_noted_in old plan c) w (new_links new plan (change_all c (work_of w))) may.run whole
+      (reopens old plan c (change_all c (commit_steps old new plan c))) reopens_live more_ is

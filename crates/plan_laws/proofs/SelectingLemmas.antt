@@ -4,6 +4,7 @@ use Rattle.std.specs.Prelude.{filter, filter_map, slice_get}
 use Rattle.std.specs.List.{list_any, range_with_len}
 use Rattle.change_plan.specs.Selects.{Selects}
 use Rattle.change_plan.specs.Selects.Selects.{ends, takes, skips}
+use Rattle.std.proofs.lemmas.List.Elements.{Contains-append_right, Contains-get_or}
 use Rattle.std.proofs.lemmas.Bool.{both_ways, cases_Bool, cases_eq, or_left, or_right}
 use Rattle.base.proofs.ContainsLaws.{Contains-at, at_some_place}
 use Rattle.commit_laws.specs.Lists.{Apart, In}
@@ -128,3 +129,16 @@ rising_apart a (x ∷ xs) h = (λ y i same. (let m = rising_above (x + 1) xs h.1
 
 pub selects_apart : (P : ℕ → Type 0) (n : ℕ) (js : List ℕ) → Selects P (range_with_len 0 n) js → Apart Differ js
 selects_apart P n js s = rising_apart 0 js (rising_part P (range_with_len 0 n) js s 0 (rising_range 0 n))
+
+-- members, told twice
+
+pub in_contains : (js : List ℕ) (j : ℕ) → In js j → Contains js j
+in_contains [] j h = absurd h
+in_contains (i ∷ js) j h = ⊎_elim
+    (λ (here : i ≡ j). subst (Contains (i ∷ js)) here (Contains-get_or (i ∷ js) 0 i (omega arith)))
+    (λ (later : In js j). Contains-append_right (i ∷ []) js j (in_contains js j later)) h
+
+pub contains_in : (js : List ℕ) (j : ℕ) → Contains js j → In js j
+contains_in [] j h = absurd (omega (arith, h.1))
+contains_in (i ∷ js) j (zero, low, same) = inl same
+contains_in (i ∷ js) j (suc k, low, same) = inr (contains_in js j (k, omega arith, same))

@@ -79,6 +79,10 @@ new_link_of new plan d p = option_and_then (new_link new d p) (find (is_link_of 
 abbrev pub new_links : Graph → Plan → Configuration → List NewLink
 new_links new plan d = filter_map (new_link_of new plan d) (range_with_len 0 (length d.gates))
 
+-- the ports that are closed for the change: those of frozen nodes
+abbrev pub closes : Graph → Plan → Configuration → List ℕ
+closes old plan c = ports_where (λ p. is_one_of old plan.freeze c (owner c p)) c
+
 -- up to the last link
 abbrev pub commit_steps : Graph → Graph → Plan → Configuration → List Event
 commit_steps old new plan c =

@@ -7,17 +7,24 @@ ghost use Rattle.change_plan.specs.declared.plan_data.Move.{Move};
 ghost use Rattle.change_plan.specs.declared.plan_data.Plan.{Plan};
 ghost use Rattle.config_graph.specs.Graph.{Graph};
 ghost use Rattle.quiesce_core.specs.declared.event.Event.{Event};
-ghost use Rattle.quiesce_core.specs.declared.event.Event.TheVariants.{Reopen};
+ghost use Rattle.quiesce_core.specs.declared.event.Event.TheVariants.{Close, Reopen};
 ghost use Rattle.quiesce_core.specs.Doers.{is_of_change};
 ghost use Rattle.quiesce_core.specs.Live.{IsGraphOf, StandsAt};
 ghost use Rattle.quiesce_core.specs.Rules.{denial};
 ghost use Rattle.quiesce_core.specs.Runs.{IsRun, state_after};
 ghost use Rattle.quiesce_core.specs.Settled.{Quiescent, Settled};
-ghost use Rattle.quiesce_core.specs.State.{gate, is_live, owner, target};
+ghost use Rattle.quiesce_core.specs.State.{Configuration, gate, is_live, owner, target};
 ghost use Rattle.commit_laws.specs.Fitting.{IsPart};
 ghost use Rattle.commit_laws.specs.Steps.{change_all};
-ghost use Rattle.plan_laws.specs.Commit.{commit_events, commit_steps, is_one_of, reopens};
+ghost use Rattle.plan_laws.specs.Commit.{closes, commit_events, commit_steps, is_one_of, reopens};
 ghost use Rattle.plan_laws.specs.Committing.{MayCommit};
+
+/// The gates of frozen nodes, and no others, may be closed one after the other, whatever nodes do in between.
+pub fn what_is_frozen_may_be_closed()
+    ensures allowed { (old : Graph) (plan : Plan) (es more_ left : List Event) (e : Event) → IsRun (es ++ more_)
+        → filter is_of_change more_ ++ e ∷ left ≡ map Close (closes old plan (state_after es).config) → denial (state_after (es ++ more_)) e ≡ None }
+    ensures no_others { (old : Graph) (plan : Plan) (c : Configuration) (p : ℕ) → is_one_of old plan.freeze c (owner c p) ≡ false → ¬ Contains (closes old plan c) p }
+{}
 
 /// Each event of a plan's commit is allowed after those before it, whatever nodes do in between.
 pub fn commits_can_not_fail()
@@ -60,4 +67,13 @@ pub fn what_is_not_frozen_is_left()
         → p < length (state_after es).config.gates → is_one_of old plan.freeze (state_after es).config (owner (state_after es).config p) ≡ false
         → filter is_of_change more_ ++ left ≡ commit_events old new plan (state_after es).config
         → (gate (state_after (es ++ more_)).config p).closed ≡ (gate (state_after es).config p).closed }
+{}
+
+/// After the commit each gate of a live node is open that was open before the closes, or that is new.
+pub fn gates_are_open_again()
+    ensures { (old new : Graph) (moves : List Move) (plan : Plan) (before between more_ : List Event) (p : ℕ) → MayCommit old new moves plan (before ++ between)
+        → filter is_of_change between ≡ map Close (closes old plan (state_after before).config)
+        → filter is_of_change more_ ≡ commit_events old new plan (state_after (before ++ between)).config
+        → p < length (state_after (before ++ between ++ more_)).config.gates → IsTrue (is_live (state_after (before ++ between ++ more_)).config (owner (state_after (before ++ between ++ more_)).config p))
+        → (p < length (state_after before).config.gates → (gate (state_after before).config p).closed ≡ false) → (gate (state_after (before ++ between ++ more_)).config p).closed ≡ false }
 {}
