@@ -1,3 +1,5 @@
+pub mod BankLemmas
+pub mod ChainLemmas
 pub mod GateLemmas
 pub mod LinkedLemmas
 pub mod PlannedLemmas

@@ -2,8 +2,10 @@
 #![tactic(auto)]
 
 mod committing;
+mod worked;
 
 pub use committing::{
     commits_can_not_fail, commits_leave_the_new_graph, gates_are_open_again,
     touched_nodes_are_quiescent, what_is_frozen_may_be_closed, what_is_not_frozen_is_left,
 };
+pub use worked::{a_change_may_commit, freezing_less_is_denied};
