@@ -1,11 +1,11 @@
--- The table of kinds: how many services and requirements a kind has, and which of them depend on which.
+-- The table of kinds: how many services and requirements a kind has, which of them depend on which, and how much a service does.
 use Rattle.std.proofs.Common.{◌≡◌, ℕ, zero, suc, Some, true, false, refl}
 use Rattle.std.proofs.lemmas.Bool.{both_ways}
 use Rattle.std.proofs.Math.Bool.{or-false}
-use Rattle.config_graph.specs.Kinds.{row, kind_named, depends_on, is_depended_on}
+use Rattle.config_graph.specs.Kinds.{row, kind_named, calls_of, depends_on, is_depended_on, mores_of}
 use Rattle.config_graph.specs.declared.kind.Kind.{Kind}
 use Rattle.config_graph.specs.declared.kind.Kind.TheVariants.{Philosopher, Place, Fork, Source, Map, Buffer, Sink, Teller, Branch, Account, Asker, Adder}
-use Rattle.std.proofs.Common.{◌≤◌, arith, length}
+use Rattle.std.proofs.Common.{◌≤◌, ◌<◌, arith, length}
 
 -- each kind is found by its name
 pub kind_named-name : (k : Kind) → kind_named (row k).name ≡ Some k
@@ -83,3 +83,71 @@ two_requires Branch = omega arith
 two_requires Account = omega arith
 two_requires Asker = omega arith
 two_requires Adder = omega arith
+
+-- a service makes few calls and few intermediate replies
+pub few_calls : (k : Kind) (x : ℕ) → calls_of k x ≤ 4
+few_calls Philosopher x = omega arith
+few_calls Place zero = omega arith
+few_calls Place (suc x) = omega arith
+few_calls Fork zero = omega arith
+few_calls Fork (suc x) = omega arith
+few_calls Source x = omega arith
+few_calls Map zero = omega arith
+few_calls Map (suc x) = omega arith
+few_calls Buffer zero = omega arith
+few_calls Buffer (suc x) = omega arith
+few_calls Sink zero = omega arith
+few_calls Sink (suc x) = omega arith
+few_calls Teller x = omega arith
+few_calls Branch zero = omega arith
+few_calls Branch (suc x) = omega arith
+few_calls Account zero = omega arith
+few_calls Account (suc x) = omega arith
+few_calls Asker x = omega arith
+few_calls Adder zero = omega arith
+few_calls Adder (suc x) = omega arith
+
+pub few_mores : (k : Kind) (x : ℕ) → mores_of k x ≤ 1
+few_mores Philosopher x = omega arith
+few_mores Place zero = omega arith
+few_mores Place (suc x) = omega arith
+few_mores Fork zero = omega arith
+few_mores Fork (suc x) = omega arith
+few_mores Source x = omega arith
+few_mores Map zero = omega arith
+few_mores Map (suc x) = omega arith
+few_mores Buffer zero = omega arith
+few_mores Buffer (suc x) = omega arith
+few_mores Sink zero = omega arith
+few_mores Sink (suc x) = omega arith
+few_mores Teller x = omega arith
+few_mores Branch zero = omega arith
+few_mores Branch (suc x) = omega arith
+few_mores Account zero = omega arith
+few_mores Account (suc x) = omega arith
+few_mores Asker x = omega arith
+few_mores Adder zero = omega arith
+few_mores Adder (suc x) = omega arith
+
+-- what a kind provides depends on all that it requires, but for a buffer's
+pub depends_on_all : (k : Kind) (x r : ℕ) → x < length (row k).provides → r < length (row k).requires_ → (k ≡ Buffer → ⊥) → depends_on k x r ≡ true
+depends_on_all Philosopher x r h i other = absurd (omega (arith, h))
+depends_on_all Place zero zero h i other = refl
+depends_on_all Place zero (suc zero) h i other = refl
+depends_on_all Place zero (suc (suc r)) h i other = absurd (omega (arith, i))
+depends_on_all Place (suc x) r h i other = absurd (omega (arith, h))
+depends_on_all Fork x r h i other = absurd (omega (arith, i))
+depends_on_all Source x r h i other = absurd (omega (arith, h))
+depends_on_all Map zero zero h i other = refl
+depends_on_all Map zero (suc r) h i other = absurd (omega (arith, i))
+depends_on_all Map (suc x) r h i other = absurd (omega (arith, h))
+depends_on_all Buffer x r h i other = absurd (other refl)
+depends_on_all Sink x r h i other = absurd (omega (arith, i))
+depends_on_all Teller x r h i other = absurd (omega (arith, h))
+depends_on_all Branch zero zero h i other = refl
+depends_on_all Branch zero (suc zero) h i other = refl
+depends_on_all Branch zero (suc (suc r)) h i other = absurd (omega (arith, i))
+depends_on_all Branch (suc x) r h i other = absurd (omega (arith, h))
+depends_on_all Account x r h i other = absurd (omega (arith, i))
+depends_on_all Asker x r h i other = absurd (omega (arith, h))
+depends_on_all Adder x r h i other = absurd (omega (arith, i))

@@ -25,7 +25,7 @@ use Rattle.drain_laws.proofs.Belonging.{member_belongs, open_parts}
 use Rattle.drain_laws.proofs.Carrying.{serials_grow, none_starts}
 use Rattle.drain_laws.proofs.Emptiness.{none_belongs}
 use Rattle.drain_laws.proofs.Portions.{part_next, part_of_all}
-use Rattle.quiesce_core.proofs.RunPartLaws.{StepAt, run_parts}
+use Rattle.quiesce_core.proofs.RunLaws.{StepAt, run_parts}
 use Rattle.drain_laws.proofs.Steps.{rest_falls, rest_stays}
 
 bound_from : (old : State) (before es : List Event) → EachAfter StepAt before es → IsWellFormed (state_after before) → IsConsistent (state_after before)

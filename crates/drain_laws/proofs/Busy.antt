@@ -6,10 +6,10 @@ use Rattle.std.proofs.lemmas.List.{get_or_past}
 use Rattle.config_graph.specs.declared.node.Target.{Target}
 use Rattle.quiesce_core.specs.declared.state.Exchange.{Exchange}
 use Rattle.quiesce_core.specs.declared.state.Service.{Service}
-use Rattle.quiesce_core.specs.declared.state.Phase.{Phase}
-use Rattle.quiesce_core.specs.declared.state.Phase.TheVariants as phase
+use Rattle.gate_word.specs.declared.phase.Phase.{Phase}
+use Rattle.gate_word.specs.declared.phase.Phase.TheVariants as phase
 use Rattle.quiesce_core.specs.State.{State, fresh_exchange, is_live, owner, target, exchange, service}
-use Rattle.quiesce_core.specs.Phases.{is_idle, is_asked, is_answered, is_in_more}
+use Rattle.gate_word.specs.Phases.{is_idle, is_asked, is_answered, is_in_more}
 use Rattle.quiesce_core.specs.Rules.{is_live_port, is_taken}
 use Rattle.quiesce_core.specs.WellFormed.{IsWellFormed}
 use Rattle.quiesce_core.specs.Traffic.{IsConsistent}
@@ -35,7 +35,7 @@ busy_made s p w busy = ⊎_elim (λ (h : p < length s.config.gates). h)
     (cases_lt p (length s.config.gates))
 
 -- its owner is live
-pub busy_live : (s : State) (p : ℕ) → IsWellFormed s → IsConsistent s → is_idle (exchange s p).phase ≡ false → is_live_port s p ≡ true
+pub busy_live : (s : State) (p : ℕ) → IsWellFormed s → IsConsistent s → is_idle (exchange s p).phase ≡ false → is_live_port s.config p ≡ true
 busy_live s p w k busy =
     and_from (nat_lt p (length s.config.gates)) (is_live s.config (owner s.config p)) (lt-ltb p (length s.config.gates) (busy_made s p w busy))
     (true_from_ne_false (is_live s.config (owner s.config p)) (λ gone.

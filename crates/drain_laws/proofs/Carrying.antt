@@ -6,11 +6,11 @@ use Rattle.std.proofs.lemmas.Bool.{and_parts, and_right, both_ways, cases_eq, co
 use Rattle.quiesce_core.specs.declared.event.Event.{Event}
 use Rattle.quiesce_core.specs.declared.event.Event.TheVariants.{Begin, Call, Take, Give, End, More, Ask, Hear, Miss, Close, Reopen, Make, Link, Unlink, Remove}
 use Rattle.quiesce_core.specs.declared.state.Exchange.{Exchange}
-use Rattle.quiesce_core.specs.declared.state.Phase.TheVariants as phase
+use Rattle.gate_word.specs.declared.phase.Phase.TheVariants as phase
 use Rattle.quiesce_core.specs.declared.state.Service.{Service}
 use Rattle.config_graph.specs.Kinds.{row}
 use Rattle.quiesce_core.specs.State.{State, fresh_exchange, owner, exchange, service, target_service}
-use Rattle.quiesce_core.specs.Phases.{is_idle}
+use Rattle.gate_word.specs.Phases.{is_idle}
 use Rattle.quiesce_core.specs.Effect.{with_exchange, with_target_service, with_call, effect}
 use Rattle.quiesce_core.specs.Legal.{Legal}
 use Rattle.quiesce_core.specs.Rules.{is_next_serial}

@@ -8,10 +8,10 @@ use Rattle.config_graph.specs.declared.node.Target.{Target}
 use Rattle.quiesce_core.specs.declared.event.Event.TheVariants.{Begin, Call, Take, Give, End, More, Ask, Hear, Miss}
 use Rattle.quiesce_core.specs.declared.state.Exchange.{Exchange}
 use Rattle.quiesce_core.specs.declared.state.Service.{Service}
-use Rattle.quiesce_core.specs.declared.state.Phase.{Phase}
-use Rattle.quiesce_core.specs.declared.state.Phase.TheVariants as phase
+use Rattle.gate_word.specs.declared.phase.Phase.{Phase}
+use Rattle.gate_word.specs.declared.phase.Phase.TheVariants as phase
 use Rattle.quiesce_core.specs.State.{Traffic, State, owner, target, provision, calls_allowed, mores_allowed, depends, exchange, service, target_service}
-use Rattle.quiesce_core.specs.Phases.{is_idle, is_asked, is_answered, is_in_more}
+use Rattle.gate_word.specs.Phases.{is_idle, is_asked, is_answered, is_in_more}
 use Rattle.quiesce_core.specs.Effect.{with_exchange, with_service, with_target_service, effect}
 use Rattle.quiesce_core.specs.Legal.{Legal}
 use Rattle.quiesce_core.specs.Rest.{full, call_events, events_through, messages_due}
@@ -214,7 +214,7 @@ pub record Calling (s : State) (p : ℕ) : Type 0 where
   pub falls : left (with_service s (owner s.config p) (Some (record serving { calls = serving.calls + 1 }))) serving.port + events_through s.config p ≤ left s serving.port
   pub others : (q : ℕ) → (q ≡ serving.port → ⊥) → left (with_service s (owner s.config p) (Some (record serving { calls = serving.calls + 1 }))) q ≡ left s q
 
-calling : (s : State) (p : ℕ) → IsWellFormed s → IsConsistent s → is_live_port s p ≡ true → serves_through s (owner s.config p) p ≡ true → has_calls_left s (owner s.config p) ≡ true → Calling s p
+calling : (s : State) (p : ℕ) → IsWellFormed s → IsConsistent s → is_live_port s.config p ≡ true → serves_through s (owner s.config p) p ≡ true → has_calls_left s (owner s.config p) ≡ true → Calling s p
 calling s p w c live through calls =
     let n = owner s.config p in
     let served = map_or_true (λ (v : Service). nat_lt v.calls (calls_allowed s.config n (provision s.config v.port))) (service s n) calls in

@@ -9,7 +9,7 @@ use Rattle.quiesce_core.specs.declared.event.Event.{Event}
 use Rattle.quiesce_core.specs.declared.event.Event.TheVariants.{Take, Give, End, Ask, Hear}
 use Rattle.quiesce_core.specs.declared.state.Service.{Service}
 use Rattle.quiesce_core.specs.State.{State, owner, target, provision, ports_of, depends, exchange, service}
-use Rattle.quiesce_core.specs.Phases.{is_idle, is_asked, is_answered, is_in_more}
+use Rattle.gate_word.specs.Phases.{is_idle, is_asked, is_answered, is_in_more}
 use Rattle.quiesce_core.specs.Reach.{can_walk}
 use Rattle.quiesce_core.specs.Rules.{is_called_within, was_heard, denial}
 use Rattle.quiesce_core.specs.Runs.{IsRun, state_after}

@@ -7,11 +7,11 @@ use Rattle.config_graph.specs.Kinds.{row}
 use Rattle.quiesce_core.specs.declared.event.Event.{Event}
 use Rattle.quiesce_core.specs.declared.event.Event.TheVariants.{Begin, Call, Take, Give, End, More, Ask, Hear, Miss, Close, Reopen, Make, Link, Unlink, Remove}
 use Rattle.quiesce_core.specs.declared.state.Exchange.{Exchange}
-use Rattle.quiesce_core.specs.declared.state.Phase.TheVariants as phase
+use Rattle.gate_word.specs.declared.phase.Phase.TheVariants as phase
 use Rattle.quiesce_core.specs.declared.state.Service.{Service}
 use Rattle.quiesce_core.specs.State.{State, fresh_exchange, owner, exchange, service, target_service}
 use Rattle.base.specs.Each.{EachAfter}
-use Rattle.quiesce_core.specs.Phases.{is_idle}
+use Rattle.gate_word.specs.Phases.{is_idle}
 use Rattle.quiesce_core.specs.Effect.{with_exchange, with_target_service, with_call, effect}
 use Rattle.quiesce_core.specs.Legal.{Legal}
 use Rattle.quiesce_core.specs.Runs.{IsRun, HasRoot, root, consequent, state_after}
@@ -26,7 +26,7 @@ use Rattle.drain_laws.specs.Belongs as mine
 use Rattle.drain_laws.specs.Belongs.{Transactions, Belongs, belongs, one, open_in}
 use Rattle.drain_laws.proofs.Belonging.{belongs_is_found, open_parts}
 use Rattle.drain_laws.proofs.Carrying.{Untouched, keeps, next_is, serials_grow}
-use Rattle.quiesce_core.proofs.RunPartLaws.{StepAt, run_parts}
+use Rattle.quiesce_core.proofs.RunLaws.{StepAt, run_parts}
 use Rattle.quiesce_core.proofs.StateLaws.{more_busy, serving_busy, exchange_here, exchange_there, idle_unserved, taken_busy}
 use Rattle.base.proofs.PlaceLaws.{fresh_behind}
 

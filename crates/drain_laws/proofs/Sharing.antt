@@ -6,7 +6,7 @@ use Rattle.std.proofs.lemmas.Bool.{cases_eq, cond-true, cond-false, eq-eqb, ne_e
 use Rattle.quiesce_core.specs.declared.event.Event.{Event}
 use Rattle.quiesce_core.specs.declared.event.Event.TheVariants.{Begin, Call}
 use Rattle.quiesce_core.specs.State.{Traffic, State, exchange}
-use Rattle.quiesce_core.specs.Phases.{is_idle}
+use Rattle.gate_word.specs.Phases.{is_idle}
 use Rattle.quiesce_core.specs.Rest.{full, rest}
 use Rattle.drain_laws.specs.Advances.{advanced}
 use Rattle.drain_laws.specs.Drain.{left, rest_where}

@@ -12,7 +12,7 @@ use Rattle.quiesce_core.specs.declared.event.Event.TheVariants.{Close, Reopen, M
 use Rattle.quiesce_core.specs.declared.state.Gate.{Gate}
 use Rattle.quiesce_core.specs.declared.state.Slot.{Slot}
 use Rattle.quiesce_core.specs.State.{Configuration, State, fresh_exchange, fresh_gate, slot, gate, owner, target, depends, exchange}
-use Rattle.quiesce_core.specs.Phases.{is_idle}
+use Rattle.gate_word.specs.Phases.{is_idle}
 use Rattle.quiesce_core.specs.Effect.{with_gate, with_node, effect}
 use Rattle.quiesce_core.specs.Legal.{Legal}
 use Rattle.quiesce_core.specs.Reach.{IsPortOf, has_no_cycle, wiring_of}

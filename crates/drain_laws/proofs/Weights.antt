@@ -6,10 +6,10 @@ use Rattle.std.proofs.lemmas.Bool.{both_ways, cases_eq}
 use Rattle.config_graph.specs.declared.node.Target.{Target}
 use Rattle.quiesce_core.specs.declared.state.Exchange.{Exchange}
 use Rattle.quiesce_core.specs.declared.state.Service.{Service}
-use Rattle.quiesce_core.specs.declared.state.Phase.{Phase}
-use Rattle.quiesce_core.specs.declared.state.Phase.TheVariants as phase
+use Rattle.gate_word.specs.declared.phase.Phase.{Phase}
+use Rattle.gate_word.specs.declared.phase.Phase.TheVariants as phase
 use Rattle.quiesce_core.specs.State.{Configuration, Traffic, State, target, exchange, service}
-use Rattle.quiesce_core.specs.Phases.{is_idle, is_asked, is_answered, is_in_more}
+use Rattle.gate_word.specs.Phases.{is_idle, is_asked, is_answered, is_in_more}
 use Rattle.quiesce_core.specs.Rest.{full, service_rest, asked_rest, port_rest}
 use Rattle.quiesce_core.specs.Rules.{is_taken}
 use Rattle.quiesce_core.proofs.CycleLaws.{map_or_at}

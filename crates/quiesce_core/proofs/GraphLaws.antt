@@ -24,7 +24,7 @@ use Rattle.quiesce_core.specs.declared.state.Slot.{Slot}
 use Rattle.quiesce_core.specs.declared.state.Gate.{Gate}
 use Rattle.quiesce_core.specs.State.{fresh_gate, fresh_exchange, slot, is_live, gate, owner, target, exchange}
 use Rattle.quiesce_core.specs.declared.state.Exchange.{Exchange}
-use Rattle.quiesce_core.specs.Phases.{is_idle, is_in_more}
+use Rattle.gate_word.specs.Phases.{is_idle, is_in_more}
 use Rattle.quiesce_core.specs.Traffic.{IsConsistent}
 use Rattle.quiesce_core.specs.Reach.{IsPortOf, wiring_of}
 use Rattle.quiesce_core.specs.SameWiring.{IsPortAt}
@@ -34,9 +34,10 @@ use Rattle.config_graph.proofs.PathLaws.{irreflexive}
 use Rattle.quiesce_core.proofs.LiveLinks.{IsLiveLink, linked_at}
 use Rattle.quiesce_core.specs.Live.{StandsAt, IsGraphOf}
 use Rattle.config_graph.specs.declared.node.Link.{Link}
-use Rattle.quiesce_core.specs.Start.{slot_of, gate_of, free, unused, started}
+use Rattle.quiesce_core.specs.Start.{slot_of, gate_of, no_service, no_exchange, started}
 use Rattle.quiesce_core.proofs.CycleLaws.{no_cycle_if_acyclic, map_or_at}
-use Rattle.quiesce_core.proofs.SameWiring.{linked_made, to_graph}
+use Rattle.quiesce_core.proofs.ConfigurationLaws.{linked_made}
+use Rattle.quiesce_core.proofs.SameWiring.{to_graph}
 use Rattle.config_graph.proofs.WiringLaws.{no_cycle_there}
 use Rattle.base.proofs.ContainsLaws.{Contains-at, at_some_place}
 use Rattle.base.proofs.FindLaws.{Contains-find, find_passes}
@@ -273,12 +274,12 @@ module _ (g : Graph) (sound : Sound g) (few_nodes : length g.nodes ≤ 1023) (fe
   pub well_formed_started : IsWellFormed (started g)
   well_formed_started = record {
     sound = sound_started;
-    services = length-map g.nodes free ∙ sym slots_length;
-    exchanges = length-map (ports g.nodes) unused ∙ sym gates_length;
+    services = length-map g.nodes no_service ∙ sym slots_length;
+    exchanges = length-map (ports g.nodes) no_exchange ∙ sym gates_length;
     bounds = λ p. bounds_unused (ports g.nodes) p;
   }
     where
-      bounds_unused : (ps : List Port) (p : ℕ) → IsWithinBounds (get_or (map unused ps) p fresh_exchange)
+      bounds_unused : (ps : List Port) (p : ℕ) → IsWithinBounds (get_or (map no_exchange ps) p fresh_exchange)
       bounds_unused [] p = record { serial = omega arith; value = omega arith }
       bounds_unused (q ∷ ps) zero = record { serial = omega arith; value = omega arith }
       bounds_unused (q ∷ ps) (suc p) = bounds_unused ps p
@@ -302,12 +303,12 @@ module _ (g : Graph) (sound : Sound g) (few_nodes : length g.nodes ≤ 1023) (fe
         (cases_lt p (length (started g).config.gates));
   }
     where
-      fresh : (ps : List Port) (p : ℕ) → get_or (map unused ps) p fresh_exchange ≡ fresh_exchange
+      fresh : (ps : List Port) (p : ℕ) → get_or (map no_exchange ps) p fresh_exchange ≡ fresh_exchange
       fresh [] p = refl
       fresh (q ∷ ps) zero = refl
       fresh (q ∷ ps) (suc p) = fresh ps p
 
-      serves_none : (ns : List Node) (n : ℕ) → get_or (map free ns) n None ≡ None
+      serves_none : (ns : List Node) (n : ℕ) → get_or (map no_service ns) n None ≡ None
       serves_none [] n = refl
       serves_none (m ∷ ns) zero = refl
       serves_none (m ∷ ns) (suc n) = serves_none ns n

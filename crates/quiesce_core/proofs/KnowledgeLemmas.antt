@@ -14,17 +14,16 @@ use Rattle.quiesce_core.specs.declared.known.Served.{Served}
 use Rattle.quiesce_core.specs.declared.state.Service.{Service}
 use Rattle.quiesce_core.specs.declared.state.Exchange.{Exchange}
 use Rattle.quiesce_core.specs.declared.state.Gate.{Gate}
-use Rattle.quiesce_core.specs.declared.state.Phase.TheVariants as phase
+use Rattle.gate_word.specs.declared.phase.Phase.TheVariants as phase
 use Rattle.quiesce_core.specs.State.{State, empty, fresh_exchange, fresh_gate, gate, owner, target, exchange, service, target_service}
-use Rattle.quiesce_core.specs.Phases.{is_idle, is_in_more}
+use Rattle.gate_word.specs.Phases.{is_idle, is_in_more}
 use Rattle.quiesce_core.specs.Rules.{is_live_port, is_last_message, was_heard}
 use Rattle.quiesce_core.specs.Effect.{with_gate, with_exchange, with_target_service, with_call, new_gates, effect}
 use Rattle.quiesce_core.specs.Legal.{Legal}
-use Rattle.quiesce_core.specs.Runs.{doer, done_from}
+use Rattle.quiesce_core.specs.Runs.{doer, done_from, is_doer}
 use Rattle.quiesce_core.specs.WellFormed.{IsWellFormed}
 use Rattle.quiesce_core.specs.Traffic.{IsConsistent}
-use Rattle.quiesce_core.specs.Knowledge.{OwnPort, served_next, served_after, own_port_next, own_port_after}
-use Rattle.quiesce_core.specs.Knows.{IsServed, KnowsService, own_port}
+use Rattle.quiesce_core.specs.Knowledge.{IsServed, KnowsService, OwnPort, own_port, served_next, served_after, own_port_next, own_port_after}
 use Rattle.quiesce_core.proofs.SoundnessLaws.{put_owner}
 use Rattle.quiesce_core.proofs.TableLaws.{gate_place, exchange_place, owner_place, target_place}
 use Rattle.quiesce_core.proofs.TrafficLaws.{only_target}
@@ -33,9 +32,6 @@ use Rattle.base.proofs.OptionLaws.{Some-from_is_some}
 use Rattle.base.proofs.PlaceLaws.{fresh_behind}
 
 -- the event, where node n does it
-
-abbrev pub is_doer : State → ℕ → Event → Bool
-is_doer s n e = option_map_or (λ m. m == n) (doer s e) false
 
 abbrev pub mine : State → ℕ → Event → List Event
 mine s n e = cond (is_doer s n e) (e ∷ []) []
@@ -69,13 +65,13 @@ some_of : (o : Option Service) → was_heard o ≡ true → is_some (option_map 
 some_of None h = absurd (both_ways false refl h)
 some_of (Some v) h = refl
 
-message_is : (s : State) (p k v : ℕ) → is_last_message s p k v ≡ true → (k ≡ (exchange s p).serial) × (v ≡ (exchange s p).value)
+pub message_is : (s : State) (p k v : ℕ) → is_last_message s p k v ≡ true → (k ≡ (exchange s p).serial) × (v ≡ (exchange s p).value)
 message_is s p k v h =
     let both = and_parts (k == (exchange s p).serial) (v == (exchange s p).value) h in
     (eqb-true k (exchange s p).serial both.0, eqb-true v (exchange s p).value both.1)
 
 -- an event tells how far the port has come then
-port_step : (s : State) (e : Event) (p : ℕ) → IsWellFormed s → IsConsistent s → Legal s e → own_port_next p (own_port s p) e ≡ own_port (effect s e) p
+pub port_step : (s : State) (e : Event) (p : ℕ) → IsWellFormed s → IsConsistent s → Legal s e → own_port_next p (own_port s p) e ≡ own_port (effect s e) p
 port_step s (Begin q k v) p w c l =
     port_put s q _ p (own_port_next p (own_port s p) (Begin q k v)) (exchange_place s q w l.live) (λ same. rw (eq-eqb q p same) refl) (λ other. rw (ne_eqb q p other) refl)
 port_step s (Call q k v) p w c l =
@@ -107,12 +103,12 @@ port_step s (Unlink q) p w c l = refl
 port_step s (Remove n) p w c l = refl
 
 -- an event of another node tells nothing of the port
-other_port : (s : State) (q p n : ℕ) → is_live_port s q ≡ true → (owner s.config q == n) ≡ false → (p < length s.config.gates → owner s.config p ≡ n) → q ≡ p → ⊥
+other_port : (s : State) (q p n : ℕ) → is_live_port s.config q ≡ true → (owner s.config q == n) ≡ false → (p < length s.config.gates → owner s.config p ≡ n) → q ≡ p → ⊥
 other_port s q p n live other owned same =
     both_ways (owner s.config q == n) other
     (eq-eqb (owner s.config q) n (ap (λ i. owner s.config i) same ∙ owned (subst (λ i. i < length s.config.gates) same (gate_place s q live))))
 
-port_other : (s : State) (e : Event) (n p : ℕ) (w : OwnPort) → Legal s e → is_doer s n e ≡ false → (p < length s.config.gates → owner s.config p ≡ n) → own_port_next p w e ≡ w
+pub port_other : (s : State) (e : Event) (n p : ℕ) (w : OwnPort) → Legal s e → is_doer s n e ≡ false → (p < length s.config.gates → owner s.config p ≡ n) → own_port_next p w e ≡ w
 port_other s (Begin q k v) n p w l other owned = rw (ne_eqb q p (other_port s q p n l.live other owned)) refl
 port_other s (Call q k v) n p w l other owned = rw (ne_eqb q p (other_port s q p n l.live other owned)) refl
 port_other s (End q k v) n p w l other owned = rw (ne_eqb q p (other_port s q p n l.live other owned)) refl
@@ -134,7 +130,7 @@ record Stays (s s' : State) (p : ℕ) : Type 0 where
   made : p < length s'.config.gates
   owned : owner s'.config p ≡ owner s.config p
 
-gate_put : (s : State) (q p : ℕ) (g : Gate) → is_live_port s q ≡ true → g.owner ≡ owner s.config q → g.require ≡ (gate s.config q).require → p < length s.config.gates
+gate_put : (s : State) (q p : ℕ) (g : Gate) → is_live_port s.config q ≡ true → g.owner ≡ owner s.config q → g.require ≡ (gate s.config q).require → p < length s.config.gates
     → Stays s (record s { config = with_gate s.config q g }) p
 gate_put s q p g live same same' h =
     record { made = omega (arith, h, length-set s.config.gates q g); owned = put_owner s.config q g (gate_place s q live) same same' p }
@@ -233,7 +229,7 @@ put_there s q m t v leads ne = ap (λ st. service st m) (put_is s q t v leads) �
 does_target : (s : State) (q : ℕ) (t : Target) → target s.config q ≡ Some t → option_map (λ (y : Target). y.node) (target s.config q) ≡ Some t.node
 does_target s q t leads = ap (λ o. option_map (λ (y : Target). y.node) o) leads
 
-service_next : (s : State) (e : Event) (n : ℕ) (u : Option Served) → IsWellFormed s → IsConsistent s → Legal s e → KnowsService s (service s n) u
+pub service_next : (s : State) (e : Event) (n : ℕ) (u : Option Served) → IsWellFormed s → IsConsistent s → Legal s e → KnowsService s (service s n) u
     → KnowsService (effect s e) (service (effect s e) n) (fold served_next u (mine s n e))
 service_next s (Begin q k j) n u w c l h =
     owner_event s (effect s (Begin q k j)) q n (Begin q k j) u refl refl (λ m. refl) (λ m v e. elsewhere s s (λ i. refl) q _ v (idle_unserved s q c l.idle m v e)) h

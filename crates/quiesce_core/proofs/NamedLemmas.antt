@@ -13,7 +13,7 @@ use Rattle.quiesce_core.specs.declared.event.Event.{Event}
 use Rattle.quiesce_core.specs.declared.event.Event.TheVariants.{Begin, Call, Take, Give, End, More, Ask, Hear, Miss, Close, Reopen, Make, Link, Unlink, Remove}
 use Rattle.quiesce_core.specs.declared.state.Slot.{Slot}
 use Rattle.quiesce_core.specs.State.{Configuration, State, empty, slot}
-use Rattle.quiesce_core.specs.Effect.{with_node, removed, effect}
+use Rattle.quiesce_core.specs.Effect.{with_node, with_removed, effect}
 use Rattle.quiesce_core.specs.Rules.{is_value, is_path_taken, has_its_argument}
 use Rattle.quiesce_core.specs.Legal.{Legal}
 use Rattle.quiesce_core.specs.Named.{AreNamed}
@@ -30,7 +30,7 @@ argument_if false (Some a) h = absurd (both_ways false refl h)
 has_argument : (node : Node) → has_its_argument node ≡ true → HasItsArgument node
 has_argument node h = let w = argument_if (is_some (row node.kind).arg) node.arg h in record { present = w.0; below = w.1 }
 
-any_at : {A : Type 0} (f : A → Bool) (xs : List A) (i : ℕ) (x : A) → slice_get xs i ≡ Some x → f x ≡ true → list_any f xs ≡ true
+pub any_at : {A : Type 0} (f : A → Bool) (xs : List A) (i : ℕ) (x : A) → slice_get xs i ≡ Some x → f x ≡ true → list_any f xs ≡ true
 any_at f [] i x e h = absurd (cc)
 any_at f (y ∷ xs) zero x e h = let same : y ≡ x = cc in or_left (f y) (list_any f xs) (ap f same ∙ h)
 any_at f (y ∷ xs) (suc i) x e h = or_right (f y) (list_any f xs) (any_at f xs i x e h)
@@ -62,7 +62,7 @@ named_with_node c node from a new_ argument = record {
     last : Slot
     last = record { node = node; first_port = length c.gates; from = from; live = true }
 
-named_removed : (c : Configuration) (n : ℕ) (old : Slot) → slot c n ≡ Some old → AreNamed c → AreNamed (removed c n)
+named_removed : (c : Configuration) (n : ℕ) (old : Slot) → slot c n ≡ Some old → AreNamed c → AreNamed (with_removed c n)
 named_removed c n old there a =
     subst (λ o. AreNamed (record c { slots = option_map_or (λ (m : Slot). set c.slots n (record m { live = false })) o c.slots })) (sym there) (record {
       paths = λ i j m k at_i at_j live_i live_j same.

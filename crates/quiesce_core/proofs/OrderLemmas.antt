@@ -78,7 +78,7 @@ live_at c n h =
     let m = map_or_true (λ (m : Slot). m.live) (slot c n) h in
     record { made = m.0; there = m.1; live = m.2; path = map_or_at (λ (m : Slot). m.node.path) (slot c n) [] m.0 m.1 }
 
-abbrev live_slots : Configuration → List ℕ
+abbrev pub live_slots : Configuration → List ℕ
 live_slots c = filter (is_live c) (range_with_len 0 (length c.slots))
 
 pub in_order :

@@ -12,8 +12,8 @@ use Rattle.quiesce_core.specs.declared.state.Slot.{Slot}
 use Rattle.quiesce_core.specs.declared.state.Gate.{Gate}
 use Rattle.quiesce_core.specs.State.{Configuration, State, fresh_gate, slot, gate, owner, target, ports_of, depends, is_depended}
 use Rattle.quiesce_core.specs.Reach.{IsPortOf, wiring_of, can_walk, has_no_cycle, reaches_within, reaches}
-use Rattle.quiesce_core.specs.Known.{AreKnown, reaches_from, leads_up}
-use Rattle.quiesce_core.specs.Effect.{with_gate, linked}
+use Rattle.quiesce_core.specs.Searched.{AreKnown, reaches_from, leads_up}
+use Rattle.quiesce_core.specs.Effect.{with_gate, with_target}
 use Rattle.quiesce_core.specs.WellFormed.{IsSound}
 use Rattle.quiesce_core.specs.Rules.{is_quiet}
 use Rattle.config_graph.proofs.KindLaws.{depended_by_first, one_provision}
@@ -143,22 +143,22 @@ some_node {t} {m} {x} e = ap (λ o. option_map_or (λ (u : Target). u.node) o 0)
 
 -- the port of a link that is made, or made again
 module _ (c : Configuration) (sound : IsSound c) (p : ℕ) (t : Target) (made : p < length c.gates) where
-  there : gate (linked c p (Some t)) p ≡ record (gate c p) { target = Some t }
+  there : gate (with_target c p (Some t)) p ≡ record (gate c p) { target = Some t }
   there = gate_there c p (record (gate c p) { target = Some t }) made
 
-  elsewhere : (q : ℕ) → (q ≡ p → ⊥) → gate (linked c p (Some t)) q ≡ gate c q
+  elsewhere : (q : ℕ) → (q ≡ p → ⊥) → gate (with_target c p (Some t)) q ≡ gate c q
   elsewhere q ne = gate_elsewhere c p q (record (gate c p) { target = Some t }) ne
 
-  depended_there : (n : ℕ) → is_depended (linked c p (Some t)) n p ≡ is_depended c n p
+  depended_there : (n : ℕ) → is_depended (with_target c p (Some t)) n p ≡ is_depended c n p
   depended_there n = ap (λ (g : Gate). option_map_or (λ (m : Slot). is_depended_on m.node.kind g.require) (slot c n) false) there
 
-  depends_elsewhere : (n x q : ℕ) → (q ≡ p → ⊥) → depends (linked c p (Some t)) n x q ≡ depends c n x q
+  depends_elsewhere : (n x q : ℕ) → (q ≡ p → ⊥) → depends (with_target c p (Some t)) n x q ≡ depends c n x q
   depends_elsewhere n x q ne = ap (λ (g : Gate). option_map_or (λ (m : Slot). depends_on m.node.kind x g.require) (slot c n) false) (elsewhere q ne)
 
-  owned_as : (n q : ℕ) → IsPortOf (linked c p (Some t)) n q → IsPortOf c n q
+  owned_as : (n q : ℕ) → IsPortOf (with_target c p (Some t)) n q → IsPortOf c n q
   owned_as n q o = record { node = o.node; made = o.made; from = o.from; below = o.below }
 
-  was : (n m : ℕ) (l : MayCall (wiring_of (linked c p (Some t))) n m) → (l.port ≡ p → ⊥) → MayCall (wiring_of c) n m
+  was : (n m : ℕ) (l : MayCall (wiring_of (with_target c p (Some t))) n m) → (l.port ≡ p → ⊥) → MayCall (wiring_of c) n m
   was n m l ne = record {
     port = l.port;
     serves = l.serves;
@@ -167,7 +167,7 @@ module _ (c : Configuration) (sound : IsSound c) (p : ℕ) (t : Target) (made : 
     linked = sym (ap (λ (g : Gate). g.target) (elsewhere l.port ne)) ∙ l.linked;
   }
 
-  stays : (n m : ℕ) (l : MayCall (wiring_of c) n m) → (l.port ≡ p → ⊥) → MayCall (wiring_of (linked c p (Some t))) n m
+  stays : (n m : ℕ) (l : MayCall (wiring_of c) n m) → (l.port ≡ p → ⊥) → MayCall (wiring_of (with_target c p (Some t))) n m
   stays n m l ne =
       let o = l.depends.0 in record {
         port = l.port;
@@ -177,13 +177,13 @@ module _ (c : Configuration) (sound : IsSound c) (p : ℕ) (t : Target) (made : 
         linked = ap (λ (g : Gate). g.target) (elsewhere l.port ne) ∙ l.linked;
       }
 
-  new_lead : is_depended c (owner c p) p ≡ true → MayCall (wiring_of (linked c p (Some t))) (owner c p) t.node
+  new_lead : is_depended c (owner c p) p ≡ true → MayCall (wiring_of (with_target c p (Some t))) (owner c p) t.node
   new_lead h =
       let o = sound.ports p made in
-      call_by (linked c p (Some t)) (owner c p) t.node p t.provide (record { node = o.node; made = o.made; from = o.from; below = o.below })
+      call_by (with_target c p (Some t)) (owner c p) t.node p t.provide (record { node = o.node; made = o.made; from = o.from; below = o.below })
       (depended_there (owner c p) ∙ h) (ap (λ (g : Gate). g.target) there)
 
-  climbs : (ranked : Ranks (MayCall (wiring_of (linked c p (Some t))))) (m : ℕ) → LeadsTo c (owner c p) m → ranked.rank (owner c p) ≤ ranked.rank m
+  climbs : (ranked : Ranks (MayCall (wiring_of (with_target c p (Some t))))) (m : ℕ) → LeadsTo c (owner c p) m → ranked.rank (owner c p) ≤ ranked.rank m
   climbs ranked _ here = omega arith
   climbs ranked _ (step {k} {m} l rest) = ⊎_elim
       (λ (same : k ≡ owner c p). subst (λ i. ranked.rank (owner c p) ≤ ranked.rank i) (sym same) (omega arith))
@@ -193,9 +193,9 @@ module _ (c : Configuration) (sound : IsSound c) (p : ℕ) (t : Target) (made : 
       omega (arith, ranked.falls k m (stays k m l ne)))
       (cases_eq k (owner c p))
 
-  closed_cycle : is_depended c (owner c p) p ≡ true → leads_up c (owner c p) t.node ≡ true → has_no_cycle (linked c p (Some t)) ≡ false
-  closed_cycle dep up = false_from_ne_true (has_no_cycle (linked c p (Some t))) (λ h.
-      let ranked = ranked_if_no_cycle (linked c p (Some t)) h in
+  closed_cycle : is_depended c (owner c p) p ≡ true → leads_up c (owner c p) t.node ≡ true → has_no_cycle (with_target c p (Some t)) ≡ false
+  closed_cycle dep up = false_from_ne_true (has_no_cycle (with_target c p (Some t))) (λ h.
+      let ranked = ranked_if_no_cycle (with_target c p (Some t)) h in
       let above : ranked.rank (owner c p) ≤ ranked.rank t.node = climbs ranked t.node (leads_if_up c (owner c p) t.node up) in
       omega (arith, ranked.falls (owner c p) t.node (new_lead dep)))
 
@@ -211,16 +211,16 @@ module _ (c : Configuration) (sound : IsSound c) (p : ℕ) (t : Target) (made : 
   lift_no ranked m h = rw h refl
 
   -- the nodes that lead to the port's owner are lifted over the one to which it is linked now
-  lifted : (is_depended c (owner c p) p && leads_up c (owner c p) t.node) ≡ false → Ranks (MayCall (wiring_of (linked c p (Some t))))
+  lifted : (is_depended c (owner c p) p && leads_up c (owner c p) t.node) ≡ false → Ranks (MayCall (wiring_of (with_target c p (Some t))))
   lifted apart =
       let ranked = ranked_if_no_cycle c sound.no_cycle in record {
         rank = λ m. ranked.rank m + lift ranked m;
         falls = λ n m l. ⊎_elim
             (λ (same : l.port ≡ p).
             let mine : owner c p ≡ n = sym (ap (λ i. owner c i) same) ∙ owner_of c sound n l.port (owned_as n l.port l.depends.0) in
-            let dep : is_depended c (owner c p) p ≡ true = ap (λ i. is_depended c i p) mine ∙ sym (depended_there n) ∙ sym (ap (λ i. is_depended (linked c p (Some t)) n i) same) ∙ depended_by (linked c p (Some t)) n m l in
+            let dep : is_depended c (owner c p) p ≡ true = ap (λ i. is_depended c i p) mine ∙ sym (depended_there n) ∙ sym (ap (λ i. is_depended (with_target c p (Some t)) n i) same) ∙ depended_by (with_target c p (Some t)) n m l in
             let to : t.node ≡ m =
-            some_node (sym (ap (λ (g : Gate). g.target) there) ∙ sym (ap (λ i. target (linked c p (Some t)) i) same) ∙ l.linked) in
+            some_node (sym (ap (λ (g : Gate). g.target) there) ∙ sym (ap (λ i. target (with_target c p (Some t)) i) same) ∙ l.linked) in
             let no_up : leads_up c (owner c p) t.node ≡ false = ⊎_elim
             (λ (a : is_depended c (owner c p) p ≡ false). absurd (both_ways (is_depended c (owner c p) p) a dep)) (λ (b : leads_up c (owner c p) t.node ≡ false). b)
             (and_cases (is_depended c (owner c p) p) (leads_up c (owner c p) t.node) apart) in
@@ -241,13 +241,13 @@ module _ (c : Configuration) (sound : IsSound c) (p : ℕ) (t : Target) (made : 
       }
 
   -- A new link closes a cycle where a provision depends on its port and the node to which it leads leads to the port's owner.
-  pub no_cycle-linked : has_no_cycle (linked c p (Some t)) ≡ not (is_depended c (owner c p) p && leads_up c (owner c p) t.node)
+  pub no_cycle-linked : has_no_cycle (with_target c p (Some t)) ≡ not (is_depended c (owner c p) p && leads_up c (owner c p) t.node)
   no_cycle-linked = ⊎_elim
       (λ (closes : (is_depended c (owner c p) p && leads_up c (owner c p) t.node) ≡ true).
       let both = and_parts (is_depended c (owner c p) p) (leads_up c (owner c p) t.node) closes in
       closed_cycle both.0 both.1 ∙ sym (not_from_true (is_depended c (owner c p) p && leads_up c (owner c p) t.node) closes))
       (λ (apart : (is_depended c (owner c p) p && leads_up c (owner c p) t.node) ≡ false).
-      no_cycle_if_ranked (linked c p (Some t)) (lifted apart) ∙ sym (not_from_false (is_depended c (owner c p) p && leads_up c (owner c p) t.node) apart))
+      no_cycle_if_ranked (with_target c p (Some t)) (lifted apart) ∙ sym (not_from_false (is_depended c (owner c p) p && leads_up c (owner c p) t.node) apart))
       (cases_Bool (is_depended c (owner c p) p && leads_up c (owner c p) t.node))
 
 pub reaches_none : (c : Configuration) → IsSound c → (n p : ℕ) → target c p ≡ None → reaches c n p ≡ false

@@ -1,28 +1,181 @@
--- What runs keep.
-use Rattle.std.proofs.Common.{◌≡◌, ◌∙◌, ℕ, ◌+◌, ◌-◌, List, [], ◌∷◌, ◌++◌, append_assoc, Some, refl, ap, sym, subst, arith}
+-- Runs: their fronts, one event more, runs on literals, who does what in them, and what holds after each.
+use Rattle.std.proofs.Common.{◌≡◌, ◌∙◌, ℕ, Bool, true, false, cond, ◌&&◌, List, [], ◌∷◌, ◌++◌, append_assoc, length, Option, Some, None, arith, refl, ap, sym, subst, ⊎_elim}
+use Rattle.std.specs.Prelude.{◌↔◌, fold, filter, is_none, option_map}
+use Rattle.std.proofs.lemmas.Bool.{and_from, and_parts, both_ways, cases_Bool}
 use Rattle.std.proofs.lemmas.List.{append-nil}
+use Rattle.std.proofs.lemmas.List.Sums.{fold_push}
 use Rattle.quiesce_core.specs.declared.event.Event.{Event}
-use Rattle.base.specs.Each.{EachAfter}
-use Rattle.quiesce_core.specs.Runs.{Step, IsRun, doer, done_by, state_after}
 use Rattle.quiesce_core.specs.declared.event.Event.TheVariants.{Begin, Call, Take, Give, End, More, Ask, Hear, Miss, Close, Reopen, Make, Link, Unlink, Remove}
-use Rattle.quiesce_core.specs.Effect.{effect}
-use Rattle.quiesce_core.specs.Named.{AreNamed}
-use Rattle.quiesce_core.proofs.NamedLemmas.{named_next, named_empty}
-use Rattle.quiesce_core.specs.State.{Configuration, State, empty, owner}
+use Rattle.base.specs.Each.{EachAfter}
+use Rattle.base.proofs.EachLaws.{each_parts, each_pushed}
+use Rattle.base.proofs.OptionLaws.{None-from_is_none, Some-from_is_some}
+use Rattle.config_graph.specs.declared.node.Target.{Target}
+use Rattle.quiesce_core.specs.State.{Configuration, State, empty, owner, target, exchange}
+use Rattle.quiesce_core.specs.Rules.{denial}
+use Rattle.quiesce_core.specs.Doers.{is_of_change}
+use Rattle.quiesce_core.specs.Effect.{change_next, configuration_after, effect}
+use Rattle.quiesce_core.specs.Legal.{Legal}
+use Rattle.quiesce_core.specs.Runs.{Step, IsRun, can_run, doer, done_by, is_doer, state_after}
 use Rattle.quiesce_core.specs.Reach.{IsPortOf}
-use Rattle.quiesce_core.specs.Knows.{Knows}
-use Rattle.quiesce_core.proofs.KnowledgeLemmas.{Told, mine, done_more, told_next, told_empty}
+use Rattle.quiesce_core.specs.Named.{AreNamed}
+use Rattle.quiesce_core.specs.Knowledge.{Knows}
 use Rattle.quiesce_core.specs.WellFormed.{IsSound, IsWellFormed}
 use Rattle.quiesce_core.specs.Traffic.{IsConsistent}
-use Rattle.quiesce_core.proofs.TrafficLaws.{consistent_next, consistent_empty}
 use Rattle.quiesce_core.proofs.LegalLaws.{legal}
 use Rattle.quiesce_core.proofs.SoundnessLaws.{well_formed_next, well_formed_empty}
-use Rattle.quiesce_core.specs.WordFields.{FitsWord}
-use Rattle.quiesce_core.specs.GateWord.{fields_of, unpack, word_of}
-use Rattle.quiesce_core.proofs.TableLaws.{fits_target}
-use Rattle.quiesce_core.proofs.WordLemmas.{words_decode}
-use Rattle.quiesce_core.proofs.RunPartLaws.{StepAt}
+use Rattle.quiesce_core.proofs.StateLaws.{asked_busy, taken_is}
+use Rattle.quiesce_core.proofs.TrafficLaws.{consistent_next, consistent_empty}
+use Rattle.quiesce_core.proofs.NamedLemmas.{named_next, named_empty}
+use Rattle.quiesce_core.proofs.KnowledgeLemmas.{Told, mine, done_more, told_next, told_empty}
 use Rattle.quiesce_core.proofs.ReachLaws.{owner_of}
+
+abbrev pub StepAt : List Event → Event → Type 0
+StepAt before e = Step (state_after before) e (state_after (before ++ e ∷ []))
+
+-- a run's front is a run, and what follows are steps from there on
+pub run_parts : (es more_ : List Event) → IsRun (es ++ more_) → IsRun es × EachAfter StepAt es more_
+run_parts es more_ h = each_parts StepAt [] es more_ h
+
+pub fronts_are_runs : (es more_ : List Event) → IsRun (es ++ more_) → IsRun es
+fronts_are_runs es more_ h = (run_parts es more_ h).0
+
+pub last_step : (es : List Event) (e : Event) → IsRun (es ++ e ∷ []) → IsRun es × Step (state_after es) e (state_after (es ++ e ∷ []))
+last_step es e h = let w = run_parts es (e ∷ []) h in (w.0, w.1.0)
+
+-- the state after one event more
+pub state_more : (es : List Event) (e : Event) → state_after (es ++ e ∷ []) ≡ effect (state_after es) e
+state_more es e = fold_push effect empty es e
+
+-- a run grows by an event that no rule denies
+pub runs_grow : (es : List Event) (e : Event) → IsRun (es ++ e ∷ []) ↔ (IsRun es × (denial (state_after es) e ≡ None))
+runs_grow es e = (
+  λ h. let w = last_step es e h in (w.0, w.1.allowed),
+  λ w. (each_pushed StepAt es e).1 (w.0, record { allowed = w.1; changed = state_more es e }),
+)
+
+-- the events of a node, with one event more
+pub done_by_more : (n : ℕ) (es : List Event) (e : Event) → done_by n (es ++ e ∷ []) ≡ done_by n es ++ cond (is_doer (state_after es) n e) (e ∷ []) []
+done_by_more n es e = done_more empty n es e
+
+run_from : (before es : List Event) → can_run (state_after before) es ≡ true → EachAfter StepAt before es
+run_from before [] h = tt
+run_from before (e ∷ es) h =
+    let next = state_more before e in
+    let parts = and_parts (is_none (denial (state_after before) e)) (can_run (effect (state_after before) e) es) h in
+    (record { allowed = None-from_is_none (denial (state_after before) e) parts.0; changed = next }, run_from (before ++ e ∷ []) es (ap (λ s. can_run s es) next ∙ parts.1))
+
+from_run : (before es : List Event) → EachAfter StepAt before es → can_run (state_after before) es ≡ true
+from_run before [] h = refl
+from_run before (e ∷ es) h =
+    and_from (is_none (denial (state_after before) e)) (can_run (effect (state_after before) e) es) (ap is_none h.0.allowed)
+    (ap (λ s. can_run s es) (sym (state_more before e)) ∙ from_run (before ++ e ∷ []) es h.1)
+
+-- a run is found by computing
+pub runs_are_found : (es : List Event) → IsRun es ↔ (can_run empty es ≡ true)
+runs_are_found es = (from_run [] es, run_from [] es)
+
+pub run_if : (es : List Event) → can_run empty es ≡ true → IsRun es
+run_if es h = (runs_are_found es).1 h
+
+-- what the change does no node does, and the other way round
+
+no_node_if : (s : State) (e : Event) → is_of_change e ≡ true → doer s e ≡ None
+no_node_if s (Begin p k v) h = absurd (both_ways false refl h)
+no_node_if s (Call p k v) h = absurd (both_ways false refl h)
+no_node_if s (Miss p) h = absurd (both_ways false refl h)
+no_node_if s (Take p k v) h = absurd (both_ways false refl h)
+no_node_if s (Give p k v) h = absurd (both_ways false refl h)
+no_node_if s (More p k v) h = absurd (both_ways false refl h)
+no_node_if s (Ask p k v) h = absurd (both_ways false refl h)
+no_node_if s (Hear p k v) h = absurd (both_ways false refl h)
+no_node_if s (End p k v) h = absurd (both_ways false refl h)
+no_node_if s (Close p) h = refl
+no_node_if s (Reopen p) h = refl
+no_node_if s (Make n node from) h = refl
+no_node_if s (Link p n x) h = refl
+no_node_if s (Unlink p) h = refl
+no_node_if s (Remove n) h = refl
+
+-- an event of a node that may happen has its doer: who is to take, give, reply or hear is there, since a busy port is linked
+pub doer_there : (s : State) (e : Event) → IsConsistent s → Legal s e → is_of_change e ≡ false → (n : ℕ) × (doer s e ≡ Some n)
+doer_there s (Begin p k v) c l h = (owner s.config p, refl)
+doer_there s (Call p k v) c l h = (owner s.config p, refl)
+doer_there s (Miss p) c l h = (owner s.config p, refl)
+doer_there s (Ask p k v) c l h = (owner s.config p, refl)
+doer_there s (End p k v) c l h = (owner s.config p, refl)
+doer_there s (Take p k v) c l h =
+    let t = Some-from_is_some (target s.config p) (c.linked p (asked_busy (exchange s p).phase l.asked)) in
+    (t.0.node, ap (λ o. option_map (λ (u : Target). u.node) o) t.1)
+doer_there s (Give p k v) c l h = let t = taken_is s p l.taken in (t.to.node, ap (λ o. option_map (λ (u : Target). u.node) o) t.leads)
+doer_there s (More p k v) c l h = let t = taken_is s p l.taken in (t.to.node, ap (λ o. option_map (λ (u : Target). u.node) o) t.leads)
+doer_there s (Hear p k v) c l h = let t = taken_is s p l.taken in (t.to.node, ap (λ o. option_map (λ (u : Target). u.node) o) t.leads)
+doer_there s (Close p) c l h = absurd (both_ways true h refl)
+doer_there s (Reopen p) c l h = absurd (both_ways true h refl)
+doer_there s (Make n node from) c l h = absurd (both_ways true h refl)
+doer_there s (Link p n x) c l h = absurd (both_ways true h refl)
+doer_there s (Unlink p) c l h = absurd (both_ways true h refl)
+doer_there s (Remove n) c l h = absurd (both_ways true h refl)
+
+pub changes_are_of_no_node : (s : State) (e : Event) → IsConsistent s → denial s e ≡ None → (is_of_change e ≡ true) ↔ (doer s e ≡ None)
+changes_are_of_no_node s e c allowed = (
+  no_node_if s e,
+  λ none_. ⊎_elim
+      (λ (yes_ : is_of_change e ≡ true). yes_)
+      (λ (no_ : is_of_change e ≡ false). let w = doer_there s e c (legal s e allowed) no_ in absurd (cc (w.1, none_)))
+      (cases_Bool (is_of_change e)),
+)
+
+-- configurations
+
+pub effect_config : (s : State) (e : Event) → (effect s e).config ≡ change_next s.config e
+effect_config s (Begin p k v) = refl
+effect_config s (Call p k v) = refl
+effect_config s (Miss p) = refl
+effect_config s (Take p k v) = refl
+effect_config s (Give p k v) = refl
+effect_config s (More p k v) = refl
+effect_config s (Ask p k v) = refl
+effect_config s (Hear p k v) = refl
+effect_config s (End p k v) = refl
+effect_config s (Close p) = refl
+effect_config s (Reopen p) = refl
+effect_config s (Make n node from) = refl
+effect_config s (Link p n x) = refl
+effect_config s (Unlink p) = refl
+effect_config s (Remove n) = refl
+
+change_only : (c : Configuration) (e : Event) → is_of_change e ≡ false → change_next c e ≡ c
+change_only c (Begin p k v) h = refl
+change_only c (Call p k v) h = refl
+change_only c (Miss p) h = refl
+change_only c (Take p k v) h = refl
+change_only c (Give p k v) h = refl
+change_only c (More p k v) h = refl
+change_only c (Ask p k v) h = refl
+change_only c (Hear p k v) h = refl
+change_only c (End p k v) h = refl
+change_only c (Close p) h = absurd (both_ways true h refl)
+change_only c (Reopen p) h = absurd (both_ways true h refl)
+change_only c (Make n node from) h = absurd (both_ways true h refl)
+change_only c (Link p n x) h = absurd (both_ways true h refl)
+change_only c (Unlink p) h = absurd (both_ways true h refl)
+change_only c (Remove n) h = absurd (both_ways true h refl)
+
+pub node_events_keep_the_configuration : (s : State) (e : Event) → is_of_change e ≡ false → (effect s e).config ≡ s.config
+node_events_keep_the_configuration s e h = effect_config s e ∙ change_only s.config e h
+
+configuration_from : (s : State) (es : List Event) → (fold effect s es).config ≡ fold change_next s.config (filter is_of_change es)
+configuration_from s [] = refl
+configuration_from s (e ∷ es) = configuration_from (effect s e) es ∙ ⊎_elim
+    (λ (yes_ : is_of_change e ≡ true). rw yes_ (ap (λ c. fold change_next c (filter is_of_change es)) (effect_config s e)))
+    (λ (no_ : is_of_change e ≡ false). rw no_ (ap (λ c. fold change_next c (filter is_of_change es)) (node_events_keep_the_configuration s e no_)))
+    (cases_Bool (is_of_change e))
+
+-- the configuration after events is that of the change's events alone
+pub changes_make_the_configuration : (es : List Event) → (state_after es).config ≡ configuration_after (filter is_of_change es)
+changes_make_the_configuration es = configuration_from empty es
+
+-- what holds after each run
 
 well_formed_from : (before es : List Event) → EachAfter StepAt before es → IsWellFormed (state_after before) → IsWellFormed (state_after (before ++ es))
 well_formed_from before [] h w = subst (λ xs. IsWellFormed (state_after xs)) (sym (append-nil before)) w
@@ -47,20 +200,15 @@ consistent_from before (e ∷ es) h w k =
 pub runs_are_consistent : (es : List Event) → IsRun es → IsConsistent (state_after es)
 runs_are_consistent es h = consistent_from [] es h well_formed_empty consistent_empty
 
+pub changes_are_of_no_node_there : (before after : List Event) (e : Event) → IsRun (before ++ e ∷ after) → (is_of_change e ≡ true) ↔ (doer (state_after before) e ≡ None)
+changes_are_of_no_node_there before after e h =
+    let parts = run_parts before (e ∷ after) h in changes_are_of_no_node (state_after before) e (runs_are_consistent before parts.0) parts.1.0.allowed
+
 -- a step keeps both
 pub steps_keep_consistency : (s t : State) (e : Event) → IsWellFormed s → IsConsistent s → Step s e t → IsWellFormed t × IsConsistent t
 steps_keep_consistency s t e w k step =
     let may = legal s e step.allowed in
     (subst (λ u. IsWellFormed u) (sym step.changed) (well_formed_next s e w may), subst (λ u. IsConsistent u) (sym step.changed) (consistent_next s e w k may))
-
-fields_fit : (s : State) → IsWellFormed s → (p : ℕ) → FitsWord (fields_of s p)
-fields_fit s w p =
-    let bounds = w.bounds p in
-    record { value = bounds.value; serial = omega (arith, bounds.serial); target = λ t e. fits_target s w p t e }
-
--- the words of a run spell what the state has of the ports
-pub words_of_runs_decode : (es : List Event) (p : ℕ) → IsRun es → unpack (word_of (state_after es) p) ≡ fields_of (state_after es) p
-words_of_runs_decode es p h = words_decode (fields_of (state_after es) p) (fields_fit (state_after es) (runs_are_well_formed es h) p)
 
 told_from :
     (n : ℕ) (before es : List Event) → EachAfter StepAt before es → IsWellFormed (state_after before) → IsConsistent (state_after before) → Told (state_after before) n (done_by n before)
@@ -91,21 +239,3 @@ named_from before (e ∷ es) h a =
 -- live nodes have different paths after a run, and each node its argument
 pub nodes_are_named : (es : List Event) → IsRun es → AreNamed (state_after es).config
 nodes_are_named es h = named_from [] es h named_empty
-
--- only the change alters the configuration
-pub node_events_keep_the_configuration : (s : State) (e : Event) (n : ℕ) → doer s e ≡ Some n → (effect s e).config ≡ s.config
-node_events_keep_the_configuration s (Begin p k v) n h = refl
-node_events_keep_the_configuration s (Call p k v) n h = refl
-node_events_keep_the_configuration s (Miss p) n h = refl
-node_events_keep_the_configuration s (Take p k v) n h = refl
-node_events_keep_the_configuration s (Give p k v) n h = refl
-node_events_keep_the_configuration s (More p k v) n h = refl
-node_events_keep_the_configuration s (Ask p k v) n h = refl
-node_events_keep_the_configuration s (Hear p k v) n h = refl
-node_events_keep_the_configuration s (End p k v) n h = refl
-node_events_keep_the_configuration s (Close p) n h = absurd (cc)
-node_events_keep_the_configuration s (Reopen p) n h = absurd (cc)
-node_events_keep_the_configuration s (Make m node from) n h = absurd (cc)
-node_events_keep_the_configuration s (Link p m x) n h = absurd (cc)
-node_events_keep_the_configuration s (Unlink p) n h = absurd (cc)
-node_events_keep_the_configuration s (Remove m) n h = absurd (cc)

@@ -14,7 +14,7 @@ use Rattle.quiesce_core.specs.WellFormed.{IsSound}
 use Rattle.base.proofs.RangeLaws.{all_in_range, range_all}
 use Rattle.quiesce_core.proofs.CycleLaws.{map_or_true, any_of, of_any, all_of, of_all}
 use Rattle.quiesce_core.proofs.ReachLaws.{reaches_some}
-use Rattle.quiesce_core.proofs.SameWiring.{linked_made}
+use Rattle.quiesce_core.proofs.ConfigurationLaws.{linked_made}
 use Rattle.base.proofs.OptionLaws.{None-from_is_none}
 
 reach_of : (c : Configuration) (n k p : ℕ) → reaches_within c n k p ≡ true → Reach (wiring_of c) n p

@@ -16,12 +16,12 @@ use Rattle.quiesce_core.specs.declared.state.Slot.{Slot}
 use Rattle.quiesce_core.specs.declared.state.Gate.{Gate}
 use Rattle.quiesce_core.specs.declared.state.Service.{Service}
 use Rattle.quiesce_core.specs.declared.state.Exchange.{Exchange}
-use Rattle.quiesce_core.specs.declared.state.Phase.TheVariants as phase
+use Rattle.gate_word.specs.declared.phase.Phase.TheVariants as phase
 use Rattle.quiesce_core.specs.State.{Configuration, State, empty, fresh_gate, fresh_exchange, slot, is_live, ports_of, gate, owner, target, provides, exchange, service}
 use Rattle.quiesce_core.specs.Reach.{IsPortOf, wiring_of, has_no_cycle}
 use Rattle.config_graph.specs.Wiring.{MayCall}
 use Rattle.quiesce_core.specs.WellFormed.{StandInARow, LeadsToProvision, IsWithinBounds, IsSound, IsWellFormed}
-use Rattle.quiesce_core.specs.Effect.{with_gate, closed, linked, removed, new_gates, with_node, effect}
+use Rattle.quiesce_core.specs.Effect.{with_gate, with_closed, with_target, with_removed, new_gates, with_node, effect}
 use Rattle.quiesce_core.specs.Rules.{is_apart, is_next_serial, is_value}
 use Rattle.quiesce_core.specs.Legal.{Legal}
 use Rattle.quiesce_core.proofs.TableLaws.{gate_place}
@@ -99,17 +99,17 @@ module _ (c : Configuration) (p : ℕ) (g : Gate) (made : p < length c.gates) (s
         (cases_eq l.port p);
   }
 
-pub sound_closed : (c : Configuration) (p : ℕ) (b : Bool) → p < length c.gates → IsSound c → IsSound (closed c p b)
+pub sound_closed : (c : Configuration) (p : ℕ) (b : Bool) → p < length c.gates → IsSound c → IsSound (with_closed c p b)
 sound_closed c p b made s =
     let g : Gate = record (gate c p) { closed = b } in
     sound_with_gate c p g made refl refl s (λ t e. s.targets p t e) (no_cycle_fewer c (with_gate c p g) s.no_cycle (put_fewer c p g made refl refl (λ t e. e)))
 
-pub sound_unlinked : (c : Configuration) (p : ℕ) → p < length c.gates → IsSound c → IsSound (linked c p None)
+pub sound_unlinked : (c : Configuration) (p : ℕ) → p < length c.gates → IsSound c → IsSound (with_target c p None)
 sound_unlinked c p made s =
     let g : Gate = record (gate c p) { target = None } in
     sound_with_gate c p g made refl refl s (λ t e. absurd (cc)) (no_cycle_fewer c (with_gate c p g) s.no_cycle (put_fewer c p g made refl refl (λ t e. absurd (cc))))
 
-pub sound_linked : (c : Configuration) (p : ℕ) (t : Target) → p < length c.gates → LeadsToProvision c t → has_no_cycle (linked c p (Some t)) ≡ true → IsSound c → IsSound (linked c p (Some t))
+pub sound_linked : (c : Configuration) (p : ℕ) (t : Target) → p < length c.gates → LeadsToProvision c t → has_no_cycle (with_target c p (Some t)) ≡ true → IsSound c → IsSound (with_target c p (Some t))
 sound_linked c p t made leads no_cycle s =
     let g : Gate = record (gate c p) { target = Some t } in
     sound_with_gate c p g made refl refl s
@@ -199,7 +199,7 @@ module _ (c : Configuration) (n : ℕ) (old : Slot) (there : slot c n ≡ Some o
     });
   }
 
-  pub sound_removed : IsSound c → ((q : ℕ) (t : Target) → target c q ≡ Some t → t.node ≡ n → ⊥) → IsSound (removed c n)
+  pub sound_removed : IsSound c → ((q : ℕ) (t : Target) → target c q ≡ Some t → t.node ≡ n → ⊥) → IsSound (with_removed c n)
   unfolding without
   sound_removed s apart =
       subst (λ o. IsSound (record c { slots = option_map_or (λ (m : Slot). set c.slots n (record m { live = false })) o c.slots })) (sym there) (sound_without s apart)

@@ -1,16 +1,18 @@
 -- Single places of a state: how phases exclude each other, what is read where a node's event wrote, who services a port, and what
 -- stands behind a list.
-use Rattle.std.proofs.Common.{◌≡◌, ℕ, ◌<◌, true, false, ◌||◌, length, set, Option, Some, None, refl, sym, ap, ◌∙◌, get_or-set_same, get_or-set_other}
-use Rattle.std.specs.Prelude.{◌==◌, option_and_then}
+use Rattle.std.proofs.Common.{◌≡◌, ℕ, ◌<◌, ◌≤◌, true, false, ◌||◌, length, set, Option, Some, None, refl, sym, ap, ◌∙◌, ⊎_elim, get_or-set_same, get_or-set_other}
+use Rattle.std.specs.Prelude.{◌==◌, is_some, option_and_then}
 use Rattle.std.specs.Option.{option_map_or}
-use Rattle.std.proofs.lemmas.Bool.{both_ways, eqb-true, eq-eqb}
+use Rattle.std.proofs.lemmas.Bool.{both_ways, cases_lt, eqb-true, eq-eqb}
+use Rattle.std.proofs.lemmas.List.{get_or_past}
 use Rattle.config_graph.specs.declared.node.Target.{Target}
+use Rattle.quiesce_core.specs.declared.state.Gate.{Gate}
 use Rattle.quiesce_core.specs.declared.state.Service.{Service}
 use Rattle.quiesce_core.specs.declared.state.Exchange.{Exchange}
-use Rattle.quiesce_core.specs.declared.state.Phase.{Phase}
-use Rattle.quiesce_core.specs.declared.state.Phase.TheVariants as phase
-use Rattle.quiesce_core.specs.State.{Configuration, State, fresh_exchange, target, provision, exchange, service, target_service}
-use Rattle.quiesce_core.specs.Phases.{is_idle, is_asked, is_answered, is_in_more}
+use Rattle.gate_word.specs.declared.phase.Phase.{Phase}
+use Rattle.gate_word.specs.declared.phase.Phase.TheVariants as phase
+use Rattle.quiesce_core.specs.State.{Configuration, State, fresh_exchange, fresh_gate, gate, target, provision, exchange, service, target_service}
+use Rattle.gate_word.specs.Phases.{is_idle, is_asked, is_answered, is_in_more}
 use Rattle.quiesce_core.specs.Rules.{is_taken}
 use Rattle.quiesce_core.specs.Effect.{with_exchange, with_service, with_target_service}
 use Rattle.quiesce_core.specs.Traffic.{IsConsistent}
@@ -107,6 +109,15 @@ pub taken_busy : (s : State) (p : ℕ) → IsConsistent s → is_taken s p ≡ t
 taken_busy s p k h =
     let at = taken_is s p h in
     sym (ap (λ i. is_idle (exchange s i).phase) at.of_port) ∙ serving_busy (exchange s at.serving.port).phase (k.serving at.to.node at.serving at.serviced).busy
+
+-- a port that isn't idle was made
+pub busy_made : (s : State) (p : ℕ) → IsConsistent s → is_idle (exchange s p).phase ≡ false → p < length s.config.gates
+busy_made s p k busy = ⊎_elim
+    (λ (h : p < length s.config.gates). h)
+    (λ (past : length s.config.gates ≤ p).
+    let fresh : gate s.config p ≡ fresh_gate = get_or_past s.config.gates p fresh_gate past in
+    absurd (both_ways false refl (sym (ap (λ (g : Gate). is_some g.target) fresh) ∙ k.linked p busy)))
+    (cases_lt p (length s.config.gates))
 
 -- the provision by which a node services a port
 pub provision_is : (c : Configuration) (p n x : ℕ) → target c p ≡ Some (record { node = n; provide = x }) → provision c p ≡ x

@@ -13,22 +13,21 @@ use Rattle.quiesce_core.specs.Effect.{new_gates}
 use Rattle.std.proofs.lemmas.List.FromFn.{map-range_with_len_more, length-map-range_with_len}
 use Rattle.quiesce_core.specs.State.{Configuration, State, slot, is_live, owner, target, provision, calls_allowed, mores_allowed, service}
 use Rattle.quiesce_core.specs.Rules.{is_live_port, has_calls_left, has_mores_left}
-use Rattle.quiesce_core.specs.WordFields.{FitsTarget}
+use Rattle.gate_word.specs.Words.{FitsTarget}
 use Rattle.quiesce_core.specs.WellFormed.{IsWellFormed}
-use Rattle.quiesce_core.proofs.KindLemmas.{few_calls, few_mores}
 use Rattle.quiesce_core.proofs.CycleLaws.{map_or_true, map_or_at}
-use Rattle.config_graph.proofs.KindLaws.{one_provision}
+use Rattle.config_graph.proofs.KindLaws.{few_calls, few_mores, one_provision}
 
 pub live_made : (c : Configuration) (n : ℕ) → is_live c n ≡ true → n < length c.slots
 live_made c n h = let m = map_or_true (λ (m : Slot). m.live) (slot c n) h in slice_get_within c.slots n m.0 m.1
 
-pub gate_place : (s : State) (p : ℕ) → is_live_port s p ≡ true → p < length s.config.gates
+pub gate_place : (s : State) (p : ℕ) → is_live_port s.config p ≡ true → p < length s.config.gates
 gate_place s p h = ltb-true p (length s.config.gates) (and_parts (nat_lt p (length s.config.gates)) (is_live s.config (owner s.config p)) h).0
 
-pub exchange_place : (s : State) (p : ℕ) → IsWellFormed s → is_live_port s p ≡ true → p < length s.traffic.exchanges
+pub exchange_place : (s : State) (p : ℕ) → IsWellFormed s → is_live_port s.config p ≡ true → p < length s.traffic.exchanges
 exchange_place s p w h = omega (arith, gate_place s p h, w.exchanges)
 
-pub owner_place : (s : State) (p : ℕ) → IsWellFormed s → is_live_port s p ≡ true → owner s.config p < length s.traffic.services
+pub owner_place : (s : State) (p : ℕ) → IsWellFormed s → is_live_port s.config p ≡ true → owner s.config p < length s.traffic.services
 owner_place s p w h =
     omega (arith, live_made s.config (owner s.config p) (and_parts (nat_lt p (length s.config.gates)) (is_live s.config (owner s.config p)) h).1, w.services)
 

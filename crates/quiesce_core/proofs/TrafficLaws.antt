@@ -15,12 +15,12 @@ use Rattle.quiesce_core.specs.declared.state.Slot.{Slot}
 use Rattle.quiesce_core.specs.declared.state.Gate.{Gate}
 use Rattle.quiesce_core.specs.declared.state.Service.{Service}
 use Rattle.quiesce_core.specs.declared.state.Exchange.{Exchange}
-use Rattle.quiesce_core.specs.declared.state.Phase.TheVariants as phase
+use Rattle.gate_word.specs.declared.phase.Phase.TheVariants as phase
 use Rattle.quiesce_core.specs.State.{Configuration, State, empty, fresh_gate, fresh_exchange, slot, gate, owner, target, provision, ports_of, calls_allowed, mores_allowed, depends, is_live, exchange, service, target_service}
 use Rattle.quiesce_core.specs.Reach.{IsPortOf, reaches}
-use Rattle.quiesce_core.specs.Phases.{is_idle, is_asked, is_in_more}
+use Rattle.gate_word.specs.Phases.{is_idle, is_asked, is_in_more}
 use Rattle.quiesce_core.specs.Rules.{is_linked, is_taken, is_called_within, has_calls_left, is_live_port, is_quiet, is_settled}
-use Rattle.quiesce_core.specs.Effect.{with_exchange, with_service, with_target_service, with_gate, closed, linked, with_node, effect}
+use Rattle.quiesce_core.specs.Effect.{with_exchange, with_service, with_target_service, with_gate, with_closed, with_target, with_node, effect}
 use Rattle.quiesce_core.specs.Legal.{Legal}
 use Rattle.quiesce_core.specs.WellFormed.{IsWellFormed}
 use Rattle.quiesce_core.specs.Traffic.{IsServing, IsConsequent, IsConsistent}
@@ -59,7 +59,7 @@ consequent_stays s s' q r w c busy serviced same h = record {
   depends_on = ap (λ d. depends d (owner d q) (provision d r) q) c ∙ h.depends_on;
 }
 
-linked_stays : (s s' : State) (q : ℕ) → s'.config ≡ s.config → is_linked s q ≡ true → is_linked s' q ≡ true
+linked_stays : (s s' : State) (q : ℕ) → s'.config ≡ s.config → is_linked s.config q ≡ true → is_linked s'.config q ≡ true
 linked_stays s s' q c h = ap (λ d. is_some (target d q)) c ∙ h
 
 removed_stays : (s s' : State) → s'.config ≡ s.config → IsConsistent s → (q : ℕ) → is_live s'.config (owner s'.config q) ≡ false → ((gate s'.config q).closed ≡ true) × (target s'.config q ≡ None)
@@ -70,7 +70,7 @@ busy_there s s' q r e h = ap (λ (x : Exchange). is_idle x.phase) e ∙ h.busy
 
 -- what a node's event owes, so that the traffic stays consistent
 pub record Owes (s s' : State) (p n : ℕ) : Type 0 where
-  pub linked : is_idle (exchange s' p).phase ≡ false → is_linked s p ≡ true
+  pub linked : is_idle (exchange s' p).phase ≡ false → is_linked s.config p ≡ true
   pub serving : (v : Service) → service s' n ≡ Some v → IsServing s' n v
   pub others : (m : ℕ) (v : Service) → (m ≡ n → ⊥) → service s m ≡ Some v → v.port ≡ p → IsServing s' m v
   pub taken : is_in_more (exchange s' p).phase ≡ true → is_taken s' p ≡ true
@@ -81,7 +81,7 @@ pub record Owes (s s' : State) (p n : ℕ) : Type 0 where
 steps : (s s' : State) (p n : ℕ) → IsConsistent s → Changes s s' p n → Owes s s' p n → IsConsistent s'
 steps s s' p n k c o = record {
   linked = λ q h. linked_stays s s' q c.config (⊎_elim
-      (λ (same : q ≡ p). ap (λ i. is_linked s i) same ∙ o.linked (sym (ap (λ i. is_idle (exchange s' i).phase) same) ∙ h))
+      (λ (same : q ≡ p). ap (λ i. is_linked s.config i) same ∙ o.linked (sym (ap (λ i. is_idle (exchange s' i).phase) same) ∙ h))
       (λ (other : q ≡ p → ⊥). k.linked q (sym (ap (λ (x : Exchange). is_idle x.phase) (c.exchanges q other)) ∙ h))
       (cases_eq q p));
   serving = λ m v e. ⊎_elim
@@ -505,10 +505,10 @@ regated s p g made same_owner same_require busy_target live k =
           (cases_eq q p);
     }
 
-live_owner : (s : State) (p : ℕ) → is_live_port s p ≡ true → is_live s.config (owner s.config p) ≡ true
+live_owner : (s : State) (p : ℕ) → is_live_port s.config p ≡ true → is_live s.config (owner s.config p) ≡ true
 live_owner s p h = (and_parts (nat_lt p (length s.config.gates)) (is_live s.config (owner s.config p)) h).1
 
-turned_consistent : (s : State) (p : ℕ) (b : Bool) → is_live_port s p ≡ true → IsConsistent s → IsConsistent (record s { config = closed s.config p b })
+turned_consistent : (s : State) (p : ℕ) (b : Bool) → is_live_port s.config p ≡ true → IsConsistent s → IsConsistent (record s { config = with_closed s.config p b })
 turned_consistent s p b live k = regated s p (record (gate s.config p) { closed = b }) (gate_place s p live) refl refl (λ h. refl) (live_owner s p live) k
 
 -- a port of a settled node is idle
@@ -519,8 +519,8 @@ settled_idle s n p h owned =
     let b = and_parts (is_live s.config n && list_all (λ p. is_quiet s p) (ports_of s.config n)) (is_none (service s n)) a.0 in
     all_of s.config n (λ p. is_quiet s p) p (and_parts (is_live s.config n) (list_all (λ p. is_quiet s p) (ports_of s.config n)) b.0).1 owned
 
-relinked_consistent : (s : State) (p : ℕ) (t : Option Target) → is_live_port s p ≡ true → is_settled s (owner s.config p) ≡ true → IsWellFormed s → IsConsistent s
-    → IsConsistent (record s { config = linked s.config p t })
+relinked_consistent : (s : State) (p : ℕ) (t : Option Target) → is_live_port s.config p ≡ true → is_settled s (owner s.config p) ≡ true → IsWellFormed s → IsConsistent s
+    → IsConsistent (record s { config = with_target s.config p t })
 relinked_consistent s p t live settled w k =
     let made = gate_place s p live in
     let quiet = settled_idle s (owner s.config p) p settled (w.sound.ports p made) in

@@ -1,7 +1,7 @@
--- Who does an event: a port's owner, its target, or the change.
-use Rattle.std.specs.Prelude.{Bool, true, false}
+-- Who does an event: a port's owner, its target, or the change; and tests of single events.
+use Rattle.std.specs.Prelude.{ℕ, Bool, true, false, ◌==◌}
 use Rattle.quiesce_core.specs.declared.event.Event.{Event}
-use Rattle.quiesce_core.specs.declared.event.Event.TheVariants.{Begin, Call, Ask, End, Miss, Close, Reopen, Make, Link, Unlink, Remove}
+use Rattle.quiesce_core.specs.declared.event.Event.TheVariants.{Begin, Call, Give, Ask, End, Miss, Close, Reopen, Make, Link, Unlink, Remove}
 
 abbrev pub is_of_owner : Event → Bool
 is_of_owner (Begin p k v) = true
@@ -19,3 +19,25 @@ is_of_change (Link p n x) = true
 is_of_change (Unlink p) = true
 is_of_change (Remove n) = true
 is_of_change _ = false
+
+-- whether the target answers at port p, its owner sends a further message there, or ends the transaction
+abbrev pub is_give_at : ℕ → Event → Bool
+is_give_at p (Give q k v) = q == p
+is_give_at p _ = false
+
+abbrev pub is_ask_at : ℕ → Event → Bool
+is_ask_at p (Ask q k v) = q == p
+is_ask_at p _ = false
+
+abbrev pub is_end_at : ℕ → Event → Bool
+is_end_at p (End q k v) = q == p
+is_end_at p _ = false
+
+-- an event by which a node goes, or comes to be
+abbrev pub is_remove : Event → Bool
+is_remove (Remove n) = true
+is_remove _ = false
+
+abbrev pub is_make : Event → Bool
+is_make (Make n node from) = true
+is_make _ = false

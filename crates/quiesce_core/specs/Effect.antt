@@ -1,5 +1,5 @@
 -- What each event changes. All else stays.
-use Rattle.std.specs.Prelude.{ℕ, ◌+◌, Bool, true, false, List, [], ◌∷◌, ◌++◌, map, length, replicate, Option, Some, None, option_map, slice_set}
+use Rattle.std.specs.Prelude.{ℕ, ◌+◌, Bool, true, false, List, [], ◌∷◌, ◌++◌, map, length, replicate, Option, Some, None, option_map, fold, slice_set}
 use Rattle.std.specs.List.{range_with_len}
 use Rattle.std.specs.Option.{option_map_or}
 use Rattle.config_graph.specs.Kinds.{row}
@@ -11,22 +11,23 @@ use Rattle.quiesce_core.specs.declared.state.Slot.{Slot}
 use Rattle.quiesce_core.specs.declared.state.Gate.{Gate}
 use Rattle.quiesce_core.specs.declared.state.Exchange.{Exchange}
 use Rattle.quiesce_core.specs.declared.state.Service.{Service}
-use Rattle.quiesce_core.specs.declared.state.Phase.TheVariants as phase
-use Rattle.quiesce_core.specs.State.{Configuration, Traffic, State, slot, gate, owner, target, exchange, service, target_service, fresh_exchange}
+use Rattle.gate_word.specs.declared.phase.Phase.TheVariants as phase
+use Rattle.quiesce_core.specs.State.{Configuration, Traffic, State, empty, slot, gate, owner, target, exchange, service, target_service, fresh_exchange}
 
 abbrev pub with_gate : Configuration → ℕ → Gate → Configuration
 with_gate c p g = record c { gates = slice_set c.gates p g }
 
 -- the port is closed, or open
-abbrev pub closed : Configuration → ℕ → Bool → Configuration
-closed c p b = with_gate c p (record (gate c p) { closed = b })
+abbrev pub with_closed : Configuration → ℕ → Bool → Configuration
+with_closed c p b = with_gate c p (record (gate c p) { closed = b })
 
 -- the port leads there, or nowhere
-abbrev pub linked : Configuration → ℕ → Option Target → Configuration
-linked c p t = with_gate c p (record (gate c p) { target = t })
+abbrev pub with_target : Configuration → ℕ → Option Target → Configuration
+with_target c p t = with_gate c p (record (gate c p) { target = t })
 
-abbrev pub removed : Configuration → ℕ → Configuration
-removed c n = record c { slots = option_map_or (λ (m : Slot). slice_set c.slots n (record m { live = false })) (slot c n) c.slots }
+-- the node in the slot is live no more
+abbrev pub with_removed : Configuration → ℕ → Configuration
+with_removed c n = record c { slots = option_map_or (λ (m : Slot). slice_set c.slots n (record m { live = false })) (slot c n) c.slots }
 
 -- the gates of a node that requires so many services, when it was just made
 abbrev pub new_gates : ℕ → ℕ → List Gate
@@ -39,6 +40,20 @@ with_node c node from =
       slots = c.slots ++ record { node = node; first_port = length c.gates; from = from; live = true } ∷ [];
       gates = c.gates ++ new_gates (length c.slots) (length (row node.kind).requires_);
     }
+
+-- What an event makes of the configuration: the change's events alone alter it, and they go by nothing else.
+abbrev pub change_next : Configuration → Event → Configuration
+change_next c (Close p) = with_closed c p true
+change_next c (Reopen p) = with_closed c p false
+change_next c (Make n node from) = with_node c node from
+change_next c (Link p n x) = with_target c p (Some (record { node = n; provide = x }))
+change_next c (Unlink p) = with_target c p None
+change_next c (Remove n) = with_removed c n
+change_next c _ = c
+
+-- the configuration after events, beginning with nothing made
+abbrev pub configuration_after : List Event → Configuration
+configuration_after es = fold change_next empty.config es
 
 -- the traffic with a fresh node that requires so many services
 abbrev pub with_fresh : Traffic → ℕ → Traffic
@@ -79,10 +94,10 @@ effect s (More p k v) =
 effect s (Ask p k v) = with_exchange s p (record (exchange s p) { phase = phase.Asked; value = v })
 effect s (Hear p k v) = with_target_service s p (option_map (λ (w : Service). record w { heard = true }) (target_service s p))
 effect s (End p k v) = with_exchange s p (record (exchange s p) { phase = phase.Idle; value = 0; within = None })
-effect s (Close p) = record s { config = closed s.config p true }
-effect s (Reopen p) = record s { config = closed s.config p false }
+effect s (Close p) = record s { config = change_next s.config (Close p) }
+effect s (Reopen p) = record s { config = change_next s.config (Reopen p) }
 effect s (Make n node from) =
-    record { config = with_node s.config node from; traffic = with_fresh s.traffic (length (row node.kind).requires_) }
-effect s (Link p n x) = record s { config = linked s.config p (Some (record { node = n; provide = x })) }
-effect s (Unlink p) = record s { config = linked s.config p None }
-effect s (Remove n) = record s { config = removed s.config n }
+    record { config = change_next s.config (Make n node from); traffic = with_fresh s.traffic (length (row node.kind).requires_) }
+effect s (Link p n x) = record s { config = change_next s.config (Link p n x) }
+effect s (Unlink p) = record s { config = change_next s.config (Unlink p) }
+effect s (Remove n) = record s { config = change_next s.config (Remove n) }

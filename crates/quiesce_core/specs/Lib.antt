@@ -1,5 +1,4 @@
 pub mod State
-pub mod Phases
 pub mod Reach
 pub mod Effect
 pub mod Rules
@@ -7,14 +6,13 @@ pub mod Legal
 pub mod Runs
 pub mod Settled
 pub mod Rest
-pub mod GateWord
+pub mod Words
 pub mod Knowledge
 pub mod WellFormed
-pub mod Known
+pub mod Searched
 pub mod Tables
-pub mod Machine
+pub mod CoreState
 pub mod Doers
-pub mod WordFields
 pub mod Open
 pub mod Counted
 pub mod Start
@@ -22,5 +20,6 @@ pub mod Traffic
 pub mod Named
 pub mod Live
 pub mod Listed
-pub mod Knows
 pub mod SameWiring
+pub mod Alters
+pub mod Sources

@@ -11,9 +11,9 @@ use Rattle.quiesce_core.specs.declared.event.Event.{Event}
 use Rattle.quiesce_core.specs.declared.event.Event.TheVariants.{Begin, Call, Take, Give, End, More, Ask, Hear, Miss, Close, Reopen, Make, Link, Unlink, Remove}
 use Rattle.quiesce_core.specs.declared.state.Slot.{Slot}
 use Rattle.quiesce_core.specs.declared.state.Service.{Service}
-use Rattle.quiesce_core.specs.Phases.{is_idle, is_asked, is_answered, is_in_more}
+use Rattle.gate_word.specs.Phases.{is_idle, is_asked, is_answered, is_in_more}
 use Rattle.quiesce_core.specs.State.{Configuration, State, slot, is_live, ports_of, gate, owner, target, provision, provides, calls_allowed, mores_allowed, depends, exchange, service, target_service}
-use Rattle.quiesce_core.specs.Effect.{linked}
+use Rattle.quiesce_core.specs.Effect.{with_target}
 use Rattle.quiesce_core.specs.Reach.{reaches, has_no_cycle}
 
 -- values are below this number, and serials too
@@ -24,14 +24,14 @@ abbrev pub last_serial : ℕ
 last_serial = 16777215
 
 -- whether the port was made and its owner is live
-abbrev pub is_live_port : State → ℕ → Bool
-is_live_port s p = nat_lt p (length s.config.gates) && is_live s.config (owner s.config p)
+abbrev pub is_live_port : Configuration → ℕ → Bool
+is_live_port c p = nat_lt p (length c.gates) && is_live c (owner c p)
 
-abbrev pub is_open : State → ℕ → Bool
-is_open s p = not (gate s.config p).closed
+abbrev pub is_open : Configuration → ℕ → Bool
+is_open c p = not (gate c p).closed
 
-abbrev pub is_linked : State → ℕ → Bool
-is_linked s p = is_some (target s.config p)
+abbrev pub is_linked : Configuration → ℕ → Bool
+is_linked c p = is_some (target c p)
 
 -- whether the serial is the port's plus one and there is such a serial
 abbrev pub is_next_serial : State → ℕ → ℕ → Bool
@@ -48,7 +48,7 @@ is_value v = nat_lt v value_limit
 
 -- whether the port is unlinked or its transactions are spent
 abbrev pub is_missing : State → ℕ → Bool
-is_missing s p = not (is_linked s p) || (exchange s p).serial == last_serial
+is_missing s p = not (is_linked s.config p) || (exchange s p).serial == last_serial
 
 -- whether node n services a transaction by a provision that depends on the port
 abbrev pub serves_through : State → ℕ → ℕ → Bool
@@ -93,10 +93,10 @@ is_settled s n =
     && list_all (λ p. is_quiet s p || not (reaches s.config n p)) (range_with_len 0 (length s.config.gates))
 
 -- whether the slot is the next and there is room for the node and its ports
-abbrev pub has_room : State → ℕ → Node → Bool
-has_room s n node =
-    n == length s.config.slots && nat_lt n MAX_NODES
-    && nat_le (length s.config.gates + length (row node.kind).requires_) MAX_PORTS
+abbrev pub has_room : Configuration → ℕ → Node → Bool
+has_room c n node =
+    n == length c.slots && nat_lt n MAX_NODES
+    && nat_le (length c.gates + length (row node.kind).requires_) MAX_PORTS
 
 -- whether a live node has the path
 abbrev pub is_path_taken : Configuration → List ℕ → Bool
@@ -129,39 +129,39 @@ is_apart c n =
 -- the rules of an event, by their numbers, in the order in which they are looked at, and whether each holds
 abbrev pub rules_at : State → Event → List (ℕ × Bool)
 rules_at s (Begin p k v) =
-    (1, is_live_port s p) ∷ (2, is_open s p) ∷ (3, is_linked s p) ∷ (4, is_idle (exchange s p).phase) ∷ (5, is_next_serial s p k)
+    (1, is_live_port s.config p) ∷ (2, is_open s.config p) ∷ (3, is_linked s.config p) ∷ (4, is_idle (exchange s p).phase) ∷ (5, is_next_serial s p k)
     ∷ (6, is_value v) ∷ []
 rules_at s (Call p k v) =
-    (1, is_live_port s p) ∷ (7, serves_through s (owner s.config p) p) ∷ (8, has_calls_left s (owner s.config p))
-    ∷ (29, was_heard (service s (owner s.config p))) ∷ (3, is_linked s p) ∷ (4, is_idle (exchange s p).phase)
+    (1, is_live_port s.config p) ∷ (7, serves_through s (owner s.config p) p) ∷ (8, has_calls_left s (owner s.config p))
+    ∷ (29, was_heard (service s (owner s.config p))) ∷ (3, is_linked s.config p) ∷ (4, is_idle (exchange s p).phase)
     ∷ (5, is_next_serial s p k) ∷ (6, is_value v) ∷ []
 rules_at s (Miss p) =
-    (1, is_live_port s p) ∷ (7, serves_through s (owner s.config p) p) ∷ (8, has_calls_left s (owner s.config p))
+    (1, is_live_port s.config p) ∷ (7, serves_through s (owner s.config p) p) ∷ (8, has_calls_left s (owner s.config p))
     ∷ (29, was_heard (service s (owner s.config p))) ∷ (4, is_idle (exchange s p).phase) ∷ (9, is_missing s p) ∷ []
 rules_at s (Take p k v) =
-    (1, is_live_port s p) ∷ (10, is_asked (exchange s p).phase) ∷ (11, not (is_taken s p)) ∷ (12, is_none (target_service s p))
+    (1, is_live_port s.config p) ∷ (10, is_asked (exchange s p).phase) ∷ (11, not (is_taken s p)) ∷ (12, is_none (target_service s p))
     ∷ (13, is_last_message s p k v) ∷ []
 rules_at s (Give p k v) =
-    (1, is_live_port s p) ∷ (14, is_taken s p) ∷ (29, was_heard (target_service s p)) ∷ (15, is_port_serial s p k)
+    (1, is_live_port s.config p) ∷ (14, is_taken s p) ∷ (29, was_heard (target_service s p)) ∷ (15, is_port_serial s p k)
     ∷ (16, calls_have_ended s p) ∷ (6, is_value v) ∷ []
 rules_at s (More p k v) =
-    (1, is_live_port s p) ∷ (14, is_taken s p) ∷ (29, was_heard (target_service s p)) ∷ (15, is_port_serial s p k)
+    (1, is_live_port s.config p) ∷ (14, is_taken s p) ∷ (29, was_heard (target_service s p)) ∷ (15, is_port_serial s p k)
     ∷ (16, calls_have_ended s p) ∷ (28, has_mores_left s p) ∷ (6, is_value v) ∷ []
 rules_at s (Ask p k v) =
-    (1, is_live_port s p) ∷ (27, is_in_more (exchange s p).phase) ∷ (15, is_port_serial s p k) ∷ (6, is_value v) ∷ []
+    (1, is_live_port s.config p) ∷ (27, is_in_more (exchange s p).phase) ∷ (15, is_port_serial s p k) ∷ (6, is_value v) ∷ []
 rules_at s (Hear p k v) =
-    (1, is_live_port s p) ∷ (10, is_asked (exchange s p).phase) ∷ (14, is_taken s p) ∷ (30, not (was_heard (target_service s p)))
+    (1, is_live_port s.config p) ∷ (10, is_asked (exchange s p).phase) ∷ (14, is_taken s p) ∷ (30, not (was_heard (target_service s p)))
     ∷ (13, is_last_message s p k v) ∷ []
-rules_at s (End p k v) = (1, is_live_port s p) ∷ (17, is_answered (exchange s p).phase) ∷ (13, is_last_message s p k v) ∷ []
-rules_at s (Close p) = (1, is_live_port s p) ∷ []
-rules_at s (Reopen p) = (1, is_live_port s p) ∷ []
+rules_at s (End p k v) = (1, is_live_port s.config p) ∷ (17, is_answered (exchange s p).phase) ∷ (13, is_last_message s p k v) ∷ []
+rules_at s (Close p) = (1, is_live_port s.config p) ∷ []
+rules_at s (Reopen p) = (1, is_live_port s.config p) ∷ []
 rules_at s (Make n node from) =
-    (18, has_room s n node) ∷ (19, not (is_path_taken s.config node.path) && has_its_argument node)
+    (18, has_room s.config n node) ∷ (19, not (is_path_taken s.config node.path) && has_its_argument node)
     ∷ (26, option_map_or (λ k. can_move s.config k node.kind) from true) ∷ []
 rules_at s (Link p n x) =
-    (1, is_live_port s p) ∷ (20, not (is_linked s p)) ∷ (21, has_provision s.config n x) ∷ (22, is_settled s (owner s.config p))
-    ∷ (23, has_no_cycle (linked s.config p (Some (record { node = n; provide = x })))) ∷ []
-rules_at s (Unlink p) = (1, is_live_port s p) ∷ (3, is_linked s p) ∷ (22, is_settled s (owner s.config p)) ∷ []
+    (1, is_live_port s.config p) ∷ (20, not (is_linked s.config p)) ∷ (21, has_provision s.config n x) ∷ (22, is_settled s (owner s.config p))
+    ∷ (23, has_no_cycle (with_target s.config p (Some (record { node = n; provide = x })))) ∷ []
+rules_at s (Unlink p) = (1, is_live_port s.config p) ∷ (3, is_linked s.config p) ∷ (22, is_settled s (owner s.config p)) ∷ []
 rules_at s (Remove n) = (24, is_live s.config n) ∷ (22, is_settled s n) ∷ (25, is_apart s.config n) ∷ []
 
 -- the number of the first rule that fails

@@ -1,6 +1,6 @@
 -- Steps and runs of the change machine, who does an event, and the transactions of a run (Kramer and Magee 1990: an exchange
 -- between two nodes, of whose completion the initiator is aware).
-use Rattle.std.specs.Prelude.{◌≡◌, ℕ, Bool, true, false, not, ◌&&◌, ◌==◌, List, [], ◌∷◌, ◌++◌, Option, Some, None, option_map, fold, if◌then◌else◌}
+use Rattle.std.specs.Prelude.{◌≡◌, ℕ, Bool, true, false, not, ◌&&◌, ◌==◌, List, [], ◌∷◌, ◌++◌, Option, Some, None, is_none, option_map, fold, if◌then◌else◌}
 use Rattle.std.specs.List.{list_any}
 use Rattle.std.specs.Option.{option_map_or}
 use Rattle.config_graph.specs.declared.node.Target.{Target}
@@ -30,6 +30,11 @@ state_after es = fold effect empty es
 abbrev pub IsRun : List Event → Type 0
 IsRun es = Each (λ before e. Step (state_after before) e (state_after (before ++ e ∷ []))) es
 
+-- the same as a test, from a state on
+abbrev pub can_run : State → List Event → Bool
+can_run s [] = true
+can_run s (e ∷ es) = is_none (denial s e) && can_run (effect s e) es
+
 -- the node that does an event; the change does the others
 abbrev pub doer : State → Event → Option ℕ
 doer s (Begin p k v) = Some (owner s.config p)
@@ -48,11 +53,14 @@ doer s (Link p n x) = None
 doer s (Unlink p) = None
 doer s (Remove n) = None
 
+-- whether node n does an event
+abbrev pub is_doer : State → ℕ → Event → Bool
+is_doer s n e = option_map_or (λ m. m == n) (doer s e) false
+
 -- the events that node n does, in order, from a state on
 abbrev pub done_from : State → ℕ → List Event → List Event
 done_from s n [] = []
-done_from s n (e ∷ es) =
-    if option_map_or (λ m. m == n) (doer s e) false then e ∷ done_from (effect s e) n es else done_from (effect s e) n es
+done_from s n (e ∷ es) = if is_doer s n e then e ∷ done_from (effect s e) n es else done_from (effect s e) n es
 
 abbrev pub done_by : ℕ → List Event → List Event
 done_by n es = done_from empty n es

@@ -19,15 +19,16 @@ slot_of nodes p = record { node = p.1; first_port = first_port nodes p.0; from =
 abbrev pub gate_of : Graph → Port → Gate
 gate_of g p = record { owner = p.node; require = p.require; closed = false; target = target_of g.links p.node p.require }
 
-abbrev pub free : Node → Option Service
-free n = None
+-- a node that has just started services nothing, and nothing was done at a port
+abbrev pub no_service : Node → Option Service
+no_service n = None
 
-abbrev pub unused : Port → Exchange
-unused p = fresh_exchange
+abbrev pub no_exchange : Port → Exchange
+no_exchange p = fresh_exchange
 
 abbrev pub started : Graph → State
 started g =
     record {
       config = record { slots = map (slot_of g.nodes) (enumerate_from 0 g.nodes); gates = map (gate_of g) (ports g.nodes) };
-      traffic = record { services = map free g.nodes; exchanges = map unused (ports g.nodes) };
+      traffic = record { services = map no_service g.nodes; exchanges = map no_exchange (ports g.nodes) };
     }

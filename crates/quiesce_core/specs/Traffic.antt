@@ -2,7 +2,7 @@
 use Rattle.std.specs.Prelude.{◌≡◌, ℕ, ◌≤◌, ◌||◌, true, false, Some, None}
 use Rattle.quiesce_core.specs.declared.state.Service.{Service}
 use Rattle.quiesce_core.specs.State.{State, gate, owner, target, provision, calls_allowed, mores_allowed, depends, is_live, exchange, service}
-use Rattle.quiesce_core.specs.Phases.{is_idle, is_asked, is_in_more}
+use Rattle.gate_word.specs.Phases.{is_idle, is_asked, is_in_more}
 use Rattle.quiesce_core.specs.Rules.{is_linked, is_taken}
 
 -- node n services this: the port is linked to a provision of n, and asked or in more
@@ -23,7 +23,7 @@ pub record IsConsequent (s : State) (p q : ℕ) : Type 0 where
   pub depends_on : depends s.config (owner s.config p) (provision s.config q) p ≡ true
 
 pub record IsConsistent (s : State) : Type 0 where
-  pub linked : (p : ℕ) → is_idle (exchange s p).phase ≡ false → is_linked s p ≡ true
+  pub linked : (p : ℕ) → is_idle (exchange s p).phase ≡ false → is_linked s.config p ≡ true
   pub serving : (n : ℕ) (v : Service) → service s n ≡ Some v → IsServing s n v
   pub taken : (p : ℕ) → is_in_more (exchange s p).phase ≡ true → is_taken s p ≡ true
   pub consequent : (p q : ℕ) → (exchange s p).within ≡ Some q → IsConsequent s p q

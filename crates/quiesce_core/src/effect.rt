@@ -5,9 +5,9 @@ ghost use Rattle.quiesce_core.specs.State as state;
 ghost use Rattle.quiesce_core.specs.Rules as rules;
 ghost use Rattle.quiesce_core.specs.Effect as effect;
 ghost use Rattle.quiesce_core.specs.Legal as legal;
-ghost use Rattle.quiesce_core.specs.Doers.{is_of_owner, is_of_change};
+ghost use Rattle.quiesce_core.specs.Doers.{is_make, is_of_owner, is_of_change};
 ghost use Rattle.quiesce_core.specs.WellFormed.{IsWellFormed};
-ghost use Rattle.quiesce_core.specs.Machine.{is_make, KeepsRoom};
+ghost use Rattle.quiesce_core.specs.Tables.{KeepsRoom};
 ghost use Rattle.quiesce_core.specs.Tables.{state_of};
 ghost use Rattle.quiesce_core.specs.declared.event.Event.TheVariants as event;
 ghost use Rattle.quiesce_core.specs.declared.state.Service.{Service};
@@ -50,7 +50,7 @@ impl Tables {
     #[tactic(auto, using(crate::proofs::TableLaws::places))]
     fn count_call(&mut self, port: u32)
         requires well_formed { IsWellFormed (state_of self.old) }
-        requires live { rules.is_live_port (state_of self.old) port ≡ true }
+        requires live { rules.is_live_port (state_of self.old).config port ≡ true }
         requires left { rules.has_calls_left (state_of self.old) (state.owner (state_of self.old).config port) ≡ true }
         ensures state { state_of self.new ≡ effect.with_call (state_of self.old) (state.owner (state_of self.old).config port) }
         ensures room { KeepsRoom self.old self.new }
@@ -226,8 +226,8 @@ impl Tables {
 
     #[tactic(auto, using(crate::proofs::TableLaws::places))]
     pub fn set_closed(&mut self, port: u32, closed: bool)
-        requires { rules.is_live_port (state_of self.old) port ≡ true }
-        ensures state { state_of self.new ≡ record (state_of self.old) { config = effect.closed (state_of self.old).config port closed } }
+        requires { rules.is_live_port (state_of self.old).config port ≡ true }
+        ensures state { state_of self.new ≡ record (state_of self.old) { config = effect.with_closed (state_of self.old).config port closed } }
         ensures room { KeepsRoom self.old self.new }
     {
         let gate = Gate {
@@ -239,8 +239,8 @@ impl Tables {
 
     #[tactic(auto, using(crate::proofs::TableLaws::places))]
     pub fn set_target(&mut self, port: u32, target: Option<Target>)
-        requires { rules.is_live_port (state_of self.old) port ≡ true }
-        ensures state { state_of self.new ≡ record (state_of self.old) { config = effect.linked (state_of self.old).config port target } }
+        requires { rules.is_live_port (state_of self.old).config port ≡ true }
+        ensures state { state_of self.new ≡ record (state_of self.old) { config = effect.with_target (state_of self.old).config port target } }
         ensures room { KeepsRoom self.old self.new }
     {
         let gate = Gate {

@@ -16,10 +16,6 @@ ghost use Rattle.quiesce_core.specs.Start.{started};
 ghost use Rattle.config_graph.specs.Sound.{Sound};
 ghost use Rattle.config_graph.specs.declared.TheConstants.{MAX_NODES, MAX_PORTS};
 ghost use Rattle.config_graph.specs.declared.node.Target.{Target};
-ghost use Rattle.quiesce_core.specs.Knows.{Knows};
-ghost use Rattle.quiesce_core.specs.WordFields.{FitsWord};
-ghost use Rattle.quiesce_core.specs.GateWord.{fields_of, pack, unpack, word_of};
-ghost use Rattle.quiesce_core.specs.declared.word.Word.{Word};
 ghost use Rattle.quiesce_core.specs.Traffic.{IsConsistent};
 ghost use Rattle.quiesce_core.specs.WellFormed.{IsSound, IsWellFormed};
 ghost use Rattle.quiesce_core.specs.Live.{IsGraphOf, StandsAt};
@@ -77,30 +73,9 @@ pub fn nodes_are_named()
     ensures { (es : List Event) → IsRun es → AreNamed (state_after es).config }
 {}
 
-/// What nodes do leaves the configuration as it is.
-pub fn node_events_keep_the_configuration()
-    ensures { (s : State) (e : Event) (n : ℕ) → doer s e ≡ Some n → (effect s e).config ≡ s.config }
-{}
-
 /// The graph of a system that was just started is the one that it was started as.
 pub fn a_started_system_has_its_graph()
     ensures { (g : Graph) → Sound g → length g.nodes ≤ MAX_NODES → length (ports g.nodes) ≤ MAX_PORTS → IsGraphOf (started g).config g }
-{}
-
-/// In every run a node's own events tell it exactly what the state has of it: what it services, and how far each of its ports has
-/// come.
-pub fn nodes_know()
-    ensures { (es : List Event) → IsRun es → (n : ℕ) → Knows (state_after es) n (done_by n es) }
-{}
-
-/// A number spells the fields that it was packed from.
-pub fn words_decode()
-    ensures { (w : Word) → FitsWord w → unpack (pack w) ≡ w }
-{}
-
-/// After every run the word of a port spells what the state has of the port.
-pub fn words_of_runs_decode()
-    ensures { (es : List Event) (p : ℕ) → IsRun es → unpack (word_of (state_after es) p) ≡ fields_of (state_after es) p }
 {}
 
 /// Where there is no cycle, the events of a transaction are three, and three for each intermediate reply allowed, and for each call

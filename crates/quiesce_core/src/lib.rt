@@ -3,10 +3,12 @@
 //! problem: dynamic change management, 1990).
 #![tactic(auto)]
 
+mod configuration_laws;
 mod denial;
 mod effect;
 mod error;
 mod event;
+mod knowledge_laws;
 mod known;
 mod laws;
 mod live;
@@ -16,21 +18,32 @@ mod open;
 mod reach;
 mod rest;
 mod rules;
+mod run_laws;
 mod starting;
 mod state;
+mod step_laws;
 mod tables;
-mod word;
+mod words;
 
+pub use configuration_laws::{graphs_of_runs, live_nodes_change, sources_are_gone, targets_change};
 pub use error::CoreError;
 pub use event::Event;
-pub use known::Served;
+pub use knowledge_laws::{logs_tell, nodes_judge_rules, nodes_know, steps_keep_what_is_known};
+pub use known::{Known, PortKnown, Served};
 pub use laws::{
     a_started_system_has_its_graph, cycles_are_found, cycles_are_those_of_the_graph,
-    each_rule_holds, full_is_found, node_events_keep_the_configuration, nodes_are_named,
-    nodes_know, one_graph, reach_is_found, reach_is_that_of_the_graph, runs_are_consistent,
-    runs_are_steps, runs_are_well_formed, started_systems_are_consistent, steps_keep_consistency,
-    words_decode, words_of_runs_decode,
+    each_rule_holds, full_is_found, nodes_are_named, one_graph, reach_is_found,
+    reach_is_that_of_the_graph, runs_are_consistent, runs_are_steps, runs_are_well_formed,
+    started_systems_are_consistent, steps_keep_consistency,
 };
 pub use machine::Core;
+pub use run_laws::{
+    changes_are_of_no_node, changes_make_the_configuration, logs_grow, runs_grow,
+    services_keep_their_bounds, transactions_engage_two_nodes, values_carry,
+};
 pub use state::{Exchange, Gate, OpenTxn, Phase, Service, Slot, Stage};
-pub use word::Word;
+pub use step_laws::{replies_stay, steps_alter, targets_stay};
+pub use words::{
+    sources_were_made, words_fit, words_follow_events, words_of_runs_decode,
+    words_of_states_decode, words_tell_of_transactions,
+};

@@ -11,17 +11,17 @@ ghost use Rattle.quiesce_core.specs.Settled.{Settled};
 ghost use Rattle.quiesce_core.specs.Open.{open_txns};
 ghost use Rattle.quiesce_core.specs.Live.{IsGraphOf};
 ghost use Rattle.quiesce_core.specs.Rest.{rest};
-ghost use Rattle.quiesce_core.specs.GateWord as words;
-ghost use Rattle.quiesce_core.specs.declared.state.Slot.{Slot};
+ghost use Rattle.quiesce_core.specs.Words as words;
 ghost use Rattle.quiesce_core.specs.Runs.{Step};
-ghost use Rattle.quiesce_core.specs.Machine.{is_make};
+ghost use Rattle.quiesce_core.specs.Doers.{is_make};
 ghost use Rattle.quiesce_core.specs.Named.{AreNamed};
 ghost use Rattle.quiesce_core.specs.WellFormed.{IsWellFormed};
+ghost use Rattle.quiesce_core.specs.Traffic.{IsConsistent};
 
 use crate::error::CoreError;
 use crate::event::Event;
 use crate::rules::LAST_SERIAL;
-use crate::state::OpenTxn;
+use crate::state::{Exchange, Gate, OpenTxn, Service, Slot};
 use crate::tables::Tables;
 use config_graph::{Graph, Made, NoMemory, Node};
 use std::alloc::Global;
@@ -35,14 +35,14 @@ pub struct Core {
 }
 
 impl Model for Core {
-    ghost use Rattle.quiesce_core.specs.Machine.{Machine, IsMachine};
-    ghost use Rattle.quiesce_core.specs.Tables.{state_of};
+    ghost use Rattle.quiesce_core.specs.CoreState.{CoreState};
+    ghost use Rattle.quiesce_core.specs.Tables.{IsKept, state_of};
 
-    ghost Value = { Machine };
+    ghost Value = { CoreState };
 
     ghost view = { λ c. record { state = state_of c.tables; spare = c.spare } };
 
-    ghost invariant = { λ c. IsMachine c.tables c.spare };
+    ghost invariant = { λ c. IsKept c.tables c.spare };
 }
 
 impl Core {
@@ -101,7 +101,8 @@ impl Core {
         self.tables.denial(event)
     }
 
-    fn perform(&mut self, event: &Event)
+    /// Lets the event happen, which no rule denies. A node is made by `make`, in room that was reserved, or by `apply`.
+    pub fn perform(&mut self, event: &Event)
         requires allowed { denial self.old.state event.now ≡ None }
         requires no_make { is_make event.now ≡ false }
         ensures step { Step self.old.state event.now self.new.state }
@@ -137,12 +138,13 @@ impl Core {
         Ok(())
     }
 
-    /// How many nodes and how many ports were made. It tells too that the state of each machine is well formed, and its nodes named
-    /// apart.
+    /// How many nodes and how many ports were made. It tells too that the state of each machine is well formed and consistent, and
+    /// its nodes named apart.
     pub fn made(&self) -> Made
         ensures nodes { result.nodes ≡ length self.now.state.config.slots }
         ensures ports { result.ports ≡ length self.now.state.config.gates }
         ensures well_formed { IsWellFormed self.now.state }
+        ensures consistent { IsConsistent self.now.state }
         ensures named { AreNamed self.now.state.config }
     {
         Made {
@@ -154,9 +156,37 @@ impl Core {
     /// The node that was made in a slot, whether it is live or was removed.
     pub fn node(&self, slot: u32) -> &Node
         requires { slot < length self.now.state.config.slots }
-        ensures { option_map (λ (m : Slot). m.node) (state.slot self.now.state.config slot) ≡ Some result.now }
+        ensures { option_map (λ m. m.node) (state.slot self.now.state.config slot) ≡ Some result.now }
     {
         &self.tables.slots[slot as usize].node
+    }
+
+    /// What was made in a slot: the node, its first port, where its state came from, and whether it is live.
+    pub fn slot(&self, slot: u32) -> Option<&Slot>
+        ensures { option_map (λ m. m.now) result ≡ state.slot self.now.state.config slot }
+    {
+        self.tables.slot(slot)
+    }
+
+    /// What the change has decided of a port. One that was never made is closed and unlinked.
+    pub fn gate(&self, port: u32) -> Gate
+        ensures { result ≡ state.gate self.now.state.config port }
+    {
+        self.tables.gate(port)
+    }
+
+    /// How far a port's transactions have come. One that was never made is idle, and had none.
+    pub fn exchange(&self, port: u32) -> Exchange
+        ensures { result ≡ state.exchange self.now.state port }
+    {
+        self.tables.exchange(port)
+    }
+
+    /// What a node services.
+    pub fn service(&self, node: u32) -> Option<Service>
+        ensures { result ≡ state.service self.now.state node }
+    {
+        self.tables.service(node)
     }
 
     /// Whether a node was made in this slot and not removed.
@@ -166,7 +196,8 @@ impl Core {
         self.tables.is_live(node)
     }
 
-    /// Whether nothing can engage the node any more, unless a port is reopened or linked or a node is made.
+    /// Whether the node is settled: its ports and those that reach it are closed and idle, and it services nothing. What follows from
+    /// that stands in the laws of runs.
     pub fn settled(&self, node: u32) -> bool
         requires { IsTrue (state.is_live self.now.state.config node) }
         ensures test { result ≡ is_settled self.now.state node }
@@ -212,8 +243,7 @@ impl Core {
         self.tables.graph()
     }
 
-    /// How many events can still happen, at most, until every open transaction has ended, where nothing is linked: of those
-    /// transactions and their consequents. It is the greatest number of 128 bits where it is more.
+    /// How many events can still happen, at most, of the open transactions and their consequents, until each has ended. It is the greatest number of 128 bits where it is more.
     pub fn rest(&self) -> u128
         ensures { result ≡ min (rest self.now.state) (2 ^ 128 - 1) }
     {

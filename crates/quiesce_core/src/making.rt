@@ -5,7 +5,7 @@ ghost use Rattle.config_graph.specs.Kinds.{row};
 ghost use Rattle.config_graph.specs.declared.TheConstants.{MAX_NODES, MAX_PORTS};
 ghost use Rattle.quiesce_core.specs.State.{fresh_exchange};
 ghost use Rattle.quiesce_core.specs.Effect as effect;
-ghost use Rattle.quiesce_core.specs.Machine.{HasRoomToMake, KeepsRoom};
+ghost use Rattle.quiesce_core.specs.Tables.{HasRoomToMake, KeepsRoom};
 ghost use Rattle.quiesce_core.specs.WellFormed.{IsWellFormed};
 ghost use Rattle.quiesce_core.specs.Tables.{state_of};
 ghost use Rattle.quiesce_core.specs.declared.event.Event.TheVariants as event;

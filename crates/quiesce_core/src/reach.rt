@@ -8,8 +8,8 @@ ghost use Rattle.quiesce_core.specs.State as state;
 ghost use Rattle.quiesce_core.specs.Reach as reach;
 ghost use Rattle.quiesce_core.specs.Rules as rules;
 ghost use Rattle.quiesce_core.specs.WellFormed.{IsSound};
-ghost use Rattle.quiesce_core.specs.Known.{AreKnown, reaches_from, leads_up};
-ghost use Rattle.quiesce_core.specs.Effect.{linked};
+ghost use Rattle.quiesce_core.specs.Searched.{AreKnown, reaches_from, leads_up};
+ghost use Rattle.quiesce_core.specs.Effect.{with_target};
 ghost use Rattle.quiesce_core.specs.Tables.{state_of};
 
 use crate::tables::Tables;
@@ -241,7 +241,7 @@ impl Tables {
     pub fn stays_without_cycle(&self, port: u32, target: Target) -> bool
         requires sound { IsSound (state_of self.now).config }
         requires made { port < length (state_of self.now).config.gates }
-        ensures { result ≡ reach.has_no_cycle (linked (state_of self.now).config port (Some target)) }
+        ensures { result ≡ reach.has_no_cycle (with_target (state_of self.now).config port (Some target)) }
     {
         let owner = self.gate(port).owner;
         !(self.is_depended(owner, port) && self.leads_to(target.node, owner))

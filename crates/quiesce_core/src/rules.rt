@@ -53,19 +53,19 @@ pub fn first_failing(table: &[(u32, bool)]) -> Option<u32>
 
 impl Tables {
     pub fn is_live_port(&self, port: u32) -> bool
-        ensures { result ≡ rules.is_live_port (state_of self.now) port }
+        ensures { result ≡ rules.is_live_port (state_of self.now).config port }
     {
         (port as usize) < self.gates.len() && self.is_live(self.gate(port).owner)
     }
 
     pub fn is_open(&self, port: u32) -> bool
-        ensures { result ≡ rules.is_open (state_of self.now) port }
+        ensures { result ≡ rules.is_open (state_of self.now).config port }
     {
         !self.gate(port).closed
     }
 
     pub fn is_linked(&self, port: u32) -> bool
-        ensures { result ≡ rules.is_linked (state_of self.now) port }
+        ensures { result ≡ rules.is_linked (state_of self.now).config port }
     {
         self.gate(port).target.is_some()
     }
@@ -188,7 +188,7 @@ impl Tables {
     }
 
     pub fn has_room(&self, slot: u32, node: &Node) -> bool
-        ensures { result ≡ rules.has_room (state_of self.now) slot node.now }
+        ensures { result ≡ rules.has_room (state_of self.now).config slot node.now }
     {
         slot as usize == self.slots.len()
             && slot < MAX_NODES

@@ -50,7 +50,7 @@ fn list_gates(alloc: Global, graph: &Graph) -> Result<Vec<Gate>, NoMemory>
 }
 
 fn list_services(alloc: Global, nodes: &[Node]) -> Result<Vec<Option<Service>>, NoMemory>
-    ensures { IfOk result (λ v. v.items ≡ map start.free nodes.now) }
+    ensures { IfOk result (λ v. v.items ≡ map start.no_service nodes.now) }
 {
     let mut services = Vec::with_capacity(alloc, nodes.len())?;
     for _node in nodes {
@@ -60,7 +60,7 @@ fn list_services(alloc: Global, nodes: &[Node]) -> Result<Vec<Option<Service>>, 
 }
 
 fn list_exchanges(alloc: Global, graph: &Graph) -> Result<Vec<Exchange>, NoMemory>
-    ensures { IfOk result (λ v. v.items ≡ map start.unused (ports graph.now.nodes)) }
+    ensures { IfOk result (λ v. v.items ≡ map start.no_exchange (ports graph.now.nodes)) }
 {
     let mut exchanges = Vec::with_capacity(alloc, graph.port_count() as usize)?;
     for _number in 0..graph.port_count() {

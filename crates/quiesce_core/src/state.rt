@@ -1,9 +1,7 @@
 //! What a state is made of: of each slot the node made there and what it services, of each port its gate and its exchange.
 
-ghost use Rattle.std.specs.Prelude.{◌≡◌};
-ghost use Rattle.quiesce_core.specs.Phases.{is_idle, is_asked, is_answered, is_in_more};
-
 use config_graph::{Node, Target};
+pub use gate_word::Phase;
 
 /// A node that was made, in its slot.
 #[derive(Debug, Drop, PartialEq, Eq)]
@@ -24,49 +22,6 @@ pub struct Gate {
     pub require: u32,
     pub closed: bool,
     pub target: Option<Target>,
-}
-
-/// How far a port's transaction has come.
-#[derive(Clone, Copy, Debug, PartialEq, Eq)]
-pub enum Phase {
-    /// There is none.
-    Idle,
-    /// A message was sent to the target.
-    Asked,
-    /// The last reply is there.
-    Answered,
-    /// An intermediate reply is there.
-    More,
-}
-
-impl Phase {
-    /// Whether the port has no transaction.
-    pub fn is_idle(self) -> bool
-        ensures { result ≡ is_idle self }
-    {
-        matches!(self, Phase::Idle)
-    }
-
-    /// Whether the last message went to the target.
-    pub fn is_asked(self) -> bool
-        ensures { result ≡ is_asked self }
-    {
-        matches!(self, Phase::Asked)
-    }
-
-    /// Whether the last reply is there.
-    pub fn is_answered(self) -> bool
-        ensures { result ≡ is_answered self }
-    {
-        matches!(self, Phase::Answered)
-    }
-
-    /// Whether an intermediate reply is there.
-    pub fn is_in_more(self) -> bool
-        ensures { result ≡ is_in_more self }
-    {
-        matches!(self, Phase::More)
-    }
 }
 
 /// What the nodes do at a port: its last transaction, with the value of the last message.

@@ -4,12 +4,12 @@ ghost use Rattle.std.specs.Prelude.{◌≡◌, slice_get, option_map};
 ghost use Rattle.quiesce_core.specs.State as state;
 ghost use Rattle.quiesce_core.specs.Tables.{state_of};
 ghost use Rattle.quiesce_core.specs.WellFormed.{IsWellFormed};
-ghost use Rattle.quiesce_core.specs.WordFields.{FitsWord};
-ghost use Rattle.quiesce_core.specs.GateWord as words;
+ghost use Rattle.gate_word.specs.Words.{FitsWord};
+ghost use Rattle.quiesce_core.specs.Words as words;
 
 use crate::state::{Exchange, Gate, Phase, Service, Slot};
-use crate::word::Word;
 use config_graph::{Kind, Target};
+use gate_word::Word;
 use std::alloc::Global;
 
 /// What a port that was never made looks like.

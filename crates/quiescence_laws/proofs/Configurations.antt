@@ -12,10 +12,10 @@ use Rattle.quiesce_core.specs.declared.event.Event.TheVariants.{Begin, Call, Tak
 use Rattle.quiesce_core.specs.declared.state.Slot.{Slot}
 use Rattle.quiesce_core.specs.declared.state.Gate.{Gate}
 use Rattle.quiesce_core.specs.State.{Configuration, State, fresh_gate, slot, gate, owner, target, depends, exchange}
-use Rattle.quiesce_core.specs.Phases.{is_idle}
+use Rattle.gate_word.specs.Phases.{is_idle}
 use Rattle.quiesce_core.specs.Rules.{is_live_port, is_settled}
 use Rattle.quiesce_core.specs.Traffic.{IsConsistent}
-use Rattle.quiesce_core.specs.Effect.{with_gate, removed, with_node, effect}
+use Rattle.quiesce_core.specs.Effect.{with_gate, with_removed, with_node, effect}
 use Rattle.quiesce_core.specs.Legal.{Legal}
 use Rattle.quiesce_core.specs.Reach.{IsPortOf, wiring_of}
 use Rattle.config_graph.specs.Wiring.{Reach, direct, through}
@@ -56,7 +56,7 @@ shrinks_put c p g made same_owner same_require fewer = record {
 without : Configuration → ℕ → Slot → Configuration
 without c k old = record c { slots = set c.slots k (record old { live = false }) }
 
-removed_is : (c : Configuration) (k : ℕ) (old : Slot) → slot c k ≡ Some old → removed c k ≡ without c k old
+removed_is : (c : Configuration) (k : ℕ) (old : Slot) → slot c k ≡ Some old → with_removed c k ≡ without c k old
 unfolding without
 removed_is c k old e = ap (λ o. record c { slots = option_map_or (λ (m : Slot). set c.slots k (record m { live = false })) o c.slots }) e
 
@@ -135,7 +135,7 @@ owner_next s (Unlink p) w l q h = put_owner s.config p (record (gate s.config p)
 owner_next s (Remove n) w l q h = refl
 
 -- a port of a node that is settled by the test is idle
-settled_port : (s : State) (p : ℕ) → IsWellFormed s → is_live_port s p ≡ true → is_settled s (owner s.config p) ≡ true → is_idle (exchange s p).phase ≡ true
+settled_port : (s : State) (p : ℕ) → IsWellFormed s → is_live_port s.config p ≡ true → is_settled s (owner s.config p) ≡ true → is_idle (exchange s p).phase ≡ true
 settled_port s p w live settled =
     let own = (settled_if s w.sound (owner s.config p) settled).own p (w.sound.ports p (gate_place s p live)) in
     (and_parts (gate s.config p).closed (is_idle (exchange s p).phase) own).1

@@ -9,7 +9,7 @@ use Rattle.quiesce_core.specs.declared.event.Event.{Event}
 use Rattle.quiesce_core.specs.declared.state.Service.{Service}
 use Rattle.quiesce_core.specs.declared.state.Slot.{Slot}
 use Rattle.quiesce_core.specs.State.{State, slot, is_live, gate, owner, target, provision, depends, is_depended, exchange, service}
-use Rattle.quiesce_core.specs.Phases.{is_idle}
+use Rattle.gate_word.specs.Phases.{is_idle}
 use Rattle.quiesce_core.specs.Reach.{IsPortOf, can_walk, wiring_of}
 use Rattle.config_graph.specs.Wiring.{Reach, direct, through}
 use Rattle.quiesce_core.specs.Rules.{is_quiet}

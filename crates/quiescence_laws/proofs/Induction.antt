@@ -16,7 +16,7 @@ use Rattle.quiesce_core.specs.Traffic.{IsConsistent}
 use Rattle.quiesce_core.specs.WellFormed.{IsWellFormed}
 use Rattle.quiesce_core.proofs.LegalLaws.{legal}
 use Rattle.quiesce_core.proofs.RunLaws.{runs_are_well_formed, runs_are_consistent}
-use Rattle.quiesce_core.proofs.RunPartLaws.{StepAt, run_parts}
+use Rattle.quiesce_core.proofs.RunLaws.{StepAt, run_parts}
 use Rattle.base.proofs.OptionLaws.{None-from_is_none}
 
 -- an event that stands behind a run and may happen there

@@ -12,10 +12,10 @@ use Rattle.quiesce_core.specs.declared.event.Event.TheVariants.{Begin, Call, Tak
 use Rattle.quiesce_core.specs.declared.state.Gate.{Gate}
 use Rattle.quiesce_core.specs.declared.state.Service.{Service}
 use Rattle.quiesce_core.specs.declared.state.Exchange.{Exchange}
-use Rattle.quiesce_core.specs.declared.state.Phase.{Phase}
-use Rattle.quiesce_core.specs.declared.state.Phase.TheVariants as phase
+use Rattle.gate_word.specs.declared.phase.Phase.{Phase}
+use Rattle.gate_word.specs.declared.phase.Phase.TheVariants as phase
 use Rattle.quiesce_core.specs.State.{State, fresh_exchange, gate, owner, depends, provision, exchange, service}
-use Rattle.quiesce_core.specs.Phases.{is_idle}
+use Rattle.gate_word.specs.Phases.{is_idle}
 use Rattle.quiesce_core.specs.Effect.{with_gate, effect}
 use Rattle.quiesce_core.specs.Legal.{Legal}
 use Rattle.quiesce_core.specs.Runs.{IsRun, state_after}

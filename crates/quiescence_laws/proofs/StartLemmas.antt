@@ -29,11 +29,11 @@ use Rattle.quiesce_core.specs.declared.state.Slot.{Slot}
 use Rattle.quiesce_core.specs.State.{State, empty, fresh_gate, fresh_exchange, slot, gate, owner, is_live, provides}
 use Rattle.quiesce_core.specs.Runs.{Steps, onward, stays}
 use Rattle.quiesce_core.specs.Rules.{denial, has_its_argument, is_path_taken, is_value, is_quiet, is_live_port}
-use Rattle.quiesce_core.specs.Effect.{effect, new_gates, linked}
+use Rattle.quiesce_core.specs.Effect.{effect, new_gates, with_target}
 use Rattle.quiesce_core.specs.Legal.{CanMake, CanLink}
-use Rattle.quiesce_core.specs.Phases.{is_idle}
+use Rattle.gate_word.specs.Phases.{is_idle}
 use Rattle.quiesce_core.specs.Reach.{has_no_cycle}
-use Rattle.quiesce_core.specs.Start.{slot_of, gate_of, free, unused, started}
+use Rattle.quiesce_core.specs.Start.{slot_of, gate_of, no_service, no_exchange, started}
 use Rattle.quiesce_core.specs.WellFormed.{IsWellFormed}
 use Rattle.quiesce_core.proofs.CycleLaws.{map_or_at, no_cycle_if_ranked, ranked_if_no_cycle}
 use Rattle.quiesce_core.proofs.GraphLaws.{length-numbered_from, well_formed_started}
@@ -80,8 +80,8 @@ bare_ports : (n k : ℕ) → map bare (ports_of n k) ≡ new_gates n k
 unfolding bare
 bare_ports n k = map-map bare (λ r. record { node = n; require = r }) (range_with_len 0 k)
 
-unused_ports : (n k : ℕ) → map unused (ports_of n k) ≡ replicate k fresh_exchange
-unused_ports n k = map-map unused (λ r. record { node = n; require = r }) (range_with_len 0 k) ∙ replicated fresh_exchange 0 k
+unused_ports : (n k : ℕ) → map no_exchange (ports_of n k) ≡ replicate k fresh_exchange
+unused_ports n k = map-map no_exchange (λ r. record { node = n; require = r }) (range_with_len 0 k) ∙ replicated fresh_exchange 0 k
 
 front_length : {A : Type 0} (xs : List A) (x : A) (ys : List A) → length xs < length (xs ++ x ∷ ys)
 front_length xs x ys = omega (arith, length-append xs (x ∷ ys))
@@ -137,12 +137,12 @@ slots_live nodes k [] n m e = absurd (cc)
 slots_live nodes k (x ∷ xs) zero m e = let same : slot_of nodes (k, x) ≡ m = cc in ap (λ (s : Slot). s.live) (sym same)
 slots_live nodes k (x ∷ xs) (suc n) m e = slots_live nodes (k + 1) xs n m e
 
-free_at : (nodes : List Node) (n : ℕ) → get_or (map free nodes) n None ≡ None
+free_at : (nodes : List Node) (n : ℕ) → get_or (map no_service nodes) n None ≡ None
 free_at [] n = refl
 free_at (x ∷ nodes) zero = refl
 free_at (x ∷ nodes) (suc n) = free_at nodes n
 
-idle_at : (ps : List Port) (p : ℕ) → is_idle (get_or (map unused ps) p fresh_exchange).phase ≡ true
+idle_at : (ps : List Port) (p : ℕ) → is_idle (get_or (map no_exchange ps) p fresh_exchange).phase ≡ true
 idle_at [] p = refl
 idle_at (q ∷ ps) zero = refl
 idle_at (q ∷ ps) (suc p) = idle_at ps p
@@ -156,7 +156,7 @@ made : Graph → List Node → State
 made g ns =
     record {
       config = record { slots = map (slot_of g.nodes) (enumerate_from 0 ns); gates = map bare (ports ns) };
-      traffic = record { services = map free ns; exchanges = map unused (ports ns) };
+      traffic = record { services = map no_service ns; exchanges = map no_exchange (ports ns) };
     }
 
 -- all nodes have been made, and the ports of a front have gone on
@@ -164,7 +164,7 @@ mixed : Graph → (Port → Gate) → (Port → Gate) → List Port → List Por
 mixed g f h done rest =
     record {
       config = record { slots = map (slot_of g.nodes) (enumerate_from 0 g.nodes); gates = map f done ++ map h rest };
-      traffic = record { services = map free g.nodes; exchanges = map unused (ports g.nodes) };
+      traffic = record { services = map no_service g.nodes; exchanges = map no_exchange (ports g.nodes) };
     }
 
 module _ (g : Graph) (sound : Sound g) (few_nodes : length g.nodes ≤ 1023) (few_ports : length (ports g.nodes) ≤ 4096) where
@@ -184,10 +184,10 @@ module _ (g : Graph) (sound : Sound g) (few_nodes : length g.nodes ≤ 1023) (fe
       ap (λ i. map bare (ports ns) ++ new_gates i (requires_of n)) count
       ∙ ap (λ xs. map bare (ports ns) ++ xs) (sym (bare_ports (length ns) (requires_of n)))
       ∙ sym (map-append bare (ports ns) (ports_of (length ns) (requires_of n))) ∙ ap (λ ps. map bare ps) (sym (ports_snoc ns n)) in
-      let exchanges : map unused (ports ns) ++ replicate (requires_of n) fresh_exchange ≡ map unused (ports (ns ++ n ∷ [])) =
-      ap (λ xs. map unused (ports ns) ++ xs) (sym (unused_ports (length ns) (requires_of n)))
-      ∙ sym (map-append unused (ports ns) (ports_of (length ns) (requires_of n))) ∙ ap (λ ps. map unused ps) (sym (ports_snoc ns n)) in
-      let services : map free ns ++ None ∷ [] ≡ map free (ns ++ n ∷ []) = sym (map-append free ns (n ∷ [])) in
+      let exchanges : map no_exchange (ports ns) ++ replicate (requires_of n) fresh_exchange ≡ map no_exchange (ports (ns ++ n ∷ [])) =
+      ap (λ xs. map no_exchange (ports ns) ++ xs) (sym (unused_ports (length ns) (requires_of n)))
+      ∙ sym (map-append no_exchange (ports ns) (ports_of (length ns) (requires_of n))) ∙ ap (λ ps. map no_exchange ps) (sym (ports_snoc ns n)) in
+      let services : map no_service ns ++ None ∷ [] ≡ map no_service (ns ++ n ∷ []) = sym (map-append no_service ns (n ∷ [])) in
       cc (slots, gates, services, exchanges)
 
   slots_count : (ns : List Node) → length (map (slot_of g.nodes) (enumerate_from 0 ns)) ≡ length ns
@@ -218,7 +218,7 @@ module _ (g : Graph) (sound : Sound g) (few_nodes : length g.nodes ≤ 1023) (fe
       let a = All-contains HasItsArgument g.nodes n sound.arguments (Contains-at g.nodes (length ns) n (ap (λ xs. slice_get xs (length ns)) e ∙ behind ns n ms)) in
       argument_held (is_some (row n.kind).arg) n.arg a.present a.below
 
-  can_make : (ns ms : List Node) (n : Node) → g.nodes ≡ ns ++ n ∷ ms → CanMake (made g ns) (length ns) n None
+  can_make : (ns ms : List Node) (n : Node) → g.nodes ≡ ns ++ n ∷ ms → CanMake (made g ns).config (length ns) n None
   unfolding made
   can_make ns ms n e =
       let many : length g.nodes ≡ length ns + suc (length ms) = ap length e ∙ length-append ns (n ∷ ms) in
@@ -267,7 +267,7 @@ module _ (g : Graph) (sound : Sound g) (few_nodes : length g.nodes ≤ 1023) (fe
       ap (λ i. is_live (started g).config i) (ap (λ (x : Gate). x.owner) (gate_next f h done rest q) ∙ owned q) ∙ node_live done rest q e
 
   port_live : (f h : Port → Gate) → ((q : Port) → (h q).owner ≡ q.node) → (done rest : List Port) (q : Port) → ports g.nodes ≡ done ++ q ∷ rest
-      → is_live_port (mixed g f h done (q ∷ rest)) (length done) ≡ true
+      → is_live_port (mixed g f h done (q ∷ rest)).config (length done) ≡ true
   unfolding mixed
   port_live f h owned done rest q e =
       and_from (nat_lt (length done) (length (map f done ++ map h (q ∷ rest)))) (is_live (mixed g f h done (q ∷ rest)).config (owner (mixed g f h done (q ∷ rest)).config (length done)))
@@ -305,11 +305,11 @@ module _ (g : Graph) (sound : Sound g) (few_nodes : length g.nodes ≤ 1023) (fe
   quiet : (done rest : List Port) (p : ℕ) → is_quiet (mixed g (shut g) bare done rest) p ≡ true
   unfolding mixed shut bare
   quiet done rest p =
-      and_from (get_or (map (shut g) done ++ map bare rest) p fresh_gate).closed (is_idle (get_or (map unused (ports g.nodes)) p fresh_exchange).phase)
+      and_from (get_or (map (shut g) done ++ map bare rest) p fresh_gate).closed (is_idle (get_or (map no_exchange (ports g.nodes)) p fresh_exchange).phase)
       (everywhere (shut g) bare (λ a. a.closed ≡ true) refl (λ q. refl) (λ q. refl) done rest p) (idle_at (ports g.nodes) p)
 
   linked_more : (done rest : List Port) (q : Port) (t : Target) → target_of g.links q.node q.require ≡ Some t
-      → linked (mixed g (shut g) bare done (q ∷ rest)).config (length done) (Some t) ≡ (mixed g (shut g) bare (done ++ q ∷ []) rest).config
+      → with_target (mixed g (shut g) bare done (q ∷ rest)).config (length done) (Some t) ≡ (mixed g (shut g) bare (done ++ q ∷ []) rest).config
   unfolding mixed shut bare
   linked_more done rest q t at =
       ap (λ gs. record { slots = map (slot_of g.nodes) (enumerate_from 0 g.nodes); gates = gs })

@@ -11,7 +11,7 @@ use Rattle.quiesce_core.specs.declared.state.Gate.{Gate}
 use Rattle.quiesce_core.specs.declared.state.Service.{Service}
 use Rattle.quiesce_core.specs.declared.state.Exchange.{Exchange}
 use Rattle.quiesce_core.specs.State.{Configuration, State, fresh_exchange, gate, owner, target, provision, depends, exchange, service, target_service}
-use Rattle.quiesce_core.specs.Phases.{is_idle}
+use Rattle.gate_word.specs.Phases.{is_idle}
 use Rattle.quiesce_core.specs.Effect.{with_gate, effect}
 use Rattle.quiesce_core.specs.Legal.{Legal}
 use Rattle.quiesce_core.specs.Reach.{IsPortOf, wiring_of}
@@ -46,7 +46,7 @@ pub not_busy : (s : State) (n p : ℕ) → IsStill s n → Concerns s.config n p
 not_busy s n p h c busy = both_ways (is_idle (exchange s p).phase) busy (idle_at s n p h c)
 
 -- none of these ports is called: its owner would service a port that reaches the node, or be the node
-pub none_called : (s : State) (n p : ℕ) → IsWellFormed s → IsConsistent s → IsStill s n → Concerns s.config n p → is_live_port s p ≡ true → serves_through s (owner s.config p) p ≡ true → ⊥
+pub none_called : (s : State) (n p : ℕ) → IsWellFormed s → IsConsistent s → IsStill s n → Concerns s.config n p → is_live_port s.config p ≡ true → serves_through s (owner s.config p) p ≡ true → ⊥
 none_called s n p w k h c live by_it =
     let v = map_or_true (λ (v : Service). depends s.config (owner s.config p) (provision s.config v.port) p) (service s (owner s.config p)) by_it in
     let serving = k.serving (owner s.config p) v.0 v.1 in

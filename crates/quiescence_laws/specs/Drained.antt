@@ -1,6 +1,6 @@
 -- Ports that have no root of their own any more.
 use Rattle.std.specs.Prelude.{ℕ, Bool, ◌&&◌, ◌||◌, is_some}
-use Rattle.quiesce_core.specs.Phases.{is_idle}
+use Rattle.gate_word.specs.Phases.{is_idle}
 use Rattle.quiesce_core.specs.State.{State, gate, exchange}
 
 -- whether port p is closed, and idle or in a consequent transaction

@@ -3,7 +3,7 @@ use Rattle.std.specs.Prelude.{ℕ, Bool, not, ◌&&◌, ◌==◌, List, is_none}
 use Rattle.std.specs.List.{list_any}
 use Rattle.quiesce_core.specs.declared.event.Event.{Event}
 use Rattle.quiesce_core.specs.declared.state.Exchange.{Exchange}
-use Rattle.quiesce_core.specs.Phases.{is_idle}
+use Rattle.gate_word.specs.Phases.{is_idle}
 use Rattle.quiesce_core.specs.Runs.{HasRoot, is_end_of}
 use Rattle.quiesce_core.specs.State.{State, exchange}
 use Rattle.quiescence_laws.specs.Events.{is_root_of}

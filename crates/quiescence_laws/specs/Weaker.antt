@@ -5,7 +5,7 @@ use Rattle.std.specs.Option.{option_map_or}
 use Rattle.config_graph.specs.declared.node.Target.{Target}
 use Rattle.quiesce_core.specs.declared.event.Event.{Event}
 use Rattle.quiesce_core.specs.declared.state.Service.{Service}
-use Rattle.quiesce_core.specs.Phases.{is_idle}
+use Rattle.gate_word.specs.Phases.{is_idle}
 use Rattle.quiesce_core.specs.Reach.{reaches}
 use Rattle.quiesce_core.specs.Rules.{is_quiet}
 use Rattle.quiesce_core.specs.Runs.{IsRun, state_after, Begun, initiator, is_open_after}

@@ -3,7 +3,7 @@
 ghost use Rattle.std.specs.Prelude.{◌≡◌, ◌↔◌, ℕ, false, not, List, Some, None, IsTrue};
 ghost use Rattle.quiesce_core.specs.declared.event.Event.{Event};
 ghost use Rattle.quiesce_core.specs.declared.event.Event.TheVariants.{Link};
-ghost use Rattle.quiesce_core.specs.Effect.{linked};
+ghost use Rattle.quiesce_core.specs.Effect.{with_target};
 ghost use Rattle.config_graph.specs.Walks.{Ranks};
 ghost use Rattle.config_graph.specs.Wiring.{CallPath, HasNoCycle, MayCall};
 ghost use Rattle.quiesce_core.specs.Reach.{has_no_cycle, wiring_of};
@@ -21,10 +21,10 @@ pub fn cycles_are_closed_walks()
 /// A link that is denied by the rule against cycles would lead a node back to itself, and one that may be made leads none back. Where
 /// each rule before it holds, a link is denied by it exactly where it would.
 pub fn links_that_close_walks_are_denied()
-    ensures denied { (s : State) (p n x : ℕ) → denial s (Link p n x) ≡ Some 23 → (i : ℕ) × CallPath (wiring_of (linked s.config p (Some (record { node = n; provide = x })))) i i }
-    ensures allowed { (s : State) (p n x : ℕ) → denial s (Link p n x) ≡ None → HasNoCycle (wiring_of (linked s.config p (Some (record { node = n; provide = x })))) }
-    ensures exactly { (s : State) (p n x : ℕ) → IsTrue (is_live_port s p) → IsTrue (not (is_linked s p)) → IsTrue (has_provision s.config n x) → IsTrue (is_settled s (owner s.config p)) →
-        (denial s (Link p n x) ≡ Some 23) ↔ ((i : ℕ) × CallPath (wiring_of (linked s.config p (Some (record { node = n; provide = x })))) i i) }
+    ensures denied { (s : State) (p n x : ℕ) → denial s (Link p n x) ≡ Some 23 → (i : ℕ) × CallPath (wiring_of (with_target s.config p (Some (record { node = n; provide = x })))) i i }
+    ensures allowed { (s : State) (p n x : ℕ) → denial s (Link p n x) ≡ None → HasNoCycle (wiring_of (with_target s.config p (Some (record { node = n; provide = x })))) }
+    ensures exactly { (s : State) (p n x : ℕ) → IsTrue (is_live_port s.config p) → IsTrue (not (is_linked s.config p)) → IsTrue (has_provision s.config n x) → IsTrue (is_settled s (owner s.config p)) →
+        (denial s (Link p n x) ≡ Some 23) ↔ ((i : ℕ) × CallPath (wiring_of (with_target s.config p (Some (record { node = n; provide = x })))) i i) }
 {}
 
 /// After no run does a node lead back to itself.

@@ -3,6 +3,8 @@
 use crate::systems::{BANK, LINE, TWO, WITHOUT_SINK, core_after, graph_after};
 use config_graph::{Kind, Link, Made, Node, Text, same};
 use quiesce_core::{Core, Event, OpenTxn, Stage};
+use std::alloc::Global;
+use std::process::Abort;
 use std::test::Fail;
 
 #[test]
@@ -88,5 +90,114 @@ fn a_started_system_has_its_graph(rt: HostRuntime) -> Result<(), Fail> {
     let graph = core_after(&rt, rt.alloc(), &[BANK])?.graph()?;
     let started = Core::of(rt.alloc(), &graph)?;
     assert!(rt; same(&started.graph()?, &graph));
+    Ok(())
+}
+
+/// The event happens.
+fn happens(rt: &impl Abort, core: &mut Core, event: &Event) {
+    assert_eq!(rt; core.apply(event), Ok(()));
+}
+
+fn makes(
+    rt: &impl Abort,
+    alloc: Global,
+    core: &mut Core,
+    slot: u32,
+    kind: Kind,
+    arg: Option<u32>,
+) -> Result<(), Fail> {
+    let path = format!(in alloc; "n[{slot}]")?;
+    let node = Node {
+        path: Text::from_bytes(alloc, path.as_str().as_bytes())?,
+        kind,
+        arg,
+    };
+    happens(
+        rt,
+        core,
+        &Event::Make {
+            slot,
+            node,
+            from: None,
+        },
+    );
+    Ok(())
+}
+
+/// So many branches, both ways of each of which lead to the next, and above them a teller whose port is open.
+fn ladder(rt: &impl Abort, alloc: Global, places: u8) -> Result<Core, Fail> {
+    let places = places as u32;
+    let mut core = Core::empty(alloc);
+    for slot in 0..places {
+        makes(rt, alloc, &mut core, slot, Kind::Branch, None)?;
+    }
+    makes(rt, alloc, &mut core, places, Kind::Teller, Some(1))?;
+    for node in 1..places {
+        for port in [2 * node - 2, 2 * node - 1] {
+            happens(
+                rt,
+                &mut core,
+                &Event::Link {
+                    port,
+                    node,
+                    provide: 0,
+                },
+            );
+        }
+    }
+    let port = 2 * places;
+    happens(
+        rt,
+        &mut core,
+        &Event::Link {
+            port,
+            node: 0,
+            provide: 0,
+        },
+    );
+    happens(rt, &mut core, &Event::Reopen { port });
+    Ok(core)
+}
+
+/// A search that went each way of a ladder, of which there are 2^59, would not end.
+#[test]
+fn a_ladder_is_searched_once(rt: HostRuntime) -> Result<(), Fail> {
+    let mut core = ladder(&rt, rt.alloc(), 60)?;
+    makes(&rt, rt.alloc(), &mut core, 61, Kind::Map, Some(0))?;
+    if core.is_live(61) {
+        assert!(rt; core.settled(61));
+    }
+    let above = Event::Link {
+        port: 121,
+        node: 0,
+        provide: 0,
+    };
+    happens(&rt, &mut core, &above);
+    let begin = Event::Begin {
+        port: 120,
+        serial: 1,
+        value: 1,
+    };
+    happens(&rt, &mut core, &begin);
+    assert_eq!(rt; core.rest(), 5_764_607_523_034_234_875);
+    Ok(())
+}
+
+#[test]
+fn rest_stands_still_at_128_bits(rt: HostRuntime) -> Result<(), Fail> {
+    let rests = [
+        (125u8, 212_676_479_325_586_539_664_609_129_644_855_132_155),
+        (126, 340_282_366_920_938_463_463_374_607_431_768_211_455),
+    ];
+    for (places, rest) in rests {
+        let mut core = ladder(&rt, rt.alloc(), places)?;
+        let begin = Event::Begin {
+            port: 2 * places as u32,
+            serial: 1,
+            value: 1,
+        };
+        happens(&rt, &mut core, &begin);
+        assert_eq!(rt; core.rest(), rest);
+    }
     Ok(())
 }

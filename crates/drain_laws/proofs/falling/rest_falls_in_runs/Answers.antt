@@ -2,7 +2,7 @@ use Rattle.std.proofs.Common.{◌∷◌, [], ◌++◌, arith}
 use Rattle.quiesce_core.specs.declared.event.Event.TheVariants.{Begin}
 use Rattle.quiesce_core.specs.Runs.{state_after}
 use Rattle.quiesce_core.proofs.RunLaws.{runs_are_well_formed, runs_are_consistent}
-use Rattle.quiesce_core.proofs.RunPartLaws.{last_step}
+use Rattle.quiesce_core.proofs.RunLaws.{last_step}
 use Rattle.drain_laws.proofs.Steps.{rest_falls, rest_stays, rest_rises}
 use Rattle.drain_laws.proofs.falling.rest_falls_in_runs.Goals as goal
 

@@ -2,7 +2,7 @@ use Rattle.std.proofs.Common.{◌≡◌, ◌-◌, ◌<◌, ◌&&◌, true, eqb, 
 use Rattle.std.proofs.lemmas.Bool.{and_from, and_left, and_right, or_right}
 use Rattle.quiesce_core.specs.State as state
 use Rattle.quiesce_core.specs.Reach as reach
-use Rattle.quiesce_core.specs.Known.{reaches_through}
+use Rattle.quiesce_core.specs.Searched.{reaches_through}
 use Rattle.quiesce_core.specs.Tables.{state_of}
 use Rattle.quiesce_core.proofs.CycleLaws.{port_in}
 use Rattle.quiesce_core.proofs.ReachLaws.{reaches_none, reaches_some, known_more, range_after, range_at, fewer_steps, walks_zero}

@@ -2,7 +2,7 @@ use Rattle.std.proofs.Common.{◌≡◌, ℕ, ◌-◌, ◌+◌, ◌*◌, ◌&&�
 use Rattle.std.specs.List.{list_any, range_with_len}
 use Rattle.quiesce_core.specs.State as state
 use Rattle.quiesce_core.specs.Reach as reach
-use Rattle.quiesce_core.specs.Known.{AreKnown, reaches_through}
+use Rattle.quiesce_core.specs.Searched.{AreKnown, reaches_through}
 use Rattle.quiesce_core.specs.Tables.{state_of}
 use Rattle.quiesce_core.proofs.tables.Tables.+reaching.Given as goal
 

@@ -2,7 +2,7 @@ use Rattle.std.proofs.Common.{◌≡◌, ℕ, ◌-◌, ◌||◌, not, length}
 use Rattle.std.specs.List.{list_all, range_with_len}
 use Rattle.quiesce_core.specs.Reach as reach
 use Rattle.quiesce_core.specs.Rules as rules
-use Rattle.quiesce_core.specs.Known.{AreKnown}
+use Rattle.quiesce_core.specs.Searched.{AreKnown}
 use Rattle.quiesce_core.specs.Tables.{state_of}
 use Rattle.quiesce_core.proofs.tables.Tables.searched_ports_are_quiet.Given as goal
 

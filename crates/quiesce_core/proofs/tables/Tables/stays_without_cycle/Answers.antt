@@ -1,7 +1,7 @@
 use Rattle.std.proofs.Common.{◌≡◌, ◌&&◌, not, true, false, sym, ap, ◌∙◌}
 use Rattle.std.proofs.lemmas.Bool.{and_left}
 use Rattle.quiesce_core.specs.State.{owner, is_depended}
-use Rattle.quiesce_core.specs.Known.{leads_up}
+use Rattle.quiesce_core.specs.Searched.{leads_up}
 use Rattle.quiesce_core.specs.Tables.{state_of}
 use Rattle.quiesce_core.proofs.ReachLaws.{no_cycle-linked}
 use Rattle.quiesce_core.proofs.tables.Tables.stays_without_cycle.Goals as goal

@@ -1,0 +1,4 @@
+pub mod Packs
+pub mod Phases
+pub mod Words
+pub mod SlotWords

@@ -1,0 +1,147 @@
+-- The sources of nodes are gone after every run.
+use Rattle.std.proofs.Common.{◌≡◌, ◌∙◌, ℕ, zero, suc, ◌+◌, ◌<◌, true, false, not, ◌&&◌, List, [], ◌∷◌, length, Option, Some, None, refl, ap, sym, subst, ⊎_elim, arith}
+use Rattle.std.specs.Prelude.{◌==◌, slice_get, option_map}
+use Rattle.std.specs.Option.{option_map_or}
+use Rattle.std.proofs.lemmas.Bool.{and_parts, both_ways, cases_eq, eq-eqb, ne_eqb, not-true}
+use Rattle.std.proofs.lemmas.Option.{same_Some, slice_get_within}
+use Rattle.config_graph.specs.declared.node.Node.{Node}
+use Rattle.quiesce_core.specs.declared.event.Event.{Event}
+use Rattle.quiesce_core.specs.declared.event.Event.TheVariants.{Begin, Call, Take, Give, End, More, Ask, Hear, Miss, Close, Reopen, Make, Link, Unlink, Remove}
+use Rattle.quiesce_core.specs.declared.state.Slot.{Slot}
+use Rattle.quiesce_core.specs.State.{Configuration, State, empty, slot}
+use Rattle.quiesce_core.specs.Effect.{effect}
+use Rattle.quiesce_core.specs.Legal.{CanMake, Legal}
+use Rattle.quiesce_core.specs.Rules.{can_move, is_kind, was_moved}
+use Rattle.quiesce_core.specs.Runs.{IsRun, state_after}
+use Rattle.quiesce_core.specs.Alters.{Reconfigures, slot_next}
+use Rattle.quiesce_core.specs.Sources.{IsGoneSource, SourcesAreGone}
+use Rattle.quiesce_core.proofs.AlterLaws.{reconfigured}
+use Rattle.quiesce_core.proofs.CycleLaws.{map_or_true}
+use Rattle.quiesce_core.proofs.InductionLaws.{IsNext, always}
+use Rattle.quiesce_core.proofs.NamedLemmas.{any_at}
+use Rattle.base.proofs.OptionLaws.{option_map_some}
+
+-- what stays of the slots is enough
+kept : (c d : Configuration) → ((n : ℕ) → slot d n ≡ slot c n) → SourcesAreGone c → SourcesAreGone d
+kept c d same h = record {
+  gone = λ n k m at from. let g = h.gone n k m (sym (same n) ∙ at) from in record { old = g.old; there = same k ∙ g.there; removed = g.removed; kind = g.kind };
+  once = λ i j k m n at_i at_j from_i from_j. h.once i j k m n (sym (same i) ∙ at_i) (sym (same j) ∙ at_j) from_i from_j;
+}
+
+-- a node is made from one that is gone, and from which none was made
+source_of : (c : Configuration) (node : Node) (from : Option ℕ) (k : ℕ) → option_map_or (λ k. can_move c k node.kind) from true ≡ true → from ≡ Some k
+    → ((old : Slot) × (slot c k ≡ Some old) × (old.live ≡ false) × (is_kind old.node.kind node.kind ≡ true)) × (was_moved c k ≡ false)
+source_of c node from k may is =
+    let here : can_move c k node.kind ≡ true = sym (ap (λ o. option_map_or (λ k. can_move c k node.kind) o true) is) ∙ may in
+    let both = and_parts (option_map_or (λ (m : Slot). not m.live && is_kind m.node.kind node.kind) (slot c k) false) (not (was_moved c k)) here in
+    let m = map_or_true (λ (m : Slot). not m.live && is_kind m.node.kind node.kind) (slot c k) both.0 in
+    let parts = and_parts (not m.0.live) (is_kind m.0.node.kind node.kind) m.2 in
+    ((m.0, m.1, not-true m.0.live parts.0, parts.1), not-true (was_moved c k) both.1)
+
+moved_if : (c : Configuration) (k i : ℕ) (m : Slot) → slot c i ≡ Some m → m.from ≡ Some k → was_moved c k ≡ true
+moved_if c k i m at from = any_at (λ (m : Slot). option_map_or (λ f. f == k) m.from false) c.slots i m at (ap (λ o. option_map_or (λ f. f == k) o false) from ∙ eq-eqb k k refl)
+
+abbrev new_slot : Configuration → Node → Option ℕ → Slot
+new_slot c node from = record { node = node; first_port = length c.gates; from = from; live = true }
+
+made : (c d : Configuration) (n : ℕ) (node : Node) (from : Option ℕ) → Reconfigures c (Make n node from) d → CanMake c n node from → SourcesAreGone c → SourcesAreGone d
+made c d n node from r l h = record {
+  gone = λ i k m at is. ⊎_elim
+      (λ (last : i ≡ length c.slots).
+      let one : new_slot c node from ≡ m = same_Some (new_slot c node from) m (sym (here i last) ∙ at) in
+      let source = source_of c node from k l.moves (ap (λ (x : Slot). x.from) one ∙ is) in
+      record {
+        old = source.0.0;
+        there = there k (before k source.0.0 source.0.1) ∙ source.0.1;
+        removed = source.0.2;
+        kind = subst (λ (x : Slot). is_kind source.0.0.node.kind x.node.kind ≡ true) one source.0.3;
+      })
+      (λ (earlier : i ≡ length c.slots → ⊥).
+      let g = h.gone i k m (sym (there i earlier) ∙ at) is in record { old = g.old; there = there k (before k g.old g.there) ∙ g.there; removed = g.removed; kind = g.kind })
+      (cases_eq i (length c.slots));
+  once = λ i j k m w at_i at_j from_i from_j. ⊎_elim
+      (λ (last_i : i ≡ length c.slots). ⊎_elim
+      (λ (last_j : j ≡ length c.slots). last_i ∙ sym last_j)
+      (λ (earlier : j ≡ length c.slots → ⊥). absurd (alone i j k m w last_i earlier at_i at_j from_i from_j))
+      (cases_eq j (length c.slots)))
+      (λ (earlier_i : i ≡ length c.slots → ⊥). ⊎_elim
+      (λ (last_j : j ≡ length c.slots). absurd (alone j i k w m last_j earlier_i at_j at_i from_j from_i))
+      (λ (earlier_j : j ≡ length c.slots → ⊥). h.once i j k m w (sym (there i earlier_i) ∙ at_i) (sym (there j earlier_j) ∙ at_j) from_i from_j)
+      (cases_eq j (length c.slots)))
+      (cases_eq i (length c.slots));
+}
+  where
+    here : (i : ℕ) → i ≡ length c.slots → slot d i ≡ Some (new_slot c node from)
+    here i last = r.slots i ∙ rw (eq-eqb i (length c.slots) last) refl
+
+    there : (i : ℕ) → (i ≡ length c.slots → ⊥) → slot d i ≡ slot c i
+    there i earlier = r.slots i ∙ rw (ne_eqb i (length c.slots) earlier) refl
+
+    before : (k : ℕ) (old : Slot) → slot c k ≡ Some old → k ≡ length c.slots → ⊥
+    before k old at same = let within = slice_get_within c.slots k old at in omega (arith, within, same)
+
+    alone : (i j k : ℕ) (m w : Slot) → i ≡ length c.slots → (j ≡ length c.slots → ⊥) → slot d i ≡ Some m → slot d j ≡ Some w → m.from ≡ Some k → w.from ≡ Some k → ⊥
+    alone i j k m w last earlier at_i at_j from_i from_j =
+        let one : new_slot c node from ≡ m = same_Some (new_slot c node from) m (sym (here i last) ∙ at_i) in
+        let source = source_of c node from k l.moves (ap (λ (x : Slot). x.from) one ∙ from_i) in
+        both_ways (was_moved c k) source.1 (moved_if c k j w (sym (there j earlier) ∙ at_j) from_j)
+
+-- a removed node keeps its source, and is none but as before
+was : (c d : Configuration) (n : ℕ) → Reconfigures c (Remove n) d → (i : ℕ) (m : Slot) → slot d i ≡ Some m → (old : Slot) × (slot c i ≡ Some old) × (old.from ≡ m.from) × (old.node ≡ m.node)
+was c d n r i m at = ⊎_elim
+    (λ (same : i ≡ n).
+    let old = option_map_some (λ (k : Slot). record k { live = false }) (slot c i) m (sym (r.slots i ∙ rw (eq-eqb i n same) refl) ∙ at) in
+    (old.0, old.1, ap (λ (x : Slot). x.from) old.2, ap (λ (x : Slot). x.node) old.2))
+    (λ (other : i ≡ n → ⊥). (m, sym (r.slots i ∙ rw (ne_eqb i n other) refl) ∙ at, refl, refl))
+    (cases_eq i n)
+
+gone_still : (c d : Configuration) (n : ℕ) → Reconfigures c (Remove n) d → (k : ℕ) (old : Slot) → slot c k ≡ Some old → old.live ≡ false
+    → (new : Slot) × (slot d k ≡ Some new) × (new.live ≡ false) × (new.node ≡ old.node)
+gone_still c d n r k old at gone = ⊎_elim
+    (λ (same : k ≡ n). (record old { live = false }, r.slots k ∙ rw (eq-eqb k n same) (ap (option_map (λ (k : Slot). record k { live = false })) at), refl, refl))
+    (λ (other : k ≡ n → ⊥). (old, r.slots k ∙ rw (ne_eqb k n other) at, gone, refl))
+    (cases_eq k n)
+
+removed : (c d : Configuration) (n : ℕ) → Reconfigures c (Remove n) d → SourcesAreGone c → SourcesAreGone d
+removed c d n r h = record {
+  gone = λ i k m at is.
+      let o = was c d n r i m at in
+      let g = h.gone i k o.0 o.1 (o.2 ∙ is) in
+      let new = gone_still c d n r k g.old g.there g.removed in
+      record {
+        old = new.0;
+        there = new.1;
+        removed = new.2;
+        kind = subst (λ (x : Node). is_kind x.kind m.node.kind ≡ true) (sym new.3) (subst (λ (x : Node). is_kind g.old.node.kind x.kind ≡ true) o.3 g.kind);
+      };
+  once = λ i j k m w at_i at_j from_i from_j.
+      let o = was c d n r i m at_i in
+      let p = was c d n r j w at_j in
+      h.once i j k o.0 p.0 o.1 p.1 (o.2 ∙ from_i) (p.2 ∙ from_j);
+}
+
+pub sources_next : (s : State) (e : Event) → Legal s e → SourcesAreGone s.config → SourcesAreGone (effect s e).config
+sources_next s (Begin q k v) l h = h
+sources_next s (Call q k v) l h = h
+sources_next s (Miss q) l h = h
+sources_next s (Take q k v) l h = h
+sources_next s (Give q k v) l h = h
+sources_next s (More q k v) l h = h
+sources_next s (Ask q k v) l h = h
+sources_next s (Hear q k v) l h = h
+sources_next s (End q k v) l h = h
+sources_next s (Close q) l h = kept s.config (effect s (Close q)).config (λ n. refl) h
+sources_next s (Reopen q) l h = kept s.config (effect s (Reopen q)).config (λ n. refl) h
+sources_next s (Make n node from) l h = made s.config (effect s (Make n node from)).config n node from (reconfigured s (Make n node from) l) l h
+sources_next s (Link q n x) l h = kept s.config (effect s (Link q n x)).config (λ n. refl) h
+sources_next s (Unlink q) l h = kept s.config (effect s (Unlink q)).config (λ n. refl) h
+sources_next s (Remove n) l h = removed s.config (effect s (Remove n)).config n (reconfigured s (Remove n) l) h
+
+pub sources_empty : SourcesAreGone empty.config
+sources_empty = record { gone = λ n k m at. absurd (cc); once = λ i j k m n at. absurd (cc) }
+
+-- after every run
+pub sources_are_gone : (es : List Event) → IsRun es → SourcesAreGone (state_after es).config
+sources_are_gone es h =
+    always (λ xs. SourcesAreGone (state_after xs).config) (λ before e here so_far. subst (λ s. SourcesAreGone s.config) (sym here.next) (sources_next (state_after before) e here.legal so_far))
+    sources_empty es h
