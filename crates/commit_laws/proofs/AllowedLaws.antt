@@ -1,34 +1,16 @@
 -- What a change may do by its configuration is allowed by every rule.
-use Rattle.std.proofs.Common.{◌≡◌, ℕ, Bool, true, List, None, refl}
+use Rattle.std.proofs.Common.{◌≡◌, ℕ, Bool, true, List, None}
 use Rattle.quiesce_core.specs.declared.event.Event.{Event}
 use Rattle.quiesce_core.specs.declared.event.Event.TheVariants.{Begin, Call, Take, Give, End, More, Ask, Hear, Miss, Close, Reopen, Make, Link, Unlink, Remove}
-use Rattle.quiesce_core.specs.Effect.{effect}
 use Rattle.quiesce_core.specs.Legal.{Legal}
 use Rattle.quiesce_core.specs.Rules.{denial, is_settled}
 use Rattle.quiesce_core.specs.Runs.{IsRun, state_after}
-use Rattle.quiesce_core.specs.State.{State, owner}
+use Rattle.quiesce_core.specs.State.{owner}
 use Rattle.quiesce_core.proofs.LegalLaws.{allowed}
 use Rattle.quiesce_core.proofs.SettledLaws.{if_settled}
 use Rattle.quiescence_laws.specs.Drained.{is_drained}
 use Rattle.quiescence_laws.proofs.DrainLemmas.{settled_if_drained}
-use Rattle.commit_laws.specs.Steps.{IsNoted, MayStep, change_next}
-
-pub config_next : (s : State) (e : Event) → (effect s e).config ≡ change_next s.config e
-config_next s (Begin p k v) = refl
-config_next s (Call p k v) = refl
-config_next s (Miss p) = refl
-config_next s (Take p k v) = refl
-config_next s (Give p k v) = refl
-config_next s (More p k v) = refl
-config_next s (Ask p k v) = refl
-config_next s (Hear p k v) = refl
-config_next s (End p k v) = refl
-config_next s (Close p) = refl
-config_next s (Reopen p) = refl
-config_next s (Make n node from) = refl
-config_next s (Link p n x) = refl
-config_next s (Unlink p) = refl
-config_next s (Remove n) = refl
+use Rattle.commit_laws.specs.Steps.{IsNoted, MayStep}
 
 module _ (noted : ℕ → Bool) (es : List Event) (run : IsRun es) (drained : (p : ℕ) → noted p ≡ true → is_drained (state_after es) p ≡ true) where
   settled : (n : ℕ) → IsNoted noted (state_after es).config n → is_settled (state_after es) n ≡ true

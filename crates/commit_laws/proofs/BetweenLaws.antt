@@ -1,10 +1,8 @@
 -- A configuration while a change commits, and why what it changes is settled in it.
 use Rattle.std.proofs.Common.{◌≡◌, ℕ, ◌+◌, ◌-◌, ◌<◌, ◌≤◌, Bool, true, false, length, Option, Some, None, refl, sym, ap, ◌∙◌, subst, set, inl, inr, ⊎_elim, arith}
 use Rattle.std.specs.Prelude.{◌⊎◌}
-use Rattle.std.specs.Option.{option_map_or}
 use Rattle.std.proofs.Math.ListN.{length-set}
 use Rattle.std.proofs.lemmas.Bool.{cases_lt, cases_eq}
-use Rattle.std.proofs.lemmas.List.{get_or_past}
 use Rattle.std.proofs.lemmas.Option.{same_Some, slice_get_within}
 use Rattle.config_graph.specs.declared.TheConstants.{MAX_NODES, MAX_PORTS}
 use Rattle.config_graph.specs.Kinds.{row, depends_on}
@@ -12,15 +10,16 @@ use Rattle.config_graph.specs.declared.node.Node.{Node}
 use Rattle.config_graph.specs.declared.node.Target.{Target}
 use Rattle.quiesce_core.specs.declared.state.Gate.{Gate}
 use Rattle.quiesce_core.specs.declared.state.Slot.{Slot}
-use Rattle.quiesce_core.specs.Effect.{linked, removed, with_gate, with_node}
+use Rattle.quiesce_core.specs.Effect.{with_target, with_removed, with_gate, with_node}
 use Rattle.quiesce_core.specs.Reach.{has_no_cycle, IsPortOf, wiring_of}
 use Rattle.config_graph.specs.Wiring.{direct, Reach, through}
-use Rattle.quiesce_core.specs.State.{Configuration, depends, fresh_gate, gate, is_live, owner, slot, target}
+use Rattle.quiesce_core.specs.State.{Configuration, depends, gate, is_live, owner, slot, target}
 use Rattle.quiesce_core.specs.WellFormed.{IsSound, LeadsToProvision}
 use Rattle.quiesce_core.proofs.CycleLaws.{made_below, map_or_at}
 use Rattle.base.proofs.PlaceLaws.{slice_get-there}
 use Rattle.quiesce_core.proofs.TableLaws.{live_made}
 use Rattle.quiesce_core.proofs.SoundnessLaws.{here_gone, old_gate, old_slot, grown_length, new_gate, put_elsewhere, put_here, put_owner, put_require, slot_elsewhere, sound_linked, sound_made, sound_removed, sound_unlinked}
+use Rattle.quiesce_core.proofs.ConfigurationLaws.{linked_made, removed_is}
 use Rattle.quiesce_core.proofs.ReachLaws.{owner_of}
 use Rattle.commit_laws.specs.Commits.{AreNoted, Changed}
 use Rattle.commit_laws.specs.Steps.{IsNoted}
@@ -33,10 +32,6 @@ pub record SlotKept (d : Configuration) (n : ℕ) (m : Slot) : Type 0 where
   pub first : now.first_port ≡ m.first_port
   pub from : now.from ≡ m.from
 
-pub linked_made : (c : Configuration) (p : ℕ) (t : Target) → target c p ≡ Some t → p < length c.gates
-linked_made c p t e = ⊎_elim (λ (h : p < length c.gates). h)
-    (λ (past : length c.gates ≤ p). absurd (cc (ap (λ (g : Gate). g.target) (get_or_past c.gates p fresh_gate past), e))) (cases_lt p (length c.gates))
-
 -- a port with a target was made before the node was
 pub linked_before : (d : Configuration) (s : IsSound d) (node : Node) (from : Option ℕ) (few : length d.slots < MAX_NODES) (room : length d.gates + length (row node.kind).requires_ ≤ MAX_PORTS)
     → (q : ℕ) (t : Target) → target (with_node d node from) q ≡ Some t → q < length d.gates
@@ -48,9 +43,6 @@ linked_before d s node from few room q t e = ⊎_elim (λ (h : q < length d.gate
     ∙ ap (λ (g : Gate). g.target) (new_gate d s node from few room (q - length d.gates) (omega (arith, linked_made (with_node d node from) q t e, grown_length d s node from few room))) in
     absurd (cc (none_, e)))
     (cases_lt q (length d.gates))
-
-pub removed_is : (c : Configuration) (n : ℕ) (m : Slot) → slot c n ≡ Some m → removed c n ≡ record c { slots = set c.slots n (record m { live = false }) }
-removed_is c n m e = ap (λ o. record c { slots = option_map_or (λ (k : Slot). set c.slots n (record k { live = false })) o c.slots }) e
 
 -- a sound configuration in which the ports are noted that touching these nodes needs
 pub record Ground (c : Configuration) (Touched : ℕ → Type 0) (noted : ℕ → Bool) : Type 0 where
@@ -139,7 +131,7 @@ module _ (c : Configuration) (Touched : ℕ → Type 0) (noted : ℕ → Bool) (
 
     -- each step of a commit leads to such a configuration again
 
-    between_put : (p : ℕ) (o : Option Target) → p < length d.gates → IsSound (linked d p o) → ((t : Target) → o ≡ Some t → Changed c Touched (owner d p)) → Between c Touched (linked d p o)
+    between_put : (p : ℕ) (o : Option Target) → p < length d.gates → IsSound (with_target d p o) → ((t : Target) → o ≡ Some t → Changed c Touched (owner d p)) → Between c Touched (with_target d p o)
     between_put p o made s new =
         let g = record (gate d p) { target = o } in
         record {
@@ -163,13 +155,13 @@ module _ (c : Configuration) (Touched : ℕ → Type 0) (noted : ℕ → Bool) (
               (cases_eq q p);
         }
 
-    pub between_unlink : (p : ℕ) → p < length d.gates → Between c Touched (linked d p None)
+    pub between_unlink : (p : ℕ) → p < length d.gates → Between c Touched (with_target d p None)
     between_unlink p made = between_put p None made (sound_unlinked d p made b.sound_now) (λ t e. absurd (cc))
 
-    pub between_link : (p : ℕ) (t : Target) → p < length d.gates → Changed c Touched (owner d p) → LeadsToProvision d t → has_no_cycle (linked d p (Some t)) ≡ true → Between c Touched (linked d p (Some t))
+    pub between_link : (p : ℕ) (t : Target) → p < length d.gates → Changed c Touched (owner d p) → LeadsToProvision d t → has_no_cycle (with_target d p (Some t)) ≡ true → Between c Touched (with_target d p (Some t))
     between_link p t made h leads acyclic = between_put p (Some t) made (sound_linked d p t made leads acyclic b.sound_now) (λ u e. h)
 
-    pub between_remove : (n : ℕ) (m : Slot) → slot d n ≡ Some m → ((q : ℕ) (t : Target) → target d q ≡ Some t → t.node ≡ n → ⊥) → Between c Touched (removed d n)
+    pub between_remove : (n : ℕ) (m : Slot) → slot d n ≡ Some m → ((q : ℕ) (t : Target) → target d q ≡ Some t → t.node ≡ n → ⊥) → Between c Touched (with_removed d n)
     between_remove n m e none = record {
       sound_now = sound_removed d n m e b.sound_now none;
       more_gates = b.more_gates;

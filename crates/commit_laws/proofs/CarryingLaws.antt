@@ -13,27 +13,24 @@ use Rattle.quiesce_core.specs.Rules.{denial}
 use Rattle.quiesce_core.specs.Runs.{IsRun, state_after}
 use Rattle.quiesce_core.specs.Settled.{Settled}
 use Rattle.quiesce_core.specs.State.{Configuration, gate, is_live, owner, target}
-use Rattle.quiesce_core.specs.WellFormed.{IsSound}
 use Rattle.quiesce_core.proofs.CycleLaws.{made_below}
-use Rattle.quiesce_core.proofs.RunLaws.{runs_are_well_formed}
-use Rattle.quiesce_core.proofs.RunPartLaws.{run_parts}
 use Rattle.quiescence_laws.specs.Drained.{is_drained}
 use Rattle.quiescence_laws.specs.Events.{reopens}
 use Rattle.quiescence_laws.proofs.DrainLemmas.{drained_stays, settled_if_drained}
-use Rattle.commit_laws.specs.Fitting.{KeptLink, PathsApart}
+use Rattle.commit_laws.specs.Fitting.{KeptLink}
 use Rattle.commit_laws.specs.Lists.{In}
 use Rattle.commit_laws.specs.Steps.{MayStep, MayStepAll, change_all}
 use Rattle.commit_laws.specs.Work.{NewLink, NewNode, Work, events_of, link_of, make_of, steps_of, work_of}
 use Rattle.commit_laws.proofs.AllowedLaws.{step_allowed}
 use Rattle.commit_laws.proofs.BetweenLaws.{Between, Ground, is_noted}
-use Rattle.commit_laws.proofs.CommitLaws.{SourcesAreGone, after_both, commit_each, commit_graph, commit_may}
+use Rattle.commit_laws.proofs.CommitLaws.{after_both, commit_each, commit_graph, commit_may}
 use Rattle.commit_laws.proofs.LinkingLaws.{Linking}
 use Rattle.commit_laws.proofs.MakingLaws.{Making}
 use Rattle.commit_laws.proofs.MeanwhileLaws.{allowed_meanwhile, may_at, none_reopened, now_is}
 use Rattle.commit_laws.proofs.PhaseLaws.{EachConfig, each_place, each_then, may_then, phase_each, phase_ends, phase_may}
 use Rattle.commit_laws.proofs.RemovingLaws.{Removing}
 use Rattle.commit_laws.proofs.TurningLaws.{IsLivePort, SameLinks, Turning, same_graph, turn_may, turn_next, turn_start}
-use Rattle.commit_laws.proofs.SourceLaws.{owners_live, paths_apart, sources_gone}
+use Rattle.commit_laws.proofs.AfterRunLaws.{IsAfterRun, after_run}
 use Rattle.commit_laws.proofs.UnlinkingLaws.{Unlinking}
 use Rattle.commit_laws.specs.Commits.{IsCommit}
 use Rattle.commit_laws.specs.Commits.{Changed}
@@ -96,24 +93,6 @@ allowed_in_order f of noted es drained steps xs unopened all_may more_ left e ru
     ∙ step_allowed (λ x. false) (es ++ more_) run (λ x h. absurd (both_ways false refl h)) (Reopen q.0) (subst (λ d. MayStep (λ x. false) d (Reopen q.0)) (sym (now_is es more_)) here))
     (λ (closed_ : (p : ℕ) → list_any (reopens p) (filter is_of_change more_) ≡ false). allowed_meanwhile noted es more_ left e run drained closed_ may)
     (before_reopens f of steps xs (filter is_of_change more_) e left is unopened)
-
--- what holds of the configuration after each run
-pub record IsAfterRun (c : Configuration) : Type 0 where
-  pub sound : IsSound c
-  pub owners_live : (p : ℕ) (t : Target) → target c p ≡ Some t → is_live c (owner c p) ≡ true
-  pub gone : SourcesAreGone c
-  pub named : PathsApart c
-
-pub after_run : (es : List Event) → IsRun es → IsAfterRun (state_after es).config
-after_run es run = record {
-  sound = (runs_are_well_formed es run).sound;
-  owners_live = owners_live es run;
-  gone = λ n k m e f. (sources_gone es run n k m e f).1;
-  named = paths_apart es run;
-}
-
-pub run_front : (es more_ : List Event) → IsRun (es ++ more_) → IsRun es
-run_front es more_ run = (run_parts es more_ run).0
 
 -- a fact at each place of a commit, by its phases
 pub record InPhases (P : Configuration → Type 0) (c : Configuration) (new : Graph) (Touched : ℕ → Type 0) (w : Work) : Type 0 where

@@ -19,9 +19,11 @@ use Rattle.quiesce_core.specs.State.{Configuration, gate, is_live, owner, slot, 
 use Rattle.quiesce_core.proofs.CycleLaws.{map_or_at, map_or_true}
 use Rattle.base.proofs.ContainsLaws.{Contains-at}
 use Rattle.commit_laws.specs.Lists.{In}
-use Rattle.commit_laws.specs.Steps.{MayStepAll, change_all, change_next}
+use Rattle.commit_laws.specs.Steps.{MayStepAll, change_all}
+use Rattle.quiesce_core.specs.Effect.{change_next}
 use Rattle.commit_laws.specs.Work.{AreNumbered, NewLink, NewNode, Work, link_of, make_of, work_of}
-use Rattle.commit_laws.proofs.BetweenLaws.{Ground, between_start, linked_made}
+use Rattle.commit_laws.proofs.BetweenLaws.{Ground, between_start}
+use Rattle.quiesce_core.proofs.ConfigurationLaws.{linked_made}
 use Rattle.commit_laws.proofs.LinkingLaws.{Linking, graph_is, link_may, link_next}
 use Rattle.commit_laws.proofs.MakingLaws.{Making, any_there, make_may, make_next}
 use Rattle.commit_laws.proofs.PhaseLaws.{EachConfig, each_then, may_then, phase_each, phase_ends, phase_may}

@@ -7,10 +7,10 @@ use Rattle.config_graph.specs.Graph.{Graph}
 use Rattle.config_graph.specs.declared.node.Target.{Target}
 use Rattle.quiesce_core.specs.declared.event.Event.{Event}
 use Rattle.quiesce_core.specs.declared.event.Event.TheVariants.{Begin, Call, Take, Give, End, More, Ask, Hear, Miss, Close, Reopen, Make, Link, Unlink, Remove}
-use Rattle.quiesce_core.specs.Effect.{closed, effect}
+use Rattle.quiesce_core.specs.Effect.{with_closed, effect}
 use Rattle.quiesce_core.specs.Legal.{Legal}
 use Rattle.quiesce_core.specs.Live.{IsGraphOf}
-use Rattle.quiesce_core.specs.Phases.{is_idle}
+use Rattle.gate_word.specs.Phases.{is_idle}
 use Rattle.quiesce_core.specs.Reach.{IsPortOf, wiring_of}
 use Rattle.config_graph.specs.Wiring.{Reach}
 use Rattle.quiesce_core.specs.Runs.{IsRun, is_open_after, state_after}
@@ -22,15 +22,15 @@ use Rattle.quiesce_core.proofs.RunLaws.{runs_are_consistent, runs_are_well_forme
 use Rattle.quiescence_laws.specs.Drained.{is_drained}
 use Rattle.quiesce_core.proofs.ReachLaws.{owner_of}
 use Rattle.quiescence_laws.proofs.DrainLemmas.{settled_if_drained}
-use Rattle.quiescence_laws.proofs.Induction.{along}
+use Rattle.quiesce_core.proofs.InductionLaws.{along}
 use Rattle.quiescence_laws.proofs.Orders.{open_is_seen}
 use Rattle.commit_laws.specs.Steps.{is_shaping}
-use Rattle.commit_laws.proofs.BetweenLaws.{linked_made}
+use Rattle.quiesce_core.proofs.ConfigurationLaws.{linked_made}
 use Rattle.commit_laws.proofs.TurningLaws.{same_graph, same_turned}
-use Rattle.commit_laws.proofs.SourceLaws.{owners_live}
+use Rattle.commit_laws.proofs.AfterRunLaws.{owners_live}
 
-turned_graph : (g : Graph) (c : Configuration) (p : ℕ) (flag : Bool) → p < length c.gates → IsGraphOf c g → IsGraphOf (closed c p flag) g
-turned_graph g c p flag made is = same_graph c (closed c p flag) g (same_turned c c p flag made (record { slots = refl; long = refl; owners = λ q. refl; requirements = λ q. refl; targets = λ q. refl })) is
+turned_graph : (g : Graph) (c : Configuration) (p : ℕ) (flag : Bool) → p < length c.gates → IsGraphOf c g → IsGraphOf (with_closed c p flag) g
+turned_graph g c p flag made is = same_graph c (with_closed c p flag) g (same_turned c c p flag made (record { slots = refl; long = refl; owners = λ q. refl; requirements = λ q. refl; targets = λ q. refl })) is
 
 graph_next : (g : Graph) (s : State) (e : Event) → Legal s e → is_shaping e ≡ false → IsGraphOf s.config g → IsGraphOf (effect s e).config g
 graph_next g s (Begin p k v) l h is = is

@@ -1,4 +1,5 @@
 pub mod AcyclicLaws
+pub mod AfterRunLaws
 pub mod AllowedLaws
 pub mod BetweenLaws
 pub mod CarryingLaws
@@ -12,7 +13,6 @@ pub mod MeanwhileLaws
 pub mod PartLaws
 pub mod PhaseLaws
 pub mod RemovingLaws
-pub mod SourceLaws
 pub mod StartingLaws
 pub mod TurningLaws
 pub mod UnlinkingLaws

@@ -9,7 +9,7 @@ use Rattle.config_graph.specs.declared.node.Node.{Node}
 use Rattle.config_graph.specs.declared.node.Target.{Target}
 use Rattle.quiesce_core.specs.declared.state.Gate.{Gate}
 use Rattle.quiesce_core.specs.declared.state.Slot.{Slot}
-use Rattle.quiesce_core.specs.Effect.{linked}
+use Rattle.quiesce_core.specs.Effect.{with_target}
 use Rattle.quiesce_core.specs.Live.{IsGraphOf, IsLiveNode, StandsAt}
 use Rattle.commit_laws.specs.Fitting.{Fits, IsLiveLink, KeptLink, LinksFit, Stands}
 use Rattle.commit_laws.proofs.FittingLaws.{linked_at}
@@ -44,24 +44,24 @@ module _ (d : Configuration) (p : ℕ) (o : Option Target) (made : p < length d.
   new_gate : Gate
   new_gate = record (gate d p) { target = o }
 
-  stands_still : (nodes : List Node) (n i : ℕ) → StandsAt d nodes n i → StandsAt (linked d p o) nodes n i
+  stands_still : (nodes : List Node) (n i : ℕ) → StandsAt d nodes n i → StandsAt (with_target d p o) nodes n i
   stands_still nodes n i s = record { made = s.made; there = s.there; live = s.live; stands = s.stands }
 
-  stood : (nodes : List Node) (n i : ℕ) → StandsAt (linked d p o) nodes n i → StandsAt d nodes n i
+  stood : (nodes : List Node) (n i : ℕ) → StandsAt (with_target d p o) nodes n i → StandsAt d nodes n i
   stood nodes n i s = record { made = s.made; there = s.there; live = s.live; stands = s.stands }
 
-  owner_still : (q : ℕ) → owner (linked d p o) q ≡ owner d q
+  owner_still : (q : ℕ) → owner (with_target d p o) q ≡ owner d q
   owner_still q = put_owner d p (record (gate d p) { target = o }) made refl refl q
 
-  pub links_still : (g : Graph) (q : ℕ) (t : Target) (i r j x : ℕ) → Stands d g q t i r j x → Stands (linked d p o) g q t i r j x
+  pub links_still : (g : Graph) (q : ℕ) (t : Target) (i r j x : ℕ) → Stands d g q t i r j x → Stands (with_target d p o) g q t i r j x
   links_still g q t i r j x s = record {
-    from_there = subst (λ k. StandsAt (linked d p o) g.nodes k i) (sym (owner_still q)) (stands_still g.nodes (owner d q) i s.from_there);
+    from_there = subst (λ k. StandsAt (with_target d p o) g.nodes k i) (sym (owner_still q)) (stands_still g.nodes (owner d q) i s.from_there);
     requirement = put_require d p (record (gate d p) { target = o }) made refl refl q ∙ s.requirement;
     to_there = stands_still g.nodes t.node j s.to_there;
     provision = s.provision;
   }
 
-  pub fits_still : (g : Graph) (q : ℕ) (t : Target) → Fits d g q t → Fits (linked d p o) g q t
+  pub fits_still : (g : Graph) (q : ℕ) (t : Target) → Fits d g q t → Fits (with_target d p o) g q t
   fits_still g q t f = record { i = f.i; r = f.r; j = f.j; x = f.x; stands = links_still g q t f.i f.r f.j f.x f.stands; linked = f.linked }
 
 module _ (c : Configuration) (new : Graph) (sound : Sound new) (Touched : ℕ → Type 0) (noted : ℕ → Bool) (ground : Ground c Touched noted) where
@@ -69,7 +69,7 @@ module _ (c : Configuration) (new : Graph) (sound : Sound new) (Touched : ℕ �
     this : IsToLink c new Touched d l
     this = h.to_link l (inl refl)
 
-    fits_then : LinksFit (linked d l.port (Some (end_of l))) new
+    fits_then : LinksFit (with_target d l.port (Some (end_of l))) new
     fits_then q t e =
         let this = h.to_link l (inl refl) in
         ⊎_elim
@@ -79,10 +79,10 @@ module _ (c : Configuration) (new : Graph) (sound : Sound new) (Touched : ℕ �
         (λ (w : (q ≡ l.port → ⊥) × (target d q ≡ Some t)). fits_still d l.port (Some (end_of l)) this.made new q t (h.part q t w.1))
         (target_put d l.port (Some (end_of l)) this.made q t e)
 
-    acyclic : has_no_cycle (linked d l.port (Some (end_of l))) ≡ true
+    acyclic : has_no_cycle (with_target d l.port (Some (end_of l))) ≡ true
     acyclic =
         let this = h.to_link l (inl refl) in
-        no_cycle (linked d l.port (Some (end_of l))) new sound.paths_rise sound.no_cycle
+        no_cycle (with_target d l.port (Some (end_of l))) new sound.paths_rise sound.no_cycle
         (λ n p o. owner_still d l.port (Some (end_of l)) this.made p ∙ owner_of d h.between.sound_now n p (record { node = o.node; made = o.made; from = o.from; below = o.below }))
         fits_then
 
@@ -98,10 +98,10 @@ module _ (c : Configuration) (new : Graph) (sound : Sound new) (Touched : ℕ �
           no_cycle = acyclic;
         }
 
-    pub link_next : Linking c new Touched (linked d l.port (Some (end_of l))) left
+    pub link_next : Linking c new Touched (with_target d l.port (Some (end_of l))) left
     link_next =
         let this = h.to_link l (inl refl) in
-        let d' = linked d l.port (Some (end_of l)) in
+        let d' = with_target d l.port (Some (end_of l)) in
         record {
           between = between_link c Touched noted ground d h.between l.port (end_of l) this.made this.changed this.leads acyclic;
           nodes = λ node. (
@@ -131,7 +131,7 @@ module _ (c : Configuration) (new : Graph) (sound : Sound new) (Touched : ℕ �
               (λ same. let some_ = sym (ap (target d) same) ∙ h.kept p t k in let none_ = this.unlinked in absurd (cc (none_, some_))) ∙ h.kept p t k;
         }
       where
-        old_link : (i r j x : ℕ) → IsLiveLink d new.nodes i r j x → IsLiveLink (linked d l.port (Some (end_of l))) new.nodes i r j x
+        old_link : (i r j x : ℕ) → IsLiveLink d new.nodes i r j x → IsLiveLink (with_target d l.port (Some (end_of l))) new.nodes i r j x
         old_link i r j x w =
             let this = h.to_link l (inl refl) in
             let s = links_still d l.port (Some (end_of l)) this.made new w.port (record { node = w.to; provide = x }) i r j x
@@ -146,7 +146,7 @@ module _ (c : Configuration) (new : Graph) (sound : Sound new) (Touched : ℕ �
               to_there = s.to_there;
             }
 
-        new_link : (i r j x : ℕ) → Stands d new l.port (end_of l) i r j x → IsLiveLink (linked d l.port (Some (end_of l))) new.nodes i r j x
+        new_link : (i r j x : ℕ) → Stands d new l.port (end_of l) i r j x → IsLiveLink (with_target d l.port (Some (end_of l))) new.nodes i r j x
         new_link i r j x st =
             let this = h.to_link l (inl refl) in
             let s = links_still d l.port (Some (end_of l)) this.made new l.port (end_of l) i r j x st in

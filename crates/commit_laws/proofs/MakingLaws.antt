@@ -26,7 +26,8 @@ use Rattle.quiesce_core.specs.Live.{IsLiveAt}
 use Rattle.commit_laws.specs.Lists.{Apart, In}
 use Rattle.commit_laws.specs.Steps.{MayStep}
 use Rattle.commit_laws.specs.Work.{AreNumbered, NewNode, make_of, ports_wanted}
-use Rattle.commit_laws.proofs.BetweenLaws.{Between, Ground, between_make, linked_before, linked_made}
+use Rattle.commit_laws.proofs.BetweenLaws.{Between, Ground, between_make, linked_before}
+use Rattle.quiesce_core.proofs.ConfigurationLaws.{linked_made}
 use Rattle.commit_laws.specs.Commits.{OtherPath, OtherSource}
 
 -- links are those that the new graph keeps; live nodes are nodes of the new graph, and these are left to be made

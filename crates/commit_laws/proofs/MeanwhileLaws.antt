@@ -13,8 +13,10 @@ use Rattle.quiesce_core.specs.State.{Configuration, State, empty}
 use Rattle.quiescence_laws.specs.Drained.{is_drained}
 use Rattle.quiescence_laws.specs.Events.{reopens}
 use Rattle.quiescence_laws.proofs.DrainLemmas.{drained_stays}
-use Rattle.commit_laws.specs.Steps.{MayStep, MayStepAll, change_all, change_next}
-use Rattle.commit_laws.proofs.AllowedLaws.{config_next, step_allowed}
+use Rattle.commit_laws.specs.Steps.{MayStep, MayStepAll, change_all}
+use Rattle.quiesce_core.specs.Effect.{change_next}
+use Rattle.commit_laws.proofs.AllowedLaws.{step_allowed}
+use Rattle.quiesce_core.proofs.RunLaws.{effect_config}
 
 node_leaves : (c : Configuration) (e : Event) → is_of_change e ≡ false → change_next c e ≡ c
 node_leaves c (Begin p k v) h = refl
@@ -54,7 +56,7 @@ node_opens_none p (Remove n) h = absurd (both_ways true h refl)
 pub config_after : (s : State) (es : List Event) → (fold effect s es).config ≡ change_all s.config (filter is_of_change es)
 config_after s [] = refl
 config_after s (e ∷ es) =
-    config_after (effect s e) es ∙ ap (λ c. change_all c (filter is_of_change es)) (config_next s e)
+    config_after (effect s e) es ∙ ap (λ c. change_all c (filter is_of_change es)) (effect_config s e)
     ∙ ⊎_elim
     (λ (h : is_of_change e ≡ true). ap (λ b. change_all s.config (cond b (e ∷ filter is_of_change es) (filter is_of_change es))) (sym h))
     (λ (h : is_of_change e ≡ false). ap (λ c. change_all c (filter is_of_change es)) (node_leaves s.config e h)

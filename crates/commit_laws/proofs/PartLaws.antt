@@ -12,7 +12,8 @@ use Rattle.base.proofs.ContainsLaws.{Contains-at}
 use Rattle.commit_laws.specs.Fitting.{Fits, IsPart, KeptLink}
 use Rattle.commit_laws.specs.Lists.{In}
 use Rattle.commit_laws.specs.Work.{NewLink, NewNode, Work}
-use Rattle.commit_laws.proofs.BetweenLaws.{Between, linked_made}
+use Rattle.commit_laws.proofs.BetweenLaws.{Between}
+use Rattle.quiesce_core.proofs.ConfigurationLaws.{linked_made}
 use Rattle.commit_laws.proofs.CarryingLaws.{InPhases}
 use Rattle.commit_laws.proofs.LinkingLaws.{Linking}
 use Rattle.commit_laws.proofs.MakingLaws.{Making}

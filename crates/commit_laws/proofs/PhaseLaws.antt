@@ -2,7 +2,8 @@
 use Rattle.std.proofs.Common.{ℕ, Bool, List, [], ◌∷◌, ◌++◌, map}
 use Rattle.quiesce_core.specs.declared.event.Event.{Event}
 use Rattle.quiesce_core.specs.State.{Configuration}
-use Rattle.commit_laws.specs.Steps.{MayStep, MayStepAll, change_all, change_next}
+use Rattle.commit_laws.specs.Steps.{MayStep, MayStepAll, change_all}
+use Rattle.quiesce_core.specs.Effect.{change_next}
 
 -- at each place of a list of steps
 abbrev pub EachConfig : (Configuration → Type 0) → Configuration → List Event → Type 0

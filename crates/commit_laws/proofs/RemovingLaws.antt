@@ -10,7 +10,7 @@ use Rattle.config_graph.specs.declared.node.Node.{Node}
 use Rattle.config_graph.specs.declared.node.Target.{Target}
 use Rattle.quiesce_core.specs.declared.event.Event.TheVariants as event
 use Rattle.quiesce_core.specs.declared.state.Slot.{Slot}
-use Rattle.quiesce_core.specs.Effect.{removed}
+use Rattle.quiesce_core.specs.Effect.{with_removed}
 use Rattle.quiesce_core.specs.Live.{IsLiveAt, StandsAt}
 use Rattle.quiesce_core.specs.Rules.{is_apart}
 use Rattle.quiesce_core.specs.State.{Configuration, is_live, owner, ports_of, slot, target}
@@ -22,7 +22,8 @@ use Rattle.quiesce_core.proofs.ReachLaws.{owner_of}
 use Rattle.commit_laws.specs.Fitting.{KeptLink}
 use Rattle.commit_laws.specs.Lists.{Apart, In}
 use Rattle.commit_laws.specs.Steps.{MayStep}
-use Rattle.commit_laws.proofs.BetweenLaws.{Between, Ground, between_remove, is_noted, linked_made, removed_is}
+use Rattle.commit_laws.proofs.BetweenLaws.{Between, Ground, between_remove, is_noted}
+use Rattle.quiesce_core.proofs.ConfigurationLaws.{linked_made, removed_is}
 use Rattle.commit_laws.specs.Commits.{Differ, IsToRemove}
 
 -- links are those that the new graph keeps, some nodes are removed, and these are left
@@ -41,7 +42,7 @@ live_is d n node l = map_or_at (λ (m : Slot). m.live) (slot d n) false l.made l
 
 -- the live nodes after one is removed
 module _ (d : Configuration) (n : ℕ) (m : Slot) (e : slot d n ≡ Some m) where
-  pub live_before : (k : ℕ) (node : Node) → IsLiveAt (removed d n) k node → (k ≡ n → ⊥) × IsLiveAt d k node
+  pub live_before : (k : ℕ) (node : Node) → IsLiveAt (with_removed d n) k node → (k ≡ n → ⊥) × IsLiveAt d k node
   live_before k node l =
       let l' = subst (λ f. IsLiveAt f k node) (removed_is d n m e) l in
       ⊎_elim
@@ -51,16 +52,16 @@ module _ (d : Configuration) (n : ℕ) (m : Slot) (e : slot d n ≡ Some m) wher
       (λ (other : k ≡ n → ⊥). (other, record { made = l'.made; there = sym (slot_elsewhere d n m e k other) ∙ l'.there; live = l'.live; is_node = l'.is_node }))
       (cases_eq k n)
 
-  pub live_after : (k : ℕ) (node : Node) → (k ≡ n → ⊥) → IsLiveAt d k node → IsLiveAt (removed d n) k node
+  pub live_after : (k : ℕ) (node : Node) → (k ≡ n → ⊥) → IsLiveAt d k node → IsLiveAt (with_removed d n) k node
   live_after k node other l = subst (λ f. IsLiveAt f k node) (sym (removed_is d n m e))
       (record { made = l.made; there = slot_elsewhere d n m e k other ∙ l.there; live = l.live; is_node = l.is_node })
 
-  pub not_live : is_live (removed d n) n ≡ false
+  pub not_live : is_live (with_removed d n) n ≡ false
   not_live = ap (λ f. is_live f n) (removed_is d n m e) ∙ map_or_at (λ (s : Slot). s.live) (slot (record d { slots = set d.slots n (record m { live = false }) }) n) false (record m { live = false }) (here_gone d n m e)
 
-  pub dead_after : (k : ℕ) → is_live d k ≡ false → is_live (removed d n) k ≡ false
+  pub dead_after : (k : ℕ) → is_live d k ≡ false → is_live (with_removed d n) k ≡ false
   dead_after k h = ⊎_elim
-      (λ (same : k ≡ n). ap (is_live (removed d n)) same ∙ not_live)
+      (λ (same : k ≡ n). ap (is_live (with_removed d n)) same ∙ not_live)
       (λ (other : k ≡ n → ⊥). ap (λ f. is_live f k) (removed_is d n m e) ∙ ap (λ o. option_map_or (λ (s : Slot). s.live) o false) (slot_elsewhere d n m e k other) ∙ h)
       (cases_eq k n)
 
@@ -103,7 +104,7 @@ module _ (c : Configuration) (new : Graph) (Touched : ℕ → Type 0) (noted : �
         apart = is_apart_if d n (n ∷ left) h go.0;
       }
 
-  pub remove_next : (d : Configuration) (n : ℕ) (left : List ℕ) → Removing c new Touched all d (n ∷ left) → Removing c new Touched all (removed d n) left
+  pub remove_next : (d : Configuration) (n : ℕ) (left : List ℕ) → Removing c new Touched all d (n ∷ left) → Removing c new Touched all (with_removed d n) left
   remove_next d n left h =
       let go = h.to_remove n (inl refl) in
       let here = go.1 go.0.node go.0.live in
@@ -126,7 +127,7 @@ module _ (c : Configuration) (new : Graph) (Touched : ℕ → Type 0) (noted : �
             (h.stays k node l s);
         to_remove = λ k i. let g = h.to_remove k (inr i) in (g.0, λ node l. live_after d n m e k node (h.apart.0 k i) (g.1 node l));
         dead = λ k i. ⊎_elim
-            (λ (j : In (n ∷ left) k). ⊎_elim (λ (same : n ≡ k). inr (ap (is_live (removed d n)) (sym same) ∙ not_live d n m e)) (λ (l : In left k). inl l) j)
+            (λ (j : In (n ∷ left) k). ⊎_elim (λ (same : n ≡ k). inr (ap (is_live (with_removed d n)) (sym same) ∙ not_live d n m e)) (λ (l : In left k). inl l) j)
             (λ (f : is_live d k ≡ false). inr (dead_after d n m e k f))
             (h.dead k i);
         apart = h.apart.1;

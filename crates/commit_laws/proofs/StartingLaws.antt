@@ -21,14 +21,14 @@ use Rattle.quiesce_core.specs.Start.{started}
 use Rattle.quiesce_core.specs.State.{State, empty, is_live, owner, ports_of, service}
 use Rattle.quiesce_core.proofs.GraphLaws.{graph_started}
 use Rattle.quiesce_core.proofs.LegalLaws.{legal}
-use Rattle.quiesce_core.proofs.RunPartLaws.{StepAt}
+use Rattle.quiesce_core.proofs.RunLaws.{StepAt}
 use Rattle.quiesce_core.proofs.StepsLaws.{end_is, run_is_steps}
 use Rattle.quiescence_laws.specs.Events.{reopens}
 use Rattle.quiescence_laws.specs.Starts.{link_of, make_of, reopen_of, start_of}
 use Rattle.quiescence_laws.proofs.StartLemmas.{start_path}
 use Rattle.base.specs.Each.{EachAfter}
 use Rattle.commit_laws.specs.Steps.{IsNoted, MayStep, MayStepAll, change_all}
-use Rattle.commit_laws.proofs.AllowedLaws.{config_next}
+use Rattle.quiesce_core.proofs.RunLaws.{effect_config}
 use Rattle.commit_laws.proofs.CarryingLaws.{allowed_in_order, append_closed, map_closed}
 use Rattle.commit_laws.proofs.MeanwhileLaws.{now_is}
 
@@ -75,7 +75,7 @@ may_from before (e ∷ es) h all =
     let parts = and_parts (is_of_change e) (list_all is_of_change es) all in
     let s = state_after before in (
       may_if_legal s e parts.0 (legal s e h.0.allowed),
-      subst (λ c. MayStepAll all_noted c es) (ap (λ (t : State). t.config) (after_one before e) ∙ config_next s e) (may_from (before ++ e ∷ []) es h.1 parts.1),
+      subst (λ c. MayStepAll all_noted c es) (ap (λ (t : State). t.config) (after_one before e) ∙ effect_config s e) (may_from (before ++ e ∷ []) es h.1 parts.1),
     )
 
 -- all of a start is the change's

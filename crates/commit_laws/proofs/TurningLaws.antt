@@ -6,12 +6,12 @@ use Rattle.config_graph.specs.Graph.{Graph}
 use Rattle.config_graph.specs.declared.node.Node.{Node}
 use Rattle.quiesce_core.specs.declared.state.Gate.{Gate}
 use Rattle.quiesce_core.specs.declared.state.Slot.{Slot}
-use Rattle.quiesce_core.specs.Effect.{closed, with_gate}
+use Rattle.quiesce_core.specs.Effect.{with_closed, with_gate}
 use Rattle.quiesce_core.specs.Live.{AreLinked, IsGraphOf, IsLiveAt}
 use Rattle.quiesce_core.specs.State.{Configuration, gate, is_live, owner, slot, target}
 use Rattle.quiesce_core.proofs.SoundnessLaws.{put_elsewhere, put_here, put_owner, put_require}
 use Rattle.commit_laws.specs.Lists.{In}
-use Rattle.commit_laws.specs.Steps.{is_live_port_in}
+use Rattle.quiesce_core.specs.Rules.{is_live_port}
 
 -- two configurations that differ in gates' flags at most
 pub record SameLinks (c d : Configuration) : Type 0 where
@@ -21,7 +21,7 @@ pub record SameLinks (c d : Configuration) : Type 0 where
   pub requirements : (q : ℕ) → (gate d q).require ≡ (gate c q).require
   pub targets : (q : ℕ) → target d q ≡ target c q
 
-pub same_turned : (c d : Configuration) (p : ℕ) (flag : Bool) → p < length d.gates → SameLinks c d → SameLinks c (closed d p flag)
+pub same_turned : (c d : Configuration) (p : ℕ) (flag : Bool) → p < length d.gates → SameLinks c d → SameLinks c (with_closed d p flag)
 same_turned c d p flag made h =
     let g : Gate = record (gate d p) { closed = flag } in
     record {
@@ -88,7 +88,7 @@ pub record IsLivePort (d : Configuration) (p : ℕ) : Type 0 where
   pub made : p < length d.gates
   pub live : is_live d (owner d p) ≡ true
 
-pub live_port : (d : Configuration) (p : ℕ) → is_live_port_in d p ≡ true → IsLivePort d p
+pub live_port : (d : Configuration) (p : ℕ) → is_live_port d p ≡ true → IsLivePort d p
 live_port d p h = let parts = and_parts (nat_lt p (length d.gates)) (is_live d (owner d p)) h in record { made = ltb-true p (length d.gates) parts.0; live = parts.1 }
 
 -- d is c with some of these ports turned, that is, closed or reopened, and some left
@@ -99,12 +99,12 @@ pub record Turning (c : Configuration) (flag : Bool) (all : List ℕ) (d : Confi
   pub turned : (q : ℕ) → In all q → In left q ⊎ ((gate d q).closed ≡ flag)
   pub others : (q : ℕ) → (In all q → ⊥) → (gate d q).closed ≡ (gate c q).closed
 
-pub turn_may : (c : Configuration) (flag : Bool) (all : List ℕ) (d : Configuration) (p : ℕ) (left : List ℕ) → Turning c flag all d (p ∷ left) → is_live_port_in d p ≡ true
+pub turn_may : (c : Configuration) (flag : Bool) (all : List ℕ) (d : Configuration) (p : ℕ) (left : List ℕ) → Turning c flag all d (p ∷ left) → is_live_port d p ≡ true
 turn_may c flag all d p left h =
     let port = h.live p (inl refl) in
     and_from (nat_lt p (length d.gates)) (is_live d (owner d p)) (lt-ltb p (length d.gates) port.made) port.live
 
-pub turn_next : (c : Configuration) (flag : Bool) (all : List ℕ) (d : Configuration) (p : ℕ) (left : List ℕ) → Turning c flag all d (p ∷ left) → Turning c flag all (closed d p flag) left
+pub turn_next : (c : Configuration) (flag : Bool) (all : List ℕ) (d : Configuration) (p : ℕ) (left : List ℕ) → Turning c flag all d (p ∷ left) → Turning c flag all (with_closed d p flag) left
 turn_next c flag all d p left h =
     let g : Gate = record (gate d p) { closed = flag } in
     let made = (h.live p (inl refl)).made in

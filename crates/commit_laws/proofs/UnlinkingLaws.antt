@@ -6,13 +6,14 @@ use Rattle.config_graph.specs.Graph.{Graph}
 use Rattle.config_graph.specs.declared.node.Target.{Target}
 use Rattle.quiesce_core.specs.declared.event.Event.TheVariants as event
 use Rattle.quiesce_core.specs.declared.state.Gate.{Gate}
-use Rattle.quiesce_core.specs.Effect.{linked, with_gate}
+use Rattle.quiesce_core.specs.Effect.{with_target, with_gate}
 use Rattle.quiesce_core.specs.State.{Configuration, gate, is_live, owner, target}
 use Rattle.quiesce_core.proofs.SoundnessLaws.{put_elsewhere, put_here}
 use Rattle.commit_laws.specs.Fitting.{KeptLink}
 use Rattle.commit_laws.specs.Lists.{Apart, In}
 use Rattle.commit_laws.specs.Steps.{MayStep}
-use Rattle.commit_laws.proofs.BetweenLaws.{Between, Ground, between_unlink, is_noted, linked_made}
+use Rattle.commit_laws.proofs.BetweenLaws.{Between, Ground, between_unlink, is_noted}
+use Rattle.quiesce_core.proofs.ConfigurationLaws.{linked_made}
 use Rattle.commit_laws.specs.Commits.{Differ, IsToUnlink}
 
 -- d is c with some links less; these are left to be unlinked
@@ -25,7 +26,7 @@ pub record Unlinking (c : Configuration) (new : Graph) (Touched : ℕ → Type 0
   pub rest : (p : ℕ) (t : Target) → target d p ≡ Some t → In left p ⊎ KeptLink c new p t
 
 -- a port that is linked anew
-pub target_put : (d : Configuration) (p : ℕ) (o : Option Target) → p < length d.gates → (q : ℕ) (t : Target) → target (linked d p o) q ≡ Some t
+pub target_put : (d : Configuration) (p : ℕ) (o : Option Target) → p < length d.gates → (q : ℕ) (t : Target) → target (with_target d p o) q ≡ Some t
     → ((q ≡ p) × (o ≡ Some t)) ⊎ ((q ≡ p → ⊥) × (target d q ≡ Some t))
 target_put d p o made q t e =
     let g = record (gate d p) { target = o } in
@@ -34,7 +35,7 @@ target_put d p o made q t e =
     (λ (other : q ≡ p → ⊥). inr (other, sym (ap (λ (h : Gate). h.target) (put_elsewhere d p g made refl refl q other)) ∙ e))
     (cases_eq q p)
 
-pub target_beside : (d : Configuration) (p : ℕ) (o : Option Target) → p < length d.gates → (q : ℕ) → (q ≡ p → ⊥) → target (linked d p o) q ≡ target d q
+pub target_beside : (d : Configuration) (p : ℕ) (o : Option Target) → p < length d.gates → (q : ℕ) → (q ≡ p → ⊥) → target (with_target d p o) q ≡ target d q
 target_beside d p o made q other = ap (λ (h : Gate). h.target) (put_elsewhere d p (record (gate d p) { target = o }) made refl refl q other)
 
 module _ (c : Configuration) (new : Graph) (Touched : ℕ → Type 0) (noted : ℕ → Bool) (ground : Ground c Touched noted)
@@ -52,7 +53,7 @@ module _ (c : Configuration) (new : Graph) (Touched : ℕ → Type 0) (noted : �
         settled = is_noted c Touched noted ground d h.between (owner d p) (inl (subst Touched (sym owned) cut.0.touched)) live;
       }
 
-  pub unlink_next : (d : Configuration) (p : ℕ) (left : List ℕ) → Unlinking c new Touched d (p ∷ left) → Unlinking c new Touched (linked d p None) left
+  pub unlink_next : (d : Configuration) (p : ℕ) (left : List ℕ) → Unlinking c new Touched d (p ∷ left) → Unlinking c new Touched (with_target d p None) left
   unlink_next d p left h =
       let cut = h.unlinks p (inl refl) in
       let made = linked_made d p cut.0.to (cut.1 ∙ cut.0.leads) in

@@ -32,7 +32,7 @@ use Rattle.quiesce_core.specs.State.{owner}
 use Rattle.quiesce_core.proofs.GraphLaws.{graph_started}
 use Rattle.quiescence_laws.specs.Drained.{is_drained}
 use Rattle.quiescence_laws.specs.Starts.{start_of}
-use Rattle.quiescence_laws.proofs.Induction.{run_if}
+use Rattle.quiesce_core.proofs.RunLaws.{run_if}
 use Rattle.base.proofs.ContainsLaws.{Contains-at}
 use Rattle.commit_laws.proofs.EndingLaws.{graph_stays}
 use Rattle.plan_laws.proofs.PlannedLemmas.{link_if}

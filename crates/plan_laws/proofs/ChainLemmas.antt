@@ -17,7 +17,7 @@ use Rattle.quiesce_core.specs.Reach.{has_no_cycle, reaches}
 use Rattle.quiesce_core.specs.Rules.{denial}
 use Rattle.quiesce_core.specs.Runs.{IsRun, state_after}
 use Rattle.quiescence_laws.specs.Drained.{is_drained}
-use Rattle.quiescence_laws.proofs.Induction.{run_if}
+use Rattle.quiesce_core.proofs.RunLaws.{run_if}
 use Rattle.base.proofs.ContainsLaws.{Contains-at}
 use Rattle.plan_laws.specs.Commit.{commit_steps}
 use Rattle.plan_laws.specs.Rows.{all_closed, chain, direct_closed, first_map, linking, m_to_n, n_to_t, s_to_m, second_map, source}

@@ -37,7 +37,7 @@ use Rattle.plan_laws.proofs.ReadyLemmas.{IsReady}
 use Rattle.commit_laws.specs.Lists.{In}
 use Rattle.commit_laws.specs.Work.{NewLink, NewNode, end_of}
 use Rattle.commit_laws.proofs.AcyclicLaws.{one_place}
-use Rattle.commit_laws.proofs.BetweenLaws.{linked_made}
+use Rattle.quiesce_core.proofs.ConfigurationLaws.{linked_made}
 use Rattle.commit_laws.proofs.MakingLaws.{Making}
 use Rattle.plan_laws.proofs.PlannedLemmas.{PortOf, kept_if, link_if, linked_if, old_link, port_of_link}
 use Rattle.plan_laws.proofs.SelectingLemmas.{map_apart, map_in, mapped}
