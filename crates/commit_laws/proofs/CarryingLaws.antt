@@ -154,7 +154,7 @@ module _ (c : Configuration) (new : Graph) (Touched : ℕ → Type 0) (noted : �
     reopening : Turning (change_all c (steps_of w links)) false ports (change_all c (steps_of w links)) ports
     reopening = turn_start (change_all c (steps_of w links)) false ports live
 
-    events_may : MayStepAll noted c (events_of w links ports)
+    pub events_may : MayStepAll noted c (events_of w links ports)
     events_may =
         let d = change_all c (steps_of w links) in
         may_then noted c (steps_of w links) (map Reopen ports) steps_may

@@ -19,7 +19,7 @@ use Rattle.commit_laws.proofs.GateLaws.{all_closed, close_allowed}
 use Rattle.commit_laws.proofs.TurningLaws.{IsLivePort, SameLinks, Turning, live_still}
 use Rattle.plan_laws.specs.Commit.{closes, commit_events, commit_steps, is_at, is_one_of, node_path, reopens, stands_in}
 use Rattle.plan_laws.specs.Committing.{MayCommit}
-use Rattle.plan_laws.proofs.RunLemmas.{flag_stays, opened_at, same_links}
+use Rattle.plan_laws.proofs.CommitLaws.{flag_stays, opened_at, same_links}
 use Rattle.plan_laws.proofs.SelectingLemmas.{any_of, select, selected}
 
 module _ (old : Graph) (plan : Plan) (c : Configuration) where

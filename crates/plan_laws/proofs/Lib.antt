@@ -1,10 +1,10 @@
 pub mod BankLemmas
 pub mod ChainLemmas
+pub mod CommitLaws
 pub mod GateLemmas
 pub mod LinkedLemmas
 pub mod PlannedLemmas
 pub mod ReadyLemmas
-pub mod RunLemmas
 pub mod SelectingLemmas
 pub mod StandingLemmas
 pub mod WholeLemmas

@@ -35,8 +35,7 @@ use Rattle.quiesce_core.proofs.CycleLaws.{made_below, map_or_true}
 use Rattle.base.proofs.ContainsLaws.{Contains-from_map, Contains-at, at_some_place}
 use Rattle.plan_laws.specs.Commit.{is_at, is_unlinked_by, is_one_of, makes_from, node_at, node_path, slot_at, source_of, work}
 use Rattle.plan_laws.specs.Commit as commit
-use Rattle.plan_laws.specs.Committing.{IsTouchedSlot}
-use Rattle.plan_laws.proofs.ReadyLemmas.{IsReady}
+use Rattle.plan_laws.proofs.ReadyLemmas.{IsReady, IsTouchedSlot}
 use Rattle.commit_laws.specs.Fitting.{Fits, KeptLink}
 use Rattle.commit_laws.specs.Lists.{Apart, In}
 use Rattle.commit_laws.specs.Work.{AreNumbered, NewNode}

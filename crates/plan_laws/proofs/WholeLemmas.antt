@@ -1,5 +1,5 @@
 -- The commit of a plan, from a configuration that is ready for it.
-use Rattle.std.proofs.Common.{◌≡◌, ℕ, ◌<◌, Bool, true, false, not, ◌&&◌, ◌||◌, [], length, sym, subst, inl, inr, ⊎_elim, arith, Contains, lt-ltb}
+use Rattle.std.proofs.Common.{◌≡◌, ℕ, ◌<◌, true, false, not, ◌&&◌, ◌||◌, [], length, sym, subst, inl, inr, ⊎_elim, arith, Contains, lt-ltb}
 use Rattle.std.specs.Prelude.{nat_lt}
 use Rattle.std.proofs.lemmas.Bool.{and_parts, both_ways, false_from_ne_true, ltb-true, not-true, not_from_false, or_cases, or_left, or_right}
 use Rattle.change_plan.specs.declared.plan_data.Plan.{Plan}
@@ -13,18 +13,13 @@ use Rattle.commit_laws.proofs.BetweenLaws.{Ground}
 use Rattle.commit_laws.proofs.CommitLaws.{all_made, made_is}
 use Rattle.commit_laws.proofs.MakingLaws.{Making}
 use Rattle.commit_laws.proofs.TurningLaws.{IsLivePort}
-use Rattle.plan_laws.specs.Commit.{is_one_of, new_links, reopens, stands_in, work}
-use Rattle.plan_laws.specs.Committing.{IsTouchedSlot}
+use Rattle.plan_laws.specs.Commit.{is_frozen_or_new, is_one_of, new_links, reopens, stands_in, work}
+use Rattle.plan_laws.proofs.ReadyLemmas.{IsReady, IsTouchedSlot}
 use Rattle.plan_laws.proofs.LinkedLemmas.{are_links}
 use Rattle.plan_laws.proofs.PlannedLemmas.{is_work}
-use Rattle.plan_laws.proofs.ReadyLemmas.{IsReady}
 use Rattle.plan_laws.proofs.SelectingLemmas.{any_if, selected}
 use Rattle.plan_laws.proofs.StandingLemmas.{in_if_stands}
 use Rattle.commit_laws.specs.Commits.{AreNoted, IsCommit, AreLinks, IsWork}
-
--- the ports of frozen nodes, and those not made yet
-abbrev pub is_noted_in : Graph → Plan → Configuration → ℕ → Bool
-is_noted_in old plan c q = not (nat_lt q (length c.gates)) || is_one_of old plan.freeze c (owner c q)
 
 module _ (old new : Graph) (plan : Plan) (c : Configuration) (ready : IsReady old new plan c) where
   is_frozen : (n i : ℕ) → Contains plan.freeze i → StandsAt c old.nodes n i → is_one_of old plan.freeze c n ≡ true
@@ -34,10 +29,10 @@ module _ (old new : Graph) (plan : Plan) (c : Configuration) (ready : IsReady ol
   pub untouched : (n : ℕ) → is_one_of old plan.freeze c n ≡ false → IsTouchedSlot old new c n → ⊥
   untouched n unfrozen t = both_ways (is_one_of old plan.freeze c n) unfrozen (is_frozen n t.0 ((ready.steps.freeze t.0).1 (inl t.1)) t.2)
 
-  frozen_noted : (q i : ℕ) → Contains plan.freeze i → StandsAt c old.nodes (owner c q) i → is_noted_in old plan c q ≡ true
+  frozen_noted : (q i : ℕ) → Contains plan.freeze i → StandsAt c old.nodes (owner c q) i → is_frozen_or_new old plan c q ≡ true
   frozen_noted q i frozen s = or_right (not (nat_lt q (length c.gates))) (is_one_of old plan.freeze c (owner c q)) (is_frozen (owner c q) i frozen s)
 
-  noted : AreNoted c (IsTouchedSlot old new c) (is_noted_in old plan c)
+  noted : AreNoted c (IsTouchedSlot old new c) (is_frozen_or_new old plan c)
   noted = record {
     fresh = λ q past. or_left (not (nat_lt q (length c.gates))) (is_one_of old plan.freeze c (owner c q))
         (not_from_false (nat_lt q (length c.gates)) (false_from_ne_true (nat_lt q (length c.gates)) (λ h. let low = ltb-true q (length c.gates) h in absurd (omega arith))));
@@ -54,12 +49,12 @@ module _ (old new : Graph) (plan : Plan) (c : Configuration) (ready : IsReady ol
   links =
       let w = work old new plan c in
       let Touched = IsTouchedSlot old new c in
-      let ground : Ground c (IsTouchedSlot old new c) (is_noted_in old plan c) = record { sound = ready.after.sound; are_noted = noted } in
+      let ground : Ground c (IsTouchedSlot old new c) (is_frozen_or_new old plan c) = record { sound = ready.after.sound; are_noted = noted } in
       are_links old new plan c ready (change_all c (work_of w))
-      (subst (λ d. Making c new Touched d []) (sym (made_is c new ready.new_sound Touched (is_noted_in old plan c) ground ready.after.owners_live ready.after.gone ready.after.named w works))
-      (all_made c new ready.new_sound Touched (is_noted_in old plan c) ground ready.after.owners_live ready.after.gone ready.after.named w works))
+      (subst (λ d. Making c new Touched d []) (sym (made_is c new ready.new_sound Touched (is_frozen_or_new old plan c) ground ready.after.owners_live ready.after.gone ready.after.named w works))
+      (all_made c new ready.new_sound Touched (is_frozen_or_new old plan c) ground ready.after.owners_live ready.after.gone ready.after.named w works))
 
-  pub commit : IsCommit c new (IsTouchedSlot old new c) (is_noted_in old plan c) (work old new plan c) (new_links new plan (change_all c (work_of (work old new plan c))))
+  pub commit : IsCommit c new (IsTouchedSlot old new c) (is_frozen_or_new old plan c) (work old new plan c) (new_links new plan (change_all c (work_of (work old new plan c))))
   commit = record {
     sound = ready.new_sound;
     are_noted = noted;

@@ -79,6 +79,10 @@ new_link_of new plan d p = option_and_then (new_link new d p) (find (is_link_of 
 abbrev pub new_links : Graph → Plan → Configuration → List NewLink
 new_links new plan d = filter_map (new_link_of new plan d) (range_with_len 0 (length d.gates))
 
+-- whether a port is one of a frozen node, or wasn't made when the commit began
+abbrev pub is_frozen_or_new : Graph → Plan → Configuration → ℕ → Bool
+is_frozen_or_new old plan c p = not (nat_lt p (length c.gates)) || is_one_of old plan.freeze c (owner c p)
+
 -- the ports that are closed for the change: those of frozen nodes
 abbrev pub closes : Graph → Plan → Configuration → List ℕ
 closes old plan c = ports_where (λ p. is_one_of old plan.freeze c (owner c p)) c
@@ -90,8 +94,7 @@ commit_steps old new plan c =
 
 -- the ports that were closed for the change and those made in it, where they are live
 abbrev pub reopens : Graph → Plan → Configuration → Configuration → List ℕ
-reopens old plan c d =
-    ports_where (λ p. is_live d (owner d p) && (not (nat_lt p (length c.gates)) || is_one_of old plan.freeze c (owner c p))) d
+reopens old plan c d = ports_where (λ p. is_live d (owner d p) && is_frozen_or_new old plan c p) d
 
 abbrev pub commit_events : Graph → Graph → Plan → Configuration → List Event
 commit_events old new plan c =

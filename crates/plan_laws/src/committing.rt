@@ -15,8 +15,8 @@ ghost use Rattle.quiesce_core.specs.Runs.{IsRun, state_after};
 ghost use Rattle.quiesce_core.specs.Settled.{Quiescent, Settled};
 ghost use Rattle.quiesce_core.specs.State.{Configuration, gate, is_live, owner, target};
 ghost use Rattle.commit_laws.specs.Fitting.{IsPart};
-ghost use Rattle.commit_laws.specs.Steps.{change_all};
-ghost use Rattle.plan_laws.specs.Commit.{closes, commit_events, commit_steps, is_one_of, reopens};
+ghost use Rattle.commit_laws.specs.Steps.{MayStepAll, change_all};
+ghost use Rattle.plan_laws.specs.Commit.{closes, commit_events, commit_steps, is_frozen_or_new, is_one_of, reopens};
 ghost use Rattle.plan_laws.specs.Committing.{MayCommit};
 
 /// The gates of frozen nodes, and no others, may be closed one after the other, whatever nodes do in between.
@@ -26,9 +26,13 @@ pub fn what_is_frozen_may_be_closed()
     ensures no_others { (old : Graph) (plan : Plan) (c : Configuration) (p : ℕ) → is_one_of old plan.freeze c (owner c p) ≡ false → ¬ Contains (closes old plan c) p }
 {}
 
-/// Each event of a plan's commit is allowed after those before it, whatever nodes do in between.
+/// Each event of a plan's commit is allowed after those before it, whatever nodes do in between. For each but the reopenings it is
+/// enough that the ports of frozen nodes were drained when the commit began: a node that is unlinked, linked or removed has no
+/// other port, but new ones, and none other reaches it.
 pub fn commits_can_not_fail()
-    ensures { (old new : Graph) (moves : List Move) (plan : Plan) (es more_ left : List Event) (e : Event) → MayCommit old new moves plan es → IsRun (es ++ more_)
+    ensures by_the_configuration { (old new : Graph) (moves : List Move) (plan : Plan) (es : List Event) → MayCommit old new moves plan es
+        → MayStepAll (is_frozen_or_new old plan (state_after es).config) (state_after es).config (commit_events old new plan (state_after es).config) }
+    ensures allowed { (old new : Graph) (moves : List Move) (plan : Plan) (es more_ left : List Event) (e : Event) → MayCommit old new moves plan es → IsRun (es ++ more_)
         → filter is_of_change more_ ++ e ∷ left ≡ commit_events old new plan (state_after es).config → denial (state_after (es ++ more_)) e ≡ None }
 {}
 
@@ -59,6 +63,8 @@ pub fn touched_nodes_are_quiescent()
 
 /// A port of a node that isn't frozen is not reopened, and it keeps its target and its gate as it is throughout.
 pub fn what_is_not_frozen_is_left()
+    ensures unopened { (old : Graph) (plan : Plan) (before after : Configuration) (p : ℕ) → p < length before.gates
+        → is_one_of old plan.freeze before (owner before p) ≡ false → ¬ Contains (reopens old plan before after) p }
     ensures target { (old new : Graph) (moves : List Move) (plan : Plan) (es more_ left : List Event) (p : ℕ) → MayCommit old new moves plan es
         → p < length (state_after es).config.gates → is_one_of old plan.freeze (state_after es).config (owner (state_after es).config p) ≡ false
         → filter is_of_change more_ ++ left ≡ commit_events old new plan (state_after es).config

@@ -21,17 +21,17 @@ use Rattle.quiesce_core.proofs.RunLaws.{runs_are_well_formed}
 use Rattle.quiescence_laws.specs.Drained.{is_drained}
 use Rattle.commit_laws.specs.Fitting.{IsPart}
 use Rattle.commit_laws.specs.Lists.{In}
-use Rattle.commit_laws.specs.Steps.{change_all}
+use Rattle.commit_laws.specs.Steps.{MayStepAll, change_all}
 use Rattle.commit_laws.specs.Work.{work_of}
 use Rattle.commit_laws.proofs.CarryingLaws as carrying
 use Rattle.commit_laws.specs.Commits.{IsCommit}
 use Rattle.commit_laws.proofs.PartLaws.{part_of_one}
 use Rattle.commit_laws.proofs.TurningLaws.{IsLivePort, SameLinks}
-use Rattle.plan_laws.specs.Commit.{commit_events, commit_steps, is_one_of, new_links, reopens, work}
-use Rattle.plan_laws.specs.Committing.{IsTouchedSlot, MayCommit}
+use Rattle.plan_laws.specs.Commit.{commit_events, commit_steps, is_frozen_or_new, is_one_of, new_links, reopens, work}
+use Rattle.plan_laws.specs.Committing.{MayCommit}
+use Rattle.plan_laws.proofs.ReadyLemmas.{IsReady, IsTouchedSlot, ready}
 use Rattle.plan_laws.proofs.PlannedLemmas.{linked_if, old_link}
-use Rattle.plan_laws.proofs.ReadyLemmas.{IsReady, ready}
-use Rattle.plan_laws.proofs.WholeLemmas.{commit, is_noted_in, reopened_live, unopened, untouched}
+use Rattle.plan_laws.proofs.WholeLemmas.{commit, reopened_live, unopened, untouched}
 
 -- what isn't made yet is closed and idle
 unmade_drained : (es : List Event) → IsRun es → (p : ℕ) → length (state_after es).config.gates ≤ p → is_drained (state_after es) p ≡ true
@@ -46,11 +46,11 @@ module _ (old new : Graph) (moves : List Move) (plan : Plan) (es : List Event) (
   is_ready : IsReady old new plan (state_after es).config
   is_ready = ready old new moves plan es may
 
-  whole : IsCommit (state_after es).config new (IsTouchedSlot old new (state_after es).config) (is_noted_in old plan (state_after es).config) (work old new plan (state_after es).config)
+  whole : IsCommit (state_after es).config new (IsTouchedSlot old new (state_after es).config) (is_frozen_or_new old plan (state_after es).config) (work old new plan (state_after es).config)
       (new_links new plan (change_all (state_after es).config (work_of (work old new plan (state_after es).config))))
   whole = commit old new plan (state_after es).config (ready old new moves plan es may)
 
-  all_drained : (p : ℕ) → is_noted_in old plan (state_after es).config p ≡ true → is_drained (state_after es) p ≡ true
+  all_drained : (p : ℕ) → is_frozen_or_new old plan (state_after es).config p ≡ true → is_drained (state_after es) p ≡ true
   all_drained p h =
       let c = (state_after es).config in
       ⊎_elim
@@ -65,32 +65,40 @@ module _ (old new : Graph) (moves : List Move) (plan : Plan) (es : List Event) (
       → IsLivePort (change_all (state_after es).config (commit_steps old new plan (state_after es).config)) p
   reopens_live p i = reopened_live old plan (state_after es).config (change_all (state_after es).config (commit_steps old new plan (state_after es).config)) p i
 
+  -- each event may be done by the configuration, where the ports of frozen nodes and new ones are known to be drained
+  pub events_may : MayStepAll (is_frozen_or_new old plan (state_after es).config) (state_after es).config (commit_events old new plan (state_after es).config)
+  events_may =
+      let c = (state_after es).config in
+      let w = work old new plan c in
+      carrying.events_may c new (IsTouchedSlot old new c) (is_frozen_or_new old plan c) w (new_links new plan (change_all c (work_of w))) is_ready.after whole
+      (reopens old plan c (change_all c (commit_steps old new plan c))) reopens_live
+
   pub settled_at : (more_ left : List Event) (n : ℕ) → IsRun (es ++ more_) → filter is_of_change more_ ++ left ≡ commit_steps old new plan (state_after es).config
       → IsTouchedSlot old new (state_after es).config n → is_live (state_after (es ++ more_)).config n ≡ true → Settled (state_after (es ++ more_)) n
   settled_at more_ left n run is touched live =
       let c = (state_after es).config in
       let w = work old new plan c in
-      carrying.settled_at es new (IsTouchedSlot old new c) (is_noted_in old plan c) w (new_links new plan (change_all c (work_of w))) may.run whole all_drained more_ left n run is touched live
+      carrying.settled_at es new (IsTouchedSlot old new c) (is_frozen_or_new old plan c) w (new_links new plan (change_all c (work_of w))) may.run whole all_drained more_ left n run is touched live
 
   pub allowed_at : (more_ left : List Event) (e : Event) → IsRun (es ++ more_) → filter is_of_change more_ ++ e ∷ left ≡ commit_events old new plan (state_after es).config → denial (state_after (es ++ more_)) e ≡ None
   allowed_at more_ left e run is =
       let c = (state_after es).config in
       let w = work old new plan c in
-      carrying.allowed_at es new (IsTouchedSlot old new c) (is_noted_in old plan c) w (new_links new plan (change_all c (work_of w))) may.run whole all_drained
+      carrying.allowed_at es new (IsTouchedSlot old new c) (is_frozen_or_new old plan c) w (new_links new plan (change_all c (work_of w))) may.run whole all_drained
       (reopens old plan c (change_all c (commit_steps old new plan c))) reopens_live more_ left e run is
 
   pub graph_linked : (more_ : List Event) → filter is_of_change more_ ≡ commit_steps old new plan (state_after es).config → IsGraphOf (state_after (es ++ more_)).config new
   graph_linked more_ is =
       let c = (state_after es).config in
       let w = work old new plan c in
-      carrying.graph_linked es new (IsTouchedSlot old new c) (is_noted_in old plan c) w (new_links new plan (change_all c (work_of w))) may.run whole more_ is
+      carrying.graph_linked es new (IsTouchedSlot old new c) (is_frozen_or_new old plan c) w (new_links new plan (change_all c (work_of w))) may.run whole more_ is
 
   pub graph_reopening : (more_ done left : List Event) → filter is_of_change more_ ≡ commit_steps old new plan (state_after es).config ++ done
       → done ++ left ≡ map Reopen (reopens old plan (state_after es).config (change_all (state_after es).config (commit_steps old new plan (state_after es).config))) → IsGraphOf (state_after (es ++ more_)).config new
   graph_reopening more_ done left is parts =
       let c = (state_after es).config in
       let w = work old new plan c in
-      carrying.graph_reopening es new (IsTouchedSlot old new c) (is_noted_in old plan c) w (new_links new plan (change_all c (work_of w))) may.run whole
+      carrying.graph_reopening es new (IsTouchedSlot old new c) (is_frozen_or_new old plan c) w (new_links new plan (change_all c (work_of w))) may.run whole
       (reopens old plan c (change_all c (commit_steps old new plan c))) reopens_live more_ done left is parts
 
   was_part : IsPart (state_after es).config old
@@ -115,14 +123,14 @@ module _ (old new : Graph) (moves : List Move) (plan : Plan) (es : List Event) (
       let c = (state_after es).config in
       let w = work old new plan c in
       let Touched = IsTouchedSlot old new c in
-      carrying.in_steps es new Touched (is_noted_in old plan c) w (new_links new plan (change_all c (work_of w))) may.run whole (λ d. IsPart d old ⊎ IsPart d new) (part_of_one c old new Touched w was_part) more_ left is
+      carrying.in_steps es new Touched (is_frozen_or_new old plan c) w (new_links new plan (change_all c (work_of w))) may.run whole (λ d. IsPart d old ⊎ IsPart d new) (part_of_one c old new Touched w was_part) more_ left is
 
   module _ (p : ℕ) (low : p < length (state_after es).config.gates) (unfrozen : is_one_of old plan.freeze (state_after es).config (owner (state_after es).config p) ≡ false) where
     pub target_stays : (more_ left : List Event) → filter is_of_change more_ ++ left ≡ commit_events old new plan (state_after es).config → target (state_after (es ++ more_)).config p ≡ target (state_after es).config p
     target_stays more_ left is =
         let c = (state_after es).config in
         let w = work old new plan c in
-        carrying.target_stays es new (IsTouchedSlot old new c) (is_noted_in old plan c) w (new_links new plan (change_all c (work_of w))) may.run whole
+        carrying.target_stays es new (IsTouchedSlot old new c) (is_frozen_or_new old plan c) w (new_links new plan (change_all c (work_of w))) may.run whole
         (reopens old plan c (change_all c (commit_steps old new plan c))) reopens_live p low (untouched old new plan c is_ready (owner c p) unfrozen) more_ left is
 
     pub flag_stays : (more_ left : List Event) → filter is_of_change more_ ++ left ≡ commit_events old new plan (state_after es).config → (gate (state_after (es ++ more_)).config p).closed ≡ (gate (state_after es).config p).closed
@@ -130,7 +138,7 @@ module _ (old new : Graph) (moves : List Move) (plan : Plan) (es : List Event) (
         let c = (state_after es).config in
         let w = work old new plan c in
         let d = change_all c (commit_steps old new plan c) in
-        carrying.flag_stays es new (IsTouchedSlot old new c) (is_noted_in old plan c) w (new_links new plan (change_all c (work_of w))) may.run whole
+        carrying.flag_stays es new (IsTouchedSlot old new c) (is_frozen_or_new old plan c) w (new_links new plan (change_all c (work_of w))) may.run whole
         (reopens old plan c d) reopens_live p low (untouched old new plan c is_ready (owner c p) unfrozen) (unopened old plan c d p low unfrozen) more_ left is
 
   pub opened_at : (p : ℕ) → In (reopens old plan (state_after es).config (change_all (state_after es).config (commit_steps old new plan (state_after es).config))) p
@@ -138,7 +146,7 @@ module _ (old new : Graph) (moves : List Move) (plan : Plan) (es : List Event) (
   opened_at p i more_ is =
       let c = (state_after es).config in
       let w = work old new plan c in
-      carrying.opened_at es new (IsTouchedSlot old new c) (is_noted_in old plan c) w (new_links new plan (change_all c (work_of w))) may.run whole
+      carrying.opened_at es new (IsTouchedSlot old new c) (is_frozen_or_new old plan c) w (new_links new plan (change_all c (work_of w))) may.run whole
       (reopens old plan c (change_all c (commit_steps old new plan c))) reopens_live p i more_ is
 
   -- each node and port is live after the commit that was so after the last link
@@ -147,5 +155,5 @@ module _ (old new : Graph) (moves : List Move) (plan : Plan) (es : List Event) (
   same_links more_ is =
       let c = (state_after es).config in
       let w = work old new plan c in
-      carrying.same_links es new (IsTouchedSlot old new c) (is_noted_in old plan c) w (new_links new plan (change_all c (work_of w))) may.run whole
+      carrying.same_links es new (IsTouchedSlot old new c) (is_frozen_or_new old plan c) w (new_links new plan (change_all c (work_of w))) may.run whole
       (reopens old plan c (change_all c (commit_steps old new plan c))) reopens_live more_ is
