@@ -19,7 +19,7 @@ module _ (noted : ℕ → Bool) (es : List Event) (run : IsRun es) (drained : (p
   legal_step : (e : Event) → MayStep noted (state_after es).config e → Legal (state_after es) e
   legal_step (Close p) h = record { live = h }
   legal_step (Reopen p) h = record { live = h }
-  legal_step (Make n node from) h = record { room = h.room; new_path = h.new_path; moves = h.moves }
+  legal_step (Make n node from) h = h
   legal_step (Link p n x) h = record { live = h.live; unlinked = h.unlinked; provision = h.provision; settled = settled (owner (state_after es).config p) h.settled; no_cycle = h.no_cycle }
   legal_step (Unlink p) h = record { live = h.live; linked = h.linked; settled = settled (owner (state_after es).config p) h.settled }
   legal_step (Remove n) h = record { live = h.settled.live; settled = settled n h.settled; apart = h.apart }

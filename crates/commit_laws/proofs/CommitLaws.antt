@@ -25,7 +25,8 @@ use Rattle.commit_laws.specs.Work.{AreNumbered, NewLink, NewNode, Work, link_of,
 use Rattle.commit_laws.proofs.BetweenLaws.{Ground, between_start}
 use Rattle.quiesce_core.proofs.ConfigurationLaws.{linked_made}
 use Rattle.commit_laws.proofs.LinkingLaws.{Linking, graph_is, link_may, link_next}
-use Rattle.commit_laws.proofs.MakingLaws.{Making, any_there, make_may, make_next}
+use Rattle.commit_laws.proofs.MakingLaws.{Making, make_may, make_next}
+use Rattle.commit_laws.proofs.MemberLaws.{any_there}
 use Rattle.commit_laws.proofs.PhaseLaws.{EachConfig, each_then, may_then, phase_each, phase_ends, phase_may}
 use Rattle.commit_laws.proofs.RemovingLaws.{Removing, live_is, remove_may, remove_next}
 use Rattle.commit_laws.proofs.UnlinkingLaws.{Unlinking, unlink_may, unlink_next}

@@ -1,19 +1,20 @@
 -- Gates that are closed, or reopened, after a run, whatever nodes do in between.
-use Rattle.std.proofs.Common.{◌≡◌, ℕ, Bool, true, false, List, [], ◌∷◌, ◌++◌, map, None, refl, sym, ap, ◌∙◌, subst, ⊎_elim}
-use Rattle.std.specs.Prelude.{filter}
-use Rattle.std.proofs.lemmas.Bool.{both_ways}
+use Rattle.std.proofs.Common.{◌≡◌, ℕ, Bool, true, false, List, [], ◌∷◌, ◌++◌, map, None, refl, sym, ap, ◌∙◌, subst, ⊎_elim, ◌<◌, length, arith, lt-ltb, Contains}
+use Rattle.std.specs.Prelude.{filter, nat_lt}
+use Rattle.std.proofs.lemmas.Bool.{and_from, both_ways}
 use Rattle.quiesce_core.specs.declared.event.Event.{Event}
 use Rattle.quiesce_core.specs.declared.event.Event.TheVariants.{Close, Reopen}
 use Rattle.quiesce_core.specs.Doers.{is_of_change}
-use Rattle.quiesce_core.specs.Rules.{denial}
+use Rattle.quiesce_core.specs.Rules.{denial, is_live_port}
 use Rattle.quiesce_core.specs.Runs.{IsRun, state_after}
-use Rattle.quiesce_core.specs.State.{gate}
+use Rattle.quiesce_core.specs.State.{Configuration, gate, is_live, owner}
 use Rattle.commit_laws.specs.Lists.{In}
-use Rattle.commit_laws.specs.Steps.{MayStep, MayStepAll, change_all}
+use Rattle.commit_laws.specs.Steps.{MayStep, MayStepAll, change_all, live_ports}
 use Rattle.commit_laws.proofs.AllowedLaws.{step_allowed}
+use Rattle.commit_laws.proofs.MemberLaws.{in_contains, select, selected}
 use Rattle.commit_laws.proofs.MeanwhileLaws.{may_at, now_is}
 use Rattle.commit_laws.proofs.PhaseLaws.{phase_ends, phase_may}
-use Rattle.commit_laws.proofs.TurningLaws.{IsLivePort, Turning, turn_may, turn_next, turn_start}
+use Rattle.commit_laws.proofs.TurningLaws.{IsLivePort, Turning, live_port, turn_may, turn_next, turn_start}
 
 -- no port has to be noted for that
 abbrev none_noted : ℕ → Bool
@@ -51,3 +52,12 @@ module _ (es : List Event) (ports : List ℕ) (live : (p : ℕ) → In ports p �
 
   pub closed_at : (more_ : List Event) → filter is_of_change more_ ≡ map Close ports → (p : ℕ) → In ports p → (gate (state_after (es ++ more_)).config p).closed ≡ true
   closed_at more_ is p i = ⊎_elim (λ (j : In [] p). absurd j) (λ (e : (gate (state_after (es ++ more_)).config p).closed ≡ true). e) ((all_closed more_ is).turned p i)
+
+-- the ports of live nodes
+
+pub live_listed : (c : Configuration) (p : ℕ) → In (live_ports c) p → IsLivePort c p
+live_listed c p i = live_port c p (selected (is_live_port c) 0 (length c.gates) p i).passes
+
+pub live_unlisted : (c : Configuration) (p : ℕ) → p < length c.gates → is_live c (owner c p) ≡ true → Contains (live_ports c) p
+live_unlisted c p made live =
+    in_contains (live_ports c) p (select (is_live_port c) 0 (length c.gates) p (omega arith) (omega (arith, made)) (and_from (nat_lt p (length c.gates)) (is_live c (owner c p)) (lt-ltb p (length c.gates) made) live))

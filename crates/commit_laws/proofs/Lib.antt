@@ -10,6 +10,7 @@ pub mod GateLaws
 pub mod LinkingLaws
 pub mod MakingLaws
 pub mod MeanwhileLaws
+pub mod MemberLaws
 pub mod PartLaws
 pub mod PhaseLaws
 pub mod RemovingLaws

@@ -3,7 +3,7 @@ use Rattle.std.proofs.Common.{◌≡◌, ℕ, zero, suc, ◌+◌, ◌<◌, ◌�
 use Rattle.std.specs.Prelude.{◌⊎◌, ◌==◌, nat_lt, nat_le, is_some, is_none, bytes_eq, slice_get, IfSome}
 use Rattle.std.specs.List.{list_any}
 use Rattle.std.specs.Option.{option_map_or}
-use Rattle.std.proofs.lemmas.Bool.{and_from, and_parts, both_ways, eq-eqb, eqb-true, not_from_false, false_from_ne_true, le-leb, or_cases, not-true}
+use Rattle.std.proofs.lemmas.Bool.{and_from, and_parts, both_ways, eq-eqb, eqb-true, not_from_false, false_from_ne_true, le-leb, not-true}
 use Rattle.std.proofs.lemmas.Option.{slice_get_within}
 use Rattle.std.proofs.lemmas.Slice.Eq.{bytes_eq-Decides}
 use Rattle.config_graph.specs.declared.TheConstants.{MAX_NODES, MAX_PORTS}
@@ -29,6 +29,7 @@ use Rattle.commit_laws.specs.Work.{AreNumbered, NewNode, make_of, ports_wanted}
 use Rattle.commit_laws.proofs.BetweenLaws.{Between, Ground, between_make, linked_before}
 use Rattle.quiesce_core.proofs.ConfigurationLaws.{linked_made}
 use Rattle.commit_laws.specs.Commits.{OtherPath, OtherSource}
+use Rattle.commit_laws.proofs.MemberLaws.{any_there}
 
 -- links are those that the new graph keeps; live nodes are nodes of the new graph, and these are left to be made
 pub record Making (c : Configuration) (new : Graph) (Touched : ℕ → Type 0) (d : Configuration) (left : List NewNode) : Type 0 where
@@ -48,13 +49,6 @@ pub record Making (c : Configuration) (new : Graph) (Touched : ℕ → Type 0) (
   pub more_slots : length c.slots ≤ length d.slots
   pub old_live : (n : ℕ) (node : Node) → IsLiveAt d n node → n < length c.slots → IsLiveAt c n node
   pub named : PathsApart d
-
-pub any_there : {A : Type 0} (f : A → Bool) (xs : List A) → list_any f xs ≡ true → (i : ℕ) × (x : A) × (slice_get xs i ≡ Some x) × (f x ≡ true)
-any_there f [] h = absurd (both_ways false refl h)
-any_there f (x ∷ xs) h = ⊎_elim
-    (λ (here : f x ≡ true). (0, x, refl, here))
-    (λ (later : list_any f xs ≡ true). let w = any_there f xs later in (suc w.0, w.1, w.2, w.3))
-    (or_cases (f x) (list_any f xs) h)
 
 any_append : {A : Type 0} (f : A → Bool) (xs : List A) (y : A) → list_any f (xs ++ y ∷ []) ≡ true → (list_any f xs ≡ true) ⊎ (f y ≡ true)
 any_append f xs y h =

@@ -57,7 +57,7 @@ may_if_legal s (Hear p k v) h l = absurd (both_ways false refl h)
 may_if_legal s (End p k v) h l = absurd (both_ways false refl h)
 may_if_legal s (Close p) h l = l.live
 may_if_legal s (Reopen p) h l = l.live
-may_if_legal s (Make n node from) h l = record { room = l.room; new_path = l.new_path; moves = l.moves }
+may_if_legal s (Make n node from) h l = l
 may_if_legal s (Link p n x) h l = record { live = l.live; unlinked = l.unlinked; provision = l.provision; settled = settled_noted s (owner s.config p) l.settled; no_cycle = l.no_cycle }
 may_if_legal s (Unlink p) h l = record { live = l.live; linked = l.linked; settled = settled_noted s (owner s.config p) l.settled }
 may_if_legal s (Remove n) h l = record { settled = settled_noted s n l.settled; apart = l.apart }

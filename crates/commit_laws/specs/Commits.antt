@@ -19,7 +19,7 @@ use Rattle.commit_laws.specs.Lists.{Apart, In}
 use Rattle.commit_laws.specs.Steps.{change_all}
 use Rattle.commit_laws.specs.Work.{AreNumbered, NewLink, NewNode, Work, end_of, ports_wanted, work_of}
 
--- touched, or made since
+-- a node that is touched, or was made since c
 abbrev pub Changed : Configuration → (ℕ → Type 0) → ℕ → Type 0
 Changed c Touched n = Touched n ⊎ (length c.slots ≤ n)
 
@@ -27,14 +27,14 @@ Changed c Touched n = Touched n ⊎ (length c.slots ≤ n)
 abbrev pub Differ : ℕ → ℕ → Type 0
 Differ p q = q ≡ p → ⊥
 
--- a port that is to be unlinked
+-- a port of a touched node that is linked, and whose link isn't one of the new graph
 pub record IsToUnlink (c : Configuration) (new : Graph) (Touched : ℕ → Type 0) (p : ℕ) : Type 0 where
   pub to : Target
   pub leads : target c p ≡ Some to
   pub touched : Touched (owner c p)
   pub unkept : (t : Target) → KeptLink c new p t → ⊥
 
--- a node that is to be removed
+-- a live node that is touched, and isn't in the new graph
 pub record IsToRemove (c : Configuration) (new : Graph) (Touched : ℕ → Type 0) (n : ℕ) : Type 0 where
   pub node : Node
   pub live : IsLiveAt c n node
@@ -50,7 +50,7 @@ OtherSource m l = (k : ℕ) → m.from ≡ Some k → l.from ≡ Some k → ⊥
 abbrev pub OtherPort : NewLink → NewLink → Type 0
 OtherPort l k = k.port ≡ l.port → ⊥
 
--- a link that is to be made
+-- a link of the new graph from an unlinked port of a node that is touched or new, to a provision that is there
 pub record IsToLink (c : Configuration) (new : Graph) (Touched : ℕ → Type 0) (d : Configuration) (l : NewLink) : Type 0 where
   pub made : l.port < length d.gates
   pub changed : Changed c Touched (owner d l.port)
@@ -58,7 +58,7 @@ pub record IsToLink (c : Configuration) (new : Graph) (Touched : ℕ → Type 0)
   pub fits : Fits d new l.port (end_of l)
   pub leads : LeadsToProvision d (end_of l)
 
--- the state of a node that is removed goes over to the node that is made
+-- the state in slot k goes over to a node to be made: k has a node of its kind, which is removed
 pub record IsSource (c : Configuration) (removes : List ℕ) (m : NewNode) (k : ℕ) : Type 0 where
   pub removed : In removes k
   pub made : Slot

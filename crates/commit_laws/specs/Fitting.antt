@@ -1,4 +1,4 @@
--- How a configuration lies in a graph: its live nodes are nodes of the graph, and its links are links of the graph.
+-- How a configuration lies in a graph: which of its links are links of the graph, and when it is a part of it.
 use Rattle.std.specs.Prelude.{◌≡◌, ℕ, List, Some, Contains}
 use Rattle.config_graph.specs.Cycles.{IsLinked}
 use Rattle.config_graph.specs.Graph.{Graph}
@@ -32,11 +32,11 @@ pub record KeptLink (c : Configuration) (g : Graph) (p : ℕ) (t : Target) : Typ
   pub leads : target c p ≡ Some t
   pub fits : Fits c g p t
 
--- no path at two live nodes
+-- no two live nodes have one path
 abbrev pub PathsApart : Configuration → Type 0
 PathsApart d = (n k : ℕ) (a b : Node) → IsLiveAt d n a → IsLiveAt d k b → a.path ≡ b.path → n ≡ k
 
--- live nodes and links are the graph's
+-- the configuration is a part of the graph: its live nodes and its links are some of the graph's
 pub record IsPart (d : Configuration) (g : Graph) : Type 0 where
   pub nodes : (n : ℕ) (node : Node) → IsLiveAt d n node → Contains g.nodes node
   pub links : LinksFit d g

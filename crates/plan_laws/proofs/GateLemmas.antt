@@ -20,7 +20,7 @@ use Rattle.commit_laws.proofs.TurningLaws.{IsLivePort, SameLinks, Turning, live_
 use Rattle.plan_laws.specs.Commit.{closes, commit_events, commit_steps, is_at, is_one_of, node_path, reopens, stands_in}
 use Rattle.plan_laws.specs.Committing.{MayCommit}
 use Rattle.plan_laws.proofs.CommitLaws.{flag_stays, opened_at, same_links}
-use Rattle.plan_laws.proofs.SelectingLemmas.{any_of, select, selected}
+use Rattle.commit_laws.proofs.MemberLaws.{any_of, select, selected}
 
 module _ (old : Graph) (plan : Plan) (c : Configuration) where
   -- a node of the old graph that stands somewhere is live

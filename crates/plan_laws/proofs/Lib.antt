@@ -5,7 +5,7 @@ pub mod GateLemmas
 pub mod LinkedLemmas
 pub mod PlannedLemmas
 pub mod ReadyLemmas
+pub mod RisingLemmas
 pub mod RoomLemmas
-pub mod SelectingLemmas
 pub mod StandingLemmas
 pub mod WholeLemmas

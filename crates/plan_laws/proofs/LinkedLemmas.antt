@@ -39,7 +39,7 @@ use Rattle.commit_laws.proofs.AcyclicLaws.{one_place}
 use Rattle.quiesce_core.proofs.ConfigurationLaws.{linked_made}
 use Rattle.commit_laws.proofs.MakingLaws.{Making}
 use Rattle.plan_laws.proofs.PlannedLemmas.{PortOf, kept_if, link_if, linked_if, old_link, port_of_link}
-use Rattle.plan_laws.proofs.SelectingLemmas.{map_apart, map_in, mapped}
+use Rattle.commit_laws.proofs.MemberLaws.{map_apart, map_in, mapped}
 use Rattle.plan_laws.proofs.StandingLemmas.{in_if_stands, one_slot, stands_if_in, stands_if_slot}
 use Rattle.commit_laws.specs.Commits.{AreLinks, Changed, IsToLink, OtherPort}
 

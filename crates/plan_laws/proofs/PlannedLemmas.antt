@@ -41,7 +41,8 @@ use Rattle.commit_laws.specs.Lists.{Apart, In}
 use Rattle.commit_laws.specs.Work.{AreNumbered, NewNode}
 use Rattle.quiesce_core.proofs.ConfigurationLaws.{linked_made}
 use Rattle.commit_laws.proofs.MakingLaws.{argument_test}
-use Rattle.plan_laws.proofs.SelectingLemmas.{contains_in, in_contains, selects_apart, any_if, any_of, select, select_apart, selected}
+use Rattle.commit_laws.proofs.MemberLaws.{contains_in, in_contains, any_if, any_of, select, select_apart, selected}
+use Rattle.plan_laws.proofs.RisingLemmas.{selects_apart}
 use Rattle.plan_laws.proofs.StandingLemmas.{in_if_stands, one_port, one_slot, stands_if_in, stands_if_live, stands_if_slot, stands_live_at}
 use Rattle.commit_laws.specs.Commits.{Differ, IsToRemove, IsToUnlink, IsWork, OtherPath, OtherSource}
 

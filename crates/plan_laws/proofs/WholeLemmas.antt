@@ -17,7 +17,7 @@ use Rattle.plan_laws.specs.Commit.{is_frozen_or_new, is_one_of, new_links, reope
 use Rattle.plan_laws.proofs.ReadyLemmas.{IsReady, IsTouchedSlot}
 use Rattle.plan_laws.proofs.LinkedLemmas.{are_links}
 use Rattle.plan_laws.proofs.PlannedLemmas.{is_work}
-use Rattle.plan_laws.proofs.SelectingLemmas.{any_if, selected}
+use Rattle.commit_laws.proofs.MemberLaws.{any_if, selected}
 use Rattle.plan_laws.proofs.StandingLemmas.{in_if_stands}
 use Rattle.commit_laws.specs.Commits.{AreNoted, IsCommit, AreLinks, IsWork}
 

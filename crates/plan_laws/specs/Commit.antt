@@ -1,4 +1,6 @@
--- The events that carry out a plan, from the configuration in which its commit begins.
+-- The events that carry out a plan, from the configuration in which its commit begins. A plan names nodes by their places in the old
+-- and the new graph, the machine by slots: they meet in the paths of live nodes. Ports are unlinked, nodes removed, made in the slots
+-- that come next, and linked, and then ports are reopened, each in the order of their numbers.
 use Rattle.std.specs.Prelude.{ℕ, ◌+◌, Bool, false, not, ◌&&◌, ◌||◌, ◌==◌, nat_lt, List, [], ◌∷◌, ◌++◌, map, length, filter, filter_map, find, position, slice_get, unwrap_or, bytes_eq, Option, None, option_map, option_and_then}
 use Rattle.std.specs.List.{list_any, range_with_len}
 use Rattle.std.specs.Option.{option_map_or}
@@ -16,9 +18,11 @@ use Rattle.quiesce_core.specs.State.{Configuration, gate, is_live, owner, slot}
 use Rattle.commit_laws.specs.Steps.{change_all}
 use Rattle.commit_laws.specs.Work.{NewLink, NewNode, Work, link_of, work_of}
 
+-- the path of a node of a graph
 abbrev pub node_path : Graph → ℕ → List ℕ
 node_path g i = option_map_or (λ (m : Node). m.path) (slice_get g.nodes i) []
 
+-- whether the node of a slot is live and has this path
 abbrev pub is_at : List ℕ → Slot → Bool
 is_at path m = m.live && bytes_eq m.node.path path
 
@@ -30,15 +34,18 @@ stands_in g i c n = option_map_or (is_at (node_path g i)) (slot c n) false
 abbrev pub slot_at : Configuration → List ℕ → Option ℕ
 slot_at c path = position (is_at path) c.slots
 
+-- the ports, and the slots, that pass a test, by their numbers
 abbrev pub ports_where : (ℕ → Bool) → Configuration → List ℕ
 ports_where test c = filter test (range_with_len 0 (length c.gates))
 
 abbrev pub slots_where : (ℕ → Bool) → Configuration → List ℕ
 slots_where test c = filter test (range_with_len 0 (length c.slots))
 
+-- whether port p is one that the plan unlinks
 abbrev pub is_unlinked_by : Graph → Plan → Configuration → ℕ → Bool
 is_unlinked_by old plan c p = list_any (λ (q : Port). stands_in old q.node c (owner c p) && (gate c p).require == q.require) plan.unlink
 
+-- whether the live node in slot n is at one of these places of a graph
 abbrev pub is_one_of : Graph → List ℕ → Configuration → ℕ → Bool
 is_one_of g places c n = list_any (λ i. stands_in g i c n) places
 
@@ -57,6 +64,7 @@ makes_from old new plan c k [] = []
 makes_from old new plan c k (j ∷ js) =
     record { slot = k; node = node_at new j; from = source_of old plan c j } ∷ makes_from old new plan c (k + 1) js
 
+-- what is unlinked, removed and made
 abbrev pub work : Graph → Graph → Plan → Configuration → Work
 work old new plan c =
     record {
@@ -65,14 +73,15 @@ work old new plan c =
       makes = makes_from old new plan c (length c.slots) plan.create;
     }
 
--- whether a link begins at port p
+-- whether a link of the new graph begins at port p
 abbrev pub is_link_of : Graph → Configuration → ℕ → Link → Bool
 is_link_of new d p l = stands_in new l.from d (owner d p) && (gate d p).require == l.require
 
+-- the link of port p in the machine: to the slot of the node at which it ends
 abbrev pub new_link : Graph → Configuration → ℕ → Link → Option NewLink
 new_link new d p l = option_map (λ n. record { port = p; node = n; provide = l.provide }) (slot_at d (node_path new l.to))
 
--- the new link of a port
+-- the link that the plan makes at a port, if it makes one; and all of them
 abbrev pub new_link_of : Graph → Plan → Configuration → ℕ → Option NewLink
 new_link_of new plan d p = option_and_then (new_link new d p) (find (is_link_of new d p) plan.link)
 
@@ -87,7 +96,7 @@ is_frozen_or_new old plan c p = not (nat_lt p (length c.gates)) || is_one_of old
 abbrev pub closes : Graph → Plan → Configuration → List ℕ
 closes old plan c = ports_where (λ p. is_one_of old plan.freeze c (owner c p)) c
 
--- up to the last link
+-- all up to the last link
 abbrev pub commit_steps : Graph → Graph → Plan → Configuration → List Event
 commit_steps old new plan c =
     work_of (work old new plan c) ++ map link_of (new_links new plan (change_all c (work_of (work old new plan c))))
@@ -96,6 +105,7 @@ commit_steps old new plan c =
 abbrev pub reopens : Graph → Plan → Configuration → Configuration → List ℕ
 reopens old plan c d = ports_where (λ p. is_live d (owner d p) && is_frozen_or_new old plan c p) d
 
+-- and the whole commit
 abbrev pub commit_events : Graph → Graph → Plan → Configuration → List Event
 commit_events old new plan c =
     commit_steps old new plan c ++ map Reopen (reopens old plan c (change_all c (commit_steps old new plan c)))

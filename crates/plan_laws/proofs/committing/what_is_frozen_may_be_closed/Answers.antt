@@ -1,6 +1,6 @@
 use Rattle.plan_laws.specs.Commit.{closes}
 use Rattle.plan_laws.proofs.GateLemmas.{close_at, unclosed}
-use Rattle.plan_laws.proofs.SelectingLemmas.{contains_in}
+use Rattle.commit_laws.proofs.MemberLaws.{contains_in}
 use Rattle.plan_laws.proofs.committing.what_is_frozen_may_be_closed.Goals as goal
 
 pub returns-clause-allowed : goal.returns-clause-allowed

@@ -1,5 +1,5 @@
 use Rattle.plan_laws.specs.Commit.{reopens}
-use Rattle.plan_laws.proofs.SelectingLemmas.{contains_in}
+use Rattle.commit_laws.proofs.MemberLaws.{contains_in}
 use Rattle.plan_laws.proofs.WholeLemmas.{unopened}
 use Rattle.plan_laws.proofs.CommitLaws.{flag_stays, target_stays}
 use Rattle.plan_laws.proofs.committing.what_is_not_frozen_is_left.Goals as goal

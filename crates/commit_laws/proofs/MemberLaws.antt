@@ -1,15 +1,19 @@
--- Members of lists that are selected from a range.
+-- Members of lists, and of lists that are selected from a range of numbers.
 use Rattle.std.proofs.Common.{◌≡◌, ℕ, zero, suc, ◌+◌, ◌<◌, ◌≤◌, Bool, true, false, cond, List, [], ◌∷◌, Option, Some, None, refl, sym, ap, ◌∙◌, subst, inl, inr, ⊎_elim, arith, Contains}
 use Rattle.std.specs.Prelude.{filter, filter_map, slice_get}
 use Rattle.std.specs.List.{list_any, range_with_len}
-use Rattle.change_plan.specs.Selects.{Selects}
-use Rattle.change_plan.specs.Selects.Selects.{ends, takes, skips}
 use Rattle.std.proofs.lemmas.List.Elements.{Contains-append_right, Contains-get_or}
-use Rattle.std.proofs.lemmas.Bool.{both_ways, cases_Bool, cases_eq, or_left, or_right}
+use Rattle.std.proofs.lemmas.Bool.{both_ways, cases_Bool, cases_eq, or_cases, or_left, or_right}
 use Rattle.base.proofs.ContainsLaws.{Contains-at, at_some_place}
 use Rattle.commit_laws.specs.Lists.{Apart, In}
-use Rattle.commit_laws.proofs.MakingLaws.{any_there}
 use Rattle.commit_laws.specs.Commits.{Differ}
+
+pub any_there : {A : Type 0} (f : A → Bool) (xs : List A) → list_any f xs ≡ true → (i : ℕ) × (x : A) × (slice_get xs i ≡ Some x) × (f x ≡ true)
+any_there f [] h = absurd (both_ways false refl h)
+any_there f (x ∷ xs) h = ⊎_elim
+    (λ (here : f x ≡ true). (0, x, refl, here))
+    (λ (later : list_any f xs ≡ true). let w = any_there f xs later in (suc w.0, w.1, w.2, w.3))
+    (or_cases (f x) (list_any f xs) h)
 
 pub record Selected (f : ℕ → Bool) (a n p : ℕ) : Type 0 where
   pub from : a ≤ p
@@ -97,38 +101,6 @@ any_if f xs x there h = let w = at_some_place xs x there in at f xs w.0 x w.1 h
 
 pub any_of : {A : Type 0} (f : A → Bool) (xs : List A) → list_any f xs ≡ true → (x : A) × Contains xs x × (f x ≡ true)
 any_of f xs h = let w = any_there f xs h in (w.1, Contains-at xs w.0 w.1 w.2, w.3)
-
--- a part of a rising list has no member twice
-
-abbrev Rising : ℕ → List ℕ → Type 0
-Rising a [] = Unit {0}
-Rising a (x ∷ xs) = (a ≤ x) × Rising (x + 1) xs
-
-rising_range : (a n : ℕ) → Rising a (range_with_len a n)
-rising_range a zero = tt
-rising_range a (suc n) = (omega arith, rising_range (a + 1) n)
-
-rising_from : (a b : ℕ) (xs : List ℕ) → a ≤ b → Rising b xs → Rising a xs
-rising_from a b [] l h = tt
-rising_from a b (x ∷ xs) l h = (let k = h.0 in omega arith, h.1)
-
-rising_part : (P : ℕ → Type 0) (xs ys : List ℕ) → Selects P xs ys → (a : ℕ) → Rising a xs → Rising a ys
-rising_part P all part ends a h = tt
-rising_part P all part (takes {x = x} {xs = xs} {ys = ys} has s) a h = (h.0, rising_part P xs ys s (x + 1) h.1)
-rising_part P all part (skips {x = x} {xs = xs} {ys = ys} lacks s) a h = rising_part P xs ys s a (rising_from a (x + 1) xs (let k = h.0 in omega arith) h.1)
-
-rising_above : (a : ℕ) (xs : List ℕ) → Rising a xs → (y : ℕ) → In xs y → a ≤ y
-rising_above a [] h y i = absurd i
-rising_above a (x ∷ xs) h y i = ⊎_elim
-    (λ (here : x ≡ y). let k = h.0 in omega (arith, here))
-    (λ (later : In xs y). let m = rising_above (x + 1) xs h.1 y later in let k = h.0 in omega arith) i
-
-rising_apart : (a : ℕ) (xs : List ℕ) → Rising a xs → Apart Differ xs
-rising_apart a [] h = tt
-rising_apart a (x ∷ xs) h = (λ y i same. (let m = rising_above (x + 1) xs h.1 y i in absurd (omega (arith, same))), rising_apart (x + 1) xs h.1)
-
-pub selects_apart : (P : ℕ → Type 0) (n : ℕ) (js : List ℕ) → Selects P (range_with_len 0 n) js → Apart Differ js
-selects_apart P n js s = rising_apart 0 js (rising_part P (range_with_len 0 n) js s 0 (rising_range 0 n))
 
 -- members, told twice
 
