@@ -7,13 +7,14 @@ use Rattle.config_graph.specs.declared.node.Made.{Made}
 use Rattle.config_graph.specs.declared.node.Node.{Node}
 use Rattle.change_plan.specs.Differences.{GoneNodes}
 use Rattle.change_plan.specs.Moves.{IsFit, MayMove, MayMoveAll}
+use Rattle.base.specs.Answers.{Refuses}
 use Rattle.change_plan.specs.Refusals.{CanPlan, FirstMoveFault, IsRefusal, CreatesSoMany, KindsDifferIn, MoveFault, Repeats}
 use Rattle.change_plan.specs.Room.{RoomFault}
 use Rattle.change_plan.specs.declared.error.PlanError.{PlanError}
 use Rattle.change_plan.specs.declared.error.PlanError.TheVariants.{NotRemoved, NotCreated, KindsDiffer, MovedTwice, NodesFull, PortsFull, NoMemory}
 use Rattle.change_plan.specs.declared.plan_data.Move.{Move}
 use Rattle.change_plan.proofs.DifferenceLemmas.{one_node}
-use Rattle.change_plan.proofs.MoveLemmas.{one_gone}
+use Rattle.change_plan.proofs.MoveLaws.{one_gone}
 use Rattle.change_plan.proofs.RoomLaws.{no_room, one_room, one_wanted}
 
 -- a repeated path is the source, or else the target
@@ -110,9 +111,9 @@ module _ (old new : Graph) (old_graph : IsGraph old) (new_graph : IsGraph new) (
       let same = one_wanted old new n p can.nodes can.ports wanted can.wanted in
       no_room made n p e (record { nodes_fit = omega (arith, can.room.nodes_fit, same.0); ports_fit = omega (arith, can.room.ports_fit, same.1) }) fault
 
-  pub refused_by : (d : PlanError) → (d ≡ NoMemory) ⊎ IsRefusal old new moves made d → (e : PlanError) → IsRefusal old new moves made e → (d ≡ NoMemory) ⊎ (d ≡ e)
-  refused_by d (inl memory) e refusal = inl memory
-  refused_by d (inr told) e refusal = inr (one_refusal d e told refusal)
+  pub refused_by : (d : PlanError) → (d ≡ NoMemory) ⊎ IsRefusal old new moves made d → (e : PlanError) → IsRefusal old new moves made e → Refuses NoMemory (λ refusal. refusal ≡ e) d
+  refused_by d (inl memory) e refusal = λ other. absurd (other memory)
+  refused_by d (inr told) e refusal = λ other. one_refusal d e told refusal
 
   pub accepted_but : (d : PlanError) → (d ≡ NoMemory) ⊎ IsRefusal old new moves made d → CanPlan old new moves made → d ≡ NoMemory
   accepted_but d (inl memory) can = memory

@@ -1,6 +1,6 @@
 -- Why there is no plan: the first move in order that can't be made, and in it the first of its faults; or else too many nodes
 -- or ports.
-use Rattle.std.specs.Prelude.{◌≡◌, ◌⊎◌, ℕ, List, Some, Result, Ok, Err, length, slice_get, sum_by, take}
+use Rattle.std.specs.Prelude.{◌≡◌, ◌⊎◌, ℕ, List, Some, length, slice_get, sum_by, take}
 use Rattle.config_graph.specs.Graph.{Graph, requires_at}
 use Rattle.config_graph.specs.declared.node.Made.{Made}
 use Rattle.change_plan.specs.Differences.{GoneNodes}
@@ -60,8 +60,3 @@ pub record CanPlan (old new : Graph) (moves : List Move) (made : Made) : Type 0 
   pub ports : ℕ
   pub wanted : CreatesSoMany old new nodes ports
   pub room : HasRoom made nodes ports
-
--- the answer is this refusal, unless memory ran out
-abbrev pub IsRefusedAs : {T : Type 0} → Result T PlanError → PlanError → Type 0
-IsRefusedAs (Ok plan) refusal = ⊥
-IsRefusedAs (Err e) refusal = (e ≡ NoMemory) ⊎ (e ≡ refusal)

@@ -1,9 +1,10 @@
 //! The plan from one graph to another.
 
 ghost use Rattle.std.specs.Prelude.{◌≡◌, ◌⊎◌, IfErr, IfOk, OnOk};
+ghost use Rattle.base.specs.Answers.{Answers};
 ghost use Rattle.change_plan.specs.PlanWithin.{IsPlanWithin};
 ghost use Rattle.change_plan.specs.Plans.{IsPlanOf};
-ghost use Rattle.change_plan.specs.Refusals.{CanPlan, IsRefusal, IsRefusedAs};
+ghost use Rattle.change_plan.specs.Refusals.{CanPlan, IsRefusal};
 ghost use Rattle.change_plan.specs.declared.error.PlanError.{PlanError};
 ghost use Rattle.change_plan.specs.declared.error.PlanError.TheVariants.{NoMemory};
 
@@ -33,7 +34,8 @@ pub fn plan(
     ensures accepts { CanPlan old.now new.now moves.now made → IfErr result (λ e. e ≡ NoMemory) }
     ensures refused { IfErr result
         (λ e. (e ≡ NoMemory) ⊎ IsRefusal old.now new.now moves.now made e) }
-    ensures refuses { (e : PlanError) → IsRefusal old.now new.now moves.now made e → IsRefusedAs result e }
+    ensures refuses { (e : PlanError) → IsRefusal old.now new.now moves.now made e
+        → Answers NoMemory (λ _. ⊥) (λ refusal. refusal ≡ e) result }
 {
     let shifts = list_shifts(alloc, old, new, moves)?;
     let create = list_gone(alloc, new, old)?;

@@ -321,11 +321,6 @@ members_are g members marked all start marks P first_ owned then listed i =
 abbrev pub Listed : List Bool → Vec ℕ Global → Type 0
 Listed marks set = (i : ℕ) → Contains set.items i ↔ IsMarked marks i
 
--- these are nodes of the list of marks
-pub marked_below : (marks : List Bool) (marked : List ℕ) → ((i : ℕ) → Contains marked i ↔ IsMarked marks i) → All (λ i. i < length marks) marked
-marked_below marks marked listed =
-    λ k d low. marked_within marks (get_or marked k d) ((listed (get_or marked k d)).0 (Contains-get_or marked k d low))
-
 -- what a node's kind answers of its provisions
 pub depends_read : (nodes : List Node) (i x r : ℕ) (n : Node) (b : Bool) → slice_get nodes i ≡ Some n → b ≡ depends_on n.kind x r → depends_at nodes i x r ≡ b
 depends_read nodes i x r n b at b_is = ap (λ o. option_map_or (λ (m : Node). depends_on m.kind x r) o false) at ∙ sym b_is

@@ -1,10 +1,10 @@
 -- Lemmas on marks and on the list of those that are set.
-use Rattle.std.proofs.Common.{◌≡◌, ◌⊎◌, ◌↔◌, ℕ, ◌+◌, ◌<◌, ◌≤◌, Bool, true, false, cond, List, [], ◌∷◌, ◌++◌, length, take, set, get_or, sym, ◌∙◌, ap, subst, inl, arith, filter, Contains}
+use Rattle.std.proofs.Common.{◌≡◌, ◌⊎◌, ◌↔◌, ℕ, ◌+◌, ◌<◌, ◌≤◌, Bool, true, false, cond, List, [], ◌∷◌, ◌++◌, length, take, set, get_or, sym, ◌∙◌, ap, subst, inl, arith, filter, All, Contains}
 use Rattle.std.specs.List.{range_with_len}
 use Rattle.std.specs.List.Sorted.{IsStrictlyIncreasing}
 use Rattle.std.proofs.Math.Logic.{⊎_elim, ⊎_map}
 use Rattle.std.proofs.lemmas.List.{take_more}
-use Rattle.std.proofs.lemmas.List.Elements.{All-contains, Contains-append_left, Contains-push, Contains-push_cases, filter-append, filter_passes}
+use Rattle.std.proofs.lemmas.List.Elements.{All-contains, Contains-append_left, Contains-get_or, Contains-push, Contains-push_cases, filter-append, filter_passes}
 use Rattle.std.proofs.lemmas.List.FromFn.{get_or-range_with_len, length-range_with_len}
 use Rattle.std.proofs.lemmas.List.Kept.{IsStrictlyIncreasing-filter}
 use Rattle.config_graph.specs.Marks.{IsMarked}
@@ -72,3 +72,8 @@ pub marked_in-rising : (marks : List Bool) (n : ℕ) → IsStrictlyIncreasing (m
 marked_in-rising marks n = IsStrictlyIncreasing-filter (λ i. get_or marks i false) (range_with_len 0 n) (λ k h.
     let long : k + 1 < n = rw length-range_with_len at h in
     rw (get_or-range_with_len 0 n k 0 (omega arith), get_or-range_with_len 0 n (k + 1) 0 long) (omega arith))
+
+-- the numbers that marks list stand among the marks
+pub marked_below : (marks : List Bool) (listed : List ℕ) → ((i : ℕ) → Contains listed i ↔ IsMarked marks i) → All (λ i. i < length marks) listed
+marked_below marks listed are =
+    λ k d low. marked_within marks (get_or listed k d) ((are (get_or listed k d)).0 (Contains-get_or listed k d low))

@@ -49,11 +49,6 @@ kept_counted ports has port low unset so_far =
     let was : one (get_or has port false) ≡ 1 = ap one unset in
     omega (arith, change, was, so_far, length-append ports (port ∷ []))
 
--- the ports of a set are below its room
-pub all_below : (ports : List ℕ) (has : List Bool) → ((p : ℕ) → Contains ports p ↔ IsMarked has p) → All (λ p. p < length has) ports
-all_below ports has marked =
-    λ k d low. marked_within has (get_or ports k d) ((marked (get_or ports k d)).0 (Contains-get_or ports k d low))
-
 -- what each element has, an element that is read has
 pub IfSome-read : {A : Type 0} (P : A → Type 0) (xs : List A) (i : ℕ) (r : Option A) → r ≡ slice_get xs i → All P xs → IfSome r P
 IfSome-read P xs i None e all = tt

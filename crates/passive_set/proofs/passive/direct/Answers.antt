@@ -2,7 +2,8 @@ use Rattle.std.proofs.Common.{◌≡◌, ◌<◌, ◌∙◌, ◌↔◌, ℕ, All
 use Rattle.std.proofs.lemmas.Result.{IfOk-weaker}
 use Rattle.passive_set.specs.DirectSet.{Direct, IsLinkedTo}
 use Rattle.passive_set.specs.Feeding.{FeedsMarked}
-use Rattle.passive_set.proofs.FeedingLemmas.{Listed, marked_below, members_are, Owns-linked}
+use Rattle.passive_set.proofs.FeedingLemmas.{Listed, members_are, Owns-linked}
+use Rattle.passive_set.proofs.MarkLemmas.{marked_below}
 use Rattle.passive_set.proofs.passive.direct.Goals as goal
 
 pub returns-clause-members : goal.returns-clause-members

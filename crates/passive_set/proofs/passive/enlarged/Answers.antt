@@ -4,7 +4,8 @@ use Rattle.config_graph.specs.Cycles.{graph_wiring}
 use Rattle.config_graph.specs.Enlarged.{Enlarged}
 use Rattle.config_graph.specs.Wiring.{Reach}
 use Rattle.passive_set.specs.Feeding.{FeedsMarked}
-use Rattle.passive_set.proofs.FeedingLemmas.{Listed, marked_below, members_are, Owns-reach}
+use Rattle.passive_set.proofs.FeedingLemmas.{Listed, members_are, Owns-reach}
+use Rattle.passive_set.proofs.MarkLemmas.{marked_below}
 use Rattle.passive_set.proofs.passive.enlarged.Goals as goal
 
 pub returns-clause-members : goal.returns-clause-members

@@ -1,0 +1,139 @@
+-- A change for which freezing the direct set alone isn't enough.
+use Rattle.std.proofs.Common.{◌≡◌, ℕ, zero, suc, true, [], ◌∷◌, Some, None, refl, sym, ap, ◌∙◌, subst, inl, inr, ⊎_elim, arith, Contains}
+use Rattle.std.specs.Prelude.{◌⊎◌, slice_get}
+use Rattle.std.specs.List.Sorted.{IsStrictlyIncreasing}
+use Rattle.std.proofs.lemmas.Option.{same_Some}
+use Rattle.change_plan.specs.Differences.{IsGone, IsKeptLink, IsTwin}
+use Rattle.change_plan.specs.Plans.{HasStepsBetween, IsPlanOf}
+use Rattle.change_plan.specs.Selects.Selects.{ends, skips, takes}
+use Rattle.change_plan.specs.Touched.{Frozen, HasNewTarget, IsTouched}
+use Rattle.config_graph.specs.Cycles.{IsLinked, graph_wiring}
+use Rattle.config_graph.specs.Wiring.{Reach, direct, through}
+use Rattle.config_graph.specs.declared.node.Link.{Link}
+use Rattle.config_graph.specs.declared.node.Node.{Node}
+use Rattle.config_graph.proofs.WiringLaws.{reach_linked}
+use Rattle.quiesce_core.specs.declared.event.Event.TheVariants.{Link as LinkEvent}
+use Rattle.quiesce_core.specs.Reach.{has_no_cycle, reaches}
+use Rattle.quiesce_core.specs.Rules.{denial}
+use Rattle.quiesce_core.specs.Runs.{IsRun, state_after}
+use Rattle.quiescence_laws.specs.Drained.{is_drained}
+use Rattle.quiesce_core.proofs.RunLaws.{run_if}
+use Rattle.base.proofs.ContainsLaws.{Contains-at}
+use Rattle.plan_laws.specs.Commit.{commit_steps}
+use Rattle.plan_laws.specs.Rows.{all_closed, chain, direct_closed, first_map, linking, m_to_n, n_to_t, s_to_m, second_map, source}
+use Rattle.plan_laws.proofs.PlannedLemmas.{link_if}
+
+-- the nodes are the same
+none_gone : (i : ℕ) → IsGone (chain []) (chain (n_to_t ∷ [])) i → ⊥
+none_gone i g = g.gone (Contains-at (chain []).nodes i g.node g.here)
+
+none_new : (i : ℕ) → IsGone (chain (n_to_t ∷ [])) (chain []) i → ⊥
+none_new i g = g.gone (Contains-at (chain []).nodes i g.node g.here)
+
+old_cases : (k : Link) → Contains (chain []).links k → (m_to_n ≡ k) ⊎ (s_to_m ≡ k)
+old_cases k (zero, low, same) = inl same
+old_cases k (suc zero, low, same) = inr same
+old_cases k (suc (suc n), low, same) = absurd (omega (arith, low))
+
+-- old links begin at the first map and at the source
+begins : (i r j x : ℕ) → IsLinked (chain []) i r j x → (0 ≡ i) ⊎ (2 ≡ i)
+begins i r j x l =
+    let w = link_if (chain []) i r j x l in
+    ⊎_elim
+    (λ (e : m_to_n ≡ w.link). inl (ap (λ (k : Link). k.from) e ∙ w.from))
+    (λ (e : s_to_m ≡ w.link). inr (ap (λ (k : Link). k.from) e ∙ w.from))
+    (old_cases w.link w.there)
+
+new_link : ¬ IsKeptLink (chain (n_to_t ∷ [])) (chain []) n_to_t
+new_link (l, there, same) =
+    let here : second_map ≡ same.from.node = same_Some second_map same.from.node same.from.here in
+    ⊎_elim
+    (λ (e : m_to_n ≡ l).
+    let first : first_map ≡ same.from.node = same_Some first_map same.from.node (ap (λ (k : Link). slice_get (chain []).nodes k.from) e ∙ same.from.there) in
+    let args : 1 ≡ 2 = same_Some 1 2 (ap (λ (n : Node). n.arg) (first ∙ sym here)) in absurd (omega (arith, args)))
+    (λ (e : s_to_m ≡ l).
+    let third : source ≡ same.from.node = same_Some source same.from.node (ap (λ (k : Link). slice_get (chain []).nodes k.from) e ∙ same.from.there) in
+    let args : 3 ≡ 2 = same_Some 3 2 (ap (λ (n : Node). n.arg) (third ∙ sym here)) in absurd (omega (arith, args)))
+    (old_cases l there)
+
+touched : IsTouched (chain []) (chain (n_to_t ∷ [])) 1
+touched = inr (record { twin = 1; require = 0; stays = record { node = second_map; here = refl; there = refl }; within = omega arith; differs = λ same. same })
+
+if_frozen : (i : ℕ) → Contains (0 ∷ 1 ∷ 2 ∷ []) i → Frozen (chain []) (chain (n_to_t ∷ [])) i
+if_frozen i (zero, low, same) = subst (Frozen (chain []) (chain (n_to_t ∷ []))) same (inr (1, 0, touched, direct {x = 0} refl))
+if_frozen i (suc zero, low, same) = subst (Frozen (chain []) (chain (n_to_t ∷ []))) same (inl touched)
+if_frozen i (suc (suc zero), low, same) = subst (Frozen (chain []) (chain (n_to_t ∷ []))) same
+    (inr (1, 0, touched, through {p = record { node = 0; require = 0 }} {q = record { node = 2; require = 0 }} {m = 0} {x = 0} (direct {x = 0} refl) (refl, refl) refl))
+if_frozen i (suc (suc (suc k)), low, same) = absurd (omega (arith, low))
+
+frozen_if : (i : ℕ) → Frozen (chain []) (chain (n_to_t ∷ [])) i → Contains (0 ∷ 1 ∷ 2 ∷ []) i
+frozen_if zero f = (0, omega arith, refl)
+frozen_if (suc zero) f = (1, omega arith, refl)
+frozen_if (suc (suc zero)) f = (2, omega arith, refl)
+frozen_if (suc (suc (suc i))) f = ⊎_elim
+    (λ (t : IsTouched (chain []) (chain (n_to_t ∷ [])) (suc (suc (suc i)))). ⊎_elim
+    (λ (g : IsGone (chain []) (chain (n_to_t ∷ [])) (suc (suc (suc i)))). absurd (none_gone (suc (suc (suc i))) g))
+    (λ (h : HasNewTarget (chain []) (chain (n_to_t ∷ [])) (suc (suc (suc i)))). absurd (no_ports i h)) t)
+    (λ (r : (n : ℕ) × (q : ℕ) × IsTouched (chain []) (chain (n_to_t ∷ [])) n × Reach (graph_wiring (chain [])) n (record { node = suc (suc (suc i)); require = q })).
+    let l = reach_linked (graph_wiring (chain [])) r.0 (record { node = suc (suc (suc i)); require = r.1 }) r.3 in
+    ⊎_elim (λ (e : 0 ≡ suc (suc (suc i))). absurd (omega (arith, e))) (λ (e : 2 ≡ suc (suc (suc i))). absurd (omega (arith, e))) (begins (suc (suc (suc i))) r.1 l.0 l.1 l.2)) f
+  where
+    no_ports : (i : ℕ) → HasNewTarget (chain []) (chain (n_to_t ∷ [])) (suc (suc (suc i))) → ⊥
+    no_ports zero h = let low = h.within in omega (arith, low)
+    no_ports (suc i) h = let low = h.within in omega (arith, low)
+
+steps : HasStepsBetween (chain []) (chain (n_to_t ∷ [])) linking
+steps =
+    let m_twin : IsTwin (chain []) (chain (n_to_t ∷ [])) 0 0 = record { node = first_map; here = refl; there = refl } in
+    let n_twin : IsTwin (chain []) (chain (n_to_t ∷ [])) 1 1 = record { node = second_map; here = refl; there = refl } in
+    let s_twin : IsTwin (chain []) (chain (n_to_t ∷ [])) 2 2 = record { node = source; here = refl; there = refl } in
+    let m_back : IsTwin (chain (n_to_t ∷ [])) (chain []) 0 0 = record { node = first_map; here = refl; there = refl } in
+    let n_back : IsTwin (chain (n_to_t ∷ [])) (chain []) 1 1 = record { node = second_map; here = refl; there = refl } in
+    let s_back : IsTwin (chain (n_to_t ∷ [])) (chain []) 2 2 = record { node = source; here = refl; there = refl } in
+    record {
+      unlink = (
+        [],
+        skips (λ lost. lost (m_to_n, (0, omega arith, refl), record { from = m_twin; require = refl; to = n_twin; provide = refl }))
+            (skips (λ lost. lost (s_to_m, (2, omega arith, refl), record { from = s_twin; require = refl; to = m_twin; provide = refl })) ends),
+        refl,
+      );
+      remove = skips (none_gone 0) (skips (none_gone 1) (skips (none_gone 2) (skips (none_gone 3) ends)));
+      create = skips (none_new 0) (skips (none_new 1) (skips (none_new 2) (skips (none_new 3) ends)));
+      link = skips (λ lost. lost (m_to_n, (0, omega arith, refl), record { from = m_back; require = refl; to = n_back; provide = refl }))
+          (takes new_link (skips (λ lost. lost (s_to_m, (1, omega arith, refl), record { from = s_back; require = refl; to = m_back; provide = refl })) ends));
+      freeze = λ i. (if_frozen i, frozen_if i);
+    }
+
+rises : IsStrictlyIncreasing (0 ∷ 1 ∷ 2 ∷ [])
+rises zero low = omega arith
+rises (suc zero) low = omega arith
+rises (suc (suc k)) low = absurd (omega (arith, low))
+
+pub is_plan : IsPlanOf (chain []) (chain (n_to_t ∷ [])) [] linking
+is_plan = record {
+  steps = steps;
+  moves = record {
+    sound = λ s there. absurd (omega (arith, there.1));
+    complete = λ s is. let there = is.there in absurd (omega (arith, there.1));
+    rise = λ k low. absurd (omega (arith, low));
+  };
+  freeze_rises = rises;
+}
+
+pub links_once : commit_steps (chain []) (chain (n_to_t ∷ [])) linking (state_after direct_closed).config ≡ LinkEvent 1 3 0 ∷ []
+links_once = refl
+
+pub direct_runs : IsRun direct_closed
+unfolding has_no_cycle
+direct_runs = run_if direct_closed refl
+
+pub direct_drained : (is_drained (state_after direct_closed) 0 ≡ true) × (is_drained (state_after direct_closed) 1 ≡ true)
+direct_drained = (refl, refl)
+
+pub direct_denied : denial (state_after direct_closed) (LinkEvent 1 3 0) ≡ Some 22
+unfolding has_no_cycle reaches
+direct_denied = refl
+
+pub all_allowed : denial (state_after all_closed) (LinkEvent 1 3 0) ≡ None
+unfolding has_no_cycle reaches
+all_allowed = refl

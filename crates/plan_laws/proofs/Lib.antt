@@ -1,0 +1,11 @@
+pub mod BankLemmas
+pub mod ChainLemmas
+pub mod CommitLaws
+pub mod GateLemmas
+pub mod LinkedLemmas
+pub mod PlannedLemmas
+pub mod ReadyLemmas
+pub mod RisingLemmas
+pub mod RoomLemmas
+pub mod StandingLemmas
+pub mod WholeLemmas
