@@ -22,12 +22,13 @@ use Rattle.quiesce_core.specs.Runs.{IsRun, state_after}
 use Rattle.quiesce_core.specs.Traffic.{IsConsistent}
 use Rattle.quiesce_core.specs.WellFormed.{IsWellFormed}
 use Rattle.quiesce_core.proofs.TableLaws.{exchange_place, target_place}
-use Rattle.quiescence_laws.specs.Events.{ends_at}
+use Rattle.quiescence_laws.specs.Events.{is_end_at}
 use Rattle.quiescence_laws.specs.Courses.{Course, begun, taken, replied_to, asked, heard, given, finished, course_next, course_after, heard_at, course_in, course_of, course_at}
 use Rattle.quiescence_laws.specs.Courses as course
-use Rattle.quiescence_laws.proofs.Configurations.{target_next}
-use Rattle.quiescence_laws.proofs.Induction.{always}
-use Rattle.quiescence_laws.proofs.Serials.{IsTallied, next_serial, tallied_next, tallied_empty, busy_serial}
+use Rattle.quiescence_laws.proofs.ConfigurationLaws.{target_next}
+use Rattle.quiescence_laws.proofs.InductionLaws.{always}
+use Rattle.quiescence_laws.proofs.ExchangeLaws.{next_serial}
+use Rattle.quiescence_laws.proofs.SerialLaws.{IsTallied, tallied_next, tallied_empty, busy_serial}
 use Rattle.quiescence_laws.proofs.Hearing.{hears, idle_is, asked_is, answered_is, more_is, target_given, call_given, given_here, untaken, idle_unheard, taken_hears, taken_service, taken_heard, others_unheard, others_unheard_after, heard_asked, more_unheard, heard_apart}
 use Rattle.quiesce_core.proofs.StateLaws.{asked_busy, more_busy, answered_busy, taken_is, taken_busy}
 use Rattle.base.proofs.OptionLaws.{None-from_is_none, Some-from_is_some}
@@ -284,7 +285,7 @@ module _ (s : State) (w : IsWellFormed s) (t : IsConsistent s) (positive : (p : 
 
 -- what is known of a port and a serial after a run
 record IsOnCourse (es : List Event) (p k : ℕ) : Type 0 where
-  tallied : (q : ℕ) → IsTallied (count_by (ends_at q) es) (exchange (state_after es) q)
+  tallied : (q : ℕ) → IsTallied (count_by (is_end_at q) es) (exchange (state_after es) q)
   is : course_after p k es ≡ Some (course_at (state_after es) p k)
 
 -- in every run a transaction keeps to its course, and the state tells it
@@ -295,7 +296,7 @@ on_course es p k run =
       tallied = λ q. tallied_next q xs e here (h.tallied q);
       is =
           fold_push (λ c x. option_and_then (λ d. course_next p k d x) c) (Some course.unbegun) xs e ∙ ap (λ c. option_and_then (λ d. course_next p k d e) c) h.is
-          ∙ steps_to (state_after xs) here.well here.traffic (λ q busy. busy_serial (count_by (ends_at q) xs) (exchange (state_after xs) q) (h.tallied q) busy) e p k here.legal
+          ∙ steps_to (state_after xs) here.well here.traffic (λ q busy. busy_serial (count_by (is_end_at q) xs) (exchange (state_after xs) q) (h.tallied q) busy) e p k here.legal
           ∙ ap (λ s. Some (course_at s p k)) (sym here.next);
     })
     (record { tallied = λ q. tallied_empty q; is = ap Some (sym (none_yet k)) }) es run).is

@@ -13,8 +13,8 @@ use Rattle.quiesce_core.specs.Runs.{Begun, HasRoot, root, consequent, IsRun, is_
 use Rattle.quiesce_core.proofs.CycleLaws.{map_or_true}
 use Rattle.quiesce_core.proofs.StateLaws.{serving_busy}
 use Rattle.quiescence_laws.specs.Roots.{IsRooted}
-use Rattle.quiescence_laws.proofs.Induction.{place}
-use Rattle.quiescence_laws.proofs.Orders.{in_order, open_is_seen}
+use Rattle.quiescence_laws.proofs.InductionLaws.{place}
+use Rattle.quiescence_laws.proofs.OrderLaws.{in_order, open_is_seen}
 
 -- what passes is counted
 one_counted : {A : Type 0} (t : A → Bool) (front behind : List A) (y : A) → t y ≡ true → 1 ≤ count_by t (front ++ y ∷ behind)

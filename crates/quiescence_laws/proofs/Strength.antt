@@ -8,7 +8,7 @@ use Rattle.quiesce_core.specs.declared.event.Event.TheVariants.{Begin, Call, Tak
 use Rattle.quiesce_core.specs.Reach.{reaches, has_no_cycle}
 use Rattle.quiesce_core.specs.Runs.{IsRun}
 use Rattle.quiesce_core.specs.Settled.{Quiescent}
-use Rattle.quiescence_laws.proofs.Induction.{front_runs, run_if}
+use Rattle.quiescence_laws.proofs.InductionLaws.{front_runs, run_if}
 use Rattle.quiescence_laws.specs.Weaker.{but_own_busy, but_own_open, but_reaching_busy, but_indirect_open, Initiates, Begins, Serves, IsTarget, IsTooWeak}
 
 abbrev source : Node

@@ -7,7 +7,7 @@ ghost use Rattle.quiesce_core.specs.declared.event.Event.TheVariants.{Link, Unli
 ghost use Rattle.quiesce_core.specs.Runs.{IsRun, state_after};
 ghost use Rattle.quiesce_core.specs.State.{owner};
 ghost use Rattle.quiesce_core.specs.Settled.{Settled, Quiescent, Continues};
-ghost use Rattle.quiescence_laws.specs.Events.{removes};
+ghost use Rattle.quiescence_laws.specs.Events.{is_reopen_or_link, removes};
 ghost use Rattle.quiescence_laws.specs.Weaker.{but_own_busy, but_own_open, but_reaching_busy, but_indirect_open, Initiates, Begins, Serves, IsTarget, IsTooWeak};
 
 /// After every run, a settled node is quiescent by the four conditions of Kramer and Magee (1990): none of its own transactions is
@@ -16,10 +16,13 @@ pub fn settled_nodes_are_quiescent()
     ensures { (es : List Event) (n : ℕ) → IsRun es → Settled (state_after es) n → Quiescent es n }
 {}
 
-/// However a run goes on without a gate opened, a link made or a node made, a settled node is settled still, exactly until it is
-/// removed.
+/// However a run goes on without a gate opened or a link made, a settled node is settled still, exactly until it is removed. Nodes
+/// may be made meanwhile: a port of a new node is closed and leads nowhere. Where none is made either, the run goes on as the
+/// conditions of quiescence have it.
 pub fn settled_nodes_stay_settled()
-    ensures { (es more_ : List Event) (n : ℕ) → Settled (state_after es) n → Continues es more_ → Settled (state_after (es ++ more_)) n ↔ (list_any (removes n) more_ ≡ false) }
+    ensures though_nodes_are_made { (es more_ : List Event) (n : ℕ) → Settled (state_after es) n → IsRun (es ++ more_) → list_any is_reopen_or_link more_ ≡ false
+        → Settled (state_after (es ++ more_)) n ↔ (list_any (removes n) more_ ≡ false) }
+    ensures where_none_is_made { (es more_ : List Event) (n : ℕ) → Settled (state_after es) n → Continues es more_ → Settled (state_after (es ++ more_)) n ↔ (list_any (removes n) more_ ≡ false) }
 {}
 
 /// At each link and unlink of a run the port's owner is quiescent, and at each removal the node is.

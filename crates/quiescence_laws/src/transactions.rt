@@ -7,7 +7,7 @@ ghost use Rattle.gate_word.specs.Phases.{is_idle};
 ghost use Rattle.quiesce_core.specs.Runs.{Begun, IsRun, doer, initiator, is_begin_of, is_end_of, is_open_after, state_after, target_at_begin};
 ghost use Rattle.quiesce_core.specs.State.{exchange};
 ghost use Rattle.quiescence_laws.specs.Courses.{course_after, course_at};
-ghost use Rattle.quiescence_laws.specs.Events.{is_take_of, is_give_of, is_more_of, is_ask_of, is_hear_of, is_of_initiator, is_of_target, ends_at};
+ghost use Rattle.quiescence_laws.specs.Events.{is_take_of, is_give_of, is_more_of, is_ask_of, is_hear_of, is_of_initiator, is_of_target, is_end_at};
 
 /// In every run the events of a transaction come in the order of its course: a begin or a call, the take, any number of
 /// intermediate replies each with a further message and its hearing, the last reply, the end. None comes twice or where it
@@ -18,7 +18,7 @@ pub fn transactions_keep_their_course()
 
 /// As many transactions of a port have ended as its serial says, less one where it isn't idle.
 pub fn ends_make_the_serial()
-    ensures { (es : List Event) (p : ℕ) → IsRun es → count_by (ends_at p) es + (if is_idle (exchange (state_after es) p).phase then 0 else 1) ≡ (exchange (state_after es) p).serial }
+    ensures { (es : List Event) (p : ℕ) → IsRun es → count_by (is_end_at p) es + (if is_idle (exchange (state_after es) p).phase then 0 else 1) ≡ (exchange (state_after es) p).serial }
 {}
 
 /// Of each transaction there is at most one take, one last reply and one end, each behind the one before. Exactly those up to the

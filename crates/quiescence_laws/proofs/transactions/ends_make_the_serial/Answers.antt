@@ -1,4 +1,4 @@
-use Rattle.quiescence_laws.proofs.Serials.{tallied}
+use Rattle.quiescence_laws.proofs.SerialLaws.{tallied}
 use Rattle.quiescence_laws.proofs.transactions.ends_make_the_serial.Goals as goal
 
 pub returns : goal.returns

@@ -1,4 +1,4 @@
-use Rattle.quiescence_laws.proofs.Induction.{front_runs}
+use Rattle.quiescence_laws.proofs.InductionLaws.{front_runs}
 use Rattle.quiescence_laws.proofs.transactions.fronts_are_runs.Goals as goal
 
 pub returns : goal.returns

@@ -1,8 +1,8 @@
 -- What is known at each place of a run, and how a fact goes along a run.
-use Rattle.std.proofs.Common.{◌≡◌, ℕ, Bool, true, false, ◌&&◌, List, [], ◌∷◌, ◌++◌, append_assoc, Option, Some, None, refl, sym, ap, ◌∙◌, subst}
+use Rattle.std.proofs.Common.{◌≡◌, Bool, true, false, ◌&&◌, List, [], ◌∷◌, ◌++◌, append_assoc, refl, sym, ap, ◌∙◌, subst}
 use Rattle.std.specs.Prelude.{is_none}
 use Rattle.std.specs.List.{list_any}
-use Rattle.std.proofs.lemmas.Bool.{and_parts, both_ways, or_parts}
+use Rattle.std.proofs.lemmas.Bool.{and_parts, or_parts}
 use Rattle.std.proofs.lemmas.List.{append-nil}
 use Rattle.std.proofs.lemmas.List.Sums.{fold_push}
 use Rattle.quiesce_core.specs.Rules.{denial}
@@ -16,7 +16,8 @@ use Rattle.quiesce_core.specs.Traffic.{IsConsistent}
 use Rattle.quiesce_core.specs.WellFormed.{IsWellFormed}
 use Rattle.quiesce_core.proofs.LegalLaws.{legal}
 use Rattle.quiesce_core.proofs.RunLaws.{runs_are_well_formed, runs_are_consistent}
-use Rattle.quiesce_core.proofs.RunLaws.{StepAt, run_parts}
+use Rattle.quiesce_core.proofs.RunPartLaws.{StepAt, run_parts}
+use Rattle.base.proofs.EachLaws.{each_pushed}
 use Rattle.base.proofs.OptionLaws.{None-from_is_none}
 
 -- an event that stands behind a run and may happen there
@@ -29,10 +30,6 @@ pub record IsNext (before : List Event) (e : Event) : Type 0 where
 
 pub front_runs : (xs ys : List Event) → IsRun (xs ++ ys) → IsRun xs
 front_runs xs ys h = (run_parts xs ys h).0
-
-each_snoc : {A : Type 0} (P : List A → A → Type 0) (before xs : List A) (x : A) → EachAfter P before xs → P (before ++ xs) x → EachAfter P before (xs ++ x ∷ [])
-each_snoc P before [] x h p = (subst (λ zs. P zs x) (append-nil before) p, tt)
-each_snoc P before (y ∷ xs) x h p = (h.0, each_snoc P (before ++ y ∷ []) xs x h.1 (subst (λ zs. P zs x) (sym (append_assoc before (y ∷ []) xs)) p))
 
 next_at : (before : List Event) (e : Event) → IsRun before → StepAt before e → IsNext before e
 next_at before e run h = record { run = run; well = runs_are_well_formed before run; traffic = runs_are_consistent before run; legal = legal (state_after before) e h.allowed; next = h.changed }
@@ -49,7 +46,7 @@ module _ (start : List Event) (P : List Event → Type 0) (bars : Event → Bool
       let parts = or_parts (bars e) (list_any bars es) free in
       let more_ = append_assoc start xs (e ∷ []) in
       subst P (append_assoc xs (e ∷ []) es)
-      (further_from (xs ++ e ∷ []) es (subst (λ zs. EachAfter StepAt zs es) more_ h.1) (subst (λ zs. IsRun zs) more_ (each_snoc StepAt [] (start ++ xs) e run h.0)) parts.1
+      (further_from (xs ++ e ∷ []) es (subst (λ zs. EachAfter StepAt zs es) more_ h.1) (subst (λ zs. IsRun zs) more_ ((each_pushed StepAt (start ++ xs) e).1 (run, h.0))) parts.1
       (next xs e (next_at (start ++ xs) e run h.0) parts.0 p))
 
   -- A fact of the further events of a run, told of none of them and kept by each, but for those that are barred: it holds of all

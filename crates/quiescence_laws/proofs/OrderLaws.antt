@@ -10,12 +10,12 @@ use Rattle.gate_word.specs.declared.phase.Phase.TheVariants as phase
 use Rattle.quiesce_core.specs.State.{exchange}
 use Rattle.gate_word.specs.Phases.{is_idle}
 use Rattle.quiesce_core.specs.Runs.{IsRun, state_after, is_begin_of, is_end_of, is_open_after}
-use Rattle.quiescence_laws.specs.Events.{is_take_of, is_give_of, is_more_of, is_ask_of, is_hear_of, ends_at}
+use Rattle.quiescence_laws.specs.Events.{is_take_of, is_give_of, is_more_of, is_ask_of, is_hear_of, is_end_at}
 use Rattle.quiescence_laws.specs.Courses.{Course, heard_at, course_in, course_of, course_at}
 use Rattle.quiescence_laws.specs.Courses as course
 use Rattle.quiescence_laws.proofs.CourseLemmas.{course_behind, course_zero, course_before, course_here}
 use Rattle.quiescence_laws.proofs.Counting.{Counts, table, counted}
-use Rattle.quiescence_laws.proofs.Serials.{tallied, busy_serial}
+use Rattle.quiescence_laws.proofs.SerialLaws.{tallied, busy_serial}
 
 -- what each course says of the counts
 pub record IsOrdered (n : Counts) : Type 0 where
@@ -136,7 +136,7 @@ told n f h k r positive = ⊎_elim
 told_at : (es : List Event) (p k r : ℕ) → IsRun es → Told (exchange (state_after es) p).serial (exchange (state_after es) p).phase (heard_at (state_after es) p) k r
 told_at es p k r run =
     let x = exchange (state_after es) p in
-    told x.serial x.phase (heard_at (state_after es) p) k r (busy_serial (count_by (ends_at p) es) x (tallied es p run))
+    told x.serial x.phase (heard_at (state_after es) p) k r (busy_serial (count_by (is_end_at p) es) x (tallied es p run))
 
 pub begun_count : (es : List Event) (p k : ℕ) → IsRun es → count_by (is_begin_of p k) es ≡ cond (was_begun (exchange (state_after es) p).serial k) 1 0
 begun_count es p k run = let h = counted es p k run in h.begins ∙ (told_at es p k h.rounds run).begins
@@ -209,7 +209,7 @@ open_is_seen es p k run =
     let x = exchange (state_after es) p in
     ap (λ b. b && not (list_any (is_end_of p k) es)) (any_counted (is_begin_of p k) es (was_begun x.serial k) (begun_count es p k run))
     ∙ ap (λ b. was_begun x.serial k && not b) (any_counted (is_end_of p k) es (has_ended x.serial (is_idle x.phase) k) (ended_count es p k run))
-    ∙ left_open x.serial k (is_idle x.phase) (busy_serial (count_by (ends_at p) es) x (tallied es p run))
+    ∙ left_open x.serial k (is_idle x.phase) (busy_serial (count_by (is_end_at p) es) x (tallied es p run))
 
 -- a transaction that has ended was begun, taken and answered once
 pub whole_once :
