@@ -17,21 +17,19 @@ use Rattle.quiesce_core.specs.WellFormed.{IsWellFormed}
 use Rattle.quiesce_core.proofs.TableLaws.{live_made}
 use Rattle.drain_laws.specs.Drain.{left, rest_where}
 use Rattle.drain_laws.proofs.Busy.{busy_phases, busy_target, untaken_if}
-use Rattle.drain_laws.proofs.Fewer.{HasNoNewLink, full_fewer, events_fewer}
+use Rattle.drain_laws.proofs.Fewer.{GoodLinks, calls_stay, mores_stay, full_fewer, events_fewer}
 use Rattle.drain_laws.proofs.Sums.{sum_le, sum_longer, masked}
 use Rattle.drain_laws.proofs.Weights.{left_idle, left_answered, left_untaken, left_taken}
 use Rattle.quiesce_core.proofs.StateLaws.{serving_busy, taken_is, is_taken_if}
 
 -- what an event of the change owes, so that nothing more is left
 pub record Spares (s s' : State) (Good : ℕ → ℕ → Type 0) : Type 0 where
-  pub fewer : HasNoNewLink s.config s'.config Good
+  pub fewer : GoodLinks s.config s'.config Good
   pub busy : (q : ℕ) (t : Target) → is_idle (exchange s q).phase ≡ false → target s.config q ≡ Some t → Good t.node t.provide
   pub no_cycle : has_no_cycle s'.config ≡ true
   pub exchanges : (q : ℕ) → exchange s' q ≡ exchange s q
   pub services : (m : ℕ) → service s' m ≡ service s m
   pub leads : (q : ℕ) → is_idle (exchange s q).phase ≡ false → target s'.config q ≡ target s.config q
-  pub longer : ℕ
-  pub length_is : length s'.config.gates ≡ length s.config.gates + longer
 
 rest_fewer : (m i c j e e' d : ℕ) → e ≤ e' → 3 * (m - i) + (c - j) * e + d ≤ 3 * (m - i) + (c - j) * e' + d
 rest_fewer m i c j e e' d h = let l : (c - j) * e ≤ (c - j) * e' = mul-le-mul_left (c - j) h in omega arith
@@ -51,9 +49,9 @@ module _ (s s' : State) (w : IsWellFormed s) (k : IsConsistent s) (Good : ℕ �
       after
       ∙ ap (λ (x : Exchange). service_rest s'.config t.node t.provide u.serving x.phase) (h.exchanges q)
       ∙ ap (λ i. 3 * (i - u.serving.mores) + (calls_allowed s'.config t.node t.provide - u.serving.calls) * call_events s'.config t.node t.provide + messages_due u.serving (exchange s q).phase)
-      (h.fewer.mores t.node t.provide made)
+      (mores_stay s.config s'.config h.fewer.extends_ t.node t.provide made)
       ∙ ap (λ i. 3 * (mores_allowed s.config t.node t.provide - u.serving.mores) + (i - u.serving.calls) * call_events s'.config t.node t.provide + messages_due u.serving (exchange s q).phase)
-      (h.fewer.calls t.node t.provide made) in
+      (calls_stay s.config s'.config h.fewer.extends_ t.node t.provide made) in
       omega (
         arith,
         is,
@@ -96,9 +94,11 @@ module _ (s s' : State) (w : IsWellFormed s) (k : IsConsistent s) (Good : ℕ �
 
   pub spares_part : (b : ℕ → Bool) → rest_where b s' ≤ rest_where b s
   spares_part b =
+      let longer = length s'.config.gates - length s.config.gates in
+      let length_is : length s'.config.gates ≡ length s.config.gates + longer = omega (arith, h.fewer.extends_.many) in
       let size : rest_where b s' ≡ sum_by (λ p. cond (b p) (left s' p) 0) (range_with_len 0 (length s.config.gates)) =
-      ap (λ n. sum_by (λ p. cond (b p) (left s' p) 0) (range_with_len 0 n)) h.length_is
-      ∙ sum_longer (λ p. cond (b p) (left s' p) 0) 0 (length s.config.gates) h.longer (λ q past. zero_there (b q) (left s' q) (left_behind q (omega arith))) in
+      ap (λ n. sum_by (λ p. cond (b p) (left s' p) 0) (range_with_len 0 n)) length_is
+      ∙ sum_longer (λ p. cond (b p) (left s' p) 0) 0 (length s.config.gates) longer (λ q past. zero_there (b q) (left s' q) (left_behind q (omega arith))) in
       let less = sum_le (λ p. cond (b p) (left s' p) 0) (λ p. cond (b p) (left s p) 0) 0 (length s.config.gates)
       (λ q. masked false (b q) (b q) (left s' q) (left s q) (λ idle. absurd (both_ways false refl idle)) (λ busy on. on) (left_fewer q)) in
       omega (arith, size, less)

@@ -13,12 +13,13 @@ use Rattle.quiesce_core.specs.WellFormed.{IsWellFormed}
 use Rattle.quiesce_core.proofs.RestLaws.{full_step}
 use Rattle.drain_laws.specs.Belongs.{Transactions, belongs}
 use Rattle.drain_laws.specs.Drain.{left, rest_where, rest_of}
-use Rattle.drain_laws.proofs.Busy.{busy_made, busy_phases, busy_target}
+use Rattle.drain_laws.proofs.Busy.{busy_phases, busy_target}
 use Rattle.drain_laws.proofs.Falls.{due_two}
 use Rattle.drain_laws.proofs.Steps.{every, all_rest}
-use Rattle.drain_laws.proofs.Sums.{sum_place, sum_le}
+use Rattle.drain_laws.proofs.Sums.{sum_place, sum_le, sum_zero}
 use Rattle.drain_laws.proofs.Weights.{left_idle, left_answered, left_untaken, left_taken}
 use Rattle.quiesce_core.proofs.StateLaws.{taken_is}
+use Rattle.quiescence_laws.proofs.ConfigurationLaws.{busy_made}
 
 asked_left : (s : State) (p : ℕ) → IsWellFormed s → IsConsistent s → is_idle (exchange s p).phase ≡ false → (is_asked (exchange s p).phase || is_in_more (exchange s p).phase) ≡ true → 1 ≤ left s p
 asked_left s p w c busy either_ =
@@ -44,15 +45,11 @@ marked_left : (s : State) (b : ℕ → Bool) (p : ℕ) → IsWellFormed s → Is
 marked_left s b p w c busy on =
     let here : cond (b p) (left s p) 0 ≡ left s p = ap (λ v. cond v (left s p) 0) on in
     let all : sum_by (λ i. 0) (range_with_len 0 (length s.config.gates)) + 1 ≤ rest_where b s + 0 =
-    sum_place (λ i. 0) (λ i. cond (b i) (left s i) 0) p 1 0 0 (length s.config.gates) (omega arith) (omega (arith, busy_made s p w busy)) (λ i other. omega arith) (omega (arith, here, busy_left s p w c busy)) in
+    sum_place (λ i. 0) (λ i. cond (b i) (left s i) 0) p 1 0 0 (length s.config.gates) (omega arith) (omega (arith, busy_made s p c busy)) (λ i other. omega arith) (omega (arith, here, busy_left s p w c busy)) in
     omega arith
 
 pub none_belongs : (set : Transactions) (s : State) → IsWellFormed s → IsConsistent s → rest_of set s ≡ 0 → (p : ℕ) → is_idle (exchange s p).phase ≡ false → belongs set s p ≡ false
 none_belongs set s w c none_ p busy = false_from_ne_true (belongs set s p) (λ on. omega (arith, none_, marked_left s (belongs set s) p w c busy on))
-
-zeros : (a n : ℕ) → sum_by (λ i. 0) (range_with_len a n) ≡ 0
-zeros a zero = refl
-zeros a (suc n) = omega (arith, sum_by-cons (λ i. 0) a (range_with_len (a + 1) n), zeros (a + 1) n)
 
 pub nothing_left : (s : State) → IsWellFormed s → IsConsistent s → (rest s ≡ 0) ↔ ((p : ℕ) → is_idle (exchange s p).phase ≡ true)
 nothing_left s w c = (
@@ -60,7 +57,7 @@ nothing_left s w c = (
   (λ idle. omega (
     arith,
     all_rest s,
-    zeros 0 (length s.config.gates),
+    sum_zero (λ i. 0) 0 (length s.config.gates) (λ i l. refl),
     sum_le (λ i. cond (every i) (left s i) 0) (λ i. 0) 0 (length s.config.gates) (λ i. omega (arith, left_idle s i (idle i))),
   )),
 )

@@ -22,7 +22,8 @@ use Rattle.quiesce_core.proofs.CycleLaws.{map_or_true, map_or_at}
 use Rattle.quiesce_core.proofs.TableLaws.{gate_place, exchange_place, owner_place, target_place}
 use Rattle.quiesce_core.proofs.RestLaws.{full_step}
 use Rattle.drain_laws.specs.Drain.{left}
-use Rattle.drain_laws.proofs.Busy.{busy_made, busy_target, untaken_if}
+use Rattle.drain_laws.proofs.Busy.{busy_target, untaken_if}
+use Rattle.quiescence_laws.proofs.ConfigurationLaws.{busy_made}
 use Rattle.drain_laws.proofs.Greatest.{call_counted}
 use Rattle.drain_laws.proofs.Weights.{left_idle, left_answered, left_untaken, left_taken, left_same, left_elsewhere}
 use Rattle.quiesce_core.proofs.StateLaws.{asked_busy, serving_busy, asked_not_more, exchange_here, exchange_there, service_here, service_there, taken_is, idle_unserved, served_busy, provision_is, put_is, target_service_is}
@@ -237,7 +238,7 @@ calling s p w c live through calls =
     record {
       serving = old;
       serviced = served.1;
-      made = busy_made s old.port w (serving_busy (exchange s old.port).phase at.busy);
+      made = busy_made s old.port c (serving_busy (exchange s old.port).phase at.busy);
       falls = omega (arith, after, before, less);
       others = λ q ne. left_elsewhere s s'.traffic n q refl (λ m other. service_there s n m (Some new) other)
           (λ u e same. let one : old ≡ u = cc (served.1, e) in ne (sym same ∙ sym (ap (λ (y : Service). y.port) one)))
@@ -264,6 +265,7 @@ pub record Rises (s : State) (t' : Traffic) (p : ℕ) : Type 0 where
   pub to : Target
   pub leads : target s.config p ≡ Some to
   pub after : left (record s { traffic = t' }) p ≡ full s.config to.node to.provide
+  pub unserved : (m : ℕ) (v : Service) → service (record s { traffic = t' }) m ≡ Some v → v.port ≡ p → ⊥
   pub others : (q : ℕ) → (q ≡ p → ⊥) → left (record s { traffic = t' }) q ≡ left s q
 
 pub begin_rises : (s : State) (p k v : ℕ) → IsWellFormed s → IsConsistent s → Legal s (Begin p k v) → Rises s (effect s (Begin p k v)).traffic p
@@ -279,6 +281,7 @@ begin_rises s p k v w c l =
       leads = t.1;
       after = left_untaken s' p t.0 (ap (λ (y : Exchange). is_asked y.phase || is_in_more y.phase) here) t.1
           (untaken_if s' p t.0 t.1 (λ u e same. idle_unserved s p c l.idle t.0.node u e same));
+      unserved = λ m u e same. idle_unserved s p c l.idle m u e same;
       others = λ q ne. left_same s s'.traffic q (exchange_there s p q x ne) (λ u e. inl refl);
     }
 
@@ -287,9 +290,11 @@ pub record Moves (s : State) (t' : Traffic) (p : ℕ) (r : ℕ) : Type 0 where
   pub made : p < length s.config.gates
   pub made_served : r < length s.config.gates
   pub other : p ≡ r → ⊥
-  pub amount : ℕ
-  pub here : left (record s { traffic = t' }) p ≡ amount
-  pub there : left (record s { traffic = t' }) r + (1 + amount) ≤ left s r
+  pub to : Target
+  pub leads : target s.config p ≡ Some to
+  pub here : left (record s { traffic = t' }) p ≡ full s.config to.node to.provide
+  pub there : left (record s { traffic = t' }) r + (1 + full s.config to.node to.provide) ≤ left s r
+  pub unserved : (m : ℕ) (v : Service) → service (record s { traffic = t' }) m ≡ Some v → v.port ≡ p → ⊥
   pub others : (q : ℕ) → (q ≡ p → ⊥) → (q ≡ r → ⊥) → left (record s { traffic = t' }) q ≡ left s q
 
 pub call_moves : (s : State) (p k v : ℕ) → IsWellFormed s → IsConsistent s → Legal s (Call p k v) → (at : Calling s p) → Moves s (effect s (Call p k v)).traffic p at.serving.port
@@ -317,7 +322,9 @@ call_moves s p k v w c l at =
       made = gate_place s p l.live;
       made_served = at.made;
       other = other;
-      amount = full s.config t.0.node t.0.provide;
+      to = t.0;
+      leads = t.1;
+      unserved = unserved;
       here = left_untaken s' p t.0 (ap (λ (y : Exchange). is_asked y.phase || is_in_more y.phase) here) t.1 (untaken_if s' p t.0 t.1 (λ u e same. unserved t.0.node u e same));
       there = omega (arith, stays old.port (λ same. other (sym same)), at.falls, amount);
       others = λ q ne nor. stays q ne ∙ at.others q nor;

@@ -8,8 +8,9 @@ pub mod Sharing
 pub mod Fewer
 pub mod Changes
 pub mod Sparing
-pub mod Steps
 pub mod Belonging
+pub mod Advancing
+pub mod Steps
 pub mod Carrying
 pub mod Portions
 pub mod Emptiness

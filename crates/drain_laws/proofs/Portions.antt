@@ -15,7 +15,7 @@ use Rattle.quiesce_core.specs.WellFormed.{IsWellFormed}
 use Rattle.quiesce_core.proofs.LegalLaws.{legal}
 use Rattle.drain_laws.specs.Belongs.{Transactions, belongs, is_of, one, open_in, starts}
 use Rattle.drain_laws.specs.Drain.{rest_where, rest_of}
-use Rattle.drain_laws.proofs.Belonging.{open_belongs}
+use Rattle.drain_laws.proofs.Belonging.{open_belongs, open_parts}
 use Rattle.drain_laws.proofs.Carrying.{follows}
 use Rattle.drain_laws.proofs.Sharing.{followed, part_le}
 use Rattle.drain_laws.proofs.Steps.{all_rest, every, marked_part}
@@ -42,31 +42,14 @@ open_stays : (s : State) (p k q j : ℕ) → open_in s p k ≡ true → is_idle 
 open_stays s p k q j h idle = ⊎_elim
     (λ (e : one p k q j ≡ true).
     let same : q ≡ p = eqb-true q p (and_parts (q == p) (j == k) e).0 in
-    let busy : is_idle (exchange s p).phase ≡ false = not_idle (is_idle (exchange s p).phase) (and_parts (not (is_idle (exchange s p).phase)) ((exchange s p).serial == k) h).0 in
-    absurd (both_ways (is_idle (exchange s p).phase) busy (sym (ap (λ i. is_idle (exchange s i).phase) same) ∙ idle)))
+    absurd (both_ways (is_idle (exchange s p).phase) (open_parts s p k h).0 (sym (ap (λ i. is_idle (exchange s i).phase) same) ∙ idle)))
     (λ (e : one p k q j ≡ false). e)
     (cases_Bool (one p k q j))
-  where
-    not_idle : (b : Bool) → not b ≡ true → b ≡ false
-    not_idle true h = absurd (both_ways false refl h)
-    not_idle false h = refl
 
 pub open_one : (s : State) (e : Event) (p k : ℕ) → Legal s e → open_in s p k ≡ true → starts (one p k) e ≡ false
 open_one s (Begin q j v) p k l h = open_stays s p k q j h l.idle
 open_one s (Call q j v) p k l h = open_stays s p k q j h l.idle
-open_one s (Take q j v) p k l h = refl
-open_one s (Give q j v) p k l h = refl
-open_one s (More q j v) p k l h = refl
-open_one s (Ask q j v) p k l h = refl
-open_one s (Hear q j v) p k l h = refl
-open_one s (End q j v) p k l h = refl
-open_one s (Miss q) p k l h = refl
-open_one s (Close q) p k l h = refl
-open_one s (Reopen q) p k l h = refl
-open_one s (Make n node from) p k l h = refl
-open_one s (Link q n x) p k l h = refl
-open_one s (Unlink q) p k l h = refl
-open_one s (Remove n) p k l h = refl
+open_one s _ p k l h = refl
 
 -- a part is no more than all
 pub part_of_all : (set : Transactions) (s : State) → rest_of set s ≤ rest s

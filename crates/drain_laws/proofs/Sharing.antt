@@ -1,6 +1,7 @@
 -- The part of what is left that falls to some ports: at a node's event it falls by one where the event is of one of them.
-use Rattle.std.proofs.Common.{◌≡◌, ℕ, ◌+◌, ◌≤◌, Bool, true, false, cond, eqb, length, refl, sym, subst, ⊎_elim, arith}
-use Rattle.std.specs.Prelude.{◌==◌}
+use Rattle.std.proofs.Common.{◌≡◌, ℕ, ◌+◌, ◌<◌, ◌≤◌, Bool, true, false, cond, eqb, length, refl, sym, ap, subst, ⊎_elim, arith}
+use Rattle.std.specs.Prelude.{◌==◌, sum_by}
+use Rattle.std.specs.List.{range_with_len}
 use Rattle.std.specs.Option.{option_map_or}
 use Rattle.std.proofs.lemmas.Bool.{cases_eq, cond-true, cond-false, eq-eqb, ne_eqb}
 use Rattle.quiesce_core.specs.declared.event.Event.{Event}
@@ -11,7 +12,7 @@ use Rattle.quiesce_core.specs.Rest.{full, rest}
 use Rattle.drain_laws.specs.Advances.{advanced}
 use Rattle.drain_laws.specs.Drain.{left, rest_where}
 use Rattle.drain_laws.proofs.Falls.{Falls, Moves, Rises}
-use Rattle.drain_laws.proofs.Sums.{sum_le, sum_place, sum_moves, masked}
+use Rattle.drain_laws.proofs.Sums.{sum_le, sum_place, sum_moves, sum_zero, masked}
 use Rattle.drain_laws.proofs.Weights.{left_idle}
 
 -- The ports that are marked after an event, where some were before: a port that begins is not, and one that is called is where the
@@ -54,10 +55,10 @@ moves_part s t' p r b m =
     let at_p : b' p ≡ b r = cond-true (eqb p p) (b r) (b p) (eq-eqb p p refl) in
     let else_ : (q : ℕ) → (q ≡ p → ⊥) → b' q ≡ b q = λ q ne. cond-false (eqb q p) (b r) (b q) (ne_eqb q p ne) in
     let all : rest_where b' (record s { traffic = t' }) + cond (b r) 1 0 ≤ rest_where b s =
-    sum_moves (λ i. cond (b' i) (left (record s { traffic = t' }) i) 0) (λ i. cond (b i) (left s i) 0) p r (cond (b r) (1 + m.amount) 0) (cond (b r) 1 0) (length s.config.gates) m.made m.made_served m.other
+    sum_moves (λ i. cond (b' i) (left (record s { traffic = t' }) i) 0) (λ i. cond (b i) (left s i) 0) p r (cond (b r) (1 + full s.config m.to.node m.to.provide) 0) (cond (b r) 1 0) (length s.config.gates) m.made m.made_served m.other
     (λ i ne nor. subst (λ v. cond v (left (record s { traffic = t' }) i) 0 ≤ cond (b i) (left s i) 0) (sym (else_ i ne)) (same_if (b i) (left (record s { traffic = t' }) i) (left s i) (m.others i ne nor)))
-    (call_served (b r) (b' r) m.amount (left (record s { traffic = t' }) r) (left s r) (else_ r (λ same. m.other (sym same))) m.there)
-    (call_called (b r) (b' p) m.amount (left (record s { traffic = t' }) p) (cond (b p) (left s p) 0) at_p m.here) in
+    (call_served (b r) (b' r) (full s.config m.to.node m.to.provide) (left (record s { traffic = t' }) r) (left s r) (else_ r (λ same. m.other (sym same))) m.there)
+    (call_called (b r) (b' p) (full s.config m.to.node m.to.provide) (left (record s { traffic = t' }) p) (cond (b p) (left s p) 0) at_p m.here) in
     omega arith
 
 pub rises_part : (s : State) (t' : Traffic) (p : ℕ) (b : ℕ → Bool) → Rises s t' p → rest_where (λ q. cond (q == p) false (b q)) (record s { traffic = t' }) ≤ rest_where b s
@@ -85,3 +86,12 @@ pub part_le : (s : State) (b c : ℕ → Bool) → ((q : ℕ) → is_idle (excha
 part_le s b c h =
     sum_le (λ i. cond (b i) (left s i) 0) (λ i. cond (c i) (left s i) 0) 0 (length s.config.gates)
     (λ i. masked (is_idle (exchange s i).phase) (b i) (c i) (left s i) (left s i) (left_idle s i) (h i) (omega arith))
+
+-- what is left of one port alone
+pub part_of_port : (s : State) (p : ℕ) → p < length s.config.gates → rest_where (λ q. q == p) s ≤ left s p
+part_of_port s p made =
+    let here : cond (p == p) (left s p) 0 ≡ left s p = ap (λ b. cond b (left s p) 0) (eq-eqb p p refl) in
+    let all : rest_where (λ q. q == p) s + 0 ≤ sum_by (λ i. 0) (range_with_len 0 (length s.config.gates)) + left s p =
+    sum_place (λ i. cond (i == p) (left s i) 0) (λ i. 0) p 0 (left s p) 0 (length s.config.gates) (omega arith) (omega (arith, made))
+    (λ i ne. let off : cond (i == p) (left s i) 0 ≡ 0 = ap (λ b. cond b (left s i) 0) (ne_eqb i p ne) in omega (arith, off)) (omega (arith, here)) in
+    omega (arith, all, sum_zero (λ i. 0) 0 (length s.config.gates) (λ i l. refl))

@@ -20,7 +20,8 @@ use Rattle.drain_laws.specs.Drain.{rest_where}
 use Rattle.drain_laws.proofs.Falls.{Calling, Moves, take_falls, hear_falls, ask_falls, end_falls, give_falls, more_falls, miss_calls, miss_falls, call_calls, call_moves, begin_rises}
 use Rattle.drain_laws.proofs.Sharing.{followed, is_marked, falls_part, moves_part, rises_part, rises_all, part_le}
 use Rattle.drain_laws.proofs.Changes.{spares_part}
-use Rattle.drain_laws.proofs.Sparing.{All, Apart, link_spares, close_spares, reopen_spares, unlink_spares, remove_spares, make_spares}
+use Rattle.drain_laws.proofs.Sparing.{All, Apart, link_spares, spares}
+use Rattle.drain_laws.proofs.Advancing.{advance_port}
 
 -- a call or a miss is of the port that is serviced
 calls_of_port : (s : State) (p : ℕ) (b : ℕ → Bool) (at : Calling s p) → is_marked b s (Miss p) ≡ b at.serving.port
@@ -48,12 +49,12 @@ marked_part s (End p k v) b w c l = falls_part s (effect s (End p k v)).traffic 
 marked_part s (More p k v) b w c l = falls_part s (effect s (More p k v)).traffic p b (more_falls s p k v w c l)
 marked_part s (Ask p k v) b w c l = falls_part s (effect s (Ask p k v)).traffic p b (ask_falls s p k v w c l)
 marked_part s (Hear p k v) b w c l = falls_part s (effect s (Hear p k v)).traffic p b (hear_falls s p k v w c l)
-marked_part s (Close p) b w c l = omega (arith, spares_part s (effect s (Close p)) w c All (close_spares s p w l) b)
-marked_part s (Reopen p) b w c l = omega (arith, spares_part s (effect s (Reopen p)) w c All (reopen_spares s p w l) b)
-marked_part s (Make n node from) b w c l = omega (arith, spares_part s (effect s (Make n node from)) w c All (make_spares s n node from w l) b)
-marked_part s (Link p n x) b w c l = omega (arith, spares_part s (effect s (Link p n x)) w c (Apart s.config (owner s.config p)) (link_spares s p n x w l) b)
-marked_part s (Unlink p) b w c l = omega (arith, spares_part s (effect s (Unlink p)) w c All (unlink_spares s p w l) b)
-marked_part s (Remove n) b w c l = omega (arith, spares_part s (effect s (Remove n)) w c All (remove_spares s n w l) b)
+marked_part s (Close p) b w c l = omega (arith, spares_part s (effect s (Close p)) w c All (spares s (Close p) w c l refl refl) b)
+marked_part s (Reopen p) b w c l = omega (arith, spares_part s (effect s (Reopen p)) w c All (spares s (Reopen p) w c l refl refl) b)
+marked_part s (Make n node from) b w c l = omega (arith, spares_part s (effect s (Make n node from)) w c All (spares s (Make n node from) w c l refl refl) b)
+marked_part s (Link p n x) b w c l = omega (arith, spares_part s (effect s (Link p n x)) w c (Apart s.config (owner s.config p)) (link_spares s p n x w c l) b)
+marked_part s (Unlink p) b w c l = omega (arith, spares_part s (effect s (Unlink p)) w c All (spares s (Unlink p) w c l refl refl) b)
+marked_part s (Remove n) b w c l = omega (arith, spares_part s (effect s (Remove n)) w c All (spares s (Remove n) w c l refl refl) b)
 
 abbrev pub every : ℕ → Bool
 every p = true
@@ -71,36 +72,10 @@ all_followed s (Call p k v) w c l h q =
     both : (b : Bool) → cond b true true ≡ true
     both true = refl
     both false = refl
-all_followed s (Miss p) w c l h q = refl
-all_followed s (Take p k v) w c l h q = refl
-all_followed s (Give p k v) w c l h q = refl
-all_followed s (End p k v) w c l h q = refl
-all_followed s (More p k v) w c l h q = refl
-all_followed s (Ask p k v) w c l h q = refl
-all_followed s (Hear p k v) w c l h q = refl
-all_followed s (Close p) w c l h q = refl
-all_followed s (Reopen p) w c l h q = refl
-all_followed s (Make n node from) w c l h q = refl
-all_followed s (Link p n x) w c l h q = refl
-all_followed s (Unlink p) w c l h q = refl
-all_followed s (Remove n) w c l h q = refl
+all_followed s _ w c l h q = refl
 
-advance_marked : (s : State) (e : Event) → IsWellFormed s → IsConsistent s → Legal s e → is_advance e ≡ true → is_marked every s e ≡ true
-advance_marked s (Begin p k v) w c l h = absurd (both_ways false refl h)
-advance_marked s (Call p k v) w c l h = calls_of_port s p every (call_calls s p k v w c l)
-advance_marked s (Miss p) w c l h = calls_of_port s p every (miss_calls s p w c l)
-advance_marked s (Take p k v) w c l h = refl
-advance_marked s (Give p k v) w c l h = refl
-advance_marked s (End p k v) w c l h = refl
-advance_marked s (More p k v) w c l h = refl
-advance_marked s (Ask p k v) w c l h = refl
-advance_marked s (Hear p k v) w c l h = refl
-advance_marked s (Close p) w c l h = absurd (both_ways false refl h)
-advance_marked s (Reopen p) w c l h = absurd (both_ways false refl h)
-advance_marked s (Make n node from) w c l h = absurd (both_ways false refl h)
-advance_marked s (Link p n x) w c l h = absurd (both_ways false refl h)
-advance_marked s (Unlink p) w c l h = absurd (both_ways false refl h)
-advance_marked s (Remove n) w c l h = absurd (both_ways false refl h)
+advance_marked : (s : State) (e : Event) → IsConsistent s → Legal s e → is_advance e ≡ true → is_marked every s e ≡ true
+advance_marked s e c l h = ap (λ o. option_map_or every o false) (advance_port s e c l h).of_it
 
 all_part : (s : State) (e : Event) → IsWellFormed s → IsConsistent s → Legal s e → is_begin e ≡ false → cond (is_marked every s e) 1 0 + rest (effect s e) ≤ rest s
 all_part s e w c l h =
@@ -110,27 +85,14 @@ all_part s e w c l h =
 
 advance_only : (e : Event) → is_advance e ≡ true → is_begin e ≡ false
 advance_only (Begin p k v) h = absurd (both_ways false refl h)
-advance_only (Link p n x) h = refl
-advance_only (Call p k v) h = refl
-advance_only (Miss p) h = refl
-advance_only (Take p k v) h = refl
-advance_only (Give p k v) h = refl
-advance_only (End p k v) h = refl
-advance_only (More p k v) h = refl
-advance_only (Ask p k v) h = refl
-advance_only (Hear p k v) h = refl
-advance_only (Close p) h = refl
-advance_only (Reopen p) h = refl
-advance_only (Make n node from) h = refl
-advance_only (Unlink p) h = refl
-advance_only (Remove n) h = refl
+advance_only _ h = refl
 
 -- all of what is left falls at each event of an open transaction
 pub rest_falls : (s s' : State) (e : Event) → IsWellFormed s → IsConsistent s → Step s e s' → is_advance e ≡ true → rest s' + 1 ≤ rest s
 rest_falls s s' e w c step h =
     let l = legal s e step.allowed in
     let part = all_part s e w c l (advance_only e h) in
-    let one : cond (is_marked every s e) 1 0 ≡ 1 = ap {B = ℕ} (λ b. cond b 1 0) (advance_marked s e w c l h) in
+    let one : cond (is_marked every s e) 1 0 ≡ 1 = ap {B = ℕ} (λ b. cond b 1 0) (advance_marked s e c l h) in
     let same : rest s' ≡ rest (effect s e) = ap (λ x. rest x) step.changed in
     omega (arith, part, one, same)
 

@@ -47,7 +47,7 @@ sum_moves f g p r d e n made_p made_r ne h at_r at_p =
     omega (arith, first, second)
 
 -- what comes behind adds nothing
-sum_zero : (f : ℕ → ℕ) (a n : ℕ) → ((i : ℕ) → a ≤ i → f i ≡ 0) → sum_by f (range_with_len a n) ≡ 0
+pub sum_zero : (f : ℕ → ℕ) (a n : ℕ) → ((i : ℕ) → a ≤ i → f i ≡ 0) → sum_by f (range_with_len a n) ≡ 0
 sum_zero f a zero h = refl
 sum_zero f a (suc n) h =
     omega (arith, sum_by-cons f a (range_with_len (a + 1) n), h a (omega arith), sum_zero f (a + 1) n (λ i l. h i (omega arith)))

@@ -17,6 +17,16 @@ is_advance (Ask p k v) = true
 is_advance (Hear p k v) = true
 is_advance _ = false
 
+-- whether it brings an open transaction nearer to its end, whatever its node's kind asks for next: how many calls, misses and
+-- intermediate replies a service makes is the kind's to choose
+abbrev pub is_onward : Event → Bool
+is_onward (Take p k v) = true
+is_onward (Give p k v) = true
+is_onward (End p k v) = true
+is_onward (Ask p k v) = true
+is_onward (Hear p k v) = true
+is_onward _ = false
+
 abbrev pub is_begin : Event → Bool
 is_begin (Begin p k v) = true
 is_begin _ = false

@@ -6,7 +6,7 @@ use Rattle.quiesce_core.specs.State.{State, exchange}
 use Rattle.quiesce_core.specs.Rest.{port_rest}
 use Rattle.quiesce_core.specs.Rules.{denial}
 use Rattle.quiesce_core.specs.Effect.{effect}
-use Rattle.drain_laws.specs.Advances.{is_advance}
+use Rattle.drain_laws.specs.Advances.{is_advance, is_onward}
 use Rattle.drain_laws.specs.Belongs.{Transactions, belongs, is_of}
 
 -- what is left of the port's transaction
@@ -26,8 +26,11 @@ abbrev pub count_of : Transactions → State → List Event → ℕ
 count_of set s [] = 0
 count_of set s (e ∷ es) = cond (is_of set s e) 1 0 + count_of set (effect s e) es
 
--- an event that may happen and belongs to an open transaction
+-- An event that may happen and is one of a transaction, of one that is open, as each such event is. It is neither a call nor a miss
+-- nor an intermediate reply, which a node's kind may leave: where the rules allow it, it or another event of the same node is
+-- what the kind does next.
 pub record Possible (s : State) : Type 0 where
   pub event : Event
   pub advances : IsTrue (is_advance event)
+  pub onward : IsTrue (is_onward event)
   pub allowed : denial s event ≡ None

@@ -28,25 +28,8 @@ use Rattle.quiesce_core.proofs.TableLaws.{live_made, gate_place}
 use Rattle.quiesce_core.proofs.SettledLaws.{settled_if}
 use Rattle.quiesce_core.proofs.SoundnessLaws.{put_here, put_elsewhere, put_owner, put_require, here_gone, slot_elsewhere, old_gate, old_slot, grown_length}
 use Rattle.base.proofs.PlaceLaws.{slice_get-there, slice_get-below}
+use Rattle.quiescence_laws.specs.Configurations.{HasNode, Extends, HasNoNewLink}
 use Rattle.quiescence_laws.specs.Events.{is_link, reopens}
-
--- the node in slot n is this one, live or not
-pub record HasNode (d : Configuration) (n : ℕ) (m : Slot) : Type 0 where
-  pub now : Slot
-  pub there : slot d n ≡ Some now
-  pub same_node : now.node ≡ m.node
-  pub same_port : now.first_port ≡ m.first_port
-
--- the later configuration has the nodes and ports of the earlier, and perhaps more
-pub record Extends (c d : Configuration) : Type 0 where
-  pub nodes : (n : ℕ) (m : Slot) → slot c n ≡ Some m → HasNode d n m
-  pub owners : (q : ℕ) → q < length c.gates → owner d q ≡ owner c q
-  pub requirements : (q : ℕ) → q < length c.gates → (gate d q).require ≡ (gate c q).require
-  pub many : length c.gates ≤ length d.gates
-
--- each link of the later configuration is one of the earlier
-pub record HasNoNewLink (c d : Configuration) : Type 0 where
-  pub old : (q : ℕ) (t : Target) → target d q ≡ Some t → target c q ≡ Some t
 
 -- what is read of a node that was made is what was read
 pub read_before : {A : Type 0} (c d : Configuration) → Extends c d → (n : ℕ) → n < length c.slots → (f : Slot → A) (x : A)

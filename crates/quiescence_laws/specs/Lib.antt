@@ -1,3 +1,4 @@
+pub mod Configurations
 pub mod Events
 pub mod Roots
 pub mod Courses
