@@ -14,14 +14,14 @@ use Rattle.quiesce_core.specs.Traffic.{IsConsistent}
 use Rattle.quiesce_core.proofs.CycleLaws.{map_or_true}
 use Rattle.quiesce_core.proofs.StateLaws.{asked_busy, more_busy, answered_busy, serving_busy, taken_busy}
 use Rattle.quiescence_laws.specs.Events.{is_of_initiator, is_of_target}
-use Rattle.drain_laws.specs.Advances.{is_advance, advanced}
-use Rattle.drain_laws.specs.Belongs.{Transactions, belongs, is_of, one, open_in}
+use Rattle.drain_laws.specs.Advances.{is_advance, advanced_port}
+use Rattle.drain_laws.specs.Belongs.{Transactions, belongs, is_event_of, singleton, open_in}
 use Rattle.drain_laws.proofs.Belonging.{member_belongs, open_belongs}
 
 -- the port of whose transaction an event is, which is open
 pub record IsOfOpen (s : State) (e : Event) : Type 0 where
   pub port : ℕ
-  pub of_it : advanced s e ≡ Some port
+  pub of_it : advanced_port s e ≡ Some port
   pub open_ : is_idle (exchange s port).phase ≡ false
 
 -- a call or a miss is of what the caller services
@@ -41,7 +41,7 @@ advance_port s (Ask p k v) c l h = record { port = p; of_it = refl; open_ = more
 advance_port s (End p k v) c l h = record { port = p; of_it = refl; open_ = answered_busy (exchange s p).phase l.answered }
 advance_port s _ c l h = absurd (both_ways false refl h)
 
-other_port : (s : State) (e : Event) → is_advance e ≡ false → advanced s e ≡ None
+other_port : (s : State) (e : Event) → is_advance e ≡ false → advanced_port s e ≡ None
 other_port s (Call p k v) h = absurd (both_ways true h refl)
 other_port s (Miss p) h = absurd (both_ways true h refl)
 other_port s (Take p k v) h = absurd (both_ways true h refl)
@@ -53,7 +53,7 @@ other_port s (End p k v) h = absurd (both_ways true h refl)
 other_port s _ h = refl
 
 -- exactly the events of transactions are of what is open
-pub of_the_open : (s : State) (e : Event) → IsConsistent s → Legal s e → is_of (open_in s) s e ≡ is_advance e
+pub of_the_open : (s : State) (e : Event) → IsConsistent s → Legal s e → is_event_of (open_in s) s e ≡ is_advance e
 of_the_open s e c l = ⊎_elim
     (λ (yes_ : is_advance e ≡ true).
     let o = advance_port s e c l yes_ in ap (λ x. option_map_or (belongs (open_in s) s) x false) o.of_it ∙ open_belongs s o.port o.open_ ∙ sym yes_)
@@ -61,11 +61,11 @@ of_the_open s e c l = ⊎_elim
     (cases_Bool (is_advance e))
 
 -- an event that names a transaction is of the one that it names
-its_own : (s : State) (p k q j : ℕ) → (q == p && j == k) ≡ true → (j == (exchange s q).serial) ≡ true → belongs (one p k) s q ≡ true
+its_own : (s : State) (p k q j : ℕ) → (q == p && j == k) ≡ true → (j == (exchange s q).serial) ≡ true → belongs (singleton p k) s q ≡ true
 its_own s p k q j named serial =
     let both = and_parts (q == p) (j == k) named in
     let same : (exchange s q).serial ≡ k = sym (eqb-true j (exchange s q).serial serial) ∙ eqb-true j k both.1 in
-    member_belongs (one p k) s q (and_from (q == p) ((exchange s q).serial == k) both.0 (eq-eqb (exchange s q).serial k same))
+    member_belongs (singleton p k) s q (and_from (q == p) ((exchange s q).serial == k) both.0 (eq-eqb (exchange s q).serial k same))
 
 last_named : (s : State) (q j v : ℕ) → (j == (exchange s q).serial && v == (exchange s q).value) ≡ true → (j == (exchange s q).serial) ≡ true
 last_named s q j v h = (and_parts (j == (exchange s q).serial) (v == (exchange s q).value) h).0
@@ -74,7 +74,7 @@ or_false : (b : Bool) → (b || false) ≡ b
 or_false true = refl
 or_false false = refl
 
-pub of_the_named : (s : State) (e : Event) (p k : ℕ) → Legal s e → (is_of_initiator p k e || is_of_target p k e) ≡ true → is_of (one p k) s e ≡ true
+pub of_the_named : (s : State) (e : Event) (p k : ℕ) → Legal s e → (is_of_initiator p k e || is_of_target p k e) ≡ true → is_event_of (singleton p k) s e ≡ true
 of_the_named s (Take q j v) p k l h = its_own s p k q j h (last_named s q j v l.message)
 of_the_named s (Hear q j v) p k l h = its_own s p k q j h (last_named s q j v l.message)
 of_the_named s (Give q j v) p k l h = its_own s p k q j h l.serial

@@ -24,8 +24,8 @@ use Rattle.quiesce_core.proofs.RunLaws.{runs_are_well_formed, runs_are_consisten
 use Rattle.quiesce_core.proofs.SoundnessLaws.{well_formed_next}
 use Rattle.quiesce_core.proofs.TrafficLaws.{consistent_next}
 use Rattle.drain_laws.specs.Advances.{is_advance, is_begin}
-use Rattle.drain_laws.specs.Belongs.{Transactions, Belongs, member, consequent, belongs, one, open_in}
-use Rattle.drain_laws.specs.Drain.{left, rest_of, count_of}
+use Rattle.drain_laws.specs.Belongs.{Transactions, Belongs, member, consequent, belongs, singleton, open_in}
+use Rattle.drain_laws.specs.Drain.{rest_at, rest_of, count_of}
 use Rattle.drain_laws.proofs.Belonging.{belongs_if, member_belongs, open_parts}
 use Rattle.drain_laws.proofs.Carrying.{HasCome, none_starts}
 use Rattle.quiescence_laws.proofs.ExchangeLaws.{serials_grow}
@@ -111,32 +111,32 @@ bound_all es more_ run no_begin = omega (arith, bound_all_left es more_ run no_b
 -- One transaction, from its begin or call on
 
 -- what belongs to it then is the transaction alone
-only_itself : (s : State) (p k : ℕ) → IsConsistent s → ((m : ℕ) (v : Service) → service s m ≡ Some v → v.port ≡ p → ⊥) → (q : ℕ) → Belongs (one p k) s q → q ≡ p
+only_itself : (s : State) (p k : ℕ) → IsConsistent s → ((m : ℕ) (v : Service) → service s m ≡ Some v → v.port ≡ p → ⊥) → (q : ℕ) → Belongs (singleton p k) s q → q ≡ p
 only_itself s p k c unserved x (member q is) = eqb-true q p (and_parts (q == p) ((exchange s q).serial == k) is).0
 only_itself s p k c unserved x (consequent q r e b) =
     let at = c.consequent q r e in absurd (unserved (owner s.config q) at.serving at.serviced (at.of_port ∙ only_itself s p k c unserved r b))
 
-itself_left : (s : State) (p k : ℕ) → IsConsistent s → p < length s.config.gates → ((m : ℕ) (v : Service) → service s m ≡ Some v → v.port ≡ p → ⊥) → rest_of (one p k) s ≤ left s p
+itself_left : (s : State) (p k : ℕ) → IsConsistent s → p < length s.config.gates → ((m : ℕ) (v : Service) → service s m ≡ Some v → v.port ≡ p → ⊥) → rest_of (singleton p k) s ≤ rest_at s p
 itself_left s p k c made unserved =
-    let less = part_le s (belongs (one p k) s) (λ q. q == p) (λ q busy on. eq-eqb q p (only_itself s p k c unserved q (belongs_if (one p k) s q on))) in
+    let less = part_le s (belongs (singleton p k) s) (λ q. q == p) (λ q busy on. eq-eqb q p (only_itself s p k c unserved q (belongs_if (singleton p k) s q on))) in
     omega (arith, less, part_of_port s p made)
 
 -- what is left of it just after, and what has happened of it since
-bound_since : (es more_ : List Event) (e : Event) (p k n : ℕ) → IsRun (es ++ e ∷ more_) → (exchange (effect (state_after es) e) p).serial ≡ k → rest_of (one p k) (effect (state_after es) e) ≤ n
-    → count_of (one p k) (state_after (es ++ e ∷ [])) more_ ≤ n
+bound_since : (es more_ : List Event) (e : Event) (p k n : ℕ) → IsRun (es ++ e ∷ more_) → (exchange (effect (state_after es) e) p).serial ≡ k → rest_of (singleton p k) (effect (state_after es) e) ≤ n
+    → count_of (singleton p k) (state_after (es ++ e ∷ [])) more_ ≤ n
 bound_since es more_ e p k n run serial few =
     let here = place es more_ e run in
     let parts = run_parts (es ++ e ∷ []) more_ (subst (λ xs. IsRun xs) (sym (append_assoc es (e ∷ []) more_)) run) in
-    let within = bound_from (one p k) (es ++ e ∷ []) more_ parts.1 (runs_are_well_formed (es ++ e ∷ []) parts.0) (runs_are_consistent (es ++ e ∷ []) parts.0) (record {
+    let within = bound_from (singleton p k) (es ++ e ∷ []) more_ parts.1 (runs_are_well_formed (es ++ e ∷ []) parts.0) (runs_are_consistent (es ++ e ∷ []) parts.0) (record {
       come = λ q j is.
           let both = and_parts (q == p) (j == k) is in
           let same : (exchange (state_after (es ++ e ∷ [])) q).serial ≡ k = ap (λ i. (exchange (state_after (es ++ e ∷ [])) i).serial) (eqb-true q p both.0) ∙ ap (λ s. (exchange s p).serial) here.next ∙ serial in
           omega (arith, same, eqb-true j k both.1);
     }) in
-    omega (arith, within, few, ap (λ s. rest_of (one p k) s) here.next)
+    omega (arith, within, few, ap (λ s. rest_of (singleton p k) s) here.next)
 
 pub bound_begun : (es more_ : List Event) (p k v : ℕ) (to : Target) → IsRun (es ++ Begin p k v ∷ more_) → target (state_after es).config p ≡ Some to
-    → count_of (one p k) (state_after (es ++ Begin p k v ∷ [])) more_ ≤ full (state_after es).config to.node to.provide
+    → count_of (singleton p k) (state_after (es ++ Begin p k v ∷ [])) more_ ≤ full (state_after es).config to.node to.provide
 bound_begun es more_ p k v to run leads =
     let here = place es more_ (Begin p k v) run in
     let s = state_after es in
@@ -149,7 +149,7 @@ bound_begun es more_ p k v to run leads =
     (omega (arith, few, r.after, amount))
 
 pub bound_called : (es more_ : List Event) (p k v : ℕ) (to : Target) → IsRun (es ++ Call p k v ∷ more_) → target (state_after es).config p ≡ Some to
-    → count_of (one p k) (state_after (es ++ Call p k v ∷ [])) more_ ≤ full (state_after es).config to.node to.provide
+    → count_of (singleton p k) (state_after (es ++ Call p k v ∷ [])) more_ ≤ full (state_after es).config to.node to.provide
 bound_called es more_ p k v to run leads =
     let here = place es more_ (Call p k v) run in
     let s = state_after es in

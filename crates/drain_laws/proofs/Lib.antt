@@ -1,6 +1,5 @@
 pub mod Busy
 pub mod Onward
-pub mod Sums
 pub mod Weights
 pub mod Greatest
 pub mod Falls

@@ -23,7 +23,7 @@ use Rattle.quiesce_core.proofs.RunLaws.{runs_are_well_formed, runs_are_consisten
 use Rattle.quiesce_core.proofs.SoundnessLaws.{well_formed_next}
 use Rattle.quiesce_core.proofs.TrafficLaws.{consistent_next}
 use Rattle.drain_laws.specs.Belongs as mine
-use Rattle.drain_laws.specs.Belongs.{Transactions, Belongs, belongs, one, open_in}
+use Rattle.drain_laws.specs.Belongs.{Transactions, Belongs, belongs, singleton, open_in}
 use Rattle.drain_laws.proofs.Belonging.{belongs_is_found, open_parts}
 use Rattle.drain_laws.proofs.Carrying.{caller_busy}
 use Rattle.quiescence_laws.proofs.ExchangeLaws.{PortStep, stays, begins, calls, ends, turns_at, port_step, served_untouched, next_serial}
@@ -114,7 +114,7 @@ open_from : (s : State) (p k : ℕ) → is_idle (exchange s p).phase ≡ false �
 open_from s p k busy same = and_from (not (is_idle (exchange s p).phase)) ((exchange s p).serial == k) (ap not busy) (eq-eqb (exchange s p).serial k same)
 
 -- what has a root by the run belongs to it, while it is open
-pub rooted : (es : List Event) (p k q j : ℕ) → IsRun es → HasRoot es p k q j → open_in (state_after es) p k ≡ true → Belongs (one q j) (state_after es) p
+pub rooted : (es : List Event) (p k q j : ℕ) → IsRun es → HasRoot es p k q j → open_in (state_after es) p k ≡ true → Belongs (singleton q j) (state_after es) p
 rooted es x k y j run (root p i v before after parts) open_ =
     mine.member p (and_from (p == p) ((exchange (state_after es) p).serial == i) (eq-eqb p p refl) (eq-eqb (exchange (state_after es) p).serial i (open_parts (state_after es) p i open_).1))
 rooted es x k y j run (consequent p i v q n before after u parts serviced up) open_ =
@@ -129,7 +129,7 @@ rooted es x k y j run (consequent p i v q n before after u parts serviced up) op
     ((called_kept es before after p i v u run parts serviced).still here.1)
 
 -- what belongs to a transaction of a set belongs to the set
-wider : (set : Transactions) (s : State) (q j : ℕ) → set q j ≡ true → (p : ℕ) → Belongs (one q j) s p → Belongs set s p
+wider : (set : Transactions) (s : State) (q j : ℕ) → set q j ≡ true → (p : ℕ) → Belongs (singleton q j) s p → Belongs set s p
 wider set s q j h x (mine.member p is) =
     let both = and_parts (p == q) ((exchange s p).serial == j) is in
     mine.member p (ap (λ i. set p i) (eqb-true (exchange s p).serial j both.1) ∙ ap (λ i. set i j) (eqb-true p q both.0) ∙ h)

@@ -18,7 +18,7 @@ use Rattle.quiesce_core.proofs.LegalLaws.{legal}
 use Rattle.drain_laws.specs.Advances.{is_advance, is_begin}
 use Rattle.drain_laws.specs.Drain.{rest_where}
 use Rattle.drain_laws.proofs.Falls.{Calling, Moves, take_falls, hear_falls, ask_falls, end_falls, give_falls, more_falls, miss_calls, miss_falls, call_calls, call_moves, begin_rises}
-use Rattle.drain_laws.proofs.Sharing.{followed, is_marked, falls_part, moves_part, rises_part, rises_all, part_le}
+use Rattle.drain_laws.proofs.Sharing.{marked_after, is_marked, falls_part, moves_part, rises_part, rises_all, part_le}
 use Rattle.drain_laws.proofs.Changes.{spares_part}
 use Rattle.drain_laws.proofs.Sparing.{All, Apart, link_spares, spares}
 use Rattle.drain_laws.proofs.Advancing.{advance_port}
@@ -27,19 +27,19 @@ use Rattle.drain_laws.proofs.Advancing.{advance_port}
 calls_of_port : (s : State) (p : ℕ) (b : ℕ → Bool) (at : Calling s p) → is_marked b s (Miss p) ≡ b at.serving.port
 calls_of_port s p b at = ap (λ o. option_map_or b (option_map (λ (w : Service). w.port) o) false) at.serviced
 
-miss_part : (s : State) (p : ℕ) (b : ℕ → Bool) → Calling s p → cond (is_marked b s (Miss p)) 1 0 + rest_where (followed b s (Miss p)) (effect s (Miss p)) ≤ rest_where b s
+miss_part : (s : State) (p : ℕ) (b : ℕ → Bool) → Calling s p → cond (is_marked b s (Miss p)) 1 0 + rest_where (marked_after b s (Miss p)) (effect s (Miss p)) ≤ rest_where b s
 miss_part s p b at =
     subst (λ m. cond m 1 0 + rest_where b (effect s (Miss p)) ≤ rest_where b s) (sym (calls_of_port s p b at))
     (falls_part s (effect s (Miss p)).traffic at.serving.port b (miss_falls s p at))
 
 call_part : (s : State) (p k v : ℕ) (b : ℕ → Bool) (at : Calling s p) → Moves s (effect s (Call p k v)).traffic p at.serving.port
-    → cond (is_marked b s (Call p k v)) 1 0 + rest_where (followed b s (Call p k v)) (effect s (Call p k v)) ≤ rest_where b s
+    → cond (is_marked b s (Call p k v)) 1 0 + rest_where (marked_after b s (Call p k v)) (effect s (Call p k v)) ≤ rest_where b s
 call_part s p k v b at moves =
     subst (λ m. cond m 1 0 + rest_where (λ q. cond (q == p) m (b q)) (effect s (Call p k v)) ≤ rest_where b s) (sym (calls_of_port s p b at))
     (moves_part s (effect s (Call p k v)).traffic p at.serving.port b moves)
 
 pub marked_part : (s : State) (e : Event) (b : ℕ → Bool) → IsWellFormed s → IsConsistent s → Legal s e
-    → cond (is_marked b s e) 1 0 + rest_where (followed b s e) (effect s e) ≤ rest_where b s
+    → cond (is_marked b s e) 1 0 + rest_where (marked_after b s e) (effect s e) ≤ rest_where b s
 marked_part s (Begin p k v) b w c l = omega (arith, rises_part s (effect s (Begin p k v)).traffic p b (begin_rises s p k v w c l))
 marked_part s (Call p k v) b w c l = let at = call_calls s p k v w c l in call_part s p k v b at (call_moves s p k v w c l at)
 marked_part s (Miss p) b w c l = miss_part s p b (miss_calls s p w c l)
@@ -63,7 +63,7 @@ pub all_rest : (s : State) → rest_where every s ≡ rest s
 all_rest s = refl
 
 -- a call is made for a port that is serviced
-all_followed : (s : State) (e : Event) → IsWellFormed s → IsConsistent s → Legal s e → is_begin e ≡ false → (q : ℕ) → followed every s e q ≡ true
+all_followed : (s : State) (e : Event) → IsWellFormed s → IsConsistent s → Legal s e → is_begin e ≡ false → (q : ℕ) → marked_after every s e q ≡ true
 all_followed s (Begin p k v) w c l h q = absurd (both_ways true h refl)
 all_followed s (Call p k v) w c l h q =
     let at = call_calls s p k v w c l in
@@ -80,7 +80,7 @@ advance_marked s e c l h = ap (λ o. option_map_or every o false) (advance_port 
 all_part : (s : State) (e : Event) → IsWellFormed s → IsConsistent s → Legal s e → is_begin e ≡ false → cond (is_marked every s e) 1 0 + rest (effect s e) ≤ rest s
 all_part s e w c l h =
     let part = marked_part s e every w c l in
-    let less : rest_where every (effect s e) ≤ rest_where (followed every s e) (effect s e) = part_le (effect s e) every (followed every s e) (λ q busy on. all_followed s e w c l h q) in
+    let less : rest_where every (effect s e) ≤ rest_where (marked_after every s e) (effect s e) = part_le (effect s e) every (marked_after every s e) (λ q busy on. all_followed s e w c l h q) in
     omega (arith, part, less, all_rest s, all_rest (effect s e))
 
 advance_only : (e : Event) → is_advance e ≡ true → is_begin e ≡ false

@@ -12,7 +12,7 @@ use Rattle.quiesce_core.specs.Reach.{reaches, has_no_cycle}
 use Rattle.quiesce_core.specs.Rest.{full, rest}
 use Rattle.quiesce_core.specs.Rules.{denial}
 use Rattle.quiesce_core.specs.Runs.{state_after}
-use Rattle.drain_laws.specs.Belongs.{belongs, open_in, one}
+use Rattle.drain_laws.specs.Belongs.{belongs, open_in, singleton}
 use Rattle.drain_laws.specs.Drain.{rest_of, count_of}
 
 abbrev node : List ℕ → Kind → Option ℕ → Node
@@ -73,11 +73,11 @@ unfolding belongs
 chain_counts = refl
 
 -- the part of the source's transaction is all, and that of the map's call its own
-chain_parts : rest_of (one 1 1) (state_after (chain ++ Begin 1 1 7 ∷ Take 1 1 7 ∷ Call 0 1 8 ∷ [])) ≡ 5
+chain_parts : rest_of (singleton 1 1) (state_after (chain ++ Begin 1 1 7 ∷ Take 1 1 7 ∷ Call 0 1 8 ∷ [])) ≡ 5
 unfolding full belongs
 chain_parts = refl
 
-call_part : rest_of (one 0 1) (state_after (chain ++ Begin 1 1 7 ∷ Take 1 1 7 ∷ Call 0 1 8 ∷ [])) ≡ 3
+call_part : rest_of (singleton 0 1) (state_after (chain ++ Begin 1 1 7 ∷ Take 1 1 7 ∷ Call 0 1 8 ∷ [])) ≡ 3
 unfolding full belongs
 call_part = refl
 

@@ -13,11 +13,11 @@ use Rattle.gate_word.specs.Phases.{is_idle, is_asked, is_answered, is_in_more}
 use Rattle.quiesce_core.specs.Rest.{full, service_rest, asked_rest, port_rest}
 use Rattle.quiesce_core.specs.Rules.{is_taken}
 use Rattle.quiesce_core.proofs.CycleLaws.{map_or_at}
-use Rattle.drain_laws.specs.Drain.{left}
+use Rattle.drain_laws.specs.Drain.{rest_at}
 use Rattle.drain_laws.proofs.Busy.{untaken_if}
 use Rattle.quiesce_core.proofs.StateLaws.{is_taken_if}
 
-pub left_idle : (s : State) (p : ℕ) → is_idle (exchange s p).phase ≡ true → left s p ≡ 0
+pub left_idle : (s : State) (p : ℕ) → is_idle (exchange s p).phase ≡ true → rest_at s p ≡ 0
 left_idle s p h = at (exchange s p).phase h
   where
     at : (f : Phase) → is_idle f ≡ true → port_rest s p f ≡ 0
@@ -26,7 +26,7 @@ left_idle s p h = at (exchange s p).phase h
     at phase.Answered h = absurd (both_ways false refl h)
     at phase.More h = absurd (both_ways false refl h)
 
-pub left_answered : (s : State) (p : ℕ) → is_answered (exchange s p).phase ≡ true → left s p ≡ 1
+pub left_answered : (s : State) (p : ℕ) → is_answered (exchange s p).phase ≡ true → rest_at s p ≡ 1
 left_answered s p h = at (exchange s p).phase h
   where
     at : (f : Phase) → is_answered f ≡ true → port_rest s p f ≡ 1
@@ -36,7 +36,7 @@ left_answered s p h = at (exchange s p).phase h
     at phase.More h = absurd (both_ways false refl h)
 
 -- it is asked or in more, and leads somewhere
-left_busy : (s : State) (p : ℕ) (t : Target) → (is_asked (exchange s p).phase || is_in_more (exchange s p).phase) ≡ true → target s.config p ≡ Some t → left s p ≡ asked_rest s p t
+left_busy : (s : State) (p : ℕ) (t : Target) → (is_asked (exchange s p).phase || is_in_more (exchange s p).phase) ≡ true → target s.config p ≡ Some t → rest_at s p ≡ asked_rest s p t
 left_busy s p t h e = at (exchange s p).phase h ∙ map_or_at (asked_rest s p) (target s.config p) 0 t e
   where
     at : (f : Phase) → (is_asked f || is_in_more f) ≡ true → port_rest s p f ≡ option_map_or (asked_rest s p) (target s.config p) 0
@@ -46,13 +46,13 @@ left_busy s p t h e = at (exchange s p).phase h ∙ map_or_at (asked_rest s p) (
     at phase.More h = refl
 
 pub left_untaken : (s : State) (p : ℕ) (t : Target) → (is_asked (exchange s p).phase || is_in_more (exchange s p).phase) ≡ true → target s.config p ≡ Some t → is_taken s p ≡ false
-    → left s p ≡ full s.config t.node t.provide
+    → rest_at s p ≡ full s.config t.node t.provide
 left_untaken s p t busy e h =
     left_busy s p t busy e
     ∙ ap (λ b. cond b (option_map_or (λ (v : Service). service_rest s.config t.node t.provide v (exchange s p).phase) (service s t.node) 0) (full s.config t.node t.provide)) h
 
 pub left_taken : (s : State) (p : ℕ) (t : Target) (v : Service) → (is_asked (exchange s p).phase || is_in_more (exchange s p).phase) ≡ true → target s.config p ≡ Some t → service s t.node ≡ Some v → v.port ≡ p
-    → left s p ≡ service_rest s.config t.node t.provide v (exchange s p).phase
+    → rest_at s p ≡ service_rest s.config t.node t.provide v (exchange s p).phase
 left_taken s p t v busy e f same =
     left_busy s p t busy e
     ∙ ap (λ b. cond b (option_map_or (λ (v : Service). service_rest s.config t.node t.provide v (exchange s p).phase) (service s t.node) 0) (full s.config t.node t.provide)) (is_taken_if s p t v e f same)
@@ -76,7 +76,7 @@ asked_free s q u h =
 pub left_same : (s : State) (t' : Traffic) (q : ℕ) → exchange (record s { traffic = t' }) q ≡ exchange s q
     → ((u : Target) → target s.config q ≡ Some u
     → (service (record s { traffic = t' }) u.node ≡ service s u.node) ⊎ ((is_taken (record s { traffic = t' }) q ≡ false) × (is_taken s q ≡ false)))
-    → left (record s { traffic = t' }) q ≡ left s q
+    → rest_at (record s { traffic = t' }) q ≡ rest_at s q
 left_same s t' q ex cases = ap (λ (x : Exchange). port_rest (record s { traffic = t' }) q x.phase) ex ∙ at (exchange s q).phase
   where
     asked : (u : Target) → target s.config q ≡ Some u → asked_rest (record s { traffic = t' }) q u ≡ asked_rest s q u
@@ -105,7 +105,7 @@ pub left_elsewhere : (s : State) (t' : Traffic) (n q : ℕ) → exchange (record
     → ((m : ℕ) → (m ≡ n → ⊥) → service (record s { traffic = t' }) m ≡ service s m)
     → ((v : Service) → service s n ≡ Some v → v.port ≡ q → ⊥)
     → ((v : Service) → service (record s { traffic = t' }) n ≡ Some v → v.port ≡ q → ⊥)
-    → left (record s { traffic = t' }) q ≡ left s q
+    → rest_at (record s { traffic = t' }) q ≡ rest_at s q
 left_elsewhere s t' n q ex there before after = left_same s t' q ex (λ u e. ⊎_elim
     (λ (same : u.node ≡ n). inr (
       untaken_if (record s { traffic = t' }) q u e (λ v f. after v (sym (ap (λ i. service (record s { traffic = t' }) i) same) ∙ f)),

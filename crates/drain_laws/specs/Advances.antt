@@ -33,13 +33,13 @@ is_begin _ = false
 
 -- The port whose transaction such an event belongs to. A Call or a Miss belongs to the transaction that the caller services: it is
 -- one of the calls that are still to be made there.
-abbrev pub advanced : State → Event → Option ℕ
-advanced s (Take p k v) = Some p
-advanced s (Call p k v) = option_map (λ (w : Service). w.port) (service s (owner s.config p))
-advanced s (Miss p) = option_map (λ (w : Service). w.port) (service s (owner s.config p))
-advanced s (Give p k v) = Some p
-advanced s (End p k v) = Some p
-advanced s (More p k v) = Some p
-advanced s (Ask p k v) = Some p
-advanced s (Hear p k v) = Some p
-advanced s _ = None
+abbrev pub advanced_port : State → Event → Option ℕ
+advanced_port s (Take p k v) = Some p
+advanced_port s (Call p k v) = option_map (λ (w : Service). w.port) (service s (owner s.config p))
+advanced_port s (Miss p) = option_map (λ (w : Service). w.port) (service s (owner s.config p))
+advanced_port s (Give p k v) = Some p
+advanced_port s (End p k v) = Some p
+advanced_port s (More p k v) = Some p
+advanced_port s (Ask p k v) = Some p
+advanced_port s (Hear p k v) = Some p
+advanced_port s _ = None

@@ -70,7 +70,7 @@ reached_before c d s e h n _ (through {p = q} {q = p} {m} {x} r of_q to) =
 has_it : (d : Configuration) (n : ℕ) (m : Slot) → slot d n ≡ Some m → HasNode d n m
 has_it d n m e = record { now = m; there = e; same_node = refl; same_port = refl }
 
-extends_same : (c : Configuration) → Extends c c
+pub extends_same : (c : Configuration) → Extends c c
 extends_same c = record { nodes = λ n m e. has_it c n m e; owners = λ q h. refl; requirements = λ q h. refl; many = omega arith }
 
 extends_put : (c : Configuration) (p : ℕ) (g : Gate) → p < length c.gates → g.owner ≡ owner c p → g.require ≡ (gate c p).require → Extends c (with_gate c p g)

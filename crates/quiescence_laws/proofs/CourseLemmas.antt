@@ -23,7 +23,7 @@ use Rattle.quiesce_core.specs.Traffic.{IsConsistent}
 use Rattle.quiesce_core.specs.WellFormed.{IsWellFormed}
 use Rattle.quiesce_core.proofs.TableLaws.{exchange_place, target_place}
 use Rattle.quiescence_laws.specs.Events.{is_end_at}
-use Rattle.quiescence_laws.specs.Courses.{Course, begun, taken, replied_to, asked, heard, given, finished, course_next, course_after, heard_at, course_in, course_of, course_at}
+use Rattle.quiescence_laws.specs.Courses.{Course, on_begin, on_take, on_more, on_ask, on_hear, on_give, on_end, course_next, course_after, heard_at, course_in, course_of, course_at}
 use Rattle.quiescence_laws.specs.Courses as course
 use Rattle.quiescence_laws.proofs.ConfigurationLaws.{target_next}
 use Rattle.quiescence_laws.proofs.InductionLaws.{always}
@@ -73,13 +73,13 @@ leads_on f n k b c d one e is_b = ⊎_elim
     (cases_eq n k)
 
 -- a new one is begun
-begins_new : (n j k : ℕ) (b : Bool) → j ≡ n + 1 → b ≡ (j == k) → cond b (begun (course_of n course.ended k)) (Some (course_of n course.ended k)) ≡ Some (course_of j course.waiting k)
+begins_new : (n j k : ℕ) (b : Bool) → j ≡ n + 1 → b ≡ (j == k) → cond b (on_begin (course_of n course.ended k)) (Some (course_of n course.ended k)) ≡ Some (course_of j course.waiting k)
 begins_new n j k b next is_b = ⊎_elim
     (λ (same : j ≡ k).
-    ap (λ x. cond x (begun (course_of n course.ended k)) (Some (course_of n course.ended k))) (is_b ∙ eq-eqb j k same)
-    ∙ ap begun (course_behind n course.ended k (omega arith)) ∙ ap Some (sym (course_here j course.waiting k (omega arith) same)))
+    ap (λ x. cond x (on_begin (course_of n course.ended k)) (Some (course_of n course.ended k))) (is_b ∙ eq-eqb j k same)
+    ∙ ap on_begin (course_behind n course.ended k (omega arith)) ∙ ap Some (sym (course_here j course.waiting k (omega arith) same)))
     (λ (other : j ≡ k → ⊥).
-    ap (λ x. cond x (begun (course_of n course.ended k)) (Some (course_of n course.ended k))) (is_b ∙ ne_eqb j k other) ∙ ap Some (unmoved other))
+    ap (λ x. cond x (on_begin (course_of n course.ended k)) (Some (course_of n course.ended k))) (is_b ∙ ne_eqb j k other) ∙ ap Some (unmoved other))
     (cases_eq j k)
   where
     unmoved : (j ≡ k → ⊥) → course_of n course.ended k ≡ course_of j course.waiting k
@@ -146,11 +146,11 @@ module _ (s : State) (w : IsWellFormed s) (t : IsConsistent s) (positive : (p : 
 
   new_course : (s' : State) (q j v k : ℕ) (within : Option ℕ) → is_idle (exchange s q).phase ≡ true → j ≡ (exchange s q).serial + 1
       → exchange s' q ≡ record { phase = phase.Asked; serial = j; value = v; within = within } → heard_at s' q ≡ heard_at s q
-      → cond (q == q && j == k) (begun (course_at s q k)) (Some (course_at s q k)) ≡ Some (course_at s' q k)
+      → cond (q == q && j == k) (on_begin (course_at s q k)) (Some (course_at s q k)) ≡ Some (course_at s' q k)
   new_course s' q j v k within idle next x h =
       let n = (exchange s q).serial in
       let was : course_in (exchange s q).phase (heard_at s q) ≡ course.ended = ap (λ f. course_in f (heard_at s q)) (idle_is (exchange s q).phase idle) in
-      ap (λ c. cond (q == q && j == k) (begun (course_of n c k)) (Some (course_of n c k))) was
+      ap (λ c. cond (q == q && j == k) (on_begin (course_of n c k)) (Some (course_of n c k))) was
       ∙ begins_new n j k (q == q && j == k) next (its_own q j k j refl)
       ∙ ap (λ g. Some (course_of j (course_in phase.Asked g) k)) (sym (h ∙ idle_unheard s q t idle))
       ∙ ap (λ (y : Exchange). Some (course_of y.serial (course_in y.phase (heard_at s' q)) k)) (sym x)
@@ -159,14 +159,14 @@ module _ (s : State) (w : IsWellFormed s) (t : IsConsistent s) (positive : (p : 
   begin_steps q j v p k l =
       let s' = effect s (Begin q j v) in
       either (Begin q j v) q p k
-      (λ other. of_another begun q p j k (course_at s p k) (course_at s' p k) other (course_same s s' p k (unexchanged q p _ other) (λ busy. refl)))
+      (λ other. of_another on_begin q p j k (course_at s p k) (course_at s' p k) other (course_same s s' p k (unexchanged q p _ other) (λ busy. refl)))
       (new_course s' q j v k None l.idle (next_serial s q j l.next_serial) (exchanged q _ (exchange_place s q w l.live)) refl)
 
   call_steps : (q j v p k : ℕ) → Legal s (Call q j v) → StepsTo s (Call q j v) p k
   call_steps q j v p k l =
       let s' = effect s (Call q j v) in
       either (Call q j v) q p k
-      (λ other. of_another begun q p j k (course_at s p k) (course_at s' p k) other (course_same s s' p k (unexchanged q p _ other) (λ busy. call_given s (owner s.config q) p)))
+      (λ other. of_another on_begin q p j k (course_at s p k) (course_at s' p k) other (course_same s s' p k (unexchanged q p _ other) (λ busy. call_given s (owner s.config q) p)))
       (new_course s' q j v k (option_map (λ (u : Service). u.port) (service s (owner s.config q))) l.idle (next_serial s q j l.next_serial) (exchanged q _ (exchange_place s q w l.live))
       (call_given s (owner s.config q) q))
 
@@ -178,10 +178,10 @@ module _ (s : State) (w : IsWellFormed s) (t : IsConsistent s) (positive : (p : 
       let is_asked_ = asked_is (exchange s q).phase l.asked in
       let new_ : Service = record { port = q; calls = 0; mores = 0; heard = true } in
       either (Take q j v) q p k
-      (λ other. of_another taken q p j k (course_at s p k) (course_at s' p k) other (course_same s s' p k refl (λ busy. target_given s q p (Some new_) (λ u e.
+      (λ other. of_another on_take q p j k (course_at s p k) (course_at s' p k) other (course_same s s' p k refl (λ busy. target_given s q p (Some new_) (λ u e.
       heard_apart p new_ (λ same. other (sym same))
       ∙ sym (ap (λ o. hears p o) (sym (ap (λ o. option_and_then (λ (x : Target). service s x.node) o) e) ∙ None-from_is_none (target_service s q) l.free))))))
-      (of_its_own taken s s' q j k course.waiting course.serving (positive q busy) (eqb-true j (exchange s q).serial (and_parts (j == (exchange s q).serial) (v == (exchange s q).value) l.message).0) refl
+      (of_its_own on_take s s' q j k course.waiting course.serving (positive q busy) (eqb-true j (exchange s q).serial (and_parts (j == (exchange s q).serial) (v == (exchange s q).value) l.message).0) refl
       (ap (λ f. course_in f (heard_at s q)) is_asked_ ∙ ap (λ g. course_in phase.Asked g) (untaken s q (not-true (is_taken s q) l.untaken)))
       (ap (λ f. course_in f (heard_at s' q)) is_asked_ ∙ ap (λ g. course_in phase.Asked g) (given_here s q to.0 new_ to.1 (target_place s q to.0 w to.1) refl))
       refl)
@@ -199,9 +199,9 @@ module _ (s : State) (w : IsWellFormed s) (t : IsConsistent s) (positive : (p : 
       let u = taken_is s q l.taken in
       let here = exchanged q (record (exchange s q) { phase = phase.Answered; value = v }) (exchange_place s q w l.live) in
       either (Give q j v) q p k
-      (λ other. of_another given q p j k (course_at s p k) (course_at s' p k) other (course_same s s' p k (unexchanged q p _ other) (λ busy.
+      (λ other. of_another on_give q p j k (course_at s p k) (course_at s' p k) other (course_same s s' p k (unexchanged q p _ other) (λ busy.
       target_given s q p None (λ x e. sym (others_unheard s q p u (λ same. other (sym same)) x e)))))
-      (of_its_own given s s' q j k course.serving course.answered (positive q (taken_busy s q t l.taken)) (eqb-true j (exchange s q).serial l.serial) (ap (λ (y : Exchange). y.serial) here)
+      (of_its_own on_give s s' q j k course.serving course.answered (positive q (taken_busy s q t l.taken)) (eqb-true j (exchange s q).serial l.serial) (ap (λ (y : Exchange). y.serial) here)
       (heard_course q l.taken l.heard) (ap (λ (y : Exchange). course_in y.phase (heard_at s' q)) here) refl)
 
   more_steps : (q j v p k : ℕ) → Legal s (More q j v) → StepsTo s (More q j v) p k
@@ -211,9 +211,9 @@ module _ (s : State) (w : IsWellFormed s) (t : IsConsistent s) (positive : (p : 
       let f : Service → Service = λ x. record x { mores = x.mores + 1; heard = false } in
       let here = exchanged q (record (exchange s q) { phase = phase.More; value = v }) (exchange_place s q w l.live) in
       either (More q j v) q p k
-      (λ other. of_another replied_to q p j k (course_at s p k) (course_at s' p k) other (course_same s s' p k (unexchanged q p _ other) (λ busy.
+      (λ other. of_another on_more q p j k (course_at s p k) (course_at s' p k) other (course_same s s' p k (unexchanged q p _ other) (λ busy.
       target_given s q p (option_map f (target_service s q)) (λ x e. others_unheard_after s q p u f (λ y. refl) (λ same. other (sym same)) ∙ sym (others_unheard s q p u (λ same. other (sym same)) x e)))))
-      (of_its_own replied_to s s' q j k course.serving course.replied (positive q (taken_busy s q t l.taken)) (eqb-true j (exchange s q).serial l.serial) (ap (λ (y : Exchange). y.serial) here)
+      (of_its_own on_more s s' q j k course.serving course.replied (positive q (taken_busy s q t l.taken)) (eqb-true j (exchange s q).serial l.serial) (ap (λ (y : Exchange). y.serial) here)
       (heard_course q l.taken l.heard) (ap (λ (y : Exchange). course_in y.phase (heard_at s' q)) here) refl)
 
   ask_steps : (q j v p k : ℕ) → Legal s (Ask q j v) → StepsTo s (Ask q j v) p k
@@ -222,8 +222,8 @@ module _ (s : State) (w : IsWellFormed s) (t : IsConsistent s) (positive : (p : 
       let u = taken_is s q (t.taken q l.in_more) in
       let here = exchanged q (record (exchange s q) { phase = phase.Asked; value = v }) (exchange_place s q w l.live) in
       either (Ask q j v) q p k
-      (λ other. of_another asked q p j k (course_at s p k) (course_at s' p k) other (course_same s s' p k (unexchanged q p _ other) (λ busy. refl)))
-      (of_its_own asked s s' q j k course.replied course.prompted (positive q (more_busy (exchange s q).phase l.in_more)) (eqb-true j (exchange s q).serial l.serial) (ap (λ (y : Exchange). y.serial) here)
+      (λ other. of_another on_ask q p j k (course_at s p k) (course_at s' p k) other (course_same s s' p k (unexchanged q p _ other) (λ busy. refl)))
+      (of_its_own on_ask s s' q j k course.replied course.prompted (positive q (more_busy (exchange s q).phase l.in_more)) (eqb-true j (exchange s q).serial l.serial) (ap (λ (y : Exchange). y.serial) here)
       (ap (λ f. course_in f (heard_at s q)) (more_is (exchange s q).phase l.in_more))
       (ap (λ (y : Exchange). course_in y.phase (heard_at s' q)) here ∙ ap (λ g. course_in phase.Asked g) (taken_hears s q u ∙ ap (λ b. Some b) (more_unheard s q u t l.in_more)))
       refl)
@@ -236,9 +236,9 @@ module _ (s : State) (w : IsWellFormed s) (t : IsConsistent s) (positive : (p : 
       let is_asked_ = asked_is (exchange s q).phase l.asked in
       let no_ : u.serving.heard ≡ false = sym (taken_heard s q u) ∙ not-true (option_map_or (λ (x : Service). x.heard) (target_service s q) false) l.unheard in
       either (Hear q j v) q p k
-      (λ other. of_another heard q p j k (course_at s p k) (course_at s' p k) other (course_same s s' p k refl (λ busy.
+      (λ other. of_another on_hear q p j k (course_at s p k) (course_at s' p k) other (course_same s s' p k refl (λ busy.
       target_given s q p (option_map f (target_service s q)) (λ x e. others_unheard_after s q p u f (λ y. refl) (λ same. other (sym same)) ∙ sym (others_unheard s q p u (λ same. other (sym same)) x e)))))
-      (of_its_own heard s s' q j k course.prompted course.serving (positive q (asked_busy (exchange s q).phase l.asked))
+      (of_its_own on_hear s s' q j k course.prompted course.serving (positive q (asked_busy (exchange s q).phase l.asked))
       (eqb-true j (exchange s q).serial (and_parts (j == (exchange s q).serial) (v == (exchange s q).value) l.message).0) refl
       (ap (λ f. course_in f (heard_at s q)) is_asked_ ∙ ap (λ g. course_in phase.Asked g) (taken_hears s q u ∙ ap (λ b. Some b) no_))
       (ap (λ f. course_in f (heard_at s' q)) is_asked_
@@ -251,8 +251,8 @@ module _ (s : State) (w : IsWellFormed s) (t : IsConsistent s) (positive : (p : 
       let s' = effect s (End q j v) in
       let here = exchanged q (record (exchange s q) { phase = phase.Idle; value = 0; within = None }) (exchange_place s q w l.live) in
       either (End q j v) q p k
-      (λ other. of_another finished q p j k (course_at s p k) (course_at s' p k) other (course_same s s' p k (unexchanged q p _ other) (λ busy. refl)))
-      (of_its_own finished s s' q j k course.answered course.ended (positive q (answered_busy (exchange s q).phase l.answered))
+      (λ other. of_another on_end q p j k (course_at s p k) (course_at s' p k) other (course_same s s' p k (unexchanged q p _ other) (λ busy. refl)))
+      (of_its_own on_end s s' q j k course.answered course.ended (positive q (answered_busy (exchange s q).phase l.answered))
       (eqb-true j (exchange s q).serial (and_parts (j == (exchange s q).serial) (v == (exchange s q).value) l.message).0) (ap (λ (y : Exchange). y.serial) here)
       (ap (λ f. course_in f (heard_at s q)) (answered_is (exchange s q).phase l.answered)) (ap (λ (y : Exchange). course_in y.phase (heard_at s' q)) here) refl)
 

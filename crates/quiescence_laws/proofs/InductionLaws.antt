@@ -63,11 +63,11 @@ pub along : (P : List Event → Type 0) (bars : Event → Bool) → ((before : L
 along P bars next before es h free p =
     further before (λ xs. P (before ++ xs)) bars (λ xs e here free p. subst P (append_assoc before xs (e ∷ [])) (next (before ++ xs) e here free p)) es h free (subst P (sym (append-nil before)) p)
 
-unbarred : Event → Bool
+-- nothing is barred
+abbrev pub unbarred : Event → Bool
 unbarred e = false
 
-none_barred : (es : List Event) → list_any unbarred es ≡ false
-unfolding unbarred
+pub none_barred : (es : List Event) → list_any unbarred es ≡ false
 none_barred [] = refl
 none_barred (e ∷ es) = none_barred es
 

@@ -1,5 +1,7 @@
+pub mod SumLaws
 pub mod InductionLaws
 pub mod ConfigurationLaws
+pub mod ConfigurationRuns
 pub mod ExchangeLaws
 pub mod StartLemmas
 pub mod WalkLemmas
@@ -17,3 +19,4 @@ pub mod RootsSeen
 pub mod OneRoot
 pub mod Strength
 pub mod DrainingLaws
+pub mod TotalLaws

@@ -5,3 +5,4 @@ pub mod Courses
 pub mod Weaker
 pub mod Drained
 pub mod Starts
+pub mod Continuing

@@ -7,6 +7,7 @@ ghost use Rattle.quiesce_core.specs.declared.event.Event.TheVariants.{Link, Unli
 ghost use Rattle.quiesce_core.specs.Runs.{IsRun, state_after};
 ghost use Rattle.quiesce_core.specs.State.{owner};
 ghost use Rattle.quiesce_core.specs.Settled.{Settled, Quiescent, Continues};
+ghost use Rattle.quiescence_laws.specs.Continuing.{at_rest, may_come};
 ghost use Rattle.quiescence_laws.specs.Events.{is_reopen_or_link, removes};
 ghost use Rattle.quiescence_laws.specs.Weaker.{but_own_busy, but_own_open, but_reaching_busy, but_indirect_open, Initiates, Begins, Serves, IsTarget, IsTooWeak};
 
@@ -32,9 +33,10 @@ pub fn changes_find_nodes_quiescent()
     ensures removed { (before after : List Event) (n : ℕ) → IsRun (before ++ Remove n ∷ after) → Quiescent before n }
 {}
 
-/// Less than being settled isn't enough: for each of the four conditions there are a run and a node that breaks it, where own ports
-/// are busy or open, where ports that reach the node are busy, so that it services one, or where ports that reach it over another
-/// node are open. The last is why the passive set is enlarged by the owners of such ports.
+/// For each of the four conditions there are a run and a node that breaks it though it passes a test that is weaker than being
+/// settled: where its own ports may be busy; where they may be open; where ports that reach it may be busy, so that it services one;
+/// where ports that reach it over another node may be open. The last is why the passive set is enlarged by the owners of such ports.
+/// And there is a settled node after whose run events come of each kind that may come.
 pub fn less_than_settled_is_too_weak()
     ensures none_quiescent { (es : List Event) (n : ℕ) → Quiescent es n → (Initiates es n → ⊥) × (Begins es n → ⊥) × (Serves es n → ⊥) × (IsTarget es n → ⊥) }
 
@@ -42,4 +44,6 @@ pub fn less_than_settled_is_too_weak()
     ensures own_ports_closed { IsTooWeak but_own_open Begins }
     ensures reaching_ports_idle { IsTooWeak but_reaching_busy Serves }
     ensures indirect_ports_closed { IsTooWeak but_indirect_open IsTarget }
+
+    ensures goes_on { Settled (state_after at_rest) 5 × Continues at_rest may_come }
 {}
