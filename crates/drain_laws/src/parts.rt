@@ -1,8 +1,12 @@
 //! The part of what is left that belongs to some transactions and their consequents, by the steps.
 
-ghost use Rattle.std.specs.Prelude.{◌≡◌, ◌↔◌, ℕ, ◌<◌, ◌≤◌, true, false, IsTrue};
+ghost use Rattle.std.specs.Prelude.{◌≡◌, ◌↔◌, ℕ, ◌<◌, ◌≤◌, ◌||◌, true, false, Some, None, IsTrue};
 ghost use Rattle.quiesce_core.specs.declared.event.Event.{Event};
-ghost use Rattle.quiesce_core.specs.State.{State};
+ghost use Rattle.quiesce_core.specs.State.{State, exchange};
+ghost use Rattle.quiesce_core.specs.Phases.{is_idle};
+ghost use Rattle.quiesce_core.specs.Rules.{denial};
+ghost use Rattle.quiescence_laws.specs.Events.{is_of_initiator, is_of_target};
+ghost use Rattle.drain_laws.specs.Advances.{advanced_port, is_advance};
 ghost use Rattle.quiesce_core.specs.Rest.{rest};
 ghost use Rattle.quiesce_core.specs.Runs.{Step};
 ghost use Rattle.quiesce_core.specs.Traffic.{IsConsistent};
@@ -35,4 +39,13 @@ pub fn part_falls_by_steps()
         → is_event_of set s e ≡ true → rest_of set t < rest_of set s }
     ensures stays { (set : Transactions) (s t : State) (e : Event) → IsWellFormed s → IsConsistent s → Step s e t → starts_one set e ≡ false
         → rest_of set t ≤ rest_of set s }
+{}
+
+/// An event that is allowed in a state that is consistent is one of a transaction exactly where it is one of what is open there, and
+/// then the port whose transaction it advances isn't idle. Where it names a transaction, it is one of that.
+pub fn advances_are_of_what_is_open()
+    ensures port { (s : State) (e : Event) → IsConsistent s → denial s e ≡ None → is_advance e ≡ true
+        → (q : ℕ) × (advanced_port s e ≡ Some q) × (is_idle (exchange s q).phase ≡ false) }
+    ensures exactly { (s : State) (e : Event) → IsConsistent s → denial s e ≡ None → is_event_of (open_in s) s e ≡ is_advance e }
+    ensures named { (s : State) (e : Event) (p k : ℕ) → denial s e ≡ None → (is_of_initiator p k e || is_of_target p k e) ≡ true → is_event_of (singleton p k) s e ≡ true }
 {}
