@@ -10,7 +10,7 @@ use Rattle.quiesce_core.specs.Traffic.{IsConsistent}
 use Rattle.quiesce_core.specs.WellFormed.{IsWellFormed}
 use Rattle.quiesce_core.proofs.CycleLaws.{map_or_true, map_or_at, walk_to, no_walk}
 use Rattle.drain_laws.specs.Belongs.{Transactions, Belongs, member, consequent, belongs, belongs_within, is_member, open_in}
-use Rattle.quiescence_laws.proofs.ConfigurationLaws.{busy_made}
+use Rattle.quiesce_core.proofs.StateLaws.{busy_made}
 
 found : (set : Transactions) (s : State) (k p : ℕ) → belongs_within set s k p ≡ true → Belongs set s p
 found set s zero p h = member p h

@@ -29,7 +29,7 @@ use Rattle.drain_laws.specs.Drain.{rest_at, rest_of, count_of}
 use Rattle.drain_laws.proofs.Belonging.{belongs_if, member_belongs, open_parts}
 use Rattle.drain_laws.proofs.Carrying.{HasCome, none_starts}
 use Rattle.quiescence_laws.proofs.ExchangeLaws.{serials_grow}
-use Rattle.quiescence_laws.proofs.InductionLaws.{place}
+use Rattle.quiesce_core.proofs.InductionLaws.{place}
 use Rattle.drain_laws.proofs.Falls.{begin_rises, call_calls, call_moves}
 use Rattle.drain_laws.proofs.Sharing.{part_le, part_of_port}
 use Rattle.quiesce_core.proofs.StateLaws.{exchange_here}

@@ -14,7 +14,7 @@ use Rattle.quiesce_core.specs.Rules.{is_live_port, is_taken}
 use Rattle.quiesce_core.specs.WellFormed.{IsWellFormed}
 use Rattle.quiesce_core.specs.Traffic.{IsConsistent}
 use Rattle.quiesce_core.proofs.StateLaws.{taken_is}
-use Rattle.quiescence_laws.proofs.ConfigurationLaws.{busy_made}
+use Rattle.quiesce_core.proofs.StateLaws.{busy_made}
 use Rattle.base.proofs.OptionLaws.{Some-from_is_some}
 
 pub busy_phases : (f : Phase) → is_idle f ≡ false → (is_asked f ≡ true) ⊎ ((is_answered f ≡ true) ⊎ (is_in_more f ≡ true))
@@ -28,7 +28,7 @@ pub busy_target : (s : State) (p : ℕ) → IsConsistent s → is_idle (exchange
 busy_target s p k busy = Some-from_is_some (target s.config p) (k.linked p busy)
 
 -- its owner is live
-pub busy_live : (s : State) (p : ℕ) → IsConsistent s → is_idle (exchange s p).phase ≡ false → is_live_port s p ≡ true
+pub busy_live : (s : State) (p : ℕ) → IsConsistent s → is_idle (exchange s p).phase ≡ false → is_live_port s.config p ≡ true
 busy_live s p k busy =
     and_from (nat_lt p (length s.config.gates)) (is_live s.config (owner s.config p)) (lt-ltb p (length s.config.gates) (busy_made s p k busy))
     (true_from_ne_false (is_live s.config (owner s.config p)) (λ gone.

@@ -19,7 +19,7 @@ use Rattle.drain_laws.proofs.Steps.{every, all_rest}
 use Rattle.quiescence_laws.proofs.SumLaws.{sum_place, sum_le, sum_zero}
 use Rattle.drain_laws.proofs.Weights.{left_idle, left_answered, left_untaken, left_taken}
 use Rattle.quiesce_core.proofs.StateLaws.{taken_is}
-use Rattle.quiescence_laws.proofs.ConfigurationLaws.{busy_made}
+use Rattle.quiesce_core.proofs.StateLaws.{busy_made}
 
 asked_left : (s : State) (p : ℕ) → IsWellFormed s → IsConsistent s → is_idle (exchange s p).phase ≡ false → (is_asked (exchange s p).phase || is_in_more (exchange s p).phase) ≡ true → 1 ≤ rest_at s p
 asked_left s p w c busy either_ =

@@ -23,7 +23,7 @@ use Rattle.quiesce_core.proofs.TableLaws.{gate_place, exchange_place, owner_plac
 use Rattle.quiesce_core.proofs.RestLaws.{full_step}
 use Rattle.drain_laws.specs.Drain.{rest_at}
 use Rattle.drain_laws.proofs.Busy.{busy_target, untaken_if}
-use Rattle.quiescence_laws.proofs.ConfigurationLaws.{busy_made}
+use Rattle.quiesce_core.proofs.StateLaws.{busy_made}
 use Rattle.drain_laws.proofs.Greatest.{call_counted}
 use Rattle.drain_laws.proofs.Weights.{left_idle, left_answered, left_untaken, left_taken, left_same, left_elsewhere}
 use Rattle.quiesce_core.proofs.StateLaws.{asked_busy, serving_busy, asked_not_more, exchange_here, exchange_there, service_here, service_there, taken_is, idle_unserved, served_busy, provision_is, put_is, target_service_is}

@@ -17,7 +17,7 @@ use Rattle.quiesce_core.proofs.CycleLaws.{map_or_at, walk_to, no_walk}
 use Rattle.quiesce_core.proofs.TableLaws.{live_made}
 use Rattle.quiesce_core.proofs.RestLaws.{full_step}
 use Rattle.quiescence_laws.specs.Configurations.{Extends}
-use Rattle.quiescence_laws.proofs.ConfigurationLaws.{depends_before, read_before}
+use Rattle.quiescence_laws.proofs.ExtensionLaws.{depends_before, read_before}
 
 -- d has the nodes and ports of c and, at a port through which a good provision goes, no link that c hasn't; and what is good leads to
 -- what is good

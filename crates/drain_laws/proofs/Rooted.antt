@@ -27,7 +27,7 @@ use Rattle.drain_laws.specs.Belongs.{Transactions, Belongs, belongs, singleton, 
 use Rattle.drain_laws.proofs.Belonging.{belongs_is_found, open_parts}
 use Rattle.drain_laws.proofs.Carrying.{caller_busy}
 use Rattle.quiescence_laws.proofs.ExchangeLaws.{PortStep, stays, begins, calls, ends, turns_at, port_step, served_untouched, next_serial}
-use Rattle.quiesce_core.proofs.RunPartLaws.{StepAt, run_parts}
+use Rattle.quiesce_core.proofs.RunLaws.{StepAt, run_parts}
 use Rattle.quiesce_core.proofs.StateLaws.{more_busy, serving_busy, exchange_here, exchange_there, idle_unserved, taken_busy}
 use Rattle.base.proofs.PlaceLaws.{fresh_behind}
 

@@ -23,7 +23,8 @@ use Rattle.quiesce_core.proofs.SoundnessLaws.{put_elsewhere, well_formed_next}
 use Rattle.quiesce_core.proofs.TableLaws.{gate_place}
 use Rattle.base.proofs.PlaceLaws.{fresh_behind}
 use Rattle.quiescence_laws.specs.Events.{is_link}
-use Rattle.quiescence_laws.proofs.ConfigurationLaws.{extends_next, no_new_link, target_next}
+use Rattle.quiesce_core.proofs.StabilityLaws.{busy_ports_stay}
+use Rattle.quiescence_laws.proofs.ExtensionLaws.{extends_next, no_new_link}
 use Rattle.drain_laws.proofs.Changes.{Spares}
 use Rattle.drain_laws.proofs.Fewer.{GoodLinks}
 
@@ -54,7 +55,7 @@ spares_if s e w c l change Good fewer busy =
       no_cycle = (well_formed_next s e w l).sound.no_cycle;
       exchanges = kept.exchanges;
       services = kept.services;
-      leads = λ q open_. target_next s e w c l q open_;
+      leads = λ q open_. busy_ports_stay s e w c l q open_;
     }
 
 -- each provision of each node
@@ -64,7 +65,7 @@ All m x = Unit {0}
 pub spares : (s : State) (e : Event) → IsWellFormed s → IsConsistent s → Legal s e → is_of_change e ≡ true → is_link e ≡ false → Spares s (effect s e) All
 spares s e w c l change unlinking =
     spares_if s e w c l change All
-    (record { extends_ = extends_next s e w l; targets = λ m x p t good o dep to. (no_new_link s e w l unlinking).old p t to; closed = λ m x p t good o dep to. tt }) (λ q t open_ to. tt)
+    (record { extends_ = extends_next s e l; targets = λ m x p t good o dep to. (no_new_link s e l unlinking).old p t to; closed = λ m x p t good o dep to. tt }) (λ q t open_ to. tt)
 
 -- the provisions from which node n isn't reached
 abbrev pub Apart : Configuration → ℕ → ℕ → ℕ → Type 0
@@ -83,7 +84,7 @@ link_spares s p n x w c l =
     let made = gate_place s p l.live in
     let rests = settled_if s w.sound (owner s.config p) l.settled in
     spares_if s (Link p n x) w c l refl (Apart s.config (owner s.config p)) (record {
-      extends_ = extends_next s (Link p n x) w l;
+      extends_ = extends_next s (Link p n x) l;
       targets = λ m y q t good o dep to. ⊎_elim
           (λ (here : q ≡ p). absurd (good.0 (sym (owner_of s.config w.sound m q o) ∙ ap (λ i. owner s.config i) here)))
           (λ (other : q ≡ p → ⊥).

@@ -22,11 +22,11 @@ use Rattle.quiesce_core.specs.Runs.{IsRun, state_after}
 use Rattle.quiesce_core.specs.Traffic.{IsConsistent}
 use Rattle.quiesce_core.specs.WellFormed.{IsWellFormed}
 use Rattle.quiesce_core.proofs.TableLaws.{exchange_place, target_place}
-use Rattle.quiescence_laws.specs.Events.{is_end_at}
+use Rattle.quiesce_core.specs.Doers.{is_end_at}
 use Rattle.quiescence_laws.specs.Courses.{Course, on_begin, on_take, on_more, on_ask, on_hear, on_give, on_end, course_next, course_after, heard_at, course_in, course_of, course_at}
 use Rattle.quiescence_laws.specs.Courses as course
-use Rattle.quiescence_laws.proofs.ConfigurationLaws.{target_next}
-use Rattle.quiescence_laws.proofs.InductionLaws.{always}
+use Rattle.quiesce_core.proofs.StabilityLaws.{busy_ports_stay}
+use Rattle.quiesce_core.proofs.InductionLaws.{always}
 use Rattle.quiescence_laws.proofs.ExchangeLaws.{next_serial}
 use Rattle.quiescence_laws.proofs.SerialLaws.{IsTallied, tallied_next, tallied_empty, busy_serial}
 use Rattle.quiescence_laws.proofs.Hearing.{hears, idle_is, asked_is, answered_is, more_is, target_given, call_given, given_here, untaken, idle_unheard, taken_hears, taken_service, taken_heard, others_unheard, others_unheard_after, heard_asked, more_unheard, heard_apart}
@@ -259,7 +259,7 @@ module _ (s : State) (w : IsWellFormed s) (t : IsConsistent s) (positive : (p : 
   -- an event that only the configuration tells
   config_steps : (e : Event) (p k : ℕ) → Legal s e → exchange (effect s e) p ≡ exchange s p → ((m : ℕ) → service (effect s e) m ≡ service s m) → course_at (effect s e) p k ≡ course_at s p k
   config_steps e p k l x services = course_same s (effect s e) p k x (λ busy.
-      ap (λ o. option_and_then (λ (u : Target). hears p (service (effect s e) u.node)) o) (target_next s e w t l p busy) ∙ over (target s.config p))
+      ap (λ o. option_and_then (λ (u : Target). hears p (service (effect s e) u.node)) o) (busy_ports_stay s e w t l p busy) ∙ over (target s.config p))
     where
       over : (o : Option Target) → option_and_then (λ (u : Target). hears p (service (effect s e) u.node)) o ≡ option_and_then (λ (u : Target). hears p (service s u.node)) o
       over None = refl

@@ -24,7 +24,7 @@ use Rattle.quiesce_core.proofs.RunLaws.{runs_are_well_formed, runs_are_consisten
 use Rattle.quiescence_laws.specs.Drained.{is_drained}
 use Rattle.quiescence_laws.specs.Events.{reopens}
 use Rattle.quiescence_laws.specs.Roots.{has_root}
-use Rattle.quiescence_laws.proofs.ConfigurationLaws.{busy_made}
+use Rattle.quiesce_core.proofs.StateLaws.{busy_made}
 use Rattle.quiescence_laws.proofs.RootLaws.{old_further, has_no_root}
 use Rattle.quiescence_laws.proofs.Stillness.{Concerns}
 use Rattle.quiesce_core.proofs.StateLaws.{serving_busy}

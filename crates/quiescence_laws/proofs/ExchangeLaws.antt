@@ -1,8 +1,9 @@
 -- What an event does at a port: it begins, calls or ends a transaction there, or leaves the serial and the caller of the last one
 -- as they were, and it as open as it was.
-use Rattle.std.proofs.Common.{◌≡◌, ℕ, ◌+◌, ◌<◌, ◌≤◌, true, false, length, get_or, set, Option, Some, None, refl, sym, ap, ◌∙◌, subst, ⊎_elim, get_or-set_same, get_or-set_other, arith}
+use Rattle.std.proofs.Common.{◌≡◌, ℕ, ◌+◌, ◌≤◌, Bool, true, false, cond, ◌&&◌, Option, Some, None, refl, sym, ap, ◌∙◌, subst, arith}
 use Rattle.std.specs.Prelude.{◌==◌, nat_le, option_map, nat_lt}
-use Rattle.std.proofs.lemmas.Bool.{and_parts, both_ways, cases_eq, eqb-true}
+use Rattle.std.proofs.lemmas.Bool.{and_parts, both_ways, eq-eqb, eqb-true}
+use Rattle.std.proofs.lemmas.Option.{same_Some}
 use Rattle.config_graph.specs.Kinds.{row}
 use Rattle.quiesce_core.specs.declared.event.Event.{Event}
 use Rattle.quiesce_core.specs.declared.event.Event.TheVariants.{Begin, Call, Give, End, More, Ask, Make}
@@ -21,8 +22,9 @@ use Rattle.quiesce_core.specs.WellFormed.{IsWellFormed}
 use Rattle.quiesce_core.proofs.CycleLaws.{map_or_true}
 use Rattle.quiesce_core.proofs.TableLaws.{exchange_place}
 use Rattle.quiesce_core.proofs.StateLaws.{more_busy, taken_busy, idle_unserved, answered_unserved}
-use Rattle.base.proofs.PlaceLaws.{fresh_behind}
-use Rattle.quiescence_laws.specs.Events.{is_end_at}
+use Rattle.quiesce_core.specs.Alters.{exchange_next}
+use Rattle.quiesce_core.proofs.AlterLaws.{exchanges_next}
+use Rattle.quiesce_core.specs.Doers.{is_end_at}
 
 -- the port at which an event begins, calls or ends a transaction
 abbrev pub turns_at : Event → Option ℕ
@@ -43,45 +45,41 @@ pub data PortStep (s : State) (e : Event) (p : ℕ) (y : Exchange) : Type 0 wher
 untouched : (s : State) (e : Event) (p : ℕ) (y : Exchange) → (turns_at e ≡ Some p → ⊥) → y ≡ exchange s p → PortStep s e p y
 untouched s e p y off same = stays off (ap (λ (x : Exchange). x.serial) same) (ap (λ (x : Exchange). x.within) same) (ap (λ (x : Exchange). is_idle x.phase) same)
 
--- an event turns at one port, and what is done there is written
-written : (s : State) (e : Event) (q p : ℕ) (x : Exchange) → turns_at e ≡ Some q → q < length s.traffic.exchanges → PortStep s e q x → PortStep s e p (get_or (set s.traffic.exchanges q x) p fresh_exchange)
-written s e q p x at made here = ⊎_elim
-    (λ (same : p ≡ q).
-    subst (λ i. PortStep s e i (get_or (set s.traffic.exchanges q x) i fresh_exchange)) (sym same)
-    (subst (λ y. PortStep s e q y) (sym (get_or-set_same s.traffic.exchanges q x fresh_exchange made)) here))
-    (λ (other : p ≡ q → ⊥).
-    untouched s e p (get_or (set s.traffic.exchanges q x) p fresh_exchange) (λ h. other (cc (h, at))) (get_or-set_other s.traffic.exchanges q p x fresh_exchange other))
-    (cases_eq p q)
-
--- a message is written where a transaction is open, and it is open still
-messaged : (s : State) (e : Event) (q p v : ℕ) (f : Phase) → turns_at e ≡ None → q < length s.traffic.exchanges → is_idle (exchange s q).phase ≡ false → is_idle f ≡ false
-    → PortStep s e p (get_or (set s.traffic.exchanges q (record (exchange s q) { phase = f; value = v })) p fresh_exchange)
-messaged s e q p v f none_ made busy open_ =
-    let x : Exchange = record (exchange s q) { phase = f; value = v } in
-    ⊎_elim
-    (λ (same : p ≡ q).
-    subst (λ i. PortStep s e i (get_or (set s.traffic.exchanges q x) i fresh_exchange)) (sym same)
-    (subst (λ y. PortStep s e q y) (sym (get_or-set_same s.traffic.exchanges q x fresh_exchange made)) (stays (λ h. absurd (cc (h, none_))) refl refl (open_ ∙ sym busy))))
-    (λ (other : p ≡ q → ⊥). untouched s e p (get_or (set s.traffic.exchanges q x) p fresh_exchange) (λ h. absurd (cc (h, none_))) (get_or-set_other s.traffic.exchanges q p x fresh_exchange other))
-    (cases_eq p q)
-
-called : (s : State) (p k v : ℕ) (l : CanCall s p k v)
-    → PortStep s (Call p k v) p (record { phase = phase.Asked; serial = k; value = v; within = option_map (λ (u : Service). u.port) (service s (owner s.config p)) })
-called s p k v l =
-    let u = map_or_true (λ (x : Service). nat_lt x.calls (calls_allowed s.config (owner s.config p) (provision s.config x.port))) (service s (owner s.config p)) l.calls_left in
-    calls k v u.0 refl l u.1 (ap (λ o. record { phase = phase.Asked; serial = k; value = v; within = option_map (λ (x : Service). x.port) o }) u.1)
+-- a place of an exchange that is written where the test holds
+either_way : (b : Bool) (P : Exchange → Type 0) (x y : Exchange) → (b ≡ true → P x) → (b ≡ false → P y) → P (cond b x y)
+either_way true P x y here there = here refl
+either_way false P x y here there = there refl
 
 pub port_step : (s : State) (e : Event) → IsWellFormed s → IsConsistent s → Legal s e → (p : ℕ) → PortStep s e p (exchange (effect s e) p)
-port_step s (Begin q k v) w c l p = written s (Begin q k v) q p (record { phase = phase.Asked; serial = k; value = v; within = None }) refl (exchange_place s q w l.live) (begins k v refl l refl)
-port_step s (Call q k v) w c l p =
-    written s (Call q k v) q p (record { phase = phase.Asked; serial = k; value = v; within = option_map (λ (u : Service). u.port) (service s (owner s.config q)) }) refl (exchange_place s q w l.live) (called s q k v l)
-port_step s (End q k v) w c l p = written s (End q k v) q p (record (exchange s q) { phase = phase.Idle; value = 0; within = None }) refl (exchange_place s q w l.live) (ends k v refl l refl)
-port_step s (Give q k v) w c l p = messaged s (Give q k v) q p v phase.Answered refl (exchange_place s q w l.live) (taken_busy s q c l.taken) refl
-port_step s (More q k v) w c l p = messaged s (More q k v) q p v phase.More refl (exchange_place s q w l.live) (taken_busy s q c l.taken) refl
-port_step s (Ask q k v) w c l p = messaged s (Ask q k v) q p v phase.Asked refl (exchange_place s q w l.live) (more_busy (exchange s q).phase l.in_more) refl
-port_step s (Make n node from) w c l p =
-    untouched s (Make n node from) p (exchange (effect s (Make n node from)) p) (λ h. absurd (cc)) (fresh_behind s.traffic.exchanges fresh_exchange (length (row node.kind).requires_) p)
-port_step s _ w c l p = stays (λ h. absurd (cc)) refl refl refl
+port_step s e w c l p = subst (λ y. PortStep s e p y) (sym (exchanges_next s e w l p)) (by e l)
+  where
+    -- another port, where the event turns at q
+    apart : (e : Event) (q : ℕ) → turns_at e ≡ Some q → (q == p) ≡ false → PortStep s e p (exchange s p)
+    apart e q at off = untouched s e p (exchange s p) (λ h. both_ways (q == p) off (eq-eqb q p (same_Some q p (sym at ∙ h)))) refl
+
+    -- a message where a transaction is open, and open still
+    message : (e : Event) (q v : ℕ) (f : Phase) → turns_at e ≡ None → is_idle (exchange s q).phase ≡ false → is_idle f ≡ false
+        → PortStep s e p (cond (q == p) (record (exchange s p) { phase = f; value = v }) (exchange s p))
+    message e q v f none_ busy open_ = either_way (q == p) (PortStep s e p) (record (exchange s p) { phase = f; value = v }) (exchange s p)
+        (λ here. stays (λ h. absurd (cc (h, none_))) refl refl (open_ ∙ sym (ap (λ i. is_idle (exchange s i).phase) (sym (eqb-true q p here)) ∙ busy)))
+        (λ there. untouched s e p (exchange s p) (λ h. absurd (cc (h, none_))) refl)
+
+    by : (e : Event) → Legal s e → PortStep s e p (exchange_next s p e)
+    by (Begin q k v) l = either_way (q == p) (PortStep s (Begin q k v) p) _ (exchange s p)
+        (λ here. let same = eqb-true q p here in begins k v (ap (λ i. Begin i k v) same) (subst (λ i. CanBegin s i k v) same l) refl) (apart (Begin q k v) q refl)
+    by (Call q k v) l = either_way (q == p) (PortStep s (Call q k v) p) _ (exchange s p)
+        (λ here.
+        let same = eqb-true q p here in
+        let may = subst (λ i. CanCall s i k v) same l in
+        let u = map_or_true (λ (x : Service). nat_lt x.calls (calls_allowed s.config (owner s.config p) (provision s.config x.port))) (service s (owner s.config p)) may.calls_left in
+        calls k v u.0 (ap (λ i. Call i k v) same) may u.1 (ap (λ o. record { phase = phase.Asked; serial = k; value = v; within = option_map (λ (x : Service). x.port) o }) u.1))
+        (apart (Call q k v) q refl)
+    by (End q k v) l = either_way (q == p) (PortStep s (End q k v) p) _ (exchange s p)
+        (λ here. let same = eqb-true q p here in ends k v (ap (λ i. End i k v) same) (subst (λ i. CanEnd s i k v) same l) refl) (apart (End q k v) q refl)
+    by (Give q k v) l = message (Give q k v) q v phase.Answered refl (taken_busy s q c l.taken) refl
+    by (More q k v) l = message (More q k v) q v phase.More refl (taken_busy s q c l.taken) refl
+    by (Ask q k v) l = message (Ask q k v) q v phase.Asked refl (more_busy (exchange s q).phase l.in_more) refl
+    by _ l = stays (λ h. absurd (cc)) refl refl refl
 
 -- a port that is serviced is none at which an event turns
 pub served_untouched : (s : State) (e : Event) → IsConsistent s → Legal s e → (m : ℕ) (v : Service) → service s m ≡ Some v → turns_at e ≡ Some v.port → ⊥

@@ -1,7 +1,5 @@
 pub mod SumLaws
-pub mod InductionLaws
-pub mod ConfigurationLaws
-pub mod ConfigurationRuns
+pub mod ExtensionLaws
 pub mod ExchangeLaws
 pub mod StartLemmas
 pub mod WalkLemmas

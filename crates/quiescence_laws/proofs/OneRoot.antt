@@ -13,7 +13,7 @@ use Rattle.quiesce_core.specs.Runs.{Begun, HasRoot, root, consequent, IsRun, is_
 use Rattle.quiesce_core.proofs.CycleLaws.{map_or_true}
 use Rattle.quiesce_core.proofs.StateLaws.{serving_busy}
 use Rattle.quiescence_laws.specs.Roots.{IsRooted}
-use Rattle.quiescence_laws.proofs.InductionLaws.{place}
+use Rattle.quiesce_core.proofs.InductionLaws.{place}
 use Rattle.quiescence_laws.proofs.OrderLaws.{in_order, open_is_seen}
 
 -- what passes is counted

@@ -14,8 +14,10 @@ use Rattle.quiesce_core.specs.Runs.{IsRun, state_after, is_begin_of, is_end_of}
 use Rattle.quiesce_core.specs.Traffic.{IsConsistent}
 use Rattle.quiesce_core.specs.WellFormed.{IsWellFormed}
 use Rattle.quiesce_core.proofs.TableLaws.{exchange_place}
-use Rattle.quiescence_laws.proofs.ConfigurationLaws.{busy_made, owner_next, target_next}
-use Rattle.quiescence_laws.proofs.InductionLaws.{IsNext, place, along}
+use Rattle.quiesce_core.proofs.StateLaws.{busy_made}
+use Rattle.quiesce_core.proofs.StabilityLaws.{busy_ports_stay}
+use Rattle.quiescence_laws.proofs.ExtensionLaws.{owner_next}
+use Rattle.quiesce_core.proofs.InductionLaws.{IsNext, place, along}
 use Rattle.quiescence_laws.proofs.ExchangeLaws.{PortStep, stays, begins, calls, ends, port_step}
 
 -- the last transaction of a port has this serial and has not ended
@@ -63,8 +65,8 @@ going_next : (old : State) (p k : ℕ) (before : List Event) (e : Event) → IsN
 going_next old p k before e here going h =
     subst (λ s. IsGoing old s p k) (sym here.next) (record {
       opens = open_next (state_after before) e p k here.well here.traffic here.legal h.opens going;
-      owner = owner_next (state_after before) e here.well here.legal p (inr (busy_made (state_after before) p here.traffic h.opens.busy)) ∙ h.owner;
-      target = target_next (state_after before) e here.well here.traffic here.legal p h.opens.busy ∙ h.target;
+      owner = owner_next (state_after before) e here.legal p (inr (busy_made (state_after before) p here.traffic h.opens.busy)) ∙ h.owner;
+      target = busy_ports_stay (state_after before) e here.well here.traffic here.legal p h.opens.busy ∙ h.target;
     })
 
 -- as long as no End of it comes

@@ -19,9 +19,10 @@ use Rattle.quiesce_core.proofs.TableLaws.{gate_place}
 use Rattle.quiesce_core.proofs.SoundnessLaws.{put_here}
 use Rattle.quiescence_laws.specs.Events.{reopens}
 use Rattle.quiescence_laws.specs.Roots.{is_root, has_root}
-use Rattle.quiescence_laws.proofs.ConfigurationLaws.{closed_next}
+use Rattle.quiescence_laws.proofs.ExtensionLaws.{closed_next}
 use Rattle.quiescence_laws.proofs.ExchangeLaws.{PortStep, stays, begins, calls, ends, port_step}
-use Rattle.quiescence_laws.proofs.InductionLaws.{place, along, front_runs}
+use Rattle.quiesce_core.proofs.InductionLaws.{place, along}
+use Rattle.quiesce_core.proofs.RunLaws.{fronts_are_runs}
 
 -- the parts of the test
 record IsRoot (x : Exchange) (k : ℕ) : Type 0 where
@@ -92,7 +93,7 @@ pub root_since : (before between after : List Event) (p k : ℕ) → IsRun (befo
     → has_root (state_after (before ++ Close p ∷ between ++ after)) p k ≡ true → has_root (state_after (before ++ Close p ∷ between)) p k ≡ true
 root_since before between after p k run free h =
     let parts = or_parts (list_any (reopens p) between) (list_any (reopens p) after) (sym (list_any-append (reopens p) between after) ∙ free) in
-    let front = front_runs (before ++ Close p ∷ between) after run in
+    let front = fronts_are_runs (before ++ Close p ∷ between) after run in
     let split : (before ++ Close p ∷ []) ++ between ≡ before ++ Close p ∷ between = append_assoc before (Close p ∷ []) between in
     let shut = old_further (before ++ Close p ∷ []) between p p (subst (λ xs. IsRun xs) (sym split) front) parts.0 (closed_by before between p front) in
     (old_further (before ++ Close p ∷ between) after p k run parts.1 (ap (λ xs. (gate (state_after xs).config p).closed) (sym split) ∙ shut.closed)).before h

@@ -14,7 +14,7 @@ use Rattle.quiesce_core.specs.Effect.{effect}
 use Rattle.quiesce_core.specs.Runs.{IsRun, state_after, is_begin_of, is_end_of, is_open_after}
 use Rattle.quiescence_laws.specs.Events.{is_root_of}
 use Rattle.quiescence_laws.specs.Roots.{has_root, is_open_root_after}
-use Rattle.quiescence_laws.proofs.InductionLaws.{IsNext, always}
+use Rattle.quiesce_core.proofs.InductionLaws.{IsNext, always}
 use Rattle.quiescence_laws.proofs.OpenLaws.{IsOpen}
 use Rattle.quiescence_laws.proofs.OrderLaws.{any_counted, begun_count, was_begun, le_false, open_is_seen}
 use Rattle.quiescence_laws.proofs.ExchangeLaws.{PortStep, stays, begins, calls, ends, port_step, begin_turns, next_serial}

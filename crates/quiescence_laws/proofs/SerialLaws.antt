@@ -12,8 +12,8 @@ use Rattle.quiesce_core.specs.Legal.{Legal}
 use Rattle.quiesce_core.specs.Runs.{IsRun, state_after}
 use Rattle.quiesce_core.specs.Traffic.{IsConsistent}
 use Rattle.quiesce_core.specs.WellFormed.{IsWellFormed}
-use Rattle.quiescence_laws.specs.Events.{is_end_at}
-use Rattle.quiescence_laws.proofs.InductionLaws.{IsNext, always}
+use Rattle.quiesce_core.specs.Doers.{is_end_at}
+use Rattle.quiesce_core.proofs.InductionLaws.{IsNext, always}
 use Rattle.quiesce_core.proofs.StateLaws.{answered_busy}
 use Rattle.quiescence_laws.proofs.ExchangeLaws.{PortStep, stays, begins, calls, ends, port_step, end_turns, next_serial}
 

@@ -30,7 +30,7 @@ use Rattle.quiesce_core.specs.declared.state.Slot.{Slot}
 use Rattle.quiesce_core.specs.State.{State, empty, fresh_gate, fresh_exchange, slot, gate, owner, is_live, provides}
 use Rattle.quiesce_core.specs.Runs.{Steps, onward, stays}
 use Rattle.quiesce_core.specs.Rules.{value_limit, denial, has_its_argument, is_path_taken, is_value, is_quiet, is_live_port}
-use Rattle.quiesce_core.specs.Effect.{effect, new_gates, linked}
+use Rattle.quiesce_core.specs.Effect.{effect, new_gates, with_target}
 use Rattle.quiesce_core.specs.Legal.{CanMake, CanLink}
 use Rattle.gate_word.specs.Phases.{is_idle}
 use Rattle.quiesce_core.specs.Reach.{has_no_cycle}

@@ -1,8 +1,8 @@
 -- A settled node stays settled until a gate is opened, a link is made or it is removed, whatever is made meanwhile.
-use Rattle.std.proofs.Common.{◌≡◌, ℕ, ◌+◌, ◌<◌, ◌≤◌, true, false, not, List, length, get_or, set, Option, Some, None, refl, sym, ap, ◌∙◌, inl, inr, ⊎_elim, get_or-set_same, get_or-set_other}
-use Rattle.std.specs.Prelude.{◌⊎◌, option_map, option_and_then}
+use Rattle.std.proofs.Common.{cond, Bool, ◌≡◌, ℕ, ◌+◌, ◌<◌, ◌≤◌, true, false, not, List, length, get_or, set, Option, Some, None, refl, sym, ap, ◌∙◌, inl, inr, ⊎_elim, get_or-set_same, get_or-set_other}
+use Rattle.std.specs.Prelude.{◌⊎◌, ◌==◌, option_map, option_and_then}
 use Rattle.std.specs.Option.{option_map_or}
-use Rattle.std.proofs.lemmas.Bool.{and_parts, and_from, both_ways, cases_eq, cases_lt, false_from_ne_true, not-true}
+use Rattle.std.proofs.lemmas.Bool.{and_parts, and_from, both_ways, eqb-true, false_from_ne_true, not-true}
 use Rattle.std.proofs.lemmas.List.{set_past}
 use Rattle.config_graph.specs.declared.node.Target.{Target}
 use Rattle.quiesce_core.specs.declared.event.Event.{Event}
@@ -22,9 +22,12 @@ use Rattle.quiesce_core.specs.WellFormed.{IsWellFormed}
 use Rattle.quiesce_core.proofs.CycleLaws.{map_or_true, map_or_at}
 use Rattle.quiesce_core.proofs.TableLaws.{gate_place}
 use Rattle.quiescence_laws.specs.Events.{is_link, is_reopen_or_link, reopens}
-use Rattle.quiescence_laws.proofs.ConfigurationLaws.{closed_next, extends_next, no_new_link, owned_before, reached_before}
+use Rattle.quiescence_laws.proofs.ExtensionLaws.{closed_next, extends_next, no_new_link, owned_before, reached_before}
 use Rattle.quiescence_laws.proofs.ExchangeLaws.{PortStep, stays, begins, calls, ends, port_step}
-use Rattle.base.proofs.PlaceLaws.{fresh_behind, slice_get-below, slice_get-there}
+use Rattle.base.proofs.PlaceLaws.{slice_get-below, slice_get-there}
+use Rattle.quiesce_core.specs.Alters.{service_by}
+use Rattle.quiesce_core.specs.Runs.{is_doer}
+use Rattle.quiesce_core.proofs.AlterLaws.{services_next}
 use Rattle.quiesce_core.proofs.StateLaws.{asked_busy, serving_busy}
 use Rattle.quiesce_core.proofs.ReachLaws.{owner_of}
 
@@ -98,51 +101,27 @@ quiet_next s e n w t l h still q c =
     (closed_next s e q l (false_from_ne_true (reopens q e) (λ r. both_ways (is_reopen_or_link e) h (reopen_bars q e r))) (closed_at s n q still c))
     (idle_next s e n w t l still q c)
 
--- a place that holds nothing does so still where something is put elsewhere, or nothing there
-put_none : (xs : List (Option Service)) (m n : ℕ) (v : Option Service) → get_or xs n None ≡ None → (n ≡ m → v ≡ None) → get_or (set xs m v) n None ≡ None
-put_none xs m n v e h = ⊎_elim
-    (λ (same : n ≡ m). ⊎_elim
-    (λ (within : m < length xs). ap (λ i. get_or (set xs m v) i None) same ∙ get_or-set_same xs m v None within ∙ h same)
-    (λ (past : length xs ≤ m). ap (λ ys. get_or ys n None) (set_past xs m v past) ∙ e)
-    (cases_lt m (length xs)))
-    (λ (other : n ≡ m → ⊥). get_or-set_other xs m n v None other ∙ e)
-    (cases_eq n m)
-
-put_at_target : (xs : List (Option Service)) (o : Option Target) (n : ℕ) (v : Option Service) → get_or xs n None ≡ None → ((t : Target) → o ≡ Some t → n ≡ t.node → v ≡ None)
-    → get_or (option_map_or (λ (t : Target). set xs t.node v) o xs) n None ≡ None
-put_at_target xs None n v e h = e
-put_at_target xs (Some t) n v e h = put_none xs t.node n v e (h t refl)
-
-unserviced : (s : State) (n p : ℕ) (t : Target) → target s.config p ≡ Some t → n ≡ t.node → service s n ≡ None → target_service s p ≡ None
-unserviced s n p t e same none_ = ap (λ o. option_and_then (λ (t : Target). service s t.node) o) e ∙ ap (λ i. service s i) (sym same) ∙ none_
-
-uncalled : (s : State) (n p : ℕ) → IsStill s n → get_or (set s.traffic.services (owner s.config p) (option_map (λ (u : Service). record u { calls = u.calls + 1 }) (service s (owner s.config p)))) n None ≡ None
-uncalled s n p still =
-    put_none s.traffic.services (owner s.config p) n _ still.services_nothing
-    (λ same. ap (λ i. option_map (λ (u : Service). record u { calls = u.calls + 1 }) (service s i)) (sym same) ∙ ap (λ o. option_map (λ (u : Service). record u { calls = u.calls + 1 }) o) still.services_nothing)
-
 -- the node services nothing still
-services_next : (s : State) (e : Event) (n : ℕ) → Legal s e → IsStill s n → service (effect s e) n ≡ None
-services_next s (Call p k v) n l still = uncalled s n p still
-services_next s (Miss p) n l still = uncalled s n p still
-services_next s (Take p k v) n l still =
-    put_at_target s.traffic.services (target s.config p) n _ still.services_nothing
-    (λ t e same. absurd (not_busy s n p still (inr (direct {x = t.provide} (e ∙ ap (λ i. Some (record { node = i; provide = t.provide })) (sym same)))) (asked_busy (exchange s p).phase l.asked)))
-services_next s (Give p k v) n l still = put_at_target s.traffic.services (target s.config p) n None still.services_nothing (λ t e same. refl)
-services_next s (More p k v) n l still =
-    put_at_target s.traffic.services (target s.config p) n _ still.services_nothing
-    (λ t e same. ap (λ o. option_map (λ (w : Service). record w { mores = w.mores + 1; heard = false }) o) (unserviced s n p t e same still.services_nothing))
-services_next s (Hear p k v) n l still =
-    put_at_target s.traffic.services (target s.config p) n _ still.services_nothing
-    (λ t e same. ap (λ o. option_map (λ (w : Service). record w { heard = true }) o) (unserviced s n p t e same still.services_nothing))
-services_next s (Make m node from) n l still = fresh_behind s.traffic.services None 1 n ∙ still.services_nothing
-services_next s _ n l still = still.services_nothing
+nothing_next : (s : State) (e : Event) (n : ℕ) → IsWellFormed s → Legal s e → IsStill s n → service (effect s e) n ≡ None
+nothing_next s e n w l still = services_next s e w l n ∙ by (is_doer s n e) refl
+  where
+    led : (o : Option Target) → option_map_or (λ m. m == n) (option_map (λ (t : Target). t.node) o) false ≡ true → (x : ℕ) × (o ≡ Some (record { node = n; provide = x }))
+    led None h = absurd (both_ways false refl h)
+    led (Some t) h = (t.provide, ap (λ i. Some (record { node = i; provide = t.provide })) (eqb-true t.node n h))
+
+    turn : (e : Event) → Legal s e → is_doer s n e ≡ true → service_by None e ≡ None
+    turn (Take p k v) l does = let to = led (target s.config p) does in absurd (not_busy s n p still (inr (direct {x = to.0} to.1)) (asked_busy (exchange s p).phase l.asked))
+    turn _ l does = refl
+
+    by : (b : Bool) → is_doer s n e ≡ b → cond b (service_by (service s n) e) (service s n) ≡ None
+    by true does = ap (λ o. service_by o e) still.services_nothing ∙ turn e l does
+    by false does = still.services_nothing
 
 -- a still node is still after each event that neither opens a gate nor makes a link
 pub still_next : (s : State) (e : Event) (n : ℕ) → IsWellFormed s → IsConsistent s → Legal s e → is_reopen_or_link e ≡ false → IsStill s n → IsStill (effect s e) n
 still_next s e n w t l h still =
-    let extends_ = extends_next s e w l in
-    let old = no_new_link s e w l (link_bars e h) in
+    let extends_ = extends_next s e l in
+    let old = no_new_link s e l (link_bars e h) in
     let m = slice_get-there s.config.slots n still.made in
     let now = extends_.nodes n m.0 m.1 in
     record {
@@ -150,5 +129,5 @@ still_next s e n w t l h still =
       quiet = λ q c. quiet_next s e n w t l h still q (⊎_elim
           (λ (own : IsPortOf (effect s e).config n q). inl (owned_before s.config (effect s e).config extends_ n q still.made own))
           (λ (r : Reach (wiring_of (effect s e).config) n q). inr (reached_before s.config (effect s e).config w.sound extends_ old n q r)) c);
-      services_nothing = services_next s e n l still;
+      services_nothing = nothing_next s e n w l still;
     }

@@ -18,7 +18,8 @@ use Rattle.quiesce_core.specs.Rules.{is_taken}
 use Rattle.quiesce_core.specs.Runs.{IsRun, state_after}
 use Rattle.quiesce_core.specs.State.{State, fresh_exchange, exchange}
 use Rattle.quiesce_core.proofs.RunLaws.{runs_are_well_formed}
-use Rattle.quiescence_laws.specs.Events.{is_end, is_end_at}
+use Rattle.quiesce_core.specs.Doers.{is_end_at}
+use Rattle.quiescence_laws.specs.Events.{is_end}
 use Rattle.quiescence_laws.proofs.SerialLaws.{tallied}
 use Rattle.quiescence_laws.proofs.SumLaws.{at_term, sum_le, sum_plus, sum_term, sum_zero, term_here, term_there}
 

@@ -24,14 +24,10 @@ is_reopen_or_link (Reopen p) = true
 is_reopen_or_link (Link p n x) = true
 is_reopen_or_link _ = false
 
--- whether it ends a transaction, and one of port p
+-- whether it ends a transaction
 abbrev pub is_end : Event → Bool
 is_end (End p k v) = true
 is_end _ = false
-
-abbrev pub is_end_at : ℕ → Event → Bool
-is_end_at p (End q j v) = q == p
-is_end_at p _ = false
 
 -- whether it begins a root of port p with serial k
 abbrev pub is_root_of : ℕ → ℕ → Event → Bool

@@ -8,7 +8,8 @@ ghost use Rattle.quiesce_core.specs.Phases.{is_idle};
 ghost use Rattle.quiesce_core.specs.Runs.{Begun, IsRun, doer, initiator, is_begin_of, is_end_of, is_open_after, state_after, target_at_begin};
 ghost use Rattle.quiesce_core.specs.State.{exchange};
 ghost use Rattle.quiescence_laws.specs.Courses.{course_after, course_at};
-ghost use Rattle.quiescence_laws.specs.Events.{is_take_of, is_give_of, is_more_of, is_ask_of, is_hear_of, is_of_initiator, is_of_target, is_end, is_end_at};
+ghost use Rattle.quiesce_core.specs.Doers.{is_end_at};
+ghost use Rattle.quiescence_laws.specs.Events.{is_take_of, is_give_of, is_more_of, is_ask_of, is_hear_of, is_of_initiator, is_of_target, is_end};
 
 /// In every run the events of a transaction come in the order of its course: a begin or a call, the take, any number of
 /// intermediate replies each with a further message and its hearing, the last reply, the end. None comes twice or where it
@@ -62,9 +63,4 @@ pub fn two_nodes_do_all()
 pub fn open_transactions_are_seen()
     ensures { (es : List Event) (p k : ℕ) → IsRun es →
         is_open_after es p k ≡ (not (is_idle (exchange (state_after es) p).phase) && (exchange (state_after es) p).serial == k) }
-{}
-
-/// Each front of a run is a run.
-pub fn fronts_are_runs()
-    ensures { (es more_ : List Event) → IsRun (es ++ more_) → IsRun es }
 {}

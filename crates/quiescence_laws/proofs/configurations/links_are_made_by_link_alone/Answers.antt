@@ -1,4 +1,4 @@
-use Rattle.quiescence_laws.proofs.ConfigurationRuns.{no_link_further, reached_further}
+use Rattle.quiescence_laws.proofs.ExtensionLaws.{no_link_further, reached_further}
 use Rattle.quiescence_laws.proofs.configurations.links_are_made_by_link_alone.Goals as goal
 
 pub returns : goal.returns

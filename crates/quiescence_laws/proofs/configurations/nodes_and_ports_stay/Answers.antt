@@ -1,4 +1,4 @@
-use Rattle.quiescence_laws.proofs.ConfigurationRuns.{extends_further}
+use Rattle.quiescence_laws.proofs.ExtensionLaws.{extends_further}
 use Rattle.quiescence_laws.proofs.configurations.nodes_and_ports_stay.Goals as goal
 
 pub returns : goal.returns
