@@ -7,7 +7,7 @@ use Rattle.quiesce_core.specs.declared.event.Event.{Event}
 use Rattle.quiesce_core.specs.declared.event.Event.TheVariants.{Take, Call, Give, End, More, Ask, Hear, Miss}
 use Rattle.quiesce_core.specs.declared.state.Service.{Service}
 use Rattle.quiesce_core.specs.Legal.{Legal}
-use Rattle.quiesce_core.specs.Phases.{is_idle}
+use Rattle.gate_word.specs.Phases.{is_idle}
 use Rattle.quiesce_core.specs.Rules.{has_calls_left}
 use Rattle.quiesce_core.specs.State.{State, owner, provision, calls_allowed, exchange, service}
 use Rattle.quiesce_core.specs.Traffic.{IsConsistent}

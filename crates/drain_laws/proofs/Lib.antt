@@ -14,5 +14,5 @@ pub mod Carrying
 pub mod Portions
 pub mod Emptiness
 pub mod Bounding
-pub mod Strength
+pub mod WorkedDrains
 pub mod Rooted

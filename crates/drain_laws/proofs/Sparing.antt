@@ -11,7 +11,7 @@ use Rattle.quiesce_core.specs.declared.state.Gate.{Gate}
 use Rattle.quiesce_core.specs.Doers.{is_of_change}
 use Rattle.quiesce_core.specs.Effect.{effect}
 use Rattle.quiesce_core.specs.Legal.{Legal}
-use Rattle.quiesce_core.specs.Phases.{is_idle}
+use Rattle.gate_word.specs.Phases.{is_idle}
 use Rattle.quiesce_core.specs.Reach.{IsPortOf, wiring_of}
 use Rattle.quiesce_core.specs.Rules.{is_quiet}
 use Rattle.quiesce_core.specs.State.{Configuration, State, fresh_exchange, gate, owner, target, depends, exchange, service}

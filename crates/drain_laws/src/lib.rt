@@ -8,6 +8,7 @@ mod consequents;
 mod ends;
 mod falling;
 mod parts;
+mod worked;
 
 pub use bound::{full_bounds_each_transaction, rest_bounds_all, rest_bounds_the_drain};
 pub use consequents::consequents_belong_to_their_roots;
@@ -19,3 +20,4 @@ pub use parts::{
     advances_are_of_what_is_open, belongings_are_found, part_falls_by_steps, part_of_one_falls_by_steps,
     what_is_left_is_of_what_is_open,
 };
+pub use worked::worked_drains;

@@ -3,7 +3,7 @@
 ghost use Rattle.std.specs.Prelude.{◌≡◌, ◌↔◌, ℕ, ◌<◌, ◌≤◌, ◌||◌, true, false, Some, None, IsTrue};
 ghost use Rattle.quiesce_core.specs.declared.event.Event.{Event};
 ghost use Rattle.quiesce_core.specs.State.{State, exchange};
-ghost use Rattle.quiesce_core.specs.Phases.{is_idle};
+ghost use Rattle.gate_word.specs.Phases.{is_idle};
 ghost use Rattle.quiesce_core.specs.Rules.{denial};
 ghost use Rattle.quiescence_laws.specs.Events.{is_of_initiator, is_of_target};
 ghost use Rattle.drain_laws.specs.Advances.{advanced_port, is_advance};

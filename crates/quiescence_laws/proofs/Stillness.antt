@@ -10,7 +10,7 @@ use Rattle.quiesce_core.specs.declared.event.Event.TheVariants.{Call, Take, Give
 use Rattle.quiesce_core.specs.declared.state.Service.{Service}
 use Rattle.quiesce_core.specs.declared.state.Exchange.{Exchange}
 use Rattle.quiesce_core.specs.State.{Configuration, State, gate, owner, target, provision, depends, exchange, service, target_service}
-use Rattle.quiesce_core.specs.Phases.{is_idle}
+use Rattle.gate_word.specs.Phases.{is_idle}
 use Rattle.quiesce_core.specs.Effect.{effect}
 use Rattle.quiesce_core.specs.Legal.{Legal}
 use Rattle.quiesce_core.specs.Reach.{IsPortOf, wiring_of}

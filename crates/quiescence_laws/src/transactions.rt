@@ -4,7 +4,7 @@ ghost use Rattle.std.specs.Prelude.{◌≡◌, ℕ, ◌+◌, ◌≤◌, true, no
 ghost use Rattle.std.specs.List.{count_by, range_with_len};
 ghost use Rattle.quiesce_core.specs.declared.event.Event.{Event};
 ghost use Rattle.quiesce_core.specs.Open.{open_txns};
-ghost use Rattle.quiesce_core.specs.Phases.{is_idle};
+ghost use Rattle.gate_word.specs.Phases.{is_idle};
 ghost use Rattle.quiesce_core.specs.Runs.{Begun, IsRun, doer, initiator, is_begin_of, is_end_of, is_open_after, state_after, target_at_begin};
 ghost use Rattle.quiesce_core.specs.State.{exchange};
 ghost use Rattle.quiescence_laws.specs.Courses.{course_after, course_at};
