@@ -21,6 +21,18 @@ pub record Counts : Type 0 where
   pub asks : ℕ
   pub hears : ℕ
 
+-- of a list of events
+abbrev pub counts_of : ℕ → ℕ → List Event → Counts
+counts_of p k es = record {
+  begins = count_by (is_begin_of p k) es;
+  takes = count_by (is_take_of p k) es;
+  gives = count_by (is_give_of p k) es;
+  ends = count_by (is_end_of p k) es;
+  mores = count_by (is_more_of p k) es;
+  asks = count_by (is_ask_of p k) es;
+  hears = count_by (is_hear_of p k) es;
+}
+
 -- of one event
 ones : ℕ → ℕ → Event → Counts
 ones p k e = record {

@@ -1,5 +1,5 @@
 -- What the counts of a run say: the order of a transaction's events, and which are open.
-use Rattle.std.proofs.Common.{◌≡◌, ℕ, ◌+◌, ◌<◌, ◌≤◌, Bool, true, false, cond, not, ◌&&◌, ◌||◌, List, [], ◌∷◌, Option, Some, None, refl, sym, ap, ◌∙◌, ⊎_elim, arith}
+use Rattle.std.proofs.Common.{◌≡◌, ℕ, ◌+◌, ◌<◌, ◌≤◌, Bool, true, false, cond, not, ◌&&◌, ◌||◌, List, [], ◌∷◌, Option, Some, None, refl, sym, ap, ◌∙◌, subst, ⊎_elim, arith}
 use Rattle.std.specs.Prelude.{◌==◌, nat_lt, nat_le}
 use Rattle.std.specs.List.{count_by, list_any}
 use Rattle.std.proofs.lemmas.Bool.{cases_Bool, cases_eq, cases_lt, and_from, both_ways, eq-eqb, ne_eqb, lt-ltb, le-ltb, leb-true, le-leb}
@@ -15,7 +15,7 @@ use Rattle.quiescence_laws.specs.Events.{is_take_of, is_give_of, is_more_of, is_
 use Rattle.quiescence_laws.specs.Courses.{Course, heard_at, course_in, course_of, course_at}
 use Rattle.quiescence_laws.specs.Courses as course
 use Rattle.quiescence_laws.proofs.CourseLemmas.{course_behind, course_zero, course_before, course_here}
-use Rattle.quiescence_laws.proofs.Counting.{Counts, table, counted}
+use Rattle.quiescence_laws.proofs.Counting.{Counts, counts_of, table, counted}
 use Rattle.quiescence_laws.proofs.SerialLaws.{tallied, busy_serial}
 
 -- what each course says of the counts
@@ -39,33 +39,14 @@ ordered course.prompted r = record { begun = omega arith; taken = omega arith; g
 ordered course.answered r = record { begun = omega arith; taken = omega arith; given = omega arith; ended = omega arith; heard = omega arith; asked = omega arith; told = omega arith; all_asked = λ h. refl; all_heard = λ h. refl }
 ordered course.ended r = record { begun = omega arith; taken = omega arith; given = omega arith; ended = omega arith; heard = omega arith; asked = omega arith; told = omega arith; all_asked = λ h. refl; all_heard = λ h. refl }
 
--- the same of the counts of a run
-pub record InOrder (es : List Event) (p k : ℕ) : Type 0 where
-  pub begun : count_by (is_begin_of p k) es ≤ 1
-  pub taken : count_by (is_take_of p k) es ≤ count_by (is_begin_of p k) es
-  pub given : count_by (is_give_of p k) es ≤ count_by (is_take_of p k) es
-  pub ended : count_by (is_end_of p k) es ≤ count_by (is_give_of p k) es
-  pub heard : count_by (is_hear_of p k) es ≤ count_by (is_ask_of p k) es
-  pub asked : count_by (is_ask_of p k) es ≤ count_by (is_more_of p k) es
-  pub told : count_by (is_more_of p k) es ≤ count_by (is_hear_of p k) es + 1
-  pub all_asked : count_by (is_give_of p k) es ≡ 1 → count_by (is_ask_of p k) es ≡ count_by (is_more_of p k) es
-  pub all_heard : count_by (is_give_of p k) es ≡ 1 → count_by (is_hear_of p k) es ≡ count_by (is_more_of p k) es
-
-pub in_order : (es : List Event) (p k : ℕ) → IsRun es → InOrder es p k
+-- so do the counts of a run
+pub in_order : (es : List Event) (p k : ℕ) → IsRun es → IsOrdered (counts_of p k es)
 in_order es p k run =
     let h = counted es p k run in
-    let c = course_at (state_after es) p k in
-    let o = ordered c h.rounds in record {
-      begun = omega (arith, h.begins, o.begun);
-      taken = omega (arith, h.begins, h.takes, o.taken);
-      given = omega (arith, h.gives, h.takes, o.given);
-      ended = omega (arith, h.gives, h.ends, o.ended);
-      heard = omega (arith, h.asks, h.hears, o.heard);
-      asked = omega (arith, h.asks, h.mores, o.asked);
-      told = omega (arith, h.hears, h.mores, o.told);
-      all_asked = λ g. h.asks ∙ o.all_asked (sym h.gives ∙ g) ∙ sym h.mores;
-      all_heard = λ g. h.hears ∙ o.all_heard (sym h.gives ∙ g) ∙ sym h.mores;
-    }
+    let n = table (course_at (state_after es) p k) h.rounds in
+    let same : counts_of p k es ≡ record { begins = n.begins; takes = n.takes; gives = n.gives; ends = n.ends; mores = n.mores; asks = n.asks; hears = n.hears } =
+    cc (h.begins, h.takes, h.gives, h.ends, h.mores, h.asks, h.hears) in
+    subst (λ x. IsOrdered x) (sym same) (ordered (course_at (state_after es) p k) h.rounds)
 
 -- exactly those up to the port's serial were begun, and all but an open one have ended
 
