@@ -1,5 +1,5 @@
 -- The events of transactions are those of transactions that are open.
-use Rattle.std.proofs.Common.{◌≡◌, ℕ, ◌+◌, Bool, true, false, not, ◌&&◌, ◌||◌, Option, Some, None, refl, sym, ap, ◌∙◌, ⊎_elim}
+use Rattle.std.proofs.Common.{◌≡◌, ℕ, Bool, true, false, ◌&&◌, ◌||◌, Some, None, refl, sym, ap, ◌∙◌, ⊎_elim}
 use Rattle.std.specs.Prelude.{◌==◌, nat_lt, option_map}
 use Rattle.std.specs.Option.{option_map_or}
 use Rattle.std.proofs.lemmas.Bool.{and_from, and_parts, both_ways, cases_Bool, eq-eqb, eqb-true}
@@ -15,7 +15,7 @@ use Rattle.quiesce_core.proofs.CycleLaws.{map_or_true}
 use Rattle.quiesce_core.proofs.StateLaws.{asked_busy, more_busy, answered_busy, serving_busy, taken_busy}
 use Rattle.quiescence_laws.specs.Events.{is_of_initiator, is_of_target}
 use Rattle.drain_laws.specs.Advances.{is_advance, advanced_port}
-use Rattle.drain_laws.specs.Belongs.{Transactions, belongs, is_event_of, singleton, open_in}
+use Rattle.drain_laws.specs.Belongs.{belongs, is_event_of, singleton, open_in}
 use Rattle.drain_laws.proofs.Belonging.{member_belongs, open_belongs}
 
 -- the port of whose transaction an event is, which is open

@@ -1,9 +1,8 @@
 -- Something is left of each open transaction, so where nothing is left none is open.
-use Rattle.std.proofs.Common.{◌≡◌, ℕ, zero, suc, ◌+◌, ◌≤◌, Bool, true, false, cond, length, refl, ap, ⊎_elim, arith}
+use Rattle.std.proofs.Common.{◌≡◌, ℕ, ◌+◌, ◌≤◌, Bool, true, false, cond, length, refl, ap, ⊎_elim, arith}
 use Rattle.std.specs.Prelude.{◌||◌, ◌⊎◌, ◌↔◌, sum_by}
 use Rattle.std.specs.List.{range_with_len}
 use Rattle.std.proofs.lemmas.Bool.{cases_Bool, false_from_ne_true, or_left, or_right, true_from_ne_false}
-use Rattle.std.proofs.lemmas.List.Sums.{sum_by-cons}
 use Rattle.quiesce_core.specs.State.{State, exchange}
 use Rattle.gate_word.specs.Phases.{is_idle, is_asked, is_answered, is_in_more}
 use Rattle.quiesce_core.specs.Rest.{rest}

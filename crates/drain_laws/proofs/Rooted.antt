@@ -1,18 +1,17 @@
 -- The root of a transaction, by the run and by the state: what was called for a transaction belongs to it while it is open.
-use Rattle.std.proofs.Common.{◌≡◌, ℕ, ◌+◌, ◌≤◌, true, false, not, List, [], ◌∷◌, ◌++◌, append_assoc, length, Some, None, refl, sym, ap, ◌∙◌, subst, inl, inr, ⊎_elim, arith}
+use Rattle.std.proofs.Common.{◌≡◌, ℕ, ◌+◌, ◌≤◌, true, false, not, List, [], ◌∷◌, ◌++◌, append_assoc, Some, refl, sym, ap, ◌∙◌, subst, inl, inr, ⊎_elim, arith}
 use Rattle.std.specs.Prelude.{◌⊎◌, ◌==◌, option_map}
-use Rattle.std.proofs.lemmas.Bool.{and_from, and_parts, both_ways, cases_eq, eq-eqb, eqb-true}
+use Rattle.std.proofs.lemmas.Bool.{and_from, and_parts, both_ways, eq-eqb, eqb-true}
 use Rattle.std.proofs.lemmas.List.{append-nil}
-use Rattle.config_graph.specs.Kinds.{row}
 use Rattle.quiesce_core.specs.declared.event.Event.{Event}
-use Rattle.quiesce_core.specs.declared.event.Event.TheVariants.{Begin, Call, Take, Give, End, More, Ask, Hear, Miss, Close, Reopen, Make, Link, Unlink, Remove}
+use Rattle.quiesce_core.specs.declared.event.Event.TheVariants.{Call}
 use Rattle.quiesce_core.specs.declared.state.Exchange.{Exchange}
 use Rattle.gate_word.specs.declared.phase.Phase.TheVariants as phase
 use Rattle.quiesce_core.specs.declared.state.Service.{Service}
-use Rattle.quiesce_core.specs.State.{State, fresh_exchange, owner, exchange, service, target_service}
+use Rattle.quiesce_core.specs.State.{State, owner, exchange, service}
 use Rattle.base.specs.Each.{EachAfter}
 use Rattle.gate_word.specs.Phases.{is_idle}
-use Rattle.quiesce_core.specs.Effect.{with_exchange, with_target_service, with_call, effect}
+use Rattle.quiesce_core.specs.Effect.{with_call, effect}
 use Rattle.quiesce_core.specs.Legal.{Legal}
 use Rattle.quiesce_core.specs.Runs.{IsRun, HasRoot, root, consequent, state_after}
 use Rattle.quiesce_core.specs.Traffic.{IsConsistent}
@@ -28,8 +27,7 @@ use Rattle.drain_laws.proofs.Belonging.{belongs_is_found, open_parts}
 use Rattle.drain_laws.proofs.Carrying.{caller_busy}
 use Rattle.quiescence_laws.proofs.ExchangeLaws.{PortStep, stays, begins, calls, ends, turns_at, port_step, served_untouched, next_serial}
 use Rattle.quiesce_core.proofs.RunLaws.{StepAt, run_parts}
-use Rattle.quiesce_core.proofs.StateLaws.{more_busy, serving_busy, exchange_here, exchange_there, idle_unserved, taken_busy}
-use Rattle.base.proofs.PlaceLaws.{fresh_behind}
+use Rattle.quiesce_core.proofs.StateLaws.{exchange_here, exchange_there, idle_unserved}
 
 -- Transaction k of port p, which was called for transaction j of port r: while it is open, both stay as they were.
 record Kept (s : State) (p k r j : ℕ) : Type 0 where

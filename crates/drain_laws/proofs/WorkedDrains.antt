@@ -1,5 +1,5 @@
 -- The definitions on small runs, evaluated.
-use Rattle.std.proofs.Common.{◌≡◌, ℕ, List, [], ◌∷◌, ◌++◌, Option, None, refl}
+use Rattle.std.proofs.Common.{◌≡◌, [], ◌∷◌, ◌++◌, None, refl}
 use Rattle.quiesce_core.specs.declared.event.Event.TheVariants.{Begin, Call, Take}
 use Rattle.quiesce_core.specs.Reach.{reaches, has_no_cycle}
 use Rattle.quiesce_core.specs.Rest.{full}

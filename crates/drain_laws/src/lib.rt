@@ -17,7 +17,7 @@ pub use ends::{
 };
 pub use falling::{rest_falls_by_steps, rest_falls_in_runs};
 pub use parts::{
-    advances_are_of_what_is_open, belongings_are_found, part_falls_by_steps, part_of_one_falls_by_steps,
-    what_is_left_is_of_what_is_open,
+    advances_are_of_what_is_open, belongings_are_found, part_falls_by_steps,
+    part_of_one_falls_by_steps, what_is_left_is_of_what_is_open,
 };
 pub use worked::worked_drains;

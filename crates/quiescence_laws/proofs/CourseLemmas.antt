@@ -1,19 +1,18 @@
 -- The events of a transaction come in the order of its course.
-use Rattle.std.proofs.Common.{◌≡◌, ℕ, ◌+◌, ◌<◌, ◌≤◌, Bool, true, false, cond, ◌&&◌, ◌||◌, List, length, get_or, set, Option, Some, None, refl, sym, ap, ◌∙◌, subst, ⊎_elim, arith, get_or-set_same, get_or-set_other}
+use Rattle.std.proofs.Common.{◌≡◌, ℕ, ◌+◌, ◌<◌, ◌≤◌, Bool, true, false, cond, ◌&&◌, ◌||◌, List, Option, Some, None, refl, sym, ap, ◌∙◌, subst, ⊎_elim, arith}
 use Rattle.std.specs.Prelude.{◌==◌, nat_lt, option_map, option_and_then}
 use Rattle.std.specs.List.{count_by}
 use Rattle.std.specs.Option.{option_map_or}
-use Rattle.std.proofs.lemmas.Bool.{and_parts, both_ways, cases_eq, cases_lt, eqb-true, eq-eqb, false_from_ne_true, ne_eqb, lt-ltb, le-ltb, not-true, or_right, or_left}
+use Rattle.std.proofs.lemmas.Bool.{and_parts, cases_eq, cases_lt, eqb-true, eq-eqb, ne_eqb, lt-ltb, le-ltb, not-true, or_right, or_left}
 use Rattle.std.proofs.lemmas.List.Sums.{fold_push}
-use Rattle.config_graph.specs.Kinds.{row}
 use Rattle.config_graph.specs.declared.node.Target.{Target}
 use Rattle.quiesce_core.specs.declared.event.Event.{Event}
-use Rattle.quiesce_core.specs.declared.event.Event.TheVariants.{Begin, Call, Take, Give, End, More, Ask, Hear, Miss, Close, Reopen, Make, Link, Unlink, Remove}
+use Rattle.quiesce_core.specs.declared.event.Event.TheVariants.{Begin, Call, Take, Give, End, More, Ask, Hear}
 use Rattle.quiesce_core.specs.declared.state.Exchange.{Exchange}
 use Rattle.quiesce_core.specs.declared.state.Service.{Service}
 use Rattle.gate_word.specs.declared.phase.Phase.{Phase}
 use Rattle.gate_word.specs.declared.phase.Phase.TheVariants as phase
-use Rattle.quiesce_core.specs.State.{State, fresh_exchange, owner, target, exchange, service, target_service}
+use Rattle.quiesce_core.specs.State.{State, owner, target, exchange, service, target_service}
 use Rattle.gate_word.specs.Phases.{is_idle}
 use Rattle.quiesce_core.specs.Effect.{effect}
 use Rattle.quiesce_core.specs.Legal.{Legal}
@@ -21,7 +20,6 @@ use Rattle.quiesce_core.specs.Rules.{is_taken}
 use Rattle.quiesce_core.specs.Runs.{IsRun, state_after}
 use Rattle.quiesce_core.specs.Traffic.{IsConsistent}
 use Rattle.quiesce_core.specs.WellFormed.{IsWellFormed}
-use Rattle.quiesce_core.proofs.TableLaws.{exchange_place, target_place}
 use Rattle.quiesce_core.specs.Doers.{is_end_at}
 use Rattle.quiescence_laws.specs.Courses.{Course, on_begin, on_take, on_more, on_ask, on_hear, on_give, on_end, course_next, course_after, heard_at, course_in, course_of, course_at}
 use Rattle.quiescence_laws.specs.Courses as course
@@ -31,7 +29,7 @@ use Rattle.quiescence_laws.proofs.ExchangeLaws.{next_serial}
 use Rattle.quiescence_laws.proofs.SerialLaws.{IsTallied, tallied_next, tallied_empty, busy_serial}
 use Rattle.quiescence_laws.proofs.Hearing.{is_of_server, idle_is, asked_is, answered_is, more_is, heard_kept, heard_now, untaken, idle_unheard, taken_hears, taken_heard, heard_asked, more_unheard}
 use Rattle.quiesce_core.proofs.StateLaws.{asked_busy, more_busy, answered_busy, taken_is, taken_busy}
-use Rattle.base.proofs.OptionLaws.{None-from_is_none, Some-from_is_some}
+use Rattle.base.proofs.OptionLaws.{Some-from_is_some}
 use Rattle.quiesce_core.specs.Alters.{exchange_by, is_message_at}
 use Rattle.quiesce_core.proofs.AlterLaws.{exchanges_next}
 

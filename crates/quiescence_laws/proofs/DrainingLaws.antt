@@ -3,12 +3,10 @@ use Rattle.std.proofs.Common.{◌≡◌, ℕ, zero, suc, ◌+◌, ◌<◌, true,
 use Rattle.std.specs.Prelude.{◌==◌, is_none, is_some}
 use Rattle.std.specs.List.{list_any}
 use Rattle.std.proofs.lemmas.Bool.{and_parts, and_from, both_ways, cases_Bool, eq-eqb, not_from_false, or_cases, or_left, or_right}
-use Rattle.config_graph.specs.Kinds.{depends_on, is_depended_on}
 use Rattle.config_graph.specs.declared.node.Target.{Target}
 use Rattle.quiesce_core.specs.declared.event.Event.{Event}
 use Rattle.quiesce_core.specs.declared.state.Service.{Service}
-use Rattle.quiesce_core.specs.declared.state.Slot.{Slot}
-use Rattle.quiesce_core.specs.State.{State, slot, is_live, gate, owner, target, provision, depends, is_depended, exchange, service}
+use Rattle.quiesce_core.specs.State.{State, is_live, gate, owner, target, provision, depends, is_depended, exchange, service}
 use Rattle.gate_word.specs.Phases.{is_idle}
 use Rattle.quiesce_core.specs.Reach.{IsPortOf, can_walk, wiring_of}
 use Rattle.config_graph.specs.Wiring.{Reach, direct, through}
@@ -17,7 +15,7 @@ use Rattle.quiesce_core.specs.Runs.{IsRun, state_after}
 use Rattle.quiesce_core.specs.Settled.{Settled}
 use Rattle.quiesce_core.specs.Traffic.{IsServing, IsConsistent}
 use Rattle.quiesce_core.specs.WellFormed.{IsWellFormed}
-use Rattle.quiesce_core.proofs.CycleLaws.{call_by, depended_at, map_or_at, map_or_true, walk_to}
+use Rattle.quiesce_core.proofs.CycleLaws.{call_by, depended_at, map_or_at, walk_to}
 use Rattle.base.proofs.OptionLaws.{Some-from_is_some}
 use Rattle.quiesce_core.proofs.ReachLaws.{no_walk_plus, owner_of}
 use Rattle.quiesce_core.proofs.RunLaws.{runs_are_well_formed, runs_are_consistent}

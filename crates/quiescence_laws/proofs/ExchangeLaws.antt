@@ -1,17 +1,16 @@
 -- What an event does at a port: it begins, calls or ends a transaction there, or leaves the serial and the caller of the last one
 -- as they were, and it as open as it was.
-use Rattle.std.proofs.Common.{◌≡◌, ℕ, ◌+◌, ◌≤◌, Bool, true, false, cond, ◌&&◌, Option, Some, None, refl, sym, ap, ◌∙◌, subst, arith}
+use Rattle.std.proofs.Common.{◌≡◌, ℕ, ◌+◌, ◌≤◌, Bool, true, false, cond, Option, Some, None, refl, sym, ap, ◌∙◌, subst, arith}
 use Rattle.std.specs.Prelude.{◌==◌, nat_le, option_map, nat_lt}
 use Rattle.std.proofs.lemmas.Bool.{and_parts, both_ways, eq-eqb, eqb-true}
 use Rattle.std.proofs.lemmas.Option.{same_Some}
-use Rattle.config_graph.specs.Kinds.{row}
 use Rattle.quiesce_core.specs.declared.event.Event.{Event}
-use Rattle.quiesce_core.specs.declared.event.Event.TheVariants.{Begin, Call, Give, End, More, Ask, Make}
+use Rattle.quiesce_core.specs.declared.event.Event.TheVariants.{Begin, Call, Give, End, More, Ask}
 use Rattle.quiesce_core.specs.declared.state.Exchange.{Exchange}
 use Rattle.quiesce_core.specs.declared.state.Service.{Service}
 use Rattle.gate_word.specs.declared.phase.Phase.{Phase}
 use Rattle.gate_word.specs.declared.phase.Phase.TheVariants as phase
-use Rattle.quiesce_core.specs.State.{State, fresh_exchange, owner, provision, calls_allowed, exchange, service}
+use Rattle.quiesce_core.specs.State.{State, owner, provision, calls_allowed, exchange, service}
 use Rattle.gate_word.specs.Phases.{is_idle}
 use Rattle.quiesce_core.specs.Effect.{effect}
 use Rattle.quiesce_core.specs.Legal.{Legal, CanBegin, CanCall, CanEnd}
@@ -20,7 +19,6 @@ use Rattle.quiesce_core.specs.Runs.{is_begin_of}
 use Rattle.quiesce_core.specs.Traffic.{IsConsistent}
 use Rattle.quiesce_core.specs.WellFormed.{IsWellFormed}
 use Rattle.quiesce_core.proofs.CycleLaws.{map_or_true}
-use Rattle.quiesce_core.proofs.TableLaws.{exchange_place}
 use Rattle.quiesce_core.proofs.StateLaws.{more_busy, taken_busy, idle_unserved, answered_unserved}
 use Rattle.quiesce_core.specs.Alters.{exchange_next}
 use Rattle.quiesce_core.proofs.AlterLaws.{exchanges_next}

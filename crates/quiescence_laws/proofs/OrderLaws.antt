@@ -11,7 +11,7 @@ use Rattle.quiesce_core.specs.State.{exchange}
 use Rattle.gate_word.specs.Phases.{is_idle}
 use Rattle.quiesce_core.specs.Runs.{IsRun, state_after, is_begin_of, is_end_of, is_open_after}
 use Rattle.quiesce_core.specs.Doers.{is_end_at}
-use Rattle.quiescence_laws.specs.Events.{is_take_of, is_give_of, is_more_of, is_ask_of, is_hear_of}
+use Rattle.quiescence_laws.specs.Events.{is_take_of, is_give_of}
 use Rattle.quiescence_laws.specs.Courses.{Course, heard_at, course_in, course_of, course_at}
 use Rattle.quiescence_laws.specs.Courses as course
 use Rattle.quiescence_laws.proofs.CourseLemmas.{course_behind, course_zero, course_before, course_here}

@@ -1,15 +1,14 @@
 -- A settled node stays settled until a gate is opened, a link is made or it is removed, whatever is made meanwhile.
-use Rattle.std.proofs.Common.{cond, Bool, ◌≡◌, ℕ, ◌+◌, ◌<◌, ◌≤◌, true, false, not, List, length, get_or, set, Option, Some, None, refl, sym, ap, ◌∙◌, inl, inr, ⊎_elim, get_or-set_same, get_or-set_other}
-use Rattle.std.specs.Prelude.{◌⊎◌, ◌==◌, option_map, option_and_then}
+use Rattle.std.proofs.Common.{cond, Bool, ◌≡◌, ℕ, ◌<◌, true, false, not, length, Option, Some, None, refl, sym, ap, ◌∙◌, inl, inr, ⊎_elim}
+use Rattle.std.specs.Prelude.{◌⊎◌, ◌==◌, option_map}
 use Rattle.std.specs.Option.{option_map_or}
 use Rattle.std.proofs.lemmas.Bool.{and_parts, and_from, both_ways, eqb-true, false_from_ne_true, not-true}
-use Rattle.std.proofs.lemmas.List.{set_past}
 use Rattle.config_graph.specs.declared.node.Target.{Target}
 use Rattle.quiesce_core.specs.declared.event.Event.{Event}
-use Rattle.quiesce_core.specs.declared.event.Event.TheVariants.{Call, Take, Give, More, Hear, Miss, Reopen, Make, Link}
+use Rattle.quiesce_core.specs.declared.event.Event.TheVariants.{Take, Reopen, Link}
 use Rattle.quiesce_core.specs.declared.state.Service.{Service}
 use Rattle.quiesce_core.specs.declared.state.Exchange.{Exchange}
-use Rattle.quiesce_core.specs.State.{Configuration, State, gate, owner, target, provision, depends, exchange, service, target_service}
+use Rattle.quiesce_core.specs.State.{Configuration, State, gate, owner, target, provision, depends, exchange, service}
 use Rattle.gate_word.specs.Phases.{is_idle}
 use Rattle.quiesce_core.specs.Effect.{effect}
 use Rattle.quiesce_core.specs.Legal.{Legal}

@@ -12,7 +12,9 @@ mod transactions;
 
 pub use configurations::{links_are_made_by_link_alone, nodes_and_ports_stay};
 pub use cycles::{cycles_are_closed_walks, links_that_close_walks_are_denied, runs_close_no_walk};
-pub use draining::{closed_ports_stay_closed, drained_ports_stay_drained, nodes_with_drained_ports_are_settled};
+pub use draining::{
+    closed_ports_stay_closed, drained_ports_stay_drained, nodes_with_drained_ports_are_settled,
+};
 pub use quiescence::{
     changes_find_nodes_quiescent, less_than_settled_is_too_weak, settled_nodes_are_quiescent,
     settled_nodes_stay_settled,
