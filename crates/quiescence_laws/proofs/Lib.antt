@@ -18,3 +18,4 @@ pub mod OneRoot
 pub mod Strength
 pub mod DrainingLaws
 pub mod TotalLaws
+pub mod LogLaws

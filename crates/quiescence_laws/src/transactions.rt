@@ -1,11 +1,11 @@
 //! In which order the events of a transaction come, and how many there are.
 
-ghost use Rattle.std.specs.Prelude.{◌≡◌, ℕ, ◌+◌, ◌≤◌, true, not, ◌&&◌, ◌||◌, ◌==◌, nat_lt, nat_le, List, ◌++◌, length, Some, sum_by, if◌then◌else◌};
+ghost use Rattle.std.specs.Prelude.{◌≡◌, ℕ, Bool, ◌+◌, ◌≤◌, true, not, ◌&&◌, ◌||◌, ◌==◌, nat_lt, nat_le, List, ◌++◌, length, Some, sum_by, if◌then◌else◌};
 ghost use Rattle.std.specs.List.{count_by, range_with_len};
 ghost use Rattle.quiesce_core.specs.declared.event.Event.{Event};
 ghost use Rattle.quiesce_core.specs.Open.{open_txns};
 ghost use Rattle.gate_word.specs.Phases.{is_idle};
-ghost use Rattle.quiesce_core.specs.Runs.{Begun, IsRun, doer, initiator, is_begin_of, is_end_of, is_open_after, state_after, target_at_begin};
+ghost use Rattle.quiesce_core.specs.Runs.{Begun, IsRun, doer, done_by, initiator, is_begin_of, is_end_of, is_open_after, state_after, target_at_begin};
 ghost use Rattle.quiesce_core.specs.State.{exchange};
 ghost use Rattle.quiescence_laws.specs.Courses.{course_after, course_at};
 ghost use Rattle.quiesce_core.specs.Doers.{is_end_at};
@@ -57,6 +57,18 @@ pub fn two_nodes_do_all()
         → doer (state_after es) e ≡ Some (initiator es p k b) }
     ensures by_target { (es : List Event) (e : Event) (p k : ℕ) (b : Begun es p k) → IsRun es → is_open_after es p k ≡ true → is_of_target p k e ≡ true
         → doer (state_after es) e ≡ target_at_begin es p k b }
+{}
+
+/// So the events of a transaction stand in the logs of these two nodes and in no other: however some of those that its initiator does
+/// are told, all of them are in that node's log, and none in another's, and the same of those that its target does. With
+/// `transactions_come_in_order` this counts them in each log.
+pub fn two_logs_have_all()
+    ensures of_the_initiator { (es : List Event) (p k : ℕ) (b : Begun es p k) (n : ℕ) (test : Event → Bool) → IsRun es
+        → ((e : Event) → test e ≡ true → (is_begin_of p k e || is_of_initiator p k e) ≡ true)
+        → count_by test (done_by n es) ≡ (if initiator es p k b == n then count_by test es else 0) }
+    ensures of_the_target { (es : List Event) (p k : ℕ) (b : Begun es p k) (m n : ℕ) (test : Event → Bool) → IsRun es → target_at_begin es p k b ≡ Some m
+        → ((e : Event) → test e ≡ true → is_of_target p k e ≡ true)
+        → count_by test (done_by n es) ≡ (if m == n then count_by test es else 0) }
 {}
 
 /// A transaction of a run is open exactly where its port isn't idle and has its serial.
