@@ -2,6 +2,7 @@
 use Rattle.std.proofs.Common.{◌≡◌, ℕ, Bool, true, false, ◌&&◌, ◌||◌, Some, None, refl, sym, ap, ◌∙◌, ⊎_elim}
 use Rattle.std.specs.Prelude.{◌==◌, nat_lt, option_map}
 use Rattle.std.specs.Option.{option_map_or}
+use Rattle.std.proofs.Math.Bool.{or-false}
 use Rattle.std.proofs.lemmas.Bool.{and_from, and_parts, both_ways, cases_Bool, eq-eqb, eqb-true}
 use Rattle.quiesce_core.specs.declared.event.Event.{Event}
 use Rattle.quiesce_core.specs.declared.event.Event.TheVariants.{Take, Call, Give, End, More, Ask, Hear, Miss}
@@ -70,15 +71,11 @@ its_own s p k q j named serial =
 last_named : (s : State) (q j v : ℕ) → (j == (exchange s q).serial && v == (exchange s q).value) ≡ true → (j == (exchange s q).serial) ≡ true
 last_named s q j v h = (and_parts (j == (exchange s q).serial) (v == (exchange s q).value) h).0
 
-or_false : (b : Bool) → (b || false) ≡ b
-or_false true = refl
-or_false false = refl
-
 pub of_the_named : (s : State) (e : Event) (p k : ℕ) → Legal s e → (is_of_initiator p k e || is_of_target p k e) ≡ true → is_event_of (singleton p k) s e ≡ true
 of_the_named s (Take q j v) p k l h = its_own s p k q j h (last_named s q j v l.message)
 of_the_named s (Hear q j v) p k l h = its_own s p k q j h (last_named s q j v l.message)
 of_the_named s (Give q j v) p k l h = its_own s p k q j h l.serial
 of_the_named s (More q j v) p k l h = its_own s p k q j h l.serial
-of_the_named s (Ask q j v) p k l h = its_own s p k q j (sym (or_false (q == p && j == k)) ∙ h) l.serial
-of_the_named s (End q j v) p k l h = its_own s p k q j (sym (or_false (q == p && j == k)) ∙ h) (last_named s q j v l.message)
+of_the_named s (Ask q j v) p k l h = its_own s p k q j (sym (or-false (q == p && j == k)) ∙ h) l.serial
+of_the_named s (End q j v) p k l h = its_own s p k q j (sym (or-false (q == p && j == k)) ∙ h) (last_named s q j v l.message)
 of_the_named s _ p k l h = absurd (both_ways false refl h)

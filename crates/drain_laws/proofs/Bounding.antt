@@ -4,7 +4,7 @@ use Rattle.std.specs.Prelude.{◌==◌, count_by, option_map}
 use Rattle.std.specs.List.{list_any}
 use Rattle.std.proofs.lemmas.Bool.{and_parts, both_ways, cases_Bool, eq-eqb, eqb-true, false_from_ne_true, or_parts}
 use Rattle.std.proofs.lemmas.List.{append-nil}
-use Rattle.std.proofs.lemmas.List.Sums.{sum_by-cons}
+use Rattle.std.proofs.lemmas.List.Sums.{sum_by_push}
 use Rattle.quiesce_core.specs.declared.event.Event.{Event}
 use Rattle.config_graph.specs.declared.node.Target.{Target}
 use Rattle.quiesce_core.specs.declared.event.Event.TheVariants.{Begin, Call}
@@ -29,7 +29,7 @@ use Rattle.drain_laws.specs.Drain.{rest_at, rest_of, count_of}
 use Rattle.drain_laws.proofs.Belonging.{belongs_if, member_belongs, open_parts}
 use Rattle.drain_laws.proofs.Carrying.{HasCome, none_starts}
 use Rattle.quiescence_laws.proofs.ExchangeLaws.{serials_grow}
-use Rattle.quiesce_core.proofs.InductionLaws.{place}
+use Rattle.quiesce_core.proofs.InductionLaws.{further, place}
 use Rattle.drain_laws.proofs.Falls.{begin_rises, call_calls, call_moves}
 use Rattle.drain_laws.proofs.Sharing.{part_le, part_of_port}
 use Rattle.quiesce_core.proofs.StateLaws.{exchange_here}
@@ -37,7 +37,7 @@ use Rattle.quiesce_core.proofs.TableLaws.{exchange_place}
 use Rattle.drain_laws.proofs.Emptiness.{none_belongs}
 use Rattle.drain_laws.proofs.Portions.{part_next, part_of_all}
 use Rattle.quiesce_core.proofs.RunLaws.{StepAt, run_parts}
-use Rattle.drain_laws.proofs.Steps.{rest_falls, rest_stays}
+use Rattle.drain_laws.proofs.Steps.{rest_next}
 
 bound_from : (set : Transactions) (before es : List Event) → EachAfter StepAt before es → IsWellFormed (state_after before) → IsConsistent (state_after before) → HasCome set (state_after before)
     → count_of set (state_after before) es + rest_of set (state_after (before ++ es)) ≤ rest_of set (state_after before)
@@ -79,31 +79,14 @@ bound_ends es more_ run all p k before =
     (member_belongs (open_in (state_after es)) (state_after (es ++ more_)) p (ap (λ i. open_in (state_after es) p i) at.1 ∙ before)))
 
 -- where nothing is begun, all events of transactions are counted
-all_from : (before es : List Event) → EachAfter StepAt before es → IsWellFormed (state_after before) → IsConsistent (state_after before) → list_any is_begin es ≡ false
-    → count_by is_advance es + rest (state_after (before ++ es)) ≤ rest (state_after before)
-all_from before [] h w c no_begin = subst (λ xs. 0 + rest (state_after xs) ≤ rest (state_after before)) (sym (append-nil before)) (omega arith)
-all_from before (e ∷ es) h w c no_begin =
-    let l : Legal (state_after before) e = legal (state_after before) e h.0.allowed in
-    let begins = or_parts (is_begin e) (list_any is_begin es) no_begin in
-    let later : count_by is_advance es + rest (state_after (before ++ e ∷ es)) ≤ rest (state_after (before ++ e ∷ [])) =
-    subst (λ xs. count_by is_advance es + rest (state_after xs) ≤ rest (state_after (before ++ e ∷ []))) (append_assoc before (e ∷ []) es)
-    (all_from (before ++ e ∷ []) es h.1
-    (subst (λ x. IsWellFormed x) (sym h.0.changed) (well_formed_next (state_after before) e w l))
-    (subst (λ x. IsConsistent x) (sym h.0.changed) (consistent_next (state_after before) e w c l))
-    begins.1) in
-    ⊎_elim
-    (λ (on : is_advance e ≡ true).
-    let size : count_by is_advance (e ∷ es) ≡ 1 + count_by is_advance es = sum_by-cons (λ x. cond (is_advance x) 1 0) e es ∙ ap (λ b. cond b 1 0 + count_by is_advance es) on in
-    omega (arith, size, later, rest_falls (state_after before) (state_after (before ++ e ∷ [])) e w c h.0 on))
-    (λ (off : is_advance e ≡ false).
-    let size : count_by is_advance (e ∷ es) ≡ 0 + count_by is_advance es = sum_by-cons (λ x. cond (is_advance x) 1 0) e es ∙ ap (λ b. cond b 1 0 + count_by is_advance es) off in
-    omega (arith, size, later, rest_stays (state_after before) (state_after (before ++ e ∷ [])) e w c h.0 begins.0))
-    (cases_Bool (is_advance e))
-
 pub bound_all_left : (es more_ : List Event) → IsRun (es ++ more_) → list_any is_begin more_ ≡ false → count_by is_advance more_ + rest (state_after (es ++ more_)) ≤ rest (state_after es)
 bound_all_left es more_ run no_begin =
-    let parts = run_parts es more_ run in
-    all_from es more_ parts.1 (runs_are_well_formed es parts.0) (runs_are_consistent es parts.0) no_begin
+    further es (λ xs. count_by is_advance xs + rest (state_after (es ++ xs)) ≤ rest (state_after es)) is_begin
+    (λ xs e here free so_far.
+    let s = state_after (es ++ xs) in
+    let now : rest (state_after (es ++ (xs ++ e ∷ []))) ≡ rest (effect s e) = ap (λ ys. rest (state_after ys)) (sym (append_assoc es xs (e ∷ []))) ∙ ap (λ t. rest t) here.next in
+    omega (arith, so_far, now, rest_next s e here.well here.traffic here.legal free, sum_by_push (λ x. cond (is_advance x) 1 0) xs e))
+    more_ run no_begin (omega (arith, ap (λ ys. rest (state_after ys)) (append-nil es)))
 
 pub bound_all : (es more_ : List Event) → IsRun (es ++ more_) → list_any is_begin more_ ≡ false → count_by is_advance more_ ≤ rest (state_after es)
 bound_all es more_ run no_begin = omega (arith, bound_all_left es more_ run no_begin)

@@ -24,6 +24,8 @@ use Rattle.quiesce_core.proofs.TrafficLaws.{consistent_next}
 use Rattle.drain_laws.specs.Belongs as mine
 use Rattle.drain_laws.specs.Belongs.{Transactions, Belongs, belongs, singleton, open_in}
 use Rattle.drain_laws.proofs.Belonging.{belongs_is_found, open_parts}
+use Rattle.quiesce_core.proofs.InductionLaws.{along, place}
+use Rattle.quiescence_laws.proofs.ExtensionLaws.{none_barred}
 use Rattle.drain_laws.proofs.Carrying.{caller_busy}
 use Rattle.quiescence_laws.proofs.ExchangeLaws.{PortStep, stays, begins, calls, ends, turns_at, port_step, served_untouched, next_serial}
 use Rattle.quiesce_core.proofs.RunLaws.{StepAt, run_parts}
@@ -71,17 +73,6 @@ kept_next s e p k r j w c l h = by (port_step s e w c l p)
     by (calls i v u is may served y) = past i (next_serial s p i may.next_serial) (ap (λ (x : Exchange). x.serial) y)
     by (ends i v is may y) = record { grown = omega (arith, h.grown, ap (λ (x : Exchange). x.serial) y); still = λ same. inl (ap (λ (x : Exchange). is_idle x.phase) y) }
 
-kept_from : (before es : List Event) (p k r j : ℕ) → EachAfter StepAt before es → IsWellFormed (state_after before) → IsConsistent (state_after before) → Kept (state_after before) p k r j
-    → Kept (state_after (before ++ es)) p k r j
-kept_from before [] p k r j h w c kept = subst (λ xs. Kept (state_after xs) p k r j) (sym (append-nil before)) kept
-kept_from before (e ∷ es) p k r j h w c kept =
-    let l = legal (state_after before) e h.0.allowed in
-    subst (λ xs. Kept (state_after xs) p k r j) (append_assoc before (e ∷ []) es)
-    (kept_from (before ++ e ∷ []) es p k r j h.1
-    (subst (λ s. IsWellFormed s) (sym h.0.changed) (well_formed_next (state_after before) e w l))
-    (subst (λ s. IsConsistent s) (sym h.0.changed) (consistent_next (state_after before) e w c l))
-    (subst (λ s. Kept s p k r j) (sym h.0.changed) (kept_next (state_after before) e p k r j w c l kept)))
-
 -- just after the call
 kept_called : (s : State) (p k v : ℕ) (u : Service) → IsWellFormed s → IsConsistent s → Legal s (Call p k v) → service s (owner s.config p) ≡ Some u → Kept (effect s (Call p k v)) p k u.port ((exchange s u.port).serial)
 kept_called s p k v u w c l serviced =
@@ -98,15 +89,14 @@ kept_called s p k v u w c l serviced =
 called_kept : (es before after : List Event) (p k v : ℕ) (u : Service) → IsRun es → es ≡ before ++ Call p k v ∷ after → service (state_after before) (owner (state_after before).config p) ≡ Some u
     → Kept (state_after es) p k u.port ((exchange (state_after before) u.port).serial)
 called_kept es before after p k v u run parts serviced =
-    let w = run_parts before (Call p k v ∷ after) (subst (λ xs. IsRun xs) parts run) in
-    let sound = runs_are_well_formed before w.0 in
-    let consistent = runs_are_consistent before w.0 in
-    let l = legal (state_after before) (Call p k v) w.1.0.allowed in
-    subst (λ xs. Kept (state_after xs) p k u.port ((exchange (state_after before) u.port).serial)) (append_assoc before (Call p k v ∷ []) after ∙ sym parts)
-    (kept_from (before ++ Call p k v ∷ []) after p k u.port ((exchange (state_after before) u.port).serial) w.1.1
-    (subst (λ s. IsWellFormed s) (sym w.1.0.changed) (well_formed_next (state_after before) (Call p k v) sound l))
-    (subst (λ s. IsConsistent s) (sym w.1.0.changed) (consistent_next (state_after before) (Call p k v) sound consistent l))
-    (subst (λ s. Kept s p k u.port ((exchange (state_after before) u.port).serial)) (sym w.1.0.changed) (kept_called (state_after before) p k v u sound consistent l serviced)))
+    let j = (exchange (state_after before) u.port).serial in
+    let whole : (before ++ Call p k v ∷ []) ++ after ≡ es = append_assoc before (Call p k v ∷ []) after ∙ sym parts in
+    let here = place before after (Call p k v) (subst (λ xs. IsRun xs) parts run) in
+    subst (λ xs. Kept (state_after xs) p k u.port j) whole
+    (along (λ xs. Kept (state_after xs) p k u.port j) (λ e. false)
+    (λ xs e next free so_far. subst (λ s. Kept s p k u.port j) (sym next.next) (kept_next (state_after xs) e p k u.port j next.well next.traffic next.legal so_far))
+    (before ++ Call p k v ∷ []) after (subst (λ xs. IsRun xs) (sym whole) run) (none_barred after)
+    (subst (λ s. Kept s p k u.port j) (sym here.next) (kept_called (state_after before) p k v u here.well here.traffic here.legal serviced)))
 
 open_from : (s : State) (p k : ℕ) → is_idle (exchange s p).phase ≡ false → (exchange s p).serial ≡ k → open_in s p k ≡ true
 open_from s p k busy same = and_from (not (is_idle (exchange s p).phase)) ((exchange s p).serial == k) (ap not busy) (eq-eqb (exchange s p).serial k same)

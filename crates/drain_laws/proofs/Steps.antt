@@ -1,8 +1,8 @@
 -- What is left, by the steps: all of it, and the part of marked ports.
-use Rattle.std.proofs.Common.{◌≡◌, ℕ, ◌+◌, ◌≤◌, Bool, true, false, cond, Some, refl, sym, ap, ◌∙◌, subst, arith}
+use Rattle.std.proofs.Common.{◌≡◌, ℕ, ◌+◌, ◌≤◌, Bool, true, false, cond, Some, refl, sym, ap, ◌∙◌, subst, ⊎_elim, arith}
 use Rattle.std.specs.Prelude.{◌==◌, option_map}
 use Rattle.std.specs.Option.{option_map_or}
-use Rattle.std.proofs.lemmas.Bool.{both_ways}
+use Rattle.std.proofs.lemmas.Bool.{both_ways, cases_Bool}
 use Rattle.config_graph.specs.declared.node.Target.{Target}
 use Rattle.quiesce_core.specs.declared.event.Event.{Event}
 use Rattle.quiesce_core.specs.declared.event.Event.TheVariants.{Begin, Call, Take, Give, End, More, Ask, Hear, Miss, Close, Reopen, Make, Link, Unlink, Remove}
@@ -87,21 +87,21 @@ advance_only : (e : Event) → is_advance e ≡ true → is_begin e ≡ false
 advance_only (Begin p k v) h = absurd (both_ways false refl h)
 advance_only _ h = refl
 
--- all of what is left falls at each event of an open transaction
+-- all of what is left falls at each event of an open transaction, and rises at none but Begin
+pub rest_next : (s : State) (e : Event) → IsWellFormed s → IsConsistent s → Legal s e → is_begin e ≡ false → cond (is_advance e) 1 0 + rest (effect s e) ≤ rest s
+rest_next s e w c l h = ⊎_elim
+    (λ (on : is_advance e ≡ true).
+    let flag : ◌≡◌ {A = ℕ} (cond (is_marked every s e) 1 0) (cond (is_advance e) 1 0) = ap (λ b. cond b 1 0) (advance_marked s e c l on ∙ sym on) in omega (arith, flag, all_part s e w c l h))
+    (λ (off : is_advance e ≡ false). let flag : ◌≡◌ {A = ℕ} (cond (is_advance e) 1 0) 0 = ap (λ b. cond b 1 0) off in omega (arith, flag, all_part s e w c l h))
+    (cases_Bool (is_advance e))
+
 pub rest_falls : (s s' : State) (e : Event) → IsWellFormed s → IsConsistent s → Step s e s' → is_advance e ≡ true → rest s' + 1 ≤ rest s
 rest_falls s s' e w c step h =
-    let l = legal s e step.allowed in
-    let part = all_part s e w c l (advance_only e h) in
-    let one : cond (is_marked every s e) 1 0 ≡ 1 = ap {B = ℕ} (λ b. cond b 1 0) (advance_marked s e c l h) in
-    let same : rest s' ≡ rest (effect s e) = ap (λ x. rest x) step.changed in
-    omega (arith, part, one, same)
+    let one : ◌≡◌ {A = ℕ} (cond (is_advance e) 1 0) 1 = ap (λ b. cond b 1 0) h in
+    omega (arith, one, rest_next s e w c (legal s e step.allowed) (advance_only e h), ap (λ x. rest x) step.changed)
 
--- it rises at none but Begin
 pub rest_stays : (s s' : State) (e : Event) → IsWellFormed s → IsConsistent s → Step s e s' → is_begin e ≡ false → rest s' ≤ rest s
-rest_stays s s' e w c step h =
-    let part = all_part s e w c (legal s e step.allowed) h in
-    let same : rest s' ≡ rest (effect s e) = ap (λ x. rest x) step.changed in
-    omega (arith, part, same)
+rest_stays s s' e w c step h = omega (arith, rest_next s e w c (legal s e step.allowed) h, ap (λ x. rest x) step.changed)
 
 -- and at a Begin by all of one transaction
 pub rest_rises : (s s' : State) (p k v : ℕ) (t : Target) → IsWellFormed s → IsConsistent s → Step s (Begin p k v) s' → target s.config p ≡ Some t → rest s' ≡ rest s + full s.config t.node t.provide

@@ -25,9 +25,9 @@ use Rattle.quiescence_laws.specs.Courses.{Course, on_begin, on_take, on_more, on
 use Rattle.quiescence_laws.specs.Courses as course
 use Rattle.quiesce_core.proofs.StabilityLaws.{busy_ports_stay}
 use Rattle.quiesce_core.proofs.InductionLaws.{always}
-use Rattle.quiescence_laws.proofs.ExchangeLaws.{next_serial}
+use Rattle.quiescence_laws.proofs.ExchangeLaws.{answered_is, asked_is, idle_is, more_is, next_serial}
 use Rattle.quiescence_laws.proofs.SerialLaws.{IsTallied, tallied_next, tallied_empty, busy_serial}
-use Rattle.quiescence_laws.proofs.Hearing.{is_of_server, idle_is, asked_is, answered_is, more_is, heard_kept, heard_now, untaken, idle_unheard, taken_hears, taken_heard, heard_asked, more_unheard}
+use Rattle.quiescence_laws.proofs.Hearing.{is_of_server, heard_kept, heard_now, untaken, idle_unheard, taken_hears, taken_heard, heard_asked, more_unheard}
 use Rattle.quiesce_core.proofs.StateLaws.{asked_busy, more_busy, answered_busy, taken_is, taken_busy}
 use Rattle.base.proofs.OptionLaws.{Some-from_is_some}
 use Rattle.quiesce_core.specs.Alters.{exchange_by, is_message_at}

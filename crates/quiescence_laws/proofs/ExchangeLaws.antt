@@ -11,7 +11,7 @@ use Rattle.quiesce_core.specs.declared.state.Service.{Service}
 use Rattle.gate_word.specs.declared.phase.Phase.{Phase}
 use Rattle.gate_word.specs.declared.phase.Phase.TheVariants as phase
 use Rattle.quiesce_core.specs.State.{State, owner, provision, calls_allowed, exchange, service}
-use Rattle.gate_word.specs.Phases.{is_idle}
+use Rattle.gate_word.specs.Phases.{is_idle, is_asked, is_answered, is_in_more}
 use Rattle.quiesce_core.specs.Effect.{effect}
 use Rattle.quiesce_core.specs.Legal.{Legal, CanBegin, CanCall, CanEnd}
 use Rattle.quiesce_core.specs.Rules.{is_next_serial, last_serial}
@@ -23,6 +23,31 @@ use Rattle.quiesce_core.proofs.StateLaws.{more_busy, taken_busy, idle_unserved, 
 use Rattle.quiesce_core.specs.Alters.{exchange_next}
 use Rattle.quiesce_core.proofs.AlterLaws.{exchanges_next}
 use Rattle.quiesce_core.specs.Doers.{is_end_at}
+
+-- a phase that passes a test
+pub idle_is : (f : Phase) → is_idle f ≡ true → f ≡ phase.Idle
+idle_is phase.Idle h = refl
+idle_is phase.Asked h = absurd (both_ways false refl h)
+idle_is phase.Answered h = absurd (both_ways false refl h)
+idle_is phase.More h = absurd (both_ways false refl h)
+
+pub asked_is : (f : Phase) → is_asked f ≡ true → f ≡ phase.Asked
+asked_is phase.Idle h = absurd (both_ways false refl h)
+asked_is phase.Asked h = refl
+asked_is phase.Answered h = absurd (both_ways false refl h)
+asked_is phase.More h = absurd (both_ways false refl h)
+
+pub answered_is : (f : Phase) → is_answered f ≡ true → f ≡ phase.Answered
+answered_is phase.Idle h = absurd (both_ways false refl h)
+answered_is phase.Asked h = absurd (both_ways false refl h)
+answered_is phase.Answered h = refl
+answered_is phase.More h = absurd (both_ways false refl h)
+
+pub more_is : (f : Phase) → is_in_more f ≡ true → f ≡ phase.More
+more_is phase.Idle h = absurd (both_ways false refl h)
+more_is phase.Asked h = absurd (both_ways false refl h)
+more_is phase.Answered h = absurd (both_ways false refl h)
+more_is phase.More h = refl
 
 -- the port at which an event begins, calls or ends a transaction
 abbrev pub turns_at : Event → Option ℕ

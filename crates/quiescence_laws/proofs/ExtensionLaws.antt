@@ -169,7 +169,8 @@ extends_on b c d e f = record {
   many = omega (arith, e.many, f.many);
 }
 
-none_barred : (es : List Event) → list_any (λ e. false) es ≡ false
+-- nothing is barred
+pub none_barred : (es : List Event) → list_any (λ e. false) es ≡ false
 none_barred [] = refl
 none_barred (e ∷ es) = none_barred es
 

@@ -12,6 +12,7 @@ use Rattle.gate_word.specs.Phases.{is_idle, is_asked, is_answered, is_in_more}
 use Rattle.quiesce_core.specs.Rules.{is_taken, was_heard}
 use Rattle.quiesce_core.specs.Traffic.{IsConsistent}
 use Rattle.quiescence_laws.specs.Courses.{heard_by, heard_at}
+use Rattle.quiescence_laws.proofs.ExchangeLaws.{asked_is}
 use Rattle.quiesce_core.specs.Alters.{service_by}
 use Rattle.quiesce_core.specs.Effect.{effect}
 use Rattle.quiesce_core.specs.Legal.{Legal}
@@ -22,31 +23,6 @@ use Rattle.quiesce_core.specs.declared.event.Event.TheVariants.{Call, Take, Give
 use Rattle.quiesce_core.proofs.AlterLaws.{services_next}
 use Rattle.quiesce_core.proofs.StateLaws.{Taken, asked_busy, taken_busy, taken_is, target_service_is}
 use Rattle.base.proofs.OptionLaws.{None-from_is_none, Some-from_is_some}
-
--- a phase that passes a test
-pub idle_is : (f : Phase) → is_idle f ≡ true → f ≡ phase.Idle
-idle_is phase.Idle h = refl
-idle_is phase.Asked h = absurd (both_ways false refl h)
-idle_is phase.Answered h = absurd (both_ways false refl h)
-idle_is phase.More h = absurd (both_ways false refl h)
-
-pub asked_is : (f : Phase) → is_asked f ≡ true → f ≡ phase.Asked
-asked_is phase.Idle h = absurd (both_ways false refl h)
-asked_is phase.Asked h = refl
-asked_is phase.Answered h = absurd (both_ways false refl h)
-asked_is phase.More h = absurd (both_ways false refl h)
-
-pub answered_is : (f : Phase) → is_answered f ≡ true → f ≡ phase.Answered
-answered_is phase.Idle h = absurd (both_ways false refl h)
-answered_is phase.Asked h = absurd (both_ways false refl h)
-answered_is phase.Answered h = refl
-answered_is phase.More h = absurd (both_ways false refl h)
-
-pub more_is : (f : Phase) → is_in_more f ≡ true → f ≡ phase.More
-more_is phase.Idle h = absurd (both_ways false refl h)
-more_is phase.Asked h = absurd (both_ways false refl h)
-more_is phase.Answered h = absurd (both_ways false refl h)
-more_is phase.More h = refl
 
 abbrev pub hears : ℕ → Option Service → Option Bool
 hears p o = option_and_then (heard_by p) o

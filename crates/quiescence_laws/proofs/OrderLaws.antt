@@ -2,7 +2,8 @@
 use Rattle.std.proofs.Common.{◌≡◌, ℕ, ◌+◌, ◌<◌, ◌≤◌, Bool, true, false, cond, not, ◌&&◌, ◌||◌, List, [], ◌∷◌, Option, Some, None, refl, sym, ap, ◌∙◌, subst, ⊎_elim, arith}
 use Rattle.std.specs.Prelude.{◌==◌, nat_lt, nat_le}
 use Rattle.std.specs.List.{count_by, list_any}
-use Rattle.std.proofs.lemmas.Bool.{cases_Bool, cases_eq, cases_lt, and_from, both_ways, eq-eqb, ne_eqb, lt-ltb, le-ltb, leb-true, le-leb}
+use Rattle.std.proofs.Math.Bool.{and-false, and-true}
+use Rattle.std.proofs.lemmas.Bool.{cases_Bool, cases_eq, cases_lt, and_from, both_ways, eq-eqb, ne_eqb, lt-ltb, le-ltb, le-leb, lt-leb}
 use Rattle.std.proofs.lemmas.List.Sums.{sum_by-cons}
 use Rattle.quiesce_core.specs.declared.event.Event.{Event}
 use Rattle.gate_word.specs.declared.phase.Phase.{Phase}
@@ -66,65 +67,64 @@ ended_in phase.Asked (Some false) r = refl
 ended_in phase.Answered h r = refl
 ended_in phase.More h r = refl
 
-pub le_false : (a b : ℕ) → b < a → nat_le a b ≡ false
-le_false a b h = ⊎_elim
-    (λ (e : nat_le a b ≡ true). let le = leb-true a b e in absurd (omega arith))
-    (λ (e : nat_le a b ≡ false). e)
-    (cases_Bool (nat_le a b))
-
--- of course_of, by the place of the serial
+-- by the place of the serial
 abbrev pub was_begun : ℕ → ℕ → Bool
 was_begun n k = nat_le 1 k && nat_le k n
 
 abbrev has_ended : ℕ → Bool → ℕ → Bool
 has_ended n idle k = nat_le 1 k && (nat_lt k n || (k == n && idle))
 
-record Told (n : ℕ) (f : Phase) (h : Option Bool) (k r : ℕ) : Type 0 where
-  begins : (table (course_of n (course_in f h) k) r).begins ≡ cond (was_begun n k) 1 0
-  ends : (table (course_of n (course_in f h) k) r).ends ≡ cond (has_ended n (is_idle f) k) 1 0
+begins_by : (behind before : Bool) (f : Phase) (h : Option Bool) (r : ℕ) → (table (cond behind course.unbegun (cond before course.ended (course_in f h))) r).begins ≡ cond behind 0 1
+begins_by true before f h r = refl
+begins_by false true f h r = refl
+begins_by false false f h r = begun_in f h r
 
-none_told : (n : ℕ) (f : Phase) (h : Option Bool) (k r : ℕ) → course_of n (course_in f h) k ≡ course.unbegun → was_begun n k ≡ false → has_ended n (is_idle f) k ≡ false → Told n f h k r
-none_told n f h k r c b e = record {
-  begins = ap (λ x. (table x r).begins) c ∙ sym (ap (λ x. cond x 1 0) b);
-  ends = ap (λ x. (table x r).ends) c ∙ sym (ap (λ x. cond x 1 0) e);
-}
+ends_by : (behind before : Bool) (f : Phase) (h : Option Bool) (r : ℕ) → (table (cond behind course.unbegun (cond before course.ended (course_in f h))) r).ends ≡ cond behind 0 (cond before 1 (cond (is_idle f) 1 0))
+ends_by true before f h r = refl
+ends_by false true f h r = refl
+ends_by false false f h r = ended_in f h r
 
-told : (n : ℕ) (f : Phase) (h : Option Bool) (k r : ℕ) → (is_idle f ≡ false → 1 ≤ n) → Told n f h k r
-told n f h k r positive = ⊎_elim
-    (λ (zero_ : k ≡ 0).
-    let no_ : nat_le 1 k ≡ false = le_false 1 k (omega arith) in
-    none_told n f h k r (course_zero n (course_in f h) k zero_) (ap (λ b. b && nat_le k n) no_) (ap (λ b. b && (nat_lt k n || (k == n && is_idle f))) no_))
-    (λ (above : k ≡ 0 → ⊥).
-    let yes_ : nat_le 1 k ≡ true = le-leb 1 k (omega (arith, above)) in ⊎_elim
-    (λ (behind : n < k). none_told n f h k r (course_behind n (course_in f h) k behind) (ap (λ b. nat_le 1 k && b) (le_false k n behind) ∙ ap (λ b. b && false) yes_)
-    (ap (λ b. b && (nat_lt k n || (k == n && is_idle f))) yes_ ∙ ap (λ b. b || (k == n && is_idle f)) (le-ltb k n (omega arith)) ∙ ap (λ b. b && is_idle f) (ne_eqb k n (λ e. omega arith))))
-    (λ (within : k ≤ n).
-    let begun_ : was_begun n k ≡ true = and_from (nat_le 1 k) (nat_le k n) yes_ (le-leb k n within) in ⊎_elim
-    (λ (before : k < n). record {
-      begins = ap (λ x. (table x r).begins) (course_before n (course_in f h) k (omega (arith, above)) before) ∙ sym (ap (λ b. cond b 1 0) begun_);
-      ends = ap (λ x. (table x r).ends) (course_before n (course_in f h) k (omega (arith, above)) before)
-          ∙ sym (ap (λ b. cond b 1 0) (ap (λ b. b && (nat_lt k n || (k == n && is_idle f))) yes_ ∙ ap (λ b. b || (k == n && is_idle f)) (lt-ltb k n before)));
-    })
-    (λ (past : n ≤ k).
-    let same : n ≡ k = omega arith in record {
-      begins = ap (λ x. (table x r).begins) (course_here n (course_in f h) k (omega (arith, above)) same) ∙ begun_in f h r ∙ sym (ap (λ b. cond b 1 0) begun_);
-      ends = ap (λ x. (table x r).ends) (course_here n (course_in f h) k (omega (arith, above)) same) ∙ ended_in f h r
-          ∙ sym (ap (λ b. cond b 1 0) (ap (λ b. b && (nat_lt k n || (k == n && is_idle f))) yes_ ∙ ap (λ b. b || (k == n && is_idle f)) (le-ltb k n (omega arith)) ∙ ap (λ b. b && is_idle f) (eq-eqb k n (sym same))));
-    })
-    (cases_lt k n))
+-- no serial, one behind the port's, one before it, or the port's
+record Places (n k : ℕ) (P : Type 0) : Type 0 where
+  zero_ : k ≡ 0 → P
+  behind : 1 ≤ k → n < k → P
+  before : 1 ≤ k → k < n → P
+  here : 1 ≤ k → n ≡ k → P
+
+by_place : {P : Type 0} (n k : ℕ) → Places n k P → P
+by_place n k h = ⊎_elim h.zero_
+    (λ (above : k ≡ 0 → ⊥). ⊎_elim (h.behind (omega (arith, above)))
+    (λ (within : k ≤ n). ⊎_elim (h.before (omega (arith, above))) (λ (past : n ≤ k). h.here (omega (arith, above)) (omega arith)) (cases_lt k n))
     (cases_lt n k))
     (cases_eq k 0)
 
-told_at : (es : List Event) (p k r : ℕ) → IsRun es → Told (exchange (state_after es) p).serial (exchange (state_after es) p).phase (heard_at (state_after es) p) k r
-told_at es p k r run =
-    let x = exchange (state_after es) p in
-    told x.serial x.phase (heard_at (state_after es) p) k r (busy_serial (count_by (is_end_at p) es) x (tallied es p run))
+begun_flag : (n k : ℕ) → ◌≡◌ {A = ℕ} (cond (k == 0 || nat_lt n k) 0 1) (cond (was_begun n k) 1 0)
+begun_flag n k = by_place n k (record {
+  zero_ = λ z. rw (eq-eqb k 0 z, lt-leb 1 k (omega arith)) refl;
+  behind = λ one l. rw (ne_eqb k 0 (λ z. omega arith), lt-ltb n k l, le-leb 1 k one, lt-leb k n l) refl;
+  before = λ one l. rw (ne_eqb k 0 (λ z. omega arith), le-ltb n k (omega arith), le-leb 1 k one, le-leb k n (omega arith)) refl;
+  here = λ one same. rw (ne_eqb k 0 (λ z. omega arith), le-ltb n k (omega arith), le-leb 1 k one, le-leb k n (omega arith)) refl;
+})
+
+ended_flag : (n k : ℕ) (idle : Bool) → ◌≡◌ {A = ℕ} (cond (k == 0 || nat_lt n k) 0 (cond (nat_lt k n) 1 (cond idle 1 0))) (cond (has_ended n idle k) 1 0)
+ended_flag n k idle = by_place n k (record {
+  zero_ = λ z. rw (eq-eqb k 0 z, lt-leb 1 k (omega arith)) refl;
+  behind = λ one l. rw (ne_eqb k 0 (λ z. omega arith), lt-ltb n k l, le-leb 1 k one, le-ltb k n (omega arith), ne_eqb k n (λ e. omega arith)) refl;
+  before = λ one l. rw (ne_eqb k 0 (λ z. omega arith), le-ltb n k (omega arith), lt-ltb k n l, le-leb 1 k one) refl;
+  here = λ one same. rw (ne_eqb k 0 (λ z. omega arith), le-ltb n k (omega arith), le-ltb k n (omega arith), le-leb 1 k one, eq-eqb k n (sym same)) refl;
+})
 
 pub begun_count : (es : List Event) (p k : ℕ) → IsRun es → count_by (is_begin_of p k) es ≡ cond (was_begun (exchange (state_after es) p).serial k) 1 0
-begun_count es p k run = let h = counted es p k run in h.begins ∙ (told_at es p k h.rounds run).begins
+begun_count es p k run =
+    let h = counted es p k run in
+    let x = exchange (state_after es) p in
+    h.begins ∙ begins_by (k == 0 || nat_lt x.serial k) (nat_lt k x.serial) x.phase (heard_at (state_after es) p) h.rounds ∙ begun_flag x.serial k
 
 pub ended_count : (es : List Event) (p k : ℕ) → IsRun es → count_by (is_end_of p k) es ≡ cond (has_ended (exchange (state_after es) p).serial (is_idle (exchange (state_after es) p).phase) k) 1 0
-ended_count es p k run = let h = counted es p k run in h.ends ∙ (told_at es p k h.rounds run).ends
+ended_count es p k run =
+    let h = counted es p k run in
+    let x = exchange (state_after es) p in
+    h.ends ∙ ends_by (k == 0 || nat_lt x.serial k) (nat_lt k x.serial) x.phase (heard_at (state_after es) p) h.rounds ∙ ended_flag x.serial k (is_idle x.phase)
 
 -- some member passes exactly where one is counted
 pub any_counted : (t : Event → Bool) (es : List Event) (b : Bool) → count_by t es ≡ cond b 1 0 → list_any t es ≡ b
@@ -143,47 +143,17 @@ any_counted t (e ∷ es) b h = ⊎_elim
     some_ true h = refl
     some_ false h = absurd (omega arith)
 
--- begun and not ended, by five tests: whether the serial is above 0, within, below and at the port's, and whether the port is idle
-abbrev is_left : Bool → Bool → Bool → Bool → Bool → Bool
-is_left above within below at idle = (above && within) && not (above && (below || (at && idle)))
-
-left_here : (above idle : Bool) → (above ≡ false → idle ≡ true) → is_left above true false true idle ≡ (not idle && true)
-left_here true true h = refl
-left_here true false h = refl
-left_here false true h = refl
-left_here false false h = absurd (both_ways false refl (h refl))
-
-left_behind : (above below at idle : Bool) → is_left above false below at idle ≡ false
-left_behind true below at idle = refl
-left_behind false below at idle = refl
-
-left_before : (above at idle : Bool) → is_left above true true at idle ≡ false
-left_before true at idle = refl
-left_before false at idle = refl
-
-none_open : (idle b : Bool) → b ≡ false → (not idle && b) ≡ false
-none_open true b h = refl
-none_open false b h = h
-
-left_open : (n k : ℕ) (idle : Bool) → (idle ≡ false → 1 ≤ n) → is_left (nat_le 1 k) (nat_le k n) (nat_lt k n) (k == n) idle ≡ (not idle && n == k)
-left_open n k idle positive = ⊎_elim
-    (λ (same : n ≡ k).
-    ap (λ b. is_left (nat_le 1 k) b (nat_lt k n) (k == n) idle) (le-leb k n (omega arith)) ∙ ap (λ b. is_left (nat_le 1 k) true b (k == n) idle) (le-ltb k n (omega arith))
-    ∙ ap (λ b. is_left (nat_le 1 k) true false b idle) (eq-eqb k n (sym same))
-    ∙ left_here (nat_le 1 k) idle (λ none_. ⊎_elim
-    (λ (yes_ : idle ≡ true). yes_)
-    (λ (no_ : idle ≡ false). absurd (both_ways (nat_le 1 k) none_ (le-leb 1 k (omega (arith, positive no_)))))
-    (cases_Bool idle))
-    ∙ ap (λ b. not idle && b) (sym (eq-eqb n k same)))
-    (λ (other : n ≡ k → ⊥). ⊎_elim
-    (λ (less : k < n).
-    ap (λ b. is_left (nat_le 1 k) b (nat_lt k n) (k == n) idle) (le-leb k n (omega arith)) ∙ ap (λ b. is_left (nat_le 1 k) true b (k == n) idle) (lt-ltb k n less)
-    ∙ left_before (nat_le 1 k) (k == n) idle)
-    (λ (past : n ≤ k).
-    ap (λ b. is_left (nat_le 1 k) b (nat_lt k n) (k == n) idle) (le_false k n (omega (arith, other))) ∙ left_behind (nat_le 1 k) (nat_lt k n) (k == n) idle)
-    (cases_lt k n)
-    ∙ sym (none_open idle (n == k) (ne_eqb n k other)))
-    (cases_eq n k)
+open_flag : (n k : ℕ) (idle : Bool) → (idle ≡ false → 1 ≤ n) → (was_begun n k && not (has_ended n idle k)) ≡ (not idle && n == k)
+open_flag n k idle positive = by_place n k (record {
+  zero_ = λ z. rw (lt-leb 1 k (omega arith)) (sym (unbegun z idle positive));
+  behind = λ one l. rw (le-leb 1 k one, lt-leb k n l, ne_eqb n k (λ e. omega arith)) (sym (and-false (not idle)));
+  before = λ one l. rw (le-leb 1 k one, le-leb k n (omega arith), lt-ltb k n l, ne_eqb n k (λ e. omega arith)) (sym (and-false (not idle)));
+  here = λ one same. rw (le-leb 1 k one, le-leb k n (omega arith), le-ltb k n (omega arith), eq-eqb k n (sym same), eq-eqb n k same) (sym (and-true (not idle)));
+})
+  where
+    unbegun : k ≡ 0 → (idle : Bool) → (idle ≡ false → 1 ≤ n) → (not idle && n == k) ≡ false
+    unbegun z true h = refl
+    unbegun z false h = ne_eqb n k (λ e. omega (arith, h refl, e, z))
 
 -- a transaction is open exactly where its port isn't idle and has its serial
 pub open_is_seen : (es : List Event) (p k : ℕ) → IsRun es → is_open_after es p k ≡ (not (is_idle (exchange (state_after es) p).phase) && (exchange (state_after es) p).serial == k)
@@ -191,7 +161,7 @@ open_is_seen es p k run =
     let x = exchange (state_after es) p in
     ap (λ b. b && not (list_any (is_end_of p k) es)) (any_counted (is_begin_of p k) es (was_begun x.serial k) (begun_count es p k run))
     ∙ ap (λ b. was_begun x.serial k && not b) (any_counted (is_end_of p k) es (has_ended x.serial (is_idle x.phase) k) (ended_count es p k run))
-    ∙ left_open x.serial k (is_idle x.phase) (busy_serial (count_by (is_end_at p) es) x (tallied es p run))
+    ∙ open_flag x.serial k (is_idle x.phase) (busy_serial (count_by (is_end_at p) es) x (tallied es p run))
 
 -- a transaction that has ended was begun, taken and answered once
 pub whole_once :

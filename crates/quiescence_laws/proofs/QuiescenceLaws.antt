@@ -3,6 +3,7 @@ use Rattle.std.proofs.Common.{◌≡◌, ℕ, ◌<◌, Bool, true, false, not, �
 use Rattle.std.specs.Prelude.{◌↔◌, ◌==◌, option_map}
 use Rattle.std.specs.Option.{option_map_or}
 use Rattle.std.specs.List.{list_any}
+use Rattle.std.proofs.Math.Bool.{and-false, and-true}
 use Rattle.std.proofs.lemmas.Bool.{and_parts, both_ways, cases_eq, eqb-true, eq-eqb, ne_eqb, not-true, or_parts}
 use Rattle.std.proofs.lemmas.List.{append-nil}
 use Rattle.std.proofs.lemmas.List.Folds.{list_any-append}
@@ -135,28 +136,20 @@ module _ (es : List Event) (n : ℕ) (run : IsRun es) (h : Settled (state_after 
   }
 
 -- whether a node that was made is live after an event
-and_true : (b : Bool) → (b && true) ≡ b
-and_true true = refl
-and_true false = refl
-
 live_next : (s : State) (e : Event) (n : ℕ) → Legal s e → n < length s.config.slots → is_live (effect s e).config n ≡ (is_live s.config n && not (removes n e))
 live_next s e n l made = ap (λ o. option_map_or (λ (x : Slot). x.live) o false) ((reconfigured s e l).slots n) ∙ by e
   where
-    and_false : (b : Bool) → (b && false) ≡ false
-    and_false true = refl
-    and_false false = refl
-
     gone : (o : Option Slot) → option_map_or (λ (x : Slot). x.live) (option_map (λ (x : Slot). record x { live = false }) o) false ≡ false
     gone None = refl
     gone (Some x) = refl
 
     by : (e : Event) → option_map_or (λ (x : Slot). x.live) (slot_next s.config n e) false ≡ (is_live s.config n && not (removes n e))
-    by (Make m node from) = rw (ne_eqb n (length s.config.slots) (λ last. omega (arith, made, last))) (sym (and_true (is_live s.config n)))
+    by (Make m node from) = rw (ne_eqb n (length s.config.slots) (λ last. omega (arith, made, last))) (sym (and-true (is_live s.config n)))
     by (Remove m) = ⊎_elim
-        (λ (same : n ≡ m). rw (eq-eqb n m same, eq-eqb m n (sym same)) (gone (slot s.config n) ∙ sym (and_false (is_live s.config n))))
-        (λ (other : n ≡ m → ⊥). rw (ne_eqb n m other, ne_eqb m n (λ e. other (sym e))) (sym (and_true (is_live s.config n))))
+        (λ (same : n ≡ m). rw (eq-eqb n m same, eq-eqb m n (sym same)) (gone (slot s.config n) ∙ sym (and-false (is_live s.config n))))
+        (λ (other : n ≡ m → ⊥). rw (ne_eqb n m other, ne_eqb m n (λ e. other (sym e))) (sym (and-true (is_live s.config n))))
         (cases_eq n m)
-    by _ = sym (and_true (is_live s.config n))
+    by _ = sym (and-true (is_live s.config n))
 
 neither : (a b : Bool) → (not a && not b) ≡ not (a || (b || false))
 neither true true = refl

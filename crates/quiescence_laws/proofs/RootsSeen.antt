@@ -2,8 +2,8 @@
 use Rattle.std.proofs.Common.{◌≡◌, ℕ, ◌+◌, ◌<◌, Bool, true, false, not, ◌&&◌, ◌||◌, List, [], ◌∷◌, ◌++◌, refl, sym, ap, ◌∙◌, subst, ⊎_elim, arith}
 use Rattle.std.specs.Prelude.{◌==◌, nat_le, is_none}
 use Rattle.std.specs.List.{list_any}
-use Rattle.std.proofs.Math.Bool.{or-false}
-use Rattle.std.proofs.lemmas.Bool.{both_ways, false_from_ne_true, cases_Bool, and_from, and_parts, eqb-true, eq-eqb, not-true, or_cases, or_left, or_right}
+use Rattle.std.proofs.Math.Bool.{and-false, and-true, or-false}
+use Rattle.std.proofs.lemmas.Bool.{both_ways, false_from_ne_true, cases_Bool, and_from, and_parts, eqb-true, eq-eqb, not-true, or_cases, or_left, or_right, lt-leb}
 use Rattle.std.proofs.lemmas.List.Folds.{list_any-append}
 use Rattle.quiesce_core.specs.declared.event.Event.{Event}
 use Rattle.quiesce_core.specs.declared.event.Event.TheVariants.{Begin}
@@ -16,7 +16,7 @@ use Rattle.quiescence_laws.specs.Events.{is_root_of}
 use Rattle.quiescence_laws.specs.Roots.{has_root, is_open_root_after}
 use Rattle.quiesce_core.proofs.InductionLaws.{IsNext, always}
 use Rattle.quiescence_laws.proofs.OpenLaws.{IsOpen}
-use Rattle.quiescence_laws.proofs.OrderLaws.{any_counted, begun_count, was_begun, le_false, open_is_seen}
+use Rattle.quiescence_laws.proofs.OrderLaws.{any_counted, begun_count, was_begun, open_is_seen}
 use Rattle.quiescence_laws.proofs.ExchangeLaws.{PortStep, stays, begins, calls, ends, port_step, begin_turns, next_serial}
 
 -- a begin of a root is a begin
@@ -45,14 +45,10 @@ module _ (p k : ℕ) (xs : List Event) where
   unborn run less = ⊎_elim
       (λ (yes_ : list_any (is_root_of p k) xs ≡ true).
       let n = (exchange (state_after xs) p).serial in
-      let none_ : was_begun n k ≡ false = ap (λ b. nat_le 1 k && b) (le_false k n less) ∙ and_false (nat_le 1 k) in
+      let none_ : was_begun n k ≡ false = ap (λ b. nat_le 1 k && b) (lt-leb k n less) ∙ and-false (nat_le 1 k) in
       absurd (both_ways (list_any (is_begin_of p k) xs) (any_counted (is_begin_of p k) xs (was_begun n k) (begun_count xs p k run) ∙ none_) (root_begun p k xs yes_)))
       (λ (no_ : list_any (is_root_of p k) xs ≡ false). no_)
       (cases_Bool (list_any (is_root_of p k) xs))
-    where
-      and_false : (b : Bool) → (b && false) ≡ false
-      and_false true = refl
-      and_false false = refl
 
   tells_next : (e : Event) → IsNext xs e → Tells (exchange (state_after xs) p) k was → Tells (exchange (effect (state_after xs) e) p) k (was || (is_root_of p k e || false))
   tells_next e here h = by (port_step (state_after xs) e here.well here.traffic here.legal p)
@@ -88,7 +84,7 @@ open_root_is_seen es p k run =
     (λ (open_ : is_open_after es p k ≡ true).
     let at = and_parts (not (is_idle x.phase)) (x.serial == k) (sym seen ∙ open_) in
     let unended = (and_parts (list_any (is_begin_of p k) es) (not (list_any (is_end_of p k) es)) open_).1 in
-    ap (λ b. list_any (is_root_of p k) es && b) unended ∙ and_true (list_any (is_root_of p k) es)
+    ap (λ b. list_any (is_root_of p k) es && b) unended ∙ and-true (list_any (is_root_of p k) es)
     ∙ tells es p k run (record { busy = not-true (is_idle x.phase) at.0; serial = eqb-true x.serial k at.1 })
     ∙ sym (ap (λ b. b && is_none x.within) (sym seen ∙ open_)))
     (λ (ended : is_open_after es p k ≡ false).
@@ -96,10 +92,6 @@ open_root_is_seen es p k run =
     ∙ sym (ap (λ b. b && is_none x.within) (sym seen ∙ ended)))
     (cases_Bool (is_open_after es p k))
   where
-    and_true : (b : Bool) → (b && true) ≡ b
-    and_true true = refl
-    and_true false = refl
-
     none_left : (r b u : Bool) → (r ≡ true → b ≡ true) → (b && u) ≡ false → (r && u) ≡ false
     none_left true b u h e = sym (ap (λ c. c && u) (h refl)) ∙ e
     none_left false b u h e = refl
