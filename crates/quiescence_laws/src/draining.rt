@@ -7,9 +7,15 @@ ghost use Rattle.quiesce_core.specs.Reach.{IsPortOf, wiring_of};
 ghost use Rattle.config_graph.specs.Wiring.{Reach, direct, through};
 ghost use Rattle.quiesce_core.specs.Runs.{IsRun, state_after};
 ghost use Rattle.quiesce_core.specs.Settled.{Settled};
-ghost use Rattle.quiesce_core.specs.State.{is_live};
+ghost use Rattle.quiesce_core.specs.State.{gate, is_live};
 ghost use Rattle.quiescence_laws.specs.Drained.{is_drained};
 ghost use Rattle.quiescence_laws.specs.Events.{reopens};
+
+/// A closed port stays closed until it is reopened.
+pub fn closed_ports_stay_closed()
+    ensures { (es more_ : List Event) (p : ℕ) → IsRun (es ++ more_) → list_any (reopens p) more_ ≡ false →
+        IsTrue (gate (state_after es).config p).closed → IsTrue (gate (state_after (es ++ more_)).config p).closed }
+{}
 
 /// A port that is closed, and idle or in a consequent transaction, stays so until it is reopened.
 pub fn drained_ports_stay_drained()
