@@ -1,0 +1,11 @@
+-- What is kept of a service by a program.
+use Rattle.std.specs.Prelude.{◌≡◌, ℕ, ◌<◌, ◌≤◌, Bool, true, List, Some, slice_get}
+use Rattle.component_trait.specs.declared.TheConstants.{VALUE_LIMIT}
+use Rattle.component_trait.specs.declared.serving.TheConstants.{MAX_ANSWERS}
+
+pub record IsWithin (value reply count : ℕ) (answers : List ℕ) (waits : Bool) : Type 0 where
+  pub few : count ≤ MAX_ANSWERS
+  pub value_small : value < VALUE_LIMIT
+  pub reply_small : reply < VALUE_LIMIT
+  pub answers_small : (i a : ℕ) → slice_get answers i ≡ Some a → a < VALUE_LIMIT
+  pub few_while_waiting : waits ≡ true → count < MAX_ANSWERS

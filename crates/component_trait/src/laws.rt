@@ -1,0 +1,35 @@
+//! Laws of the kinds' machines.
+
+ghost use Rattle.std.specs.Prelude.{◌≡◌, ℕ, ◌<◌, true, List, Some, length};
+ghost use Rattle.config_graph.specs.Kinds.{calls_of, depends_on, mores_of};
+ghost use Rattle.config_graph.specs.declared.kind.Kind.{Kind};
+ghost use Rattle.quiesce_core.specs.declared.event.Event.{Event};
+ghost use Rattle.component_trait.specs.Fold.{fold_from};
+ghost use Rattle.component_trait.specs.Rows.{AreWorked};
+ghost use Rattle.component_trait.specs.States.{NodeState};
+ghost use Rattle.component_trait.specs.Tables.{next_of};
+ghost use Rattle.component_trait.specs.declared.next.Ask.{Ask};
+ghost use Rattle.component_trait.specs.declared.next.Next.TheVariants as next;
+
+/// A law: one service makes at most as many calls as its kind's table says, each on a requirement on which its provision depends,
+/// and sends at most as many intermediate replies as that says. It asks only while fewer answers than these have come, and sends
+/// an intermediate reply only while fewer further messages than these have come.
+#[tactic(auto, using(crate::proofs::BoundLaws::asks_are_few, crate::proofs::BoundLaws::asks_depend, crate::proofs::BoundLaws::mores_are_few))]
+pub fn services_are_bounded()
+    ensures asks { (k : Kind) (a v r : ℕ) (answers : List ℕ) (x : Ask) → next_of k a v r answers ≡ next.Ask x → length answers < calls_of k 0 }
+    ensures depend { (k : Kind) (a v r : ℕ) (answers : List ℕ) (x : Ask) → next_of k a v r answers ≡ next.Ask x → depends_on k 0 x.require ≡ true }
+    ensures mores { (k : Kind) (a v r : ℕ) (answers : List ℕ) (m : ℕ) → next_of k a v r answers ≡ next.More m → length answers < mores_of k 0 }
+{}
+
+/// A law: events lead a node to a state of the same kind and argument.
+#[tactic(auto, using(crate::proofs::FoldLaws::fold_keeps_kind, crate::proofs::FoldLaws::fold_keeps_argument))]
+pub fn folds_keep_kind_and_argument()
+    ensures kind { (first : ℕ) (s t : NodeState) (es : List Event) → fold_from first s es ≡ Some t → t.kind ≡ s.kind }
+    ensures arg { (first : ℕ) (s t : NodeState) (es : List Event) → fold_from first s es ≡ Some t → t.arg ≡ s.arg }
+{}
+
+/// A law: short logs of each kind, evaluated, among them such that no node of the kind has.
+#[tactic(auto, using(crate::proofs::Logs::worked))]
+pub fn logs_evaluate()
+    ensures { AreWorked }
+{}

@@ -1,0 +1,16 @@
+//! What nodes do: the machine of each kind, the state to which a node's own events lead it, and the calls of a component that
+//! follows the machine of its kind.
+#![tactic(auto)]
+
+mod component;
+mod laws;
+mod next;
+mod serving;
+
+pub use component::Component;
+pub use laws::{folds_keep_kind_and_argument, logs_evaluate, services_are_bounded};
+pub use next::{Ask, Next};
+pub use serving::{Serving, hand, wait, waits};
+
+/// Values and arguments are below this number, and sums are taken modulo it.
+pub const VALUE_LIMIT: u32 = 16_777_216;
