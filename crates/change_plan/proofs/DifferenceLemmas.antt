@@ -13,7 +13,7 @@ use Rattle.config_graph.proofs.NumberingLaws.{within_list}
 use Rattle.config_graph.proofs.OrderLaws.{one_link-in_order}
 use Rattle.change_plan.specs.Differences.{IsGone, IsKeptLink, IsTwin}
 use Rattle.change_plan.specs.Touched.{HasNewTarget, IsTouched, SameTarget}
-use Rattle.change_plan.proofs.NodeLemmas.{one_path}
+use Rattle.change_plan.proofs.NodeLaws.{one_path}
 use Rattle.base.proofs.ContainsLaws.{Contains-at}
 use Rattle.base.proofs.FindLaws.{Contains-find, find_passes}
 

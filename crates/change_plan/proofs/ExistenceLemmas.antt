@@ -17,7 +17,7 @@ use Rattle.change_plan.specs.declared.error.PlanError.{PlanError}
 use Rattle.change_plan.specs.declared.error.PlanError.TheVariants.{NotRemoved, NotCreated, KindsDiffer, MovedTwice}
 use Rattle.change_plan.specs.declared.plan_data.Move.{Move}
 use Rattle.change_plan.proofs.DifferenceLemmas.{one_node}
-use Rattle.change_plan.proofs.NodeLemmas.{one_path}
+use Rattle.change_plan.proofs.NodeLaws.{one_path}
 use Rattle.change_plan.proofs.RoomLaws.{room_or_fault}
 use Rattle.base.proofs.ContainsLaws.{Contains-at}
 use Rattle.base.proofs.TellLaws.{any_or_none, told_by}

@@ -1,8 +1,10 @@
-pub mod NodeLemmas
-pub mod SelectsLemmas
+pub mod NodeLaws
+pub mod SelectsLaws
 pub mod DifferenceLemmas
+pub mod MoveLaws
 pub mod MoveLemmas
 pub mod PlanningLemmas
+pub mod StepLaws
 pub mod ApplyingLemmas
 pub mod TextLemmas
 pub mod RoomLaws

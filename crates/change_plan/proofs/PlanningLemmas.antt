@@ -17,7 +17,7 @@ use Rattle.change_plan.specs.Selects.{Selects}
 use Rattle.config_graph.specs.declared.node.Port.{Port}
 use Rattle.change_plan.specs.Selects.Selects.{ends, takes, skips}
 use Rattle.change_plan.specs.Touched.{Frozen, IsTouched}
-use Rattle.change_plan.proofs.SelectsLemmas.{Contains-places, Selects-has, Selects-only, sum_by-Selects}
+use Rattle.change_plan.proofs.SelectsLaws.{Contains-places, Selects-has, Selects-only, sum_by-Selects}
 use Rattle.base.proofs.RisingLaws.{places_more}
 
 -- what each element has, each of a part has; and a part is no longer than the whole

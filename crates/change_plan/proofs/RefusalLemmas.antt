@@ -13,7 +13,7 @@ use Rattle.change_plan.specs.declared.error.PlanError.{PlanError}
 use Rattle.change_plan.specs.declared.error.PlanError.TheVariants.{NotRemoved, NotCreated, KindsDiffer, MovedTwice, NodesFull, PortsFull, NoMemory}
 use Rattle.change_plan.specs.declared.plan_data.Move.{Move}
 use Rattle.change_plan.proofs.DifferenceLemmas.{one_node}
-use Rattle.change_plan.proofs.MoveLemmas.{one_gone}
+use Rattle.change_plan.proofs.MoveLaws.{one_gone}
 use Rattle.change_plan.proofs.RoomLaws.{no_room, one_room, one_wanted}
 
 -- a repeated path is the source, or else the target

@@ -11,7 +11,7 @@ use Rattle.change_plan.specs.Refusals.{CreatesSoMany}
 use Rattle.change_plan.specs.Room.{HasRoom, RoomFault}
 use Rattle.change_plan.specs.declared.error.PlanError.{PlanError}
 use Rattle.change_plan.specs.declared.error.PlanError.TheVariants.{NotRemoved, NotCreated, KindsDiffer, MovedTwice, NodesFull, PortsFull, NoMemory}
-use Rattle.change_plan.proofs.SelectsLemmas.{Selects-one}
+use Rattle.change_plan.proofs.SelectsLaws.{Selects-one}
 
 -- how much is wanted
 pub one_wanted : (old new : Graph) (n p m q : ℕ) → CreatesSoMany old new n p → CreatesSoMany old new m q → (n ≡ m) × (p ≡ q)

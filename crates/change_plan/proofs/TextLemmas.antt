@@ -19,9 +19,9 @@ use Rattle.change_plan.specs.PlanText.{at_node, create_line, link_line, step_lin
 use Rattle.change_plan.specs.PlanWithin.{IsPlanWithin}
 use Rattle.change_plan.specs.Plans.{HasSameSteps}
 use Rattle.change_plan.specs.declared.plan_data.Plan.{Plan}
-use Rattle.change_plan.proofs.ApplyingLemmas.{read}
+use Rattle.base.proofs.PlaceLaws.{slice_get-there}
 use Rattle.change_plan.proofs.DifferenceLemmas.{one_node}
-use Rattle.change_plan.proofs.NodeLemmas.{one_path}
+use Rattle.change_plan.proofs.NodeLaws.{one_path}
 use Rattle.base.proofs.ContainsLaws.{Contains-at}
 
 -- ---- parts of lines
@@ -55,7 +55,7 @@ module _ (g : Graph) (graph : IsGraph g) (words : All (λ n. IsOneWord n.path) g
   -- ports
   module _ (i r : ℕ) (low : r < requires_at g.nodes i) where
     owner : (n : Node) × (slice_get g.nodes i ≡ Some n)
-    owner = read g.nodes i (within_list requires_of g.nodes i r low)
+    owner = slice_get-there g.nodes i (within_list requires_of g.nodes i r low)
 
     port_is : port_text g i r ≡ owner.0.path ++ codes "." ++ require_name owner.0.kind r
     port_is = text_at (λ n. n.path ++ codes "." ++ require_name n.kind r) i owner.0 owner.1
@@ -86,7 +86,7 @@ module _ (g : Graph) (graph : IsGraph g) (words : All (λ n. IsOneWord n.path) g
   -- provisions
   module _ (i x : ℕ) (low : x < provides_at g.nodes i) where
     server : (n : Node) × (slice_get g.nodes i ≡ Some n)
-    server = read g.nodes i (within_list provides_of g.nodes i x low)
+    server = slice_get-there g.nodes i (within_list provides_of g.nodes i x low)
 
     provision_is : provision_text g i x ≡ server.0.path ++ codes "." ++ provide_name server.0.kind x
     provision_is = text_at (λ n. n.path ++ codes "." ++ provide_name n.kind x) i server.0 server.1
@@ -107,8 +107,8 @@ module _ (g : Graph) (graph : IsGraph g) (words : All (λ n. IsOneWord n.path) g
 
   same_node_line : (word : List ℕ) (i j : ℕ) → i < length g.nodes → j < length g.nodes → (rest rest' : List ℕ) → step_line word g i ++ rest ≡ step_line word g j ++ rest' → (i ≡ j) × (rest ≡ rest')
   same_node_line word i j i_low j_low rest rest' e =
-      let m = read g.nodes i i_low in
-      let n = read g.nodes j j_low in
+      let m = slice_get-there g.nodes i i_low in
+      let n = slice_get-there g.nodes j j_low in
       let form : (k : ℕ) (a : Node) (after : List ℕ) → slice_get g.nodes k ≡ Some a → step_line word g k ++ after ≡ word ++ (a.path ++ 10 ∷ after) =
       λ k a after at.
       append_assoc (word ++ at_node (λ n. n.path) g k) (codes "\n") after ∙ append_assoc word (at_node (λ n. n.path) g k) (codes "\n" ++ after) ∙ ap (λ t. word ++ (t ++ 10 ∷ after)) (text_at (λ n. n.path) k a at) in
@@ -126,8 +126,8 @@ module _ (g : Graph) (graph : IsGraph g) (words : All (λ n. IsOneWord n.path) g
 
   same_create_line : (i j : ℕ) → i < length g.nodes → j < length g.nodes → (rest rest' : List ℕ) → create_line g i ++ rest ≡ create_line g j ++ rest' → (i ≡ j) × (rest ≡ rest')
   same_create_line i j i_low j_low rest rest' e =
-      let m = read g.nodes i i_low in
-      let n = read g.nodes j j_low in
+      let m = slice_get-there g.nodes i i_low in
+      let n = slice_get-there g.nodes j j_low in
       let text : Node → List ℕ = λ a. a.path ++ codes " " ++ kind_text a.kind a.arg in
       let form : (k : ℕ) (a : Node) (after : List ℕ) → slice_get g.nodes k ≡ Some a → create_line g k ++ after ≡ codes "create " ++ (a.path ++ 32 ∷ (kind_text a.kind a.arg ++ 10 ∷ after)) =
       λ k a after at.

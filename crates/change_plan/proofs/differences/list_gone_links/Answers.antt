@@ -5,7 +5,7 @@ use Rattle.config_graph.specs.declared.node.Link.{Link}
 use Rattle.change_plan.specs.Differences.{IsKeptLink}
 use Rattle.change_plan.specs.Selects.{Selects}
 use Rattle.change_plan.specs.Selects.Selects.{ends}
-use Rattle.change_plan.proofs.SelectsLemmas.{elements_pass, elements_push}
+use Rattle.change_plan.proofs.SelectsLaws.{elements_pass, elements_push}
 use Rattle.change_plan.proofs.differences.list_gone_links.Goals as goal
 use Rattle.change_plan.proofs.differences.list_gone_links.Goals.{then-not-is_kept+in_ok-push, else-not-is_kept}
 

@@ -2,7 +2,7 @@ use Rattle.std.proofs.Common.{◌≡◌, ◌∙◌, ap, sym, Some, List, get_or}
 use Rattle.config_graph.specs.Graph.{index_of}
 use Rattle.config_graph.specs.declared.node.Node.{Node}
 use Rattle.config_graph.proofs.SameLaws.{node_decides}
-use Rattle.change_plan.proofs.NodeLemmas.{if_none, path_missing, twin_found, twin_missing}
+use Rattle.change_plan.proofs.NodeLaws.{if_none, path_missing, twin_found, twin_missing}
 use Rattle.change_plan.proofs.differences.twin_of.Goals as goal
 use Rattle.change_plan.proofs.differences.twin_of.Goals.{After-then_some}
 

@@ -1,4 +1,4 @@
-use Rattle.change_plan.proofs.MoveLemmas.{one_kind, one_source, one_target}
+use Rattle.change_plan.proofs.MoveLaws.{one_kind, one_source, one_target}
 use Rattle.change_plan.proofs.laws.a_state_goes_to_one_node_of_its_kind.Goals as goal
 
 pub returns-clause-kinds : goal.returns-clause-kinds

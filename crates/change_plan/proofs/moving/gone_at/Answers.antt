@@ -1,7 +1,7 @@
 use Rattle.std.proofs.Common.{◌≡◌, ◌∙◌, Some, sym}
 use Rattle.config_graph.specs.Graph.{index_of}
 use Rattle.change_plan.proofs.MoveLemmas.{found_gone, found_not_gone, missing_not_gone}
-use Rattle.change_plan.proofs.NodeLemmas.{if_none, read_found}
+use Rattle.change_plan.proofs.NodeLaws.{if_none, read_found}
 use Rattle.change_plan.proofs.moving.gone_at.Goals as goal
 
 pub returns-in_err-index-clause-missing : goal.returns-in_err-index-clause-missing

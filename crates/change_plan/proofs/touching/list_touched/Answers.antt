@@ -4,7 +4,7 @@ use Rattle.std.specs.List.{range_with_len}
 use Rattle.change_plan.specs.Selects.{Selects}
 use Rattle.change_plan.specs.Selects.Selects.{ends}
 use Rattle.change_plan.specs.Touched.{IsTouched}
-use Rattle.change_plan.proofs.SelectsLemmas.{places_pass, places_push}
+use Rattle.change_plan.proofs.SelectsLaws.{places_pass, places_push}
 use Rattle.change_plan.proofs.touching.list_touched.Goals as goal
 use Rattle.change_plan.proofs.touching.list_touched.Goals.{then-is_touched+in_ok-push, else-is_touched}
 

@@ -1,0 +1,72 @@
+-- How changes that are given up end, and how a system stops.
+use Rattle.std.proofs.Common.{◌≡◌, ℕ, ◌<◌, true, false, not, ◌&&◌, List, ◌++◌, length, Some, refl, sym, ap, ◌∙◌, subst, ⊎_elim, arith}
+use Rattle.std.specs.Prelude.{◌==◌}
+use Rattle.std.specs.List.{list_any}
+use Rattle.std.proofs.lemmas.Bool.{and_parts, both_ways, cases_Bool}
+use Rattle.config_graph.specs.Graph.{Graph}
+use Rattle.config_graph.specs.declared.node.Target.{Target}
+use Rattle.quiesce_core.specs.declared.event.Event.{Event}
+use Rattle.quiesce_core.specs.declared.event.Event.TheVariants.{Begin, Call, Take, Give, End, More, Ask, Hear, Miss, Close, Reopen, Make, Link, Unlink, Remove}
+use Rattle.quiesce_core.specs.Effect.{effect}
+use Rattle.quiesce_core.specs.Legal.{Legal}
+use Rattle.quiesce_core.specs.Live.{IsGraphOf}
+use Rattle.quiesce_core.specs.Phases.{is_idle}
+use Rattle.quiesce_core.specs.Reach.{IsPortOf, wiring_of}
+use Rattle.config_graph.specs.Wiring.{Reach}
+use Rattle.quiesce_core.specs.Runs.{IsRun, is_open_after, state_after}
+use Rattle.quiesce_core.specs.State.{State, exchange, gate, is_live, owner, target}
+use Rattle.base.proofs.OptionLaws.{Some-from_is_some}
+use Rattle.config_graph.proofs.WiringLaws.{reach_linked}
+use Rattle.quiesce_core.proofs.TableLaws.{gate_place}
+use Rattle.quiesce_core.proofs.RunLaws.{runs_are_consistent, runs_are_well_formed}
+use Rattle.quiescence_laws.specs.Drained.{is_drained}
+use Rattle.quiesce_core.proofs.ReachLaws.{owner_of}
+use Rattle.quiescence_laws.proofs.DrainLemmas.{settled_if_drained}
+use Rattle.quiescence_laws.proofs.Induction.{along}
+use Rattle.quiescence_laws.proofs.Orders.{open_is_seen}
+use Rattle.commit_laws.specs.Steps.{is_shaping}
+use Rattle.commit_laws.proofs.BetweenLaws.{linked_made}
+use Rattle.commit_laws.proofs.ClosingLaws.{graph_closed}
+use Rattle.commit_laws.proofs.SourceLaws.{owners_live}
+
+graph_next : (g : Graph) (s : State) (e : Event) → Legal s e → is_shaping e ≡ false → IsGraphOf s.config g → IsGraphOf (effect s e).config g
+graph_next g s (Begin p k v) l h is = is
+graph_next g s (Call p k v) l h is = is
+graph_next g s (Miss p) l h is = is
+graph_next g s (Take p k v) l h is = is
+graph_next g s (Give p k v) l h is = is
+graph_next g s (More p k v) l h is = is
+graph_next g s (Ask p k v) l h is = is
+graph_next g s (Hear p k v) l h is = is
+graph_next g s (End p k v) l h is = is
+graph_next g s (Close p) l h is = graph_closed s.config p true (gate_place s p l.live) g is
+graph_next g s (Reopen p) l h is = graph_closed s.config p false (gate_place s p l.live) g is
+graph_next g s (Make n node from) l h is = absurd (both_ways true h refl)
+graph_next g s (Link p n x) l h is = absurd (both_ways true h refl)
+graph_next g s (Unlink p) l h is = absurd (both_ways true h refl)
+graph_next g s (Remove n) l h is = absurd (both_ways true h refl)
+
+-- where nothing is made, removed, linked or unlinked, the graph stays
+pub graph_stays : (g : Graph) (es more_ : List Event) → IsRun (es ++ more_) → list_any is_shaping more_ ≡ false → IsGraphOf (state_after es).config g → IsGraphOf (state_after (es ++ more_)).config g
+graph_stays g es more_ run h is = along (λ xs. IsGraphOf (state_after xs).config g) is_shaping
+    (λ before e here free k. subst (λ (s : State). IsGraphOf s.config g) (sym here.next) (graph_next g (state_after before) e here.legal free k)) es more_ run h is
+
+-- where all live ports are drained, no transaction is open
+pub none_open : (es : List Event) → IsRun es → ((p : ℕ) → p < length (state_after es).config.gates → is_live (state_after es).config (owner (state_after es).config p) ≡ true → is_drained (state_after es) p ≡ true)
+    → (p k : ℕ) → is_open_after es p k ≡ false
+none_open es run drained p k =
+    let s = state_after es in
+    let c = (state_after es).config in
+    let linked_drained : (q : ℕ) (t : Target) → target c q ≡ Some t → is_drained s q ≡ true = λ q t e. drained q (linked_made c q t e) (owners_live es run q t e) in
+    let port_made : (q : ℕ) → IsPortOf c (owner c p) q → q < length c.gates = λ q o. let w = ((runs_are_well_formed es run).sound.rows (owner c p) o.node o.made).within in let below = o.below in omega arith in
+    let reach_drained : (q : ℕ) → Reach (wiring_of c) (owner c p) q → is_drained s q ≡ true = λ q w. let t = reach_linked (wiring_of c) (owner c p) q w in linked_drained q (record { node = t.0; provide = t.1 }) t.2 in
+    let idle : is_idle (exchange s p).phase ≡ true = ⊎_elim (λ (h : is_idle (exchange s p).phase ≡ true). h)
+    (λ (busy : is_idle (exchange s p).phase ≡ false).
+    let t = Some-from_is_some (target c p) ((runs_are_consistent es run).linked p busy) in
+    let sound = (runs_are_well_formed es run).sound in
+    let settled = settled_if_drained es (owner c p) run (owners_live es run p t.0 t.1)
+    (λ q o. drained q (port_made q o) (ap (is_live c) (owner_of c sound (owner c p) q o) ∙ owners_live es run p t.0 t.1))
+    (λ q w. reach_drained q w) in
+    (and_parts (gate c p).closed (is_idle (exchange s p).phase) (settled.own p (sound.ports p (linked_made c p t.0 t.1)))).1)
+    (cases_Bool (is_idle (exchange s p).phase)) in
+    open_is_seen es p k run ∙ ap (λ b. not b && (exchange s p).serial == k) idle

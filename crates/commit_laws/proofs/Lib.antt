@@ -1,0 +1,17 @@
+pub mod AcyclicLaws
+pub mod AllowedLaws
+pub mod BetweenLaws
+pub mod CarryingLaws
+pub mod ClosingLaws
+pub mod CommitLaws
+pub mod EndingLaws
+pub mod FittingLaws
+pub mod LinkingLaws
+pub mod MakingLaws
+pub mod MeanwhileLaws
+pub mod PartLaws
+pub mod PhaseLaws
+pub mod RemovingLaws
+pub mod ReopeningLaws
+pub mod SourceLaws
+pub mod UnlinkingLaws

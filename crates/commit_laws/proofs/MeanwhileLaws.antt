@@ -1,0 +1,95 @@
+-- A commit while nodes go on: what they do leaves the configuration, and drained ports drained.
+use Rattle.std.proofs.Common.{◌≡◌, ℕ, Bool, true, false, cond, ◌||◌, List, [], ◌∷◌, ◌++◌, None, refl, sym, ap, ◌∙◌, subst, ⊎_elim}
+use Rattle.std.specs.Prelude.{fold, filter}
+use Rattle.std.specs.List.{list_any}
+use Rattle.std.proofs.lemmas.Bool.{both_ways, cases_Bool, or_parts}
+use Rattle.quiesce_core.specs.declared.event.Event.{Event}
+use Rattle.quiesce_core.specs.declared.event.Event.TheVariants.{Begin, Call, Take, Give, End, More, Ask, Hear, Miss, Close, Reopen, Make, Link, Unlink, Remove}
+use Rattle.quiesce_core.specs.Doers.{is_of_change}
+use Rattle.quiesce_core.specs.Effect.{effect}
+use Rattle.quiesce_core.specs.Rules.{denial}
+use Rattle.quiesce_core.specs.Runs.{IsRun, state_after}
+use Rattle.quiesce_core.specs.State.{Configuration, State, empty}
+use Rattle.quiescence_laws.specs.Drained.{is_drained}
+use Rattle.quiescence_laws.specs.Events.{reopens}
+use Rattle.quiescence_laws.proofs.DrainLemmas.{drained_stays}
+use Rattle.commit_laws.specs.Steps.{MayStep, MayStepAll, change_all, change_next}
+use Rattle.commit_laws.proofs.AllowedLaws.{config_next, step_allowed}
+
+node_leaves : (c : Configuration) (e : Event) → is_of_change e ≡ false → change_next c e ≡ c
+node_leaves c (Begin p k v) h = refl
+node_leaves c (Call p k v) h = refl
+node_leaves c (Miss p) h = refl
+node_leaves c (Take p k v) h = refl
+node_leaves c (Give p k v) h = refl
+node_leaves c (More p k v) h = refl
+node_leaves c (Ask p k v) h = refl
+node_leaves c (Hear p k v) h = refl
+node_leaves c (End p k v) h = refl
+node_leaves c (Close p) h = absurd (both_ways true h refl)
+node_leaves c (Reopen p) h = absurd (both_ways true h refl)
+node_leaves c (Make n node from) h = absurd (both_ways true h refl)
+node_leaves c (Link p n x) h = absurd (both_ways true h refl)
+node_leaves c (Unlink p) h = absurd (both_ways true h refl)
+node_leaves c (Remove n) h = absurd (both_ways true h refl)
+
+node_opens_none : (p : ℕ) (e : Event) → is_of_change e ≡ false → reopens p e ≡ false
+node_opens_none p (Begin q k v) h = refl
+node_opens_none p (Call q k v) h = refl
+node_opens_none p (Miss q) h = refl
+node_opens_none p (Take q k v) h = refl
+node_opens_none p (Give q k v) h = refl
+node_opens_none p (More q k v) h = refl
+node_opens_none p (Ask q k v) h = refl
+node_opens_none p (Hear q k v) h = refl
+node_opens_none p (End q k v) h = refl
+node_opens_none p (Close q) h = absurd (both_ways true h refl)
+node_opens_none p (Reopen q) h = absurd (both_ways true h refl)
+node_opens_none p (Make n node from) h = absurd (both_ways true h refl)
+node_opens_none p (Link q n x) h = absurd (both_ways true h refl)
+node_opens_none p (Unlink q) h = absurd (both_ways true h refl)
+node_opens_none p (Remove n) h = absurd (both_ways true h refl)
+
+-- the configuration after events is the one that the change's own events make
+pub config_after : (s : State) (es : List Event) → (fold effect s es).config ≡ change_all s.config (filter is_of_change es)
+config_after s [] = refl
+config_after s (e ∷ es) =
+    config_after (effect s e) es ∙ ap (λ c. change_all c (filter is_of_change es)) (config_next s e)
+    ∙ ⊎_elim
+    (λ (h : is_of_change e ≡ true). ap (λ b. change_all s.config (cond b (e ∷ filter is_of_change es) (filter is_of_change es))) (sym h))
+    (λ (h : is_of_change e ≡ false). ap (λ c. change_all c (filter is_of_change es)) (node_leaves s.config e h)
+    ∙ ap (λ b. change_all s.config (cond b (e ∷ filter is_of_change es) (filter is_of_change es))) (sym h))
+    (cases_Bool (is_of_change e))
+
+pub none_reopened : (p : ℕ) (es : List Event) → list_any (reopens p) (filter is_of_change es) ≡ false → list_any (reopens p) es ≡ false
+none_reopened p [] h = refl
+none_reopened p (e ∷ es) h = ⊎_elim
+    (λ (k : is_of_change e ≡ true).
+    let here = sym (ap (λ b. list_any (reopens p) (cond b (e ∷ filter is_of_change es) (filter is_of_change es))) k) ∙ h in
+    let parts = or_parts (reopens p e) (list_any (reopens p) (filter is_of_change es)) here in
+    ap (λ b. b || list_any (reopens p) es) parts.0 ∙ none_reopened p es parts.1)
+    (λ (k : is_of_change e ≡ false).
+    let here = sym (ap (λ b. list_any (reopens p) (cond b (e ∷ filter is_of_change es) (filter is_of_change es))) k) ∙ h in
+    ap (λ b. b || list_any (reopens p) es) (node_opens_none p e k) ∙ none_reopened p es here)
+    (cases_Bool (is_of_change e))
+
+pub may_at : (noted : ℕ → Bool) (c : Configuration) (done : List Event) (e : Event) (left : List Event) → MayStepAll noted c (done ++ e ∷ left) → MayStep noted (change_all c done) e
+may_at noted c [] e left h = h.0
+may_at noted c (d ∷ done) e left h = may_at noted (change_next c d) done e left h.1
+
+-- the state after further events
+pub after_more : (s : State) (es more_ : List Event) → fold effect s (es ++ more_) ≡ fold effect (fold effect s es) more_
+after_more s [] more_ = refl
+after_more s (e ∷ es) more_ = after_more (effect s e) es more_
+
+-- the configuration after a run and further events
+pub now_is : (es more_ : List Event) → (state_after (es ++ more_)).config ≡ change_all (state_after es).config (filter is_of_change more_)
+now_is es more_ = ap (λ (s : State). s.config) (after_more empty es more_) ∙ config_after (state_after es) more_
+
+-- A list of steps that may be made, begun after a run: each is allowed after those before it, whatever nodes do in between.
+pub allowed_meanwhile : (noted : ℕ → Bool) (es more_ left : List Event) (e : Event) → IsRun (es ++ more_) → ((p : ℕ) → noted p ≡ true → is_drained (state_after es) p ≡ true)
+    → ((p : ℕ) → list_any (reopens p) (filter is_of_change more_) ≡ false)
+    → MayStepAll noted (state_after es).config (filter is_of_change more_ ++ e ∷ left) → denial (state_after (es ++ more_)) e ≡ None
+allowed_meanwhile noted es more_ left e run drained closed_ may =
+    step_allowed noted (es ++ more_) run (λ p h. drained_stays es more_ p run (none_reopened p more_ (closed_ p)) (drained p h)) e
+    (subst (λ c. MayStep noted c e) (sym (now_is es more_)) (may_at noted (state_after es).config (filter is_of_change more_) e left may))

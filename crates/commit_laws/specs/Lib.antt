@@ -1,0 +1,5 @@
+pub mod Commits
+pub mod Fitting
+pub mod Lists
+pub mod Steps
+pub mod Work

@@ -1,0 +1,25 @@
+//! How changes that are given up end, and how a system stops.
+
+ghost use Rattle.std.specs.Prelude.{◌≡◌, ◌<◌, ◌++◌, ℕ, false, List, length, IsTrue};
+ghost use Rattle.std.specs.List.{list_any};
+ghost use Rattle.config_graph.specs.Graph.{Graph};
+ghost use Rattle.quiesce_core.specs.declared.event.Event.{Event};
+ghost use Rattle.quiesce_core.specs.Live.{IsGraphOf};
+ghost use Rattle.quiesce_core.specs.Runs.{IsRun, is_open_after, state_after};
+ghost use Rattle.quiesce_core.specs.State.{is_live, owner};
+ghost use Rattle.quiescence_laws.specs.Drained.{is_drained};
+ghost use Rattle.commit_laws.specs.Steps.{is_shaping};
+
+/// Where nothing is made, removed, linked or unlinked, the graph stays. So a change that is given up leaves the old one.
+pub fn what_is_given_up_leaves_the_graph()
+    ensures { (graph : Graph) (es more_ : List Event) → IsRun (es ++ more_) → list_any is_shaping more_ ≡ false
+        → IsGraphOf (state_after es).config graph → IsGraphOf (state_after (es ++ more_)).config graph }
+{}
+
+/// Where all live ports are drained, no transaction is open.
+pub fn stops_leave_nothing_open()
+    ensures { (es : List Event) → IsRun es
+        → ((p : ℕ) → p < length (state_after es).config.gates → IsTrue (is_live (state_after es).config (owner (state_after es).config p))
+        → IsTrue (is_drained (state_after es) p))
+        → (p k : ℕ) → is_open_after es p k ≡ false }
+{}

@@ -1,0 +1,8 @@
+use Rattle.plan_laws.proofs.RunLemmas.{flag_stays, target_stays}
+use Rattle.plan_laws.proofs.committing.what_is_not_frozen_is_left.Goals as goal
+
+pub returns-clause-target : goal.returns-clause-target
+returns-clause-target c = λ old new moves plan es more_ left p may low unfrozen is. target_stays old new moves plan es may p low unfrozen more_ left is
+
+pub returns-clause-gate : goal.returns-clause-gate
+returns-clause-gate c = λ old new moves plan es more_ left p may low unfrozen is. flag_stays old new moves plan es may p low unfrozen more_ left is

@@ -1,0 +1,63 @@
+//! A plan's commit: what it does to a running system, once the gates that the plan freezes are closed and what was open there has
+//! ended.
+
+ghost use Rattle.std.specs.Prelude.{◌≡◌, ◌<◌, ◌⊎◌, ℕ, false, List, ◌∷◌, ◌++◌, filter, length, map, None, Contains, IsTrue};
+ghost use Rattle.change_plan.specs.Touched.{IsTouched};
+ghost use Rattle.change_plan.specs.declared.plan_data.Move.{Move};
+ghost use Rattle.change_plan.specs.declared.plan_data.Plan.{Plan};
+ghost use Rattle.config_graph.specs.Graph.{Graph};
+ghost use Rattle.quiesce_core.specs.declared.event.Event.{Event};
+ghost use Rattle.quiesce_core.specs.declared.event.Event.TheVariants.{Reopen};
+ghost use Rattle.quiesce_core.specs.Doers.{is_of_change};
+ghost use Rattle.quiesce_core.specs.Live.{IsGraphOf, StandsAt};
+ghost use Rattle.quiesce_core.specs.Rules.{denial};
+ghost use Rattle.quiesce_core.specs.Runs.{IsRun, state_after};
+ghost use Rattle.quiesce_core.specs.Settled.{Quiescent, Settled};
+ghost use Rattle.quiesce_core.specs.State.{gate, is_live, owner, target};
+ghost use Rattle.commit_laws.specs.Fitting.{IsPart};
+ghost use Rattle.commit_laws.specs.Steps.{change_all};
+ghost use Rattle.plan_laws.specs.Commit.{commit_events, commit_steps, is_one_of, reopens};
+ghost use Rattle.plan_laws.specs.Committing.{MayCommit};
+
+/// Each event of a plan's commit is allowed after those before it, whatever nodes do in between.
+pub fn commits_can_not_fail()
+    ensures { (old new : Graph) (moves : List Move) (plan : Plan) (es more_ left : List Event) (e : Event) → MayCommit old new moves plan es → IsRun (es ++ more_)
+        → filter is_of_change more_ ++ e ∷ left ≡ commit_events old new plan (state_after es).config → denial (state_after (es ++ more_)) e ≡ None }
+{}
+
+/// After the last link the graph is the new one, and so it is at each place among the reopenings. At each place before, it is a
+/// part of the old or of the new.
+pub fn commits_leave_the_new_graph()
+    ensures linked { (old new : Graph) (moves : List Move) (plan : Plan) (es more_ : List Event) → MayCommit old new moves plan es
+        → filter is_of_change more_ ≡ commit_steps old new plan (state_after es).config → IsGraphOf (state_after (es ++ more_)).config new }
+    ensures reopening { (old new : Graph) (moves : List Move) (plan : Plan) (es more_ done left : List Event) → MayCommit old new moves plan es
+        → filter is_of_change more_ ≡ commit_steps old new plan (state_after es).config ++ done
+        → done ++ left ≡ map Reopen (reopens old plan (state_after es).config (change_all (state_after es).config (commit_steps old new plan (state_after es).config)))
+        → IsGraphOf (state_after (es ++ more_)).config new }
+    ensures between { (old new : Graph) (moves : List Move) (plan : Plan) (es more_ left : List Event) → MayCommit old new moves plan es
+        → filter is_of_change more_ ++ left ≡ commit_steps old new plan (state_after es).config
+        → IsPart (state_after (es ++ more_)).config old ⊎ IsPart (state_after (es ++ more_)).config new }
+{}
+
+/// Each touched node is settled and quiescent from when all ports of frozen nodes are drained, until the first reopening or its
+/// own removal.
+pub fn touched_nodes_are_quiescent()
+    ensures settled { (old new : Graph) (moves : List Move) (plan : Plan) (es more_ left : List Event) (n i : ℕ) → MayCommit old new moves plan es → IsRun (es ++ more_)
+        → filter is_of_change more_ ++ left ≡ commit_steps old new plan (state_after es).config
+        → IsTouched old new i → StandsAt (state_after es).config old.nodes n i → IsTrue (is_live (state_after (es ++ more_)).config n) → Settled (state_after (es ++ more_)) n }
+    ensures quiescent { (old new : Graph) (moves : List Move) (plan : Plan) (es more_ left : List Event) (n i : ℕ) → MayCommit old new moves plan es → IsRun (es ++ more_)
+        → filter is_of_change more_ ++ left ≡ commit_steps old new plan (state_after es).config
+        → IsTouched old new i → StandsAt (state_after es).config old.nodes n i → IsTrue (is_live (state_after (es ++ more_)).config n) → Quiescent (es ++ more_) n }
+{}
+
+/// A port of a node that isn't frozen is not reopened, and it keeps its target and its gate as it is throughout.
+pub fn what_is_not_frozen_is_left()
+    ensures target { (old new : Graph) (moves : List Move) (plan : Plan) (es more_ left : List Event) (p : ℕ) → MayCommit old new moves plan es
+        → p < length (state_after es).config.gates → is_one_of old plan.freeze (state_after es).config (owner (state_after es).config p) ≡ false
+        → filter is_of_change more_ ++ left ≡ commit_events old new plan (state_after es).config
+        → target (state_after (es ++ more_)).config p ≡ target (state_after es).config p }
+    ensures gate { (old new : Graph) (moves : List Move) (plan : Plan) (es more_ left : List Event) (p : ℕ) → MayCommit old new moves plan es
+        → p < length (state_after es).config.gates → is_one_of old plan.freeze (state_after es).config (owner (state_after es).config p) ≡ false
+        → filter is_of_change more_ ++ left ≡ commit_events old new plan (state_after es).config
+        → (gate (state_after (es ++ more_)).config p).closed ≡ (gate (state_after es).config p).closed }
+{}
