@@ -6,13 +6,13 @@ use Rattle.config_graph.specs.Graph.{Graph}
 use Rattle.change_plan.specs.Plans.{IsPlanOf}
 use Rattle.change_plan.specs.declared.plan_data.Move.{Move}
 use Rattle.change_plan.specs.declared.plan_data.Plan.{Plan}
-use Rattle.plan_laws.specs.Commit.{commit_events, frozen_ports}
+use Rattle.plan_laws.specs.Commit.{commit_events}
 use Rattle.quiesce_core.specs.Live.{IsGraphOf}
 use Rattle.quiesce_core.specs.State.{Configuration}
 use Rattle.change_script.specs.declared.report.HistoryLine.{HistoryLine}
 use Rattle.change_script.specs.declared.report.HistoryLine.TheVariants as to
 use Rattle.change_law.specs.Members.{lines_of_events}
-use Rattle.change_law.specs.Scene.{AreSeen, Seen, config_after, drained_line, root_line}
+use Rattle.change_law.specs.Scene.{AreSeen, Seen, config_after, drained_line, frozen_ports, root_line}
 
 -- all that was seen, look after look
 abbrev pub seen_in_all : List (List Seen) → List Seen
