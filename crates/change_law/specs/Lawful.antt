@@ -10,7 +10,7 @@ use Rattle.config_graph.specs.Graph.{Graph}
 use Rattle.quiesce_core.specs.declared.event.Event.{Event}
 use Rattle.quiesce_core.specs.Doers.{is_of_change}
 use Rattle.quiesce_core.specs.Live.{IsGraphOf}
-use Rattle.quiesce_core.specs.Phases.{is_idle}
+use Rattle.gate_word.specs.Phases.{is_idle}
 use Rattle.quiesce_core.specs.Runs.{IsRun, done_by, is_begin_of, is_end_of, state_after}
 use Rattle.quiesce_core.specs.Settled.{Quiescent}
 use Rattle.quiesce_core.specs.State.{exchange, is_live, owner}

@@ -2,9 +2,7 @@
 use Rattle.std.specs.Prelude.{◌≡◌, ℕ, ◌==◌, List, filter_map}
 use Rattle.std.specs.List.{count_by}
 use Rattle.commit_laws.specs.Steps.{change_all}
-use Rattle.config_graph.specs.Graph.{Graph}
-use Rattle.change_plan.specs.declared.plan_data.Plan.{Plan}
-use Rattle.plan_laws.specs.Commit.{is_one_of, ports_where}
+use Rattle.plan_laws.specs.Commit.{ports_where}
 use Rattle.quiesce_core.specs.State.{Configuration, empty, is_live, owner}
 use Rattle.change_script.specs.declared.report.HistoryLine.{HistoryLine}
 use Rattle.change_script.specs.declared.report.HistoryLine.TheVariants as to
@@ -17,10 +15,6 @@ config_after history = change_all empty.config (filter_map event_of history)
 -- the ports of live nodes, in order
 abbrev pub live_ports : Configuration → List ℕ
 live_ports c = ports_where (λ p. is_live c (owner c p)) c
-
--- the ports of the nodes that a plan freezes
-abbrev pub frozen_ports : Graph → Plan → Configuration → List ℕ
-frozen_ports old plan c = ports_where (λ p. is_one_of old plan.freeze c (owner c p)) c
 
 -- a port, with the serial that a look found there
 pub record Seen : Type 0 where

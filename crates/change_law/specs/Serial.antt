@@ -10,7 +10,7 @@ use Rattle.config_graph.specs.Graph.{Graph}
 use Rattle.change_plan.specs.Plans.{IsPlanOf}
 use Rattle.change_plan.specs.declared.plan_data.Move.{Move}
 use Rattle.change_plan.specs.declared.plan_data.Plan.{Plan}
-use Rattle.plan_laws.specs.Commit.{commit_events}
+use Rattle.plan_laws.specs.Commit.{closes, commit_events}
 use Rattle.quiesce_core.specs.Live.{IsGraphOf}
 use Rattle.quiesce_core.specs.Runs.{done_by}
 use Rattle.quiesce_core.specs.State.{exchange, is_live}
@@ -30,7 +30,7 @@ use Rattle.change_law.specs.Changes.{commit_lines, drained_lines, opening_lines,
 use Rattle.change_law.specs.Follows.{skip_lines, start_lines}
 use Rattle.change_law.specs.Lawful.{moved_to, status_of}
 use Rattle.change_law.specs.Members.{is_pending, made_slot}
-use Rattle.change_law.specs.Scene.{Seen, frozen_ports, live_ports}
+use Rattle.change_law.specs.Scene.{Seen, live_ports}
 use Rattle.change_law.specs.Statements.{Statement, start, change, run, finish, show, is_finish}
 
 -- the change does these events, one after the other
@@ -99,7 +99,7 @@ pub record ChangesTo (w : World) (name : List ℕ) (args : List ℤ) (new : Grap
   pub plan : Plan
   pub is_plan : IsPlanOf old new moves plan
   pub closed : List ℕ
-  pub closed_are : closed ≡ frozen_ports old plan w.machine.config
+  pub closed_are : closed ≡ closes old plan w.machine.config
   pub waiting : World
   pub waits : waiting ≡ after_changes w (map Close closed)
   pub rounds : ℕ

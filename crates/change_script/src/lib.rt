@@ -9,6 +9,7 @@ mod laws;
 mod lines;
 mod numbers;
 mod paths;
+mod report;
 mod tokens;
 mod verbs;
 
@@ -19,3 +20,4 @@ pub use laws::{
     a_written_line_means_its_event, names_are_those_of_the_language, one_file_or_one_fault,
     words_are_longest,
 };
+pub use report::{HistoryLine, Last, NodeLog, Report};

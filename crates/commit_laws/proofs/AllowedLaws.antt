@@ -9,7 +9,7 @@ use Rattle.quiesce_core.specs.State.{owner}
 use Rattle.quiesce_core.proofs.LegalLaws.{allowed}
 use Rattle.quiesce_core.proofs.SettledLaws.{if_settled}
 use Rattle.quiescence_laws.specs.Drained.{is_drained}
-use Rattle.quiescence_laws.proofs.DrainLemmas.{settled_if_drained}
+use Rattle.quiescence_laws.proofs.DrainingLaws.{settled_if_drained}
 use Rattle.commit_laws.specs.Steps.{IsNoted, MayStep}
 
 module _ (noted : ℕ → Bool) (es : List Event) (run : IsRun es) (drained : (p : ℕ) → noted p ≡ true → is_drained (state_after es) p ≡ true) where

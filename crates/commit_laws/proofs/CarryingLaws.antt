@@ -16,7 +16,7 @@ use Rattle.quiesce_core.specs.State.{Configuration, gate, is_live, owner, target
 use Rattle.quiesce_core.proofs.CycleLaws.{made_below}
 use Rattle.quiescence_laws.specs.Drained.{is_drained}
 use Rattle.quiescence_laws.specs.Events.{reopens}
-use Rattle.quiescence_laws.proofs.DrainLemmas.{drained_stays, settled_if_drained}
+use Rattle.quiescence_laws.proofs.DrainingLaws.{drained_stays, settled_if_drained}
 use Rattle.commit_laws.specs.Fitting.{KeptLink}
 use Rattle.commit_laws.specs.Lists.{In}
 use Rattle.commit_laws.specs.Steps.{MayStep, MayStepAll, change_all}

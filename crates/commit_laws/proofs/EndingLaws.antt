@@ -21,9 +21,9 @@ use Rattle.quiesce_core.proofs.TableLaws.{gate_place}
 use Rattle.quiesce_core.proofs.RunLaws.{runs_are_consistent, runs_are_well_formed}
 use Rattle.quiescence_laws.specs.Drained.{is_drained}
 use Rattle.quiesce_core.proofs.ReachLaws.{owner_of}
-use Rattle.quiescence_laws.proofs.DrainLemmas.{settled_if_drained}
+use Rattle.quiescence_laws.proofs.DrainingLaws.{settled_if_drained}
 use Rattle.quiesce_core.proofs.InductionLaws.{along}
-use Rattle.quiescence_laws.proofs.Orders.{open_is_seen}
+use Rattle.quiescence_laws.proofs.OrderLaws.{open_is_seen}
 use Rattle.commit_laws.specs.Steps.{is_shaping}
 use Rattle.quiesce_core.proofs.ConfigurationLaws.{linked_made}
 use Rattle.commit_laws.proofs.TurningLaws.{same_graph, same_turned}

@@ -12,7 +12,7 @@ use Rattle.quiesce_core.specs.Runs.{IsRun, state_after}
 use Rattle.quiesce_core.specs.State.{Configuration, State, empty}
 use Rattle.quiescence_laws.specs.Drained.{is_drained}
 use Rattle.quiescence_laws.specs.Events.{reopens}
-use Rattle.quiescence_laws.proofs.DrainLemmas.{drained_stays}
+use Rattle.quiescence_laws.proofs.DrainingLaws.{drained_stays}
 use Rattle.commit_laws.specs.Steps.{MayStep, MayStepAll, change_all}
 use Rattle.quiesce_core.specs.Effect.{change_next}
 use Rattle.commit_laws.proofs.AllowedLaws.{step_allowed}

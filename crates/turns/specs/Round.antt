@@ -3,7 +3,7 @@ use Rattle.std.specs.Prelude.{◌≡◌, ℕ, not, zero, suc, ◌<◌, Bool, tru
 use Rattle.std.specs.List.{count_by, list_all, range_with_len}
 use Rattle.std.specs.Option.{option_map_or}
 use Rattle.component_trait.specs.Moves as moves
-use Rattle.quiesce_core.specs.Phases.{is_idle}
+use Rattle.gate_word.specs.Phases.{is_idle}
 use Rattle.quiesce_core.specs.State.{exchange, is_live}
 use Rattle.quiesce_core.specs.declared.event.Event.{Event}
 use Rattle.quiesce_core.specs.declared.event.Event.TheVariants.{End}

@@ -9,7 +9,7 @@ use Rattle.component_trait.specs.Moves as moves
 use Rattle.component_trait.specs.declared.next.Ask.{Ask}
 use Rattle.component_trait.specs.declared.next.Next.{Next}
 use Rattle.component_trait.specs.declared.next.Next.TheVariants as next
-use Rattle.quiesce_core.specs.Phases.{is_answered, is_asked, is_idle, is_in_more}
+use Rattle.gate_word.specs.Phases.{is_answered, is_asked, is_idle, is_in_more}
 use Rattle.quiesce_core.specs.Rules.{is_missing, is_open}
 use Rattle.quiesce_core.specs.State.{State, exchange, ports_of, service, target}
 use Rattle.quiesce_core.specs.declared.event.Event.{Event}
@@ -68,7 +68,7 @@ takes s n (p ∷ box) = if is_for s n p then Some (event.Take p (exchange s p).s
 -- Move 4: it begins what it wants on an idle port, whose gate is open.
 abbrev pub begins_at : State → ℕ → ℕ → Option Event
 begins_at s p v =
-    if is_idle (exchange s p).phase && is_open s p && not (is_missing s p) then Some (event.Begin p ((exchange s p).serial + 1) v) else None
+    if is_idle (exchange s p).phase && is_open s.config p && not (is_missing s p) then Some (event.Begin p ((exchange s p).serial + 1) v) else None
 
 abbrev pub begins : State → ℕ → NodeState → Option Event
 begins s n t = option_and_then (λ (a : Ask). begins_at s (first_port s n + a.require) a.value) (moves.wants t)

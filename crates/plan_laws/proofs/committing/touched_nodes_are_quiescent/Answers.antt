@@ -1,7 +1,7 @@
 use Rattle.std.specs.Prelude.{◌++◌}
 use Rattle.quiesce_core.specs.Runs.{state_after}
 use Rattle.quiesce_core.proofs.SettledLaws.{if_settled}
-use Rattle.quiescence_laws.proofs.FourConditions.{quiescent_at}
+use Rattle.quiescence_laws.proofs.QuiescenceLaws.{quiescent_at}
 use Rattle.plan_laws.proofs.CommitLaws.{settled_at}
 use Rattle.plan_laws.proofs.committing.touched_nodes_are_quiescent.Goals as goal
 
