@@ -2,7 +2,8 @@
 use Rattle.std.proofs.Common.{◌≡◌, ◌∙◌, ℕ, true, false, List, Some, refl, sym, ap, subst}
 use Rattle.std.specs.Prelude.{slice_get}
 use Rattle.std.proofs.lemmas.Option.{same_Some}
-use Rattle.config_graph.specs.Cycles.{NoCycle, graph_wiring}
+use Rattle.config_graph.specs.Cycles.{graph_wiring}
+use Rattle.config_graph.specs.Wiring.{HasNoCycle}
 use Rattle.config_graph.specs.Graph.{Graph, PathsRise}
 use Rattle.config_graph.specs.Kinds.{depends_on}
 use Rattle.config_graph.specs.declared.node.Node.{Node}
@@ -22,7 +23,7 @@ one_place d nodes rise n i j a b =
     let same : a.made ≡ b.made = same_Some a.made b.made (sym a.there ∙ b.there) in
     paths.one_place nodes rise i j a.made.node a.stands (b.stands ∙ ap (λ (m : Slot). Some m.node) (sym same))
 
-module _ (d : Configuration) (g : Graph) (rise : PathsRise g.nodes) (acyclic : NoCycle g)
+module _ (d : Configuration) (g : Graph) (rise : PathsRise g.nodes) (acyclic : HasNoCycle (graph_wiring g))
     (owned : (n p : ℕ) → IsPortOf d n p → owner d p ≡ n) (fit : LinksFit d g) where
   -- a port stands for a requirement of its owner's node
   record Lies (p : ℕ) (q : Port) : Type 0 where
