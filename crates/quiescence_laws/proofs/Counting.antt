@@ -5,10 +5,10 @@ use Rattle.std.specs.List.{count_by, fold}
 use Rattle.std.proofs.lemmas.List.{append-nil}
 use Rattle.std.proofs.lemmas.List.Sums.{sum_by_push}
 use Rattle.quiesce_core.specs.declared.event.Event.{Event}
-use Rattle.quiesce_core.specs.declared.event.Event.TheVariants.{Begin, Call, Take, Give, End, More, Ask, Hear, Miss, Close, Reopen, Make, Link, Unlink, Remove}
+use Rattle.quiesce_core.specs.declared.event.Event.TheVariants.{Begin, Call, Take, Give, End, More, Ask, Hear}
 use Rattle.quiesce_core.specs.Runs.{IsRun, state_after, is_begin_of, is_end_of}
 use Rattle.quiescence_laws.specs.Events.{is_take_of, is_give_of, is_more_of, is_ask_of, is_hear_of}
-use Rattle.quiescence_laws.specs.Courses.{Course, begun, taken, replied_to, asked, heard, given, finished, course_next, course_after, heard_at, course_in, course_of, course_at}
+use Rattle.quiescence_laws.specs.Courses.{Course, on_begin, on_take, on_more, on_ask, on_hear, on_give, on_end, course_next, course_after, heard_at, course_in, course_of, course_at}
 use Rattle.quiescence_laws.specs.Courses as course
 use Rattle.quiescence_laws.proofs.CourseLemmas.{on_course}
 
@@ -20,6 +20,18 @@ pub record Counts : Type 0 where
   pub mores : ℕ
   pub asks : ℕ
   pub hears : ℕ
+
+-- of a list of events
+abbrev pub counts_of : ℕ → ℕ → List Event → Counts
+counts_of p k es = record {
+  begins = count_by (is_begin_of p k) es;
+  takes = count_by (is_take_of p k) es;
+  gives = count_by (is_give_of p k) es;
+  ends = count_by (is_end_of p k) es;
+  mores = count_by (is_more_of p k) es;
+  asks = count_by (is_ask_of p k) es;
+  hears = count_by (is_hear_of p k) es;
+}
 
 -- of one event
 ones : ℕ → ℕ → Event → Counts
@@ -85,31 +97,31 @@ record Leads (c d from to : Course) : Type 0 where
   was : c ≡ from
   is : d ≡ to
 
-begun_leads : (c d : Course) → begun c ≡ Some d → Leads c d course.unbegun course.waiting
+begun_leads : (c d : Course) → on_begin c ≡ Some d → Leads c d course.unbegun course.waiting
 begun_leads course.unbegun d h = record { was = refl; is = cc }
 begun_leads _ d h = absurd (cc)
 
-taken_leads : (c d : Course) → taken c ≡ Some d → Leads c d course.waiting course.serving
+taken_leads : (c d : Course) → on_take c ≡ Some d → Leads c d course.waiting course.serving
 taken_leads course.waiting d h = record { was = refl; is = cc }
 taken_leads _ d h = absurd (cc)
 
-replied_leads : (c d : Course) → replied_to c ≡ Some d → Leads c d course.serving course.replied
+replied_leads : (c d : Course) → on_more c ≡ Some d → Leads c d course.serving course.replied
 replied_leads course.serving d h = record { was = refl; is = cc }
 replied_leads _ d h = absurd (cc)
 
-asked_leads : (c d : Course) → asked c ≡ Some d → Leads c d course.replied course.prompted
+asked_leads : (c d : Course) → on_ask c ≡ Some d → Leads c d course.replied course.prompted
 asked_leads course.replied d h = record { was = refl; is = cc }
 asked_leads _ d h = absurd (cc)
 
-heard_leads : (c d : Course) → heard c ≡ Some d → Leads c d course.prompted course.serving
+heard_leads : (c d : Course) → on_hear c ≡ Some d → Leads c d course.prompted course.serving
 heard_leads course.prompted d h = record { was = refl; is = cc }
 heard_leads _ d h = absurd (cc)
 
-given_leads : (c d : Course) → given c ≡ Some d → Leads c d course.serving course.answered
+given_leads : (c d : Course) → on_give c ≡ Some d → Leads c d course.serving course.answered
 given_leads course.serving d h = record { was = refl; is = cc }
 given_leads _ d h = absurd (cc)
 
-finished_leads : (c d : Course) → finished c ≡ Some d → Leads c d course.answered course.ended
+finished_leads : (c d : Course) → on_end c ≡ Some d → Leads c d course.answered course.ended
 finished_leads course.answered d h = record { was = refl; is = cc }
 finished_leads _ d h = absurd (cc)
 
@@ -159,87 +171,40 @@ flag_none b h = ap (λ x. cond x 1 0) h
 more_by : (n : ℕ) (b : Bool) → b ≡ true → n + cond b 1 0 ≡ n + 1
 more_by n b h = ap (λ x. n + cond x 1 0) h
 
+own : (p k : ℕ) (e : Event) (c d : Course) (r j : ℕ) (f : Course → Option Course) (b : Bool) (from to : Course) → cond b (f c) (Some c) ≡ Some d → (f c ≡ Some d → Leads c d from to)
+    → (b ≡ true → Adds (table from r) (table to j) (ones p k e)) → (b ≡ false → IsNone (ones p k e)) → AddsOn p k e c d r
+own p k e c d r j f b from to h leads adds none_ = ⊎_elim
+    (λ (w : (b ≡ true) × (f c ≡ Some d)). record { rounds = j; adds = leads_adds c d from to r j (ones p k e) (leads w.1) (adds w.0) })
+    (λ (w : (b ≡ false) × (c ≡ d)). stays p k e c d r w.1 (none_ w.0))
+    (choose f b c d h)
+
 adds_on : (p k : ℕ) (e : Event) (c d : Course) (r : ℕ) → course_next p k c e ≡ Some d → AddsOn p k e c d r
 unfolding ones
-adds_on p k (Begin q j v) c d r h = ⊎_elim
-    (λ (w : ((q == p && j == k) ≡ true) × (begun c ≡ Some d)). record {
-      rounds = r;
-      adds = leads_adds c d course.unbegun course.waiting r r (ones p k (Begin q j v)) (begun_leads c d w.1)
-          (record { begins = more_by 0 (q == p && j == k) w.0; takes = refl; gives = refl; ends = refl; mores = omega arith; asks = omega arith; hears = omega arith });
-    })
-    (λ (w : ((q == p && j == k) ≡ false) × (c ≡ d)). stays p k (Begin q j v) c d r w.1
-    (record { begins = flag_none (q == p && j == k) w.0; takes = refl; gives = refl; ends = refl; mores = refl; asks = refl; hears = refl }))
-    (choose begun (q == p && j == k) c d h)
-adds_on p k (Call q j v) c d r h = ⊎_elim
-    (λ (w : ((q == p && j == k) ≡ true) × (begun c ≡ Some d)). record {
-      rounds = r;
-      adds = leads_adds c d course.unbegun course.waiting r r (ones p k (Call q j v)) (begun_leads c d w.1)
-          (record { begins = more_by 0 (q == p && j == k) w.0; takes = refl; gives = refl; ends = refl; mores = omega arith; asks = omega arith; hears = omega arith });
-    })
-    (λ (w : ((q == p && j == k) ≡ false) × (c ≡ d)). stays p k (Call q j v) c d r w.1
-    (record { begins = flag_none (q == p && j == k) w.0; takes = refl; gives = refl; ends = refl; mores = refl; asks = refl; hears = refl }))
-    (choose begun (q == p && j == k) c d h)
-adds_on p k (Take q j v) c d r h = ⊎_elim
-    (λ (w : ((q == p && j == k) ≡ true) × (taken c ≡ Some d)). record {
-      rounds = r;
-      adds = leads_adds c d course.waiting course.serving r r (ones p k (Take q j v)) (taken_leads c d w.1)
-          (record { begins = refl; takes = more_by 0 (q == p && j == k) w.0; gives = refl; ends = refl; mores = omega arith; asks = omega arith; hears = omega arith });
-    })
-    (λ (w : ((q == p && j == k) ≡ false) × (c ≡ d)). stays p k (Take q j v) c d r w.1
-    (record { begins = refl; takes = flag_none (q == p && j == k) w.0; gives = refl; ends = refl; mores = refl; asks = refl; hears = refl }))
-    (choose taken (q == p && j == k) c d h)
-adds_on p k (More q j v) c d r h = ⊎_elim
-    (λ (w : ((q == p && j == k) ≡ true) × (replied_to c ≡ Some d)). record {
-      rounds = r;
-      adds = leads_adds c d course.serving course.replied r r (ones p k (More q j v)) (replied_leads c d w.1)
-          (record { begins = refl; takes = refl; gives = refl; ends = refl; mores = more_by r (q == p && j == k) w.0; asks = omega arith; hears = omega arith });
-    })
-    (λ (w : ((q == p && j == k) ≡ false) × (c ≡ d)). stays p k (More q j v) c d r w.1
-    (record { begins = refl; takes = refl; gives = refl; ends = refl; mores = flag_none (q == p && j == k) w.0; asks = refl; hears = refl }))
-    (choose replied_to (q == p && j == k) c d h)
-adds_on p k (Ask q j v) c d r h = ⊎_elim
-    (λ (w : ((q == p && j == k) ≡ true) × (asked c ≡ Some d)). record {
-      rounds = r;
-      adds = leads_adds c d course.replied course.prompted r r (ones p k (Ask q j v)) (asked_leads c d w.1)
-          (record { begins = refl; takes = refl; gives = refl; ends = refl; mores = omega arith; asks = more_by r (q == p && j == k) w.0; hears = omega arith });
-    })
-    (λ (w : ((q == p && j == k) ≡ false) × (c ≡ d)). stays p k (Ask q j v) c d r w.1
-    (record { begins = refl; takes = refl; gives = refl; ends = refl; mores = refl; asks = flag_none (q == p && j == k) w.0; hears = refl }))
-    (choose asked (q == p && j == k) c d h)
-adds_on p k (Hear q j v) c d r h = ⊎_elim
-    (λ (w : ((q == p && j == k) ≡ true) × (heard c ≡ Some d)). record {
-      rounds = r + 1;
-      adds = leads_adds c d course.prompted course.serving r (r + 1) (ones p k (Hear q j v)) (heard_leads c d w.1)
-          (record { begins = refl; takes = refl; gives = refl; ends = refl; mores = omega arith; asks = omega arith; hears = more_by r (q == p && j == k) w.0 });
-    })
-    (λ (w : ((q == p && j == k) ≡ false) × (c ≡ d)). stays p k (Hear q j v) c d r w.1
-    (record { begins = refl; takes = refl; gives = refl; ends = refl; mores = refl; asks = refl; hears = flag_none (q == p && j == k) w.0 }))
-    (choose heard (q == p && j == k) c d h)
-adds_on p k (Give q j v) c d r h = ⊎_elim
-    (λ (w : ((q == p && j == k) ≡ true) × (given c ≡ Some d)). record {
-      rounds = r;
-      adds = leads_adds c d course.serving course.answered r r (ones p k (Give q j v)) (given_leads c d w.1)
-          (record { begins = refl; takes = refl; gives = more_by 0 (q == p && j == k) w.0; ends = refl; mores = omega arith; asks = omega arith; hears = omega arith });
-    })
-    (λ (w : ((q == p && j == k) ≡ false) × (c ≡ d)). stays p k (Give q j v) c d r w.1
-    (record { begins = refl; takes = refl; gives = flag_none (q == p && j == k) w.0; ends = refl; mores = refl; asks = refl; hears = refl }))
-    (choose given (q == p && j == k) c d h)
-adds_on p k (End q j v) c d r h = ⊎_elim
-    (λ (w : ((q == p && j == k) ≡ true) × (finished c ≡ Some d)). record {
-      rounds = r;
-      adds = leads_adds c d course.answered course.ended r r (ones p k (End q j v)) (finished_leads c d w.1)
-          (record { begins = refl; takes = refl; gives = refl; ends = more_by 0 (q == p && j == k) w.0; mores = omega arith; asks = omega arith; hears = omega arith });
-    })
-    (λ (w : ((q == p && j == k) ≡ false) × (c ≡ d)). stays p k (End q j v) c d r w.1
-    (record { begins = refl; takes = refl; gives = refl; ends = flag_none (q == p && j == k) w.0; mores = refl; asks = refl; hears = refl }))
-    (choose finished (q == p && j == k) c d h)
-adds_on p k (Miss q) c d r h = stays p k (Miss q) c d r (cc) (record { begins = refl; takes = refl; gives = refl; ends = refl; mores = refl; asks = refl; hears = refl })
-adds_on p k (Close q) c d r h = stays p k (Close q) c d r (cc) (record { begins = refl; takes = refl; gives = refl; ends = refl; mores = refl; asks = refl; hears = refl })
-adds_on p k (Reopen q) c d r h = stays p k (Reopen q) c d r (cc) (record { begins = refl; takes = refl; gives = refl; ends = refl; mores = refl; asks = refl; hears = refl })
-adds_on p k (Make n node from) c d r h = stays p k (Make n node from) c d r (cc) (record { begins = refl; takes = refl; gives = refl; ends = refl; mores = refl; asks = refl; hears = refl })
-adds_on p k (Link q n x) c d r h = stays p k (Link q n x) c d r (cc) (record { begins = refl; takes = refl; gives = refl; ends = refl; mores = refl; asks = refl; hears = refl })
-adds_on p k (Unlink q) c d r h = stays p k (Unlink q) c d r (cc) (record { begins = refl; takes = refl; gives = refl; ends = refl; mores = refl; asks = refl; hears = refl })
-adds_on p k (Remove n) c d r h = stays p k (Remove n) c d r (cc) (record { begins = refl; takes = refl; gives = refl; ends = refl; mores = refl; asks = refl; hears = refl })
+adds_on p k (Begin q j v) c d r h = own p k (Begin q j v) c d r r on_begin (q == p && j == k) course.unbegun course.waiting h (begun_leads c d)
+    (λ it. record { begins = more_by 0 (q == p && j == k) it; takes = refl; gives = refl; ends = refl; mores = omega arith; asks = omega arith; hears = omega arith })
+    (λ off. record { begins = flag_none (q == p && j == k) off; takes = refl; gives = refl; ends = refl; mores = refl; asks = refl; hears = refl })
+adds_on p k (Call q j v) c d r h = own p k (Call q j v) c d r r on_begin (q == p && j == k) course.unbegun course.waiting h (begun_leads c d)
+    (λ it. record { begins = more_by 0 (q == p && j == k) it; takes = refl; gives = refl; ends = refl; mores = omega arith; asks = omega arith; hears = omega arith })
+    (λ off. record { begins = flag_none (q == p && j == k) off; takes = refl; gives = refl; ends = refl; mores = refl; asks = refl; hears = refl })
+adds_on p k (Take q j v) c d r h = own p k (Take q j v) c d r r on_take (q == p && j == k) course.waiting course.serving h (taken_leads c d)
+    (λ it. record { begins = refl; takes = more_by 0 (q == p && j == k) it; gives = refl; ends = refl; mores = omega arith; asks = omega arith; hears = omega arith })
+    (λ off. record { begins = refl; takes = flag_none (q == p && j == k) off; gives = refl; ends = refl; mores = refl; asks = refl; hears = refl })
+adds_on p k (More q j v) c d r h = own p k (More q j v) c d r r on_more (q == p && j == k) course.serving course.replied h (replied_leads c d)
+    (λ it. record { begins = refl; takes = refl; gives = refl; ends = refl; mores = more_by r (q == p && j == k) it; asks = omega arith; hears = omega arith })
+    (λ off. record { begins = refl; takes = refl; gives = refl; ends = refl; mores = flag_none (q == p && j == k) off; asks = refl; hears = refl })
+adds_on p k (Ask q j v) c d r h = own p k (Ask q j v) c d r r on_ask (q == p && j == k) course.replied course.prompted h (asked_leads c d)
+    (λ it. record { begins = refl; takes = refl; gives = refl; ends = refl; mores = omega arith; asks = more_by r (q == p && j == k) it; hears = omega arith })
+    (λ off. record { begins = refl; takes = refl; gives = refl; ends = refl; mores = refl; asks = flag_none (q == p && j == k) off; hears = refl })
+adds_on p k (Hear q j v) c d r h = own p k (Hear q j v) c d r (r + 1) on_hear (q == p && j == k) course.prompted course.serving h (heard_leads c d)
+    (λ it. record { begins = refl; takes = refl; gives = refl; ends = refl; mores = omega arith; asks = omega arith; hears = more_by r (q == p && j == k) it })
+    (λ off. record { begins = refl; takes = refl; gives = refl; ends = refl; mores = refl; asks = refl; hears = flag_none (q == p && j == k) off })
+adds_on p k (Give q j v) c d r h = own p k (Give q j v) c d r r on_give (q == p && j == k) course.serving course.answered h (given_leads c d)
+    (λ it. record { begins = refl; takes = refl; gives = more_by 0 (q == p && j == k) it; ends = refl; mores = omega arith; asks = omega arith; hears = omega arith })
+    (λ off. record { begins = refl; takes = refl; gives = flag_none (q == p && j == k) off; ends = refl; mores = refl; asks = refl; hears = refl })
+adds_on p k (End q j v) c d r h = own p k (End q j v) c d r r on_end (q == p && j == k) course.answered course.ended h (finished_leads c d)
+    (λ it. record { begins = refl; takes = refl; gives = refl; ends = more_by 0 (q == p && j == k) it; mores = omega arith; asks = omega arith; hears = omega arith })
+    (λ off. record { begins = refl; takes = refl; gives = refl; ends = flag_none (q == p && j == k) off; mores = refl; asks = refl; hears = refl })
+adds_on p k e c d r h = stays p k e c d r (cc) (record { begins = refl; takes = refl; gives = refl; ends = refl; mores = refl; asks = refl; hears = refl })
 
 abbrev led : ℕ → ℕ → Option Course → Event → Option Course
 led p k c e = option_and_then (λ d. course_next p k d e) c

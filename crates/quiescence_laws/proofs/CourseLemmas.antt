@@ -1,19 +1,18 @@
 -- The events of a transaction come in the order of its course.
-use Rattle.std.proofs.Common.{◌≡◌, ℕ, ◌+◌, ◌<◌, ◌≤◌, Bool, true, false, cond, ◌&&◌, ◌||◌, List, length, get_or, set, Option, Some, None, refl, sym, ap, ◌∙◌, subst, ⊎_elim, arith, get_or-set_same, get_or-set_other}
+use Rattle.std.proofs.Common.{◌≡◌, ℕ, ◌+◌, ◌<◌, ◌≤◌, Bool, true, false, cond, ◌&&◌, ◌||◌, List, Option, Some, None, refl, sym, ap, ◌∙◌, subst, ⊎_elim, arith}
 use Rattle.std.specs.Prelude.{◌==◌, nat_lt, option_map, option_and_then}
 use Rattle.std.specs.List.{count_by}
 use Rattle.std.specs.Option.{option_map_or}
 use Rattle.std.proofs.lemmas.Bool.{and_parts, cases_eq, cases_lt, eqb-true, eq-eqb, ne_eqb, lt-ltb, le-ltb, not-true, or_right, or_left}
 use Rattle.std.proofs.lemmas.List.Sums.{fold_push}
-use Rattle.config_graph.specs.Kinds.{row}
 use Rattle.config_graph.specs.declared.node.Target.{Target}
 use Rattle.quiesce_core.specs.declared.event.Event.{Event}
-use Rattle.quiesce_core.specs.declared.event.Event.TheVariants.{Begin, Call, Take, Give, End, More, Ask, Hear, Miss, Close, Reopen, Make, Link, Unlink, Remove}
+use Rattle.quiesce_core.specs.declared.event.Event.TheVariants.{Begin, Call, Take, Give, End, More, Ask, Hear}
 use Rattle.quiesce_core.specs.declared.state.Exchange.{Exchange}
 use Rattle.quiesce_core.specs.declared.state.Service.{Service}
 use Rattle.gate_word.specs.declared.phase.Phase.{Phase}
 use Rattle.gate_word.specs.declared.phase.Phase.TheVariants as phase
-use Rattle.quiesce_core.specs.State.{State, fresh_exchange, owner, target, exchange, service, target_service}
+use Rattle.quiesce_core.specs.State.{State, owner, target, exchange, service, target_service}
 use Rattle.gate_word.specs.Phases.{is_idle}
 use Rattle.quiesce_core.specs.Effect.{effect}
 use Rattle.quiesce_core.specs.Legal.{Legal}
@@ -21,17 +20,18 @@ use Rattle.quiesce_core.specs.Rules.{is_taken}
 use Rattle.quiesce_core.specs.Runs.{IsRun, state_after}
 use Rattle.quiesce_core.specs.Traffic.{IsConsistent}
 use Rattle.quiesce_core.specs.WellFormed.{IsWellFormed}
-use Rattle.quiesce_core.proofs.TableLaws.{exchange_place, target_place}
-use Rattle.quiescence_laws.specs.Events.{ends_at}
-use Rattle.quiescence_laws.specs.Courses.{Course, begun, taken, replied_to, asked, heard, given, finished, course_next, course_after, heard_at, course_in, course_of, course_at}
+use Rattle.quiesce_core.specs.Doers.{is_end_at}
+use Rattle.quiescence_laws.specs.Courses.{Course, on_begin, on_take, on_more, on_ask, on_hear, on_give, on_end, course_next, course_after, heard_at, course_in, course_of, course_at}
 use Rattle.quiescence_laws.specs.Courses as course
-use Rattle.quiescence_laws.proofs.Configurations.{target_next}
-use Rattle.quiescence_laws.proofs.Induction.{always}
-use Rattle.quiescence_laws.proofs.Serials.{IsTallied, next_serial, tallied_next, tallied_empty, busy_serial}
-use Rattle.quiescence_laws.proofs.Hearing.{hears, idle_is, asked_is, answered_is, more_is, target_given, call_given, given_here, untaken, idle_unheard, taken_hears, taken_service, taken_heard, others_unheard, others_unheard_after, heard_asked, more_unheard, heard_apart}
+use Rattle.quiesce_core.proofs.StabilityLaws.{busy_ports_stay}
+use Rattle.quiesce_core.proofs.InductionLaws.{always}
+use Rattle.quiescence_laws.proofs.ExchangeLaws.{answered_is, asked_is, idle_is, more_is, next_serial}
+use Rattle.quiescence_laws.proofs.SerialLaws.{IsTallied, tallied_next, tallied_empty, busy_serial}
+use Rattle.quiescence_laws.proofs.Hearing.{is_of_server, heard_kept, heard_now, untaken, idle_unheard, taken_hears, taken_heard, heard_asked, more_unheard}
 use Rattle.quiesce_core.proofs.StateLaws.{asked_busy, more_busy, answered_busy, taken_is, taken_busy}
-use Rattle.base.proofs.OptionLaws.{None-from_is_none, Some-from_is_some}
-use Rattle.base.proofs.PlaceLaws.{fresh_behind}
+use Rattle.base.proofs.OptionLaws.{Some-from_is_some}
+use Rattle.quiesce_core.specs.Alters.{exchange_by, is_message_at}
+use Rattle.quiesce_core.proofs.AlterLaws.{exchanges_next}
 
 -- what is said of one serial
 
@@ -72,13 +72,13 @@ leads_on f n k b c d one e is_b = ⊎_elim
     (cases_eq n k)
 
 -- a new one is begun
-begins_new : (n j k : ℕ) (b : Bool) → j ≡ n + 1 → b ≡ (j == k) → cond b (begun (course_of n course.ended k)) (Some (course_of n course.ended k)) ≡ Some (course_of j course.waiting k)
+begins_new : (n j k : ℕ) (b : Bool) → j ≡ n + 1 → b ≡ (j == k) → cond b (on_begin (course_of n course.ended k)) (Some (course_of n course.ended k)) ≡ Some (course_of j course.waiting k)
 begins_new n j k b next is_b = ⊎_elim
     (λ (same : j ≡ k).
-    ap (λ x. cond x (begun (course_of n course.ended k)) (Some (course_of n course.ended k))) (is_b ∙ eq-eqb j k same)
-    ∙ ap begun (course_behind n course.ended k (omega arith)) ∙ ap Some (sym (course_here j course.waiting k (omega arith) same)))
+    ap (λ x. cond x (on_begin (course_of n course.ended k)) (Some (course_of n course.ended k))) (is_b ∙ eq-eqb j k same)
+    ∙ ap on_begin (course_behind n course.ended k (omega arith)) ∙ ap Some (sym (course_here j course.waiting k (omega arith) same)))
     (λ (other : j ≡ k → ⊥).
-    ap (λ x. cond x (begun (course_of n course.ended k)) (Some (course_of n course.ended k))) (is_b ∙ ne_eqb j k other) ∙ ap Some (unmoved other))
+    ap (λ x. cond x (on_begin (course_of n course.ended k)) (Some (course_of n course.ended k))) (is_b ∙ ne_eqb j k other) ∙ ap Some (unmoved other))
     (cases_eq j k)
   where
     unmoved : (j ≡ k → ⊥) → course_of n course.ended k ≡ course_of j course.waiting k
@@ -112,10 +112,6 @@ course_same s s' p k x h =
     ap (λ (y : Exchange). course_of y.serial (course_in y.phase (heard_at s' p)) k) x
     ∙ ap (λ c. course_of (exchange s p).serial c k) (course_in_same (exchange s p).phase (heard_at s' p) (heard_at s p) h)
 
--- an event of another port
-of_another : (f : Course → Option Course) (q p j k : ℕ) (c d : Course) → (p ≡ q → ⊥) → d ≡ c → cond (q == p && j == k) (f c) (Some c) ≡ Some d
-of_another f q p j k c d other same = ap (λ b. cond (b && j == k) (f c) (Some c)) (ne_eqb q p (λ e. other (sym e))) ∙ ap Some (sym same)
-
 its_own : (q j k n : ℕ) → j ≡ n → (q == q && j == k) ≡ (n == k)
 its_own q j k n same = ap (λ b. b && j == k) (eq-eqb q q refl) ∙ ap (λ i. i == k) same
 
@@ -130,60 +126,49 @@ of_its_own f s s' q j k c d one serial kept was is e =
     ∙ ap (λ x. Some (course_of n x k)) (sym is) ∙ ap (λ i. Some (course_of i (course_in (exchange s' q).phase (heard_at s' q)) k)) (sym kept)
 
 module _ (s : State) (w : IsWellFormed s) (t : IsConsistent s) (positive : (p : ℕ) → is_idle (exchange s p).phase ≡ false → 1 ≤ (exchange s p).serial) where
+  -- the events of other ports, and those of none
+
+  other_course : (e : Event) (p k : ℕ) (c : Course) → is_message_at p e ≡ false → is_of_server p e ≡ false → course_next p k c e ≡ Some c
+  other_course (Begin q j v) p k c off none_ = ap (λ b. cond (b && j == k) (on_begin c) (Some c)) off
+  other_course (Call q j v) p k c off none_ = ap (λ b. cond (b && j == k) (on_begin c) (Some c)) off
+  other_course (Take q j v) p k c none_ off = ap (λ b. cond (b && j == k) (on_take c) (Some c)) off
+  other_course (Give q j v) p k c off none_ = ap (λ b. cond (b && j == k) (on_give c) (Some c)) off
+  other_course (End q j v) p k c off none_ = ap (λ b. cond (b && j == k) (on_end c) (Some c)) off
+  other_course (More q j v) p k c off none_ = ap (λ b. cond (b && j == k) (on_more c) (Some c)) off
+  other_course (Ask q j v) p k c off none_ = ap (λ b. cond (b && j == k) (on_ask c) (Some c)) off
+  other_course (Hear q j v) p k c none_ off = ap (λ b. cond (b && j == k) (on_hear c) (Some c)) off
+  other_course _ p k c off none_ = refl
+
+  other_steps : (e : Event) (p k : ℕ) → Legal s e → (is_message_at p e ≡ false) × (is_of_server p e ≡ false) → StepsTo s e p k
+  other_steps e p k l off =
+      other_course e p k (course_at s p k) off.0 off.1
+      ∙ ap Some (sym (course_same s (effect s e) p k (exchanges_next s e w l p ∙ ap (λ b. cond b (exchange_by (service s (owner s.config p)) (exchange s p) e) (exchange s p)) off.0)
+      (λ busy. heard_kept s e p w t l (busy_ports_stay s e w t l p busy) off.1)))
+
   -- an event of one port steps both its own course and those of the others
-  either : (e : Event) (q p k : ℕ) → ((p ≡ q → ⊥) → StepsTo s e p k) → StepsTo s e q k → StepsTo s e p k
-  either e q p k there here = ⊎_elim
-      (λ (same : p ≡ q). subst (λ i. StepsTo s e i k) (sym same) here)
-      (λ (other : p ≡ q → ⊥). there other)
-      (cases_eq p q)
+  either : (e : Event) (q p k : ℕ) → Legal s e → ((q == p) ≡ false → (is_message_at p e ≡ false) × (is_of_server p e ≡ false)) → StepsTo s e q k → StepsTo s e p k
+  either e q p k l there here = ⊎_elim
+      (λ (same : q ≡ p). subst (λ i. StepsTo s e i k) same here)
+      (λ (other : q ≡ p → ⊥). other_steps e p k l (there (ne_eqb q p other)))
+      (cases_eq q p)
 
-  exchanged : (q : ℕ) (x : Exchange) → q < length s.traffic.exchanges → get_or (set s.traffic.exchanges q x) q fresh_exchange ≡ x
-  exchanged q x within = get_or-set_same s.traffic.exchanges q x fresh_exchange within
+  -- what is written at the port of an event
+  written : (e : Event) (q : ℕ) → Legal s e → is_message_at q e ≡ true → exchange (effect s e) q ≡ exchange_by (service s (owner s.config q)) (exchange s q) e
+  written e q l it = exchanges_next s e w l q ∙ ap (λ b. cond b (exchange_by (service s (owner s.config q)) (exchange s q) e) (exchange s q)) it
 
-  unexchanged : (q p : ℕ) (x : Exchange) → (p ≡ q → ⊥) → get_or (set s.traffic.exchanges q x) p fresh_exchange ≡ exchange s p
-  unexchanged q p x other = get_or-set_other s.traffic.exchanges q p x fresh_exchange other
+  at_itself : (q : ℕ) → (q == q) ≡ true
+  at_itself q = eq-eqb q q refl
 
   new_course : (s' : State) (q j v k : ℕ) (within : Option ℕ) → is_idle (exchange s q).phase ≡ true → j ≡ (exchange s q).serial + 1
       → exchange s' q ≡ record { phase = phase.Asked; serial = j; value = v; within = within } → heard_at s' q ≡ heard_at s q
-      → cond (q == q && j == k) (begun (course_at s q k)) (Some (course_at s q k)) ≡ Some (course_at s' q k)
+      → cond (q == q && j == k) (on_begin (course_at s q k)) (Some (course_at s q k)) ≡ Some (course_at s' q k)
   new_course s' q j v k within idle next x h =
       let n = (exchange s q).serial in
       let was : course_in (exchange s q).phase (heard_at s q) ≡ course.ended = ap (λ f. course_in f (heard_at s q)) (idle_is (exchange s q).phase idle) in
-      ap (λ c. cond (q == q && j == k) (begun (course_of n c k)) (Some (course_of n c k))) was
+      ap (λ c. cond (q == q && j == k) (on_begin (course_of n c k)) (Some (course_of n c k))) was
       ∙ begins_new n j k (q == q && j == k) next (its_own q j k j refl)
       ∙ ap (λ g. Some (course_of j (course_in phase.Asked g) k)) (sym (h ∙ idle_unheard s q t idle))
       ∙ ap (λ (y : Exchange). Some (course_of y.serial (course_in y.phase (heard_at s' q)) k)) (sym x)
-
-  begin_steps : (q j v p k : ℕ) → Legal s (Begin q j v) → StepsTo s (Begin q j v) p k
-  begin_steps q j v p k l =
-      let s' = effect s (Begin q j v) in
-      either (Begin q j v) q p k
-      (λ other. of_another begun q p j k (course_at s p k) (course_at s' p k) other (course_same s s' p k (unexchanged q p _ other) (λ busy. refl)))
-      (new_course s' q j v k None l.idle (next_serial s q j l.next_serial) (exchanged q _ (exchange_place s q w l.live)) refl)
-
-  call_steps : (q j v p k : ℕ) → Legal s (Call q j v) → StepsTo s (Call q j v) p k
-  call_steps q j v p k l =
-      let s' = effect s (Call q j v) in
-      either (Call q j v) q p k
-      (λ other. of_another begun q p j k (course_at s p k) (course_at s' p k) other (course_same s s' p k (unexchanged q p _ other) (λ busy. call_given s (owner s.config q) p)))
-      (new_course s' q j v k (option_map (λ (u : Service). u.port) (service s (owner s.config q))) l.idle (next_serial s q j l.next_serial) (exchanged q _ (exchange_place s q w l.live))
-      (call_given s (owner s.config q) q))
-
-  take_steps : (q j v p k : ℕ) → Legal s (Take q j v) → StepsTo s (Take q j v) p k
-  take_steps q j v p k l =
-      let s' = effect s (Take q j v) in
-      let busy = asked_busy (exchange s q).phase l.asked in
-      let to = Some-from_is_some (target s.config q) (t.linked q busy) in
-      let is_asked_ = asked_is (exchange s q).phase l.asked in
-      let new_ : Service = record { port = q; calls = 0; mores = 0; heard = true } in
-      either (Take q j v) q p k
-      (λ other. of_another taken q p j k (course_at s p k) (course_at s' p k) other (course_same s s' p k refl (λ busy. target_given s q p (Some new_) (λ u e.
-      heard_apart p new_ (λ same. other (sym same))
-      ∙ sym (ap (λ o. hears p o) (sym (ap (λ o. option_and_then (λ (x : Target). service s x.node) o) e) ∙ None-from_is_none (target_service s q) l.free))))))
-      (of_its_own taken s s' q j k course.waiting course.serving (positive q busy) (eqb-true j (exchange s q).serial (and_parts (j == (exchange s q).serial) (v == (exchange s q).value) l.message).0) refl
-      (ap (λ f. course_in f (heard_at s q)) is_asked_ ∙ ap (λ g. course_in phase.Asked g) (untaken s q (not-true (is_taken s q) l.untaken)))
-      (ap (λ f. course_in f (heard_at s' q)) is_asked_ ∙ ap (λ g. course_in phase.Asked g) (given_here s q to.0 new_ to.1 (target_place s q to.0 w to.1) refl))
-      refl)
 
   -- a port in whose service the last message was heard
   heard_course : (q : ℕ) → is_taken s q ≡ true → option_map_or (λ (w : Service). w.heard) (target_service s q) false ≡ true → course_in (exchange s q).phase (heard_at s q) ≡ course.serving
@@ -192,99 +177,75 @@ module _ (s : State) (w : IsWellFormed s) (t : IsConsistent s) (positive : (p : 
       let yes_ = sym (taken_heard s q u) ∙ heard_ in
       ap (λ f. course_in f (heard_at s q)) (heard_asked s q u t yes_) ∙ ap (λ g. course_in phase.Asked g) (taken_hears s q u ∙ ap (λ b. Some b) yes_)
 
-  give_steps : (q j v p k : ℕ) → Legal s (Give q j v) → StepsTo s (Give q j v) p k
-  give_steps q j v p k l =
+  -- the serial that an event names where serial and value are the port's
+  last_serial_is : (q j v : ℕ) → (j == (exchange s q).serial && v == (exchange s q).value) ≡ true → j ≡ (exchange s q).serial
+  last_serial_is q j v h = eqb-true j (exchange s q).serial (and_parts (j == (exchange s q).serial) (v == (exchange s q).value) h).0
+
+  -- the port's target does the event
+  target_does : (q : ℕ) (u : Target) → target s.config q ≡ Some u → option_map_or (λ m. m == u.node) (option_map (λ (x : Target). x.node) (target s.config q)) false ≡ true
+  target_does q u leads = ap (λ o. option_map_or (λ m. m == u.node) (option_map (λ (x : Target). x.node) o) false) leads ∙ at_itself u.node
+
+  pub steps_to : (e : Event) (p k : ℕ) → Legal s e → StepsTo s e p k
+  steps_to (Begin q j v) p k l = either (Begin q j v) q p k l (λ off. (off, refl))
+      (new_course (effect s (Begin q j v)) q j v k None l.idle (next_serial s q j l.next_serial) (written (Begin q j v) q l (at_itself q)) (heard_kept s (Begin q j v) q w t l refl refl))
+  steps_to (Call q j v) p k l = either (Call q j v) q p k l (λ off. (off, refl))
+      (new_course (effect s (Call q j v)) q j v k (option_map (λ (u : Service). u.port) (service s (owner s.config q))) l.idle (next_serial s q j l.next_serial) (written (Call q j v) q l (at_itself q))
+      (heard_kept s (Call q j v) q w t l refl refl))
+  steps_to (Take q j v) p k l =
+      let s' = effect s (Take q j v) in
+      let busy = asked_busy (exchange s q).phase l.asked in
+      let to = Some-from_is_some (target s.config q) (t.linked q busy) in
+      let is_asked_ = asked_is (exchange s q).phase l.asked in
+      either (Take q j v) q p k l (λ off. (refl, off))
+      (of_its_own on_take s s' q j k course.waiting course.serving (positive q busy) (last_serial_is q j v l.message) refl
+      (ap (λ f. course_in f (heard_at s q)) is_asked_ ∙ ap (λ g. course_in phase.Asked g) (untaken s q (not-true (is_taken s q) l.untaken)))
+      (ap (λ f. course_in f (heard_at s' q)) is_asked_
+      ∙ ap (λ g. course_in phase.Asked g) (heard_now s (Take q j v) q to.0 (record { port = q; calls = 0; mores = 0; heard = true }) w l to.1 (target_does q to.0 to.1) refl refl))
+      refl)
+  steps_to (Give q j v) p k l =
       let s' = effect s (Give q j v) in
-      let u = taken_is s q l.taken in
-      let here = exchanged q (record (exchange s q) { phase = phase.Answered; value = v }) (exchange_place s q w l.live) in
-      either (Give q j v) q p k
-      (λ other. of_another given q p j k (course_at s p k) (course_at s' p k) other (course_same s s' p k (unexchanged q p _ other) (λ busy.
-      target_given s q p None (λ x e. sym (others_unheard s q p u (λ same. other (sym same)) x e)))))
-      (of_its_own given s s' q j k course.serving course.answered (positive q (taken_busy s q t l.taken)) (eqb-true j (exchange s q).serial l.serial) (ap (λ (y : Exchange). y.serial) here)
+      let here = written (Give q j v) q l (at_itself q) in
+      either (Give q j v) q p k l (λ off. (off, off))
+      (of_its_own on_give s s' q j k course.serving course.answered (positive q (taken_busy s q t l.taken)) (eqb-true j (exchange s q).serial l.serial) (ap (λ (y : Exchange). y.serial) here)
       (heard_course q l.taken l.heard) (ap (λ (y : Exchange). course_in y.phase (heard_at s' q)) here) refl)
-
-  more_steps : (q j v p k : ℕ) → Legal s (More q j v) → StepsTo s (More q j v) p k
-  more_steps q j v p k l =
+  steps_to (More q j v) p k l =
       let s' = effect s (More q j v) in
-      let u = taken_is s q l.taken in
-      let f : Service → Service = λ x. record x { mores = x.mores + 1; heard = false } in
-      let here = exchanged q (record (exchange s q) { phase = phase.More; value = v }) (exchange_place s q w l.live) in
-      either (More q j v) q p k
-      (λ other. of_another replied_to q p j k (course_at s p k) (course_at s' p k) other (course_same s s' p k (unexchanged q p _ other) (λ busy.
-      target_given s q p (option_map f (target_service s q)) (λ x e. others_unheard_after s q p u f (λ y. refl) (λ same. other (sym same)) ∙ sym (others_unheard s q p u (λ same. other (sym same)) x e)))))
-      (of_its_own replied_to s s' q j k course.serving course.replied (positive q (taken_busy s q t l.taken)) (eqb-true j (exchange s q).serial l.serial) (ap (λ (y : Exchange). y.serial) here)
+      let here = written (More q j v) q l (at_itself q) in
+      either (More q j v) q p k l (λ off. (off, off))
+      (of_its_own on_more s s' q j k course.serving course.replied (positive q (taken_busy s q t l.taken)) (eqb-true j (exchange s q).serial l.serial) (ap (λ (y : Exchange). y.serial) here)
       (heard_course q l.taken l.heard) (ap (λ (y : Exchange). course_in y.phase (heard_at s' q)) here) refl)
-
-  ask_steps : (q j v p k : ℕ) → Legal s (Ask q j v) → StepsTo s (Ask q j v) p k
-  ask_steps q j v p k l =
+  steps_to (Ask q j v) p k l =
       let s' = effect s (Ask q j v) in
       let u = taken_is s q (t.taken q l.in_more) in
-      let here = exchanged q (record (exchange s q) { phase = phase.Asked; value = v }) (exchange_place s q w l.live) in
-      either (Ask q j v) q p k
-      (λ other. of_another asked q p j k (course_at s p k) (course_at s' p k) other (course_same s s' p k (unexchanged q p _ other) (λ busy. refl)))
-      (of_its_own asked s s' q j k course.replied course.prompted (positive q (more_busy (exchange s q).phase l.in_more)) (eqb-true j (exchange s q).serial l.serial) (ap (λ (y : Exchange). y.serial) here)
+      let here = written (Ask q j v) q l (at_itself q) in
+      either (Ask q j v) q p k l (λ off. (off, refl))
+      (of_its_own on_ask s s' q j k course.replied course.prompted (positive q (more_busy (exchange s q).phase l.in_more)) (eqb-true j (exchange s q).serial l.serial) (ap (λ (y : Exchange). y.serial) here)
       (ap (λ f. course_in f (heard_at s q)) (more_is (exchange s q).phase l.in_more))
       (ap (λ (y : Exchange). course_in y.phase (heard_at s' q)) here ∙ ap (λ g. course_in phase.Asked g) (taken_hears s q u ∙ ap (λ b. Some b) (more_unheard s q u t l.in_more)))
       refl)
-
-  hear_steps : (q j v p k : ℕ) → Legal s (Hear q j v) → StepsTo s (Hear q j v) p k
-  hear_steps q j v p k l =
+  steps_to (Hear q j v) p k l =
       let s' = effect s (Hear q j v) in
       let u = taken_is s q l.taken in
-      let f : Service → Service = λ x. record x { heard = true } in
       let is_asked_ = asked_is (exchange s q).phase l.asked in
       let no_ : u.serving.heard ≡ false = sym (taken_heard s q u) ∙ not-true (option_map_or (λ (x : Service). x.heard) (target_service s q) false) l.unheard in
-      either (Hear q j v) q p k
-      (λ other. of_another heard q p j k (course_at s p k) (course_at s' p k) other (course_same s s' p k refl (λ busy.
-      target_given s q p (option_map f (target_service s q)) (λ x e. others_unheard_after s q p u f (λ y. refl) (λ same. other (sym same)) ∙ sym (others_unheard s q p u (λ same. other (sym same)) x e)))))
-      (of_its_own heard s s' q j k course.prompted course.serving (positive q (asked_busy (exchange s q).phase l.asked))
-      (eqb-true j (exchange s q).serial (and_parts (j == (exchange s q).serial) (v == (exchange s q).value) l.message).0) refl
+      either (Hear q j v) q p k l (λ off. (refl, off))
+      (of_its_own on_hear s s' q j k course.prompted course.serving (positive q (asked_busy (exchange s q).phase l.asked)) (last_serial_is q j v l.message) refl
       (ap (λ f. course_in f (heard_at s q)) is_asked_ ∙ ap (λ g. course_in phase.Asked g) (taken_hears s q u ∙ ap (λ b. Some b) no_))
       (ap (λ f. course_in f (heard_at s' q)) is_asked_
-      ∙ ap (λ o. course_in phase.Asked (option_and_then (λ (x : Target). hears q (get_or (option_map_or (λ (y : Target). set s.traffic.services y.node (option_map f o)) (target s.config q) s.traffic.services) x.node None)) (target s.config q))) (taken_service s q u)
-      ∙ ap (λ g. course_in phase.Asked g) (given_here s q u.to (f u.serving) u.leads (target_place s q u.to w u.leads) u.of_port))
+      ∙ ap (λ g. course_in phase.Asked g) (heard_now s (Hear q j v) q u.to (record u.serving { heard = true }) w l u.leads (target_does q u.to u.leads)
+      (ap (λ o. option_map (λ (x : Service). record x { heard = true }) o) u.serviced) u.of_port))
       refl)
-
-  end_steps : (q j v p k : ℕ) → Legal s (End q j v) → StepsTo s (End q j v) p k
-  end_steps q j v p k l =
+  steps_to (End q j v) p k l =
       let s' = effect s (End q j v) in
-      let here = exchanged q (record (exchange s q) { phase = phase.Idle; value = 0; within = None }) (exchange_place s q w l.live) in
-      either (End q j v) q p k
-      (λ other. of_another finished q p j k (course_at s p k) (course_at s' p k) other (course_same s s' p k (unexchanged q p _ other) (λ busy. refl)))
-      (of_its_own finished s s' q j k course.answered course.ended (positive q (answered_busy (exchange s q).phase l.answered))
-      (eqb-true j (exchange s q).serial (and_parts (j == (exchange s q).serial) (v == (exchange s q).value) l.message).0) (ap (λ (y : Exchange). y.serial) here)
+      let here = written (End q j v) q l (at_itself q) in
+      either (End q j v) q p k l (λ off. (off, refl))
+      (of_its_own on_end s s' q j k course.answered course.ended (positive q (answered_busy (exchange s q).phase l.answered)) (last_serial_is q j v l.message) (ap (λ (y : Exchange). y.serial) here)
       (ap (λ f. course_in f (heard_at s q)) (answered_is (exchange s q).phase l.answered)) (ap (λ (y : Exchange). course_in y.phase (heard_at s' q)) here) refl)
-
-  -- an event that only the configuration tells
-  config_steps : (e : Event) (p k : ℕ) → Legal s e → exchange (effect s e) p ≡ exchange s p → ((m : ℕ) → service (effect s e) m ≡ service s m) → course_at (effect s e) p k ≡ course_at s p k
-  config_steps e p k l x services = course_same s (effect s e) p k x (λ busy.
-      ap (λ o. option_and_then (λ (u : Target). hears p (service (effect s e) u.node)) o) (target_next s e w t l p busy) ∙ over (target s.config p))
-    where
-      over : (o : Option Target) → option_and_then (λ (u : Target). hears p (service (effect s e) u.node)) o ≡ option_and_then (λ (u : Target). hears p (service s u.node)) o
-      over None = refl
-      over (Some u) = ap (λ v. hears p v) (services u.node)
-
-  pub steps_to : (e : Event) (p k : ℕ) → Legal s e → StepsTo s e p k
-  steps_to (Begin q j v) p k l = begin_steps q j v p k l
-  steps_to (Call q j v) p k l = call_steps q j v p k l
-  steps_to (Take q j v) p k l = take_steps q j v p k l
-  steps_to (Give q j v) p k l = give_steps q j v p k l
-  steps_to (End q j v) p k l = end_steps q j v p k l
-  steps_to (More q j v) p k l = more_steps q j v p k l
-  steps_to (Ask q j v) p k l = ask_steps q j v p k l
-  steps_to (Hear q j v) p k l = hear_steps q j v p k l
-  steps_to (Miss q) p k l = ap Some (sym (course_same s (effect s (Miss q)) p k refl (λ busy. call_given s (owner s.config q) p)))
-  steps_to (Close q) p k l = ap Some (sym (config_steps (Close q) p k l refl (λ m. refl)))
-  steps_to (Reopen q) p k l = ap Some (sym (config_steps (Reopen q) p k l refl (λ m. refl)))
-  steps_to (Make n node from) p k l =
-      ap Some (sym (config_steps (Make n node from) p k l (fresh_behind s.traffic.exchanges fresh_exchange (length (row node.kind).requires_) p) (λ m. fresh_behind s.traffic.services None 1 m)))
-  steps_to (Link q n x) p k l = ap Some (sym (config_steps (Link q n x) p k l refl (λ m. refl)))
-  steps_to (Unlink q) p k l = ap Some (sym (config_steps (Unlink q) p k l refl (λ m. refl)))
-  steps_to (Remove n) p k l = ap Some (sym (config_steps (Remove n) p k l refl (λ m. refl)))
+  steps_to e p k l = other_steps e p k l (refl, refl)
 
 -- what is known of a port and a serial after a run
 record IsOnCourse (es : List Event) (p k : ℕ) : Type 0 where
-  tallied : (q : ℕ) → IsTallied (count_by (ends_at q) es) (exchange (state_after es) q)
+  tallied : (q : ℕ) → IsTallied (count_by (is_end_at q) es) (exchange (state_after es) q)
   is : course_after p k es ≡ Some (course_at (state_after es) p k)
 
 -- in every run a transaction keeps to its course, and the state tells it
@@ -295,7 +256,7 @@ on_course es p k run =
       tallied = λ q. tallied_next q xs e here (h.tallied q);
       is =
           fold_push (λ c x. option_and_then (λ d. course_next p k d x) c) (Some course.unbegun) xs e ∙ ap (λ c. option_and_then (λ d. course_next p k d e) c) h.is
-          ∙ steps_to (state_after xs) here.well here.traffic (λ q busy. busy_serial (count_by (ends_at q) xs) (exchange (state_after xs) q) (h.tallied q) busy) e p k here.legal
+          ∙ steps_to (state_after xs) here.well here.traffic (λ q busy. busy_serial (count_by (is_end_at q) xs) (exchange (state_after xs) q) (h.tallied q) busy) e p k here.legal
           ∙ ap (λ s. Some (course_at s p k)) (sym here.next);
     })
     (record { tallied = λ q. tallied_empty q; is = ap Some (sym (none_yet k)) }) es run).is

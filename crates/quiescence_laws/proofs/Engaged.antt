@@ -9,8 +9,8 @@ use Rattle.quiesce_core.specs.declared.event.Event.TheVariants.{Take, Give, End,
 use Rattle.quiesce_core.specs.State.{State, owner, target}
 use Rattle.quiesce_core.specs.Runs.{IsRun, state_after, doer, is_begin_of, is_end_of, is_open_after, Begun, initiator, target_at_begin}
 use Rattle.quiescence_laws.specs.Events.{is_of_initiator, is_of_target}
-use Rattle.quiescence_laws.proofs.Opened.{IsGoing}
-use Rattle.quiescence_laws.proofs.FourConditions.{going_in}
+use Rattle.quiescence_laws.proofs.OpenLaws.{IsGoing}
+use Rattle.quiescence_laws.proofs.QuiescenceLaws.{going_in}
 
 -- the node to which a port leads
 abbrev led_to : State → ℕ → Option ℕ

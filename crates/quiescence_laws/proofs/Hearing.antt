@@ -1,44 +1,27 @@
 -- Whether the last message of a port was heard, and which events change that.
-use Rattle.std.proofs.Common.{◌≡◌, ℕ, ◌+◌, ◌<◌, ◌≤◌, Bool, true, false, cond, List, length, get_or, set, Option, Some, None, refl, sym, ap, ◌∙◌, subst, ⊎_elim, get_or-set_same, get_or-set_other}
+use Rattle.std.proofs.Common.{◌≡◌, ℕ, ◌+◌, Bool, true, false, cond, Option, Some, None, refl, sym, ap, ◌∙◌, subst, ⊎_elim}
 use Rattle.std.specs.Prelude.{◌==◌, option_map, option_and_then}
 use Rattle.std.specs.Option.{option_map_or}
-use Rattle.std.proofs.lemmas.Bool.{both_ways, cases_Bool, cases_eq, cases_lt, eq-eqb, ne_eqb, or_cases}
-use Rattle.std.proofs.lemmas.List.{set_past}
+use Rattle.std.proofs.lemmas.Bool.{both_ways, cases_Bool, eq-eqb, eqb-true, ne_eqb, or_cases}
 use Rattle.config_graph.specs.declared.node.Target.{Target}
 use Rattle.quiesce_core.specs.declared.state.Service.{Service}
-use Rattle.gate_word.specs.declared.phase.Phase.{Phase}
 use Rattle.gate_word.specs.declared.phase.Phase.TheVariants as phase
 use Rattle.quiesce_core.specs.State.{State, target, exchange, service, target_service}
-use Rattle.gate_word.specs.Phases.{is_idle, is_asked, is_answered, is_in_more}
+use Rattle.gate_word.specs.Phases.{is_idle, is_asked, is_in_more}
 use Rattle.quiesce_core.specs.Rules.{is_taken, was_heard}
 use Rattle.quiesce_core.specs.Traffic.{IsConsistent}
 use Rattle.quiescence_laws.specs.Courses.{heard_by, heard_at}
-use Rattle.quiesce_core.proofs.StateLaws.{Taken, taken_busy}
-
--- a phase that passes a test
-pub idle_is : (f : Phase) → is_idle f ≡ true → f ≡ phase.Idle
-idle_is phase.Idle h = refl
-idle_is phase.Asked h = absurd (both_ways false refl h)
-idle_is phase.Answered h = absurd (both_ways false refl h)
-idle_is phase.More h = absurd (both_ways false refl h)
-
-pub asked_is : (f : Phase) → is_asked f ≡ true → f ≡ phase.Asked
-asked_is phase.Idle h = absurd (both_ways false refl h)
-asked_is phase.Asked h = refl
-asked_is phase.Answered h = absurd (both_ways false refl h)
-asked_is phase.More h = absurd (both_ways false refl h)
-
-pub answered_is : (f : Phase) → is_answered f ≡ true → f ≡ phase.Answered
-answered_is phase.Idle h = absurd (both_ways false refl h)
-answered_is phase.Asked h = absurd (both_ways false refl h)
-answered_is phase.Answered h = refl
-answered_is phase.More h = absurd (both_ways false refl h)
-
-pub more_is : (f : Phase) → is_in_more f ≡ true → f ≡ phase.More
-more_is phase.Idle h = absurd (both_ways false refl h)
-more_is phase.Asked h = absurd (both_ways false refl h)
-more_is phase.Answered h = absurd (both_ways false refl h)
-more_is phase.More h = refl
+use Rattle.quiescence_laws.proofs.ExchangeLaws.{asked_is}
+use Rattle.quiesce_core.specs.Alters.{service_by}
+use Rattle.quiesce_core.specs.Effect.{effect}
+use Rattle.quiesce_core.specs.Legal.{Legal}
+use Rattle.quiesce_core.specs.Runs.{is_doer}
+use Rattle.quiesce_core.specs.WellFormed.{IsWellFormed}
+use Rattle.quiesce_core.specs.declared.event.Event.{Event}
+use Rattle.quiesce_core.specs.declared.event.Event.TheVariants.{Call, Take, Give, More, Hear, Miss}
+use Rattle.quiesce_core.proofs.AlterLaws.{services_next}
+use Rattle.quiesce_core.proofs.StateLaws.{Taken, asked_busy, taken_busy, taken_is, target_service_is}
+use Rattle.base.proofs.OptionLaws.{None-from_is_none, Some-from_is_some}
 
 abbrev pub hears : ℕ → Option Service → Option Bool
 hears p o = option_and_then (heard_by p) o
@@ -49,50 +32,64 @@ heard_mine p v same = ap (λ b. cond b (Some v.heard) None) (eq-eqb v.port p sam
 pub heard_apart : (p : ℕ) (v : Service) → (v.port ≡ p → ⊥) → heard_by p v ≡ None
 heard_apart p v other = ap (λ b. cond b (Some v.heard) None) (ne_eqb v.port p other)
 
-put_hears : (xs : List (Option Service)) (n m p : ℕ) (v : Option Service) → hears p v ≡ hears p (get_or xs n None) → hears p (get_or (set xs n v) m None) ≡ hears p (get_or xs m None)
-put_hears xs n m p v h = ⊎_elim
-    (λ (same : m ≡ n). ⊎_elim
-    (λ (within : n < length xs).
-    ap (λ i. hears p (get_or (set xs n v) i None)) same ∙ ap (λ o. hears p o) (get_or-set_same xs n v None within) ∙ h ∙ sym (ap (λ i. hears p (get_or xs i None)) same))
-    (λ (past : length xs ≤ n). ap (λ ys. hears p (get_or ys m None)) (set_past xs n v past))
-    (cases_lt n (length xs)))
-    (λ (other : m ≡ n → ⊥). ap (λ o. hears p o) (get_or-set_other xs n m v None other))
-    (cases_eq m n)
+-- whether an event is one that the port's target does there
+abbrev pub is_of_server : ℕ → Event → Bool
+is_of_server p (Take q k v) = q == p
+is_of_server p (Give q k v) = q == p
+is_of_server p (More q k v) = q == p
+is_of_server p (Hear q k v) = q == p
+is_of_server p _ = false
 
-put_hears_at : (xs : List (Option Service)) (o : Option Target) (m p : ℕ) (v : Option Service) → ((t : Target) → o ≡ Some t → hears p v ≡ hears p (get_or xs t.node None))
-    → hears p (get_or (option_map_or (λ (t : Target). set xs t.node v) o xs) m None) ≡ hears p (get_or xs m None)
-put_hears_at xs None m p v h = refl
-put_hears_at xs (Some t) m p v h = put_hears xs t.node m p v (h t refl)
+-- what a node that does another event says of the port afterwards
+module _ (s : State) (c : IsConsistent s) (n p : ℕ) where
+  counted : (o : Option Service) → hears p (option_map (λ (u : Service). record u { calls = u.calls + 1 }) o) ≡ hears p o
+  counted None = refl
+  counted (Some u) = refl
 
-over_target : (o : Option Target) (xs ys : List (Option Service)) (p : ℕ) → ((m : ℕ) → hears p (get_or ys m None) ≡ hears p (get_or xs m None))
-    → option_and_then (λ (t : Target). hears p (get_or ys t.node None)) o ≡ option_and_then (λ (t : Target). hears p (get_or xs t.node None)) o
-over_target None xs ys p h = refl
-over_target (Some t) xs ys p h = h t.node
+  -- the node to which the port of its event leads
+  led : (q : ℕ) (t : Target) → target s.config q ≡ Some t → option_map_or (λ m. m == n) (option_map (λ (u : Target). u.node) (target s.config q)) false ≡ true → t.node ≡ n
+  led q t leads does = eqb-true t.node n (sym (ap (λ o. option_map_or (λ m. m == n) (option_map (λ (u : Target). u.node) o) false) leads) ∙ does)
 
--- the port's target is given another service that says the same of port p
-pub target_given : (s : State) (q p : ℕ) (v : Option Service) → ((t : Target) → target s.config q ≡ Some t → hears p v ≡ hears p (service s t.node))
-    → option_and_then (λ (t : Target). hears p (get_or (option_map_or (λ (u : Target). set s.traffic.services u.node v) (target s.config q) s.traffic.services) t.node None)) (target s.config p) ≡ heard_at s p
-target_given s q p v h =
-    over_target (target s.config p) s.traffic.services (option_map_or (λ (u : Target). set s.traffic.services u.node v) (target s.config q) s.traffic.services) p
-    (λ m. put_hears_at s.traffic.services (target s.config q) m p v h)
+  -- it services another port, and so it does after a message
+  apart : (q : ℕ) (f : Option Service → Option Service) → is_taken s q ≡ true → ((v : Service) → (v.port ≡ p → ⊥) → hears p (f (Some v)) ≡ None) → (q == p) ≡ false
+      → option_map_or (λ m. m == n) (option_map (λ (u : Target). u.node) (target s.config q)) false ≡ true → hears p (f (service s n)) ≡ hears p (service s n)
+  apart q f taken after off does =
+      let u = taken_is s q taken in
+      let serves : service s n ≡ Some u.serving = sym (ap (λ i. service s i) (led q u.to u.leads does)) ∙ u.serviced in
+      let other : u.serving.port ≡ p → ⊥ = λ same. both_ways (q == p) off (eq-eqb q p (sym u.of_port ∙ same)) in
+      ap (λ o. hears p (f o)) serves ∙ after u.serving other ∙ sym (ap (λ o. hears p o) serves ∙ heard_apart p u.serving other)
 
-called : (p : ℕ) (o : Option Service) → hears p (option_map (λ (u : Service). record u { calls = u.calls + 1 }) o) ≡ hears p o
-called p None = refl
-called p (Some u) = refl
+  hears_on : (e : Event) → Legal s e → is_of_server p e ≡ false → is_doer s n e ≡ true → hears p (service_by (service s n) e) ≡ hears p (service s n)
+  hears_on (Call q k v) l off does = counted (service s n)
+  hears_on (Miss q) l off does = counted (service s n)
+  hears_on (Take q k v) l off does =
+      let to = Some-from_is_some (target s.config q) (c.linked q (asked_busy (exchange s q).phase l.asked)) in
+      let none_ : service s n ≡ None = sym (ap (λ i. service s i) (led q to.0 to.1 does)) ∙ sym (target_service_is s q to.0 to.1) ∙ None-from_is_none (target_service s q) l.free in
+      heard_apart p (record { port = q; calls = 0; mores = 0; heard = true }) (λ same. both_ways (q == p) off (eq-eqb q p same)) ∙ sym (ap (λ o. hears p o) none_)
+  hears_on (Give q k v) l off does = apart q (λ o. None) l.taken (λ u other. refl) off does
+  hears_on (More q k v) l off does = apart q (λ o. option_map (λ (u : Service). record u { mores = u.mores + 1; heard = false }) o) l.taken (λ u other. heard_apart p (record u { mores = u.mores + 1; heard = false }) other) off does
+  hears_on (Hear q k v) l off does = apart q (λ o. option_map (λ (u : Service). record u { heard = true }) o) l.taken (λ u other. heard_apart p (record u { heard = true }) other) off does
+  hears_on _ l off does = refl
 
--- a node is said to have made one more call
-pub call_given : (s : State) (n p : ℕ)
-    → option_and_then (λ (t : Target). hears p (get_or (set s.traffic.services n (option_map (λ (u : Service). record u { calls = u.calls + 1 }) (service s n))) t.node None)) (target s.config p) ≡ heard_at s p
-call_given s n p =
-    over_target (target s.config p) s.traffic.services (set s.traffic.services n (option_map (λ (u : Service). record u { calls = u.calls + 1 }) (service s n))) p
-    (λ m. put_hears s.traffic.services n m p (option_map (λ (u : Service). record u { calls = u.calls + 1 }) (service s n)) (called p (service s n)))
+-- of a port that keeps its target
+pub heard_kept : (s : State) (e : Event) (p : ℕ) → IsWellFormed s → IsConsistent s → Legal s e → target (effect s e).config p ≡ target s.config p → is_of_server p e ≡ false
+    → heard_at (effect s e) p ≡ heard_at s p
+heard_kept s e p w c l stays off = ap (λ o. option_and_then (λ (t : Target). hears p (service (effect s e) t.node)) o) stays ∙ over (target s.config p)
+  where
+    by : (n : ℕ) (b : Bool) → is_doer s n e ≡ b → hears p (cond b (service_by (service s n) e) (service s n)) ≡ hears p (service s n)
+    by n true does = hears_on s c n p e l off does
+    by n false does = refl
 
--- the target itself services the port from now on
-pub given_here : (s : State) (q : ℕ) (t : Target) (v : Service) → target s.config q ≡ Some t → t.node < length s.traffic.services → v.port ≡ q
-    → option_and_then (λ (u : Target). hears q (get_or (option_map_or (λ (u : Target). set s.traffic.services u.node (Some v)) (target s.config q) s.traffic.services) u.node None)) (target s.config q) ≡ Some v.heard
-given_here s q t v e within same =
-    ap (λ o. option_and_then (λ (u : Target). hears q (get_or (option_map_or (λ (u : Target). set s.traffic.services u.node (Some v)) o s.traffic.services) u.node None)) o) e
-    ∙ ap (λ o. hears q o) (get_or-set_same s.traffic.services t.node (Some v) None within) ∙ heard_mine q v same
+    over : (o : Option Target) → option_and_then (λ (t : Target). hears p (service (effect s e) t.node)) o ≡ option_and_then (λ (t : Target). hears p (service s t.node)) o
+    over None = refl
+    over (Some t) = ap (λ o. hears p o) (services_next s e w l t.node) ∙ by t.node (is_doer s t.node e) refl
+
+-- of the port that the target of the event's port services then
+pub heard_now : (s : State) (e : Event) (q : ℕ) (t : Target) (v : Service) → IsWellFormed s → Legal s e → target (effect s e).config q ≡ Some t → is_doer s t.node e ≡ true
+    → service_by (service s t.node) e ≡ Some v → v.port ≡ q → heard_at (effect s e) q ≡ Some v.heard
+heard_now s e q t v w l leads does now same =
+    ap (λ o. option_and_then (λ (u : Target). hears q (service (effect s e) u.node)) o) leads
+    ∙ ap (λ o. hears q o) (services_next s e w l t.node ∙ ap (λ b. cond b (service_by (service s t.node) e) (service s t.node)) does ∙ now) ∙ heard_mine q v same
 
 unheard_by : (p : ℕ) (o : Option Service) → option_map_or (λ (v : Service). v.port == p) o false ≡ false → hears p o ≡ None
 unheard_by p None h = refl
@@ -122,17 +119,6 @@ taken_service s p u = ap (λ o. option_and_then (λ (t : Target). service s t.no
 
 pub taken_heard : (s : State) (p : ℕ) (u : Taken s p) → was_heard (target_service s p) ≡ u.serving.heard
 taken_heard s p u = ap (λ o. was_heard o) (taken_service s p u)
-
--- what services a port says nothing of others
-pub others_unheard : (s : State) (q p : ℕ) → Taken s q → (q ≡ p → ⊥) → (t : Target) → target s.config q ≡ Some t → hears p (service s t.node) ≡ None
-others_unheard s q p u other t e =
-    let same : t ≡ u.to = cc (e, u.leads) in
-    ap (λ (x : Target). hears p (service s x.node)) same ∙ ap (λ o. hears p o) u.serviced ∙ heard_apart p u.serving (λ is_p. other (sym u.of_port ∙ is_p))
-
--- nor does it after a message
-pub others_unheard_after : (s : State) (q p : ℕ) (u : Taken s q) (f : Service → Service) → ((v : Service) → (f v).port ≡ v.port) → (q ≡ p → ⊥) → hears p (option_map f (target_service s q)) ≡ None
-others_unheard_after s q p u f port other =
-    ap (λ o. hears p (option_map f o)) (taken_service s q u) ∙ heard_apart p (f u.serving) (λ is_p. other (sym u.of_port ∙ sym (port u.serving) ∙ is_p))
 
 -- a port whose last message was heard is asked
 pub heard_asked : (s : State) (p : ℕ) (u : Taken s p) → IsConsistent s → u.serving.heard ≡ true → (exchange s p).phase ≡ phase.Asked

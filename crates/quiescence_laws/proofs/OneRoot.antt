@@ -13,8 +13,8 @@ use Rattle.quiesce_core.specs.Runs.{Begun, HasRoot, root, consequent, IsRun, is_
 use Rattle.quiesce_core.proofs.CycleLaws.{map_or_true}
 use Rattle.quiesce_core.proofs.StateLaws.{serving_busy}
 use Rattle.quiescence_laws.specs.Roots.{IsRooted}
-use Rattle.quiescence_laws.proofs.Induction.{place}
-use Rattle.quiescence_laws.proofs.Orders.{in_order, open_is_seen}
+use Rattle.quiesce_core.proofs.InductionLaws.{place}
+use Rattle.quiescence_laws.proofs.OrderLaws.{in_order, open_is_seen}
 
 -- what passes is counted
 one_counted : {A : Type 0} (t : A → Bool) (front behind : List A) (y : A) → t y ≡ true → 1 ≤ count_by t (front ++ y ∷ behind)
@@ -34,7 +34,7 @@ tail_is : {A : Type 0} (x y : A) (xs ys : List A) → x ∷ xs ≡ y ∷ ys → 
 tail_is x y xs ys h = cc
 
 -- where one member passes at most, it stands at one place
-one_place :
+pub one_place :
     {A : Type 0} (t : A → Bool) (before after front behind : List A) (x y : A) → count_by t (before ++ x ∷ after) ≤ 1 → before ++ x ∷ after ≡ front ++ y ∷ behind → t x ≡ true → t y ≡ true
     → (before ≡ front) × (x ≡ y)
 one_place t [] after [] behind x y few same h g = (refl, head_is x y after behind same)
@@ -77,7 +77,7 @@ pub record StandsIn {A : Type 0} (t : A → Bool) (xs : List A) : Type 0 where
   pub parts : xs ≡ before ++ it ∷ after
   pub passes : t it ≡ true
 
-found : {A : Type 0} (t : A → Bool) (xs : List A) → list_any t xs ≡ true → StandsIn t xs
+pub found : {A : Type 0} (t : A → Bool) (xs : List A) → list_any t xs ≡ true → StandsIn t xs
 found t [] h = absurd (both_ways false refl h)
 found t (x ∷ xs) h = ⊎_elim
     (λ (here : t x ≡ true). record { before = []; it = x; after = xs; parts = refl; passes = here })

@@ -18,6 +18,7 @@ use Rattle.std.proofs.lemmas.Slice.Eq.{bytes_eq-Decides}
 use Rattle.config_graph.specs.Graph.{Graph, first_port, ports, ports_of, target_of, requires_of}
 use Rattle.config_graph.specs.Kinds.{row, depends_on}
 use Rattle.config_graph.specs.Sound.{Sound, HasItsArgument}
+use Rattle.config_graph.specs.declared.TheConstants.{MAX_NODES, MAX_PORTS}
 use Rattle.config_graph.specs.declared.node.Node.{Node}
 use Rattle.config_graph.specs.declared.node.Port.{Port}
 use Rattle.config_graph.specs.declared.node.Target.{Target}
@@ -28,7 +29,7 @@ use Rattle.quiesce_core.specs.declared.state.Gate.{Gate}
 use Rattle.quiesce_core.specs.declared.state.Slot.{Slot}
 use Rattle.quiesce_core.specs.State.{State, empty, fresh_gate, fresh_exchange, slot, gate, owner, is_live, provides}
 use Rattle.quiesce_core.specs.Runs.{Steps, onward, stays}
-use Rattle.quiesce_core.specs.Rules.{denial, has_its_argument, is_path_taken, is_value, is_quiet, is_live_port}
+use Rattle.quiesce_core.specs.Rules.{value_limit, denial, has_its_argument, is_path_taken, is_value, is_quiet, is_live_port}
 use Rattle.quiesce_core.specs.Effect.{effect, new_gates, with_target}
 use Rattle.quiesce_core.specs.Legal.{CanMake, CanLink}
 use Rattle.gate_word.specs.Phases.{is_idle}
@@ -147,9 +148,9 @@ idle_at [] p = refl
 idle_at (q ∷ ps) zero = refl
 idle_at (q ∷ ps) (suc p) = idle_at ps p
 
-argument_held : (b : Bool) (o : Option ℕ) → is_some o ≡ b → IfSome o (λ a. a < 16777216) → cond b (option_map_or is_value o false) (is_none o) ≡ true
+argument_held : (b : Bool) (o : Option ℕ) → is_some o ≡ b → IfSome o (λ a. a < value_limit) → cond b (option_map_or is_value o false) (is_none o) ≡ true
 argument_held b None e h = rw (sym e) refl
-argument_held b (Some a) e h = rw (sym e) (lt-ltb a 16777216 h)
+argument_held b (Some a) e h = rw (sym e) (lt-ltb a value_limit h)
 
 -- the nodes of a front have been made
 made : Graph → List Node → State
@@ -167,7 +168,7 @@ mixed g f h done rest =
       traffic = record { services = map no_service g.nodes; exchanges = map no_exchange (ports g.nodes) };
     }
 
-module _ (g : Graph) (sound : Sound g) (few_nodes : length g.nodes ≤ 1023) (few_ports : length (ports g.nodes) ≤ 4096) where
+module _ (g : Graph) (sound : Sound g) (few_nodes : length g.nodes ≤ MAX_NODES) (few_ports : length (ports g.nodes) ≤ MAX_PORTS) where
   -- nodes
 
   made_more : (ns ms : List Node) (n : Node) → g.nodes ≡ ns ++ n ∷ ms → effect (made g ns) (Make (length ns) n None) ≡ made g (ns ++ n ∷ [])
@@ -226,11 +227,11 @@ module _ (g : Graph) (sound : Sound g) (few_nodes : length g.nodes ≤ 1023) (fe
       let all_gates : length (ports g.nodes) ≡ sum_by requires_of ns + (requires_of n + sum_by requires_of ms) =
       length-ports g.nodes ∙ ap (λ xs. sum_by requires_of xs) e ∙ sum_by-append requires_of ns (n ∷ ms) ∙ ap (λ k. sum_by requires_of ns + k) (sum_by-cons requires_of n ms) in
       record {
-        room = and_from (length ns == length (map (slot_of g.nodes) (enumerate_from 0 ns)) && nat_lt (length ns) 1023) (nat_le (length (map bare (ports ns)) + requires_of n) 4096)
-            (and_from (length ns == length (map (slot_of g.nodes) (enumerate_from 0 ns))) (nat_lt (length ns) 1023)
+        room = and_from (length ns == length (map (slot_of g.nodes) (enumerate_from 0 ns)) && nat_lt (length ns) MAX_NODES) (nat_le (length (map bare (ports ns)) + requires_of n) MAX_PORTS)
+            (and_from (length ns == length (map (slot_of g.nodes) (enumerate_from 0 ns))) (nat_lt (length ns) MAX_NODES)
             (eq-eqb (length ns) (length (map (slot_of g.nodes) (enumerate_from 0 ns))) (sym (slots_count ns)))
-            (lt-ltb (length ns) 1023 (omega (arith, many, few_nodes))))
-            (le-leb (length (map bare (ports ns)) + requires_of n) 4096 (omega (arith, gates, all_gates, few_ports)));
+            (lt-ltb (length ns) MAX_NODES (omega (arith, many, few_nodes))))
+            (le-leb (length (map bare (ports ns)) + requires_of n) MAX_PORTS (omega (arith, gates, all_gates, few_ports)));
         new_path = and_from (not (is_path_taken (made g ns).config n.path)) (has_its_argument n)
             (not_from_false (is_path_taken (made g ns).config n.path) (path_free ns ms n e)) (argument_there ns ms n e);
         moves = refl;

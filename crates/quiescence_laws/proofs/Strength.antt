@@ -6,9 +6,12 @@ use Rattle.config_graph.specs.declared.node.Node.{Node}
 use Rattle.quiesce_core.specs.declared.event.Event.{Event}
 use Rattle.quiesce_core.specs.declared.event.Event.TheVariants.{Begin, Call, Take, Close, Reopen, Make, Link}
 use Rattle.quiesce_core.specs.Reach.{reaches, has_no_cycle}
-use Rattle.quiesce_core.specs.Runs.{IsRun}
-use Rattle.quiesce_core.specs.Settled.{Quiescent}
-use Rattle.quiescence_laws.proofs.Induction.{front_runs, run_if}
+use Rattle.quiesce_core.specs.Runs.{IsRun, state_after}
+use Rattle.quiesce_core.specs.Settled.{Continues, Quiescent, Settled}
+use Rattle.quiesce_core.proofs.RunLaws.{runs_are_well_formed}
+use Rattle.quiesce_core.proofs.SettledLaws.{settled_if}
+use Rattle.quiescence_laws.specs.Continuing.{at_rest, may_come}
+use Rattle.quiesce_core.proofs.RunLaws.{fronts_are_runs, run_if}
 use Rattle.quiescence_laws.specs.Weaker.{but_own_busy, but_own_open, but_reaching_busy, but_indirect_open, Initiates, Begins, Serves, IsTarget, IsTooWeak}
 
 abbrev source : Node
@@ -73,7 +76,7 @@ unfolding reaches
 own_must_be_closed = record {
   run = pair;
   node = 0;
-  runs = front_runs pair later later_runs;
+  runs = fronts_are_runs pair later later_runs;
   passes = refl;
   broken = record {
     more_ = later;
@@ -101,7 +104,7 @@ pub indirect_must_be_closed : IsTooWeak but_indirect_open IsTarget
 indirect_must_be_closed = record {
   run = line;
   node = 2;
-  runs = front_runs line through through_runs;
+  runs = fronts_are_runs line through through_runs;
   passes = refl;
   broken = record {
     more_ = through;
@@ -112,6 +115,17 @@ indirect_must_be_closed = record {
     led = refl;
   };
 }
+
+-- a run after which a node is settled goes on with events of each kind that may come
+
+going_on : IsRun (at_rest ++ may_come)
+unfolding reaches has_no_cycle
+going_on = run_if (at_rest ++ may_come) refl
+
+pub goes_on : Settled (state_after at_rest) 5 × Continues at_rest may_come
+unfolding reaches
+goes_on =
+    (settled_if (state_after at_rest) (runs_are_well_formed at_rest (fronts_are_runs at_rest may_come going_on)).sound 5 refl, record { runs = going_on; closed = refl })
 
 -- a node of which one of these is true isn't quiescent
 pub none_of_these : (es : List Event) (n : ℕ) → Quiescent es n → (Initiates es n → ⊥) × (Begins es n → ⊥) × (Serves es n → ⊥) × (IsTarget es n → ⊥)

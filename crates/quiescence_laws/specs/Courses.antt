@@ -8,8 +8,8 @@ use Rattle.gate_word.specs.declared.phase.Phase.TheVariants as phase
 use Rattle.quiesce_core.specs.declared.state.Service.{Service}
 use Rattle.quiesce_core.specs.State.{State, target, exchange, service}
 
--- how far a transaction has come: its request waits, its target serves it and has heard its last message, an intermediate reply was
--- sent, a further message was sent for it, the last reply was sent
+-- how far a transaction has come: its request waits, its target serves it and has heard its last message, an
+-- intermediate reply was sent, a further message was sent for it, the last reply was sent
 pub data Course : Type 0 where
   unbegun : Course
   waiting : Course
@@ -20,44 +20,45 @@ pub data Course : Type 0 where
   ended : Course
 
 -- each event of a transaction leads it on from where it must be
-abbrev pub begun : Course → Option Course
-begun unbegun = Some waiting
-begun _ = None
+abbrev pub on_begin : Course → Option Course
+on_begin unbegun = Some waiting
+on_begin _ = None
 
-abbrev pub taken : Course → Option Course
-taken waiting = Some serving
-taken _ = None
+abbrev pub on_take : Course → Option Course
+on_take waiting = Some serving
+on_take _ = None
 
-abbrev pub replied_to : Course → Option Course
-replied_to serving = Some replied
-replied_to _ = None
+abbrev pub on_more : Course → Option Course
+on_more serving = Some replied
+on_more _ = None
 
-abbrev pub asked : Course → Option Course
-asked replied = Some prompted
-asked _ = None
+abbrev pub on_ask : Course → Option Course
+on_ask replied = Some prompted
+on_ask _ = None
 
-abbrev pub heard : Course → Option Course
-heard prompted = Some serving
-heard _ = None
+abbrev pub on_hear : Course → Option Course
+on_hear prompted = Some serving
+on_hear _ = None
 
-abbrev pub given : Course → Option Course
-given serving = Some answered
-given _ = None
+abbrev pub on_give : Course → Option Course
+on_give serving = Some answered
+on_give _ = None
 
-abbrev pub finished : Course → Option Course
-finished answered = Some ended
-finished _ = None
+abbrev pub on_end : Course → Option Course
+on_end answered = Some ended
+on_end _ = None
 
--- the course of the transaction of port p with serial k after one more event, where that event may come; other events leave it
+-- the course of the transaction of port p with serial k after one more event, where that event may come; other events
+-- leave it
 abbrev pub course_next : ℕ → ℕ → Course → Event → Option Course
-course_next p k c (Begin q j v) = if q == p && j == k then begun c else Some c
-course_next p k c (Call q j v) = if q == p && j == k then begun c else Some c
-course_next p k c (Take q j v) = if q == p && j == k then taken c else Some c
-course_next p k c (More q j v) = if q == p && j == k then replied_to c else Some c
-course_next p k c (Ask q j v) = if q == p && j == k then asked c else Some c
-course_next p k c (Hear q j v) = if q == p && j == k then heard c else Some c
-course_next p k c (Give q j v) = if q == p && j == k then given c else Some c
-course_next p k c (End q j v) = if q == p && j == k then finished c else Some c
+course_next p k c (Begin q j v) = if q == p && j == k then on_begin c else Some c
+course_next p k c (Call q j v) = if q == p && j == k then on_begin c else Some c
+course_next p k c (Take q j v) = if q == p && j == k then on_take c else Some c
+course_next p k c (More q j v) = if q == p && j == k then on_more c else Some c
+course_next p k c (Ask q j v) = if q == p && j == k then on_ask c else Some c
+course_next p k c (Hear q j v) = if q == p && j == k then on_hear c else Some c
+course_next p k c (Give q j v) = if q == p && j == k then on_give c else Some c
+course_next p k c (End q j v) = if q == p && j == k then on_end c else Some c
 course_next p k c _ = Some c
 
 -- after these events; none where one of them may not come

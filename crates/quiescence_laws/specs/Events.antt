@@ -1,7 +1,7 @@
 -- Tests of single events.
-use Rattle.std.specs.Prelude.{ℕ, Bool, false, ◌&&◌, ◌==◌}
+use Rattle.std.specs.Prelude.{ℕ, Bool, true, false, ◌&&◌, ◌==◌}
 use Rattle.quiesce_core.specs.declared.event.Event.{Event}
-use Rattle.quiesce_core.specs.declared.event.Event.TheVariants.{Begin, Take, Give, End, More, Ask, Hear, Reopen, Remove}
+use Rattle.quiesce_core.specs.declared.event.Event.TheVariants.{Begin, Take, Give, End, More, Ask, Hear, Reopen, Link, Remove}
 
 -- whether an event removes node n
 abbrev pub removes : ℕ → Event → Bool
@@ -13,10 +13,21 @@ abbrev pub reopens : ℕ → Event → Bool
 reopens p (Reopen q) = q == p
 reopens p _ = false
 
--- whether it ends a transaction of port p
-abbrev pub ends_at : ℕ → Event → Bool
-ends_at p (End q j v) = q == p
-ends_at p _ = false
+-- whether it makes a link
+abbrev pub is_link : Event → Bool
+is_link (Link p n x) = true
+is_link _ = false
+
+-- whether it reopens some port or makes a link
+abbrev pub is_reopen_or_link : Event → Bool
+is_reopen_or_link (Reopen p) = true
+is_reopen_or_link (Link p n x) = true
+is_reopen_or_link _ = false
+
+-- whether it ends a transaction
+abbrev pub is_end : Event → Bool
+is_end (End p k v) = true
+is_end _ = false
 
 -- whether it begins a root of port p with serial k
 abbrev pub is_root_of : ℕ → ℕ → Event → Bool

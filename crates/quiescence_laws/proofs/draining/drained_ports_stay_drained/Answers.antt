@@ -1,4 +1,4 @@
-use Rattle.quiescence_laws.proofs.DrainLemmas.{drained_stays}
+use Rattle.quiescence_laws.proofs.DrainingLaws.{drained_stays}
 use Rattle.quiescence_laws.proofs.draining.drained_ports_stay_drained.Goals as goal
 
 pub returns : goal.returns

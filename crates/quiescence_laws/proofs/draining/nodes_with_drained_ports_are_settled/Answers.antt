@@ -1,4 +1,4 @@
-use Rattle.quiescence_laws.proofs.DrainLemmas.{settled_if_drained}
+use Rattle.quiescence_laws.proofs.DrainingLaws.{settled_if_drained}
 use Rattle.quiescence_laws.proofs.draining.nodes_with_drained_ports_are_settled.Goals as goal
 
 pub returns : goal.returns

@@ -1,8 +1,8 @@
 use Rattle.quiesce_core.specs.Runs.{state_after}
 use Rattle.quiesce_core.specs.State.{owner}
 use Rattle.quiesce_core.specs.declared.event.Event.TheVariants.{Link, Unlink, Remove}
-use Rattle.quiescence_laws.proofs.FourConditions.{quiescent_at}
-use Rattle.quiescence_laws.proofs.Induction.{place}
+use Rattle.quiescence_laws.proofs.QuiescenceLaws.{quiescent_at}
+use Rattle.quiesce_core.proofs.InductionLaws.{place}
 use Rattle.quiescence_laws.proofs.quiescence.changes_find_nodes_quiescent.Goals as goal
 
 pub returns : goal.returns

@@ -1,4 +1,4 @@
-use Rattle.quiescence_laws.proofs.FourConditions.{quiescent}
+use Rattle.quiescence_laws.proofs.QuiescenceLaws.{quiescent}
 use Rattle.quiescence_laws.proofs.quiescence.settled_nodes_are_quiescent.Goals as goal
 
 pub returns : goal.returns

@@ -1,4 +1,4 @@
-use Rattle.quiescence_laws.proofs.RootLemmas.{root_since, root_when_closed}
+use Rattle.quiescence_laws.proofs.RootLaws.{root_since, root_when_closed}
 use Rattle.quiescence_laws.proofs.roots.roots_at_closed_ports_are_old.Goals as goal
 
 pub returns : goal.returns

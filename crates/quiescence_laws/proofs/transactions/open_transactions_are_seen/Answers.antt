@@ -1,4 +1,4 @@
-use Rattle.quiescence_laws.proofs.Orders.{open_is_seen}
+use Rattle.quiescence_laws.proofs.OrderLaws.{open_is_seen}
 use Rattle.quiescence_laws.proofs.transactions.open_transactions_are_seen.Goals as goal
 
 pub returns : goal.returns

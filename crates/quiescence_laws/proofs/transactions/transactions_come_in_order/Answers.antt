@@ -1,4 +1,4 @@
-use Rattle.quiescence_laws.proofs.Orders.{begun_count, ended_count, in_order, whole_once}
+use Rattle.quiescence_laws.proofs.OrderLaws.{begun_count, ended_count, in_order, whole_once}
 use Rattle.quiescence_laws.proofs.transactions.transactions_come_in_order.Goals as goal
 
 pub returns : goal.returns

@@ -1,14 +1,15 @@
 -- A settled node is quiescent.
-use Rattle.std.proofs.Common.{◌≡◌, ℕ, ◌<◌, Bool, true, false, not, ◌&&◌, ◌||◌, List, [], ◌∷◌, ◌++◌, append_assoc, length, set, Option, Some, None, refl, sym, ap, ◌∙◌, subst, inl, inr, ⊎_elim}
-use Rattle.std.specs.Prelude.{◌↔◌, ◌==◌, option_map, slice_get}
+use Rattle.std.proofs.Common.{◌≡◌, ℕ, ◌<◌, Bool, true, false, not, ◌&&◌, ◌||◌, List, [], ◌∷◌, ◌++◌, append_assoc, length, Option, Some, None, refl, sym, ap, ◌∙◌, subst, inl, inr, ⊎_elim, arith}
+use Rattle.std.specs.Prelude.{◌↔◌, ◌==◌, option_map}
 use Rattle.std.specs.Option.{option_map_or}
 use Rattle.std.specs.List.{list_any}
+use Rattle.std.proofs.Math.Bool.{and-false, and-true}
 use Rattle.std.proofs.lemmas.Bool.{and_parts, both_ways, cases_eq, eqb-true, eq-eqb, ne_eqb, not-true, or_parts}
 use Rattle.std.proofs.lemmas.List.{append-nil}
 use Rattle.std.proofs.lemmas.List.Folds.{list_any-append}
 use Rattle.config_graph.specs.declared.node.Target.{Target}
 use Rattle.quiesce_core.specs.declared.event.Event.{Event}
-use Rattle.quiesce_core.specs.declared.event.Event.TheVariants.{Begin, Call, Take, Give, End, More, Ask, Hear, Miss, Close, Reopen, Make, Link, Unlink, Remove}
+use Rattle.quiesce_core.specs.declared.event.Event.TheVariants.{Begin, Call, Make, Remove}
 use Rattle.quiesce_core.specs.State.{Configuration, State, slot, is_live, owner, target}
 use Rattle.quiesce_core.specs.declared.state.Slot.{Slot}
 use Rattle.quiesce_core.specs.Effect.{effect}
@@ -21,18 +22,21 @@ use Rattle.quiesce_core.proofs.SettledLaws.{settled_if}
 use Rattle.quiesce_core.specs.Settled.{Settled, Quiescent, Continues, later_target, is_opening}
 use Rattle.quiesce_core.specs.Traffic.{IsConsistent}
 use Rattle.quiesce_core.specs.WellFormed.{IsWellFormed}
-use Rattle.quiesce_core.proofs.CycleLaws.{map_or_true}
-use Rattle.quiesce_core.proofs.TableLaws.{gate_place}
-use Rattle.quiesce_core.proofs.SoundnessLaws.{here_gone, slot_elsewhere}
+use Rattle.quiesce_core.proofs.TableLaws.{live_made, gate_place}
 use Rattle.quiesce_core.proofs.RunLaws.{runs_are_well_formed, runs_are_consistent}
-use Rattle.quiescence_laws.specs.Events.{removes}
-use Rattle.quiescence_laws.proofs.Configurations.{busy_made, owner_next}
-use Rattle.quiescence_laws.proofs.Induction.{IsNext, place, further, along, front_runs}
-use Rattle.quiescence_laws.proofs.Opened.{IsGoing, going}
-use Rattle.quiescence_laws.proofs.Stillness.{Concerns, IsStill, not_busy, none_called, none_begun, still_next}
+use Rattle.quiescence_laws.specs.Events.{is_reopen_or_link, removes}
+use Rattle.quiesce_core.proofs.StateLaws.{busy_made}
+use Rattle.quiescence_laws.proofs.ExtensionLaws.{extends_further}
+use Rattle.quiesce_core.specs.Alters.{ports_next, slot_next}
+use Rattle.quiesce_core.proofs.AlterLaws.{reconfigured}
+use Rattle.quiesce_core.proofs.InductionLaws.{IsNext, place, further, along}
+use Rattle.quiesce_core.proofs.RunLaws.{fronts_are_runs}
+use Rattle.quiescence_laws.proofs.OpenLaws.{IsGoing, going}
+use Rattle.quiescence_laws.proofs.Stillness.{Concerns, IsStill, not_busy, none_called, none_begun, opening_bars, still_next}
 
 pub still_if : (s : State) (n : ℕ) → Settled s n → IsStill s n
 still_if s n h = record {
+  made = live_made s.config n h.live;
   quiet = λ p c. ⊎_elim (λ (own : IsPortOf s.config n p). h.own p own) (λ (r : Reach (wiring_of s.config) n p). h.reaching p r) c;
   services_nothing = h.services_nothing;
 }
@@ -68,6 +72,10 @@ node_of (Some t) n h = let same : t.node ≡ n = cc in (t.provide, ap (λ i. Som
 leading : (c : Configuration) (n p : ℕ) → option_map (λ (t : Target). t.node) (target c p) ≡ Some n → Concerns c n p
 leading c n p h = let w = node_of (target c p) n h in inr (direct {x = w.0} w.1)
 
+same_ports : (c : Configuration) (e : Event) → is_opening e ≡ false → ports_next c e ≡ length c.gates
+same_ports c (Make n node from) h = absurd (both_ways true h refl)
+same_ports c _ h = refl
+
 module _ (es : List Event) (n : ℕ) (run : IsRun es) (h : Settled (state_after es) n) where
   -- what is known where an event stands behind the run
   still_at : (before after : List Event) (e : Event) → Continues es (before ++ e ∷ after) → IsNext (es ++ before) e × IsStill (state_after (es ++ before)) n
@@ -76,17 +84,21 @@ module _ (es : List Event) (n : ℕ) (run : IsRun es) (h : Settled (state_after 
       let closed_ = (or_parts (list_any is_opening before) (list_any is_opening (e ∷ after)) (sym (list_any-append is_opening before (e ∷ after)) ∙ c.closed)).0 in (
         place (es ++ before) after e whole,
         along (λ xs. IsStill (state_after xs) n) is_opening
-            (λ xs x here free still. subst (λ s. IsStill s n) (sym here.next) (still_next (state_after xs) x n here.well here.traffic here.legal free still))
-            es before (front_runs (es ++ before) (e ∷ after) whole) closed_ (still_if (state_after es) n h),
+            (λ xs x here free still. subst (λ s. IsStill s n) (sym here.next) (still_next (state_after xs) x n here.well here.traffic here.legal (opening_bars x free) still))
+            es before (fronts_are_runs (es ++ before) (e ∷ after) whole) closed_ (still_if (state_after es) n h),
       )
 
-  owner_at : (before after : List Event) (e : Event) (p : ℕ) → Continues es (before ++ e ∷ after) → owner (state_after (es ++ before)).config p ≡ owner (state_after es).config p
-  owner_at before after e p c =
+  owner_at : (before after : List Event) (e : Event) (p : ℕ) → Continues es (before ++ e ∷ after) → p < length (state_after (es ++ before)).config.gates
+      → owner (state_after (es ++ before)).config p ≡ owner (state_after es).config p
+  owner_at before after e p c made =
       let whole : IsRun ((es ++ before) ++ e ∷ after) = subst (λ xs. IsRun xs) (sym (append_assoc es before (e ∷ after))) c.runs in
+      let front = fronts_are_runs (es ++ before) (e ∷ after) whole in
       let closed_ = (or_parts (list_any is_opening before) (list_any is_opening (e ∷ after)) (sym (list_any-append is_opening before (e ∷ after)) ∙ c.closed)).0 in
-      along (λ xs. owner (state_after xs).config p ≡ owner (state_after es).config p) is_opening
-      (λ xs x here free same. ap (λ s. owner s.config p) here.next ∙ owner_next (state_after xs) x here.well here.legal p (inl free) ∙ same)
-      es before (front_runs (es ++ before) (e ∷ after) whole) closed_ refl
+      let same : length (state_after (es ++ before)).config.gates ≡ length (state_after es).config.gates =
+      along (λ xs. length (state_after xs).config.gates ≡ length (state_after es).config.gates) is_opening
+      (λ xs x here free so_far. ap (λ s. length s.config.gates) here.next ∙ (reconfigured (state_after xs) x here.legal).ports ∙ same_ports (state_after xs).config x free ∙ so_far)
+      es before front closed_ refl in
+      (extends_further es before front).owners p (omega (arith, made, same))
 
   none_initiated : (p k : ℕ) (b : Begun es p k) → is_open_after es p k ≡ true → initiator es p k b ≡ n → ⊥
   none_initiated p k b opened mine =
@@ -101,7 +113,7 @@ module _ (es : List Event) (n : ℕ) (run : IsRun es) (h : Settled (state_after 
       let at = still_at b.before b.after b.event cont in
       let s = state_after (es ++ b.before) in
       let made = begun_made s b.event p k at.0.legal b.begins in
-      let own = subst (λ i. IsPortOf s.config i p) (owner_at b.before b.after b.event p cont ∙ mine) (at.0.well.sound.ports p made) in
+      let own = subst (λ i. IsPortOf s.config i p) (owner_at b.before b.after b.event p cont made ∙ mine) (at.0.well.sound.ports p made) in
       none_begins s b.event n p k at.0.well at.0.traffic at.0.legal at.1 (inl own) b.begins
 
   none_targets : (p k : ℕ) (b : Begun es p k) → is_open_after es p k ≡ true → target_at_begin es p k b ≡ Some n → ⊥
@@ -126,46 +138,21 @@ module _ (es : List Event) (n : ℕ) (run : IsRun es) (h : Settled (state_after 
     targets_none_later = none_targets_later;
   }
 
--- whether a node is live after an event that opens nothing
-and_true : (b : Bool) → (b && true) ≡ b
-and_true true = refl
-and_true false = refl
-
-live_next : (s : State) (e : Event) (n : ℕ) → Legal s e → is_opening e ≡ false → is_live (effect s e).config n ≡ (is_live s.config n && not (removes n e))
-live_next s (Begin p k v) n l h = sym (and_true (is_live s.config n))
-live_next s (Call p k v) n l h = sym (and_true (is_live s.config n))
-live_next s (Miss p) n l h = sym (and_true (is_live s.config n))
-live_next s (Take p k v) n l h = sym (and_true (is_live s.config n))
-live_next s (Give p k v) n l h = sym (and_true (is_live s.config n))
-live_next s (More p k v) n l h = sym (and_true (is_live s.config n))
-live_next s (Ask p k v) n l h = sym (and_true (is_live s.config n))
-live_next s (Hear p k v) n l h = sym (and_true (is_live s.config n))
-live_next s (End p k v) n l h = sym (and_true (is_live s.config n))
-live_next s (Close p) n l h = sym (and_true (is_live s.config n))
-live_next s (Reopen p) n l h = absurd (both_ways true h refl)
-live_next s (Make m node from) n l h = absurd (both_ways true h refl)
-live_next s (Link p m x) n l h = absurd (both_ways true h refl)
-live_next s (Unlink p) n l h = sym (and_true (is_live s.config n))
-live_next s (Remove m) n l h =
-    let old = map_or_true (λ (x : Slot). x.live) (slot s.config m) l.live in
-    let c = s.config in
-    let after = ap (λ o. option_map_or (λ (x : Slot). x.live) (slice_get (option_map_or (λ (x : Slot). set c.slots m (record x { live = false })) o c.slots) n) false) old.1 in
-    after ∙ ⊎_elim
-    (λ (same : n ≡ m).
-    let gone : option_map_or (λ (x : Slot). x.live) (slice_get (set c.slots m (record old.0 { live = false })) n) false ≡ false =
-    ap (λ i. option_map_or (λ (x : Slot). x.live) (slice_get (set c.slots m (record old.0 { live = false })) i) false) same ∙ ap (λ o. option_map_or (λ (x : Slot). x.live) o false) (here_gone c m old.0 old.1) in
-    let it : (m == n) ≡ true = eq-eqb m n (sym same) in
-    gone ∙ sym (ap (λ b. is_live c n && not b) it ∙ and_false (is_live c n)))
-    (λ (other : n ≡ m → ⊥).
-    let kept : option_map_or (λ (x : Slot). x.live) (slice_get (set c.slots m (record old.0 { live = false })) n) false ≡ is_live c n =
-    ap (λ o. option_map_or (λ (x : Slot). x.live) o false) (slot_elsewhere c m old.0 old.1 n other) in
-    let it : (m == n) ≡ false = ne_eqb m n (λ e. other (sym e)) in
-    kept ∙ sym (ap (λ b. is_live c n && not b) it ∙ and_true (is_live c n)))
-    (cases_eq n m)
+-- whether a node that was made is live after an event
+live_next : (s : State) (e : Event) (n : ℕ) → Legal s e → n < length s.config.slots → is_live (effect s e).config n ≡ (is_live s.config n && not (removes n e))
+live_next s e n l made = ap (λ o. option_map_or (λ (x : Slot). x.live) o false) ((reconfigured s e l).slots n) ∙ by e
   where
-    and_false : (b : Bool) → (b && false) ≡ false
-    and_false true = refl
-    and_false false = refl
+    gone : (o : Option Slot) → option_map_or (λ (x : Slot). x.live) (option_map (λ (x : Slot). record x { live = false }) o) false ≡ false
+    gone None = refl
+    gone (Some x) = refl
+
+    by : (e : Event) → option_map_or (λ (x : Slot). x.live) (slot_next s.config n e) false ≡ (is_live s.config n && not (removes n e))
+    by (Make m node from) = rw (ne_eqb n (length s.config.slots) (λ last. omega (arith, made, last))) (sym (and-true (is_live s.config n)))
+    by (Remove m) = ⊎_elim
+        (λ (same : n ≡ m). rw (eq-eqb n m same, eq-eqb m n (sym same)) (gone (slot s.config n) ∙ sym (and-false (is_live s.config n))))
+        (λ (other : n ≡ m → ⊥). rw (ne_eqb n m other, ne_eqb m n (λ e. other (sym e))) (sym (and-true (is_live s.config n))))
+        (cases_eq n m)
+    by _ = sym (and-true (is_live s.config n))
 
 neither : (a b : Bool) → (not a && not b) ≡ not (a || (b || false))
 neither true true = refl
@@ -173,25 +160,39 @@ neither true false = refl
 neither false true = refl
 neither false false = refl
 
+-- what a node that was settled is after further events, when these have removed it too
+record Stays (s : State) (n : ℕ) (more_ : List Event) : Type 0 where
+  still : IsStill s n
+  live : is_live s.config n ≡ not (list_any (removes n) more_)
+
 -- a node that is settled after a run is settled as long as no gate is opened, no link is made and it isn't removed
-pub stays_settled : (es more_ : List Event) (n : ℕ) → Settled (state_after es) n → Continues es more_ → Settled (state_after (es ++ more_)) n ↔ (list_any (removes n) more_ ≡ false)
-stays_settled es more_ n h c =
-    let live = further es (λ xs. is_live (state_after (es ++ xs)).config n ≡ not (list_any (removes n) xs)) is_opening
-    (λ xs e here free so_far.
-    ap (λ ys. is_live (state_after ys).config n) (sym (append_assoc es xs (e ∷ []))) ∙ ap (λ s. is_live s.config n) here.next ∙ live_next (state_after (es ++ xs)) e n here.legal free
-    ∙ ap (λ b. b && not (removes n e)) so_far ∙ neither (list_any (removes n) xs) (removes n e) ∙ ap (λ b. not b) (sym (list_any-append (removes n) xs (e ∷ []))))
-    more_ c.runs c.closed (ap (λ ys. is_live (state_after ys).config n) (append-nil es) ∙ h.live) in
-    let still = along (λ xs. IsStill (state_after xs) n) is_opening
-    (λ xs x here free still. subst (λ s. IsStill s n) (sym here.next) (still_next (state_after xs) x n here.well here.traffic here.legal free still))
-    es more_ c.runs c.closed (still_if (state_after es) n h) in (
-      (λ settled. not-true (list_any (removes n) more_) (sym live ∙ settled.live)),
+pub stays_settled : (es more_ : List Event) (n : ℕ) → Settled (state_after es) n → IsRun (es ++ more_) → list_any is_reopen_or_link more_ ≡ false
+    → Settled (state_after (es ++ more_)) n ↔ (list_any (removes n) more_ ≡ false)
+stays_settled es more_ n h run closed_ =
+    let after = further es (λ xs. Stays (state_after (es ++ xs)) n xs) is_reopen_or_link
+    (λ xs e here free so_far. subst (λ ys. Stays (state_after ys) n (xs ++ e ∷ [])) (append_assoc es xs (e ∷ [])) (subst (λ s. Stays s n (xs ++ e ∷ [])) (sym here.next) (record {
+      still = still_next (state_after (es ++ xs)) e n here.well here.traffic here.legal free so_far.still;
+      live = live_next (state_after (es ++ xs)) e n here.legal so_far.still.made ∙ ap (λ b. b && not (removes n e)) so_far.live
+          ∙ neither (list_any (removes n) xs) (removes n e) ∙ ap (λ b. not b) (sym (list_any-append (removes n) xs (e ∷ [])));
+    })))
+    more_ run closed_ (subst (λ ys. Stays (state_after ys) n []) (sym (append-nil es)) (record { still = still_if (state_after es) n h; live = h.live })) in (
+      (λ settled. not-true (list_any (removes n) more_) (sym after.live ∙ settled.live)),
       (λ unremoved. record {
-        live = live ∙ ap (λ b. not b) unremoved;
-        own = λ p own. still.quiet p (inl own);
-        services_nothing = still.services_nothing;
-        reaching = λ p r. still.quiet p (inr r);
+        live = after.live ∙ ap (λ b. not b) unremoved;
+        own = λ p own. after.still.quiet p (inl own);
+        services_nothing = after.still.services_nothing;
+        reaching = λ p r. after.still.quiet p (inr r);
       }),
     )
+
+-- where nothing is made either
+none_reopens : (es : List Event) → list_any is_opening es ≡ false → list_any is_reopen_or_link es ≡ false
+none_reopens [] h = refl
+none_reopens (e ∷ es) h =
+    let parts = or_parts (is_opening e) (list_any is_opening es) h in ap (λ b. b || list_any is_reopen_or_link es) (opening_bars e parts.0) ∙ none_reopens es parts.1
+
+pub stays_settled_unmade : (es more_ : List Event) (n : ℕ) → Settled (state_after es) n → Continues es more_ → Settled (state_after (es ++ more_)) n ↔ (list_any (removes n) more_ ≡ false)
+stays_settled_unmade es more_ n h c = stays_settled es more_ n h c.runs (none_reopens more_ c.closed)
 
 -- what rule 22 finds settled is quiescent
 pub quiescent_at : (before : List Event) (n : ℕ) → IsRun before → is_settled (state_after before) n ≡ true → Quiescent before n

@@ -3,12 +3,10 @@ use Rattle.std.proofs.Common.{◌≡◌, ℕ, zero, suc, ◌+◌, ◌<◌, true,
 use Rattle.std.specs.Prelude.{◌==◌, is_none, is_some}
 use Rattle.std.specs.List.{list_any}
 use Rattle.std.proofs.lemmas.Bool.{and_parts, and_from, both_ways, cases_Bool, eq-eqb, not_from_false, or_cases, or_left, or_right}
-use Rattle.config_graph.specs.Kinds.{depends_on, is_depended_on}
 use Rattle.config_graph.specs.declared.node.Target.{Target}
 use Rattle.quiesce_core.specs.declared.event.Event.{Event}
 use Rattle.quiesce_core.specs.declared.state.Service.{Service}
-use Rattle.quiesce_core.specs.declared.state.Slot.{Slot}
-use Rattle.quiesce_core.specs.State.{State, slot, is_live, gate, owner, target, provision, depends, is_depended, exchange, service}
+use Rattle.quiesce_core.specs.State.{State, is_live, gate, owner, target, provision, depends, is_depended, exchange, service}
 use Rattle.gate_word.specs.Phases.{is_idle}
 use Rattle.quiesce_core.specs.Reach.{IsPortOf, can_walk, wiring_of}
 use Rattle.config_graph.specs.Wiring.{Reach, direct, through}
@@ -17,15 +15,15 @@ use Rattle.quiesce_core.specs.Runs.{IsRun, state_after}
 use Rattle.quiesce_core.specs.Settled.{Settled}
 use Rattle.quiesce_core.specs.Traffic.{IsServing, IsConsistent}
 use Rattle.quiesce_core.specs.WellFormed.{IsWellFormed}
-use Rattle.quiesce_core.proofs.CycleLaws.{call_by, map_or_at, map_or_true, walk_to}
-use Rattle.config_graph.proofs.KindLaws.{depended_if}
+use Rattle.quiesce_core.proofs.CycleLaws.{call_by, depended_at, map_or_at, walk_to}
+use Rattle.base.proofs.OptionLaws.{Some-from_is_some}
 use Rattle.quiesce_core.proofs.ReachLaws.{no_walk_plus, owner_of}
 use Rattle.quiesce_core.proofs.RunLaws.{runs_are_well_formed, runs_are_consistent}
 use Rattle.quiescence_laws.specs.Drained.{is_drained}
 use Rattle.quiescence_laws.specs.Events.{reopens}
 use Rattle.quiescence_laws.specs.Roots.{has_root}
-use Rattle.quiescence_laws.proofs.Configurations.{busy_made}
-use Rattle.quiescence_laws.proofs.RootLemmas.{old_further, has_no_root}
+use Rattle.quiesce_core.proofs.StateLaws.{busy_made}
+use Rattle.quiescence_laws.proofs.RootLaws.{old_further, has_no_root}
 use Rattle.quiescence_laws.proofs.Stillness.{Concerns}
 use Rattle.quiesce_core.proofs.StateLaws.{serving_busy}
 
@@ -73,11 +71,6 @@ module _ (s : State) (n : ℕ) (w : IsWellFormed s) (t : IsConsistent s) (draine
       inr (through {p = p} {m = m} {x = h.provide} r (subst (λ i. IsPortOf s.config i p) owned (w.sound.ports p made), sym (ap (λ x. depends s.config m x p) by) ∙ dep) h.linked))
       c
 
-  depended : (m x p : ℕ) → depends s.config m x p ≡ true → is_depended s.config m p ≡ true
-  depended m x p h =
-      let k = map_or_true (λ (u : Slot). depends_on u.node.kind x (gate s.config p).require) (slot s.config m) h in
-      map_or_at (λ (u : Slot). is_depended_on u.node.kind (gate s.config p).require) (slot s.config m) false k.0 k.1 ∙ depended_if k.0.node.kind x (gate s.config p).require k.2
-
   -- what a busy port's transaction belongs to
   record Above (p : ℕ) : Type 0 where
     port : ℕ
@@ -92,7 +85,7 @@ module _ (s : State) (n : ℕ) (w : IsWellFormed s) (t : IsConsistent s) (draine
       ⊎_elim
       (λ (idle : is_idle (exchange s p).phase ≡ true). absurd (both_ways (is_idle (exchange s p).phase) busy idle))
       (λ (called : is_some (exchange s p).within ≡ true).
-      let q = some_port (exchange s p).within called in
+      let q = Some-from_is_some (exchange s p).within called in
       let k = t.consequent p q.0 q.1 in
       let serving = t.serving (owner s.config p) k.serving k.serviced in
       let dep : depends s.config (owner s.config p) (provision s.config k.serving.port) p ≡ true = ap (λ i. depends s.config (owner s.config p) (provision s.config i) p) k.of_port ∙ k.depends_on in
@@ -101,13 +94,9 @@ module _ (s : State) (n : ℕ) (w : IsWellFormed s) (t : IsConsistent s) (draine
         concerns = serviced_concerns p (owner s.config p) k.serving serving refl (busy_made s p t busy) dep c;
         busy = serving_busy (exchange s k.serving.port).phase serving.busy;
         leads = (serving.provide, serving.linked);
-        depended = depended (owner s.config p) (provision s.config k.serving.port) p dep;
+        depended = depended_at s.config (owner s.config p) (provision s.config k.serving.port) p dep;
       })
       (or_cases (is_idle (exchange s p).phase) (is_some (exchange s p).within) parts.1)
-    where
-      some_port : (o : Option ℕ) → is_some o ≡ true → (q : ℕ) × (o ≡ Some q)
-      some_port None h = absurd (both_ways false refl h)
-      some_port (Some q) h = (q, refl)
 
   -- so from a busy port one can climb without end
   climbs : (k p : ℕ) → Concerns s.config n p → is_idle (exchange s p).phase ≡ false → Climbs s n k
