@@ -10,7 +10,7 @@ use Rattle.quiesce_core.specs.Traffic.{IsConsistent}
 use Rattle.quiesce_core.specs.WellFormed.{IsWellFormed}
 use Rattle.quiesce_core.proofs.CycleLaws.{map_or_true, map_or_at, walk_to, no_walk}
 use Rattle.drain_laws.specs.Belongs.{Transactions, Belongs, member, consequent, belongs, belongs_within, is_member, open_in}
-use Rattle.drain_laws.proofs.Busy.{busy_made}
+use Rattle.quiesce_core.proofs.StateLaws.{busy_made}
 
 found : (set : Transactions) (s : State) (k p : ℕ) → belongs_within set s k p ≡ true → Belongs set s p
 found set s zero p h = member p h
@@ -32,7 +32,7 @@ longer_walk s p q r j w k e f walks =
       port = q;
       provide = at.provide;
       serves = provision s.config r;
-      depends = (w.sound.ports q (busy_made s q w calling.busy), calling.depends_on);
+      depends = (w.sound.ports q (busy_made s q k calling.busy), calling.depends_on);
       linked = sym (ap (λ i. target s.config i) called.of_port) ∙ at.linked;
     }) walks
 
@@ -100,15 +100,3 @@ pub open_belongs : (s : State) (p : ℕ) → is_idle (exchange s p).phase ≡ fa
 open_belongs s p busy =
     member_belongs (open_in s) s p
     (and_from (not (is_idle (exchange s p).phase)) ((exchange s p).serial == (exchange s p).serial) (ap not busy) (eq-eqb (exchange s p).serial (exchange s p).serial refl))
-
--- Ports at which an event leaves the serial and the caller as they are, and whose callers are such ports too
-pub record Keeps (s s' : State) (P : ℕ → Type 0) : Type 0 where
-  pub serials : (q : ℕ) → P q → (exchange s' q).serial ≡ (exchange s q).serial
-  pub withins : (q : ℕ) → P q → (exchange s' q).within ≡ (exchange s q).within
-  pub closed : (q r : ℕ) → P q → (exchange s q).within ≡ Some r → P r
-
-pub carried : (set : Transactions) (s s' : State) (P : ℕ → Type 0) → Keeps s s' P → (q : ℕ) → P q → Belongs set s' q → Belongs set s q
-carried set s s' P k p at (member q h) = member q (ap (λ i. set q i) (sym (k.serials q at)) ∙ h)
-carried set s s' P k p at (consequent q r e b) =
-    let was : (exchange s q).within ≡ Some r = sym (k.withins q at) ∙ e in
-    consequent q r was (carried set s s' P k r (k.closed q r at was) b)

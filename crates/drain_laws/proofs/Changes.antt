@@ -15,29 +15,27 @@ use Rattle.quiesce_core.specs.Rules.{is_taken}
 use Rattle.quiesce_core.specs.Traffic.{IsConsistent}
 use Rattle.quiesce_core.specs.WellFormed.{IsWellFormed}
 use Rattle.quiesce_core.proofs.TableLaws.{live_made}
-use Rattle.drain_laws.specs.Drain.{left, rest_where}
+use Rattle.drain_laws.specs.Drain.{rest_at, rest_where}
 use Rattle.drain_laws.proofs.Busy.{busy_phases, busy_target, untaken_if}
-use Rattle.drain_laws.proofs.Fewer.{HasNoNewLink, full_fewer, events_fewer}
-use Rattle.drain_laws.proofs.Sums.{sum_le, sum_longer, masked}
+use Rattle.drain_laws.proofs.Fewer.{GoodLinks, calls_stay, mores_stay, full_fewer, events_fewer}
+use Rattle.quiescence_laws.proofs.SumLaws.{sum_le, sum_longer, masked}
 use Rattle.drain_laws.proofs.Weights.{left_idle, left_answered, left_untaken, left_taken}
 use Rattle.quiesce_core.proofs.StateLaws.{serving_busy, taken_is, is_taken_if}
 
 -- what an event of the change owes, so that nothing more is left
 pub record Spares (s s' : State) (Good : ℕ → ℕ → Type 0) : Type 0 where
-  pub fewer : HasNoNewLink s.config s'.config Good
+  pub fewer : GoodLinks s.config s'.config Good
   pub busy : (q : ℕ) (t : Target) → is_idle (exchange s q).phase ≡ false → target s.config q ≡ Some t → Good t.node t.provide
   pub no_cycle : has_no_cycle s'.config ≡ true
   pub exchanges : (q : ℕ) → exchange s' q ≡ exchange s q
   pub services : (m : ℕ) → service s' m ≡ service s m
   pub leads : (q : ℕ) → is_idle (exchange s q).phase ≡ false → target s'.config q ≡ target s.config q
-  pub longer : ℕ
-  pub length_is : length s'.config.gates ≡ length s.config.gates + longer
 
 rest_fewer : (m i c j e e' d : ℕ) → e ≤ e' → 3 * (m - i) + (c - j) * e + d ≤ 3 * (m - i) + (c - j) * e' + d
 rest_fewer m i c j e e' d h = let l : (c - j) * e ≤ (c - j) * e' = mul-le-mul_left (c - j) h in omega arith
 
 module _ (s s' : State) (w : IsWellFormed s) (k : IsConsistent s) (Good : ℕ → ℕ → Type 0) (h : Spares s s' Good) where
-  taken_fewer : (q : ℕ) (t : Target) → (is_asked (exchange s q).phase || is_in_more (exchange s q).phase) ≡ true → target s.config q ≡ Some t → target s'.config q ≡ Some t → is_taken s q ≡ true → left s' q ≤ left s q
+  taken_fewer : (q : ℕ) (t : Target) → (is_asked (exchange s q).phase || is_in_more (exchange s q).phase) ≡ true → target s.config q ≡ Some t → target s'.config q ≡ Some t → is_taken s q ≡ true → rest_at s' q ≤ rest_at s q
   taken_fewer q t busy e e' taken =
       let u = taken_is s q taken in
       let same : u.to ≡ t = cc (e, u.leads) in
@@ -46,14 +44,14 @@ module _ (s s' : State) (w : IsWellFormed s) (k : IsConsistent s) (Good : ℕ �
       let before = left_taken s q t u.serving busy e serviced u.of_port in
       let after = left_taken s' q t u.serving (ap (λ (x : Exchange). is_asked x.phase || is_in_more x.phase) (h.exchanges q) ∙ busy) e' (h.services t.node ∙ serviced) u.of_port in
       let events = events_fewer s.config s'.config w.sound h.no_cycle Good h.fewer t.node t.provide made (h.busy q t (serving_busy (exchange s q).phase busy) e) in
-      let is : left s' q ≡ 3 * (mores_allowed s.config t.node t.provide - u.serving.mores)
+      let is : rest_at s' q ≡ 3 * (mores_allowed s.config t.node t.provide - u.serving.mores)
       + (calls_allowed s.config t.node t.provide - u.serving.calls) * call_events s'.config t.node t.provide + messages_due u.serving (exchange s q).phase =
       after
       ∙ ap (λ (x : Exchange). service_rest s'.config t.node t.provide u.serving x.phase) (h.exchanges q)
       ∙ ap (λ i. 3 * (i - u.serving.mores) + (calls_allowed s'.config t.node t.provide - u.serving.calls) * call_events s'.config t.node t.provide + messages_due u.serving (exchange s q).phase)
-      (h.fewer.mores t.node t.provide made)
+      (mores_stay s.config s'.config h.fewer.extends_ t.node t.provide made)
       ∙ ap (λ i. 3 * (mores_allowed s.config t.node t.provide - u.serving.mores) + (i - u.serving.calls) * call_events s'.config t.node t.provide + messages_due u.serving (exchange s q).phase)
-      (h.fewer.calls t.node t.provide made) in
+      (calls_stay s.config s'.config h.fewer.extends_ t.node t.provide made) in
       omega (
         arith,
         is,
@@ -62,7 +60,7 @@ module _ (s s' : State) (w : IsWellFormed s) (k : IsConsistent s) (Good : ℕ �
             (call_events s'.config t.node t.provide) (call_events s.config t.node t.provide) (messages_due u.serving (exchange s q).phase) events,
       )
 
-  asked_fewer : (q : ℕ) → (is_asked (exchange s q).phase || is_in_more (exchange s q).phase) ≡ true → is_idle (exchange s q).phase ≡ false → left s' q ≤ left s q
+  asked_fewer : (q : ℕ) → (is_asked (exchange s q).phase || is_in_more (exchange s q).phase) ≡ true → is_idle (exchange s q).phase ≡ false → rest_at s' q ≤ rest_at s q
   asked_fewer q either_ busy =
       let t = busy_target s q k busy in
       let e' : target s'.config q ≡ Some t.0 = h.leads q busy ∙ t.1 in
@@ -76,7 +74,7 @@ module _ (s s' : State) (w : IsWellFormed s) (k : IsConsistent s) (Good : ℕ �
       omega (arith, before, after, full_fewer s.config s'.config w.sound h.no_cycle Good h.fewer t.0.node t.0.provide (live_made s.config t.0.node (w.sound.targets q t.0 t.1).live) (h.busy q t.0 busy t.1)))
       (cases_Bool (is_taken s q))
 
-  left_fewer : (q : ℕ) → left s' q ≤ left s q
+  left_fewer : (q : ℕ) → rest_at s' q ≤ rest_at s q
   left_fewer q = ⊎_elim
       (λ (idle : is_idle (exchange s q).phase ≡ true). omega (arith, left_idle s' q (ap (λ (x : Exchange). is_idle x.phase) (h.exchanges q) ∙ idle)))
       (λ (busy : is_idle (exchange s q).phase ≡ false). ⊎_elim
@@ -90,17 +88,19 @@ module _ (s s' : State) (w : IsWellFormed s) (k : IsConsistent s) (Good : ℕ �
       (cases_Bool (is_idle (exchange s q).phase))
 
   -- nothing is left of what was not made
-  left_behind : (q : ℕ) → length s.config.gates ≤ q → left s' q ≡ 0
+  left_behind : (q : ℕ) → length s.config.gates ≤ q → rest_at s' q ≡ 0
   left_behind q past =
       left_idle s' q (ap (λ (x : Exchange). is_idle x.phase) (h.exchanges q ∙ get_or_past s.traffic.exchanges q fresh_exchange (omega (arith, past, w.exchanges))))
 
   pub spares_part : (b : ℕ → Bool) → rest_where b s' ≤ rest_where b s
   spares_part b =
-      let size : rest_where b s' ≡ sum_by (λ p. cond (b p) (left s' p) 0) (range_with_len 0 (length s.config.gates)) =
-      ap (λ n. sum_by (λ p. cond (b p) (left s' p) 0) (range_with_len 0 n)) h.length_is
-      ∙ sum_longer (λ p. cond (b p) (left s' p) 0) 0 (length s.config.gates) h.longer (λ q past. zero_there (b q) (left s' q) (left_behind q (omega arith))) in
-      let less = sum_le (λ p. cond (b p) (left s' p) 0) (λ p. cond (b p) (left s p) 0) 0 (length s.config.gates)
-      (λ q. masked false (b q) (b q) (left s' q) (left s q) (λ idle. absurd (both_ways false refl idle)) (λ busy on. on) (left_fewer q)) in
+      let longer = length s'.config.gates - length s.config.gates in
+      let length_is : length s'.config.gates ≡ length s.config.gates + longer = omega (arith, h.fewer.extends_.many) in
+      let size : rest_where b s' ≡ sum_by (λ p. cond (b p) (rest_at s' p) 0) (range_with_len 0 (length s.config.gates)) =
+      ap (λ n. sum_by (λ p. cond (b p) (rest_at s' p) 0) (range_with_len 0 n)) length_is
+      ∙ sum_longer (λ p. cond (b p) (rest_at s' p) 0) 0 (length s.config.gates) longer (λ q past. zero_there (b q) (rest_at s' q) (left_behind q (omega arith))) in
+      let less = sum_le (λ p. cond (b p) (rest_at s' p) 0) (λ p. cond (b p) (rest_at s p) 0) 0 (length s.config.gates)
+      (λ q. masked false (b q) (b q) (rest_at s' q) (rest_at s q) (λ idle. absurd (both_ways false refl idle)) (λ busy on. on) (left_fewer q)) in
       omega (arith, size, less)
     where
       zero_there : (b : Bool) (x : ℕ) → x ≡ 0 → cond b x 0 ≡ 0

@@ -1,9 +1,8 @@
 -- Something is left of each open transaction, so where nothing is left none is open.
-use Rattle.std.proofs.Common.{◌≡◌, ℕ, zero, suc, ◌+◌, ◌≤◌, Bool, true, false, cond, length, refl, ap, ⊎_elim, arith}
+use Rattle.std.proofs.Common.{◌≡◌, ℕ, ◌+◌, ◌≤◌, Bool, true, false, cond, length, refl, ap, ⊎_elim, arith}
 use Rattle.std.specs.Prelude.{◌||◌, ◌⊎◌, ◌↔◌, sum_by}
 use Rattle.std.specs.List.{range_with_len}
 use Rattle.std.proofs.lemmas.Bool.{cases_Bool, false_from_ne_true, or_left, or_right, true_from_ne_false}
-use Rattle.std.proofs.lemmas.List.Sums.{sum_by-cons}
 use Rattle.quiesce_core.specs.State.{State, exchange}
 use Rattle.gate_word.specs.Phases.{is_idle, is_asked, is_answered, is_in_more}
 use Rattle.quiesce_core.specs.Rest.{rest}
@@ -12,15 +11,16 @@ use Rattle.quiesce_core.specs.Traffic.{IsConsistent}
 use Rattle.quiesce_core.specs.WellFormed.{IsWellFormed}
 use Rattle.quiesce_core.proofs.RestLaws.{full_step}
 use Rattle.drain_laws.specs.Belongs.{Transactions, belongs}
-use Rattle.drain_laws.specs.Drain.{left, rest_where, rest_of}
-use Rattle.drain_laws.proofs.Busy.{busy_made, busy_phases, busy_target}
+use Rattle.drain_laws.specs.Drain.{rest_at, rest_where, rest_of}
+use Rattle.drain_laws.proofs.Busy.{busy_phases, busy_target}
 use Rattle.drain_laws.proofs.Falls.{due_two}
 use Rattle.drain_laws.proofs.Steps.{every, all_rest}
-use Rattle.drain_laws.proofs.Sums.{sum_place, sum_le}
+use Rattle.quiescence_laws.proofs.SumLaws.{sum_place, sum_le, sum_zero}
 use Rattle.drain_laws.proofs.Weights.{left_idle, left_answered, left_untaken, left_taken}
 use Rattle.quiesce_core.proofs.StateLaws.{taken_is}
+use Rattle.quiesce_core.proofs.StateLaws.{busy_made}
 
-asked_left : (s : State) (p : ℕ) → IsWellFormed s → IsConsistent s → is_idle (exchange s p).phase ≡ false → (is_asked (exchange s p).phase || is_in_more (exchange s p).phase) ≡ true → 1 ≤ left s p
+asked_left : (s : State) (p : ℕ) → IsWellFormed s → IsConsistent s → is_idle (exchange s p).phase ≡ false → (is_asked (exchange s p).phase || is_in_more (exchange s p).phase) ≡ true → 1 ≤ rest_at s p
 asked_left s p w c busy either_ =
     let t = busy_target s p c busy in
     ⊎_elim
@@ -31,7 +31,7 @@ asked_left s p w c busy either_ =
     omega (arith, left_untaken s p t.0 either_ t.1 free, full_step s.config w.sound.no_cycle t.0.node t.0.provide))
     (cases_Bool (is_taken s p))
 
-pub busy_left : (s : State) (p : ℕ) → IsWellFormed s → IsConsistent s → is_idle (exchange s p).phase ≡ false → 1 ≤ left s p
+pub busy_left : (s : State) (p : ℕ) → IsWellFormed s → IsConsistent s → is_idle (exchange s p).phase ≡ false → 1 ≤ rest_at s p
 busy_left s p w c busy = ⊎_elim
     (λ (asked : is_asked (exchange s p).phase ≡ true). asked_left s p w c busy (or_left (is_asked (exchange s p).phase) (is_in_more (exchange s p).phase) asked))
     (λ (later : (is_answered (exchange s p).phase ≡ true) ⊎ (is_in_more (exchange s p).phase ≡ true)). ⊎_elim
@@ -42,17 +42,13 @@ busy_left s p w c busy = ⊎_elim
 
 marked_left : (s : State) (b : ℕ → Bool) (p : ℕ) → IsWellFormed s → IsConsistent s → is_idle (exchange s p).phase ≡ false → b p ≡ true → 1 ≤ rest_where b s
 marked_left s b p w c busy on =
-    let here : cond (b p) (left s p) 0 ≡ left s p = ap (λ v. cond v (left s p) 0) on in
+    let here : cond (b p) (rest_at s p) 0 ≡ rest_at s p = ap (λ v. cond v (rest_at s p) 0) on in
     let all : sum_by (λ i. 0) (range_with_len 0 (length s.config.gates)) + 1 ≤ rest_where b s + 0 =
-    sum_place (λ i. 0) (λ i. cond (b i) (left s i) 0) p 1 0 0 (length s.config.gates) (omega arith) (omega (arith, busy_made s p w busy)) (λ i other. omega arith) (omega (arith, here, busy_left s p w c busy)) in
+    sum_place (λ i. 0) (λ i. cond (b i) (rest_at s i) 0) p 1 0 (length s.config.gates) (omega (arith, busy_made s p c busy)) (λ i other. omega arith) (omega (arith, here, busy_left s p w c busy)) in
     omega arith
 
 pub none_belongs : (set : Transactions) (s : State) → IsWellFormed s → IsConsistent s → rest_of set s ≡ 0 → (p : ℕ) → is_idle (exchange s p).phase ≡ false → belongs set s p ≡ false
 none_belongs set s w c none_ p busy = false_from_ne_true (belongs set s p) (λ on. omega (arith, none_, marked_left s (belongs set s) p w c busy on))
-
-zeros : (a n : ℕ) → sum_by (λ i. 0) (range_with_len a n) ≡ 0
-zeros a zero = refl
-zeros a (suc n) = omega (arith, sum_by-cons (λ i. 0) a (range_with_len (a + 1) n), zeros (a + 1) n)
 
 pub nothing_left : (s : State) → IsWellFormed s → IsConsistent s → (rest s ≡ 0) ↔ ((p : ℕ) → is_idle (exchange s p).phase ≡ true)
 nothing_left s w c = (
@@ -60,7 +56,7 @@ nothing_left s w c = (
   (λ idle. omega (
     arith,
     all_rest s,
-    zeros 0 (length s.config.gates),
-    sum_le (λ i. cond (every i) (left s i) 0) (λ i. 0) 0 (length s.config.gates) (λ i. omega (arith, left_idle s i (idle i))),
+    sum_zero (λ i. 0) 0 (length s.config.gates) (λ i l. refl),
+    sum_le (λ i. cond (every i) (rest_at s i) 0) (λ i. 0) 0 (length s.config.gates) (λ i. omega (arith, left_idle s i (idle i))),
   )),
 )

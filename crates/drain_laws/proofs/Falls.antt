@@ -21,8 +21,9 @@ use Rattle.quiesce_core.specs.WellFormed.{IsWellFormed}
 use Rattle.quiesce_core.proofs.CycleLaws.{map_or_true, map_or_at}
 use Rattle.quiesce_core.proofs.TableLaws.{gate_place, exchange_place, owner_place, target_place}
 use Rattle.quiesce_core.proofs.RestLaws.{full_step}
-use Rattle.drain_laws.specs.Drain.{left}
-use Rattle.drain_laws.proofs.Busy.{busy_made, busy_target, untaken_if}
+use Rattle.drain_laws.specs.Drain.{rest_at}
+use Rattle.drain_laws.proofs.Busy.{busy_target, untaken_if}
+use Rattle.quiesce_core.proofs.StateLaws.{busy_made}
 use Rattle.drain_laws.proofs.Greatest.{call_counted}
 use Rattle.drain_laws.proofs.Weights.{left_idle, left_answered, left_untaken, left_taken, left_same, left_elsewhere}
 use Rattle.quiesce_core.proofs.StateLaws.{asked_busy, serving_busy, asked_not_more, exchange_here, exchange_there, service_here, service_there, taken_is, idle_unserved, served_busy, provision_is, put_is, target_service_is}
@@ -31,8 +32,8 @@ use Rattle.base.proofs.OptionLaws.{Some-from_is_some}
 -- what is left of port p falls, and of no other port changes
 pub record Falls (s : State) (t' : Traffic) (p : ℕ) : Type 0 where
   pub made : p < length s.config.gates
-  pub here : left (record s { traffic = t' }) p + 1 ≤ left s p
-  pub others : (q : ℕ) → (q ≡ p → ⊥) → left (record s { traffic = t' }) q ≡ left s q
+  pub here : rest_at (record s { traffic = t' }) p + 1 ≤ rest_at s p
+  pub others : (q : ℕ) → (q ≡ p → ⊥) → rest_at (record s { traffic = t' }) q ≡ rest_at s q
 
 -- the numbers
 
@@ -74,7 +75,7 @@ take_falls s p k v w c l =
     let free : service s t.0.node ≡ None = sym (target_service_is s p t.0 t.1) ∙ none_if (target_service s p) l.free in
     let now : service s' t.0.node ≡ Some new = service_here s t.0.node (Some new) (target_place s p t.0 w t.1) in
     let either_ = or_left (is_asked (exchange s p).phase) (is_in_more (exchange s p).phase) l.asked in
-    let before : left s p ≡ full s.config t.0.node t.0.provide = left_untaken s p t.0 either_ t.1 (not-true (is_taken s p) l.untaken) in
+    let before : rest_at s p ≡ full s.config t.0.node t.0.provide = left_untaken s p t.0 either_ t.1 (not-true (is_taken s p) l.untaken) in
     let after = left_taken s' p t.0 new either_ t.1 now refl in
     let result : Falls s s'.traffic p = record {
       made = gate_place s p l.live;
@@ -162,7 +163,7 @@ give_falls s p k v w c l =
     let here : exchange s' p ≡ x = exchange_here (with_service s t.node None) p x (exchange_place s p w l.live) in
     let now : service s' t.node ≡ None = service_here s t.node None (target_place s p t w at.leads) in
     let before = left_taken s p t old (served_busy s p c t.node old at.serviced at.of_port) at.leads at.serviced at.of_port in
-    let after : left s' p ≡ 1 = left_answered s' p (ap (λ (y : Exchange). is_answered y.phase) here) in
+    let after : rest_at s' p ≡ 1 = left_answered s' p (ap (λ (y : Exchange). is_answered y.phase) here) in
     let result : Falls s s'.traffic p = record {
       made = gate_place s p l.live;
       here = omega (arith, after, before, due_two old (exchange s p).phase);
@@ -211,8 +212,8 @@ pub record Calling (s : State) (p : ℕ) : Type 0 where
   pub serving : Service
   pub serviced : service s (owner s.config p) ≡ Some serving
   pub made : serving.port < length s.config.gates
-  pub falls : left (with_service s (owner s.config p) (Some (record serving { calls = serving.calls + 1 }))) serving.port + events_through s.config p ≤ left s serving.port
-  pub others : (q : ℕ) → (q ≡ serving.port → ⊥) → left (with_service s (owner s.config p) (Some (record serving { calls = serving.calls + 1 }))) q ≡ left s q
+  pub falls : rest_at (with_service s (owner s.config p) (Some (record serving { calls = serving.calls + 1 }))) serving.port + events_through s.config p ≤ rest_at s serving.port
+  pub others : (q : ℕ) → (q ≡ serving.port → ⊥) → rest_at (with_service s (owner s.config p) (Some (record serving { calls = serving.calls + 1 }))) q ≡ rest_at s q
 
 calling : (s : State) (p : ℕ) → IsWellFormed s → IsConsistent s → is_live_port s.config p ≡ true → serves_through s (owner s.config p) p ≡ true → has_calls_left s (owner s.config p) ≡ true → Calling s p
 calling s p w c live through calls =
@@ -237,7 +238,7 @@ calling s p w c live through calls =
     record {
       serving = old;
       serviced = served.1;
-      made = busy_made s old.port w (serving_busy (exchange s old.port).phase at.busy);
+      made = busy_made s old.port c (serving_busy (exchange s old.port).phase at.busy);
       falls = omega (arith, after, before, less);
       others = λ q ne. left_elsewhere s s'.traffic n q refl (λ m other. service_there s n m (Some new) other)
           (λ u e same. let one : old ≡ u = cc (served.1, e) in ne (sym same ∙ sym (ap (λ (y : Service). y.port) one)))
@@ -260,11 +261,12 @@ miss_falls s p at =
 -- a transaction was begun at a port, which came to have all that is left of one
 pub record Rises (s : State) (t' : Traffic) (p : ℕ) : Type 0 where
   pub made : p < length s.config.gates
-  pub before : left s p ≡ 0
+  pub before : rest_at s p ≡ 0
   pub to : Target
   pub leads : target s.config p ≡ Some to
-  pub after : left (record s { traffic = t' }) p ≡ full s.config to.node to.provide
-  pub others : (q : ℕ) → (q ≡ p → ⊥) → left (record s { traffic = t' }) q ≡ left s q
+  pub after : rest_at (record s { traffic = t' }) p ≡ full s.config to.node to.provide
+  pub unserved : (m : ℕ) (v : Service) → service (record s { traffic = t' }) m ≡ Some v → v.port ≡ p → ⊥
+  pub others : (q : ℕ) → (q ≡ p → ⊥) → rest_at (record s { traffic = t' }) q ≡ rest_at s q
 
 pub begin_rises : (s : State) (p k v : ℕ) → IsWellFormed s → IsConsistent s → Legal s (Begin p k v) → Rises s (effect s (Begin p k v)).traffic p
 begin_rises s p k v w c l =
@@ -279,6 +281,7 @@ begin_rises s p k v w c l =
       leads = t.1;
       after = left_untaken s' p t.0 (ap (λ (y : Exchange). is_asked y.phase || is_in_more y.phase) here) t.1
           (untaken_if s' p t.0 t.1 (λ u e same. idle_unserved s p c l.idle t.0.node u e same));
+      unserved = λ m u e same. idle_unserved s p c l.idle m u e same;
       others = λ q ne. left_same s s'.traffic q (exchange_there s p q x ne) (λ u e. inl refl);
     }
 
@@ -287,10 +290,12 @@ pub record Moves (s : State) (t' : Traffic) (p : ℕ) (r : ℕ) : Type 0 where
   pub made : p < length s.config.gates
   pub made_served : r < length s.config.gates
   pub other : p ≡ r → ⊥
-  pub amount : ℕ
-  pub here : left (record s { traffic = t' }) p ≡ amount
-  pub there : left (record s { traffic = t' }) r + (1 + amount) ≤ left s r
-  pub others : (q : ℕ) → (q ≡ p → ⊥) → (q ≡ r → ⊥) → left (record s { traffic = t' }) q ≡ left s q
+  pub to : Target
+  pub leads : target s.config p ≡ Some to
+  pub here : rest_at (record s { traffic = t' }) p ≡ full s.config to.node to.provide
+  pub there : rest_at (record s { traffic = t' }) r + (1 + full s.config to.node to.provide) ≤ rest_at s r
+  pub unserved : (m : ℕ) (v : Service) → service (record s { traffic = t' }) m ≡ Some v → v.port ≡ p → ⊥
+  pub others : (q : ℕ) → (q ≡ p → ⊥) → (q ≡ r → ⊥) → rest_at (record s { traffic = t' }) q ≡ rest_at s q
 
 pub call_moves : (s : State) (p k v : ℕ) → IsWellFormed s → IsConsistent s → Legal s (Call p k v) → (at : Calling s p) → Moves s (effect s (Call p k v)).traffic p at.serving.port
 call_moves s p k v w c l at =
@@ -303,7 +308,7 @@ call_moves s p k v w c l at =
     let here : exchange s' p ≡ x = exchange_here mid p x (exchange_place s p w l.live) in
     let t = Some-from_is_some (target s.config p) l.linked in
     let other : p ≡ old.port → ⊥ = λ same. idle_unserved s p c l.idle n old at.serviced (sym same) in
-    let stays : (q : ℕ) → (q ≡ p → ⊥) → left s' q ≡ left mid q = λ q ne. left_same mid s'.traffic q (exchange_there mid p q x ne) (λ u e. inl refl) in
+    let stays : (q : ℕ) → (q ≡ p → ⊥) → rest_at s' q ≡ rest_at mid q = λ q ne. left_same mid s'.traffic q (exchange_there mid p q x ne) (λ u e. inl refl) in
     let unserved : (m : ℕ) (u : Service) → service s' m ≡ Some u → u.port ≡ p → ⊥ = λ m u e same. ⊎_elim
     (λ (mine : m ≡ n).
     let now : service s' n ≡ Some new = service_here s n (Some new) (owner_place s p w l.live) in
@@ -317,7 +322,9 @@ call_moves s p k v w c l at =
       made = gate_place s p l.live;
       made_served = at.made;
       other = other;
-      amount = full s.config t.0.node t.0.provide;
+      to = t.0;
+      leads = t.1;
+      unserved = unserved;
       here = left_untaken s' p t.0 (ap (λ (y : Exchange). is_asked y.phase || is_in_more y.phase) here) t.1 (untaken_if s' p t.0 t.1 (λ u e same. unserved t.0.node u e same));
       there = omega (arith, stays old.port (λ same. other (sym same)), at.falls, amount);
       others = λ q ne nor. stays q ne ∙ at.others q nor;

@@ -5,7 +5,8 @@ use Rattle.std.specs.List.{range_with_len}
 use Rattle.std.specs.Option.{option_map_or}
 use Rattle.std.proofs.Math.Nat.{mul-le-mul_left}
 use Rattle.std.proofs.lemmas.Bool.{both_ways, cases_Bool, false_from_ne_true}
-use Rattle.config_graph.specs.Kinds.{row}
+use Rattle.config_graph.specs.Kinds.{row, calls_of, mores_of}
+use Rattle.config_graph.specs.declared.node.Node.{Node}
 use Rattle.config_graph.specs.declared.node.Target.{Target}
 use Rattle.quiesce_core.specs.declared.state.Slot.{Slot}
 use Rattle.quiesce_core.specs.State.{Configuration, slot, target, ports_of, depends, calls_allowed, mores_allowed}
@@ -15,15 +16,26 @@ use Rattle.quiesce_core.specs.WellFormed.{IsSound}
 use Rattle.quiesce_core.proofs.CycleLaws.{map_or_at, walk_to, no_walk}
 use Rattle.quiesce_core.proofs.TableLaws.{live_made}
 use Rattle.quiesce_core.proofs.RestLaws.{full_step}
+use Rattle.quiescence_laws.specs.Configurations.{Extends}
+use Rattle.quiescence_laws.proofs.ExtensionLaws.{depends_before, read_before}
 
--- d has the nodes of c, with their kinds and ports, and no link that c hasn't at a port through which a good provision goes
-pub record HasNoNewLink (c d : Configuration) (Good : ℕ → ℕ → Type 0) : Type 0 where
-  pub calls : (m x : ℕ) → m < length c.slots → calls_allowed d m x ≡ calls_allowed c m x
-  pub mores : (m x : ℕ) → m < length c.slots → mores_allowed d m x ≡ mores_allowed c m x
-  pub rows : (m : ℕ) → m < length c.slots → ports_of d m ≡ ports_of c m
-  pub depend : (m x p : ℕ) → m < length c.slots → IsPortOf c m p → depends d m x p ≡ depends c m x p
+-- d has the nodes and ports of c and, at a port through which a good provision goes, no link that c hasn't; and what is good leads to
+-- what is good
+pub record GoodLinks (c d : Configuration) (Good : ℕ → ℕ → Type 0) : Type 0 where
+  pub extends_ : Extends c d
   pub targets : (m x p : ℕ) (t : Target) → Good m x → IsPortOf c m p → depends c m x p ≡ true → target d p ≡ Some t → target c p ≡ Some t
   pub closed : (m x p : ℕ) (t : Target) → Good m x → IsPortOf c m p → depends c m x p ≡ true → target c p ≡ Some t → Good t.node t.provide
+
+pub calls_stay : (c d : Configuration) → Extends c d → (m x : ℕ) → m < length c.slots → calls_allowed d m x ≡ calls_allowed c m x
+calls_stay c d e m x made = read_before c d e m made (λ (k : Slot). calls_of k.node.kind x) 0 (λ a b same first. ap (λ (n : Node). calls_of n.kind x) same)
+
+pub mores_stay : (c d : Configuration) → Extends c d → (m x : ℕ) → m < length c.slots → mores_allowed d m x ≡ mores_allowed c m x
+mores_stay c d e m x made = read_before c d e m made (λ (k : Slot). mores_of k.node.kind x) 0 (λ a b same first. ap (λ (n : Node). mores_of n.kind x) same)
+
+rows_stay : (c d : Configuration) → Extends c d → (m : ℕ) → m < length c.slots → ports_of d m ≡ ports_of c m
+rows_stay c d e m made =
+    read_before c d e m made (λ (k : Slot). range_with_len k.first_port (length (row k.node.kind).requires_)) []
+    (λ a b same first. ap (λ i. range_with_len i (length (row a.node.kind).requires_)) first ∙ ap (λ (n : Node). range_with_len b.first_port (length (row n.kind).requires_)) same)
 
 max_le : (a b c d : ℕ) → a ≤ c → b ≤ d → max a b ≤ max c d
 max_le a b c d h l = omega arith
@@ -62,14 +74,14 @@ through_le c d p old le (Some t) e =
     let was = old t e in
     omega (arith, le t was, map_or_at (λ (t : Target). full c t.node t.provide) (target c p) 0 t was)
 
-module _ (c d : Configuration) (s : IsSound c) (ranked : has_no_cycle d ≡ true) (Good : ℕ → ℕ → Type 0) (h : HasNoNewLink c d Good) where
+module _ (c d : Configuration) (s : IsSound c) (ranked : has_no_cycle d ≡ true) (Good : ℕ → ℕ → Type 0) (h : GoodLinks c d Good) where
   -- where it is so of all that the provision can lead to
   events_from : (m x : ℕ) → m < length c.slots → Good m x
       → ((p : ℕ) (t : Target) → IsPortOf c m p → depends c m x p ≡ true → target c p ≡ Some t → full d t.node t.provide ≤ full c t.node t.provide)
       → call_events d m x ≤ call_events c m x
   events_from m x made good le =
-      subst (λ ps. greatest (events_through d) (filter (depends d m x) ps) ≤ call_events c m x) (sym (h.rows m made))
-      (greatest_of c m (events_through d) (events_through c) (depends d m x) (depends c m x) (slot c m) refl (λ p o. h.depend m x p made o)
+      subst (λ ps. greatest (events_through d) (filter (depends d m x) ps) ≤ call_events c m x) (sym (rows_stay c d h.extends_ m made))
+      (greatest_of c m (events_through d) (events_through c) (depends d m x) (depends c m x) (slot c m) refl (λ p o. depends_before c d s h.extends_ m x p made o)
       (λ p o dep. omega (arith, through_le c d p (λ t e. h.targets m x p t good o dep e) (λ t e. le p t o dep e) (target d p) refl)))
 
   full_from : (m x : ℕ) → m < length c.slots → Good m x
@@ -78,8 +90,8 @@ module _ (c d : Configuration) (s : IsSound c) (ranked : has_no_cycle d ≡ true
   full_from m x made good le =
       let events : call_events d m x ≤ call_events c m x = events_from m x made good le in
       let is : full d m x ≡ 3 + 3 * mores_allowed c m x + calls_allowed c m x * call_events d m x =
-      full_step d ranked m x ∙ ap (λ i. 3 + 3 * i + calls_allowed d m x * call_events d m x) (h.mores m x made)
-      ∙ ap (λ i. 3 + 3 * mores_allowed c m x + i * call_events d m x) (h.calls m x made) in
+      full_step d ranked m x ∙ ap (λ i. 3 + 3 * i + calls_allowed d m x * call_events d m x) (mores_stay c d h.extends_ m x made)
+      ∙ ap (λ i. 3 + 3 * mores_allowed c m x + i * call_events d m x) (calls_stay c d h.extends_ m x made) in
       let more_ : calls_allowed c m x * call_events d m x ≤ calls_allowed c m x * call_events c m x = mul-le-mul_left (calls_allowed c m x) events in
       omega (arith, is, full_step c s.no_cycle m x, more_)
 

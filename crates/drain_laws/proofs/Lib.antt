@@ -1,6 +1,5 @@
 pub mod Busy
 pub mod Onward
-pub mod Sums
 pub mod Weights
 pub mod Greatest
 pub mod Falls
@@ -8,11 +7,12 @@ pub mod Sharing
 pub mod Fewer
 pub mod Changes
 pub mod Sparing
-pub mod Steps
 pub mod Belonging
+pub mod Advancing
+pub mod Steps
 pub mod Carrying
 pub mod Portions
 pub mod Emptiness
 pub mod Bounding
-pub mod Strength
+pub mod WorkedDrains
 pub mod Rooted

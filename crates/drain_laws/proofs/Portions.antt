@@ -1,9 +1,9 @@
 -- The part of what is left that belongs to some transactions, by the steps.
-use Rattle.std.proofs.Common.{◌≡◌, ℕ, ◌+◌, ◌<◌, ◌≤◌, Bool, true, false, cond, not, refl, sym, ap, ◌∙◌, subst, ⊎_elim, arith}
+use Rattle.std.proofs.Common.{◌≡◌, ℕ, ◌+◌, ◌<◌, ◌≤◌, true, false, cond, refl, sym, ap, ◌∙◌, subst, ⊎_elim, arith}
 use Rattle.std.specs.Prelude.{◌==◌}
 use Rattle.std.proofs.lemmas.Bool.{and_parts, both_ways, cases_Bool, eqb-true}
 use Rattle.quiesce_core.specs.declared.event.Event.{Event}
-use Rattle.quiesce_core.specs.declared.event.Event.TheVariants.{Begin, Call, Take, Give, End, More, Ask, Hear, Miss, Close, Reopen, Make, Link, Unlink, Remove}
+use Rattle.quiesce_core.specs.declared.event.Event.TheVariants.{Begin, Call}
 use Rattle.quiesce_core.specs.State.{State, exchange}
 use Rattle.gate_word.specs.Phases.{is_idle}
 use Rattle.quiesce_core.specs.Effect.{effect}
@@ -13,60 +13,43 @@ use Rattle.quiesce_core.specs.Runs.{Step}
 use Rattle.quiesce_core.specs.Traffic.{IsConsistent}
 use Rattle.quiesce_core.specs.WellFormed.{IsWellFormed}
 use Rattle.quiesce_core.proofs.LegalLaws.{legal}
-use Rattle.drain_laws.specs.Belongs.{Transactions, belongs, is_of, one, open_in, starts}
+use Rattle.drain_laws.specs.Belongs.{Transactions, belongs, is_event_of, singleton, open_in, starts_one}
 use Rattle.drain_laws.specs.Drain.{rest_where, rest_of}
-use Rattle.drain_laws.proofs.Belonging.{open_belongs}
+use Rattle.drain_laws.proofs.Belonging.{open_belongs, open_parts}
 use Rattle.drain_laws.proofs.Carrying.{follows}
-use Rattle.drain_laws.proofs.Sharing.{followed, part_le}
+use Rattle.drain_laws.proofs.Sharing.{marked_after, part_le}
 use Rattle.drain_laws.proofs.Steps.{all_rest, every, marked_part}
 
-pub part_next : (set : Transactions) (s : State) (e : Event) → IsWellFormed s → IsConsistent s → Legal s e → starts set e ≡ false
-    → cond (is_of set s e) 1 0 + rest_of set (effect s e) ≤ rest_of set s
+pub part_next : (set : Transactions) (s : State) (e : Event) → IsWellFormed s → IsConsistent s → Legal s e → starts_one set e ≡ false
+    → cond (is_event_of set s e) 1 0 + rest_of set (effect s e) ≤ rest_of set s
 part_next set s e w c l off =
     let marked = marked_part s e (belongs set s) w c l in
-    let less : rest_of set (effect s e) ≤ rest_where (followed (belongs set s) s e) (effect s e) =
-    part_le (effect s e) (belongs set (effect s e)) (followed (belongs set s) s e) (follows set s e w c l off) in
+    let less : rest_of set (effect s e) ≤ rest_where (marked_after (belongs set s) s e) (effect s e) =
+    part_le (effect s e) (belongs set (effect s e)) (marked_after (belongs set s) s e) (follows set s e w c l off) in
     omega (arith, marked, less)
 
-pub part_stays : (set : Transactions) (s s' : State) (e : Event) → IsWellFormed s → IsConsistent s → Step s e s' → starts set e ≡ false → rest_of set s' ≤ rest_of set s
+pub part_stays : (set : Transactions) (s s' : State) (e : Event) → IsWellFormed s → IsConsistent s → Step s e s' → starts_one set e ≡ false → rest_of set s' ≤ rest_of set s
 part_stays set s s' e w c step off =
     subst (λ x. rest_of set x ≤ rest_of set s) (sym step.changed) (omega (arith, part_next set s e w c (legal s e step.allowed) off))
 
-pub part_falls : (set : Transactions) (s s' : State) (e : Event) → IsWellFormed s → IsConsistent s → Step s e s' → starts set e ≡ false → is_of set s e ≡ true → rest_of set s' < rest_of set s
+pub part_falls : (set : Transactions) (s s' : State) (e : Event) → IsWellFormed s → IsConsistent s → Step s e s' → starts_one set e ≡ false → is_event_of set s e ≡ true → rest_of set s' < rest_of set s
 part_falls set s s' e w c step off is =
-    let at : cond (is_of set s e) 1 0 ≡ 1 = ap {B = ℕ} (λ b. cond b 1 0) is in
+    let at : cond (is_event_of set s e) 1 0 ≡ 1 = ap {B = ℕ} (λ b. cond b 1 0) is in
     subst (λ x. rest_of set x < rest_of set s) (sym step.changed) (omega (arith, at, part_next set s e w c (legal s e step.allowed) off))
 
 -- what is open is not started
-open_stays : (s : State) (p k q j : ℕ) → open_in s p k ≡ true → is_idle (exchange s q).phase ≡ true → one p k q j ≡ false
+open_stays : (s : State) (p k q j : ℕ) → open_in s p k ≡ true → is_idle (exchange s q).phase ≡ true → singleton p k q j ≡ false
 open_stays s p k q j h idle = ⊎_elim
-    (λ (e : one p k q j ≡ true).
+    (λ (e : singleton p k q j ≡ true).
     let same : q ≡ p = eqb-true q p (and_parts (q == p) (j == k) e).0 in
-    let busy : is_idle (exchange s p).phase ≡ false = not_idle (is_idle (exchange s p).phase) (and_parts (not (is_idle (exchange s p).phase)) ((exchange s p).serial == k) h).0 in
-    absurd (both_ways (is_idle (exchange s p).phase) busy (sym (ap (λ i. is_idle (exchange s i).phase) same) ∙ idle)))
-    (λ (e : one p k q j ≡ false). e)
-    (cases_Bool (one p k q j))
-  where
-    not_idle : (b : Bool) → not b ≡ true → b ≡ false
-    not_idle true h = absurd (both_ways false refl h)
-    not_idle false h = refl
+    absurd (both_ways (is_idle (exchange s p).phase) (open_parts s p k h).0 (sym (ap (λ i. is_idle (exchange s i).phase) same) ∙ idle)))
+    (λ (e : singleton p k q j ≡ false). e)
+    (cases_Bool (singleton p k q j))
 
-pub open_one : (s : State) (e : Event) (p k : ℕ) → Legal s e → open_in s p k ≡ true → starts (one p k) e ≡ false
+pub open_one : (s : State) (e : Event) (p k : ℕ) → Legal s e → open_in s p k ≡ true → starts_one (singleton p k) e ≡ false
 open_one s (Begin q j v) p k l h = open_stays s p k q j h l.idle
 open_one s (Call q j v) p k l h = open_stays s p k q j h l.idle
-open_one s (Take q j v) p k l h = refl
-open_one s (Give q j v) p k l h = refl
-open_one s (More q j v) p k l h = refl
-open_one s (Ask q j v) p k l h = refl
-open_one s (Hear q j v) p k l h = refl
-open_one s (End q j v) p k l h = refl
-open_one s (Miss q) p k l h = refl
-open_one s (Close q) p k l h = refl
-open_one s (Reopen q) p k l h = refl
-open_one s (Make n node from) p k l h = refl
-open_one s (Link q n x) p k l h = refl
-open_one s (Unlink q) p k l h = refl
-open_one s (Remove n) p k l h = refl
+open_one s _ p k l h = refl
 
 -- a part is no more than all
 pub part_of_all : (set : Transactions) (s : State) → rest_of set s ≤ rest s

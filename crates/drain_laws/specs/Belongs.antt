@@ -5,14 +5,14 @@ use Rattle.quiesce_core.specs.declared.event.Event.{Event}
 use Rattle.quiesce_core.specs.declared.event.Event.TheVariants.{Begin, Call}
 use Rattle.quiesce_core.specs.State.{State, exchange}
 use Rattle.gate_word.specs.Phases.{is_idle}
-use Rattle.drain_laws.specs.Advances.{advanced}
+use Rattle.drain_laws.specs.Advances.{advanced_port}
 
 abbrev pub Transactions : Type 0
 Transactions = ℕ → ℕ → Bool
 
 -- the one of this port and serial
-abbrev pub one : ℕ → ℕ → Transactions
-one q j p k = p == q && k == j
+abbrev pub singleton : ℕ → ℕ → Transactions
+singleton q j p k = p == q && k == j
 
 -- those that are open in a state
 abbrev pub open_in : State → Transactions
@@ -22,8 +22,8 @@ open_in s p k = not (is_idle (exchange s p).phase) && (exchange s p).serial == k
 abbrev pub is_member : Transactions → State → ℕ → Bool
 is_member set s p = set p (exchange s p).serial
 
--- The port's transaction is of the set, or it was called in the service of one that belongs to it: it is a consequent of one of
--- the set.
+-- The port's transaction is of the set, or it was called in the service of one that belongs to it: it is a consequent
+-- of one of the set.
 pub data Belongs (set : Transactions) (s : State) : ℕ → Type 0 where
   member : (p : ℕ) → IsTrue (is_member set s p) → Belongs set s p
   consequent : (p q : ℕ) → (exchange s p).within ≡ Some q → Belongs set s q → Belongs set s p
@@ -38,11 +38,11 @@ unfoldable pub belongs : Transactions → State → ℕ → Bool
 belongs set s p = belongs_within set s (suc (length s.config.slots)) p
 
 -- whether an event is one of a transaction of the set, or of a consequent of one
-abbrev pub is_of : Transactions → State → Event → Bool
-is_of set s e = option_map_or (belongs set s) (advanced s e) false
+abbrev pub is_event_of : Transactions → State → Event → Bool
+is_event_of set s e = option_map_or (belongs set s) (advanced_port s e) false
 
 -- whether an event starts a transaction of the set itself
-abbrev pub starts : Transactions → Event → Bool
-starts set (Begin p k v) = set p k
-starts set (Call p k v) = set p k
-starts set _ = false
+abbrev pub starts_one : Transactions → Event → Bool
+starts_one set (Begin p k v) = set p k
+starts_one set (Call p k v) = set p k
+starts_one set _ = false

@@ -1,3 +1,4 @@
 pub mod Advances
 pub mod Belongs
 pub mod Drain
+pub mod Worked

@@ -1,5 +1,5 @@
 use Rattle.drain_laws.proofs.Rooted.{rooted, counted}
-use Rattle.drain_laws.proofs.roots.consequents_belong_to_their_roots.Goals as goal
+use Rattle.drain_laws.proofs.consequents.consequents_belong_to_their_roots.Goals as goal
 
 pub returns-clause-found : goal.returns-clause-found
 returns-clause-found c es p k q j run has now = rooted es p k q j run has now
