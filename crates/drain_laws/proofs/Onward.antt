@@ -21,7 +21,8 @@ use Rattle.quiesce_core.proofs.LegalLaws.{allowed}
 use Rattle.quiesce_core.proofs.RunLaws.{runs_are_well_formed, runs_are_consistent}
 use Rattle.drain_laws.specs.Advances.{is_advance}
 use Rattle.drain_laws.specs.Drain.{Possible}
-use Rattle.drain_laws.proofs.Busy.{busy_phases, busy_target, busy_live, untaken_if}
+use Rattle.drain_laws.proofs.Busy.{busy_phases, busy_target, untaken_if}
+use Rattle.quiesce_core.proofs.StabilityLaws.{busy_is_live}
 use Rattle.quiesce_core.proofs.StateLaws.{asked_busy, more_busy, serving_busy, answered_busy, is_taken_if, target_service_is}
 
 ends : (s : State) (p : ℕ) → IsWellFormed s → IsConsistent s → is_answered (exchange s p).phase ≡ true → Possible s
@@ -30,7 +31,7 @@ ends s p w k h = record {
   advances = refl;
   onward = refl;
   allowed = allowed s (End p (exchange s p).serial (exchange s p).value) (record {
-    live = busy_live s p k (answered_busy (exchange s p).phase h);
+    live = busy_is_live s p k (answered_busy (exchange s p).phase h);
     answered = h;
     message = and_from ((exchange s p).serial == (exchange s p).serial) ((exchange s p).value == (exchange s p).value) (eq-eqb (exchange s p).serial (exchange s p).serial refl) (eq-eqb (exchange s p).value (exchange s p).value refl);
   });
@@ -42,7 +43,7 @@ asks s p w k h = record {
   advances = refl;
   onward = refl;
   allowed = allowed s (Ask p (exchange s p).serial 0) (record {
-    live = busy_live s p k (more_busy (exchange s p).phase h);
+    live = busy_is_live s p k (more_busy (exchange s p).phase h);
     in_more = h;
     serial = eq-eqb (exchange s p).serial (exchange s p).serial refl;
     value = refl;
@@ -55,7 +56,7 @@ takes s p t w k h e free = record {
   advances = refl;
   onward = refl;
   allowed = allowed s (Take p (exchange s p).serial (exchange s p).value) (record {
-    live = busy_live s p k (asked_busy (exchange s p).phase h);
+    live = busy_is_live s p k (asked_busy (exchange s p).phase h);
     asked = h;
     untaken = ap not (untaken_if s p t e (λ v f same. cc (free, f)));
     free = ap is_none (target_service_is s p t e ∙ free);
@@ -75,7 +76,7 @@ hears s q t v w k on h unheard = record {
   advances = refl;
   onward = refl;
   allowed = allowed s (Hear q (exchange s q).serial (exchange s q).value) (record {
-    live = busy_live s q k (asked_busy (exchange s q).phase h);
+    live = busy_is_live s q k (asked_busy (exchange s q).phase h);
     asked = h;
     taken = is_taken_if s q t v on.leads on.serviced on.of_port;
     unheard = ap (λ o. not (was_heard o)) (target_service_is s q t on.leads ∙ on.serviced) ∙ ap not unheard;
@@ -91,7 +92,7 @@ gives s q t v w k on busy heard none_ = record {
   advances = refl;
   onward = refl;
   allowed = allowed s (Give q (exchange s q).serial 0) (record {
-    live = busy_live s q k busy;
+    live = busy_is_live s q k busy;
     taken = is_taken_if s q t v on.leads on.serviced on.of_port;
     heard = ap was_heard (target_service_is s q t on.leads ∙ on.serviced) ∙ heard;
     serial = eq-eqb (exchange s q).serial (exchange s q).serial refl;

@@ -2,25 +2,20 @@
 use Rattle.std.proofs.Common.{◌≡◌, ℕ, ◌+◌, ◌≤◌, true, false, not, List, [], ◌∷◌, ◌++◌, append_assoc, Some, refl, sym, ap, ◌∙◌, subst, inl, inr, ⊎_elim, arith}
 use Rattle.std.specs.Prelude.{◌⊎◌, ◌==◌, option_map}
 use Rattle.std.proofs.lemmas.Bool.{and_from, and_parts, both_ways, eq-eqb, eqb-true}
-use Rattle.std.proofs.lemmas.List.{append-nil}
 use Rattle.quiesce_core.specs.declared.event.Event.{Event}
 use Rattle.quiesce_core.specs.declared.event.Event.TheVariants.{Call}
 use Rattle.quiesce_core.specs.declared.state.Exchange.{Exchange}
 use Rattle.gate_word.specs.declared.phase.Phase.TheVariants as phase
 use Rattle.quiesce_core.specs.declared.state.Service.{Service}
 use Rattle.quiesce_core.specs.State.{State, owner, exchange, service}
-use Rattle.base.specs.Each.{EachAfter}
 use Rattle.gate_word.specs.Phases.{is_idle}
 use Rattle.quiesce_core.specs.Effect.{with_call, effect}
 use Rattle.quiesce_core.specs.Legal.{Legal}
 use Rattle.quiesce_core.specs.Runs.{IsRun, HasRoot, root, consequent, state_after}
 use Rattle.quiesce_core.specs.Traffic.{IsConsistent}
 use Rattle.quiesce_core.specs.WellFormed.{IsWellFormed}
-use Rattle.quiesce_core.proofs.LegalLaws.{legal}
 use Rattle.quiesce_core.proofs.TableLaws.{exchange_place}
 use Rattle.quiesce_core.proofs.RunLaws.{runs_are_well_formed, runs_are_consistent}
-use Rattle.quiesce_core.proofs.SoundnessLaws.{well_formed_next}
-use Rattle.quiesce_core.proofs.TrafficLaws.{consistent_next}
 use Rattle.drain_laws.specs.Belongs as mine
 use Rattle.drain_laws.specs.Belongs.{Transactions, Belongs, belongs, singleton, open_in}
 use Rattle.drain_laws.proofs.Belonging.{belongs_is_found, open_parts}
@@ -28,7 +23,6 @@ use Rattle.quiesce_core.proofs.InductionLaws.{along, place}
 use Rattle.quiescence_laws.proofs.ExtensionLaws.{none_barred}
 use Rattle.drain_laws.proofs.Carrying.{caller_busy}
 use Rattle.quiescence_laws.proofs.ExchangeLaws.{PortStep, stays, begins, calls, ends, turns_at, port_step, served_untouched, next_serial}
-use Rattle.quiesce_core.proofs.RunLaws.{StepAt, run_parts}
 use Rattle.quiesce_core.proofs.StateLaws.{exchange_here, exchange_there, idle_unserved}
 
 -- Transaction k of port p, which was called for transaction j of port r: while it is open, both stay as they were.

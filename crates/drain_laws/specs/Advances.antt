@@ -17,8 +17,8 @@ is_advance (Ask p k v) = true
 is_advance (Hear p k v) = true
 is_advance _ = false
 
--- whether it brings an open transaction nearer to its end, whatever its node's kind asks for next: how many calls, misses and
--- intermediate replies a service makes is the kind's to choose
+-- whether it brings an open transaction nearer to its end, whatever its node's kind asks for next: how many calls,
+-- misses and intermediate replies a service makes is the kind's to choose
 abbrev pub is_onward : Event → Bool
 is_onward (Take p k v) = true
 is_onward (Give p k v) = true
@@ -31,8 +31,8 @@ abbrev pub is_begin : Event → Bool
 is_begin (Begin p k v) = true
 is_begin _ = false
 
--- The port whose transaction such an event belongs to. A Call or a Miss belongs to the transaction that the caller services: it is
--- one of the calls that are still to be made there.
+-- The port whose transaction such an event belongs to. A Call or a Miss belongs to the transaction that the caller
+-- services: it is one of the calls that are still to be made there.
 abbrev pub advanced_port : State → Event → Option ℕ
 advanced_port s (Take p k v) = Some p
 advanced_port s (Call p k v) = option_map (λ (w : Service). w.port) (service s (owner s.config p))

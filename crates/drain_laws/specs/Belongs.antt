@@ -22,8 +22,8 @@ open_in s p k = not (is_idle (exchange s p).phase) && (exchange s p).serial == k
 abbrev pub is_member : Transactions → State → ℕ → Bool
 is_member set s p = set p (exchange s p).serial
 
--- The port's transaction is of the set, or it was called in the service of one that belongs to it: it is a consequent of one of
--- the set.
+-- The port's transaction is of the set, or it was called in the service of one that belongs to it: it is a consequent
+-- of one of the set.
 pub data Belongs (set : Transactions) (s : State) : ℕ → Type 0 where
   member : (p : ℕ) → IsTrue (is_member set s p) → Belongs set s p
   consequent : (p q : ℕ) → (exchange s p).within ≡ Some q → Belongs set s q → Belongs set s p

@@ -26,9 +26,8 @@ abbrev pub count_of : Transactions → State → List Event → ℕ
 count_of set s [] = 0
 count_of set s (e ∷ es) = cond (is_event_of set s e) 1 0 + count_of set (effect s e) es
 
--- An event that may happen and is one of a transaction, of one that is open, as each such event is. It is neither a call nor a miss
--- nor an intermediate reply, which a node's kind may leave: where the rules allow it, it or another event of the same node is
--- what the kind does next.
+-- An event that may happen and is one of a transaction: of one that is open, as each such event is. It is neither a
+-- call nor a miss nor an intermediate reply, which a node's kind may leave.
 pub record Possible (s : State) : Type 0 where
   pub event : Event
   pub advances : IsTrue (is_advance event)

@@ -19,7 +19,8 @@ pub fn rest_bounds_the_drain()
 
     // What is left of them falls by as many at least, and where they are as many as were left, what was open has ended.
     ensures left_of_them { (es more_ : List Event) → IsRun (es ++ more_)
-        → count_of (open_in (state_after es)) (state_after es) more_ + rest_of (open_in (state_after es)) (state_after (es ++ more_)) ≤ rest (state_after es) }
+        → count_of (open_in (state_after es)) (state_after es) more_
+        + rest_of (open_in (state_after es)) (state_after (es ++ more_)) ≤ rest (state_after es) }
     ensures ended { (es more_ : List Event) → IsRun (es ++ more_)
         → count_of (open_in (state_after es)) (state_after es) more_ ≡ rest (state_after es)
         → (p k : ℕ) → open_in (state_after es) p k ≡ true → open_in (state_after (es ++ more_)) p k ≡ false }
@@ -33,11 +34,15 @@ pub fn rest_bounds_all()
         → count_by is_advance more_ + rest (state_after (es ++ more_)) ≤ rest (state_after es) }
 {}
 
-/// After its begin or call, a transaction has at most as many events, those of its consequents among them, as all of one transaction
-/// with the provision to which its port leads.
+/// After its begin or call, a transaction has at most as many events, those of its consequents among them, as all of
+/// one transaction with the provision to which its port leads.
 pub fn full_bounds_each_transaction()
-    ensures begun { (es more_ : List Event) (p k v : ℕ) (to : Target) → IsRun (es ++ Event.Begin p k v ∷ more_) → target (state_after es).config p ≡ Some to
-        → count_of (singleton p k) (state_after (es ++ Event.Begin p k v ∷ [])) more_ ≤ full (state_after es).config to.node to.provide }
-    ensures called { (es more_ : List Event) (p k v : ℕ) (to : Target) → IsRun (es ++ Event.Call p k v ∷ more_) → target (state_after es).config p ≡ Some to
-        → count_of (singleton p k) (state_after (es ++ Event.Call p k v ∷ [])) more_ ≤ full (state_after es).config to.node to.provide }
+    ensures begun { (es more_ : List Event) (p k v : ℕ) (to : Target) → IsRun (es ++ Event.Begin p k v ∷ more_)
+        → target (state_after es).config p ≡ Some to
+        → count_of (singleton p k) (state_after (es ++ Event.Begin p k v ∷ [])) more_
+        ≤ full (state_after es).config to.node to.provide }
+    ensures called { (es more_ : List Event) (p k v : ℕ) (to : Target) → IsRun (es ++ Event.Call p k v ∷ more_)
+        → target (state_after es).config p ≡ Some to
+        → count_of (singleton p k) (state_after (es ++ Event.Call p k v ∷ [])) more_
+        ≤ full (state_after es).config to.node to.provide }
 {}

@@ -13,11 +13,14 @@ ghost use Rattle.drain_laws.specs.Advances.{is_advance};
 ghost use Rattle.drain_laws.specs.Belongs.{Transactions, belongs};
 ghost use Rattle.drain_laws.specs.Drain.{Possible, rest_of};
 
-/// Where a transaction is open, in a state that is well formed and consistent, some event of an open transaction is possible, and
-/// one that isn't a kind's to choose: neither a call nor a miss nor an intermediate reply. So it is after every run.
+/// Where a transaction is open, in a state that is well formed and consistent, some event of an open transaction is
+/// possible, and one that isn't a kind's to choose: neither a call nor a miss nor an intermediate reply. So it is after
+/// every run.
 pub fn some_event_is_possible()
-    ensures by_state { (s : State) → IsWellFormed s → IsConsistent s → (p : ℕ) → is_idle (exchange s p).phase ≡ false → Possible s }
-    ensures in_runs { (es : List Event) → IsRun es → (p : ℕ) → is_idle (exchange (state_after es) p).phase ≡ false → Possible (state_after es) }
+    ensures by_state { (s : State) → IsWellFormed s → IsConsistent s → (p : ℕ) → is_idle (exchange s p).phase ≡ false
+        → Possible s }
+    ensures in_runs { (es : List Event) → IsRun es → (p : ℕ) → is_idle (exchange (state_after es) p).phase ≡ false
+        → Possible (state_after es) }
 {}
 
 /// So where no event of an open transaction is possible after a run, none is open.
@@ -27,9 +30,11 @@ pub fn none_is_open_where_none_can_advance()
         → (p : ℕ) → is_idle (exchange (state_after es) p).phase ≡ true }
 {}
 
-/// Nothing is left exactly where none is open, and of some transactions and their consequents only where none of these is.
+/// Nothing is left exactly where none is open, and of some transactions and their consequents only where none of these
+/// is.
 pub fn nothing_is_left_where_none_is_open()
-    ensures all { (s : State) → IsWellFormed s → IsConsistent s → (rest s ≡ 0) ↔ ((p : ℕ) → is_idle (exchange s p).phase ≡ true) }
+    ensures all { (s : State) → IsWellFormed s → IsConsistent s → (rest s ≡ 0) ↔ ((p : ℕ)
+        → is_idle (exchange s p).phase ≡ true) }
     ensures part { (set : Transactions) (s : State) → IsWellFormed s → IsConsistent s → rest_of set s ≡ 0
         → (p : ℕ) → is_idle (exchange s p).phase ≡ false → belongs set s p ≡ false }
 {}

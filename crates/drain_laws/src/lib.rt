@@ -1,6 +1,6 @@
-//! Laws of the drain: how many events the open transactions of a system have left, that each of their events brings them nearer
-//! to their ends, and that some event of one is possible while one is open (Kramer and Magee, The evolving philosophers
-//! problem: dynamic change management, 1990: a transaction completes in bounded time).
+//! Laws of the drain: how many events the open transactions of a system have left, that each of their events brings
+//! them nearer to their ends, and that some event of one is possible while one is open (Kramer and Magee, The evolving
+//! philosophers problem: dynamic change management, 1990: a transaction completes in bounded time).
 #![tactic(auto)]
 
 mod bound;

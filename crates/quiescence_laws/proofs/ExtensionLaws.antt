@@ -1,28 +1,27 @@
 -- What of an earlier configuration stands in a later one: nodes, ports, owners and requirements always, closed gates until they are
 -- reopened, and links, where none is made.
-use Rattle.std.proofs.Common.{◌≡◌, ℕ, ◌+◌, ◌<◌, ◌≤◌, Bool, true, false, cond, ◌&&◌, List, [], ◌∷◌, ◌++◌, length, Option, Some, None, refl, sym, ap, ◌∙◌, subst, inr, ⊎_elim, arith}
-use Rattle.std.specs.Prelude.{◌⊎◌, ◌==◌, nat_le, nat_lt, option_map}
+use Rattle.std.proofs.Common.{◌≡◌, ℕ, ◌+◌, ◌<◌, ◌≤◌, Bool, true, false, cond, ◌&&◌, List, [], ◌∷◌, ◌++◌, length, Option, Some, None, refl, sym, ap, ◌∙◌, subst, ⊎_elim, arith}
+use Rattle.std.specs.Prelude.{◌==◌, nat_le, nat_lt, option_map}
 use Rattle.std.specs.List.{list_any}
 use Rattle.std.specs.Option.{option_map_or}
-use Rattle.std.proofs.lemmas.Bool.{and_parts, both_ways, cases_eq, eq-eqb, leb-true, ne_eqb}
+use Rattle.std.proofs.lemmas.Bool.{both_ways, cases_eq, eq-eqb, ne_eqb}
 use Rattle.config_graph.specs.Kinds.{row, depends_on}
 use Rattle.config_graph.specs.Wiring.{Reach, direct, through}
 use Rattle.config_graph.specs.declared.node.Node.{Node}
 use Rattle.config_graph.specs.declared.node.Target.{Target}
 use Rattle.quiesce_core.specs.Alters.{Reconfigures, gate_next, ports_next}
-use Rattle.quiesce_core.specs.Doers.{is_make}
 use Rattle.quiesce_core.specs.Effect.{effect}
 use Rattle.quiesce_core.specs.Legal.{Legal}
 use Rattle.quiesce_core.specs.Reach.{IsPortOf, wiring_of}
 use Rattle.quiesce_core.specs.Runs.{IsRun, state_after}
-use Rattle.quiesce_core.specs.State.{Configuration, State, slot, gate, owner, target, depends}
+use Rattle.quiesce_core.specs.State.{Configuration, State, slot, gate, target, depends}
 use Rattle.quiesce_core.specs.WellFormed.{IsSound}
 use Rattle.quiesce_core.specs.declared.event.Event.{Event}
 use Rattle.quiesce_core.specs.declared.event.Event.TheVariants.{Close, Reopen, Make, Link, Unlink, Remove}
 use Rattle.quiesce_core.specs.declared.state.Gate.{Gate}
 use Rattle.quiesce_core.specs.declared.state.Slot.{Slot}
 use Rattle.quiesce_core.proofs.AlterLaws.{reconfigured}
-use Rattle.quiesce_core.proofs.ConfigurationLaws.{target_made, target_unlinked}
+use Rattle.quiesce_core.proofs.ConfigurationLaws.{owner_kept, require_kept, target_made, target_unlinked}
 use Rattle.quiesce_core.proofs.InductionLaws.{along}
 use Rattle.quiesce_core.proofs.RunLaws.{fronts_are_runs, runs_are_well_formed}
 use Rattle.quiesce_core.proofs.TableLaws.{live_made}
@@ -91,27 +90,9 @@ either_way : {A : Type 0} (f : Gate → A) (b : Bool) (g h : Gate) → (b ≡ tr
 either_way f true g h same = same refl
 either_way f false g h same = refl
 
-gate_keeps : {A : Type 0} (f : Gate → A) → ((g : Gate) (b : Bool) (t : Option Target) → f (record g { closed = b; target = t }) ≡ f g) → (c : Configuration) (e : Event) (p : ℕ)
-    → (is_make e ≡ false) ⊎ (p < length c.gates) → f (gate_next c p e) ≡ f (gate c p)
-gate_keeps f alike c (Close q) p made = either_way f (q == p) _ (gate c p) (λ here. alike (gate c p) true (target c p))
-gate_keeps f alike c (Reopen q) p made = either_way f (q == p) _ (gate c p) (λ here. alike (gate c p) false (target c p))
-gate_keeps f alike c (Link q n x) p made = either_way f (q == p) _ (gate c p) (λ here. alike (gate c p) (gate c p).closed (Some (record { node = n; provide = x })))
-gate_keeps f alike c (Unlink q) p made = either_way f (q == p) _ (gate c p) (λ here. alike (gate c p) (gate c p).closed None)
-gate_keeps f alike c (Make n node from) p made =
-    either_way f (nat_le (length c.gates) p && nat_lt p (length c.gates + length (row node.kind).requires_)) _ (gate c p) (λ new_. ⊎_elim
-    (λ (never : true ≡ false). absurd (both_ways true never refl))
-    (λ (before : p < length c.gates).
-    let past = leb-true (length c.gates) p (and_parts (nat_le (length c.gates) p) (nat_lt p (length c.gates + length (row node.kind).requires_)) new_).0 in absurd (omega (arith, before, past)))
-    made)
-gate_keeps f alike c _ p made = refl
-
 ports_grow : (c : Configuration) (e : Event) → length c.gates ≤ ports_next c e
 ports_grow c (Make n node from) = omega arith
 ports_grow c _ = omega arith
-
--- a port keeps its owner; one that was not made has none before the next node is made
-pub owner_next : (s : State) (e : Event) → Legal s e → (q : ℕ) → (is_make e ≡ false) ⊎ (q < length s.config.gates) → owner (effect s e).config q ≡ owner s.config q
-owner_next s e l q made = ap (λ (g : Gate). g.owner) ((reconfigured s e l).gates q) ∙ gate_keeps (λ (g : Gate). g.owner) (λ g b t. refl) s.config e q made
 
 -- no event takes a node or a port away
 pub extends_next : (s : State) (e : Event) → Legal s e → Extends s.config (effect s e).config
@@ -119,8 +100,8 @@ extends_next s e l =
     let r = reconfigured s e l in
     record {
       nodes = λ n m at. node_stays s.config (effect s e).config e r n m at;
-      owners = λ q made. owner_next s e l q (inr made);
-      requirements = λ q made. ap (λ (g : Gate). g.require) (r.gates q) ∙ gate_keeps (λ (g : Gate). g.require) (λ g b t. refl) s.config e q (inr made);
+      owners = λ q made. owner_kept s.config (effect s e).config e r q made;
+      requirements = λ q made. require_kept s.config (effect s e).config e r q made;
       many = omega (arith, r.ports, ports_grow s.config e);
     }
 

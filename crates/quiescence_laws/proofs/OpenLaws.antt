@@ -1,5 +1,5 @@
 -- A transaction stays open, at the same target, from its begin to its end.
-use Rattle.std.proofs.Common.{◌≡◌, ℕ, ◌<◌, true, false, ◌&&◌, List, [], ◌∷◌, ◌++◌, append_assoc, length, get_or, set, refl, sym, ap, ◌∙◌, subst, inr, get_or-set_same}
+use Rattle.std.proofs.Common.{◌≡◌, ℕ, ◌<◌, true, false, ◌&&◌, List, [], ◌∷◌, ◌++◌, append_assoc, length, get_or, set, refl, sym, ap, ◌∙◌, subst, get_or-set_same}
 use Rattle.std.specs.Prelude.{◌==◌}
 use Rattle.std.specs.List.{list_any}
 use Rattle.std.proofs.lemmas.Bool.{and_parts, and_from, both_ways, eqb-true, eq-eqb}
@@ -16,7 +16,8 @@ use Rattle.quiesce_core.specs.WellFormed.{IsWellFormed}
 use Rattle.quiesce_core.proofs.TableLaws.{exchange_place}
 use Rattle.quiesce_core.proofs.StateLaws.{busy_made}
 use Rattle.quiesce_core.proofs.StabilityLaws.{busy_ports_stay}
-use Rattle.quiescence_laws.proofs.ExtensionLaws.{owner_next}
+use Rattle.quiesce_core.proofs.AlterLaws.{reconfigured}
+use Rattle.quiesce_core.proofs.ConfigurationLaws.{owner_kept}
 use Rattle.quiesce_core.proofs.InductionLaws.{IsNext, place, along}
 use Rattle.quiescence_laws.proofs.ExchangeLaws.{PortStep, stays, begins, calls, ends, port_step}
 
@@ -65,7 +66,7 @@ going_next : (old : State) (p k : ℕ) (before : List Event) (e : Event) → IsN
 going_next old p k before e here going h =
     subst (λ s. IsGoing old s p k) (sym here.next) (record {
       opens = open_next (state_after before) e p k here.well here.traffic here.legal h.opens going;
-      owner = owner_next (state_after before) e here.legal p (inr (busy_made (state_after before) p here.traffic h.opens.busy)) ∙ h.owner;
+      owner = owner_kept (state_after before).config _ e (reconfigured (state_after before) e here.legal) p (busy_made (state_after before) p here.traffic h.opens.busy) ∙ h.owner;
       target = busy_ports_stay (state_after before) e here.well here.traffic here.legal p h.opens.busy ∙ h.target;
     })
 

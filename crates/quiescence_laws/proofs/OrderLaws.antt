@@ -3,7 +3,7 @@ use Rattle.std.proofs.Common.{◌≡◌, ℕ, ◌+◌, ◌<◌, ◌≤◌, Bool,
 use Rattle.std.specs.Prelude.{◌==◌, nat_lt, nat_le}
 use Rattle.std.specs.List.{count_by, list_any}
 use Rattle.std.proofs.Math.Bool.{and-false, and-true}
-use Rattle.std.proofs.lemmas.Bool.{cases_Bool, cases_eq, cases_lt, and_from, both_ways, eq-eqb, ne_eqb, lt-ltb, le-ltb, le-leb, lt-leb}
+use Rattle.std.proofs.lemmas.Bool.{cases_Bool, cases_eq, cases_lt, eq-eqb, ne_eqb, lt-ltb, le-ltb, le-leb, lt-leb}
 use Rattle.std.proofs.lemmas.List.Sums.{sum_by-cons}
 use Rattle.quiesce_core.specs.declared.event.Event.{Event}
 use Rattle.gate_word.specs.declared.phase.Phase.{Phase}
@@ -15,7 +15,6 @@ use Rattle.quiesce_core.specs.Doers.{is_end_at}
 use Rattle.quiescence_laws.specs.Events.{is_take_of, is_give_of}
 use Rattle.quiescence_laws.specs.Courses.{Course, heard_at, course_in, course_of, course_at}
 use Rattle.quiescence_laws.specs.Courses as course
-use Rattle.quiescence_laws.proofs.CourseLemmas.{course_behind, course_zero, course_before, course_here}
 use Rattle.quiescence_laws.proofs.Counting.{Counts, counts_of, table, counted}
 use Rattle.quiescence_laws.proofs.SerialLaws.{tallied, busy_serial}
 

@@ -26,9 +26,8 @@ use Rattle.quiesce_core.proofs.TableLaws.{live_made, gate_place}
 use Rattle.quiesce_core.proofs.RunLaws.{runs_are_well_formed, runs_are_consistent}
 use Rattle.quiescence_laws.specs.Events.{is_reopen_or_link, removes}
 use Rattle.quiesce_core.proofs.StateLaws.{busy_made}
-use Rattle.quiescence_laws.proofs.ExtensionLaws.{owner_next}
-use Rattle.quiesce_core.specs.Alters.{slot_next}
-use Rattle.quiesce_core.specs.Doers.{is_make}
+use Rattle.quiescence_laws.proofs.ExtensionLaws.{extends_further}
+use Rattle.quiesce_core.specs.Alters.{ports_next, slot_next}
 use Rattle.quiesce_core.proofs.AlterLaws.{reconfigured}
 use Rattle.quiesce_core.proofs.InductionLaws.{IsNext, place, further, along}
 use Rattle.quiesce_core.proofs.RunLaws.{fronts_are_runs}
@@ -73,9 +72,9 @@ node_of (Some t) n h = let same : t.node ≡ n = cc in (t.provide, ap (λ i. Som
 leading : (c : Configuration) (n p : ℕ) → option_map (λ (t : Target). t.node) (target c p) ≡ Some n → Concerns c n p
 leading c n p h = let w = node_of (target c p) n h in inr (direct {x = w.0} w.1)
 
-unmade : (e : Event) → is_opening e ≡ false → is_make e ≡ false
-unmade (Make n node from) h = h
-unmade _ h = refl
+same_ports : (c : Configuration) (e : Event) → is_opening e ≡ false → ports_next c e ≡ length c.gates
+same_ports c (Make n node from) h = absurd (both_ways true h refl)
+same_ports c _ h = refl
 
 module _ (es : List Event) (n : ℕ) (run : IsRun es) (h : Settled (state_after es) n) where
   -- what is known where an event stands behind the run
@@ -89,13 +88,17 @@ module _ (es : List Event) (n : ℕ) (run : IsRun es) (h : Settled (state_after 
             es before (fronts_are_runs (es ++ before) (e ∷ after) whole) closed_ (still_if (state_after es) n h),
       )
 
-  owner_at : (before after : List Event) (e : Event) (p : ℕ) → Continues es (before ++ e ∷ after) → owner (state_after (es ++ before)).config p ≡ owner (state_after es).config p
-  owner_at before after e p c =
+  owner_at : (before after : List Event) (e : Event) (p : ℕ) → Continues es (before ++ e ∷ after) → p < length (state_after (es ++ before)).config.gates
+      → owner (state_after (es ++ before)).config p ≡ owner (state_after es).config p
+  owner_at before after e p c made =
       let whole : IsRun ((es ++ before) ++ e ∷ after) = subst (λ xs. IsRun xs) (sym (append_assoc es before (e ∷ after))) c.runs in
+      let front = fronts_are_runs (es ++ before) (e ∷ after) whole in
       let closed_ = (or_parts (list_any is_opening before) (list_any is_opening (e ∷ after)) (sym (list_any-append is_opening before (e ∷ after)) ∙ c.closed)).0 in
-      along (λ xs. owner (state_after xs).config p ≡ owner (state_after es).config p) is_opening
-      (λ xs x here free same. ap (λ s. owner s.config p) here.next ∙ owner_next (state_after xs) x here.legal p (inl (unmade x free)) ∙ same)
-      es before (fronts_are_runs (es ++ before) (e ∷ after) whole) closed_ refl
+      let same : length (state_after (es ++ before)).config.gates ≡ length (state_after es).config.gates =
+      along (λ xs. length (state_after xs).config.gates ≡ length (state_after es).config.gates) is_opening
+      (λ xs x here free so_far. ap (λ s. length s.config.gates) here.next ∙ (reconfigured (state_after xs) x here.legal).ports ∙ same_ports (state_after xs).config x free ∙ so_far)
+      es before front closed_ refl in
+      (extends_further es before front).owners p (omega (arith, made, same))
 
   none_initiated : (p k : ℕ) (b : Begun es p k) → is_open_after es p k ≡ true → initiator es p k b ≡ n → ⊥
   none_initiated p k b opened mine =
@@ -110,7 +113,7 @@ module _ (es : List Event) (n : ℕ) (run : IsRun es) (h : Settled (state_after 
       let at = still_at b.before b.after b.event cont in
       let s = state_after (es ++ b.before) in
       let made = begun_made s b.event p k at.0.legal b.begins in
-      let own = subst (λ i. IsPortOf s.config i p) (owner_at b.before b.after b.event p cont ∙ mine) (at.0.well.sound.ports p made) in
+      let own = subst (λ i. IsPortOf s.config i p) (owner_at b.before b.after b.event p cont made ∙ mine) (at.0.well.sound.ports p made) in
       none_begins s b.event n p k at.0.well at.0.traffic at.0.legal at.1 (inl own) b.begins
 
   none_targets : (p k : ℕ) (b : Begun es p k) → is_open_after es p k ≡ true → target_at_begin es p k b ≡ Some n → ⊥

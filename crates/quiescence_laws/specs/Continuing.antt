@@ -1,4 +1,5 @@
--- A run after which a node is settled, and what may still come: one event at least of each kind but Reopen, Make and Link.
+-- A run after which a node is settled, and what may still come: one event at least of each kind but Reopen, Make and
+-- Link.
 use Rattle.std.specs.Prelude.{ℕ, List, [], ◌∷◌, Option, Some, None, codes}
 use Rattle.config_graph.specs.declared.kind.Kind.{Kind}
 use Rattle.config_graph.specs.declared.kind.Kind.TheVariants as kind
@@ -9,8 +10,8 @@ use Rattle.quiesce_core.specs.declared.event.Event.TheVariants.{Begin, Call, Tak
 abbrev pub node : List ℕ → Kind → Option ℕ → Node
 node path of_kind arg = record { path = path; kind = of_kind; arg = arg }
 
--- An asker leads to an adder over port 0. A teller leads to a branch over port 1, and this to an account over port 2; its port 3 is
--- unlinked. A source, in slot 5, leads to a sink over port 4, which is closed.
+-- An asker leads to an adder over port 0. A teller leads to a branch over port 1, and this to an account over port 2;
+-- its port 3 is unlinked. A source, in slot 5, leads to a sink over port 4, which is closed.
 abbrev pub at_rest : List Event
 at_rest =
     Make 0 (node (codes "asker") kind.Asker (Some 1)) None ∷ Make 1 (node (codes "adder") kind.Adder None) None

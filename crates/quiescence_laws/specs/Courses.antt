@@ -8,8 +8,8 @@ use Rattle.gate_word.specs.declared.phase.Phase.TheVariants as phase
 use Rattle.quiesce_core.specs.declared.state.Service.{Service}
 use Rattle.quiesce_core.specs.State.{State, target, exchange, service}
 
--- how far a transaction has come: its request waits, its target serves it and has heard its last message, an intermediate reply was
--- sent, a further message was sent for it, the last reply was sent
+-- how far a transaction has come: its request waits, its target serves it and has heard its last message, an
+-- intermediate reply was sent, a further message was sent for it, the last reply was sent
 pub data Course : Type 0 where
   unbegun : Course
   waiting : Course
@@ -48,7 +48,8 @@ abbrev pub on_end : Course → Option Course
 on_end answered = Some ended
 on_end _ = None
 
--- the course of the transaction of port p with serial k after one more event, where that event may come; other events leave it
+-- the course of the transaction of port p with serial k after one more event, where that event may come; other events
+-- leave it
 abbrev pub course_next : ℕ → ℕ → Course → Event → Option Course
 course_next p k c (Begin q j v) = if q == p && j == k then on_begin c else Some c
 course_next p k c (Call q j v) = if q == p && j == k then on_begin c else Some c

@@ -1,5 +1,5 @@
--- How a system comes to be as a graph says: its nodes are made, in their order, then each linked port is linked and then each port is
--- opened, in the order of the ports. And how it goes on from there.
+-- How a system comes to be as a graph says: its nodes are made, in their order, then each linked port is linked and
+-- then each port is opened, in the order of the ports. And how it goes on from there.
 use Rattle.std.specs.Prelude.{ℕ, List, ◌++◌, map, Option, None, option_map, fold, filter_map}
 use Rattle.std.specs.List.{enumerate_from}
 use Rattle.config_graph.specs.Graph.{Graph, ports, target_of}

@@ -32,8 +32,8 @@ all_direct test s n =
 abbrev pub services_none : State → ℕ → Bool
 services_none s n = is_none (service s n)
 
--- settled, but that its own ports may be in a transaction; or may be open; that it may service one that a closed port has; that
--- ports which don't lead to it themselves may be open
+-- settled, but that its own ports may be in a transaction; or may be open; that it may service one that a closed port
+-- has; that ports which don't lead to it themselves may be open
 abbrev pub but_own_busy : State → ℕ → Bool
 but_own_busy s n = is_live s.config n && all_own is_closed s n && services_none s n && all_reaching is_quiet s n
 

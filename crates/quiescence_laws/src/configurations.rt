@@ -9,15 +9,18 @@ ghost use Rattle.quiesce_core.specs.Runs.{IsRun, state_after};
 ghost use Rattle.quiescence_laws.specs.Configurations.{Extends, HasNoNewLink};
 ghost use Rattle.quiescence_laws.specs.Events.{is_link};
 
-/// However a run goes on, each node keeps its slot, path, kind, argument and ports, also where it is removed, and each port its owner
-/// and its requirement.
+/// However a run goes on, each node keeps its slot, path, kind, argument and ports, also where it is removed, and each
+/// port its owner and its requirement.
 pub fn nodes_and_ports_stay()
-    ensures { (es more_ : List Event) → IsRun (es ++ more_) → Extends (state_after es).config (state_after (es ++ more_)).config }
+    ensures { (es more_ : List Event) → IsRun (es ++ more_)
+        → Extends (state_after es).config (state_after (es ++ more_)).config }
 {}
 
-/// Where no link is made meanwhile, each link is one that there was, whatever else is changed, and no port reaches a node anew.
+/// Where no link is made meanwhile, each link is one that there was, whatever else is changed, and no port reaches a
+/// node anew.
 pub fn links_are_made_by_link_alone()
-    ensures links { (es more_ : List Event) → IsRun (es ++ more_) → list_any is_link more_ ≡ false → HasNoNewLink (state_after es).config (state_after (es ++ more_)).config }
+    ensures links { (es more_ : List Event) → IsRun (es ++ more_) → list_any is_link more_ ≡ false
+        → HasNoNewLink (state_after es).config (state_after (es ++ more_)).config }
     ensures reach { (es more_ : List Event) (n p : ℕ) → IsRun (es ++ more_) → list_any is_link more_ ≡ false
         → Reach (wiring_of (state_after (es ++ more_)).config) n p → Reach (wiring_of (state_after es).config) n p }
 {}

@@ -23,11 +23,13 @@ pub fn drained_ports_stay_drained()
         IsTrue (is_drained (state_after es) p) → IsTrue (is_drained (state_after (es ++ more_)) p) }
 {}
 
-/// A live node is settled where each of its ports and each port that reaches it is closed, and idle or in a consequent transaction:
-/// the owner of a consequent one would service another of these ports, and so on without end, since links that a service may use
-/// form no cycle. So it is enough to have seen each of them without a root once since it was closed.
+/// A live node is settled where each of its ports and each port that reaches it is closed, and idle or in a consequent
+/// transaction: the owner of a consequent one would service another of these ports, and so on without end, since links
+/// that a service may use form no cycle. So it is enough to have seen each of them without a root once since it was
+/// closed.
 pub fn nodes_with_drained_ports_are_settled()
     ensures { (es : List Event) (n : ℕ) → IsRun es → IsTrue (is_live (state_after es).config n) →
         ((p : ℕ) → IsPortOf (state_after es).config n p → IsTrue (is_drained (state_after es) p)) →
-        ((p : ℕ) → Reach (wiring_of (state_after es).config) n p → IsTrue (is_drained (state_after es) p)) → Settled (state_after es) n }
+        ((p : ℕ) → Reach (wiring_of (state_after es).config) n p → IsTrue (is_drained (state_after es) p))
+        → Settled (state_after es) n }
 {}

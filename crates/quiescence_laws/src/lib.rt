@@ -1,5 +1,6 @@
-//! Laws of runs of the change machine: why it is enough to close the gates of an enlarged passive set and to wait (Kramer and
-//! Magee, The evolving philosophers problem: dynamic change management, 1990), and in which order the events of a transaction come.
+//! Laws of runs of the change machine: why it is enough to close the gates of an enlarged passive set and to wait
+//! (Kramer and Magee, The evolving philosophers problem: dynamic change management, 1990), and in which order the
+//! events of a transaction come.
 #![tactic(auto)]
 
 mod configurations;
