@@ -10,7 +10,8 @@ use Rattle.quiesce_core.specs.declared.event.Event.{Event}
 use Rattle.quiesce_core.specs.declared.event.Event.TheVariants.{Close}
 use Rattle.quiescence_laws.specs.Starts.{start_of}
 
--- A branch moves money between two accounts. One of the accounts is replaced by one with another argument, and its state goes on.
+-- A branch moves money between two accounts. One of these is replaced by one with another argument, and its state goes
+-- on.
 
 abbrev pub account : ℕ → Node
 account b = record { path = codes "a"; kind = kind.Account; arg = Some b }
@@ -88,8 +89,8 @@ another_map =
 abbrev pub line_closed : List Event
 line_closed = start_of (line 10) ++ Close 0 ∷ Close 1 ∷ []
 
--- A map that stands at the end of a chain is linked. Its direct set is itself and the map before it; the source before that may still
--- begin a transaction that comes to it.
+-- A map that stands at the end of a chain is linked. Its direct set is itself and the map before it; the source before
+-- that may still begin a transaction that comes to it.
 
 abbrev pub first_map : Node
 first_map = record { path = codes "m"; kind = kind.Map; arg = Some 1 }

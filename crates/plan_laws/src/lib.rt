@@ -1,5 +1,5 @@
-//! Laws of plans that are carried out: once the gates that a plan freezes are closed and what was open there has ended, its commit
-//! can't fail, and leaves exactly the new graph.
+//! Laws of plans that are carried out: once the gates that a plan freezes are closed and what was open there has
+//! ended, its commit can't fail, and leaves exactly the new graph.
 #![tactic(auto)]
 
 mod committing;

@@ -10,8 +10,8 @@ ghost use Rattle.plan_laws.specs.Commit.{commit_events, commit_steps};
 ghost use Rattle.plan_laws.specs.Committing.{MayCommit};
 ghost use Rattle.plan_laws.specs.Rows.{a_goes_on, account, all_closed, another_map, bank, bank_closed, chain, direct_closed, line, line_closed, linking, map_m, n_to_t, replacing};
 
-/// A change that may commit: a node is removed, one of its kind is made and takes its state over, and a port is unlinked and linked
-/// to it.
+/// A change that may commit: a node is removed, one of its kind is made and takes its state over, and a port is
+/// unlinked and linked to it.
 pub fn a_change_may_commit()
     ensures may { MayCommit (bank 100) (bank 7) (a_goes_on ∷ []) replacing bank_closed }
     ensures events { commit_events (bank 100) (bank 7) replacing (state_after bank_closed).config
@@ -25,14 +25,16 @@ pub fn a_worked_commit()
         ≡ Unlink 0 ∷ Unlink 1 ∷ Remove 0 ∷ Make 3 (map_m 20) None ∷ Link 1 3 0 ∷ Link 2 2 0 ∷ Reopen 1 ∷ Reopen 2 ∷ [] }
 {}
 
-/// Freezing less isn't enough: where only the gates of the direct set are closed, and their ports drained, the commit's link is
-/// denied, since a source further up may still begin a transaction that comes to the node. With its gate closed too, as the plan
-/// says, the link is allowed.
+/// Freezing less isn't enough: where only the gates of the direct set are closed, and their ports drained, the
+/// commit's link is denied, since a source further up may still begin a transaction that comes to the node. With its
+/// gate closed too, as the plan says, the link is allowed.
 pub fn freezing_less_is_denied()
     ensures plan { IsPlanOf (chain []) (chain (n_to_t ∷ [])) [] linking }
-    ensures steps { commit_steps (chain []) (chain (n_to_t ∷ [])) linking (state_after direct_closed).config ≡ Link 1 3 0 ∷ [] }
+    ensures steps { commit_steps (chain []) (chain (n_to_t ∷ [])) linking (state_after direct_closed).config
+        ≡ Link 1 3 0 ∷ [] }
     ensures runs { IsRun direct_closed }
-    ensures drained { (is_drained (state_after direct_closed) 0 ≡ true) × (is_drained (state_after direct_closed) 1 ≡ true) }
+    ensures drained { (is_drained (state_after direct_closed) 0 ≡ true) × (is_drained (state_after direct_closed) 1
+        ≡ true) }
     ensures denied { denial (state_after direct_closed) (Link 1 3 0) ≡ Some 22 }
     ensures allowed { denial (state_after all_closed) (Link 1 3 0) ≡ None }
 {}
