@@ -30,7 +30,8 @@ pub fn what_is_frozen_may_be_closed()
 
 /// Each event of a plan's commit is allowed after those before it, whatever nodes do in between. For each but the
 /// reopenings it is enough that the ports of frozen nodes were drained when the commit began: a node that is
-/// unlinked, linked or removed has no other port, but new ones, and none other reaches it.
+/// unlinked, linked or removed has no other port, but new ones, and none other reaches it. So with nothing in between
+/// the commit is the end of a run.
 pub fn commits_can_not_fail()
     ensures by_the_configuration { (old new : Graph) (moves : List Move) (plan : Plan) (es : List Event)
         → MayCommit old new moves plan es
@@ -40,6 +41,8 @@ pub fn commits_can_not_fail()
         → MayCommit old new moves plan es → IsRun (es ++ more_)
         → filter is_of_change more_ ++ e ∷ left ≡ commit_events old new plan (state_after es).config
         → denial (state_after (es ++ more_)) e ≡ None }
+    ensures runs { (old new : Graph) (moves : List Move) (plan : Plan) (es : List Event)
+        → MayCommit old new moves plan es → IsRun (es ++ commit_events old new plan (state_after es).config) }
 {}
 
 /// After the last link the graph is the new one, and so it is at each place among the reopenings. At each place
