@@ -16,7 +16,7 @@ use Rattle.quiescence_laws.proofs.DrainingLaws.{drained_stays}
 use Rattle.commit_laws.specs.Steps.{MayStep, MayStepAll, change_all}
 use Rattle.quiesce_core.specs.Effect.{change_next}
 use Rattle.commit_laws.proofs.AllowedLaws.{step_allowed}
-use Rattle.quiesce_core.proofs.RunLaws.{effect_config}
+use Rattle.quiesce_core.proofs.RunLaws.{effect_config, runs_grow}
 
 node_leaves : (c : Configuration) (e : Event) → is_of_change e ≡ false → change_next c e ≡ c
 node_leaves c (Begin p k v) h = refl
@@ -95,3 +95,46 @@ pub allowed_meanwhile : (noted : ℕ → Bool) (es more_ left : List Event) (e :
 allowed_meanwhile noted es more_ left e run drained closed_ may =
     step_allowed noted (es ++ more_) run (λ p h. drained_stays es more_ p run (none_reopened p more_ (closed_ p)) (drained p h)) e
     (subst (λ c. MayStep noted c e) (sym (now_is es more_)) (may_at noted (state_after es).config (filter is_of_change more_) e left may))
+
+-- what a change may do is the change's
+change_of : (noted : ℕ → Bool) (c : Configuration) (e : Event) → MayStep noted c e → is_of_change e ≡ true
+change_of noted c (Begin p k v) h = absurd h
+change_of noted c (Call p k v) h = absurd h
+change_of noted c (Miss p) h = absurd h
+change_of noted c (Take p k v) h = absurd h
+change_of noted c (Give p k v) h = absurd h
+change_of noted c (More p k v) h = absurd h
+change_of noted c (Ask p k v) h = absurd h
+change_of noted c (Hear p k v) h = absurd h
+change_of noted c (End p k v) h = absurd h
+change_of noted c (Close p) h = refl
+change_of noted c (Reopen p) h = refl
+change_of noted c (Make n node from) h = refl
+change_of noted c (Link p n x) h = refl
+change_of noted c (Unlink p) h = refl
+change_of noted c (Remove n) h = refl
+
+pub front_is_of_change : (noted : ℕ → Bool) (c : Configuration) (done left : List Event) → MayStepAll noted c (done ++ left) → filter is_of_change done ≡ done
+front_is_of_change noted c [] left h = refl
+front_is_of_change noted c (e ∷ done) left h =
+    ap (λ b. cond b (e ∷ filter is_of_change done) (filter is_of_change done)) (change_of noted c e h.0)
+    ∙ ap (λ xs. e ∷ xs) (front_is_of_change noted (change_next c e) done left h.1)
+
+nothing_behind : (es : List Event) → es ≡ es ++ []
+nothing_behind [] = refl
+nothing_behind (e ∷ es) = ap (λ xs. e ∷ xs) (nothing_behind es)
+
+regrouped : (es fs gs : List Event) → (es ++ fs) ++ gs ≡ es ++ (fs ++ gs)
+regrouped [] fs gs = refl
+regrouped (e ∷ es) fs gs = ap (λ xs. e ∷ xs) (regrouped es fs gs)
+
+-- a run goes on with events each of which is allowed after those before it
+run_on : (es done left : List Event) → IsRun (es ++ done) → ((d l : List Event) (e : Event) → d ++ e ∷ l ≡ done ++ left → IsRun (es ++ d) → denial (state_after (es ++ d)) e ≡ None) → IsRun (es ++ (done ++ left))
+run_on es done [] run h = subst (λ xs. IsRun (es ++ xs)) (nothing_behind done) run
+run_on es done (e ∷ left) run h =
+    let more_ : IsRun (es ++ (done ++ e ∷ [])) = subst IsRun (regrouped es done (e ∷ [])) ((runs_grow (es ++ done) e).1 (run, h done left e refl run)) in
+    subst (λ xs. IsRun (es ++ xs)) (regrouped done (e ∷ []) left)
+    (run_on es (done ++ e ∷ []) left more_ (λ d l f is. h d l f (is ∙ regrouped done (e ∷ []) left)))
+
+pub runs_on : (es left : List Event) → IsRun es → ((d l : List Event) (e : Event) → d ++ e ∷ l ≡ left → IsRun (es ++ d) → denial (state_after (es ++ d)) e ≡ None) → IsRun (es ++ left)
+runs_on es left run h = run_on es [] left (subst IsRun (nothing_behind es) run) h

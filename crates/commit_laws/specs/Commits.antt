@@ -1,5 +1,5 @@
--- What a commit needs: lists of what it unlinks, removes, makes and links lead from a configuration to a graph, and the ports of the
--- nodes that it touches, and those that reach them, are known to be drained (Kramer and Magee 1990).
+-- What a commit needs: lists of what it unlinks, removes, makes and links lead from a configuration to a graph, and
+-- the ports of the nodes that it touches, and those that reach them, are known to be drained (Kramer and Magee 1990).
 use Rattle.std.specs.Prelude.{◌≡◌, ◌⊎◌, ℕ, ◌+◌, ◌<◌, ◌≤◌, Bool, true, List, length, Some, None, Contains}
 use Rattle.config_graph.specs.Cycles.{IsLinked}
 use Rattle.config_graph.specs.Graph.{Graph}
@@ -51,7 +51,8 @@ abbrev pub OtherPort : NewLink → NewLink → Type 0
 OtherPort l k = k.port ≡ l.port → ⊥
 
 -- a link of the new graph from an unlinked port of a node that is touched or new, to a provision that is there
-pub record IsToLink (c : Configuration) (new : Graph) (Touched : ℕ → Type 0) (d : Configuration) (l : NewLink) : Type 0 where
+pub record IsToLink
+    (c : Configuration) (new : Graph) (Touched : ℕ → Type 0) (d : Configuration) (l : NewLink) : Type 0 where
   pub made : l.port < length d.gates
   pub changed : Changed c Touched (owner d l.port)
   pub unlinked : target d l.port ≡ None
@@ -65,8 +66,8 @@ pub record IsSource (c : Configuration) (removes : List ℕ) (m : NewNode) (k : 
   pub there : slot c k ≡ Some made
   pub kind : is_kind made.node.kind m.node.kind ≡ true
 
--- this work leads from c to the nodes of the new graph and to no link that it hasn't: it unlinks and removes exactly what the graph
--- hasn't, and makes exactly the nodes that c hasn't, with the slots that come next, where there is room
+-- this work leads from c to the nodes of the new graph and to no link that it hasn't: it unlinks and removes exactly
+-- what the graph hasn't, and makes exactly the nodes that c hasn't, in the slots that come next, where there is room
 pub record IsWork (c : Configuration) (new : Graph) (Touched : ℕ → Type 0) (w : Work) : Type 0 where
   pub unlinks : (p : ℕ) → In w.unlinks p → IsToUnlink c new Touched p
   pub all_unlinks : (p : ℕ) (t : Target) → target c p ≡ Some t → In w.unlinks p ⊎ KeptLink c new p t
@@ -74,8 +75,10 @@ pub record IsWork (c : Configuration) (new : Graph) (Touched : ℕ → Type 0) (
   pub removes : (n : ℕ) → In w.removes n → IsToRemove c new Touched n
   pub all_removes : (n : ℕ) (node : Node) → IsLiveAt c n node → In w.removes n ⊎ Contains new.nodes node
   pub removes_apart : Apart Differ w.removes
-  pub makes : (m : NewNode) → In w.makes m → Contains new.nodes m.node × ((n : ℕ) (node : Node) → IsLiveAt c n node → Contains new.nodes node → m.node.path ≡ node.path → ⊥)
-  pub all_makes : (node : Node) → Contains new.nodes node → ((n : ℕ) × IsLiveAt c n node) ⊎ ((m : NewNode) × In w.makes m × (m.node ≡ node))
+  pub makes : (m : NewNode) → In w.makes m → Contains new.nodes m.node
+      × ((n : ℕ) (node : Node) → IsLiveAt c n node → Contains new.nodes node → m.node.path ≡ node.path → ⊥)
+  pub all_makes : (node : Node) → Contains new.nodes node
+      → ((n : ℕ) × IsLiveAt c n node) ⊎ ((m : NewNode) × In w.makes m × (m.node ≡ node))
   pub makes_apart : Apart OtherPath w.makes
   pub arguments : (m : NewNode) → In w.makes m → has_its_argument m.node ≡ true
   pub numbered : AreNumbered (length c.slots) w.makes
@@ -85,9 +88,11 @@ pub record IsWork (c : Configuration) (new : Graph) (Touched : ℕ → Type 0) (
   pub room_ports : length c.gates + ports_wanted w.makes ≤ MAX_PORTS
 
 -- these links lead from d to the new graph: they are exactly those that d hasn't
-pub record AreLinks (c : Configuration) (new : Graph) (Touched : ℕ → Type 0) (d : Configuration) (links : List NewLink) : Type 0 where
+pub record AreLinks
+    (c : Configuration) (new : Graph) (Touched : ℕ → Type 0) (d : Configuration) (links : List NewLink) : Type 0 where
   pub to_link : (l : NewLink) → In links l → IsToLink c new Touched d l
-  pub all_links : (i r j x : ℕ) → IsLinked new i r j x → IsLiveLink d new.nodes i r j x ⊎ ((l : NewLink) × In links l × Stands d new l.port (end_of l) i r j x)
+  pub all_links : (i r j x : ℕ) → IsLinked new i r j x
+      → IsLiveLink d new.nodes i r j x ⊎ ((l : NewLink) × In links l × Stands d new l.port (end_of l) i r j x)
   pub links_apart : Apart OtherPort links
 
 -- the ports that are known to be drained: all those of touched nodes, those that reach one, and those not made yet
@@ -96,8 +101,11 @@ pub record AreNoted (c : Configuration) (Touched : ℕ → Type 0) (noted : ℕ 
   pub own : (q : ℕ) → q < length c.gates → Touched (owner c q) → noted q ≡ true
   pub reaching : (n q : ℕ) → Touched n → Reach (wiring_of c) n q → noted q ≡ true
 
--- This work and then these links lead from c to a sound graph, and change no node but those that are touched and those that are made.
-pub record IsCommit (c : Configuration) (new : Graph) (Touched : ℕ → Type 0) (noted : ℕ → Bool) (w : Work) (links : List NewLink) : Type 0 where
+-- This work and then these links lead from c to a sound graph, and change no node but those that are touched and those
+-- that are made.
+pub record IsCommit
+    (c : Configuration) (new : Graph) (Touched : ℕ → Type 0) (noted : ℕ → Bool) (w : Work) (links : List NewLink)
+    : Type 0 where
   pub sound : Sound new
   pub are_noted : AreNoted c Touched noted
   pub is_work : IsWork c new Touched w

@@ -41,7 +41,7 @@ pub record IsPart (d : Configuration) (g : Graph) : Type 0 where
   pub nodes : (n : ℕ) (node : Node) → IsLiveAt d n node → Contains g.nodes node
   pub links : LinksFit d g
 
--- a port is linked: it is requirement r of the live node at place i, and leads to provision x of the live node at place j
+-- a port is linked: it is requirement r of the live node at place i, and leads to provision x of that at place j
 pub record IsLiveLink (d : Configuration) (nodes : List Node) (i r j x : ℕ) : Type 0 where
   pub port : ℕ
   pub to : ℕ

@@ -1,5 +1,5 @@
--- What a change may do by the configuration, where some ports are known to be drained: the machine's rules, with the rule that a node
--- is settled told by ports alone.
+-- What a change may do by the configuration, where some ports are known to be drained: the machine's rules, with the
+-- rule that a node is settled told by ports alone.
 use Rattle.std.specs.Prelude.{⊤, ℕ, Bool, true, false, not, List, [], ◌∷◌, length, filter, fold, Some, IsTrue}
 use Rattle.std.specs.List.{range_with_len}
 use Rattle.quiesce_core.specs.declared.event.Event.{Event}

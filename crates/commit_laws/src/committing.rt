@@ -17,22 +17,28 @@ ghost use Rattle.commit_laws.specs.Steps.{change_all};
 ghost use Rattle.quiesce_core.specs.Rules.{is_live_port};
 ghost use Rattle.commit_laws.specs.Work.{NewLink, Work, events_of, steps_of};
 
-/// Once the ports of all that a commit touches, and those that reach it, are drained, each event of the commit is allowed after
-/// those before it, whatever nodes do in between. Until the first reopening each touched node is settled, so long as it is live.
-/// From the last link on the graph is the new one.
+/// Once the ports of all that a commit touches, and those that reach it, are drained, each event of the commit is
+/// allowed after those before it, whatever nodes do in between. Until the first reopening each touched node is
+/// settled, so long as it is live. From the last link on the graph is the new one.
 pub fn commits_can_not_fail()
-    ensures allowed { (es more_ left : List Event) (e : Event) (new : Graph) (touched noted : ℕ → Bool) (w : Work) (links : List NewLink) (ports : List ℕ)
+    ensures allowed { (es more_ left : List Event) (e : Event) (new : Graph) (touched noted : ℕ
+        → Bool) (w : Work) (links : List NewLink) (ports : List ℕ)
         → IsRun (es ++ more_) → ((p : ℕ) → IsTrue (noted p) → IsTrue (is_drained (state_after es) p))
         → IsCommit (state_after es).config new (λ n. IsTrue (touched n)) noted w links
         → ((p : ℕ) → In ports p → IsTrue (is_live_port (change_all (state_after es).config (steps_of w links)) p))
-        → filter is_of_change more_ ++ e ∷ left ≡ events_of w links ports → denial (state_after (es ++ more_)) e ≡ None }
-    ensures settled { (es more_ left : List Event) (new : Graph) (touched noted : ℕ → Bool) (w : Work) (links : List NewLink) (n : ℕ)
+        → filter is_of_change more_ ++ e ∷ left ≡ events_of w links ports
+        → denial (state_after (es ++ more_)) e ≡ None }
+    ensures settled { (es more_ left : List Event) (new : Graph) (touched noted : ℕ
+        → Bool) (w : Work) (links : List NewLink) (n : ℕ)
         → IsRun (es ++ more_) → ((p : ℕ) → IsTrue (noted p) → IsTrue (is_drained (state_after es) p))
         → IsCommit (state_after es).config new (λ n. IsTrue (touched n)) noted w links
         → filter is_of_change more_ ++ left ≡ steps_of w links
-        → IsTrue (touched n) → IsTrue (is_live (state_after (es ++ more_)).config n) → Settled (state_after (es ++ more_)) n }
-    ensures graph { (es more_ done left : List Event) (new : Graph) (touched noted : ℕ → Bool) (w : Work) (links : List NewLink) (ports : List ℕ)
+        → IsTrue (touched n) → IsTrue (is_live (state_after (es ++ more_)).config n)
+        → Settled (state_after (es ++ more_)) n }
+    ensures graph { (es more_ done left : List Event) (new : Graph) (touched noted : ℕ
+        → Bool) (w : Work) (links : List NewLink) (ports : List ℕ)
         → IsRun es → IsCommit (state_after es).config new (λ n. IsTrue (touched n)) noted w links
         → ((p : ℕ) → In ports p → IsTrue (is_live_port (change_all (state_after es).config (steps_of w links)) p))
-        → filter is_of_change more_ ≡ steps_of w links ++ done → done ++ left ≡ map Reopen ports → IsGraphOf (state_after (es ++ more_)).config new }
+        → filter is_of_change more_ ≡ steps_of w links ++ done → done ++ left ≡ map Reopen ports
+        → IsGraphOf (state_after (es ++ more_)).config new }
 {}

@@ -12,17 +12,19 @@ ghost use Rattle.quiesce_core.specs.Runs.{IsRun, is_open_after, state_after};
 ghost use Rattle.quiescence_laws.specs.Drained.{is_drained};
 ghost use Rattle.commit_laws.specs.Steps.{is_shaping, live_ports};
 
-/// Where nothing is made, removed, linked or unlinked, the graph stays. So a change that is given up leaves the old one.
+/// Where nothing is made, removed, linked or unlinked, the graph stays. So a change that is given up leaves the old
+/// one.
 pub fn what_is_given_up_leaves_the_graph()
     ensures { (graph : Graph) (es more_ : List Event) → IsRun (es ++ more_) → list_any is_shaping more_ ≡ false
         → IsGraphOf (state_after es).config graph → IsGraphOf (state_after (es ++ more_)).config graph }
 {}
 
-/// A stop closes the gates of all live nodes, each of which is allowed after those before it, whatever nodes do in between. Once
-/// all are drained no transaction is open.
+/// A stop closes the gates of all live nodes, each of which is allowed after those before it, whatever nodes do in
+/// between. Once all are drained no transaction is open.
 pub fn stops_leave_nothing_open()
     ensures closes { (es more_ left : List Event) (e : Event) → IsRun (es ++ more_)
-        → filter is_of_change more_ ++ e ∷ left ≡ map Close (live_ports (state_after es).config) → denial (state_after (es ++ more_)) e ≡ None }
+        → filter is_of_change more_ ++ e ∷ left ≡ map Close (live_ports (state_after es).config)
+        → denial (state_after (es ++ more_)) e ≡ None }
     ensures nothing_open { (es : List Event) → IsRun es
         → ((p : ℕ) → Contains (live_ports (state_after es).config) p → IsTrue (is_drained (state_after es) p))
         → (p k : ℕ) → is_open_after es p k ≡ false }

@@ -1,5 +1,5 @@
-//! Laws of changes as they are carried out: which events a change may do by the configuration alone, and what stands after
-//! them, whatever nodes do in between. They speak of lists of work and of graphs, and of no plan.
+//! Laws of changes as they are carried out: which events a change may do by the configuration alone, and what stands
+//! after them, whatever nodes do in between. They speak of lists of work and of graphs, and of no plan.
 #![tactic(auto)]
 
 mod committing;

@@ -10,16 +10,16 @@ ghost use Rattle.quiescence_laws.specs.Drained.{is_drained};
 ghost use Rattle.quiescence_laws.specs.Events.{reopens};
 ghost use Rattle.commit_laws.specs.Steps.{MayStep, MayStepAll};
 
-/// A step that a change may make by its configuration is allowed in each run with this configuration in which the ports
-/// are drained.
+/// A step that a change may make by its configuration is allowed in each run with this configuration in which the
+/// ports are drained.
 pub fn steps_are_allowed()
     ensures { (drained : ℕ → Bool) (es : List Event) (e : Event) → IsRun es
         → ((p : ℕ) → IsTrue (drained p) → IsTrue (is_drained (state_after es) p))
         → MayStep drained (state_after es).config e → denial (state_after es) e ≡ None }
 {}
 
-/// Steps that a change may make one after the other are allowed in their order, whatever nodes do in between. So long as
-/// none is a reopening, it is enough that the ports are drained when the first is made.
+/// Steps that a change may make one after the other are allowed in their order, whatever nodes do in between. So long
+/// as none is a reopening, it is enough that the ports are drained when the first is made.
 pub fn changes_can_not_fail()
     ensures { (drained : ℕ → Bool) (es more_ left : List Event) (e : Event) → IsRun (es ++ more_)
         → ((p : ℕ) → IsTrue (drained p) → IsTrue (is_drained (state_after es) p))

@@ -10,13 +10,17 @@ ghost use Rattle.quiesce_core.specs.State.{gate};
 ghost use Rattle.commit_laws.specs.Lists.{In};
 ghost use Rattle.quiesce_core.specs.Rules.{is_live_port};
 
-/// The gates of live nodes may be closed, or opened again, one after the other, whatever nodes do in between. So a change may
-/// begin, and may be given up, and a stop may close all.
+/// The gates of live nodes may be closed, or opened again, one after the other, whatever nodes do in between. So a
+/// change may begin, and may be given up, and a stop may close all.
 pub fn gates_may_be_turned()
-    ensures closed { (es more_ left : List Event) (e : Event) (ports : List ℕ) → ((p : ℕ) → In ports p → IsTrue (is_live_port (state_after es).config p)) → IsRun (es ++ more_)
+    ensures closed { (es more_ left : List Event) (e : Event) (ports : List ℕ) → ((p : ℕ) → In ports p
+        → IsTrue (is_live_port (state_after es).config p)) → IsRun (es ++ more_)
         → filter is_of_change more_ ++ e ∷ left ≡ map Close ports → denial (state_after (es ++ more_)) e ≡ None }
-    ensures reopened { (es more_ left : List Event) (e : Event) (ports : List ℕ) → ((p : ℕ) → In ports p → IsTrue (is_live_port (state_after es).config p)) → IsRun (es ++ more_)
+    ensures reopened { (es more_ left : List Event) (e : Event) (ports : List ℕ) → ((p : ℕ) → In ports p
+        → IsTrue (is_live_port (state_after es).config p)) → IsRun (es ++ more_)
         → filter is_of_change more_ ++ e ∷ left ≡ map Reopen ports → denial (state_after (es ++ more_)) e ≡ None }
-    ensures are_closed { (es more_ : List Event) (ports : List ℕ) → ((p : ℕ) → In ports p → IsTrue (is_live_port (state_after es).config p))
-        → filter is_of_change more_ ≡ map Close ports → (p : ℕ) → In ports p → (gate (state_after (es ++ more_)).config p).closed ≡ true }
+    ensures are_closed { (es more_ : List Event) (ports : List ℕ) → ((p : ℕ) → In ports p
+        → IsTrue (is_live_port (state_after es).config p))
+        → filter is_of_change more_ ≡ map Close ports → (p : ℕ) → In ports p
+        → (gate (state_after (es ++ more_)).config p).closed ≡ true }
 {}

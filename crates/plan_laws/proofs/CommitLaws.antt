@@ -1,5 +1,5 @@
 -- The commit of a plan after a run, whatever nodes do in between.
-use Rattle.std.proofs.Common.{◌≡◌, ℕ, ◌<◌, ◌≤◌, true, false, not, ◌&&◌, ◌||◌, List, ◌∷◌, ◌++◌, length, None, ap, ◌∙◌, ⊎_elim, arith, lt-ltb}
+use Rattle.std.proofs.Common.{sym, ◌≡◌, ℕ, ◌<◌, ◌≤◌, true, false, not, ◌&&◌, ◌||◌, List, ◌∷◌, ◌++◌, length, None, ap, ◌∙◌, ⊎_elim, arith, lt-ltb, subst}
 use Rattle.std.specs.Prelude.{◌⊎◌, filter, is_some, nat_lt, map}
 use Rattle.std.proofs.lemmas.Bool.{both_ways, cases_lt, not-true, or_cases}
 use Rattle.std.proofs.lemmas.List.{get_or_past}
@@ -25,6 +25,7 @@ use Rattle.commit_laws.specs.Steps.{MayStepAll, change_all}
 use Rattle.commit_laws.specs.Work.{work_of}
 use Rattle.commit_laws.proofs.CarryingLaws as carrying
 use Rattle.commit_laws.specs.Commits.{IsCommit}
+use Rattle.commit_laws.proofs.MeanwhileLaws.{front_is_of_change, runs_on}
 use Rattle.commit_laws.proofs.PartLaws.{part_of_one}
 use Rattle.commit_laws.proofs.TurningLaws.{IsLivePort, SameLinks}
 use Rattle.plan_laws.specs.Commit.{commit_events, commit_steps, is_frozen_or_new, is_one_of, new_links, reopens, work}
@@ -86,6 +87,13 @@ module _ (old new : Graph) (moves : List Move) (plan : Plan) (es : List Event) (
       let w = work old new plan c in
       carrying.allowed_at es new (IsTouchedSlot old new c) (is_frozen_or_new old plan c) w (new_links new plan (change_all c (work_of w))) may.run whole all_drained
       (reopens old plan c (change_all c (commit_steps old new plan c))) reopens_live more_ left e run is
+
+  -- so the commit goes on with the run to its end, where nodes do nothing in between
+  pub runs_to_its_end : IsRun (es ++ commit_events old new plan (state_after es).config)
+  runs_to_its_end =
+      let c = (state_after es).config in
+      runs_on es (commit_events old new plan c) may.run
+      (λ d l e is run. allowed_at d l e run (ap (λ xs. xs ++ e ∷ l) (front_is_of_change (is_frozen_or_new old plan c) c d (e ∷ l) (subst (MayStepAll (is_frozen_or_new old plan c) c) (sym is) events_may)) ∙ is))
 
   pub graph_linked : (more_ : List Event) → filter is_of_change more_ ≡ commit_steps old new plan (state_after es).config → IsGraphOf (state_after (es ++ more_)).config new
   graph_linked more_ is =

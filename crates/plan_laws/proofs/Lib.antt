@@ -2,6 +2,7 @@ pub mod BankLemmas
 pub mod ChainLemmas
 pub mod CommitLaws
 pub mod GateLemmas
+pub mod LineLemmas
 pub mod LinkedLemmas
 pub mod PlannedLemmas
 pub mod ReadyLemmas

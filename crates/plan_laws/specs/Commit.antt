@@ -1,6 +1,7 @@
--- The events that carry out a plan, from the configuration in which its commit begins. A plan names nodes by their places in the old
--- and the new graph, the machine by slots: they meet in the paths of live nodes. Ports are unlinked, nodes removed, made in the slots
--- that come next, and linked, and then ports are reopened, each in the order of their numbers.
+-- The events that carry out a plan, from the configuration in which its commit begins. A plan names nodes by their
+-- places in the old and the new graph, the machine by slots: they meet in the paths of live nodes. Ports are
+-- unlinked, nodes removed, made in the slots that come next, and linked, and then ports are reopened, each in the
+-- order of their numbers.
 use Rattle.std.specs.Prelude.{ℕ, ◌+◌, Bool, false, not, ◌&&◌, ◌||◌, ◌==◌, nat_lt, List, [], ◌∷◌, ◌++◌, map, length, filter, filter_map, find, position, slice_get, unwrap_or, bytes_eq, Option, None, option_map, option_and_then}
 use Rattle.std.specs.List.{list_any, range_with_len}
 use Rattle.std.specs.Option.{option_map_or}
@@ -43,7 +44,8 @@ slots_where test c = filter test (range_with_len 0 (length c.slots))
 
 -- whether port p is one that the plan unlinks
 abbrev pub is_unlinked_by : Graph → Plan → Configuration → ℕ → Bool
-is_unlinked_by old plan c p = list_any (λ (q : Port). stands_in old q.node c (owner c p) && (gate c p).require == q.require) plan.unlink
+is_unlinked_by old plan c p =
+    list_any (λ (q : Port). stands_in old q.node c (owner c p) && (gate c p).require == q.require) plan.unlink
 
 -- whether the live node in slot n is at one of these places of a graph
 abbrev pub is_one_of : Graph → List ℕ → Configuration → ℕ → Bool
@@ -79,7 +81,8 @@ is_link_of new d p l = stands_in new l.from d (owner d p) && (gate d p).require 
 
 -- the link of port p in the machine: to the slot of the node at which it ends
 abbrev pub new_link : Graph → Configuration → ℕ → Link → Option NewLink
-new_link new d p l = option_map (λ n. record { port = p; node = n; provide = l.provide }) (slot_at d (node_path new l.to))
+new_link new d p l =
+    option_map (λ n. record { port = p; node = n; provide = l.provide }) (slot_at d (node_path new l.to))
 
 -- the link that the plan makes at a port, if it makes one; and all of them
 abbrev pub new_link_of : Graph → Plan → Configuration → ℕ → Option NewLink
@@ -105,7 +108,10 @@ commit_steps old new plan c =
 abbrev pub reopens : Graph → Plan → Configuration → Configuration → List ℕ
 reopens old plan c d = ports_where (λ p. is_live d (owner d p) && is_frozen_or_new old plan c p) d
 
+abbrev pub reopened_ports : Graph → Graph → Plan → Configuration → List ℕ
+reopened_ports old new plan c = reopens old plan c (change_all c (commit_steps old new plan c))
+
 -- and the whole commit
 abbrev pub commit_events : Graph → Graph → Plan → Configuration → List Event
 commit_events old new plan c =
-    commit_steps old new plan c ++ map Reopen (reopens old plan c (change_all c (commit_steps old new plan c)))
+    commit_steps old new plan c ++ map Reopen (reopened_ports old new plan c)

@@ -18,8 +18,8 @@ use Rattle.plan_laws.specs.Commit.{is_one_of}
 abbrev pub made_in : Configuration → Made
 made_in c = record { nodes = length c.slots; ports = length c.gates }
 
--- From this run the change may commit: its graph is the old one, the plan leads from there to a sound graph, and each port of each
--- frozen node is closed and has no transaction but consequents.
+-- After this run the change may commit: the graph is the old one, the plan leads from there to a sound graph, and each
+-- port of each frozen node is closed and has no transaction but a consequent one.
 pub record MayCommit (old new : Graph) (moves : List Move) (plan : Plan) (es : List Event) : Type 0 where
   pub old_graph : IsGraph old
   pub new_graph : IsGraph new
@@ -28,5 +28,6 @@ pub record MayCommit (old new : Graph) (moves : List Move) (plan : Plan) (es : L
   pub can_plan : CanPlan old new moves (made_in (state_after es).config)
   pub run : IsRun es
   pub graph : IsGraphOf (state_after es).config old
-  pub drained : (p : ℕ) → p < length (state_after es).config.gates → IsTrue (is_one_of old plan.freeze (state_after es).config (owner (state_after es).config p))
+  pub drained : (p : ℕ) → p < length (state_after es).config.gates
+      → IsTrue (is_one_of old plan.freeze (state_after es).config (owner (state_after es).config p))
       → IsTrue (is_drained (state_after es) p)

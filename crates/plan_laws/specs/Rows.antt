@@ -10,7 +10,8 @@ use Rattle.quiesce_core.specs.declared.event.Event.{Event}
 use Rattle.quiesce_core.specs.declared.event.Event.TheVariants.{Close}
 use Rattle.quiescence_laws.specs.Starts.{start_of}
 
--- A branch moves money between two accounts. One of the accounts is replaced by one with another argument, and its state goes on.
+-- A branch moves money between two accounts. One of these is replaced by one with another argument, and its state goes
+-- on.
 
 abbrev pub account : ℕ → Node
 account b = record { path = codes "a"; kind = kind.Account; arg = Some b }
@@ -54,20 +55,48 @@ replacing =
 abbrev pub bank_closed : List Event
 bank_closed = start_of (bank 100) ++ Close 0 ∷ Close 1 ∷ Close 2 ∷ []
 
--- A map that stands at the end of a chain is linked. Its direct set is itself and the map before it; the source before that may still
--- begin a transaction that comes to it.
+abbrev pub source : Node
+source = record { path = codes "s"; kind = kind.Source; arg = Some 3 }
+
+abbrev pub sink : Node
+sink = record { path = codes "t"; kind = kind.Sink; arg = None }
+
+-- A map between a source and a sink is replaced: both links go, and the new node has a port of its own.
+
+abbrev pub map_m : ℕ → Node
+map_m k = record { path = codes "m"; kind = kind.Map; arg = Some k }
+
+abbrev pub m_to_t : LinkOf
+m_to_t = record { from = 0; require = 0; to = 2; provide = 0 }
+
+abbrev pub s_to_map : LinkOf
+s_to_map = record { from = 1; require = 0; to = 0; provide = 0 }
+
+abbrev pub line : ℕ → Graph
+line k = record { nodes = map_m k ∷ source ∷ sink ∷ []; links = m_to_t ∷ s_to_map ∷ [] }
+
+abbrev pub another_map : Plan
+another_map =
+    record {
+      unlink = record { node = 0; require = 0 } ∷ record { node = 1; require = 0 } ∷ [];
+      remove = 0 ∷ [];
+      create = 0 ∷ [];
+      link = m_to_t ∷ s_to_map ∷ [];
+      moves = [];
+      freeze = 0 ∷ 1 ∷ [];
+    }
+
+abbrev pub line_closed : List Event
+line_closed = start_of (line 10) ++ Close 0 ∷ Close 1 ∷ []
+
+-- A map that stands at the end of a chain is linked. Its direct set is itself and the map before it; the source before
+-- that may still begin a transaction that comes to it.
 
 abbrev pub first_map : Node
 first_map = record { path = codes "m"; kind = kind.Map; arg = Some 1 }
 
 abbrev pub second_map : Node
 second_map = record { path = codes "n"; kind = kind.Map; arg = Some 2 }
-
-abbrev pub source : Node
-source = record { path = codes "s"; kind = kind.Source; arg = Some 3 }
-
-abbrev pub sink : Node
-sink = record { path = codes "t"; kind = kind.Sink; arg = None }
 
 abbrev pub m_to_n : LinkOf
 m_to_n = record { from = 0; require = 0; to = 1; provide = 0 }

@@ -1,5 +1,5 @@
-//! A plan's commit: what it does to a running system, once the gates that the plan freezes are closed and what was open there has
-//! ended.
+//! A plan's commit: what it does to a running system, once the gates that the plan freezes are closed and what was
+//! open there has ended.
 
 ghost use Rattle.std.specs.Prelude.{◌≡◌, ◌<◌, ◌⊎◌, ℕ, false, List, ◌∷◌, ◌++◌, filter, length, map, None, Contains, IsTrue};
 ghost use Rattle.change_plan.specs.Touched.{IsTouched};
@@ -15,71 +15,96 @@ ghost use Rattle.quiesce_core.specs.Runs.{IsRun, state_after};
 ghost use Rattle.quiesce_core.specs.Settled.{Quiescent, Settled};
 ghost use Rattle.quiesce_core.specs.State.{Configuration, gate, is_live, owner, target};
 ghost use Rattle.commit_laws.specs.Fitting.{IsPart};
-ghost use Rattle.commit_laws.specs.Steps.{MayStepAll, change_all};
-ghost use Rattle.plan_laws.specs.Commit.{closes, commit_events, commit_steps, is_frozen_or_new, is_one_of, reopens};
+ghost use Rattle.commit_laws.specs.Steps.{MayStepAll};
+ghost use Rattle.plan_laws.specs.Commit.{closes, commit_events, commit_steps, is_frozen_or_new, is_one_of, reopened_ports, reopens};
 ghost use Rattle.plan_laws.specs.Committing.{MayCommit};
 
 /// The gates of frozen nodes, and no others, may be closed one after the other, whatever nodes do in between.
 pub fn what_is_frozen_may_be_closed()
     ensures allowed { (old : Graph) (plan : Plan) (es more_ left : List Event) (e : Event) → IsRun (es ++ more_)
-        → filter is_of_change more_ ++ e ∷ left ≡ map Close (closes old plan (state_after es).config) → denial (state_after (es ++ more_)) e ≡ None }
-    ensures no_others { (old : Graph) (plan : Plan) (c : Configuration) (p : ℕ) → is_one_of old plan.freeze c (owner c p) ≡ false → ¬ Contains (closes old plan c) p }
+        → filter is_of_change more_ ++ e ∷ left ≡ map Close (closes old plan (state_after es).config)
+        → denial (state_after (es ++ more_)) e ≡ None }
+    ensures no_others { (old : Graph) (plan : Plan) (c : Configuration) (p : ℕ)
+        → is_one_of old plan.freeze c (owner c p) ≡ false → ¬ Contains (closes old plan c) p }
 {}
 
-/// Each event of a plan's commit is allowed after those before it, whatever nodes do in between. For each but the reopenings it is
-/// enough that the ports of frozen nodes were drained when the commit began: a node that is unlinked, linked or removed has no
-/// other port, but new ones, and none other reaches it.
+/// Each event of a plan's commit is allowed after those before it, whatever nodes do in between. For each but the
+/// reopenings it is enough that the ports of frozen nodes were drained when the commit began: a node that is
+/// unlinked, linked or removed has no other port, but new ones, and none other reaches it. So with nothing in between
+/// the commit is the end of a run.
 pub fn commits_can_not_fail()
-    ensures by_the_configuration { (old new : Graph) (moves : List Move) (plan : Plan) (es : List Event) → MayCommit old new moves plan es
-        → MayStepAll (is_frozen_or_new old plan (state_after es).config) (state_after es).config (commit_events old new plan (state_after es).config) }
-    ensures allowed { (old new : Graph) (moves : List Move) (plan : Plan) (es more_ left : List Event) (e : Event) → MayCommit old new moves plan es → IsRun (es ++ more_)
-        → filter is_of_change more_ ++ e ∷ left ≡ commit_events old new plan (state_after es).config → denial (state_after (es ++ more_)) e ≡ None }
+    ensures by_the_configuration { (old new : Graph) (moves : List Move) (plan : Plan) (es : List Event)
+        → MayCommit old new moves plan es
+        → MayStepAll (is_frozen_or_new old plan (state_after es).config) (state_after es).config
+        (commit_events old new plan (state_after es).config) }
+    ensures allowed { (old new : Graph) (moves : List Move) (plan : Plan) (es more_ left : List Event) (e : Event)
+        → MayCommit old new moves plan es → IsRun (es ++ more_)
+        → filter is_of_change more_ ++ e ∷ left ≡ commit_events old new plan (state_after es).config
+        → denial (state_after (es ++ more_)) e ≡ None }
+    ensures runs { (old new : Graph) (moves : List Move) (plan : Plan) (es : List Event)
+        → MayCommit old new moves plan es → IsRun (es ++ commit_events old new plan (state_after es).config) }
 {}
 
-/// After the last link the graph is the new one, and so it is at each place among the reopenings. At each place before, it is a
-/// part of the old or of the new.
+/// After the last link the graph is the new one, and so it is at each place among the reopenings. At each place
+/// before, it is a part of the old or of the new.
 pub fn commits_leave_the_new_graph()
-    ensures linked { (old new : Graph) (moves : List Move) (plan : Plan) (es more_ : List Event) → MayCommit old new moves plan es
-        → filter is_of_change more_ ≡ commit_steps old new plan (state_after es).config → IsGraphOf (state_after (es ++ more_)).config new }
-    ensures reopening { (old new : Graph) (moves : List Move) (plan : Plan) (es more_ done left : List Event) → MayCommit old new moves plan es
-        → filter is_of_change more_ ≡ commit_steps old new plan (state_after es).config ++ done
-        → done ++ left ≡ map Reopen (reopens old plan (state_after es).config (change_all (state_after es).config (commit_steps old new plan (state_after es).config)))
+    ensures linked { (old new : Graph) (moves : List Move) (plan : Plan) (es more_ : List Event)
+        → MayCommit old new moves plan es
+        → filter is_of_change more_ ≡ commit_steps old new plan (state_after es).config
         → IsGraphOf (state_after (es ++ more_)).config new }
-    ensures between { (old new : Graph) (moves : List Move) (plan : Plan) (es more_ left : List Event) → MayCommit old new moves plan es
+    ensures reopening { (old new : Graph) (moves : List Move) (plan : Plan) (es more_ done left : List Event)
+        → MayCommit old new moves plan es
+        → filter is_of_change more_ ≡ commit_steps old new plan (state_after es).config ++ done
+        → done ++ left ≡ map Reopen (reopened_ports old new plan (state_after es).config)
+        → IsGraphOf (state_after (es ++ more_)).config new }
+    ensures between { (old new : Graph) (moves : List Move) (plan : Plan) (es more_ left : List Event)
+        → MayCommit old new moves plan es
         → filter is_of_change more_ ++ left ≡ commit_steps old new plan (state_after es).config
         → IsPart (state_after (es ++ more_)).config old ⊎ IsPart (state_after (es ++ more_)).config new }
 {}
 
-/// Each touched node is settled and quiescent from when all ports of frozen nodes are drained, until the first reopening or its
-/// own removal.
+/// Each touched node is settled and quiescent from when all ports of frozen nodes are drained, until the first
+/// reopening or its own removal.
 pub fn touched_nodes_are_quiescent()
-    ensures settled { (old new : Graph) (moves : List Move) (plan : Plan) (es more_ left : List Event) (n i : ℕ) → MayCommit old new moves plan es → IsRun (es ++ more_)
+    ensures settled { (old new : Graph) (moves : List Move) (plan : Plan) (es more_ left : List Event) (n i : ℕ)
+        → MayCommit old new moves plan es → IsRun (es ++ more_)
         → filter is_of_change more_ ++ left ≡ commit_steps old new plan (state_after es).config
-        → IsTouched old new i → StandsAt (state_after es).config old.nodes n i → IsTrue (is_live (state_after (es ++ more_)).config n) → Settled (state_after (es ++ more_)) n }
-    ensures quiescent { (old new : Graph) (moves : List Move) (plan : Plan) (es more_ left : List Event) (n i : ℕ) → MayCommit old new moves plan es → IsRun (es ++ more_)
+        → IsTouched old new i → StandsAt (state_after es).config old.nodes n i
+        → IsTrue (is_live (state_after (es ++ more_)).config n) → Settled (state_after (es ++ more_)) n }
+    ensures quiescent { (old new : Graph) (moves : List Move) (plan : Plan) (es more_ left : List Event) (n i : ℕ)
+        → MayCommit old new moves plan es → IsRun (es ++ more_)
         → filter is_of_change more_ ++ left ≡ commit_steps old new plan (state_after es).config
-        → IsTouched old new i → StandsAt (state_after es).config old.nodes n i → IsTrue (is_live (state_after (es ++ more_)).config n) → Quiescent (es ++ more_) n }
+        → IsTouched old new i → StandsAt (state_after es).config old.nodes n i
+        → IsTrue (is_live (state_after (es ++ more_)).config n) → Quiescent (es ++ more_) n }
 {}
 
 /// A port of a node that isn't frozen is not reopened, and it keeps its target and its gate as it is throughout.
 pub fn what_is_not_frozen_is_left()
     ensures unopened { (old : Graph) (plan : Plan) (before after : Configuration) (p : ℕ) → p < length before.gates
         → is_one_of old plan.freeze before (owner before p) ≡ false → ¬ Contains (reopens old plan before after) p }
-    ensures target { (old new : Graph) (moves : List Move) (plan : Plan) (es more_ left : List Event) (p : ℕ) → MayCommit old new moves plan es
-        → p < length (state_after es).config.gates → is_one_of old plan.freeze (state_after es).config (owner (state_after es).config p) ≡ false
+    ensures target { (old new : Graph) (moves : List Move) (plan : Plan) (es more_ left : List Event) (p : ℕ)
+        → MayCommit old new moves plan es
+        → p < length (state_after es).config.gates
+        → is_one_of old plan.freeze (state_after es).config (owner (state_after es).config p) ≡ false
         → filter is_of_change more_ ++ left ≡ commit_events old new plan (state_after es).config
         → target (state_after (es ++ more_)).config p ≡ target (state_after es).config p }
-    ensures gate { (old new : Graph) (moves : List Move) (plan : Plan) (es more_ left : List Event) (p : ℕ) → MayCommit old new moves plan es
-        → p < length (state_after es).config.gates → is_one_of old plan.freeze (state_after es).config (owner (state_after es).config p) ≡ false
+    ensures gate { (old new : Graph) (moves : List Move) (plan : Plan) (es more_ left : List Event) (p : ℕ)
+        → MayCommit old new moves plan es
+        → p < length (state_after es).config.gates
+        → is_one_of old plan.freeze (state_after es).config (owner (state_after es).config p) ≡ false
         → filter is_of_change more_ ++ left ≡ commit_events old new plan (state_after es).config
         → (gate (state_after (es ++ more_)).config p).closed ≡ (gate (state_after es).config p).closed }
 {}
 
 /// After the commit each gate of a live node is open that was open before the closes, or that is new.
 pub fn gates_are_open_again()
-    ensures { (old new : Graph) (moves : List Move) (plan : Plan) (before between more_ : List Event) (p : ℕ) → MayCommit old new moves plan (before ++ between)
+    ensures { (old new : Graph) (moves : List Move) (plan : Plan) (before between more_ : List Event) (p : ℕ)
+        → MayCommit old new moves plan (before ++ between)
         → filter is_of_change between ≡ map Close (closes old plan (state_after before).config)
         → filter is_of_change more_ ≡ commit_events old new plan (state_after (before ++ between)).config
-        → p < length (state_after (before ++ between ++ more_)).config.gates → IsTrue (is_live (state_after (before ++ between ++ more_)).config (owner (state_after (before ++ between ++ more_)).config p))
-        → (p < length (state_after before).config.gates → (gate (state_after before).config p).closed ≡ false) → (gate (state_after (before ++ between ++ more_)).config p).closed ≡ false }
+        → p < length (state_after (before ++ between ++ more_)).config.gates
+        → IsTrue (is_live (state_after (before ++ between ++ more_)).config
+        (owner (state_after (before ++ between ++ more_)).config p))
+        → (p < length (state_after before).config.gates → (gate (state_after before).config p).closed ≡ false)
+        → (gate (state_after (before ++ between ++ more_)).config p).closed ≡ false }
 {}

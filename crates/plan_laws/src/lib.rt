@@ -1,5 +1,5 @@
-//! Laws of plans that are carried out: once the gates that a plan freezes are closed and what was open there has ended, its commit
-//! can't fail, and leaves exactly the new graph.
+//! Laws of plans that are carried out: once the gates that a plan freezes are closed and what was open there has
+//! ended, its commit can't fail, and leaves exactly the new graph.
 #![tactic(auto)]
 
 mod committing;
@@ -11,4 +11,4 @@ pub use committing::{
     touched_nodes_are_quiescent, what_is_frozen_may_be_closed, what_is_not_frozen_is_left,
 };
 pub use room::room_is_that_of_the_machine;
-pub use worked::{a_change_may_commit, freezing_less_is_denied};
+pub use worked::{a_change_may_commit, a_worked_commit, freezing_less_is_denied};

@@ -10,5 +10,6 @@ ghost use Rattle.plan_laws.specs.Committing.{made_in};
 
 /// The machine has room for a node in the next slot exactly where a plan has room for one node with its ports.
 pub fn room_is_that_of_the_machine()
-    ensures { (c : Configuration) (n : ℕ) (node : Node) → IsTrue (has_room c n node) ↔ ((n ≡ length c.slots) × HasRoom (made_in c) 1 (requires_of node)) }
+    ensures { (c : Configuration) (n : ℕ) (node : Node)
+        → IsTrue (has_room c n node) ↔ ((n ≡ length c.slots) × HasRoom (made_in c) 1 (requires_of node)) }
 {}

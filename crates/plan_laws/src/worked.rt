@@ -8,24 +8,33 @@ ghost use Rattle.quiesce_core.specs.Runs.{IsRun, state_after};
 ghost use Rattle.quiescence_laws.specs.Drained.{is_drained};
 ghost use Rattle.plan_laws.specs.Commit.{commit_events, commit_steps};
 ghost use Rattle.plan_laws.specs.Committing.{MayCommit};
-ghost use Rattle.plan_laws.specs.Rows.{a_goes_on, account, all_closed, bank, bank_closed, chain, direct_closed, linking, n_to_t, replacing};
+ghost use Rattle.plan_laws.specs.Rows.{a_goes_on, account, all_closed, another_map, bank, bank_closed, chain, direct_closed, line, line_closed, linking, map_m, n_to_t, replacing};
 
-/// A change that may commit: a node is removed, one of its kind is made and takes its state over, and a port is unlinked and linked
-/// to it.
+/// A change that may commit: a node is removed, one of its kind is made and takes its state over, and a port is
+/// unlinked and linked to it.
 pub fn a_change_may_commit()
     ensures may { MayCommit (bank 100) (bank 7) (a_goes_on ∷ []) replacing bank_closed }
     ensures events { commit_events (bank 100) (bank 7) replacing (state_after bank_closed).config
         ≡ Unlink 0 ∷ Remove 0 ∷ Make 4 (account 7) (Some 0) ∷ Link 0 4 0 ∷ Reopen 0 ∷ Reopen 1 ∷ Reopen 2 ∷ [] }
 {}
 
-/// Freezing less isn't enough: where only the gates of the direct set are closed, and their ports drained, the commit's link is
-/// denied, since a source further up may still begin a transaction that comes to the node. With its gate closed too, as the plan
-/// says, the link is allowed.
+/// The commit of another change, whose new node has a port: a map between a source and a sink is replaced.
+pub fn a_worked_commit()
+    ensures plan { IsPlanOf (line 10) (line 20) [] another_map }
+    ensures events { commit_events (line 10) (line 20) another_map (state_after line_closed).config
+        ≡ Unlink 0 ∷ Unlink 1 ∷ Remove 0 ∷ Make 3 (map_m 20) None ∷ Link 1 3 0 ∷ Link 2 2 0 ∷ Reopen 1 ∷ Reopen 2 ∷ [] }
+{}
+
+/// Freezing less isn't enough: where only the gates of the direct set are closed, and their ports drained, the
+/// commit's link is denied, since a source further up may still begin a transaction that comes to the node. With its
+/// gate closed too, as the plan says, the link is allowed.
 pub fn freezing_less_is_denied()
     ensures plan { IsPlanOf (chain []) (chain (n_to_t ∷ [])) [] linking }
-    ensures steps { commit_steps (chain []) (chain (n_to_t ∷ [])) linking (state_after direct_closed).config ≡ Link 1 3 0 ∷ [] }
+    ensures steps { commit_steps (chain []) (chain (n_to_t ∷ [])) linking (state_after direct_closed).config
+        ≡ Link 1 3 0 ∷ [] }
     ensures runs { IsRun direct_closed }
-    ensures drained { (is_drained (state_after direct_closed) 0 ≡ true) × (is_drained (state_after direct_closed) 1 ≡ true) }
+    ensures drained { (is_drained (state_after direct_closed) 0 ≡ true) × (is_drained (state_after direct_closed) 1
+        ≡ true) }
     ensures denied { denial (state_after direct_closed) (Link 1 3 0) ≡ Some 22 }
     ensures allowed { denial (state_after all_closed) (Link 1 3 0) ≡ None }
 {}

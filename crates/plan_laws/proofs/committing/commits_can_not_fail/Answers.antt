@@ -1,4 +1,4 @@
-use Rattle.plan_laws.proofs.CommitLaws.{allowed_at, events_may}
+use Rattle.plan_laws.proofs.CommitLaws.{allowed_at, events_may, runs_to_its_end}
 use Rattle.plan_laws.proofs.committing.commits_can_not_fail.Goals as goal
 
 pub returns-clause-by_the_configuration : goal.returns-clause-by_the_configuration
@@ -6,3 +6,6 @@ returns-clause-by_the_configuration c = λ old new moves plan es may. events_may
 
 pub returns-clause-allowed : goal.returns-clause-allowed
 returns-clause-allowed c = λ old new moves plan es more_ left e may run is. allowed_at old new moves plan es may more_ left e run is
+
+pub returns-clause-runs : goal.returns-clause-runs
+returns-clause-runs c = λ old new moves plan es may. runs_to_its_end old new moves plan es may
