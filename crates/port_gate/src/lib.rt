@@ -2,9 +2,11 @@
 #![tactic(auto)]
 
 mod answers;
+mod core_gate;
 mod gate;
 mod noting;
 
 pub use answers::{BeginAnswer, CallAnswer, HearAnswer, SeeAnswer, TakeAnswer};
+pub use core_gate::{CoreGate, CoreSeat};
 pub use gate::{GateSeat, PortGate};
 pub use noting::{note, note_seen, unknown};
