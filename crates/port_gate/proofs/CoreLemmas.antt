@@ -31,7 +31,7 @@ use Rattle.port_gate.specs.Seats.{IsOwn, IsWithinLimits, NodeAt, port_known}
 pub and_intro : {a b : Bool} → a ≡ true → b ≡ true → (a && b) ≡ true
 and_intro {a} {b} x y = ap (λ t. t && b) x ∙ y
 
-live_in : (o : Option Slot) → option_map_or (λ (m : Slot). m.live) o false ≡ true → (m : Slot) × (o ≡ Some m)
+pub live_in : (o : Option Slot) → option_map_or (λ (m : Slot). m.live) o false ≡ true → (m : Slot) × (o ≡ Some m)
 live_in None e = absurd (false≢true e)
 live_in (Some m) e = (m, refl)
 

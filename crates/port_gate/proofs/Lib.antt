@@ -1,2 +1,3 @@
 mod CoreLemmas
 mod Allowed
+pub mod SeatLaws
