@@ -4,9 +4,10 @@ ghost use Rattle.std.specs.Prelude.{◌≡◌, ℕ, ◌<◌, true, List, Some, l
 ghost use Rattle.config_graph.specs.Kinds.{calls_of, depends_on, mores_of};
 ghost use Rattle.config_graph.specs.declared.kind.Kind.{Kind};
 ghost use Rattle.quiesce_core.specs.declared.event.Event.{Event};
-ghost use Rattle.component_trait.specs.Fold.{fold_from};
+ghost use Rattle.component_trait.specs.Bounds.{IsBounded};
+ghost use Rattle.component_trait.specs.Fold.{fold_from, fold_of};
 ghost use Rattle.component_trait.specs.Rows.{AreWorked};
-ghost use Rattle.component_trait.specs.States.{NodeState};
+ghost use Rattle.component_trait.specs.States.{Kept, NodeState};
 ghost use Rattle.component_trait.specs.Tables.{next_of};
 ghost use Rattle.component_trait.specs.declared.next.Ask.{Ask};
 ghost use Rattle.component_trait.specs.declared.next.Next.TheVariants as next;
@@ -19,6 +20,12 @@ pub fn services_are_bounded()
     ensures asks { (k : Kind) (a v r : ℕ) (answers : List ℕ) (x : Ask) → next_of k a v r answers ≡ next.Ask x → length answers < calls_of k 0 }
     ensures depend { (k : Kind) (a v r : ℕ) (answers : List ℕ) (x : Ask) → next_of k a v r answers ≡ next.Ask x → depends_on k 0 x.require ≡ true }
     ensures mores { (k : Kind) (a v r : ℕ) (answers : List ℕ) (m : ℕ) → next_of k a v r answers ≡ next.More m → length answers < mores_of k 0 }
+{}
+
+/// A law: after any log a service has no more answers than its kind makes calls, and no more further messages than its kind sends
+/// intermediate replies. A call that is missed has its answer too.
+pub fn logs_are_bounded()
+    ensures { (k : Kind) (arg first : ℕ) (kept : Kept) (es : List Event) (s : NodeState) → fold_of k arg first kept es ≡ Some s → IsBounded s }
 {}
 
 /// A law: events lead a node to a state of the same kind and argument.

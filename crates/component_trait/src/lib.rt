@@ -10,7 +10,9 @@ mod serving;
 
 pub use component::Component;
 pub use following::follow;
-pub use laws::{folds_keep_kind_and_argument, logs_evaluate, services_are_bounded};
+pub use laws::{
+    folds_keep_kind_and_argument, logs_are_bounded, logs_evaluate, services_are_bounded,
+};
 pub use next::{Ask, Next};
 pub use serving::{Serving, hand, wait, waits};
 

@@ -2,3 +2,5 @@ pub mod Seats
 pub mod Moves
 pub mod Answers
 pub mod Noting
+pub mod Core
+pub mod Looks

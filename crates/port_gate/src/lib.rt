@@ -2,9 +2,13 @@
 #![tactic(auto)]
 
 mod answers;
+mod core_gate;
 mod gate;
+mod laws;
 mod noting;
 
 pub use answers::{BeginAnswer, CallAnswer, HearAnswer, SeeAnswer, TakeAnswer};
+pub use core_gate::{CoreGate, CoreSeat};
 pub use gate::{GateSeat, PortGate};
+pub use laws::seats_of_live_nodes_fit;
 pub use noting::{note, note_seen, unknown};

@@ -1,0 +1,3 @@
+mod CoreLemmas
+mod Allowed
+pub mod SeatLaws

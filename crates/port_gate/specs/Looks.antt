@@ -1,0 +1,12 @@
+-- What an owner sees in the word of its port, which isn't idle.
+use Rattle.std.specs.Prelude.{◌≡◌, true}
+use Rattle.gate_word.specs.Phases.{is_answered, is_asked, is_in_more}
+use Rattle.gate_word.specs.Words.{pack}
+use Rattle.gate_word.specs.declared.word.Word.{Word}
+use Rattle.port_gate.specs.declared.answers.SeeAnswer.{SeeAnswer}
+use Rattle.port_gate.specs.declared.answers.SeeAnswer.TheVariants.{Answer, More, NotYet}
+
+abbrev pub Shows : Word → SeeAnswer → Type 0
+Shows w (Answer v) = (is_answered w.phase ≡ true) × (v ≡ w.value)
+Shows w (More v) = (is_in_more w.phase ≡ true) × (v ≡ w.value)
+Shows w (NotYet k) = (is_asked w.phase ≡ true) × (k ≡ pack w)
