@@ -23,3 +23,4 @@ pub mod Listed
 pub mod SameWiring
 pub mod Alters
 pub mod Sources
+pub mod Worked

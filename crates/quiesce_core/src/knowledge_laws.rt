@@ -1,6 +1,6 @@
 //! Laws of what a node knows of itself.
 
-ghost use Rattle.std.specs.Prelude.{◌≡◌, ◌↔◌, ℕ, ◌+◌, ◌<◌, true, false, List, length, Option, Some, None, nat_lt, slice_get};
+ghost use Rattle.std.specs.Prelude.{◌≡◌, ◌↔◌, ℕ, ◌+◌, ◌<◌, true, false, IsTrue, List, [], ◌∷◌, ◌++◌, length, Option, Some, None, nat_lt, slice_get};
 ghost use Rattle.config_graph.specs.Kinds.{row, calls_of, depends_on, mores_of};
 ghost use Rattle.config_graph.specs.declared.node.Node.{Node};
 ghost use Rattle.quiesce_core.specs.declared.event.Event.{Event};
@@ -9,12 +9,13 @@ ghost use Rattle.quiesce_core.specs.declared.known.Known.{Known};
 ghost use Rattle.quiesce_core.specs.declared.known.PortKnown.{PortKnown};
 ghost use Rattle.quiesce_core.specs.declared.known.Served.{Served};
 ghost use Rattle.quiesce_core.specs.declared.state.Slot.{Slot};
-ghost use Rattle.quiesce_core.specs.Knowledge.{IsKnown, Knows, KnowsItsService, known_after, known_next, own_port_after, served_after, nothing_known};
+ghost use Rattle.quiesce_core.specs.Knowledge.{IsKnown, Knows, KnowsItsService, known_after, known_next, own_port_after, port_at_start, served_after, nothing_known};
 ghost use Rattle.quiesce_core.specs.Rules.{calls_have_ended, has_calls_left, has_mores_left, is_taken, serves_through, was_heard};
-ghost use Rattle.quiesce_core.specs.Runs.{IsRun, Step, done_by, is_doer, state_after};
-ghost use Rattle.quiesce_core.specs.State.{State, service, target_service};
+ghost use Rattle.quiesce_core.specs.Runs.{IsRun, Step, can_run, done_by, is_doer, state_after};
+ghost use Rattle.quiesce_core.specs.State.{State, empty, service, target_service};
 ghost use Rattle.quiesce_core.specs.Traffic.{IsConsistent};
 ghost use Rattle.quiesce_core.specs.WellFormed.{IsWellFormed};
+ghost use Rattle.quiesce_core.specs.Worked.{its_answer, further_message, consequent_call};
 
 /// In every run a node's own events tell it exactly what the state has of it: what it services, and how far each of its ports has
 /// come.
@@ -69,4 +70,27 @@ pub fn nodes_judge_rules()
     ensures ended { (s : State) (n : ℕ) (m : Slot) (k : Known) (u : Served) → KnowsItsService s n m k u
         → (calls_have_ended s u.port ≡ true) ↔ ((r : ℕ) (x : PortKnown) → r < length (row m.node.kind).requires_
         → slice_get k.ports r ≡ Some x → x.consequent ≡ false) }
+{}
+
+/// Two worked runs, and what their nodes know: of a message heard, of an answer, and of a call.
+pub fn worked_runs()
+    ensures again { IsTrue (can_run empty (further_message ++ its_answer)) }
+    ensures on { IsTrue (can_run empty consequent_call) }
+    ensures asking { known_after 0 (done_by 0 further_message) ≡ record {
+      service = None;
+      ports = record { idle = false; serial = 1; consequent = false; seen = None; more = false } ∷ port_at_start ∷ [];
+    } }
+    ensures adding { known_after 1 (done_by 1 further_message) ≡ record {
+      service = Some (record { port = 0; serial = 1; value = 6; calls = 0; mores = 1; heard = true });
+      ports = port_at_start ∷ port_at_start ∷ [];
+    } }
+    ensures ended { known_after 0 (done_by 0 (further_message ++ its_answer)) ≡ record {
+      service = None;
+      ports = record { idle = true; serial = 1; consequent = false; seen = None; more = false } ∷ port_at_start ∷ [];
+    } }
+    ensures answers { known_after 1 (done_by 1 (further_message ++ its_answer)) ≡ nothing_known }
+    ensures calling { known_after 1 (done_by 1 consequent_call) ≡ record {
+      service = Some (record { port = 0; serial = 1; value = 1; calls = 1; mores = 0; heard = true });
+      ports = record { idle = false; serial = 1; consequent = true; seen = None; more = false } ∷ port_at_start ∷ [];
+    } }
 {}

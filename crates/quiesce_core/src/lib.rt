@@ -31,7 +31,9 @@ pub use configuration_laws::{
 };
 pub use error::CoreError;
 pub use event::Event;
-pub use knowledge_laws::{logs_tell, nodes_judge_rules, nodes_know, steps_keep_what_is_known};
+pub use knowledge_laws::{
+    logs_tell, nodes_judge_rules, nodes_know, steps_keep_what_is_known, worked_runs,
+};
 pub use known::{Known, PortKnown, Served};
 pub use laws::{
     a_started_system_has_its_graph, cycles_are_found, cycles_are_those_of_the_graph,
