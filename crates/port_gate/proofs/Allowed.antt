@@ -165,10 +165,7 @@ module _ (s : State) (wf : IsWellFormed s) (con : IsConsistent s) (n : ℕ) (w :
 
     calls_ended : HasEndedCalls w → calls_have_ended s u.port ≡ true
     calls_ended ended =
-        (judged_ended s wf con n m (made_slot s wf con n w fits).1 w (known_there s wf con n w fits) u is).1
-        (λ q o.
-        let own = own_from s wf con n w fits q o in
-        sym (own_known s wf con n w fits q own).consequent ∙ ended (q - (node_at s.config n).first) (port_known (node_at s.config n) w q) (own_at s wf con n w fits q own))
+        (judged_ended s wf con n m (made_slot s wf con n w fits).1 w (known_there s wf con n w fits) u is).1 (λ r x _ at. ended r x at)
 
     mores_left : has_mores_left (node_at s.config n).kind w ≡ true → rules.has_mores_left s u.port ≡ true
     mores_left h =
@@ -444,6 +441,7 @@ module _ (s : State) (wf : IsWellFormed s) (con : IsConsistent s) (n : ℕ) (w :
         live = fits.live;
         known =
             record {
+              two_ports = length-set w.ports i (seen_by answer x) ∙ fits.two;
               service = fits.known.service;
               ports = λ r k at o.
                   elim (slice_get-set_cases w.ports i (seen_by answer x) r k at) [

@@ -8,7 +8,7 @@ use Rattle.config_graph.proofs.KindLaws.{two_requires}
 use Rattle.gate_word.specs.Phases.{is_idle}
 use Rattle.quiesce_core.specs.Effect.{change_next, effect}
 use Rattle.quiesce_core.specs.Doers.{is_of_change}
-use Rattle.quiesce_core.specs.Knowledge.{IsKnown, IsPortKnown, known_next, ports_known_next, unknown_port}
+use Rattle.quiesce_core.specs.Knowledge.{IsKnown, IsPortKnown, known_next, ports_known_next, port_at_start}
 use Rattle.quiesce_core.specs.Legal.{Legal}
 use Rattle.quiesce_core.specs.Reach.{IsPortOf}
 use Rattle.quiesce_core.specs.Rules.{is_live_port}
@@ -106,7 +106,7 @@ module _ (s : State) (wf : IsWellFormed s) (con : IsConsistent s) where
         let f : ℕ = (node_at s.config n).first in
         let there : f + (p - f) ≡ p = omega (arith, own.from) in
         let few : p - f < length w.ports = omega (arith, own.from, own.below, two_requires (node_at s.config n).kind, fits.two) in
-        let at : slice_get w.ports (p - f) ≡ Some (port_known (node_at s.config n) w p) = slice_get-get_or w.ports (p - f) unknown_port few in
+        let at : slice_get w.ports (p - f) ≡ Some (port_known (node_at s.config n) w p) = slice_get-get_or w.ports (p - f) port_at_start few in
         subst (λ q. IsPortKnown s q (port_known (node_at s.config n) w p)) there
         (fits.known.ports (p - f) (port_known (node_at s.config n) w p) at (subst (λ q. IsPortOf s.config n q) (sym there) (own_port p own)))
 
@@ -138,7 +138,7 @@ module _ (s : State) (wf : IsWellFormed s) (con : IsConsistent s) where
 
     pub own_at : (p : ℕ) → IsOwn (node_at s.config n) p → slice_get w.ports (p - (node_at s.config n).first) ≡ Some (port_known (node_at s.config n) w p)
     own_at p own =
-        slice_get-get_or w.ports (p - (node_at s.config n).first) unknown_port
+        slice_get-get_or w.ports (p - (node_at s.config n).first) port_at_start
         (omega (arith, own.from, own.below, two_requires (node_at s.config n).kind, fits.two))
 
     pub own_from : (p : ℕ) → IsPortOf s.config n p → IsOwn (node_at s.config n) p

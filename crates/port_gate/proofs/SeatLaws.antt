@@ -8,7 +8,7 @@ use Rattle.config_graph.specs.Kinds.{row}
 use Rattle.config_graph.specs.declared.TheConstants.{MAX_NODES, MAX_PORTS}
 use Rattle.config_graph.specs.declared.node.Node.{Node}
 use Rattle.quiesce_core.specs.Effect.{effect}
-use Rattle.quiesce_core.specs.Knowledge.{IsKnown, unknown}
+use Rattle.quiesce_core.specs.Knowledge.{IsKnown, nothing_known}
 use Rattle.quiesce_core.specs.Legal.{Legal}
 use Rattle.quiesce_core.specs.Runs.{Step, is_doer}
 use Rattle.quiesce_core.specs.State.{State, is_live, slot}
@@ -54,7 +54,7 @@ seats_stay s t e n w wf con step other live fits =
     subst (λ (u : State). FitsCore u n w) (sym step.changed)
     (seats_stay_by s e n w wf con (legal s e step.allowed) other (subst (λ (u : State). is_live u.config n ≡ true) step.changed live) fits)
 
-new_seat : (s : State) (n : ℕ) (node : Node) (from : Option ℕ) → IsWellFormed s → Legal s (Make n node from) → FitsCore (effect s (Make n node from)) n unknown
+new_seat : (s : State) (n : ℕ) (node : Node) (from : Option ℕ) → IsWellFormed s → Legal s (Make n node from) → FitsCore (effect s (Make n node from)) n nothing_known
 new_seat s n node from wf l =
     let room = and_parts (n == length s.config.slots && nat_lt n MAX_NODES) (nat_le (length s.config.gates + length (row node.kind).requires_) MAX_PORTS) l.room in
     let next = and_parts (n == length s.config.slots) (nat_lt n MAX_NODES) room.0 in
@@ -64,12 +64,12 @@ new_seat s n node from wf l =
     let is : node_at (effect s (Make n node from)).config n ≡ record { slot = n; kind = node.kind; first = length s.config.gates } = ap (node_in n) there in
     record {
       live = ap (λ o. option_map_or (λ (m : Slot). m.live) o false) there;
-      known = subst (λ (x : NodeAt). IsKnown (effect s (Make n node from)) n x.first unknown) (sym is) (new_nodes_know_nothing s n node from wf l);
+      known = subst (λ (x : NodeAt). IsKnown (effect s (Make n node from)) n x.first nothing_known) (sym is) (new_nodes_know_nothing s n node from wf l);
       two = refl;
       within =
           subst (λ (x : NodeAt). IsWithinLimits x) (sym is)
           (record { slot_within = ltb-true n MAX_NODES next.1; ports_within = leb-true (length s.config.gates + length (row node.kind).requires_) MAX_PORTS room.1 });
     }
 
-pub new_seats_fit : (s t : State) (n : ℕ) (node : Node) (from : Option ℕ) → IsWellFormed s → Step s (Make n node from) t → FitsCore t n unknown
-new_seats_fit s t n node from wf step = subst (λ (u : State). FitsCore u n unknown) (sym step.changed) (new_seat s n node from wf (legal s (Make n node from) step.allowed))
+pub new_seats_fit : (s t : State) (n : ℕ) (node : Node) (from : Option ℕ) → IsWellFormed s → Step s (Make n node from) t → FitsCore t n nothing_known
+new_seats_fit s t n node from wf step = subst (λ (u : State). FitsCore u n nothing_known) (sym step.changed) (new_seat s n node from wf (legal s (Make n node from) step.allowed))

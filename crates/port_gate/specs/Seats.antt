@@ -4,7 +4,7 @@ use Rattle.std.specs.Option.{option_map_or}
 use Rattle.config_graph.specs.Kinds.{row, calls_of, depends_on, mores_of}
 use Rattle.config_graph.specs.declared.TheConstants.{MAX_NODES, MAX_PORTS}
 use Rattle.config_graph.specs.declared.kind.Kind.{Kind}
-use Rattle.quiesce_core.specs.Knowledge.{unknown_port}
+use Rattle.quiesce_core.specs.Knowledge.{port_at_start}
 use Rattle.quiesce_core.specs.Rules.{value_limit}
 use Rattle.quiesce_core.specs.declared.known.Known.{Known}
 use Rattle.quiesce_core.specs.declared.known.PortKnown.{PortKnown}
@@ -27,7 +27,7 @@ pub record IsOwn (n : NodeAt) (p : ℕ) : Type 0 where
 
 -- what is known of a port of its own
 abbrev pub port_known : NodeAt → Known → ℕ → PortKnown
-port_known n w p = slice_index_or w.ports (p - n.first) unknown_port
+port_known n w p = slice_index_or w.ports (p - n.first) port_at_start
 
 -- whether it services the port, and whether the last message of its service was heard; nothing holds where it services nothing
 abbrev pub serves : Known → ℕ → Bool

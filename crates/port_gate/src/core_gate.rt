@@ -41,7 +41,7 @@ impl CoreSeat {
     /// The seat of a node that has done nothing.
     pub fn new(slot: u32) -> CoreSeat
         ensures slot { result.slot ≡ slot }
-        ensures known { result.known ≡ knowledge.unknown }
+        ensures known { result.known ≡ knowledge.nothing_known }
     {
         CoreSeat {
             slot,
@@ -62,7 +62,7 @@ impl CoreSeat {
     /// What is known of the port of this requirement.
     fn port_known(&self, require: u32) -> PortKnown
         requires { require < 2 }
-        ensures { result ≡ slice_index_or self.now.known.ports require knowledge.unknown_port }
+        ensures { result ≡ slice_index_or self.now.known.ports require knowledge.port_at_start }
     {
         self.known.ports[require as usize]
     }

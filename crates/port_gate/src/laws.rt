@@ -3,7 +3,7 @@
 ghost use Rattle.std.specs.Prelude.{◌≡◌, ℕ, Option, true, false};
 ghost use Rattle.config_graph.specs.declared.node.Node.{Node};
 ghost use Rattle.port_gate.specs.Core.{FitsCore};
-ghost use Rattle.quiesce_core.specs.Knowledge.{unknown};
+ghost use Rattle.quiesce_core.specs.Knowledge.{nothing_known};
 ghost use Rattle.quiesce_core.specs.Runs.{Step, is_doer};
 ghost use Rattle.quiesce_core.specs.State.{State, is_live};
 ghost use Rattle.quiesce_core.specs.Traffic.{IsConsistent};
@@ -15,6 +15,6 @@ ghost use Rattle.quiesce_core.specs.declared.known.Known.{Known};
 /// A law: a seat with the knowledge of no events fits the node that was just made, and a seat that fits goes on fitting through all
 /// that its node doesn't do, a change's events among it, as long as the node is live.
 pub fn seats_of_live_nodes_fit()
-    ensures new { (s t : State) (n : ℕ) (node : Node) (from : Option ℕ) → IsWellFormed s → Step s (Make n node from) t → FitsCore t n unknown }
+    ensures new { (s t : State) (n : ℕ) (node : Node) (from : Option ℕ) → IsWellFormed s → Step s (Make n node from) t → FitsCore t n nothing_known }
     ensures others { (s t : State) (e : Event) (n : ℕ) (w : Known) → IsWellFormed s → IsConsistent s → Step s e t → is_doer s n e ≡ false → is_live t.config n ≡ true → FitsCore s n w → FitsCore t n w }
 {}

@@ -10,7 +10,7 @@ use quiesce_core::{Event, Known, PortKnown, Served};
 
 /// What a node knows before its first event.
 pub fn unknown() -> Known
-    ensures { result ≡ knowledge.unknown }
+    ensures { result ≡ knowledge.nothing_known }
 {
     let port = PortKnown {
         idle: true,

@@ -1,6 +1,6 @@
 use Rattle.std.proofs.Common.{◌∙◌, ◌-◌, ap, get_or, subst, sym}
 use Rattle.std.specs.Prelude.{slice_set}
-use Rattle.quiesce_core.specs.Knowledge.{unknown_port}
+use Rattle.quiesce_core.specs.Knowledge.{port_at_start}
 use Rattle.quiesce_core.specs.declared.known.PortKnown.{PortKnown}
 use Rattle.port_gate.specs.Core.{FitsCore}
 use Rattle.port_gate.specs.Moves.{seen_by}
@@ -12,6 +12,6 @@ returns-clause-fits c =
     let seen = c.note_seen.ensures ∙ ap (seen_by c.look-answer.result) c.port_known-known.ensures in
     subst (λ (x : PortKnown). FitsCore c.args.self.now.core.state c.args.seat.now.slot (record { service = c.args.seat.now.known.service; ports = slice_set c.args.seat.now.known.ports (c.args.port - c.first_port.result) x })) (sym seen)
     (subst
-    (λ first. FitsCore c.args.self.now.core.state c.args.seat.now.slot (record { service = c.args.seat.now.known.service; ports = slice_set c.args.seat.now.known.ports (c.args.port - first) (seen_by c.look-answer.result (get_or c.args.seat.now.known.ports (c.args.port - first) unknown_port)) }))
+    (λ first. FitsCore c.args.self.now.core.state c.args.seat.now.slot (record { service = c.args.seat.now.known.service; ports = slice_set c.args.seat.now.known.ports (c.args.port - first) (seen_by c.look-answer.result (get_or c.args.seat.now.known.ports (c.args.port - first) port_at_start)) }))
     (sym c.first_port.ensures.first)
     (fits_seen c.args.self.now.core.state c.holds.ensures.well_formed c.holds.ensures.consistent c.args.seat.now.slot c.args.seat.now.known c.requires.fits c.args.port c.fields-word.result c.look-answer.result c.fields-word.ensures.fields c.requires.may c.look-answer.ensures))
