@@ -9,6 +9,8 @@ mod laws;
 mod lines;
 mod numbers;
 mod paths;
+mod report;
+mod report_writing;
 mod tokens;
 mod verbs;
 
@@ -19,3 +21,5 @@ pub use laws::{
     a_written_line_means_its_event, names_are_those_of_the_language, one_file_or_one_fault,
     words_are_longest,
 };
+pub use report::{HistoryLine, Last, NodeLog, Report};
+pub use report_writing::report_text;
