@@ -3,3 +3,4 @@ pub mod LineLemmas
 pub mod NameLemmas
 pub mod EventFileLaws
 pub mod WritingLemmas
+pub mod ReportTextLemmas

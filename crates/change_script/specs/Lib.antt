@@ -7,3 +7,5 @@ pub mod EventLines
 pub mod EventFiles
 pub mod Reading
 pub mod Writing
+pub mod Reports
+pub mod MadeNodes

@@ -10,6 +10,7 @@ mod lines;
 mod numbers;
 mod paths;
 mod report;
+mod report_writing;
 mod tokens;
 mod verbs;
 
@@ -21,3 +22,4 @@ pub use laws::{
     words_are_longest,
 };
 pub use report::{HistoryLine, Last, NodeLog, Report};
+pub use report_writing::report_text;

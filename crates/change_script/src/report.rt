@@ -20,36 +20,70 @@ pub struct Report {
 #[derive(Debug, Drop)]
 pub enum HistoryLine {
     /// A start begins: the component and its arguments.
-    Start { name: Text, args: List<i32> },
+    Start {
+        name: Text,
+        args: List<i32>,
+    },
     /// A change begins: the component and its arguments.
-    Change { name: Text, args: List<i32> },
+    Change {
+        name: Text,
+        args: List<i32>,
+    },
     /// A node comes to be, and takes over the state of the node in slot `from` where there is one.
     Make {
         slot: u32,
         node: Node,
         from: Option<u32>,
     },
-    Link { port: u32, node: u32, provide: u32 },
-    Unlink { port: u32 },
-    Remove { node: u32 },
-    Close { port: u32 },
-    Reopen { port: u32 },
+    Link {
+        port: u32,
+        node: u32,
+        provide: u32,
+    },
+    Unlink {
+        port: u32,
+    },
+    Remove {
+        node: u32,
+    },
+    Close {
+        port: u32,
+    },
+    Reopen {
+        port: u32,
+    },
     /// A look found the port drained: no transaction of this serial is open there.
-    Drained { port: u32, serial: u32 },
+    Drained {
+        port: u32,
+        serial: u32,
+    },
     Commit,
     Abandon,
     /// A change wasn't tried, since one before it was abandoned.
     Skipped,
     /// After so many rounds a port still wasn't drained.
-    Pending { rounds: u32 },
+    Pending {
+        rounds: u32,
+    },
     /// A root that the last look before `Abandon` saw: the port's open transaction of this serial.
-    Root { port: u32, serial: u32 },
+    Root {
+        port: u32,
+        serial: u32,
+    },
     /// A run of at least `k` transactions ended so many.
-    Run { k: u32, ended: u64 },
+    Run {
+        k: u32,
+        ended: u64,
+    },
     /// A finish of at most `n` rounds took so many.
-    Finish { n: u32, rounds: u32 },
+    Finish {
+        n: u32,
+        rounds: u32,
+    },
     /// The graph of the nodes and links at this place.
-    Show { graph: Graph },
+    Show {
+        graph: Graph,
+    },
     /// The stop begins.
     Stop,
 }
