@@ -17,8 +17,8 @@ is_advance (Ask p k v) = true
 is_advance (Hear p k v) = true
 is_advance _ = false
 
--- whether it brings an open transaction nearer to its end, whatever its node's kind asks for next: how many calls,
--- misses and intermediate replies a service makes is the kind's to choose
+-- whether it brings an open transaction nearer to its end and is neither a call, a miss nor an intermediate reply: how
+-- many of these a service makes is its kind's to choose
 abbrev pub is_onward : Event → Bool
 is_onward (Take p k v) = true
 is_onward (Give p k v) = true

@@ -164,7 +164,9 @@ fn ladder(rt: &impl Abort, alloc: Global, places: u8) -> Result<Core, Fail> {
 fn a_ladder_is_searched_once(rt: HostRuntime) -> Result<(), Fail> {
     let mut core = ladder(&rt, rt.alloc(), 60)?;
     makes(&rt, rt.alloc(), &mut core, 61, Kind::Map, Some(0))?;
-    if core.is_live(61) {
+    let is_live = core.is_live(61);
+    assert!(rt; is_live);
+    if is_live {
         assert!(rt; core.settled(61));
     }
     let above = Event::Link {
