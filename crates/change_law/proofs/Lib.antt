@@ -1,0 +1,3 @@
+pub mod MemberLaws
+pub mod RunningLaws
+mod StopLemmas
