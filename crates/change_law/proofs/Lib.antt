@@ -1,3 +1,6 @@
+mod Checking
 pub mod MemberLaws
 pub mod RunningLaws
+mod RowLemmas
+mod SoundLemmas
 mod StopLemmas

@@ -1,0 +1,101 @@
+-- Worked reports, on which the definitions are evaluated: one sink that is started and shown; a source of three items that leads through
+-- a map that adds ten to a sink.
+use Rattle.std.specs.Prelude.{ℕ, ◌+◌, List, [], ◌∷◌, ◌++◌, codes, flat_map, map, Some, None}
+use Rattle.config_graph.specs.Graph.{Graph}
+use Rattle.config_graph.specs.declared.kind.Kind.TheVariants as kind
+use Rattle.config_graph.specs.declared.node.Link.{Link}
+use Rattle.config_graph.specs.declared.node.Node.{Node}
+use Rattle.quiesce_core.specs.declared.event.Event.{Event}
+use Rattle.quiesce_core.specs.declared.event.Event.TheVariants as event
+use Rattle.change_script.specs.declared.report.HistoryLine.{HistoryLine}
+use Rattle.change_script.specs.declared.report.HistoryLine.TheVariants as to
+use Rattle.change_script.specs.declared.report.Last.TheVariants as last
+use Rattle.change_script.specs.declared.report.Report.{Report}
+use Rattle.change_law.specs.Members.{Member, by_node, of_history}
+use Rattle.change_law.specs.Statements.{Statement, start, finish, show}
+
+abbrev pub sink_t : Node
+sink_t = record { path = codes "t"; kind = kind.Sink; arg = None }
+
+-- one sink, that is shown
+
+abbrev pub one : Graph
+one = record { nodes = sink_t ∷ []; links = [] }
+
+abbrev pub showing : List Statement
+showing = start (codes "One") [] one ∷ show ∷ []
+
+abbrev pub shown_history : List HistoryLine
+shown_history = to.Start (codes "One") [] ∷ to.Make 0 sink_t None ∷ to.Commit ∷ to.Show one ∷ to.Stop ∷ []
+
+abbrev pub shown : Report
+shown =
+    record {
+      history = shown_history;
+      logs = record { slot = 0; events = []; last = last.State [] } ∷ [];
+      unfinished = None;
+      status = 0;
+    }
+
+-- a line of three items
+
+abbrev pub map_m : ℕ → Node
+map_m k = record { path = codes "m"; kind = kind.Map; arg = Some k }
+
+abbrev pub source_s : Node
+source_s = record { path = codes "s"; kind = kind.Source; arg = Some 3 }
+
+abbrev pub m_to_t : Link
+m_to_t = record { from = 0; require = 0; to = 2; provide = 0 }
+
+abbrev pub s_to_m : Link
+s_to_m = record { from = 1; require = 0; to = 0; provide = 0 }
+
+abbrev pub line : ℕ → Graph
+line k = record { nodes = map_m k ∷ source_s ∷ sink_t ∷ []; links = m_to_t ∷ s_to_m ∷ [] }
+
+abbrev pub running : List Statement
+running = start (codes "Line") [] (line 10) ∷ finish 100 ∷ []
+
+abbrev pub line_starts : List HistoryLine
+line_starts =
+    to.Start (codes "Line") [] ∷ to.Make 0 (map_m 10) None ∷ to.Make 1 source_s None ∷ to.Make 2 sink_t None ∷ to.Link 0 2 0 ∷ to.Link 1 0 0
+    ∷ to.Reopen 0 ∷ to.Reopen 1 ∷ []
+
+abbrev pub line_stops : List HistoryLine
+line_stops = to.Stop ∷ to.Close 0 ∷ to.Close 1 ∷ to.Drained 0 3 ∷ to.Drained 1 3 ∷ []
+
+-- what each node does with item k
+abbrev pub of_map : ℕ → List Event
+of_map k = event.Take 1 k k ∷ event.Call 0 k (10 + k) ∷ event.End 0 k 1 ∷ event.Give 1 k 1 ∷ []
+
+abbrev pub of_source : ℕ → List Event
+of_source k = event.Begin 1 k k ∷ event.End 1 k 1 ∷ []
+
+abbrev pub of_sink : ℕ → List Event
+of_sink k = event.Take 0 k (10 + k) ∷ event.Give 0 k 1 ∷ []
+
+abbrev pub items : List ℕ
+items = 1 ∷ 2 ∷ 3 ∷ []
+
+abbrev pub ran : Report
+ran =
+    record {
+      history = line_starts ++ to.Commit ∷ to.Finish 100 18 ∷ line_stops;
+      logs =
+          record { slot = 0; events = flat_map of_map items; last = last.State [] }
+          ∷ record { slot = 1; events = flat_map of_source items; last = last.State (3 ∷ []) }
+          ∷ record { slot = 2; events = flat_map of_sink items; last = last.State (11 ∷ 12 ∷ 13 ∷ []) } ∷ [];
+      unfinished = None;
+      status = 0;
+    }
+
+-- an order in which all of it happened
+abbrev pub of_item : ℕ → List Event
+of_item k =
+    event.Begin 1 k k ∷ event.Take 1 k k ∷ event.Call 0 k (10 + k) ∷ event.Take 0 k (10 + k) ∷ event.Give 0 k 1 ∷ event.End 0 k 1
+    ∷ event.Give 1 k 1 ∷ event.End 1 k 1 ∷ []
+
+abbrev pub ran_so : List Member
+ran_so =
+    map of_history (line_starts ++ to.Commit ∷ []) ++ map by_node (flat_map of_item items) ++ map of_history (to.Finish 100 18 ∷ line_stops)

@@ -1,0 +1,15 @@
+//! Reports on which the definitions are evaluated.
+
+ghost use Rattle.std.specs.Prelude.{None};
+ghost use Rattle.change_law.specs.Lawful.{Lawful};
+ghost use Rattle.change_law.specs.Rows.{ran, running, showing, shown};
+
+/// One sink that is started and shown has this report.
+pub fn a_shown_sink_is_lawful()
+    ensures lawful { Lawful None showing shown }
+{}
+
+/// A source of three items that leads through a map to a sink comes to rest, and has this report.
+pub fn a_line_that_comes_to_rest_is_lawful()
+    ensures lawful { Lawful None running ran }
+{}
