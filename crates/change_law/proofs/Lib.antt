@@ -1,6 +1,8 @@
 mod Checking
 pub mod MemberLaws
+mod OneSerial
 pub mod RunningLaws
 mod RowLemmas
+mod SerialLemmas
 mod SoundLemmas
 mod StopLemmas

@@ -37,7 +37,7 @@ shown_runs : IsRun (events shown_so)
 unfolding reaches has_no_cycle
 shown_runs = run_if (events shown_so) refl
 
-one_graph : IsGraphOf (started one).config one
+pub one_graph : IsGraphOf (started one).config one
 one_graph = graph_started one (sound_by (λ n. n) one refl refl) (omega arith) (omega arith)
 
 shown_follows : Follows showing shown.history
@@ -95,7 +95,7 @@ rank zero = 1
 rank (suc zero) = 2
 rank (suc (suc n)) = 0
 
-line_graph : IsGraphOf (started (line 10)).config (line 10)
+pub line_graph : IsGraphOf (started (line 10)).config (line 10)
 line_graph = graph_started (line 10) (sound_by rank (line 10) refl refl) (omega arith) (omega arith)
 
 ran_follows : Follows running ran.history
