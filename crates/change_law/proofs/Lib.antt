@@ -6,3 +6,4 @@ mod RowLemmas
 mod SerialLemmas
 mod SoundLemmas
 mod StopLemmas
+mod WrongLemmas

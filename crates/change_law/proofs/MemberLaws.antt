@@ -4,7 +4,7 @@ use Rattle.std.specs.Prelude.{filter, filter_map, fold, not, All}
 use Rattle.std.specs.List.{cons_option, list_any}
 use Rattle.std.proofs.lemmas.Bool.{both_ways, or_left, or_right, or_parts}
 use Rattle.std.proofs.lemmas.List.{append-nil}
-use Rattle.std.proofs.lemmas.List.Elements.{All-head, All-tail, filter_map-append}
+use Rattle.std.proofs.lemmas.List.Elements.{All-cons, All-head, All-nil, All-tail, filter_map-append}
 use Rattle.base.specs.Each.{EachAfter}
 use Rattle.base.proofs.PlaceLaws.{heads_are, tails_are}
 use Rattle.quiesce_core.specs.declared.event.Event.{Event}
@@ -25,6 +25,11 @@ each_if P before (x ∷ xs) h = (
   subst (λ ys. P ys x) (append-nil before) (h [] xs x refl),
   each_if P (before ++ x ∷ []) xs (λ ys zs y e. subst (λ us. P us y) (sym (append_assoc before (x ∷ []) ys)) (h (x ∷ ys) zs y (ap (λ us. x ∷ us) e))),
 )
+
+-- what all of a list that is put together have
+pub all_parts : {A : Type 0} (P : A → Type 0) (xs ys : List A) → All P (xs ++ ys) → All P xs × All P ys
+all_parts P [] ys h = (All-nil P, h)
+all_parts P (x ∷ xs) ys h = let w = all_parts P xs ys (All-tail P x (xs ++ ys) h) in (All-cons P x xs (All-head P x (xs ++ ys) h) w.0, w.1)
 
 pub events_parts : (m k : List Member) → events (m ++ k) ≡ events m ++ events k
 events_parts m k = filter_map-append event_in m k
@@ -122,3 +127,27 @@ drop_root l all left false h rest = ap (cons_option (event_of l)) rest
 pub events_without_roots : (history : List HistoryLine) → filter_map event_of (without_roots history) ≡ filter_map event_of history
 events_without_roots [] = refl
 events_without_roots (l ∷ history) = drop_root l history (without_roots history) (is_root l) refl (events_without_roots history)
+
+-- the place of a line, by the lines before it
+pub record AtLine (m : List Member) (a : List HistoryLine) (l : HistoryLine) : Type 0 where
+  pub before : List Member
+  pub after : List Member
+  pub parts : m ≡ before ++ of_history l ∷ after
+  pub lines_before : lines before ≡ a
+
+pub at_line : (m : List Member) (a : List HistoryLine) (l : HistoryLine) (b : List HistoryLine) → lines m ≡ a ++ l ∷ b → AtLine m a l
+at_line [] [] l b h = absurd (cc h)
+at_line [] (y ∷ a) l b h = absurd (cc h)
+at_line (by_node e ∷ m) a l b h =
+    let w = at_line m a l b h in
+    record { before = by_node e ∷ w.before; after = w.after; parts = ap (λ k. by_node e ∷ k) w.parts; lines_before = w.lines_before }
+at_line (of_history x ∷ m) [] l b h =
+    record { before = []; after = m; parts = ap (λ y. of_history y ∷ m) (heads_are x l (lines m) b h); lines_before = refl }
+at_line (of_history x ∷ m) (y ∷ a) l b h =
+    let w = at_line m a l b (tails_are x y (lines m) (a ++ l ∷ b) h) in
+    record {
+      before = of_history x ∷ w.before;
+      after = w.after;
+      parts = ap (λ k. of_history x ∷ k) w.parts;
+      lines_before = ap (λ z. z ∷ lines w.before) (heads_are x y (lines m) (a ++ l ∷ b) h) ∙ ap (λ zs. y ∷ zs) w.lines_before;
+    }

@@ -3,7 +3,7 @@ use Rattle.std.proofs.Common.{◌≡◌, ◌∙◌, ℕ, ◌+◌, ◌≤◌, ◌
 use Rattle.std.specs.Prelude.{◌==◌, filter, filter_map, All, IsTrue}
 use Rattle.std.specs.List.{count_by, list_any, range_with_len}
 use Rattle.std.proofs.lemmas.Bool.{and_from, both_ways, eq-eqb, eqb-true, or_parts, or_right}
-use Rattle.std.proofs.lemmas.List.Elements.{All-cons, All-head, All-nil, All-tail, filter-append}
+use Rattle.std.proofs.lemmas.List.Elements.{filter-append}
 use Rattle.std.proofs.lemmas.List.Folds.{list_any-append}
 use Rattle.std.proofs.lemmas.List.Sums.{sum_by-cons}
 use Rattle.base.specs.Each.{Each}
@@ -33,7 +33,7 @@ use Rattle.change_law.specs.Lawful.{IsDrainedAt, IsOfItsKind, Merge}
 use Rattle.change_law.specs.Members.{Member, of_history, event_of, events, is_root, lines, state_at, without_roots}
 use Rattle.change_law.specs.Scene.{AreSeen, Seen, config_after, drained_line, live_ports}
 use Rattle.change_law.specs.Statements.{Statement}
-use Rattle.change_law.proofs.MemberLaws.{LineIn, Split, config_of_lines, events_parts, events_without_roots, line_there, none_happens, split}
+use Rattle.change_law.proofs.MemberLaws.{all_parts, LineIn, Split, config_of_lines, events_parts, events_without_roots, line_there, none_happens, split}
 
 -- counts of those that pass a test
 
@@ -136,10 +136,6 @@ is_sighting p _ = false
 sighted : (p : ℕ) (before : List Member) (l : HistoryLine) → is_sighting p l ≡ true → IsDrainedAt before (of_history l) → is_drained (state_at before) p ≡ true
 sighted p before (to.Drained q k) h d = subst (λ r. is_drained (state_at before) r ≡ true) (eqb-true q p h) d.0
 sighted p before _ h d = absurd (both_ways false refl h)
-
-all_parts : {A : Type 0} (P : A → Type 0) (xs ys : List A) → All P (xs ++ ys) → All P xs × All P ys
-all_parts P [] ys h = (All-nil P, h)
-all_parts P (x ∷ xs) ys h = let w = all_parts P xs ys (All-tail P x (xs ++ ys) h) in (All-cons P x xs (All-head P x (xs ++ ys) h) w.0, w.1)
 
 module _ (m : List Member) (before stop : List HistoryLine) (run : IsRun (events m)) (kinds : All IsOfItsKind m) (drained : Each IsDrainedAt m) (is : IsStop before stop)
     (are : lines m ≡ without_roots (before ++ stop)) where

@@ -1,6 +1,6 @@
 -- Worked reports, on which the definitions are evaluated: one sink that is started and shown; a source of three items that leads through
 -- a map that adds ten to a sink.
-use Rattle.std.specs.Prelude.{ℕ, ◌+◌, List, [], ◌∷◌, ◌++◌, codes, flat_map, map, Some, None}
+use Rattle.std.specs.Prelude.{ℕ, ◌+◌, List, [], ◌∷◌, ◌++◌, codes, flat_map, map, Option, Some, None}
 use Rattle.config_graph.specs.Graph.{Graph}
 use Rattle.config_graph.specs.declared.kind.Kind.TheVariants as kind
 use Rattle.config_graph.specs.declared.node.Link.{Link}
@@ -99,3 +99,47 @@ of_item k =
 abbrev pub ran_so : List Member
 ran_so =
     map of_history (line_starts ++ to.Commit ∷ []) ++ map by_node (flat_map of_item items) ++ map of_history (to.Finish 100 18 ∷ line_stops)
+
+-- a source that leads nowhere: it begins nothing, and is never done
+
+abbrev pub source_2 : Node
+source_2 = record { path = codes "s"; kind = kind.Source; arg = Some 2 }
+
+abbrev pub lone : Graph
+lone = record { nodes = source_2 ∷ []; links = [] }
+
+abbrev pub waiting : List Statement
+waiting = start (codes "Lone") [] lone ∷ finish 5 ∷ []
+
+abbrev pub lone_starts : List HistoryLine
+lone_starts = to.Start (codes "Lone") [] ∷ to.Make 0 source_2 None ∷ to.Reopen 0 ∷ to.Commit ∷ []
+
+abbrev pub lone_stops : List HistoryLine
+lone_stops = to.Stop ∷ to.Close 0 ∷ to.Drained 0 0 ∷ []
+
+-- a report of it in which the finish took so many rounds
+abbrev pub waited : ℕ → Option ℕ → ℕ → Report
+waited rounds unfinished status =
+    record {
+      history = lone_starts ++ to.Finish 5 rounds ∷ lone_stops;
+      logs = record { slot = 0; events = []; last = last.State (0 ∷ []) } ∷ [];
+      unfinished = unfinished;
+      status = status;
+    }
+
+-- Wrong reports.
+
+-- the port isn't reopened
+abbrev pub never_reopened : List HistoryLine
+never_reopened = to.Start (codes "Lone") [] ∷ to.Make 0 source_2 None ∷ to.Commit ∷ lone_stops
+
+-- port 0 wasn't found drained
+abbrev pub unseen : List HistoryLine
+unseen = line_starts ++ to.Commit ∷ to.Finish 100 18 ∷ to.Stop ∷ to.Close 0 ∷ to.Close 1 ∷ to.Drained 1 3 ∷ []
+
+-- another graph is shown
+abbrev pub two : Graph
+two = record { nodes = sink_t ∷ record { path = codes "u"; kind = kind.Sink; arg = None } ∷ []; links = [] }
+
+abbrev pub shown_wrongly : Report
+shown_wrongly = record shown { history = to.Start (codes "One") [] ∷ to.Make 0 sink_t None ∷ to.Commit ∷ to.Show two ∷ to.Stop ∷ [] }
