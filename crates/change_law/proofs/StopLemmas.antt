@@ -129,7 +129,7 @@ links_stay es more_ run h =
     es more_ run h (record { slots = refl; long = refl; owners = λ q. refl; requirements = λ q. refl; targets = λ q. refl })
 
 -- a line on which port p was found drained
-abbrev is_sighting : ℕ → HistoryLine → Bool
+abbrev pub is_sighting : ℕ → HistoryLine → Bool
 is_sighting p (to.Drained q k) = q == p
 is_sighting p _ = false
 

@@ -10,6 +10,7 @@ use Rattle.quiesce_core.specs.declared.event.Event.TheVariants as event
 use Rattle.change_script.specs.declared.report.HistoryLine.{HistoryLine}
 use Rattle.change_script.specs.declared.report.HistoryLine.TheVariants as to
 use Rattle.change_script.specs.declared.report.Last.TheVariants as last
+use Rattle.change_script.specs.declared.report.NodeLog.{NodeLog}
 use Rattle.change_script.specs.declared.report.Report.{Report}
 use Rattle.change_law.specs.Members.{Member, by_node, of_history}
 use Rattle.change_law.specs.Statements.{Statement, start, finish, show}
@@ -117,12 +118,15 @@ lone_starts = to.Start (codes "Lone") [] ∷ to.Make 0 source_2 None ∷ to.Reop
 abbrev pub lone_stops : List HistoryLine
 lone_stops = to.Stop ∷ to.Close 0 ∷ to.Drained 0 0 ∷ []
 
+abbrev pub silent : NodeLog
+silent = record { slot = 0; events = []; last = last.State (0 ∷ []) }
+
 -- a report of it in which the finish took so many rounds
 abbrev pub waited : ℕ → Option ℕ → ℕ → Report
 waited rounds unfinished status =
     record {
       history = lone_starts ++ to.Finish 5 rounds ∷ lone_stops;
-      logs = record { slot = 0; events = []; last = last.State (0 ∷ []) } ∷ [];
+      logs = silent ∷ [];
       unfinished = unfinished;
       status = status;
     }

@@ -1,11 +1,11 @@
 //! Reports on which the definitions are evaluated.
 
-ghost use Rattle.std.specs.Prelude.{List, [], ◌∷◌, None, codes};
+ghost use Rattle.std.specs.Prelude.{◌≡◌, List, [], ◌∷◌, None, Some, codes};
 ghost use Rattle.base.specs.Each.{Each};
 ghost use Rattle.change_law.specs.Follows.{Follows};
-ghost use Rattle.change_law.specs.Lawful.{IsGraphAt, Lawful, Merge};
-ghost use Rattle.change_law.specs.Members.{Member};
-ghost use Rattle.change_law.specs.Rows.{lone, never_reopened, ran, running, showing, shown, shown_wrongly};
+ghost use Rattle.change_law.specs.Lawful.{IsFinishAt, IsGraphAt, Lawful, Merge, unfinished_of};
+ghost use Rattle.change_law.specs.Members.{Member, events};
+ghost use Rattle.change_law.specs.Rows.{lone, never_reopened, ran, running, showing, shown, shown_wrongly, unseen, waited, waiting};
 ghost use Rattle.change_law.specs.Serial.{Serial};
 ghost use Rattle.change_law.specs.Statements.{start};
 
@@ -26,8 +26,12 @@ pub fn rounds_give_these_reports()
 {}
 
 /// Reports that are wrong in one place, each refuted by one clause, whatever list of members is chosen: a start that doesn't reopen
-/// a port; a graph that isn't the one that stands.
+/// a port; a stop that closes one and doesn't find it drained; a graph that isn't the one that stands; a finish that ends early though
+/// nothing came to rest; and a node that isn't done, of which nothing is said.
 pub fn wrong_reports_are_refuted()
     ensures reopened { Follows (start (codes "Lone") [] lone ∷ []) never_reopened → ⊥ }
+    ensures drained { Follows running unseen → ⊥ }
     ensures shown { (m : List Member) → Merge m shown_wrongly → Each (IsGraphAt showing) m → ⊥ }
+    ensures finished { (m : List Member) → Merge m (waited 3 (Some 0) 8) → Each (IsFinishAt None) m → ⊥ }
+    ensures unfinished { (m : List Member) → Merge m (waited 5 None 0) → None ≡ unfinished_of waiting (events m) → ⊥ }
 {}
