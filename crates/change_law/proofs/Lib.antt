@@ -1,4 +1,5 @@
 mod Checking
+mod GraphLemmas
 pub mod MemberLaws
 mod OneSerial
 pub mod RunningLaws

@@ -1,18 +1,21 @@
 //! Laws of lawful reports: what follows from being one run, and what from their lines.
 
-ghost use Rattle.std.specs.Prelude.{◌≡◌, ℕ, Bool, false, List};
+ghost use Rattle.std.specs.Prelude.{◌≡◌, ℕ, Bool, false, List, ◌∷◌, ◌++◌, Some};
 ghost use Rattle.base.specs.Each.{Each};
 ghost use Rattle.change_plan.specs.Plans.{IsPlanOf};
 ghost use Rattle.change_plan.specs.declared.plan_data.Move.{Move};
 ghost use Rattle.change_plan.specs.declared.plan_data.Plan.{Plan};
 ghost use Rattle.config_graph.specs.Graph.{Graph};
 ghost use Rattle.quiesce_core.specs.declared.event.Event.{Event};
+ghost use Rattle.quiesce_core.specs.Live.{IsGraphOf};
 ghost use Rattle.quiesce_core.specs.Runs.{IsRun, is_open_after};
+ghost use Rattle.quiesce_core.specs.State.{Configuration};
 ghost use Rattle.turns.specs.Round.{FirstAt};
+ghost use Rattle.change_script.specs.declared.report.HistoryLine.TheVariants.{Commit, Show};
 ghost use Rattle.change_script.specs.declared.report.Report.{Report};
 ghost use Rattle.change_law.specs.Follows.{Follows};
-ghost use Rattle.change_law.specs.Lawful.{IsDrainedAt, IsEndedOnce, IsQuietAt, Merge};
-ghost use Rattle.change_law.specs.Members.{Member, events};
+ghost use Rattle.change_law.specs.Lawful.{IsDrainedAt, IsEndedOnce, IsLawfulBy, IsQuietAt, Merge, described, status_of};
+ghost use Rattle.change_law.specs.Members.{Member, of_history, events, lines, state_at};
 ghost use Rattle.change_law.specs.Serial.{Serial};
 ghost use Rattle.change_law.specs.Statements.{Statement};
 
@@ -45,4 +48,20 @@ pub fn a_first_number_is_one()
 pub fn there_is_one_report_of_rounds()
     ensures report { (statements : List Statement) (r s : Report) → Serial statements r → Serial statements s → r ≡ s }
     ensures plan { (old new : Graph) (moves : List Move) (p q : Plan) → IsPlanOf old new moves p → IsPlanOf old new moves q → p ≡ q }
+{}
+
+/// At each commit the graph of the live nodes and their links is that of the description that the start or change named, and at each
+/// `show` it is the one that is shown. A configuration has one graph.
+pub fn commits_leave_the_described_graph()
+    ensures described { (statements : List Statement) (report : Report) (m : List Member) → IsLawfulBy statements report m
+        → (before after : List Member) → m ≡ before ++ of_history Commit ∷ after
+        → (g : Graph) × (described statements (lines before) ≡ Some g) × IsGraphOf (state_at before).config g }
+    ensures shown { (statements : List Statement) (report : Report) (m : List Member) → IsLawfulBy statements report m
+        → (before after : List Member) (g : Graph) → m ≡ before ++ of_history (Show g) ∷ after → IsGraphOf (state_at before).config g }
+    ensures one { (c : Configuration) (g h : Graph) → IsGraphOf c g → IsGraphOf c h → g ≡ h }
+{}
+
+/// The status of a report of rounds is that of its history and of what wasn't finished.
+pub fn the_status_tells_how_it_ended()
+    ensures status { (statements : List Statement) (report : Report) → Serial statements report → report.status ≡ status_of report.history report.unfinished }
 {}
