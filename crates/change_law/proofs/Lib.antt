@@ -1,5 +1,6 @@
 mod Checking
 mod GraphLemmas
+mod HandedLemmas
 pub mod MemberLaws
 mod OneSerial
 pub mod RunningLaws

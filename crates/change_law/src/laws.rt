@@ -1,21 +1,24 @@
 //! Laws of lawful reports: what follows from being one run, and what from their lines.
 
-ghost use Rattle.std.specs.Prelude.{◌≡◌, ℕ, Bool, false, List, ◌∷◌, ◌++◌, Some};
+ghost use Rattle.std.specs.Prelude.{◌≡◌, ℕ, Bool, false, List, ◌∷◌, ◌++◌, Some, option_and_then, option_map};
 ghost use Rattle.base.specs.Each.{Each};
 ghost use Rattle.change_plan.specs.Plans.{IsPlanOf};
 ghost use Rattle.change_plan.specs.declared.plan_data.Move.{Move};
 ghost use Rattle.change_plan.specs.declared.plan_data.Plan.{Plan};
+ghost use Rattle.component_trait.specs.States.{NodeState};
 ghost use Rattle.config_graph.specs.Graph.{Graph};
 ghost use Rattle.quiesce_core.specs.declared.event.Event.{Event};
 ghost use Rattle.quiesce_core.specs.Live.{IsGraphOf};
-ghost use Rattle.quiesce_core.specs.Runs.{IsRun, is_open_after};
-ghost use Rattle.quiesce_core.specs.State.{Configuration};
+ghost use Rattle.quiesce_core.specs.Runs.{IsRun, done_by, is_open_after, state_after};
+ghost use Rattle.quiesce_core.specs.declared.state.Slot.{Slot};
+ghost use Rattle.quiesce_core.specs.State.{Configuration, slot};
 ghost use Rattle.turns.specs.Round.{FirstAt};
 ghost use Rattle.change_script.specs.declared.report.HistoryLine.TheVariants.{Commit, Show};
 ghost use Rattle.change_script.specs.declared.report.Report.{Report};
 ghost use Rattle.change_law.specs.Follows.{Follows};
 ghost use Rattle.change_law.specs.Lawful.{IsDrainedAt, IsEndedOnce, IsLawfulBy, IsQuietAt, Merge, described, status_of};
 ghost use Rattle.change_law.specs.Members.{Member, of_history, events, lines, state_at};
+ghost use Rattle.change_law.specs.Opening.{fold_at, fold_of_node};
 ghost use Rattle.change_law.specs.Serial.{Serial};
 ghost use Rattle.change_law.specs.Statements.{Statement};
 
@@ -64,4 +67,11 @@ pub fn commits_leave_the_described_graph()
 /// The status of a report of rounds is that of its history and of what wasn't finished.
 pub fn the_status_tells_how_it_ended()
     ensures status { (statements : List Statement) (report : Report) → Serial statements report → report.status ≡ status_of report.history report.unfinished }
+{}
+
+/// A node that was made from another begins with what that one kept at last, and with its own argument, whatever chain of nodes the
+/// state came through.
+pub fn a_moved_state_is_the_last_one()
+    ensures handed { (es : List Event) → IsRun es → (n k : ℕ) (m : Slot) → slot (state_after es).config n ≡ Some m → m.from ≡ Some k
+        → fold_of_node es n ≡ option_and_then (fold_at m (done_by n es)) (option_map (λ (s : NodeState). s.kept) (fold_of_node es k)) }
 {}
