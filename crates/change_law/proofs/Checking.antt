@@ -99,7 +99,7 @@ all_done before =
 abbrev pub all_idle : List Member → Bool
 all_idle before = list_all (λ p. is_idle_after p (events before)) (live_ports (state_at before).config)
 
-held_now : (before : List Member) (test : List Event → Bool) → test (events before) ≡ true → HeldSince before test
+pub held_now : (before : List Member) (test : List Event → Bool) → test (events before) ≡ true → HeldSince before test
 held_now before test h = record { front = before; later = []; parts = sym (append-nil before); held = h }
 
 done_if_live : (a b : Bool) → (not a || b) ≡ true → a ≡ true → b ≡ true

@@ -1,4 +1,5 @@
 mod Checking
+mod FilledLemmas
 mod GraphLemmas
 mod HandedLemmas
 pub mod MemberLaws

@@ -90,7 +90,7 @@ unfolding reaches has_no_cycle
 ran_runs = run_if (events ran_so) refl
 
 -- the source calls the map, and the map the sink
-abbrev rank : ℕ → ℕ
+abbrev pub rank : ℕ → ℕ
 rank zero = 1
 rank (suc zero) = 2
 rank (suc (suc n)) = 0

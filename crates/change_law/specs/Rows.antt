@@ -147,3 +147,48 @@ two = record { nodes = sink_t ∷ record { path = codes "u"; kind = kind.Sink; a
 
 abbrev pub shown_wrongly : Report
 shown_wrongly = record shown { history = to.Start (codes "One") [] ∷ to.Make 0 sink_t None ∷ to.Commit ∷ to.Show two ∷ to.Stop ∷ [] }
+
+-- A source hands one item to a buffer, and the system isn't seen while the buffer has it: each node is done at some place, and none of
+-- these places is the same for all. In the end the buffer has the item still.
+
+abbrev pub buffer_b : Node
+buffer_b = record { path = codes "b"; kind = kind.Buffer; arg = Some 1 }
+
+abbrev pub source_1 : Node
+source_1 = record { path = codes "s"; kind = kind.Source; arg = Some 1 }
+
+abbrev pub small : Graph
+small =
+    record {
+      nodes = buffer_b ∷ source_1 ∷ sink_t ∷ [];
+      links = record { from = 0; require = 0; to = 2; provide = 0 } ∷ record { from = 1; require = 0; to = 0; provide = 0 } ∷ [];
+    }
+
+abbrev pub filling : List Statement
+filling = start (codes "Small") [] small ∷ finish 10 ∷ []
+
+abbrev pub small_starts : List HistoryLine
+small_starts =
+    to.Start (codes "Small") [] ∷ to.Make 0 buffer_b None ∷ to.Make 1 source_1 None ∷ to.Make 2 sink_t None ∷ to.Link 0 2 0 ∷ to.Link 1 0 0
+    ∷ to.Reopen 0 ∷ to.Reopen 1 ∷ []
+
+abbrev pub small_stops : List HistoryLine
+small_stops = to.Stop ∷ to.Close 0 ∷ to.Close 1 ∷ to.Drained 0 0 ∷ to.Drained 1 1 ∷ []
+
+abbrev pub small_traffic : List Event
+small_traffic = event.Begin 1 1 1 ∷ event.Take 1 1 1 ∷ event.Give 1 1 1 ∷ event.End 1 1 1 ∷ []
+
+abbrev pub filled : Report
+filled =
+    record {
+      history = small_starts ++ to.Commit ∷ to.Finish 10 0 ∷ small_stops;
+      logs =
+          record { slot = 0; events = event.Take 1 1 1 ∷ event.Give 1 1 1 ∷ []; last = last.State (1 ∷ []) }
+          ∷ record { slot = 1; events = event.Begin 1 1 1 ∷ event.End 1 1 1 ∷ []; last = last.State (1 ∷ []) }
+          ∷ record { slot = 2; events = []; last = last.State [] } ∷ [];
+      unfinished = Some 0;
+      status = 8;
+    }
+
+abbrev pub filled_so : List Member
+filled_so = map of_history (small_starts ++ to.Commit ∷ []) ++ map by_node small_traffic ++ map of_history (to.Finish 10 0 ∷ small_stops)

@@ -5,7 +5,7 @@ ghost use Rattle.base.specs.Each.{Each};
 ghost use Rattle.change_law.specs.Follows.{Follows};
 ghost use Rattle.change_law.specs.Lawful.{IsFinishAt, IsGraphAt, Lawful, Merge, unfinished_of};
 ghost use Rattle.change_law.specs.Members.{Member, events};
-ghost use Rattle.change_law.specs.Rows.{lone, never_reopened, ran, running, showing, shown, shown_wrongly, unseen, waited, waiting};
+ghost use Rattle.change_law.specs.Rows.{filled, filling, lone, never_reopened, ran, running, showing, shown, shown_wrongly, unseen, waited, waiting};
 ghost use Rattle.change_law.specs.Serial.{Serial};
 ghost use Rattle.change_law.specs.Statements.{start};
 
@@ -19,7 +19,13 @@ pub fn a_line_that_comes_to_rest_is_lawful()
     ensures lawful { Lawful None running ran }
 {}
 
-/// On one thread both scripts have these reports.
+/// On threads a finish may see each node done at a place of its own, and a buffer that was empty then may have an item in the end: it is
+/// named as unfinished.
+pub fn rest_may_be_seen_at_different_places()
+    ensures lawful { Lawful None filling filled }
+{}
+
+/// On one thread the first two scripts have these reports.
 pub fn rounds_give_these_reports()
     ensures shown { Serial showing shown }
     ensures ran { Serial running ran }
