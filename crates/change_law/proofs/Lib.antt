@@ -9,4 +9,5 @@ mod RowLemmas
 mod SerialLemmas
 mod SoundLemmas
 mod StopLemmas
+mod SummedLemmas
 mod WrongLemmas

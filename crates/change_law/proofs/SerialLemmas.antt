@@ -19,7 +19,7 @@ no_test true h = absurd (both_ways false refl h)
 no_test false h = refl
 
 -- found by computing
-first_at : (test : ℕ → Bool) (n : ℕ) → test n ≡ true → list_all (λ j. not (test j)) (range_with_len 0 n) ≡ true → FirstAt test n
+pub first_at : (test : ℕ → Bool) (n : ℕ) → test n ≡ true → list_all (λ j. not (test j)) (range_with_len 0 n) ≡ true → FirstAt test n
 first_at test n holds before =
     record { holds = holds; before = λ j l. no_test (test j) (all_in_range (λ i. not (test i)) 0 n j before (omega arith) (omega (arith, l))) }
 

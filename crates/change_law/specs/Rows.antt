@@ -13,7 +13,7 @@ use Rattle.change_script.specs.declared.report.Last.TheVariants as last
 use Rattle.change_script.specs.declared.report.NodeLog.{NodeLog}
 use Rattle.change_script.specs.declared.report.Report.{Report}
 use Rattle.change_law.specs.Members.{Member, by_node, of_history}
-use Rattle.change_law.specs.Statements.{Statement, start, finish, show}
+use Rattle.change_law.specs.Statements.{Statement, start, run, finish, show}
 
 abbrev pub sink_t : Node
 sink_t = record { path = codes "t"; kind = kind.Sink; arg = None }
@@ -192,3 +192,41 @@ filled =
 
 abbrev pub filled_so : List Member
 filled_so = map of_history (small_starts ++ to.Commit ∷ []) ++ map by_node small_traffic ++ map of_history (to.Finish 10 0 ∷ small_stops)
+
+-- an asker asks an adder for one sum, which takes a further message
+
+abbrev pub adder_a : Node
+adder_a = record { path = codes "a"; kind = kind.Adder; arg = None }
+
+abbrev pub asker_q : Node
+asker_q = record { path = codes "q"; kind = kind.Asker; arg = Some 1 }
+
+abbrev pub sums : Graph
+sums = record { nodes = adder_a ∷ asker_q ∷ []; links = record { from = 1; require = 0; to = 0; provide = 0 } ∷ [] }
+
+abbrev pub summing : List Statement
+summing = start (codes "Sums") [] sums ∷ run 1 ∷ []
+
+abbrev pub sums_starts : List HistoryLine
+sums_starts = to.Start (codes "Sums") [] ∷ to.Make 0 adder_a None ∷ to.Make 1 asker_q None ∷ to.Link 0 0 0 ∷ to.Reopen 0 ∷ []
+
+abbrev pub sums_stops : List HistoryLine
+sums_stops = to.Stop ∷ to.Close 0 ∷ to.Drained 0 1 ∷ []
+
+abbrev pub sums_traffic : List Event
+sums_traffic =
+    event.Begin 0 1 1 ∷ event.Take 0 1 1 ∷ event.More 0 1 1 ∷ event.Ask 0 1 1 ∷ event.Hear 0 1 1 ∷ event.Give 0 1 2 ∷ event.End 0 1 2 ∷ []
+
+abbrev pub summed : Report
+summed =
+    record {
+      history = sums_starts ++ to.Commit ∷ to.Run 1 1 ∷ sums_stops;
+      logs =
+          record { slot = 0; events = event.Take 0 1 1 ∷ event.More 0 1 1 ∷ event.Hear 0 1 1 ∷ event.Give 0 1 2 ∷ []; last = last.State [] }
+          ∷ record { slot = 1; events = event.Begin 0 1 1 ∷ event.Ask 0 1 1 ∷ event.End 0 1 2 ∷ []; last = last.State (1 ∷ 2 ∷ []) } ∷ [];
+      unfinished = None;
+      status = 0;
+    }
+
+abbrev pub summed_so : List Member
+summed_so = map of_history (sums_starts ++ to.Commit ∷ []) ++ map by_node sums_traffic ++ map of_history (to.Run 1 1 ∷ sums_stops)

@@ -5,7 +5,7 @@ ghost use Rattle.base.specs.Each.{Each};
 ghost use Rattle.change_law.specs.Follows.{Follows};
 ghost use Rattle.change_law.specs.Lawful.{IsFinishAt, IsGraphAt, Lawful, Merge, unfinished_of};
 ghost use Rattle.change_law.specs.Members.{Member, events};
-ghost use Rattle.change_law.specs.Rows.{filled, filling, lone, never_reopened, ran, running, showing, shown, shown_wrongly, unseen, waited, waiting};
+ghost use Rattle.change_law.specs.Rows.{filled, filling, lone, never_reopened, ran, running, showing, shown, shown_wrongly, summed, summing, unseen, waited, waiting};
 ghost use Rattle.change_law.specs.Serial.{Serial};
 ghost use Rattle.change_law.specs.Statements.{start};
 
@@ -17,6 +17,12 @@ pub fn a_shown_sink_is_lawful()
 /// A source of three items that leads through a map to a sink comes to rest, and has this report.
 pub fn a_line_that_comes_to_rest_is_lawful()
     ensures lawful { Lawful None running ran }
+{}
+
+/// An asker asks an adder for one sum, which takes an intermediate reply and a further message: the report of a run of one transaction.
+pub fn a_sum_with_a_further_message_is_lawful()
+    ensures lawful { Lawful None summing summed }
+    ensures serial { Serial summing summed }
 {}
 
 /// On threads a finish may see each node done at a place of its own, and a buffer that was empty then may have an item in the end: it is
