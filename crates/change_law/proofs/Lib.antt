@@ -1,0 +1,13 @@
+mod Checking
+mod FilledLemmas
+mod GraphLemmas
+mod HandedLemmas
+pub mod MemberLaws
+mod OneSerial
+pub mod RunningLaws
+mod RowLemmas
+mod SerialLemmas
+mod SoundLemmas
+mod StopLemmas
+mod SummedLemmas
+mod WrongLemmas

@@ -6,3 +6,4 @@ pub mod Follows
 pub mod Opening
 pub mod Lawful
 pub mod Serial
+pub mod Rows
