@@ -2,6 +2,7 @@ mod Checking
 mod FilledLemmas
 mod GraphLemmas
 mod HandedLemmas
+mod KeptLemmas
 pub mod MemberLaws
 mod OneSerial
 pub mod RunningLaws

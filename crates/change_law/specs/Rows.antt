@@ -13,7 +13,7 @@ use Rattle.change_script.specs.declared.report.Last.TheVariants as last
 use Rattle.change_script.specs.declared.report.NodeLog.{NodeLog}
 use Rattle.change_script.specs.declared.report.Report.{Report}
 use Rattle.change_law.specs.Members.{Member, by_node, of_history}
-use Rattle.change_law.specs.Statements.{Statement, start, run, finish, show}
+use Rattle.change_law.specs.Statements.{Statement, start, change, run, finish, show}
 
 abbrev pub sink_t : Node
 sink_t = record { path = codes "t"; kind = kind.Sink; arg = None }
@@ -230,3 +230,14 @@ summed =
 
 abbrev pub summed_so : List Member
 summed_so = map of_history (sums_starts ++ to.Commit ∷ []) ++ map by_node sums_traffic ++ map of_history (to.Run 1 1 ∷ sums_stops)
+
+-- one sink, and a change that changes nothing
+
+abbrev pub keeping : List Statement
+keeping = start (codes "One") [] one ∷ change (codes "One") [] one 0 [] ∷ []
+
+abbrev pub kept_history : List HistoryLine
+kept_history = to.Start (codes "One") [] ∷ to.Make 0 sink_t None ∷ to.Commit ∷ to.Change (codes "One") [] ∷ to.Commit ∷ to.Stop ∷ []
+
+abbrev pub kept : Report
+kept = record shown { history = kept_history }

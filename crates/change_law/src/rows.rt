@@ -5,7 +5,7 @@ ghost use Rattle.base.specs.Each.{Each};
 ghost use Rattle.change_law.specs.Follows.{Follows};
 ghost use Rattle.change_law.specs.Lawful.{IsFinishAt, IsGraphAt, Lawful, Merge, unfinished_of};
 ghost use Rattle.change_law.specs.Members.{Member, events};
-ghost use Rattle.change_law.specs.Rows.{filled, filling, lone, never_reopened, ran, running, showing, shown, shown_wrongly, summed, summing, unseen, waited, waiting};
+ghost use Rattle.change_law.specs.Rows.{filled, filling, keeping, kept, lone, never_reopened, ran, running, showing, shown, shown_wrongly, summed, summing, unseen, waited, waiting};
 ghost use Rattle.change_law.specs.Serial.{Serial};
 ghost use Rattle.change_law.specs.Statements.{start};
 
@@ -23,6 +23,11 @@ pub fn a_line_that_comes_to_rest_is_lawful()
 pub fn a_sum_with_a_further_message_is_lawful()
     ensures lawful { Lawful None summing summed }
     ensures serial { Serial summing summed }
+{}
+
+/// A change to the same graph closes nothing, and commits at once.
+pub fn a_change_that_changes_nothing_is_lawful()
+    ensures lawful { Lawful None keeping kept }
 {}
 
 /// On threads a finish may see each node done at a place of its own, and a buffer that was empty then may have an item in the end: it is
