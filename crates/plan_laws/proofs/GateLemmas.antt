@@ -1,5 +1,5 @@
 -- Which gates are closed for a change, and that they are open again after it.
-use Rattle.std.proofs.Common.{◌≡◌, ℕ, ◌<◌, ◌≤◌, true, false, not, ◌&&◌, ◌||◌, List, [], ◌∷◌, ◌++◌, map, length, None, refl, sym, ap, ◌∙◌, ⊎_elim, arith}
+use Rattle.std.proofs.Common.{◌≡◌, ℕ, ◌<◌, ◌≤◌, true, false, not, ◌&&◌, ◌||◌, List, [], ◌∷◌, ◌++◌, map, length, None, refl, sym, ap, ◌∙◌, ⊎_elim, arith, Contains}
 use Rattle.std.specs.Prelude.{filter, nat_lt, bytes_eq}
 use Rattle.std.proofs.lemmas.Bool.{and_from, and_parts, both_ways, cases_Bool, cases_lt, false_from_ne_true, ltb-true, not_from_false, or_left, or_right}
 use Rattle.change_plan.specs.declared.plan_data.Move.{Move}
@@ -20,7 +20,7 @@ use Rattle.commit_laws.proofs.TurningLaws.{IsLivePort, SameLinks, Turning, live_
 use Rattle.plan_laws.specs.Commit.{closes, commit_events, commit_steps, is_at, is_one_of, node_path, reopens, stands_in}
 use Rattle.plan_laws.specs.Committing.{MayCommit}
 use Rattle.plan_laws.proofs.CommitLaws.{flag_stays, opened_at, same_links}
-use Rattle.commit_laws.proofs.MemberLaws.{any_of, select, selected}
+use Rattle.commit_laws.proofs.MemberLaws.{any_of, in_contains, select, selected}
 
 module _ (old : Graph) (plan : Plan) (c : Configuration) where
   -- a node of the old graph that stands somewhere is live
@@ -37,6 +37,9 @@ module _ (old : Graph) (plan : Plan) (c : Configuration) where
 
   pub unclosed : (p : ℕ) → is_one_of old plan.freeze c (owner c p) ≡ false → In (closes old plan c) p → ⊥
   unclosed p unfrozen i = both_ways (is_one_of old plan.freeze c (owner c p)) unfrozen (selected (λ q. is_one_of old plan.freeze c (owner c q)) 0 (length c.gates) p i).passes
+
+  pub is_closed_for_it : (p : ℕ) → p < length c.gates → is_one_of old plan.freeze c (owner c p) ≡ true → Contains (closes old plan c) p
+  is_closed_for_it p low frozen = in_contains (closes old plan c) p (select (λ q. is_one_of old plan.freeze c (owner c q)) 0 (length c.gates) p (omega arith) (omega (arith, low)) frozen)
 
 pub close_at : (old : Graph) (plan : Plan) (es more_ left : List Event) (e : Event) → IsRun (es ++ more_) → filter is_of_change more_ ++ e ∷ left ≡ map Close (closes old plan (state_after es).config) → denial (state_after (es ++ more_)) e ≡ None
 close_at old plan es more_ left e run is = close_allowed es (closes old plan (state_after es).config) (closes_live old plan (state_after es).config) more_ left e run is

@@ -4,6 +4,7 @@ pub mod CommitLaws
 pub mod GateLemmas
 pub mod LineLemmas
 pub mod LinkedLemmas
+pub mod MayCommitLemmas
 pub mod PlannedLemmas
 pub mod ReadyLemmas
 pub mod RisingLemmas

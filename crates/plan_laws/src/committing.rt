@@ -1,11 +1,15 @@
 //! A plan's commit: what it does to a running system, once the gates that the plan freezes are closed and what was
 //! open there has ended.
 
-ghost use Rattle.std.specs.Prelude.{◌≡◌, ◌<◌, ◌⊎◌, ℕ, false, List, ◌∷◌, ◌++◌, filter, length, map, None, Contains, IsTrue};
+ghost use Rattle.std.specs.Prelude.{◌≡◌, ◌<◌, ◌⊎◌, ℕ, true, false, List, ◌∷◌, ◌++◌, filter, length, map, None, Contains, IsTrue};
+ghost use Rattle.std.specs.List.{list_all};
+ghost use Rattle.change_plan.specs.Plans.{IsPlanOf};
+ghost use Rattle.change_plan.specs.Refusals.{CanPlan};
 ghost use Rattle.change_plan.specs.Touched.{IsTouched};
 ghost use Rattle.change_plan.specs.declared.plan_data.Move.{Move};
 ghost use Rattle.change_plan.specs.declared.plan_data.Plan.{Plan};
-ghost use Rattle.config_graph.specs.Graph.{Graph};
+ghost use Rattle.config_graph.specs.Graph.{Graph, IsGraph};
+ghost use Rattle.config_graph.specs.Sound.{Sound};
 ghost use Rattle.quiesce_core.specs.declared.event.Event.{Event};
 ghost use Rattle.quiesce_core.specs.declared.event.Event.TheVariants.{Close, Reopen};
 ghost use Rattle.quiesce_core.specs.Doers.{is_of_change};
@@ -17,13 +21,24 @@ ghost use Rattle.quiesce_core.specs.State.{Configuration, gate, is_live, owner, 
 ghost use Rattle.commit_laws.specs.Fitting.{IsPart};
 ghost use Rattle.commit_laws.specs.Steps.{MayStepAll};
 ghost use Rattle.plan_laws.specs.Commit.{closes, commit_events, commit_steps, is_frozen_or_new, is_one_of, reopened_ports, reopens};
-ghost use Rattle.plan_laws.specs.Committing.{MayCommit};
+ghost use Rattle.plan_laws.specs.Committing.{MayCommit, made_in};
+
+/// Each plan may be committed: where the system has its old graph, and no node did an event yet, so that nothing is under
+/// way, it is enough that the gates of frozen nodes are closed.
+pub fn each_plan_may_commit()
+    ensures { (old new : Graph) (moves : List Move) (plan : Plan) (es : List Event) → IsGraph old → IsGraph new
+        → Sound new → IsPlanOf old new moves plan → IsRun es → list_all is_of_change es ≡ true
+        → IsGraphOf (state_after es).config old → CanPlan old new moves (made_in (state_after es).config)
+        → MayCommit old new moves plan (es ++ map Close (closes old plan (state_after es).config)) }
+{}
 
 /// The gates of frozen nodes, and no others, may be closed one after the other, whatever nodes do in between.
 pub fn what_is_frozen_may_be_closed()
     ensures allowed { (old : Graph) (plan : Plan) (es more_ left : List Event) (e : Event) → IsRun (es ++ more_)
         → filter is_of_change more_ ++ e ∷ left ≡ map Close (closes old plan (state_after es).config)
         → denial (state_after (es ++ more_)) e ≡ None }
+    ensures all { (old : Graph) (plan : Plan) (c : Configuration) (p : ℕ) → p < length c.gates
+        → is_one_of old plan.freeze c (owner c p) ≡ true → Contains (closes old plan c) p }
     ensures no_others { (old : Graph) (plan : Plan) (c : Configuration) (p : ℕ)
         → is_one_of old plan.freeze c (owner c p) ≡ false → ¬ Contains (closes old plan c) p }
 {}
