@@ -29,8 +29,8 @@ use Rattle.commit_laws.proofs.MeanwhileLaws.{front_is_of_change, runs_on}
 use Rattle.commit_laws.proofs.PartLaws.{part_of_one}
 use Rattle.commit_laws.proofs.TurningLaws.{IsLivePort, SameLinks}
 use Rattle.plan_laws.specs.Commit.{commit_events, commit_steps, is_frozen_or_new, is_one_of, new_links, reopens, work}
-use Rattle.plan_laws.specs.Committing.{MayCommit}
-use Rattle.plan_laws.proofs.ReadyLemmas.{IsReady, IsTouchedSlot, ready}
+use Rattle.plan_laws.specs.Committing.{IsTouchedSlot, MayCommit}
+use Rattle.plan_laws.proofs.ReadyLemmas.{IsReady, ready}
 use Rattle.plan_laws.proofs.PlannedLemmas.{linked_if, old_link}
 use Rattle.plan_laws.proofs.WholeLemmas.{commit, reopened_live, unopened, untouched}
 
@@ -47,7 +47,8 @@ module _ (old new : Graph) (moves : List Move) (plan : Plan) (es : List Event) (
   is_ready : IsReady old new plan (state_after es).config
   is_ready = ready old new moves plan es may
 
-  whole : IsCommit (state_after es).config new (IsTouchedSlot old new (state_after es).config) (is_frozen_or_new old plan (state_after es).config) (work old new plan (state_after es).config)
+  -- what it does is a commit
+  pub whole : IsCommit (state_after es).config new (IsTouchedSlot old new (state_after es).config) (is_frozen_or_new old plan (state_after es).config) (work old new plan (state_after es).config)
       (new_links new plan (change_all (state_after es).config (work_of (work old new plan (state_after es).config))))
   whole = commit old new plan (state_after es).config (ready old new moves plan es may)
 

@@ -10,4 +10,5 @@ pub mod ReadyLemmas
 pub mod RisingLemmas
 pub mod RoomLemmas
 pub mod StandingLemmas
+pub mod TakingOverLemmas
 pub mod WholeLemmas

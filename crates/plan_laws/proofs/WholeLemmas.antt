@@ -14,7 +14,8 @@ use Rattle.commit_laws.proofs.CommitLaws.{all_made, made_is}
 use Rattle.commit_laws.proofs.MakingLaws.{Making}
 use Rattle.commit_laws.proofs.TurningLaws.{IsLivePort}
 use Rattle.plan_laws.specs.Commit.{is_frozen_or_new, is_one_of, new_links, reopens, stands_in, work}
-use Rattle.plan_laws.proofs.ReadyLemmas.{IsReady, IsTouchedSlot}
+use Rattle.plan_laws.specs.Committing.{IsTouchedSlot}
+use Rattle.plan_laws.proofs.ReadyLemmas.{IsReady}
 use Rattle.plan_laws.proofs.LinkedLemmas.{are_links}
 use Rattle.plan_laws.proofs.PlannedLemmas.{is_work}
 use Rattle.commit_laws.proofs.MemberLaws.{any_if, selected}

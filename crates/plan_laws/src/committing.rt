@@ -1,7 +1,7 @@
 //! A plan's commit: what it does to a running system, once the gates that the plan freezes are closed and what was
 //! open there has ended.
 
-ghost use Rattle.std.specs.Prelude.{◌≡◌, ◌<◌, ◌⊎◌, ℕ, true, false, List, ◌∷◌, ◌++◌, filter, length, map, None, Contains, IsTrue};
+ghost use Rattle.std.specs.Prelude.{◌≡◌, ◌<◌, ◌↔◌, ◌⊎◌, ℕ, true, false, List, ◌∷◌, ◌++◌, filter, length, map, None, Some, Contains, IsTrue};
 ghost use Rattle.std.specs.List.{list_all};
 ghost use Rattle.change_plan.specs.Plans.{IsPlanOf};
 ghost use Rattle.change_plan.specs.Refusals.{CanPlan};
@@ -18,10 +18,13 @@ ghost use Rattle.quiesce_core.specs.Rules.{denial};
 ghost use Rattle.quiesce_core.specs.Runs.{IsRun, state_after};
 ghost use Rattle.quiesce_core.specs.Settled.{Quiescent, Settled};
 ghost use Rattle.quiesce_core.specs.State.{Configuration, gate, is_live, owner, target};
+ghost use Rattle.commit_laws.specs.Commits.{IsCommit};
 ghost use Rattle.commit_laws.specs.Fitting.{IsPart};
-ghost use Rattle.commit_laws.specs.Steps.{MayStepAll};
-ghost use Rattle.plan_laws.specs.Commit.{closes, commit_events, commit_steps, is_frozen_or_new, is_one_of, reopened_ports, reopens};
-ghost use Rattle.plan_laws.specs.Committing.{MayCommit, made_in};
+ghost use Rattle.commit_laws.specs.Lists.{In};
+ghost use Rattle.commit_laws.specs.Steps.{MayStepAll, change_all};
+ghost use Rattle.commit_laws.specs.Work.{NewNode, work_of};
+ghost use Rattle.plan_laws.specs.Commit.{closes, commit_events, commit_steps, is_frozen_or_new, is_one_of, new_links, reopened_ports, reopens, work};
+ghost use Rattle.plan_laws.specs.Committing.{IsTouchedSlot, MayCommit, TakesOver, made_in};
 
 /// Each plan may be committed: where the system has its old graph, and no node did an event yet, so that nothing is under
 /// way, it is enough that the gates of frozen nodes are closed.
@@ -46,8 +49,17 @@ pub fn what_is_frozen_may_be_closed()
 /// Each event of a plan's commit is allowed after those before it, whatever nodes do in between. For each but the
 /// reopenings it is enough that the ports of frozen nodes were drained when the commit began: a node that is
 /// unlinked, linked or removed has no other port, but new ones, and none other reaches it. So with nothing in between
-/// the commit is the end of a run.
+/// the commit is the end of a run. Its lists are those of a commit; and a node takes a state over exactly where a move
+/// says so.
 pub fn commits_can_not_fail()
+    ensures is_commit { (old new : Graph) (moves : List Move) (plan : Plan) (es : List Event)
+        → MayCommit old new moves plan es
+        → IsCommit (state_after es).config new (IsTouchedSlot old new (state_after es).config)
+        (is_frozen_or_new old plan (state_after es).config) (work old new plan (state_after es).config)
+        (new_links new plan (change_all (state_after es).config (work_of (work old new plan (state_after es).config)))) }
+    ensures handed_over { (old new : Graph) (moves : List Move) (plan : Plan) (es : List Event) (m : NewNode) (k : ℕ)
+        → MayCommit old new moves plan es → In (work old new plan (state_after es).config).makes m
+        → (m.from ≡ Some k) ↔ TakesOver old new plan (state_after es).config m k }
     ensures by_the_configuration { (old new : Graph) (moves : List Move) (plan : Plan) (es : List Event)
         → MayCommit old new moves plan es
         → MayStepAll (is_frozen_or_new old plan (state_after es).config) (state_after es).config
