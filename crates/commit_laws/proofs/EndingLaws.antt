@@ -31,7 +31,7 @@ use Rattle.commit_laws.proofs.TurningLaws.{IsLivePort, SameLinks, Turning, live_
 use Rattle.commit_laws.proofs.AfterRunLaws.{owners_live}
 use Rattle.commit_laws.proofs.CommitLaws.{after_both}
 use Rattle.commit_laws.proofs.GateLaws.{none_noted}
-use Rattle.commit_laws.proofs.PhaseLaws.{phase_ends}
+use Rattle.commit_laws.proofs.PhaseLemmas.{phase_ends}
 
 turned_graph : (g : Graph) (c : Configuration) (p : ℕ) (flag : Bool) → p < length c.gates → IsGraphOf c g → IsGraphOf (with_closed c p flag) g
 turned_graph g c p flag made is = same_graph c (with_closed c p flag) g (same_turned c c p flag made (record { slots = refl; long = refl; owners = λ q. refl; requirements = λ q. refl; targets = λ q. refl })) is

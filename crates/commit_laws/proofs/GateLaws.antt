@@ -10,10 +10,10 @@ use Rattle.quiesce_core.specs.Runs.{IsRun, state_after}
 use Rattle.quiesce_core.specs.State.{Configuration, gate, is_live, owner}
 use Rattle.commit_laws.specs.Lists.{In}
 use Rattle.commit_laws.specs.Steps.{MayStep, MayStepAll, change_all, live_ports}
-use Rattle.commit_laws.proofs.AllowedLaws.{step_allowed}
+use Rattle.commit_laws.proofs.AllowedLemmas.{step_allowed}
 use Rattle.commit_laws.proofs.MemberLaws.{in_contains, select, selected}
 use Rattle.commit_laws.proofs.MeanwhileLaws.{front_is_of_change, may_at, now_is, runs_on}
-use Rattle.commit_laws.proofs.PhaseLaws.{phase_ends, phase_may}
+use Rattle.commit_laws.proofs.PhaseLemmas.{phase_ends, phase_may}
 use Rattle.commit_laws.proofs.TurningLaws.{IsLivePort, Turning, live_port, turn_may, turn_next, turn_start}
 
 -- no port has to be noted for that

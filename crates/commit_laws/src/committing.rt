@@ -6,14 +6,13 @@ ghost use Rattle.quiesce_core.specs.declared.event.Event.{Event};
 ghost use Rattle.quiesce_core.specs.declared.event.Event.TheVariants.{Reopen};
 ghost use Rattle.quiesce_core.specs.Doers.{is_of_change};
 ghost use Rattle.quiesce_core.specs.Live.{IsGraphOf};
-ghost use Rattle.quiesce_core.specs.Rules.{denial};
+ghost use Rattle.quiesce_core.specs.Rules.{denial, is_live_port};
 ghost use Rattle.quiesce_core.specs.Runs.{IsRun, state_after};
 ghost use Rattle.quiesce_core.specs.Settled.{Settled};
 ghost use Rattle.quiesce_core.specs.State.{is_live};
 ghost use Rattle.quiescence_laws.specs.Drained.{is_drained};
 ghost use Rattle.commit_laws.specs.Commits.{IsCommit};
 ghost use Rattle.commit_laws.specs.Steps.{change_all};
-ghost use Rattle.quiesce_core.specs.Rules.{is_live_port};
 ghost use Rattle.commit_laws.specs.Work.{NewLink, Work, events_of, steps_of};
 
 /// Once the ports of all that a commit touches, and those that reach it, are drained, each event of the commit is

@@ -4,10 +4,9 @@ ghost use Rattle.std.specs.Prelude.{◌≡◌, ◌∷◌, ◌++◌, ℕ, true, f
 ghost use Rattle.quiesce_core.specs.declared.event.Event.{Event};
 ghost use Rattle.quiesce_core.specs.declared.event.Event.TheVariants.{Close, Reopen};
 ghost use Rattle.quiesce_core.specs.Doers.{is_of_change};
-ghost use Rattle.quiesce_core.specs.Rules.{denial};
+ghost use Rattle.quiesce_core.specs.Rules.{denial, is_live_port};
 ghost use Rattle.quiesce_core.specs.Runs.{IsRun, state_after};
 ghost use Rattle.quiesce_core.specs.State.{gate};
-ghost use Rattle.quiesce_core.specs.Rules.{is_live_port};
 
 /// The gates of live nodes may be closed, or opened again, one after the other, whatever nodes do in between. So a
 /// change may begin, and may be given up, and a stop may close all.

@@ -1,6 +1,6 @@
 pub mod BankLemmas
 pub mod ChainLemmas
-pub mod CommitLaws
+pub mod CommitLemmas
 pub mod GateLemmas
 pub mod LineLemmas
 pub mod LinkedLemmas

@@ -27,7 +27,7 @@ use Rattle.commit_laws.proofs.GateLaws.{all_closed, closes_are_of_change, closes
 use Rattle.commit_laws.proofs.MeanwhileLaws.{after_more}
 use Rattle.commit_laws.proofs.MemberLaws.{select}
 use Rattle.commit_laws.proofs.TurningLaws.{Turning, same_graph}
-use Rattle.plan_laws.specs.Commit.{closes, is_one_of}
+use Rattle.plan_laws.specs.Commit.{is_one_of, ports_to_close}
 use Rattle.plan_laws.specs.Committing.{MayCommit, made_in}
 use Rattle.plan_laws.proofs.GateLemmas.{closes_live}
 
@@ -76,24 +76,24 @@ all_of_change (p ∷ ports) = all_of_change ports
 
 module _ (old new : Graph) (moves : List Move) (plan : Plan) (es : List Event) where
   module _ (undone : list_all is_of_change es ≡ true) where
-    idle : AllIdle (state_after (es ++ map Close (closes old plan (state_after es).config)))
+    idle : AllIdle (state_after (es ++ map Close (ports_to_close old plan (state_after es).config)))
     idle =
-        let shuts = map Close (closes old plan (state_after es).config) in
+        let shuts = map Close (ports_to_close old plan (state_after es).config) in
         subst AllIdle (sym (after_more empty es shuts))
-        (idle_after (state_after es) shuts (all_of_change (closes old plan (state_after es).config)) (idle_after empty es undone (λ p. refl)))
+        (idle_after (state_after es) shuts (all_of_change (ports_to_close old plan (state_after es).config)) (idle_after empty es undone (λ p. refl)))
 
-  shut : Turning (state_after es).config true (closes old plan (state_after es).config) (state_after (es ++ map Close (closes old plan (state_after es).config))).config []
+  shut : Turning (state_after es).config true (ports_to_close old plan (state_after es).config) (state_after (es ++ map Close (ports_to_close old plan (state_after es).config))).config []
   shut =
-      let ports = closes old plan (state_after es).config in
+      let ports = ports_to_close old plan (state_after es).config in
       all_closed es ports (closes_live old plan (state_after es).config) (map Close ports) (closes_are_of_change ports)
 
   -- the gates of frozen nodes are closed
-  shut_at : (p : ℕ) → p < length (state_after (es ++ map Close (closes old plan (state_after es).config))).config.gates
-      → is_one_of old plan.freeze (state_after (es ++ map Close (closes old plan (state_after es).config))).config (owner (state_after (es ++ map Close (closes old plan (state_after es).config))).config p) ≡ true
-      → (gate (state_after (es ++ map Close (closes old plan (state_after es).config))).config p).closed ≡ true
+  shut_at : (p : ℕ) → p < length (state_after (es ++ map Close (ports_to_close old plan (state_after es).config))).config.gates
+      → is_one_of old plan.freeze (state_after (es ++ map Close (ports_to_close old plan (state_after es).config))).config (owner (state_after (es ++ map Close (ports_to_close old plan (state_after es).config))).config p) ≡ true
+      → (gate (state_after (es ++ map Close (ports_to_close old plan (state_after es).config))).config p).closed ≡ true
   shut_at p low frozen =
       let c = (state_after es).config in
-      let d = (state_after (es ++ map Close (closes old plan c))).config in
+      let d = (state_after (es ++ map Close (ports_to_close old plan c))).config in
       let same = shut.same in
       let before : is_one_of old plan.freeze c (owner c p) ≡ true =
       ap (is_one_of old plan.freeze c) (sym (same.owners p)) ∙ sym (ap (λ (s : List Slot). is_one_of old plan.freeze (record { slots = s; gates = [] }) (owner d p)) same.slots) ∙ frozen in
@@ -101,10 +101,10 @@ module _ (old new : Graph) (moves : List Move) (plan : Plan) (es : List Event) w
       (shut.turned p (select (λ q. is_one_of old plan.freeze c (owner c q)) 0 (length c.gates) p (omega arith) (let long = same.long in omega (arith, low, long)) before))
 
   pub may_commit : IsGraph old → IsGraph new → Sound new → IsPlanOf old new moves plan → IsRun es → list_all is_of_change es ≡ true → IsGraphOf (state_after es).config old
-      → CanPlan old new moves (made_in (state_after es).config) → MayCommit old new moves plan (es ++ map Close (closes old plan (state_after es).config))
+      → CanPlan old new moves (made_in (state_after es).config) → MayCommit old new moves plan (es ++ map Close (ports_to_close old plan (state_after es).config))
   may_commit old_graph new_graph new_sound is_plan run undone graph can =
       let c = (state_after es).config in
-      let after = es ++ map Close (closes old plan c) in
+      let after = es ++ map Close (ports_to_close old plan c) in
       let d = (state_after after).config in
       let same = shut.same in
       let made : made_in c ≡ made_in d =
@@ -115,7 +115,7 @@ module _ (old new : Graph) (moves : List Move) (plan : Plan) (es : List Event) w
         new_sound = new_sound;
         is_plan = is_plan;
         can_plan = subst (CanPlan old new moves) made can;
-        run = closes_run es (closes old plan c) (closes_live old plan c) run;
+        run = closes_run es (ports_to_close old plan c) (closes_live old plan c) run;
         graph = same_graph c d old same graph;
         drained = λ p low frozen.
             and_from (gate d p).closed (is_idle (exchange (state_after after) p).phase || is_some (exchange (state_after after) p).within) (shut_at p low frozen)

@@ -33,7 +33,7 @@ use Rattle.quiesce_core.specs.Rules.{is_kind}
 use Rattle.quiesce_core.specs.State.{Configuration, gate, is_live, owner, slot, target}
 use Rattle.quiesce_core.proofs.CycleLaws.{made_below, map_or_true}
 use Rattle.base.proofs.ContainsLaws.{Contains-from_map, Contains-at, at_some_place}
-use Rattle.plan_laws.specs.Commit.{is_at, is_unlinked_by, is_one_of, makes_from, node_at, node_path, slot_at, source_of, work}
+use Rattle.plan_laws.specs.Commit.{is_at, is_one_of, is_unlinked_by, makes_from, node_at, node_path, slot_at, source_of, work}
 use Rattle.plan_laws.specs.Commit as commit
 use Rattle.plan_laws.specs.Committing.{IsTouchedSlot}
 use Rattle.plan_laws.proofs.ReadyLemmas.{IsReady}
