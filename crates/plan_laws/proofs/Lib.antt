@@ -1,6 +1,7 @@
 pub mod BankLemmas
 pub mod ChainLemmas
 pub mod CommitLemmas
+pub mod FeedingLemmas
 pub mod GateLemmas
 pub mod LineLemmas
 pub mod LinkedLemmas
