@@ -21,19 +21,18 @@ use Rattle.commit_laws.specs.Fitting.{KeptLink}
 use Rattle.commit_laws.specs.Lists.{In}
 use Rattle.commit_laws.specs.Steps.{MayStep, MayStepAll, change_all}
 use Rattle.commit_laws.specs.Work.{NewLink, NewNode, Work, events_of, link_of, make_of, steps_of, work_of}
-use Rattle.commit_laws.proofs.AllowedLaws.{step_allowed}
+use Rattle.commit_laws.proofs.AllowedLemmas.{step_allowed}
 use Rattle.commit_laws.proofs.BetweenLaws.{Between, Ground, is_noted}
 use Rattle.commit_laws.proofs.CommitLaws.{after_both, commit_each, commit_graph, commit_may}
-use Rattle.commit_laws.proofs.LinkingLaws.{Linking}
+use Rattle.commit_laws.proofs.LinkingLemmas.{Linking}
 use Rattle.commit_laws.proofs.MakingLaws.{Making}
 use Rattle.commit_laws.proofs.MeanwhileLaws.{allowed_meanwhile, may_at, none_reopened, now_is}
-use Rattle.commit_laws.proofs.PhaseLaws.{EachConfig, each_place, each_then, may_then, phase_each, phase_ends, phase_may}
-use Rattle.commit_laws.proofs.RemovingLaws.{Removing}
+use Rattle.commit_laws.proofs.PhaseLemmas.{EachConfig, each_place, each_then, may_then, phase_each, phase_ends, phase_may}
+use Rattle.commit_laws.proofs.RemovingLemmas.{Removing}
 use Rattle.commit_laws.proofs.TurningLaws.{IsLivePort, SameLinks, Turning, same_graph, turn_may, turn_next, turn_start}
 use Rattle.commit_laws.proofs.AfterRunLaws.{IsAfterRun, after_run}
-use Rattle.commit_laws.proofs.UnlinkingLaws.{Unlinking}
-use Rattle.commit_laws.specs.Commits.{IsCommit}
-use Rattle.commit_laws.specs.Commits.{Changed}
+use Rattle.commit_laws.proofs.UnlinkingLemmas.{Unlinking}
+use Rattle.commit_laws.specs.Commits.{Changed, IsCommit}
 
 -- nothing is reopened before the last phase
 

@@ -24,12 +24,12 @@ use Rattle.quiesce_core.specs.Effect.{change_next}
 use Rattle.commit_laws.specs.Work.{AreNumbered, NewLink, NewNode, Work, link_of, make_of, work_of}
 use Rattle.commit_laws.proofs.BetweenLaws.{Ground, between_start}
 use Rattle.quiesce_core.proofs.ConfigurationLaws.{linked_made}
-use Rattle.commit_laws.proofs.LinkingLaws.{Linking, graph_is, link_may, link_next}
+use Rattle.commit_laws.proofs.LinkingLemmas.{Linking, graph_is, link_may, link_next}
 use Rattle.commit_laws.proofs.MakingLaws.{Making, make_may, make_next}
 use Rattle.commit_laws.proofs.MemberLaws.{any_there}
-use Rattle.commit_laws.proofs.PhaseLaws.{EachConfig, each_then, may_then, phase_each, phase_ends, phase_may}
-use Rattle.commit_laws.proofs.RemovingLaws.{Removing, live_is, remove_may, remove_next}
-use Rattle.commit_laws.proofs.UnlinkingLaws.{Unlinking, unlink_may, unlink_next}
+use Rattle.commit_laws.proofs.PhaseLemmas.{EachConfig, each_then, may_then, phase_each, phase_ends, phase_may}
+use Rattle.commit_laws.proofs.RemovingLemmas.{Removing, live_is, remove_may, remove_next}
+use Rattle.commit_laws.proofs.UnlinkingLemmas.{Unlinking, unlink_may, unlink_next}
 use Rattle.commit_laws.specs.Commits.{AreLinks, IsSource, IsWork}
 
 -- only what was removed has gone over to another node

@@ -1,5 +1,5 @@
 -- How changes that are given up end, and how a system stops.
-use Rattle.std.proofs.Common.{◌≡◌, ℕ, ◌<◌, Bool, true, false, not, ◌&&◌, List, ◌++◌, length, Some, refl, sym, ap, ◌∙◌, subst, ⊎_elim, arith}
+use Rattle.std.proofs.Common.{◌≡◌, ℕ, ◌<◌, Bool, true, false, not, ◌&&◌, List, [], ◌++◌, length, map, Some, refl, sym, ap, ◌∙◌, subst, ⊎_elim, arith}
 use Rattle.std.specs.Prelude.{◌==◌}
 use Rattle.std.specs.List.{list_any}
 use Rattle.std.proofs.lemmas.Bool.{and_parts, both_ways, cases_Bool}
@@ -24,10 +24,14 @@ use Rattle.quiesce_core.proofs.ReachLaws.{owner_of}
 use Rattle.quiescence_laws.proofs.DrainingLaws.{settled_if_drained}
 use Rattle.quiesce_core.proofs.InductionLaws.{along}
 use Rattle.quiescence_laws.proofs.OrderLaws.{open_is_seen}
-use Rattle.commit_laws.specs.Steps.{is_shaping}
+use Rattle.commit_laws.specs.Lists.{In}
+use Rattle.commit_laws.specs.Steps.{change_all, is_shaping}
 use Rattle.quiesce_core.proofs.ConfigurationLaws.{linked_made}
-use Rattle.commit_laws.proofs.TurningLaws.{same_graph, same_turned}
+use Rattle.commit_laws.proofs.TurningLaws.{IsLivePort, SameLinks, Turning, live_still, same_graph, same_then, same_turned, turn_may, turn_next, turn_start}
 use Rattle.commit_laws.proofs.AfterRunLaws.{owners_live}
+use Rattle.commit_laws.proofs.CommitLaws.{after_both}
+use Rattle.commit_laws.proofs.GateLaws.{none_noted}
+use Rattle.commit_laws.proofs.PhaseLemmas.{phase_ends}
 
 turned_graph : (g : Graph) (c : Configuration) (p : ℕ) (flag : Bool) → p < length c.gates → IsGraphOf c g → IsGraphOf (with_closed c p flag) g
 turned_graph g c p flag made is = same_graph c (with_closed c p flag) g (same_turned c c p flag made (record { slots = refl; long = refl; owners = λ q. refl; requirements = λ q. refl; targets = λ q. refl })) is
@@ -73,3 +77,34 @@ none_open es run drained p k =
     (and_parts (gate c p).closed (is_idle (exchange s p).phase) (settled.own p (sound.ports p (linked_made c p t.0 t.1)))).1)
     (cases_Bool (is_idle (exchange s p).phase)) in
     open_is_seen es p k run ∙ ap (λ b. not b && (exchange s p).serial == k) idle
+
+-- A change that closes ports and opens them again.
+module _ (c : Configuration) (ports : List ℕ) (live : (p : ℕ) → In ports p → IsLivePort c p) where
+  abbrev closed_config : Configuration
+  closed_config = change_all c (map Close ports)
+
+  closing : Turning c true ports closed_config []
+  closing = phase_ends none_noted Close (Turning c true ports) (turn_may c true ports) (turn_next c true ports) c ports (turn_start c true ports live)
+
+  live_when_closed : (p : ℕ) → In ports p → IsLivePort closed_config p
+  live_when_closed p i =
+      let port = live p i in
+      record {
+        made = let low = port.made in let long = closing.same.long in omega (arith, low, long);
+        live = live_still c closed_config closing.same (owner closed_config p) ∙ ap (is_live c) (closing.same.owners p) ∙ port.live;
+      }
+
+  opening : Turning closed_config false ports (change_all closed_config (map Reopen ports)) []
+  opening = phase_ends none_noted Reopen (Turning closed_config false ports) (turn_may closed_config false ports) (turn_next closed_config false ports)
+      closed_config ports (turn_start closed_config false ports live_when_closed)
+
+  pub given_up_links : SameLinks c (change_all c (map Close ports ++ map Reopen ports))
+  given_up_links = subst (SameLinks c) (sym (after_both c (map Close ports) (map Reopen ports))) (same_then c closed_config (change_all closed_config (map Reopen ports)) closing.same opening.same)
+
+  pub given_up_opens : (p : ℕ) → In ports p → (gate (change_all c (map Close ports ++ map Reopen ports)) p).closed ≡ false
+  given_up_opens p i =
+      ap (λ d. (gate d p).closed) (after_both c (map Close ports) (map Reopen ports))
+      ∙ ⊎_elim (λ (j : In [] p). absurd j) (λ (e : (gate (change_all closed_config (map Reopen ports)) p).closed ≡ false). e) (opening.turned p i)
+
+  pub given_up_leaves : (p : ℕ) → (In ports p → ⊥) → (gate (change_all c (map Close ports ++ map Reopen ports)) p).closed ≡ (gate c p).closed
+  given_up_leaves p out = ap (λ d. (gate d p).closed) (after_both c (map Close ports) (map Reopen ports)) ∙ opening.others p out ∙ closing.others p out

@@ -10,14 +10,14 @@ use Rattle.quiesce_core.specs.Runs.{IsRun, state_after}
 use Rattle.quiesce_core.specs.State.{Configuration, gate, is_live, owner}
 use Rattle.commit_laws.specs.Lists.{In}
 use Rattle.commit_laws.specs.Steps.{MayStep, MayStepAll, change_all, live_ports}
-use Rattle.commit_laws.proofs.AllowedLaws.{step_allowed}
+use Rattle.commit_laws.proofs.AllowedLemmas.{step_allowed}
 use Rattle.commit_laws.proofs.MemberLaws.{in_contains, select, selected}
-use Rattle.commit_laws.proofs.MeanwhileLaws.{may_at, now_is}
-use Rattle.commit_laws.proofs.PhaseLaws.{phase_ends, phase_may}
+use Rattle.commit_laws.proofs.MeanwhileLaws.{front_is_of_change, may_at, now_is, runs_on}
+use Rattle.commit_laws.proofs.PhaseLemmas.{phase_ends, phase_may}
 use Rattle.commit_laws.proofs.TurningLaws.{IsLivePort, Turning, live_port, turn_may, turn_next, turn_start}
 
 -- no port has to be noted for that
-abbrev none_noted : ℕ → Bool
+abbrev pub none_noted : ℕ → Bool
 none_noted q = false
 
 module _ (es : List Event) (ports : List ℕ) (live : (p : ℕ) → In ports p → IsLivePort (state_after es).config p) where
@@ -52,6 +52,28 @@ module _ (es : List Event) (ports : List ℕ) (live : (p : ℕ) → In ports p �
 
   pub closed_at : (more_ : List Event) → filter is_of_change more_ ≡ map Close ports → (p : ℕ) → In ports p → (gate (state_after (es ++ more_)).config p).closed ≡ true
   closed_at more_ is p i = ⊎_elim (λ (j : In [] p). absurd j) (λ (e : (gate (state_after (es ++ more_)).config p).closed ≡ true). e) ((all_closed more_ is).turned p i)
+
+  -- with nothing in between they are the end of a run
+  pub closes_run : IsRun es → IsRun (es ++ map Close ports)
+  closes_run run = runs_on es (map Close ports) run (λ d l e is so_far.
+      let c = (state_after es).config in
+      let may : MayStepAll none_noted c (d ++ e ∷ l) = subst (MayStepAll none_noted c) (sym is) closes_may in
+      close_allowed d l e so_far (ap (λ xs. xs ++ e ∷ l) (front_is_of_change none_noted c d (e ∷ l) may) ∙ is))
+
+  -- when all are open again
+  pub all_open : (more_ : List Event) → filter is_of_change more_ ≡ map Reopen ports → Turning (state_after es).config false ports (state_after (es ++ more_)).config []
+  all_open more_ is =
+      let c = (state_after es).config in
+      subst (λ d. Turning c false ports d []) (sym (now_is es more_ ∙ ap (change_all c) is))
+      (phase_ends none_noted Reopen (Turning c false ports) (turn_may c false ports) (turn_next c false ports) c ports (turn_start c false ports live))
+
+  pub open_at : (more_ : List Event) → filter is_of_change more_ ≡ map Reopen ports → (p : ℕ) → In ports p → (gate (state_after (es ++ more_)).config p).closed ≡ false
+  open_at more_ is p i = ⊎_elim (λ (j : In [] p). absurd j) (λ (e : (gate (state_after (es ++ more_)).config p).closed ≡ false). e) ((all_open more_ is).turned p i)
+
+-- closes are the change's
+pub closes_are_of_change : (ports : List ℕ) → filter is_of_change (map Close ports) ≡ map Close ports
+closes_are_of_change [] = refl
+closes_are_of_change (p ∷ ports) = ap (λ es. Close p ∷ es) (closes_are_of_change ports)
 
 -- the ports of live nodes
 

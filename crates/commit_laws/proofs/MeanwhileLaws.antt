@@ -6,7 +6,7 @@ use Rattle.std.proofs.lemmas.Bool.{both_ways, cases_Bool, or_parts}
 use Rattle.quiesce_core.specs.declared.event.Event.{Event}
 use Rattle.quiesce_core.specs.declared.event.Event.TheVariants.{Begin, Call, Take, Give, End, More, Ask, Hear, Miss, Close, Reopen, Make, Link, Unlink, Remove}
 use Rattle.quiesce_core.specs.Doers.{is_of_change}
-use Rattle.quiesce_core.specs.Effect.{effect}
+use Rattle.quiesce_core.specs.Effect.{change_next, effect}
 use Rattle.quiesce_core.specs.Rules.{denial}
 use Rattle.quiesce_core.specs.Runs.{IsRun, state_after}
 use Rattle.quiesce_core.specs.State.{Configuration, State, empty}
@@ -14,8 +14,7 @@ use Rattle.quiescence_laws.specs.Drained.{is_drained}
 use Rattle.quiescence_laws.specs.Events.{reopens}
 use Rattle.quiescence_laws.proofs.DrainingLaws.{drained_stays}
 use Rattle.commit_laws.specs.Steps.{MayStep, MayStepAll, change_all}
-use Rattle.quiesce_core.specs.Effect.{change_next}
-use Rattle.commit_laws.proofs.AllowedLaws.{step_allowed}
+use Rattle.commit_laws.proofs.AllowedLemmas.{step_allowed}
 use Rattle.quiesce_core.proofs.RunLaws.{effect_config, runs_grow}
 
 node_leaves : (c : Configuration) (e : Event) → is_of_change e ≡ false → change_next c e ≡ c

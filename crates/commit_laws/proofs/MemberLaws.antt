@@ -110,7 +110,7 @@ in_contains (i ∷ js) j h = ⊎_elim
     (λ (here : i ≡ j). subst (Contains (i ∷ js)) here (Contains-get_or (i ∷ js) 0 i (omega arith)))
     (λ (later : In js j). Contains-append_right (i ∷ []) js j (in_contains js j later)) h
 
-pub contains_in : (js : List ℕ) (j : ℕ) → Contains js j → In js j
-contains_in [] j h = absurd (omega (arith, h.1))
-contains_in (i ∷ js) j (zero, low, same) = inl same
-contains_in (i ∷ js) j (suc k, low, same) = inr (contains_in js j (k, omega arith, same))
+pub contains_in : {A : Type 0} (xs : List A) (x : A) → Contains xs x → In xs x
+contains_in [] x h = absurd (omega (arith, h.1))
+contains_in (y ∷ xs) x (zero, low, same) = inl same
+contains_in (y ∷ xs) x (suc k, low, same) = inr (contains_in xs x (k, omega arith, same))

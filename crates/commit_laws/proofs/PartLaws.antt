@@ -15,10 +15,10 @@ use Rattle.commit_laws.specs.Work.{NewLink, NewNode, Work}
 use Rattle.commit_laws.proofs.BetweenLaws.{Between}
 use Rattle.quiesce_core.proofs.ConfigurationLaws.{linked_made}
 use Rattle.commit_laws.proofs.CarryingLaws.{InPhases}
-use Rattle.commit_laws.proofs.LinkingLaws.{Linking}
+use Rattle.commit_laws.proofs.LinkingLemmas.{Linking}
 use Rattle.commit_laws.proofs.MakingLaws.{Making}
-use Rattle.commit_laws.proofs.RemovingLaws.{Removing}
-use Rattle.commit_laws.proofs.UnlinkingLaws.{Unlinking}
+use Rattle.commit_laws.proofs.RemovingLemmas.{Removing}
+use Rattle.commit_laws.proofs.UnlinkingLemmas.{Unlinking}
 
 -- a link of c that fits a graph fits it in d too, where its two nodes are still live
 pub fits_in : (c d : Configuration) (Touched : ℕ → Type 0) → Between c Touched d → (g : Graph) (p : ℕ) (t : Target) → target c p ≡ Some t

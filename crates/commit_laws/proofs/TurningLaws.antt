@@ -44,6 +44,15 @@ same_back c d h = record {
   targets = λ q. sym (h.targets q);
 }
 
+pub same_then : (c d e : Configuration) → SameLinks c d → SameLinks d e → SameLinks c e
+same_then c d e h k = record {
+  slots = k.slots ∙ h.slots;
+  long = k.long ∙ h.long;
+  owners = λ q. k.owners q ∙ h.owners q;
+  requirements = λ q. k.requirements q ∙ h.requirements q;
+  targets = λ q. k.targets q ∙ h.targets q;
+}
+
 pub live_still : (c d : Configuration) → SameLinks c d → (n : ℕ) → is_live d n ≡ is_live c n
 live_still c d h n = ap (λ (s : List Slot). is_live (record { slots = s; gates = [] }) n) h.slots
 

@@ -1,20 +1,18 @@
 //! Commits: what is unlinked, removed, made and linked, in this order, and which ports are reopened then.
 
-ghost use Rattle.std.specs.Prelude.{◌≡◌, ◌∷◌, ◌++◌, ℕ, Bool, List, None, filter, map, IsTrue};
+ghost use Rattle.std.specs.Prelude.{◌≡◌, ◌∷◌, ◌++◌, ℕ, Bool, List, None, filter, map, Contains, IsTrue};
 ghost use Rattle.config_graph.specs.Graph.{Graph};
 ghost use Rattle.quiesce_core.specs.declared.event.Event.{Event};
 ghost use Rattle.quiesce_core.specs.declared.event.Event.TheVariants.{Reopen};
 ghost use Rattle.quiesce_core.specs.Doers.{is_of_change};
 ghost use Rattle.quiesce_core.specs.Live.{IsGraphOf};
-ghost use Rattle.quiesce_core.specs.Rules.{denial};
+ghost use Rattle.quiesce_core.specs.Rules.{denial, is_live_port};
 ghost use Rattle.quiesce_core.specs.Runs.{IsRun, state_after};
 ghost use Rattle.quiesce_core.specs.Settled.{Settled};
 ghost use Rattle.quiesce_core.specs.State.{is_live};
 ghost use Rattle.quiescence_laws.specs.Drained.{is_drained};
 ghost use Rattle.commit_laws.specs.Commits.{IsCommit};
-ghost use Rattle.commit_laws.specs.Lists.{In};
 ghost use Rattle.commit_laws.specs.Steps.{change_all};
-ghost use Rattle.quiesce_core.specs.Rules.{is_live_port};
 ghost use Rattle.commit_laws.specs.Work.{NewLink, Work, events_of, steps_of};
 
 /// Once the ports of all that a commit touches, and those that reach it, are drained, each event of the commit is
@@ -25,7 +23,7 @@ pub fn commits_can_not_fail()
         → Bool) (w : Work) (links : List NewLink) (ports : List ℕ)
         → IsRun (es ++ more_) → ((p : ℕ) → IsTrue (noted p) → IsTrue (is_drained (state_after es) p))
         → IsCommit (state_after es).config new (λ n. IsTrue (touched n)) noted w links
-        → ((p : ℕ) → In ports p → IsTrue (is_live_port (change_all (state_after es).config (steps_of w links)) p))
+        → ((p : ℕ) → Contains ports p → IsTrue (is_live_port (change_all (state_after es).config (steps_of w links)) p))
         → filter is_of_change more_ ++ e ∷ left ≡ events_of w links ports
         → denial (state_after (es ++ more_)) e ≡ None }
     ensures settled { (es more_ left : List Event) (new : Graph) (touched noted : ℕ
@@ -38,7 +36,7 @@ pub fn commits_can_not_fail()
     ensures graph { (es more_ done left : List Event) (new : Graph) (touched noted : ℕ
         → Bool) (w : Work) (links : List NewLink) (ports : List ℕ)
         → IsRun es → IsCommit (state_after es).config new (λ n. IsTrue (touched n)) noted w links
-        → ((p : ℕ) → In ports p → IsTrue (is_live_port (change_all (state_after es).config (steps_of w links)) p))
+        → ((p : ℕ) → Contains ports p → IsTrue (is_live_port (change_all (state_after es).config (steps_of w links)) p))
         → filter is_of_change more_ ≡ steps_of w links ++ done → done ++ left ≡ map Reopen ports
         → IsGraphOf (state_after (es ++ more_)).config new }
 {}

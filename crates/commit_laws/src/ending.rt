@@ -4,11 +4,12 @@ ghost use Rattle.std.specs.Prelude.{◌≡◌, ◌∷◌, ◌++◌, ℕ, false, 
 ghost use Rattle.std.specs.List.{list_any};
 ghost use Rattle.config_graph.specs.Graph.{Graph};
 ghost use Rattle.quiesce_core.specs.declared.event.Event.{Event};
-ghost use Rattle.quiesce_core.specs.declared.event.Event.TheVariants.{Close};
+ghost use Rattle.quiesce_core.specs.declared.event.Event.TheVariants.{Close, Reopen};
 ghost use Rattle.quiesce_core.specs.Doers.{is_of_change};
 ghost use Rattle.quiesce_core.specs.Live.{IsGraphOf};
-ghost use Rattle.quiesce_core.specs.Rules.{denial};
+ghost use Rattle.quiesce_core.specs.Rules.{denial, is_live_port};
 ghost use Rattle.quiesce_core.specs.Runs.{IsRun, is_open_after, state_after};
+ghost use Rattle.quiesce_core.specs.State.{gate, target};
 ghost use Rattle.quiescence_laws.specs.Drained.{is_drained};
 ghost use Rattle.commit_laws.specs.Steps.{is_shaping, live_ports};
 
@@ -17,6 +18,32 @@ ghost use Rattle.commit_laws.specs.Steps.{is_shaping, live_ports};
 pub fn what_is_given_up_leaves_the_graph()
     ensures { (graph : Graph) (es more_ : List Event) → IsRun (es ++ more_) → list_any is_shaping more_ ≡ false
         → IsGraphOf (state_after es).config graph → IsGraphOf (state_after (es ++ more_)).config graph }
+{}
+
+/// A change that closes ports, and opens them again, leaves the nodes, the links and so the graph. Each of these ports
+/// is open then, and each other gate is as it was: so each gate is open that was.
+pub fn abandons_leave_all_as_it_was()
+    ensures graph { (graph : Graph) (es more_ : List Event) (ports : List ℕ) → ((p : ℕ) → Contains ports p
+        → IsTrue (is_live_port (state_after es).config p))
+        → filter is_of_change more_ ≡ map Close ports ++ map Reopen ports
+        → IsGraphOf (state_after es).config graph → IsGraphOf (state_after (es ++ more_)).config graph }
+    ensures slots { (es more_ : List Event) (ports : List ℕ) → ((p : ℕ) → Contains ports p
+        → IsTrue (is_live_port (state_after es).config p))
+        → filter is_of_change more_ ≡ map Close ports ++ map Reopen ports
+        → (state_after (es ++ more_)).config.slots ≡ (state_after es).config.slots }
+    ensures targets { (es more_ : List Event) (ports : List ℕ) → ((p : ℕ) → Contains ports p
+        → IsTrue (is_live_port (state_after es).config p))
+        → filter is_of_change more_ ≡ map Close ports ++ map Reopen ports
+        → (p : ℕ) → target (state_after (es ++ more_)).config p ≡ target (state_after es).config p }
+    ensures are_open { (es more_ : List Event) (ports : List ℕ) → ((p : ℕ) → Contains ports p
+        → IsTrue (is_live_port (state_after es).config p))
+        → filter is_of_change more_ ≡ map Close ports ++ map Reopen ports
+        → (p : ℕ) → Contains ports p → (gate (state_after (es ++ more_)).config p).closed ≡ false }
+    ensures others { (es more_ : List Event) (ports : List ℕ) → ((p : ℕ) → Contains ports p
+        → IsTrue (is_live_port (state_after es).config p))
+        → filter is_of_change more_ ≡ map Close ports ++ map Reopen ports
+        → (p : ℕ) → ¬ Contains ports p
+        → (gate (state_after (es ++ more_)).config p).closed ≡ (gate (state_after es).config p).closed }
 {}
 
 /// A stop closes the gates of all live nodes, each of which is allowed after those before it, whatever nodes do in

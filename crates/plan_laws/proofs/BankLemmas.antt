@@ -1,5 +1,5 @@
 -- A change that may be committed: an account is replaced, and its state goes on.
-use Rattle.std.proofs.Common.{◌≡◌, ℕ, zero, suc, ◌<◌, true, false, [], ◌∷◌, length, Some, refl, sym, ap, ◌∙◌, subst, inl, inr, ⊎_elim, arith, Contains, All}
+use Rattle.std.proofs.Common.{◌≡◌, ℕ, zero, suc, ◌<◌, true, false, [], ◌∷◌, length, Some, None, refl, sym, ap, ◌∙◌, subst, inl, inr, ⊎_elim, arith, Contains, All}
 use Rattle.std.specs.Prelude.{◌⊎◌, ◌^◌, bytes_eq, codes, slice_get, IsTrue}
 use Rattle.std.specs.List.Sorted.{IsStrictlyIncreasing}
 use Rattle.std.specs.Cmp.Lexicographic.{slice_cmp}
@@ -34,6 +34,7 @@ use Rattle.quiescence_laws.specs.Drained.{is_drained}
 use Rattle.quiescence_laws.specs.Starts.{start_of}
 use Rattle.quiesce_core.proofs.RunLaws.{run_if}
 use Rattle.base.proofs.ContainsLaws.{Contains-at}
+use Rattle.commit_laws.specs.Fitting.{IsPart}
 use Rattle.commit_laws.proofs.EndingLaws.{graph_stays}
 use Rattle.plan_laws.proofs.PlannedLemmas.{link_if}
 use Rattle.plan_laws.specs.Commit.{is_one_of}
@@ -289,3 +290,8 @@ may_commit = record {
   graph = graph_stays (bank 100) (start_of (bank 100)) (Close 0 ∷ Close 1 ∷ Close 2 ∷ []) runs refl (graph_started (bank 100) (bank_sound 100 (omega arith)) (omega arith) (omega arith));
   drained = drained_at;
 }
+
+-- the account that goes stands before, and isn't in the new graph
+pub no_part : ¬ IsPart (state_after bank_closed).config (bank 7)
+no_part part = apart 100 7 (λ e. omega (arith, e))
+    (part.nodes 0 (account 100) (record { made = record { node = account 100; first_port = 0; from = None; live = true }; there = refl; live = refl; is_node = refl }))

@@ -1,13 +1,16 @@
 -- A change for which freezing the direct set alone isn't enough.
-use Rattle.std.proofs.Common.{◌≡◌, ℕ, zero, suc, true, [], ◌∷◌, Some, None, refl, sym, ap, ◌∙◌, subst, inl, inr, ⊎_elim, arith, Contains}
-use Rattle.std.specs.Prelude.{◌⊎◌, slice_get}
+use Rattle.std.proofs.Common.{◌≡◌, ℕ, zero, suc, ◌<◌, true, false, length, [], ◌∷◌, Some, None, refl, sym, ap, ◌∙◌, subst, inl, inr, ⊎_elim, arith, Contains}
+use Rattle.std.specs.Prelude.{◌⊎◌, ◌↔◌, slice_get}
 use Rattle.std.specs.List.Sorted.{IsStrictlyIncreasing}
+use Rattle.std.proofs.lemmas.Bool.{both_ways}
 use Rattle.std.proofs.lemmas.Option.{same_Some}
 use Rattle.change_plan.specs.Differences.{IsGone, IsKeptLink, IsTwin}
 use Rattle.change_plan.specs.Plans.{HasStepsBetween, IsPlanOf}
 use Rattle.change_plan.specs.Selects.Selects.{ends, skips, takes}
-use Rattle.change_plan.specs.Touched.{Frozen, HasNewTarget, IsTouched}
+use Rattle.change_plan.specs.Touched.{Frozen, HasNewTarget, IsTouched, SameTarget}
+use Rattle.passive_set.specs.DirectSet.{Direct, IsLinkedTo}
 use Rattle.config_graph.specs.Cycles.{IsLinked, graph_wiring}
+use Rattle.config_graph.specs.Graph.{target_of}
 use Rattle.config_graph.specs.Wiring.{Reach, direct, through}
 use Rattle.config_graph.specs.declared.node.Link.{Link}
 use Rattle.config_graph.specs.declared.node.Node.{Node}
@@ -16,11 +19,12 @@ use Rattle.quiesce_core.specs.declared.event.Event.TheVariants.{Link as LinkEven
 use Rattle.quiesce_core.specs.Reach.{has_no_cycle, reaches}
 use Rattle.quiesce_core.specs.Rules.{denial}
 use Rattle.quiesce_core.specs.Runs.{IsRun, state_after}
+use Rattle.quiesce_core.specs.State.{owner}
 use Rattle.quiescence_laws.specs.Drained.{is_drained}
 use Rattle.quiesce_core.proofs.RunLaws.{run_if}
 use Rattle.base.proofs.ContainsLaws.{Contains-at}
 use Rattle.plan_laws.specs.Commit.{commit_steps}
-use Rattle.plan_laws.specs.Rows.{all_closed, chain, direct_closed, first_map, linking, m_to_n, n_to_t, s_to_m, second_map, source}
+use Rattle.plan_laws.specs.Rows.{all_closed, chain, direct_closed, first_map, linking, m_to_n, n_to_t, s_to_m, second_map, sink, source}
 use Rattle.plan_laws.proofs.PlannedLemmas.{link_if}
 
 -- the nodes are the same
@@ -127,9 +131,6 @@ pub direct_runs : IsRun direct_closed
 unfolding has_no_cycle
 direct_runs = run_if direct_closed refl
 
-pub direct_drained : (is_drained (state_after direct_closed) 0 ≡ true) × (is_drained (state_after direct_closed) 1 ≡ true)
-direct_drained = (refl, refl)
-
 pub direct_denied : denial (state_after direct_closed) (LinkEvent 1 3 0) ≡ Some 22
 unfolding has_no_cycle reaches
 direct_denied = refl
@@ -137,3 +138,61 @@ direct_denied = refl
 pub all_allowed : denial (state_after all_closed) (LinkEvent 1 3 0) ≡ None
 unfolding has_no_cycle reaches
 all_allowed = refl
+
+-- the second map alone is touched
+m_stays : (twin require : ℕ) → IsTwin (chain []) (chain (n_to_t ∷ [])) 0 twin → require < 1
+    → ¬ SameTarget (chain []) (chain (n_to_t ∷ [])) (target_of (chain []).links 0 require) (target_of (chain (n_to_t ∷ [])).links twin require) → ⊥
+m_stays zero zero is low differs = differs (record { node = second_map; here = refl; there = refl }, refl)
+m_stays zero (suc r) is low differs = omega (arith, low)
+m_stays (suc zero) r is low differs =
+    let args : Some 1 ≡ Some 2 = ap (λ (n : Node). n.arg) (same_Some first_map is.node is.here ∙ sym (same_Some second_map is.node is.there)) in
+    let one : 1 ≡ 2 = same_Some 1 2 args in omega (arith, one)
+m_stays (suc (suc zero)) r is low differs =
+    let args : Some 1 ≡ Some 3 = ap (λ (n : Node). n.arg) (same_Some first_map is.node is.here ∙ sym (same_Some source is.node is.there)) in
+    let one : 1 ≡ 3 = same_Some 1 3 args in omega (arith, one)
+m_stays (suc (suc (suc zero))) r is low differs =
+    let args : Some 1 ≡ None = ap (λ (n : Node). n.arg) (same_Some first_map is.node is.here ∙ sym (same_Some sink is.node is.there)) in absurd (cc args)
+m_stays (suc (suc (suc (suc k)))) r is low differs = absurd (cc (is.there))
+
+s_stays : (twin require : ℕ) → IsTwin (chain []) (chain (n_to_t ∷ [])) 2 twin → require < 1
+    → ¬ SameTarget (chain []) (chain (n_to_t ∷ [])) (target_of (chain []).links 2 require) (target_of (chain (n_to_t ∷ [])).links twin require) → ⊥
+s_stays (suc (suc zero)) zero is low differs = differs (record { node = first_map; here = refl; there = refl }, refl)
+s_stays (suc (suc zero)) (suc r) is low differs = omega (arith, low)
+s_stays zero r is low differs =
+    let args : Some 3 ≡ Some 1 = ap (λ (n : Node). n.arg) (same_Some source is.node is.here ∙ sym (same_Some first_map is.node is.there)) in
+    let one : 3 ≡ 1 = same_Some 3 1 args in omega (arith, one)
+s_stays (suc zero) r is low differs =
+    let args : Some 3 ≡ Some 2 = ap (λ (n : Node). n.arg) (same_Some source is.node is.here ∙ sym (same_Some second_map is.node is.there)) in
+    let one : 3 ≡ 2 = same_Some 3 2 args in omega (arith, one)
+s_stays (suc (suc (suc zero))) r is low differs =
+    let args : Some 3 ≡ None = ap (λ (n : Node). n.arg) (same_Some source is.node is.here ∙ sym (same_Some sink is.node is.there)) in absurd (cc args)
+s_stays (suc (suc (suc (suc k)))) r is low differs = absurd (cc (is.there))
+
+touched_is : (n : ℕ) → IsTouched (chain []) (chain (n_to_t ∷ [])) n → 1 ≡ n
+touched_is n t = ⊎_elim (λ (g : IsGone (chain []) (chain (n_to_t ∷ [])) n). absurd (none_gone n g)) (λ (h : HasNewTarget (chain []) (chain (n_to_t ∷ [])) n). new_target n h) t
+  where
+    new_target : (n : ℕ) → HasNewTarget (chain []) (chain (n_to_t ∷ [])) n → 1 ≡ n
+    new_target zero h = absurd (m_stays h.twin h.require h.stays h.within h.differs)
+    new_target (suc zero) h = refl
+    new_target (suc (suc zero)) h = absurd (s_stays h.twin h.require h.stays h.within h.differs)
+    new_target (suc (suc (suc zero))) h = let low = h.within in absurd (omega (arith, low))
+    new_target (suc (suc (suc (suc k)))) h = let low = h.within in absurd (omega (arith, low))
+
+-- the source isn't in the direct set
+source_is_not_direct : Direct (chain []) (IsTouched (chain []) (chain (n_to_t ∷ []))) 2 → ⊥
+source_is_not_direct d = ⊎_elim
+    (λ (t : IsTouched (chain []) (chain (n_to_t ∷ [])) 2). let one : 1 ≡ 2 = touched_is 2 t in omega (arith, one))
+    (λ (l : (n : ℕ) × IsTouched (chain []) (chain (n_to_t ∷ [])) n × IsLinkedTo (chain []) 2 n).
+    let one : 1 ≡ l.0 = touched_is l.0 l.1 in
+    let w = link_if (chain []) 2 l.2.0 l.0 l.2.1 l.2.2 in
+    ⊎_elim
+    (λ (e : m_to_n ≡ w.link). let from : 0 ≡ 2 = ap (λ (k : Link). k.from) e ∙ w.from in omega (arith, from))
+    (λ (e : s_to_m ≡ w.link). let to : 0 ≡ l.0 = ap (λ (k : Link). k.to) e ∙ w.to in omega (arith, one, to))
+    (old_cases w.link w.there)) d
+
+-- the ports of the direct set are drained, and no others; slots are the places in the graph here
+pub direct_alone : (p : ℕ) → p < length (state_after direct_closed).config.gates → Direct (chain []) (IsTouched (chain []) (chain (n_to_t ∷ []))) (owner (state_after direct_closed).config p) ↔ (is_drained (state_after direct_closed) p ≡ true)
+direct_alone zero low = (λ d. refl, λ h. inr (1, touched, (0, 0, refl)))
+direct_alone (suc zero) low = (λ d. refl, λ h. inl touched)
+direct_alone (suc (suc zero)) low = (λ d. absurd (source_is_not_direct d), λ h. absurd (both_ways false refl h))
+direct_alone (suc (suc (suc p))) low = absurd (omega (arith, low))

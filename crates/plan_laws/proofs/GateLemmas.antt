@@ -1,5 +1,5 @@
 -- Which gates are closed for a change, and that they are open again after it.
-use Rattle.std.proofs.Common.{◌≡◌, ℕ, ◌<◌, ◌≤◌, true, false, not, ◌&&◌, ◌||◌, List, [], ◌∷◌, ◌++◌, map, length, None, refl, sym, ap, ◌∙◌, ⊎_elim, arith}
+use Rattle.std.proofs.Common.{◌≡◌, ℕ, ◌<◌, ◌≤◌, true, false, not, ◌&&◌, ◌||◌, List, [], ◌∷◌, ◌++◌, map, length, None, refl, sym, ap, ◌∙◌, ⊎_elim, arith, Contains}
 use Rattle.std.specs.Prelude.{filter, nat_lt, bytes_eq}
 use Rattle.std.proofs.lemmas.Bool.{and_from, and_parts, both_ways, cases_Bool, cases_lt, false_from_ne_true, ltb-true, not_from_false, or_left, or_right}
 use Rattle.change_plan.specs.declared.plan_data.Move.{Move}
@@ -17,10 +17,10 @@ use Rattle.commit_laws.specs.Lists.{In}
 use Rattle.commit_laws.specs.Steps.{change_all}
 use Rattle.commit_laws.proofs.GateLaws.{all_closed, close_allowed}
 use Rattle.commit_laws.proofs.TurningLaws.{IsLivePort, SameLinks, Turning, live_still}
-use Rattle.plan_laws.specs.Commit.{closes, commit_events, commit_steps, is_at, is_one_of, node_path, reopens, stands_in}
+use Rattle.plan_laws.specs.Commit.{commit_events, commit_steps, is_at, is_one_of, node_path, ports_to_close, ports_to_reopen, stands_in}
 use Rattle.plan_laws.specs.Committing.{MayCommit}
-use Rattle.plan_laws.proofs.CommitLaws.{flag_stays, opened_at, same_links}
-use Rattle.commit_laws.proofs.MemberLaws.{any_of, select, selected}
+use Rattle.plan_laws.proofs.CommitLemmas.{flag_stays, opened_at, same_links}
+use Rattle.commit_laws.proofs.MemberLaws.{any_of, in_contains, select, selected}
 
 module _ (old : Graph) (plan : Plan) (c : Configuration) where
   -- a node of the old graph that stands somewhere is live
@@ -30,21 +30,24 @@ module _ (old : Graph) (plan : Plan) (c : Configuration) where
       let m = map_or_true (is_at (node_path old i.0)) (slot c n) i.2 in
       map_or_at (λ (s : Slot). s.live) (slot c n) false m.0 m.1 ∙ (and_parts m.0.live (bytes_eq m.0.node.path (node_path old i.0)) m.2).0
 
-  pub closes_live : (p : ℕ) → In (closes old plan c) p → IsLivePort c p
+  pub closes_live : (p : ℕ) → In (ports_to_close old plan c) p → IsLivePort c p
   closes_live p i =
       let s = selected (λ q. is_one_of old plan.freeze c (owner c q)) 0 (length c.gates) p i in
       record { made = let low = s.below in omega arith; live = one_is_live (owner c p) s.passes }
 
-  pub unclosed : (p : ℕ) → is_one_of old plan.freeze c (owner c p) ≡ false → In (closes old plan c) p → ⊥
+  pub unclosed : (p : ℕ) → is_one_of old plan.freeze c (owner c p) ≡ false → In (ports_to_close old plan c) p → ⊥
   unclosed p unfrozen i = both_ways (is_one_of old plan.freeze c (owner c p)) unfrozen (selected (λ q. is_one_of old plan.freeze c (owner c q)) 0 (length c.gates) p i).passes
 
-pub close_at : (old : Graph) (plan : Plan) (es more_ left : List Event) (e : Event) → IsRun (es ++ more_) → filter is_of_change more_ ++ e ∷ left ≡ map Close (closes old plan (state_after es).config) → denial (state_after (es ++ more_)) e ≡ None
-close_at old plan es more_ left e run is = close_allowed es (closes old plan (state_after es).config) (closes_live old plan (state_after es).config) more_ left e run is
+  pub is_closed_for_it : (p : ℕ) → p < length c.gates → is_one_of old plan.freeze c (owner c p) ≡ true → Contains (ports_to_close old plan c) p
+  is_closed_for_it p low frozen = in_contains (ports_to_close old plan c) p (select (λ q. is_one_of old plan.freeze c (owner c q)) 0 (length c.gates) p (omega arith) (omega (arith, low)) frozen)
+
+pub close_at : (old : Graph) (plan : Plan) (es more_ left : List Event) (e : Event) → IsRun (es ++ more_) → filter is_of_change more_ ++ e ∷ left ≡ map Close (ports_to_close old plan (state_after es).config) → denial (state_after (es ++ more_)) e ≡ None
+close_at old plan es more_ left e run is = close_allowed es (ports_to_close old plan (state_after es).config) (closes_live old plan (state_after es).config) more_ left e run is
 
 module _ (old new : Graph) (moves : List Move) (plan : Plan) (before between : List Event) (may : MayCommit old new moves plan (before ++ between))
-    (closing : filter is_of_change between ≡ map Close (closes old plan (state_after before).config)) where
-  turned : Turning (state_after before).config true (closes old plan (state_after before).config) (state_after (before ++ between)).config []
-  turned = all_closed before (closes old plan (state_after before).config) (closes_live old plan (state_after before).config) between closing
+    (closing : filter is_of_change between ≡ map Close (ports_to_close old plan (state_after before).config)) where
+  turned : Turning (state_after before).config true (ports_to_close old plan (state_after before).config) (state_after (before ++ between)).config []
+  turned = all_closed before (ports_to_close old plan (state_after before).config) (closes_live old plan (state_after before).config) between closing
 
   -- the closes change no node
   same_frozen : (n : ℕ) → is_one_of old plan.freeze (state_after (before ++ between)).config n ≡ is_one_of old plan.freeze (state_after before).config n
@@ -72,7 +75,7 @@ module _ (old new : Graph) (moves : List Move) (plan : Plan) (before between : L
       let now = (state_after ((before ++ between) ++ more_)).config in
       let same : SameLinks d now = same_links old new moves plan es may more_ is in
       let live_d : is_live d (owner d p) ≡ true = ap (is_live d) (sym (same.owners p)) ∙ sym (live_still d now same (owner now p)) ∙ live in
-      let chosen : not (nat_lt p (length c.gates)) || is_one_of old plan.freeze c (owner c p) ≡ true → In (reopens old plan c d) p =
+      let chosen : not (nat_lt p (length c.gates)) || is_one_of old plan.freeze c (owner c p) ≡ true → In (ports_to_reopen old plan c d) p =
       λ h. select (λ q. is_live d (owner d q) && (not (nat_lt q (length c.gates)) || is_one_of old plan.freeze c (owner c q))) 0 (length d.gates) p (omega arith) (let long = same.long in omega (arith, made, long))
       (and_from (is_live d (owner d p)) (not (nat_lt p (length c.gates)) || is_one_of old plan.freeze c (owner c p)) live_d h) in
       ⊎_elim

@@ -1,12 +1,15 @@
 pub mod BankLemmas
 pub mod ChainLemmas
-pub mod CommitLaws
+pub mod CommitLemmas
+pub mod FeedingLemmas
 pub mod GateLemmas
 pub mod LineLemmas
 pub mod LinkedLemmas
+pub mod MayCommitLemmas
 pub mod PlannedLemmas
 pub mod ReadyLemmas
 pub mod RisingLemmas
 pub mod RoomLemmas
 pub mod StandingLemmas
+pub mod TakingOverLemmas
 pub mod WholeLemmas

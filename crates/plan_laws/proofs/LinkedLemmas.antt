@@ -32,7 +32,8 @@ use Rattle.quiesce_core.proofs.CycleLaws.{map_or_at}
 use Rattle.base.proofs.ContainsLaws.{Contains-at}
 use Rattle.plan_laws.specs.Commit.{is_at, is_link_of, new_link, new_link_of, new_links, node_path, slot_at}
 use Rattle.plan_laws.specs.Commit as commit
-use Rattle.plan_laws.proofs.ReadyLemmas.{IsReady, IsTouchedSlot}
+use Rattle.plan_laws.specs.Committing.{IsTouchedSlot}
+use Rattle.plan_laws.proofs.ReadyLemmas.{IsReady}
 use Rattle.commit_laws.specs.Lists.{In}
 use Rattle.commit_laws.specs.Work.{NewLink, NewNode, end_of}
 use Rattle.commit_laws.proofs.AcyclicLaws.{one_place}

@@ -33,9 +33,10 @@ use Rattle.quiesce_core.specs.Rules.{is_kind}
 use Rattle.quiesce_core.specs.State.{Configuration, gate, is_live, owner, slot, target}
 use Rattle.quiesce_core.proofs.CycleLaws.{made_below, map_or_true}
 use Rattle.base.proofs.ContainsLaws.{Contains-from_map, Contains-at, at_some_place}
-use Rattle.plan_laws.specs.Commit.{is_at, is_unlinked_by, is_one_of, makes_from, node_at, node_path, slot_at, source_of, work}
+use Rattle.plan_laws.specs.Commit.{is_at, is_one_of, is_unlinked_by, makes_from, node_at, node_path, slot_at, source_of, work}
 use Rattle.plan_laws.specs.Commit as commit
-use Rattle.plan_laws.proofs.ReadyLemmas.{IsReady, IsTouchedSlot}
+use Rattle.plan_laws.specs.Committing.{IsTouchedSlot}
+use Rattle.plan_laws.proofs.ReadyLemmas.{IsReady}
 use Rattle.commit_laws.specs.Fitting.{Fits, KeptLink}
 use Rattle.commit_laws.specs.Lists.{Apart, In}
 use Rattle.commit_laws.specs.Work.{AreNumbered, NewNode}
@@ -256,7 +257,7 @@ module _ (old new : Graph) (plan : Plan) (c : Configuration) (ready : IsReady ol
   node_is : (g : Graph) (i : ℕ) (node : Node) → slice_get g.nodes i ≡ Some node → node_at g i ≡ node
   node_is g i node e = ap (λ o. unwrap_or o (record { path = []; kind = Fork; arg = None })) e
 
-  source_is : (m : NewNode) (j k : ℕ) → m.from ≡ source_of old plan c j → m.from ≡ Some k → (s : Shift) × Contains plan.moves s × (s.new ≡ j) × StandsAt c old.nodes k s.old
+  pub source_is : (m : NewNode) (j k : ℕ) → m.from ≡ source_of old plan c j → m.from ≡ Some k → (s : Shift) × Contains plan.moves s × (s.new ≡ j) × StandsAt c old.nodes k s.old
   source_is m j k is e = by (find (λ (s : Shift). s.new == j) plan.moves) refl (sym is ∙ e)
     where
       by : (o : Option Shift) → find (λ (s : Shift). s.new == j) plan.moves ≡ o → option_and_then (λ (s : Shift). slot_at c (node_path old s.old)) o ≡ Some k
@@ -274,7 +275,7 @@ module _ (old new : Graph) (plan : Plan) (c : Configuration) (ready : IsReady ol
   makes_long k [] = refl
   makes_long k (j ∷ js) = ap (λ n. suc n) (makes_long (k + 1) js)
 
-  makes_are : (m : NewNode) → In (makes_from old new plan c (length c.slots) plan.create) m → (j : ℕ) × (node : Node) × In plan.create j × (slice_get new.nodes j ≡ Some node) × (m.node ≡ node) × (¬ Contains old.nodes node) × (m.from ≡ source_of old plan c j)
+  pub makes_are : (m : NewNode) → In (makes_from old new plan c (length c.slots) plan.create) m → (j : ℕ) × (node : Node) × In plan.create j × (slice_get new.nodes j ≡ Some node) × (m.node ≡ node) × (¬ Contains old.nodes node) × (m.from ≡ source_of old plan c j)
   makes_are m h =
       let w = made_of (length c.slots) plan.create m h in
       let g = create_gone w.place (in_contains plan.create w.place w.listed) in

@@ -8,7 +8,6 @@ use Rattle.std.proofs.lemmas.List.Sums.{sum_by-cons}
 use Rattle.change_plan.specs.Differences.{IsGone}
 use Rattle.change_plan.specs.Moves.{IsOfOneKind, IsShifts, MayMoveAll}
 use Rattle.change_plan.specs.Plans.{HasStepsBetween}
-use Rattle.change_plan.specs.Touched.{IsTouched}
 use Rattle.change_plan.specs.declared.plan_data.Move.{Move}
 use Rattle.change_plan.specs.declared.plan_data.Plan.{Plan}
 use Rattle.change_plan.specs.declared.plan_data.Shift.{Shift}
@@ -41,10 +40,6 @@ pub record AreMoves (old new : Graph) (plan : Plan) : Type 0 where
   pub removed : (s : Shift) → Contains plan.moves s → IsGone old new s.old
   pub one_kind : (s : Shift) → Contains plan.moves s → IsOfOneKind old new s
   pub one_source : (s t : Shift) → Contains plan.moves s → Contains plan.moves t → s.old ≡ t.old → s.new ≡ t.new
-
--- the node in slot n is one that the change touches
-abbrev pub IsTouchedSlot : Graph → Graph → Configuration → ℕ → Type 0
-IsTouchedSlot old new c n = (i : ℕ) × IsTouched old new i × StandsAt c old.nodes n i
 
 pub record IsReady (old new : Graph) (plan : Plan) (c : Configuration) : Type 0 where
   pub old_graph : IsGraph old

@@ -13,8 +13,9 @@ use Rattle.commit_laws.proofs.BetweenLaws.{Ground}
 use Rattle.commit_laws.proofs.CommitLaws.{all_made, made_is}
 use Rattle.commit_laws.proofs.MakingLaws.{Making}
 use Rattle.commit_laws.proofs.TurningLaws.{IsLivePort}
-use Rattle.plan_laws.specs.Commit.{is_frozen_or_new, is_one_of, new_links, reopens, stands_in, work}
-use Rattle.plan_laws.proofs.ReadyLemmas.{IsReady, IsTouchedSlot}
+use Rattle.plan_laws.specs.Commit.{is_frozen_or_new, is_one_of, new_links, ports_to_reopen, stands_in, work}
+use Rattle.plan_laws.specs.Committing.{IsTouchedSlot}
+use Rattle.plan_laws.proofs.ReadyLemmas.{IsReady}
 use Rattle.plan_laws.proofs.LinkedLemmas.{are_links}
 use Rattle.plan_laws.proofs.PlannedLemmas.{is_work}
 use Rattle.commit_laws.proofs.MemberLaws.{any_if, selected}
@@ -64,7 +65,7 @@ module _ (old new : Graph) (plan : Plan) (c : Configuration) (ready : IsReady ol
 
 -- the ports that are reopened are those of live nodes that were frozen or made
 module _ (old : Graph) (plan : Plan) (c d : Configuration) where
-  pub reopened_live : (p : ℕ) → In (reopens old plan c d) p → IsLivePort d p
+  pub reopened_live : (p : ℕ) → In (ports_to_reopen old plan c d) p → IsLivePort d p
   reopened_live p i =
       let s = selected (λ p. is_live d (owner d p) && (not (nat_lt p (length c.gates)) || is_one_of old plan.freeze c (owner c p))) 0 (length d.gates) p i in
       record {
@@ -72,7 +73,7 @@ module _ (old : Graph) (plan : Plan) (c d : Configuration) where
         live = (and_parts (is_live d (owner d p)) (not (nat_lt p (length c.gates)) || is_one_of old plan.freeze c (owner c p)) s.passes).0;
       }
 
-  pub unopened : (p : ℕ) → p < length c.gates → is_one_of old plan.freeze c (owner c p) ≡ false → In (reopens old plan c d) p → ⊥
+  pub unopened : (p : ℕ) → p < length c.gates → is_one_of old plan.freeze c (owner c p) ≡ false → In (ports_to_reopen old plan c d) p → ⊥
   unopened p low unfrozen i =
       let s = selected (λ p. is_live d (owner d p) && (not (nat_lt p (length c.gates)) || is_one_of old plan.freeze c (owner c p))) 0 (length d.gates) p i in
       let parts = and_parts (is_live d (owner d p)) (not (nat_lt p (length c.gates)) || is_one_of old plan.freeze c (owner c p)) s.passes in

@@ -96,8 +96,8 @@ abbrev pub is_frozen_or_new : Graph → Plan → Configuration → ℕ → Bool
 is_frozen_or_new old plan c p = not (nat_lt p (length c.gates)) || is_one_of old plan.freeze c (owner c p)
 
 -- the ports that are closed for the change: those of frozen nodes
-abbrev pub closes : Graph → Plan → Configuration → List ℕ
-closes old plan c = ports_where (λ p. is_one_of old plan.freeze c (owner c p)) c
+abbrev pub ports_to_close : Graph → Plan → Configuration → List ℕ
+ports_to_close old plan c = ports_where (λ p. is_one_of old plan.freeze c (owner c p)) c
 
 -- all up to the last link
 abbrev pub commit_steps : Graph → Graph → Plan → Configuration → List Event
@@ -105,11 +105,11 @@ commit_steps old new plan c =
     work_of (work old new plan c) ++ map link_of (new_links new plan (change_all c (work_of (work old new plan c))))
 
 -- the ports that were closed for the change and those made in it, where they are live
-abbrev pub reopens : Graph → Plan → Configuration → Configuration → List ℕ
-reopens old plan c d = ports_where (λ p. is_live d (owner d p) && is_frozen_or_new old plan c p) d
+abbrev pub ports_to_reopen : Graph → Plan → Configuration → Configuration → List ℕ
+ports_to_reopen old plan c d = ports_where (λ p. is_live d (owner d p) && is_frozen_or_new old plan c p) d
 
 abbrev pub reopened_ports : Graph → Graph → Plan → Configuration → List ℕ
-reopened_ports old new plan c = reopens old plan c (change_all c (commit_steps old new plan c))
+reopened_ports old new plan c = ports_to_reopen old plan c (change_all c (commit_steps old new plan c))
 
 -- and the whole commit
 abbrev pub commit_events : Graph → Graph → Plan → Configuration → List Event

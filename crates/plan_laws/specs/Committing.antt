@@ -1,22 +1,36 @@
 -- When the change that a plan describes may be committed.
-use Rattle.std.specs.Prelude.{ℕ, ◌<◌, length, IsTrue, List}
+use Rattle.std.specs.Prelude.{◌≡◌, ℕ, ◌<◌, length, slice_get, Some, Contains, IsTrue, List}
 use Rattle.change_plan.specs.Plans.{IsPlanOf}
 use Rattle.change_plan.specs.Refusals.{CanPlan}
 use Rattle.change_plan.specs.declared.plan_data.Move.{Move}
+use Rattle.change_plan.specs.Touched.{IsTouched}
 use Rattle.change_plan.specs.declared.plan_data.Plan.{Plan}
+use Rattle.change_plan.specs.declared.plan_data.Shift.{Shift}
 use Rattle.config_graph.specs.Graph.{Graph, IsGraph}
 use Rattle.config_graph.specs.Sound.{Sound}
 use Rattle.config_graph.specs.declared.node.Made.{Made}
 use Rattle.quiesce_core.specs.declared.event.Event.{Event}
-use Rattle.quiesce_core.specs.Live.{IsGraphOf}
+use Rattle.quiesce_core.specs.Live.{IsGraphOf, StandsAt}
 use Rattle.quiesce_core.specs.Runs.{IsRun, state_after}
 use Rattle.quiesce_core.specs.State.{Configuration, owner}
 use Rattle.quiescence_laws.specs.Drained.{is_drained}
+use Rattle.commit_laws.specs.Work.{NewNode}
 use Rattle.plan_laws.specs.Commit.{is_one_of}
 
 -- how much was made
 abbrev pub made_in : Configuration → Made
 made_in c = record { nodes = length c.slots; ports = length c.gates }
+
+-- the node in slot n is one that the change touches
+abbrev pub IsTouchedSlot : Graph → Graph → Configuration → ℕ → Type 0
+IsTouchedSlot old new c n = (i : ℕ) × IsTouched old new i × StandsAt c old.nodes n i
+
+-- one of the moves leads from the live node in slot k to the node that is made
+pub record TakesOver (old new : Graph) (plan : Plan) (c : Configuration) (m : NewNode) (k : ℕ) : Type 0 where
+  pub shift : Shift
+  pub there : Contains plan.moves shift
+  pub source : StandsAt c old.nodes k shift.old
+  pub target : slice_get new.nodes shift.new ≡ Some m.node
 
 -- After this run the change may commit: the graph is the old one, the plan leads from there to a sound graph, and each
 -- port of each frozen node is closed and has no transaction but a consequent one.

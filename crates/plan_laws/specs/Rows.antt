@@ -7,7 +7,7 @@ use Rattle.config_graph.specs.declared.node.Node.{Node}
 use Rattle.change_plan.specs.declared.plan_data.Move.{Move}
 use Rattle.change_plan.specs.declared.plan_data.Plan.{Plan}
 use Rattle.quiesce_core.specs.declared.event.Event.{Event}
-use Rattle.quiesce_core.specs.declared.event.Event.TheVariants.{Close}
+use Rattle.quiesce_core.specs.declared.event.Event.TheVariants.{Begin, Close}
 use Rattle.quiescence_laws.specs.Starts.{start_of}
 
 -- A branch moves money between two accounts. One of these is replaced by one with another argument, and its state goes
@@ -60,6 +60,49 @@ source = record { path = codes "s"; kind = kind.Source; arg = Some 3 }
 
 abbrev pub sink : Node
 sink = record { path = codes "t"; kind = kind.Sink; arg = None }
+
+-- Two accounts are replaced by two with other paths, and their states go over crosswise.
+
+abbrev pub account_at : List ℕ → ℕ → Node
+account_at path b = record { path = path; kind = kind.Account; arg = Some b }
+
+abbrev pub two_accounts : Node → Node → Graph
+two_accounts m n = record { nodes = m ∷ n ∷ []; links = [] }
+
+abbrev pub first_accounts : Graph
+first_accounts = two_accounts (account_at (codes "a") 1) (account_at (codes "b") 2)
+
+abbrev pub next_accounts : Graph
+next_accounts = two_accounts (account_at (codes "c") 3) (account_at (codes "d") 4)
+
+abbrev pub crosswise : Plan
+crosswise =
+    record {
+      unlink = [];
+      remove = 0 ∷ 1 ∷ [];
+      create = 0 ∷ 1 ∷ [];
+      link = [];
+      moves = record { old = 1; new = 0 } ∷ record { old = 0; new = 1 } ∷ [];
+      freeze = 0 ∷ 1 ∷ [];
+    }
+
+-- A sink is added beside a source that feeds another: nothing is frozen, and the source goes on meanwhile.
+
+abbrev pub spare : Node
+spare = record { path = codes "u"; kind = kind.Sink; arg = None }
+
+abbrev pub s_to_t : LinkOf
+s_to_t = record { from = 0; require = 0; to = 1; provide = 0 }
+
+abbrev pub feeding : List Node → Graph
+feeding more_ = record { nodes = source ∷ sink ∷ more_; links = s_to_t ∷ [] }
+
+abbrev pub adding : Plan
+adding = record { unlink = []; remove = []; create = 2 ∷ []; link = []; moves = []; freeze = [] }
+
+-- the system was started, and a transaction of the source has begun
+abbrev pub feeding_busy : List Event
+feeding_busy = start_of (feeding []) ++ Begin 0 1 1 ∷ []
 
 -- A map between a source and a sink is replaced: both links go, and the new node has a port of its own.
 

@@ -10,6 +10,27 @@ component Line(int n, int k) {
 }
 ";
 
+/// A map that isn't linked on, behind another.
+pub const CHAIN: &str = "component source(int n) { require out; }
+component map(int k) { provide in; require next; }
+component sink { provide in; }
+component Chain {
+  inst m:map(1); n:map(2); s:source(3); t:sink;
+  bind s.out -- m.in; m.next -- n.in;
+}
+";
+
+/// A teller that moves between two accounts through a branch.
+pub const BANK: &str = "component teller(int n) { require move; }
+component branch { provide move; require from, to; }
+component account(int b) { provide post; }
+component Bank(int n, int x, int y) {
+  inst a:account(x); b:account(y); r:branch; w:teller(n);
+  bind w.move -- r.move; r.from -- a.post; r.to -- b.post;
+}
+component Solo { inst a:account(5); }
+";
+
 /// An array with an element outside its turns.
 pub const ROW: &str = "component sink { provide in; }
 component Row(int n) {

@@ -77,7 +77,61 @@ close 0
 begin 0 1 1
 ";
 
-static ROWS: [Row<'static>; 6] = [
+/// The text of `examples/pipe-change.txt`.
+const CHANGE: &str =
+    "# The change of pipe.dar from Main 1 to Main 2: `plan` freezes p.F[0] and s. Port 0 is p.F[0].next, port 1 is s.out.
+start Main(1)
+begin 1 1 5
+
+# what is frozen is closed
+close 0
+close 1
+
+# what was open there ends
+take 1 1 5
+call 0 1 6
+take 0 1 6
+give 0 1 1
+end 0 1 1
+give 1 1 1
+end 1 1 1
+
+# the steps of the plan
+unlink 0
+make 3 p.F[1] map(1)
+link 0 3 0
+link 2 2 0
+
+# what was closed or made is opened
+reopen 0
+reopen 1
+reopen 2
+
+# and the system goes on through both maps
+begin 1 2 5
+take 1 2 5
+call 0 2 6
+take 0 2 6
+call 2 1 7
+";
+
+/// The text of `examples/pipe-denied.txt`.
+const CHANGE_DENIED: &str =
+    "# The same change, but s isn't frozen: it may still begin a transaction that comes to p.F[0].
+start Main(1)
+begin 1 1 5
+close 0
+take 1 1 5
+call 0 1 6
+take 0 1 6
+give 0 1 1
+end 0 1 1
+give 1 1 1
+end 1 1 1
+unlink 0
+";
+
+static ROWS: [Row<'static>; 9] = [
     Row {
         words: &["flat", "l.dar", "L"],
         files: &[("l.dar", LINE)],
@@ -131,6 +185,27 @@ static ROWS: [Row<'static>; 6] = [
         room: AMPLE,
         status: 9,
         written: "denied 3 2\n",
+    },
+    Row {
+        words: &["plan", "pipe.dar", "Main", "1", "--", "Main", "2"],
+        files: &[("pipe.dar", PIPE)],
+        room: AMPLE,
+        status: 0,
+        written: "freeze p.F[0]\nfreeze s\nunlink p.F[0].next\ncreate p.F[1] map(1)\nlink p.F[0].next p.F[1].in\nlink p.F[1].next t.in\n",
+    },
+    Row {
+        words: &["replay", "pipe.dar", "pipe-change.txt"],
+        files: &[("pipe.dar", PIPE), ("pipe-change.txt", CHANGE)],
+        room: AMPLE,
+        status: 0,
+        written: "events 22\nopen 0 2 call taken\nopen 1 2 root taken\nopen 2 1 call waiting\nrest 7\n",
+    },
+    Row {
+        words: &["replay", "pipe.dar", "pipe-denied.txt"],
+        files: &[("pipe.dar", PIPE), ("pipe-denied.txt", CHANGE_DENIED)],
+        room: AMPLE,
+        status: 9,
+        written: "denied 10 22\n",
     },
 ];
 

@@ -1,6 +1,6 @@
 //! Rows of `replay`. Further ones stand in the rows of the guide.
 
-use crate::descriptions::{ASKING, LINE, MANY, SMALL};
+use crate::descriptions::{ASKING, BANK, CHAIN, LINE, MANY, SMALL};
 use crate::running::{AMPLE, Row, run};
 use cfg_io::{MemShelf, MemSink};
 use darwin_commands::{Status, still};
@@ -12,7 +12,7 @@ use std::test::Fail;
 type Replay = (&'static str, &'static str, u8, &'static str);
 
 /// Events that are steps, and events that are denied.
-static EVENTS: [Replay; 12] = [
+static EVENTS: [Replay; 16] = [
     (
         LINE,
         "start Line(3,10)\nbegin 1 1 1\ntake 1 1 1\ncall 0 1 11\n",
@@ -72,6 +72,30 @@ static EVENTS: [Replay; 12] = [
         "start Two()\nbegin 0 1 5\ntake 0 1 5\nmore 0 1 5\nclose 0\ngive 0 1 5\n",
         9,
         "denied 5 29\n",
+    ),
+    (
+        BANK,
+        "start Bank(3,100,0)\nclose 0\nclose 1\nclose 2\nunlink 0\nremove 0\nmake 4 a account(7) from 0\nlink 0 4 0\nreopen 0\nreopen 1\nreopen 2\n",
+        0,
+        "events 10\nrest 0\n",
+    ),
+    (
+        BANK,
+        "start Bank(3,100,0)\nclose 0\nclose 1\nunlink 0\n",
+        9,
+        "denied 3 22\n",
+    ),
+    (
+        CHAIN,
+        "start Chain()\nclose 0\nclose 1\nlink 1 3 0\n",
+        9,
+        "denied 3 22\n",
+    ),
+    (
+        CHAIN,
+        "start Chain()\nclose 0\nclose 1\nclose 2\nlink 1 3 0\n",
+        0,
+        "events 4\nrest 0\nsettled m\nsettled n\nsettled s\nsettled t\n",
     ),
     (LINE, "start Line(3,10)\n", 0, "events 0\nrest 0\n"),
     (MANY, "start Many(1023)\nbegin 7 7 7\n", 9, "denied 1 1\n"),

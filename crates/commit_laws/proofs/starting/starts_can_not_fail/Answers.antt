@@ -1,4 +1,4 @@
-use Rattle.commit_laws.proofs.StartingLaws.{start_allowed, start_graph}
+use Rattle.commit_laws.proofs.StartingLemmas.{start_allowed, start_graph}
 use Rattle.commit_laws.proofs.starting.starts_can_not_fail.Goals as goal
 
 pub returns-clause-allowed : goal.returns-clause-allowed

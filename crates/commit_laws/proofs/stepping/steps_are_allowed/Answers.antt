@@ -1,4 +1,4 @@
-use Rattle.commit_laws.proofs.AllowedLaws.{step_allowed}
+use Rattle.commit_laws.proofs.AllowedLemmas.{step_allowed}
 use Rattle.commit_laws.proofs.stepping.steps_are_allowed.Goals as goal
 
 pub returns : goal.returns

@@ -1,5 +1,15 @@
-use Rattle.plan_laws.proofs.CommitLaws.{allowed_at, events_may, runs_to_its_end}
+use Rattle.quiesce_core.specs.Runs.{state_after}
+use Rattle.commit_laws.proofs.MemberLaws.{contains_in}
+use Rattle.plan_laws.specs.Commit.{work}
+use Rattle.plan_laws.proofs.CommitLemmas.{allowed_at, events_may, runs_to_its_end, whole}
+use Rattle.plan_laws.proofs.TakingOverLemmas.{handed_over}
 use Rattle.plan_laws.proofs.committing.commits_can_not_fail.Goals as goal
+
+pub returns-clause-is_commit : goal.returns-clause-is_commit
+returns-clause-is_commit c = λ old new moves plan es may. whole old new moves plan es may
+
+pub returns-clause-handed_over : goal.returns-clause-handed_over
+returns-clause-handed_over c = λ old new moves plan es m k may there. handed_over old new moves plan es may m (contains_in (work old new plan (state_after es).config).makes m there) k
 
 pub returns-clause-by_the_configuration : goal.returns-clause-by_the_configuration
 returns-clause-by_the_configuration c = λ old new moves plan es may. events_may old new moves plan es may

@@ -1,4 +1,4 @@
-use Rattle.plan_laws.proofs.CommitLaws.{graph_linked, graph_reopening, part_at}
+use Rattle.plan_laws.proofs.CommitLemmas.{graph_linked, graph_reopening, part_at}
 use Rattle.plan_laws.proofs.committing.commits_leave_the_new_graph.Goals as goal
 
 pub returns-clause-linked : goal.returns-clause-linked

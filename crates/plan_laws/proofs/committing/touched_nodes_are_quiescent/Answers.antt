@@ -2,7 +2,7 @@ use Rattle.std.specs.Prelude.{◌++◌}
 use Rattle.quiesce_core.specs.Runs.{state_after}
 use Rattle.quiesce_core.proofs.SettledLaws.{if_settled}
 use Rattle.quiescence_laws.proofs.QuiescenceLaws.{quiescent_at}
-use Rattle.plan_laws.proofs.CommitLaws.{settled_at}
+use Rattle.plan_laws.proofs.CommitLemmas.{settled_at}
 use Rattle.plan_laws.proofs.committing.touched_nodes_are_quiescent.Goals as goal
 
 pub returns-clause-settled : goal.returns-clause-settled

@@ -23,7 +23,7 @@ use Rattle.commit_laws.specs.Steps.{MayStep}
 use Rattle.commit_laws.specs.Work.{NewLink, link_of, end_of}
 use Rattle.commit_laws.proofs.AcyclicLaws.{no_cycle, one_place}
 use Rattle.commit_laws.proofs.BetweenLaws.{Between, Ground, between_link, is_noted}
-use Rattle.commit_laws.proofs.UnlinkingLaws.{target_beside, target_put}
+use Rattle.commit_laws.proofs.UnlinkingLemmas.{target_beside, target_put}
 use Rattle.commit_laws.specs.Commits.{Changed, IsToLink, OtherPort}
 
 -- the live nodes are those of the new graph, all links are links of it, and these are left to be made

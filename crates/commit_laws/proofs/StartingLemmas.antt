@@ -21,14 +21,13 @@ use Rattle.quiesce_core.specs.Start.{started}
 use Rattle.quiesce_core.specs.State.{State, empty, is_live, owner, ports_of, service}
 use Rattle.quiesce_core.proofs.GraphLaws.{graph_started}
 use Rattle.quiesce_core.proofs.LegalLaws.{legal}
-use Rattle.quiesce_core.proofs.RunLaws.{StepAt}
+use Rattle.quiesce_core.proofs.RunLaws.{StepAt, effect_config}
 use Rattle.quiesce_core.proofs.StepsLaws.{end_is, run_is_steps}
 use Rattle.quiescence_laws.specs.Events.{reopens}
 use Rattle.quiescence_laws.specs.Starts.{link_of, make_of, reopen_of, start_of}
 use Rattle.quiescence_laws.proofs.StartLemmas.{start_path}
 use Rattle.base.specs.Each.{EachAfter}
 use Rattle.commit_laws.specs.Steps.{IsNoted, MayStep, MayStepAll, change_all}
-use Rattle.quiesce_core.proofs.RunLaws.{effect_config}
 use Rattle.commit_laws.proofs.CarryingLaws.{allowed_in_order, append_closed, map_closed}
 use Rattle.commit_laws.proofs.MeanwhileLaws.{now_is}
 

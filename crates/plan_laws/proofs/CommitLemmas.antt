@@ -28,9 +28,9 @@ use Rattle.commit_laws.specs.Commits.{IsCommit}
 use Rattle.commit_laws.proofs.MeanwhileLaws.{front_is_of_change, runs_on}
 use Rattle.commit_laws.proofs.PartLaws.{part_of_one}
 use Rattle.commit_laws.proofs.TurningLaws.{IsLivePort, SameLinks}
-use Rattle.plan_laws.specs.Commit.{commit_events, commit_steps, is_frozen_or_new, is_one_of, new_links, reopens, work}
-use Rattle.plan_laws.specs.Committing.{MayCommit}
-use Rattle.plan_laws.proofs.ReadyLemmas.{IsReady, IsTouchedSlot, ready}
+use Rattle.plan_laws.specs.Commit.{commit_events, commit_steps, is_frozen_or_new, is_one_of, new_links, ports_to_reopen, work}
+use Rattle.plan_laws.specs.Committing.{IsTouchedSlot, MayCommit}
+use Rattle.plan_laws.proofs.ReadyLemmas.{IsReady, ready}
 use Rattle.plan_laws.proofs.PlannedLemmas.{linked_if, old_link}
 use Rattle.plan_laws.proofs.WholeLemmas.{commit, reopened_live, unopened, untouched}
 
@@ -47,7 +47,8 @@ module _ (old new : Graph) (moves : List Move) (plan : Plan) (es : List Event) (
   is_ready : IsReady old new plan (state_after es).config
   is_ready = ready old new moves plan es may
 
-  whole : IsCommit (state_after es).config new (IsTouchedSlot old new (state_after es).config) (is_frozen_or_new old plan (state_after es).config) (work old new plan (state_after es).config)
+  -- what it does is a commit
+  pub whole : IsCommit (state_after es).config new (IsTouchedSlot old new (state_after es).config) (is_frozen_or_new old plan (state_after es).config) (work old new plan (state_after es).config)
       (new_links new plan (change_all (state_after es).config (work_of (work old new plan (state_after es).config))))
   whole = commit old new plan (state_after es).config (ready old new moves plan es may)
 
@@ -62,7 +63,7 @@ module _ (old new : Graph) (moves : List Move) (plan : Plan) (es : List Event) (
       (λ (past : length c.gates ≤ p). unmade_drained es may.run p past)
       (cases_lt p (length c.gates))
 
-  reopens_live : (p : ℕ) → In (reopens old plan (state_after es).config (change_all (state_after es).config (commit_steps old new plan (state_after es).config))) p
+  reopens_live : (p : ℕ) → In (ports_to_reopen old plan (state_after es).config (change_all (state_after es).config (commit_steps old new plan (state_after es).config))) p
       → IsLivePort (change_all (state_after es).config (commit_steps old new plan (state_after es).config)) p
   reopens_live p i = reopened_live old plan (state_after es).config (change_all (state_after es).config (commit_steps old new plan (state_after es).config)) p i
 
@@ -72,7 +73,7 @@ module _ (old new : Graph) (moves : List Move) (plan : Plan) (es : List Event) (
       let c = (state_after es).config in
       let w = work old new plan c in
       carrying.events_may c new (IsTouchedSlot old new c) (is_frozen_or_new old plan c) w (new_links new plan (change_all c (work_of w))) is_ready.after whole
-      (reopens old plan c (change_all c (commit_steps old new plan c))) reopens_live
+      (ports_to_reopen old plan c (change_all c (commit_steps old new plan c))) reopens_live
 
   pub settled_at : (more_ left : List Event) (n : ℕ) → IsRun (es ++ more_) → filter is_of_change more_ ++ left ≡ commit_steps old new plan (state_after es).config
       → IsTouchedSlot old new (state_after es).config n → is_live (state_after (es ++ more_)).config n ≡ true → Settled (state_after (es ++ more_)) n
@@ -86,7 +87,7 @@ module _ (old new : Graph) (moves : List Move) (plan : Plan) (es : List Event) (
       let c = (state_after es).config in
       let w = work old new plan c in
       carrying.allowed_at es new (IsTouchedSlot old new c) (is_frozen_or_new old plan c) w (new_links new plan (change_all c (work_of w))) may.run whole all_drained
-      (reopens old plan c (change_all c (commit_steps old new plan c))) reopens_live more_ left e run is
+      (ports_to_reopen old plan c (change_all c (commit_steps old new plan c))) reopens_live more_ left e run is
 
   -- so the commit goes on with the run to its end, where nodes do nothing in between
   pub runs_to_its_end : IsRun (es ++ commit_events old new plan (state_after es).config)
@@ -102,12 +103,12 @@ module _ (old new : Graph) (moves : List Move) (plan : Plan) (es : List Event) (
       carrying.graph_linked es new (IsTouchedSlot old new c) (is_frozen_or_new old plan c) w (new_links new plan (change_all c (work_of w))) may.run whole more_ is
 
   pub graph_reopening : (more_ done left : List Event) → filter is_of_change more_ ≡ commit_steps old new plan (state_after es).config ++ done
-      → done ++ left ≡ map Reopen (reopens old plan (state_after es).config (change_all (state_after es).config (commit_steps old new plan (state_after es).config))) → IsGraphOf (state_after (es ++ more_)).config new
+      → done ++ left ≡ map Reopen (ports_to_reopen old plan (state_after es).config (change_all (state_after es).config (commit_steps old new plan (state_after es).config))) → IsGraphOf (state_after (es ++ more_)).config new
   graph_reopening more_ done left is parts =
       let c = (state_after es).config in
       let w = work old new plan c in
       carrying.graph_reopening es new (IsTouchedSlot old new c) (is_frozen_or_new old plan c) w (new_links new plan (change_all c (work_of w))) may.run whole
-      (reopens old plan c (change_all c (commit_steps old new plan c))) reopens_live more_ done left is parts
+      (ports_to_reopen old plan c (change_all c (commit_steps old new plan c))) reopens_live more_ done left is parts
 
   was_part : IsPart (state_after es).config old
   was_part =
@@ -139,7 +140,7 @@ module _ (old new : Graph) (moves : List Move) (plan : Plan) (es : List Event) (
         let c = (state_after es).config in
         let w = work old new plan c in
         carrying.target_stays es new (IsTouchedSlot old new c) (is_frozen_or_new old plan c) w (new_links new plan (change_all c (work_of w))) may.run whole
-        (reopens old plan c (change_all c (commit_steps old new plan c))) reopens_live p low (untouched old new plan c is_ready (owner c p) unfrozen) more_ left is
+        (ports_to_reopen old plan c (change_all c (commit_steps old new plan c))) reopens_live p low (untouched old new plan c is_ready (owner c p) unfrozen) more_ left is
 
     pub flag_stays : (more_ left : List Event) → filter is_of_change more_ ++ left ≡ commit_events old new plan (state_after es).config → (gate (state_after (es ++ more_)).config p).closed ≡ (gate (state_after es).config p).closed
     flag_stays more_ left is =
@@ -147,15 +148,15 @@ module _ (old new : Graph) (moves : List Move) (plan : Plan) (es : List Event) (
         let w = work old new plan c in
         let d = change_all c (commit_steps old new plan c) in
         carrying.flag_stays es new (IsTouchedSlot old new c) (is_frozen_or_new old plan c) w (new_links new plan (change_all c (work_of w))) may.run whole
-        (reopens old plan c d) reopens_live p low (untouched old new plan c is_ready (owner c p) unfrozen) (unopened old plan c d p low unfrozen) more_ left is
+        (ports_to_reopen old plan c d) reopens_live p low (untouched old new plan c is_ready (owner c p) unfrozen) (unopened old plan c d p low unfrozen) more_ left is
 
-  pub opened_at : (p : ℕ) → In (reopens old plan (state_after es).config (change_all (state_after es).config (commit_steps old new plan (state_after es).config))) p
+  pub opened_at : (p : ℕ) → In (ports_to_reopen old plan (state_after es).config (change_all (state_after es).config (commit_steps old new plan (state_after es).config))) p
       → (more_ : List Event) → filter is_of_change more_ ≡ commit_events old new plan (state_after es).config → (gate (state_after (es ++ more_)).config p).closed ≡ false
   opened_at p i more_ is =
       let c = (state_after es).config in
       let w = work old new plan c in
       carrying.opened_at es new (IsTouchedSlot old new c) (is_frozen_or_new old plan c) w (new_links new plan (change_all c (work_of w))) may.run whole
-      (reopens old plan c (change_all c (commit_steps old new plan c))) reopens_live p i more_ is
+      (ports_to_reopen old plan c (change_all c (commit_steps old new plan c))) reopens_live p i more_ is
 
   -- each node and port is live after the commit that was so after the last link
   pub same_links : (more_ : List Event) → filter is_of_change more_ ≡ commit_events old new plan (state_after es).config
@@ -164,4 +165,4 @@ module _ (old new : Graph) (moves : List Move) (plan : Plan) (es : List Event) (
       let c = (state_after es).config in
       let w = work old new plan c in
       carrying.same_links es new (IsTouchedSlot old new c) (is_frozen_or_new old plan c) w (new_links new plan (change_all c (work_of w))) may.run whole
-      (reopens old plan c (change_all c (commit_steps old new plan c))) reopens_live more_ is
+      (ports_to_reopen old plan c (change_all c (commit_steps old new plan c))) reopens_live more_ is
