@@ -17,7 +17,7 @@ use Rattle.change_plan.specs.declared.plan_data.Move.{Move}
 use Rattle.change_plan.specs.declared.plan_data.Plan.{Plan}
 use Rattle.change_plan.specs.declared.plan_data.Shift.{Shift}
 use Rattle.change_plan.proofs.SelectsLaws.{Selects-one}
-use Rattle.plan_laws.specs.Commit.{closes}
+use Rattle.plan_laws.specs.Commit.{ports_to_close}
 use Rattle.quiesce_core.specs.Live.{AreLinked, IsLiveNode}
 use Rattle.quiesce_core.specs.declared.event.Event.TheVariants.{Close}
 use Rattle.turns.specs.Round.{FirstAt, after_rounds, ended}

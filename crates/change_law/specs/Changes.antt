@@ -6,7 +6,7 @@ use Rattle.config_graph.specs.Graph.{Graph}
 use Rattle.change_plan.specs.Plans.{IsPlanOf}
 use Rattle.change_plan.specs.declared.plan_data.Move.{Move}
 use Rattle.change_plan.specs.declared.plan_data.Plan.{Plan}
-use Rattle.plan_laws.specs.Commit.{closes, commit_events}
+use Rattle.plan_laws.specs.Commit.{commit_events, ports_to_close}
 use Rattle.quiesce_core.specs.Live.{IsGraphOf}
 use Rattle.quiesce_core.specs.State.{Configuration}
 use Rattle.change_script.specs.declared.report.HistoryLine.{HistoryLine}
@@ -31,7 +31,7 @@ drained_lines looks = map drained_line (seen_in_all looks)
 
 -- what every change begins with, and what a commit ends it with, where the change finds this configuration
 abbrev pub opening_lines : List ℕ → List ℤ → Graph → Plan → Configuration → List HistoryLine
-opening_lines name args old plan c = to.Change name args ∷ map to.Close (closes old plan c)
+opening_lines name args old plan c = to.Change name args ∷ map to.Close (ports_to_close old plan c)
 
 abbrev pub commit_lines : Graph → Graph → Plan → Configuration → List HistoryLine
 commit_lines old new plan c = lines_of_events (commit_events old new plan c) ++ to.Commit ∷ []
@@ -40,7 +40,7 @@ commit_lines old new plan c = lines_of_events (commit_events old new plan c) ++ 
 pub record IsCommitted (old new : Graph) (plan : Plan) (within : ℕ) (c : Configuration) (lines : List HistoryLine) : Type 0 where
   pub looks : List (List Seen)
   pub are_looks : AreLooks within looks
-  pub all_seen : AreSeen (closes old plan c) (seen_in_all looks)
+  pub all_seen : AreSeen (ports_to_close old plan c) (seen_in_all looks)
   pub are : lines ≡ drained_lines looks ++ commit_lines old new plan c
 
 abbrev pub pending_lines : ℕ → List Seen → List ℕ → List HistoryLine
@@ -64,4 +64,4 @@ pub record IsChange (before : List HistoryLine) (name : List ℕ) (args : List �
   pub rest : List HistoryLine
   pub are : lines ≡ opening_lines name args old plan (config_after before) ++ rest
   pub ends : IsCommitted old new plan within (config_after (before ++ opening_lines name args old plan (config_after before))) rest
-      ⊎ IsGivenUp (closes old plan (config_after before)) within rest
+      ⊎ IsGivenUp (ports_to_close old plan (config_after before)) within rest

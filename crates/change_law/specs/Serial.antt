@@ -10,7 +10,7 @@ use Rattle.config_graph.specs.Graph.{Graph}
 use Rattle.change_plan.specs.Plans.{IsPlanOf}
 use Rattle.change_plan.specs.declared.plan_data.Move.{Move}
 use Rattle.change_plan.specs.declared.plan_data.Plan.{Plan}
-use Rattle.plan_laws.specs.Commit.{closes, commit_events}
+use Rattle.plan_laws.specs.Commit.{commit_events, ports_to_close}
 use Rattle.quiesce_core.specs.Live.{IsGraphOf}
 use Rattle.quiesce_core.specs.Runs.{done_by}
 use Rattle.quiesce_core.specs.State.{exchange, is_live}
@@ -99,7 +99,7 @@ pub record ChangesTo (w : World) (name : List ℕ) (args : List ℤ) (new : Grap
   pub plan : Plan
   pub is_plan : IsPlanOf old new moves plan
   pub closed : List ℕ
-  pub closed_are : closed ≡ closes old plan w.machine.config
+  pub closed_are : closed ≡ ports_to_close old plan w.machine.config
   pub waiting : World
   pub waits : waiting ≡ after_changes w (map Close closed)
   pub rounds : ℕ
