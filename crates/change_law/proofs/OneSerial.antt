@@ -79,7 +79,7 @@ module _ (w : World) (lines lines' : List HistoryLine) (v v' : World) where
   one_change name args new within moves a b =
       let old : a.old ≡ b.old = one_graph (IsLiveNode w.machine.config) (AreLinked w.machine.config) a.old b.old a.is_old b.is_old in
       let plan : a.plan ≡ b.plan = one_plan b.old new moves a.plan b.plan (subst (λ g. IsPlanOf g new moves a.plan) old a.is_plan) b.is_plan in
-      let closed : a.closed ≡ b.closed = a.closed_are ∙ (λ i. closes (old i) (plan i) w.machine.config) ∙ sym b.closed_are in
+      let closed : a.closed ≡ b.closed = a.closed_are ∙ (λ i. ports_to_close (old i) (plan i) w.machine.config) ∙ sym b.closed_are in
       let waiting : a.waiting ≡ b.waiting = a.waits ∙ ap (λ ports. after_changes w (map Close ports)) closed ∙ sym b.waits in
       let rounds : a.rounds ≡ b.rounds =
       one_first (wait_ends b.waiting b.closed within) a.rounds b.rounds (subst (λ t. FirstAt t a.rounds) (λ i. wait_ends (waiting i) (closed i) within) a.number) b.number in
