@@ -1,6 +1,6 @@
 -- A change that freezes nothing may be committed while the system works: a node is added beside a source that feeds a sink.
-use Rattle.std.proofs.Common.{◌≡◌, ℕ, zero, suc, ◌<◌, ◌≤◌, true, false, List, [], ◌∷◌, length, Some, None, refl, sym, ap, ◌∙◌, subst, inl, inr, ⊎_elim, arith, Contains, All}
-use Rattle.std.specs.Prelude.{◌⊎◌, ◌^◌, bytes_eq, codes, slice_get, IsTrue}
+use Rattle.std.proofs.Common.{◌≡◌, ℕ, zero, suc, ◌<◌, false, List, [], ◌∷◌, Some, None, refl, sym, ap, ◌∙◌, subst, ⊎_elim, arith, Contains, All}
+use Rattle.std.specs.Prelude.{bytes_eq, codes, IsTrue}
 use Rattle.std.specs.Cmp.Lexicographic.{slice_cmp}
 use Rattle.std.specs.Ordering.{nat_cmp}
 use Rattle.std.specs.declared.cmp.Ordering.TheVariants.{Less}
@@ -20,20 +20,16 @@ use Rattle.config_graph.specs.Graph.{IsGraph, IsLinkWithin, PathsRise, in_port_o
 use Rattle.config_graph.specs.Sound.{HasItsArgument, Sound}
 use Rattle.config_graph.specs.Walks.{Ranks}
 use Rattle.config_graph.specs.Wiring.{MayCall, Reach}
-use Rattle.config_graph.specs.declared.TheConstants.{MAX_NODES}
 use Rattle.config_graph.specs.declared.node.Link.{Link}
 use Rattle.config_graph.specs.declared.node.Node.{Node}
 use Rattle.config_graph.proofs.WalkLaws.{acyclic_if_ranked}
 use Rattle.quiesce_core.specs.declared.event.Event.TheVariants.{Begin}
 use Rattle.quiesce_core.specs.Reach.{has_no_cycle, reaches}
 use Rattle.quiesce_core.specs.Runs.{IsRun, state_after}
-use Rattle.quiesce_core.specs.State.{owner}
 use Rattle.quiesce_core.proofs.GraphLaws.{graph_started}
 use Rattle.quiesce_core.proofs.RunLaws.{run_if}
-use Rattle.quiescence_laws.specs.Drained.{is_drained}
 use Rattle.quiescence_laws.specs.Starts.{start_of}
 use Rattle.commit_laws.proofs.EndingLaws.{graph_stays}
-use Rattle.plan_laws.specs.Commit.{is_one_of}
 use Rattle.plan_laws.specs.Committing.{MayCommit, made_in}
 use Rattle.plan_laws.specs.Rows.{adding, feeding, feeding_busy, s_to_t, sink, source, spare}
 use Rattle.plan_laws.proofs.PlannedLemmas.{link_if}

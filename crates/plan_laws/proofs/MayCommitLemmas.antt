@@ -1,5 +1,5 @@
 -- Each change that can be planned may be committed: once its gates are closed where no node did an event.
-use Rattle.std.proofs.Common.{◌≡◌, ℕ, zero, suc, ◌<◌, Bool, true, false, ◌&&◌, ◌||◌, List, [], ◌∷◌, ◌++◌, map, length, replicate, refl, sym, ap, ◌∙◌, subst, ⊎_elim, arith}
+use Rattle.std.proofs.Common.{◌≡◌, ℕ, zero, suc, ◌<◌, true, false, ◌||◌, List, [], ◌∷◌, ◌++◌, map, length, replicate, refl, sym, ap, ◌∙◌, subst, ⊎_elim, arith}
 use Rattle.std.specs.Prelude.{fold, is_some, slice_index_or}
 use Rattle.std.specs.List.{list_all}
 use Rattle.std.proofs.lemmas.Bool.{and_from, and_parts, both_ways, or_left}
@@ -20,8 +20,7 @@ use Rattle.quiesce_core.specs.Doers.{is_of_change}
 use Rattle.quiesce_core.specs.Effect.{effect}
 use Rattle.quiesce_core.specs.Live.{IsGraphOf}
 use Rattle.quiesce_core.specs.Runs.{IsRun, state_after}
-use Rattle.quiesce_core.specs.State.{Configuration, State, empty, exchange, fresh_exchange, gate, owner}
-use Rattle.quiescence_laws.specs.Drained.{is_drained}
+use Rattle.quiesce_core.specs.State.{State, empty, exchange, fresh_exchange, gate, owner}
 use Rattle.commit_laws.specs.Lists.{In}
 use Rattle.commit_laws.proofs.GateLaws.{all_closed, closes_are_of_change, closes_run}
 use Rattle.commit_laws.proofs.MeanwhileLaws.{after_more}

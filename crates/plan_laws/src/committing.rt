@@ -108,7 +108,8 @@ pub fn touched_nodes_are_quiescent()
 /// A port of a node that isn't frozen is not reopened, and it keeps its target and its gate as it is throughout.
 pub fn what_is_not_frozen_is_left()
     ensures unopened { (old : Graph) (plan : Plan) (before after : Configuration) (p : ℕ) → p < length before.gates
-        → is_one_of old plan.freeze before (owner before p) ≡ false → ¬ Contains (ports_to_reopen old plan before after) p }
+        → is_one_of old plan.freeze before (owner before p) ≡ false
+        → ¬ Contains (ports_to_reopen old plan before after) p }
     ensures target { (old new : Graph) (moves : List Move) (plan : Plan) (es more_ left : List Event) (p : ℕ)
         → MayCommit old new moves plan es
         → p < length (state_after es).config.gates
