@@ -19,3 +19,6 @@ pub use serving::{Serving, hand, wait, waits};
 
 /// Values and arguments are below this number, and sums are taken modulo it.
 pub const VALUE_LIMIT: u32 = 16_777_216;
+
+/// Amounts that are paid are below this number, so that twice an amount and one is a value.
+pub const AMOUNT_LIMIT: u32 = 8_388_608;

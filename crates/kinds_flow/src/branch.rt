@@ -6,7 +6,9 @@ ghost use Rattle.component_trait.specs.Bounds.{FitsNext};
 ghost use Rattle.component_trait.specs.States.{nothing, resting};
 ghost use Rattle.component_trait.specs.Tables.{next_of};
 
-use component_trait::{Ask, Component, Next, Serving, hand, services_are_bounded, wait, waits};
+use component_trait::{
+    AMOUNT_LIMIT, Ask, Component, Next, Serving, hand, services_are_bounded, wait, waits,
+};
 use config_graph::{Kind, NoMemory};
 
 /// Its service.
@@ -22,9 +24,6 @@ impl Branch {
         Branch { service: None }
     }
 }
-
-/// Amounts are below this number, so that twice an amount and one is a value.
-const AMOUNT_LIMIT: u32 = 8_388_608;
 
 /// What comes next where a branch serves.
 fn transfer(service: &Serving) -> Next
