@@ -9,7 +9,7 @@ ghost use Rattle.component_trait.specs.declared.TheConstants.{VALUE_LIMIT};
 use component_trait::{Ask, Component, Next, Serving, hand, services_are_bounded, wait, waits};
 use config_graph::{Kind, NoMemory};
 
-/// The balance with which it opened, its balance, and its service.
+/// Its argument, with which a new one opens; its balance; and its service.
 #[derive(Debug, Drop)]
 pub struct Account {
     b: u32,

@@ -1,4 +1,5 @@
-//! An asker asks for the sum of each number from 1 to n with the next, which it tells once it is asked for it, and adds the sums up.
+//! An asker asks for the sum of each number from 1 to n with the next, which it tells once it is asked for it, and adds the
+//! sums up.
 
 ghost use Rattle.std.specs.Prelude.{◌≡◌, ◌<◌, [], None, ⊤};
 ghost use Rattle.config_graph.specs.declared.kind.Kind.TheVariants as kind;

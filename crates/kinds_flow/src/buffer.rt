@@ -10,6 +10,7 @@ use component_trait::{Ask, Component, Next, Serving, hand, services_are_bounded,
 use config_graph::{Kind, NoMemory};
 use std::alloc::Global;
 use std::collections::VecDeque;
+
 /// How many values it takes up at most, those that it has, the first to be passed on in front, and its service.
 #[derive(Debug, Drop)]
 pub struct Buffer {
@@ -35,7 +36,8 @@ impl Buffer {
     /// The same buffer with another number of values that it takes up at most.
     pub fn with_arg(self, cap: u32) -> Buffer
         requires { cap < VALUE_LIMIT }
-        ensures { ⟦<Buffer as Component>⟧.state result ≡ record (⟦<Buffer as Component>⟧.state self) { arg = cap } }
+        ensures state { ⟦<Buffer as Component>⟧.state result ≡ record (⟦<Buffer as Component>⟧.state self) { arg = cap } }
+        ensures room { ⟦<Buffer as Component>⟧.has_room self → ⟦<Buffer as Component>⟧.has_room result }
     {
         Buffer {
             cap,

@@ -1,8 +1,9 @@
 //! A sink keeps what it is given.
 
-ghost use Rattle.std.specs.Prelude.{◌≡◌, ℕ, ◌<◌, length, vec_capacity};
+ghost use Rattle.std.specs.Prelude.{◌≡◌, ℕ, ◌<◌, Some, length, slice_get, vec_capacity};
 ghost use Rattle.config_graph.specs.declared.kind.Kind.TheVariants as kind;
 ghost use Rattle.component_trait.specs.States.{listing, nothing, resting};
+ghost use Rattle.component_trait.specs.declared.TheConstants.{VALUE_LIMIT};
 
 use component_trait::{Ask, Component, Next, Serving, hand, services_are_bounded, wait, waits};
 use config_graph::{Kind, NoMemory};
@@ -13,6 +14,7 @@ use std::alloc::Global;
 pub struct Sink {
     items: Vec<u32>,
     service: Option<Serving>,
+    ghost items_small: { (i a : ℕ) → slice_get items.items i ≡ Some a → a < VALUE_LIMIT },
 }
 
 impl Sink {
@@ -51,7 +53,7 @@ impl Component for Sink {
     }
 
     fn serve(&mut self, _provide: u32, value: u32) {
-        let _ = self.items.push(value);
+        self.items.push_reserved(value);
         self.service = Some(Serving::of(value, 1));
     }
 

@@ -26,7 +26,7 @@ impl Fork {
         }
     }
 
-    /// Lends the fork where it is free and the value is 1, has it back where the value is 0, and answers 1 where it did.
+    /// Lends the fork where it is free and the value is 1, has it back where the value is 0; it answers 1 where it did.
     fn lend(&mut self, value: u32) -> u32
         ensures outcome { record { kept = (⟦<Fork as Component>⟧.state self.new).kept; reply = result } ≡ serve kind.Fork 0 (⟦<Fork as Component>⟧.state self.old).kept value }
         ensures small { result < VALUE_LIMIT }

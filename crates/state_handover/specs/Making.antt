@@ -1,4 +1,5 @@
--- The node that is made of a kind and an argument, and the one that takes a node's state over with an argument of its own.
+-- The node that is made of a kind and an argument, and the one that takes a node's state over with an argument of its
+-- own.
 use Rattle.std.specs.Prelude.{◌≡◌, ℕ, ◌<◌, Option, Some, None, is_some, IfSome}
 use Rattle.config_graph.specs.Kinds.{row}
 use Rattle.config_graph.specs.declared.kind.Kind.{Kind}
