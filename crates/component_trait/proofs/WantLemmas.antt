@@ -9,11 +9,11 @@ use Rattle.component_trait.specs.declared.next.Next.{Next}
 use Rattle.component_trait.specs.Fold.{asked_by}
 use Rattle.component_trait.specs.Moves as moves
 use Rattle.component_trait.specs.Moves.{next_in}
-use Rattle.component_trait.specs.States.{Kept, NodeState, Service, listing}
+use Rattle.component_trait.specs.States.{Kept, NodeState, Service, with_items}
 use Rattle.component_trait.specs.Tables.{Outcome, next_of, serve, wants}
 
 -- a list's front stays where a value is appended
-front_stays : (cap v : ℕ) (vs : List ℕ) (x : Ask) → wants Buffer cap (listing vs) ≡ Some x → wants Buffer cap (listing (vs ++ v ∷ [])) ≡ Some x
+front_stays : (cap v : ℕ) (vs : List ℕ) (x : Ask) → wants Buffer cap (with_items vs) ≡ Some x → wants Buffer cap (with_items (vs ++ v ∷ [])) ≡ Some x
 front_stays cap v [] x h = absurd (none-some x h)
 front_stays cap v (w ∷ vs) x h = h
 
@@ -21,7 +21,7 @@ abbrev outcome : Kept → ℕ → Outcome
 outcome kept r = record { kept = kept; reply = r }
 
 kept_front : (b : Bool) (cap v : ℕ) (kept : Kept) (x : Ask) → wants Buffer cap kept ≡ Some x
-    → wants Buffer cap (if b then outcome (listing (kept.items ++ v ∷ [])) 1 else outcome kept 0).kept ≡ Some x
+    → wants Buffer cap (if b then outcome (with_items (kept.items ++ v ∷ [])) 1 else outcome kept 0).kept ≡ Some x
 kept_front true cap v kept x h = front_stays cap v kept.items x h
 kept_front false cap v kept x h = h
 

@@ -6,7 +6,7 @@ use Rattle.config_graph.specs.declared.kind.Kind.{Kind}
 use Rattle.config_graph.specs.declared.kind.Kind.TheVariants.{Philosopher, Place, Fork, Source, Map, Buffer, Sink, Teller, Branch, Account, Asker, Adder}
 use Rattle.quiesce_core.specs.declared.event.Event.{Event}
 use Rattle.quiesce_core.specs.declared.event.Event.TheVariants.{Begin, Call, Take, Give, End, More, Ask, Hear, Miss, Close}
-use Rattle.component_trait.specs.States.{Kept, counting, summing, listing}
+use Rattle.component_trait.specs.States.{Kept, with_count, with_total, with_items}
 use Rattle.component_trait.specs.Tables.{opening}
 use Rattle.component_trait.specs.Moves.{is_done, numbers}
 use Rattle.component_trait.specs.Fold.{fold_of}
@@ -41,7 +41,7 @@ pub record AreWorked : Type 0 where
   -- a fork that is held isn't given to another; one that is given back is free
   pub is_held : shown Fork 0 (Take 3 1 1 ∷ Give 3 1 1 ∷ Take 4 1 1 ∷ Give 4 1 0 ∷ []) ≡ Some (1 ∷ [])
   pub is_free_again : shown Fork 0 (Take 3 1 1 ∷ Give 3 1 1 ∷ Take 3 2 0 ∷ Give 3 2 1 ∷ Take 4 1 7 ∷ Give 4 1 0 ∷ []) ≡ Some (0 ∷ [])
-  pub moved_fork : shown_from Fork 0 (counting 1) (Take 3 1 1 ∷ Give 3 1 0 ∷ []) ≡ Some (1 ∷ [])
+  pub moved_fork : shown_from Fork 0 (with_count 1) (Take 3 1 1 ∷ Give 3 1 0 ∷ []) ≡ Some (1 ∷ [])
   -- a source sends the next number once the last was accepted
   pub sends : shown Source 4 (Begin 7 1 1 ∷ End 7 1 1 ∷ Begin 7 2 2 ∷ End 7 2 0 ∷ Begin 7 3 2 ∷ []) ≡ Some (1 ∷ [])
   pub sends_another : shown Source 4 (Begin 7 1 2 ∷ []) ≡ None
@@ -52,8 +52,8 @@ pub record AreWorked : Type 0 where
   pub replies_1_in_a_call : shown Map 5 (Take 3 1 1 ∷ Call 7 1 6 ∷ Ask 7 1 1 ∷ []) ≡ None
   -- a buffer takes up to its argument, and loses its front alone; a moved one goes on with what it kept
   pub passes : shown Buffer 2 (Take 3 1 5 ∷ Begin 7 1 5 ∷ Give 3 1 1 ∷ Take 3 2 6 ∷ Give 3 2 1 ∷ Take 3 3 8 ∷ End 7 1 1 ∷ Give 3 3 0 ∷ []) ≡ Some (6 ∷ [])
-  pub moved_buffer : shown_from Buffer 1 (listing (4 ∷ 9 ∷ [])) (Begin 7 1 4 ∷ Take 3 1 5 ∷ Give 3 1 0 ∷ End 7 1 0 ∷ []) ≡ Some (4 ∷ 9 ∷ [])
-  pub sends_the_back : shown_from Buffer 1 (listing (4 ∷ 9 ∷ [])) (Begin 7 1 9 ∷ []) ≡ None
+  pub moved_buffer : shown_from Buffer 1 (with_items (4 ∷ 9 ∷ [])) (Begin 7 1 4 ∷ Take 3 1 5 ∷ Give 3 1 0 ∷ End 7 1 0 ∷ []) ≡ Some (4 ∷ 9 ∷ [])
+  pub sends_the_back : shown_from Buffer 1 (with_items (4 ∷ 9 ∷ [])) (Begin 7 1 9 ∷ []) ≡ None
   pub keeps : shown Sink 0 (Take 3 1 5 ∷ Give 3 1 1 ∷ Take 4 1 5 ∷ Give 4 1 1 ∷ []) ≡ Some (5 ∷ 5 ∷ [])
   -- a teller counts any answer
   pub tells : shown Teller 4 (Begin 7 1 1 ∷ End 7 1 0 ∷ Begin 7 2 2 ∷ End 7 2 1 ∷ []) ≡ Some (2 ∷ [])
@@ -67,9 +67,9 @@ pub record AreWorked : Type 0 where
   -- an account pays what it has, and takes in what has room; a moved one keeps its balance
   pub pays : shown Account 100 (Take 3 1 21 ∷ Give 3 1 1 ∷ Take 3 2 200 ∷ Give 3 2 1 ∷ Take 3 3 999 ∷ Give 3 3 0 ∷ []) ≡ Some (190 ∷ [])
   pub pays_all : shown Account 10 (Take 3 1 21 ∷ Give 3 1 1 ∷ []) ≡ Some (0 ∷ [])
-  pub has_no_room : shown_from Account 0 (summing 18446744073709551615) (Take 3 1 2 ∷ Give 3 1 0 ∷ []) ≡ Some (18446744073709551615 ∷ [])
-  pub has_just_room : shown_from Account 0 (summing 18446744073709551614) (Take 3 1 2 ∷ Give 3 1 1 ∷ []) ≡ Some (18446744073709551615 ∷ [])
-  pub moved_account : shown_from Account 5 (summing 30) (Take 3 1 0 ∷ Give 3 1 1 ∷ []) ≡ Some (30 ∷ [])
+  pub has_no_room : shown_from Account 0 (with_total 18446744073709551615) (Take 3 1 2 ∷ Give 3 1 0 ∷ []) ≡ Some (18446744073709551615 ∷ [])
+  pub has_just_room : shown_from Account 0 (with_total 18446744073709551614) (Take 3 1 2 ∷ Give 3 1 1 ∷ []) ≡ Some (18446744073709551615 ∷ [])
+  pub moved_account : shown_from Account 5 (with_total 30) (Take 3 1 0 ∷ Give 3 1 1 ∷ []) ≡ Some (30 ∷ [])
   -- an asker replies with the next number, and counts at the answer
   pub asks : shown Asker 2 (Begin 7 1 1 ∷ Ask 7 1 1 ∷ End 7 1 2 ∷ Begin 7 2 2 ∷ Ask 7 2 2 ∷ End 7 2 4 ∷ []) ≡ Some (2 ∷ 6 ∷ [])
   pub asks_another : shown Asker 2 (Begin 7 1 1 ∷ Ask 7 1 2 ∷ []) ≡ None
@@ -85,12 +85,12 @@ pub record AreWorked : Type 0 where
   pub philosopher_not_done : done Philosopher 1 (Begin 7 1 0 ∷ End 7 1 2 ∷ []) ≡ Some false
   pub source_done : done Source 1 (Begin 7 1 1 ∷ End 7 1 5 ∷ []) ≡ Some true
   pub source_not_done : done Source 1 (Begin 7 1 1 ∷ End 7 1 0 ∷ []) ≡ Some false
-  pub moved_source_done : done_from Source 1 (counting 3) [] ≡ Some true
+  pub moved_source_done : done_from Source 1 (with_count 3) [] ≡ Some true
   pub teller_done : done Teller 1 (Begin 7 1 1 ∷ End 7 1 0 ∷ []) ≡ Some true
   pub teller_not_done : done Teller 2 (Begin 7 1 1 ∷ End 7 1 0 ∷ []) ≡ Some false
   pub asker_done : done Asker 1 (Begin 7 1 1 ∷ End 7 1 0 ∷ []) ≡ Some true
   pub asker_not_done : done Asker 1 (Begin 7 1 1 ∷ []) ≡ Some false
   pub empty_buffer_done : done Buffer 2 [] ≡ Some true
   pub full_buffer_not_done : done Buffer 1 (Take 3 1 5 ∷ Give 3 1 1 ∷ []) ≡ Some false
-  pub emptied_buffer_done : done_from Buffer 1 (listing (4 ∷ [])) (Begin 7 1 4 ∷ End 7 1 1 ∷ []) ≡ Some true
+  pub emptied_buffer_done : done_from Buffer 1 (with_items (4 ∷ [])) (Begin 7 1 4 ∷ End 7 1 1 ∷ []) ≡ Some true
   pub held_fork_done : done Fork 0 (Take 3 1 1 ∷ []) ≡ Some true

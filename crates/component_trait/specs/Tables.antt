@@ -8,7 +8,7 @@ use Rattle.component_trait.specs.declared.TheConstants.{AMOUNT_LIMIT, VALUE_LIMI
 use Rattle.component_trait.specs.declared.next.Ask.{Ask}
 use Rattle.component_trait.specs.declared.next.Next.{Next}
 use Rattle.component_trait.specs.declared.next.Next.TheVariants as next
-use Rattle.component_trait.specs.States.{Kept, nothing, counting, summing, listing}
+use Rattle.component_trait.specs.States.{Kept, nothing, with_count, with_total, with_items}
 
 abbrev pub request : ℕ → ℕ → Ask
 request r v = record { require = r; value = v }
@@ -18,7 +18,7 @@ ask r v = next.Ask (request r v)
 
 -- what a node of the kind keeps when it opens, by its argument
 abbrev pub opening : Kind → ℕ → Kept
-opening Account b = summing b
+opening Account b = with_total b
 opening _ a = nothing
 
 -- What it wants. Below a number it wants its one requirement with a value that goes by the count; a buffer wants it with
@@ -40,10 +40,10 @@ wants _ a s = None
 
 -- what it keeps once a transaction of its own ended with an answer
 abbrev pub kept_after_end : Kind → Kept → ℕ → Kept
-kept_after_end Philosopher s v = if v == 1 then counting (s.count + 1) else s
-kept_after_end Source s v = if v == 0 then s else counting (s.count + 1)
-kept_after_end Buffer s v = if v == 0 then s else listing (drop 1 s.items)
-kept_after_end Teller s v = counting (s.count + 1)
+kept_after_end Philosopher s v = if v == 1 then with_count (s.count + 1) else s
+kept_after_end Source s v = if v == 0 then s else with_count (s.count + 1)
+kept_after_end Buffer s v = if v == 0 then s else with_items (drop 1 s.items)
+kept_after_end Teller s v = with_count (s.count + 1)
 kept_after_end Asker s v = record { count = s.count + 1; total = (s.total + v) % VALUE_LIMIT; items = [] }
 kept_after_end _ s v = s
 
@@ -60,21 +60,21 @@ abbrev balance_limit : ℕ
 balance_limit = 2 ^ 64
 
 abbrev pay_out : ℕ → ℕ → Outcome
-pay_out balance a = if nat_le a balance then gives (summing (balance - a)) 1 else gives (summing balance) 0
+pay_out balance a = if nat_le a balance then gives (with_total (balance - a)) 1 else gives (with_total balance) 0
 
 abbrev take_in : ℕ → ℕ → Outcome
-take_in balance a = if nat_lt (balance + a) balance_limit then gives (summing (balance + a)) 1 else gives (summing balance) 0
+take_in balance a = if nat_lt (balance + a) balance_limit then gives (with_total (balance + a)) 1 else gives (with_total balance) 0
 
 -- a fork that is free becomes held, and is free again once it is given back
 abbrev lend : Kept → ℕ → Outcome
 lend s v =
-    if v == 1 then (if s.count == 0 then gives (counting 1) 1 else gives s 0)
-    else if v == 0 then gives (counting 0) 1 else gives s 0
+    if v == 1 then (if s.count == 0 then gives (with_count 1) 1 else gives s 0)
+    else if v == 0 then gives (with_count 0) 1 else gives s 0
 
 abbrev pub serve : Kind → ℕ → Kept → ℕ → Outcome
 serve Fork a s v = lend s v
-serve Buffer cap s v = if nat_lt (length s.items) cap then gives (listing (s.items ++ v ∷ [])) 1 else gives s 0
-serve Sink a s v = gives (listing (s.items ++ v ∷ [])) 1
+serve Buffer cap s v = if nat_lt (length s.items) cap then gives (with_items (s.items ++ v ∷ [])) 1 else gives s 0
+serve Sink a s v = gives (with_items (s.items ++ v ∷ [])) 1
 serve Account b s v = if v % 2 == 1 then pay_out s.total (v / 2) else take_in s.total (v / 2)
 serve _ a s v = gives s 0
 

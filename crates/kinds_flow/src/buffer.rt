@@ -3,7 +3,7 @@
 ghost use Rattle.std.specs.Prelude.{◌≡◌, ℕ, ◌<◌, Some, slice_get};
 ghost use Rattle.config_graph.specs.declared.kind.Kind.TheVariants as kind;
 ghost use Rattle.std.specs.VecDeque.{deque_capacity, deque_len};
-ghost use Rattle.component_trait.specs.States.{listing, nothing, resting};
+ghost use Rattle.component_trait.specs.States.{with_items, nothing, at_rest};
 ghost use Rattle.component_trait.specs.declared.TheConstants.{VALUE_LIMIT};
 
 use component_trait::{Ask, Component, Next, Serving, hand, services_are_bounded, wait, waits};
@@ -24,7 +24,7 @@ pub struct Buffer {
 impl Buffer {
     pub fn new(alloc: Global, cap: u32) -> Buffer
         requires { cap < VALUE_LIMIT }
-        ensures { ⟦<Buffer as Component>⟧.state result ≡ resting kind.Buffer cap nothing }
+        ensures { ⟦<Buffer as Component>⟧.state result ≡ at_rest kind.Buffer cap nothing }
     {
         Buffer {
             cap,
@@ -48,7 +48,7 @@ impl Buffer {
 }
 
 impl Component for Buffer {
-    ghost state = { λ s. record { kind = kind.Buffer; arg = s.cap; kept = listing s.items.items; service = s.service } };
+    ghost state = { λ s. record { kind = kind.Buffer; arg = s.cap; kept = with_items s.items.items; service = s.service } };
 
     ghost has_room = { λ s. deque_len s.items < deque_capacity s.items };
 
