@@ -1,5 +1,5 @@
--- A service asks, on a requirement on which its provision depends, or sends an intermediate reply, only while few answers and further
--- messages came.
+-- A service asks, on a requirement on which its provision depends, or sends an intermediate reply, only while few answers
+-- and further messages came.
 use Rattle.std.specs.Prelude.{◌≡◌, ℕ, ◌<◌, true, List, [], ◌∷◌, length}
 use Rattle.std.proofs.Common.{rules}
 use Rattle.config_graph.specs.Kinds.{calls_of, depends_on, mores_of}

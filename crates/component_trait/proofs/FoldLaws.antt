@@ -4,7 +4,7 @@ use Rattle.std.proofs.Common.{sym, subst, ◌∙◌}
 use Rattle.std.proofs.lemmas.Option.{none-some, same_Some}
 use Rattle.quiesce_core.specs.declared.event.Event.{Event}
 use Rattle.quiesce_core.specs.declared.event.Event.TheVariants.{Begin, Call, Take, Give, End, More, Ask, Hear, Miss}
-use Rattle.component_trait.specs.States.{Kept, NodeState, Service, resting}
+use Rattle.component_trait.specs.States.{Kept, NodeState, Service, at_rest}
 use Rattle.component_trait.specs.Moves as moves
 use Rattle.std.proofs.Common.{ap, arith}
 use Rattle.std.specs.Prelude.{◌+◌, ◌<◌, length, option_and_then, option_map}
@@ -14,7 +14,7 @@ use Rattle.std.proofs.lemmas.List.{length-append}
 use Rattle.config_graph.specs.Kinds.{calls_of, mores_of}
 use Rattle.config_graph.specs.declared.kind.Kind.{Kind}
 use Rattle.component_trait.specs.Bounds.{IsBounded, IsBoundedService}
-use Rattle.component_trait.specs.Moves.{next_in, waiting, with_answer}
+use Rattle.component_trait.specs.Moves.{next_in, with_wait, with_answer}
 use Rattle.component_trait.specs.Tables.{next_of, serve}
 use Rattle.component_trait.specs.declared.next.Ask.{Ask as Request}
 use Rattle.component_trait.specs.declared.next.Next.{Next}
@@ -122,7 +122,7 @@ heard_bounded s v bounded h =
 
 more_bounded : (s : NodeState) (v : ℕ) → IsBounded s → is_more v (moves.next s) ≡ true → IsBounded (moves.after_more s)
 more_bounded s v bounded h =
-    bounded_by s.kind s.service bounded waiting
+    bounded_by s.kind s.service bounded with_wait
     (λ w at.
     let sent = sends_in s w v (subst (λ o. is_more v (option_and_then (next_in s) o) ≡ true) at h) in
     record { answers = (bounded w at).answers; waits = λ e. mores_are_few s.kind s.arg w.value w.reply w.answers sent.0 sent.1 })
@@ -159,6 +159,6 @@ fold_from_bounds first t (Some u) (x ∷ es) b e = fold_from_bounds first t (aft
 
 pub fold_bounds : (k : Kind) (arg first : ℕ) (kept : Kept) (es : List Event) (t : NodeState) → fold_of k arg first kept es ≡ Some t → IsBounded t
 fold_bounds k arg first kept es t e =
-    fold_from_bounds first t (Some (resting k arg kept)) es
-    (λ u is. subst IsBounded (same_Some (resting k arg kept) u is) (λ w at. absurd (none-some w at)))
+    fold_from_bounds first t (Some (at_rest k arg kept)) es
+    (λ u is. subst IsBounded (same_Some (at_rest k arg kept) u is) (λ w at. absurd (none-some w at)))
     e

@@ -2,3 +2,4 @@ pub mod BoundLaws
 pub mod FoldLaws
 mod FollowLemmas
 mod Logs
+mod WantLemmas

@@ -8,7 +8,7 @@ use Rattle.quiesce_core.specs.declared.event.Event.TheVariants as event
 use Rattle.component_trait.specs.declared.next.Ask.{Ask}
 use Rattle.component_trait.specs.declared.next.Next.{Next}
 use Rattle.component_trait.specs.declared.next.Next.TheVariants as next
-use Rattle.component_trait.specs.States.{Kept, NodeState, resting}
+use Rattle.component_trait.specs.States.{Kept, NodeState, at_rest}
 use Rattle.component_trait.specs.Moves as moves
 
 -- whether a port of a node with this first port is that of a request, and whether the value is its value too
@@ -48,9 +48,9 @@ awaits_at first s p = calls_at first s p || wants_at first s p
 abbrev pub where_so : Bool → NodeState → Option NodeState
 where_so b s = if b then Some s else None
 
--- The state after one more event. A Begin is what it wants; a Call, Miss, More or Give is what its service does next, and a Miss is
--- answered with 0. A Take serves the value, and a Hear hands a further one to the service that waits. An Ask has the value that it
--- replies. An End hands its answer in, to the service that called or as that of a transaction of its own.
+-- The state after one more event. A Begin is what it wants; a Call, Miss, More or Give is what its service does next, and
+-- a Miss is answered with 0. A Take serves the value, and a Hear hands a further one to the service that waits. An Ask has
+-- the value that it replies. An End hands its answer in, to the service that called or as that of a transaction of its own.
 abbrev pub after_event : ℕ → NodeState → Event → Option NodeState
 after_event first s (event.Begin p j v) = where_so (is_request first p v (moves.wants s)) s
 after_event first s (event.Call p j v) = where_so (is_request first p v (asked_by (moves.next s))) s
@@ -73,4 +73,4 @@ fold_from first s es = fold (fold_next first) (Some s) es
 
 -- the state after these events of a node of this kind and argument, with this first port, that opened with what is kept
 abbrev pub fold_of : Kind → ℕ → ℕ → Kept → List Event → Option NodeState
-fold_of k arg first kept es = fold_from first (resting k arg kept) es
+fold_of k arg first kept es = fold_from first (at_rest k arg kept) es

@@ -38,11 +38,11 @@ abbrev pub after_end : NodeState → ℕ → NodeState
 after_end s v = record s { kept = tables.kept_after_end s.kind s.kept v }
 
 -- it took a value up
-abbrev serving : NodeState → Outcome → ℕ → NodeState
-serving s done v = record s { kept = done.kept; service = Some (record { value = v; reply = done.reply; answers = []; waits = false }) }
+abbrev with_service : NodeState → Outcome → ℕ → NodeState
+with_service s done v = record s { kept = done.kept; service = Some (record { value = v; reply = done.reply; answers = []; waits = false }) }
 
 abbrev pub after_take : NodeState → ℕ → NodeState
-after_take s v = serving s (tables.serve s.kind s.arg s.kept v) v
+after_take s v = with_service s (tables.serve s.kind s.arg s.kept v) v
 
 -- its service has one more answer or further message
 abbrev pub with_answer : ℕ → Service → Service
@@ -52,11 +52,11 @@ abbrev pub after_answer : NodeState → ℕ → NodeState
 after_answer s v = record s { service = option_map (with_answer v) s.service }
 
 -- its service sent an intermediate reply
-abbrev pub waiting : Service → Service
-waiting w = record w { waits = true }
+abbrev pub with_wait : Service → Service
+with_wait w = record w { waits = true }
 
 abbrev pub after_more : NodeState → NodeState
-after_more s = record s { service = option_map waiting s.service }
+after_more s = record s { service = option_map with_wait s.service }
 
 -- its service gave its answer
 abbrev pub after_give : NodeState → NodeState

@@ -3,7 +3,8 @@ use Rattle.std.specs.Prelude.{ℕ, Bool, List, [], Option, Some, None, is_some, 
 use Rattle.config_graph.specs.Kinds.{row}
 use Rattle.config_graph.specs.declared.kind.Kind.{Kind}
 
--- What a node keeps: a count, a sum and a list. Each kind uses of these what its table names; the others stay 0 and empty.
+-- What a node keeps: a count, a sum and a list. Each kind uses of these what its table names; the others stay 0 and
+-- empty.
 pub record Kept : Type 0 where
   pub count : ℕ
   pub total : ℕ
@@ -12,17 +13,17 @@ pub record Kept : Type 0 where
 abbrev pub nothing : Kept
 nothing = record { count = 0; total = 0; items = [] }
 
-abbrev pub counting : ℕ → Kept
-counting n = record { count = n; total = 0; items = [] }
+abbrev pub with_count : ℕ → Kept
+with_count n = record { count = n; total = 0; items = [] }
 
-abbrev pub summing : ℕ → Kept
-summing n = record { count = 0; total = n; items = [] }
+abbrev pub with_total : ℕ → Kept
+with_total n = record { count = 0; total = n; items = [] }
 
-abbrev pub listing : List ℕ → Kept
-listing vs = record { count = 0; total = 0; items = vs }
+abbrev pub with_items : List ℕ → Kept
+with_items vs = record { count = 0; total = 0; items = vs }
 
--- A service: the value that was taken up, the reply where serving decided on it at once, the answers and further messages since, in
--- order, and whether it waits for a further message.
+-- A service: the value that was taken up, the reply where serving decided on it at once, the answers and further messages
+-- since, in order, and whether it waits for a further message.
 pub record Service : Type 0 where
   pub value : ℕ
   pub reply : ℕ
@@ -37,8 +38,8 @@ pub record NodeState : Type 0 where
   pub service : Option Service
 
 -- a node that is in no service
-abbrev pub resting : Kind → ℕ → Kept → NodeState
-resting k a kept = record { kind = k; arg = a; kept = kept; service = None }
+abbrev pub at_rest : Kind → ℕ → Kept → NodeState
+at_rest k a kept = record { kind = k; arg = a; kept = kept; service = None }
 
 -- its argument, where its kind has one
 abbrev pub argument : NodeState → Option ℕ

@@ -1,13 +1,14 @@
--- The machine of each kind, as tables: what a node opens with, what it wants, what an ended transaction of its own changes, what
--- serving does at once, what comes next in a service, what it replies, when it is done, and the numbers of its state.
+-- The machine of each kind, as tables: what a node opens with, what it wants, what an ended transaction of its own
+-- changes, what serving does at once, what comes next in a service, what it replies, when it is done, and the numbers of
+-- its state.
 use Rattle.std.specs.Prelude.{ℕ, ◌+◌, ◌-◌, ◌*◌, ◌/◌, ◌%◌, ◌^◌, Bool, true, nat_lt, nat_le, ◌==◌, List, [], ◌∷◌, ◌++◌, length, drop, Option, Some, None, if◌then◌else◌}
 use Rattle.config_graph.specs.declared.kind.Kind.{Kind}
 use Rattle.config_graph.specs.declared.kind.Kind.TheVariants.{Philosopher, Place, Fork, Source, Map, Buffer, Sink, Teller, Branch, Account, Asker, Adder}
-use Rattle.component_trait.specs.declared.TheConstants.{VALUE_LIMIT}
+use Rattle.component_trait.specs.declared.TheConstants.{AMOUNT_LIMIT, VALUE_LIMIT}
 use Rattle.component_trait.specs.declared.next.Ask.{Ask}
 use Rattle.component_trait.specs.declared.next.Next.{Next}
 use Rattle.component_trait.specs.declared.next.Next.TheVariants as next
-use Rattle.component_trait.specs.States.{Kept, nothing, counting, summing, listing}
+use Rattle.component_trait.specs.States.{Kept, nothing, with_count, with_total, with_items}
 
 abbrev pub request : ℕ → ℕ → Ask
 request r v = record { require = r; value = v }
@@ -17,10 +18,11 @@ ask r v = next.Ask (request r v)
 
 -- what a node of the kind keeps when it opens, by its argument
 abbrev pub opening : Kind → ℕ → Kept
-opening Account b = summing b
+opening Account b = with_total b
 opening _ a = nothing
 
--- What it wants. Below a number it wants its one requirement with a value that goes by the count; a buffer with its front.
+-- What it wants. Below a number it wants its one requirement with a value that goes by the count; a buffer wants it with
+-- its front.
 abbrev below : ℕ → ℕ → ℕ → Option Ask
 below count n value = if nat_lt count n then Some (request 0 value) else None
 
@@ -38,10 +40,10 @@ wants _ a s = None
 
 -- what it keeps once a transaction of its own ended with an answer
 abbrev pub kept_after_end : Kind → Kept → ℕ → Kept
-kept_after_end Philosopher s v = if v == 1 then counting (s.count + 1) else s
-kept_after_end Source s v = if v == 0 then s else counting (s.count + 1)
-kept_after_end Buffer s v = if v == 0 then s else listing (drop 1 s.items)
-kept_after_end Teller s v = counting (s.count + 1)
+kept_after_end Philosopher s v = if v == 1 then with_count (s.count + 1) else s
+kept_after_end Source s v = if v == 0 then s else with_count (s.count + 1)
+kept_after_end Buffer s v = if v == 0 then s else with_items (drop 1 s.items)
+kept_after_end Teller s v = with_count (s.count + 1)
 kept_after_end Asker s v = record { count = s.count + 1; total = (s.total + v) % VALUE_LIMIT; items = [] }
 kept_after_end _ s v = s
 
@@ -58,26 +60,26 @@ abbrev balance_limit : ℕ
 balance_limit = 2 ^ 64
 
 abbrev pay_out : ℕ → ℕ → Outcome
-pay_out balance a = if nat_le a balance then gives (summing (balance - a)) 1 else gives (summing balance) 0
+pay_out balance a = if nat_le a balance then gives (with_total (balance - a)) 1 else gives (with_total balance) 0
 
 abbrev take_in : ℕ → ℕ → Outcome
-take_in balance a = if nat_lt (balance + a) balance_limit then gives (summing (balance + a)) 1 else gives (summing balance) 0
+take_in balance a = if nat_lt (balance + a) balance_limit then gives (with_total (balance + a)) 1 else gives (with_total balance) 0
 
 -- a fork that is free becomes held, and is free again once it is given back
 abbrev lend : Kept → ℕ → Outcome
 lend s v =
-    if v == 1 then (if s.count == 0 then gives (counting 1) 1 else gives s 0)
-    else if v == 0 then gives (counting 0) 1 else gives s 0
+    if v == 1 then (if s.count == 0 then gives (with_count 1) 1 else gives s 0)
+    else if v == 0 then gives (with_count 0) 1 else gives s 0
 
 abbrev pub serve : Kind → ℕ → Kept → ℕ → Outcome
 serve Fork a s v = lend s v
-serve Buffer cap s v = if nat_lt (length s.items) cap then gives (listing (s.items ++ v ∷ [])) 1 else gives s 0
-serve Sink a s v = gives (listing (s.items ++ v ∷ [])) 1
+serve Buffer cap s v = if nat_lt (length s.items) cap then gives (with_items (s.items ++ v ∷ [])) 1 else gives s 0
+serve Sink a s v = gives (with_items (s.items ++ v ∷ [])) 1
 serve Account b s v = if v % 2 == 1 then pay_out s.total (v / 2) else take_in s.total (v / 2)
 serve _ a s v = gives s 0
 
--- What comes next in a service, by the value taken up, the reply decided on, and the answers and further messages since.
--- A place asks the first fork and then the other with 1, and gives back with 0 what it has.
+-- What comes next in a service, by the value taken up, the reply decided on, and the answers and further messages
+-- since. A place asks the first fork and then the other with 1, and gives back with 0 what it has.
 abbrev pub dine : ℕ → ℕ → List ℕ → Next
 dine first other [] = ask first 1
 dine first other (a ∷ []) = if a == 1 then ask other 1 else next.Give 0
@@ -90,16 +92,13 @@ pass_on k v [] = ask 0 ((v + k) % VALUE_LIMIT)
 pass_on k v (a ∷ _) = next.Give a
 
 -- a branch takes a out of one account and, where it did, puts it into the other; 2a+1 has to be a value
-abbrev amount_limit : ℕ
-amount_limit = 8388608
-
 abbrev pub take_and_put : ℕ → List ℕ → Next
 take_and_put a [] = ask 0 (2 * a + 1)
 take_and_put a (b ∷ []) = if b == 1 then ask 1 (2 * a) else next.Give 0
 take_and_put a (b ∷ c ∷ _) = next.Give 1
 
 abbrev pub transfer : ℕ → List ℕ → Next
-transfer a answers = if nat_le amount_limit a then next.Give 0 else take_and_put a answers
+transfer a answers = if nat_le AMOUNT_LIMIT a then next.Give 0 else take_and_put a answers
 
 abbrev pub add_up : ℕ → List ℕ → Next
 add_up v [] = next.More v

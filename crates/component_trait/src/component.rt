@@ -11,7 +11,8 @@ ghost use Rattle.component_trait.specs.declared.TheConstants.{VALUE_LIMIT};
 use crate::next::{Ask, Next};
 use config_graph::{Kind, NoMemory};
 
-/// What a node does with values. Each call follows the machine of the component's kind, and none but `room` takes memory.
+/// What a node does with values. Each call follows the machine of the component's kind, and none but `room` takes
+/// memory.
 pub trait Component {
     /// The state of the machine of its kind.
     ghost state: { Self → NodeState };

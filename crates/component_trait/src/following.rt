@@ -13,8 +13,8 @@ use crate::next::{Ask, Next};
 use config_graph::NoMemory;
 use quiesce_core::Event;
 
-/// Leads a component by an event, where that is what a node of its kind, with this first port, does; else it stays as it was. The
-/// answer says which. A `Take` takes its memory first.
+/// Leads a component by an event, where that is what a node of its kind, with this first port, does; else it stays as it
+/// was. The answer says which. A `Take` takes its memory first.
 pub fn follow<C: Component>(node: &mut C, first_port: u32, event: &Event) -> Result<bool, NoMemory>
     requires { value_of event.now < VALUE_LIMIT }
     ensures { MatchResult result (Followed first_port event.now (C.state node.old) (C.state node.new)) (λ _. C.state node.new ≡ C.state node.old) }
@@ -26,7 +26,7 @@ pub fn follow<C: Component>(node: &mut C, first_port: u32, event: &Event) -> Res
         Event::Give { value, .. } => Ok(give(node, *value)),
         Event::End { port, value, .. } => Ok(end(node, first_port, *port, *value)),
         Event::More { value, .. } => Ok(send_more(node, *value)),
-        Event::Ask { port, value, .. } => Ok(replies_so(node, first_port, *port, *value)),
+        Event::Ask { port, value, .. } => Ok(is_reply(node, first_port, *port, *value)),
         Event::Hear { value, .. } => Ok(hear(node, *value)),
         Event::Miss { port } => Ok(answer(node, first_port, *port, 0)),
         _ => Ok(false),
@@ -170,7 +170,8 @@ fn replies_at<C: Component>(
     }
 }
 
-fn replies_so<C: Component>(node: &C, first_port: u32, port: u32, value: u32) -> bool
+/// Whether the component may have a transaction at this port, and the value is what it replies there.
+fn is_reply<C: Component>(node: &C, first_port: u32, port: u32, value: u32) -> bool
     ensures { result ≡ (fold.awaits_at first_port (C.state node.now) port && value == moves.replies (C.state node.now)) }
 {
     replies_at(node, first_port, port, asks(node), value)

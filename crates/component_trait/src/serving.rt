@@ -3,7 +3,7 @@
 ghost use Rattle.std.specs.Prelude.{◌≡◌, ◌<◌, ◌++◌, ◌∷◌, [], false, true, length, slice_get, IfSome, Some, option_map};
 ghost use Rattle.std.specs.Option.{option_map_or};
 ghost use Rattle.component_trait.specs.States.{Service};
-ghost use Rattle.component_trait.specs.Moves.{with_answer, waiting};
+ghost use Rattle.component_trait.specs.Moves.{with_answer, with_wait};
 ghost use Rattle.component_trait.specs.declared.TheConstants.{VALUE_LIMIT};
 
 use crate::VALUE_LIMIT;
@@ -12,8 +12,8 @@ use std::marker::Model;
 /// No service of any kind has more answers and further messages than these.
 pub const MAX_ANSWERS: usize = 4;
 
-/// A service: the value taken up, the reply where serving decided on it, the answers and further messages since, and whether it
-/// waits for a further message. Contracts see all of these.
+/// A service: the value taken up, the reply where serving decided on it, the answers and further messages since, and
+/// whether it waits for a further message. Contracts see all of these.
 #[derive(Debug, Drop)]
 pub struct Serving {
     value: u32,
@@ -95,7 +95,7 @@ impl Serving {
 
     fn wait(&mut self)
         requires few { length self.old.answers < MAX_ANSWERS }
-        ensures { self.new ≡ waiting self.old }
+        ensures { self.new ≡ with_wait self.old }
     {
         self.waits = true;
     }
@@ -115,7 +115,7 @@ pub fn hand(service: &mut Option<Serving>, answer: u32)
 /// The service that there is waits for a further message from now on.
 pub fn wait(service: &mut Option<Serving>)
     requires few { (w : Service) → service.old ≡ Some w → length w.answers < MAX_ANSWERS }
-    ensures { service.new ≡ option_map waiting service.old }
+    ensures { service.new ≡ option_map with_wait service.old }
 {
     if let Some(service) = service {
         service.wait();

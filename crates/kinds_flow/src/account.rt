@@ -2,14 +2,14 @@
 
 ghost use Rattle.std.specs.Prelude.{◌≡◌, ◌<◌, IfSome, None, ⊤};
 ghost use Rattle.config_graph.specs.declared.kind.Kind.TheVariants as kind;
-ghost use Rattle.component_trait.specs.States.{resting, summing};
+ghost use Rattle.component_trait.specs.States.{at_rest, with_total};
 ghost use Rattle.component_trait.specs.Tables.{serve};
 ghost use Rattle.component_trait.specs.declared.TheConstants.{VALUE_LIMIT};
 
 use component_trait::{Ask, Component, Next, Serving, hand, services_are_bounded, wait, waits};
 use config_graph::{Kind, NoMemory};
 
-/// The balance with which it opened, its balance, and its service.
+/// Its argument, with which a new one opens; its balance; and its service.
 #[derive(Debug, Drop)]
 pub struct Account {
     b: u32,
@@ -21,7 +21,7 @@ pub struct Account {
 impl Account {
     pub fn new(b: u32) -> Account
         requires { b < VALUE_LIMIT }
-        ensures { ⟦<Account as Component>⟧.state result ≡ resting kind.Account b (summing b) }
+        ensures { ⟦<Account as Component>⟧.state result ≡ at_rest kind.Account b (with_total b) }
     {
         Account {
             b,
@@ -45,8 +45,8 @@ impl Account {
 
 /// The balance after 2a+1, which pays a out, or 2a, which takes a in; none where that can't be.
 fn post(balance: u64, value: u32) -> Option<u64>
-    ensures paid { IfSome result (λ after. serve kind.Account 0 (summing balance) value ≡ record { kept = summing after; reply = 1 }) }
-    ensures refused { result ≡ None → serve kind.Account 0 (summing balance) value ≡ record { kept = summing balance; reply = 0 } }
+    ensures paid { IfSome result (λ after. serve kind.Account 0 (with_total balance) value ≡ record { kept = with_total after; reply = 1 }) }
+    ensures refused { result ≡ None → serve kind.Account 0 (with_total balance) value ≡ record { kept = with_total balance; reply = 0 } }
 {
     let amount = (value / 2) as u64;
     if value % 2 == 1 {
@@ -57,7 +57,7 @@ fn post(balance: u64, value: u32) -> Option<u64>
 }
 
 impl Component for Account {
-    ghost state = { λ s. record { kind = kind.Account; arg = s.b; kept = summing s.balance; service = s.service } };
+    ghost state = { λ s. record { kind = kind.Account; arg = s.b; kept = with_total s.balance; service = s.service } };
 
     ghost has_room = { λ s. ⊤ };
 

@@ -3,7 +3,7 @@
 ghost use Rattle.std.specs.Prelude.{◌≡◌, ◌<◌, false, ⊤};
 ghost use Rattle.config_graph.specs.declared.kind.Kind.TheVariants as kind;
 ghost use Rattle.component_trait.specs.Bounds.{FitsNext};
-ghost use Rattle.component_trait.specs.States.{nothing, resting};
+ghost use Rattle.component_trait.specs.States.{nothing, at_rest};
 ghost use Rattle.component_trait.specs.Tables.{next_of};
 
 use component_trait::{
@@ -19,7 +19,7 @@ pub struct Adder {
 
 impl Adder {
     pub fn new() -> Adder
-        ensures { ⟦<Adder as Component>⟧.state result ≡ resting kind.Adder 0 nothing }
+        ensures { ⟦<Adder as Component>⟧.state result ≡ at_rest kind.Adder 0 nothing }
     {
         Adder { service: None }
     }

@@ -1,8 +1,9 @@
-//! An asker asks for the sum of each number from 1 to n with the next, which it tells once it is asked for it, and adds the sums up.
+//! An asker asks for the sum of each number from 1 to n with the next, which it tells once it is asked for it, and adds the
+//! sums up.
 
 ghost use Rattle.std.specs.Prelude.{◌≡◌, ◌<◌, [], None, ⊤};
 ghost use Rattle.config_graph.specs.declared.kind.Kind.TheVariants as kind;
-ghost use Rattle.component_trait.specs.States.{nothing, resting};
+ghost use Rattle.component_trait.specs.States.{nothing, at_rest};
 ghost use Rattle.component_trait.specs.declared.TheConstants.{VALUE_LIMIT};
 
 use component_trait::{Ask, Component, Next, VALUE_LIMIT};
@@ -22,7 +23,7 @@ pub struct Asker {
 impl Asker {
     pub fn new(n: u32) -> Asker
         requires { n < VALUE_LIMIT }
-        ensures { ⟦<Asker as Component>⟧.state result ≡ resting kind.Asker n nothing }
+        ensures { ⟦<Asker as Component>⟧.state result ≡ at_rest kind.Asker n nothing }
     {
         Asker {
             n,

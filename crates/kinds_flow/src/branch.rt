@@ -3,10 +3,12 @@
 ghost use Rattle.std.specs.Prelude.{◌≡◌, ◌<◌, false, ⊤};
 ghost use Rattle.config_graph.specs.declared.kind.Kind.TheVariants as kind;
 ghost use Rattle.component_trait.specs.Bounds.{FitsNext};
-ghost use Rattle.component_trait.specs.States.{nothing, resting};
+ghost use Rattle.component_trait.specs.States.{nothing, at_rest};
 ghost use Rattle.component_trait.specs.Tables.{next_of};
 
-use component_trait::{Ask, Component, Next, Serving, hand, services_are_bounded, wait, waits};
+use component_trait::{
+    AMOUNT_LIMIT, Ask, Component, Next, Serving, hand, services_are_bounded, wait, waits,
+};
 use config_graph::{Kind, NoMemory};
 
 /// Its service.
@@ -17,14 +19,11 @@ pub struct Branch {
 
 impl Branch {
     pub fn new() -> Branch
-        ensures { ⟦<Branch as Component>⟧.state result ≡ resting kind.Branch 0 nothing }
+        ensures { ⟦<Branch as Component>⟧.state result ≡ at_rest kind.Branch 0 nothing }
     {
         Branch { service: None }
     }
 }
-
-/// Amounts are below this number, so that twice an amount and one is a value.
-const AMOUNT_LIMIT: u32 = 8_388_608;
 
 /// What comes next where a branch serves.
 fn transfer(service: &Serving) -> Next

@@ -3,13 +3,14 @@
 ghost use Rattle.std.specs.Prelude.{◌≡◌, ℕ, ◌<◌, Some, slice_get};
 ghost use Rattle.config_graph.specs.declared.kind.Kind.TheVariants as kind;
 ghost use Rattle.std.specs.VecDeque.{deque_capacity, deque_len};
-ghost use Rattle.component_trait.specs.States.{listing, nothing, resting};
+ghost use Rattle.component_trait.specs.States.{with_items, nothing, at_rest};
 ghost use Rattle.component_trait.specs.declared.TheConstants.{VALUE_LIMIT};
 
 use component_trait::{Ask, Component, Next, Serving, hand, services_are_bounded, wait, waits};
 use config_graph::{Kind, NoMemory};
 use std::alloc::Global;
 use std::collections::VecDeque;
+
 /// How many values it takes up at most, those that it has, the first to be passed on in front, and its service.
 #[derive(Debug, Drop)]
 pub struct Buffer {
@@ -23,7 +24,7 @@ pub struct Buffer {
 impl Buffer {
     pub fn new(alloc: Global, cap: u32) -> Buffer
         requires { cap < VALUE_LIMIT }
-        ensures { ⟦<Buffer as Component>⟧.state result ≡ resting kind.Buffer cap nothing }
+        ensures { ⟦<Buffer as Component>⟧.state result ≡ at_rest kind.Buffer cap nothing }
     {
         Buffer {
             cap,
@@ -35,7 +36,8 @@ impl Buffer {
     /// The same buffer with another number of values that it takes up at most.
     pub fn with_arg(self, cap: u32) -> Buffer
         requires { cap < VALUE_LIMIT }
-        ensures { ⟦<Buffer as Component>⟧.state result ≡ record (⟦<Buffer as Component>⟧.state self) { arg = cap } }
+        ensures state { ⟦<Buffer as Component>⟧.state result ≡ record (⟦<Buffer as Component>⟧.state self) { arg = cap } }
+        ensures room { ⟦<Buffer as Component>⟧.has_room self → ⟦<Buffer as Component>⟧.has_room result }
     {
         Buffer {
             cap,
@@ -46,7 +48,7 @@ impl Buffer {
 }
 
 impl Component for Buffer {
-    ghost state = { λ s. record { kind = kind.Buffer; arg = s.cap; kept = listing s.items.items; service = s.service } };
+    ghost state = { λ s. record { kind = kind.Buffer; arg = s.cap; kept = with_items s.items.items; service = s.service } };
 
     ghost has_room = { λ s. deque_len s.items < deque_capacity s.items };
 

@@ -3,7 +3,7 @@
 ghost use Rattle.std.specs.Prelude.{◌≡◌, ◌<◌, false, ⊤};
 ghost use Rattle.config_graph.specs.declared.kind.Kind.TheVariants as kind;
 ghost use Rattle.component_trait.specs.Bounds.{FitsNext};
-ghost use Rattle.component_trait.specs.States.{nothing, resting};
+ghost use Rattle.component_trait.specs.States.{nothing, at_rest};
 ghost use Rattle.component_trait.specs.Tables.{next_of};
 ghost use Rattle.component_trait.specs.declared.TheConstants.{VALUE_LIMIT};
 
@@ -23,7 +23,7 @@ pub struct Map {
 impl Map {
     pub fn new(k: u32) -> Map
         requires { k < VALUE_LIMIT }
-        ensures { ⟦<Map as Component>⟧.state result ≡ resting kind.Map k nothing }
+        ensures { ⟦<Map as Component>⟧.state result ≡ at_rest kind.Map k nothing }
     {
         Map { k, service: None }
     }

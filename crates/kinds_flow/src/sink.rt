@@ -1,8 +1,9 @@
 //! A sink keeps what it is given.
 
-ghost use Rattle.std.specs.Prelude.{◌≡◌, ℕ, ◌<◌, length, vec_capacity};
+ghost use Rattle.std.specs.Prelude.{◌≡◌, ℕ, ◌<◌, Some, length, slice_get, vec_capacity};
 ghost use Rattle.config_graph.specs.declared.kind.Kind.TheVariants as kind;
-ghost use Rattle.component_trait.specs.States.{listing, nothing, resting};
+ghost use Rattle.component_trait.specs.States.{with_items, nothing, at_rest};
+ghost use Rattle.component_trait.specs.declared.TheConstants.{VALUE_LIMIT};
 
 use component_trait::{Ask, Component, Next, Serving, hand, services_are_bounded, wait, waits};
 use config_graph::{Kind, NoMemory};
@@ -13,11 +14,12 @@ use std::alloc::Global;
 pub struct Sink {
     items: Vec<u32>,
     service: Option<Serving>,
+    ghost items_small: { (i a : ℕ) → slice_get items.items i ≡ Some a → a < VALUE_LIMIT },
 }
 
 impl Sink {
     pub fn new(alloc: Global) -> Sink
-        ensures { ⟦<Sink as Component>⟧.state result ≡ resting kind.Sink 0 nothing }
+        ensures { ⟦<Sink as Component>⟧.state result ≡ at_rest kind.Sink 0 nothing }
     {
         Sink {
             items: Vec::new(alloc),
@@ -27,7 +29,7 @@ impl Sink {
 }
 
 impl Component for Sink {
-    ghost state = { λ s. record { kind = kind.Sink; arg = 0; kept = listing s.items.items; service = s.service } };
+    ghost state = { λ s. record { kind = kind.Sink; arg = 0; kept = with_items s.items.items; service = s.service } };
 
     ghost has_room = { λ s. length s.items.items < vec_capacity s.items };
 
@@ -51,7 +53,7 @@ impl Component for Sink {
     }
 
     fn serve(&mut self, _provide: u32, value: u32) {
-        let _ = self.items.push(value);
+        self.items.push_reserved(value);
         self.service = Some(Serving::of(value, 1));
     }
 

@@ -2,7 +2,7 @@
 
 ghost use Rattle.std.specs.Prelude.{◌≡◌, ◌<◌, None, ⊤};
 ghost use Rattle.config_graph.specs.declared.kind.Kind.TheVariants as kind;
-ghost use Rattle.component_trait.specs.States.{counting, nothing, resting};
+ghost use Rattle.component_trait.specs.States.{with_count, nothing, at_rest};
 ghost use Rattle.component_trait.specs.declared.TheConstants.{VALUE_LIMIT};
 
 use component_trait::{Ask, Component, Next};
@@ -19,7 +19,7 @@ pub struct Source {
 impl Source {
     pub fn new(n: u32) -> Source
         requires { n < VALUE_LIMIT }
-        ensures { ⟦<Source as Component>⟧.state result ≡ resting kind.Source n nothing }
+        ensures { ⟦<Source as Component>⟧.state result ≡ at_rest kind.Source n nothing }
     {
         Source { n, accepted: 0 }
     }
@@ -37,7 +37,7 @@ impl Source {
 }
 
 impl Component for Source {
-    ghost state = { λ s. record { kind = kind.Source; arg = s.n; kept = counting s.accepted; service = None } };
+    ghost state = { λ s. record { kind = kind.Source; arg = s.n; kept = with_count s.accepted; service = None } };
 
     ghost has_room = { λ s. ⊤ };
 

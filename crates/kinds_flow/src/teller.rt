@@ -2,7 +2,7 @@
 
 ghost use Rattle.std.specs.Prelude.{◌≡◌, ◌<◌, None, ⊤};
 ghost use Rattle.config_graph.specs.declared.kind.Kind.TheVariants as kind;
-ghost use Rattle.component_trait.specs.States.{counting, nothing, resting};
+ghost use Rattle.component_trait.specs.States.{with_count, nothing, at_rest};
 ghost use Rattle.component_trait.specs.declared.TheConstants.{VALUE_LIMIT};
 
 use component_trait::{Ask, Component, Next};
@@ -19,7 +19,7 @@ pub struct Teller {
 impl Teller {
     pub fn new(n: u32) -> Teller
         requires { n < VALUE_LIMIT }
-        ensures { ⟦<Teller as Component>⟧.state result ≡ resting kind.Teller n nothing }
+        ensures { ⟦<Teller as Component>⟧.state result ≡ at_rest kind.Teller n nothing }
     {
         Teller { n, sent: 0 }
     }
@@ -34,7 +34,7 @@ impl Teller {
 }
 
 impl Component for Teller {
-    ghost state = { λ s. record { kind = kind.Teller; arg = s.n; kept = counting s.sent; service = None } };
+    ghost state = { λ s. record { kind = kind.Teller; arg = s.n; kept = with_count s.sent; service = None } };
 
     ghost has_room = { λ s. ⊤ };
 

@@ -2,7 +2,7 @@
 
 ghost use Rattle.std.specs.Prelude.{◌≡◌, ◌<◌, ⊤, if◌then◌else◌};
 ghost use Rattle.config_graph.specs.declared.kind.Kind.TheVariants as kind;
-ghost use Rattle.component_trait.specs.States.{counting, nothing, resting};
+ghost use Rattle.component_trait.specs.States.{with_count, nothing, at_rest};
 ghost use Rattle.component_trait.specs.Tables.{serve};
 ghost use Rattle.component_trait.specs.declared.TheConstants.{VALUE_LIMIT};
 
@@ -18,7 +18,7 @@ pub struct Fork {
 
 impl Fork {
     pub fn new() -> Fork
-        ensures { ⟦<Fork as Component>⟧.state result ≡ resting kind.Fork 0 nothing }
+        ensures { ⟦<Fork as Component>⟧.state result ≡ at_rest kind.Fork 0 nothing }
     {
         Fork {
             held: false,
@@ -26,7 +26,7 @@ impl Fork {
         }
     }
 
-    /// Lends the fork where it is free and the value is 1, has it back where the value is 0, and answers 1 where it did.
+    /// Lends the fork where it is free and the value is 1, has it back where the value is 0; it answers 1 where it did.
     fn lend(&mut self, value: u32) -> u32
         ensures outcome { record { kept = (⟦<Fork as Component>⟧.state self.new).kept; reply = result } ≡ serve kind.Fork 0 (⟦<Fork as Component>⟧.state self.old).kept value }
         ensures small { result < VALUE_LIMIT }
@@ -46,7 +46,7 @@ impl Fork {
 }
 
 impl Component for Fork {
-    ghost state = { λ s. record { kind = kind.Fork; arg = 0; kept = counting (if s.held then 1 else 0); service = s.service } };
+    ghost state = { λ s. record { kind = kind.Fork; arg = 0; kept = with_count (if s.held then 1 else 0); service = s.service } };
 
     ghost has_room = { λ s. ⊤ };
 

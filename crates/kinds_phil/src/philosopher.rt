@@ -2,7 +2,7 @@
 
 ghost use Rattle.std.specs.Prelude.{◌≡◌, ◌<◌, None, ⊤};
 ghost use Rattle.config_graph.specs.declared.kind.Kind.TheVariants as kind;
-ghost use Rattle.component_trait.specs.States.{counting, nothing, resting};
+ghost use Rattle.component_trait.specs.States.{with_count, nothing, at_rest};
 ghost use Rattle.component_trait.specs.declared.TheConstants.{VALUE_LIMIT};
 
 use component_trait::{Ask, Component, Next};
@@ -19,7 +19,7 @@ pub struct Philosopher {
 impl Philosopher {
     pub fn new(meals: u32) -> Philosopher
         requires { meals < VALUE_LIMIT }
-        ensures { ⟦<Philosopher as Component>⟧.state result ≡ resting kind.Philosopher meals nothing }
+        ensures { ⟦<Philosopher as Component>⟧.state result ≡ at_rest kind.Philosopher meals nothing }
     {
         Philosopher { meals, eaten: 0 }
     }
@@ -37,7 +37,7 @@ impl Philosopher {
 }
 
 impl Component for Philosopher {
-    ghost state = { λ s. record { kind = kind.Philosopher; arg = s.meals; kept = counting s.eaten; service = None } };
+    ghost state = { λ s. record { kind = kind.Philosopher; arg = s.meals; kept = with_count s.eaten; service = None } };
 
     ghost has_room = { λ s. ⊤ };
 

@@ -3,7 +3,7 @@
 ghost use Rattle.std.specs.Prelude.{◌≡◌, ℕ, ◌<◌, false, ⊤};
 ghost use Rattle.config_graph.specs.declared.kind.Kind.TheVariants as kind;
 ghost use Rattle.component_trait.specs.Bounds.{FitsNext};
-ghost use Rattle.component_trait.specs.States.{nothing, resting};
+ghost use Rattle.component_trait.specs.States.{nothing, at_rest};
 ghost use Rattle.component_trait.specs.Tables.{next_of};
 ghost use Rattle.component_trait.specs.declared.TheConstants.{VALUE_LIMIT};
 
@@ -21,7 +21,7 @@ pub struct Place {
 impl Place {
     pub fn new(first: u32) -> Place
         requires { first < VALUE_LIMIT }
-        ensures { ⟦<Place as Component>⟧.state result ≡ resting kind.Place first nothing }
+        ensures { ⟦<Place as Component>⟧.state result ≡ at_rest kind.Place first nothing }
     {
         Place {
             first,

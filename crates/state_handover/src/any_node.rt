@@ -45,9 +45,35 @@ macro_rules! each {
 }
 
 impl Component for AnyNode {
-    ghost state = { elim [ any.Philosopher s ↦ ⟦<Philosopher as Component>⟧.state s | any.Place s ↦ ⟦<Place as Component>⟧.state s | any.Fork s ↦ ⟦<Fork as Component>⟧.state s | any.Source s ↦ ⟦<Source as Component>⟧.state s | any.Map s ↦ ⟦<Map as Component>⟧.state s | any.Buffer s ↦ ⟦<Buffer as Component>⟧.state s | any.Sink s ↦ ⟦<Sink as Component>⟧.state s | any.Teller s ↦ ⟦<Teller as Component>⟧.state s | any.Branch s ↦ ⟦<Branch as Component>⟧.state s | any.Account s ↦ ⟦<Account as Component>⟧.state s | any.Asker s ↦ ⟦<Asker as Component>⟧.state s | any.Adder s ↦ ⟦<Adder as Component>⟧.state s ] };
+    ghost state = { elim [
+      | any.Philosopher s ↦ ⟦<Philosopher as Component>⟧.state s
+      | any.Place s ↦ ⟦<Place as Component>⟧.state s
+      | any.Fork s ↦ ⟦<Fork as Component>⟧.state s
+      | any.Source s ↦ ⟦<Source as Component>⟧.state s
+      | any.Map s ↦ ⟦<Map as Component>⟧.state s
+      | any.Buffer s ↦ ⟦<Buffer as Component>⟧.state s
+      | any.Sink s ↦ ⟦<Sink as Component>⟧.state s
+      | any.Teller s ↦ ⟦<Teller as Component>⟧.state s
+      | any.Branch s ↦ ⟦<Branch as Component>⟧.state s
+      | any.Account s ↦ ⟦<Account as Component>⟧.state s
+      | any.Asker s ↦ ⟦<Asker as Component>⟧.state s
+      | any.Adder s ↦ ⟦<Adder as Component>⟧.state s
+    ] };
 
-    ghost has_room = { elim [ any.Philosopher s ↦ ⟦<Philosopher as Component>⟧.has_room s | any.Place s ↦ ⟦<Place as Component>⟧.has_room s | any.Fork s ↦ ⟦<Fork as Component>⟧.has_room s | any.Source s ↦ ⟦<Source as Component>⟧.has_room s | any.Map s ↦ ⟦<Map as Component>⟧.has_room s | any.Buffer s ↦ ⟦<Buffer as Component>⟧.has_room s | any.Sink s ↦ ⟦<Sink as Component>⟧.has_room s | any.Teller s ↦ ⟦<Teller as Component>⟧.has_room s | any.Branch s ↦ ⟦<Branch as Component>⟧.has_room s | any.Account s ↦ ⟦<Account as Component>⟧.has_room s | any.Asker s ↦ ⟦<Asker as Component>⟧.has_room s | any.Adder s ↦ ⟦<Adder as Component>⟧.has_room s ] };
+    ghost has_room = { elim [
+      | any.Philosopher s ↦ ⟦<Philosopher as Component>⟧.has_room s
+      | any.Place s ↦ ⟦<Place as Component>⟧.has_room s
+      | any.Fork s ↦ ⟦<Fork as Component>⟧.has_room s
+      | any.Source s ↦ ⟦<Source as Component>⟧.has_room s
+      | any.Map s ↦ ⟦<Map as Component>⟧.has_room s
+      | any.Buffer s ↦ ⟦<Buffer as Component>⟧.has_room s
+      | any.Sink s ↦ ⟦<Sink as Component>⟧.has_room s
+      | any.Teller s ↦ ⟦<Teller as Component>⟧.has_room s
+      | any.Branch s ↦ ⟦<Branch as Component>⟧.has_room s
+      | any.Account s ↦ ⟦<Account as Component>⟧.has_room s
+      | any.Asker s ↦ ⟦<Asker as Component>⟧.has_room s
+      | any.Adder s ↦ ⟦<Adder as Component>⟧.has_room s
+    ] };
 
     fn kind(&self) -> Kind {
         each!(self, node => node.kind())

@@ -36,7 +36,8 @@ pub fn make(alloc: Global, kind: Kind, arg: Option<u32>) -> AnyNode
 pub fn import(old: AnyNode, arg: Option<u32>) -> AnyNode
     requires rests { (⟦<AnyNode as Component>⟧.state old).service ≡ None }
     requires fits { FitsKind (⟦<AnyNode as Component>⟧.state old).kind arg }
-    ensures { ⟦<AnyNode as Component>⟧.state result ≡ with_argument arg (⟦<AnyNode as Component>⟧.state old) }
+    ensures state { ⟦<AnyNode as Component>⟧.state result ≡ with_argument arg (⟦<AnyNode as Component>⟧.state old) }
+    ensures room { ⟦<AnyNode as Component>⟧.has_room old → ⟦<AnyNode as Component>⟧.has_room result }
 {
     let arg = arg.unwrap_or(0);
     match old {
