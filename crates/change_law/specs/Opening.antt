@@ -3,7 +3,7 @@
 use Rattle.std.specs.Prelude.{ℕ, zero, suc, List, Option, Some, None, option_map, option_and_then}
 use Rattle.std.specs.Option.{option_map_or}
 use Rattle.component_trait.specs.Fold.{fold_from}
-use Rattle.component_trait.specs.States.{Kept, NodeState, resting}
+use Rattle.component_trait.specs.States.{Kept, NodeState, at_rest}
 use Rattle.component_trait.specs.Tables.{opening}
 use Rattle.quiesce_core.specs.Runs.{done_by, state_after}
 use Rattle.quiesce_core.specs.State.{slot}
@@ -15,7 +15,7 @@ argument_of m = option_map_or (λ a. a) m.node.arg 0
 
 -- the fold of these events of a node that opens so
 abbrev pub fold_at : Slot → List Event → Kept → Option NodeState
-fold_at m own kept = fold_from m.first_port (resting m.node.kind (argument_of m) kept) own
+fold_at m own kept = fold_from m.first_port (at_rest m.node.kind (argument_of m) kept) own
 
 -- The fold of the node in slot n, where a chain of hand-overs has at most so many nodes. Each leads to a lower slot.
 abbrev pub fold_within : List Event → ℕ → ℕ → Option NodeState

@@ -6,7 +6,7 @@ use Rattle.std.specs.Option.{option_map_or}
 use Rattle.config_graph.specs.Kinds.{row}
 use Rattle.config_graph.specs.declared.node.Node.{Node}
 use Rattle.component_trait.specs.Fold.{fold_next}
-use Rattle.component_trait.specs.States.{NodeState, resting}
+use Rattle.component_trait.specs.States.{NodeState, at_rest}
 use Rattle.component_trait.specs.Tables.{opening}
 use Rattle.quiesce_core.specs.Effect.{effect}
 use Rattle.quiesce_core.specs.State.{State, empty, slot}
@@ -53,8 +53,8 @@ argument node = option_map_or (λ a. a) node.arg 0
 
 -- what a node opens with: the state of its kind and argument, or what the node in slot k keeps, with the new argument
 abbrev pub opened : World → Node → Option ℕ → Option NodeState
-opened w node None = Some (resting node.kind (argument node) (opening node.kind (argument node)))
-opened w node (Some k) = option_map (λ (s : NodeState). resting node.kind (argument node) s.kept) (state_of w k)
+opened w node None = Some (at_rest node.kind (argument node) (opening node.kind (argument node)))
+opened w node (Some k) = option_map (λ (s : NodeState). at_rest node.kind (argument node) s.kept) (state_of w k)
 
 -- the change did this event: a node that it makes has an empty inbox, and no hint of it waits
 abbrev pub with_event : World → Event → World
