@@ -1,0 +1,4 @@
+mod KindTables
+pub mod AgreementLaws
+pub mod MoveLaws
+pub mod ReachedLaws
