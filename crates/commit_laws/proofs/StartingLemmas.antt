@@ -25,7 +25,7 @@ use Rattle.quiesce_core.proofs.RunLaws.{StepAt, effect_config}
 use Rattle.quiesce_core.proofs.StepsLaws.{end_is, run_is_steps}
 use Rattle.quiescence_laws.specs.Events.{reopens}
 use Rattle.quiescence_laws.specs.Starts.{link_of, make_of, reopen_of, start_of}
-use Rattle.quiescence_laws.proofs.StartLemmas.{start_path}
+use Rattle.quiescence_laws.proofs.StartLaws.{start_path}
 use Rattle.base.specs.Each.{EachAfter}
 use Rattle.commit_laws.specs.Steps.{IsNoted, MayStep, MayStepAll, change_all}
 use Rattle.commit_laws.proofs.CarryingLaws.{allowed_in_order, append_closed, map_closed}

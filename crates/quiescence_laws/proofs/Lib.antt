@@ -1,7 +1,7 @@
 pub mod SumLaws
 pub mod ExtensionLaws
 pub mod ExchangeLaws
-pub mod StartLemmas
+pub mod StartLaws
 pub mod WalkLemmas
 pub mod Stillness
 pub mod OpenLaws

@@ -4,7 +4,7 @@ use Rattle.quiesce_core.specs.Runs.{Steps}
 use Rattle.quiesce_core.specs.Start.{started}
 use Rattle.quiesce_core.specs.State.{empty}
 use Rattle.quiesce_core.proofs.StepsLaws.{end_is, run_is_steps}
-use Rattle.quiescence_laws.proofs.StartLemmas.{start_path}
+use Rattle.quiescence_laws.proofs.StartLaws.{start_path}
 use Rattle.quiescence_laws.proofs.starting.started_systems_are_reached.Goals as goal
 
 pub returns : goal.returns

@@ -6,7 +6,7 @@ use Rattle.quiesce_core.specs.Start.{started}
 use Rattle.quiesce_core.specs.State.{empty}
 use Rattle.quiesce_core.proofs.StepsLaws.{end_is, run_goes_on}
 use Rattle.quiescence_laws.specs.Starts.{start_of}
-use Rattle.quiescence_laws.proofs.StartLemmas.{start_path}
+use Rattle.quiescence_laws.proofs.StartLaws.{start_path}
 use Rattle.quiescence_laws.proofs.starting.started_systems_go_on_as_runs.Goals as goal
 
 pub returns : goal.returns
