@@ -1,6 +1,6 @@
 -- A node's turn: it posts what waits, and makes the first of four moves that is possible. It ends a transaction of its own that has a
 -- reply; it goes on with its service; it takes up the next request; or it begins what it wants.
-use Rattle.std.specs.Prelude.{ℕ, ◌+◌, ◌-◌, Bool, false, not, ◌&&◌, ◌||◌, ◌==◌, nat_lt, List, [], ◌∷◌, ◌++◌, length, drop, find, fold, Option, Some, None, option_map, option_and_then, is_none, is_some, slice_set, if◌then◌else◌}
+use Rattle.std.specs.Prelude.{ℕ, ◌+◌, ◌-◌, Bool, false, not, ◌&&◌, ◌||◌, ◌==◌, List, [], ◌∷◌, ◌++◌, drop, find, fold, Option, Some, None, option_map, option_and_then, is_none, is_some, slice_set, if◌then◌else◌}
 use Rattle.std.specs.List.{enumerate_from, list_any}
 use Rattle.std.specs.Option.{option_map_or}
 use Rattle.config_graph.specs.declared.node.Target.{Target}
@@ -16,7 +16,7 @@ use Rattle.quiesce_core.specs.declared.event.Event.{Event}
 use Rattle.quiesce_core.specs.declared.event.Event.TheVariants as event
 use Rattle.quiesce_core.specs.declared.state.Service.{Service}
 use Rattle.turns.specs.World.{World, first_port, inbox, state_of, waiting_of, with_event_of}
-use Rattle.turns.specs.declared.turning.TheConstants.{MAX_HINTS}
+use Rattle.port_queue.specs.Inboxes.{has_room}
 
 -- Move 1: of its ports, the lowest that is answered or in more.
 abbrev pub reply_to : State → NodeState → ℕ → Event
@@ -91,7 +91,7 @@ move_of s n t box allowed =
 
 -- Hints. An inbox has room for so many; a hint that finds it full waits, at most one for each port.
 abbrev pub is_full : List ℕ → Bool
-is_full box = not (nat_lt (length box) MAX_HINTS)
+is_full box = not (has_room box)
 
 abbrev pub with_waiting : World → ℕ → ℕ → Option ℕ → World
 with_waiting w n r m = record w { waiting = slice_set w.waiting n (slice_set (waiting_of w n) r m) }

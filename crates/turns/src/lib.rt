@@ -2,6 +2,8 @@
 #![tactic(auto)]
 
 mod laws;
-mod turning;
 
-pub use turning::MAX_HINTS;
+pub use laws::{
+    a_line_comes_to_rest, a_round_without_a_move_changes_nothing, a_turn_is_one_event_at_most,
+    sums_take_a_further_message,
+};
