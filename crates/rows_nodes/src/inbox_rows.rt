@@ -1,0 +1,23 @@
+//! Rows of inboxes: order, a full inbox, an empty one, and one beside another.
+
+use port_queue::{Full, Hints, MAX_HINTS, PlainHints};
+use std::test::Fail;
+
+#[test]
+fn inboxes_are_lists(rt: HostRuntime) -> Result<(), Fail> {
+    let mut hints = PlainHints::new(rt.alloc())?;
+    assert_eq!(rt; hints.next(1_022), None);
+    for port in 0..MAX_HINTS {
+        assert_eq!(rt; hints.post(5, port), Ok(()), "port {port}");
+    }
+    assert_eq!(rt; hints.post(5, 9), Err(Full));
+    assert_eq!(rt; hints.post(1_022, 4_095), Ok(()));
+    for port in 0..MAX_HINTS {
+        assert_eq!(rt; hints.next(5), Some(port));
+    }
+    assert_eq!(rt; hints.next(5), None);
+    assert_eq!(rt; hints.next(1_022), Some(4_095));
+    assert_eq!(rt; hints.post(5, 9), Ok(()));
+    assert_eq!(rt; hints.next(5), Some(9));
+    Ok(())
+}

@@ -1,0 +1,5 @@
+//! Worked rows of what nodes stand on: inboxes.
+#![tactic(auto)]
+
+#[cfg(test)]
+mod inbox_rows;
