@@ -11,4 +11,5 @@ pub mod OrderedLaws
 pub mod PlaceLaws
 pub mod RangeLaws
 pub mod RisingLaws
+pub mod SumLaws
 pub mod TellLaws

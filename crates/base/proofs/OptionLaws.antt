@@ -1,6 +1,6 @@
 -- What options hold that are made of others.
-use Rattle.std.proofs.Common.{◌≡◌, Bool, true, false, not, Option, Some, None, option_map, is_some, is_none, refl, sym}
-use Rattle.std.specs.Option.{option_and_then}
+use Rattle.std.proofs.Common.{◌≡◌, Bool, true, false, not, Option, Some, None, option_map, is_some, is_none, refl, sym, ap}
+use Rattle.std.specs.Option.{option_and_then, option_map_or}
 use Rattle.std.proofs.lemmas.Bool.{false≢true, true≢false}
 use Rattle.std.proofs.lemmas.Option.{none-some, same_Some}
 
@@ -17,6 +17,14 @@ None-from_is_some (Some x) h = absurd (true≢false h)
 pub option_map_some : {A B : Type 0} (f : A → B) (o : Option A) (y : B) → option_map f o ≡ Some y → (x : A) × (o ≡ Some x) × (f x ≡ y)
 option_map_some f None y e = absurd (none-some y e)
 option_map_some f (Some x) y e = (x, refl, same_Some (f x) y e)
+
+-- a test of a value is passed where the value is there and passes
+pub map_or_true : {A : Type 0} (f : A → Bool) (o : Option A) → option_map_or f o false ≡ true → (x : A) × (o ≡ Some x) × (f x ≡ true)
+map_or_true f None h = absurd (false≢true h)
+map_or_true f (Some x) h = (x, refl, h)
+
+pub map_or_at : {A B : Type 0} (f : A → B) (o : Option A) (d : B) (x : A) → o ≡ Some x → option_map_or f o d ≡ f x
+map_or_at f o d x e = ap (λ v. option_map_or f v d) e
 
 -- a value that is made of two others is there where both are
 pub made_of_two : {A B C : Type 0} (g : A → B → C) (o : Option A) (q : Option B) (y : C) → option_and_then (λ x. option_map (g x) q) o ≡ Some y → (x : A) × (b : B) × (o ≡ Some x) × (q ≡ Some b) × (g x b ≡ y)

@@ -1,10 +1,10 @@
 -- The elements of lists by their places, in lists that are put together, grow or change.
-use Rattle.std.proofs.Common.{◌≡◌, ◌≢◌, ℕ, ◌≤◌, ◌<◌, zero, suc, List, [], ◌∷◌, ◌++◌, Some, length, set, refl, ap, sym, subst, ◌∙◌, arith, inl, inr, ◌⊎◌, ◌+◌, map, ◌-◌, get_or, replicate, ⊎_elim}
+use Rattle.std.proofs.Common.{◌≡◌, ◌≢◌, ℕ, Bool, true, ◌≤◌, ◌<◌, zero, suc, List, [], ◌∷◌, ◌++◌, Some, length, set, refl, ap, sym, subst, ◌∙◌, arith, inl, inr, ◌⊎◌, ◌+◌, map, ◌-◌, get_or, replicate, ⊎_elim}
 use Rattle.std.proofs.Common.{take, drop}
 use Rattle.std.proofs.lemmas.Grind.{common_steps}
-use Rattle.std.specs.List.{slice_get}
+use Rattle.std.specs.List.{list_any, slice_get}
 use Rattle.std.proofs.lemmas.Option.{none-some, same_Some}
-use Rattle.std.proofs.lemmas.Bool.{cases_lt}
+use Rattle.std.proofs.lemmas.Bool.{cases_lt, or_left, or_right}
 use Rattle.std.proofs.lemmas.List.{get_or_past, get_or_append_left, get_or-append_right}
 
 -- ---- elements by their places
@@ -124,6 +124,12 @@ fresh_behind xs x k q = ⊎_elim
     (λ (past : length xs ≤ q).
     get_or-append_right xs (replicate k x) (length xs) q x refl past ∙ replicated x k (q - length xs) ∙ sym (get_or_past xs q x past))
     (cases_lt q (length xs))
+
+-- an element that passes is one of some that pass
+pub any_at : {A : Type 0} (f : A → Bool) (xs : List A) (i : ℕ) (x : A) → slice_get xs i ≡ Some x → f x ≡ true → list_any f xs ≡ true
+any_at f [] i x e h = absurd (none-some x e)
+any_at f (y ∷ xs) zero x e h = or_left (f y) (list_any f xs) (ap f (same_Some y x e) ∙ h)
+any_at f (y ∷ xs) (suc i) x e h = or_right (f y) (list_any f xs) (any_at f xs i x e h)
 
 -- what the code's `&xs[i..]` is
 pub rest_is : (xs : List ℕ) (i : ℕ) → i ≤ length xs → take (length xs - i) (drop i xs) ≡ drop i xs

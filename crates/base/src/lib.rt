@@ -1,9 +1,11 @@
 //! What every part stands on: texts and lists as contracts see them, want of memory, and what an answer owes.
 #![tactic(auto)]
 
+mod laws;
 mod list;
 mod text;
 
+pub use laws::places_keep_what_holds;
 pub use list::List;
 pub use text::Text;
 

@@ -96,7 +96,7 @@ leads_by-MayCall g i r j h = by (is_depended_at g.nodes i r) refl (target_of g.l
 depended : (g : Graph) (i j : ℕ) (h : MayCall (graph_wiring g) i j) → is_depended_at g.nodes i h.port.require ≡ true
 depended g i j h = depended_by g.nodes i h.serves h.port.require h.depends.1
 
-linked : (g : Graph) (i j : ℕ) (h : MayCall (graph_wiring g) i j) → IsLinked g i h.port.require j h.provide
+pub linked : (g : Graph) (i j : ℕ) (h : MayCall (graph_wiring g) i j) → IsLinked g i h.port.require j h.provide
 linked g i j h = subst (λ k. IsLinked g k h.port.require j h.provide) h.depends.0 h.linked
 
 pub MayCall-leads_by : (g : Graph) (i j : ℕ) (h : MayCall (graph_wiring g) i j) → leads_by g i h.port.require ≡ Some j

@@ -9,6 +9,7 @@ pub mod SameLaws
 pub mod TextLemmas
 pub mod IncomingLaws
 pub mod CycleLaws
+pub mod ClosureLaws
 pub mod MarkLaws
 pub mod SearchLaws
 pub mod TellLaws

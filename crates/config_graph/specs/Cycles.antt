@@ -3,7 +3,8 @@ use Rattle.std.specs.Prelude.{◌≡◌, ℕ, ◌<◌, Bool, false, IsTrue, if�
 use Rattle.std.specs.Option.{option_map_or}
 use Rattle.config_graph.specs.Kinds.{depends_on, is_depended_on}
 use Rattle.config_graph.specs.Graph.{Graph, target_of}
-use Rattle.config_graph.specs.Wiring.{Wiring, CallPath}
+use Rattle.config_graph.specs.Wiring.{Wiring, CallPath, MayCall}
+use Rattle.config_graph.specs.Marks.{IsMarked}
 use Rattle.config_graph.specs.declared.node.Node.{Node}
 use Rattle.config_graph.specs.declared.node.Port.{Port}
 use Rattle.config_graph.specs.declared.node.Target.{Target}
@@ -29,6 +30,10 @@ graph_wiring g = record {
 -- node i is on a cycle: a path of calls leads from it back to it
 abbrev pub OnCycle : Graph → ℕ → Type 0
 OnCycle g i = CallPath (graph_wiring g) i i
+
+-- node i may call a node whose mark isn't set
+abbrev pub LeadsToUnmarked : Graph → List Bool → ℕ → Type 0
+LeadsToUnmarked g marks i = (j : ℕ) × MayCall (graph_wiring g) i j × ¬ IsMarked marks j
 
 -- node i is the first of the nodes that are on cycles
 pub record FirstOnCycle (g : Graph) (i : ℕ) : Type 0 where

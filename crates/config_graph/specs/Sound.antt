@@ -1,15 +1,16 @@
 -- Sound graphs: those that a description gives and that may be run.
-use Rattle.std.specs.Prelude.{◌≡◌, ◌<◌, ◌^◌, All, IfSome, is_some}
+use Rattle.std.specs.Prelude.{◌≡◌, ◌<◌, All, IfSome, is_some}
 use Rattle.config_graph.specs.Kinds.{row}
 use Rattle.config_graph.specs.Graph.{Graph, IsLinkWithin, PathsRise, in_port_order}
 use Rattle.config_graph.specs.Cycles.{graph_wiring}
 use Rattle.config_graph.specs.Wiring.{HasNoCycle}
+use Rattle.config_graph.specs.declared.TheConstants.{VALUE_LIMIT}
 use Rattle.config_graph.specs.declared.node.Node.{Node}
 
--- an argument below 2^24 is there exactly where the kind has one
+-- an argument, which is a value, is there exactly where the kind has one
 pub record HasItsArgument (n : Node) : Type 0 where
   pub present : is_some n.arg ≡ is_some (row n.kind).arg
-  pub below : IfSome n.arg (λ a. a < 2 ^ 24)
+  pub below : IfSome n.arg (λ a. a < VALUE_LIMIT)
 
 pub record Sound (g : Graph) : Type 0 where
   pub paths_rise : PathsRise g.nodes

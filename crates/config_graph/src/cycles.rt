@@ -1,10 +1,13 @@
 //! Cycles of depended-on links.
 
-ghost use Rattle.std.specs.Prelude.{◌≡◌, ◌+◌, ◌<◌, ◌≤◌, ◌↔◌, ℕ, length, All, IfNone, IfOk, IfSome, IsTrue, OnOk, false, option_map, option_to_list, replicate, vec_len};
+ghost use Rattle.std.specs.Prelude.{◌≡◌, ◌+◌, ◌<◌, ◌≤◌, ◌↔◌, ℕ, ◌⊎◌, length, All, Contains, IfNone, IfOk, IfSome};
+ghost use Rattle.std.specs.Prelude.{IsTrue, OnOk, Some, slice_get, false, option_map, option_to_list, replicate};
+ghost use Rattle.std.specs.Prelude.{vec_len};
 ghost use Rattle.std.specs.List.{range_with_len};
 ghost use Rattle.std.specs.Option.{ForSome};
-ghost use Rattle.config_graph.specs.Cycles.{FirstOnCycle, OnCycle, leads_by, graph_wiring};
+ghost use Rattle.config_graph.specs.Cycles.{FirstOnCycle, LeadsToUnmarked, OnCycle, leads_by, graph_wiring};
 ghost use Rattle.config_graph.specs.Marks.{IsMarked};
+ghost use Rattle.config_graph.specs.declared.node.Port.{Port};
 ghost use Rattle.config_graph.specs.Wiring.{CallPath, HasNoCycle, MayCall};
 ghost use Rattle.config_graph.specs.Graph.{Graph, ports as ports_of, requires_at};
 ghost use Rattle.config_graph.specs.declared.node.Target.{Target};
@@ -15,8 +18,8 @@ use std::alloc::Global;
 
 /// The first node that is on a cycle, or `None` where no node is on one.
 ///
-/// Where there is no cycle, time grows with the number of nodes and links alone. Where there is one, each node before the first
-/// on a cycle from which a way leads to a cycle costs a search of its own.
+/// Where there is no cycle, time grows with the number of nodes and links alone. Where there is one, each node before
+/// the first on a cycle from which a way leads to a cycle costs a search of its own.
 pub fn first_on_cycle(alloc: Global, graph: &Graph) -> Result<Option<u32>, NoMemory>
     ensures found { IfOk result (λ node. IfSome node (FirstOnCycle graph.now)) }
     ensures absent { IfOk result (λ node. IfNone node (HasNoCycle (graph_wiring graph.now))) }
@@ -30,11 +33,13 @@ pub fn first_on_cycle(alloc: Global, graph: &Graph) -> Result<Option<u32>, NoMem
     Ok(None)
 }
 
-/// The nodes that lead only to nodes of this list, as a bit for each node, taken in until there are no more. None of them is
-/// on a cycle.
+/// The nodes that lead only to nodes of this list, as a bit for each node, taken in until there are no more. None of
+/// them is on a cycle, and each other node leads to another that isn't of them.
 fn list_acyclic(alloc: Global, graph: &Graph) -> Result<Vec<bool>, NoMemory>
     ensures length { IfOk result (λ acyclic. vec_len acyclic ≡ length graph.now.nodes) }
     ensures acyclic { IfOk result (λ acyclic. (i : ℕ) → IsMarked acyclic.items i → ¬ OnCycle graph.now i) }
+    ensures closed { IfOk result (λ acyclic. (i : ℕ) → i < length graph.now.nodes
+        → IsMarked acyclic.items i ⊎ LeadsToUnmarked graph.now acyclic.items i) }
 {
     let count = graph.node_count();
     let mut acyclic = no_bits(alloc, count)?;
@@ -70,7 +75,8 @@ fn all_nodes(alloc: Global, count: u32) -> Result<Vec<u32>, NoMemory>
 fn leads_only_to(graph: &Graph, bits: &[bool], node: u32) -> bool
     requires bits { length bits.now ≡ length graph.now.nodes }
     requires node { node < length graph.now.nodes }
-    ensures { IsTrue result → (j : ℕ) → MayCall (graph_wiring graph.now) node j → IsMarked bits.now j }
+    ensures marked { IsTrue result → (j : ℕ) → MayCall (graph_wiring graph.now) node j → IsMarked bits.now j }
+    ensures unmarked { ¬ IsTrue result → LeadsToUnmarked graph.now bits.now node }
 {
     for require in 0..graph.node(node).kind.requires_() {
         if !is_set(bits, successor(graph, node, require)) {
@@ -97,8 +103,11 @@ fn push_predecessors(waiting: &mut Vec<u32>, graph: &Graph, node: u32) -> Result
     ensures nodes { OnOk result (All (λ i. i < length graph.now.nodes) waiting.old.items
         → All (λ i. i < length graph.now.nodes) waiting.new.items) }
     ensures count { OnOk result (vec_len waiting.new ≤ vec_len waiting.old + length graph.now.links) }
+    ensures kept { OnOk result ((i : ℕ) → Contains waiting.old.items i → Contains waiting.new.items i) }
+    ensures callers { OnOk result ((i : ℕ) → MayCall (graph_wiring graph.now) i node → Contains waiting.new.items i) }
 {
-    for provide in 0..graph.node(node).kind.provides() {
+    let nodes = graph.nodes();
+    for provide in 0..nodes[node as usize].kind.provides() {
         push_owners(waiting, graph, graph.incoming(node, provide))?;
     }
     Ok(())
@@ -110,6 +119,9 @@ fn push_owners(waiting: &mut Vec<u32>, graph: &Graph, ports: &[u32]) -> Result<(
     ensures nodes { OnOk result (All (λ i. i < length graph.now.nodes) waiting.old.items
         → All (λ i. i < length graph.now.nodes) waiting.new.items) }
     ensures count { OnOk result (vec_len waiting.new ≡ vec_len waiting.old + length ports.now) }
+    ensures kept { OnOk result ((i : ℕ) → Contains waiting.old.items i → Contains waiting.new.items i) }
+    ensures owners { OnOk result ((port : ℕ) (owner : Port) → Contains ports.now port
+        → slice_get (ports_of graph.now.nodes) port ≡ Some owner → Contains waiting.new.items owner.node) }
 {
     for port in ports {
         waiting.push(graph.port(*port).node)?;
@@ -135,7 +147,8 @@ fn is_on_cycle(alloc: Global, graph: &Graph, acyclic: &[bool], node: u32) -> Res
 fn list_reached(alloc: Global, graph: &Graph, start: u32) -> Result<Vec<bool>, NoMemory>
     requires { start < length graph.now.nodes }
     ensures length { IfOk result (λ bits. vec_len bits ≡ length graph.now.nodes) }
-    ensures reached { IfOk result (λ bits. (j : ℕ) → IsMarked bits.items j ↔ CallPath (graph_wiring graph.now) start j) }
+    ensures reached { IfOk result (λ bits. (j : ℕ)
+        → IsMarked bits.items j ↔ CallPath (graph_wiring graph.now) start j) }
 {
     let mut bits = no_bits(alloc, graph.node_count())?;
     let mut reached = Vec::new(alloc);

@@ -1,9 +1,11 @@
 //! Graphs, with the indexes that answer look-ups at once.
 
-ghost use Rattle.std.specs.Prelude.{◌≡◌, ◌+◌, ◌^◌, ◌<◌, ◌↔◌, ℕ, length, slice_get, Some, IfOk, IfSome, All, Contains, IsTrue};
+ghost use Rattle.std.specs.Prelude.{◌≡◌, ◌+◌, ◌^◌, ◌<◌, ◌↔◌, ℕ, length, slice_get, Some, IfOk, IfSome, All, Contains};
+ghost use Rattle.std.specs.Prelude.{IsTrue};
 ghost use Rattle.std.specs.List.Sorted.{IsStrictlyIncreasing};
 ghost use Rattle.config_graph.specs.declared.node.Link.{Link};
-ghost use Rattle.config_graph.specs.Graph.{IsGraph, IsLinkWithin, OneLinkAPort, PathsRise, graph_of, incoming_ports, index_of, port_number, ports, provides_at, requires_at, target_of};
+ghost use Rattle.config_graph.specs.Graph.{IsGraph, IsLinkWithin, OneLinkAPort, PathsRise, graph_of, incoming_ports};
+ghost use Rattle.config_graph.specs.Graph.{index_of, port_number, ports, provides_at, requires_at, target_of};
 
 use crate::numbering::Numbering;
 use crate::{Link, NoMemory, Node, Port, Target, indexes};

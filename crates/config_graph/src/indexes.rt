@@ -68,7 +68,8 @@ pub(crate) fn list_incoming(
     links: &[Link],
 ) -> Result<Vec<Vec<u32>>, NoMemory>
     requires { All (IsLinkWithin nodes.now) links.now }
-    ensures { IfOk result (λ v. map (λ ports. ports.items) v.items ≡ incoming (record { nodes = nodes.now; links = links.now })) }
+    ensures { IfOk result (λ v. map (λ ports. ports.items) v.items
+        ≡ incoming (record { nodes = nodes.now; links = links.now })) }
 {
     let mut incoming = list_empty(alloc, nodes.provision_count())?;
     for link in links {

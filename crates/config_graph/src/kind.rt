@@ -1,7 +1,8 @@
 //! The kinds of nodes: what each provides and requires, as a table.
 
 ghost use Rattle.std.specs.Prelude.{◌≡◌, ◌<◌, length, is_some, slice_get, option_map, IfSome, Some};
-ghost use Rattle.config_graph.specs.Kinds.{row, kinds, kind_named, depends_on, is_depended_on, calls_of, mores_of, Provision};
+ghost use Rattle.config_graph.specs.Kinds.{row, kinds, kind_named, depends_on, is_depended_on, calls_of, mores_of};
+ghost use Rattle.config_graph.specs.Kinds.{Provision};
 ghost use Rattle.config_graph.specs.declared.kind.Kind.{Kind};
 
 /// What a node does. The work of each kind is built in.

@@ -1,13 +1,13 @@
 //! Laws of graphs, each as the contract of a function that does nothing.
 
-ghost use Rattle.std.specs.Prelude.{◌≡◌, ◌<◌, ◌≤◌, ◌⊎◌, ◌↔◌, ℕ, All, Some, true, length};
+ghost use Rattle.std.specs.Prelude.{◌≡◌, ◌<◌, ◌≤◌, ◌^◌, ◌⊎◌, ◌↔◌, ℕ, All, Some, true, length};
 ghost use Rattle.config_graph.specs.Cycles.{FirstOnCycle, IsLinked, graph_wiring};
 ghost use Rattle.config_graph.specs.Graph.{Graph, IsGraph, in_port_order};
 ghost use Rattle.config_graph.specs.GraphText.{IsOneWord, graph_text};
 ghost use Rattle.config_graph.specs.Kinds.{calls_of, depends_on, kind_named, mores_of, row};
 ghost use Rattle.config_graph.specs.Sound.{Sound};
 ghost use Rattle.config_graph.specs.Wiring.{HasNoCycle};
-ghost use Rattle.config_graph.specs.declared.TheConstants.{MAX_NODES, MAX_PORTS};
+ghost use Rattle.config_graph.specs.declared.TheConstants.{MAX_NODES, MAX_PORTS, VALUE_LIMIT};
 ghost use Rattle.config_graph.specs.declared.kind.Kind.{Kind};
 ghost use Rattle.config_graph.specs.declared.kind.Kind.TheVariants.{Buffer};
 
@@ -36,19 +36,21 @@ pub fn texts_tell_sound_graphs()
         → graph_text a ≡ graph_text b → a ≡ b }
 {}
 
-/// How many nodes and how many ports one run makes at most, removed ones counted.
+/// How many nodes and how many ports one run makes at most, removed ones counted, and how many values there are.
 pub fn limits_of_one_run()
     ensures nodes { MAX_NODES ≡ 1023 }
     ensures ports { MAX_PORTS ≡ 4096 }
+    ensures values { VALUE_LIMIT ≡ 2 ^ 24 }
 {}
 
-/// Each kind provides one service at most and requires two at most. A service makes at most four calls and at most one intermediate
-/// reply. What it provides depends on all that it requires, but for a buffer, whose service calls nothing.
+/// Each kind provides one service at most and requires two at most. A service makes at most four calls and at most one
+/// intermediate reply. What it provides depends on all that it requires, but for a buffer, whose service calls nothing.
 #[tactic(auto, using(crate::proofs::KindLaws::one_provision, crate::proofs::KindLaws::two_requires, crate::proofs::KindLaws::few_calls, crate::proofs::KindLaws::few_mores, crate::proofs::KindLaws::depends_on_all))]
 pub fn kinds_are_small()
     ensures provides { (k : Kind) → length (row k).provides ≤ 1 }
     ensures requires_ { (k : Kind) → length (row k).requires_ ≤ 2 }
     ensures calls { (k : Kind) (x : ℕ) → calls_of k x ≤ 4 }
     ensures mores { (k : Kind) (x : ℕ) → mores_of k x ≤ 1 }
-    ensures depends { (k : Kind) (x r : ℕ) → x < length (row k).provides → r < length (row k).requires_ → (k ≡ Buffer → ⊥) → depends_on k x r ≡ true }
+    ensures depends { (k : Kind) (x r : ℕ) → x < length (row k).provides → r < length (row k).requires_
+        → (k ≡ Buffer → ⊥) → depends_on k x r ≡ true }
 {}

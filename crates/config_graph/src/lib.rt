@@ -26,3 +26,6 @@ pub const MAX_NODES: u32 = 1_023;
 
 /// How many ports, the required services of nodes, one run makes at most.
 pub const MAX_PORTS: u32 = 4_096;
+
+/// Arguments of nodes, and the values of messages, are below this number.
+pub const VALUE_LIMIT: u32 = 16_777_216;

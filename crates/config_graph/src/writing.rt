@@ -57,7 +57,8 @@ fn write_node(text: &mut Vec<u8>, node: &Node) -> Result<(), NoMemory>
 /// A line for each port of a node.
 fn write_ports(text: &mut Vec<u8>, graph: &Graph, index: u32, node: &Node) -> Result<(), NoMemory>
     requires { slice_get graph.now.nodes index ≡ Some node.now }
-    ensures { OnOk result (text.new.items ≡ text.old.items ++ port_lines graph.now index node.now (requires_of node.now)) }
+    ensures { OnOk result (text.new.items ≡ text.old.items
+        ++ port_lines graph.now index node.now (requires_of node.now)) }
 {
     for require in 0..node.kind.requires_() {
         write_port(text, graph, index, node, require)?;

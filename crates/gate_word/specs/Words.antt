@@ -1,10 +1,11 @@
 -- The word of a port: the fields that it spells, and at which bits.
-use Rattle.std.specs.Prelude.{◌≡◌, ℕ, ◌-◌, ◌^◌, ◌<◌, Bool, false, not, ◌&&◌, ◌||◌, ◌==◌, List, [], ◌∷◌, Option, Some, is_none, option_map, if◌then◌else◌}
+use Rattle.std.specs.Prelude.{◌≡◌, ℕ, ◌^◌, ◌<◌, Bool, false, not, ◌&&◌, ◌||◌, ◌==◌, List, [], ◌∷◌, Option, Some, is_none, option_map, if◌then◌else◌}
 use Rattle.std.specs.Option.{option_map_or}
 use Rattle.config_graph.specs.declared.TheConstants.{MAX_NODES}
 use Rattle.config_graph.specs.declared.node.Target.{Target}
 use Rattle.gate_word.specs.declared.phase.Phase.{Phase}
 use Rattle.gate_word.specs.declared.phase.Phase.TheVariants as phase
+use Rattle.gate_word.specs.declared.word.TheConstants.{LAST_SERIAL}
 use Rattle.gate_word.specs.declared.word.Word.{Word}
 use Rattle.gate_word.specs.Packs.{spell, bits, plus_one, less_one}
 use Rattle.gate_word.specs.Phases.{is_asked, is_idle}
@@ -78,7 +79,7 @@ has_root w = not (is_idle w.phase) && not w.consequent
 
 -- whether the port had its last transaction
 abbrev pub is_spent : Word → Bool
-is_spent w = w.serial == 2 ^ 24 - 1
+is_spent w = w.serial == LAST_SERIAL
 
 -- whether a call finds no target, or no transaction left
 abbrev pub is_missing : Word → Bool

@@ -3,12 +3,14 @@
 ghost use Rattle.std.specs.Prelude.{◌≡◌, ◌+◌, ◌*◌, ◌^◌, ◌<◌, ℕ, List, Option, Some, None, true, false, bit_and, bit_or, bit_xor};
 ghost use Rattle.std.specs.Option.{option_map_or};
 ghost use Rattle.config_graph.specs.Kinds.{row};
+ghost use Rattle.config_graph.specs.declared.TheConstants.{VALUE_LIMIT};
 ghost use Rattle.gate_word.specs.Operands.{link_difference, message_difference};
 ghost use Rattle.gate_word.specs.Packs.{FitIn, bits, by_fields, plus_one, spell};
 ghost use Rattle.gate_word.specs.SlotWords.{FitsSlotWord, pack_slot, unpack_slot};
 ghost use Rattle.gate_word.specs.Words.{FitsWord, flag, pack, phase_bits, provide_bits, slot_bits, unpack};
 ghost use Rattle.gate_word.specs.declared.slot_word.SlotWord.{SlotWord};
 ghost use Rattle.config_graph.specs.declared.node.Target.{Target};
+ghost use Rattle.gate_word.specs.declared.word.TheConstants.{LAST_SERIAL};
 ghost use Rattle.gate_word.specs.declared.word.Word.{Word};
 
 use crate::phase::Phase;
@@ -61,11 +63,14 @@ pub fn words_are_sums()
         + 2 ^ 44 * plus_one w.from }
 {}
 
-/// Words are numbers of 64 bits, and the word of a slot in which a node was made isn't 0.
+/// Words are numbers of 64 bits, and the word of a slot in which a node was made isn't 0. Values and arguments fill their
+/// fields, and so do serials, the last among them.
 pub fn words_have_their_room()
     ensures port { (w : Word) → FitsWord w → pack w < 2 ^ 64 }
     ensures slot { (w : SlotWord) → FitsSlotWord w → pack_slot w < 2 ^ 54 }
     ensures made { (w : SlotWord) → 0 < pack_slot w }
+    ensures values { VALUE_LIMIT ≡ 2 ^ 24 }
+    ensures serials { LAST_SERIAL + 1 ≡ 2 ^ 24 }
 {}
 
 /// Each field of a port stands at its bits.

@@ -20,4 +20,4 @@ pub use operands::{
 };
 pub use phase::Phase;
 pub use slot_word::SlotWord;
-pub use word::Word;
+pub use word::{LAST_SERIAL, Word};

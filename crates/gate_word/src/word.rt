@@ -11,7 +11,8 @@ use config_graph::Target;
 /// How many values and how many serials a word can spell.
 const VALUES: u64 = 1 << 24;
 
-const LAST_SERIAL: u32 = (1 << 24) - 1;
+/// A port's transactions are spent after that of this serial.
+pub const LAST_SERIAL: u32 = 16_777_215;
 
 /// How many provisions of a target, and how many targets, none among them.
 const PROVISIONS: u64 = 1 << 2;

@@ -1,6 +1,7 @@
 use Rattle.std.proofs.Common.{◌≡◌, ◌+◌, ◌*◌, ◌<◌, ℕ, All, length, vec_len}
 use Rattle.config_graph.specs.Cycles.{OnCycle}
 use Rattle.config_graph.specs.Marks.{IsMarked}
+use Rattle.config_graph.proofs.ClosureLaws.{IsClosedAt}
 use Rattle.config_graph.proofs.SearchLaws.{unseen}
 use Rattle.config_graph.proofs.cycles.list_acyclic.Given as goal
 
@@ -9,6 +10,7 @@ invariant-loop-node l = record {
   long : vec_len l.acyclic ≡ length l.graph.nodes;
   nodes : All (λ i. i < length l.graph.nodes) l.waiting.items;
   acyclic : (i : ℕ) → IsMarked l.acyclic.items i → ¬ OnCycle l.graph i;
+  closed : (i : ℕ) → i < length l.graph.nodes → IsClosedAt l.graph l.acyclic.items l.waiting.items i;
 }
 
 abbrev pub decreases-loop-node : goal.decreases-loop-node
