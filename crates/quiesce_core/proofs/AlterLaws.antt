@@ -16,7 +16,7 @@ use Rattle.quiesce_core.specs.declared.state.Exchange.{Exchange}
 use Rattle.quiesce_core.specs.declared.state.Service.{Service}
 use Rattle.gate_word.specs.declared.phase.Phase.TheVariants as phase
 use Rattle.quiesce_core.specs.State.{Configuration, State, fresh_gate, fresh_exchange, slot, gate, owner, target, exchange, service, target_service}
-use Rattle.quiesce_core.specs.Effect.{with_gate, with_exchange, with_service, with_target_service, with_call, with_node, with_removed, new_gates, effect}
+use Rattle.quiesce_core.specs.Effect.{with_gate, with_exchange, with_service, with_target_service, with_call, with_node, with_removed, with_target, new_gates, effect}
 use Rattle.quiesce_core.specs.Legal.{Legal}
 use Rattle.quiesce_core.specs.Runs.{Step}
 use Rattle.quiesce_core.specs.WellFormed.{IsWellFormed}
@@ -165,6 +165,10 @@ made_gate c node from n p =
 same_config : (c : Configuration) (e : Event) → nodes_next c e ≡ length c.slots → ports_next c e ≡ length c.gates → ((n : ℕ) → slot_next c n e ≡ slot c n) → ((p : ℕ) → gate_next c p e ≡ gate c p) → Reconfigures c e c
 same_config c e nodes ports slots gates = record { nodes = sym nodes; ports = sym ports; slots = λ n. sym (slots n); gates = λ p. sym (gates p) }
 
+pub ports_grow : (c : Configuration) (e : Event) → length c.gates ≤ ports_next c e
+ports_grow c (Make n node from) = omega arith
+ports_grow c _ = omega arith
+
 gate_alters : (c : Configuration) (q : ℕ) (g : ℕ → Gate) (e : Event) → q < length c.gates → nodes_next c e ≡ length c.slots → ports_next c e ≡ length c.gates → ((n : ℕ) → slot_next c n e ≡ slot c n)
     → ((p : ℕ) → gate_next c p e ≡ cond (q == p) (g p) (gate c p)) → Reconfigures c e (with_gate c q (g q))
 gate_alters c q g e made nodes ports slots gates = record {
@@ -173,6 +177,11 @@ gate_alters c q g e made nodes ports slots gates = record {
   slots = λ n. sym (slots n);
   gates = λ p. put_gate c q g made p ∙ sym (gates p);
 }
+
+-- a port that was made leads elsewhere, whether or not that closes a cycle
+pub link_reconfigures : (c : Configuration) (q n x : ℕ) → q < length c.gates → Reconfigures c (Link q n x) (with_target c q (Some (record { node = n; provide = x })))
+link_reconfigures c q n x made =
+    gate_alters c q (λ i. record (gate c i) { target = Some (record { node = n; provide = x }) }) (Link q n x) made refl refl (λ n. refl) (λ p. refl)
 
 removed_length : (c : Configuration) (n : ℕ) (o : Option Slot) → length (option_map_or (λ (k : Slot). set c.slots n (record k { live = false })) o c.slots) ≡ length c.slots
 removed_length c n None = refl
@@ -192,8 +201,7 @@ reconfigured s (Close q) l =
     gate_alters s.config q (λ i. record (gate s.config i) { closed = true }) (Close q) (gate_place s q l.live) refl refl (λ n. refl) (λ p. refl)
 reconfigured s (Reopen q) l =
     gate_alters s.config q (λ i. record (gate s.config i) { closed = false }) (Reopen q) (gate_place s q l.live) refl refl (λ n. refl) (λ p. refl)
-reconfigured s (Link q n x) l =
-    gate_alters s.config q (λ i. record (gate s.config i) { target = Some (record { node = n; provide = x }) }) (Link q n x) (gate_place s q l.live) refl refl (λ n. refl) (λ p. refl)
+reconfigured s (Link q n x) l = link_reconfigures s.config q n x (gate_place s q l.live)
 reconfigured s (Unlink q) l =
     gate_alters s.config q (λ i. record (gate s.config i) { target = None }) (Unlink q) (gate_place s q l.live) refl refl (λ n. refl) (λ p. refl)
 reconfigured s (Make n node from) l = record {

@@ -18,8 +18,9 @@ use Rattle.quiesce_core.specs.Legal.{Legal}
 use Rattle.quiesce_core.specs.Runs.{IsRun, state_after}
 use Rattle.quiesce_core.specs.Traffic.{IsConsistent}
 use Rattle.quiesce_core.specs.WellFormed.{IsWellFormed}
+use Rattle.gate_word.proofs.PhaseLaws.{answered_not_asked, answered_not_more, more_not_answered}
 use Rattle.quiesce_core.proofs.AlterLaws.{exchanges_next}
-use Rattle.quiesce_core.proofs.TurnLaws.{Starts, Turn, asks, ends, gives, passes, replies, starts, turn_of}
+use Rattle.quiesce_core.proofs.PortEventLaws.{Starts, Turn, asks, ends, gives, passes, replies, starts, turn_of}
 use Rattle.quiesce_core.proofs.InductionLaws.{IsNext, along, none_barred, place, unbarred}
 use Rattle.quiesce_core.proofs.RunLaws.{fronts_are_runs}
 use Rattle.quiesce_core.proofs.StabilityLaws.{answers_stay, replies_stay, taken_ports_stay}
@@ -180,22 +181,10 @@ sent_start s p k v h = record { since = omega (arith, h.serial); stands = λ sam
 given_start : (s : State) (p k v : ℕ) → Stands s p k v → is_answered (exchange s p).phase ≡ true → IsGiven p k v s
 given_start s p k v h answered = record {
   since = omega (arith, h.serial);
-  unasked = λ same. not_asked (exchange s p).phase answered;
-  not_more = λ same. not_in_more (exchange s p).phase answered;
+  unasked = λ same. answered_not_asked (exchange s p).phase answered;
+  not_more = λ same. answered_not_more (exchange s p).phase answered;
   stands = λ same a. h.value;
 }
-  where
-    not_asked : (f : Phase) → is_answered f ≡ true → is_asked f ≡ false
-    not_asked phase.Idle h = refl
-    not_asked phase.Asked h = absurd (both_ways false refl h)
-    not_asked phase.Answered h = refl
-    not_asked phase.More h = refl
-
-    not_in_more : (f : Phase) → is_answered f ≡ true → is_in_more f ≡ false
-    not_in_more phase.Idle h = refl
-    not_in_more phase.Asked h = refl
-    not_in_more phase.Answered h = refl
-    not_in_more phase.More h = absurd (both_ways false refl h)
 
 port_serial_is : (s : State) (p k : ℕ) → is_port_serial s p k ≡ true → k ≡ (exchange s p).serial
 port_serial_is s p k h = eqb-true k (exchange s p).serial h
@@ -293,13 +282,7 @@ intermediate_replies_stand before between p k v h free =
       ap (λ (x : Exchange). x.serial) same ∙ q.1,
     ))
     before between (More p k v) h free
-    (record { value = start.0.value; answered = unanswered (exchange (state_after (before ++ More p k v ∷ [])) p).phase start.1; in_more = start.1 }, start.0.serial)
-  where
-    unanswered : (f : Phase) → is_in_more f ≡ true → is_answered f ≡ false
-    unanswered phase.Idle h = refl
-    unanswered phase.Asked h = refl
-    unanswered phase.Answered h = absurd (both_ways false refl h)
-    unanswered phase.More h = refl
+    (record { value = start.0.value; answered = more_not_answered (exchange (state_after (before ++ More p k v ∷ [])) p).phase start.1; in_more = start.1 }, start.0.serial)
 
 pub answers_stand : (before between : List Event) (p k v : ℕ) → IsRun (before ++ Give p k v ∷ between) → list_any (is_end_at p) between ≡ false
     → StandsThere (state_after (before ++ Give p k v ∷ between)) p false v × ((exchange (state_after (before ++ Give p k v ∷ between)) p).serial ≡ k)
@@ -311,10 +294,4 @@ answers_stand before between p k v h free =
       ap (λ (x : Exchange). x.serial) same ∙ q.1,
     ))
     before between (Give p k v) h free
-    (record { value = start.0.value; answered = start.1; in_more = not_more (exchange (state_after (before ++ Give p k v ∷ [])) p).phase start.1 }, start.0.serial)
-  where
-    not_more : (f : Phase) → is_answered f ≡ true → is_in_more f ≡ false
-    not_more phase.Idle h = refl
-    not_more phase.Asked h = refl
-    not_more phase.Answered h = refl
-    not_more phase.More h = absurd (both_ways false refl h)
+    (record { value = start.0.value; answered = start.1; in_more = answered_not_more (exchange (state_after (before ++ Give p k v ∷ [])) p).phase start.1 }, start.0.serial)

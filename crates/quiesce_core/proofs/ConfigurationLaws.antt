@@ -15,7 +15,7 @@ use Rattle.quiesce_core.specs.declared.state.Slot.{Slot}
 use Rattle.quiesce_core.specs.declared.state.Gate.{Gate}
 use Rattle.quiesce_core.specs.State.{Configuration, fresh_gate, slot, gate, owner, target}
 use Rattle.quiesce_core.specs.Alters.{Reconfigures, gate_next, slot_next}
-use Rattle.quiesce_core.specs.Doers.{is_make, is_remove}
+use Rattle.quiesce_core.specs.Doers.{is_make, is_remove, relinks}
 use Rattle.quiesce_core.specs.Effect.{with_removed}
 use Rattle.quiesce_core.specs.Live.{IsLiveAt}
 use Rattle.quiesce_core.specs.WellFormed.{IsSound}
@@ -100,6 +100,17 @@ slot_was c d (Remove k) r n m h at = ⊎_elim
     (cases_eq n k)
 slot_was c d _ r n m h at = (m, sym (r.slots n) ∙ at, refl, refl)
 
+-- a removed node's slot stays just as it is
+pub removed_stays : (c d : Configuration) (e : Event) → Reconfigures c e d → (k : ℕ) (old : Slot) → slot c k ≡ Some old → old.live ≡ false → slot d k ≡ Some old
+removed_stays c d (Make n node from) r k old at gone =
+    r.slots k ∙ rw (ne_eqb k (length c.slots) (λ same. let within = slice_get_within c.slots k old at in omega (arith, within, same))) at
+removed_stays c d (Remove n) r k old at gone = ⊎_elim
+    (λ (same : k ≡ n).
+    r.slots k ∙ rw (eq-eqb k n same) (ap (option_map (λ (m : Slot). record m { live = false })) at ∙ ap (λ b. Some (record old { live = b })) (sym gone)))
+    (λ (other : k ≡ n → ⊥). r.slots k ∙ rw (ne_eqb k n other) at)
+    (cases_eq k n)
+removed_stays c d _ r k old at gone = r.slots k ∙ at
+
 -- ---- what all events keep of what was made
 
 -- of a node, its kind
@@ -161,3 +172,17 @@ target_made c d k node from r p = ap (λ (g : Gate). g.target) (r.gates p) ∙ �
 
 pub target_removed : (c d : Configuration) (n : ℕ) → Reconfigures c (Remove n) d → (p : ℕ) → target d p ≡ target c p
 target_removed c d n r p = ap (λ (g : Gate). g.target) (r.gates p)
+
+-- a flag that is set leaves the target
+turned : (b flag : Bool) (g : Gate) → (cond b (record g { closed = flag }) g).target ≡ g.target
+turned true flag g = refl
+turned false flag g = refl
+
+-- where the port is neither linked nor unlinked, it leads where it led
+pub target_kept : (c d : Configuration) (e : Event) → Reconfigures c e d → (p : ℕ) → relinks p e ≡ false → target d p ≡ target c p
+target_kept c d (Link q n x) r p h = target_linked c d q n x r p ∙ rw h refl
+target_kept c d (Unlink q) r p h = target_unlinked c d q r p ∙ rw h refl
+target_kept c d (Make k node from) r p h = target_made c d k node from r p
+target_kept c d (Close q) r p h = ap (λ (g : Gate). g.target) (r.gates p) ∙ turned (q == p) true (gate c p)
+target_kept c d (Reopen q) r p h = ap (λ (g : Gate). g.target) (r.gates p) ∙ turned (q == p) false (gate c p)
+target_kept c d _ r p h = ap (λ (g : Gate). g.target) (r.gates p)

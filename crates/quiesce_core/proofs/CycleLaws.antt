@@ -14,14 +14,8 @@ use Rattle.quiesce_core.specs.State.{Configuration, slot, gate, target, ports_of
 use Rattle.quiesce_core.specs.Reach.{IsPortOf, wiring_of, can_walk, has_no_cycle}
 use Rattle.config_graph.proofs.KindLaws.{depended_by_first, depended_if}
 use Rattle.config_graph.proofs.WalkLaws.{acyclic_if_ranked, closed_walk, ranked_if_short, short_if_acyclic}
+use Rattle.base.proofs.OptionLaws.{map_or_true, map_or_at, true_from_not}
 use Rattle.base.proofs.RangeLaws.{any_in_range, range_has, all_in_range, range_all, any_agree}
-
-pub map_or_true : {A : Type 0} (f : A → Bool) (o : Option A) → option_map_or f o false ≡ true → (x : A) × (o ≡ Some x) × (f x ≡ true)
-map_or_true f None h = absurd (both_ways false refl h)
-map_or_true f (Some x) h = (x, refl, h)
-
-pub map_or_at : {A B : Type 0} (f : A → B) (o : Option A) (d : B) (x : A) → o ≡ Some x → option_map_or f o d ≡ f x
-map_or_at f o d x e = ap (λ v. option_map_or f v d) e
 
 -- a node that is there was made
 pub made_below : (c : Configuration) (n : ℕ) (m : Slot) → slot c n ≡ Some m → n < length c.slots
@@ -158,7 +152,3 @@ walk_found c h =
         (λ (passes : test a ≡ true). fails_in test (a + 1) n (sym (ap (λ b. b && list_all test (range_with_len (a + 1) n)) passes) ∙ h))
         (λ (fails : test a ≡ false). (a, fails))
         (cases_Bool (test a))
-
-    true_from_not : (b : Bool) → not b ≡ false → b ≡ true
-    true_from_not true h = refl
-    true_from_not false h = absurd (both_ways true h refl)

@@ -20,11 +20,11 @@ use Rattle.quiesce_core.specs.Reach.{wiring_of}
 use Rattle.quiesce_core.specs.Runs.{Begun, IsRun, initiator, is_begin_of, state_after, target_at_begin}
 use Rattle.quiesce_core.specs.WellFormed.{IsSound}
 use Rattle.quiesce_core.proofs.ConfigurationLaws.{linked_made, port_is}
-use Rattle.quiesce_core.proofs.CycleLaws.{cycles_are_found, map_or_at}
+use Rattle.quiesce_core.proofs.CycleLaws.{cycles_are_found}
 use Rattle.quiesce_core.proofs.InductionLaws.{place}
 use Rattle.quiesce_core.proofs.RunLaws.{runs_are_consistent}
 use Rattle.quiesce_core.proofs.StateLaws.{provision_is}
-use Rattle.base.proofs.OptionLaws.{Some-from_is_some}
+use Rattle.base.proofs.OptionLaws.{Some-from_is_some, map_or_at}
 
 -- a kind is a buffer or it isn't
 buffer_or : (k : Kind) → (k ≡ Buffer) ⊎ (k ≡ Buffer → ⊥)

@@ -36,9 +36,10 @@ use Rattle.quiesce_core.proofs.LiveLinks.{IsLiveLink, linked_at}
 use Rattle.quiesce_core.specs.Live.{StandsAt, IsGraphOf}
 use Rattle.config_graph.specs.declared.node.Link.{Link}
 use Rattle.quiesce_core.specs.Start.{slot_of, gate_of, no_service, no_exchange, started}
-use Rattle.quiesce_core.proofs.CycleLaws.{no_cycle_if_acyclic, map_or_at}
+use Rattle.quiesce_core.proofs.CycleLaws.{no_cycle_if_acyclic}
+use Rattle.base.proofs.OptionLaws.{map_or_at}
 use Rattle.quiesce_core.proofs.ConfigurationLaws.{linked_made}
-use Rattle.quiesce_core.proofs.SameWiring.{to_graph}
+use Rattle.quiesce_core.proofs.SameWiringLaws.{to_graph}
 use Rattle.config_graph.proofs.WiringLaws.{no_cycle_there}
 use Rattle.base.proofs.ContainsLaws.{Contains-at, at_some_place}
 use Rattle.base.proofs.FindLaws.{Contains-find, find_passes}
@@ -269,6 +270,7 @@ module _ (g : Graph) (sound : Sound g) (few_nodes : length g.nodes ≤ MAX_NODES
           from = λ p t e. let o = ports_started p (linked_made (started g).config p t e) in live_started (owner (started g).config p) o.node o.made;
           to = λ p t e. (targets_started p t e).live;
           owned = owned_started;
+          ports = ports_started;
         })) sound.no_cycle);
   }
 

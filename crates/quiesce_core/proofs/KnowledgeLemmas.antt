@@ -1,5 +1,5 @@
 -- Each event keeps what a node's own events tell it.
-use Rattle.std.proofs.Common.{◌≡◌, ◌∙◌, ℕ, ◌+◌, ◌<◌, ◌≤◌, Bool, true, false, cond, List, [], ◌∷◌, ◌++◌, length, Option, Some, None, refl, sym, ap, subst, ⊎_elim, arith}
+use Rattle.std.proofs.Common.{◌≡◌, ◌∙◌, ℕ, ◌+◌, ◌<◌, Bool, true, false, cond, List, [], ◌∷◌, ◌++◌, length, Option, Some, None, refl, sym, ap, subst, ⊎_elim, arith}
 use Rattle.std.specs.Prelude.{◌==◌, fold, option_map, is_some}
 use Rattle.std.proofs.lemmas.Bool.{and_parts, both_ways, cases_Bool, eqb-true, eq-eqb, ne_eqb}
 use Rattle.std.proofs.lemmas.List.Sums.{fold-append}
@@ -7,12 +7,12 @@ use Rattle.std.proofs.lemmas.Option.{same_Some}
 use Rattle.gate_word.specs.Phases.{is_idle}
 use Rattle.gate_word.specs.declared.phase.Phase.TheVariants as phase
 use Rattle.quiesce_core.specs.declared.event.Event.{Event}
-use Rattle.quiesce_core.specs.declared.event.Event.TheVariants.{Begin, Call, Take, Give, End, More, Ask, Hear, Miss, Make}
+use Rattle.quiesce_core.specs.declared.event.Event.TheVariants.{Begin, Call, Take, Give, End, More, Ask, Hear, Miss}
 use Rattle.quiesce_core.specs.declared.known.Served.{Served}
 use Rattle.quiesce_core.specs.declared.state.Service.{Service}
 use Rattle.quiesce_core.specs.declared.state.Exchange.{Exchange}
-use Rattle.quiesce_core.specs.State.{Configuration, State, empty, owner, exchange, service}
-use Rattle.quiesce_core.specs.Alters.{exchange_next, ports_next, service_by}
+use Rattle.quiesce_core.specs.State.{State, empty, owner, exchange, service}
+use Rattle.quiesce_core.specs.Alters.{exchange_next, service_by}
 use Rattle.quiesce_core.specs.Rules.{is_last_message, is_live_port, was_heard}
 use Rattle.quiesce_core.specs.Effect.{effect}
 use Rattle.quiesce_core.specs.Legal.{Legal}
@@ -20,11 +20,12 @@ use Rattle.quiesce_core.specs.Runs.{done_from, is_doer}
 use Rattle.quiesce_core.specs.WellFormed.{IsWellFormed}
 use Rattle.quiesce_core.specs.Traffic.{IsConsistent}
 use Rattle.quiesce_core.specs.Knowledge.{IsServed, KnowsService, OwnPort, own_port, served_next, served_after, own_port_next, own_port_after}
-use Rattle.quiesce_core.proofs.AlterLaws.{exchanges_next, reconfigured, services_next}
+use Rattle.quiesce_core.proofs.AlterLaws.{ports_grow, exchanges_next, reconfigured, services_next}
 use Rattle.quiesce_core.proofs.ConfigurationLaws.{owner_kept}
-use Rattle.quiesce_core.proofs.StateLaws.{more_busy, serving_busy, taken_busy, taken_is, target_service_is}
+use Rattle.quiesce_core.proofs.StateLaws.{taken_busy, taken_is, target_service_is}
+use Rattle.gate_word.proofs.PhaseLaws.{more_busy, serving_busy}
 use Rattle.quiesce_core.proofs.TableLaws.{gate_place}
-use Rattle.quiesce_core.proofs.TurnLaws.{Kept, port_kept, replies_are_of_servers, serial_kept, served_there, turn_of}
+use Rattle.quiesce_core.proofs.PortEventLaws.{Kept, port_kept, replies_are_of_servers, serial_kept, served_there, turn_of}
 
 -- the event, where node n does it
 abbrev pub mine : State → ℕ → Event → List Event
@@ -168,12 +169,8 @@ service_next s e n u w c l h = subst (λ o. KnowsService (effect s e) o (fold se
 
 -- ---- owners
 
-more_ports : (c : Configuration) (e : Event) → length c.gates ≤ ports_next c e
-more_ports c (Make n node from) = omega arith
-more_ports c _ = omega arith
-
 ports_stay : (s : State) (e : Event) (p : ℕ) → Legal s e → p < length s.config.gates → p < length (effect s e).config.gates
-ports_stay s e p l h = omega (arith, h, (reconfigured s e l).ports, more_ports s.config e)
+ports_stay s e p l h = omega (arith, h, (reconfigured s e l).ports, ports_grow s.config e)
 
 -- what a node's events tell, also of ports that aren't made yet
 pub record Told (s : State) (n : ℕ) (es : List Event) : Type 0 where

@@ -37,10 +37,10 @@ use Rattle.quiesce_core.proofs.AlterLaws.{reconfigured}
 use Rattle.quiesce_core.proofs.KnowledgeLemmas.{port_other, port_step, service_next}
 use Rattle.quiesce_core.proofs.ReachLaws.{owner_of}
 use Rattle.quiesce_core.proofs.RunLaws.{nodes_know}
-use Rattle.quiesce_core.proofs.CycleLaws.{all_of, map_or_at, of_all}
+use Rattle.quiesce_core.proofs.CycleLaws.{all_of, of_all}
 use Rattle.quiesce_core.proofs.StateLaws.{is_taken_if, provision_is, target_service_is}
 use Rattle.quiesce_core.proofs.StabilityLaws.{answers_stay, replies_stay}
-use Rattle.base.proofs.OptionLaws.{None-from_is_some}
+use Rattle.base.proofs.OptionLaws.{None-from_is_some, map_or_at}
 use Rattle.base.proofs.PlaceLaws.{fresh_behind, slice_get-there}
 
 -- what the fold has of a port, but for what was seen there
@@ -170,10 +170,6 @@ known_by_others s e n first k w c l made other h = record {
 
 -- ---- runs
 
--- the fold of a log is what the fold of each port and of the service gives
-pub known_after_more : (first : ℕ) (es : List Event) (e : Event) → known_after first (es ++ e ∷ []) ≡ known_next first (known_after first es) e
-known_after_more first es e = fold_push (known_next first) nothing_known es e
-
 -- what it has of a port, where nothing was seen
 pub record IsPortOfLog (p : ℕ) (es : List Event) (k : PortKnown) : Type 0 where
   pub port : as_own_port k ≡ own_port_after p es
@@ -211,6 +207,10 @@ start_at : (r : ℕ) (k : PortKnown) → slice_get nothing_known.ports r ≡ Som
 start_at zero k at = same_Some port_at_start k at
 start_at (suc zero) k at = same_Some port_at_start k at
 start_at (suc (suc r)) k at = absurd (cc)
+
+-- with one event more
+pub known_after_more : (first : ℕ) (es : List Event) (e : Event) → known_after first (es ++ e ∷ []) ≡ known_next first (known_after first es) e
+known_after_more first es e = fold_push (known_next first) nothing_known es e
 
 pub service_of_log : (first : ℕ) (es : List Event) → (known_after first es).service ≡ served_after es
 service_of_log first es = service_from first nothing_known es

@@ -10,10 +10,11 @@ pub mod StateLaws
 pub mod TrafficLaws
 pub mod StepsLaws
 pub mod AlterLaws
-pub mod TurnLaws
+pub mod PortEventLaws
 pub mod ConfigurationLaws
 pub mod SortLemmas
 pub mod GraphExistsLaws
+pub mod GraphNextLaws
 pub mod SourceLaws
 pub mod KnownLaws
 pub mod CarryLaws
@@ -26,7 +27,8 @@ pub mod OperationLaws
 pub mod LoadLaws
 pub mod OrderLemmas
 pub mod LiveLinks
-pub mod SameWiring
+pub mod SameWiringLaws
 pub mod LiveLemmas
 pub mod NamedLemmas
 pub mod KnowledgeLemmas
+pub mod LinkedCycleLaws

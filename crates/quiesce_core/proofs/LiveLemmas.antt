@@ -31,9 +31,10 @@ use Rattle.quiesce_core.specs.WellFormed.{IsSound}
 use Rattle.quiesce_core.specs.Named.{AreNamed}
 use Rattle.quiesce_core.specs.Live.{StandsAt, IsGraphOf}
 use Rattle.quiesce_core.specs.Listed.{path_at, InPathOrder, ArePlaces, AreNodesOf, link_in}
-use Rattle.quiesce_core.proofs.CycleLaws.{map_or_at, cycles_are_found}
+use Rattle.quiesce_core.proofs.CycleLaws.{cycles_are_found}
+use Rattle.base.proofs.OptionLaws.{map_or_at}
 use Rattle.quiesce_core.proofs.LiveLinks.{IsLiveLink, linked_at}
-use Rattle.quiesce_core.proofs.SameWiring.{to_configuration}
+use Rattle.quiesce_core.proofs.SameWiringLaws.{to_configuration}
 use Rattle.quiesce_core.proofs.ConfigurationLaws.{linked_made, port_is}
 use Rattle.quiesce_core.proofs.OrderLemmas.{live_at, range_at}
 use Rattle.base.proofs.ContainsLaws.{Contains-at, Contains-filter_map, at_some_place}

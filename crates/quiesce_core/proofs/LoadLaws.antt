@@ -1,8 +1,8 @@
 -- What the word that a step loads tells of the events that it may do at the port.
 use Rattle.std.proofs.Common.{◌≡◌, ◌∙◌, ℕ, ◌+◌, ◌≤◌, ◌&&◌, ◌||◌, not, Bool, true, false, cond, length, Option, Some, None, refl, sym, ap, subst, ⊎_elim, arith}
-use Rattle.std.specs.Prelude.{is_none, is_some, nat_le, nat_lt, option_map, ◌==◌}
+use Rattle.std.specs.Prelude.{is_none, is_some, nat_le, option_map, ◌==◌}
 use Rattle.std.specs.Option.{option_map_or}
-use Rattle.std.proofs.lemmas.Bool.{and_from, and_parts, both_ways, cases_eq, eq-eqb, eqb-true, le-leb, lt-leb, lt-ltb, ne_eqb, true_from_ne_false}
+use Rattle.std.proofs.lemmas.Bool.{and_from, and_parts, both_ways, cases_eq, eq-eqb, eqb-true, le-leb, lt-leb, ne_eqb}
 use Rattle.std.proofs.lemmas.List.{get_or_past}
 use Rattle.std.proofs.lemmas.Option.{slice_get_past}
 use Rattle.config_graph.specs.declared.node.Target.{Target}
@@ -13,16 +13,19 @@ use Rattle.gate_word.specs.declared.operands.TheConstants.{CLOSED}
 use Rattle.gate_word.specs.declared.word.Word.{Word}
 use Rattle.quiesce_core.specs.Rules.{denial, is_last_message, is_linked, is_live_port, is_next_serial, is_open, is_value, last_serial, was_heard}
 use Rattle.quiesce_core.specs.Runs.{is_doer}
-use Rattle.quiesce_core.specs.State.{Configuration, State, exchange, fresh_exchange, fresh_gate, gate, is_live, owner, service, target, target_service}
+use Rattle.quiesce_core.specs.State.{Configuration, State, exchange, fresh_exchange, fresh_gate, gate, service, target, target_service}
 use Rattle.quiesce_core.specs.Traffic.{IsConsistent}
 use Rattle.quiesce_core.specs.WellFormed.{IsWellFormed}
-use Rattle.quiesce_core.specs.Words.{CallsThrough, fields_of, root_denial, slot_fields_of, slot_word_of, word_of}
+use Rattle.quiesce_core.specs.Words.{CallsThrough, root_denial, slot_fields_of, slot_word_of, word_of}
+use Rattle.quiesce_core.specs.Fields.{fields_of}
 use Rattle.quiesce_core.specs.declared.event.Event.TheVariants.{Begin, Call, Take, End, Ask, Hear, Miss}
 use Rattle.quiesce_core.specs.declared.state.Service.{Service}
 use Rattle.quiesce_core.specs.declared.state.Slot.{Slot}
-use Rattle.quiesce_core.proofs.CycleLaws.{map_or_true}
+use Rattle.base.proofs.OptionLaws.{map_or_true}
 use Rattle.quiesce_core.proofs.LegalLaws.{allowed, legal}
-use Rattle.quiesce_core.proofs.StateLaws.{answered_busy, asked_busy, busy_made, is_taken_if, more_busy, target_service_is}
+use Rattle.quiesce_core.proofs.StabilityLaws.{busy_is_live}
+use Rattle.quiesce_core.proofs.StateLaws.{is_taken_if, target_service_is}
+use Rattle.gate_word.proofs.PhaseLaws.{answered_busy, asked_busy, more_busy}
 use Rattle.quiesce_core.proofs.WordLaws.{port_words_decode}
 
 -- ---- what was never made
@@ -38,11 +41,11 @@ unmade_slot c n past = ap (λ o. option_map_or (λ (m : Slot). pack_slot (slot_f
 
 -- ---- serials and messages
 
-next_if_unspent : (k : ℕ) → k ≤ 16777215 → nat_le (k + 1) 16777215 ≡ not (k == 16777215)
+next_if_unspent : (k : ℕ) → k ≤ last_serial → nat_le (k + 1) last_serial ≡ not (k == last_serial)
 next_if_unspent k few = ⊎_elim
-    (λ (last : k ≡ 16777215). lt-leb (k + 1) 16777215 (omega (arith, last)) ∙ sym (ap not (eq-eqb k 16777215 last)))
-    (λ (before : k ≡ 16777215 → ⊥). le-leb (k + 1) 16777215 (omega (arith, few, before)) ∙ sym (ap not (ne_eqb k 16777215 before)))
-    (cases_eq k 16777215)
+    (λ (last : k ≡ last_serial). lt-leb (k + 1) last_serial (omega (arith, last)) ∙ sym (ap not (eq-eqb k last_serial last)))
+    (λ (before : k ≡ last_serial → ⊥). le-leb (k + 1) last_serial (omega (arith, few, before)) ∙ sym (ap not (ne_eqb k last_serial before)))
+    (cases_eq k last_serial)
 
 next_serial_is : (s : State) (p : ℕ) → IsWellFormed s → is_next_serial s p ((exchange s p).serial + 1) ≡ not (is_spent (fields_of s p))
 next_serial_is s p w =
@@ -52,12 +55,6 @@ next_serial_is s p w =
 last_message_is : (s : State) (p : ℕ) → is_last_message s p (exchange s p).serial (exchange s p).value ≡ true
 last_message_is s p =
     and_from ((exchange s p).serial == (exchange s p).serial) ((exchange s p).value == (exchange s p).value) (eq-eqb _ _ refl) (eq-eqb _ _ refl)
-
--- the owner of a port that isn't idle is live
-pub busy_live : (s : State) (p : ℕ) → IsConsistent s → is_idle (exchange s p).phase ≡ false → is_live_port s.config p ≡ true
-busy_live s p k busy =
-    and_from (nat_lt p (length s.config.gates)) (is_live s.config (owner s.config p)) (lt-ltb p (length s.config.gates) (busy_made s p k busy))
-    (true_from_ne_false (is_live s.config (owner s.config p)) (λ gone. both_ways (is_linked s.config p) (ap is_some (k.removed p gone).1) (k.linked p busy)))
 
 -- ---- what a root, a call and a miss find
 
@@ -126,7 +123,7 @@ miss_judged s p w c missing = allowed s (Miss p) (record {
   calls_left = c.calls_left;
   heard = c.heard;
   idle = c.idle;
-  missing = ap (λ b. b || is_spent (fields_of s p)) (unlinked_is (target s.config p)) ∙ sym (ap is_missing (port_words_decode s w p)) ∙ missing;
+  missing = sym (ap is_missing (port_words_decode s w p)) ∙ missing;
 })
 
 -- ---- what a target finds
@@ -137,7 +134,7 @@ take_at s p n k none_ message =
     let t = map_or_true (λ (t : Target). t.node == n) (target s.config p) both.1 in
     let free : target_service s p ≡ None = target_service_is s p t.0 t.1 ∙ ap (service s) (eqb-true t.0.node n t.2) ∙ none_ in
     allowed s (Take p (exchange s p).serial (exchange s p).value) (record {
-      live = busy_live s p k (asked_busy (exchange s p).phase both.0);
+      live = busy_is_live s p k (asked_busy (exchange s p).phase both.0);
       asked = both.0;
       untaken = ap (λ o. not (option_map_or (λ (v : Service). v.port == p) o false)) free;
       free = ap is_none free;
@@ -168,7 +165,7 @@ hear_at s p n u k serviced of_port unheard asked =
     let to : Target = record { node = n; provide = serving.provide } in
     let leads : target s.config p ≡ Some to = sym (ap (target s.config) of_port) ∙ serving.linked in
     allowed s (Hear p (exchange s p).serial (exchange s p).value) (record {
-      live = busy_live s p k (asked_busy (exchange s p).phase asked);
+      live = busy_is_live s p k (asked_busy (exchange s p).phase asked);
       asked = asked;
       taken = is_taken_if s p to u leads serviced of_port;
       unheard = ap (λ o. not (was_heard o)) (target_service_is s p to leads ∙ serviced) ∙ ap not unheard;
@@ -185,7 +182,7 @@ hear_judged s p n u w k serviced of_port unheard =
 
 ask_at : (s : State) (p v : ℕ) → IsConsistent s → is_value v ≡ true → is_in_more (exchange s p).phase ≡ true → denial s (Ask p (exchange s p).serial v) ≡ None
 ask_at s p v k value more_ = allowed s (Ask p (exchange s p).serial v) (record {
-  live = busy_live s p k (more_busy (exchange s p).phase more_);
+  live = busy_is_live s p k (more_busy (exchange s p).phase more_);
   in_more = more_;
   serial = eq-eqb _ _ refl;
   value = value;
@@ -199,7 +196,7 @@ ask_judged s p v w k value =
 
 end_at : (s : State) (p : ℕ) → IsConsistent s → is_answered (exchange s p).phase ≡ true → denial s (End p (exchange s p).serial (exchange s p).value) ≡ None
 end_at s p k answered = allowed s (End p (exchange s p).serial (exchange s p).value) (record {
-  live = busy_live s p k (answered_busy (exchange s p).phase answered);
+  live = busy_is_live s p k (answered_busy (exchange s p).phase answered);
   answered = answered;
   message = last_message_is s p;
 })

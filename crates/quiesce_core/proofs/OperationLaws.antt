@@ -1,17 +1,17 @@
 -- By which operation of the gates, with which operand, each event makes the new word of the old one.
-use Rattle.std.proofs.Common.{◌≡◌, ◌∙◌, ℕ, ◌+◌, ◌<◌, ◌^◌, ◌||◌, true, false, length, Option, Some, None, refl, sym, ap, subst, arith}
+use Rattle.std.proofs.Common.{◌≡◌, ◌∙◌, ℕ, ◌+◌, ◌<◌, ◌^◌, true, false, length, Option, Some, None, refl, sym, ap, subst, arith}
 use Rattle.std.specs.Prelude.{bit_and, bit_or, bit_xor, is_some, nat_le, ◌==◌}
 use Rattle.std.specs.Int.Bits.{or_zero_l}
 use Rattle.std.proofs.lemmas.Bool.{and_parts, both_ways, eqb-true, leb-true, ltb-true, not-true}
 use Rattle.config_graph.specs.declared.node.Node.{Node}
 use Rattle.config_graph.specs.declared.node.Target.{Target}
 use Rattle.gate_word.specs.Operands.{call_difference, end_difference, link_difference, message_difference}
-use Rattle.gate_word.specs.Phases.{is_answered, is_asked, is_in_more}
+use Rattle.gate_word.specs.Phases.{is_in_more}
 use Rattle.gate_word.specs.SlotWords.{pack_slot}
 use Rattle.gate_word.specs.Words.{FitsTarget, pack}
 use Rattle.gate_word.specs.declared.operands.TheConstants.{ALL_BUT_CLOSED, CLOSED}
-use Rattle.gate_word.specs.declared.phase.Phase.{Phase}
 use Rattle.gate_word.specs.declared.phase.Phase.TheVariants as phase
+use Rattle.gate_word.proofs.PhaseLaws.{answered_is, asked_unless_more, more_is}
 use Rattle.gate_word.proofs.OperandLaws.{and_opens, call_turns, end_turns, link_turns, message_turns, or_closes, unlink_turns}
 use Rattle.quiesce_core.specs.declared.event.Event.TheVariants.{Begin, Call, Give, End, More, Ask, Close, Reopen, Make, Link, Unlink}
 use Rattle.quiesce_core.specs.declared.state.Service.{Service}
@@ -20,32 +20,13 @@ use Rattle.quiesce_core.specs.Runs.{Step}
 use Rattle.quiesce_core.specs.State.{State, exchange, target, target_service}
 use Rattle.quiesce_core.specs.Traffic.{IsConsistent}
 use Rattle.quiesce_core.specs.WellFormed.{IsWellFormed}
-use Rattle.quiesce_core.specs.Words.{fields_of, slot_word_of, word_of}
-use Rattle.quiesce_core.proofs.CycleLaws.{map_or_at}
+use Rattle.quiesce_core.specs.Words.{slot_word_of, word_of}
+use Rattle.quiesce_core.specs.Fields.{fields_of}
+use Rattle.base.proofs.OptionLaws.{map_or_at}
 use Rattle.quiesce_core.proofs.LegalLaws.{legal}
 use Rattle.quiesce_core.proofs.SoundnessLaws.{well_formed_next}
 use Rattle.quiesce_core.proofs.StateLaws.{served_busy, taken_is, target_service_is}
 use Rattle.quiesce_core.proofs.WordLaws.{port_word_follows, port_words_fit, slot_word_made, slot_word_unmade}
-
--- ---- what a port's phase is
-
-answered_phase : (f : Phase) → is_answered f ≡ true → f ≡ phase.Answered
-answered_phase phase.Idle h = absurd (both_ways false refl h)
-answered_phase phase.Asked h = absurd (both_ways false refl h)
-answered_phase phase.Answered h = refl
-answered_phase phase.More h = absurd (both_ways false refl h)
-
-more_phase : (f : Phase) → is_in_more f ≡ true → f ≡ phase.More
-more_phase phase.Idle h = absurd (both_ways false refl h)
-more_phase phase.Asked h = absurd (both_ways false refl h)
-more_phase phase.Answered h = absurd (both_ways false refl h)
-more_phase phase.More h = refl
-
-asked_phase : (f : Phase) → (is_asked f || is_in_more f) ≡ true → (is_in_more f ≡ true → ⊥) → f ≡ phase.Asked
-asked_phase phase.Idle h ne = absurd (both_ways false refl h)
-asked_phase phase.Asked h ne = refl
-asked_phase phase.Answered h ne = absurd (both_ways false refl h)
-asked_phase phase.More h ne = absurd (ne refl)
 
 -- where the last message was heard, a taken port is asked
 pub heard_is_asked : (s : State) (p : ℕ) → IsConsistent s → is_taken s p ≡ true → was_heard (target_service s p) ≡ true → (exchange s p).phase ≡ phase.Asked
@@ -54,7 +35,7 @@ heard_is_asked s p k taken heard =
     let there : target_service s p ≡ Some at.serving = target_service_is s p at.to at.leads ∙ at.serviced in
     let was : at.serving.heard ≡ true = sym (map_or_at (λ (w : Service). w.heard) (target_service s p) false at.serving there) ∙ heard in
     let serving = k.serving at.to.node at.serving at.serviced in
-    asked_phase (exchange s p).phase (served_busy s p k at.to.node at.serving at.serviced at.of_port)
+    asked_unless_more (exchange s p).phase (served_busy s p k at.to.node at.serving at.serviced at.of_port)
     (λ more_. both_ways at.serving.heard (serving.waits (ap (λ q. is_in_more (exchange s q).phase) at.of_port ∙ more_)) was)
 
 -- ---- exchanges
@@ -90,7 +71,7 @@ pub ask_by : (s t : State) (p k v : ℕ) → IsWellFormed s → Step s (Ask p k 
 ask_by s t p k v w step =
     let l = legal s (Ask p k v) step.allowed in
     ap pack (port_word_follows s t (Ask p k v) w step p refl)
-    ∙ sym (message_turns phase.More phase.Asked (exchange s p).value v (value_fits s p w) (ltb-true v value_limit l.value) (fields_of s p) (port_words_fit s w p) (more_phase (exchange s p).phase l.in_more) refl)
+    ∙ sym (message_turns phase.More phase.Asked (exchange s p).value v (value_fits s p w) (ltb-true v value_limit l.value) (fields_of s p) (port_words_fit s w p) (more_is (exchange s p).phase l.in_more) refl)
 
 pub end_by : (s t : State) (p k v : ℕ) → IsWellFormed s → Step s (End p k v) t → word_of t p ≡ bit_xor (word_of s p) (end_difference v (is_some (exchange s p).within))
 end_by s t p k v w step =
@@ -98,7 +79,7 @@ end_by s t p k v w step =
     let message = and_parts (k == (exchange s p).serial) (v == (exchange s p).value) l.message in
     let is : (exchange s p).value ≡ v = sym (eqb-true v (exchange s p).value message.1) in
     ap pack (port_word_follows s t (End p k v) w step p refl)
-    ∙ sym (end_turns (is_some (exchange s p).within) v (omega (arith, value_fits s p w, is)) (fields_of s p) (port_words_fit s w p) (answered_phase (exchange s p).phase l.answered) is refl)
+    ∙ sym (end_turns (is_some (exchange s p).within) v (omega (arith, value_fits s p w, is)) (fields_of s p) (port_words_fit s w p) (answered_is (exchange s p).phase l.answered) is refl)
 
 -- ---- gates
 

@@ -20,7 +20,7 @@ use Rattle.quiesce_core.specs.State.{Configuration, slot, is_live}
 use Rattle.quiesce_core.specs.Named.{AreNamed}
 use Rattle.quiesce_core.specs.Listed.{path_at, InPathOrder, ArePlaces, AreNodesOf}
 use Rattle.config_graph.proofs.PathLaws.{irreflexive}
-use Rattle.quiesce_core.proofs.CycleLaws.{map_or_true, map_or_at}
+use Rattle.base.proofs.OptionLaws.{map_or_true, map_or_at}
 use Rattle.quiesce_core.proofs.TableLaws.{live_made}
 use Rattle.base.proofs.BytesLaws.{equal_bytes}
 use Rattle.base.proofs.ContainsLaws.{Contains-at, at_some_place}

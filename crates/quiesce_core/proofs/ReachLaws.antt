@@ -18,7 +18,8 @@ use Rattle.quiesce_core.specs.WellFormed.{IsSound}
 use Rattle.quiesce_core.specs.Rules.{is_quiet}
 use Rattle.config_graph.proofs.KindLaws.{depended_by_first, one_provision}
 use Rattle.base.proofs.RangeLaws.{all_in_range, range_all}
-use Rattle.quiesce_core.proofs.CycleLaws.{map_or_true, map_or_at, any_of, of_any, agree_of, call_by, depended_by, walk_to, no_walk, no_cycle_if_ranked, ranked_if_no_cycle}
+use Rattle.quiesce_core.proofs.CycleLaws.{any_of, of_any, agree_of, call_by, depended_by, walk_to, no_walk, no_cycle_if_ranked, ranked_if_no_cycle}
+use Rattle.base.proofs.OptionLaws.{map_or_true, map_or_at}
 
 abbrev reach_test : Configuration → ℕ → ℕ → Target → ℕ → Bool
 reach_test c n k t q = depends c t.node t.provide q && reaches_within c n k q

@@ -14,7 +14,8 @@ use Rattle.quiesce_core.specs.Reach.{IsPortOf, can_walk, has_no_cycle}
 use Rattle.quiesce_core.specs.Rest.{greatest, full_within, full, call_events}
 use Rattle.quiesce_core.specs.Counted.{capped, AreCounted}
 use Rattle.quiesce_core.specs.WellFormed.{LeadsToProvision}
-use Rattle.quiesce_core.proofs.CycleLaws.{map_or_true, map_or_at, walk_to, no_walk}
+use Rattle.quiesce_core.proofs.CycleLaws.{walk_to, no_walk}
+use Rattle.base.proofs.OptionLaws.{map_or_true, map_or_at}
 use Rattle.config_graph.proofs.KindLaws.{one_provision}
 
 greatest_agree : (f g : ℕ → ℕ) (test : ℕ → Bool) (a n : ℕ) → ((p : ℕ) → a ≤ p → p < a + n → test p ≡ true → f p ≡ g p)

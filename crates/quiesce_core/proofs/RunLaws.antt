@@ -22,7 +22,8 @@ use Rattle.quiesce_core.specs.WellFormed.{IsWellFormed}
 use Rattle.quiesce_core.specs.Traffic.{IsConsistent}
 use Rattle.quiesce_core.proofs.LegalLaws.{legal}
 use Rattle.quiesce_core.proofs.SoundnessLaws.{well_formed_next, well_formed_empty}
-use Rattle.quiesce_core.proofs.StateLaws.{asked_busy, taken_is}
+use Rattle.quiesce_core.proofs.StateLaws.{taken_is}
+use Rattle.gate_word.proofs.PhaseLaws.{asked_busy}
 use Rattle.quiesce_core.proofs.TrafficLaws.{consistent_next, consistent_empty}
 use Rattle.quiesce_core.proofs.NamedLemmas.{named_next, named_empty}
 use Rattle.quiesce_core.proofs.KnowledgeLemmas.{Told, mine, done_more, told_next, told_empty}
@@ -117,7 +118,8 @@ pub effect_config : (s : State) (e : Event) → (effect s e).config ≡ change_n
 effect_config s (Begin p k v) = refl
 effect_config s _ = refl
 
-change_only : (c : Configuration) (e : Event) → is_of_change e ≡ false → change_next c e ≡ c
+-- an event of nodes leaves the configuration
+pub change_only : (c : Configuration) (e : Event) → is_of_change e ≡ false → change_next c e ≡ c
 change_only c (Close p) h = absurd (both_ways true h refl)
 change_only c (Reopen p) h = absurd (both_ways true h refl)
 change_only c (Make n node from) h = absurd (both_ways true h refl)

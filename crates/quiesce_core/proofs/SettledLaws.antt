@@ -12,10 +12,10 @@ use Rattle.quiesce_core.specs.Rules.{is_quiet, is_settled}
 use Rattle.quiesce_core.specs.Settled.{Settled}
 use Rattle.quiesce_core.specs.WellFormed.{IsSound}
 use Rattle.base.proofs.RangeLaws.{all_in_range, range_all}
-use Rattle.quiesce_core.proofs.CycleLaws.{map_or_true, any_of, of_any, all_of, of_all}
+use Rattle.quiesce_core.proofs.CycleLaws.{any_of, of_any, all_of, of_all}
 use Rattle.quiesce_core.proofs.ReachLaws.{reaches_some}
 use Rattle.quiesce_core.proofs.ConfigurationLaws.{linked_made}
-use Rattle.base.proofs.OptionLaws.{None-from_is_none}
+use Rattle.base.proofs.OptionLaws.{None-from_is_none, map_or_true}
 
 reach_of : (c : Configuration) (n k p : ℕ) → reaches_within c n k p ≡ true → Reach (wiring_of c) n p
 reach_of c n zero p h = absurd (both_ways false refl h)

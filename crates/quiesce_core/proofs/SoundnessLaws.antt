@@ -23,11 +23,12 @@ use Rattle.quiesce_core.specs.Reach.{IsPortOf, wiring_of, has_no_cycle}
 use Rattle.config_graph.specs.Wiring.{MayCall}
 use Rattle.quiesce_core.specs.WellFormed.{StandInARow, LeadsToProvision, IsWithinBounds, IsSound, IsWellFormed}
 use Rattle.quiesce_core.specs.Effect.{with_gate, with_closed, with_target, with_removed, new_gates, with_node, effect}
-use Rattle.quiesce_core.specs.Rules.{is_apart, is_next_serial, is_value}
+use Rattle.quiesce_core.specs.Rules.{is_apart, is_next_serial, is_value, last_serial, value_limit}
 use Rattle.quiesce_core.specs.Legal.{Legal}
 use Rattle.quiesce_core.proofs.TableLaws.{gate_place}
 use Rattle.base.proofs.RangeLaws.{all_in_range}
-use Rattle.quiesce_core.proofs.CycleLaws.{map_or_true, map_or_at, no_cycle_if_ranked, ranked_if_no_cycle}
+use Rattle.quiesce_core.proofs.CycleLaws.{no_cycle_if_ranked, ranked_if_no_cycle}
+use Rattle.base.proofs.OptionLaws.{map_or_true, map_or_at}
 use Rattle.base.proofs.PlaceLaws.{slice_get-append_front, slice_get-last, slice_get-set_other, slice_get-set_same, slice_get-snoc}
 
 -- where no link is new there is no new cycle
@@ -54,13 +55,13 @@ module _ (c : Configuration) (p : ℕ) (g : Gate) (made : p < length c.gates) (s
       (λ (same : q ≡ p). ap (λ i. (gate (with_gate c p g) i).require) same ∙ ap (λ (h : Gate). h.require) put_here ∙ same_require ∙ sym (ap (λ i. (gate c i).require) same))
       (λ (other : q ≡ p → ⊥). ap (λ (h : Gate). h.require) (put_elsewhere q other)) (cases_eq q p)
 
-  put_length : length (with_gate c p g).gates ≡ length c.gates
+  pub put_length : length (with_gate c p g).gates ≡ length c.gates
   put_length = length-set c.gates p g
 
-  put_port_of : (n q : ℕ) → IsPortOf c n q → IsPortOf (with_gate c p g) n q
+  pub put_port_of : (n q : ℕ) → IsPortOf c n q → IsPortOf (with_gate c p g) n q
   put_port_of n q o = record { node = o.node; made = o.made; from = o.from; below = o.below }
 
-  put_was_port_of : (n q : ℕ) → IsPortOf (with_gate c p g) n q → IsPortOf c n q
+  pub put_was_port_of : (n q : ℕ) → IsPortOf (with_gate c p g) n q → IsPortOf c n q
   put_was_port_of n q o = record { node = o.node; made = o.made; from = o.from; below = o.below }
 
   sound_with_gate : IsSound c → ((t : Target) → g.target ≡ Some t → LeadsToProvision c t) → has_no_cycle (with_gate c p g) ≡ true → IsSound (with_gate c p g)
@@ -356,8 +357,8 @@ bounds_append xs old k q = ⊎_elim
 
 next_bounds : (s : State) (p k v : ℕ) (within : Option ℕ) → is_next_serial s p k ≡ true → is_value v ≡ true → IsWithinBounds (record { phase = phase.Asked; serial = k; value = v; within = within })
 next_bounds s p k v within h e = record {
-  serial = leb-true k 16777215 ((and_parts (k == (exchange s p).serial + 1) (nat_le k 16777215) h).1);
-  value = ltb-true v 16777216 e;
+  serial = leb-true k last_serial ((and_parts (k == (exchange s p).serial + 1) (nat_le k last_serial) h).1);
+  value = ltb-true v value_limit e;
 }
 
 -- what was well formed is so after each event that may happen
@@ -366,9 +367,9 @@ well_formed_next s (Begin p k v) w l = record { sound = w.sound; services = w.se
 well_formed_next s (Call p k v) w l = record { sound = w.sound; services = length-set s.traffic.services (owner s.config p) _ ∙ w.services; exchanges = length-set s.traffic.exchanges p _ ∙ w.exchanges; bounds = bounds_set s.traffic.exchanges w.bounds p _ (next_bounds s p k v (option_map (λ (u : Service). u.port) (service s (owner s.config p))) l.next_serial l.value) }
 well_formed_next s (Miss p) w l = record { sound = w.sound; services = length-set s.traffic.services (owner s.config p) _ ∙ w.services; exchanges = w.exchanges; bounds = w.bounds }
 well_formed_next s (Take p k v) w l = record { sound = w.sound; services = target_services s.traffic.services (target s.config p) _ ∙ w.services; exchanges = w.exchanges; bounds = w.bounds }
-well_formed_next s (Give p k v) w l = record { sound = w.sound; services = target_services s.traffic.services (target s.config p) _ ∙ w.services; exchanges = length-set s.traffic.exchanges p _ ∙ w.exchanges; bounds = bounds_set s.traffic.exchanges w.bounds p _ (record { serial = (w.bounds p).serial; value = ltb-true v 16777216 l.value }) }
-well_formed_next s (More p k v) w l = record { sound = w.sound; services = target_services s.traffic.services (target s.config p) _ ∙ w.services; exchanges = length-set s.traffic.exchanges p _ ∙ w.exchanges; bounds = bounds_set s.traffic.exchanges w.bounds p _ (record { serial = (w.bounds p).serial; value = ltb-true v 16777216 l.value }) }
-well_formed_next s (Ask p k v) w l = record { sound = w.sound; services = w.services; exchanges = length-set s.traffic.exchanges p _ ∙ w.exchanges; bounds = bounds_set s.traffic.exchanges w.bounds p _ (record { serial = (w.bounds p).serial; value = ltb-true v 16777216 l.value }) }
+well_formed_next s (Give p k v) w l = record { sound = w.sound; services = target_services s.traffic.services (target s.config p) _ ∙ w.services; exchanges = length-set s.traffic.exchanges p _ ∙ w.exchanges; bounds = bounds_set s.traffic.exchanges w.bounds p _ (record { serial = (w.bounds p).serial; value = ltb-true v value_limit l.value }) }
+well_formed_next s (More p k v) w l = record { sound = w.sound; services = target_services s.traffic.services (target s.config p) _ ∙ w.services; exchanges = length-set s.traffic.exchanges p _ ∙ w.exchanges; bounds = bounds_set s.traffic.exchanges w.bounds p _ (record { serial = (w.bounds p).serial; value = ltb-true v value_limit l.value }) }
+well_formed_next s (Ask p k v) w l = record { sound = w.sound; services = w.services; exchanges = length-set s.traffic.exchanges p _ ∙ w.exchanges; bounds = bounds_set s.traffic.exchanges w.bounds p _ (record { serial = (w.bounds p).serial; value = ltb-true v value_limit l.value }) }
 well_formed_next s (Hear p k v) w l = record { sound = w.sound; services = target_services s.traffic.services (target s.config p) _ ∙ w.services; exchanges = w.exchanges; bounds = w.bounds }
 well_formed_next s (End p k v) w l = record { sound = w.sound; services = w.services; exchanges = length-set s.traffic.exchanges p _ ∙ w.exchanges; bounds = bounds_set s.traffic.exchanges w.bounds p _ (record { serial = (w.bounds p).serial; value = omega arith }) }
 well_formed_next s (Close p) w l = record { sound = sound_closed s.config p true (gate_place s p l.live) w.sound; services = w.services; exchanges = w.exchanges ∙ sym (length-set s.config.gates p _); bounds = w.bounds }

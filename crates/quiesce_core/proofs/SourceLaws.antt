@@ -1,9 +1,9 @@
 -- The sources of nodes are gone after every run.
 use Rattle.std.proofs.Common.{◌≡◌, ◌∙◌, ℕ, true, false, not, ◌&&◌, List, length, Option, Some, refl, ap, sym, subst, ⊎_elim, arith}
-use Rattle.std.specs.Prelude.{◌==◌, option_map}
+use Rattle.std.specs.Prelude.{◌==◌}
 use Rattle.std.specs.Option.{option_map_or}
 use Rattle.std.proofs.lemmas.Bool.{and_parts, both_ways, cases_eq, eq-eqb, ne_eqb, not-true}
-use Rattle.std.proofs.lemmas.Option.{same_Some, slice_get_within}
+use Rattle.std.proofs.lemmas.Option.{none-some, same_Some, slice_get_within}
 use Rattle.config_graph.specs.declared.node.Node.{Node}
 use Rattle.quiesce_core.specs.declared.event.Event.{Event}
 use Rattle.quiesce_core.specs.declared.event.Event.TheVariants.{Make, Remove}
@@ -12,15 +12,18 @@ use Rattle.quiesce_core.specs.State.{Configuration, State, empty, slot}
 use Rattle.quiesce_core.specs.Effect.{effect}
 use Rattle.quiesce_core.specs.Legal.{CanMake, Legal}
 use Rattle.quiesce_core.specs.Rules.{can_move, is_kind, was_moved}
-use Rattle.quiesce_core.specs.Runs.{IsRun, state_after}
+use Rattle.quiesce_core.specs.Runs.{IsRun, Step, state_after}
+use Rattle.quiesce_core.specs.Start.{slot_of, started}
 use Rattle.quiesce_core.specs.Alters.{Reconfigures}
 use Rattle.quiesce_core.specs.Sources.{SourcesAreGone}
 use Rattle.quiesce_core.proofs.AlterLaws.{reconfigured}
-use Rattle.quiesce_core.proofs.ConfigurationLaws.{slots_stay}
-use Rattle.quiesce_core.proofs.CycleLaws.{map_or_true}
+use Rattle.quiesce_core.proofs.ConfigurationLaws.{removed_stays, slots_stay}
 use Rattle.quiesce_core.proofs.InductionLaws.{always}
-use Rattle.quiesce_core.proofs.NamedLemmas.{any_at}
-use Rattle.base.proofs.OptionLaws.{option_map_some}
+use Rattle.quiesce_core.proofs.LegalLaws.{legal}
+use Rattle.config_graph.specs.Graph.{Graph}
+use Rattle.std.specs.List.{enumerate_from}
+use Rattle.base.proofs.PlaceLaws.{slice_get-map_some, any_at}
+use Rattle.base.proofs.OptionLaws.{option_map_some, map_or_true}
 
 -- what stays of the slots is enough
 kept : (c d : Configuration) → ((n : ℕ) → slot d n ≡ slot c n) → SourcesAreGone c → SourcesAreGone d
@@ -96,24 +99,16 @@ was c d n r i m at = ⊎_elim
     (λ (other : i ≡ n → ⊥). (m, sym (r.slots i ∙ rw (ne_eqb i n other) refl) ∙ at, refl, refl))
     (cases_eq i n)
 
-gone_still : (c d : Configuration) (n : ℕ) → Reconfigures c (Remove n) d → (k : ℕ) (old : Slot) → slot c k ≡ Some old → old.live ≡ false
-    → (new : Slot) × (slot d k ≡ Some new) × (new.live ≡ false) × (new.node ≡ old.node)
-gone_still c d n r k old at gone = ⊎_elim
-    (λ (same : k ≡ n). (record old { live = false }, r.slots k ∙ rw (eq-eqb k n same) (ap (option_map (λ (k : Slot). record k { live = false })) at), refl, refl))
-    (λ (other : k ≡ n → ⊥). (old, r.slots k ∙ rw (ne_eqb k n other) at, gone, refl))
-    (cases_eq k n)
-
 removed : (c d : Configuration) (n : ℕ) → Reconfigures c (Remove n) d → SourcesAreGone c → SourcesAreGone d
 removed c d n r h = record {
   gone = λ i k m at is.
       let o = was c d n r i m at in
       let g = h.gone i k o.0 o.1 (o.2 ∙ is) in
-      let new = gone_still c d n r k g.old g.there g.removed in
       record {
-        old = new.0;
-        there = new.1;
-        removed = new.2;
-        kind = subst (λ (x : Node). is_kind x.kind m.node.kind ≡ true) (sym new.3) (subst (λ (x : Node). is_kind g.old.node.kind x.kind ≡ true) o.3 g.kind);
+        old = g.old;
+        there = removed_stays c d (Remove n) r k g.old g.there g.removed;
+        removed = g.removed;
+        kind = subst (λ (x : Node). is_kind g.old.node.kind x.kind ≡ true) o.3 g.kind;
       };
   once = λ i j k m w at_i at_j from_i from_j.
       let o = was c d n r i m at_i in
@@ -125,6 +120,21 @@ pub sources_next : (s : State) (e : Event) → Legal s e → SourcesAreGone s.co
 sources_next s (Make n node from) l h = made s.config (effect s (Make n node from)).config n node from (reconfigured s (Make n node from) l) l h
 sources_next s (Remove n) l h = removed s.config (effect s (Remove n)).config n (reconfigured s (Remove n) l) h
 sources_next s e l h = kept s.config (effect s e).config (slots_stay s.config (effect s e).config e (reconfigured s e l) refl refl) h
+
+-- each step keeps it so
+pub sources_kept : (s t : State) (e : Event) → SourcesAreGone s.config → Step s e t → SourcesAreGone t.config
+sources_kept s t e h step = subst (λ (u : State). SourcesAreGone u.config) (sym step.changed) (sources_next s e (legal s e step.allowed) h)
+
+-- in a system that was just started no node took over what another was
+pub sources_started : (g : Graph) → SourcesAreGone (started g).config
+sources_started g = record {
+  gone = λ n k m at from. absurd (fresh n k m at from);
+  once = λ i j k m n at_i at_j from_i from_j. absurd (fresh i k m at_i from_i);
+}
+  where
+    fresh : (n k : ℕ) (m : Slot) → slot (started g).config n ≡ Some m → m.from ≡ Some k → ⊥
+    fresh n k m at from =
+        let w = slice_get-map_some (slot_of g.nodes) (enumerate_from 0 g.nodes) n m at in none-some k (ap (λ (x : Slot). x.from) w.2 ∙ from)
 
 pub sources_empty : SourcesAreGone empty.config
 sources_empty = record { gone = λ n k m at. absurd (cc); once = λ i j k m n at. absurd (cc) }

@@ -11,8 +11,6 @@ use Rattle.quiesce_core.specs.declared.event.Event.{Event}
 use Rattle.quiesce_core.specs.declared.event.Event.TheVariants.{Call, Take, Give, More, Hear, Miss, Close, Reopen, Make, Link, Unlink}
 use Rattle.quiesce_core.specs.declared.state.Gate.{Gate}
 use Rattle.quiesce_core.specs.declared.state.Service.{Service}
-use Rattle.gate_word.specs.declared.phase.Phase.{Phase}
-use Rattle.gate_word.specs.declared.phase.Phase.TheVariants as phase
 use Rattle.quiesce_core.specs.State.{State, fresh_gate, gate, owner, is_live, target, exchange, service, target_service}
 use Rattle.gate_word.specs.Phases.{is_idle, is_answered, is_in_more}
 use Rattle.quiesce_core.specs.Rules.{is_live_port, is_settled, is_taken, was_heard}
@@ -25,8 +23,9 @@ use Rattle.quiesce_core.specs.WellFormed.{IsWellFormed}
 use Rattle.quiesce_core.specs.Alters.{gate_next, service_next, service_by}
 use Rattle.quiesce_core.proofs.AlterLaws.{reconfigured, services_next}
 use Rattle.quiesce_core.proofs.SettledLaws.{settled_if}
-use Rattle.quiesce_core.proofs.TurnLaws.{Turn, asks, ends, gives, passes, replies, served_there, starts, turn_of}
-use Rattle.quiesce_core.proofs.StateLaws.{answered_busy, busy_made, is_taken_if, more_busy, serving_unanswered, taken_busy, taken_is, target_service_is}
+use Rattle.quiesce_core.proofs.PortEventLaws.{Turn, asks, ends, gives, passes, replies, served_there, starts, turn_of}
+use Rattle.gate_word.proofs.PhaseLaws.{answered_not_more, answered_busy, more_busy, serving_unanswered}
+use Rattle.quiesce_core.proofs.StateLaws.{busy_made, is_taken_if, taken_busy, taken_is, target_service_is}
 use Rattle.base.proofs.OptionLaws.{None-from_is_none, Some-from_is_some}
 
 -- ---- where a port leads
@@ -74,12 +73,6 @@ serving_nodes_stay s e w l n v serves p owned = unsettled_ports_stay s e l p (λ
 
 -- ---- what a port holds
 
-answered_not_more : (f : Phase) → is_answered f ≡ true → is_in_more f ≡ true → ⊥
-answered_not_more phase.Idle h e = both_ways false refl e
-answered_not_more phase.Asked h e = both_ways false refl e
-answered_not_more phase.Answered h e = both_ways false refl e
-answered_not_more phase.More h e = both_ways false refl h
-
 -- an answered port isn't taken
 taken_not_answered : (s : State) (p : ℕ) → IsConsistent s → is_taken s p ≡ true → is_answered (exchange s p).phase ≡ true → ⊥
 taken_not_answered s p c h answered =
@@ -96,7 +89,7 @@ answers_stay s e w c l p answered not_end = by (turn_of s e w l p)
     by (starts h) = absurd (both_ways (is_idle (exchange s p).phase) (answered_busy (exchange s p).phase answered) h.idle)
     by (gives v t g now) = absurd (taken_not_answered s p c t answered)
     by (replies v t m now) = absurd (taken_not_answered s p c t answered)
-    by (asks v m a g now) = absurd (answered_not_more (exchange s p).phase answered m)
+    by (asks v m a g now) = absurd (both_ways (is_in_more (exchange s p).phase) (answered_not_more (exchange s p).phase answered) m)
     by (ends a d now) = absurd (both_ways (is_end_at p e) not_end d)
 
 -- what the target of a port that is in more services waits for a further message
@@ -126,7 +119,7 @@ replies_stay s e w c l p more_ not_ask = by (turn_of s e w l p)
     by (gives v t g now) = absurd (both_ways (is_give_at p e) (unheard s p e c l more_).0 g)
     by (replies v t m now) = absurd (both_ways (is_more_at p e) (unheard s p e c l more_).1 m)
     by (asks v m a g now) = absurd (both_ways (is_ask_at p e) not_ask a)
-    by (ends a d now) = absurd (answered_not_more (exchange s p).phase a more_)
+    by (ends a d now) = absurd (both_ways (is_in_more (exchange s p).phase) (answered_not_more (exchange s p).phase a) more_)
 
 -- ---- who services a port
 

@@ -1,4 +1,4 @@
--- Single places of a state: how phases exclude each other, what is read where a node's event wrote, who services a port, and what
+-- Single places of a state: what is read where a node's event wrote, who services a port, and what
 -- stands behind a list.
 use Rattle.std.proofs.Common.{◌≡◌, ℕ, ◌<◌, ◌≤◌, true, false, ◌||◌, length, set, Option, Some, None, refl, sym, ap, ◌∙◌, ⊎_elim, get_or-set_same, get_or-set_other}
 use Rattle.std.specs.Prelude.{◌==◌, is_some, option_and_then}
@@ -9,52 +9,13 @@ use Rattle.config_graph.specs.declared.node.Target.{Target}
 use Rattle.quiesce_core.specs.declared.state.Gate.{Gate}
 use Rattle.quiesce_core.specs.declared.state.Service.{Service}
 use Rattle.quiesce_core.specs.declared.state.Exchange.{Exchange}
-use Rattle.gate_word.specs.declared.phase.Phase.{Phase}
-use Rattle.gate_word.specs.declared.phase.Phase.TheVariants as phase
 use Rattle.quiesce_core.specs.State.{Configuration, State, fresh_exchange, fresh_gate, gate, target, provision, exchange, service, target_service}
 use Rattle.gate_word.specs.Phases.{is_idle, is_asked, is_answered, is_in_more}
 use Rattle.quiesce_core.specs.Rules.{is_taken}
 use Rattle.quiesce_core.specs.Effect.{with_exchange, with_service, with_target_service}
 use Rattle.quiesce_core.specs.Traffic.{IsConsistent}
-use Rattle.quiesce_core.proofs.CycleLaws.{map_or_true, map_or_at}
-
--- phases exclude each other
-
-pub asked_busy : (f : Phase) → is_asked f ≡ true → is_idle f ≡ false
-asked_busy phase.Idle h = absurd (both_ways false refl h)
-asked_busy phase.Asked h = refl
-asked_busy phase.Answered h = refl
-asked_busy phase.More h = refl
-
-pub more_busy : (f : Phase) → is_in_more f ≡ true → is_idle f ≡ false
-more_busy phase.Idle h = absurd (both_ways false refl h)
-more_busy phase.Asked h = refl
-more_busy phase.Answered h = refl
-more_busy phase.More h = refl
-
-pub serving_busy : (f : Phase) → (is_asked f || is_in_more f) ≡ true → is_idle f ≡ false
-serving_busy phase.Idle h = absurd (both_ways false refl h)
-serving_busy phase.Asked h = refl
-serving_busy phase.Answered h = refl
-serving_busy phase.More h = refl
-
-pub serving_unanswered : (f : Phase) → (is_asked f || is_in_more f) ≡ true → is_answered f ≡ true → ⊥
-serving_unanswered phase.Idle h e = both_ways false refl h
-serving_unanswered phase.Asked h e = both_ways false refl e
-serving_unanswered phase.Answered h e = both_ways false refl h
-serving_unanswered phase.More h e = both_ways false refl e
-
-pub asked_not_more : (f : Phase) → is_asked f ≡ true → is_in_more f ≡ false
-asked_not_more phase.Idle h = refl
-asked_not_more phase.Asked h = refl
-asked_not_more phase.Answered h = refl
-asked_not_more phase.More h = absurd (both_ways false refl h)
-
-pub answered_busy : (f : Phase) → is_answered f ≡ true → is_idle f ≡ false
-answered_busy phase.Idle h = absurd (both_ways false refl h)
-answered_busy phase.Asked h = refl
-answered_busy phase.Answered h = refl
-answered_busy phase.More h = refl
+use Rattle.gate_word.proofs.PhaseLaws.{serving_busy, serving_unanswered}
+use Rattle.base.proofs.OptionLaws.{map_or_true, map_or_at}
 
 -- look-ups after a write
 

@@ -15,7 +15,7 @@ use Rattle.quiesce_core.specs.State.{Configuration, State, slot, is_live, owner,
 use Rattle.quiesce_core.specs.Rules.{is_live_port, has_calls_left, has_mores_left}
 use Rattle.gate_word.specs.Words.{FitsTarget}
 use Rattle.quiesce_core.specs.WellFormed.{IsWellFormed}
-use Rattle.quiesce_core.proofs.CycleLaws.{map_or_true, map_or_at}
+use Rattle.base.proofs.OptionLaws.{map_or_true, map_or_at}
 use Rattle.config_graph.proofs.KindLaws.{few_calls, few_mores, one_provision}
 
 pub live_made : (c : Configuration) (n : ℕ) → is_live c n ≡ true → n < length c.slots

@@ -29,13 +29,14 @@ use Rattle.quiesce_core.specs.WellFormed.{IsWellFormed}
 use Rattle.quiesce_core.specs.Traffic.{IsServing, IsConsequent, IsConsistent}
 use Rattle.quiesce_core.proofs.AlterLaws.{reconfigured, services_next}
 use Rattle.quiesce_core.proofs.ConfigurationLaws.{kind_kept, linked_made, owner_kept, require_kept}
-use Rattle.quiesce_core.proofs.CycleLaws.{map_or_at, all_of}
+use Rattle.quiesce_core.proofs.CycleLaws.{all_of}
 use Rattle.quiesce_core.proofs.SettledLaws.{settled_if}
 use Rattle.quiesce_core.proofs.StabilityLaws.{busy_ports_stay, serves_on, taken_ports_stay}
-use Rattle.quiesce_core.proofs.StateLaws.{asked_not_more, busy_made, idle_unserved, more_busy, provision_is, serving_busy, serving_unanswered, taken_busy, taken_is, target_service_is}
+use Rattle.quiesce_core.proofs.StateLaws.{busy_made, idle_unserved, provision_is, taken_busy, taken_is, target_service_is}
+use Rattle.gate_word.proofs.PhaseLaws.{asked_not_more, more_busy, serving_busy, serving_unanswered}
 use Rattle.quiesce_core.proofs.TableLaws.{live_made}
-use Rattle.quiesce_core.proofs.TurnLaws.{Turn, asks, ends, gives, passes, replies, replies_are_of_servers, served_there, starts, turn_of}
-use Rattle.base.proofs.OptionLaws.{None-from_is_none, Some-from_is_some, option_map_some}
+use Rattle.quiesce_core.proofs.PortEventLaws.{Turn, asks, ends, gives, passes, replies, replies_are_of_servers, served_there, starts, turn_of}
+use Rattle.base.proofs.OptionLaws.{None-from_is_none, Some-from_is_some, option_map_some, map_or_at}
 
 -- the one that services a port is the one to which it is linked
 pub only_target : (s : State) (p : ℕ) (t : Target) → IsConsistent s → target s.config p ≡ Some t → (m : ℕ) (u : Service) → service s m ≡ Some u → u.port ≡ p → m ≡ t.node

@@ -32,9 +32,10 @@ use Rattle.quiesce_core.specs.Runs.{IsRun, Step, state_after}
 use Rattle.quiesce_core.specs.Sources.{SourcesAreGone}
 use Rattle.quiesce_core.specs.State.{Configuration, State, depends, exchange, fresh_gate, gate, owner, provision, service, slot}
 use Rattle.quiesce_core.specs.WellFormed.{IsSound, IsWellFormed}
-use Rattle.quiesce_core.specs.Words.{changed_port, changed_slot, fields_after, fields_of, slot_fields_of, slot_word_of, word_of}
+use Rattle.quiesce_core.specs.Words.{changed_port, changed_slot, fields_after, slot_fields_of, slot_word_of, word_of}
+use Rattle.quiesce_core.specs.Fields.{fields_of}
 use Rattle.quiesce_core.proofs.AlterLaws.{steps_alter}
-use Rattle.quiesce_core.proofs.CycleLaws.{map_or_true}
+use Rattle.base.proofs.OptionLaws.{map_or_true}
 use Rattle.quiesce_core.proofs.LegalLaws.{legal}
 use Rattle.quiesce_core.proofs.RunLaws.{nodes_are_named, runs_are_well_formed}
 use Rattle.quiesce_core.proofs.SourceLaws.{sources_are_gone}

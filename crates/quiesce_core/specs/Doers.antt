@@ -37,6 +37,12 @@ abbrev pub is_end_at : ℕ → Event → Bool
 is_end_at p (End q k v) = q == p
 is_end_at p _ = false
 
+-- whether an event links or unlinks port p
+abbrev pub relinks : ℕ → Event → Bool
+relinks p (Link q n x) = q == p
+relinks p (Unlink q) = q == p
+relinks p _ = false
+
 -- an event by which a node goes, or comes to be
 abbrev pub is_remove : Event → Bool
 is_remove (Remove n) = true

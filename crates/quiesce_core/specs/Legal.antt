@@ -78,8 +78,8 @@ pub record CanEnd (s : State) (p k v : ℕ) : Type 0 where
   pub answered : IsTrue (is_answered (exchange s p).phase)
   pub message : IsTrue (is_last_message s p k v)
 
-pub record CanTurn (s : State) (p : ℕ) : Type 0 where
-  pub live : IsTrue (is_live_port s.config p)
+pub record CanTurn (c : Configuration) (p : ℕ) : Type 0 where
+  pub live : IsTrue (is_live_port c p)
 
 pub record CanMake (c : Configuration) (n : ℕ) (node : Node) (from : Option ℕ) : Type 0 where
   pub room : IsTrue (has_room c n node)
@@ -114,8 +114,8 @@ Legal s (More p k v) = CanMore s p k v
 Legal s (Ask p k v) = CanAsk s p k v
 Legal s (Hear p k v) = CanHear s p k v
 Legal s (End p k v) = CanEnd s p k v
-Legal s (Close p) = CanTurn s p
-Legal s (Reopen p) = CanTurn s p
+Legal s (Close p) = CanTurn s.config p
+Legal s (Reopen p) = CanTurn s.config p
 Legal s (Make n node from) = CanMake s.config n node from
 Legal s (Link p n x) = CanLink s p n x
 Legal s (Unlink p) = CanUnlink s p

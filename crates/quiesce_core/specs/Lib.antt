@@ -1,6 +1,7 @@
 pub mod State
 pub mod Reach
 pub mod Effect
+pub mod Fields
 pub mod Rules
 pub mod Legal
 pub mod Runs
@@ -19,6 +20,7 @@ pub mod Start
 pub mod Traffic
 pub mod Named
 pub mod Live
+pub mod GraphNext
 pub mod Listed
 pub mod SameWiring
 pub mod Alters

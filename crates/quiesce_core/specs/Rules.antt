@@ -6,22 +6,26 @@ use Rattle.std.specs.Option.{option_map_or}
 use Rattle.config_graph.specs.Kinds.{row}
 use Rattle.config_graph.specs.declared.kind.Kind.{Kind}
 use Rattle.config_graph.specs.declared.node.Node.{Node}
-use Rattle.config_graph.specs.declared.TheConstants.{MAX_NODES, MAX_PORTS}
+use Rattle.config_graph.specs.declared.TheConstants.{MAX_NODES, MAX_PORTS, VALUE_LIMIT}
 use Rattle.quiesce_core.specs.declared.event.Event.{Event}
 use Rattle.quiesce_core.specs.declared.event.Event.TheVariants.{Begin, Call, Take, Give, End, More, Ask, Hear, Miss, Close, Reopen, Make, Link, Unlink, Remove}
 use Rattle.quiesce_core.specs.declared.state.Slot.{Slot}
 use Rattle.quiesce_core.specs.declared.state.Service.{Service}
 use Rattle.gate_word.specs.Phases.{is_idle, is_asked, is_answered, is_in_more}
+use Rattle.gate_word.specs.Words as words
+use Rattle.gate_word.specs.declared.word.TheConstants.{LAST_SERIAL}
 use Rattle.quiesce_core.specs.State.{Configuration, State, slot, is_live, ports_of, gate, owner, target, provision, provides, calls_allowed, mores_allowed, depends, exchange, service, target_service}
 use Rattle.quiesce_core.specs.Effect.{with_target}
+use Rattle.quiesce_core.specs.Fields.{fields_of}
 use Rattle.quiesce_core.specs.Reach.{reaches, has_no_cycle}
 
--- values are below this number, and serials too
+-- values are below this number
 abbrev pub value_limit : ℕ
-value_limit = 16777216
+value_limit = VALUE_LIMIT
 
+-- the serial of a port's last transaction
 abbrev pub last_serial : ℕ
-last_serial = 16777215
+last_serial = LAST_SERIAL
 
 -- whether the port was made and its owner is live
 abbrev pub is_live_port : Configuration → ℕ → Bool
@@ -48,7 +52,7 @@ is_value v = nat_lt v value_limit
 
 -- whether the port is unlinked or its transactions are spent
 abbrev pub is_missing : State → ℕ → Bool
-is_missing s p = not (is_linked s.config p) || (exchange s p).serial == last_serial
+is_missing s p = words.is_missing (fields_of s p)
 
 -- whether node n services a transaction by a provision that depends on the port
 abbrev pub serves_through : State → ℕ → ℕ → Bool

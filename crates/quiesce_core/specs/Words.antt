@@ -1,5 +1,5 @@
 -- The words of a state: what each port and each slot shows of itself in one number, and what an event makes of them.
-use Rattle.std.specs.Prelude.{ℕ, IsTrue, true, false, Option, Some, None, is_none, is_some, if◌then◌else◌}
+use Rattle.std.specs.Prelude.{ℕ, IsTrue, true, false, Option, Some, None, is_none, if◌then◌else◌}
 use Rattle.std.specs.Option.{option_map_or}
 use Rattle.gate_word.specs.Words.{is_spent, pack}
 use Rattle.gate_word.specs.SlotWords.{pack_slot}
@@ -10,20 +10,9 @@ use Rattle.quiesce_core.specs.declared.event.Event.{Event}
 use Rattle.quiesce_core.specs.declared.event.Event.TheVariants.{Begin, Call, Take, Give, End, More, Ask, Hear, Miss, Close, Reopen, Make, Link, Unlink, Remove}
 use Rattle.quiesce_core.specs.declared.state.Slot.{Slot}
 use Rattle.gate_word.specs.Phases.{is_idle}
+use Rattle.quiesce_core.specs.Fields.{fields_of}
 use Rattle.quiesce_core.specs.Rules.{has_calls_left, is_live_port, serves_through, was_heard}
-use Rattle.quiesce_core.specs.State.{Configuration, State, slot, gate, owner, exchange, service}
-
--- what a port shows of its gate and its exchange
-abbrev pub fields_of : State → ℕ → Word
-fields_of s p =
-    record {
-      closed = (gate s.config p).closed;
-      phase = (exchange s p).phase;
-      consequent = is_some (exchange s p).within;
-      target = (gate s.config p).target;
-      serial = (exchange s p).serial;
-      value = (exchange s p).value;
-    }
+use Rattle.quiesce_core.specs.State.{Configuration, State, slot, owner, exchange, service}
 
 -- the word of a port
 abbrev pub word_of : State → ℕ → ℕ

@@ -25,9 +25,11 @@ pub fn nodes_know()
         → IsKnown (state_after es) n first (known_after first (done_by n es)) }
 {}
 
-/// What a log tells by the indexes of requirements is what it tells of the service and of each port by its number. It tells of no
-/// reply that was seen: a look at a port is no event.
+/// What a log tells by the indexes of requirements grows by one event as `known_next` says, and is what it tells of the service and of
+/// each port by its number. It tells of no reply that was seen: a look at a port is no event.
 pub fn logs_tell()
+    ensures more_ { (first : ℕ) (es : List Event) (e : Event)
+        → known_after first (es ++ e ∷ []) ≡ known_next first (known_after first es) e }
     ensures service { (first : ℕ) (es : List Event) → (known_after first es).service ≡ served_after es }
     ensures two_ports { (first : ℕ) (es : List Event) → length (known_after first es).ports ≡ 2 }
     ensures idle { (first : ℕ) (es : List Event) (r : ℕ) (k : PortKnown)

@@ -1,11 +1,11 @@
 //! Laws of the machine: what holds of every state, or of the state after every run.
 
-ghost use Rattle.std.specs.Prelude.{◌≡◌, ◌+◌, ◌*◌, ◌≤◌, ◌↔◌, ◌++◌, ℕ, List, Some, filter, fold, length, IsTrue};
+ghost use Rattle.std.specs.Prelude.{◌≡◌, ◌+◌, ◌*◌, ◌≤◌, ◌↔◌, ◌++◌, ℕ, false, List, None, Some, filter, fold, length, IsTrue};
 ghost use Rattle.std.specs.Option.{option_map_or};
 ghost use Rattle.quiesce_core.specs.declared.event.Event.{Event};
-ghost use Rattle.quiesce_core.specs.State.{Configuration, State, calls_allowed, depends, empty, mores_allowed, ports_of, target};
+ghost use Rattle.quiesce_core.specs.State.{Configuration, State, calls_allowed, depends, empty, mores_allowed, owner, ports_of, target};
 ghost use Rattle.quiesce_core.specs.Rest.{full, greatest};
-ghost use Rattle.quiesce_core.specs.Rules.{denial};
+ghost use Rattle.quiesce_core.specs.Rules.{denial, has_provision, is_linked, is_live_port, is_settled};
 ghost use Rattle.quiesce_core.specs.Legal.{Legal};
 ghost use Rattle.quiesce_core.specs.Reach.{has_no_cycle, reaches, wiring_of};
 ghost use Rattle.config_graph.specs.Wiring.{HasNoCycle, Reach};
@@ -19,7 +19,10 @@ ghost use Rattle.config_graph.specs.declared.node.Target.{Target};
 ghost use Rattle.quiesce_core.specs.Traffic.{IsConsistent};
 ghost use Rattle.quiesce_core.specs.WellFormed.{IsSound, IsWellFormed};
 ghost use Rattle.quiesce_core.specs.Live.{IsGraphOf, StandsAt};
-ghost use Rattle.quiesce_core.specs.SameWiring.{IsPortAt};
+ghost use Rattle.quiesce_core.specs.SameWiring.{AreLinkedAlive, IsPortAt};
+ghost use Rattle.quiesce_core.specs.GraphNext.{AreLinkedNext, IsNodeNext};
+ghost use Rattle.quiesce_core.specs.declared.event.Event.TheVariants.{Link};
+ghost use Rattle.config_graph.specs.GraphBy.{IsGraphBy};
 ghost use Rattle.config_graph.specs.Cycles.{graph_wiring};
 ghost use Rattle.config_graph.specs.declared.node.Port.{Port};
 ghost use Rattle.config_graph.specs.Graph.{Graph, ports};
@@ -105,8 +108,20 @@ pub fn reach_is_that_of_the_graph()
         → Reach (graph_wiring g) i q → (p : ℕ) × IsPortAt s.config g p q × Reach (wiring_of s.config) n p }
 {}
 
-/// In a state that is consistent there is a cycle exactly where there is one in the graph.
-#[tactic(auto, using(crate::proofs::SameWiring::cycles_in_both))]
+/// Whether or not there is a cycle: there is one exactly where there is one in the graph. What is asked of ports and links is so in
+/// every state that is well formed and consistent.
 pub fn cycles_are_those_of_the_graph()
-    ensures { (s : State) (g : Graph) → IsSound s.config → IsConsistent s → AreNamed s.config → IsGraphOf s.config g → HasNoCycle (wiring_of s.config) ↔ HasNoCycle (graph_wiring g) }
+    ensures exactly { (c : Configuration) (g : Graph) → AreLinkedAlive c → AreNamed c → IsGraphOf c g
+        → HasNoCycle (wiring_of c) ↔ HasNoCycle (graph_wiring g) }
+    ensures alive { (s : State) → IsWellFormed s → IsConsistent s → AreLinkedAlive s.config }
+{}
+
+/// Where each other rule of a link holds, the last denies it exactly where there is a cycle in the graph that the link would make
+/// of the nodes and links before it.
+pub fn cycles_deny_links()
+    ensures { (s : State) (p n x : ℕ) (g : Graph) → AreLinkedAlive s.config → AreNamed s.config
+        → IsTrue (is_live_port s.config p) → is_linked s.config p ≡ false → IsTrue (has_provision s.config n x)
+        → IsTrue (is_settled s (owner s.config p))
+        → IsGraphBy (IsNodeNext s.config (Link p n x)) (AreLinkedNext s.config (Link p n x)) g
+        → (denial s (Link p n x) ≡ Some 23) ↔ (HasNoCycle (graph_wiring g) → ⊥) }
 {}

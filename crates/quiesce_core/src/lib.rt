@@ -26,8 +26,8 @@ mod tables;
 mod words;
 
 pub use configuration_laws::{
-    graphs_of_runs, live_nodes_change, ports_are_numbered, sources_are_gone, targets_change,
-    what_was_made_stays,
+    changes_keep_configurations_sound, graphs_follow_events, graphs_of_runs, live_nodes_change,
+    ports_are_numbered, sources_are_gone, targets_change, what_was_made_stays,
 };
 pub use error::CoreError;
 pub use event::Event;
@@ -37,7 +37,7 @@ pub use knowledge_laws::{
 pub use known::{Known, PortKnown, Served};
 pub use laws::{
     a_started_system_has_its_graph, cycles_are_found, cycles_are_those_of_the_graph,
-    each_rule_holds, full_is_found, nodes_are_named, one_graph, reach_is_found,
+    cycles_deny_links, each_rule_holds, full_is_found, nodes_are_named, one_graph, reach_is_found,
     reach_is_that_of_the_graph, runs_are_consistent, runs_are_steps, runs_are_well_formed,
     started_systems_are_consistent, steps_keep_consistency,
 };
@@ -47,7 +47,10 @@ pub use run_laws::{
     services_keep_their_bounds, transactions_engage_two_nodes, values_carry,
 };
 pub use state::{Exchange, Gate, OpenTxn, Phase, Service, Slot, Stage};
-pub use step_laws::{busy_ports_are_linked_and_live, replies_stay, steps_alter, targets_stay};
+pub use step_laws::{
+    busy_ports_are_linked_and_live, replies_stay, steps_alter, taken_ports_are_serviced,
+    targets_stay,
+};
 pub use words::{
     unmade_words, words_fit, words_follow_events, words_follow_operations, words_judge_events,
     words_of_runs_decode, words_of_states_decode, words_tell_of_transactions,

@@ -20,10 +20,10 @@ ghost use Rattle.quiesce_core.specs.Traffic.{IsConsistent};
 
 use crate::error::CoreError;
 use crate::event::Event;
-use crate::rules::LAST_SERIAL;
 use crate::state::{Exchange, Gate, OpenTxn, Service, Slot};
 use crate::tables::Tables;
 use config_graph::{Graph, Made, NoMemory, Node};
+use gate_word::LAST_SERIAL;
 use std::alloc::Global;
 use std::marker::Model;
 

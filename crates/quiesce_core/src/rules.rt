@@ -7,13 +7,8 @@ ghost use Rattle.quiesce_core.specs.Tables.{state_of};
 
 use crate::state::Service;
 use crate::tables::Tables;
-use config_graph::{Kind, MAX_NODES, MAX_PORTS, Node};
-
-/// Values are below this number.
-pub const VALUE_LIMIT: u32 = 16_777_216;
-
-/// A port's transactions are spent after that of this serial.
-pub const LAST_SERIAL: u32 = 16_777_215;
+use config_graph::{Kind, MAX_NODES, MAX_PORTS, Node, VALUE_LIMIT};
+use gate_word::LAST_SERIAL;
 
 pub fn is_value(value: u32) -> bool
     ensures { result ≡ rules.is_value value }
@@ -92,7 +87,7 @@ impl Tables {
     pub fn is_missing(&self, port: u32) -> bool
         ensures { result ≡ rules.is_missing (state_of self.now) port }
     {
-        !self.is_linked(port) || self.exchange(port).serial == LAST_SERIAL
+        self.gate(port).target.is_none() || self.exchange(port).serial == LAST_SERIAL
     }
 
     /// Whether a service by a provision of the node depends on the port.

@@ -1,8 +1,9 @@
 //! What an event changes, and what stays while a transaction is open.
 
-ghost use Rattle.std.specs.Prelude.{◌≡◌, ◌<◌, ℕ, true, false, IsTrue, length, Some};
+ghost use Rattle.std.specs.Prelude.{◌≡◌, ◌<◌, ◌↔◌, ℕ, true, false, IsTrue, length, Some};
 ghost use Rattle.quiesce_core.specs.declared.event.Event.{Event};
 ghost use Rattle.quiesce_core.specs.declared.state.Service.{Service};
+ghost use Rattle.config_graph.specs.declared.node.Target.{Target};
 ghost use Rattle.quiesce_core.specs.Alters.{Alters};
 ghost use Rattle.quiesce_core.specs.Doers.{is_ask_at, is_end_at, is_give_at};
 ghost use Rattle.gate_word.specs.Phases.{is_answered, is_idle, is_in_more};
@@ -43,4 +44,14 @@ pub fn busy_ports_are_linked_and_live()
         → IsTrue (is_linked s.config p) }
     ensures live { (s : State) (p : ℕ) → IsConsistent s → is_idle (exchange s p).phase ≡ false
         → IsTrue (is_live_port s.config p) }
+{}
+
+/// A port is taken exactly where its target services it. No node services an idle port, or one that was answered.
+pub fn taken_ports_are_serviced()
+    ensures taken { (s : State) (p : ℕ) → IsTrue (is_taken s p) ↔ ((t : Target) × (v : Service) × (target s.config p ≡ Some t)
+        × (service s t.node ≡ Some v) × (v.port ≡ p)) }
+    ensures idle { (s : State) (p : ℕ) → IsConsistent s → is_idle (exchange s p).phase ≡ true
+        → (m : ℕ) (v : Service) → service s m ≡ Some v → v.port ≡ p → ⊥ }
+    ensures answered { (s : State) (p : ℕ) → IsConsistent s → is_answered (exchange s p).phase ≡ true
+        → (m : ℕ) (v : Service) → service s m ≡ Some v → v.port ≡ p → ⊥ }
 {}

@@ -5,7 +5,7 @@ ghost use Rattle.quiesce_core.specs.State as state;
 ghost use Rattle.quiesce_core.specs.Tables.{state_of};
 ghost use Rattle.quiesce_core.specs.WellFormed.{IsWellFormed};
 ghost use Rattle.gate_word.specs.Words.{FitsWord};
-ghost use Rattle.quiesce_core.specs.Words as words;
+ghost use Rattle.quiesce_core.specs.Fields.{fields_of};
 
 use crate::state::{Exchange, Gate, Phase, Service, Slot};
 use config_graph::{Kind, Target};
@@ -100,7 +100,7 @@ impl Tables {
 
     pub fn word(&self, port: u32) -> Word
         requires { IsWellFormed (state_of self.now) }
-        ensures fields { result ≡ words.fields_of (state_of self.now) port }
+        ensures fields { result ≡ fields_of (state_of self.now) port }
         ensures fits { FitsWord result }
     {
         let gate = self.gate(port);

@@ -20,7 +20,8 @@ ghost use Rattle.quiesce_core.specs.Sources.{SourcesAreGone};
 ghost use Rattle.quiesce_core.specs.State.{Configuration, State, exchange, gate, service, slot, target};
 ghost use Rattle.quiesce_core.specs.Traffic.{IsConsistent};
 ghost use Rattle.quiesce_core.specs.WellFormed.{IsSound, IsWellFormed};
-ghost use Rattle.quiesce_core.specs.Words.{CallsThrough, changed_port, changed_slot, fields_after, fields_of, root_denial, slot_fields_of, slot_word_of, word_of};
+ghost use Rattle.quiesce_core.specs.Words.{CallsThrough, changed_port, changed_slot, fields_after, root_denial, slot_fields_of, slot_word_of, word_of};
+ghost use Rattle.quiesce_core.specs.Fields.{fields_of};
 
 use crate::event::Event;
 use crate::state::Phase;

@@ -45,8 +45,9 @@ chosen : (s : State) (p : ℕ) (e : Event) (b : Bool) (x y : Exchange) → excha
 chosen s p e true x y now here there = here refl now
 chosen s p e false x y now here there = there refl now
 
-next_is : (s : State) (p k : ℕ) → is_next_serial s p k ≡ true → k ≡ (exchange s p).serial + 1
-next_is s p k h = eqb-true k ((exchange s p).serial + 1) (and_parts (k == (exchange s p).serial + 1) (nat_le k last_serial) h).0
+-- the serial that a begin or a call names
+pub next_serial : (s : State) (p k : ℕ) → is_next_serial s p k ≡ true → k ≡ (exchange s p).serial + 1
+next_serial s p k h = eqb-true k ((exchange s p).serial + 1) (and_parts (k == (exchange s p).serial + 1) (nat_le k last_serial) h).0
 
 pub turn_of : (s : State) (e : Event) → IsWellFormed s → Legal s e → (p : ℕ) → Turn s p e
 turn_of s (Begin q k v) w l p = chosen s p (Begin q k v) (q == p) _ _ (exchanges_next s (Begin q k v) w l p)
@@ -60,7 +61,7 @@ turn_of s (Begin q k v) w l p = chosen s p (Begin q k v) (q == p) _ _ (exchanges
       same = refl;
       no_give = λ r. refl;
       belongs = inl refl;
-      now = now ∙ ap (λ i. record { phase = phase.Asked; serial = i; value = v; within = None }) (next_is s q k l.next_serial ∙ ap (λ i. (exchange s i).serial + 1) same);
+      now = now ∙ ap (λ i. record { phase = phase.Asked; serial = i; value = v; within = None }) (next_serial s q k l.next_serial ∙ ap (λ i. (exchange s i).serial + 1) same);
     }))
     (λ h now. passes now refl refl)
 turn_of s (Call q k v) w l p = chosen s p (Call q k v) (q == p) _ _ (exchanges_next s (Call q k v) w l p)
@@ -75,7 +76,7 @@ turn_of s (Call q k v) w l p = chosen s p (Call q k v) (q == p) _ _ (exchanges_n
       no_give = λ r. refl;
       belongs = inr (ap (λ i. serves_through s (owner s.config i) i) (sym same) ∙ l.serves_through, refl);
       now = now ∙ ap (λ i. record { phase = phase.Asked; serial = i; value = v; within = option_map (λ (w : Service). w.port) (service s (owner s.config p)) })
-          (next_is s q k l.next_serial ∙ ap (λ i. (exchange s i).serial + 1) same);
+          (next_serial s q k l.next_serial ∙ ap (λ i. (exchange s i).serial + 1) same);
     }))
     (λ h now. passes now refl refl)
 turn_of s (Give q k v) w l p = chosen s p (Give q k v) (q == p) _ _ (exchanges_next s (Give q k v) w l p)
