@@ -14,7 +14,8 @@ use Rattle.quiesce_core.specs.declared.state.Slot.{Slot}
 use Rattle.quiesce_core.specs.Live.{StandsAt}
 use Rattle.quiesce_core.specs.Reach.{IsPortOf, has_no_cycle, wiring_of}
 use Rattle.quiesce_core.specs.State.{Configuration, gate, owner, slot}
-use Rattle.quiesce_core.proofs.CycleLaws.{map_or_at, no_cycle_if_acyclic}
+use Rattle.quiesce_core.proofs.CycleLaws.{no_cycle_if_acyclic}
+use Rattle.base.proofs.OptionLaws.{map_or_at}
 use Rattle.commit_laws.specs.Fitting.{LinksFit}
 
 -- a slot stands at one place of the graph

@@ -8,7 +8,7 @@ use Rattle.quiesce_core.specs.declared.state.Slot.{Slot}
 use Rattle.quiesce_core.specs.Runs.{IsRun, state_after}
 use Rattle.quiesce_core.specs.State.{Configuration, is_live, owner, slot, target}
 use Rattle.quiesce_core.specs.WellFormed.{IsSound}
-use Rattle.quiesce_core.proofs.CycleLaws.{map_or_at}
+use Rattle.base.proofs.OptionLaws.{map_or_at}
 use Rattle.quiesce_core.proofs.RunLaws.{nodes_are_named, runs_are_consistent, runs_are_well_formed}
 use Rattle.quiesce_core.proofs.SourceLaws.{sources_are_gone}
 use Rattle.commit_laws.specs.Fitting.{PathsApart}

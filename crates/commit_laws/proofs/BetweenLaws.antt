@@ -15,7 +15,8 @@ use Rattle.quiesce_core.specs.Reach.{has_no_cycle, IsPortOf, wiring_of}
 use Rattle.config_graph.specs.Wiring.{direct, Reach, through}
 use Rattle.quiesce_core.specs.State.{Configuration, depends, gate, is_live, owner, slot, target}
 use Rattle.quiesce_core.specs.WellFormed.{IsSound, LeadsToProvision}
-use Rattle.quiesce_core.proofs.CycleLaws.{made_below, map_or_at}
+use Rattle.quiesce_core.proofs.CycleLaws.{made_below}
+use Rattle.base.proofs.OptionLaws.{map_or_at}
 use Rattle.base.proofs.PlaceLaws.{slice_get-there}
 use Rattle.quiesce_core.proofs.TableLaws.{live_made}
 use Rattle.quiesce_core.proofs.SoundnessLaws.{here_gone, old_gate, old_slot, grown_length, new_gate, put_elsewhere, put_here, put_owner, put_require, slot_elsewhere, sound_linked, sound_made, sound_removed, sound_unlinked}

@@ -16,7 +16,7 @@ use Rattle.base.proofs.PlaceLaws.{slice_get-there}
 use Rattle.commit_laws.specs.Fitting.{Fits, KeptLink, PathsApart}
 use Rattle.quiesce_core.specs.Rules.{can_move, is_kind, was_moved}
 use Rattle.quiesce_core.specs.State.{Configuration, gate, is_live, owner, slot, target}
-use Rattle.quiesce_core.proofs.CycleLaws.{map_or_at, map_or_true}
+use Rattle.base.proofs.OptionLaws.{map_or_at, map_or_true}
 use Rattle.base.proofs.ContainsLaws.{Contains-at}
 use Rattle.commit_laws.specs.Lists.{In}
 use Rattle.commit_laws.specs.Steps.{MayStepAll, change_all}

@@ -15,7 +15,7 @@ use Rattle.commit_laws.specs.Fitting.{Fits, IsLiveLink, KeptLink, LinksFit, Stan
 use Rattle.commit_laws.proofs.FittingLaws.{linked_at}
 use Rattle.quiesce_core.specs.Reach.{has_no_cycle}
 use Rattle.quiesce_core.specs.State.{Configuration, gate, is_live, owner, provides, slot, target}
-use Rattle.quiesce_core.proofs.CycleLaws.{map_or_at}
+use Rattle.base.proofs.OptionLaws.{map_or_at}
 use Rattle.quiesce_core.proofs.SoundnessLaws.{put_here, put_owner, put_require}
 use Rattle.quiesce_core.proofs.ReachLaws.{owner_of}
 use Rattle.commit_laws.specs.Lists.{Apart, In}

@@ -1,5 +1,5 @@
 -- The third phase of a commit: nodes that the new graph has beside those that are live are made.
-use Rattle.std.proofs.Common.{◌≡◌, ℕ, zero, suc, ◌+◌, ◌<◌, ◌≤◌, ◌^◌, Bool, true, false, cond, not, ◌&&◌, ◌||◌, List, [], ◌∷◌, ◌++◌, length, length-append, Option, Some, None, refl, sym, ap, ◌∙◌, subst, inl, inr, ⊎_elim, arith, Contains, lt-ltb}
+use Rattle.std.proofs.Common.{◌≡◌, ℕ, ◌+◌, ◌<◌, ◌≤◌, ◌^◌, Bool, true, false, cond, not, ◌&&◌, List, [], ◌∷◌, ◌++◌, length, length-append, Option, Some, None, refl, sym, ap, ◌∙◌, subst, inl, inr, ⊎_elim, arith, Contains, lt-ltb}
 use Rattle.std.specs.Prelude.{◌⊎◌, ◌==◌, nat_lt, nat_le, is_some, is_none, bytes_eq, slice_get, IfSome}
 use Rattle.std.specs.List.{list_any}
 use Rattle.std.specs.Option.{option_map_or}
@@ -16,10 +16,10 @@ use Rattle.config_graph.specs.declared.node.Target.{Target}
 use Rattle.quiesce_core.specs.declared.state.Slot.{Slot}
 use Rattle.quiesce_core.specs.declared.state.Gate.{Gate}
 use Rattle.quiesce_core.specs.Effect.{with_node}
-use Rattle.quiesce_core.specs.Rules.{can_move, has_its_argument, is_kind, is_path_taken, is_value, was_moved}
+use Rattle.quiesce_core.specs.Rules.{can_move, has_its_argument, is_kind, is_path_taken, is_value, value_limit, was_moved}
 use Rattle.quiesce_core.specs.State.{Configuration, slot, target}
-use Rattle.quiesce_core.proofs.CycleLaws.{map_or_true}
-use Rattle.base.proofs.PlaceLaws.{slice_get-snoc}
+use Rattle.base.proofs.OptionLaws.{map_or_true}
+use Rattle.base.proofs.PlaceLaws.{any_at, slice_get-snoc}
 use Rattle.quiesce_core.proofs.SoundnessLaws.{grown_length, last_slot, old_gate, old_slot}
 use Rattle.commit_laws.specs.Fitting.{KeptLink, PathsApart}
 use Rattle.quiesce_core.specs.Live.{IsLiveAt}
@@ -54,22 +54,13 @@ any_append : {A : Type 0} (f : A → Bool) (xs : List A) (y : A) → list_any f 
 any_append f xs y h =
     let w = any_there f (xs ++ y ∷ []) h in
     ⊎_elim
-    (λ (v : (w.0 < length xs) × (slice_get xs w.0 ≡ Some w.1)). inl (any_if f xs w.0 w.1 v.1 w.3))
+    (λ (v : (w.0 < length xs) × (slice_get xs w.0 ≡ Some w.1)). inl (any_at f xs w.0 w.1 v.1 w.3))
     (λ (v : (w.0 ≡ length xs) × (y ≡ w.1)). inr (ap f v.1 ∙ w.3))
     (slice_get-snoc xs y w.1 w.0 w.2)
-  where
-    any_if : {A : Type 0} (f : A → Bool) (xs : List A) (i : ℕ) (x : A) → slice_get xs i ≡ Some x → f x ≡ true → list_any f xs ≡ true
-    any_if f [] i x e h = absurd (cc)
-    any_if f (y ∷ xs) zero x e h = let same : y ≡ x = cc in ap (λ b. b || list_any f xs) (ap f same ∙ h)
-    any_if f (y ∷ xs) (suc i) x e h = ap (λ b. f y || b) (any_if f xs i x e h) ∙ or_true (f y)
-      where
-        or_true : (b : Bool) → (b || true) ≡ true
-        or_true true = refl
-        or_true false = refl
 
 argument_of : (b : Bool) (o : Option ℕ) → is_some o ≡ b → IfSome o (λ a. a < 2 ^ 24) → cond b (option_map_or is_value o false) (is_none o) ≡ true
 argument_of true None e h = absurd (both_ways false refl e)
-argument_of true (Some a) e h = lt-ltb a 16777216 h
+argument_of true (Some a) e h = lt-ltb a value_limit h
 argument_of false None e h = refl
 argument_of false (Some a) e h = absurd (both_ways true e refl)
 

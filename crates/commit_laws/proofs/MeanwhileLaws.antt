@@ -15,24 +15,7 @@ use Rattle.quiescence_laws.specs.Events.{reopens}
 use Rattle.quiescence_laws.proofs.DrainingLaws.{drained_stays}
 use Rattle.commit_laws.specs.Steps.{MayStep, MayStepAll, change_all}
 use Rattle.commit_laws.proofs.AllowedLemmas.{step_allowed}
-use Rattle.quiesce_core.proofs.RunLaws.{effect_config, runs_grow}
-
-node_leaves : (c : Configuration) (e : Event) → is_of_change e ≡ false → change_next c e ≡ c
-node_leaves c (Begin p k v) h = refl
-node_leaves c (Call p k v) h = refl
-node_leaves c (Miss p) h = refl
-node_leaves c (Take p k v) h = refl
-node_leaves c (Give p k v) h = refl
-node_leaves c (More p k v) h = refl
-node_leaves c (Ask p k v) h = refl
-node_leaves c (Hear p k v) h = refl
-node_leaves c (End p k v) h = refl
-node_leaves c (Close p) h = absurd (both_ways true h refl)
-node_leaves c (Reopen p) h = absurd (both_ways true h refl)
-node_leaves c (Make n node from) h = absurd (both_ways true h refl)
-node_leaves c (Link p n x) h = absurd (both_ways true h refl)
-node_leaves c (Unlink p) h = absurd (both_ways true h refl)
-node_leaves c (Remove n) h = absurd (both_ways true h refl)
+use Rattle.quiesce_core.proofs.RunLaws.{change_only, effect_config, runs_grow}
 
 node_opens_none : (p : ℕ) (e : Event) → is_of_change e ≡ false → reopens p e ≡ false
 node_opens_none p (Begin q k v) h = refl
@@ -58,7 +41,7 @@ config_after s (e ∷ es) =
     config_after (effect s e) es ∙ ap (λ c. change_all c (filter is_of_change es)) (effect_config s e)
     ∙ ⊎_elim
     (λ (h : is_of_change e ≡ true). ap (λ b. change_all s.config (cond b (e ∷ filter is_of_change es) (filter is_of_change es))) (sym h))
-    (λ (h : is_of_change e ≡ false). ap (λ c. change_all c (filter is_of_change es)) (node_leaves s.config e h)
+    (λ (h : is_of_change e ≡ false). ap (λ c. change_all c (filter is_of_change es)) (change_only s.config e h)
     ∙ ap (λ b. change_all s.config (cond b (e ∷ filter is_of_change es) (filter is_of_change es))) (sym h))
     (cases_Bool (is_of_change e))
 

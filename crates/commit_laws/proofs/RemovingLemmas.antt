@@ -14,7 +14,8 @@ use Rattle.quiesce_core.specs.Effect.{with_removed}
 use Rattle.quiesce_core.specs.Live.{IsLiveAt, StandsAt}
 use Rattle.quiesce_core.specs.Rules.{is_apart}
 use Rattle.quiesce_core.specs.State.{Configuration, is_live, owner, ports_of, slot, target}
-use Rattle.quiesce_core.proofs.CycleLaws.{map_or_at, of_all}
+use Rattle.quiesce_core.proofs.CycleLaws.{of_all}
+use Rattle.base.proofs.OptionLaws.{map_or_at}
 use Rattle.base.proofs.RangeLaws.{range_all}
 use Rattle.base.proofs.ContainsLaws.{Contains-at}
 use Rattle.quiesce_core.proofs.SoundnessLaws.{here_gone, slot_elsewhere}

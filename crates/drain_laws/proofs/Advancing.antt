@@ -1,23 +1,43 @@
 -- The events of transactions are those of transactions that are open.
-use Rattle.std.proofs.Common.{◌≡◌, ℕ, true, false, ◌&&◌, ◌||◌, Some, None, refl, sym, ap, ◌∙◌, ⊎_elim}
+use Rattle.std.proofs.Common.{◌≡◌, ℕ, true, false, not, ◌&&◌, ◌||◌, Some, None, refl, sym, ap, ◌∙◌, ⊎_elim}
 use Rattle.std.specs.Prelude.{◌==◌, nat_lt, option_map}
 use Rattle.std.specs.Option.{option_map_or}
 use Rattle.std.proofs.Math.Bool.{or-false}
 use Rattle.std.proofs.lemmas.Bool.{and_from, and_parts, both_ways, cases_Bool, eq-eqb, eqb-true}
 use Rattle.quiesce_core.specs.declared.event.Event.{Event}
-use Rattle.quiesce_core.specs.declared.event.Event.TheVariants.{Take, Call, Give, End, More, Ask, Hear, Miss}
+use Rattle.quiesce_core.specs.declared.event.Event.TheVariants.{Begin, Call, Take, Give, End, More, Ask, Hear, Miss, Close, Reopen, Make, Link, Unlink, Remove}
 use Rattle.quiesce_core.specs.declared.state.Service.{Service}
 use Rattle.quiesce_core.specs.Legal.{Legal}
 use Rattle.gate_word.specs.Phases.{is_idle}
 use Rattle.quiesce_core.specs.Rules.{has_calls_left}
 use Rattle.quiesce_core.specs.State.{State, owner, provision, calls_allowed, exchange, service}
 use Rattle.quiesce_core.specs.Traffic.{IsConsistent}
-use Rattle.quiesce_core.proofs.CycleLaws.{map_or_true}
-use Rattle.quiesce_core.proofs.StateLaws.{asked_busy, more_busy, answered_busy, serving_busy, taken_busy}
+use Rattle.base.proofs.OptionLaws.{map_or_true}
+use Rattle.quiesce_core.proofs.StateLaws.{taken_busy}
+use Rattle.gate_word.proofs.PhaseLaws.{asked_busy, more_busy, answered_busy, serving_busy}
 use Rattle.quiescence_laws.specs.Events.{is_of_initiator, is_of_target}
-use Rattle.drain_laws.specs.Advances.{is_advance, advanced_port}
+use Rattle.drain_laws.specs.Advances.{is_advance, is_begin, advanced_port}
+use Rattle.quiesce_core.specs.Doers.{is_of_change}
 use Rattle.drain_laws.specs.Belongs.{belongs, is_event_of, singleton, open_in}
 use Rattle.drain_laws.proofs.Belonging.{member_belongs, open_belongs}
+
+-- which events these are
+pub advances_are_others : (e : Event) → is_advance e ≡ (not (is_of_change e) && not (is_begin e))
+advances_are_others (Begin p k v) = refl
+advances_are_others (Call p k v) = refl
+advances_are_others (Take p k v) = refl
+advances_are_others (Give p k v) = refl
+advances_are_others (End p k v) = refl
+advances_are_others (More p k v) = refl
+advances_are_others (Ask p k v) = refl
+advances_are_others (Hear p k v) = refl
+advances_are_others (Miss p) = refl
+advances_are_others (Close p) = refl
+advances_are_others (Reopen p) = refl
+advances_are_others (Make n node from) = refl
+advances_are_others (Link p n x) = refl
+advances_are_others (Unlink p) = refl
+advances_are_others (Remove n) = refl
 
 -- the port of whose transaction an event is, which is open
 pub record IsOfOpen (s : State) (e : Event) : Type 0 where

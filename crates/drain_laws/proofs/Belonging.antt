@@ -8,7 +8,8 @@ use Rattle.gate_word.specs.Phases.{is_idle}
 use Rattle.quiesce_core.specs.Reach.{can_walk}
 use Rattle.quiesce_core.specs.Traffic.{IsConsistent}
 use Rattle.quiesce_core.specs.WellFormed.{IsWellFormed}
-use Rattle.quiesce_core.proofs.CycleLaws.{map_or_true, map_or_at, walk_to, no_walk}
+use Rattle.quiesce_core.proofs.CycleLaws.{walk_to, no_walk}
+use Rattle.base.proofs.OptionLaws.{map_or_true, map_or_at}
 use Rattle.drain_laws.specs.Belongs.{Transactions, Belongs, member, consequent, belongs, belongs_within, is_member, open_in}
 use Rattle.quiesce_core.proofs.StateLaws.{busy_made}
 

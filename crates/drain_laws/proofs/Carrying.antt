@@ -13,9 +13,10 @@ use Rattle.quiesce_core.specs.Effect.{effect}
 use Rattle.quiesce_core.specs.Legal.{Legal}
 use Rattle.quiesce_core.specs.Traffic.{IsConsistent}
 use Rattle.quiesce_core.specs.WellFormed.{IsWellFormed}
-use Rattle.quiesce_core.proofs.StateLaws.{serving_busy}
+use Rattle.gate_word.proofs.PhaseLaws.{serving_busy}
 use Rattle.quiesce_core.proofs.TrafficLaws.{consistent_next}
-use Rattle.quiescence_laws.proofs.ExchangeLaws.{PortStep, stays, begins, calls, ends, turns_at, port_step, served_untouched, next_serial}
+use Rattle.quiescence_laws.proofs.ExchangeLaws.{PortStep, stays, begins, calls, ends, turns_at, port_step, served_untouched}
+use Rattle.quiesce_core.proofs.PortEventLaws.{next_serial}
 use Rattle.drain_laws.specs.Belongs.{Transactions, Belongs, member, consequent, belongs, is_member, starts_one}
 use Rattle.drain_laws.specs.Advances.{advanced_port}
 use Rattle.drain_laws.proofs.Belonging.{belongs_if, belongs_is_found, member_belongs}

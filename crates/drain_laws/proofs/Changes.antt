@@ -18,9 +18,10 @@ use Rattle.quiesce_core.proofs.TableLaws.{live_made}
 use Rattle.drain_laws.specs.Drain.{rest_at, rest_where}
 use Rattle.drain_laws.proofs.Busy.{busy_phases, busy_target, untaken_if}
 use Rattle.drain_laws.proofs.Fewer.{GoodLinks, calls_stay, mores_stay, full_fewer, events_fewer}
-use Rattle.quiescence_laws.proofs.SumLaws.{sum_le, sum_longer, masked}
+use Rattle.base.proofs.SumLaws.{sum_le, sum_longer, masked}
 use Rattle.drain_laws.proofs.Weights.{left_idle, left_answered, left_untaken, left_taken}
-use Rattle.quiesce_core.proofs.StateLaws.{serving_busy, taken_is, is_taken_if}
+use Rattle.quiesce_core.proofs.StateLaws.{taken_is, is_taken_if}
+use Rattle.gate_word.proofs.PhaseLaws.{serving_busy}
 
 -- what an event of the change owes, so that nothing more is left
 pub record Spares (s s' : State) (Good : ℕ → ℕ → Type 0) : Type 0 where

@@ -15,7 +15,7 @@ use Rattle.drain_laws.specs.Drain.{rest_at, rest_where, rest_of}
 use Rattle.drain_laws.proofs.Busy.{busy_phases, busy_target}
 use Rattle.drain_laws.proofs.Falls.{due_two}
 use Rattle.drain_laws.proofs.Steps.{every, all_rest}
-use Rattle.quiescence_laws.proofs.SumLaws.{sum_place, sum_le, sum_zero}
+use Rattle.base.proofs.SumLaws.{sum_place, sum_le, sum_zero}
 use Rattle.drain_laws.proofs.Weights.{left_idle, left_answered, left_untaken, left_taken}
 use Rattle.quiesce_core.proofs.StateLaws.{taken_is}
 use Rattle.quiesce_core.proofs.StateLaws.{busy_made}

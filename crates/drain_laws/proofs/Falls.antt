@@ -18,7 +18,6 @@ use Rattle.quiesce_core.specs.Rest.{full, call_events, events_through, messages_
 use Rattle.quiesce_core.specs.Rules.{is_taken, is_live_port, has_calls_left, serves_through, was_heard}
 use Rattle.quiesce_core.specs.Traffic.{IsConsistent}
 use Rattle.quiesce_core.specs.WellFormed.{IsWellFormed}
-use Rattle.quiesce_core.proofs.CycleLaws.{map_or_true, map_or_at}
 use Rattle.quiesce_core.proofs.TableLaws.{gate_place, exchange_place, owner_place, target_place}
 use Rattle.quiesce_core.proofs.RestLaws.{full_step}
 use Rattle.drain_laws.specs.Drain.{rest_at}
@@ -26,8 +25,9 @@ use Rattle.drain_laws.proofs.Busy.{busy_target, untaken_if}
 use Rattle.quiesce_core.proofs.StateLaws.{busy_made}
 use Rattle.drain_laws.proofs.Greatest.{call_counted}
 use Rattle.drain_laws.proofs.Weights.{left_idle, left_answered, left_untaken, left_taken, left_same, left_elsewhere}
-use Rattle.quiesce_core.proofs.StateLaws.{asked_busy, serving_busy, asked_not_more, exchange_here, exchange_there, service_here, service_there, taken_is, idle_unserved, served_busy, provision_is, put_is, target_service_is}
-use Rattle.base.proofs.OptionLaws.{Some-from_is_some}
+use Rattle.quiesce_core.proofs.StateLaws.{exchange_here, exchange_there, service_here, service_there, taken_is, idle_unserved, served_busy, provision_is, put_is, target_service_is}
+use Rattle.gate_word.proofs.PhaseLaws.{asked_busy, serving_busy, asked_not_more}
+use Rattle.base.proofs.OptionLaws.{Some-from_is_some, map_or_true, map_or_at}
 
 -- what is left of port p falls, and of no other port changes
 pub record Falls (s : State) (t' : Traffic) (p : ℕ) : Type 0 where

@@ -13,7 +13,8 @@ use Rattle.quiesce_core.specs.State.{Configuration, slot, target, ports_of, depe
 use Rattle.quiesce_core.specs.Reach.{IsPortOf, can_walk, has_no_cycle}
 use Rattle.quiesce_core.specs.Rest.{greatest, full, events_through, call_events}
 use Rattle.quiesce_core.specs.WellFormed.{IsSound}
-use Rattle.quiesce_core.proofs.CycleLaws.{map_or_at, walk_to, no_walk}
+use Rattle.quiesce_core.proofs.CycleLaws.{walk_to, no_walk}
+use Rattle.base.proofs.OptionLaws.{map_or_at}
 use Rattle.quiesce_core.proofs.TableLaws.{live_made}
 use Rattle.quiesce_core.proofs.RestLaws.{full_step}
 use Rattle.quiescence_laws.specs.Configurations.{Extends}

@@ -15,7 +15,8 @@ use Rattle.quiesce_core.specs.Rules.{is_called_within, was_heard, denial}
 use Rattle.quiesce_core.specs.Runs.{IsRun, state_after}
 use Rattle.quiesce_core.specs.WellFormed.{IsWellFormed}
 use Rattle.quiesce_core.specs.Traffic.{IsConsistent}
-use Rattle.quiesce_core.proofs.CycleLaws.{PassesOf, any_of, of_any, of_all, map_or_true, map_or_at, walk_to, no_walk}
+use Rattle.quiesce_core.proofs.CycleLaws.{PassesOf, any_of, of_any, of_all, walk_to, no_walk}
+use Rattle.base.proofs.OptionLaws.{map_or_true, map_or_at}
 use Rattle.quiesce_core.proofs.ReachLaws.{owner_of}
 use Rattle.quiesce_core.proofs.LegalLaws.{allowed}
 use Rattle.quiesce_core.proofs.RunLaws.{runs_are_well_formed, runs_are_consistent}
@@ -23,7 +24,8 @@ use Rattle.drain_laws.specs.Advances.{is_advance}
 use Rattle.drain_laws.specs.Drain.{Possible}
 use Rattle.drain_laws.proofs.Busy.{busy_phases, busy_target, untaken_if}
 use Rattle.quiesce_core.proofs.StabilityLaws.{busy_is_live}
-use Rattle.quiesce_core.proofs.StateLaws.{asked_busy, more_busy, serving_busy, answered_busy, is_taken_if, target_service_is}
+use Rattle.quiesce_core.proofs.StateLaws.{is_taken_if, target_service_is}
+use Rattle.gate_word.proofs.PhaseLaws.{asked_busy, more_busy, serving_busy, answered_busy}
 
 ends : (s : State) (p : ℕ) → IsWellFormed s → IsConsistent s → is_answered (exchange s p).phase ≡ true → Possible s
 ends s p w k h = record {

@@ -22,7 +22,8 @@ use Rattle.drain_laws.proofs.Belonging.{belongs_is_found, open_parts}
 use Rattle.quiesce_core.proofs.InductionLaws.{along, place}
 use Rattle.quiescence_laws.proofs.ExtensionLaws.{none_barred}
 use Rattle.drain_laws.proofs.Carrying.{caller_busy}
-use Rattle.quiescence_laws.proofs.ExchangeLaws.{PortStep, stays, begins, calls, ends, turns_at, port_step, served_untouched, next_serial}
+use Rattle.quiescence_laws.proofs.ExchangeLaws.{PortStep, stays, begins, calls, ends, turns_at, port_step, served_untouched}
+use Rattle.quiesce_core.proofs.PortEventLaws.{next_serial}
 use Rattle.quiesce_core.proofs.StateLaws.{exchange_here, exchange_there, idle_unserved}
 
 -- Transaction k of port p, which was called for transaction j of port r: while it is open, both stay as they were.

@@ -12,7 +12,7 @@ use Rattle.quiesce_core.specs.Rest.{full, rest}
 use Rattle.drain_laws.specs.Advances.{advanced_port}
 use Rattle.drain_laws.specs.Drain.{rest_at, rest_where}
 use Rattle.drain_laws.proofs.Falls.{Falls, Moves, Rises}
-use Rattle.quiescence_laws.proofs.SumLaws.{sum_le, sum_place, sum_moves, sum_zero, masked}
+use Rattle.base.proofs.SumLaws.{sum_le, sum_place, sum_moves, sum_zero, masked}
 use Rattle.drain_laws.proofs.Weights.{left_idle}
 
 -- The ports that are marked after an event, where some were before: a port that begins is not, and one that is called is where the

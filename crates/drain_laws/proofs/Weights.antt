@@ -12,8 +12,8 @@ use Rattle.quiesce_core.specs.State.{Configuration, Traffic, State, target, exch
 use Rattle.gate_word.specs.Phases.{is_idle, is_asked, is_answered, is_in_more}
 use Rattle.quiesce_core.specs.Rest.{full, service_rest, asked_rest, port_rest}
 use Rattle.quiesce_core.specs.Rules.{is_taken}
-use Rattle.quiesce_core.proofs.CycleLaws.{map_or_at}
-use Rattle.quiescence_laws.proofs.ExchangeLaws.{answered_is, asked_is, idle_is, more_is}
+use Rattle.base.proofs.OptionLaws.{map_or_at}
+use Rattle.gate_word.proofs.PhaseLaws.{more_is, answered_is, asked_is, idle_is}
 use Rattle.drain_laws.specs.Drain.{rest_at}
 use Rattle.drain_laws.proofs.Busy.{untaken_if}
 use Rattle.quiesce_core.proofs.StateLaws.{is_taken_if}

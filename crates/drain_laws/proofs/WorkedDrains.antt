@@ -24,6 +24,10 @@ pub missed_rests : rests (state_after unlinked) missed ≡ 4 ∷ 3 ∷ 2 ∷ 1 �
 unfolding full
 missed_rests = refl
 
+pub missed_counts : count_of (singleton 1 1) (state_after unlinked) missed ≡ 4
+unfolding belongs
+missed_counts = refl
+
 pub chain_rests : rests (state_after chain) (Begin 1 1 7 ∷ called) ≡ 7 ∷ 6 ∷ 5 ∷ 4 ∷ 3 ∷ 2 ∷ 1 ∷ 0 ∷ []
 unfolding full
 chain_rests = refl

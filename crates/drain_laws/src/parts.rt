@@ -1,12 +1,13 @@
 //! The part of what is left that belongs to some transactions and their consequents, by the steps.
 
-ghost use Rattle.std.specs.Prelude.{◌≡◌, ◌↔◌, ℕ, ◌<◌, ◌≤◌, ◌||◌, true, false, Some, None, IsTrue};
+ghost use Rattle.std.specs.Prelude.{◌≡◌, ◌↔◌, ℕ, ◌<◌, ◌≤◌, ◌&&◌, ◌||◌, not, true, false, Some, None, IsTrue};
 ghost use Rattle.quiesce_core.specs.declared.event.Event.{Event};
 ghost use Rattle.quiesce_core.specs.State.{State, exchange};
 ghost use Rattle.gate_word.specs.Phases.{is_idle};
 ghost use Rattle.quiesce_core.specs.Rules.{denial};
 ghost use Rattle.quiescence_laws.specs.Events.{is_of_initiator, is_of_target};
-ghost use Rattle.drain_laws.specs.Advances.{advanced_port, is_advance};
+ghost use Rattle.drain_laws.specs.Advances.{advanced_port, is_advance, is_begin};
+ghost use Rattle.quiesce_core.specs.Doers.{is_of_change};
 ghost use Rattle.quiesce_core.specs.Rest.{rest};
 ghost use Rattle.quiesce_core.specs.Runs.{Step};
 ghost use Rattle.quiesce_core.specs.Traffic.{IsConsistent};
@@ -49,10 +50,11 @@ pub fn part_falls_by_steps()
 
 /// An event that is allowed in a state that is consistent is one of a transaction exactly where it is one of what is
 /// open there, and then the port whose transaction it advances isn't idle. Where it names a transaction, it is one of
-/// that.
+/// that. So are all events but those of the change and those that begin a root.
 pub fn advances_are_of_what_is_open()
     ensures port { (s : State) (e : Event) → IsConsistent s → denial s e ≡ None → is_advance e ≡ true
         → (q : ℕ) × (advanced_port s e ≡ Some q) × (is_idle (exchange s q).phase ≡ false) }
+    ensures which { (e : Event) → is_advance e ≡ (not (is_of_change e) && not (is_begin e)) }
     ensures exactly { (s : State) (e : Event) → IsConsistent s → denial s e ≡ None
         → is_event_of (open_in s) s e ≡ is_advance e }
     ensures named { (s : State) (e : Event) (p k : ℕ) → denial s e ≡ None

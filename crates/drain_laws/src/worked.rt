@@ -20,6 +20,7 @@ pub fn worked_drains()
     ensures pair_counts { count_of (open_in (state_after (pair ++ Begin 0 1 7 ∷ [])))
         (state_after (pair ++ Begin 0 1 7 ∷ [])) (served ++ Begin 0 2 7 ∷ Take 0 2 7 ∷ []) ≡ 3 }
     ensures missed_rests { rests (state_after unlinked) missed ≡ 4 ∷ 3 ∷ 2 ∷ 1 ∷ 0 ∷ [] }
+    ensures missed_counts { count_of (singleton 1 1) (state_after unlinked) missed ≡ 4 }
     ensures chain_rests { rests (state_after chain) (Begin 1 1 7 ∷ called) ≡ 7 ∷ 6 ∷ 5 ∷ 4 ∷ 3 ∷ 2 ∷ 1 ∷ 0 ∷ [] }
     ensures chain_counts { count_of (singleton 1 1) (state_after (chain ++ Begin 1 1 7 ∷ [])) called ≡ 7 }
     ensures call_counts { count_of (singleton 0 1) (state_after (chain ++ Begin 1 1 7 ∷ [])) called ≡ 3 }

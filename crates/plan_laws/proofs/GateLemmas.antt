@@ -12,7 +12,7 @@ use Rattle.quiesce_core.specs.Doers.{is_of_change}
 use Rattle.quiesce_core.specs.Rules.{denial}
 use Rattle.quiesce_core.specs.Runs.{IsRun, state_after}
 use Rattle.quiesce_core.specs.State.{Configuration, gate, is_live, owner, slot}
-use Rattle.quiesce_core.proofs.CycleLaws.{map_or_at, map_or_true}
+use Rattle.base.proofs.OptionLaws.{map_or_at, map_or_true}
 use Rattle.commit_laws.specs.Lists.{In}
 use Rattle.commit_laws.specs.Steps.{change_all}
 use Rattle.commit_laws.proofs.GateLaws.{all_closed, close_allowed}

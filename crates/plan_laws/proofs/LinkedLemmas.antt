@@ -10,7 +10,7 @@ use Rattle.change_plan.specs.Differences.{IsGone, IsKeptLink, IsTwin}
 use Rattle.change_plan.specs.Touched.{IsTouched}
 use Rattle.change_plan.specs.declared.plan_data.Plan.{Plan}
 use Rattle.base.proofs.FindLaws.{Contains-find, find_passes, is_some-find_from}
-use Rattle.base.proofs.OptionLaws.{Some-from_is_some}
+use Rattle.base.proofs.OptionLaws.{Some-from_is_some, map_or_at}
 use Rattle.base.proofs.PlaceLaws.{slice_get-there}
 use Rattle.change_plan.proofs.StepLaws.{kept, linked_touched}
 use Rattle.change_plan.proofs.SelectsLaws.{Selects-has, Selects-only, Selects-part}
@@ -28,7 +28,6 @@ use Rattle.quiesce_core.specs.Live.{IsLiveAt, IsLiveNode, StandsAt}
 use Rattle.commit_laws.specs.Fitting.{Fits, IsLiveLink, KeptLink, Stands}
 use Rattle.quiesce_core.specs.State.{Configuration, gate, owner, slot, target}
 use Rattle.quiesce_core.specs.WellFormed.{LeadsToProvision}
-use Rattle.quiesce_core.proofs.CycleLaws.{map_or_at}
 use Rattle.base.proofs.ContainsLaws.{Contains-at}
 use Rattle.plan_laws.specs.Commit.{is_at, is_link_of, new_link, new_link_of, new_links, node_path, slot_at}
 use Rattle.plan_laws.specs.Commit as commit

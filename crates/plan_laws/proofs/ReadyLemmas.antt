@@ -29,7 +29,7 @@ use Rattle.quiesce_core.specs.Runs.{state_after}
 use Rattle.quiesce_core.specs.SameWiring.{IsPortAt}
 use Rattle.quiesce_core.specs.State.{Configuration}
 use Rattle.quiesce_core.proofs.RunLaws.{nodes_are_named, runs_are_consistent, runs_are_well_formed}
-use Rattle.quiesce_core.proofs.SameWiring.{reaches_in_both}
+use Rattle.quiesce_core.proofs.SameWiringLaws.{reaches_in_both}
 use Rattle.commit_laws.specs.Work.{ports_wanted}
 use Rattle.commit_laws.proofs.AfterRunLaws.{IsAfterRun, after_run}
 use Rattle.plan_laws.specs.Commit.{makes_from, work}

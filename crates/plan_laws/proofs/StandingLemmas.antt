@@ -13,7 +13,7 @@ use Rattle.quiesce_core.specs.declared.state.Slot.{Slot}
 use Rattle.quiesce_core.specs.Live.{IsLiveAt, IsLiveNode, StandsAt}
 use Rattle.quiesce_core.specs.State.{Configuration, gate, owner, slot}
 use Rattle.quiesce_core.specs.WellFormed.{IsSound}
-use Rattle.quiesce_core.proofs.CycleLaws.{map_or_at, map_or_true}
+use Rattle.base.proofs.OptionLaws.{map_or_at, map_or_true}
 use Rattle.base.proofs.ContainsLaws.{at_some_place}
 use Rattle.plan_laws.specs.Commit.{is_at, node_path, slot_at}
 use Rattle.plan_laws.specs.Commit as commit

@@ -8,7 +8,7 @@ use Rattle.quiesce_core.specs.declared.event.Event.{Event}
 use Rattle.quiesce_core.specs.declared.event.Event.TheVariants.{Begin, Call, Take, Give, End, More, Ask, Hear}
 use Rattle.quiesce_core.specs.Runs.{IsRun, state_after, is_begin_of, is_end_of}
 use Rattle.quiescence_laws.specs.Events.{is_take_of, is_give_of, is_more_of, is_ask_of, is_hear_of}
-use Rattle.quiescence_laws.specs.Courses.{Course, on_begin, on_take, on_more, on_ask, on_hear, on_give, on_end, course_next, course_after, heard_at, course_in, course_of, course_at}
+use Rattle.quiescence_laws.specs.Courses.{Course, on_begin, on_take, on_more, on_ask, on_hear, on_give, on_end, course_next, course_at}
 use Rattle.quiescence_laws.specs.Courses as course
 use Rattle.quiescence_laws.proofs.CourseLemmas.{on_course}
 

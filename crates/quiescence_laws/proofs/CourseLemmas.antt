@@ -25,10 +25,11 @@ use Rattle.quiescence_laws.specs.Courses.{Course, on_begin, on_take, on_more, on
 use Rattle.quiescence_laws.specs.Courses as course
 use Rattle.quiesce_core.proofs.StabilityLaws.{busy_ports_stay}
 use Rattle.quiesce_core.proofs.InductionLaws.{always}
-use Rattle.quiescence_laws.proofs.ExchangeLaws.{answered_is, asked_is, idle_is, more_is, next_serial}
+use Rattle.quiesce_core.proofs.PortEventLaws.{next_serial}
+use Rattle.gate_word.proofs.PhaseLaws.{more_is, answered_is, asked_is, idle_is, asked_busy, more_busy, answered_busy}
 use Rattle.quiescence_laws.proofs.SerialLaws.{IsTallied, tallied_next, tallied_empty, busy_serial}
 use Rattle.quiescence_laws.proofs.Hearing.{is_of_server, heard_kept, heard_now, untaken, idle_unheard, taken_hears, taken_heard, heard_asked, more_unheard}
-use Rattle.quiesce_core.proofs.StateLaws.{asked_busy, more_busy, answered_busy, taken_is, taken_busy}
+use Rattle.quiesce_core.proofs.StateLaws.{taken_is, taken_busy}
 use Rattle.base.proofs.OptionLaws.{Some-from_is_some}
 use Rattle.quiesce_core.specs.Alters.{exchange_by, is_message_at}
 use Rattle.quiesce_core.proofs.AlterLaws.{exchanges_next}

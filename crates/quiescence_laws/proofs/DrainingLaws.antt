@@ -1,8 +1,8 @@
 -- Drained ports stay drained, and a node that only drained ports concern is settled.
 use Rattle.std.proofs.Common.{◌≡◌, ℕ, zero, suc, ◌+◌, ◌<◌, true, false, not, ◌&&◌, ◌||◌, List, ◌++◌, length, Option, Some, None, refl, sym, ap, ◌∙◌, subst, inl, inr, ⊎_elim}
-use Rattle.std.specs.Prelude.{◌==◌, is_none, is_some}
+use Rattle.std.specs.Prelude.{◌==◌, is_some}
 use Rattle.std.specs.List.{list_any}
-use Rattle.std.proofs.lemmas.Bool.{and_parts, and_from, both_ways, cases_Bool, eq-eqb, not_from_false, or_cases, or_left, or_right}
+use Rattle.std.proofs.lemmas.Bool.{and_parts, and_from, both_ways, cases_Bool, eq-eqb, not_from_false, or_cases, or_left, or_right, true_from_ne_false}
 use Rattle.config_graph.specs.declared.node.Target.{Target}
 use Rattle.quiesce_core.specs.declared.event.Event.{Event}
 use Rattle.quiesce_core.specs.declared.state.Service.{Service}
@@ -15,8 +15,8 @@ use Rattle.quiesce_core.specs.Runs.{IsRun, state_after}
 use Rattle.quiesce_core.specs.Settled.{Settled}
 use Rattle.quiesce_core.specs.Traffic.{IsServing, IsConsistent}
 use Rattle.quiesce_core.specs.WellFormed.{IsWellFormed}
-use Rattle.quiesce_core.proofs.CycleLaws.{call_by, depended_at, map_or_at, walk_to}
-use Rattle.base.proofs.OptionLaws.{Some-from_is_some}
+use Rattle.quiesce_core.proofs.CycleLaws.{call_by, depended_at, walk_to}
+use Rattle.base.proofs.OptionLaws.{Some-from_is_some, map_or_at}
 use Rattle.quiesce_core.proofs.ReachLaws.{no_walk_plus, owner_of}
 use Rattle.quiesce_core.proofs.RunLaws.{runs_are_well_formed, runs_are_consistent}
 use Rattle.quiescence_laws.specs.Drained.{is_drained}
@@ -25,21 +25,17 @@ use Rattle.quiescence_laws.specs.Roots.{has_root}
 use Rattle.quiesce_core.proofs.StateLaws.{busy_made}
 use Rattle.quiescence_laws.proofs.RootLaws.{old_further, has_no_root}
 use Rattle.quiescence_laws.proofs.Stillness.{Concerns}
-use Rattle.quiesce_core.proofs.StateLaws.{serving_busy}
+use Rattle.gate_word.proofs.PhaseLaws.{serving_busy}
 
 -- idle or consequent, where there is no root
 rootless : (s : State) (p : ℕ) → (has_root s p (exchange s p).serial ≡ true → ⊥) → (is_idle (exchange s p).phase || is_some (exchange s p).within) ≡ true
 rootless s p none_ = ⊎_elim
     (λ (idle : is_idle (exchange s p).phase ≡ true). or_left (is_idle (exchange s p).phase) (is_some (exchange s p).within) idle)
-    (λ (busy : is_idle (exchange s p).phase ≡ false). or_right (is_idle (exchange s p).phase) (is_some (exchange s p).within) (within (exchange s p).within (λ alone. none_
-    (and_from (not (is_idle (exchange s p).phase) && (exchange s p).serial == (exchange s p).serial) (is_none (exchange s p).within)
-    (and_from (not (is_idle (exchange s p).phase)) ((exchange s p).serial == (exchange s p).serial) (not_from_false (is_idle (exchange s p).phase) busy) (eq-eqb (exchange s p).serial (exchange s p).serial refl))
-    alone))))
+    (λ (busy : is_idle (exchange s p).phase ≡ false). or_right (is_idle (exchange s p).phase) (is_some (exchange s p).within) (true_from_ne_false (is_some (exchange s p).within) (λ alone. none_
+    (and_from (not (is_idle (exchange s p).phase) && not (is_some (exchange s p).within)) ((exchange s p).serial == (exchange s p).serial)
+    (and_from (not (is_idle (exchange s p).phase)) (not (is_some (exchange s p).within)) (not_from_false (is_idle (exchange s p).phase) busy) (not_from_false (is_some (exchange s p).within) alone))
+    (eq-eqb (exchange s p).serial (exchange s p).serial refl)))))
     (cases_Bool (is_idle (exchange s p).phase))
-  where
-    within : (o : Option ℕ) → (is_none o ≡ true → ⊥) → is_some o ≡ true
-    within None h = absurd (h refl)
-    within (Some q) h = refl
 
 pub drained_stays : (es more_ : List Event) (p : ℕ) → IsRun (es ++ more_) → list_any (reopens p) more_ ≡ false → is_drained (state_after es) p ≡ true → is_drained (state_after (es ++ more_)) p ≡ true
 drained_stays es more_ p run free h =

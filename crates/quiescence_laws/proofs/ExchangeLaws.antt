@@ -1,7 +1,7 @@
 -- What an event does at a port: it begins, calls or ends a transaction there, or leaves the serial and the caller of the last one
 -- as they were, and it as open as it was.
-use Rattle.std.proofs.Common.{◌≡◌, ℕ, ◌+◌, ◌≤◌, Bool, true, false, cond, Option, Some, None, refl, sym, ap, ◌∙◌, subst, arith}
-use Rattle.std.specs.Prelude.{◌==◌, nat_le, option_map, nat_lt}
+use Rattle.std.proofs.Common.{◌≡◌, ℕ, ◌≤◌, Bool, true, false, cond, Option, Some, None, refl, sym, ap, ◌∙◌, subst, arith}
+use Rattle.std.specs.Prelude.{◌==◌, option_map, nat_lt}
 use Rattle.std.proofs.lemmas.Bool.{and_parts, both_ways, eq-eqb, eqb-true}
 use Rattle.std.proofs.lemmas.Option.{same_Some}
 use Rattle.quiesce_core.specs.declared.event.Event.{Event}
@@ -11,43 +11,19 @@ use Rattle.quiesce_core.specs.declared.state.Service.{Service}
 use Rattle.gate_word.specs.declared.phase.Phase.{Phase}
 use Rattle.gate_word.specs.declared.phase.Phase.TheVariants as phase
 use Rattle.quiesce_core.specs.State.{State, owner, provision, calls_allowed, exchange, service}
-use Rattle.gate_word.specs.Phases.{is_idle, is_asked, is_answered, is_in_more}
+use Rattle.gate_word.specs.Phases.{is_idle}
 use Rattle.quiesce_core.specs.Effect.{effect}
 use Rattle.quiesce_core.specs.Legal.{Legal, CanBegin, CanCall, CanEnd}
-use Rattle.quiesce_core.specs.Rules.{is_next_serial, last_serial}
 use Rattle.quiesce_core.specs.Runs.{is_begin_of}
 use Rattle.quiesce_core.specs.Traffic.{IsConsistent}
 use Rattle.quiesce_core.specs.WellFormed.{IsWellFormed}
-use Rattle.quiesce_core.proofs.CycleLaws.{map_or_true}
-use Rattle.quiesce_core.proofs.StateLaws.{more_busy, taken_busy, idle_unserved, answered_unserved}
+use Rattle.base.proofs.OptionLaws.{map_or_true}
+use Rattle.quiesce_core.proofs.PortEventLaws.{next_serial}
+use Rattle.quiesce_core.proofs.StateLaws.{taken_busy, idle_unserved, answered_unserved}
+use Rattle.gate_word.proofs.PhaseLaws.{more_busy}
 use Rattle.quiesce_core.specs.Alters.{exchange_next}
 use Rattle.quiesce_core.proofs.AlterLaws.{exchanges_next}
 use Rattle.quiesce_core.specs.Doers.{is_end_at}
-
--- a phase that passes a test
-pub idle_is : (f : Phase) → is_idle f ≡ true → f ≡ phase.Idle
-idle_is phase.Idle h = refl
-idle_is phase.Asked h = absurd (both_ways false refl h)
-idle_is phase.Answered h = absurd (both_ways false refl h)
-idle_is phase.More h = absurd (both_ways false refl h)
-
-pub asked_is : (f : Phase) → is_asked f ≡ true → f ≡ phase.Asked
-asked_is phase.Idle h = absurd (both_ways false refl h)
-asked_is phase.Asked h = refl
-asked_is phase.Answered h = absurd (both_ways false refl h)
-asked_is phase.More h = absurd (both_ways false refl h)
-
-pub answered_is : (f : Phase) → is_answered f ≡ true → f ≡ phase.Answered
-answered_is phase.Idle h = absurd (both_ways false refl h)
-answered_is phase.Asked h = absurd (both_ways false refl h)
-answered_is phase.Answered h = refl
-answered_is phase.More h = absurd (both_ways false refl h)
-
-pub more_is : (f : Phase) → is_in_more f ≡ true → f ≡ phase.More
-more_is phase.Idle h = absurd (both_ways false refl h)
-more_is phase.Asked h = absurd (both_ways false refl h)
-more_is phase.Answered h = absurd (both_ways false refl h)
-more_is phase.More h = refl
 
 -- the port at which an event begins, calls or ends a transaction
 abbrev pub turns_at : Event → Option ℕ
@@ -121,10 +97,6 @@ begin_turns p k _ h = absurd (both_ways false refl h)
 pub end_turns : (p : ℕ) (e : Event) → is_end_at p e ≡ true → turns_at e ≡ Some p
 end_turns p (End q j v) h = ap Some (eqb-true q p h)
 end_turns p _ h = absurd (both_ways false refl h)
-
--- the serial that a begin or a call names
-pub next_serial : (s : State) (p k : ℕ) → is_next_serial s p k ≡ true → k ≡ (exchange s p).serial + 1
-next_serial s p k h = eqb-true k ((exchange s p).serial + 1) (and_parts (k == (exchange s p).serial + 1) (nat_le k last_serial) h).0
 
 -- serials never fall
 pub serials_grow : (s : State) (e : Event) → IsWellFormed s → IsConsistent s → Legal s e → (q : ℕ) → (exchange s q).serial ≤ (exchange (effect s e) q).serial

@@ -9,7 +9,7 @@ use Rattle.config_graph.specs.Kinds.{row, depends_on}
 use Rattle.config_graph.specs.Wiring.{Reach, direct, through}
 use Rattle.config_graph.specs.declared.node.Node.{Node}
 use Rattle.config_graph.specs.declared.node.Target.{Target}
-use Rattle.quiesce_core.specs.Alters.{Reconfigures, gate_next, ports_next}
+use Rattle.quiesce_core.specs.Alters.{Reconfigures, gate_next}
 use Rattle.quiesce_core.specs.Effect.{effect}
 use Rattle.quiesce_core.specs.Legal.{Legal}
 use Rattle.quiesce_core.specs.Reach.{IsPortOf, wiring_of}
@@ -20,7 +20,7 @@ use Rattle.quiesce_core.specs.declared.event.Event.{Event}
 use Rattle.quiesce_core.specs.declared.event.Event.TheVariants.{Close, Reopen, Make, Link, Unlink, Remove}
 use Rattle.quiesce_core.specs.declared.state.Gate.{Gate}
 use Rattle.quiesce_core.specs.declared.state.Slot.{Slot}
-use Rattle.quiesce_core.proofs.AlterLaws.{reconfigured}
+use Rattle.quiesce_core.proofs.AlterLaws.{ports_grow, reconfigured}
 use Rattle.quiesce_core.proofs.ConfigurationLaws.{owner_kept, require_kept, target_made, target_unlinked}
 use Rattle.quiesce_core.proofs.InductionLaws.{along}
 use Rattle.quiesce_core.proofs.RunLaws.{fronts_are_runs, runs_are_well_formed}
@@ -89,10 +89,6 @@ node_stays c d _ r n m at = has_it d n m (r.slots n ∙ at)
 either_way : {A : Type 0} (f : Gate → A) (b : Bool) (g h : Gate) → (b ≡ true → f g ≡ f h) → f (cond b g h) ≡ f h
 either_way f true g h same = same refl
 either_way f false g h same = refl
-
-ports_grow : (c : Configuration) (e : Event) → length c.gates ≤ ports_next c e
-ports_grow c (Make n node from) = omega arith
-ports_grow c _ = omega arith
 
 -- no event takes a node or a port away
 pub extends_next : (s : State) (e : Event) → Legal s e → Extends s.config (effect s e).config

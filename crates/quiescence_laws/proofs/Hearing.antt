@@ -11,7 +11,7 @@ use Rattle.gate_word.specs.Phases.{is_idle, is_asked, is_in_more}
 use Rattle.quiesce_core.specs.Rules.{is_taken, was_heard}
 use Rattle.quiesce_core.specs.Traffic.{IsConsistent}
 use Rattle.quiescence_laws.specs.Courses.{heard_by, heard_at}
-use Rattle.quiescence_laws.proofs.ExchangeLaws.{asked_is}
+use Rattle.gate_word.proofs.PhaseLaws.{asked_is, asked_busy}
 use Rattle.quiesce_core.specs.Alters.{service_by}
 use Rattle.quiesce_core.specs.Effect.{effect}
 use Rattle.quiesce_core.specs.Legal.{Legal}
@@ -20,7 +20,7 @@ use Rattle.quiesce_core.specs.WellFormed.{IsWellFormed}
 use Rattle.quiesce_core.specs.declared.event.Event.{Event}
 use Rattle.quiesce_core.specs.declared.event.Event.TheVariants.{Call, Take, Give, More, Hear, Miss}
 use Rattle.quiesce_core.proofs.AlterLaws.{services_next}
-use Rattle.quiesce_core.proofs.StateLaws.{Taken, asked_busy, taken_busy, taken_is, target_service_is}
+use Rattle.quiesce_core.proofs.StateLaws.{Taken, taken_busy, taken_is, target_service_is}
 use Rattle.base.proofs.OptionLaws.{None-from_is_none, Some-from_is_some}
 
 abbrev pub hears : ℕ → Option Service → Option Bool

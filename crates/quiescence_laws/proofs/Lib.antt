@@ -1,4 +1,3 @@
-pub mod SumLaws
 pub mod ExtensionLaws
 pub mod ExchangeLaws
 pub mod StartLaws

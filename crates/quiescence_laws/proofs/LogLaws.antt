@@ -16,7 +16,8 @@ use Rattle.quiesce_core.specs.declared.event.Event.{Event}
 use Rattle.quiesce_core.specs.declared.event.Event.TheVariants.{Begin, Call, Take, Give, End, More, Ask, Hear}
 use Rattle.quiesce_core.proofs.InductionLaws.{always, place}
 use Rattle.quiesce_core.proofs.RunLaws.{done_by_more}
-use Rattle.quiesce_core.proofs.StateLaws.{asked_busy, more_busy, answered_busy, taken_busy}
+use Rattle.quiesce_core.proofs.StateLaws.{taken_busy}
+use Rattle.gate_word.proofs.PhaseLaws.{asked_busy, more_busy, answered_busy}
 use Rattle.quiescence_laws.specs.Events.{is_of_initiator, is_of_target}
 use Rattle.quiescence_laws.proofs.Engaged.{by_initiator, by_target}
 use Rattle.quiescence_laws.proofs.OneRoot.{found, one_place}

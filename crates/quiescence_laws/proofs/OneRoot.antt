@@ -10,8 +10,9 @@ use Rattle.quiesce_core.specs.declared.state.Service.{Service}
 use Rattle.quiesce_core.specs.State.{depends, exchange, owner, provision, service}
 use Rattle.gate_word.specs.Phases.{is_idle}
 use Rattle.quiesce_core.specs.Runs.{Begun, HasRoot, root, consequent, IsRun, is_begin_of, is_end_of, is_open_after, state_after}
-use Rattle.quiesce_core.proofs.CycleLaws.{map_or_true}
-use Rattle.quiesce_core.proofs.StateLaws.{serving_busy}
+use Rattle.base.proofs.PlaceLaws.{heads_are, tails_are}
+use Rattle.base.proofs.OptionLaws.{map_or_true}
+use Rattle.gate_word.proofs.PhaseLaws.{serving_busy}
 use Rattle.quiescence_laws.specs.Roots.{IsRooted}
 use Rattle.quiesce_core.proofs.InductionLaws.{place}
 use Rattle.quiescence_laws.proofs.OrderLaws.{in_order, open_is_seen}
@@ -27,25 +28,19 @@ two_counted t x front behind y h g few =
     let second = one_counted t front behind y g in
     absurd (omega (arith, first, second, few))
 
-head_is : {A : Type 0} (x y : A) (xs ys : List A) → x ∷ xs ≡ y ∷ ys → x ≡ y
-head_is x y xs ys h = cc
-
-tail_is : {A : Type 0} (x y : A) (xs ys : List A) → x ∷ xs ≡ y ∷ ys → xs ≡ ys
-tail_is x y xs ys h = cc
-
 -- where one member passes at most, it stands at one place
 pub one_place :
     {A : Type 0} (t : A → Bool) (before after front behind : List A) (x y : A) → count_by t (before ++ x ∷ after) ≤ 1 → before ++ x ∷ after ≡ front ++ y ∷ behind → t x ≡ true → t y ≡ true
     → (before ≡ front) × (x ≡ y)
-one_place t [] after [] behind x y few same h g = (refl, head_is x y after behind same)
+one_place t [] after [] behind x y few same h g = (refl, heads_are x y after behind same)
 one_place t [] after (f ∷ front) behind x y few same h g =
-    absurd (two_counted t x front behind y h g (subst (λ xs. count_by t (x ∷ xs) ≤ 1) (tail_is x f after (front ++ y ∷ behind) same) few))
+    absurd (two_counted t x front behind y h g (subst (λ xs. count_by t (x ∷ xs) ≤ 1) (tails_are x f after (front ++ y ∷ behind) same) few))
 one_place t (b ∷ before) after [] behind x y few same h g =
-    absurd (two_counted t b before after x (ap t (head_is b y (before ++ x ∷ after) behind same) ∙ g) h few)
+    absurd (two_counted t b before after x (ap t (heads_are b y (before ++ x ∷ after) behind same) ∙ g) h few)
 one_place t (b ∷ before) after (f ∷ front) behind x y few same h g =
     let more_ = sum_by-cons (λ z. cond (t z) 1 0) b (before ++ x ∷ after) in
-    let w = one_place t before after front behind x y (omega (arith, more_, few)) (tail_is b f (before ++ x ∷ after) (front ++ y ∷ behind) same) h g in
-    (ap (λ z. z ∷ before) (head_is b f (before ++ x ∷ after) (front ++ y ∷ behind) same) ∙ ap (λ zs. f ∷ zs) w.0, w.1)
+    let w = one_place t before after front behind x y (omega (arith, more_, few)) (tails_are b f (before ++ x ∷ after) (front ++ y ∷ behind) same) h g in
+    (ap (λ z. z ∷ before) (heads_are b f (before ++ x ∷ after) (front ++ y ∷ behind) same) ∙ ap (λ zs. f ∷ zs) w.0, w.1)
 
 begins_it : (p k : ℕ) → (p == p && k == k) ≡ true
 begins_it p k = and_from (p == p) (k == k) (eq-eqb p p refl) (eq-eqb k k refl)

@@ -13,7 +13,7 @@ use Rattle.gate_word.specs.Phases.{is_idle}
 use Rattle.quiesce_core.specs.Runs.{IsRun, state_after, is_begin_of, is_end_of, is_open_after}
 use Rattle.quiesce_core.specs.Doers.{is_end_at}
 use Rattle.quiescence_laws.specs.Events.{is_take_of, is_give_of}
-use Rattle.quiescence_laws.specs.Courses.{Course, heard_at, course_in, course_of, course_at}
+use Rattle.quiescence_laws.specs.Courses.{Course, heard_at, course_in, course_at}
 use Rattle.quiescence_laws.specs.Courses as course
 use Rattle.quiescence_laws.proofs.Counting.{Counts, counts_of, table, counted}
 use Rattle.quiescence_laws.proofs.SerialLaws.{tallied, busy_serial}

@@ -1,6 +1,6 @@
 -- A root at a closed port stood there since the port was closed.
-use Rattle.std.proofs.Common.{◌≡◌, ℕ, true, false, not, ◌&&◌, ◌||◌, List, [], ◌∷◌, ◌++◌, append_assoc, Option, Some, None, refl, sym, ap, ◌∙◌, subst, ⊎_elim}
-use Rattle.std.specs.Prelude.{◌==◌, is_none, is_some}
+use Rattle.std.proofs.Common.{◌≡◌, ℕ, Bool, true, false, not, ◌&&◌, ◌||◌, List, [], ◌∷◌, ◌++◌, append_assoc, refl, sym, ap, ◌∙◌, subst, ⊎_elim}
+use Rattle.std.specs.Prelude.{◌==◌, is_some}
 use Rattle.std.specs.List.{list_any}
 use Rattle.std.proofs.lemmas.Bool.{and_parts, and_from, both_ways, not-true, not_from_false, or_cases, or_parts}
 use Rattle.std.proofs.lemmas.List.Folds.{list_any-append}
@@ -18,7 +18,7 @@ use Rattle.quiesce_core.specs.WellFormed.{IsWellFormed}
 use Rattle.quiesce_core.proofs.TableLaws.{gate_place}
 use Rattle.quiesce_core.proofs.SoundnessLaws.{put_here}
 use Rattle.quiescence_laws.specs.Events.{reopens}
-use Rattle.quiescence_laws.specs.Roots.{is_root, has_root}
+use Rattle.quiescence_laws.specs.Roots.{has_root}
 use Rattle.quiescence_laws.proofs.ExtensionLaws.{closed_next}
 use Rattle.quiescence_laws.proofs.ExchangeLaws.{PortStep, stays, begins, calls, ends, port_step}
 use Rattle.quiesce_core.proofs.InductionLaws.{place, along}
@@ -28,13 +28,16 @@ use Rattle.quiesce_core.proofs.RunLaws.{fronts_are_runs}
 record IsRoot (x : Exchange) (k : ℕ) : Type 0 where
   busy : is_idle x.phase ≡ false
   serial : (x.serial == k) ≡ true
-  alone : is_none x.within ≡ true
+  alone : is_some x.within ≡ false
+
+abbrev is_root : ℕ → Exchange → Bool
+is_root k x = (not (is_idle x.phase) && not (is_some x.within)) && x.serial == k
 
 root_parts : (k : ℕ) (x : Exchange) → is_root k x ≡ true → IsRoot x k
 root_parts k x h =
-    let a = and_parts (not (is_idle x.phase) && x.serial == k) (is_none x.within) h in
-    let b = and_parts (not (is_idle x.phase)) (x.serial == k) a.0 in
-    record { busy = not-true (is_idle x.phase) b.0; serial = b.1; alone = a.1 }
+    let a = and_parts (not (is_idle x.phase) && not (is_some x.within)) (x.serial == k) h in
+    let b = and_parts (not (is_idle x.phase)) (not (is_some x.within)) a.0 in
+    record { busy = not-true (is_idle x.phase) b.0; serial = a.1; alone = not-true (is_some x.within) b.1 }
 
 -- what is idle or consequent is none
 pub has_no_root : (x : Exchange) (k : ℕ) → (is_idle x.phase || is_some x.within) ≡ true → is_root k x ≡ true → ⊥
@@ -42,12 +45,8 @@ has_no_root x k h r =
     let root = root_parts k x r in
     ⊎_elim
     (λ (idle : is_idle x.phase ≡ true). both_ways (is_idle x.phase) root.busy idle)
-    (λ (called : is_some x.within ≡ true). neither x.within root.alone called)
+    (λ (called : is_some x.within ≡ true). both_ways (is_some x.within) root.alone called)
     (or_cases (is_idle x.phase) (is_some x.within) h)
-  where
-    neither : (o : Option ℕ) → is_none o ≡ true → is_some o ≡ true → ⊥
-    neither None a b = both_ways false refl b
-    neither (Some q) a b = both_ways false refl a
 
 -- a root at a closed port is no new one
 root_before : (s : State) (e : Event) (p k : ℕ) → IsWellFormed s → IsConsistent s → Legal s e → (gate s.config p).closed ≡ true → has_root (effect s e) p k ≡ true → has_root s p k ≡ true
@@ -56,12 +55,13 @@ root_before s e p k w c l shut h = by (port_step s e w c l p)
     by : PortStep s e p (exchange (effect s e) p) → has_root s p k ≡ true
     by (stays off serial within idle) =
         let r = root_parts k (exchange (effect s e) p) h in
-        and_from (not (is_idle (exchange s p).phase) && (exchange s p).serial == k) (is_none (exchange s p).within)
-        (and_from (not (is_idle (exchange s p).phase)) ((exchange s p).serial == k) (not_from_false (is_idle (exchange s p).phase) (sym idle ∙ r.busy)) (ap (λ i. i == k) (sym serial) ∙ r.serial))
-        (ap (λ o. is_none o) (sym within) ∙ r.alone)
+        let x = exchange s p in
+        and_from (not (is_idle x.phase) && not (is_some x.within)) (x.serial == k)
+        (and_from (not (is_idle x.phase)) (not (is_some x.within)) (not_from_false (is_idle x.phase) (sym idle ∙ r.busy)) (not_from_false (is_some x.within) (ap is_some (sym within) ∙ r.alone)))
+        (ap (λ i. i == k) (sym serial) ∙ r.serial)
     by (begins j v is may y) = absurd (both_ways (gate s.config p).closed (not-true (gate s.config p).closed may.opened) shut)
     by (calls j v u is may served y) =
-        absurd (both_ways false refl (sym (ap (λ (x : Exchange). is_none x.within) y) ∙ (root_parts k (exchange (effect s e) p) h).alone))
+        absurd (both_ways (is_some (exchange (effect s e) p).within) (root_parts k (exchange (effect s e) p) h).alone (ap (λ (x : Exchange). is_some x.within) y))
     by (ends j v is may y) = absurd (both_ways (is_idle (exchange (effect s e) p).phase) (root_parts k (exchange (effect s e) p) h).busy (ap (λ (x : Exchange). is_idle x.phase) y))
 
 -- the port is closed, and a root that it has in the later state it had in the earlier

@@ -14,8 +14,9 @@ use Rattle.quiesce_core.specs.Traffic.{IsConsistent}
 use Rattle.quiesce_core.specs.WellFormed.{IsWellFormed}
 use Rattle.quiesce_core.specs.Doers.{is_end_at}
 use Rattle.quiesce_core.proofs.InductionLaws.{IsNext, always}
-use Rattle.quiesce_core.proofs.StateLaws.{answered_busy}
-use Rattle.quiescence_laws.proofs.ExchangeLaws.{PortStep, stays, begins, calls, ends, port_step, end_turns, next_serial}
+use Rattle.gate_word.proofs.PhaseLaws.{answered_busy}
+use Rattle.quiescence_laws.proofs.ExchangeLaws.{PortStep, stays, begins, calls, ends, port_step, end_turns}
+use Rattle.quiesce_core.proofs.PortEventLaws.{next_serial}
 
 -- so many ended, and one more where one is open
 pub record IsTallied (n : ℕ) (x : Exchange) : Type 0 where

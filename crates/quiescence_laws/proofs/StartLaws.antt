@@ -36,7 +36,8 @@ use Rattle.gate_word.specs.Phases.{is_idle}
 use Rattle.quiesce_core.specs.Reach.{has_no_cycle}
 use Rattle.quiesce_core.specs.Start.{slot_of, gate_of, no_service, no_exchange, started}
 use Rattle.quiesce_core.specs.WellFormed.{IsWellFormed}
-use Rattle.quiesce_core.proofs.CycleLaws.{map_or_at, no_cycle_if_ranked, ranked_if_no_cycle}
+use Rattle.quiesce_core.proofs.CycleLaws.{no_cycle_if_ranked, ranked_if_no_cycle}
+use Rattle.base.proofs.OptionLaws.{map_or_at}
 use Rattle.quiesce_core.proofs.GraphLaws.{length-numbered_from, well_formed_started}
 use Rattle.quiesce_core.proofs.LegalLaws.{allowed}
 use Rattle.config_graph.proofs.PathLaws.{irreflexive}

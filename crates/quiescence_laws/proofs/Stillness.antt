@@ -18,7 +18,7 @@ use Rattle.quiesce_core.specs.Rules.{is_live_port, is_quiet, serves_through}
 use Rattle.quiesce_core.specs.Settled.{is_opening}
 use Rattle.quiesce_core.specs.Traffic.{IsConsistent}
 use Rattle.quiesce_core.specs.WellFormed.{IsWellFormed}
-use Rattle.quiesce_core.proofs.CycleLaws.{map_or_true, map_or_at}
+use Rattle.base.proofs.OptionLaws.{map_or_true, map_or_at}
 use Rattle.quiesce_core.proofs.TableLaws.{gate_place}
 use Rattle.quiescence_laws.specs.Events.{is_link, is_reopen_or_link, reopens}
 use Rattle.quiescence_laws.proofs.ExtensionLaws.{closed_next, extends_next, no_new_link, owned_before, reached_before}
@@ -27,7 +27,7 @@ use Rattle.base.proofs.PlaceLaws.{slice_get-below, slice_get-there}
 use Rattle.quiesce_core.specs.Alters.{service_by}
 use Rattle.quiesce_core.specs.Runs.{is_doer}
 use Rattle.quiesce_core.proofs.AlterLaws.{services_next}
-use Rattle.quiesce_core.proofs.StateLaws.{asked_busy, serving_busy}
+use Rattle.gate_word.proofs.PhaseLaws.{asked_busy, serving_busy}
 use Rattle.quiesce_core.proofs.ReachLaws.{owner_of}
 
 -- p is a port of the node, or reaches it

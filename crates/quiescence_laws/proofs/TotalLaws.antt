@@ -21,7 +21,7 @@ use Rattle.quiesce_core.proofs.RunLaws.{runs_are_well_formed}
 use Rattle.quiesce_core.specs.Doers.{is_end_at}
 use Rattle.quiescence_laws.specs.Events.{is_end}
 use Rattle.quiescence_laws.proofs.SerialLaws.{tallied}
-use Rattle.quiescence_laws.proofs.SumLaws.{at_term, sum_le, sum_plus, sum_term, sum_zero, term_here, term_there}
+use Rattle.base.proofs.SumLaws.{at_term, sum_le, sum_plus, sum_term, sum_zero, term_here, term_there}
 
 sum_same : (f g : ℕ → ℕ) (n : ℕ) → ((i : ℕ) → f i ≡ g i) → sum_by f (range_with_len 0 n) ≡ sum_by g (range_with_len 0 n)
 sum_same f g n h = omega (arith, sum_le f g 0 n (λ i. omega (arith, h i)), sum_le g f 0 n (λ i. omega (arith, h i)))

@@ -1,20 +1,16 @@
 -- Roots: transactions that were begun, and not called.
-use Rattle.std.specs.Prelude.{ℕ, Bool, not, ◌&&◌, ◌==◌, List, is_none}
+use Rattle.std.specs.Prelude.{ℕ, Bool, not, ◌&&◌, ◌==◌, List}
 use Rattle.std.specs.List.{list_any}
 use Rattle.quiesce_core.specs.declared.event.Event.{Event}
-use Rattle.quiesce_core.specs.declared.state.Exchange.{Exchange}
-use Rattle.gate_word.specs.Phases.{is_idle}
+use Rattle.gate_word.specs.Words as words
+use Rattle.quiesce_core.specs.Fields.{fields_of}
 use Rattle.quiesce_core.specs.Runs.{HasRoot, is_end_of}
 use Rattle.quiesce_core.specs.State.{State, exchange}
 use Rattle.quiescence_laws.specs.Events.{is_root_of}
 
--- whether what is done at a port is a root of serial k that has not ended
-abbrev pub is_root : ℕ → Exchange → Bool
-is_root k x = not (is_idle x.phase) && x.serial == k && is_none x.within
-
--- whether port p has an open root of serial k
+-- whether port p has an open root, as its word tells, and its serial is k
 abbrev pub has_root : State → ℕ → ℕ → Bool
-has_root s p k = is_root k (exchange s p)
+has_root s p k = words.has_root (fields_of s p) && (exchange s p).serial == k
 
 -- whether such a root was begun and has not ended
 abbrev pub is_open_root_after : List Event → ℕ → ℕ → Bool

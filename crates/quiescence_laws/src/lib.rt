@@ -23,6 +23,7 @@ pub use quiescence::{
 pub use roots::{open_roots_are_seen, roots_at_closed_ports_are_old, transactions_have_one_root};
 pub use starting::{started_systems_are_reached, started_systems_go_on_as_runs};
 pub use transactions::{
-    ends_make_the_serial, open_transactions_are_seen, transactions_come_in_order,
-    transactions_keep_their_course, two_logs_have_all, two_nodes_do_all,
+    ends_make_the_serial, open_transactions_are_seen, serials_never_fall,
+    transactions_come_in_order, transactions_keep_their_course, two_logs_have_all,
+    two_nodes_do_all,
 };

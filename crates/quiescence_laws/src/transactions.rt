@@ -5,8 +5,10 @@ ghost use Rattle.std.specs.List.{count_by, range_with_len};
 ghost use Rattle.quiesce_core.specs.declared.event.Event.{Event};
 ghost use Rattle.quiesce_core.specs.Open.{open_txns};
 ghost use Rattle.gate_word.specs.Phases.{is_idle};
-ghost use Rattle.quiesce_core.specs.Runs.{Begun, IsRun, doer, done_by, initiator, is_begin_of, is_end_of, is_open_after, state_after, target_at_begin};
-ghost use Rattle.quiesce_core.specs.State.{exchange};
+ghost use Rattle.quiesce_core.specs.Runs.{Begun, IsRun, Step, doer, done_by, initiator, is_begin_of, is_end_of, is_open_after, state_after, target_at_begin};
+ghost use Rattle.quiesce_core.specs.State.{State, exchange};
+ghost use Rattle.quiesce_core.specs.Traffic.{IsConsistent};
+ghost use Rattle.quiesce_core.specs.WellFormed.{IsWellFormed};
 ghost use Rattle.quiescence_laws.specs.Courses.{course_after, course_at};
 ghost use Rattle.quiesce_core.specs.Doers.{is_end_at};
 ghost use Rattle.quiescence_laws.specs.Events.{is_take_of, is_give_of, is_more_of, is_ask_of, is_hear_of, is_of_initiator, is_of_target, is_end};
@@ -28,6 +30,12 @@ pub fn ends_make_the_serial()
     ensures of_all_ports { (es : List Event) → IsRun es
         → count_by is_end es + length (open_txns (state_after es))
         ≡ sum_by (λ p. (exchange (state_after es) p).serial) (range_with_len 0 (length (state_after es).config.gates)) }
+{}
+
+/// No event lets the serial of a port fall.
+pub fn serials_never_fall()
+    ensures { (s t : State) (e : Event) → IsWellFormed s → IsConsistent s → Step s e t → (p : ℕ)
+        → (exchange s p).serial ≤ (exchange t p).serial }
 {}
 
 /// Of each transaction there is at most one take, one last reply and one end, each behind the one before. Exactly those

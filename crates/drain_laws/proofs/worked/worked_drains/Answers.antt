@@ -7,6 +7,7 @@ returns c = record {
   pair_rests = worked.pair_rests;
   pair_counts = worked.pair_counts;
   missed_rests = worked.missed_rests;
+  missed_counts = worked.missed_counts;
   chain_rests = worked.chain_rests;
   chain_counts = worked.chain_counts;
   call_counts = worked.call_counts;

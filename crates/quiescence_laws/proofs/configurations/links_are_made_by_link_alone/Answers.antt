@@ -1,5 +1,13 @@
-use Rattle.quiescence_laws.proofs.ExtensionLaws.{no_link_further, reached_further}
+use Rattle.std.proofs.Common.{sym, subst}
+use Rattle.quiesce_core.specs.State.{State}
+use Rattle.quiescence_laws.specs.Configurations.{HasNoNewLink}
+use Rattle.quiesce_core.proofs.LegalLaws.{legal}
+use Rattle.quiescence_laws.proofs.ExtensionLaws.{no_link_further, no_new_link, reached_further}
 use Rattle.quiescence_laws.proofs.configurations.links_are_made_by_link_alone.Goals as goal
 
 pub returns : goal.returns
-returns c = record { links = no_link_further; reach = reached_further }
+returns c = record {
+  steps = λ s t e step other. subst (λ (u : State). HasNoNewLink s.config u.config) (sym step.changed) (no_new_link s e (legal s e step.allowed) other);
+  links = no_link_further;
+  reach = reached_further;
+}
