@@ -79,7 +79,7 @@ port_size_only env p r there = by p.size there
     by None there = absurd (Contains-nil r there)
     by (Some size) there = ap entry_in (Contains-one (valued size env p.at) r there)
 
-reached_entry : (c : Component) (env : Env) (e : InstEntry) (at : Env) → Contains (reached_in_component c env) (made e at) → Contains (entries_of c.body) e
+pub reached_entry : (c : Component) (env : Env) (e : InstEntry) (at : Env) → Contains (reached_in_component c env) (made e at) → Contains (entries_of c.body) e
 reached_entry c env e at there =
     elim (Contains-append_cases (flat_map (port_size env) c.ports ++ map (array_size env) c.arrays) (reached_in c.body env) (made e at) there) [
       | inl size ↦

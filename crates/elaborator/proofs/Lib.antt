@@ -18,11 +18,13 @@ pub mod LinkLawLemmas
 pub mod LinkLemmas
 pub mod MakingLemmas
 pub mod MappedLemmas
+pub mod NameLemmas
 pub mod NamingLemmas
 pub mod NodeLemmas
 pub mod OpeningLemmas
 pub mod OrderLemmas
 pub mod PairLaws
+pub mod PathLemmas
 pub mod TwiceLaws
 pub mod PortLemmas
 pub mod RankLemmas

@@ -12,6 +12,7 @@ pub mod Naming
 pub mod NodeOrder
 pub mod Numbering
 pub mod Opening
+pub mod PathBytes
 pub mod Paths
 pub mod PortIndex
 pub mod Ports

@@ -1,12 +1,18 @@
 //! Laws of elaborations, each as the contract of a function that does nothing.
 
-ghost use Rattle.std.specs.Prelude.{◌≡◌, ◌⊎◌, ◌<◌, ◌↔◌, ℕ, ℤ, List, Some, Contains};
+ghost use Rattle.std.specs.Prelude.{◌≡◌, ◌⊎◌, ◌<◌, ◌↔◌, ℕ, ℤ, All, List, Some, Contains};
+ghost use Rattle.std.specs.List.{AllPass};
 ghost use Rattle.config_graph.specs.Graph.{Graph};
+ghost use Rattle.config_graph.specs.GraphText.{IsOneWord, graph_text};
 ghost use Rattle.config_graph.specs.declared.node.Link.{Link};
 ghost use Rattle.config_graph.specs.declared.node.Node.{Node};
 ghost use Rattle.config_graph.specs.Sound.{Sound};
+ghost use Rattle.darwin_lexer.specs.Tokens.{IsTokens};
+ghost use Rattle.darwin_lexer.specs.declared.token.Token.{Token};
+ghost use Rattle.darwin_parser.specs.Grammar.{IsUnit};
 ghost use Rattle.darwin_parser.specs.Tree.{Name, Tree};
 ghost use Rattle.darwin_types.specs.Faults.{NoFault};
+ghost use Rattle.elaborator.specs.PathBytes.{is_path_byte};
 ghost use Rattle.elaborator.specs.Paths.{Path};
 ghost use Rattle.elaborator.specs.Instances.{Instance, Inst, instances, total, top_instance};
 ghost use Rattle.elaborator.specs.Bindings.{Port, BoundThrough};
@@ -72,4 +78,25 @@ pub fn links_join_what_bindings_do()
     ensures one_a_requirement { (tree : Tree) (name : Name) (arguments : List ℤ) (g : Graph) (k l : Link)
         → ElaboratesTo tree name arguments g → Contains g.links k → Contains g.links l
         → k.from ≡ l.from → k.require ≡ l.require → k ≡ l }
+{}
+
+/// The paths of the nodes of a text's graph are made of letters, digits, `_`, `.`, `[`, `]` and `-`. So each is one
+/// word in texts of graphs and plans, with no blank, comma, parenthesis or line feed in it.
+pub fn paths_are_words()
+    ensures bytes { (text : List ℕ) (tokens : List Token) (tree : Tree) (name : Name) (arguments : List ℤ)
+        (g : Graph) → IsTokens text tokens → IsUnit text tokens tree → ElaboratesTo tree name arguments g
+        → All (λ n. AllPass is_path_byte n.path) g.nodes }
+    ensures words { (text : List ℕ) (tokens : List Token) (tree : Tree) (name : Name) (arguments : List ℤ)
+        (g : Graph) → IsTokens text tokens → IsUnit text tokens tree → ElaboratesTo tree name arguments g
+        → All (λ n. IsOneWord n.path) g.nodes }
+{}
+
+/// Graphs of texts are equal where their own texts are: what two descriptions elaborate to is told by what is written
+/// of it.
+pub fn texts_tell_graphs()
+    ensures { (text other : List ℕ) (tokens others : List Token) (tree another : Tree) (name top : Name)
+        (arguments values : List ℤ) (g h : Graph)
+        → IsTokens text tokens → IsUnit text tokens tree → ElaboratesTo tree name arguments g → Sound g
+        → IsTokens other others → IsUnit other others another → ElaboratesTo another top values h → Sound h
+        → graph_text g ≡ graph_text h → g ≡ h }
 {}

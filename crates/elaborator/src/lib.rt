@@ -21,6 +21,7 @@ mod ports;
 pub use elaborating::elaborate;
 pub use error::ElabError;
 pub use laws::{
-    a_graph_or_a_fault, an_instance_is_told_by_its_path, instances_are_those_of_the_list,
-    links_join_what_bindings_do, one_graph, one_provision,
+    a_graph_or_a_fault, an_instance_is_told_by_its_path, each_instance_is_counted_once,
+    instances_are_those_of_the_list, links_join_what_bindings_do, one_graph, one_provision,
+    paths_are_words, texts_tell_graphs,
 };
