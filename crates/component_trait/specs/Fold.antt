@@ -1,5 +1,6 @@
 -- The state of a node after events of its own. There is none where an event isn't what a node of its kind does.
-use Rattle.std.specs.Prelude.{ℕ, ◌+◌, Bool, false, ◌==◌, ◌&&◌, ◌||◌, nat_lt, List, length, Option, Some, None, is_none, option_and_then, fold, if◌then◌else◌}
+use Rattle.std.specs.Prelude.{ℕ, ◌+◌, Bool, false, ◌==◌, ◌&&◌, ◌||◌, nat_lt, List, length, fold, if◌then◌else◌}
+use Rattle.std.specs.Prelude.{Option, Some, None, is_none, option_and_then}
 use Rattle.std.specs.Option.{option_map_or}
 use Rattle.config_graph.specs.Kinds.{row}
 use Rattle.config_graph.specs.declared.kind.Kind.{Kind}
@@ -48,9 +49,10 @@ awaits_at first s p = calls_at first s p || wants_at first s p
 abbrev pub where_so : Bool → NodeState → Option NodeState
 where_so b s = if b then Some s else None
 
--- The state after one more event. A Begin is what it wants; a Call, Miss, More or Give is what its service does next, and
--- a Miss is answered with 0. A Take serves the value, and a Hear hands a further one to the service that waits. An Ask has
--- the value that it replies. An End hands its answer in, to the service that called or as that of a transaction of its own.
+-- The state after one more event. A Begin is what it wants; a Call, Miss, More or Give is what its service does next,
+-- and a Miss is answered with 0. A Take serves the value, and a Hear hands a further one to the service that waits. An
+-- Ask has the value that it replies. An End hands its answer in, to the service that called or as that of a transaction
+-- of its own.
 abbrev pub after_event : ℕ → NodeState → Event → Option NodeState
 after_event first s (event.Begin p j v) = where_so (is_request first p v (moves.wants s)) s
 after_event first s (event.Call p j v) = where_so (is_request first p v (asked_by (moves.next s))) s

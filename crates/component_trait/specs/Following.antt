@@ -15,6 +15,11 @@ abbrev pub Answered : Bool → NodeState → NodeState → NodeState → Bool �
 Answered allowed old moved new true = (allowed ≡ true) × (new ≡ moved)
 Answered allowed old moved new false = (allowed ≡ false) × (new ≡ old)
 
+-- whether the event takes a value up
+abbrev pub is_take : Event → Bool
+is_take (Take p j v) = true
+is_take _ = false
+
 -- the value that an event carries
 abbrev pub value_of : Event → ℕ
 value_of (Begin p j v) = v

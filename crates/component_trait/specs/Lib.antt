@@ -1,5 +1,6 @@
 pub mod States
 pub mod Tables
+pub mod Making
 pub mod Moves
 pub mod Fold
 pub mod Bounds

@@ -1,5 +1,6 @@
 -- What a node in a state does next, and the state in which it is after what it did. The tables decide.
-use Rattle.std.specs.Prelude.{ℕ, Bool, true, false, List, [], ◌∷◌, ◌++◌, Option, Some, None, is_some, option_map, option_and_then, if◌then◌else◌}
+use Rattle.std.specs.Prelude.{ℕ, Bool, true, false, List, [], ◌∷◌, ◌++◌, if◌then◌else◌}
+use Rattle.std.specs.Prelude.{Option, Some, None, is_some, option_map, option_and_then}
 use Rattle.std.specs.Option.{option_map_or}
 use Rattle.component_trait.specs.declared.next.Ask.{Ask}
 use Rattle.component_trait.specs.declared.next.Next.{Next}
@@ -39,7 +40,11 @@ after_end s v = record s { kept = tables.kept_after_end s.kind s.kept v }
 
 -- it took a value up
 abbrev with_service : NodeState → Outcome → ℕ → NodeState
-with_service s done v = record s { kept = done.kept; service = Some (record { value = v; reply = done.reply; answers = []; waits = false }) }
+with_service s done v =
+    record s {
+      kept = done.kept;
+      service = Some (record { value = v; reply = done.reply; answers = []; waits = false });
+    }
 
 abbrev pub after_take : NodeState → ℕ → NodeState
 after_take s v = with_service s (tables.serve s.kind s.arg s.kept v) v

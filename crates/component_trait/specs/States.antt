@@ -22,8 +22,8 @@ with_total n = record { count = 0; total = n; items = [] }
 abbrev pub with_items : List ℕ → Kept
 with_items vs = record { count = 0; total = 0; items = vs }
 
--- A service: the value that was taken up, the reply where serving decided on it at once, the answers and further messages
--- since, in order, and whether it waits for a further message.
+-- A service: the value that was taken up, the reply where serving decided on it at once, the answers and further
+-- messages since, in order, and whether it waits for a further message.
 pub record Service : Type 0 where
   pub value : ℕ
   pub reply : ℕ

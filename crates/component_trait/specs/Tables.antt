@@ -1,10 +1,13 @@
 -- The machine of each kind, as tables: what a node opens with, what it wants, what an ended transaction of its own
--- changes, what serving does at once, what comes next in a service, what it replies, when it is done, and the numbers of
--- its state.
-use Rattle.std.specs.Prelude.{ℕ, ◌+◌, ◌-◌, ◌*◌, ◌/◌, ◌%◌, ◌^◌, Bool, true, nat_lt, nat_le, ◌==◌, List, [], ◌∷◌, ◌++◌, length, drop, Option, Some, None, if◌then◌else◌}
+-- changes, what serving does at once, what comes next in a service, what it replies, when it is done, and the numbers
+-- of its state.
+use Rattle.std.specs.Prelude.{ℕ, ◌+◌, ◌-◌, ◌*◌, ◌/◌, ◌%◌, ◌^◌, Bool, true, nat_lt, nat_le, ◌==◌, if◌then◌else◌}
+use Rattle.std.specs.Prelude.{List, [], ◌∷◌, ◌++◌, length, drop, Option, Some, None}
 use Rattle.config_graph.specs.declared.kind.Kind.{Kind}
-use Rattle.config_graph.specs.declared.kind.Kind.TheVariants.{Philosopher, Place, Fork, Source, Map, Buffer, Sink, Teller, Branch, Account, Asker, Adder}
-use Rattle.component_trait.specs.declared.TheConstants.{AMOUNT_LIMIT, VALUE_LIMIT}
+use Rattle.config_graph.specs.declared.kind.Kind.TheVariants.{Philosopher, Place, Fork, Source, Map, Buffer, Sink}
+use Rattle.config_graph.specs.declared.kind.Kind.TheVariants.{Teller, Branch, Account, Asker, Adder}
+use Rattle.component_trait.specs.declared.TheConstants.{AMOUNT_LIMIT}
+use Rattle.config_graph.specs.declared.TheConstants.{VALUE_LIMIT}
 use Rattle.component_trait.specs.declared.next.Ask.{Ask}
 use Rattle.component_trait.specs.declared.next.Next.{Next}
 use Rattle.component_trait.specs.declared.next.Next.TheVariants as next
@@ -21,8 +24,8 @@ abbrev pub opening : Kind → ℕ → Kept
 opening Account b = with_total b
 opening _ a = nothing
 
--- What it wants. Below a number it wants its one requirement with a value that goes by the count; a buffer wants it with
--- its front.
+-- What it wants. Below a number it wants its one requirement with a value that goes by the count; a buffer wants it
+-- with its front.
 abbrev below : ℕ → ℕ → ℕ → Option Ask
 below count n value = if nat_lt count n then Some (request 0 value) else None
 
@@ -63,7 +66,8 @@ abbrev pay_out : ℕ → ℕ → Outcome
 pay_out balance a = if nat_le a balance then gives (with_total (balance - a)) 1 else gives (with_total balance) 0
 
 abbrev take_in : ℕ → ℕ → Outcome
-take_in balance a = if nat_lt (balance + a) balance_limit then gives (with_total (balance + a)) 1 else gives (with_total balance) 0
+take_in balance a =
+    if nat_lt (balance + a) balance_limit then gives (with_total (balance + a)) 1 else gives (with_total balance) 0
 
 -- a fork that is free becomes held, and is free again once it is given back
 abbrev lend : Kept → ℕ → Outcome

@@ -1,12 +1,12 @@
 //! The calls of a component. Contracts see the state of the machine of its kind.
 
-ghost use Rattle.std.specs.Prelude.{◌≡◌, ℕ, ◌<◌, true, length, slice_get, Some, None, IsSome, IfSome, OnOk};
+ghost use Rattle.std.specs.Prelude.{◌≡◌, ℕ, ◌<◌, true, length, slice_get, Some, None, IsSome, IfSome, OnErr, OnOk};
 ghost use Rattle.config_graph.specs.Kinds.{row};
 ghost use Rattle.component_trait.specs.States.{NodeState, argument};
 ghost use Rattle.component_trait.specs.Moves as moves;
 ghost use Rattle.component_trait.specs.Bounds.{FitsRequest, FitsNext, is_request_of};
 ghost use Rattle.component_trait.specs.declared.next.Next.TheVariants as next;
-ghost use Rattle.component_trait.specs.declared.TheConstants.{VALUE_LIMIT};
+ghost use Rattle.config_graph.specs.declared.TheConstants.{VALUE_LIMIT};
 
 use crate::next::{Ask, Next};
 use config_graph::{Kind, NoMemory};
@@ -41,10 +41,11 @@ pub trait Component {
         ensures state { state self.new ≡ moves.after_end (state self.old) value }
         ensures room { has_room self.old → has_room self.new };
 
-    /// Takes the memory of the next service.
+    /// Takes the memory of the next service. `NoMemory`, which comes only where it has no room, leaves it as it was.
     fn room(&mut self) -> Result<(), NoMemory>
         ensures state { state self.new ≡ state self.old }
         ensures ok { OnOk result (has_room self.new) }
+        ensures full { OnErr result (has_room self.old → ⊥) }
         ensures room { has_room self.old → has_room self.new };
 
     /// Takes a value up, which was asked of this provision.
@@ -63,7 +64,8 @@ pub trait Component {
 
     /// The call that its service made ended with this answer. A call that was missed is answered with 0.
     fn answered(&mut self, require: u32, value: u32)
-        requires asked { ((v : ℕ) × (moves.next (state self.old) ≡ Some (next.Ask (record { require = require; value = v })))) }
+        requires asked { ((v : ℕ) × (moves.next (state self.old) ≡
+            Some (next.Ask (record { require = require; value = v })))) }
         requires small { value < VALUE_LIMIT }
         ensures state { state self.new ≡ moves.after_answer (state self.old) value }
         ensures room { has_room self.old → has_room self.new };

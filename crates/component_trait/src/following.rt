@@ -1,23 +1,27 @@
 //! A component led by events: what a node did, done again.
 
-ghost use Rattle.std.specs.Prelude.{◌≡◌, ◌+◌, ◌<◌, ◌&&◌, ◌==◌, IfSome, MatchResult};
+ghost use Rattle.std.specs.Prelude.{◌≡◌, ◌+◌, ◌<◌, ◌&&◌, ◌==◌, true, IfSome, MatchResult, OnErr};
 ghost use Rattle.quiesce_core.specs.declared.event.Event.TheVariants as event;
 ghost use Rattle.component_trait.specs.Bounds.{FitsNext, FitsRequest};
 ghost use Rattle.component_trait.specs.Fold as fold;
-ghost use Rattle.component_trait.specs.Following.{Answered, Followed, value_of};
+ghost use Rattle.component_trait.specs.Following.{Answered, Followed, is_take, value_of};
 ghost use Rattle.component_trait.specs.Moves as moves;
-ghost use Rattle.component_trait.specs.declared.TheConstants.{VALUE_LIMIT};
+ghost use Rattle.config_graph.specs.declared.TheConstants.{VALUE_LIMIT};
 
 use crate::component::Component;
 use crate::next::{Ask, Next};
 use config_graph::NoMemory;
 use quiesce_core::Event;
 
-/// Leads a component by an event, where that is what a node of its kind, with this first port, does; else it stays as it
-/// was. The answer says which. A `Take` takes its memory first.
+/// Leads a component by an event, where that is what a node of its kind, with this first port, does; else it stays as
+/// it was. The answer says which. A `Take` alone takes memory, and may answer `NoMemory` where the component has no
+/// room; that leaves it as it was.
 pub fn follow<C: Component>(node: &mut C, first_port: u32, event: &Event) -> Result<bool, NoMemory>
     requires { value_of event.now < VALUE_LIMIT }
-    ensures { MatchResult result (Followed first_port event.now (C.state node.old) (C.state node.new)) (λ _. C.state node.new ≡ C.state node.old) }
+    ensures followed { MatchResult result (Followed first_port event.now (C.state node.old) (C.state node.new))
+        (λ _. C.state node.new ≡ C.state node.old) }
+    ensures takes { OnErr result (is_take event.now ≡ true) }
+    ensures full { OnErr result (C.has_room node.old → ⊥) }
 {
     match event {
         Event::Begin { port, value, .. } => Ok(is_request(first_port, *port, *value, node.wants())),
@@ -74,7 +78,11 @@ fn asks<C: Component>(node: &C) -> Option<Ask>
 
 fn take<C: Component>(node: &mut C, value: u32) -> Result<bool, NoMemory>
     requires { value < VALUE_LIMIT }
-    ensures { MatchResult result (Answered (fold.may_take (C.state node.old)) (C.state node.old) (moves.after_take (C.state node.old) value) (C.state node.new)) (λ _. C.state node.new ≡ C.state node.old) }
+    ensures followed { MatchResult result
+        (Answered (fold.may_take (C.state node.old)) (C.state node.old) (moves.after_take (C.state node.old) value)
+        (C.state node.new))
+        (λ _. C.state node.new ≡ C.state node.old) }
+    ensures full { OnErr result (C.has_room node.old → ⊥) }
 {
     if node.kind().provides() == 0 || node.in_service() {
         return Ok(false);
@@ -85,7 +93,8 @@ fn take<C: Component>(node: &mut C, value: u32) -> Result<bool, NoMemory>
 }
 
 fn give<C: Component>(node: &mut C, value: u32) -> bool
-    ensures { Answered (fold.is_give value (moves.next (C.state node.old))) (C.state node.old) (moves.after_give (C.state node.old)) (C.state node.new) result }
+    ensures { Answered (fold.is_give value (moves.next (C.state node.old))) (C.state node.old)
+        (moves.after_give (C.state node.old)) (C.state node.new) result }
 {
     match next(node) {
         Some(Next::Give(given)) if given == value => {
@@ -97,7 +106,8 @@ fn give<C: Component>(node: &mut C, value: u32) -> bool
 }
 
 fn send_more<C: Component>(node: &mut C, value: u32) -> bool
-    ensures { Answered (fold.is_more value (moves.next (C.state node.old))) (C.state node.old) (moves.after_more (C.state node.old)) (C.state node.new) result }
+    ensures { Answered (fold.is_more value (moves.next (C.state node.old))) (C.state node.old)
+        (moves.after_more (C.state node.old)) (C.state node.new) result }
 {
     match next(node) {
         Some(Next::More(sent)) if sent == value => {
@@ -110,7 +120,8 @@ fn send_more<C: Component>(node: &mut C, value: u32) -> bool
 
 fn hear<C: Component>(node: &mut C, value: u32) -> bool
     requires { value < VALUE_LIMIT }
-    ensures { Answered (moves.waits (C.state node.old)) (C.state node.old) (moves.after_answer (C.state node.old) value) (C.state node.new) result }
+    ensures { Answered (moves.waits (C.state node.old)) (C.state node.old)
+        (moves.after_answer (C.state node.old) value) (C.state node.new) result }
 {
     if node.waits() {
         node.heard(value);
@@ -122,7 +133,8 @@ fn hear<C: Component>(node: &mut C, value: u32) -> bool
 
 fn answer<C: Component>(node: &mut C, first_port: u32, port: u32, value: u32) -> bool
     requires { value < VALUE_LIMIT }
-    ensures { Answered (fold.calls_at first_port (C.state node.old) port) (C.state node.old) (moves.after_answer (C.state node.old) value) (C.state node.new) result }
+    ensures { Answered (fold.calls_at first_port (C.state node.old) port) (C.state node.old)
+        (moves.after_answer (C.state node.old) value) (C.state node.new) result }
 {
     match next(node) {
         Some(Next::Ask(ask)) if is_at(first_port, port, ask.require) => {
@@ -135,7 +147,8 @@ fn answer<C: Component>(node: &mut C, first_port: u32, port: u32, value: u32) ->
 
 fn end_own<C: Component>(node: &mut C, first_port: u32, port: u32, value: u32) -> bool
     requires { value < VALUE_LIMIT }
-    ensures { Answered (fold.wants_at first_port (C.state node.old) port) (C.state node.old) (moves.after_end (C.state node.old) value) (C.state node.new) result }
+    ensures { Answered (fold.wants_at first_port (C.state node.old) port) (C.state node.old)
+        (moves.after_end (C.state node.old) value) (C.state node.new) result }
 {
     match node.wants() {
         Some(ask) if is_at(first_port, port, ask.require) => {
@@ -172,7 +185,8 @@ fn replies_at<C: Component>(
 
 /// Whether the component may have a transaction at this port, and the value is what it replies there.
 fn is_reply<C: Component>(node: &C, first_port: u32, port: u32, value: u32) -> bool
-    ensures { result ≡ (fold.awaits_at first_port (C.state node.now) port && value == moves.replies (C.state node.now)) }
+    ensures { result ≡ (fold.awaits_at first_port (C.state node.now) port &&
+        value == moves.replies (C.state node.now)) }
 {
     replies_at(node, first_port, port, asks(node), value)
         || replies_at(node, first_port, port, node.wants(), value)

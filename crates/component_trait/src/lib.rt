@@ -1,5 +1,5 @@
-//! What nodes do: the machine of each kind, the state to which a node's own events lead it, and the calls of a component
-//! that follows the machine of its kind.
+//! What nodes do: the machine of each kind, the state to which a node's own events lead it, and the calls of a
+//! component that follows the machine of its kind.
 #![tactic(auto)]
 
 mod component;
@@ -9,6 +9,7 @@ mod next;
 mod serving;
 
 pub use component::Component;
+pub use config_graph::VALUE_LIMIT;
 pub use following::follow;
 pub use laws::{
     folds_keep_kind_and_argument, logs_are_bounded, logs_evaluate, services_are_bounded,
@@ -16,9 +17,6 @@ pub use laws::{
 };
 pub use next::{Ask, Next};
 pub use serving::{Serving, hand, wait, waits};
-
-/// Values and arguments are below this number, and sums are taken modulo it.
-pub const VALUE_LIMIT: u32 = 16_777_216;
 
 /// Amounts that are paid are below this number, so that twice an amount and one is a value.
 pub const AMOUNT_LIMIT: u32 = 8_388_608;

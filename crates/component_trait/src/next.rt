@@ -3,14 +3,15 @@
 ghost use Rattle.std.specs.Prelude.{◌≡◌};
 ghost use Rattle.component_trait.specs.declared.next.Next.TheVariants as next;
 
-/// A request at a requirement.
+/// A request: the place of a requirement among those of its kind, from 0 on, and a value below 2^24.
 #[derive(Clone, Copy, Debug, PartialEq, Eq)]
 pub struct Ask {
     pub require: u32,
     pub value: u32,
 }
 
-/// What a service does next: it asks at a requirement, sends an intermediate reply, or gives its answer.
+/// What a service does next: it asks at a requirement, sends an intermediate reply of a value, or gives its answer.
+/// Values are below 2^24.
 #[derive(Clone, Copy, Debug, PartialEq, Eq)]
 pub enum Next {
     Ask(Ask),

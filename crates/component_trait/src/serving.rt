@@ -1,10 +1,11 @@
 //! The service that a node is in.
 
-ghost use Rattle.std.specs.Prelude.{◌≡◌, ◌<◌, ◌++◌, ◌∷◌, [], false, true, length, slice_get, IfSome, Some, option_map};
+ghost use Rattle.std.specs.Prelude.{◌≡◌, ◌<◌, [], false, length, slice_get, IfSome, Some, option_map};
 ghost use Rattle.std.specs.Option.{option_map_or};
 ghost use Rattle.component_trait.specs.States.{Service};
 ghost use Rattle.component_trait.specs.Moves.{with_answer, with_wait};
-ghost use Rattle.component_trait.specs.declared.TheConstants.{VALUE_LIMIT};
+ghost use Rattle.component_trait.specs.Serving.{GoesOn};
+ghost use Rattle.config_graph.specs.declared.TheConstants.{VALUE_LIMIT};
 
 use crate::VALUE_LIMIT;
 use std::marker::Model;
@@ -105,7 +106,8 @@ impl Serving {
 pub fn hand(service: &mut Option<Serving>, answer: u32)
     requires few { (w : Service) → service.old ≡ Some w → w.waits ≡ false → length w.answers < MAX_ANSWERS }
     requires small { answer < VALUE_LIMIT }
-    ensures { service.new ≡ option_map (with_answer answer) service.old }
+    ensures service { service.new ≡ option_map (with_answer answer) service.old }
+    ensures goes_on { GoesOn service.new }
 {
     if let Some(service) = service {
         service.hand(answer);

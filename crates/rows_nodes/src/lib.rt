@@ -1,5 +1,11 @@
-//! Worked rows of what nodes stand on: inboxes.
+//! Worked rows of nodes: what each kind does, what is handed over, and inboxes.
 #![tactic(auto)]
 
 #[cfg(test)]
+mod handover_rows;
+#[cfg(test)]
 mod inbox_rows;
+#[cfg(test)]
+mod kind_rows;
+#[cfg(test)]
+mod steps;
