@@ -17,7 +17,8 @@ use Rattle.quiesce_core.specs.Runs.{Step, doer, is_doer}
 use Rattle.quiesce_core.specs.State.{State, exchange, gate, owner, provides, service, target, target_service}
 use Rattle.quiesce_core.specs.Traffic.{IsConsistent}
 use Rattle.quiesce_core.specs.WellFormed.{IsWellFormed}
-use Rattle.quiesce_core.specs.Words.{fields_of, word_of}
+use Rattle.quiesce_core.specs.Words.{word_of}
+use Rattle.quiesce_core.specs.Fields.{fields_of}
 use Rattle.quiesce_core.specs.declared.event.Event.TheVariants.{Begin, Call, Take, Give, End, More, Ask, Hear, Miss}
 use Rattle.quiesce_core.specs.declared.known.Known.{Known}
 use Rattle.quiesce_core.specs.declared.known.PortKnown.{PortKnown}
@@ -27,7 +28,8 @@ use Rattle.base.proofs.OptionLaws.{Some-from_is_some, is_none-is_some}
 use Rattle.quiesce_core.specs.declared.state.Service.{Service}
 use Rattle.quiesce_core.specs.declared.state.Slot.{Slot}
 use Rattle.quiesce_core.proofs.KnownLaws.{judged_calls, judged_ended, judged_heard, judged_mores, judged_serves_through, judged_taken}
-use Rattle.quiesce_core.proofs.StateLaws.{asked_busy, served_busy, serving_busy, target_service_is}
+use Rattle.quiesce_core.proofs.StateLaws.{served_busy, target_service_is}
+use Rattle.gate_word.proofs.PhaseLaws.{asked_busy, serving_busy}
 use Rattle.quiesce_core.proofs.LegalLaws.{allowed, legal}
 use Rattle.quiesce_core.proofs.RunLaws.{effect_config}
 use Rattle.quiesce_core.proofs.WordLaws.{port_words_decode, port_words_fit}
@@ -377,8 +379,7 @@ module _ (s : State) (wf : IsWellFormed s) (con : IsConsistent s) (n : ℕ) (w :
 
   pub miss_by_word : (p v : ℕ) (word : Word) → word ≡ fields_of s p → MayCall (node_at s.config n) w p v → is_missing word ≡ true → denial s (Miss p) ≡ None
   miss_by_word p v word e may missing =
-      miss_allowed p v may
-      (ap (λ b. b || (exchange s p).serial == last_serial) (sym (is_none-is_some (target s.config p))) ∙ subst (λ (x : Word). is_missing x ≡ true) e missing)
+      miss_allowed p v may (subst (λ (x : Word). is_missing x ≡ true) e missing)
 
   pub take_by_word : (p : ℕ) (word : Word) (t : Target) → word ≡ fields_of s p → MayTake w p → is_asked word.phase ≡ true → word.target ≡ Some t → t.node ≡ n
       → denial s (Take p word.serial word.value) ≡ None

@@ -9,7 +9,8 @@ use Rattle.gate_word.specs.Words.{unpack}
 use Rattle.gate_word.specs.declared.word.Word.{Word}
 use Rattle.quiesce_core.specs.Rules.{last_serial, value_limit}
 use Rattle.quiesce_core.specs.State.{State}
-use Rattle.quiesce_core.specs.Words.{fields_of, word_of}
+use Rattle.quiesce_core.specs.Words.{word_of}
+use Rattle.quiesce_core.specs.Fields.{fields_of}
 use Rattle.port_gate.specs.Looks.{Shows}
 use Rattle.port_gate.specs.Seats.{NodeAt}
 use Rattle.port_gate.specs.declared.answers.BeginAnswer.{BeginAnswer}

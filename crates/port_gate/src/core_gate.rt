@@ -12,7 +12,7 @@ ghost use Rattle.quiesce_core.specs.Doers.{is_of_change};
 ghost use Rattle.quiesce_core.specs.Rules.{denial};
 ghost use Rattle.quiesce_core.specs.Runs.{is_doer};
 ghost use Rattle.quiesce_core.specs.State.{is_live};
-ghost use Rattle.quiesce_core.specs.Words.{fields_of};
+ghost use Rattle.quiesce_core.specs.Fields.{fields_of};
 ghost use Rattle.quiesce_core.specs.declared.known.Known.{Known as Knows};
 ghost use Rattle.port_gate.specs.Core.{FitsCore, node_at, within_limits};
 ghost use Rattle.port_gate.specs.Moves.{Does};
@@ -24,11 +24,8 @@ ghost use Rattle.port_gate.specs.Seats.{MayCall, serial_served, value_seen};
 use crate::answers::{BeginAnswer, CallAnswer, HearAnswer, SeeAnswer, TakeAnswer};
 use crate::gate::{GateSeat, PortGate};
 use crate::noting::{note, note_seen, unknown};
-use gate_word::{Phase, Word};
+use gate_word::{LAST_SERIAL, Phase, Word};
 use quiesce_core::{Core, Event, Known, PortKnown};
-
-/// The last serial of a port's transactions.
-const LAST_SERIAL: u32 = 16_777_215;
 
 /// A node's seat at the core: its slot and what the node knows. It tells no events.
 #[derive(Debug, Drop)]

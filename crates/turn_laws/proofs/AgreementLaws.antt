@@ -1,25 +1,25 @@
 -- A node's state stays in agreement with what its own events tell it, event by event.
-use Rattle.std.proofs.Common.{◌≡◌, ◌∙◌, ◌+◌, ◌<◌, ◌≤◌, ℕ, Bool, true, false, cond, List, [], ◌∷◌, ◌++◌, length, Option, Some, None, refl, sym, ap, subst, arith, rules, ⊎_elim}
-use Rattle.std.specs.Prelude.{not, ◌==◌, ◌&&◌, option_map, option_and_then, is_none, ⊤}
-use Rattle.std.proofs.lemmas.Bool.{and_parts, both_ways, cases_Bool, eq-eqb, eqb-true}
+use Rattle.std.proofs.Common.{◌≡◌, ◌∙◌, ◌+◌, ◌<◌, ℕ, Bool, true, false, cond, [], ◌∷◌, Option, Some, None, refl, sym, ap, subst, arith, rules}
+use Rattle.std.specs.Prelude.{not, ◌==◌, ◌&&◌, option_map, is_none}
+use Rattle.std.proofs.lemmas.Bool.{and_parts, both_ways, eq-eqb, eqb-true}
 use Rattle.std.proofs.lemmas.List.{length-append}
 use Rattle.std.proofs.lemmas.Option.{none-some, same_Some}
 use Rattle.config_graph.specs.declared.kind.Kind.{Kind}
 use Rattle.component_trait.specs.Fold.{after_event, asked_by, awaits_at, calls_at, is_give, is_more, is_request, is_request_at, may_take, wants_at, where_so}
 use Rattle.component_trait.specs.Moves as moves
-use Rattle.component_trait.specs.Moves.{next_in, with_wait, with_answer}
+use Rattle.component_trait.specs.Moves.{with_wait, with_answer}
 use Rattle.component_trait.specs.States.{Kept, NodeState, Service}
-use Rattle.component_trait.specs.Tables.{kept_after_end, serve, wants}
+use Rattle.component_trait.specs.Tables.{serve, wants}
 use Rattle.component_trait.specs.declared.next.Ask.{Ask as Request}
 use Rattle.component_trait.specs.declared.next.Next.{Next}
 use Rattle.component_trait.specs.declared.next.Next.TheVariants as next
-use Rattle.quiesce_core.specs.Knowledge.{OwnPort, own_port_next, served_next}
+use Rattle.quiesce_core.specs.Knowledge.{OwnPort, served_next}
 use Rattle.quiesce_core.specs.Rules.{value_limit}
 use Rattle.quiesce_core.specs.declared.event.Event.{Event}
 use Rattle.quiesce_core.specs.declared.event.Event.TheVariants.{Begin, Call, Take, Give, End, More, Ask, Hear, Miss}
 use Rattle.quiesce_core.specs.declared.known.Served.{Served}
-use Rattle.turn_laws.specs.Agreement.{Agrees, HandsSmall, HasNoCall, IsInTurn, IsSmall, ServiceAgrees, ServiceIsSmall, ServicesAgree, expects, ports_next}
-use Rattle.turn_laws.proofs.KindTables.{Small, ended_small, node, pushed_small, served_small, wanting_asks_nothing, wants_stay}
+use Rattle.turn_laws.specs.Agreement.{Agrees, HandsSmall, HasNoCall, IsInTurn, IsSmall, ServiceIsSmall, ServicesAgree, expects, ports_next}
+use Rattle.turn_laws.proofs.KindTables.{ended_small, node, pushed_small, served_small, wanting_asks_nothing, wants_stay}
 
 where_so_then : (b : Bool) (x t : NodeState) → where_so b x ≡ Some t → (b ≡ true) × (x ≡ t)
 where_so_then true x t e = (refl, same_Some x t e)
@@ -70,6 +70,10 @@ expected_if first t p false e h = h
 no_call_if : (first : ℕ) (t : NodeState) (p : ℕ) (b : Bool) → calls_at first t p ≡ false → expects b first t p ≡ true → b ≡ false
 no_call_if first t p true e h = absurd (both_ways (calls_at first t p) e h)
 no_call_if first t p false e h = refl
+
+-- the service of a node that wants something asks nothing
+pub who_wants_asks_nothing : (first p q : ℕ) (t : NodeState) → wants_at first t p ≡ true → calls_at first t q ≡ false
+who_wants_asks_nothing first p q t h = wanting_asks_nothing first t.kind t.arg t.kept t.service p q h
 
 -- a service that asks nothing has no call
 pub no_call_where_none_is_asked : (first : ℕ) (t : NodeState) (u : Option Served) (ports : ℕ → OwnPort) → Agrees first t u ports → ((q : ℕ) → calls_at first t q ≡ false) → HasNoCall ports

@@ -1,7 +1,7 @@
 -- The tables of the kinds, as turns use them: requests are at requirements that a kind has, values are below the limit, serving keeps
 -- what is wanted, and a kind that wants something asks for nothing in its services.
-use Rattle.std.proofs.Common.{◌≡◌, ◌+◌, ◌<◌, ◌%◌, ◌*◌, ℕ, Bool, true, false, List, [], ◌∷◌, ◌++◌, length, drop, Option, Some, None, refl, sym, ap, subst, arith, rules, cond}
-use Rattle.std.specs.Prelude.{nat_lt, nat_le, ◌==◌, ◌&&◌}
+use Rattle.std.proofs.Common.{◌≡◌, ◌+◌, ◌<◌, ◌*◌, ℕ, Bool, true, false, List, [], ◌∷◌, ◌++◌, length, Option, Some, None, refl, ap, subst, arith, rules, cond}
+use Rattle.std.specs.Prelude.{nat_lt, nat_le, ◌==◌}
 use Rattle.std.specs.List.{All}
 use Rattle.std.proofs.lemmas.Bool.{both_ways, cond_both, ltb-true, leb-false}
 use Rattle.std.proofs.lemmas.Option.{none-some, same_Some}
@@ -10,7 +10,7 @@ use Rattle.config_graph.specs.Kinds.{depends_on, row}
 use Rattle.config_graph.specs.declared.kind.Kind.{Kind}
 use Rattle.config_graph.specs.declared.kind.Kind.TheVariants.{Philosopher, Place, Fork, Source, Map, Buffer, Sink, Teller, Branch, Account, Asker, Adder}
 use Rattle.component_trait.proofs.BoundLaws.{asks_depend}
-use Rattle.component_trait.specs.Bounds.{FitsNext, FitsRequest}
+use Rattle.component_trait.specs.Bounds.{FitsRequest}
 use Rattle.component_trait.specs.Fold.{asked_by, calls_at, is_request_at, wants_at}
 use Rattle.component_trait.specs.States.{Kept, NodeState, Service}
 use Rattle.component_trait.specs.Tables.{ask, dine, kept_after_end, next_of, opening, replies, serve, take_and_put, wants}

@@ -1,16 +1,15 @@
 -- The event of a node's turn is allowed, is its own, and its fold goes on with it.
 use Rattle.std.proofs.Common.{zero, suc, inl, inr, ◌⊎◌, ◌≡◌, ◌∙◌, ◌+◌, ◌<◌, ◌≤◌, ℕ, Bool, true, false, cond, List, [], ◌∷◌, length, Option, Some, None, refl, sym, ap, subst, arith, ⊎_elim}
 use Rattle.std.specs.Prelude.{not, ◌==◌, ◌&&◌, ◌||◌, nat_lt, nat_le, find, option_map, option_and_then, is_none, is_some}
-use Rattle.std.specs.List.{list_any, list_all, range_with_len}
+use Rattle.std.specs.List.{list_all, range_with_len}
 use Rattle.std.specs.Option.{option_map_or}
-use Rattle.std.proofs.lemmas.Bool.{and_from, and_parts, both_ways, cases_Bool, eq-eqb, eqb-false, eqb-true, le-leb, lt-ltb, ne_eqb}
+use Rattle.std.proofs.lemmas.Bool.{and_from, and_parts, both_ways, eq-eqb, eqb-false, eqb-true, le-leb, lt-ltb}
 use Rattle.std.proofs.lemmas.Option.{none-some, same_Some}
-use Rattle.base.proofs.OptionLaws.{None-from_is_none, option_map_some, true_from_not}
+use Rattle.base.proofs.OptionLaws.{None-from_is_none, option_map_some, true_from_not, map_or_at, map_or_true}
 use Rattle.config_graph.specs.Kinds.{calls_of, depends_on, mores_of, row}
 use Rattle.config_graph.specs.declared.node.Target.{Target}
 use Rattle.component_trait.proofs.BoundLaws.{asks_are_few, asks_depend, mores_are_few}
-use Rattle.component_trait.specs.Bounds.{FitsRequest}
-use Rattle.component_trait.specs.Fold.{after_event, asked_by, awaits_at, calls_at, is_give, is_more, is_request, is_request_at, may_take, wants_at, where_so}
+use Rattle.component_trait.specs.Fold.{asked_by, awaits_at, calls_at, is_give, is_more, is_request, is_request_at, may_take, wants_at, where_so}
 use Rattle.component_trait.specs.Moves as moves
 use Rattle.component_trait.specs.States.{NodeState, Service as Serving}
 use Rattle.component_trait.specs.Tables.{next_of}
@@ -20,21 +19,22 @@ use Rattle.component_trait.specs.declared.next.Next.TheVariants as next
 use Rattle.gate_word.specs.Phases.{is_answered, is_asked, is_idle, is_in_more}
 use Rattle.quiesce_core.specs.Knowledge.{IsServed, KnowsService, OwnPort, known_after, own_port_after, served_after}
 use Rattle.quiesce_core.specs.Reach.{IsPortOf}
-use Rattle.quiesce_core.specs.Rules.{calls_have_ended, has_calls_left, has_mores_left, serves_through, is_called_within, is_last_message, is_linked, is_live_port, is_missing, is_next_serial, is_open, is_taken, is_value, last_serial, value_limit, was_heard}
+use Rattle.quiesce_core.specs.Rules.{calls_have_ended, has_calls_left, has_mores_left, serves_through, is_called_within, is_live_port, is_missing, is_next_serial, is_open, is_taken, last_serial, value_limit, was_heard}
 use Rattle.quiesce_core.specs.State.{State, exchange, is_live, owner, ports_of, provides, service, slot, target, target_service}
 use Rattle.quiesce_core.specs.declared.event.Event.{Event}
 use Rattle.quiesce_core.specs.declared.event.Event.TheVariants.{Begin, Call, Take, Give, End, More, Ask, Hear, Miss}
 use Rattle.quiesce_core.specs.declared.known.Served.{Served}
 use Rattle.quiesce_core.specs.declared.state.Service.{Service}
 use Rattle.quiesce_core.specs.declared.state.Slot.{Slot}
-use Rattle.quiesce_core.proofs.CycleLaws.{map_or_at, map_or_true, of_all, of_any}
-use Rattle.quiesce_core.proofs.KnownLaws.{judged_calls, judged_heard, judged_mores, judged_serves_through, judged_taken, service_of_log}
+use Rattle.quiesce_core.proofs.CycleLaws.{of_all, of_any}
+use Rattle.quiesce_core.proofs.KnownLaws.{judged_calls, judged_mores, judged_serves_through, service_of_log}
 use Rattle.quiesce_core.proofs.ReachLaws.{owner_of}
 use Rattle.quiesce_core.proofs.StabilityLaws.{busy_is_live}
-use Rattle.quiesce_core.proofs.StateLaws.{answered_busy, asked_busy, is_taken_if, more_busy, serving_busy, target_service_is}
+use Rattle.quiesce_core.proofs.StateLaws.{is_taken_if, target_service_is}
+use Rattle.gate_word.proofs.PhaseLaws.{answered_busy, asked_busy, more_busy, serving_busy}
 use Rattle.turns.specs.Turn.{awaits_call, begins, begins_at, calls, does_next, ends, goes_on, has_reply, hears, is_call, is_for, move_of, or_else, reply_to, serves, takes}
 use Rattle.turns.specs.World.{first_port}
-use Rattle.turn_laws.specs.Agreement.{Agrees, HasNoCall, ServiceAgrees, ServiceIsSmall, ServicesAgree, expects}
+use Rattle.turn_laws.specs.Agreement.{HasNoCall, ServiceAgrees, ServicesAgree, expects}
 use Rattle.turn_laws.specs.Placed.{GoesOn, IsPlaced}
 use Rattle.turn_laws.proofs.KindTables.{asks_fit, gives_fit, mores_fit, replies_small, wants_fit}
 
@@ -114,9 +114,9 @@ not_false true h = absurd (both_ways true h refl)
 not_false false h = refl
 
 -- neither unlinked nor spent
-found_not_missing : (linked spent : Bool) → (not linked || spent) ≡ false → (linked ≡ true) × (spent ≡ false)
-found_not_missing true spent h = (refl, h)
-found_not_missing false spent h = absurd (both_ways true h refl)
+found_not_missing : (to : Option Target) (spent : Bool) → (is_none to || spent) ≡ false → (is_some to ≡ true) × (spent ≡ false)
+found_not_missing (Some t) spent h = (refl, h)
+found_not_missing None spent h = absurd (both_ways true h refl)
 
 module _ (s : State) (n : ℕ) (m : Slot) (t : NodeState) (es : List Event) (at : IsPlaced s n m t es) where
   abbrev far : ℕ → OwnPort
@@ -207,7 +207,7 @@ module _ (s : State) (n : ℕ) (m : Slot) (t : NodeState) (es : List Event) (at 
   request_goes_on x p is within small wanted h =
       let both = and_parts (is_idle (exchange s p).phase && is_open s.config p) (not (is_missing s p)) h in
       let idle = and_parts (is_idle (exchange s p).phase) (is_open s.config p) both.0 in
-      let there = found_not_missing (is_linked s.config p) ((exchange s p).serial == last_serial) (not_true (is_missing s p) both.1) in
+      let there = found_not_missing (target s.config p) ((exchange s p).serial == last_serial) (not_true (is_missing s p) both.1) in
       let o : IsPortOf s.config n p = subst (IsPortOf s.config n) is (own_port_of x.require within) in
       record {
         allowed = record {
@@ -485,7 +485,7 @@ module _ (s : State) (n : ℕ) (m : Slot) (t : NodeState) (es : List Event) (at 
             hands_small = tt;
           })
       by false found g live through left heard_there idle mine small =
-          let there = found_not_missing (is_linked s.config p) ((exchange s p).serial == last_serial) found in
+          let there = found_not_missing (target s.config p) ((exchange s p).serial == last_serial) found in
           subst (GoesOn s n m t es) (same_Some (Call p ((exchange s p).serial + 1) x.value) e g)
           (record {
             allowed = record {

@@ -1,6 +1,6 @@
 -- In every world that is reached, each node made agrees with its own events, and so the event of its turn is allowed.
-use Rattle.std.proofs.Common.{◌≡◌, ◌∙◌, ◌<◌, ◌≤◌, ◌+◌, ℕ, Bool, true, false, cond, List, [], ◌∷◌, ◌++◌, length, set, get_or, Option, Some, None, refl, sym, ap, subst, arith, rules, ⊎_elim, get_or-set_same, get_or-set_other}
-use Rattle.std.specs.Prelude.{IsTrue, ◌==◌, ◌&&◌, is_some, is_none, option_map, option_and_then, slice_index_or, not, fold}
+use Rattle.std.proofs.Common.{◌≡◌, ◌∙◌, ◌<◌, ◌≤◌, ◌+◌, ℕ, Bool, true, false, cond, List, [], ◌∷◌, ◌++◌, length, set, Option, Some, None, refl, sym, ap, subst, arith, ⊎_elim, get_or-set_same, get_or-set_other}
+use Rattle.std.specs.Prelude.{◌==◌, ◌&&◌, is_some, is_none, option_map, slice_index_or, not}
 use Rattle.std.specs.Option.{option_map_or}
 use Rattle.std.specs.List.{enumerate_from}
 use Rattle.std.proofs.lemmas.Bool.{and_parts, both_ways, cases_eq, eq-eqb, eqb-true, ltb-true, ne_eqb}
@@ -11,9 +11,8 @@ use Rattle.std.proofs.Math.Seq.{get_or-append_seam}
 use Rattle.config_graph.specs.Kinds.{row}
 use Rattle.config_graph.specs.declared.kind.Kind.{Kind}
 use Rattle.config_graph.specs.declared.node.Node.{Node}
-use Rattle.config_graph.specs.declared.node.Target.{Target}
 use Rattle.component_trait.proofs.FoldLaws.{fold_keeps_kind}
-use Rattle.component_trait.specs.Fold.{after_event, fold_next}
+use Rattle.component_trait.specs.Fold.{fold_next}
 use Rattle.component_trait.specs.States.{Kept, NodeState, at_rest}
 use Rattle.component_trait.specs.Tables.{opening}
 use Rattle.quiesce_core.specs.Alters.{nodes_next, slot_next}
@@ -25,17 +24,18 @@ use Rattle.quiesce_core.specs.Rules.{denial, has_its_argument, is_kind, is_path_
 use Rattle.quiesce_core.specs.Runs.{IsRun, doer, done_by, is_doer, state_after}
 use Rattle.quiesce_core.specs.State.{Configuration, State, is_live, slot}
 use Rattle.quiesce_core.specs.declared.event.Event.{Event}
-use Rattle.quiesce_core.specs.declared.event.Event.TheVariants.{Begin, Call, Take, Give, End, More, Ask, Hear, Miss, Close, Reopen, Make, Link, Unlink, Remove}
+use Rattle.quiesce_core.specs.declared.event.Event.TheVariants.{Close, Reopen, Make, Link, Unlink, Remove}
 use Rattle.quiesce_core.specs.declared.state.Slot.{Slot}
 use Rattle.quiesce_core.proofs.AlterLaws.{reconfigured}
-use Rattle.quiesce_core.proofs.CycleLaws.{made_below, map_or_at, map_or_true}
+use Rattle.quiesce_core.proofs.CycleLaws.{made_below}
+use Rattle.base.proofs.OptionLaws.{map_or_at, map_or_true}
 use Rattle.quiesce_core.proofs.KnownLaws.{nodes_know_by_index}
 use Rattle.quiesce_core.proofs.LegalLaws.{allowed, legal}
 use Rattle.quiesce_core.proofs.RunLaws.{changes_are_of_no_node, done_by_more, node_events_keep_the_configuration, nodes_know, runs_are_consistent, runs_are_well_formed, runs_grow, state_more}
 use Rattle.turns.proofs.TurnLaws.{posts_keep, turns_do}
 use Rattle.turns.specs.Hints.{after_move, without_hints}
 use Rattle.turns.specs.Turn.{move_of, post_waiting, turn, turn_in}
-use Rattle.turns.specs.World.{World, argument, first_port, inbox, nowhere, opened, state_of, waiting_of, with_event, with_event_of}
+use Rattle.turns.specs.World.{World, argument, first_port, inbox, opened, state_of, waiting_of, with_event, with_event_of}
 use Rattle.turn_laws.specs.Agreement.{Agrees, IsSmall, ports_next}
 use Rattle.turn_laws.specs.Placed.{GoesOn, IsPlaced}
 use Rattle.turn_laws.specs.Reached.{IsReached}

@@ -3,7 +3,7 @@ use Rattle.std.specs.Prelude.{◌≡◌, ℕ, ◌+◌, ◌<◌, ◌≤◌, Bool,
 use Rattle.std.specs.List.{All}
 use Rattle.component_trait.specs.Fold.{calls_at, wants_at}
 use Rattle.component_trait.specs.States.{NodeState, Service}
-use Rattle.quiesce_core.specs.Knowledge.{OwnPort, own_port_next, served_next}
+use Rattle.quiesce_core.specs.Knowledge.{OwnPort, own_port_next}
 use Rattle.quiesce_core.specs.Rules.{value_limit}
 use Rattle.quiesce_core.specs.declared.event.Event.{Event}
 use Rattle.quiesce_core.specs.declared.event.Event.TheVariants.{Begin, Call, End, Hear, Miss, More, Take}

@@ -1,0 +1,11 @@
+-- An inbox that was asked after hints were posted was asked since before.
+use Rattle.std.proofs.Common.{inl, inr, ◌≤◌, ℕ, arith, subst}
+use Rattle.port_queue.specs.Inboxes.{Counts, Rose}
+use Rattle.node_host.specs.Trying.{IsAsked, IsGrown, LookedAt}
+
+rose_since : (a b c : ℕ) → a ≤ b → Rose b c → Rose a c
+rose_since a b c few rose = (omega (arith, few, rose.0), λ short. grind (arith, few, rose.0, rose.1, short))
+
+pub asked_since : (a b c : Counts) → IsGrown a b → LookedAt b c → IsAsked a c
+asked_since a b c grown (inl refused) = inl (rose_since a.refused b.refused c.refused grown.0 refused.refused)
+asked_since a b c grown (inr gave) = inr (subst (λ k. Rose k c.given) grown.1 gave.1.given)

@@ -1,0 +1,16 @@
+mod Asked
+mod Asking
+mod Composing
+mod Exactly
+mod Going
+mod Growing
+mod Hinting
+mod Idle
+mod InService
+mod Looking
+mod Moving
+mod Opening
+mod Permitted
+mod Placing
+mod Replying
+mod Still

@@ -1,0 +1,182 @@
+use Rattle.std.proofs.Common.{◌∙◌, ◌+◌, List, [], ◌∷◌, refl, sym, ap, subst, arith}
+use Rattle.std.specs.Prelude.{map, slice_index_or}
+use Rattle.quiesce_core.specs.Knowledge.{port_at_start}
+use Rattle.quiesce_core.specs.declared.event.Event.{Event}
+use Rattle.quiesce_core.specs.declared.event.Event.TheVariants as event
+use Rattle.node_host.specs.Hosted.{SeatSeen, node_of}
+use Rattle.node_host.specs.Posting.{Hinted, IsPosted}
+use Rattle.node_host.proofs.Replying.{index_is}
+use Rattle.node_host.specs.Lines.{Member}
+use Rattle.port_gate.specs.Seats.{MayCall}
+use Rattle.node_host.proofs.Exactly.{calls_busy, calls_called, calls_missed}
+use Rattle.node_host.proofs.Growing.{hosted_after, moved_after, node_after}
+use Rattle.node_host.proofs.InService.{no_call}
+use Rattle.node_host.proofs.Idle.{not_false, not_true}
+use Rattle.node_host.proofs.Permitted.{call_folds, can_call, can_miss, did_by, may_call, miss_folds}
+use Rattle.node_host.proofs.Still.{hosted_waiting}
+use Rattle.node_host.proofs.node.HostNode.call.Goals as goal
+
+pub returns-then-not-port_known-clause-exact : goal.returns-then-not-port_known-clause-exact
+returns-then-not-port_known-clause-exact g c =
+    let h = c.args.self.now in
+    let t = g.C.Component.state h.inner in
+    let line : List Member = map (λ p. record { first = p.first_port; arg = p.arg; log = p.log.items }) h.past.items in
+    let seat : SeatSeen = record { slot = g.S.GateSeat.slot_of h.seat; known = g.S.GateSeat.known h.seat; told = g.S.GateSeat.tells h.seat } in
+    λ s told. calls_busy (g.G.PortGate.state c.args.gate.now) (node_of h.slot h.first_port t) seat.known s told c.args.ask.require c.args.ask.value c.requires.fits_ask.require (ap (λ w. (slice_index_or w.ports c.args.ask.require port_at_start).idle) (sym h.hosted.kept) ∙ ap (λ x. x.idle) (sym c.port_known.ensures) ∙ not_true c.port_known.result.idle c.if-not-port_known.true)
+
+pub call-requires-clause-may : goal.call-requires-clause-may
+call-requires-clause-may g c =
+    let h = c.args.self.now in
+    let t = g.C.Component.state h.inner in
+    let line : List Member = map (λ p. record { first = p.first_port; arg = p.arg; log = p.log.items }) h.past.items in
+    let seat : SeatSeen = record { slot = g.S.GateSeat.slot_of h.seat; known = g.S.GateSeat.known h.seat; told = g.S.GateSeat.tells h.seat } in
+    subst (λ m. MayCall m seat.known (h.first_port + c.args.ask.require) c.args.ask.value) (sym c.requires.node)
+    (may_call h.slot h.first_port t h.log.items line h.known h.waiting seat h.hosted c.args.served c.requires.served c.requires.heard c.requires.ended c.args.ask c.port_known.result c.requires.asks c.requires.fits_ask c.requires.depends c.port_known.ensures (not_false c.port_known.result.idle c.if-not-port_known.false))
+
+pub answered-requires-clause-asked : goal.answered-requires-clause-asked
+answered-requires-clause-asked g c =
+    let h = c.args.self.now in
+    let t = g.C.Component.state h.inner in
+    let line : List Member = map (λ p. record { first = p.first_port; arg = p.arg; log = p.log.items }) h.past.items in
+    let seat : SeatSeen = record { slot = g.S.GateSeat.slot_of h.seat; known = g.S.GateSeat.known h.seat; told = g.S.GateSeat.tells h.seat } in
+    (c.args.ask.value, c.requires.asks)
+
+pub keep-requires-clause-count : goal.keep-requires-clause-count
+keep-requires-clause-count g c =
+    let h = c.args.self.now in
+    let t = g.C.Component.state h.inner in
+    let line : List Member = map (λ p. record { first = p.first_port; arg = p.arg; log = p.log.items }) h.past.items in
+    let seat : SeatSeen = record { slot = g.S.GateSeat.slot_of h.seat; known = g.S.GateSeat.known h.seat; told = g.S.GateSeat.tells h.seat } in
+    can_miss h.slot h.first_port t h.log.items line h.known h.waiting seat h.hosted c.args.served c.requires.served c.requires.heard c.requires.ended (h.first_port + c.args.ask.require) c.args.ask c.requires.asks
+
+pub keep-requires-in-Called-clause-count : goal.keep-requires-in-Called-clause-count
+keep-requires-in-Called-clause-count g c =
+    let h = c.args.self.now in
+    let t = g.C.Component.state h.inner in
+    let line : List Member = map (λ p. record { first = p.first_port; arg = p.arg; log = p.log.items }) h.past.items in
+    let seat : SeatSeen = record { slot = g.S.GateSeat.slot_of h.seat; known = g.S.GateSeat.known h.seat; told = g.S.GateSeat.tells h.seat } in
+    can_call h.slot h.first_port t h.log.items line h.known h.waiting seat h.hosted c.args.served c.requires.served c.requires.heard c.requires.ended (h.first_port + c.args.ask.require) c.in-Called.serial c.args.ask.value c.args.ask c.requires.asks
+
+pub post-requires-clause-port : goal.post-requires-clause-port
+post-requires-clause-port g c =
+    let h = c.args.self.now in
+    let t = g.C.Component.state h.inner in
+    let line : List Member = map (λ p. record { first = p.first_port; arg = p.arg; log = p.log.items }) h.past.items in
+    let seat : SeatSeen = record { slot = g.S.GateSeat.slot_of h.seat; known = g.S.GateSeat.known h.seat; told = g.S.GateSeat.tells h.seat } in
+    omega (arith, c.requires.fits_ask.require, h.hosted.limits.ports_within)
+
+pub post-requires-clause-node : goal.post-requires-clause-node
+post-requires-clause-node g c =
+    let h = c.args.self.now in
+    let t = g.C.Component.state h.inner in
+    let line : List Member = map (λ p. record { first = p.first_port; arg = p.arg; log = p.log.items }) h.past.items in
+    let seat : SeatSeen = record { slot = g.S.GateSeat.slot_of h.seat; known = g.S.GateSeat.known h.seat; told = g.S.GateSeat.tells h.seat } in
+    c.in-Called.ensures.says.1
+
+pub invariant_of-self-clause-hosted : goal.invariant_of-self-clause-hosted
+invariant_of-self-clause-hosted g c =
+    let h = c.args.self.now in
+    let t = g.C.Component.state h.inner in
+    let line : List Member = map (λ p. record { first = p.first_port; arg = p.arg; log = p.log.items }) h.past.items in
+    let seat : SeatSeen = record { slot = g.S.GateSeat.slot_of h.seat; known = g.S.GateSeat.known h.seat; told = g.S.GateSeat.tells h.seat } in
+    let seat' : SeatSeen = record { slot = g.S.GateSeat.slot_of c.call.new.seat; known = g.S.GateSeat.known c.call.new.seat; told = g.S.GateSeat.tells c.call.new.seat } in
+    let e : Event = event.Miss (h.first_port + c.args.ask.require) in
+    hosted_after h.slot h.first_port t h.log.items line h.known h.waiting seat h.hosted e (g.C.Component.state c.answered.new.self) c.keep.new.log.items c.keep.new.known seat'
+    (g.G.PortGate.node c.call.new.self c.call.new.seat) (g.G.PortGate.state c.args.gate.now) (g.G.PortGate.state c.call.new.self)
+    (c.call.ensures.node ∙ c.requires.node) (g.met.G.PortGate.within c.call.new.self c.call.new.seat c.call.ensures.fits).1
+    (did_by (node_of h.slot h.first_port t) (g.G.PortGate.node c.args.gate.now h.seat) seat.known seat'.known seat.told seat'.told (g.G.PortGate.state c.args.gate.now) (g.G.PortGate.state c.call.new.self) (e ∷ []) (event.Miss (h.first_port + c.args.ask.require) ∷ []) c.requires.node (refl) c.in-Missed.ensures.does)
+    (no_call h.slot h.first_port t h.log.items line h.known h.waiting seat h.hosted c.requires.ended) (miss_folds h.first_port c.args.ask t (g.C.Component.state c.answered.new.self) c.requires.asks c.answered.ensures.state) c.keep.ensures.logged c.keep.ensures.known
+
+pub invariant_of-self-in-Called-clause-hosted : goal.invariant_of-self-in-Called-clause-hosted
+invariant_of-self-in-Called-clause-hosted g c =
+    let h = c.args.self.now in
+    let t = g.C.Component.state h.inner in
+    let line : List Member = map (λ p. record { first = p.first_port; arg = p.arg; log = p.log.items }) h.past.items in
+    let seat : SeatSeen = record { slot = g.S.GateSeat.slot_of h.seat; known = g.S.GateSeat.known h.seat; told = g.S.GateSeat.tells h.seat } in
+    let seat' : SeatSeen = record { slot = g.S.GateSeat.slot_of c.call.new.seat; known = g.S.GateSeat.known c.call.new.seat; told = g.S.GateSeat.tells c.call.new.seat } in
+    let e : Event = event.Call (h.first_port + c.args.ask.require) c.in-Called.serial c.args.ask.value in
+    hosted_waiting h.slot h.first_port t c.keep-in-Called.new.log.items line c.keep-in-Called.new.known h.waiting seat' (hosted_after h.slot h.first_port t h.log.items line h.known h.waiting seat h.hosted e (t) c.keep-in-Called.new.log.items c.keep-in-Called.new.known seat'
+    (g.G.PortGate.node c.call.new.self c.call.new.seat) (g.G.PortGate.state c.args.gate.now) (g.G.PortGate.state c.call.new.self)
+    (c.call.ensures.node ∙ c.requires.node) (g.met.G.PortGate.within c.call.new.self c.call.new.seat c.call.ensures.fits).1
+    (did_by (node_of h.slot h.first_port t) (g.G.PortGate.node c.args.gate.now h.seat) seat.known seat'.known seat.told seat'.told (g.G.PortGate.state c.args.gate.now) (g.G.PortGate.state c.call.new.self) (e ∷ []) (event.Call (h.first_port + c.args.ask.require) c.in-Called.serial c.args.ask.value ∷ []) c.requires.node (refl) c.in-Called.ensures.does)
+    (no_call h.slot h.first_port t h.log.items line h.known h.waiting seat h.hosted c.requires.ended) (call_folds h.first_port c.in-Called.serial c.args.ask t c.requires.asks) c.keep-in-Called.ensures.logged c.keep-in-Called.ensures.known)
+    c.post.new.waiting c.args.ask.require c.in-Called.target c.post.result c.post.ensures.waiting c.requires.fits_ask.require c.in-Called.ensures.says.1
+
+pub returns-in-Missed-clause-node : goal.returns-in-Missed-clause-node
+returns-in-Missed-clause-node g c =
+    let h = c.args.self.now in
+    let t = g.C.Component.state h.inner in
+    let line : List Member = map (λ p. record { first = p.first_port; arg = p.arg; log = p.log.items }) h.past.items in
+    let seat : SeatSeen = record { slot = g.S.GateSeat.slot_of h.seat; known = g.S.GateSeat.known h.seat; told = g.S.GateSeat.tells h.seat } in
+    let seat' : SeatSeen = record { slot = g.S.GateSeat.slot_of c.call.new.seat; known = g.S.GateSeat.known c.call.new.seat; told = g.S.GateSeat.tells c.call.new.seat } in
+    let e : Event = event.Miss (h.first_port + c.args.ask.require) in
+    node_after h.slot h.first_port t h.log.items line h.known h.waiting seat h.hosted e (g.C.Component.state c.answered.new.self) c.keep.new.log.items c.keep.new.known seat'
+    (g.G.PortGate.node c.call.new.self c.call.new.seat) (g.G.PortGate.state c.args.gate.now) (g.G.PortGate.state c.call.new.self)
+    (c.call.ensures.node ∙ c.requires.node) (g.met.G.PortGate.within c.call.new.self c.call.new.seat c.call.ensures.fits).1
+    (did_by (node_of h.slot h.first_port t) (g.G.PortGate.node c.args.gate.now h.seat) seat.known seat'.known seat.told seat'.told (g.G.PortGate.state c.args.gate.now) (g.G.PortGate.state c.call.new.self) (e ∷ []) (event.Miss (h.first_port + c.args.ask.require) ∷ []) c.requires.node (refl) c.in-Missed.ensures.does)
+    (no_call h.slot h.first_port t h.log.items line h.known h.waiting seat h.hosted c.requires.ended) (miss_folds h.first_port c.args.ask t (g.C.Component.state c.answered.new.self) c.requires.asks c.answered.ensures.state) c.keep.ensures.logged c.keep.ensures.known
+
+pub returns-in-Missed-clause-moved : goal.returns-in-Missed-clause-moved
+returns-in-Missed-clause-moved g c =
+    let h = c.args.self.now in
+    let t = g.C.Component.state h.inner in
+    let line : List Member = map (λ p. record { first = p.first_port; arg = p.arg; log = p.log.items }) h.past.items in
+    let seat : SeatSeen = record { slot = g.S.GateSeat.slot_of h.seat; known = g.S.GateSeat.known h.seat; told = g.S.GateSeat.tells h.seat } in
+    let seat' : SeatSeen = record { slot = g.S.GateSeat.slot_of c.call.new.seat; known = g.S.GateSeat.known c.call.new.seat; told = g.S.GateSeat.tells c.call.new.seat } in
+    let e : Event = event.Miss (h.first_port + c.args.ask.require) in
+    moved_after h.slot h.first_port t h.log.items line h.known h.waiting seat h.hosted e (g.C.Component.state c.answered.new.self) c.keep.new.log.items c.keep.new.known seat'
+    (g.G.PortGate.node c.call.new.self c.call.new.seat) (g.G.PortGate.state c.args.gate.now) (g.G.PortGate.state c.call.new.self)
+    (c.call.ensures.node ∙ c.requires.node) (g.met.G.PortGate.within c.call.new.self c.call.new.seat c.call.ensures.fits).1
+    (did_by (node_of h.slot h.first_port t) (g.G.PortGate.node c.args.gate.now h.seat) seat.known seat'.known seat.told seat'.told (g.G.PortGate.state c.args.gate.now) (g.G.PortGate.state c.call.new.self) (e ∷ []) (event.Miss (h.first_port + c.args.ask.require) ∷ []) c.requires.node (refl) c.in-Missed.ensures.does)
+    (no_call h.slot h.first_port t h.log.items line h.known h.waiting seat h.hosted c.requires.ended) (miss_folds h.first_port c.args.ask t (g.C.Component.state c.answered.new.self) c.requires.asks c.answered.ensures.state) c.keep.ensures.logged c.keep.ensures.known
+
+pub returns-in-Called-clause-moved : goal.returns-in-Called-clause-moved
+returns-in-Called-clause-moved g c =
+    let h = c.args.self.now in
+    let t = g.C.Component.state h.inner in
+    let line : List Member = map (λ p. record { first = p.first_port; arg = p.arg; log = p.log.items }) h.past.items in
+    let seat : SeatSeen = record { slot = g.S.GateSeat.slot_of h.seat; known = g.S.GateSeat.known h.seat; told = g.S.GateSeat.tells h.seat } in
+    let seat' : SeatSeen = record { slot = g.S.GateSeat.slot_of c.call.new.seat; known = g.S.GateSeat.known c.call.new.seat; told = g.S.GateSeat.tells c.call.new.seat } in
+    let e : Event = event.Call (h.first_port + c.args.ask.require) c.in-Called.serial c.args.ask.value in
+    moved_after h.slot h.first_port t h.log.items line h.known h.waiting seat h.hosted e (t) c.keep-in-Called.new.log.items c.keep-in-Called.new.known seat'
+    (g.G.PortGate.node c.call.new.self c.call.new.seat) (g.G.PortGate.state c.args.gate.now) (g.G.PortGate.state c.call.new.self)
+    (c.call.ensures.node ∙ c.requires.node) (g.met.G.PortGate.within c.call.new.self c.call.new.seat c.call.ensures.fits).1
+    (did_by (node_of h.slot h.first_port t) (g.G.PortGate.node c.args.gate.now h.seat) seat.known seat'.known seat.told seat'.told (g.G.PortGate.state c.args.gate.now) (g.G.PortGate.state c.call.new.self) (e ∷ []) (event.Call (h.first_port + c.args.ask.require) c.in-Called.serial c.args.ask.value ∷ []) c.requires.node (refl) c.in-Called.ensures.does)
+    (no_call h.slot h.first_port t h.log.items line h.known h.waiting seat h.hosted c.requires.ended) (call_folds h.first_port c.in-Called.serial c.args.ask t c.requires.asks) c.keep-in-Called.ensures.logged c.keep-in-Called.ensures.known
+
+pub returns-in-Missed-clause-exact : goal.returns-in-Missed-clause-exact
+returns-in-Missed-clause-exact g c =
+    let h = c.args.self.now in
+    let t = g.C.Component.state h.inner in
+    let line : List Member = map (λ p. record { first = p.first_port; arg = p.arg; log = p.log.items }) h.past.items in
+    let seat : SeatSeen = record { slot = g.S.GateSeat.slot_of h.seat; known = g.S.GateSeat.known h.seat; told = g.S.GateSeat.tells h.seat } in
+    λ s told. calls_missed (g.G.PortGate.state c.args.gate.now) (node_of h.slot h.first_port t) seat.known s told (h.first_port + c.args.ask.require) c.args.ask.value (g.G.PortGate.state c.call.new.self)
+    (did_by (node_of h.slot h.first_port t) (g.G.PortGate.node c.args.gate.now h.seat) seat.known (g.S.GateSeat.known c.call.new.seat) seat.told (g.S.GateSeat.tells c.call.new.seat) (g.G.PortGate.state c.args.gate.now) (g.G.PortGate.state c.call.new.self) (event.Miss (h.first_port + c.args.ask.require) ∷ []) (event.Miss (h.first_port + c.args.ask.require) ∷ []) c.requires.node (refl) c.in-Missed.ensures.does).steps
+
+pub returns-in-Called-clause-exact : goal.returns-in-Called-clause-exact
+returns-in-Called-clause-exact g c =
+    let h = c.args.self.now in
+    let t = g.C.Component.state h.inner in
+    let line : List Member = map (λ p. record { first = p.first_port; arg = p.arg; log = p.log.items }) h.past.items in
+    let seat : SeatSeen = record { slot = g.S.GateSeat.slot_of h.seat; known = g.S.GateSeat.known h.seat; told = g.S.GateSeat.tells h.seat } in
+    λ s told. calls_called (g.G.PortGate.state c.args.gate.now) (node_of h.slot h.first_port t) seat.known s told (h.first_port + c.args.ask.require) c.in-Called.serial c.args.ask.value (g.G.PortGate.state c.call.new.self)
+    (did_by (node_of h.slot h.first_port t) (g.G.PortGate.node c.args.gate.now h.seat) seat.known (g.S.GateSeat.known c.call.new.seat) seat.told (g.S.GateSeat.tells c.call.new.seat) (g.G.PortGate.state c.args.gate.now) (g.G.PortGate.state c.call.new.self) (event.Call (h.first_port + c.args.ask.require) c.in-Called.serial c.args.ask.value ∷ []) (event.Call (h.first_port + c.args.ask.require) c.in-Called.serial c.args.ask.value ∷ []) c.requires.node (refl) c.in-Called.ensures.does).steps
+
+pub returns-in-Called-clause-hint : goal.returns-in-Called-clause-hint
+returns-in-Called-clause-hint g c =
+    let h = c.args.self.now in
+    let t = g.C.Component.state h.inner in
+    let line : List Member = map (λ p. record { first = p.first_port; arg = p.arg; log = p.log.items }) h.past.items in
+    let seat : SeatSeen = record { slot = g.S.GateSeat.slot_of h.seat; known = g.S.GateSeat.known h.seat; told = g.S.GateSeat.tells h.seat } in
+    let old : Hinted = record { waiting = h.waiting; counts = g.H.Hints.counts c.args.hints.now; told = g.H.Hints.tells c.args.hints.now } in
+    let new : Hinted = record { waiting = c.post.new.waiting; counts = g.H.Hints.counts c.post.new.hints; told = g.H.Hints.tells c.post.new.hints } in
+    let posted : IsPosted h.first_port c.args.ask.require c.in-Called.target old new = record {
+      posted = c.post.result;
+      waits = c.post.ensures.waiting;
+      tried = c.post.ensures.counts;
+      full = c.post.ensures.full;
+      put = c.post.ensures.posted;
+      counts = c.post.ensures.others;
+      told = c.post.ensures.other_inboxes;
+    } in
+    record { target = c.in-Called.target; leads = c.in-Called.ensures.says.2; posted = subst (λ r. IsPosted h.first_port r c.in-Called.target old new) (sym (index_is h.first_port c.args.ask.require)) posted }

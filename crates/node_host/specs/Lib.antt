@@ -1,0 +1,9 @@
+pub mod Lines
+pub mod Hosted
+pub mod HostedProps
+pub mod Moved
+pub mod Told
+pub mod Trying
+pub mod Posting
+pub mod Awaiting
+pub mod Turning

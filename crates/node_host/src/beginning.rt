@@ -1,0 +1,135 @@
+//! A node's last move: it begins what it wants.
+
+ghost use Rattle.std.specs.Prelude.{◌≡◌, ◌≢◌, ℕ, ◌<◌, List, length, map, vec_capacity, None, Some, if◌then◌else◌};
+ghost use Rattle.component_trait.specs.Bounds.{FitsRequest};
+ghost use Rattle.component_trait.specs.Moves as moves;
+ghost use Rattle.node_host.specs.Hosted.{node_of};
+ghost use Rattle.node_host.specs.Moved.{Moved};
+ghost use Rattle.node_host.specs.Posting.{HintOf};
+ghost use Rattle.node_host.specs.Told.{IsTold};
+ghost use Rattle.quiesce_core.specs.State.{State};
+ghost use Rattle.turns.specs.Turn.{begins};
+
+use crate::ending::port_known;
+use crate::keeping::{keep, place};
+use crate::node::HostNode;
+use crate::posting::post;
+use component_trait::{Ask, Component};
+use port_gate::{BeginAnswer, GateSeat, PortGate};
+use port_queue::Hints;
+use quiesce_core::Event;
+
+impl<C: Component + Drop, S: GateSeat + Drop> HostNode<C, S> {
+    /// Begins this, which the component wants, where that port is idle and the gate lets it, and posts the hint.
+    fn begin<G: PortGate<Seat = S>, H: Hints>(
+        &mut self,
+        gate: &mut G,
+        hints: &mut H,
+        ask: Ask,
+    ) -> Option<Event>
+        requires wanted { moves.wants (C.state self.old.inner) ≡ Some ask }
+        requires fits_ask { FitsRequest (C.state self.old.inner).kind ask }
+        requires fits { G.fits gate.old self.old.seat }
+        requires node { G.node gate.old self.old.seat ≡ node_of self.old.slot self.old.first_port (C.state self.old.inner) }
+        requires room { length self.old.log.items < vec_capacity self.old.log }
+        ensures fits { G.fits gate.new self.new.seat }
+        ensures node { G.node gate.new self.new.seat ≡ node_of self.new.slot self.new.first_port (C.state self.new.inner) }
+        ensures others { (other : S) → S.slot_of other ≢ self.old.slot → G.fits gate.old other → G.fits gate.new other × (G.node gate.new other ≡ G.node gate.old other) }
+        ensures moved { Moved (node_of self.old.slot self.old.first_port (C.state self.old.inner)) result (C.state self.old.inner) (C.state self.new.inner) self.old.log.items self.new.log.items (record { slot = S.slot_of self.old.seat; known = S.known self.old.seat; told = S.tells self.old.seat }) (record { slot = S.slot_of self.new.seat; known = S.known self.new.seat; told = S.tells self.new.seat }) (G.state gate.old) (G.state gate.new) }
+        ensures place { (self.new.slot ≡ self.old.slot) × (self.new.first_port ≡ self.old.first_port) }
+        ensures past { self.new.past ≡ self.old.past }
+        ensures hint { HintOf (G.state gate.old) self.old.first_port result (record { waiting = self.old.waiting; counts = H.counts hints.old; told = H.tells hints.old }) (record { waiting = self.new.waiting; counts = H.counts hints.new; told = H.tells hints.new }) }
+        ensures quiet { result ≡ None → (hints.new ≡ hints.old) × (self.new.waiting ≡ self.old.waiting) }
+        ensures exact { (s : State) → IsTold (G.state gate.old) (node_of self.old.slot self.old.first_port (C.state self.old.inner)) (S.known self.old.seat) s → result ≡ begins s self.old.slot (C.state self.old.inner) }
+    {
+        place(gate, &self.seat);
+        if !port_known(&self.known, ask.require).idle {
+            return None;
+        }
+        let port = self.first_port + ask.require;
+        let value = ask.value;
+        match gate.begin(&mut self.seat, port, value) {
+            BeginAnswer::Begun { serial, target } => {
+                keep(
+                    &mut self.log,
+                    &mut self.known,
+                    self.first_port,
+                    Event::Begin {
+                        port,
+                        serial,
+                        value,
+                    },
+                );
+                post(
+                    &mut self.waiting,
+                    hints,
+                    self.first_port,
+                    ask.require,
+                    target,
+                );
+                Some(Event::Begin {
+                    port,
+                    serial,
+                    value,
+                })
+            }
+            BeginAnswer::Closed { .. } => None,
+            BeginAnswer::Unlinked { .. } => None,
+            BeginAnswer::Again { .. } => None,
+            BeginAnswer::Spent { .. } => None,
+        }
+    }
+
+    /// Begins what the component wants, where that port is idle and the gate lets it, and posts the hint.
+    #[tactic(auto, using(crate::proofs::Exactly::begins_nothing))]
+    pub fn begin_wanted<G: PortGate<Seat = S>, H: Hints>(
+        &mut self,
+        gate: &mut G,
+        hints: &mut H,
+    ) -> Option<Event>
+        requires fits { G.fits gate.old self.old.seat }
+        requires node { G.node gate.old self.old.seat ≡ node_of self.old.slot self.old.first_port (C.state self.old.inner) }
+        requires room { length self.old.log.items < vec_capacity self.old.log }
+        ensures fits { G.fits gate.new self.new.seat }
+        ensures node { G.node gate.new self.new.seat ≡ node_of self.new.slot self.new.first_port (C.state self.new.inner) }
+        ensures others { (other : S) → S.slot_of other ≢ self.old.slot → G.fits gate.old other → G.fits gate.new other × (G.node gate.new other ≡ G.node gate.old other) }
+        ensures moved { Moved (node_of self.old.slot self.old.first_port (C.state self.old.inner)) result (C.state self.old.inner) (C.state self.new.inner) self.old.log.items self.new.log.items (record { slot = S.slot_of self.old.seat; known = S.known self.old.seat; told = S.tells self.old.seat }) (record { slot = S.slot_of self.new.seat; known = S.known self.new.seat; told = S.tells self.new.seat }) (G.state gate.old) (G.state gate.new) }
+        ensures place { (self.new.slot ≡ self.old.slot) × (self.new.first_port ≡ self.old.first_port) }
+        ensures past { self.new.past ≡ self.old.past }
+        ensures hint { HintOf (G.state gate.old) self.old.first_port result (record { waiting = self.old.waiting; counts = H.counts hints.old; told = H.tells hints.old }) (record { waiting = self.new.waiting; counts = H.counts hints.new; told = H.tells hints.new }) }
+        ensures quiet { result ≡ None → (hints.new ≡ hints.old) × (self.new.waiting ≡ self.old.waiting) }
+        ensures exact { (s : State) → IsTold (G.state gate.old) (node_of self.old.slot self.old.first_port (C.state self.old.inner)) (S.known self.old.seat) s → result ≡ begins s self.old.slot (C.state self.old.inner) }
+    {
+        match self.inner.wants() {
+            None => None,
+            Some(ask) => self.begin(gate, hints, ask),
+        }
+    }
+
+    /// Begins what the component wants, where that is allowed.
+    pub fn begin_if<G: PortGate<Seat = S>, H: Hints>(
+        &mut self,
+        gate: &mut G,
+        hints: &mut H,
+        allowed: bool,
+    ) -> Option<Event>
+        requires fits { G.fits gate.old self.old.seat }
+        requires node { G.node gate.old self.old.seat ≡ node_of self.old.slot self.old.first_port (C.state self.old.inner) }
+        requires room { length self.old.log.items < vec_capacity self.old.log }
+        ensures fits { G.fits gate.new self.new.seat }
+        ensures node { G.node gate.new self.new.seat ≡ node_of self.new.slot self.new.first_port (C.state self.new.inner) }
+        ensures others { (other : S) → S.slot_of other ≢ self.old.slot → G.fits gate.old other → G.fits gate.new other × (G.node gate.new other ≡ G.node gate.old other) }
+        ensures moved { Moved (node_of self.old.slot self.old.first_port (C.state self.old.inner)) result (C.state self.old.inner) (C.state self.new.inner) self.old.log.items self.new.log.items (record { slot = S.slot_of self.old.seat; known = S.known self.old.seat; told = S.tells self.old.seat }) (record { slot = S.slot_of self.new.seat; known = S.known self.new.seat; told = S.tells self.new.seat }) (G.state gate.old) (G.state gate.new) }
+        ensures place { (self.new.slot ≡ self.old.slot) × (self.new.first_port ≡ self.old.first_port) }
+        ensures past { self.new.past ≡ self.old.past }
+        ensures hint { HintOf (G.state gate.old) self.old.first_port result (record { waiting = self.old.waiting; counts = H.counts hints.old; told = H.tells hints.old }) (record { waiting = self.new.waiting; counts = H.counts hints.new; told = H.tells hints.new }) }
+        ensures quiet { result ≡ None → (hints.new ≡ hints.old) × (self.new.waiting ≡ self.old.waiting) }
+        ensures exact { (s : State) → IsTold (G.state gate.old) (node_of self.old.slot self.old.first_port (C.state self.old.inner)) (S.known self.old.seat) s → result ≡ (if allowed then begins s self.old.slot (C.state self.old.inner) else None) }
+    {
+        if allowed {
+            self.begin_wanted(gate, hints)
+        } else {
+            None
+        }
+    }
+}

@@ -1,0 +1,166 @@
+//! A node's first move: it ends a transaction of its own that is answered, or replies to an intermediate reply.
+
+ghost use Rattle.std.specs.Prelude.{◌≡◌, ◌≢◌, ℕ, ◌+◌, ◌<◌, true, false, length, map, slice_index_or, vec_capacity, None, Some};
+ghost use Rattle.config_graph.specs.Kinds.{row};
+ghost use Rattle.component_trait.specs.Fold.{after_event};
+ghost use Rattle.component_trait.specs.Moves as moves;
+ghost use Rattle.config_graph.specs.declared.TheConstants.{VALUE_LIMIT};
+ghost use Rattle.node_host.specs.Hosted.{node_of};
+ghost use Rattle.node_host.specs.Moved.{Moved};
+ghost use Rattle.node_host.specs.Posting.{is_asking};
+ghost use Rattle.node_host.specs.Told.{IsTold, reply_at};
+ghost use Rattle.quiesce_core.specs.Knowledge.{port_at_start};
+ghost use Rattle.quiesce_core.specs.State.{State};
+ghost use Rattle.quiesce_core.specs.declared.event.Event.TheVariants as event;
+ghost use Rattle.turn_laws.specs.Agreement.{expects};
+ghost use Rattle.turns.specs.Turn.{ends};
+
+use crate::keeping::{keep, place};
+use crate::node::HostNode;
+use component_trait::Component;
+use port_gate::{GateSeat, PortGate, SeeAnswer};
+use quiesce_core::{Event, Known, PortKnown};
+
+/// What is known of the port of this requirement.
+pub fn port_known(known: &Known, require: u32) -> PortKnown
+    requires { require < 2 }
+    ensures { result ≡ slice_index_or known.now.ports require port_at_start }
+{
+    known.ports[require as usize]
+}
+
+/// Hands an answer in: to the service that called, or as that of a transaction that the component wanted.
+#[tactic(auto, using(crate::proofs::Asking::asked_is, crate::proofs::Asking::wanted_is, turn_laws::proofs::AgreementLaws::who_wants_asks_nothing))]
+fn hand_in<C: Component>(inner: &mut C, first_port: u32, require: u32, consequent: bool, value: u32)
+    requires expected { expects consequent first_port (C.state inner.old) (first_port + require) ≡ true }
+    requires small { value < VALUE_LIMIT }
+    ensures folds { (serial : ℕ) → after_event first_port (C.state inner.old) (event.End (first_port + require) serial value) ≡ Some (C.state inner.new) }
+    ensures room { C.has_room inner.old → C.has_room inner.new }
+{
+    if consequent {
+        inner.answered(require, value);
+    } else {
+        inner.ended(require, value);
+    }
+}
+
+impl<C: Component + Drop, S: GateSeat + Drop> HostNode<C, S> {
+    /// Ends or replies at the port of one requirement, where a reply stands there.
+    fn reply_at<G: PortGate<Seat = S>>(&mut self, gate: &mut G, require: u32) -> Option<Event>
+        requires fits { G.fits gate.old self.old.seat }
+        requires node { G.node gate.old self.old.seat ≡ node_of self.old.slot self.old.first_port (C.state self.old.inner) }
+        requires require { require < length (row (C.state self.old.inner).kind).requires_ }
+        requires room { length self.old.log.items < vec_capacity self.old.log }
+        ensures fits { G.fits gate.new self.new.seat }
+        ensures node { G.node gate.new self.new.seat ≡ node_of self.new.slot self.new.first_port (C.state self.new.inner) }
+        ensures others { (other : S) → S.slot_of other ≢ self.old.slot → G.fits gate.old other → G.fits gate.new other × (G.node gate.new other ≡ G.node gate.old other) }
+        ensures moved { Moved (node_of self.old.slot self.old.first_port (C.state self.old.inner)) result (C.state self.old.inner) (C.state self.new.inner) self.old.log.items self.new.log.items (record { slot = S.slot_of self.old.seat; known = S.known self.old.seat; told = S.tells self.old.seat }) (record { slot = S.slot_of self.new.seat; known = S.known self.new.seat; told = S.tells self.new.seat }) (G.state gate.old) (G.state gate.new) }
+        ensures place { (self.new.slot ≡ self.old.slot) × (self.new.first_port ≡ self.old.first_port) }
+        ensures past { self.new.past ≡ self.old.past }
+        ensures waiting { self.new.waiting ≡ self.old.waiting }
+        ensures room { result ≡ None → (self.new.log ≡ self.old.log) × (self.new.inner ≡ self.old.inner) }
+        ensures asks_nothing { is_asking result ≡ false }
+        ensures exact { (s : State) → IsTold (G.state gate.old) (node_of self.old.slot self.old.first_port (C.state self.old.inner)) (S.known self.old.seat) s → result ≡ reply_at s (C.state self.old.inner) (self.old.first_port + require) }
+    {
+        place(gate, &self.seat);
+        let known = port_known(&self.known, require);
+        if known.idle {
+            return None;
+        }
+        let port = self.first_port + require;
+        let serial = known.serial;
+        match gate.see(&mut self.seat, port) {
+            SeeAnswer::NotYet { .. } => None,
+            SeeAnswer::Answer { value } => {
+                gate.end(&mut self.seat, port);
+                hand_in(
+                    &mut self.inner,
+                    self.first_port,
+                    require,
+                    known.consequent,
+                    value,
+                );
+                keep(
+                    &mut self.log,
+                    &mut self.known,
+                    self.first_port,
+                    Event::End {
+                        port,
+                        serial,
+                        value,
+                    },
+                );
+                Some(Event::End {
+                    port,
+                    serial,
+                    value,
+                })
+            }
+            SeeAnswer::More { .. } => {
+                let value = self.inner.replies(require);
+                gate.ask(&mut self.seat, port, value);
+                keep(
+                    &mut self.log,
+                    &mut self.known,
+                    self.first_port,
+                    Event::Ask {
+                        port,
+                        serial,
+                        value,
+                    },
+                );
+                Some(Event::Ask {
+                    port,
+                    serial,
+                    value,
+                })
+            }
+        }
+    }
+
+    /// Ends or replies at the lower of two ports at which a reply stands.
+    fn reply_at_either<G: PortGate<Seat = S>>(&mut self, gate: &mut G) -> Option<Event>
+        requires fits { G.fits gate.old self.old.seat }
+        requires node { G.node gate.old self.old.seat ≡ node_of self.old.slot self.old.first_port (C.state self.old.inner) }
+        requires room { length self.old.log.items < vec_capacity self.old.log }
+        requires two { length (row (C.state self.old.inner).kind).requires_ ≡ 2 }
+        ensures fits { G.fits gate.new self.new.seat }
+        ensures node { G.node gate.new self.new.seat ≡ node_of self.new.slot self.new.first_port (C.state self.new.inner) }
+        ensures others { (other : S) → S.slot_of other ≢ self.old.slot → G.fits gate.old other → G.fits gate.new other × (G.node gate.new other ≡ G.node gate.old other) }
+        ensures moved { Moved (node_of self.old.slot self.old.first_port (C.state self.old.inner)) result (C.state self.old.inner) (C.state self.new.inner) self.old.log.items self.new.log.items (record { slot = S.slot_of self.old.seat; known = S.known self.old.seat; told = S.tells self.old.seat }) (record { slot = S.slot_of self.new.seat; known = S.known self.new.seat; told = S.tells self.new.seat }) (G.state gate.old) (G.state gate.new) }
+        ensures place { (self.new.slot ≡ self.old.slot) × (self.new.first_port ≡ self.old.first_port) }
+        ensures past { self.new.past ≡ self.old.past }
+        ensures waiting { self.new.waiting ≡ self.old.waiting }
+        ensures room { result ≡ None → (self.new.log ≡ self.old.log) × (self.new.inner ≡ self.old.inner) }
+        ensures asks_nothing { is_asking result ≡ false }
+        ensures exact { (s : State) → IsTold (G.state gate.old) (node_of self.old.slot self.old.first_port (C.state self.old.inner)) (S.known self.old.seat) s → result ≡ ends s self.old.slot (C.state self.old.inner) }
+    {
+        match self.reply_at(gate, 0) {
+            Some(event) => Some(event),
+            None => self.reply_at(gate, 1),
+        }
+    }
+
+    /// Ends or replies at the lowest of its ports at which a reply stands.
+    pub fn end_or_ask<G: PortGate<Seat = S>>(&mut self, gate: &mut G) -> Option<Event>
+        requires fits { G.fits gate.old self.old.seat }
+        requires node { G.node gate.old self.old.seat ≡ node_of self.old.slot self.old.first_port (C.state self.old.inner) }
+        requires room { length self.old.log.items < vec_capacity self.old.log }
+        ensures fits { G.fits gate.new self.new.seat }
+        ensures node { G.node gate.new self.new.seat ≡ node_of self.new.slot self.new.first_port (C.state self.new.inner) }
+        ensures others { (other : S) → S.slot_of other ≢ self.old.slot → G.fits gate.old other → G.fits gate.new other × (G.node gate.new other ≡ G.node gate.old other) }
+        ensures moved { Moved (node_of self.old.slot self.old.first_port (C.state self.old.inner)) result (C.state self.old.inner) (C.state self.new.inner) self.old.log.items self.new.log.items (record { slot = S.slot_of self.old.seat; known = S.known self.old.seat; told = S.tells self.old.seat }) (record { slot = S.slot_of self.new.seat; known = S.known self.new.seat; told = S.tells self.new.seat }) (G.state gate.old) (G.state gate.new) }
+        ensures place { (self.new.slot ≡ self.old.slot) × (self.new.first_port ≡ self.old.first_port) }
+        ensures past { self.new.past ≡ self.old.past }
+        ensures waiting { self.new.waiting ≡ self.old.waiting }
+        ensures room { result ≡ None → (self.new.log ≡ self.old.log) × (self.new.inner ≡ self.old.inner) }
+        ensures asks_nothing { is_asking result ≡ false }
+        ensures exact { (s : State) → IsTold (G.state gate.old) (node_of self.old.slot self.old.first_port (C.state self.old.inner)) (S.known self.old.seat) s → result ≡ ends s self.old.slot (C.state self.old.inner) }
+    {
+        match self.inner.kind().requires_() {
+            0 => None,
+            1 => self.reply_at(gate, 0),
+            _ => self.reply_at_either(gate),
+        }
+    }
+}

@@ -1,0 +1,338 @@
+//! A node's second move: it goes on with its service.
+
+ghost use Rattle.std.specs.Prelude.{◌≡◌, ◌≢◌, ℕ, ◌+◌, ◌<◌, true, false, List, length, map, vec_capacity, option_and_then, None, Some};
+ghost use Rattle.config_graph.specs.Kinds.{depends_on, row};
+ghost use Rattle.component_trait.specs.Bounds.{FitsRequest};
+ghost use Rattle.component_trait.specs.Moves as moves;
+ghost use Rattle.component_trait.specs.declared.next.Next.TheVariants as next;
+ghost use Rattle.config_graph.specs.declared.TheConstants.{VALUE_LIMIT};
+ghost use Rattle.node_host.specs.Hosted.{node_of};
+ghost use Rattle.node_host.specs.Moved.{Moved};
+ghost use Rattle.node_host.specs.Posting.{HintOf, is_asking};
+ghost use Rattle.node_host.specs.Awaiting.{awaits};
+ghost use Rattle.node_host.specs.Told.{IsTold};
+ghost use Rattle.quiesce_core.specs.State.{State};
+ghost use Rattle.quiesce_core.specs.declared.event.Event.TheVariants as event;
+ghost use Rattle.turns.specs.Turn.{calls, does_next, hears, serves};
+
+use crate::ending::port_known;
+use crate::keeping::{keep, place};
+use crate::node::HostNode;
+use crate::posting::post;
+use component_trait::{Ask, Component, Next};
+use port_gate::{CallAnswer, GateSeat, HearAnswer, PortGate};
+use port_queue::Hints;
+use quiesce_core::{Event, Known, Served};
+
+/// Whether a call is left to end.
+fn awaits_call(known: &Known) -> bool
+    ensures { result ≡ awaits known.now }
+{
+    let left = known.ports[0];
+    let right = known.ports[1];
+    !left.idle && left.consequent || !right.idle && right.consequent
+}
+
+impl<C: Component + Drop, S: GateSeat + Drop> HostNode<C, S> {
+    /// Hears the further message for which the service waits, once it is there.
+    fn hear<G: PortGate<Seat = S>>(&mut self, gate: &mut G, served: Served) -> Option<Event>
+        requires served { self.old.known.service ≡ Some served }
+        requires waits { served.heard ≡ false }
+        requires fits { G.fits gate.old self.old.seat }
+        requires node { G.node gate.old self.old.seat ≡ node_of self.old.slot self.old.first_port (C.state self.old.inner) }
+        requires room { length self.old.log.items < vec_capacity self.old.log }
+        ensures fits { G.fits gate.new self.new.seat }
+        ensures node { G.node gate.new self.new.seat ≡ node_of self.new.slot self.new.first_port (C.state self.new.inner) }
+        ensures others { (other : S) → S.slot_of other ≢ self.old.slot → G.fits gate.old other → G.fits gate.new other × (G.node gate.new other ≡ G.node gate.old other) }
+        ensures moved { Moved (node_of self.old.slot self.old.first_port (C.state self.old.inner)) result (C.state self.old.inner) (C.state self.new.inner) self.old.log.items self.new.log.items (record { slot = S.slot_of self.old.seat; known = S.known self.old.seat; told = S.tells self.old.seat }) (record { slot = S.slot_of self.new.seat; known = S.known self.new.seat; told = S.tells self.new.seat }) (G.state gate.old) (G.state gate.new) }
+        ensures place { (self.new.slot ≡ self.old.slot) × (self.new.first_port ≡ self.old.first_port) }
+        ensures past { self.new.past ≡ self.old.past }
+        ensures room { result ≡ None → (self.new.log ≡ self.old.log) × (self.new.inner ≡ self.old.inner) }
+        ensures waiting { self.new.waiting ≡ self.old.waiting }
+        ensures asks_nothing { is_asking result ≡ false }
+        ensures exact { (s : State) → IsTold (G.state gate.old) (node_of self.old.slot self.old.first_port (C.state self.old.inner)) (S.known self.old.seat) s → result ≡ hears s served.port }
+    {
+        place(gate, &self.seat);
+        let port = served.port;
+        let serial = served.serial;
+        match gate.hear(&mut self.seat, port) {
+            HearAnswer::NotYet { .. } => None,
+            HearAnswer::Heard { value } => {
+                self.inner.heard(value);
+                keep(
+                    &mut self.log,
+                    &mut self.known,
+                    self.first_port,
+                    Event::Hear {
+                        port,
+                        serial,
+                        value,
+                    },
+                );
+                Some(Event::Hear {
+                    port,
+                    serial,
+                    value,
+                })
+            }
+        }
+    }
+
+    /// Gives the answer of the service.
+    fn give<G: PortGate<Seat = S>>(
+        &mut self,
+        gate: &mut G,
+        served: Served,
+        value: u32,
+    ) -> Option<Event>
+        requires served { self.old.known.service ≡ Some served }
+        requires heard { served.heard ≡ true }
+        requires ended { awaits self.old.known ≡ false }
+        requires gives { moves.next (C.state self.old.inner) ≡ Some (next.Give value) }
+        requires small { value < VALUE_LIMIT }
+        requires fits { G.fits gate.old self.old.seat }
+        requires node { G.node gate.old self.old.seat ≡ node_of self.old.slot self.old.first_port (C.state self.old.inner) }
+        requires room { length self.old.log.items < vec_capacity self.old.log }
+        ensures fits { G.fits gate.new self.new.seat }
+        ensures node { G.node gate.new self.new.seat ≡ node_of self.new.slot self.new.first_port (C.state self.new.inner) }
+        ensures others { (other : S) → S.slot_of other ≢ self.old.slot → G.fits gate.old other → G.fits gate.new other × (G.node gate.new other ≡ G.node gate.old other) }
+        ensures moved { Moved (node_of self.old.slot self.old.first_port (C.state self.old.inner)) result (C.state self.old.inner) (C.state self.new.inner) self.old.log.items self.new.log.items (record { slot = S.slot_of self.old.seat; known = S.known self.old.seat; told = S.tells self.old.seat }) (record { slot = S.slot_of self.new.seat; known = S.known self.new.seat; told = S.tells self.new.seat }) (G.state gate.old) (G.state gate.new) }
+        ensures place { (self.new.slot ≡ self.old.slot) × (self.new.first_port ≡ self.old.first_port) }
+        ensures past { self.new.past ≡ self.old.past }
+        ensures room { result ≡ None → (self.new.log ≡ self.old.log) × (self.new.inner ≡ self.old.inner) }
+        ensures waiting { self.new.waiting ≡ self.old.waiting }
+        ensures event { result ≡ Some (event.Give served.port served.serial value) }
+        ensures exact { (s : State) → IsTold (G.state gate.old) (node_of self.old.slot self.old.first_port (C.state self.old.inner)) (S.known self.old.seat) s → result ≡ does_next s self.old.first_port served.port (next.Give value) }
+    {
+        place(gate, &self.seat);
+        let port = served.port;
+        let serial = served.serial;
+        gate.give(&mut self.seat, port, value);
+        self.inner.given();
+        keep(
+            &mut self.log,
+            &mut self.known,
+            self.first_port,
+            Event::Give {
+                port,
+                serial,
+                value,
+            },
+        );
+        Some(Event::Give {
+            port,
+            serial,
+            value,
+        })
+    }
+
+    /// Sends the intermediate reply of the service.
+    fn send_more<G: PortGate<Seat = S>>(
+        &mut self,
+        gate: &mut G,
+        served: Served,
+        value: u32,
+    ) -> Option<Event>
+        requires served { self.old.known.service ≡ Some served }
+        requires heard { served.heard ≡ true }
+        requires ended { awaits self.old.known ≡ false }
+        requires sends { moves.next (C.state self.old.inner) ≡ Some (next.More value) }
+        requires small { value < VALUE_LIMIT }
+        requires fits { G.fits gate.old self.old.seat }
+        requires node { G.node gate.old self.old.seat ≡ node_of self.old.slot self.old.first_port (C.state self.old.inner) }
+        requires room { length self.old.log.items < vec_capacity self.old.log }
+        ensures fits { G.fits gate.new self.new.seat }
+        ensures node { G.node gate.new self.new.seat ≡ node_of self.new.slot self.new.first_port (C.state self.new.inner) }
+        ensures others { (other : S) → S.slot_of other ≢ self.old.slot → G.fits gate.old other → G.fits gate.new other × (G.node gate.new other ≡ G.node gate.old other) }
+        ensures moved { Moved (node_of self.old.slot self.old.first_port (C.state self.old.inner)) result (C.state self.old.inner) (C.state self.new.inner) self.old.log.items self.new.log.items (record { slot = S.slot_of self.old.seat; known = S.known self.old.seat; told = S.tells self.old.seat }) (record { slot = S.slot_of self.new.seat; known = S.known self.new.seat; told = S.tells self.new.seat }) (G.state gate.old) (G.state gate.new) }
+        ensures place { (self.new.slot ≡ self.old.slot) × (self.new.first_port ≡ self.old.first_port) }
+        ensures past { self.new.past ≡ self.old.past }
+        ensures room { result ≡ None → (self.new.log ≡ self.old.log) × (self.new.inner ≡ self.old.inner) }
+        ensures waiting { self.new.waiting ≡ self.old.waiting }
+        ensures event { result ≡ Some (event.More served.port served.serial value) }
+        ensures exact { (s : State) → IsTold (G.state gate.old) (node_of self.old.slot self.old.first_port (C.state self.old.inner)) (S.known self.old.seat) s → result ≡ does_next s self.old.first_port served.port (next.More value) }
+    {
+        place(gate, &self.seat);
+        let port = served.port;
+        let serial = served.serial;
+        gate.more(&mut self.seat, port, value);
+        self.inner.more_given();
+        keep(
+            &mut self.log,
+            &mut self.known,
+            self.first_port,
+            Event::More {
+                port,
+                serial,
+                value,
+            },
+        );
+        Some(Event::More {
+            port,
+            serial,
+            value,
+        })
+    }
+
+    /// Makes the call that the service asks for, and posts the hint; or misses it.
+    fn call<G: PortGate<Seat = S>, H: Hints>(
+        &mut self,
+        gate: &mut G,
+        hints: &mut H,
+        served: Served,
+        ask: Ask,
+    ) -> Option<Event>
+        requires served { self.old.known.service ≡ Some served }
+        requires heard { served.heard ≡ true }
+        requires ended { awaits self.old.known ≡ false }
+        requires asks { moves.next (C.state self.old.inner) ≡ Some (next.Ask ask) }
+        requires depends { depends_on (C.state self.old.inner).kind 0 ask.require ≡ true }
+        requires fits_ask { FitsRequest (C.state self.old.inner).kind ask }
+        requires fits { G.fits gate.old self.old.seat }
+        requires node { G.node gate.old self.old.seat ≡ node_of self.old.slot self.old.first_port (C.state self.old.inner) }
+        requires room { length self.old.log.items < vec_capacity self.old.log }
+        ensures fits { G.fits gate.new self.new.seat }
+        ensures node { G.node gate.new self.new.seat ≡ node_of self.new.slot self.new.first_port (C.state self.new.inner) }
+        ensures others { (other : S) → S.slot_of other ≢ self.old.slot → G.fits gate.old other → G.fits gate.new other × (G.node gate.new other ≡ G.node gate.old other) }
+        ensures moved { Moved (node_of self.old.slot self.old.first_port (C.state self.old.inner)) result (C.state self.old.inner) (C.state self.new.inner) self.old.log.items self.new.log.items (record { slot = S.slot_of self.old.seat; known = S.known self.old.seat; told = S.tells self.old.seat }) (record { slot = S.slot_of self.new.seat; known = S.known self.new.seat; told = S.tells self.new.seat }) (G.state gate.old) (G.state gate.new) }
+        ensures place { (self.new.slot ≡ self.old.slot) × (self.new.first_port ≡ self.old.first_port) }
+        ensures past { self.new.past ≡ self.old.past }
+        ensures room { result ≡ None → (self.new.log ≡ self.old.log) × (self.new.inner ≡ self.old.inner) }
+        ensures hint { HintOf (G.state gate.old) self.old.first_port result (record { waiting = self.old.waiting; counts = H.counts hints.old; told = H.tells hints.old }) (record { waiting = self.new.waiting; counts = H.counts hints.new; told = H.tells hints.new }) }
+        ensures quiet { result ≡ None → (hints.new ≡ hints.old) × (self.new.waiting ≡ self.old.waiting) }
+        ensures exact { (s : State) → IsTold (G.state gate.old) (node_of self.old.slot self.old.first_port (C.state self.old.inner)) (S.known self.old.seat) s → result ≡ calls s (self.old.first_port + ask.require) ask.value }
+    {
+        place(gate, &self.seat);
+        if !port_known(&self.known, ask.require).idle {
+            return None;
+        }
+        let port = self.first_port + ask.require;
+        let value = ask.value;
+        match gate.call(&mut self.seat, port, value) {
+            CallAnswer::Missed { .. } => {
+                self.inner.answered(ask.require, 0);
+                keep(
+                    &mut self.log,
+                    &mut self.known,
+                    self.first_port,
+                    Event::Miss { port },
+                );
+                Some(Event::Miss { port })
+            }
+            CallAnswer::Called { serial, target } => {
+                keep(
+                    &mut self.log,
+                    &mut self.known,
+                    self.first_port,
+                    Event::Call {
+                        port,
+                        serial,
+                        value,
+                    },
+                );
+                post(
+                    &mut self.waiting,
+                    hints,
+                    self.first_port,
+                    ask.require,
+                    target,
+                );
+                Some(Event::Call {
+                    port,
+                    serial,
+                    value,
+                })
+            }
+        }
+    }
+
+    /// Does what the service does next.
+    fn go_on<G: PortGate<Seat = S>, H: Hints>(
+        &mut self,
+        gate: &mut G,
+        hints: &mut H,
+        served: Served,
+    ) -> Option<Event>
+        requires served { self.old.known.service ≡ Some served }
+        requires heard { served.heard ≡ true }
+        requires ended { awaits self.old.known ≡ false }
+        requires fits { G.fits gate.old self.old.seat }
+        requires node { G.node gate.old self.old.seat ≡ node_of self.old.slot self.old.first_port (C.state self.old.inner) }
+        requires room { length self.old.log.items < vec_capacity self.old.log }
+        ensures fits { G.fits gate.new self.new.seat }
+        ensures node { G.node gate.new self.new.seat ≡ node_of self.new.slot self.new.first_port (C.state self.new.inner) }
+        ensures others { (other : S) → S.slot_of other ≢ self.old.slot → G.fits gate.old other → G.fits gate.new other × (G.node gate.new other ≡ G.node gate.old other) }
+        ensures moved { Moved (node_of self.old.slot self.old.first_port (C.state self.old.inner)) result (C.state self.old.inner) (C.state self.new.inner) self.old.log.items self.new.log.items (record { slot = S.slot_of self.old.seat; known = S.known self.old.seat; told = S.tells self.old.seat }) (record { slot = S.slot_of self.new.seat; known = S.known self.new.seat; told = S.tells self.new.seat }) (G.state gate.old) (G.state gate.new) }
+        ensures place { (self.new.slot ≡ self.old.slot) × (self.new.first_port ≡ self.old.first_port) }
+        ensures past { self.new.past ≡ self.old.past }
+        ensures room { result ≡ None → (self.new.log ≡ self.old.log) × (self.new.inner ≡ self.old.inner) }
+        ensures hint { HintOf (G.state gate.old) self.old.first_port result (record { waiting = self.old.waiting; counts = H.counts hints.old; told = H.tells hints.old }) (record { waiting = self.new.waiting; counts = H.counts hints.new; told = H.tells hints.new }) }
+        ensures quiet { result ≡ None → (hints.new ≡ hints.old) × (self.new.waiting ≡ self.old.waiting) }
+        ensures exact { (s : State) → IsTold (G.state gate.old) (node_of self.old.slot self.old.first_port (C.state self.old.inner)) (S.known self.old.seat) s → result ≡ option_and_then (does_next s self.old.first_port served.port) (moves.next (C.state self.old.inner)) }
+    {
+        match self.inner.next() {
+            Next::Give(value) => self.give(gate, served, value),
+            Next::More(value) => self.send_more(gate, served, value),
+            Next::Ask(ask) => self.call(gate, hints, served, ask),
+        }
+    }
+
+    /// Hears or goes on in the service that it is in.
+    fn serve_on<G: PortGate<Seat = S>, H: Hints>(
+        &mut self,
+        gate: &mut G,
+        hints: &mut H,
+        served: Served,
+    ) -> Option<Event>
+        requires served { self.old.known.service ≡ Some served }
+        requires ended { awaits self.old.known ≡ false }
+        requires fits { G.fits gate.old self.old.seat }
+        requires node { G.node gate.old self.old.seat ≡ node_of self.old.slot self.old.first_port (C.state self.old.inner) }
+        requires room { length self.old.log.items < vec_capacity self.old.log }
+        ensures fits { G.fits gate.new self.new.seat }
+        ensures node { G.node gate.new self.new.seat ≡ node_of self.new.slot self.new.first_port (C.state self.new.inner) }
+        ensures others { (other : S) → S.slot_of other ≢ self.old.slot → G.fits gate.old other → G.fits gate.new other × (G.node gate.new other ≡ G.node gate.old other) }
+        ensures moved { Moved (node_of self.old.slot self.old.first_port (C.state self.old.inner)) result (C.state self.old.inner) (C.state self.new.inner) self.old.log.items self.new.log.items (record { slot = S.slot_of self.old.seat; known = S.known self.old.seat; told = S.tells self.old.seat }) (record { slot = S.slot_of self.new.seat; known = S.known self.new.seat; told = S.tells self.new.seat }) (G.state gate.old) (G.state gate.new) }
+        ensures place { (self.new.slot ≡ self.old.slot) × (self.new.first_port ≡ self.old.first_port) }
+        ensures past { self.new.past ≡ self.old.past }
+        ensures room { result ≡ None → (self.new.log ≡ self.old.log) × (self.new.inner ≡ self.old.inner) }
+        ensures hint { HintOf (G.state gate.old) self.old.first_port result (record { waiting = self.old.waiting; counts = H.counts hints.old; told = H.tells hints.old }) (record { waiting = self.new.waiting; counts = H.counts hints.new; told = H.tells hints.new }) }
+        ensures quiet { result ≡ None → (hints.new ≡ hints.old) × (self.new.waiting ≡ self.old.waiting) }
+        ensures exact { (s : State) → IsTold (G.state gate.old) (node_of self.old.slot self.old.first_port (C.state self.old.inner)) (S.known self.old.seat) s → result ≡ serves s self.old.slot (C.state self.old.inner) }
+    {
+        if served.heard {
+            self.go_on(gate, hints, served)
+        } else {
+            self.hear(gate, served)
+        }
+    }
+
+    /// Goes on with the service that it is in, if no call of it is left to end.
+    pub fn serve<G: PortGate<Seat = S>, H: Hints>(
+        &mut self,
+        gate: &mut G,
+        hints: &mut H,
+    ) -> Option<Event>
+        requires fits { G.fits gate.old self.old.seat }
+        requires node { G.node gate.old self.old.seat ≡ node_of self.old.slot self.old.first_port (C.state self.old.inner) }
+        requires room { length self.old.log.items < vec_capacity self.old.log }
+        ensures fits { G.fits gate.new self.new.seat }
+        ensures node { G.node gate.new self.new.seat ≡ node_of self.new.slot self.new.first_port (C.state self.new.inner) }
+        ensures others { (other : S) → S.slot_of other ≢ self.old.slot → G.fits gate.old other → G.fits gate.new other × (G.node gate.new other ≡ G.node gate.old other) }
+        ensures moved { Moved (node_of self.old.slot self.old.first_port (C.state self.old.inner)) result (C.state self.old.inner) (C.state self.new.inner) self.old.log.items self.new.log.items (record { slot = S.slot_of self.old.seat; known = S.known self.old.seat; told = S.tells self.old.seat }) (record { slot = S.slot_of self.new.seat; known = S.known self.new.seat; told = S.tells self.new.seat }) (G.state gate.old) (G.state gate.new) }
+        ensures place { (self.new.slot ≡ self.old.slot) × (self.new.first_port ≡ self.old.first_port) }
+        ensures past { self.new.past ≡ self.old.past }
+        ensures room { result ≡ None → (self.new.log ≡ self.old.log) × (self.new.inner ≡ self.old.inner) }
+        ensures hint { HintOf (G.state gate.old) self.old.first_port result (record { waiting = self.old.waiting; counts = H.counts hints.old; told = H.tells hints.old }) (record { waiting = self.new.waiting; counts = H.counts hints.new; told = H.tells hints.new }) }
+        ensures quiet { result ≡ None → (hints.new ≡ hints.old) × (self.new.waiting ≡ self.old.waiting) }
+        ensures exact { (s : State) → IsTold (G.state gate.old) (node_of self.old.slot self.old.first_port (C.state self.old.inner)) (S.known self.old.seat) s → result ≡ serves s self.old.slot (C.state self.old.inner) }
+    {
+        if awaits_call(&self.known) {
+            return None;
+        }
+        match self.known.service {
+            None => None,
+            Some(served) => self.serve_on(gate, hints, served),
+        }
+    }
+}

@@ -1,0 +1,69 @@
+//! A node's turn.
+
+ghost use Rattle.std.specs.Prelude.{◌≡◌, ◌≢◌, ℕ, ◌+◌, ◌<◌, List, length, map, vec_capacity, slice_index_or, None, Some, OnOk, OnErr, IsOk, Ok};
+ghost use Rattle.node_host.specs.Hosted.{node_of};
+ghost use Rattle.node_host.specs.Moved.{Moved};
+ghost use Rattle.node_host.specs.Posting.{IsHinted};
+ghost use Rattle.node_host.specs.Told.{IsTold};
+ghost use Rattle.node_host.specs.Turning.{event_of};
+ghost use Rattle.node_host.specs.declared.turning.Turn.TheVariants as turn;
+ghost use Rattle.node_host.specs.Trying.{IsAsked, own_box};
+ghost use Rattle.quiesce_core.specs.State.{State};
+ghost use Rattle.turns.specs.Turn.{looks, move_of};
+
+use crate::node::HostNode;
+use component_trait::Component;
+use config_graph::NoMemory;
+use port_gate::{GateSeat, PortGate};
+use port_queue::Hints;
+use quiesce_core::Event;
+
+/// What a turn did.
+#[derive(Debug, Drop, PartialEq, Eq)]
+pub enum Turn {
+    Moved(Event),
+    /// No move was possible.
+    Still,
+}
+
+/// Takes the memory of one more event.
+fn reserve(log: &mut Vec<Event>) -> Result<(), NoMemory>
+    ensures items { log.new.items ≡ log.old.items }
+    ensures room { OnOk result (length log.new.items < vec_capacity log.new) }
+{
+    log.try_reserve(1)
+}
+
+impl<C: Component + Drop, S: GateSeat + Drop> HostNode<C, S> {
+    /// The node's next move at a gate: the first that is possible. It posts, by port, its hints that wait; then it ends or answers a
+    /// transaction of its own, goes on with its service, takes the next request up, or begins what it wants, where that is allowed. It
+    /// takes its memory first.
+    #[tactic(auto, using(crate::proofs::Asked::asked_since))]
+    pub fn turn<G: PortGate<Seat = S>, H: Hints>(
+        &mut self,
+        gate: &mut G,
+        hints: &mut H,
+        begins: bool,
+    ) -> Result<Turn, NoMemory>
+        requires fits { G.fits gate.old self.old.seat }
+        requires node { G.node gate.old self.old.seat ≡ node_of self.old.slot self.old.first_port (C.state self.old.inner) }
+        ensures fits { G.fits gate.new self.new.seat }
+        ensures node { G.node gate.new self.new.seat ≡ node_of self.new.slot self.new.first_port (C.state self.new.inner) }
+        ensures others { (other : S) → S.slot_of other ≢ self.old.slot → G.fits gate.old other → G.fits gate.new other × (G.node gate.new other ≡ G.node gate.old other) }
+        ensures moved { Moved (node_of self.old.slot self.old.first_port (C.state self.old.inner)) (event_of result) (C.state self.old.inner) (C.state self.new.inner) self.old.log.items self.new.log.items (record { slot = S.slot_of self.old.seat; known = S.known self.old.seat; told = S.tells self.old.seat }) (record { slot = S.slot_of self.new.seat; known = S.known self.new.seat; told = S.tells self.new.seat }) (G.state gate.old) (G.state gate.new) }
+        ensures place { (self.new.slot ≡ self.old.slot) × (self.new.first_port ≡ self.old.first_port) }
+        ensures past { self.new.past ≡ self.old.past }
+        ensures memory { OnErr result ((self.new.waiting ≡ self.old.waiting) × (self.new.seat ≡ self.old.seat) × (gate.new ≡ gate.old) × (hints.new ≡ hints.old)) }
+        ensures exact { (s : State) (held : List ℕ) → IsTold (G.state gate.old) (node_of self.old.slot self.old.first_port (C.state self.old.inner)) (S.known self.old.seat) s → H.tells hints.old self.old.slot ≡ Some held → OnOk result (event_of result ≡ move_of s self.old.slot (C.state self.old.inner) (own_box self.old.slot self.old.first_port self.old.waiting held) begins) }
+        ensures hints { OnOk result (IsHinted (G.state gate.old) (node_of self.old.slot self.old.first_port (C.state self.old.inner)) (S.known self.old.seat) (λ s. looks s self.old.slot (C.state self.old.inner)) (event_of result) (record { waiting = self.old.waiting; counts = H.counts hints.old; told = H.tells hints.old }) (record { waiting = self.new.waiting; counts = H.counts hints.new; told = H.tells hints.new })) }
+        ensures looked { result ≡ Ok turn.Still → (C.state self.old.inner).service ≡ None → IsAsked (H.counts hints.old self.old.slot) (H.counts hints.new self.old.slot) }
+    {
+        reserve(&mut self.log)?;
+        self.inner.room()?;
+        self.post_waiting(hints);
+        match self.act(gate, hints, begins) {
+            Some(event) => Ok(Turn::Moved(event)),
+            None => Ok(Turn::Still),
+        }
+    }
+}
