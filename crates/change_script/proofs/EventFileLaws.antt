@@ -144,7 +144,7 @@ no_want_in n (Err Big) = (λ e. cc, λ e. cc)
 no_want_in n (Ok (statements.Start name args)) = (λ e. cc, λ e. cc)
 no_want_in n (Ok (statements.Event event)) = (λ e. cc, λ e. cc)
 
-first_is_one : (o : Option ScriptError) (rest : List (Option ScriptError)) (fault : ScriptError) → first_fault (o ∷ rest) ≡ Some fault → (o ≡ Some fault) ⊎ (first_fault rest ≡ Some fault)
+pub first_is_one : (o : Option ScriptError) (rest : List (Option ScriptError)) (fault : ScriptError) → first_fault (o ∷ rest) ≡ Some fault → (o ≡ Some fault) ⊎ (first_fault rest ≡ Some fault)
 first_is_one None rest fault e = inr e
 first_is_one (Some found) rest fault e = inl e
 

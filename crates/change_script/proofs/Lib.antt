@@ -4,3 +4,9 @@ pub mod NameLemmas
 pub mod EventFileLaws
 pub mod WritingLemmas
 pub mod ReportTextLemmas
+pub mod ScriptLineLemmas
+pub mod ScriptFileLaws
+pub mod MoveLemmas
+pub mod ScriptWordLemmas
+pub mod ScriptFormLaws
+pub mod StatementLemmas

@@ -1,5 +1,5 @@
 -- The line that writes an event means it.
-use Rattle.std.proofs.Common.{◌≡◌, ◌<◌, ℕ, ◌&&◌, Bool, true, false, List, [], ◌∷◌, ◌++◌, Option, Some, None, IfSome, option_map, Ok, codes, decimal, refl, ap, ◌∙◌, arith}
+use Rattle.std.proofs.Common.{◌≡◌, ◌<◌, ℕ, ◌&&◌, ◌==◌, Bool, true, false, List, [], ◌∷◌, ◌++◌, Option, Some, None, IfSome, option_map, Ok, codes, decimal, refl, ap, ◌∙◌, arith}
 use Rattle.std.specs.List.{list_all}
 use Rattle.std.specs.Option.{option_map_or}
 use Rattle.std.specs.Char.{is_ascii_digit, digit_value}
@@ -16,7 +16,7 @@ use Rattle.config_graph.proofs.KindLaws.{kind_named-name}
 use Rattle.quiesce_core.specs.declared.event.Event.{Event}
 use Rattle.quiesce_core.specs.declared.event.Event.TheVariants as events
 use Rattle.change_script.specs.declared.event_lines.Statement.TheVariants as statements
-use Rattle.change_script.specs.Tokens.{Token, word, opened, closed, tokens, is_word_byte, begins_word}
+use Rattle.change_script.specs.Tokens.{Token, word, opened, closed, tokens, is_word, is_word_byte, begins_word}
 use Rattle.change_script.specs.Numbers.{is_number, number, number_fits, number_in}
 use Rattle.change_script.specs.Paths.{is_path, path_fits, path_in}
 use Rattle.change_script.specs.EventLines.{MakeWords, meaning, three_numbers, make_of_words, make_of_kind, make_words, optional_number, event_line, owner_event, target_event, single_event, link_event}
@@ -24,42 +24,42 @@ use Rattle.change_script.specs.declared.verbs.OwnerStep.TheVariants as owner
 use Rattle.change_script.specs.declared.verbs.TargetStep.TheVariants as target
 use Rattle.change_script.specs.declared.verbs.Single.TheVariants as singles
 use Rattle.change_script.specs.Writing.{spaced, with_three, with_one, written, from_words, IsNumber, AreNumbers, CanBeWritten}
-use Rattle.change_script.proofs.TokenLemmas.{at_blank, sign_front, word_front}
+use Rattle.change_script.proofs.TokenLemmas.{at_blank, sign_front, word_front, onto_is_word}
 
 -- one byte or more, all bytes of a word
-abbrev is_word : List ℕ → Bool
-is_word [] = false
-is_word (byte ∷ bytes) = list_all is_word_byte (byte ∷ bytes)
+abbrev pub is_whole_word : List ℕ → Bool
+is_whole_word [] = false
+is_whole_word (byte ∷ bytes) = is_word (byte ∷ bytes)
 
-digit_is : (byte : ℕ) → digit_value byte < 10 → (is_ascii_digit byte ≡ true) × (is_word_byte byte ≡ true)
-digit_is byte h = (grind (arith, nat_tests), grind (arith, nat_tests))
+pub digit_is : (byte : ℕ) → digit_value byte < 10 → (is_ascii_digit byte ≡ true) × (is_word_byte byte ≡ true) × ((byte == 45) ≡ false)
+digit_is byte h = (grind (arith, nat_tests), grind (arith, nat_tests), grind (arith, nat_tests))
 
-digits_are : (bytes : List ℕ) → AllDigits 10 bytes → (list_all is_ascii_digit bytes ≡ true) × (list_all is_word_byte bytes ≡ true)
+digits_are : (bytes : List ℕ) → AllDigits 10 bytes → (list_all is_ascii_digit bytes ≡ true) × (is_word bytes ≡ true)
 digits_are [] all = (refl, refl)
 digits_are (byte ∷ bytes) all =
     let here = digit_is byte all.0 in
     let rest = digits_are bytes all.1 in
-    (ap (λ b. b && list_all is_ascii_digit bytes) here.0 ∙ rest.0, ap (λ b. b && list_all is_word_byte bytes) here.1 ∙ rest.1)
+    (ap (λ b. b && list_all is_ascii_digit bytes) here.0 ∙ rest.0, onto_is_word byte bytes here.1 here.2 rest.1)
 
-numeral_is : (bytes : List ℕ) → IsNumeral 10 bytes → (is_number bytes ≡ true) × (is_word bytes ≡ true)
+pub numeral_is : (bytes : List ℕ) → IsNumeral 10 bytes → (is_number bytes ≡ true) × (is_whole_word bytes ≡ true)
 numeral_is [] h = let none : ⊥ = omega (arith, h.0) in absurd none
 numeral_is (byte ∷ bytes) h = digits_are (byte ∷ bytes) h.1
 
 -- what a number in decimal is
-record Decimal (n : ℕ) : Type 0 where
-  is_one : is_number (decimal n) ≡ true
-  is_word : is_word (decimal n) ≡ true
-  value : number (decimal n) ≡ n
-  fits : number_fits (decimal n) ≡ true
+pub record Decimal (n : ℕ) : Type 0 where
+  pub is_one : is_number (decimal n) ≡ true
+  pub is_word : is_whole_word (decimal n) ≡ true
+  pub value : number (decimal n) ≡ n
+  pub fits : number_fits (decimal n) ≡ true
 
-decimal_of : (n : ℕ) → IsNumber n → Decimal n
+pub decimal_of : (n : ℕ) → IsNumber n → Decimal n
 decimal_of n small =
     let numeral = decimal_is_IsNumeral n (omega arith) in
     let is = numeral_is (decimal n) numeral.0 in
     record { is_one = is.0; is_word = is.1; value = numeral.1; fits = rw (numeral.1) (grind (arith, nat_tests)) }
 
 -- A word comes first where no byte of a word is behind it.
-front_word : (first rest : List ℕ) → is_word first ≡ true → begins_word rest ≡ false → tokens (first ++ rest) ≡ word first ∷ tokens rest
+pub front_word : (first rest : List ℕ) → is_whole_word first ≡ true → begins_word rest ≡ false → tokens (first ++ rest) ≡ word first ∷ tokens rest
 front_word [] rest is ends = cc
 front_word (byte ∷ bytes) rest is ends = word_front byte bytes rest is ends
 
@@ -67,16 +67,16 @@ spaced_ends : (words : List (List ℕ)) → begins_word (spaced words) ≡ false
 spaced_ends [] = refl
 spaced_ends (first ∷ words) = refl
 
-verb_tokens : (verb : List ℕ) (words : List (List ℕ)) → is_word verb ≡ true → tokens (verb ++ spaced words) ≡ word verb ∷ tokens (spaced words)
+pub verb_tokens : (verb : List ℕ) (words : List (List ℕ)) → is_whole_word verb ≡ true → tokens (verb ++ spaced words) ≡ word verb ∷ tokens (spaced words)
 verb_tokens verb words is = front_word verb (spaced words) is (spaced_ends words)
 
-spaced_tokens : (first : List ℕ) (words : List (List ℕ)) → is_word first ≡ true → tokens (spaced (first ∷ words)) ≡ word first ∷ tokens (spaced words)
+pub spaced_tokens : (first : List ℕ) (words : List (List ℕ)) → is_whole_word first ≡ true → tokens (spaced (first ∷ words)) ≡ word first ∷ tokens (spaced words)
 spaced_tokens first words is = at_blank 32 (first ++ spaced words) refl ∙ front_word first (spaced words) is (spaced_ends words)
 
-one_tokens : (verb : List ℕ) (first : ℕ) → is_word verb ≡ true → IsNumber first → tokens (with_one verb first) ≡ word verb ∷ word (decimal first) ∷ []
+pub one_tokens : (verb : List ℕ) (first : ℕ) → is_whole_word verb ≡ true → IsNumber first → tokens (with_one verb first) ≡ word verb ∷ word (decimal first) ∷ []
 one_tokens verb first is small = verb_tokens verb (decimal first ∷ []) is ∙ ap (λ ts. word verb ∷ ts) (spaced_tokens (decimal first) [] (decimal_of first small).is_word)
 
-three_tokens : (verb : List ℕ) (first second third : ℕ) → is_word verb ≡ true → AreNumbers first second third
+three_tokens : (verb : List ℕ) (first second third : ℕ) → is_whole_word verb ≡ true → AreNumbers first second third
     → tokens (with_three verb first second third) ≡ word verb ∷ word (decimal first) ∷ word (decimal second) ∷ word (decimal third) ∷ []
 three_tokens verb first second third is small =
     let a = decimal first in
@@ -86,7 +86,7 @@ three_tokens verb first second third is small =
     ∙ ap (λ ts. word verb ∷ word a ∷ ts) (spaced_tokens b (c ∷ []) (decimal_of second small.1).is_word)
     ∙ ap (λ ts. word verb ∷ word a ∷ word b ∷ ts) (spaced_tokens c [] (decimal_of third small.2).is_word)
 
-one_of : (first : ℕ) → IsNumber first → number_in (decimal first) ≡ Ok first
+pub one_of : (first : ℕ) → IsNumber first → number_in (decimal first) ≡ Ok first
 one_of first small =
     let a = decimal_of first small in
     rw (a.is_one, a.fits, a.value) refl
@@ -95,7 +95,7 @@ three_of : (first second third : ℕ) → AreNumbers first second third
     → three_numbers (decimal first) (decimal second) (decimal third) ≡ Ok (record { first = first; second = second; third = third })
 three_of first second third small = rw (one_of first small.0, one_of second small.1, one_of third small.2) refl
 
-kind_is_word : (kind : Kind) → is_word (row kind).name ≡ true
+kind_is_word : (kind : Kind) → is_whole_word (row kind).name ≡ true
 kind_is_word Philosopher = refl
 kind_is_word Place = refl
 kind_is_word Fork = refl
@@ -144,7 +144,7 @@ from_tokens None small = refl
 from_tokens (Some slot) small =
     spaced_tokens (codes "from") (decimal slot ∷ []) refl ∙ ap (λ ts. word (codes "from") ∷ ts) (spaced_tokens (decimal slot) [] (decimal_of slot small).is_word)
 
-path_is_word : (path : List ℕ) → list_all is_word_byte path ≡ true → is_path path ≡ true → is_word path ≡ true
+pub path_is_word : (path : List ℕ) → is_word path ≡ true → is_path path ≡ true → is_whole_word path ≡ true
 path_is_word [] all path = path
 path_is_word (byte ∷ bytes) all path = all
 

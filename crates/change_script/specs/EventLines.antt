@@ -1,5 +1,5 @@
 -- What a line of an event file means, by its tokens.
-use Rattle.std.specs.Prelude.{ℕ, ℤ, ◌&&◌, if◌then◌else◌, List, [], ◌∷◌, ◌++◌, map, codes, bytes_eq, find, Option, Some, None, option_map, option_copied, Result, Ok, Err}
+use Rattle.std.specs.Prelude.{ℕ, ℤ, ◌&&◌, if◌then◌else◌, List, [], ◌∷◌, ◌++◌, codes, bytes_eq, find, Option, Some, None, option_map, option_copied, Result, Ok, Err}
 use Rattle.std.specs.List.{list_all}
 use Rattle.config_graph.specs.declared.kind.Kind.{Kind}
 use Rattle.config_graph.specs.Kinds.{kind_named}
@@ -19,9 +19,10 @@ use Rattle.change_script.specs.declared.event_lines.Statement.{Statement}
 use Rattle.change_script.specs.declared.event_lines.Statement.TheVariants as statements
 use Rattle.change_script.specs.declared.event_lines.Triple.{Triple}
 use Rattle.change_script.specs.declared.event_lines.MakeLine.{MakeLine}
-use Rattle.change_script.specs.Tokens.{Token, word, opened, closed, comma}
+use Rattle.change_script.specs.Tokens.{Token, word, opened, closed}
+use Rattle.change_script.specs.Arguments.{arguments, at_end, integers}
 use Rattle.change_script.specs.Faults.{both, with_value}
-use Rattle.change_script.specs.Numbers.{number_in, is_integer, integer, integer_fits}
+use Rattle.change_script.specs.Numbers.{number_in, is_integer}
 use Rattle.change_script.specs.Paths.{is_name, path_in}
 
 -- the first word of each line
@@ -162,21 +163,6 @@ make_of_words (Some words) = make_of_kind words (kind_named words.kind)
 abbrev pub make : List Token → Result Event LineFault
 make tokens = make_of_words (make_words tokens)
 
--- INT {, INT} and the closing parenthesis, with nothing behind it
-abbrev pub more_arguments : List Token → Option (List (List ℕ))
-more_arguments (word first ∷ closed ∷ []) = Some (first ∷ [])
-more_arguments (word first ∷ comma ∷ rest) = option_map (λ words. first ∷ words) (more_arguments rest)
-more_arguments _ = None
-
--- the same, or the closing parenthesis alone
-abbrev pub arguments : List Token → Option (List (List ℕ))
-arguments (closed ∷ []) = Some []
-arguments tokens = more_arguments tokens
-
--- the values of integers, where each is in range
-abbrev pub integers : List (List ℕ) → Option (List ℤ)
-integers words = if list_all integer_fits words then Some (map integer words) else None
-
 abbrev pub start_with : List ℕ → Option (List ℤ) → Result Statement LineFault
 start_with name None = Err Big
 start_with name (Some args) = Ok (statements.Start name args)
@@ -187,7 +173,7 @@ start_of_words name (Some words) = if is_name name && list_all is_integer words 
 
 -- C(ARGS)
 abbrev pub start : List Token → Result Statement LineFault
-start (word name ∷ opened ∷ rest) = start_of_words name (arguments rest)
+start (word name ∷ opened ∷ rest) = start_of_words name (at_end (arguments rest))
 start _ = Err Bad
 
 -- a line that is an event where it has one

@@ -3,9 +3,16 @@ pub mod Lines
 pub mod Tokens
 pub mod Numbers
 pub mod Paths
+pub mod Arguments
 pub mod EventLines
+pub mod ScriptWords
+pub mod ScriptForms
+pub mod ScriptLines
+pub mod ScriptFiles
+pub mod ScriptReading
 pub mod EventFiles
 pub mod Reading
 pub mod Writing
 pub mod Reports
+pub mod StatementTexts
 pub mod MadeNodes

@@ -1,10 +1,10 @@
 -- The line that writes an event, and which events a line can write.
 use Rattle.std.specs.Prelude.{◌≡◌, ◌<◌, ◌^◌, ℕ, true, List, [], ◌∷◌, ◌++◌, Option, Some, None, IfSome, codes, decimal}
-use Rattle.std.specs.List.{flat_map, list_all}
+use Rattle.std.specs.List.{flat_map}
 use Rattle.config_graph.specs.GraphText.{kind_text}
 use Rattle.quiesce_core.specs.declared.event.Event.{Event}
 use Rattle.quiesce_core.specs.declared.event.Event.TheVariants as events
-use Rattle.change_script.specs.Tokens.{is_word_byte}
+use Rattle.change_script.specs.Tokens.{is_word}
 use Rattle.change_script.specs.Paths.{is_path, path_fits}
 
 -- each word after a space
@@ -63,7 +63,7 @@ CanBeWritten (events.Miss port) = IsNumber port
 CanBeWritten (events.Close port) = IsNumber port
 CanBeWritten (events.Reopen port) = IsNumber port
 CanBeWritten (events.Make slot node from) =
-    IsNumber slot × (list_all is_word_byte node.path ≡ true) × (is_path node.path ≡ true) × (path_fits node.path ≡ true)
+    IsNumber slot × (is_word node.path ≡ true) × (is_path node.path ≡ true) × (path_fits node.path ≡ true)
     × IfSome node.arg IsNumber × IfSome from IsNumber
 CanBeWritten (events.Link port node provide) = AreNumbers port node provide
 CanBeWritten (events.Unlink port) = IsNumber port

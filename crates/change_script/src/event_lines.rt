@@ -1,14 +1,14 @@
 //! What a line of an event file says.
 
 ghost use Rattle.std.specs.Prelude.{◌≡◌, ◌∷◌, List, ℕ, true, map, length, option_map, option_copied, IfOk};
-ghost use Rattle.std.specs.List.{list_all};
 ghost use Rattle.change_script.specs.Faults.{MeansLine};
 ghost use Rattle.change_script.specs.Tokens.{tokens};
-ghost use Rattle.change_script.specs.Numbers as of_numbers;
-ghost use Rattle.change_script.specs.EventLines.{after_kind, arguments, integers, link_event, make, make_of_kind, make_words, meaning, meaning_of, more_arguments, optional_number, single_in, source, start, start_of_words, three_numbers, triple_in, words_of};
+ghost use Rattle.change_script.specs.Arguments.{arguments, at_end};
+ghost use Rattle.change_script.specs.EventLines.{after_kind, link_event, make, make_of_kind, make_words, meaning, meaning_of, optional_number, single_in, source, start, start_of_words, three_numbers, triple_in, words_of};
 
+use crate::arguments::{are_integers, arguments, integer_values, integers_fit};
 use crate::error::{LineError, LineFault, both};
-use crate::numbers::{integer, integer_fits, is_integer, number};
+use crate::numbers::number;
 use crate::paths::{is_name, path};
 use crate::tokens::{after_sign, first_word, is_end};
 use crate::verbs::{Verb, verb_named};
@@ -219,40 +219,19 @@ fn start(alloc: Global, line: &[u8]) -> Result<Statement, LineError>
     let Some(line) = after_sign(line, b'(') else {
         return Err(LineError::Fault(LineFault::Bad));
     };
-    let Some(words) = arguments(alloc, line)? else {
+    let Some(words) = last_arguments(alloc, line)? else {
         return Err(LineError::Fault(LineFault::Bad));
     };
     start_of_words(alloc, name, &words)
 }
 
 /// The words up to the closing parenthesis, which ends the line.
-fn arguments(alloc: Global, line: &[u8]) -> Result<Option<Vec<&[u8]>>, NoMemory>
-    ensures { IfOk result (λ found. option_map (λ words. map (λ word. word.now) words.items) found ≡ arguments (tokens line.now)) }
+fn last_arguments(alloc: Global, line: &[u8]) -> Result<Option<Vec<&[u8]>>, NoMemory>
+    ensures { IfOk result (λ found. option_map (λ words. map (λ word. word.now) words.items) found ≡ at_end (arguments (tokens line.now))) }
 {
-    match after_sign(line, b')') {
-        Some(rest) if is_end(rest) => Ok(Some(Vec::new(alloc))),
-        Some(_) => Ok(None),
-        None => more_arguments(alloc, line),
-    }
-}
-
-fn more_arguments(alloc: Global, line: &[u8]) -> Result<Option<Vec<&[u8]>>, NoMemory>
-    ensures { IfOk result (λ found. option_map (λ words. map (λ word. word.now) words.items) found ≡ more_arguments (tokens line.now)) }
-{
-    let mut words = Vec::new(alloc);
-    let mut rest = line;
-    'arguments: loop {
-        let Some((word, behind)) = first_word(rest) else {
-            return Ok(None);
-        };
-        words.push(word)?;
-        if let Some(behind) = after_sign(behind, b')') {
-            return Ok(if is_end(behind) { Some(words) } else { None });
-        }
-        let Some(behind) = after_sign(behind, b',') else {
-            return Ok(None);
-        };
-        rest = behind;
+    match arguments(alloc, line)? {
+        Some((words, rest)) if is_end(rest) => Ok(Some(words)),
+        _ => Ok(None),
     }
 }
 
@@ -262,39 +241,13 @@ fn start_of_words(alloc: Global, name: &[u8], words: &[&[u8]]) -> Result<Stateme
     if !(is_name(name) && are_integers(words)) {
         return Err(LineError::Fault(LineFault::Bad));
     }
-    let Some(values) = integers(alloc, words)? else {
+    if !integers_fit(words) {
         return Err(LineError::Fault(LineFault::Big));
-    };
+    }
+    let args = integer_values(alloc, words)?;
     let name = Text::from_bytes(alloc, name)?;
     Ok(Statement::Start {
         name,
-        args: List::of(values),
+        args: List::of(args),
     })
-}
-
-fn are_integers(words: &[&[u8]]) -> bool
-    ensures { result ≡ list_all of_numbers.is_integer (map (λ word. word.now) words.now) }
-{
-    each_is_integer(words)
-}
-
-fn each_is_integer(words: &[&[u8]]) -> bool
-    ensures { result ≡ list_all (λ word. of_numbers.is_integer word.now) words.now }
-{
-    words.iter().all(|word| is_integer(word))
-}
-
-/// The values of integers, where each is in range.
-fn integers(alloc: Global, words: &[&[u8]]) -> Result<Option<Vec<i32>>, NoMemory>
-    requires { list_all of_numbers.is_integer (map (λ word. word.now) words.now) ≡ true }
-    ensures { IfOk result (λ found. option_map (λ values. values.items) found ≡ integers (map (λ word. word.now) words.now)) }
-{
-    let mut values = Vec::new(alloc);
-    for word in words {
-        if !integer_fits(word) {
-            return Ok(None);
-        }
-        values.push(integer(word))?;
-    }
-    Ok(Some(values))
 }

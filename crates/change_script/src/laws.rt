@@ -1,7 +1,6 @@
 //! Laws of the definitions that the contract of `parse_events` cites.
 
-ghost use Rattle.std.specs.Prelude.{◌≡◌, ◌≢◌, ◌⊎◌, ◌↔◌, ℕ, true, false, List, ◌∷◌, ◌++◌, Ok, IsTrue};
-ghost use Rattle.std.specs.List.{list_all};
+ghost use Rattle.std.specs.Prelude.{◌≡◌, ◌≢◌, ◌⊎◌, ◌↔◌, ℕ, true, false, List, ◌∷◌, ◌++◌, Ok, IsTrue, codes};
 ghost use Rattle.darwin_lexer.specs.Naming.{IsName};
 ghost use Rattle.quiesce_core.specs.declared.event.Event.{Event};
 ghost use Rattle.change_script.specs.declared.event_lines.Statement.TheVariants as statements;
@@ -11,7 +10,7 @@ ghost use Rattle.change_script.specs.EventFiles.{IsEventFile, IsFirstFault};
 ghost use Rattle.change_script.specs.Paths.{is_name};
 ghost use Rattle.change_script.specs.EventLines.{meaning};
 ghost use Rattle.change_script.specs.Writing.{CanBeWritten, written};
-ghost use Rattle.change_script.specs.Tokens.{begins_word, is_blank, is_sign, is_word_byte, sign, tokens, word};
+ghost use Rattle.change_script.specs.Tokens.{arrow, begins_word, is_blank, is_sign, is_word, sign, tokens, word};
 
 /// A text is one event file, or has one first fault, and never both.
 pub fn one_file_or_one_fault()
@@ -22,11 +21,13 @@ pub fn one_file_or_one_fault()
     ensures no_want_of_memory { (text : List ℕ) → IsFirstFault text ScriptError.NoMemory → ⊥ }
 {}
 
-/// What the tokens of a line are, from its front on: a blank is none, a sign is one, and so are all the bytes of a word.
+/// What the tokens of a line are, from its front on: a blank is none, a sign is one, and so are all the bytes of a word,
+/// which go up to the next blank or sign.
 pub fn words_are_longest()
     ensures blank { (byte : ℕ) (rest : List ℕ) → is_blank byte ≡ true → tokens (byte ∷ rest) ≡ tokens rest }
     ensures sign { (byte : ℕ) (rest : List ℕ) → is_sign byte ≡ true → tokens (byte ∷ rest) ≡ sign byte ∷ tokens rest }
-    ensures word { (first : ℕ) (more rest : List ℕ) → list_all is_word_byte (first ∷ more) ≡ true → begins_word rest ≡ false
+    ensures arrow { (rest : List ℕ) → tokens (codes "->" ++ rest) ≡ arrow ∷ tokens rest }
+    ensures word { (first : ℕ) (more rest : List ℕ) → is_word (first ∷ more) ≡ true → begins_word rest ≡ false
         → tokens ((first ∷ more) ++ rest) ≡ word (first ∷ more) ∷ tokens rest }
 {}
 

@@ -1,6 +1,7 @@
 //! Scripts of changes and files of events: their lines, and what each line says.
 #![tactic(auto)]
 
+mod arguments;
 mod cuts;
 mod error;
 mod event_files;
@@ -11,6 +12,11 @@ mod numbers;
 mod paths;
 mod report;
 mod report_writing;
+mod script;
+mod script_files;
+mod script_laws;
+mod script_lines;
+mod script_words;
 mod tokens;
 mod verbs;
 
@@ -23,3 +29,8 @@ pub use laws::{
 };
 pub use report::{HistoryLine, Last, NodeLog, Report};
 pub use report_writing::report_text;
+pub use script::{Body, Script, ScriptLine};
+pub use script_files::{MAX_STATEMENTS, parse_script};
+pub use script_laws::{
+    a_written_statement_means_itself, lines_mean_what_their_forms_say, one_script_or_one_fault,
+};

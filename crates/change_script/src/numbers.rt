@@ -5,6 +5,7 @@ ghost use Rattle.std.specs.Char.{is_ascii_digit};
 ghost use Rattle.std.specs.List.{AllPass, list_all};
 ghost use Rattle.std.specs.Str.Parse.{digits_value};
 ghost use Rattle.std.specs.Option.{SomeIff};
+ghost use Rattle.change_script.specs.Numbers as of_words;
 ghost use Rattle.change_script.specs.Numbers.{integer, integer_fits, is_integer, is_negative, is_number, magnitude, number_fits, number_in};
 
 use crate::error::LineFault;
@@ -41,6 +42,15 @@ pub fn number_fits(word: &[u8]) -> bool
     ensures { result ≡ number_fits word.now }
 {
     value_of(word).is_some()
+}
+
+/// The value of a number that is at most 4,294,967,295.
+pub fn number_value(word: &[u8]) -> u32
+    requires number { IsTrue (is_number word.now) }
+    requires fits { IsTrue (number_fits word.now) }
+    ensures { result ≡ of_words.number word.now }
+{
+    value_of(word).unwrap_or(0)
 }
 
 /// The number that decimal digits write, if it is at most `u32::MAX`.

@@ -28,7 +28,7 @@ pub fn path(path: &[u8]) -> Result<(), LineFault>
 }
 
 /// Whether `path` is segments NAME or NAME[NUM], parted by `.`.
-fn is_path(path: &[u8]) -> bool
+pub fn is_path(path: &[u8]) -> bool
     ensures { result ≡ is_path path.now }
 {
     let mut rest = path;
@@ -45,7 +45,7 @@ fn is_path(path: &[u8]) -> bool
 }
 
 /// Whether each index of a path is at most 4,294,967,295.
-fn path_fits(path: &[u8]) -> bool
+pub fn path_fits(path: &[u8]) -> bool
     ensures { result ≡ path_fits path.now }
 {
     let mut rest = path;

@@ -2,7 +2,7 @@
 
 ghost use Rattle.std.specs.Prelude.{◌≡◌, ◌<◌, ◌≤◌, false, ◌∷◌, [], ℕ, List, length, IsTrue, ◌↔◌, IfNone, IfSome};
 ghost use Rattle.std.specs.List.{list_all, prefix_len};
-ghost use Rattle.change_script.specs.Tokens.{Token, word, sign, tokens, begins_blank, is_blank, is_sign, is_word_byte};
+ghost use Rattle.change_script.specs.Tokens.{Token, arrow, begins_arrow, begins_blank, begins_word, is_blank, is_sign, is_word_byte, sign, tokens, word, word_len};
 
 /// The word that comes first in `line`, and what stands behind it; `None` where no word comes first.
 pub fn first_word(line: &[u8]) -> Option<(&[u8], &[u8])>
@@ -36,6 +36,19 @@ pub fn after_sign(line: &[u8], byte: u8) -> Option<&[u8]>
     }
 }
 
+/// What stands behind `->`, where it comes first in `line`.
+pub fn after_arrow(line: &[u8]) -> Option<&[u8]>
+    ensures none { IfNone result ((more : List Token) → tokens line.now ≡ arrow ∷ more → ⊥) }
+    ensures found { IfSome result (λ rest. tokens line.now ≡ arrow ∷ tokens rest.now) }
+    ensures shorter { IfSome result (λ rest. length rest.now < length line.now) }
+{
+    let line = without_blanks(line);
+    if !begins_arrow(line) {
+        return None;
+    }
+    Some(&line[2..])
+}
+
 /// Whether nothing but blanks is left.
 pub fn is_end(line: &[u8]) -> bool
     ensures { IsTrue result ↔ (tokens line.now ≡ []) }
@@ -59,7 +72,7 @@ fn without_blanks(line: &[u8]) -> &[u8]
 }
 
 /// How many blanks stand at the front.
-fn blanks_len(line: &[u8]) -> usize
+pub fn blanks_len(line: &[u8]) -> usize
     ensures len { result ≡ prefix_len is_blank line.now }
     ensures within { result ≤ length line.now }
 {
@@ -68,13 +81,34 @@ fn blanks_len(line: &[u8]) -> usize
 
 /// How many bytes the word at the front has.
 fn word_len(line: &[u8]) -> usize
-    ensures len { result ≡ prefix_len is_word_byte line.now }
+    ensures len { result ≡ word_len line.now }
     ensures within { result ≤ length line.now }
 {
-    line.iter().take_while(|byte| is_word_byte(**byte)).count()
+    let mut len = 0;
+    while begins_word(&line[len..]) {
+        len += 1;
+    }
+    len
 }
 
-fn is_blank(byte: u8) -> bool
+/// Whether a byte of a word stands at the front: no blank, no sign, and not the first byte of `->`.
+fn begins_word(line: &[u8]) -> bool
+    ensures { result ≡ begins_word line.now }
+{
+    match line.first() {
+        Some(&first) => is_word_byte(first) && !begins_arrow(line),
+        None => false,
+    }
+}
+
+fn begins_arrow(line: &[u8]) -> bool
+    ensures { result ≡ begins_arrow line.now }
+{
+    line.len() >= 2 && line[0] == b'-' && line[1] == b'>'
+}
+
+/// Whether `byte` parts words.
+pub fn is_blank(byte: u8) -> bool
     ensures { result ≡ is_blank byte }
 {
     byte == b' ' || byte == b'\t'

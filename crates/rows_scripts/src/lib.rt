@@ -1,5 +1,7 @@
-//! Worked rows of reports, as texts.
+//! Worked rows of scripts and of reports, as texts.
 #![tactic(auto)]
 
 #[cfg(test)]
 mod report_rows;
+#[cfg(test)]
+mod script_rows;
