@@ -1,9 +1,9 @@
 -- A node that took a state over begins with what the other kept at last: sources have lower slots, so the chain of folds ends.
-use Rattle.std.proofs.Common.{◌≡◌, ◌∙◌, ℕ, zero, suc, ◌<◌, true, false, not, ◌&&◌, List, ◌∷◌, ◌++◌, length, Option, Some, None, refl, ap, sym, subst, ⊎_elim, arith}
+use Rattle.std.proofs.Common.{◌≡◌, ◌∙◌, ℕ, zero, suc, ◌<◌, true, false, not, ◌&&◌, List, length, Option, Some, None, refl, ap, sym, subst, ⊎_elim, arith}
 use Rattle.std.specs.Prelude.{option_and_then, option_map}
 use Rattle.std.specs.Option.{option_map_or}
 use Rattle.std.proofs.lemmas.Bool.{and_parts, cases_eq, eq-eqb, ne_eqb}
-use Rattle.base.proofs.OptionLaws.{option_map_some}
+use Rattle.base.proofs.OptionLaws.{option_map_some, map_or_true}
 use Rattle.base.proofs.PlaceLaws.{slice_get-below, slice_get-snoc}
 use Rattle.config_graph.specs.declared.node.Node.{Node}
 use Rattle.component_trait.specs.States.{Kept, NodeState}
@@ -16,10 +16,9 @@ use Rattle.quiesce_core.specs.Effect.{effect, with_node}
 use Rattle.quiesce_core.specs.Legal.{CanMake, Legal}
 use Rattle.quiesce_core.specs.Rules.{can_move, is_kind, was_moved}
 use Rattle.quiesce_core.specs.Runs.{IsRun, done_by, state_after}
-use Rattle.quiesce_core.specs.State.{Configuration, State, empty, slot}
+use Rattle.quiesce_core.specs.State.{Configuration, State, slot}
 use Rattle.quiesce_core.proofs.AlterLaws.{reconfigured}
 use Rattle.quiesce_core.proofs.ConfigurationLaws.{slots_stay}
-use Rattle.quiesce_core.proofs.CycleLaws.{map_or_true}
 use Rattle.quiesce_core.proofs.InductionLaws.{always}
 use Rattle.change_law.specs.Opening.{argument_of, fold_at, fold_of_node, fold_within}
 

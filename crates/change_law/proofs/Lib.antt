@@ -1,14 +1,15 @@
 mod Checking
-mod FilledLemmas
+mod ClosingLemmas
+mod FirstLemmas
+pub mod FoundLaws
 mod GraphLemmas
 mod HandedLemmas
-mod KeptLemmas
 pub mod MemberLaws
-mod OneSerial
+pub mod PlanningLaws
 pub mod RunningLaws
-mod RowLemmas
-mod SerialLemmas
-mod SoundLemmas
+pub mod SerialLaws
+pub mod StandingLaws
+mod ShowingLemmas
 mod StopLemmas
-mod SummedLemmas
-mod WrongLemmas
+pub mod TestLaws
+mod ToldLemmas

@@ -1,11 +1,10 @@
 -- The stop closes every live port, and each is found drained: so nothing is open at the end.
-use Rattle.std.proofs.Common.{◌≡◌, ◌∙◌, ℕ, ◌+◌, ◌≤◌, ◌<◌, Bool, true, false, ◌&&◌, ◌||◌, not, cond, List, [], ◌∷◌, ◌++◌, append_assoc, length, map, refl, ap, sym, subst, arith, lt-ltb}
-use Rattle.std.specs.Prelude.{◌==◌, filter, filter_map, All, IsTrue}
-use Rattle.std.specs.List.{count_by, list_any, range_with_len}
+use Rattle.std.proofs.Common.{◌≡◌, ◌∙◌, ℕ, ◌<◌, Bool, true, false, ◌&&◌, ◌||◌, not, cond, List, [], ◌∷◌, ◌++◌, append_assoc, length, map, refl, ap, sym, subst, arith}
+use Rattle.std.specs.Prelude.{◌==◌, filter, filter_map, All}
+use Rattle.std.specs.List.{list_any, range_with_len}
 use Rattle.std.proofs.lemmas.Bool.{and_from, both_ways, eq-eqb, eqb-true, or_parts, or_right}
 use Rattle.std.proofs.lemmas.List.Elements.{filter-append}
 use Rattle.std.proofs.lemmas.List.Folds.{list_any-append}
-use Rattle.std.proofs.lemmas.List.Sums.{sum_by-cons}
 use Rattle.base.specs.Each.{Each}
 use Rattle.base.proofs.EachLaws.{each_at}
 use Rattle.base.proofs.MapLaws.{list_any-map}
@@ -31,31 +30,10 @@ use Rattle.change_script.specs.declared.report.Report.{Report}
 use Rattle.change_law.specs.Follows.{Follows, IsStop, lines_of}
 use Rattle.change_law.specs.Lawful.{IsDrainedAt, IsOfItsKind, Merge}
 use Rattle.change_law.specs.Members.{Member, of_history, event_of, events, is_root, lines, state_at, without_roots}
-use Rattle.change_law.specs.Scene.{AreSeen, Seen, config_after, drained_line, live_ports}
+use Rattle.change_law.specs.Scene.{Seen, config_after, drained_line, live_ports}
 use Rattle.change_law.specs.Statements.{Statement}
+use Rattle.change_law.proofs.TestLaws.{counted_some, some_counted}
 use Rattle.change_law.proofs.MemberLaws.{all_parts, LineIn, Split, config_of_lines, events_parts, events_without_roots, line_there, none_happens, split}
-
--- counts of those that pass a test
-
-pub some_counted : {A : Type 0} (t : A → Bool) (xs : List A) → list_any t xs ≡ true → 1 ≤ count_by t xs
-some_counted t [] h = absurd (both_ways false refl h)
-some_counted t (x ∷ xs) h = by (t x) refl (some_counted t xs)
-  where
-    by : (b : Bool) → t x ≡ b → (list_any t xs ≡ true → 1 ≤ count_by t xs) → 1 ≤ count_by t (x ∷ xs)
-    by true e rest = let one = sum_by-cons (λ y. cond (t y) 1 0) x xs ∙ ap (λ b. cond b 1 0 + count_by t xs) e in omega (arith, one)
-    by false e rest =
-        let one = sum_by-cons (λ y. cond (t y) 1 0) x xs ∙ ap (λ b. cond b 1 0 + count_by t xs) e in
-        omega (arith, one, rest (sym (ap (λ b. b || list_any t xs) e) ∙ h))
-
-pub counted_some : {A : Type 0} (t : A → Bool) (xs : List A) → 1 ≤ count_by t xs → list_any t xs ≡ true
-counted_some t [] h = absurd (omega (arith, h))
-counted_some t (x ∷ xs) h = by (t x) refl (counted_some t xs)
-  where
-    by : (b : Bool) → t x ≡ b → (1 ≤ count_by t xs → list_any t xs ≡ true) → list_any t (x ∷ xs) ≡ true
-    by true e rest = ap (λ b. b || list_any t xs) e
-    by false e rest =
-        let one = sum_by-cons (λ y. cond (t y) 1 0) x xs ∙ ap (λ b. cond b 1 0 + count_by t xs) e in
-        ap (λ b. b || list_any t xs) e ∙ rest (omega (arith, one, h))
 
 kept_here : {A : Type 0} (t u : A → Bool) (x : A) (xs left : List A) (b d : Bool) → t x ≡ b → u x ≡ d → (list_any (λ y. t y && u y) xs ≡ true → list_any u left ≡ true)
     → list_any (λ y. t y && u y) (x ∷ xs) ≡ true → list_any u (cond b (x ∷ left) left) ≡ true
@@ -90,7 +68,7 @@ none_shapes test h [] [] = refl
 none_shapes test h [] (d ∷ seen) = none_shapes test h [] seen
 none_shapes test h (p ∷ ports) seen = ap (λ b. b || list_any test (filter_map event_of (closings ports ++ sightings seen))) (h p) ∙ none_shapes test h ports seen
 
-no_node_shapes : (e : Event) → is_of_change e ≡ false → is_shaping e ≡ false
+pub no_node_shapes : (e : Event) → is_of_change e ≡ false → is_shaping e ≡ false
 no_node_shapes (event.Close p) h = refl
 no_node_shapes (event.Reopen p) h = refl
 no_node_shapes (event.Make n node from) h = absurd (both_ways true h refl)

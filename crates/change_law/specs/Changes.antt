@@ -3,6 +3,7 @@
 use Rattle.std.specs.Prelude.{◌≡◌, ◌≤◌, ◌<◌, ◌⊎◌, ℕ, ℤ, ◌+◌, List, [], ◌∷◌, ◌++◌, map, length, flat_map, All}
 use Rattle.std.specs.List.Sorted.{IsStrictlyIncreasing}
 use Rattle.config_graph.specs.Graph.{Graph}
+use Rattle.change_plan.specs.Moves.{MayMoveAll}
 use Rattle.change_plan.specs.Plans.{IsPlanOf}
 use Rattle.change_plan.specs.declared.plan_data.Move.{Move}
 use Rattle.change_plan.specs.declared.plan_data.Plan.{Plan}
@@ -55,11 +56,12 @@ pub record IsGivenUp (closed : List ℕ) (within : ℕ) (lines : List HistoryLin
   pub all_seen : AreSeen closed (seen_in_all looks ++ left)
   pub are : lines ≡ drained_lines looks ++ pending_lines within left closed
 
--- the lines of a change from the graph of these lines before it
+-- the lines of a change from the graph of these lines before it; each of its moves may be made
 pub record IsChange (before : List HistoryLine) (name : List ℕ) (args : List ℤ) (new : Graph) (within : ℕ) (moves : List Move) (lines : List HistoryLine) : Type 0 where
   pub old : Graph
   pub is_old : IsGraphOf (config_after before) old
   pub plan : Plan
+  pub moves_lead : MayMoveAll old new moves (length moves)
   pub is_plan : IsPlanOf old new moves plan
   pub rest : List HistoryLine
   pub are : lines ≡ opening_lines name args old plan (config_after before) ++ rest

@@ -52,10 +52,14 @@ IsRight before show lines = IsShowLine lines
 abbrev pub AreRight : List Part → Type 0
 AreRight parts = Each (λ before part. IsRight (lines_of before) part.statement part.lines) parts
 
--- the stop closes every live port, and each is found drained
+-- the stop closes every live port, and finds these drained
+abbrev pub stop_lines : List HistoryLine → List Seen → List HistoryLine
+stop_lines before seen = to.Stop ∷ map to.Close (live_ports (config_after before)) ++ map drained_line seen
+
+-- each of them is found drained
 pub record IsStop (before lines : List HistoryLine) : Type 0 where
   pub seen : List Seen
-  pub are : lines ≡ to.Stop ∷ map to.Close (live_ports (config_after before)) ++ map drained_line seen
+  pub are : lines ≡ stop_lines before seen
   pub all_seen : AreSeen (live_ports (config_after before)) seen
 
 pub record Follows (statements : List Statement) (history : List HistoryLine) : Type 0 where

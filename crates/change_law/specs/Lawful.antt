@@ -1,6 +1,6 @@
--- Lawful reports: the nodes' logs and the history are parts of one run of the change machine, in which a change touches a node only
--- while it is quiescent (Kramer and Magee 1990).
-use Rattle.std.specs.Prelude.{◌≡◌, ◌≤◌, ◌<◌, ◌⊎◌, ⊤, ℕ, ◌-◌, Bool, true, false, not, ◌==◌, List, [], ◌∷◌, ◌++◌, map, length, filter_map, slice_get, find, All, Option, Some, None, is_some, IsTrue, if◌then◌else◌}
+-- Lawful reports: the nodes' logs and the history are parts of one run of the change machine, in which a change
+-- touches a node only while it is quiescent (Kramer and Magee 1990).
+use Rattle.std.specs.Prelude.{◌≡◌, ◌≤◌, ◌<◌, ◌⊎◌, ⊤, ℕ, ◌-◌, Bool, true, false, not, List, ◌∷◌, ◌++◌, map, length, filter_map, slice_get, find, All, Option, Some, None, IsTrue, if◌then◌else◌}
 use Rattle.std.specs.List.{count_by, list_any, range_with_len}
 use Rattle.std.specs.Option.{option_map_or}
 use Rattle.base.specs.Each.{Each}
@@ -24,10 +24,12 @@ use Rattle.change_script.specs.declared.report.Last.{Last}
 use Rattle.change_script.specs.declared.report.Last.TheVariants as last
 use Rattle.change_script.specs.declared.report.NodeLog.{NodeLog}
 use Rattle.change_script.specs.declared.report.Report.{Report}
+use Rattle.change_law.specs.Endings.{moved_to, status_of}
 use Rattle.change_law.specs.Follows.{Follows}
-use Rattle.change_law.specs.Members.{Member, by_node, of_history, without_roots, events, is_close, is_pending, lines, made_slot, state_at}
+use Rattle.change_law.specs.Members.{Member, by_node, of_history, without_roots, events, is_close, lines, made_slot, state_at}
 use Rattle.change_law.specs.Opening.{fold_of_node}
 use Rattle.change_law.specs.Scene.{live_ports}
+use Rattle.change_law.specs.Serial.{Serial}
 use Rattle.change_law.specs.Statements.{Statement, graph_of, is_finish}
 
 -- an event that is no line of the history is one that nodes do
@@ -39,8 +41,9 @@ IsOfItsKind (of_history l) = ⊤
 abbrev pub IsLogIn : List Member → NodeLog → Type 0
 IsLogIn m l = done_by l.slot (events m) ≡ l.events
 
--- The report has one log for each node that its history makes, and no other. The list has the events of each log, in order, and no other
--- event of a node; and the lines of the history, in order, but those on what was still open.
+-- The report has one log for each node that its history makes, and no other. The list has the events of each log, in
+-- order; and the lines of the history, in order, but those on what was still open. Where it is a run besides, it has no
+-- other event of a node: each is done by a node that was made, and stands in the log of that node.
 pub record Merge (m : List Member) (report : Report) : Type 0 where
   pub one_log_a_node : map (λ (l : NodeLog). l.slot) report.logs ≡ filter_map made_slot report.history
   pub logs : All (IsLogIn m) report.logs
@@ -48,11 +51,11 @@ pub record Merge (m : List Member) (report : Report) : Type 0 where
   pub history : lines m ≡ without_roots report.history
 
 -- at a link and an unlink the port's owner is quiescent, and at a removal the node
-abbrev pub IsQuietAt : List Member → Member → Type 0
-IsQuietAt before (of_history (to.Link p n x)) = Quiescent (events before) (owner (state_at before).config p)
-IsQuietAt before (of_history (to.Unlink p)) = Quiescent (events before) (owner (state_at before).config p)
-IsQuietAt before (of_history (to.Remove n)) = Quiescent (events before) n
-IsQuietAt before _ = ⊤
+abbrev pub IsQuiescentAt : List Member → Member → Type 0
+IsQuiescentAt before (of_history (to.Link p n x)) = Quiescent (events before) (owner (state_at before).config p)
+IsQuiescentAt before (of_history (to.Unlink p)) = Quiescent (events before) (owner (state_at before).config p)
+IsQuiescentAt before (of_history (to.Remove n)) = Quiescent (events before) n
+IsQuiescentAt before _ = ⊤
 
 -- a transaction that was begun or called has all that it needs, and no more
 pub record EndsOnce (es : List Event) (p k : ℕ) : Type 0 where
@@ -65,14 +68,6 @@ pub record EndsOnce (es : List Event) (p k : ℕ) : Type 0 where
 
 abbrev pub IsEndedOnce : List Event → ℕ → ℕ → Type 0
 IsEndedOnce es p k = list_any (is_begin_of p k) es ≡ true → EndsOnce es p k
-
--- the node to which a slot's state was handed over
-abbrev pub is_made_from : ℕ → ℕ → HistoryLine → Bool
-is_made_from n j (to.Make i made from) = if i == j then option_map_or (λ k. k == n) from false else false
-is_made_from n j _ = false
-
-abbrev pub moved_to : List HistoryLine → ℕ → Option ℕ
-moved_to history n = find (λ j. list_any (is_made_from n j) history) (filter_map made_slot history)
 
 -- a log has a fold, and ends with its last state, or tells to which node it went
 abbrev pub EndsAs : Option NodeState → Option ℕ → Last → Type 0
@@ -88,7 +83,8 @@ abbrev pub IsDrainedAt : List Member → Member → Type 0
 IsDrainedAt before (of_history (to.Drained p k)) = IsTrue (is_drained (state_at before) p) × ((exchange (state_at before) p).serial ≡ k)
 IsDrainedAt before _ = ⊤
 
--- Root k of port p stood open from the port's last close on to a place behind all closes of the change, before its first reopen.
+-- Root k of port p stood open from the port's last close on to a place behind all closes of the change, before its
+-- first reopen.
 pub record StoodOpen (m : List Member) (before : List HistoryLine) (p k : ℕ) : Type 0 where
   pub front : List Member
   pub since : List Member
@@ -98,7 +94,8 @@ pub record StoodOpen (m : List Member) (before : List HistoryLine) (p k : ℕ) :
   pub place : lines (front ++ of_history (to.Close p) ∷ since) ++ later ≡ without_roots before
   pub behind_closes : list_any is_close later ≡ false
   pub not_reopened : list_any (reopens p) (events since) ≡ false
-  pub stood : (x y : List Member) → since ≡ x ++ y → IsTrue (has_root (state_at (front ++ of_history (to.Close p) ∷ x)) p k)
+  pub stood : (x y : List Member) → since ≡ x ++ y
+      → IsTrue (has_root (state_at (front ++ of_history (to.Close p) ∷ x)) p k)
 
 abbrev pub StoodOpenWhereSaid : List Member → List HistoryLine → HistoryLine → Type 0
 StoodOpenWhereSaid m before (to.Root p k) = StoodOpen m before p k
@@ -136,20 +133,29 @@ abbrev pub unfinished_of : List Statement → List Event → Option ℕ
 unfinished_of statements es =
     if list_any is_finish statements then find (is_unfinished es) (range_with_len 0 (length (state_after es).config.slots)) else None
 
-abbrev pub status_of : List HistoryLine → Option ℕ → ℕ
-status_of history unfinished = if list_any is_pending history then 7 else if is_some unfinished then 8 else 0
-
 -- all that is asked of the one list but the numbers of `run` and `finish` lines
 pub record IsLawfulBy (statements : List Statement) (report : Report) (m : List Member) : Type 0 where
+  -- the logs and the history are parts of the list, and it has nothing else
   pub merge : Merge m report
+  -- its events are a run of the change machine
   pub runs : IsRun (events m)
-  pub quiescent : Each IsQuietAt m
+  -- what is linked, unlinked and removed is quiescent then
+  pub quiescent : Each IsQuiescentAt m
+  -- each transaction has ended once, with all that it needs; that each of these stands in the log of the node that does
+  -- it is the merge's
   pub ended_once : (p k : ℕ) → IsEndedOnce (events m) p k
+  -- each log is one of its node's kind, from what the node was made with, and ends with its state or with the node to
+  -- which that went
   pub folds : All (IsFolded m report.history) report.logs
+  -- what is said to be drained is so, with the serial that is said
   pub drained : Each IsDrainedAt m
+  -- what is said to be open stood open from the close on to a place behind all closes of its change
   pub stood_open : Each (StoodOpenWhereSaid m) report.history
+  -- at a commit the graph is that of the description, and at a show the one that is shown
   pub graphs : Each (IsGraphAt statements) m
+  -- the first live node that isn't done is named, where the script has a finish
   pub unfinished : report.unfinished ≡ unfinished_of statements (events m)
+  -- 7 where a change was given up, else 8 where a node wasn't done, else 0
   pub status : report.status ≡ status_of report.history report.unfinished
 
 -- Rest, and the numbers of `run` and `finish`.
@@ -176,26 +182,37 @@ pub record EndedSince (before : List Member) (n : ℕ) : Type 0 where
   pub parts : before ≡ front ++ map by_node later
   pub enough : n ≤ count_by is_end later
 
--- the line is that of a system on one thread, at the same place of its history; there is none for a system on threads
-abbrev pub IsOfRounds : Option (List HistoryLine) → List Member → HistoryLine → Type 0
-IsOfRounds None before l = ⊥
-IsOfRounds (Some rounds) before l = slice_get (without_roots rounds) (length (lines before)) ≡ Some l
+-- how a report came about: on threads, or in rounds on one thread, of which these statements have this report
+pub data Pace (statements : List Statement) : Type 0 where
+  on_threads : Pace statements
+  in_rounds : (rounds : Report) (serial : Serial statements rounds) → Pace statements
 
-abbrev pub IsRunAt : Option (List HistoryLine) → List Member → Member → Type 0
-IsRunAt rounds before (of_history (to.Run k n)) =
-    EndedSince before n × ((k ≤ n) ⊎ CameToRest before ⊎ IsOfRounds rounds before (to.Run k n))
-IsRunAt rounds before _ = ⊤
+-- the report of the rounds has this line at the same place; there is none for a system on threads
+abbrev pub IsOfRounds : {statements : List Statement} → Pace statements → List Member → HistoryLine → Type 0
+IsOfRounds on_threads before l = ⊥
+IsOfRounds (in_rounds rounds serial) before l =
+    slice_get (without_roots rounds.history) (length (lines before)) ≡ Some l
 
-abbrev pub IsFinishAt : Option (List HistoryLine) → List Member → Member → Type 0
-IsFinishAt rounds before (of_history (to.Finish n r)) =
-    (r ≡ n) ⊎ ((r < n) × (CameToRest before ⊎ IsOfRounds rounds before (to.Finish n r)))
-IsFinishAt rounds before _ = ⊤
+abbrev pub IsRunAt : {statements : List Statement} → Pace statements → List Member → Member → Type 0
+IsRunAt pace before (of_history (to.Run k n)) =
+    EndedSince before n × ((k ≤ n) ⊎ CameToRest before ⊎ IsOfRounds pace before (to.Run k n))
+IsRunAt pace before _ = ⊤
 
--- The report is lawful for a script with these statements. `rounds` is the history of a system on one thread that runs the script, and
--- none where the report is that of a system on threads.
-pub record Lawful (rounds : Option (List HistoryLine)) (statements : List Statement) (report : Report) : Type 0 where
+abbrev pub IsFinishAt : {statements : List Statement} → Pace statements → List Member → Member → Type 0
+IsFinishAt pace before (of_history (to.Finish n r)) =
+    (r ≡ n) ⊎ ((r < n) × (CameToRest before ⊎ IsOfRounds pace before (to.Finish n r)))
+IsFinishAt pace before _ = ⊤
+
+-- The report is lawful for a script with these statements, at this pace.
+pub record Lawful (statements : List Statement) (pace : Pace statements) (report : Report) : Type 0 where
+  -- the history has the lines of each statement, in order, and those of the stop
   pub follows : Follows statements report.history
+  -- the one list that is said to be there
   pub members : List Member
   pub by_them : IsLawfulBy statements report members
-  pub runs_end : Each (IsRunAt rounds) members
-  pub finishes_end : Each (IsFinishAt rounds) members
+  -- a `run` ended with as many transactions as it says: all that were asked for, or what came to rest, or what the
+  -- rounds give
+  pub runs_end : Each (IsRunAt pace) members
+  -- a `finish` made as many rounds as it says: all that were allowed, or fewer where all came to rest, or what the
+  -- rounds give
+  pub finishes_end : Each (IsFinishAt pace) members

@@ -1,9 +1,15 @@
 pub mod Statements
+pub mod Scripts
 pub mod Members
 pub mod Scene
 pub mod Changes
 pub mod Follows
+pub mod Closings
 pub mod Opening
-pub mod Lawful
+pub mod Endings
 pub mod Serial
-pub mod Rows
+pub mod Lawful
+pub mod Planning
+pub mod Standing
+pub mod Told
+pub mod Found

@@ -5,7 +5,7 @@ use Rattle.quiesce_core.specs.declared.event.Event.TheVariants as event
 use Rattle.quiesce_core.specs.State.{State}
 use Rattle.quiesce_core.specs.Runs.{state_after}
 use Rattle.change_script.specs.declared.report.HistoryLine.{HistoryLine}
-use Rattle.change_script.specs.declared.report.HistoryLine.TheVariants.{Start, Change, Make, Link, Unlink, Remove, Close, Reopen, Drained, Commit, Abandon, Skipped, Pending, Root, Run, Finish, Show, Stop}
+use Rattle.change_script.specs.declared.report.HistoryLine.TheVariants.{Make, Link, Unlink, Remove, Close, Reopen, Commit, Pending, Root}
 
 -- the event that a line is
 abbrev pub event_of : HistoryLine → Option Event
@@ -60,6 +60,10 @@ is_root _ = false
 abbrev pub is_close : HistoryLine → Bool
 is_close (Close p) = true
 is_close _ = false
+
+abbrev pub is_commit : HistoryLine → Bool
+is_commit Commit = true
+is_commit _ = false
 
 abbrev pub is_pending : HistoryLine → Bool
 is_pending (Pending r) = true

@@ -1,12 +1,11 @@
 -- The report of a system on one thread, whose nodes take turns in rounds: what each line says is computed from the rounds.
-use Rattle.std.specs.Prelude.{◌≡◌, ◌⊎◌, ℕ, zero, suc, ℤ, ◌-◌, Bool, true, false, not, ◌||◌, ◌&&◌, ◌==◌, nat_le, nat_lt, List, [], ◌∷◌, ◌++◌, map, length, filter, filter_map, flat_map, find, fold, Option, Some, None, is_some, if◌then◌else◌}
+use Rattle.std.specs.Prelude.{◌≡◌, ℕ, zero, suc, ℤ, ◌-◌, Bool, true, false, not, ◌||◌, ◌&&◌, ◌==◌, nat_le, List, [], ◌∷◌, ◌++◌, map, length, filter, flat_map, find, fold, Option, None, if◌then◌else◌}
 use Rattle.std.specs.List.{list_any, range_with_len}
-use Rattle.std.specs.List.Sorted.{IsStrictlyIncreasing}
 use Rattle.std.specs.Option.{option_map_or}
 use Rattle.base.specs.Each.{Each}
-use Rattle.component_trait.specs.States.{NodeState}
 use Rattle.component_trait.specs.Moves as moves
 use Rattle.config_graph.specs.Graph.{Graph}
+use Rattle.change_plan.specs.Moves.{MayMoveAll}
 use Rattle.change_plan.specs.Plans.{IsPlanOf}
 use Rattle.change_plan.specs.declared.plan_data.Move.{Move}
 use Rattle.change_plan.specs.declared.plan_data.Plan.{Plan}
@@ -27,9 +26,9 @@ use Rattle.change_script.specs.declared.report.Last.TheVariants as last
 use Rattle.change_script.specs.declared.report.NodeLog.{NodeLog}
 use Rattle.change_script.specs.declared.report.Report.{Report}
 use Rattle.change_law.specs.Changes.{commit_lines, drained_lines, opening_lines, pending_lines}
+use Rattle.change_law.specs.Endings.{moved_to, status_of}
 use Rattle.change_law.specs.Follows.{skip_lines, start_lines}
-use Rattle.change_law.specs.Lawful.{moved_to, status_of}
-use Rattle.change_law.specs.Members.{is_pending, made_slot}
+use Rattle.change_law.specs.Members.{is_pending}
 use Rattle.change_law.specs.Scene.{Seen, live_ports}
 use Rattle.change_law.specs.Statements.{Statement, start, change, run, finish, show, is_finish}
 
@@ -97,6 +96,7 @@ pub record ChangesTo (w : World) (name : List ℕ) (args : List ℤ) (new : Grap
   pub old : Graph
   pub is_old : IsGraphOf w.machine.config old
   pub plan : Plan
+  pub moves_lead : MayMoveAll old new moves (length moves)
   pub is_plan : IsPlanOf old new moves plan
   pub closed : List ℕ
   pub closed_are : closed ≡ ports_to_close old plan w.machine.config

@@ -1,7 +1,9 @@
 //! Laws of lawful reports: what follows from being one run, and what from their lines.
 
-ghost use Rattle.std.specs.Prelude.{◌≡◌, ℕ, Bool, false, List, ◌∷◌, ◌++◌, Some, option_and_then, option_map};
+ghost use Rattle.std.specs.Prelude.{◌≡◌, ℕ, Bool, true, false, List, ◌∷◌, ◌++◌, Contains, length, Some, option_and_then, option_map};
+ghost use Rattle.std.specs.List.{list_any};
 ghost use Rattle.base.specs.Each.{Each};
+ghost use Rattle.change_plan.specs.Moves.{MayMoveAll};
 ghost use Rattle.change_plan.specs.Plans.{IsPlanOf};
 ghost use Rattle.change_plan.specs.declared.plan_data.Move.{Move};
 ghost use Rattle.change_plan.specs.declared.plan_data.Plan.{Plan};
@@ -13,19 +15,26 @@ ghost use Rattle.quiesce_core.specs.Runs.{IsRun, done_by, is_open_after, state_a
 ghost use Rattle.quiesce_core.specs.declared.state.Slot.{Slot};
 ghost use Rattle.quiesce_core.specs.State.{Configuration, slot};
 ghost use Rattle.turns.specs.Round.{FirstAt};
-ghost use Rattle.change_script.specs.declared.report.HistoryLine.TheVariants.{Commit, Show};
+ghost use Rattle.change_script.specs.declared.report.HistoryLine.{HistoryLine};
+ghost use Rattle.change_script.specs.declared.report.HistoryLine.TheVariants.{Close, Commit, Show};
 ghost use Rattle.change_script.specs.declared.report.Report.{Report};
-ghost use Rattle.change_law.specs.Follows.{Follows};
-ghost use Rattle.change_law.specs.Lawful.{IsDrainedAt, IsEndedOnce, IsLawfulBy, IsQuietAt, Merge, described, status_of};
-ghost use Rattle.change_law.specs.Members.{Member, of_history, events, lines, state_at};
+ghost use Rattle.change_law.specs.Closings.{IsClosedFor};
+ghost use Rattle.change_law.specs.Follows.{Follows, lines_of};
+ghost use Rattle.change_law.specs.Found.{IsFound};
+ghost use Rattle.change_law.specs.Lawful.{IsDrainedAt, IsEndedOnce, IsLawfulBy, IsQuiescentAt, Lawful, Merge, Pace, described};
+ghost use Rattle.change_law.specs.Members.{Member, of_history, events, is_commit, lines};
 ghost use Rattle.change_law.specs.Opening.{fold_at, fold_of_node};
+ghost use Rattle.change_law.specs.Planning.{can_be_planned, planned};
+ghost use Rattle.change_law.specs.Scene.{Seen};
 ghost use Rattle.change_law.specs.Serial.{Serial};
+ghost use Rattle.change_law.specs.Standing.{is_graph_of};
 ghost use Rattle.change_law.specs.Statements.{Statement};
+ghost use Rattle.change_law.specs.Told.{Told, can_follow, history_told};
 
-/// That nodes are linked, unlinked and removed only while quiescent follows from the events being a run: a report can't fail by it
-/// alone.
+/// That nodes are linked, unlinked and removed only while quiescent follows from the events being a run: a report
+/// can't fail by it alone.
 pub fn changes_find_nodes_quiescent()
-    ensures quiescent { (m : List Member) → IsRun (events m) → Each IsQuietAt m }
+    ensures quiescent { (m : List Member) → IsRun (events m) → Each IsQuiescentAt m }
 {}
 
 /// A transaction of a run that isn't open at its end has ended once, with all that it needs.
@@ -33,8 +42,8 @@ pub fn transactions_end_once()
     ensures once { (es : List Event) → IsRun es → (p k : ℕ) → is_open_after es p k ≡ false → IsEndedOnce es p k }
 {}
 
-/// The stop closes each live port and finds each drained, so no transaction is open at the end, and each has ended once: a report
-/// can't fail by that alone.
+/// The stop closes each live port and finds each drained, so no transaction is open at the end, and each has ended
+/// once: a report can't fail by that alone.
 pub fn nothing_is_open_at_the_end()
     ensures nothing_open { (statements : List Statement) (report : Report) (m : List Member) → Follows statements report.history
         → Merge m report → IsRun (events m) → Each IsDrainedAt m → (p k : ℕ) → is_open_after (events m) p k ≡ false }
@@ -42,7 +51,8 @@ pub fn nothing_is_open_at_the_end()
         → Merge m report → IsRun (events m) → Each IsDrainedAt m → (p k : ℕ) → IsEndedOnce (events m) p k }
 {}
 
-/// There is one first number at which a test holds: so the numbers of rounds that a report of one thread goes by are determined.
+/// There is one first number at which a test holds: so the numbers of rounds that a report of one thread goes by are
+/// determined.
 pub fn a_first_number_is_one()
     ensures one { (test : ℕ → Bool) (m n : ℕ) → FirstAt test m → FirstAt test n → m ≡ n }
 {}
@@ -53,25 +63,50 @@ pub fn there_is_one_report_of_rounds()
     ensures plan { (old new : Graph) (moves : List Move) (p q : Plan) → IsPlanOf old new moves p → IsPlanOf old new moves q → p ≡ q }
 {}
 
-/// At each commit the graph of the live nodes and their links is that of the description that the start or change named, and at each
-/// `show` it is the one that is shown. A configuration has one graph.
-pub fn commits_leave_the_described_graph()
-    ensures described { (statements : List Statement) (report : Report) (m : List Member) → IsLawfulBy statements report m
-        → (before after : List Member) → m ≡ before ++ of_history Commit ∷ after
-        → (g : Graph) × (described statements (lines before) ≡ Some g) × IsGraphOf (state_at before).config g }
-    ensures shown { (statements : List Statement) (report : Report) (m : List Member) → IsLawfulBy statements report m
-        → (before after : List Member) (g : Graph) → m ≡ before ++ of_history (Show g) ∷ after → IsGraphOf (state_at before).config g }
+/// A configuration has one graph: so the one that a commit must leave, and the one that is shown, is determined.
+pub fn a_configuration_has_one_graph()
     ensures one { (c : Configuration) (g h : Graph) → IsGraphOf c g → IsGraphOf c h → g ≡ h }
 {}
 
-/// The status of a report of rounds is that of its history and of what wasn't finished.
-pub fn the_status_tells_how_it_ended()
-    ensures status { (statements : List Statement) (report : Report) → Serial statements report → report.status ≡ status_of report.history report.unfinished }
+/// At a `show` the graph is the described one of the last commit before it: between the two nothing is made, linked,
+/// unlinked or removed.
+pub fn a_show_is_of_the_last_commit()
+    ensures shown { (statements : List Statement) (report : Report) (m : List Member) → Follows statements report.history
+        → IsLawfulBy statements report m → (x y after : List Member) (g : Graph)
+        → m ≡ x ++ of_history Commit ∷ (y ++ of_history (Show g) ∷ after) → list_any is_commit (lines y) ≡ false
+        → described statements (lines x) ≡ Some g }
 {}
 
-/// A node that was made from another begins with what that one kept at last, and with its own argument, whatever chain of nodes the
-/// state came through.
+/// Before the lines of the stop a port is closed only for a change of the script, whose plan freezes the port's node:
+/// so a node that no plan freezes isn't closed before the stop.
+pub fn only_frozen_nodes_are_closed_before_the_stop()
+    ensures frozen { (statements : List Statement) (history : List HistoryLine) (follows : Follows statements history) (p : ℕ)
+        → Contains (lines_of follows.parts) (Close p) → IsClosedFor statements history p }
+{}
+
+/// A node that was made from another begins with what that one kept at last, and with its own argument, whatever
+/// chain of nodes the state came through.
 pub fn a_moved_state_is_the_last_one()
     ensures handed { (es : List Event) → IsRun es → (n k : ℕ) (m : Slot) → slot (state_after es).config n ≡ Some m → m.from ≡ Some k
         → fold_of_node es n ≡ option_and_then (fold_at m (done_by n es)) (option_map (λ (s : NodeState). s.kept) (fold_of_node es k)) }
+{}
+
+/// What a plan must be, that its moves may be made, and what the graph of a configuration is are found by tests that
+/// can be evaluated.
+pub fn plans_and_graphs_are_found_by_tests()
+    ensures plan { (old new : Graph) (asked : List Move) → can_be_planned old new asked ≡ true
+        → IsPlanOf old new asked (planned old new asked) }
+    ensures moves { (old new : Graph) (asked : List Move) → can_be_planned old new asked ≡ true
+        → MayMoveAll old new asked (length asked) }
+    ensures graph { (c : Configuration) (g : Graph) → is_graph_of c g ≡ true → IsGraphOf c g }
+{}
+
+/// A history follows a script, and a report is lawful at a pace, where tests find it so: each can be evaluated.
+pub fn lawful_reports_are_found_by_tests()
+    ensures follows { (statements : List Statement) (ts : List Told) (seen : List Seen)
+        → can_follow statements ts seen ≡ true
+        → Follows statements (history_told statements ts seen) }
+    ensures lawful { (statements : List Statement) (ts : List Told) (seen : List Seen) (m : List Member)
+        (report : Report) (pace : Pace statements)
+        → IsFound statements pace ts seen m report → Lawful statements pace report }
 {}

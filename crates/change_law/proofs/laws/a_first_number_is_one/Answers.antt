@@ -1,4 +1,4 @@
-use Rattle.change_law.proofs.SerialLemmas.{one_first}
+use Rattle.change_law.proofs.FirstLemmas.{one_first}
 use Rattle.change_law.proofs.laws.a_first_number_is_one.Goals as goal
 
 pub returns : goal.returns

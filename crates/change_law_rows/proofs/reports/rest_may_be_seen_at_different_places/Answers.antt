@@ -1,0 +1,5 @@
+use Rattle.change_law_rows.proofs.FilledLemmas.{lawful}
+use Rattle.change_law_rows.proofs.reports.rest_may_be_seen_at_different_places.Goals as goal
+
+pub returns : goal.returns
+returns c = record { lawful = lawful }

@@ -1,0 +1,5 @@
+use Rattle.change_law_rows.proofs.WrongStateLemmas.{not_forgotten, not_kept_back}
+use Rattle.change_law_rows.proofs.wrong.wrong_states_are_refuted.Goals as goal
+
+pub returns : goal.returns
+returns c = record { forgotten = not_forgotten; kept_back = not_kept_back }

@@ -1,0 +1,49 @@
+-- Wrong lines of changes.
+use Rattle.std.specs.Prelude.{List, [], ◌∷◌, codes, pos, None}
+use Rattle.change_script.specs.declared.report.HistoryLine.{HistoryLine}
+use Rattle.change_script.specs.declared.report.HistoryLine.TheVariants as to
+use Rattle.change_plan.specs.declared.plan_data.Move.{Move}
+use Rattle.change_law.specs.Statements.{Statement, start, change}
+use Rattle.change_law_rows.specs.Systems.{line, map_m, one_or_none, pair, sink_t, source_at}
+use Rattle.change_law_rows.specs.SecondLook as second_look
+
+-- a change is skipped though none before it was given up
+abbrev pub keeping_sink : List Statement
+keeping_sink =
+    start (codes "Maybe") (pos 1 ∷ []) (one_or_none 1) ∷ change (codes "Maybe") (pos 1 ∷ []) (one_or_none 1) 0 [] ∷ []
+
+abbrev pub skipped_for_nothing : List HistoryLine
+skipped_for_nothing =
+    to.Start (codes "Maybe") (pos 1 ∷ []) ∷ to.Make 0 sink_t None ∷ to.Commit ∷ to.Change (codes "Maybe") (pos 1 ∷ [])
+    ∷ to.Skipped ∷ to.Stop ∷ []
+
+-- a change that changes nothing closes all ports
+abbrev pub keeping_line : List Statement
+keeping_line =
+    start (codes "Line") (pos 3 ∷ pos 10 ∷ []) (line 10) ∷ change (codes "Line") (pos 3 ∷ pos 10 ∷ []) (line 10) 0 []
+    ∷ []
+
+abbrev pub closed_for_nothing : List HistoryLine
+closed_for_nothing =
+    to.Start (codes "Line") (pos 3 ∷ pos 10 ∷ []) ∷ to.Make 0 (map_m 10) None
+    ∷ to.Make 1 (source_at (codes "s") 3) None ∷ to.Make 2 sink_t None ∷ to.Link 0 2 0 ∷ to.Link 1 0 0 ∷ to.Reopen 0
+    ∷ to.Reopen 1 ∷ to.Commit ∷ to.Change (codes "Line") (pos 3 ∷ pos 10 ∷ []) ∷ to.Close 0 ∷ to.Close 1
+    ∷ to.Drained 0 0 ∷ to.Drained 1 0 ∷ to.Reopen 0 ∷ to.Reopen 1 ∷ to.Commit ∷ to.Stop ∷ to.Close 0 ∷ to.Close 1
+    ∷ to.Drained 0 0 ∷ to.Drained 1 0 ∷ []
+
+-- two looks where one was allowed
+abbrev pub looking_once : List Statement
+looking_once =
+    start (codes "Pair") (pos 1 ∷ []) (pair 1) ∷ change (codes "Pair") (pos 2 ∷ []) (pair 2) 0 [] ∷ []
+
+abbrev pub looked_again : List HistoryLine
+looked_again = second_look.history
+
+-- a change moves a node to itself, and the node is neither removed nor created
+abbrev pub m_to_m : Move
+m_to_m = record { from = codes "m"; to = codes "m" }
+
+abbrev pub moving_nowhere : List Statement
+moving_nowhere =
+    start (codes "Line") (pos 3 ∷ pos 10 ∷ []) (line 10)
+    ∷ change (codes "Line") (pos 3 ∷ pos 10 ∷ []) (line 10) 0 (m_to_m ∷ []) ∷ []

@@ -1,0 +1,120 @@
+//! Reports that are lawful.
+
+ghost use Rattle.change_law.specs.Lawful.{Lawful, in_rounds, on_threads};
+ghost use Rattle.change_law.specs.Scripts.{StatementsOf};
+ghost use Rattle.change_law.specs.Serial.{Serial};
+ghost use Rattle.change_law_rows.specs.Alone as alone;
+ghost use Rattle.change_law_rows.specs.Emptied as emptied;
+ghost use Rattle.change_law_rows.specs.EndedEarly as ended_early;
+ghost use Rattle.change_law_rows.specs.Filled as filled;
+ghost use Rattle.change_law_rows.specs.GivenUp as given_up;
+ghost use Rattle.change_law_rows.specs.Kept as kept;
+ghost use Rattle.change_law_rows.specs.Looped as looped;
+ghost use Rattle.change_law_rows.specs.Moved as moved;
+ghost use Rattle.change_law_rows.specs.MovedTwice as moved_twice;
+ghost use Rattle.change_law_rows.specs.OpenUnordered as open_unordered;
+ghost use Rattle.change_law_rows.specs.Ran as ran;
+ghost use Rattle.change_law_rows.specs.SecondLook as second_look;
+ghost use Rattle.change_law_rows.specs.Said as said;
+ghost use Rattle.change_law_rows.specs.Shown as shown;
+ghost use Rattle.change_law_rows.specs.Skipped as skipped;
+ghost use Rattle.change_law_rows.specs.Summed as summed;
+ghost use Rattle.change_law_rows.specs.Waited as waited;
+
+/// One sink that is started and shown has this report. This is the report of rounds too.
+pub fn a_shown_sink_is_lawful()
+    ensures lawful { Lawful shown.script on_threads shown.report }
+    ensures serial { Serial shown.script shown.report }
+{}
+
+/// A source of three items that leads through a map to a sink comes to rest, and has this report.
+/// This is the report of rounds too.
+pub fn a_line_that_comes_to_rest_is_lawful()
+    ensures lawful { Lawful ran.script on_threads ran.report }
+    ensures serial { Serial ran.script ran.report }
+{}
+
+/// A source that leads nowhere isn't done, and its first round moves nothing: the finish ends there, and the source is
+/// named. This is the report of rounds, and lawful as such.
+pub fn a_lone_source_ends_after_one_round()
+    ensures lawful { (serial : Serial alone.script alone.report)
+        → Lawful alone.script (in_rounds alone.report serial) alone.report }
+    ensures serial { Serial alone.script alone.report }
+{}
+
+/// A change to the same graph closes nothing, and commits at once.
+pub fn a_change_that_changes_nothing_is_lawful()
+    ensures lawful { Lawful kept.script on_threads kept.report }
+{}
+
+/// An asker asks an adder for one sum, which takes an intermediate reply and a further message: the report of a run
+/// of one transaction. This is the report of rounds too.
+pub fn a_sum_with_a_further_message_is_lawful()
+    ensures lawful { Lawful summed.script on_threads summed.report }
+    ensures serial { Serial summed.script summed.report }
+{}
+
+/// On threads a finish may see each node done at a place of its own, and a buffer that was empty then may have an
+/// item in the end: it is named as unfinished.
+pub fn rest_may_be_seen_at_different_places()
+    ensures lawful { Lawful filled.script on_threads filled.report }
+{}
+
+/// A change that may make no round is given up: the root that the source began is still open.
+/// This is the report of rounds too.
+pub fn a_change_may_be_given_up()
+    ensures lawful { Lawful given_up.script on_threads given_up.report }
+    ensures serial { Serial given_up.script given_up.report }
+{}
+
+/// A change waits for one round, in which that root ends, and commits.
+/// This is the report of rounds too.
+pub fn a_change_may_wait()
+    ensures lawful { Lawful waited.script on_threads waited.report }
+    ensures serial { Serial waited.script waited.report }
+{}
+
+/// The script of that report has these statements, where the component of its file elaborates to those graphs.
+pub fn a_script_says_its_statements()
+    ensures said { StatementsOf said.elaborates said.script waited.script }
+{}
+
+/// After a change that was given up the next one is skipped.
+pub fn a_change_after_one_that_was_given_up_is_skipped()
+    ensures lawful { Lawful skipped.script on_threads skipped.report }
+{}
+
+/// An account is replaced by one that goes on with its balance.
+pub fn a_balance_goes_on()
+    ensures lawful { Lawful moved.script on_threads moved.report }
+{}
+
+/// An account is replaced twice, and its balance goes on through both.
+pub fn a_balance_goes_on_twice()
+    ensures lawful { Lawful moved_twice.script on_threads moved_twice.report }
+{}
+
+/// A buffer that leads to itself is replaced by one that goes on with what it holds.
+pub fn what_a_looped_buffer_holds_goes_on()
+    ensures lawful { Lawful looped.script on_threads looped.report }
+{}
+
+/// A system may have no node, and be changed to one with a node and back.
+pub fn a_system_may_be_empty()
+    ensures lawful { Lawful emptied.script on_threads emptied.report }
+{}
+
+/// On threads what is still open may be named in any order.
+pub fn what_is_open_may_be_named_in_any_order()
+    ensures lawful { Lawful open_unordered.script on_threads open_unordered.report }
+{}
+
+/// On threads a root may end between the look that saw it open and the line that says so.
+pub fn a_root_may_end_before_it_is_said_to_be_open()
+    ensures lawful { Lawful ended_early.script on_threads ended_early.report }
+{}
+
+/// On threads a second look may find a port drained that is lower than one that the first found.
+pub fn a_second_look_may_find_a_lower_port()
+    ensures lawful { Lawful second_look.script on_threads second_look.report }
+{}

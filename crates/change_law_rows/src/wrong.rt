@@ -1,0 +1,66 @@
+//! Reports that are wrong in one place, each refuted by one clause, whatever list of members is chosen.
+
+ghost use Rattle.std.specs.Prelude.{◌≡◌, List, Some, None, All};
+ghost use Rattle.base.specs.Each.{Each};
+ghost use Rattle.quiesce_core.specs.Runs.{IsRun};
+ghost use Rattle.change_script.specs.declared.report.HistoryLine.{HistoryLine};
+ghost use Rattle.change_law.specs.Follows.{Follows};
+ghost use Rattle.change_law.specs.Lawful.{IsDrainedAt, IsFinishAt, IsFolded, IsGraphAt, IsRunAt, Merge, Pace, StoodOpenWhereSaid, unfinished_of};
+ghost use Rattle.change_law.specs.Members.{Member, events};
+ghost use Rattle.change_law_rows.specs.Alone as alone;
+ghost use Rattle.change_law_rows.specs.Ran as ran;
+ghost use Rattle.change_law_rows.specs.Shown as shown;
+ghost use Rattle.change_law_rows.specs.WrongChanges as changes;
+ghost use Rattle.change_law_rows.specs.WrongLines as wrong_lines;
+ghost use Rattle.change_law_rows.specs.WrongLogs as logs;
+ghost use Rattle.change_law_rows.specs.WrongLooks as looks;
+
+/// A start that doesn't reopen a port; a stop that closes one and doesn't find it drained; a graph that isn't the one
+/// that stands; a finish that ends early though nothing came to rest, and neither the rounds end there; one that makes
+/// more rounds than were allowed; and a node that isn't done, of which nothing is said.
+pub fn wrong_lines_are_refuted()
+    ensures reopened { Follows wrong_lines.starting wrong_lines.never_reopened → ⊥ }
+    ensures drained { Follows ran.script wrong_lines.unseen → ⊥ }
+    ensures shown { (m : List Member) → Merge m wrong_lines.shown_wrongly → Each (IsGraphAt shown.script) m → ⊥ }
+    ensures finished { (pace : Pace alone.script) (m : List Member) → Merge m (alone.report_of 3 (Some 0) 8)
+        → Each (IsFinishAt pace) m → ⊥ }
+    ensures outrun { (pace : Pace wrong_lines.finishing_two) (m : List Member) → Merge m wrong_lines.outrun
+        → Each (IsFinishAt pace) m → ⊥ }
+    ensures unfinished { (m : List Member) → Merge m (alone.report_of 5 None 0)
+        → None ≡ unfinished_of alone.script (events m) → ⊥ }
+{}
+
+/// A change that is skipped though none before it was given up; one that changes nothing and closes all ports; and
+/// two looks where one was allowed, the second of which finds a lower port. None of these histories follows its
+/// script. None at all follows a script that moves a state from a node that stays.
+pub fn wrong_changes_are_refuted()
+    ensures skipped { Follows changes.keeping_sink changes.skipped_for_nothing → ⊥ }
+    ensures closed { Follows changes.keeping_line changes.closed_for_nothing → ⊥ }
+    ensures looked { Follows changes.looking_once changes.looked_again → ⊥ }
+    ensures moved { (history : List HistoryLine) → Follows changes.moving_nowhere history → ⊥ }
+{}
+
+/// Logs of two nodes with each other's events are part of no list with the history. A map that takes another value
+/// than was sent is in no run. A `run` line that says that three transactions ended where two did is wrong, on
+/// threads as on one.
+pub fn wrong_logs_are_refuted()
+    ensures swapped { (m : List Member) → Merge m logs.swapped → ⊥ }
+    ensures altered { (m : List Member) → Merge m logs.altered → IsRun (events m) → ⊥ }
+    ensures hurried { (pace : Pace logs.running_two) (m : List Member) → Merge m logs.hurried → IsRun (events m)
+        → Each (IsRunAt pace) m → ⊥ }
+{}
+
+/// An account that was replaced has moved its state: the one that replaces it doesn't begin with 100 again, and it
+/// tells no state itself.
+pub fn wrong_states_are_refuted()
+    ensures forgotten { (m : List Member) → Merge m logs.forgetting
+        → All (IsFolded m logs.forgetting.history) logs.forgetting.logs → ⊥ }
+    ensures kept_back { (m : List Member) → All (IsFolded m logs.keeping_back.history) logs.keeping_back.logs → ⊥ }
+{}
+
+/// A port isn't drained with the serial before its last, and a root that ended before the change before isn't open.
+pub fn wrong_looks_are_refuted()
+    ensures early { (m : List Member) → Merge m looks.early → IsRun (events m) → Each IsDrainedAt m → ⊥ }
+    ensures outdated { (m : List Member) → Merge m looks.outdated → IsRun (events m) → Each IsDrainedAt m
+        → Each (StoodOpenWhereSaid m) looks.outdated.history → ⊥ }
+{}
