@@ -1,0 +1,67 @@
+-- Events that are done on a board one after the other.
+use Rattle.std.proofs.Common.{◌≡◌, ℕ, ◌+◌, List, [], ◌∷◌, ◌++◌, append_assoc, length, map, Option, true, refl, sym, ap, ◌∙◌, subst, arith}
+use Rattle.std.specs.Prelude.{◌&&◌, ◌==◌, nat_lt, nat_le}
+use Rattle.std.proofs.lemmas.Bool.{and_parts, eqb-true}
+use Rattle.std.proofs.lemmas.Grind.{flat_map-append}
+use Rattle.std.proofs.lemmas.List.{append-nil, map-append}
+use Rattle.config_graph.specs.Kinds.{row}
+use Rattle.config_graph.specs.declared.TheConstants.{MAX_NODES, MAX_PORTS}
+use Rattle.config_graph.specs.declared.node.Node.{Node}
+use Rattle.quiesce_core.specs.declared.event.Event.{Event}
+use Rattle.quiesce_core.specs.declared.event.Event.TheVariants.{Make}
+use Rattle.change_board.specs.Entries.{Entry, did, config_of}
+use Rattle.change_board.specs.Making.{Makes}
+use Rattle.change_board.specs.Records.{Adds, May}
+use Rattle.change_board.specs.Sights.{sight_entry}
+use Rattle.change_board.specs.Steps.{Deed, Does, MayDoAll, deed_entries, entries_of}
+use Rattle.base.proofs.PlaceLaws.{heads_are}
+use Rattle.change_board.proofs.StepLaws.{alike_deed, may_all_alike}
+
+-- a node is made in the slot that comes next
+pub next_slot : (r : List Entry) (n : ℕ) (node : Node) (from : Option ℕ) → May r (Make n node from) → n ≡ length (config_of r).slots
+next_slot r n node from h =
+    let c = config_of r in
+    let room = and_parts (n == length c.slots && nat_lt n MAX_NODES) (nat_le (length c.gates + length (row node.kind).requires_) MAX_PORTS) h.room in
+    eqb-true n (length c.slots) (and_parts (n == length c.slots) (nat_lt n MAX_NODES) room.0).0
+
+module _ {B : Type 0} (S : B → List Entry → Type 0) where
+  pub adds_none : (a : B) → Adds S a a []
+  adds_none a r s = subst (S a) (sym (append-nil r)) s
+
+  pub adds_both : (a b c : B) (es fs : List Entry) → Adds S a b es → Adds S b c fs → Adds S a c (es ++ fs)
+  adds_both a b c es fs x y r s = subst (λ zs. S c zs) (append_assoc r es fs) (y (r ++ es) (x r s))
+
+  pub does_none : (a : B) → Does S a a []
+  does_none a = record { deeds = []; events_are = refl; adds = adds_none a }
+
+  pub does_one : (a b : B) (e : Event) → Adds S a b (did e ∷ []) → Does S a b (e ∷ [])
+  does_one a b e x = record { deeds = record { event = e; sights = [] } ∷ []; events_are = refl; adds = x }
+
+  pub does_make : (a b : B) (n : ℕ) (node : Node) (from : Option ℕ) → ((r : List Entry) → S a r → n ≡ length (config_of r).slots) → Makes S a b node from → Does S a b (Make n node from ∷ [])
+  does_make a b n node from next x =
+      let d : Deed = record { event = Make n node from; sights = x.sights } in
+      record {
+        deeds = d ∷ [];
+        events_are = refl;
+        adds = λ r s. subst (λ es. S b (r ++ es)) (sym (append-nil (deed_entries d)))
+            (subst (λ k. S b (r ++ did (Make k node from) ∷ map sight_entry x.sights)) (sym (next r s)) (x.adds r s));
+      }
+
+  pub does_both : (a b c : B) (es fs : List Event) → Does S a b es → Does S b c fs → Does S a c (es ++ fs)
+  does_both a b c es fs x y = record {
+    deeds = x.deeds ++ y.deeds;
+    events_are = map-append (λ (d : Deed). d.event) x.deeds y.deeds ∙ ap (λ zs. zs ++ map (λ (d : Deed). d.event) y.deeds) x.events_are ∙ ap (λ zs. es ++ zs) y.events_are;
+    adds = subst (λ zs. Adds S a c zs) (sym (flat_map-append deed_entries x.deeds y.deeds)) (adds_both a b c (entries_of x.deeds) (entries_of y.deeds) x.adds y.adds);
+  }
+
+  -- what may be done next once the first event is done
+  by_deeds : (r : List Entry) (e : Event) (es : List Event) (ds : List Deed) → map (λ (d : Deed). d.event) ds ≡ e ∷ [] → MayDoAll (r ++ did e ∷ []) es → MayDoAll (r ++ entries_of ds) es
+  by_deeds r e es [] is h = absurd (omega (arith, ap length is))
+  by_deeds r e es (d ∷ []) is h =
+      subst (λ zs. MayDoAll (r ++ zs) es) (sym (append-nil (deed_entries d)))
+      (may_all_alike (r ++ deed_entries d) (r ++ did d.event ∷ []) es (alike_deed r d)
+      (subst (λ f. MayDoAll (r ++ did f ∷ []) es) (sym (heads_are d.event e [] [] is)) h))
+  by_deeds r e es (d ∷ f ∷ ds) is h = absurd (omega (arith, ap length is))
+
+  pub here_next : (a b : B) (e : Event) (es : List Event) → Does S a b (e ∷ []) → (here : (r : List Entry) × S a r × MayDoAll r (e ∷ es)) → (r : List Entry) × S b r × MayDoAll r es
+  here_next a b e es x here = (here.0 ++ entries_of x.deeds, x.adds here.0 here.1, by_deeds here.0 e es x.deeds x.events_are here.2.1)

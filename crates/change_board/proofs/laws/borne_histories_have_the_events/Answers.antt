@@ -1,0 +1,5 @@
+use Rattle.change_board.proofs.BearingLaws.{borne_events}
+use Rattle.change_board.proofs.laws.borne_histories_have_the_events.Goals as goal
+
+pub returns : goal.returns
+returns c = borne_events

@@ -1,0 +1,12 @@
+pub mod Looks
+pub mod Entries
+pub mod Notes
+pub mod Records
+pub mod Sights
+pub mod Steps
+pub mod Looking
+pub mod Making
+pub mod Scans
+pub mod Collecting
+pub mod Transcripts
+pub mod Bearing

@@ -1,0 +1,52 @@
+-- Scans: turns given to nodes, then sights of those that are done, and a look at each port.
+use Rattle.std.specs.Prelude.{◌≡◌, ℕ, Bool, not, ◌&&◌, ◌||◌, List, ◌∷◌, ◌++◌, map, length, filter}
+use Rattle.std.specs.List.{list_all, range_with_len, sum_by}
+use Rattle.quiesce_core.specs.Rules.{is_live_port}
+use Rattle.quiesce_core.specs.State.{Configuration, is_live}
+use Rattle.change_board.specs.declared.board.Scan.{Scan}
+use Rattle.change_board.specs.Entries.{Entry, looked, scanned, config_of}
+use Rattle.change_board.specs.Looks.{ended_in_word, is_idle_word}
+use Rattle.change_board.specs.Records.{Adds}
+use Rattle.change_board.specs.Sights.{Sight, is_seen_done, seen_in, sight_entry}
+
+-- a port with the word that a look at it loaded
+pub record Found : Type 0 where
+  pub port : ℕ
+  pub word : ℕ
+
+abbrev pub look_entry : Found → Entry
+look_entry f = looked f.port f.word
+
+abbrev pub ports_of : List Found → List ℕ
+ports_of found = map (λ (f : Found). f.port) found
+
+abbrev pub all_ports : Configuration → List ℕ
+all_ports c = range_with_len 0 (length c.gates)
+
+abbrev pub live_nodes : Configuration → List ℕ
+live_nodes c = filter (is_live c) (range_with_len 0 (length c.slots))
+
+-- whether each live node was sighted, and is done by what was seen, and each look at a live port found no transaction
+abbrev pub is_idle_if_live : Configuration → Found → Bool
+is_idle_if_live c f = not (is_live_port c f.port) || is_idle_word f.word
+
+abbrev pub is_seen_at_rest : Configuration → List Sight → List Found → Bool
+is_seen_at_rest c sights found =
+    list_all (is_seen_done c (seen_in sights)) (live_nodes c) && list_all (is_idle_if_live c) found
+
+-- how many transactions the words show as ended
+abbrev pub ended_in : List Found → ℕ
+ended_in found = sum_by (λ (f : Found). ended_in_word f.word) found
+
+-- the mark of a scan, its sights, and its looks
+abbrev pub scan_entries : Bool → Bool → List Sight → List Found → List Entry
+scan_entries begins moved sights found = scanned begins moved ∷ (map sight_entry sights ++ map look_entry found)
+
+-- what a scan adds to the records of a board, and what it answers
+pub record Scanned {B : Type 0} (S : B → List Entry → Type 0) (old new : B) (begins : Bool) (s : Scan) : Type 0 where
+  pub sights : List Sight
+  pub found : List Found
+  pub adds : Adds S old new (scan_entries begins s.moved sights found)
+  pub at_ports : (r : List Entry) → S old r → ports_of found ≡ all_ports (config_of r)
+  pub done : (r : List Entry) → S old r → s.done ≡ is_seen_at_rest (config_of r) sights found
+  pub ended : s.ended ≡ ended_in found

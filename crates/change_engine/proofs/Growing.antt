@@ -1,0 +1,43 @@
+-- How records and histories grow.
+use Rattle.std.proofs.Common.{◌≡◌, List, ◌++◌, append_assoc, [], sym, ap, ◌∙◌, subst, inl, inr}
+use Rattle.std.specs.Prelude.{◌⊎◌, OnErr, Result, Ok, Err}
+use Rattle.std.proofs.lemmas.List.{append-nil}
+use Rattle.std.proofs.lemmas.List.Elements.{filter_map-append}
+use Rattle.change_script.specs.declared.report.HistoryLine.{HistoryLine}
+use Rattle.change_board.specs.Entries.{Entry}
+use Rattle.change_board.specs.Records.{Adds}
+use Rattle.change_board.specs.Transcripts.{Item, entries, entry_in, line_in, lines}
+use Rattle.change_engine.specs.Growing.{BrokeOff, Grew}
+
+pub entries_both : (t u : List Item) → entries (t ++ u) ≡ entries t ++ entries u
+entries_both t u = filter_map-append entry_in t u
+
+pub lines_both : (t u : List Item) → lines (t ++ u) ≡ lines t ++ lines u
+lines_both t u = filter_map-append line_in t u
+
+module _ {B : Type 0} (S : B → List Entry → Type 0) where
+  pub adds_both : (a b c : B) (es fs : List Entry) → Adds S a b es → Adds S b c fs → Adds S a c (es ++ fs)
+  adds_both a b c es fs x y r s = subst (λ zs. S c zs) (append_assoc r es fs) (y (r ++ es) (x r s))
+
+  pub grew_both : (a b c : B) (h i j : List HistoryLine) (t u : List Item) → Grew S a b h i t → Grew S b c i j u → Grew S a c h j (t ++ u)
+  grew_both a b c h i j t u x y = record {
+    adds = subst (λ zs. Adds S a c zs) (sym (entries_both t u)) (adds_both a b c (entries t) (entries u) x.adds y.adds);
+    adds_lines = y.adds_lines ∙ ap (λ zs. zs ++ lines u) x.adds_lines ∙ append_assoc h (lines t) (lines u) ∙ ap (λ zs. h ++ zs) (sym (lines_both t u));
+  }
+
+pub if_err : {A E P : Type 0} → P → (r : Result A E) → OnErr r P
+if_err h (Ok x) = tt
+if_err h (Err e) = h
+
+module _ {B : Type 0} (S Broke : B → List Entry → Type 0) where
+  pub stands_on : (a b : B) (es : List Entry) → Adds S a b es → BrokeOff S Broke a b
+  stands_on a b es x = record { more_ = es; stands = λ r s. inl (x r s) }
+
+  pub breaks : (a b : B) → ((r : List Entry) → S a r → Broke b r) → BrokeOff S Broke a b
+  breaks a b h = record { more_ = []; stands = λ r s. inr (subst (Broke b) (sym (append-nil r)) (h r s)) }
+
+  pub breaks_after : (a b c : B) (es : List Entry) → Adds S a b es → BrokeOff S Broke b c → BrokeOff S Broke a c
+  breaks_after a b c es x y = record {
+    more_ = es ++ y.more_;
+    stands = λ r s. subst (λ zs. S c zs ⊎ Broke c zs) (append_assoc r es y.more_) (y.stands (r ++ es) (x r s));
+  }

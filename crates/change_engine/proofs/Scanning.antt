@@ -1,0 +1,70 @@
+-- Scans, one after the other.
+use Rattle.std.proofs.Common.{◌≡◌, ℕ, ◌+◌, Bool, true, List, [], ◌∷◌, ◌++◌, refl, sym, ap, ◌∙◌, subst, arith}
+use Rattle.std.specs.Prelude.{flat_map}
+use Rattle.std.specs.List.{AllByRecursion, sum_by}
+use Rattle.std.proofs.lemmas.Grind.{flat_map-append}
+use Rattle.std.proofs.lemmas.List.{append-nil}
+use Rattle.std.proofs.lemmas.List.Concat.{flat_map-cons}
+use Rattle.std.proofs.lemmas.List.Elements.{filter_map-append}
+use Rattle.std.proofs.lemmas.List.Sums.{sum_by-append}
+use Rattle.change_script.specs.declared.report.HistoryLine.{HistoryLine}
+use Rattle.change_script.specs.declared.report.HistoryLine.TheVariants as to
+use Rattle.change_board.specs.declared.board.Scan.{Scan}
+use Rattle.change_board.specs.Entries.{Entry, config_of, event_in, events_in}
+use Rattle.change_board.specs.Records.{Adds}
+use Rattle.change_board.specs.Scans.{Scanned}
+use Rattle.change_board.specs.Transcripts.{Item, said, lines}
+use Rattle.change_engine.specs.Finishing.{Finished, IsScanIn, Scans, Seen, all_entries, count_of, rounds_in, seen_entries}
+use Rattle.change_engine.specs.Passivating.{silent_items}
+use Rattle.change_engine.proofs.Growing.{adds_both, entries_both, lines_both}
+use Rattle.change_engine.proofs.Passing.{config_quiet, scan_quiet, silent_entries, silent_lines}
+
+pub all_push : {A : Type 0} (P : A → Type 0) (xs : List A) (x : A) → AllByRecursion P xs → P x → AllByRecursion P (xs ++ x ∷ [])
+all_push P [] x h p = (p, tt)
+all_push P (y ∷ xs) x h p = (h.0, all_push P xs x h.1 p)
+
+pub entries_pushed : (scans : List Seen) (w : Seen) → all_entries (scans ++ w ∷ []) ≡ all_entries scans ++ seen_entries w
+entries_pushed scans w = flat_map-append seen_entries scans (w ∷ []) ∙ ap (λ es. all_entries scans ++ es) (append-nil (seen_entries w))
+
+all_quiet : (scans : List Seen) → events_in (all_entries scans) ≡ []
+all_quiet [] = refl
+all_quiet (w ∷ scans) =
+    ap events_in (flat_map-cons seen_entries w scans) ∙ filter_map-append event_in (seen_entries w) (all_entries scans)
+    ∙ ap (λ es. es ++ events_in (all_entries scans)) (scan_quiet true w.answer.moved w.sights w.found) ∙ all_quiet scans
+
+pub rounds_pushed : (scans : List Seen) (w : Seen) → rounds_in (scans ++ w ∷ []) ≡ rounds_in scans + count_of w.answer
+rounds_pushed scans w = sum_by-append (λ (w : Seen). count_of w.answer) scans (w ∷ []) ∙ omega arith
+
+module _ {B : Type 0} (S : B → List Entry → Type 0) where
+  abbrev pub seen_by : (b c : B) (s : Scan) → Scanned S b c true s → Seen
+  seen_by b c s x = record { answer = s; sights = x.sights; found = x.found }
+
+  pub scans_add : (a b c : B) (scans : List Seen) (s : Scan) (x : Scanned S b c true s) → Adds S a b (all_entries scans) → Adds S a c (all_entries (scans ++ seen_by b c s x ∷ []))
+  scans_add a b c scans s x adds =
+      let w = seen_by b c s x in
+      subst (λ es. Adds S a c es) (sym (entries_pushed scans w)) (adds_both S a b c (all_entries scans) (seen_entries w) adds x.adds)
+
+  pub scans_are : (a b c : B) (scans : List Seen) (s : Scan) (x : Scanned S b c true s) → Adds S a b (all_entries scans)
+      → ((r : List Entry) → S a r → AllByRecursion (IsScanIn (config_of r)) scans)
+      → (r : List Entry) → S a r → AllByRecursion (IsScanIn (config_of r)) (scans ++ seen_by b c s x ∷ [])
+  scans_are a b c scans s x adds are r h =
+      let w = seen_by b c s x in
+      let q = r ++ all_entries scans in
+      let there : IsScanIn (config_of q) w = record { at_ports = x.at_ports q (adds r h); done = x.done q (adds r h); ended = x.ended } in
+      all_push (IsScanIn (config_of r)) scans w (are r h) (subst (λ c. IsScanIn c w) (config_quiet r (all_entries scans) (all_quiet scans)) there)
+
+  pub finished : (a b : B) (h i : List HistoryLine) (n rounds : ℕ) (alone : Bool) → Scans S alone a b n rounds → i ≡ h ++ to.Finish n rounds ∷ [] → Finished S alone a b h i n rounds
+  finished a b h i n rounds alone x grown =
+      let es = all_entries x.scans in
+      let line : List Item = said (to.Finish n rounds) ∷ [] in
+      record {
+        scans = x.scans;
+        few = x.few;
+        are_scans = x.are_scans;
+        rounds_are = x.rounds_are;
+        ends = x.ends;
+        grew = record {
+          adds = subst (λ zs. Adds S a b zs) (sym (entries_both (silent_items es) line ∙ ap (λ zs. zs ++ []) (silent_entries es) ∙ append-nil es)) x.adds;
+          adds_lines = grown ∙ ap (λ ls. h ++ ls) (sym (lines_both (silent_items es) line ∙ ap (λ ls. ls ++ lines line) (silent_lines es)));
+        };
+      }

@@ -1,0 +1,12 @@
+use Rattle.change_engine.proofs.Growing.{if_err, stands_on}
+use Rattle.change_engine.proofs.Scanning.{finished}
+use Rattle.change_engine.proofs.finishing.finish.Goals as goal
+
+pub returns-clause-ok : goal.returns-clause-ok
+returns-clause-ok g c =
+    finished g.B.Board.stands_for c.args.board.now c.make_scans.new.board c.args.history.now.items c.push.new.self.items c.args.n c.in_ok-rounds.rounds g.B.Board.alone
+    c.in_ok-rounds.ensures.ok c.in_ok-push.ensures.items
+
+pub returns-in_err-push-clause-err : goal.returns-in_err-push-clause-err
+returns-in_err-push-clause-err g c =
+    if_err (stands_on g.B.Board.stands_for g.B.Board.broke_off c.args.board.now c.make_scans.new.board _ c.in_ok-rounds.ensures.ok.adds) c.from_residual-in_err-push.result

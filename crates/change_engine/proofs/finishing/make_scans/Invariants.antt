@@ -1,0 +1,18 @@
+use Rattle.std.proofs.Common.{◌≡◌, ◌≤◌, List, length}
+use Rattle.std.specs.List.{AllByRecursion}
+use Rattle.change_board.specs.Entries.{Entry, config_of}
+use Rattle.change_board.specs.Records.{Adds}
+use Rattle.change_engine.specs.Finishing.{GoesOn, IsScanIn, Seen, all_entries, rounds_in}
+use Rattle.change_engine.proofs.finishing.make_scans.Given as goal
+
+abbrev pub invariant-loop-made : goal.invariant-loop-made
+invariant-loop-made g l = record {
+  room : g.B.Board.room l.board ≡ g.B.Board.room l.fn.board;
+  scans : List Seen;
+  all_scans : length scans ≡ l._made;
+  are_scans : (r : List Entry) → g.B.Board.stands_for l.fn.board r → AllByRecursion (IsScanIn (config_of r)) scans;
+  go_on : AllByRecursion (GoesOn g.B.Board.alone) scans;
+  rounds_are : l.rounds ≡ rounds_in scans;
+  few : l.rounds ≤ l._made;
+  adds : Adds g.B.Board.stands_for l.fn.board l.board (all_entries scans);
+}

@@ -1,0 +1,39 @@
+use Rattle.std.proofs.Common.{◌≡◌, true, ◌++◌, ◌∷◌, [], append_assoc, map, take, get_or, sym, ap, ◌∙◌, subst}
+use Rattle.std.proofs.lemmas.List.Elements.{All-take}
+use Rattle.quiesce_core.specs.Rules.{is_live_port}
+use Rattle.change_script.specs.declared.report.HistoryLine.TheVariants as to
+use Rattle.change_board.specs.Entries.{config_of}
+use Rattle.change_engine.proofs.Growing.{adds_both, if_err, stands_on}
+use Rattle.change_engine.proofs.Passing.{closes, closes_more, close_lines_more, live_behind}
+use Rattle.change_engine.proofs.passivating.close_all.Goals as goal
+
+pub close-requires : goal.close-requires
+close-requires g c =
+    let r = c.requires.live.0 in
+    let done = take c.loop-port.port-index c.args.ports.now in
+    record {
+      may = (
+        r ++ closes done,
+        c.loop-port.invariant.adds r c.requires.live.1,
+        live_behind r done (get_or c.args.ports.now c.loop-port.port-index 0)
+            (All-take (λ p. is_live_port (config_of r) p ≡ true) c.loop-port.port-index c.args.ports.now c.requires.live.2)
+            (c.requires.live.2 c.loop-port.port-index 0 c.loop-port-test.true),
+      );
+    }
+
+pub loop-port-preserved : goal.loop-port-preserved
+loop-port-preserved g c =
+    let ps = c.args.ports.now in
+    let i = c.loop-port.port-index in
+    record {
+      room = c.close.ensures.room ∙ c.loop-port.invariant.room;
+      adds = λ r s. subst (λ es. g.B.Board.stands_for c.close.new.self (r ++ es)) (sym (closes_more ps i c.loop-port-test.true))
+          (adds_both g.B.Board.stands_for c.args.board.now c.loop-port.board c.close.new.self (closes (take i ps)) _ c.loop-port.invariant.adds c.close.ensures.board r s);
+      lines = c.in_ok-push.ensures.items ∙ ap (λ ls. ls ++ to.Close (get_or ps i 0) ∷ []) c.loop-port.invariant.lines
+          ∙ append_assoc c.args.history.now.items (map to.Close (take i ps)) (to.Close (get_or ps i 0) ∷ [])
+          ∙ ap (λ ls. c.args.history.now.items ++ ls) (sym (close_lines_more ps i c.loop-port-test.true));
+    }
+
+pub returns-in_err-push-clause-err : goal.returns-in_err-push-clause-err
+returns-in_err-push-clause-err g c =
+    if_err (stands_on g.B.Board.stands_for g.B.Board.broke_off c.args.board.now c.loop-port.board (closes (take c.loop-port.port-index c.args.ports.now)) c.loop-port.invariant.adds) c.from_residual.result

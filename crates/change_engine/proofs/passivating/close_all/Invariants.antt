@@ -1,0 +1,12 @@
+use Rattle.std.proofs.Common.{◌≡◌, ◌++◌, map, take}
+use Rattle.change_script.specs.declared.report.HistoryLine.TheVariants as to
+use Rattle.change_board.specs.Records.{Adds}
+use Rattle.change_engine.proofs.Passing.{closes}
+use Rattle.change_engine.proofs.passivating.close_all.Given as goal
+
+abbrev pub invariant-loop-port : goal.invariant-loop-port
+invariant-loop-port g l = record {
+  room : g.B.Board.room l.board ≡ g.B.Board.room l.initial.board;
+  adds : Adds g.B.Board.stands_for l.initial.board l.board (closes (take l.port-index l.ports));
+  lines : l.history.items ≡ l.initial.history.items ++ map to.Close (take l.port-index l.ports);
+}

@@ -1,0 +1,16 @@
+use Rattle.std.proofs.Common.{◌≡◌, List, length}
+use Rattle.change_board.specs.Entries.{Entry, config_of}
+use Rattle.change_engine.specs.Growing.{Grew}
+use Rattle.change_engine.specs.Passivating.{AreMadePorts, IsPassivation, Passivation, left_after, passivation_items, root_ports}
+use Rattle.change_engine.proofs.passivating.passivate.Given as goal
+
+abbrev pub invariant-loop-round : goal.invariant-loop-round
+invariant-loop-round g l = record {
+  room : g.B.Board.room l.board ≡ g.B.Board.room l.fn.board;
+  how : Passivation;
+  is_passivation : IsPassivation l.ports l._round how;
+  all_rounds : length how.rounds ≡ l._round;
+  left_is : l.left.items ≡ left_after how.first how.rounds;
+  grew : Grew g.B.Board.stands_for l.fn.board l.board l.fn.history.items l.history.items (passivation_items l.ports how);
+  here : (r : List Entry) × g.B.Board.stands_for l.board r × AreMadePorts (config_of r) (root_ports l.left.items);
+}

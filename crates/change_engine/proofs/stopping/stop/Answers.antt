@@ -1,0 +1,73 @@
+use Rattle.std.proofs.Common.{◌≡◌, ◌++◌, ◌-◌, ◌^◌, [], List, ℕ, length, true, vec_len, sym, ◌∙◌, subst, Result, Ok, Err}
+use Rattle.std.specs.Prelude.{◌==◌, IfOk, OnErr}
+use Rattle.std.proofs.lemmas.Bool.{eqb-true}
+use Rattle.base.proofs.MapLaws.{no_length}
+use Rattle.change_board.specs.Collecting.{Collects}
+use Rattle.change_board.specs.Entries.{config_of}
+use Rattle.change_board.specs.Transcripts.{entries}
+use Rattle.change_engine.specs.Passivating.{AreLivePorts, passivation_items}
+use Rattle.change_engine.specs.Stopping.{Stops}
+use Rattle.change_engine.proofs.Growing.{breaks, breaks_after, stands_on}
+use Rattle.change_engine.proofs.Quieting.{all_live, all_noted, stop_grew}
+use Rattle.change_engine.proofs.stopping.stop.Goals as goal
+
+in_ok : {A E : Type 0} (P Q : A → Type 0) → ((x : A) → P x → Q x) → (r : Result A E) → IfOk r P → IfOk r Q
+in_ok P Q f (Ok x) h = f x h
+in_ok P Q f (Err e) h = tt
+
+on_err : {A E P Q : Type 0} → (P → Q) → (r : Result A E) → OnErr r P → OnErr r Q
+on_err f (Ok x) h = tt
+on_err f (Err e) h = f h
+
+pub passivate-requires : goal.passivate-requires
+passivate-requires g c =
+    let q = c.requires.all in
+    record { live = (q.0, q.1, subst (AreLivePorts (config_of q.0)) (sym q.2) (all_live (config_of q.0))) }
+
+nothing_left : {A : Type 0} (xs : List A) (n : ℕ) → n ≡ length xs → (n == 0) ≡ true → xs ≡ []
+nothing_left xs n e h = no_length xs (sym e ∙ eqb-true n 0 h)
+
+pub collect-requires : goal.collect-requires
+collect-requires g c =
+    let q = c.requires.all in
+    let w = c.in_ok-left.ensures.ok in
+    let left = c.in_ok-left.left in
+    let none_ = sym w.left_is ∙ nothing_left left.items (vec_len left) left.ok.0 (sym c.if-is_empty.ensures) in
+    record { drained = (q.0 ++ entries (passivation_items c.args.ports.now w.how), w.grew.adds q.0 q.1, all_noted q.0 c.args.ports.now (2 ^ 64 - 1) w.how q.2 w.is_passivation none_) }
+
+pub returns-then-is_empty-clause-ok : goal.returns-then-is_empty-clause-ok
+returns-then-is_empty-clause-ok g c =
+    let S = g.B.Board.stands_for in
+    let a = c.args.board.now in
+    let b = c.passivate.new.board in
+    let d = c.collect.new.self in
+    let h = c.args.history.now.items in
+    let i = c.push.new.self.items in
+    let j = c.passivate.new.history.items in
+    let ports = c.args.ports.now in
+    let taken = g.B.Board.taken d in
+    let w = c.in_ok-left.ensures.ok in
+    let left = c.in_ok-left.left in
+    let none_ = sym w.left_is ∙ nothing_left left.items (vec_len left) left.ok.0 (sym c.if-is_empty.ensures) in
+    in_ok (λ x. Collects S b d taken x) (λ x. Stops S a d taken h j ports (2 ^ 64 - 1) x)
+    (λ x collected. record {
+      how = w.how;
+      is_passivation = w.is_passivation;
+      none_left = none_;
+      quiet = b;
+      grew = stop_grew S a b h i j ports w.how c.in_ok-push.ensures.items w.grew;
+      collected = collected;
+    })
+    c.collect.result c.collect.ensures.ok
+
+pub returns-then-is_empty-clause-err : goal.returns-then-is_empty-clause-err
+returns-then-is_empty-clause-err g c =
+    let S = g.B.Board.stands_for in
+    let K = g.B.Board.broke_off in
+    let b = c.passivate.new.board in
+    let d = c.collect.new.self in
+    on_err (λ broke. breaks_after S K c.args.board.now b d _ c.in_ok-left.ensures.ok.grew.adds (breaks S K b d broke)) c.collect.result c.collect.ensures.err
+
+pub returns-clause-err : goal.returns-clause-err
+returns-clause-err g c =
+    stands_on g.B.Board.stands_for g.B.Board.broke_off c.args.board.now c.passivate.new.board _ c.in_ok-left.ensures.ok.grew.adds

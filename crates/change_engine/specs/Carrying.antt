@@ -1,0 +1,28 @@
+-- Events of a change that are done on a board and told in the history.
+use Rattle.std.specs.Prelude.{◌≡◌, List, ◌∷◌, ◌++◌, map, flat_map}
+use Rattle.std.specs.Option.{option_map_or}
+use Rattle.change_law.specs.Members.{line_of}
+use Rattle.change_script.specs.declared.report.HistoryLine.{HistoryLine}
+use Rattle.quiesce_core.specs.declared.event.Event.{Event}
+use Rattle.change_board.specs.Entries.{Entry, did}
+use Rattle.change_board.specs.Sights.{Sight, sight_entry}
+use Rattle.change_board.specs.Steps.{Deed}
+use Rattle.change_board.specs.Transcripts.{Item, silent, told, said}
+use Rattle.change_engine.specs.Growing.{Grew}
+
+-- an event with its line, if it has one
+abbrev pub event_item : Event → Item
+event_item e = option_map_or (told (did e)) (line_of e) (silent (did e))
+
+abbrev pub sight_item : Sight → Item
+sight_item s = silent (sight_entry s)
+
+abbrev pub deed_items : Deed → List Item
+deed_items d = event_item d.event ∷ map sight_item d.sights
+
+-- These events were done and told, in order, behind some lines that are no events and before others.
+pub record CarriesOut {B : Type 0} (S : B → List Entry → Type 0) (old new : B) (before after : List HistoryLine)
+    (head : List HistoryLine) (events : List Event) (tail : List HistoryLine) : Type 0 where
+  pub deeds : List Deed
+  pub events_are : map (λ (d : Deed). d.event) deeds ≡ events
+  pub grew : Grew S old new before after (map said head ++ flat_map deed_items deeds ++ map said tail)

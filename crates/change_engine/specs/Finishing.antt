@@ -1,0 +1,76 @@
+-- How a system is run until it is done: scans in which nodes may begin transactions.
+use Rattle.std.specs.Prelude.{◌≡◌, ◌⊎◌, ◌≤◌, ℕ, Bool, true, false, not, ◌&&◌, ◌||◌, List, [], ◌∷◌, ◌++◌, flat_map, length, if◌then◌else◌}
+use Rattle.std.specs.List.{AllByRecursion, sum_by}
+use Rattle.change_script.specs.declared.report.HistoryLine.{HistoryLine}
+use Rattle.change_script.specs.declared.report.HistoryLine.TheVariants as to
+use Rattle.quiesce_core.specs.State.{Configuration}
+use Rattle.change_board.specs.declared.board.Scan.{Scan}
+use Rattle.change_board.specs.Entries.{Entry, config_of}
+use Rattle.change_board.specs.Records.{Adds}
+use Rattle.change_board.specs.Scans.{Found, all_ports, ended_in, is_seen_at_rest, ports_of, scan_entries}
+use Rattle.change_board.specs.Sights.{Sight}
+use Rattle.change_board.specs.Transcripts.{said}
+use Rattle.change_engine.specs.Growing.{Grew}
+use Rattle.change_engine.specs.Passivating.{silent_items}
+
+-- a scan, by what it answered and saw
+pub record Seen : Type 0 where
+  pub answer : Scan
+  pub sights : List Sight
+  pub found : List Found
+
+abbrev pub seen_entries : Seen → List Entry
+seen_entries w = scan_entries true w.answer.moved w.sights w.found
+
+abbrev pub all_entries : List Seen → List Entry
+all_entries scans = flat_map seen_entries scans
+
+-- the answer tells what was seen, in this configuration
+pub record IsScanIn (c : Configuration) (w : Seen) : Type 0 where
+  pub at_ports : ports_of w.found ≡ all_ports c
+  pub done : w.answer.done ≡ is_seen_at_rest c w.sights w.found
+  pub ended : w.answer.ended ≡ ended_in w.found
+
+-- a scan that moved nothing and saw all at rest is no round
+abbrev pub count_of : Scan → ℕ
+count_of s = if not s.moved && s.done then 0 else 1
+
+abbrev pub rounds_in : List Seen → ℕ
+rounds_in scans = sum_by (λ (w : Seen). count_of w.answer) scans
+
+-- none follows a scan that saw all at rest, nor one that moved nothing where nodes take turns in scans alone
+abbrev pub is_last : Bool → Scan → Bool
+is_last alone s = s.done || (alone && not s.moved)
+
+abbrev pub GoesOn : Bool → Seen → Type 0
+GoesOn alone w = is_last alone w.answer ≡ false
+
+-- some of these scans was the last, or so many were made
+pub record EndsWith (alone : Bool) (scans : List Seen) : Type 0 where
+  pub before : List Seen
+  pub final : Seen
+  pub parts : scans ≡ before ++ final ∷ []
+  pub go_on : AllByRecursion (GoesOn alone) before
+  pub ends : is_last alone final.answer ≡ true
+
+abbrev pub EndsAfter : Bool → ℕ → List Seen → Type 0
+EndsAfter alone n scans = EndsWith alone scans ⊎ ((length scans ≡ n) × AllByRecursion (GoesOn alone) scans)
+
+-- at most so many scans
+pub record Scans {B : Type 0} (S : B → List Entry → Type 0) (alone : Bool) (old new : B) (n rounds : ℕ) : Type 0 where
+  pub scans : List Seen
+  pub few : length scans ≤ n
+  pub are_scans : (r : List Entry) → S old r → AllByRecursion (IsScanIn (config_of r)) scans
+  pub rounds_are : rounds ≡ rounds_in scans
+  pub ends : EndsAfter alone n scans
+  pub adds : Adds S old new (all_entries scans)
+
+-- and the line that tells how many of them were rounds
+pub record Finished {B : Type 0} (S : B → List Entry → Type 0) (alone : Bool) (old new : B)
+    (before after : List HistoryLine) (n rounds : ℕ) : Type 0 where
+  pub scans : List Seen
+  pub few : length scans ≤ n
+  pub are_scans : (r : List Entry) → S old r → AllByRecursion (IsScanIn (config_of r)) scans
+  pub rounds_are : rounds ≡ rounds_in scans
+  pub ends : EndsAfter alone n scans
+  pub grew : Grew S old new before after (silent_items (all_entries scans) ++ said (to.Finish n rounds) ∷ [])

@@ -1,0 +1,26 @@
+-- How a system is stopped: the ports of all live nodes are passivated, and all logs are collected.
+use Rattle.std.specs.Prelude.{◌≡◌, ℕ, List, [], ◌∷◌}
+use Rattle.change_script.specs.declared.report.HistoryLine.{HistoryLine}
+use Rattle.change_script.specs.declared.report.HistoryLine.TheVariants as to
+use Rattle.commit_laws.specs.Steps.{live_ports}
+use Rattle.quiesce_core.specs.declared.event.Event.{Event}
+use Rattle.change_board.specs.declared.board.Collected.{Collected}
+use Rattle.change_board.specs.Collecting.{Collects}
+use Rattle.change_board.specs.Entries.{Entry, config_of}
+use Rattle.change_board.specs.Transcripts.{said}
+use Rattle.change_engine.specs.Growing.{Grew}
+use Rattle.change_engine.specs.Passivating.{IsPassivation, Passivation, left_after, passivation_items}
+
+-- these are the ports of all live nodes
+abbrev pub AreAllLive : List Entry → List ℕ → Type 0
+AreAllLive r ports = ports ≡ live_ports (config_of r)
+
+-- a system was stopped: all that it closed was found drained, and then the logs were taken in
+pub record Stops {B : Type 0} (S : B → List Entry → Type 0) (old new : B) (taken : List (List Event))
+    (before after : List HistoryLine) (ports : List ℕ) (within : ℕ) (x : Collected) : Type 0 where
+  pub how : Passivation
+  pub is_passivation : IsPassivation ports within how
+  pub none_left : left_after how.first how.rounds ≡ []
+  pub quiet : B
+  pub grew : Grew S old quiet before after (said to.Stop ∷ passivation_items ports how)
+  pub collected : Collects S quiet new taken x

@@ -1,0 +1,30 @@
+//! Events of a change that are done on a board and told in the history.
+
+ghost use Rattle.std.specs.Prelude.{◌≡◌, ◌+◌, ◌≤◌, ◌++◌, List, vec_capacity, vec_len};
+ghost use Rattle.change_board.specs.Entries.{Entry};
+ghost use Rattle.change_board.specs.Steps.{AreWithin, MayDoAll};
+ghost use Rattle.change_engine.specs.Carrying.{CarriesOut};
+ghost use Rattle.change_law.specs.Members.{lines_of_events};
+ghost use Rattle.change_script.specs.declared.report.HistoryLine.{HistoryLine};
+
+use change_board::{Board, do_steps};
+use change_script::HistoryLine;
+use quiesce_core::Event;
+
+/// Does these events, in order, and appends lines to the history: the events' own lines, between others that are said
+/// before and behind them. It can't fail, and takes no memory.
+pub fn carry_out<B: Board>(
+    board: &mut B,
+    history: &mut Vec<HistoryLine>,
+    events: Vec<Event>,
+    lines: &mut Vec<HistoryLine>,
+)
+    requires may { (r : List Entry) × B.stands_for board.old r × MayDoAll r events.items }
+    requires room { AreWithin (B.room board.old) events.items }
+    requires place { vec_len history.old + vec_len lines.old ≤ vec_capacity history.old }
+    ensures { (head tail : List HistoryLine) → lines.old.items ≡ head ++ lines_of_events events.items ++ tail
+        → CarriesOut B.stands_for board.old board.new history.old.items history.new.items head events.items tail }
+{
+    do_steps(board, events);
+    let _ = history.append(lines);
+}

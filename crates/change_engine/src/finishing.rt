@@ -1,0 +1,60 @@
+//! Running a system until its nodes are done.
+
+ghost use Rattle.std.specs.Prelude.{◌≡◌, ◌≤◌, IfOk, OnErr, OnOk};
+ghost use Rattle.change_engine.specs.Growing.{BrokeOff};
+ghost use Rattle.change_engine.specs.Finishing as finishing;
+ghost use Rattle.change_engine.specs.Finishing.{Finished, Scans};
+
+use change_board::{Board, Scan};
+use change_script::HistoryLine;
+use config_graph::NoMemory;
+
+/// One for a scan that is a round, none for one that moved nothing and saw all at rest.
+fn count_of(scan: Scan) -> u32
+    ensures value { result ≡ finishing.count_of scan }
+    ensures few { result ≤ 1 }
+{
+    if !scan.moved && scan.done { 0 } else { 1 }
+}
+
+/// Whether no scan need follow.
+fn is_last(alone: bool, scan: Scan) -> bool
+    ensures { result ≡ finishing.is_last alone scan }
+{
+    scan.done || alone && !scan.moved
+}
+
+/// Scans at most so often, and gives how many of the scans were rounds.
+fn make_scans<B: Board>(board: &mut B, n: u32) -> Result<u32, NoMemory>
+    ensures ok { IfOk result (λ rounds. Scans B.stands_for B.alone board.old board.new n rounds) }
+    ensures room { OnOk result (B.room board.new ≡ B.room board.old) }
+    ensures err { OnErr result (BrokeOff B.stands_for B.broke_off board.old board.new) }
+{
+    let alone = board.is_alone();
+    let mut rounds = 0;
+    for _made in 0..n {
+        let seen = board.scan(true)?;
+        rounds += count_of(seen);
+        if is_last(alone, seen) {
+            return Ok(rounds);
+        }
+    }
+    Ok(rounds)
+}
+
+/// Scans until all was seen at rest, at most so often, and until a scan moved nothing where nodes take turns in scans
+/// alone. Tells how many rounds that were.
+pub fn finish<B: Board>(
+    board: &mut B,
+    history: &mut Vec<HistoryLine>,
+    n: u32,
+) -> Result<u32, NoMemory>
+    ensures ok { IfOk result
+        (λ rounds. Finished B.stands_for B.alone board.old board.new history.old.items history.new.items n rounds) }
+    ensures room { OnOk result (B.room board.new ≡ B.room board.old) }
+    ensures err { OnErr result (BrokeOff B.stands_for B.broke_off board.old board.new) }
+{
+    let rounds = make_scans(board, n)?;
+    history.push(HistoryLine::Finish { n, rounds })?;
+    Ok(rounds)
+}

@@ -1,0 +1,52 @@
+//! Laws of transcripts.
+
+ghost use Rattle.std.specs.Prelude.{◌≡◌, ℕ, List, [], ◌++◌, IsTrue, ◌≤◌, length};
+ghost use Rattle.change_plan.specs.declared.plan_data.Move.{Move};
+ghost use Rattle.change_plan.specs.declared.plan_data.Plan.{Plan};
+ghost use Rattle.commit_laws.specs.Lists.{In};
+ghost use Rattle.commit_laws.specs.Steps.{change_all};
+ghost use Rattle.config_graph.specs.Graph.{Graph, ports};
+ghost use Rattle.config_graph.specs.Sound.{Sound};
+ghost use Rattle.config_graph.specs.declared.TheConstants.{MAX_NODES, MAX_PORTS};
+ghost use Rattle.quiescence_laws.specs.Starts.{start_of};
+ghost use Rattle.plan_laws.specs.Commit.{commit_events};
+ghost use Rattle.quiesce_core.specs.Live.{IsGraphOf};
+ghost use Rattle.change_board.specs.Entries.{Entry, config_of};
+ghost use Rattle.change_board.specs.Notes.{is_noted};
+ghost use Rattle.change_board.specs.Records.{IsRecord};
+ghost use Rattle.change_board.specs.Steps.{MayDoAll};
+ghost use Rattle.change_board.specs.Transcripts.{entries};
+ghost use Rattle.change_engine.specs.Planning.{MayCarryOut};
+ghost use Rattle.change_engine.specs.Passivating.{IsPassivation, Passivation, left_after, passivation_items};
+
+use commit_laws::starts_can_not_fail;
+use plan_laws::{commits_can_not_fail, commits_leave_the_new_graph};
+
+/// Where a passivation leaves no root, the record notes each port that it closed. So what is linked, unlinked or
+/// removed next may rest on these ports.
+pub fn passivated_ports_are_noted()
+    ensures { (r : List Entry) (ports : List ℕ) (rounds p : ℕ) (how : Passivation) → IsPassivation ports rounds how
+        → left_after how.first how.rounds ≡ [] → In ports p
+        → IsTrue (is_noted (r ++ entries (passivation_items ports how)) p) }
+{}
+
+/// Each event of a sound graph's start may be done, after those before it, on a board for which nothing is recorded.
+pub fn starts_may_be_done()
+    ensures { (g : Graph) → Sound g → length g.nodes ≤ MAX_NODES → length (ports g.nodes) ≤ MAX_PORTS
+        → MayDoAll [] (start_of g) }
+{
+    starts_can_not_fail();
+}
+
+/// Each event of a plan's commit may be done on a board after those before it, where the record notes the ports of all
+/// nodes that the plan freezes: so on every board a commit can't fail. After it the graph is the new one.
+pub fn plans_may_be_carried_out()
+    ensures may { (old new : Graph) (moves : List Move) (plan : Plan) (r : List Entry) → IsRecord r
+        → MayCarryOut old new moves plan r → MayDoAll r (commit_events old new plan (config_of r)) }
+    ensures graph { (old new : Graph) (moves : List Move) (plan : Plan) (r : List Entry) → IsRecord r
+        → MayCarryOut old new moves plan r
+        → IsGraphOf (change_all (config_of r) (commit_events old new plan (config_of r))) new }
+{
+    commits_can_not_fail();
+    commits_leave_the_new_graph();
+}

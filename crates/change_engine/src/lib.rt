@@ -1,0 +1,14 @@
+//! Changes over any board: what a change does on it, and what its history tells of that.
+#![tactic(auto)]
+
+mod carrying;
+mod finishing;
+mod laws;
+mod passivating;
+mod stopping;
+
+pub use carrying::carry_out;
+pub use finishing::finish;
+pub use laws::{passivated_ports_are_noted, plans_may_be_carried_out, starts_may_be_done};
+pub use passivating::{LeftRoot, passivate};
+pub use stopping::stop;

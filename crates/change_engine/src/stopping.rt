@@ -1,0 +1,34 @@
+//! Stopping a system.
+
+ghost use Rattle.std.specs.Prelude.{◌-◌, ◌^◌, List, IfOk, OnErr};
+ghost use Rattle.change_board.specs.Entries.{Entry};
+ghost use Rattle.change_engine.specs.Growing.{BrokeOff};
+ghost use Rattle.change_engine.specs.Stopping.{AreAllLive, Stops};
+
+use crate::passivating::passivate;
+use change_board::{Board, Collected};
+use change_script::HistoryLine;
+use config_graph::NoMemory;
+use std::alloc::{AllocError, Global};
+
+/// Closes the ports of all live nodes, makes rounds until each was found drained, and takes all logs in. Where
+/// 2^64 - 1 rounds leave a root, that is answered as want of memory.
+pub fn stop<B: Board>(
+    alloc: Global,
+    board: &mut B,
+    history: &mut Vec<HistoryLine>,
+    ports: &[u32],
+) -> Result<Collected, NoMemory>
+    requires all { (r : List Entry) × B.stands_for board.old r × AreAllLive r ports.now }
+    ensures ok { IfOk result
+        (λ x. Stops B.stands_for board.old board.new (B.taken board.new) history.old.items history.new.items
+        ports.now (2 ^ 64 - 1) x) }
+    ensures err { OnErr result (BrokeOff B.stands_for B.broke_off board.old board.new) }
+{
+    history.push(HistoryLine::Stop)?;
+    let left = passivate(alloc, board, history, ports, u64::MAX)?;
+    if left.is_empty() {
+        return board.collect();
+    }
+    Err(AllocError)
+}
