@@ -1,12 +1,1 @@
-pub mod Asking
-pub mod Ending
-pub mod Flattening
-pub mod Inverting
-pub mod Parting
-pub mod Planning
-pub mod Readings
-pub mod Refusing
 pub mod Running
-pub mod Statuses
-pub mod Telling
-pub mod Wanting

@@ -1,8 +1,8 @@
 -- What fetches gave, as a shelf notes it.
 use Rattle.std.specs.Prelude.{◌≡◌, ℕ, List, ◌++◌, Option, Result, Ok, Err}
 use Rattle.cfg_io.specs.Shelf.{Files}
-use Rattle.darwin_commands.specs.declared.fetching.Fetched.{Fetched}
-use Rattle.darwin_commands.specs.Answers.{failed_name, fetch_of, Gave}
+use Rattle.command_runs.specs.declared.fetched.Fetched.{Fetched}
+use Rattle.command_runs.specs.Fetches.{failed_name, fetch_of, Gave}
 
 -- The shelf noted what a fetch gave, and gave what its files hold; where memory ran out it noted nothing.
 abbrev pub Fetches : {E : Type 0} → Option Files → List ℕ → List (List ℕ) → List (List ℕ) → Result Fetched E → Type 0

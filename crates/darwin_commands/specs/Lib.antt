@@ -1,13 +1,2 @@
-pub mod Answers
-pub mod DescriptionFaults
-pub mod Descriptions
+pub mod Coming
 pub mod Fetching
-pub mod Lines
-pub mod Outcomes
-pub mod Planning
-pub mod Plans
-pub mod Replays
-pub mod CommandLine
-pub mod Running
-pub mod Statuses
-pub mod Queries

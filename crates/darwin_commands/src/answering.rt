@@ -1,30 +1,34 @@
 //! What is done for words and for commands, by fetches.
 
 ghost use Rattle.std.specs.Prelude.{◌≡◌, ℕ, List, map, string_bytes};
-ghost use Rattle.darwin_commands.specs.Answers.{Runs};
-ghost use Rattle.darwin_commands.specs.CommandLine.{Asks};
-ghost use Rattle.darwin_commands.specs.Running.{DescribesBy, AnswersBy};
-ghost use Rattle.darwin_commands.specs.declared.words.Command.TheVariants as commands;
+ghost use Rattle.command_words.specs.CommandLine.{Asks};
+ghost use Rattle.command_words.specs.declared.words.Command.TheVariants as commands;
+ghost use Rattle.command_runs.specs.Commands.{course_of, course_of_query};
+ghost use Rattle.command_runs.specs.Runs.{Runs};
+ghost use Rattle.darwin_commands.specs.Coming.{ComesBy};
 
-use crate::answer::{Answer, finish, no_memory, write};
-use crate::describing::{Query, describe};
 use crate::fetching::fetch_file;
-use crate::scripts::{Read, read_script};
-use crate::status::Status;
-use crate::words::{Command, read_words};
+use crate::writing::{finish, no_memory, write};
 use crate::{HELP, USAGE, VERSION};
 use cfg_io::{Shelf, Sink};
+use command_answers::Status;
+use command_runs::Query;
+use command_words::{Command, read_words};
 use config_graph::NoMemory;
+use file_answers::{Answer, Read, describe, read_script};
 use std::alloc::Global;
 
-/// Does what the words ask for, or says that they have none of the forms. The program's own texts are written from where they stand.
+/// Does what the words ask for, or says that they have none of the forms. The program's own texts are written from
+/// where they stand.
 pub fn run_words<H: Shelf, K: Sink>(
     alloc: Global,
     words: &[String],
     shelf: &mut H,
     out: &mut K,
 ) -> Status
-    ensures runs { Runs (map string_bytes words.now) (H.files shelf.old) (H.failed shelf.old) (H.failed shelf.new) (K.taken out.old) (K.taken out.new) (K.faults out.old) (K.faults out.new) result }
+    ensures runs { Runs (map string_bytes words.now) (H.files shelf.old)
+        (H.failed shelf.old) (H.failed shelf.new)
+        (K.taken out.old) (K.taken out.new) (K.faults out.old) (K.faults out.new) result }
     ensures kept { H.files shelf.new ≡ H.files shelf.old }
 {
     match read_words(alloc, words) {
@@ -42,7 +46,8 @@ fn run_command<H: Shelf, K: Sink>(
     command: Command<'_>,
 ) -> Status
     ensures runs { (words : List (List ℕ)) → Asks words command.entry
-        → Runs words (H.files shelf.old) (H.failed shelf.old) (H.failed shelf.new) (K.taken out.old) (K.taken out.new) (K.faults out.old) (K.faults out.new) result }
+        → Runs words (H.files shelf.old) (H.failed shelf.old) (H.failed shelf.new)
+        (K.taken out.old) (K.taken out.new) (K.faults out.old) (K.faults out.new) result }
     ensures kept { H.files shelf.new ≡ H.files shelf.old }
 {
     match command {
@@ -70,7 +75,8 @@ fn answer_description<H: Shelf>(
     file: &str,
     query: &Query<'_>,
 ) -> Result<Answer, NoMemory>
-    ensures answers { DescribesBy (H.files shelf.old) file.now query.now (H.failed shelf.old) (H.failed shelf.new) result }
+    ensures answers { ComesBy (H.files shelf.old) (course_of_query file.now query.now)
+        (H.failed shelf.old) (H.failed shelf.new) result }
     ensures kept { H.files shelf.new ≡ H.files shelf.old }
 {
     let fetched = fetch_file(shelf, file)?;
@@ -84,7 +90,7 @@ fn answer_replay<H: Shelf>(
     file: &str,
     events: &str,
 ) -> Result<Answer, NoMemory>
-    ensures answers { AnswersBy (H.files shelf.old) (commands.Replay file.now events.now) (H.failed shelf.old) (H.failed shelf.new) result }
+    ensures answers { ComesBy (H.files shelf.old) (course_of (commands.Replay file.now events.now)) (H.failed shelf.old) (H.failed shelf.new) result }
     ensures kept { H.files shelf.new ≡ H.files shelf.old }
 {
     let fetched = fetch_file(shelf, events)?;

@@ -4,20 +4,13 @@ ghost use Rattle.std.specs.Prelude.{◌≡◌, ◌≤◌, vec_len};
 ghost use Rattle.darwin_commands.specs.Fetching.{Fetches};
 
 use cfg_io::{Shelf, ShelfError};
+use command_runs::Fetched;
 use config_graph::{List, NoMemory};
 use darwin_lexer::MAX_TEXT;
 use std::alloc::AllocError;
 
 /// The most bytes of a file.
 const FILE_LIMIT: u32 = MAX_TEXT as u32;
-
-/// What a fetch gave.
-#[derive(Debug, Drop)]
-pub enum Fetched {
-    Held(List<u8>),
-    TooLong,
-    Failed,
-}
 
 /// Fetches the file of this name.
 pub fn fetch_file<H: Shelf>(shelf: &mut H, file: &str) -> Result<Fetched, NoMemory>

@@ -1,25 +1,14 @@
 //! The commands of the program: what each list of words asks for, and what it writes.
 #![tactic(auto)]
 
-mod answer;
 mod answering;
 mod commands;
-mod describing;
-mod description;
-mod error;
 mod fetching;
-mod lines;
-mod places;
-mod plans;
-mod rendering;
-mod replaying;
-mod scripts;
-mod status;
-mod words;
+mod writing;
 
-pub use answer::no_memory;
+pub use command_answers::Status;
 pub use commands::still;
-pub use status::Status;
+pub use writing::no_memory;
 
 /// What is written where the words have none of the forms.
 const USAGE: &str = "usage\n";

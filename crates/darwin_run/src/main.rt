@@ -4,8 +4,8 @@
 ghost use Rattle.std.specs.Prelude.{◌≡◌, ◌≢◌, ◌∷◌, ◌++◌, [], codes, map, string_bytes, IfOk, IfErr};
 ghost use Rattle.std.specs.IoError.{error_kind};
 ghost use Rattle.std.specs.Process.{exit_status};
-ghost use Rattle.darwin_commands.specs.Answers.{Runs, Written};
-ghost use Rattle.darwin_commands.specs.Statuses.{status_number};
+ghost use Rattle.command_runs.specs.Runs.{Runs, Written};
+ghost use Rattle.command_answers.specs.Statuses.{status_number};
 
 use cfg_io::{FileShelf, OutSink, Shelf, Sink};
 use darwin_commands::{Status, no_memory, still};

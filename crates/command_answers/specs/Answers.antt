@@ -1,0 +1,94 @@
+-- What the program answers, as values: why it refuses, or what it was asked for; and the status and the text of each.
+use Rattle.std.specs.Prelude.{◌≡◌, ℕ, List, [], ◌∷◌, ◌++◌, codes}
+use Rattle.config_graph.specs.Graph.{Graph}
+use Rattle.config_graph.specs.GraphText.{graph_text}
+use Rattle.quiesce_core.specs.State.{State}
+use Rattle.change_plan.specs.declared.plan_data.Plan.{Plan}
+use Rattle.change_plan.specs.PlanText.{plan_text}
+use Rattle.event_replay.specs.ReplayText.{replay_text}
+use Rattle.command_answers.specs.declared.status.Status.{Status}
+use Rattle.command_answers.specs.declared.status.Status.TheVariants as status
+use Rattle.command_answers.specs.RefusalLines.{read_fault_line, description_line, script_line, denied_line}
+
+pub data Refusal : Type 0 where
+  -- the words have none of the forms
+  usage : Refusal
+  -- a description is too long, or it or its use has a fault, which these words name
+  description : (file : List ℕ) (fault : List (List ℕ)) → Refusal
+  -- the same of a script or a file of events
+  script : (file : List ℕ) (fault : List (List ℕ)) → Refusal
+  -- a file can't be read
+  read_fault : (file : List ℕ) → Refusal
+  -- memory ran out
+  no_memory : Refusal
+
+pub data Answer : Type 0 where
+  refusal : Refusal → Answer
+  -- the commands with their forms
+  help : Answer
+  version : Answer
+  graph : Graph → Answer
+  -- the steps from the one graph to the other
+  plan : (old new : Graph) → Plan → Answer
+  -- the number of an event, from 1, and the first of its rules that fails
+  denied : (number rule : ℕ) → Answer
+  -- how many events led to the state, and the slots of the nodes that are settled in it
+  replay : (count : ℕ) → State → (settled : List ℕ) → Answer
+
+abbrev pub refusal_status : Refusal → Status
+refusal_status usage = status.Usage
+refusal_status (description file fault) = status.Description
+refusal_status (script file fault) = status.Script
+refusal_status (read_fault file) = status.ReadFault
+refusal_status no_memory = status.NoMemory
+
+-- the status with which the program ends where the answer is written
+abbrev pub status_of : Answer → Status
+status_of (refusal why) = refusal_status why
+status_of help = status.Ok
+status_of version = status.Ok
+status_of (graph g) = status.Ok
+status_of (plan old new steps) = status.Ok
+status_of (denied number rule) = status.Denied
+status_of (replay count s settled) = status.Ok
+
+abbrev pub usage_line : List ℕ
+usage_line = codes "usage" ++ 10 ∷ []
+
+abbrev pub no_memory_line : List ℕ
+no_memory_line = codes "no memory" ++ 10 ∷ []
+
+-- the commands with their forms
+abbrev pub help_text : List ℕ
+help_text =
+    codes "darwin_run --help\n"
+    ++ codes "darwin_run --version\n"
+    ++ codes "darwin_run flat FILE NAME INT*\n"
+    ++ codes "darwin_run plan FILE NAME INT* -- NAME INT*\n"
+    ++ codes "darwin_run replay FILE EVENTS\n"
+
+abbrev pub version_text : List ℕ
+version_text = codes "darwin_run 0.1.0\n"
+
+abbrev pub refusal_text : Refusal → List ℕ
+refusal_text usage = usage_line
+refusal_text (description file fault) = description_line file fault
+refusal_text (script file fault) = script_line file fault
+refusal_text (read_fault file) = read_fault_line file
+refusal_text no_memory = no_memory_line
+
+abbrev pub text_of : Answer → List ℕ
+text_of (refusal why) = refusal_text why
+text_of help = help_text
+text_of version = version_text
+text_of (graph g) = graph_text g
+text_of (plan old new steps) = plan_text old new steps
+text_of (denied number rule) = denied_line number rule
+text_of (replay count s settled) = replay_text count s settled
+
+-- some answer of a kind has this status and this text
+pub record Shows (Is : Answer → Type 0) (own : Status) (text : List ℕ) : Type 0 where
+  pub answer : Answer
+  pub is : Is answer
+  pub has_status : own ≡ status_of answer
+  pub has_text : text ≡ text_of answer

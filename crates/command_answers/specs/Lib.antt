@@ -1,0 +1,4 @@
+pub mod Answers
+pub mod DescriptionFaults
+pub mod RefusalLines
+pub mod Statuses

@@ -1,0 +1,38 @@
+//! How a run of the program ends.
+
+ghost use Rattle.std.specs.Prelude.{◌≡◌};
+ghost use Rattle.command_answers.specs.Statuses.{status_number};
+
+/// How a run ends.
+#[derive(Clone, Copy, Debug, PartialEq, Eq)]
+pub enum Status {
+    Ok,
+    /// The words have none of the forms.
+    Usage,
+    /// A description, or its use, has a fault.
+    Description,
+    /// A script, an event file or a report has a fault.
+    Script,
+    /// A file can't be read.
+    ReadFault,
+    /// The sink failed.
+    WriteFault,
+    NoMemory,
+    /// A change was given up.
+    Pending,
+    /// A node isn't done.
+    Unfinished,
+    /// An event isn't lawful.
+    Denied,
+    /// A report isn't lawful.
+    Unlawful,
+}
+
+impl Status {
+    /// The program's exit status, from 0 for `Ok` to 10 for `Unlawful`.
+    pub fn number(self) -> u8
+        ensures { result ≡ status_number self }
+    {
+        self as u8
+    }
+}

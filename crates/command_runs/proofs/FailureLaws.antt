@@ -1,0 +1,141 @@
+-- A fetch that fails is the last of its course.
+use Rattle.std.proofs.Common.{◌≡◌, ◌≢◌, ◌∙◌, ◌⊎◌, inl, inr, ℕ, List, [], ◌∷◌, refl, sym, ap, subst}
+use Rattle.quiesce_core.specs.State.{State}
+use Rattle.quiesce_core.specs.Start.{started}
+use Rattle.quiesce_core.specs.declared.event.Event.{Event}
+use Rattle.change_script.specs.EventFiles.{IsEventFile}
+use Rattle.command_answers.specs.Answers.{Answer, Refusal, refusal, description, script, read_fault, help, version}
+use Rattle.command_words.specs.declared.words.Command.TheVariants as commands
+use Rattle.command_runs.specs.declared.fetched.Fetched.TheVariants.{Held, TooLong, Failed}
+use Rattle.command_runs.specs.declared.query.Query.{Query}
+use Rattle.command_runs.specs.declared.query.Query.TheVariants as queries
+use Rattle.command_runs.specs.Commands.{RefusesEvents, calls_of, course_of_query}
+use Rattle.command_runs.specs.Courses.{Course, Says, AfterFetch, not_fetched, fetched_alone, failed, too_long, leads_on, After, not_judged, refused, gives}
+use Rattle.command_runs.specs.Descriptions.{IsTextRefusal, IsChecked}
+use Rattle.command_runs.specs.Failures.{Uses, FailsLast}
+use Rattle.command_runs.specs.Fetches.{Fetch, failed_names, file_limit}
+use Rattle.command_runs.specs.Lines.{Line, uses, calls, Aim, drawing, planning, replaying, Progress, begun, with_description, IsCallRefusal, Leads, Concludes, Follows}
+use Rattle.command_runs.specs.Outcomes.{NamesFile}
+use Rattle.command_runs.specs.Replays.{IsReplayed, one_denied, all_steps}
+use Rattle.command_runs.specs.Runs.{AnswersWords, asked}
+use Rattle.command_runs.specs.Runs as runs
+
+-- ---- answers that aren't refusals
+
+no_refusal_of : (s : State) (events : List Event) (answer : Answer) (why : Refusal) → IsReplayed s events answer → answer ≢ refusal why
+no_refusal_of s events _ why (one_denied number rule is) same = cc
+no_refusal_of s events _ why (all_steps t settled leads are) same = cc
+
+concludes_well : (aim : Aim) (p : Progress) (answer : Answer) (why : Refusal) → Concludes aim p answer → answer ≢ refusal why
+concludes_well drawing p answer why (g, earlier, graphs, what) same = cc (what, same)
+concludes_well planning p answer why (old, new, earlier, graphs, (steps, is, what)) same = cc (what, same)
+concludes_well (replaying events) p answer why (g, earlier, graphs, what) same = no_refusal_of (started g) events answer why what same
+
+-- ---- the single steps
+
+module _ (Named : List ℕ → Type 0) where
+  of_says : (what : Answer) (fetches : List Fetch) (answer : Answer) → ((file : List ℕ) → what ≢ refusal (read_fault file)) → Says what fetches answer → FailsLast Named fetches answer
+  of_says what fetches answer other says = inl (ap failed_names says.0, λ file is. other file (sym says.1 ∙ is))
+
+  more_fetches : (fetch : Fetch) (fetches : List Fetch) (answer : Answer) → failed_names (fetch ∷ []) ≡ [] → failed_names (fetch ∷ fetches) ≡ failed_names fetches
+      → ((before : List Fetch) → failed_names before ≡ [] → failed_names (fetch ∷ before) ≡ []) → FailsLast Named fetches answer → FailsLast Named (fetch ∷ fetches) answer
+  more_fetches fetch fetches answer none same more_ (inl none_failed) = inl (same ∙ none_failed.0, none_failed.1)
+  more_fetches fetch fetches answer none same more_ (inr last) = inr (record {
+    before = fetch ∷ last.before;
+    none_before = more_ last.before last.none_before;
+    name = last.name;
+    limit = last.limit;
+    named = last.named;
+    parts = ap (λ fs. fetch ∷ fs) last.parts;
+    says = last.says;
+  })
+
+  of_fetch :
+      (name : List ℕ) (limit : ℕ) (refuse : List (List ℕ) → Answer) (Then : List ℕ → Course) (fetches : List Fetch) (answer : Answer) → Named name
+      → ((words : List (List ℕ)) (file : List ℕ) → refuse words ≢ refusal (read_fault file))
+      → ((bytes : List ℕ) (fs : List Fetch) (a : Answer) → Then bytes fs a → FailsLast Named fs a)
+      → AfterFetch name limit refuse Then fetches answer → FailsLast Named fetches answer
+  of_fetch name limit refuse Then _ _ named other rest not_fetched = inl (refl, λ file is. cc)
+  of_fetch name limit refuse Then _ _ named other rest (fetched_alone (Held bytes)) = inl (refl, λ file is. cc)
+  of_fetch name limit refuse Then _ _ named other rest (fetched_alone TooLong) = inl (refl, λ file is. cc)
+  of_fetch name limit refuse Then _ _ named other rest (fetched_alone Failed) =
+      inr (record { before = []; none_before = refl; name = name; limit = limit; named = named; parts = refl; says = inr refl })
+  of_fetch name limit refuse Then _ _ named other rest failed =
+      inr (record { before = []; none_before = refl; name = name; limit = limit; named = named; parts = refl; says = inl refl })
+  of_fetch name limit refuse Then _ _ named other rest too_long = inl (refl, other _)
+  of_fetch name limit refuse Then _ _ named other rest (leads_on bytes fetches answer then_) =
+      more_fetches (record { name = name; limit = limit; given = Held bytes }) fetches answer refl refl (λ before none. none) (rest bytes fetches answer then_)
+
+  of_step :
+      {A : Type 0} (Refuses : List (List ℕ) → Type 0) (refuse : List (List ℕ) → Answer) (Gives : A → Type 0) (Then : A → Course) (fetches : List Fetch) (answer : Answer)
+      → ((words : List (List ℕ)) (file : List ℕ) → refuse words ≢ refusal (read_fault file))
+      → ((a : A) (fs : List Fetch) (ans : Answer) → Gives a → Then a fs ans → FailsLast Named fs ans)
+      → After Refuses refuse Gives Then fetches answer → FailsLast Named fetches answer
+  of_step Refuses refuse Gives Then _ _ other rest not_judged = inl (refl, λ file is. cc)
+  of_step Refuses refuse Gives Then _ _ other rest (refused words why) = inl (refl, other words)
+  of_step Refuses refuse Gives Then _ _ other rest (gives a fetches answer is then_) = rest a fetches answer is then_
+
+  other_refusal : (name : List ℕ) (words : List (List ℕ)) (file : List ℕ) → refusal (description name words) ≢ refusal (read_fault file)
+  other_refusal name words file is = cc
+
+  other_script : (name : List ℕ) (words : List (List ℕ)) (file : List ℕ) → refusal (script name words) ≢ refusal (read_fault file)
+  other_script name words file is = cc
+
+  -- ---- lines
+
+  pub of_lines :
+      (aim : Aim) (p : Progress) (lines : List Line) (fetches : List Fetch) (answer : Answer) → ((file : List ℕ) → Uses lines file → Named file)
+      → Follows aim p lines fetches answer → FailsLast Named fetches answer
+  of_lines aim p [] fetches answer named follows =
+      of_step (λ words. ⊥) (λ words. refusal (description p.file words)) (Concludes aim p) Says fetches answer (other_refusal p.file)
+      (λ a fs ans concludes says. of_says a fs ans (λ file. concludes_well aim p a (read_fault file) concludes) says) follows
+  of_lines aim p (uses file ∷ lines) fetches answer named follows =
+      let refuse = λ (words : List (List ℕ)). refusal (description file words) in
+      of_fetch file file_limit refuse
+      (λ bytes. After (IsTextRefusal bytes) refuse (IsChecked bytes) (λ tree. Follows aim (with_description p file tree) lines)) fetches answer
+      (named file (inl refl)) (other_refusal file)
+      (λ bytes fs a then_. of_step (IsTextRefusal bytes) refuse (IsChecked bytes) (λ tree. Follows aim (with_description p file tree) lines) fs a (other_refusal file)
+      (λ tree gs b checked rest. of_lines aim (with_description p file tree) lines gs b (λ other is. named other (inr is)) rest) then_) follows
+  of_lines aim p (calls deed name args ∷ lines) fetches answer named follows =
+      of_step (IsCallRefusal p deed name args) (λ words. refusal (description p.file words)) (Leads p deed name args) (λ next. Follows aim next lines) fetches answer
+      (other_refusal p.file) (λ next fs a leads rest. of_lines aim next lines fs a named rest) follows
+
+  of_query :
+      (file : List ℕ) (query : Query) (fetches : List Fetch) (answer : Answer) → Named file → course_of_query file query fetches answer → FailsLast Named fetches answer
+  of_query file (queries.Graph call) fetches answer named course =
+      of_lines drawing begun (uses file ∷ calls_of (queries.Graph call)) fetches answer (λ other is. alone other is) course
+    where
+      alone : (other : List ℕ) → (other ≡ file) ⊎ ⊥ → Named other
+      alone other (inl is) = subst Named (sym is) named
+      alone other (inr never) = absurd never
+  of_query file (queries.Plan call target) fetches answer named course =
+      of_lines planning begun (uses file ∷ calls_of (queries.Plan call target)) fetches answer (λ other is. alone other is) course
+    where
+      alone : (other : List ℕ) → (other ≡ file) ⊎ ⊥ → Named other
+      alone other (inl is) = subst Named (sym is) named
+      alone other (inr never) = absurd never
+  of_query file (queries.Replay events) fetches answer named course =
+      of_lines (replaying events.events) begun (uses file ∷ calls_of (queries.Replay events)) fetches answer (λ other is. alone other is) course
+    where
+      alone : (other : List ℕ) → (other ≡ file) ⊎ ⊥ → Named other
+      alone other (inl is) = subst Named (sym is) named
+      alone other (inr never) = absurd never
+
+-- ---- words
+
+pub of_words : (words : List (List ℕ)) (fetches : List Fetch) (answer : Answer) → AnswersWords words fetches answer → FailsLast (NamesFile words) fetches answer
+of_words words _ _ (runs.no_form none) = inl (refl, λ file is. cc)
+of_words words _ _ runs.not_read = inl (refl, λ file is. cc)
+of_words words _ _ (asked commands.Help fetches answer asks course) = of_says (NamesFile words) help fetches answer (λ file is. cc) course
+of_words words _ _ (asked commands.Version fetches answer asks course) = of_says (NamesFile words) version fetches answer (λ file is. cc) course
+of_words words _ _ (asked (commands.Flat file call) fetches answer asks course) =
+    of_query (NamesFile words) file (queries.Graph call) fetches answer (commands.Flat file call, asks, refl) course
+of_words words _ _ (asked (commands.Plan file call target) fetches answer asks course) =
+    of_query (NamesFile words) file (queries.Plan call target) fetches answer (commands.Plan file call target, asks, refl) course
+of_words words _ _ (asked (commands.Replay file name) fetches answer asks course) =
+    let Named = NamesFile words in
+    let refuse = λ (ws : List (List ℕ)). refusal (script name ws) in
+    let Then = λ (bytes : List ℕ). After (RefusesEvents bytes) refuse (IsEventFile bytes) (λ events. course_of_query file (queries.Replay events)) in
+    of_fetch Named name file_limit refuse Then fetches answer (commands.Replay file name, asks, inr refl) (other_script Named name)
+    (λ bytes fs a then_. of_step Named (RefusesEvents bytes) refuse (IsEventFile bytes) (λ events. course_of_query file (queries.Replay events)) fs a (other_script Named name)
+    (λ events gs b is rest. of_query Named file (queries.Replay events) gs b (commands.Replay file name, asks, inl refl) rest) then_) course

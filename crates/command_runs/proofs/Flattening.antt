@@ -1,0 +1,516 @@
+-- What a run says of descriptions and of files of events, from the one relation of runs.
+use Rattle.std.proofs.Common.{◌≡◌, ◌≢◌, ◌∙◌, ◌≤◌, ◌<◌, ◌⊎◌, inl, inr, ℕ, List, [], ◌∷◌, Option, Some, None, length, refl, sym, subst, ap, IsSomeAnd, arith}
+use Rattle.std.specs.List.{AllByRecursion}
+use Rattle.std.proofs.lemmas.Option.{same_Some, none-some}
+use Rattle.cfg_io.specs.Shelf.{Files}
+use Rattle.cfg_io.specs.Sink.{with_bytes}
+use Rattle.config_graph.specs.Graph.{Graph}
+use Rattle.config_graph.specs.GraphText.{graph_text}
+use Rattle.quiesce_core.specs.Start.{started}
+use Rattle.event_replay.specs.Replay.{IsDenied}
+use Rattle.change_script.specs.declared.error.ScriptError.{ScriptError}
+use Rattle.change_script.specs.declared.event_files.EventFile.{EventFile}
+use Rattle.change_script.specs.EventFiles.{IsEventFile, IsFirstFault}
+use Rattle.command_words.specs.declared.words.TopCall.{TopCall}
+use Rattle.command_answers.specs.declared.status.Status.{Status}
+use Rattle.command_answers.specs.declared.status.Status.TheVariants as status
+use Rattle.command_words.specs.declared.words.Command.{Command}
+use Rattle.command_words.specs.declared.words.Command.TheVariants as commands
+use Rattle.command_words.specs.CommandLine.{Asks}
+use Rattle.command_answers.specs.RefusalLines.{denied_line}
+use Rattle.command_runs.specs.Descriptions.{HasGraph}
+use Rattle.command_runs.specs.Plans.{Starts}
+use Rattle.command_answers.specs.Answers.{denied}
+use Rattle.command_runs.specs.Replays.{one_denied}
+use Rattle.command_runs.specs.declared.query.Query.{Query}
+use Rattle.command_runs.specs.declared.query.Query.TheVariants as queries
+use Rattle.command_runs.specs.Queries.{IsRefused, AnswersQuery}
+use Rattle.command_runs.specs.declared.fetched.Fetched.{Fetched}
+use Rattle.command_runs.specs.declared.fetched.Fetched.TheVariants.{Failed}
+use Rattle.command_runs.specs.Fetches.{Fetch, failed_names, fetch_of, file_limit, Gave}
+use Rattle.command_runs.specs.OneFile.{DescriptionAnswers, cannot_read, is_too_long, refused, answered, ScriptAnswers, cannot_read_script, script_too_long, script_at_fault}
+use Rattle.command_runs.specs.Runs.{Written, whole, stopped}
+use Rattle.command_runs.specs.Outcomes.{Ends, Wants, Flattened, Planned, Replayed, Refused, too_long, at_fault, ScriptRefused, events_too_long, events_at_fault, HoldsFile, MustRefuse, MustRefuseScript, NothingRefuses, EndsAsGiven}
+use Rattle.command_runs.proofs.Inverting.{Answer, of_words, AnswersCommand, no_form, answered_to, no_memory, Ran, OfDescription, OfScript, OfReplay}
+use Rattle.change_script.proofs.EventFileLaws as scripts
+use Rattle.command_runs.proofs.Statuses.{IsGiven, well, with_denial, not_two, memory_not_given, write_fault_not_given, ok_denied, ok_description, ok_script, usage_denied, usage_description, usage_script, memory_denied, memory_description, memory_script, write_fault_denied, write_fault_description, write_fault_script}
+use Rattle.command_runs.proofs.Telling.{held_told, held_within, long_told, same_content, within_not_long, none_added}
+use Rattle.command_runs.proofs.Wanting.{gives_status, gives_one, never_both}
+
+-- nothing refuses what was held
+none_refuses : (query : Query) (content : Option (List ℕ)) (text : List ℕ) (words : List (List ℕ)) → NothingRefuses query content → content ≡ Some text → IsRefused query text words → ⊥
+none_refuses query None text words nothing is refuses = nothing
+none_refuses query (Some other) text words nothing is refuses = nothing.1 words (subst (λ t. IsRefused query t words) (sym (same_Some other text is)) refuses)
+
+not_too_long :
+    (query : Query) (content : Option (List ℕ)) → NothingRefuses query content → IsSomeAnd content (λ bytes. file_limit < length bytes) → ⊥
+not_too_long query None nothing long = nothing
+not_too_long query (Some text) nothing long = omega (arith, nothing.0, long)
+
+-- what was held and has an answer needn't be refused
+need_not :
+    (query : Query) (content : Option (List ℕ)) (text : List ℕ) (own : Status) (written : List ℕ)
+    → MustRefuse query content → content ≡ Some text → length text ≤ file_limit → AnswersQuery query text own written → ⊥
+need_not query None text own written must is within gives = must
+need_not query (Some other) text own written must is within gives = by must
+  where
+    same : other ≡ text
+    same = same_Some other text is
+
+    by : (file_limit < length other) ⊎ ((words : List (List ℕ)) × IsRefused query other words) → ⊥
+    by (inl long) = omega (arith, long, within, ap length same)
+    by (inr refuses) = never_both query text own written refuses.0 gives (subst (λ t. IsRefused query t refuses.0) same refuses.1)
+
+-- a held file gives what is wanted
+held_gives :
+    (query : Query) (content : Option (List ℕ)) (text : List ℕ) (own : Status) (written : List ℕ) → content ≡ Some text → AnswersQuery query text own written
+    → IsSomeAnd content (λ t. (w : List ℕ) × AnswersQuery query t own w)
+held_gives query None text own written is gives = absurd (none-some text is)
+held_gives query (Some other) text own written is gives = (written, subst (λ t. AnswersQuery query t own written) (sym (same_Some other text is)) gives)
+
+-- a file of events needn't be refused
+need_no_refusal :
+    (content : Option (List ℕ)) (bytes : List ℕ) (script : EventFile) → MustRefuseScript content → content ≡ Some bytes → length bytes ≤ file_limit
+    → IsEventFile bytes script → ⊥
+need_no_refusal None bytes script must is within file = must
+need_no_refusal (Some other) bytes script must is within file = by must
+  where
+    same : other ≡ bytes
+    same = same_Some other bytes is
+
+    by : (file_limit < length other) ⊎ ((fault : ScriptError) × IsFirstFault other fault) → ⊥
+    by (inl long) = omega (arith, long, within, ap length same)
+    by (inr first) = scripts.never_both bytes script first.0 file (subst (λ b. IsFirstFault b first.0) same first.1)
+
+-- what was written of a description that gave an answer
+pub record WroteAnswer (files : Option Files) (file : List ℕ) (query : Query) (own : Status) (taken taken' : Option (List ℕ)) : Type 0 where
+  pub text : List ℕ
+  pub written : List ℕ
+  pub told : HoldsFile files file text
+  pub within : length text ≤ file_limit
+  pub gives : AnswersQuery query text own written
+  pub wrote : taken' ≡ with_bytes taken written
+
+-- a failed fetch is noted
+unread_script : (name : List ℕ) → failed_names (fetch_of name Failed ∷ []) ≡ [] → ⊥
+unread_script name none = cc
+
+module _ (files : Option Files) (taken taken' : Option (List ℕ)) where
+  given_answer :
+      (file : List ℕ) (query : Query) (given : Fetched) (own : Status) (text : List ℕ) (due : Status) → IsGiven due
+      → DescriptionAnswers file query given own text → own ≡ due
+      → Gave files (fetch_of file given) → taken' ≡ with_bytes taken text → WroteAnswer files file query due taken taken'
+  given_answer file query _ _ _ _ well cannot_read is gave took = cc
+  given_answer file query _ _ _ _ with_denial cannot_read is gave took = cc
+  given_answer file query _ _ _ _ well is_too_long is gave took = cc
+  given_answer file query _ _ _ _ with_denial is_too_long is gave took = cc
+  given_answer file query _ _ _ _ well (refused text why refuses) is gave took = cc
+  given_answer file query _ _ _ _ with_denial (refused text why refuses) is gave took = cc
+  given_answer file query _ _ _ due plain (answered text own written gives) is gave took =
+      record {
+        text = text;
+        written = written;
+        told = held_told files file text gave;
+        within = held_within files file text gave;
+        gives = subst (λ s. AnswersQuery query text s written) is gives;
+        wrote = took;
+      }
+
+  of_refusal :
+      (file : List ℕ) (query : Query) (given : Fetched) (own : Status) (text : List ℕ) → DescriptionAnswers file query given own text → own ≡ status.Description
+      → Gave files (fetch_of file given) → taken' ≡ with_bytes taken text → Refused files file query taken taken'
+  of_refusal file query _ _ _ cannot_read is gave took = cc
+  of_refusal file query _ _ _ is_too_long is gave took = too_long (long_told files file gave) took
+  of_refusal file query _ _ _ (refused text why refuses) is gave took =
+      at_fault text why (held_told files file text gave) (held_within files file text gave) refuses took
+  of_refusal file query _ _ _ (answered text own written gives) is gave took = by (gives_status query text own written gives)
+    where
+      by : (own ≡ status.Ok) ⊎ (own ≡ status.Denied) → Refused files file query taken taken'
+      by (inl ok) = cc (ok, is)
+      by (inr denial) = cc (denial, is)
+
+  of_script_refusal :
+      (name : List ℕ) (given : Fetched) (own : Status) (text : List ℕ) → ScriptAnswers name given own text → own ≡ status.Script
+      → Gave files (fetch_of name given) → taken' ≡ with_bytes taken text → ScriptRefused files name taken taken'
+  of_script_refusal name _ _ _ cannot_read_script is gave took = cc
+  of_script_refusal name _ _ _ script_too_long is gave took = events_too_long (long_told files name gave) took
+  of_script_refusal name _ _ _ (script_at_fault bytes fault first) is gave took =
+      events_at_fault bytes fault (held_told files name bytes gave) (held_within files name bytes gave) first took
+
+  no_script_status : (file : List ℕ) (query : Query) (given : Fetched) (own : Status) (text : List ℕ) → DescriptionAnswers file query given own text → own ≢ status.Script
+  no_script_status file query _ _ _ cannot_read is = cc
+  no_script_status file query _ _ _ is_too_long is = cc
+  no_script_status file query _ _ _ (refused text why refuses) is = cc
+  no_script_status file query _ _ _ (answered text own written gives) is = by (gives_status query text own written gives)
+    where
+      by : (own ≡ status.Ok) ⊎ (own ≡ status.Denied) → ⊥
+      by (inl ok) = cc (ok, is)
+      by (inr denial) = cc (denial, is)
+
+  script_not_given : (name : List ℕ) (given : Fetched) (own : Status) (text : List ℕ) (due : Status) → IsGiven due → ScriptAnswers name given own text → own ≢ due
+  script_not_given name _ _ _ _ well cannot_read_script is = cc
+  script_not_given name _ _ _ _ with_denial cannot_read_script is = cc
+  script_not_given name _ _ _ _ well script_too_long is = cc
+  script_not_given name _ _ _ _ with_denial script_too_long is = cc
+  script_not_given name _ _ _ _ well (script_at_fault bytes fault first) is = cc
+  script_not_given name _ _ _ _ with_denial (script_at_fault bytes fault first) is = cc
+
+  script_not_description : (name : List ℕ) (given : Fetched) (own : Status) (text : List ℕ) → ScriptAnswers name given own text → own ≢ status.Description
+  script_not_description name _ _ _ cannot_read_script is = cc
+  script_not_description name _ _ _ script_too_long is = cc
+  script_not_description name _ _ _ (script_at_fault bytes fault first) is = cc
+
+  -- a replay that gave an answer
+  of_replay :
+      (file name : List ℕ) (fetches : List Fetch) (own : Status) (text : List ℕ) (due : Status) → IsGiven due → OfReplay file name fetches own text → own ≡ due
+      → AllByRecursion (Gave files) fetches → taken' ≡ with_bytes taken text → Replayed files file name due taken taken'
+  of_replay file name fetches own text due plain r is told took =
+      let each = subst (AllByRecursion (Gave files)) r.is told in
+      let w = given_answer file (queries.Replay r.script) r.given own text due plain r.answer is each.1.0 took in
+      record {
+        bytes = r.bytes;
+        script = r.script;
+        told_events = held_told files name r.bytes each.0;
+        within_events = held_within files name r.bytes each.0;
+        is_script = r.is_script;
+        text = w.text;
+        written = w.written;
+        told = w.told;
+        within = w.within;
+        has_replay = w.gives;
+        wrote = w.wrote;
+      }
+
+  of_one :
+      (file : List ℕ) (query : Query) (fetches : List Fetch) (own : Status) (text : List ℕ) (due : Status) → IsGiven due → OfDescription file query fetches own text
+      → own ≡ due → AllByRecursion (Gave files) fetches → taken' ≡ with_bytes taken text → WroteAnswer files file query due taken taken'
+  of_one file query fetches own text due plain d is told took =
+      let each = subst (AllByRecursion (Gave files)) d.is told in
+      given_answer file query d.given own text due plain d.answer is each.0 took
+
+module _ (words : List (List ℕ)) (files : Option Files) (failures failures' : List (List ℕ)) (taken taken' : Option (List ℕ)) (faults faults' : ℕ) (result : Status) (run : Ran words files failures failures' taken taken' faults faults' result) where
+  -- ---- what Ok and Denied say
+
+  -- of an answer that ends as due, and not for want of memory
+  found :
+      (command : Command) (due : Status) → IsGiven due → Asks words command → result ≡ due
+      → (Answer command run.fetches run.own run.text × (run.own ≡ due)) × (taken' ≡ with_bytes taken run.text)
+  found command due plain asks is = by result run.written is plain
+    where
+      own : Answer command run.fetches run.own run.text ⊎ (run.own ≡ status.NoMemory) → (d : Status) → IsGiven d → run.own ≡ d
+          → Answer command run.fetches run.own run.text × (run.own ≡ d)
+      own (inl answer) d plain is = (answer, is)
+      own (inr memory) d plain is = absurd (memory_not_given run.own d plain memory is)
+
+      by : (r : Status) → Written run.own run.text taken taken' faults faults' r → r ≡ due → IsGiven due
+          → (Answer command run.fetches run.own run.text × (run.own ≡ due)) × (taken' ≡ with_bytes taken run.text)
+      by _ (whole took steady) is plain = (own (of_words words command run.fetches run.own run.text asks run.answers) due plain is, took)
+      by _ (stopped n short took rose) is plain = absurd (write_fault_not_given due plain is)
+
+  pub flattens : (file : List ℕ) (call : TopCall) → Asks words (commands.Flat file call) → result ≡ status.Ok → Flattened files file call taken taken'
+  flattens file call asks is =
+      let f = found (commands.Flat file call) status.Ok well asks is in
+      let w = of_one files taken taken' file (queries.Graph call) run.fetches run.own run.text status.Ok well f.0.0 f.0.1 run.told f.1 in
+      record {
+        text = w.text;
+        graph = w.gives.1.0;
+        told = w.told;
+        within = w.within;
+        has_graph = w.gives.1.1;
+        written = w.wrote ∙ ap (with_bytes taken) w.gives.1.2;
+      }
+
+  pub plans :
+      (file : List ℕ) (call target : TopCall) → Asks words (commands.Plan file call target) → result ≡ status.Ok
+      → Planned files file call target taken taken'
+  plans file call target asks is =
+      let f = found (commands.Plan file call target) status.Ok well asks is in
+      let w = of_one files taken taken' file (queries.Plan call target) run.fetches run.own run.text status.Ok well f.0.0 f.0.1 run.told f.1 in
+      record {
+        text = w.text;
+        plan = w.written;
+        told = w.told;
+        within = w.within;
+        has_plan = w.gives.1;
+        written = w.wrote;
+      }
+
+  replays_with : (file name : List ℕ) (due : Status) → IsGiven due → Asks words (commands.Replay file name) → result ≡ due → Replayed files file name due taken taken'
+  replays_with file name due plain asks is = by (found (commands.Replay file name) due plain asks is)
+    where
+      by : (Answer (commands.Replay file name) run.fetches run.own run.text × (run.own ≡ due)) × (taken' ≡ with_bytes taken run.text) → Replayed files file name due taken taken'
+      by ((inl s, is), took) = absurd (script_not_given files taken taken' name s.given run.own run.text due plain s.answer is)
+      by ((inr r, is), took) = of_replay files taken taken' file name run.fetches run.own run.text due plain r is run.told took
+
+  pub replays : (file name : List ℕ) → Asks words (commands.Replay file name) → result ≡ status.Ok → Replayed files file name status.Ok taken taken'
+  replays file name asks is = replays_with file name status.Ok well asks is
+
+  -- only `replay` is denied
+  pub denies : result ≡ status.Denied → (file name : List ℕ) × Asks words (commands.Replay file name) × Replayed files file name status.Denied taken taken'
+  denies is = by result run.written is
+    where
+      of : (command : Command) → Asks words command → Answer command run.fetches run.own run.text → run.own ≡ status.Denied → taken' ≡ with_bytes taken run.text
+          → (file name : List ℕ) × Asks words (commands.Replay file name) × Replayed files file name status.Denied taken taken'
+      of commands.Help asks answer is took = absurd (not_two run.own status.Ok status.Denied answer.0 is ok_denied)
+      of commands.Version asks answer is took = absurd (not_two run.own status.Ok status.Denied answer.0 is ok_denied)
+      of (commands.Flat file call) asks answer is took =
+          absurd (ok_denied (sym ((of_one files taken taken' file (queries.Graph call) run.fetches run.own run.text status.Denied with_denial answer is run.told took).gives.0)))
+      of (commands.Plan file call target) asks answer is took =
+          absurd (ok_denied (sym ((of_one files taken taken' file (queries.Plan call target) run.fetches run.own run.text status.Denied with_denial answer is run.told took).gives.0)))
+      of (commands.Replay file name) asks (inl s) is took = absurd (script_not_given files taken taken' name s.given run.own run.text status.Denied with_denial s.answer is)
+      of (commands.Replay file name) asks (inr r) is took =
+          (file, name, asks, of_replay files taken taken' file name run.fetches run.own run.text status.Denied with_denial r is run.told took)
+
+      own : (fetches : List Fetch) (s : Status) (text : List ℕ) → AnswersCommand words fetches s text → s ≡ status.Denied
+          → ((command : Command) → Asks words command → Answer command fetches s text → s ≡ status.Denied
+          → (file name : List ℕ) × Asks words (commands.Replay file name) × Replayed files file name status.Denied taken taken')
+          → (file name : List ℕ) × Asks words (commands.Replay file name) × Replayed files file name status.Denied taken taken'
+      own _ _ _ (no_form none) is go = absurd (usage_denied is)
+      own _ _ _ (answered_to command fetches s text asks to) is go = go command asks to is
+      own _ _ _ (no_memory fetches) is go = absurd (memory_denied is)
+
+      by : (r : Status) → Written run.own run.text taken taken' faults faults' r → r ≡ status.Denied
+          → (file name : List ℕ) × Asks words (commands.Replay file name) × Replayed files file name status.Denied taken taken'
+      by _ (whole took steady) is = own run.fetches run.own run.text run.answers is (λ command asks answer same. of command asks answer same took)
+      by _ (stopped n short took rose) is = absurd (write_fault_denied is)
+
+  -- ---- what Description and Script say
+
+  pub refuses : result ≡ status.Description → (file : List ℕ) × (query : Query) × Wants files words file query × Refused files file query taken taken'
+  refuses is = by result run.written is
+    where
+      of : (command : Command) (fetches : List Fetch) (own : Status) (text : List ℕ) → Asks words command → Answer command fetches own text → own ≡ status.Description
+          → AllByRecursion (Gave files) fetches → taken' ≡ with_bytes taken text
+          → (file : List ℕ) × (query : Query) × Wants files words file query × Refused files file query taken taken'
+      of commands.Help fetches own text asks answer is told took = absurd (not_two own status.Ok status.Description answer.0 is ok_description)
+      of commands.Version fetches own text asks answer is told took = absurd (not_two own status.Ok status.Description answer.0 is ok_description)
+      of (commands.Flat file call) fetches own text asks answer is told took =
+          let each = subst (AllByRecursion (Gave files)) answer.is told in
+          (file, queries.Graph call, asks, of_refusal files taken taken' file (queries.Graph call) answer.given own text answer.answer is each.0 took)
+      of (commands.Plan file call target) fetches own text asks answer is told took =
+          let each = subst (AllByRecursion (Gave files)) answer.is told in
+          (file, queries.Plan call target, asks, of_refusal files taken taken' file (queries.Plan call target) answer.given own text answer.answer is each.0 took)
+      of (commands.Replay file name) fetches own text asks (inl s) is told took = absurd (script_not_description files taken taken' name s.given own text s.answer is)
+      of (commands.Replay file name) fetches own text asks (inr r) is told took =
+          let each = subst (AllByRecursion (Gave files)) r.is told in (
+            file,
+            queries.Replay r.script,
+            (name, r.bytes, asks, held_told files name r.bytes each.0, held_within files name r.bytes each.0, r.is_script),
+            of_refusal files taken taken' file (queries.Replay r.script) r.given own text r.answer is each.1.0 took,
+          )
+
+      own : (fetches : List Fetch) (s : Status) (text : List ℕ) → AnswersCommand words fetches s text → s ≡ status.Description → AllByRecursion (Gave files) fetches
+          → taken' ≡ with_bytes taken text → (file : List ℕ) × (query : Query) × Wants files words file query × Refused files file query taken taken'
+      own _ _ _ (no_form none) is told took = absurd (usage_description is)
+      own _ _ _ (answered_to command fetches s text asks to) is told took = of command fetches s text asks to is told took
+      own _ _ _ (no_memory fetches) is told took = absurd (memory_description is)
+
+      by : (r : Status) → Written run.own run.text taken taken' faults faults' r → r ≡ status.Description
+          → (file : List ℕ) × (query : Query) × Wants files words file query × Refused files file query taken taken'
+      by _ (whole took steady) is = own run.fetches run.own run.text run.answers is run.told took
+      by _ (stopped n short took rose) is = absurd (write_fault_description is)
+
+  pub script : result ≡ status.Script → (file name : List ℕ) × Asks words (commands.Replay file name) × ScriptRefused files name taken taken'
+  script is = by result run.written is
+    where
+      of : (command : Command) (fetches : List Fetch) (own : Status) (text : List ℕ) → Asks words command → Answer command fetches own text → own ≡ status.Script
+          → AllByRecursion (Gave files) fetches → taken' ≡ with_bytes taken text → (file name : List ℕ) × Asks words (commands.Replay file name) × ScriptRefused files name taken taken'
+      of commands.Help fetches own text asks answer is told took = absurd (not_two own status.Ok status.Script answer.0 is ok_script)
+      of commands.Version fetches own text asks answer is told took = absurd (not_two own status.Ok status.Script answer.0 is ok_script)
+      of (commands.Flat file call) fetches own text asks answer is told took =
+          absurd (no_script_status files taken taken' file (queries.Graph call) answer.given own text answer.answer is)
+      of (commands.Plan file call target) fetches own text asks answer is told took =
+          absurd (no_script_status files taken taken' file (queries.Plan call target) answer.given own text answer.answer is)
+      of (commands.Replay file name) fetches own text asks (inl s) is told took =
+          let each = subst (AllByRecursion (Gave files)) s.is told in
+          (file, name, asks, of_script_refusal files taken taken' name s.given own text s.answer is each.0 took)
+      of (commands.Replay file name) fetches own text asks (inr r) is told took =
+          absurd (no_script_status files taken taken' file (queries.Replay r.script) r.given own text r.answer is)
+
+      own : (fetches : List Fetch) (s : Status) (text : List ℕ) → AnswersCommand words fetches s text → s ≡ status.Script → AllByRecursion (Gave files) fetches
+          → taken' ≡ with_bytes taken text → (file name : List ℕ) × Asks words (commands.Replay file name) × ScriptRefused files name taken taken'
+      own _ _ _ (no_form none) is told took = absurd (usage_script is)
+      own _ _ _ (answered_to command fetches s text asks to) is told took = of command fetches s text asks to is told took
+      own _ _ _ (no_memory fetches) is told took = absurd (memory_script is)
+
+      by : (r : Status) → Written run.own run.text taken taken' faults faults' r → r ≡ status.Script
+          → (file name : List ℕ) × Asks words (commands.Replay file name) × ScriptRefused files name taken taken'
+      by _ (whole took steady) is = own run.fetches run.own run.text run.answers is run.told took
+      by _ (stopped n short took rose) is = absurd (write_fault_script is)
+
+  -- ---- which status must come, where the shelf tells its files and no fetch failed
+
+  module _ (f : Files) (telling : files ≡ Some f) (steady : failures' ≡ failures) where
+    none_failed : failed_names run.fetches ≡ []
+    none_failed = none_added failures (failed_names run.fetches) (sym steady ∙ run.noted)
+
+    told : AllByRecursion (Gave (Some f)) run.fetches
+    told = subst (λ fs. AllByRecursion (Gave fs) run.fetches) telling run.told
+
+    -- the status of an answer to a command is the run's, unless memory ran out or the sink failed
+    ends :
+        (command : Command) (due : Status) → Asks words command
+        → (Answer command run.fetches run.own run.text → run.own ≡ due) → Ends result due
+    ends command due asks of_answer = by result run.written
+      where
+        own : Answer command run.fetches run.own run.text ⊎ (run.own ≡ status.NoMemory) → Ends run.own due
+        own (inl answer) = inl (of_answer answer)
+        own (inr memory) = inr (inl memory)
+
+        by : (r : Status) → Written run.own run.text taken taken' faults faults' r → Ends r due
+        by _ (whole took same) = own (of_words words command run.fetches run.own run.text asks run.answers)
+        by _ (stopped n short took rose) = inr (inr refl)
+
+    -- the description of an answer to what is wanted of it
+    described :
+        (file : List ℕ) (query : Query) (Due : Status → Type 0)
+        → ((given : Fetched) (own : Status) (text : List ℕ) → DescriptionAnswers file query given own text → failed_names (fetch_of file given ∷ []) ≡ []
+        → Gave (Some f) (fetch_of file given) → Due own)
+        → (fetches : List Fetch) (own : Status) (text : List ℕ) → OfDescription file query fetches own text → failed_names fetches ≡ []
+        → AllByRecursion (Gave (Some f)) fetches → Due own
+    described file query Due of_answer fetches own text d none each =
+        of_answer d.given own text d.answer (sym (ap failed_names d.is) ∙ none) ((subst (AllByRecursion (Gave (Some f))) d.is each).0)
+
+    script_is_one :
+        (name bytes : List ℕ) (file : EventFile) (given : Fetched) (own : Status) (text : List ℕ) → f name ≡ Some bytes → length bytes ≤ file_limit → IsEventFile bytes file
+        → ScriptAnswers name given own text → failed_names (fetch_of name given ∷ []) ≡ [] → Gave (Some f) (fetch_of name given) → ⊥
+    script_is_one name bytes file _ _ _ is within is_file cannot_read_script none gave = unread_script name none
+    script_is_one name bytes file _ _ _ is within is_file script_too_long none gave = within_not_long (f name) bytes is within gave.1
+    script_is_one name bytes file _ _ _ is within is_file (script_at_fault other fault first) none gave =
+        scripts.never_both bytes file fault is_file (subst (λ b. IsFirstFault b fault) (same_content (f name) other bytes gave.1 is) first)
+
+    -- the same of a file of events, which the shelf tells
+    of_script :
+        (file name bytes : List ℕ) (script_ : EventFile) (Due : Status → Type 0) → f name ≡ Some bytes → length bytes ≤ file_limit → IsEventFile bytes script_
+        → ((given : Fetched) (own : Status) (text : List ℕ) → DescriptionAnswers file (queries.Replay script_) given own text → failed_names (fetch_of file given ∷ []) ≡ []
+        → Gave (Some f) (fetch_of file given) → Due own)
+        → (fetches : List Fetch) (own : Status) (text : List ℕ) → OfScript name fetches own text ⊎ OfReplay file name fetches own text → failed_names fetches ≡ []
+        → AllByRecursion (Gave (Some f)) fetches → Due own
+    of_script file name bytes script_ Due is within is_file of_answer fetches own text (inl s) none each =
+        absurd (script_is_one name bytes script_ s.given own text is within is_file s.answer (sym (ap failed_names s.is) ∙ none)
+        ((subst (AllByRecursion (Gave (Some f))) s.is each).0))
+    of_script file name bytes script_ Due is within is_file of_answer fetches own text (inr r) none each =
+        let gave = subst (AllByRecursion (Gave (Some f))) r.is each in
+        let same_bytes = same_content (f name) r.bytes bytes gave.0.1 is in
+        let same_script = scripts.one_file bytes r.script script_ (subst (λ b. IsEventFile b r.script) same_bytes r.is_script) is_file in
+        of_answer r.given own text (subst (λ t. DescriptionAnswers file (queries.Replay t) r.given own text) same_script r.answer)
+        (sym (ap failed_names r.is) ∙ none) gave.1.0
+
+    -- whatever is wanted
+    wanted_ends :
+        (file : List ℕ) (query : Query) (due : Status) → Wants (Some f) words file query
+        → ((given : Fetched) (own : Status) (text : List ℕ) → DescriptionAnswers file query given own text → failed_names (fetch_of file given ∷ []) ≡ []
+        → Gave (Some f) (fetch_of file given) → own ≡ due)
+        → Ends result due
+    wanted_ends file (queries.Graph call) due wants of_answer =
+        ends (commands.Flat file call) due wants
+        (λ answer. described file (queries.Graph call) (λ s. s ≡ due) of_answer run.fetches run.own run.text answer none_failed told)
+    wanted_ends file (queries.Plan call target) due wants of_answer =
+        ends (commands.Plan file call target) due wants
+        (λ answer. described file (queries.Plan call target) (λ s. s ≡ due) of_answer run.fetches run.own run.text answer none_failed told)
+    wanted_ends file (queries.Replay script_) due wants of_answer =
+        ends (commands.Replay file wants.0) due wants.2
+        (λ answer. of_script file wants.0 wants.1 script_ (λ s. s ≡ due) wants.3 wants.4 wants.5 of_answer run.fetches run.own run.text answer none_failed told)
+
+    pub must_refuse : (file : List ℕ) (query : Query) → Wants (Some f) words file query → MustRefuse query (f file) → Ends result status.Description
+    must_refuse file query wants must = wanted_ends file query status.Description wants of_answer
+      where
+        of_answer :
+            (given : Fetched) (own : Status) (text : List ℕ) → DescriptionAnswers file query given own text → failed_names (fetch_of file given ∷ []) ≡ []
+            → Gave (Some f) (fetch_of file given) → own ≡ status.Description
+        of_answer _ _ _ cannot_read none gave = absurd (unread_script file none)
+        of_answer _ _ _ is_too_long none gave = refl
+        of_answer _ _ _ (refused text why refuses) none gave = refl
+        of_answer _ _ _ (answered text own written gives) none gave = absurd (need_not query (f file) text own written must gave.1 gave.0 gives)
+
+    pub answers_as :
+        (file : List ℕ) (query : Query) (text : List ℕ) (own : Status) (written : List ℕ) → Wants (Some f) words file query → f file ≡ Some text
+        → length text ≤ file_limit → AnswersQuery query text own written → Ends result own
+    answers_as file query text due written wants holds within gives = wanted_ends file query due wants of_answer
+      where
+        of_answer :
+            (given : Fetched) (own : Status) (other : List ℕ) → DescriptionAnswers file query given own other → failed_names (fetch_of file given ∷ []) ≡ []
+            → Gave (Some f) (fetch_of file given) → own ≡ due
+        of_answer _ _ _ cannot_read none gave = absurd (unread_script file none)
+        of_answer _ _ _ is_too_long none gave = absurd (within_not_long (f file) text holds within gave.1)
+        of_answer _ _ _ (refused other why refuses) none gave =
+            absurd (never_both query text due written why gives (subst (λ t. IsRefused query t why) (same_content (f file) other text gave.1 holds) refuses))
+        of_answer _ _ _ (answered other own also gave_) none gave =
+            gives_one query text own due also written (subst (λ t. AnswersQuery query t own also) (same_content (f file) other text gave.1 holds) gave_) gives
+
+    pub every_script :
+        (file name : List ℕ) → Asks words (commands.Replay file name) → MustRefuseScript (f name) → Ends result status.Script
+    every_script file name asks must = ends (commands.Replay file name) status.Script asks of_answer
+      where
+        of : (given : Fetched) (own : Status) (text : List ℕ) → ScriptAnswers name given own text → failed_names (fetch_of name given ∷ []) ≡ [] → own ≡ status.Script
+        of _ _ _ cannot_read_script none = absurd (unread_script name none)
+        of _ _ _ script_too_long none = refl
+        of _ _ _ (script_at_fault bytes fault first) none = refl
+
+        of_answer : Answer (commands.Replay file name) run.fetches run.own run.text → run.own ≡ status.Script
+        of_answer (inl s) = of s.given run.own run.text s.answer (sym (ap failed_names s.is) ∙ none_failed)
+        of_answer (inr r) =
+            let gave = subst (AllByRecursion (Gave (Some f))) r.is told in
+            absurd (need_no_refusal (f name) r.bytes r.script must gave.0.1 gave.0.0 r.is_script)
+
+    -- ---- where nothing refuses the description
+
+    -- what must come of an answer where the file gives what is wanted
+    AsGiven : (file : List ℕ) (query : Query) → Status → Type 0
+    AsGiven file query own = IsSomeAnd (f file) (λ text. (written : List ℕ) × AnswersQuery query text own written)
+
+    given_end :
+        (file : List ℕ) (query : Query) (command : Command) → Asks words command
+        → (Answer command run.fetches run.own run.text → AsGiven file query run.own) → EndsAsGiven query (f file) result
+    unfolding AsGiven
+    given_end file query command asks of_answer = by result run.written
+      where
+        own : Answer command run.fetches run.own run.text ⊎ (run.own ≡ status.NoMemory) → EndsAsGiven query (f file) run.own
+        own (inl answer) = inl (of_answer answer)
+        own (inr memory) = inr (inl memory)
+
+        by : (r : Status) → Written run.own run.text taken taken' faults faults' r → EndsAsGiven query (f file) r
+        by _ (whole took same) = own (of_words words command run.fetches run.own run.text asks run.answers)
+        by _ (stopped n short took rose) = inr (inr refl)
+
+    completes_with :
+        (file : List ℕ) (query : Query) → NothingRefuses query (f file)
+        → (given : Fetched) (own : Status) (text : List ℕ) → DescriptionAnswers file query given own text → failed_names (fetch_of file given ∷ []) ≡ []
+        → Gave (Some f) (fetch_of file given) → AsGiven file query own
+    unfolding AsGiven
+    completes_with file query nothing _ _ _ cannot_read none gave = absurd (unread_script file none)
+    completes_with file query nothing _ _ _ is_too_long none gave = absurd (not_too_long query (f file) nothing gave.1)
+    completes_with file query nothing _ _ _ (refused text why refuses) none gave = absurd (none_refuses query (f file) text why nothing gave.1 refuses)
+    completes_with file query nothing _ _ _ (answered text own written gives) none gave = held_gives query (f file) text own written gave.1 gives
+
+    pub completes : (file : List ℕ) (query : Query) → Wants (Some f) words file query → NothingRefuses query (f file) → EndsAsGiven query (f file) result
+    completes file (queries.Graph call) wants nothing =
+        given_end file (queries.Graph call) (commands.Flat file call) wants
+        (λ answer. described file (queries.Graph call) (AsGiven file (queries.Graph call)) (completes_with file (queries.Graph call) nothing) run.fetches run.own run.text answer none_failed told)
+    completes file (queries.Plan call target) wants nothing =
+        given_end file (queries.Plan call target) (commands.Plan file call target) wants
+        (λ answer. described file (queries.Plan call target) (AsGiven file (queries.Plan call target)) (completes_with file (queries.Plan call target) nothing) run.fetches run.own run.text answer none_failed told)
+    completes file (queries.Replay script_) wants nothing =
+        given_end file (queries.Replay script_) (commands.Replay file wants.0) wants.2
+        (λ answer. of_script file wants.0 wants.1 script_ (AsGiven file (queries.Replay script_)) wants.3 wants.4 wants.5 (completes_with file (queries.Replay script_) nothing)
+        run.fetches run.own run.text answer none_failed told)
+
+    -- ---- clauses of one command
+
+    pub every_graph :
+        (file : List ℕ) (call : TopCall) (text : List ℕ) (graph : Graph) → Asks words (commands.Flat file call) → f file ≡ Some text
+        → length text ≤ file_limit → HasGraph text call.top call.args graph → Ends result status.Ok
+    every_graph file call text graph asks holds within has =
+        answers_as file (queries.Graph call) text status.Ok (graph_text graph) asks holds within (refl, (graph, has, refl))
+
+    pub every_denial :
+        (file : List ℕ) (script_ : EventFile) (text : List ℕ) (graph : Graph) (number rule : ℕ) → Wants (Some f) words file (queries.Replay script_)
+        → f file ≡ Some text → length text ≤ file_limit → Starts text script_.name script_.args graph → IsDenied (started graph) script_.events number rule
+        → Ends result status.Denied
+    every_denial file script_ text graph number rule wants holds within starts is =
+        answers_as file (queries.Replay script_) text status.Denied (denied_line number rule) wants holds within
+        (record {
+          graph = graph;
+          starts = starts;
+          replays = record { answer = denied number rule; is = one_denied number rule is; has_status = refl; has_text = refl };
+        })

@@ -1,0 +1,13 @@
+pub mod CourseLaws
+pub mod Courses
+pub mod Ending
+pub mod FailureLaws
+pub mod Flattening
+pub mod Inverting
+pub mod OneAnswer
+pub mod Planning
+pub mod Readings
+pub mod RunLaws
+pub mod Statuses
+pub mod Telling
+pub mod Wanting

@@ -1,0 +1,14 @@
+use Rattle.std.proofs.Common.{Some, refl}
+use Rattle.command_runs.proofs.Flattening as flattening
+use Rattle.command_runs.proofs.Inverting.{ran}
+use Rattle.command_runs.proofs.laws.what_is_not_refused_is_answered.Goals as goal
+
+pub returns : goal.returns
+returns c = record {
+  complete = λ words files failures failures' taken taken' faults faults' result run steady file query. flattening.completes words (Some files) failures failures' taken taken' faults faults' result
+      (ran words (Some files) failures failures' taken taken' faults faults' result run) files refl steady file query;
+  every_answer = λ words files failures failures' taken taken' faults faults' result run steady file query text own written. flattening.answers_as words (Some files) failures failures' taken taken' faults faults' result
+      (ran words (Some files) failures failures' taken taken' faults faults' result run) files refl steady file query text own written;
+  every_graph = λ words files failures failures' taken taken' faults faults' result run steady file call text graph. flattening.every_graph words (Some files) failures failures' taken taken' faults faults' result
+      (ran words (Some files) failures failures' taken taken' faults faults' result run) files refl steady file call text graph;
+}

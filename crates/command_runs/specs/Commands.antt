@@ -1,0 +1,46 @@
+-- The course of each command. A command that names components of one description is as the lines that use its file
+-- and then call them.
+use Rattle.std.specs.Prelude.{◌≡◌, ℕ, List, [], ◌∷◌}
+use Rattle.change_script.specs.EventFiles.{IsEventFile, IsFirstFault}
+use Rattle.change_script.specs.declared.error.ScriptError.{ScriptError}
+use Rattle.command_answers.specs.Answers.{refusal, script, help, version}
+use Rattle.command_answers.specs.RefusalLines.{script_words}
+use Rattle.command_words.specs.declared.words.Command.{Command}
+use Rattle.command_words.specs.declared.words.Command.TheVariants as commands
+use Rattle.command_runs.specs.declared.query.Query.{Query}
+use Rattle.command_runs.specs.declared.query.Query.TheVariants as queries
+use Rattle.command_runs.specs.Courses.{Course, Says, AfterFetch, After}
+use Rattle.command_runs.specs.Fetches.{file_limit}
+use Rattle.command_runs.specs.Lines.{Line, uses, calls, draws, starts, changes, Aim, drawing, planning, replaying, begun, Follows}
+
+abbrev pub aim_of : Query → Aim
+aim_of (queries.Graph call) = drawing
+aim_of (queries.Plan call target) = planning
+aim_of (queries.Replay events) = replaying events.events
+
+-- Of a graph the component is drawn. For a plan a run starts with the first component and changes to the second,
+-- without moves; and events begin with a start.
+abbrev pub calls_of : Query → List Line
+calls_of (queries.Graph call) = calls draws call.top call.args ∷ []
+calls_of (queries.Plan call target) =
+    calls starts call.top call.args ∷ calls (changes []) target.top target.args ∷ []
+calls_of (queries.Replay events) = calls starts events.name events.args ∷ []
+
+-- what is wanted of the description in a file
+abbrev pub course_of_query : List ℕ → Query → Course
+course_of_query file query = Follows (aim_of query) begun (uses file ∷ calls_of query)
+
+-- the words of what refuses a file of events
+abbrev pub RefusesEvents : List ℕ → List (List ℕ) → Type 0
+RefusesEvents bytes words = (fault : ScriptError) × IsFirstFault bytes fault × (words ≡ script_words fault)
+
+abbrev pub course_of : Command → Course
+course_of commands.Help = Says help
+course_of commands.Version = Says version
+course_of (commands.Flat file call) = course_of_query file (queries.Graph call)
+course_of (commands.Plan file call target) = course_of_query file (queries.Plan call target)
+course_of (commands.Replay file name) =
+    let refuse = λ (words : List (List ℕ)). refusal (script name words) in
+    AfterFetch name file_limit refuse
+    (λ bytes. After (RefusesEvents bytes) refuse (IsEventFile bytes)
+    (λ events. course_of_query file (queries.Replay events)))

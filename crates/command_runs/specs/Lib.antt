@@ -1,0 +1,12 @@
+pub mod Commands
+pub mod Courses
+pub mod Descriptions
+pub mod Failures
+pub mod Fetches
+pub mod Lines
+pub mod OneFile
+pub mod Outcomes
+pub mod Plans
+pub mod Queries
+pub mod Replays
+pub mod Runs

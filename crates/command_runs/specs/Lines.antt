@@ -1,0 +1,124 @@
+-- What a run does line by line, whether the lines are those of a script or stand for the words of a command: which
+-- description is used from there on, and which graph is drawn, started, or changed to.
+use Rattle.std.specs.Prelude.{◌≡◌, ◌+◌, ℕ, ℤ, List, [], ◌∷◌, Option, Some, None, length}
+use Rattle.config_graph.specs.Graph.{Graph, ports}
+use Rattle.config_graph.specs.declared.node.Made.{Made}
+use Rattle.darwin_parser.specs.Tree.{Name, Tree}
+use Rattle.elaborator.specs.Faults.{Faults}
+use Rattle.elaborator.specs.declared.error.ElabError.{ElabError}
+use Rattle.quiesce_core.specs.Start.{started}
+use Rattle.quiesce_core.specs.declared.event.Event.{Event}
+use Rattle.change_plan.specs.Plans.{IsPlanOf}
+use Rattle.change_plan.specs.Refusals.{CanPlan, IsRefusal}
+use Rattle.change_plan.specs.Room.{HasRoomFor, LacksRoomFor}
+use Rattle.change_plan.specs.declared.error.PlanError.{PlanError}
+use Rattle.change_plan.specs.declared.plan_data.Move.{Move}
+use Rattle.change_plan.specs.declared.plan_data.Plan.{Plan}
+use Rattle.command_answers.specs.Answers.{Answer, refusal, description, graph, plan}
+use Rattle.command_answers.specs.RefusalLines.{elaborate_words, plan_words}
+use Rattle.command_runs.specs.Courses.{Course, Says, AfterFetch, After}
+use Rattle.command_runs.specs.Descriptions.{IsChecked, IsGraphOf, IsTextRefusal}
+use Rattle.command_runs.specs.Fetches.{file_limit}
+use Rattle.command_runs.specs.Replays.{IsReplayed}
+
+-- what is done with the graph of a component
+pub data Deed : Type 0 where
+  -- it is drawn, and nothing runs
+  draws : Deed
+  -- a run starts with it
+  starts : Deed
+  -- what runs is changed to it, and these states go on
+  changes : List Move → Deed
+
+pub data Line : Type 0 where
+  -- the lines below are of the description in this file
+  uses : (file : List ℕ) → Line
+  -- a component of it, with arguments
+  calls : Deed → (name : Name) → (args : List ℤ) → Line
+
+-- How far lines came: the file that was used last and the tree of its description; the graphs of the calls, the
+-- latest first; and what the run has made.
+pub record Progress : Type 0 where
+  pub file : List ℕ
+  pub used : Option Tree
+  pub graphs : List Graph
+  pub made : Made
+
+-- before the first line
+abbrev pub begun : Progress
+begun = record { file = []; used = None; graphs = []; made = record { nodes = 0; ports = 0 } }
+
+abbrev pub with_description : Progress → List ℕ → Tree → Progress
+with_description p file tree = record { file = file; used = Some tree; graphs = p.graphs; made = p.made }
+
+abbrev pub with_graph : Progress → Graph → Made → Progress
+with_graph p g made = record { file = p.file; used = p.used; graphs = g ∷ p.graphs; made = made }
+
+abbrev pub and_made : Made → ℕ → ℕ → Made
+and_made made nodes wanted_ports = record { nodes = made.nodes + nodes; ports = made.ports + wanted_ports }
+
+-- the deed can be done with the graph, and so much is made then
+abbrev pub Allows : Progress → Deed → Graph → Made → Type 0
+Allows p draws g made = made ≡ p.made
+Allows p starts g made = HasRoomFor p.made g × (made ≡ and_made p.made (length g.nodes) (length (ports g.nodes)))
+Allows p (changes moves) g made =
+    (old : Graph) × (earlier : List Graph) × (p.graphs ≡ old ∷ earlier)
+    × ((can : CanPlan old g moves p.made) × (made ≡ and_made p.made can.nodes can.ports))
+
+-- it can't be done, and these words say why
+abbrev pub Forbids : Progress → Deed → Graph → List (List ℕ) → Type 0
+Forbids p draws g words = ⊥
+Forbids p starts g words = (e : PlanError) × LacksRoomFor p.made g e × (words ≡ plan_words e)
+Forbids p (changes moves) g words =
+    (old : Graph) × (earlier : List Graph) × (p.graphs ≡ old ∷ earlier)
+    × ((e : PlanError) × IsRefusal old g moves p.made e × (words ≡ plan_words e))
+
+-- how far a call leads
+pub record Leads (p : Progress) (deed : Deed) (name : Name) (args : List ℤ) (next : Progress) : Type 0 where
+  pub tree : Tree
+  pub is_used : p.used ≡ Some tree
+  pub graph : Graph
+  pub is_graph : IsGraphOf tree name args graph
+  pub made : Made
+  pub allowed : Allows p deed graph made
+  pub is_next : next ≡ with_graph p graph made
+
+-- the words of why a call leads nowhere: a fault of its elaboration, or else one of what is done with its graph
+pub data IsCallRefusal (p : Progress) (deed : Deed) (name : Name) (args : List ℤ) : List (List ℕ) → Type 0 where
+  by_elaboration :
+      (tree : Tree) (e : ElabError) → p.used ≡ Some tree → Faults tree name args e
+      → IsCallRefusal p deed name args (elaborate_words e)
+  by_deed :
+      (tree : Tree) (g : Graph) (words : List (List ℕ)) → p.used ≡ Some tree → IsGraphOf tree name args g
+      → Forbids p deed g words
+      → IsCallRefusal p deed name args words
+
+-- what is wanted at the end of the lines
+pub data Aim : Type 0 where
+  -- the text of the last graph
+  drawing : Aim
+  -- that of the plan to the last graph, without moves
+  planning : Aim
+  -- that of what events come to from a start with it
+  replaying : List Event → Aim
+
+-- the answer to what is wanted
+abbrev pub Concludes : Aim → Progress → Answer → Type 0
+Concludes drawing p answer = (g : Graph) × (earlier : List Graph) × (p.graphs ≡ g ∷ earlier) × (answer ≡ graph g)
+Concludes planning p answer =
+    (old new : Graph) × (earlier : List Graph) × (p.graphs ≡ new ∷ old ∷ earlier)
+    × ((steps : Plan) × IsPlanOf old new [] steps × (answer ≡ plan old new steps))
+Concludes (replaying events) p answer =
+    (g : Graph) × (earlier : List Graph) × (p.graphs ≡ g ∷ earlier) × IsReplayed (started g) events answer
+
+-- The course of lines. A line that uses a file fetches it, and a call fetches nothing.
+abbrev pub Follows : Aim → Progress → List Line → Course
+Follows aim p [] = After (λ words. ⊥) (λ words. refusal (description p.file words)) (Concludes aim p) Says
+Follows aim p (uses file ∷ lines) =
+    let refuse = λ (words : List (List ℕ)). refusal (description file words) in
+    AfterFetch file file_limit refuse
+    (λ bytes. After (IsTextRefusal bytes) refuse (IsChecked bytes)
+    (λ tree. Follows aim (with_description p file tree) lines))
+Follows aim p (calls deed name args ∷ lines) =
+    After (IsCallRefusal p deed name args) (λ words. refusal (description p.file words)) (Leads p deed name args)
+    (λ next. Follows aim next lines)

@@ -1,0 +1,140 @@
+-- What each status of a run says, of the words and of what was fetched and written.
+use Rattle.std.specs.Prelude.{◌≡◌, ◌≢◌, ◌≤◌, ◌<◌, ◌⊎◌, ℕ, List, [], ◌∷◌, ◌++◌, Option, Some, None, IsSomeAnd, length, take, codes}
+use Rattle.std.specs.List.{AllByRecursion}
+use Rattle.cfg_io.specs.Shelf.{Files}
+use Rattle.cfg_io.specs.Sink.{with_bytes}
+use Rattle.config_graph.specs.Graph.{Graph}
+use Rattle.config_graph.specs.GraphText.{graph_text}
+use Rattle.change_script.specs.declared.error.ScriptError.{ScriptError}
+use Rattle.change_script.specs.declared.event_files.EventFile.{EventFile}
+use Rattle.change_script.specs.EventFiles.{IsEventFile, IsFirstFault}
+use Rattle.command_words.specs.declared.words.TopCall.{TopCall}
+use Rattle.command_answers.specs.declared.status.Status.{Status}
+use Rattle.command_answers.specs.declared.status.Status.TheVariants as status
+use Rattle.command_words.specs.declared.words.Command.{Command}
+use Rattle.command_words.specs.declared.words.Command.TheVariants as commands
+use Rattle.command_words.specs.CommandLine.{Asks}
+use Rattle.command_answers.specs.RefusalLines.{description_line, script_line, script_words}
+use Rattle.command_runs.specs.Descriptions.{HasGraph}
+use Rattle.command_runs.specs.Plans.{HasPlan}
+use Rattle.command_runs.specs.Replays.{HasReplay}
+use Rattle.command_runs.specs.declared.query.Query.{Query}
+use Rattle.command_runs.specs.declared.query.Query.TheVariants as queries
+use Rattle.command_runs.specs.Queries.{IsRefused, AnswersQuery}
+use Rattle.command_answers.specs.Answers.{Answer, status_of, text_of}
+use Rattle.command_runs.specs.Fetches.{Fetch, Gave, failed_names, file_limit}
+use Rattle.command_runs.specs.Runs.{AnswersWords}
+
+-- the command names the file
+abbrev pub MentionsFile : Command → List ℕ → Type 0
+MentionsFile commands.Help name = ⊥
+MentionsFile commands.Version name = ⊥
+MentionsFile (commands.Flat file call) name = name ≡ file
+MentionsFile (commands.Plan file call target) name = name ≡ file
+MentionsFile (commands.Replay file events) name = (name ≡ file) ⊎ (name ≡ events)
+
+-- the words name the file
+abbrev pub NamesFile : List (List ℕ) → List ℕ → Type 0
+NamesFile words file = (command : Command) × Asks words command × MentionsFile command file
+
+-- the status, unless memory ran out or the sink failed
+abbrev pub Ends : Status → Status → Type 0
+Ends result own = (result ≡ own) ⊎ (result ≡ status.NoMemory) ⊎ (result ≡ status.WriteFault)
+
+-- A proper front went out of a text that the words could have given with another status, by the fetches of which the
+-- shelf notes the failures and which gave what its files hold.
+pub record WroteFront (words : List (List ℕ)) (files : Option Files) (failures failures' : List (List ℕ)) (taken taken' : Option (List ℕ)) : Type 0 where
+  pub fetches : List Fetch
+  pub answer : Answer
+  pub answers : AnswersWords words fetches answer
+  pub noted : failures' ≡ failures ++ failed_names fetches
+  pub told : AllByRecursion (Gave files) fetches
+  pub other : status_of answer ≢ status.WriteFault
+  pub count : ℕ
+  pub short : count < length (text_of answer)
+  pub front : taken' ≡ with_bytes taken (take count (text_of answer))
+
+-- where the shelf tells its files, the file of the name holds these bytes
+abbrev pub HoldsFile : Option Files → List ℕ → List ℕ → Type 0
+HoldsFile None file text = Unit {0}
+HoldsFile (Some files) file text = files file ≡ Some text
+
+-- where the shelf tells its files, the file of the name has more bytes than a description may have
+abbrev pub TellsTooLong : Option Files → List ℕ → Type 0
+TellsTooLong None file = Unit {0}
+TellsTooLong (Some files) file = IsSomeAnd (files file) (λ bytes. file_limit < length bytes)
+
+-- The words ask for this of the description in a file, where the shelf tells of events what the file of events holds.
+abbrev pub Wants : Option Files → List (List ℕ) → List ℕ → Query → Type 0
+Wants files words file (queries.Graph call) = Asks words (commands.Flat file call)
+Wants files words file (queries.Plan call target) = Asks words (commands.Plan file call target)
+Wants files words file (queries.Replay script) =
+    (name bytes : List ℕ) × Asks words (commands.Replay file name) × HoldsFile files name bytes × (length bytes ≤ file_limit) × IsEventFile bytes script
+
+-- The file holds a description that has a graph for the component and its arguments, and the text of this graph was
+-- written.
+pub record Flattened (files : Option Files) (file : List ℕ) (call : TopCall) (taken taken' : Option (List ℕ)) : Type 0 where
+  pub text : List ℕ
+  pub graph : Graph
+  pub told : HoldsFile files file text
+  pub within : length text ≤ file_limit
+  pub has_graph : HasGraph text call.top call.args graph
+  pub written : taken' ≡ with_bytes taken (graph_text graph)
+
+-- The file holds a description that has a plan from the first component to the second, and its text was written.
+pub record Planned (files : Option Files) (file : List ℕ) (call target : TopCall) (taken taken' : Option (List ℕ)) : Type 0 where
+  pub text : List ℕ
+  pub plan : List ℕ
+  pub told : HoldsFile files file text
+  pub within : length text ≤ file_limit
+  pub has_plan : HasPlan text call target plan
+  pub written : taken' ≡ with_bytes taken plan
+
+-- The file of events is one, and what its events come to over the description was written, with this status.
+pub record Replayed (files : Option Files) (file events : List ℕ) (own : Status) (taken taken' : Option (List ℕ)) : Type 0 where
+  pub bytes : List ℕ
+  pub script : EventFile
+  pub told_events : HoldsFile files events bytes
+  pub within_events : length bytes ≤ file_limit
+  pub is_script : IsEventFile bytes script
+  pub text : List ℕ
+  pub written : List ℕ
+  pub told : HoldsFile files file text
+  pub within : length text ≤ file_limit
+  pub has_replay : HasReplay text script own written
+  pub wrote : taken' ≡ with_bytes taken written
+
+-- The file is too long, or a fault of what it holds was named; and the line that says so was written.
+pub data Refused (files : Option Files) (file : List ℕ) (query : Query) (taken taken' : Option (List ℕ)) : Type 0 where
+  too_long :
+      TellsTooLong files file → taken' ≡ with_bytes taken (description_line file (codes "TooLong" ∷ []))
+      → Refused files file query taken taken'
+  at_fault :
+      (text : List ℕ) (words : List (List ℕ)) → HoldsFile files file text → length text ≤ file_limit → IsRefused query text words
+      → taken' ≡ with_bytes taken (description_line file words) → Refused files file query taken taken'
+
+-- the file has more bytes than a description may have, or something refuses them
+abbrev pub MustRefuse : Query → Option (List ℕ) → Type 0
+MustRefuse query file = IsSomeAnd file (λ text. (file_limit < length text) ⊎ ((words : List (List ℕ)) × IsRefused query text words))
+
+-- the file has no more bytes than a description may have, and nothing refuses them
+abbrev pub NothingRefuses : Query → Option (List ℕ) → Type 0
+NothingRefuses query file = IsSomeAnd file (λ text. (length text ≤ file_limit) × ((words : List (List ℕ)) → ¬ IsRefused query text words))
+
+-- the bytes give this status for what is wanted, unless memory ran out or the sink failed
+abbrev pub EndsAsGiven : Query → Option (List ℕ) → Status → Type 0
+EndsAsGiven query file result =
+    IsSomeAnd file (λ text. (written : List ℕ) × AnswersQuery query text result written) ⊎ (result ≡ status.NoMemory) ⊎ (result ≡ status.WriteFault)
+
+-- The file of events is too long, or the fault of its first line at fault was named; and the line that says so was
+-- written.
+pub data ScriptRefused (files : Option Files) (name : List ℕ) (taken taken' : Option (List ℕ)) : Type 0 where
+  events_too_long :
+      TellsTooLong files name → taken' ≡ with_bytes taken (script_line name (codes "TooLong" ∷ [])) → ScriptRefused files name taken taken'
+  events_at_fault :
+      (bytes : List ℕ) (fault : ScriptError) → HoldsFile files name bytes → length bytes ≤ file_limit → IsFirstFault bytes fault
+      → taken' ≡ with_bytes taken (script_line name (script_words fault)) → ScriptRefused files name taken taken'
+
+-- the file has more bytes than a file of events may have, or isn't one
+abbrev pub MustRefuseScript : Option (List ℕ) → Type 0
+MustRefuseScript file = IsSomeAnd file (λ bytes. (file_limit < length bytes) ⊎ ((fault : ScriptError) × IsFirstFault bytes fault))

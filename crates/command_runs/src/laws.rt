@@ -1,0 +1,219 @@
+//! Laws of runs, by status. Whatever runs, as all commands do or the program over real files, has them.
+
+ghost use Rattle.std.specs.Prelude.{◌≡◌, ◌≢◌, ◌≤◌, ◌∷◌, ◌++◌, [], ℕ, List, Option, Some, length};
+ghost use Rattle.cfg_io.specs.Count.{Rose};
+ghost use Rattle.cfg_io.specs.Shelf.{Files};
+ghost use Rattle.cfg_io.specs.Sink.{with_bytes};
+ghost use Rattle.config_graph.specs.Graph.{Graph};
+ghost use Rattle.quiesce_core.specs.Start.{started};
+ghost use Rattle.change_script.specs.declared.event_files.EventFile.{EventFile};
+ghost use Rattle.event_replay.specs.Replay.{IsDenied};
+ghost use Rattle.change_plan.specs.Plans.{IsPlanOf};
+ghost use Rattle.change_plan.specs.declared.plan_data.Plan.{Plan};
+ghost use Rattle.change_script.specs.EventFiles.{IsEventFile};
+ghost use Rattle.command_answers.specs.Answers.{Answer, Shows, refusal, no_memory, status_of, text_of, usage_line};
+ghost use Rattle.command_answers.specs.Answers.{no_memory_line, help_text, version_text};
+ghost use Rattle.command_answers.specs.RefusalLines.{read_fault_line};
+ghost use Rattle.command_answers.specs.declared.status.Status.{Status};
+ghost use Rattle.command_answers.specs.declared.status.Status.TheVariants.{Usage, ReadFault, WriteFault, Description};
+ghost use Rattle.command_answers.specs.declared.status.Status.TheVariants.{Script, Denied, NoMemory, Pending};
+ghost use Rattle.command_answers.specs.declared.status.Status.TheVariants.{Unfinished, Unlawful};
+ghost use Rattle.command_words.specs.CommandLine.{Asks, HasNoForm};
+ghost use Rattle.command_words.specs.declared.words.Command.TheVariants as commands;
+ghost use Rattle.command_words.specs.declared.words.TopCall.{TopCall};
+ghost use Rattle.command_runs.specs.Descriptions.{HasGraph};
+ghost use Rattle.command_runs.specs.Commands.{course_of, course_of_query};
+ghost use Rattle.command_runs.specs.Failures.{FailsLast, Uses};
+ghost use Rattle.command_runs.specs.Lines.{Aim, Line, Progress, Follows};
+ghost use Rattle.command_runs.specs.Fetches.{Fetch, fetch_of, file_limit};
+ghost use Rattle.command_runs.specs.OneFile.{DescriptionAnswers, ScriptAnswers};
+ghost use Rattle.command_runs.specs.declared.fetched.Fetched.{Fetched};
+ghost use Rattle.command_runs.specs.declared.fetched.Fetched.TheVariants.{Held};
+ghost use Rattle.command_runs.specs.Outcomes.{NamesFile, Ends, WroteFront, Flattened, Planned, Replayed, Refused};
+ghost use Rattle.command_runs.specs.Outcomes.{ScriptRefused, MustRefuse, MustRefuseScript, NothingRefuses};
+ghost use Rattle.command_runs.specs.Outcomes.{EndsAsGiven, Wants};
+ghost use Rattle.command_runs.specs.Plans.{Starts};
+ghost use Rattle.command_runs.specs.Queries.{AnswersQuery, IsRefused};
+ghost use Rattle.command_runs.specs.Runs.{AnswersWords, Runs};
+ghost use Rattle.command_runs.specs.declared.query.Query.{Query};
+ghost use Rattle.command_runs.specs.declared.query.Query.TheVariants as queries;
+
+/// A law of runs: Usage comes where the words have none of the forms, with its line, and nowhere else.
+pub fn usage_is_of_words_without_a_form()
+    ensures only { (words : List (List ℕ)) (files : Option Files) (failures failures' : List (List ℕ))
+        (taken taken' : Option (List ℕ)) (faults faults' : ℕ) (result : Status) → Runs words files failures failures' taken taken' faults faults' result
+        → result ≡ Usage → HasNoForm words × (taken' ≡ with_bytes taken usage_line) }
+    ensures always { (words : List (List ℕ)) (files : Option Files) (failures failures' : List (List ℕ))
+        (taken taken' : Option (List ℕ)) (faults faults' : ℕ) (result : Status) → Runs words files failures failures' taken taken' faults faults' result
+        → HasNoForm words → Ends result Usage }
+{}
+
+/// A law of runs: ReadFault comes where a fetch failed, and nowhere else. One fetch fails at most, of a file that the
+/// words name, and the line names it.
+pub fn read_faults_are_failed_fetches()
+    ensures only { (words : List (List ℕ)) (files : Option Files) (failures failures' : List (List ℕ))
+        (taken taken' : Option (List ℕ)) (faults faults' : ℕ) (result : Status) → Runs words files failures failures' taken taken' faults faults' result
+        → result ≡ ReadFault → (file : List ℕ) × NamesFile words file × (failures' ≡ failures ++ file ∷ [])
+        × (taken' ≡ with_bytes taken (read_fault_line file)) }
+    ensures always { (words : List (List ℕ)) (files : Option Files) (failures failures' : List (List ℕ))
+        (taken taken' : Option (List ℕ)) (faults faults' : ℕ) (result : Status) → Runs words files failures failures' taken taken' faults faults' result
+        → failures' ≢ failures → Ends result ReadFault }
+{}
+
+/// A law of runs: WriteFault comes where a put failed, and nowhere else. A proper front went out of a text that
+/// another status could have had.
+pub fn write_faults_are_failed_puts()
+    ensures only { (words : List (List ℕ)) (files : Option Files) (failures failures' : List (List ℕ))
+        (taken taken' : Option (List ℕ)) (faults faults' : ℕ) (result : Status) → Runs words files failures failures' taken taken' faults faults' result
+        → result ≡ WriteFault → Rose faults faults' × WroteFront words files failures failures' taken taken' }
+    ensures always { (words : List (List ℕ)) (files : Option Files) (failures failures' : List (List ℕ))
+        (taken taken' : Option (List ℕ)) (faults faults' : ℕ) (result : Status) → Runs words files failures failures' taken taken' faults faults' result
+        → result ≢ WriteFault → faults' ≡ faults }
+{}
+
+/// A law of runs: with NoMemory goes its line, and no status of a command that is not here comes.
+pub fn want_of_memory_has_its_line()
+    ensures line { (words : List (List ℕ)) (files : Option Files) (failures failures' : List (List ℕ))
+        (taken taken' : Option (List ℕ)) (faults faults' : ℕ) (result : Status) → Runs words files failures failures' taken taken' faults faults' result
+        → result ≡ NoMemory → taken' ≡ with_bytes taken no_memory_line }
+    ensures no_other { (words : List (List ℕ)) (files : Option Files) (failures failures' : List (List ℕ))
+        (taken taken' : Option (List ℕ)) (faults faults' : ℕ) (result : Status) → Runs words files failures failures' taken taken' faults faults' result
+        → (result ≢ Pending) × (result ≢ Unfinished) × (result ≢ Unlawful) }
+{}
+
+/// A law of runs: the program's own texts are written where they are asked for.
+pub fn own_texts_are_written()
+    ensures helped { (words : List (List ℕ)) (files : Option Files) (failures failures' : List (List ℕ))
+        (taken taken' : Option (List ℕ)) (faults faults' : ℕ) (result : Status) → Runs words files failures failures' taken taken' faults faults' result
+        → Asks words commands.Help
+        → Ends result Status.Ok × (result ≡ Status.Ok → taken' ≡ with_bytes taken help_text) }
+    ensures versioned { (words : List (List ℕ)) (files : Option Files) (failures failures' : List (List ℕ))
+        (taken taken' : Option (List ℕ)) (faults faults' : ℕ) (result : Status) → Runs words files failures failures' taken taken' faults faults' result
+        → Asks words commands.Version
+        → Ends result Status.Ok × (result ≡ Status.Ok → taken' ≡ with_bytes taken version_text) }
+{}
+
+/// A law of runs: Ok comes with the text of the graph, of the plan, or of what events leave open and settled.
+pub fn what_is_asked_for_is_written()
+    ensures flattened { (words : List (List ℕ)) (files : Option Files) (failures failures' : List (List ℕ))
+        (taken taken' : Option (List ℕ)) (faults faults' : ℕ) (result : Status) → Runs words files failures failures' taken taken' faults faults' result
+        → (file : List ℕ) (call : TopCall) → Asks words (commands.Flat file call) → result ≡ Status.Ok
+        → Flattened files file call taken taken' }
+    ensures planned { (words : List (List ℕ)) (files : Option Files) (failures failures' : List (List ℕ))
+        (taken taken' : Option (List ℕ)) (faults faults' : ℕ) (result : Status) → Runs words files failures failures' taken taken' faults faults' result
+        → (file : List ℕ) (call target : TopCall) → Asks words (commands.Plan file call target) → result ≡ Status.Ok
+        → Planned files file call target taken taken' }
+    ensures replayed { (words : List (List ℕ)) (files : Option Files) (failures failures' : List (List ℕ))
+        (taken taken' : Option (List ℕ)) (faults faults' : ℕ) (result : Status) → Runs words files failures failures' taken taken' faults faults' result
+        → (file events : List ℕ) → Asks words (commands.Replay file events) → result ≡ Status.Ok
+        → Replayed files file events Status.Ok taken taken' }
+{}
+
+/// A law of runs: Denied comes where an event is no step from the state before it, and nowhere else; the line has the
+/// first such event and its first failing rule.
+pub fn denials_are_of_first_events()
+    ensures only { (words : List (List ℕ)) (files : Option Files) (failures failures' : List (List ℕ))
+        (taken taken' : Option (List ℕ)) (faults faults' : ℕ) (result : Status) → Runs words files failures failures' taken taken' faults faults' result
+        → result ≡ Denied → (file events : List ℕ) × Asks words (commands.Replay file events)
+        × Replayed files file events Denied taken taken' }
+    ensures always { (words : List (List ℕ)) (files : Files) (failures failures' : List (List ℕ))
+        (taken taken' : Option (List ℕ)) (faults faults' : ℕ) (result : Status) → Runs words (Some files) failures failures' taken taken' faults faults' result
+        → failures' ≡ failures → (file : List ℕ) (script : EventFile) (text : List ℕ) (graph : Graph) (number rule : ℕ)
+        → Wants (Some files) words file (queries.Replay script) → files file ≡ Some text → length text ≤ file_limit
+        → Starts text script.name script.args graph → IsDenied (started graph) script.events number rule
+        → Ends result Denied }
+{}
+
+/// A law of runs: Script comes where the file of events is too long or isn't one, and nowhere else; the line names
+/// the first fault.
+pub fn scripts_are_refused_for_their_first_fault()
+    ensures only { (words : List (List ℕ)) (files : Option Files) (failures failures' : List (List ℕ))
+        (taken taken' : Option (List ℕ)) (faults faults' : ℕ) (result : Status) → Runs words files failures failures' taken taken' faults faults' result
+        → result ≡ Script → (file events : List ℕ) × Asks words (commands.Replay file events)
+        × ScriptRefused files events taken taken' }
+    ensures always { (words : List (List ℕ)) (files : Files) (failures failures' : List (List ℕ))
+        (taken taken' : Option (List ℕ)) (faults faults' : ℕ) (result : Status) → Runs words (Some files) failures failures' taken taken' faults faults' result
+        → failures' ≡ failures → (file events : List ℕ) → Asks words (commands.Replay file events)
+        → MustRefuseScript (files events)
+        → Ends result Script }
+{}
+
+/// A law of runs: Description comes where the file is too long or something refuses what it holds, and nowhere else;
+/// the line names a fault that holds.
+pub fn descriptions_are_refused_for_faults_that_hold()
+    ensures only { (words : List (List ℕ)) (files : Option Files) (failures failures' : List (List ℕ))
+        (taken taken' : Option (List ℕ)) (faults faults' : ℕ) (result : Status) → Runs words files failures failures' taken taken' faults faults' result
+        → result ≡ Description → (file : List ℕ) × (query : Query) × Wants files words file query
+        × Refused files file query taken taken' }
+    ensures always { (words : List (List ℕ)) (files : Files) (failures failures' : List (List ℕ))
+        (taken taken' : Option (List ℕ)) (faults faults' : ℕ) (result : Status) → Runs words (Some files) failures failures' taken taken' faults faults' result
+        → failures' ≡ failures → (file : List ℕ) (query : Query) → Wants (Some files) words file query
+        → MustRefuse query (files file)
+        → Ends result Description }
+{}
+
+/// A law of runs: where nothing refuses the description, the run ends with what its bytes give.
+pub fn what_is_not_refused_is_answered()
+    ensures complete { (words : List (List ℕ)) (files : Files) (failures failures' : List (List ℕ))
+        (taken taken' : Option (List ℕ)) (faults faults' : ℕ) (result : Status) → Runs words (Some files) failures failures' taken taken' faults faults' result
+        → failures' ≡ failures → (file : List ℕ) (query : Query) → Wants (Some files) words file query
+        → NothingRefuses query (files file)
+        → EndsAsGiven query (files file) result }
+    ensures every_answer { (words : List (List ℕ)) (files : Files) (failures failures' : List (List ℕ))
+        (taken taken' : Option (List ℕ)) (faults faults' : ℕ) (result : Status) → Runs words (Some files) failures failures' taken taken' faults faults' result
+        → failures' ≡ failures → (file : List ℕ) (query : Query) (text : List ℕ) (own : Status) (written : List ℕ)
+        → Wants (Some files) words file query → files file ≡ Some text → length text ≤ file_limit
+        → AnswersQuery query text own written → Ends result own }
+    ensures every_graph { (words : List (List ℕ)) (files : Files) (failures failures' : List (List ℕ))
+        (taken taken' : Option (List ℕ)) (faults faults' : ℕ) (result : Status) → Runs words (Some files) failures failures' taken taken' faults faults' result
+        → failures' ≡ failures → (file : List ℕ) (call : TopCall) (text : List ℕ) (graph : Graph)
+        → Asks words (commands.Flat file call)
+        → files file ≡ Some text → length text ≤ file_limit → HasGraph text call.top call.args graph
+        → Ends result Status.Ok }
+{}
+
+/// A law: the course of what is wanted of a description is what is answered of its file, by what one fetch gave,
+/// where memory lasts.
+pub fn courses_of_descriptions_are_by_one_file()
+    ensures gives { (file : List ℕ) (query : Query) (given : Fetched) (own : Status) (text : List ℕ)
+        → DescriptionAnswers file query given own text
+        → Shows (course_of_query file query (fetch_of file given ∷ [])) own text }
+    ensures only { (file : List ℕ) (query : Query) (fetches : List Fetch) (answer : Answer)
+        → course_of_query file query fetches answer
+        → answer ≢ refusal no_memory
+        → (given : Fetched) × (fetches ≡ fetch_of file given ∷ [])
+        × DescriptionAnswers file query given (status_of answer) (text_of answer) }
+{}
+
+/// A law: the course of a replay is what is answered of its file of events, where that isn't one, and else that of
+/// the description.
+pub fn courses_of_replays_are_by_two_files()
+    ensures refused { (file name : List ℕ) (given : Fetched) (own : Status) (text : List ℕ)
+        → ScriptAnswers name given own text
+        → Shows (course_of (commands.Replay file name) (fetch_of name given ∷ [])) own text }
+    ensures read { (file name bytes : List ℕ) (script : EventFile) (fetches : List Fetch) (answer : Answer)
+        → IsEventFile bytes script
+        → course_of_query file (queries.Replay script) fetches answer
+        → course_of (commands.Replay file name) (fetch_of name (Held bytes) ∷ fetches) answer }
+    ensures short { (file name : List ℕ) (given : Fetched)
+        → course_of (commands.Replay file name) [] (refusal no_memory)
+        × course_of (commands.Replay file name) (fetch_of name given ∷ []) (refusal no_memory) }
+{}
+
+/// A law: a fetch that fails is the last, and the only one; it is of a file that the lines use, or the words name,
+/// and the answer says so unless memory ran out.
+pub fn a_failed_fetch_is_the_last()
+    ensures of_lines { (aim : Aim) (p : Progress) (lines : List Line) (fetches : List Fetch) (answer : Answer)
+        → Follows aim p lines fetches answer → FailsLast (Uses lines) fetches answer }
+    ensures of_words { (words : List (List ℕ)) (fetches : List Fetch) (answer : Answer)
+        → AnswersWords words fetches answer → FailsLast (NamesFile words) fetches answer }
+{}
+
+/// A law: what bytes give is one, status and text, and they aren't refused too.
+pub fn what_bytes_give_is_one()
+    ensures one_answer { (query : Query) (text : List ℕ) (own other : Status) (written also : List ℕ)
+        → AnswersQuery query text own written → AnswersQuery query text other also → (own ≡ other) × (written ≡ also) }
+    ensures never_both { (query : Query) (text : List ℕ) (own : Status) (written : List ℕ) (words : List (List ℕ))
+        → AnswersQuery query text own written → ¬ IsRefused query text words }
+    ensures one_plan { (old new : Graph) (p q : Plan) → IsPlanOf old new [] p → IsPlanOf old new [] q → p ≡ q }
+{}

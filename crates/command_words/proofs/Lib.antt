@@ -1,0 +1,4 @@
+pub mod Asking
+pub mod Parting
+pub mod Refusals
+pub mod WordsLaws

@@ -1,0 +1,117 @@
+-- Words ask for one command at most. A command is its form and what it carries; the first word tells the form, and the
+-- words behind it what is carried.
+use Rattle.std.proofs.Common.{◌≡◌, ◌∙◌, ℕ, List, [], ◌∷◌, ◌++◌, Option, Some, None, bytes_eq, codes, if◌then◌else◌, refl, sym, ap, subst}
+use Rattle.std.proofs.lemmas.Option.{same_Some}
+use Rattle.command_words.specs.declared.words.Command.{Command}
+use Rattle.command_words.specs.declared.words.Command.TheVariants as commands
+use Rattle.command_words.specs.declared.words.TopCall.{TopCall}
+use Rattle.command_words.specs.CommandLine.{keyword, IsBody, Asks}
+use Rattle.command_words.proofs.Asking.{head_is, tail_is, one_call, call_has_parts, one_parting}
+
+pub data Form : Type 0 where
+  help : Form
+  version : Form
+  flat : Form
+  plan : Form
+  replay : Form
+
+abbrev pub form : Command → Form
+form commands.Help = help
+form commands.Version = version
+form (commands.Flat file call) = flat
+form (commands.Plan file call target) = plan
+form (commands.Replay file events) = replay
+
+abbrev pub Carried : Form → Type 0
+Carried help = Unit {0}
+Carried version = Unit {0}
+Carried flat = List ℕ × TopCall
+Carried plan = List ℕ × TopCall × TopCall
+Carried replay = List ℕ × List ℕ
+
+abbrev pub command : (f : Form) → Carried f → Command
+command help p = commands.Help
+command version p = commands.Version
+command flat p = commands.Flat p.0 p.1
+command plan p = commands.Plan p.0 p.1 p.2
+command replay p = commands.Replay p.0 p.1
+
+abbrev pub carried : (c : Command) → Carried (form c)
+carried commands.Help = tt
+carried commands.Version = tt
+carried (commands.Flat file call) = (file, call)
+carried (commands.Plan file call target) = (file, call, target)
+carried (commands.Replay file events) = (file, events)
+
+is_command : (c : Command) → c ≡ command (form c) (carried c)
+is_command commands.Help = refl
+is_command commands.Version = refl
+is_command (commands.Flat file call) = refl
+is_command (commands.Plan file call target) = refl
+is_command (commands.Replay file events) = refl
+
+-- the form that a first word tells
+pub form_of : List ℕ → Option Form
+form_of word =
+    if bytes_eq word (codes "--help") then Some help else
+    if bytes_eq word (codes "--version") then Some version else
+    if bytes_eq word (codes "flat") then Some flat else
+    if bytes_eq word (codes "plan") then Some plan else
+    if bytes_eq word (codes "replay") then Some replay else None
+
+pub form_is : (c : Command) → form_of (keyword c) ≡ Some (form c)
+unfolding form_of
+form_is commands.Help = refl
+form_is commands.Version = refl
+form_is (commands.Flat file call) = refl
+form_is (commands.Plan file call target) = refl
+form_is (commands.Replay file events) = refl
+
+pub flat_word : form_of (codes "flat") ≡ Some flat
+unfolding form_of
+flat_word = refl
+
+pub plan_word : form_of (codes "plan") ≡ Some plan
+unfolding form_of
+plan_word = refl
+
+pub same_form : (c d : Command) → keyword c ≡ keyword d → form c ≡ form d
+same_form c d is = same_Some (form c) (form d) (sym (form_is c) ∙ ap form_of is ∙ form_is d)
+
+-- a command of a form carries something
+pub of_form : (f : Form) (c : Command) → form c ≡ f → (p : Carried f) × (c ≡ command f p)
+of_form f c is = subst (λ g. (p : Carried g) × (c ≡ command g p)) is (carried c, is_command c)
+
+-- the words behind the first tell it
+one_body : (f : Form) (p q : Carried f) (body : List (List ℕ)) → IsBody (command f p) body → IsBody (command f q) body → command f p ≡ command f q
+one_body help p q body x y = refl
+one_body version p q body x y = refl
+one_body flat (f, t) (g, u) body x y =
+    let is = sym x.1 ∙ y.1 in
+    same (head_is f g x.0 y.0 is) (one_call x.0 y.0 t u x.3 y.3 (tail_is f g x.0 y.0 is))
+  where
+    same : f ≡ g → t ≡ u → commands.Flat f t ≡ commands.Flat g u
+    same file call = rw (file, call) refl
+one_body plan (f, t, v) (g, u, w) body x y =
+    let parted = λ (call target : List (List ℕ)). call ++ codes "--" ∷ target in
+    let is = sym x.2 ∙ y.2 in
+    let parts = one_parting x.0 y.0 x.1 y.1 (call_has_parts x.0 t x.4) (call_has_parts y.0 u y.4) (tail_is f g (parted x.0 x.1) (parted y.0 y.1) is) in
+    same (head_is f g (parted x.0 x.1) (parted y.0 y.1) is) (one_call x.0 y.0 t u x.4 y.4 parts.0) (one_call x.1 y.1 v w x.5 y.5 parts.1)
+  where
+    same : f ≡ g → t ≡ u → v ≡ w → commands.Plan f t v ≡ commands.Plan g u w
+    same file call target = rw (file, call, target) refl
+one_body replay (f, e) (g, h) body x y =
+    let is = sym x.0 ∙ y.0 in
+    same (head_is f g (e ∷ []) (h ∷ []) is) (head_is e h [] [] (tail_is f g (e ∷ []) (h ∷ []) is))
+  where
+    same : f ≡ g → e ≡ h → commands.Replay f e ≡ commands.Replay g h
+    same file events = rw (file, events) refl
+
+-- words ask for one command at most
+pub one_command : (words : List (List ℕ)) (c d : Command) → Asks words c → Asks words d → c ≡ d
+one_command [] c d x y = absurd x
+one_command (word ∷ body) c d x y =
+    let f = form c in
+    let p = of_form f c refl in
+    let q = of_form f d (same_form d c (sym y.0 ∙ x.0)) in
+    p.1 ∙ one_body f p.0 q.0 body (subst (λ a. IsBody a body) p.1 x.1) (subst (λ a. IsBody a body) q.1 y.1) ∙ sym q.1

@@ -1,0 +1,56 @@
+-- The words of a command line, and which command they ask for: the first word names it, and the others are its body.
+use Rattle.std.specs.Prelude.{◌≡◌, ◌≢◌, ℕ, ℤ, List, [], ◌∷◌, ◌++◌, map, codes, slice_index, FitsSigned, Bool, not, bytes_eq}
+use Rattle.std.specs.Int.{w32}
+use Rattle.std.specs.List.{AllByRecursion}
+use Rattle.std.specs.Str.Parse.{IsNumeral, signed_digits_value, without_leading_sign}
+use Rattle.darwin_lexer.specs.Naming.{IsName}
+use Rattle.command_words.specs.declared.words.TopCall.{TopCall}
+use Rattle.command_words.specs.declared.words.Command.{Command}
+use Rattle.command_words.specs.declared.words.Command.TheVariants as commands
+
+-- a `-` or none and then digits, with a value from -2147483648 to 2147483647
+abbrev pub IsInteger : List ℕ → Type 0
+IsInteger word =
+    (slice_index word 0 ≢ 43) × IsNumeral 10 (without_leading_sign word) × FitsSigned w32 (signed_digits_value 10 word)
+
+-- the value of such a word
+abbrev pub integer_of : List ℕ → ℤ
+integer_of word = signed_digits_value 10 word
+
+-- the words of a component and its arguments
+abbrev pub IsCall : List (List ℕ) → TopCall → Type 0
+IsCall words call =
+    (integers : List (List ℕ)) × (words ≡ call.top ∷ integers) × IsName call.top × AllByRecursion IsInteger integers
+    × (call.args ≡ map integer_of integers)
+
+-- the word that names a command
+abbrev pub keyword : Command → List ℕ
+keyword commands.Help = codes "--help"
+keyword commands.Version = codes "--version"
+keyword (commands.Flat file call) = codes "flat"
+keyword (commands.Plan file call target) = codes "plan"
+keyword (commands.Replay file events) = codes "replay"
+
+-- the words behind it
+abbrev pub IsBody : Command → List (List ℕ) → Type 0
+IsBody commands.Help body = body ≡ []
+IsBody commands.Version body = body ≡ []
+IsBody (commands.Flat file call) body =
+    (parts : List (List ℕ)) × (body ≡ file ∷ parts) × (file ≢ []) × IsCall parts call
+IsBody (commands.Plan file call target) body =
+    (first second : List (List ℕ)) × (body ≡ file ∷ (first ++ codes "--" ∷ second)) × (file ≢ [])
+    × IsCall first call × IsCall second target
+IsBody (commands.Replay file events) body = (body ≡ file ∷ events ∷ []) × (file ≢ []) × (events ≢ [])
+
+-- the words ask for the command
+abbrev pub Asks : List (List ℕ) → Command → Type 0
+Asks [] command = ⊥
+Asks (word ∷ body) command = (word ≡ keyword command) × IsBody command body
+
+-- the words ask for nothing
+abbrev pub HasNoForm : List (List ℕ) → Type 0
+HasNoForm words = (command : Command) → Asks words command → ⊥
+
+-- whether a word doesn't part two calls
+abbrev pub is_part : List ℕ → Bool
+is_part word = not (bytes_eq word (codes "--"))

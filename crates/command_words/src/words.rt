@@ -1,0 +1,261 @@
+//! The words of a command line.
+
+ghost use Rattle.std.specs.Prelude.{◌≡◌, ◌≢◌, ◌∷◌, [], ◌<◌, length, codes, map, string_bytes, IfOk, IfSome, IfNone};
+ghost use Rattle.std.specs.List.{AllByRecursion, prefix_len};
+ghost use Rattle.std.specs.Option.{SomeIff};
+ghost use Rattle.command_words.specs.CommandLine.{IsInteger, integer_of, IsCall, Asks, is_part};
+ghost use Rattle.command_words.specs.declared.words.Command.{Command};
+ghost use Rattle.command_words.specs.declared.words.TopCall.{TopCall};
+
+use config_graph::{List, NoMemory};
+use darwin_lexer::is_name;
+use std::alloc::Global;
+use std::marker::Model;
+
+/// A word of the command line, which contracts see as its bytes.
+#[derive(Debug, Drop)]
+pub struct Word<'a> {
+    text: &'a str,
+}
+
+impl<'a> Model for Word<'a> {
+    ghost use Rattle.std.specs.Prelude.{List, ℕ};
+
+    ghost Value = { List ℕ };
+
+    ghost view = { λ word. word.text.now };
+}
+
+impl<'a> Word<'a> {
+    fn of(text: &'a str) -> Word<'a>
+        ensures { result ≡ text.now }
+    {
+        Word { text }
+    }
+
+    pub fn as_str(&self) -> &str
+        ensures { result.now ≡ self.now }
+    {
+        self.text
+    }
+}
+
+/// A component, and its arguments.
+#[derive(Debug, Drop)]
+pub struct TopCall<'a> {
+    pub top: Word<'a>,
+    pub args: List<i32>,
+}
+
+/// What words may ask for.
+#[derive(Debug, Drop)]
+pub enum Command<'a> {
+    Help,
+    Version,
+    /// The graph of a component of a file.
+    Flat {
+        file: Word<'a>,
+        call: TopCall<'a>,
+    },
+    /// The plan from the first component to the second.
+    Plan {
+        file: Word<'a>,
+        call: TopCall<'a>,
+        target: TopCall<'a>,
+    },
+    /// The events of a file, over a component of a description.
+    Replay {
+        file: Word<'a>,
+        events: Word<'a>,
+    },
+}
+
+/// What the words ask for, where they have one of the forms.
+pub fn read_words(alloc: Global, words: &[String]) -> Result<Option<Command<'_>>, NoMemory>
+    ensures found { IfOk result (λ found. IfSome found (λ command. Asks (map string_bytes words.now) command)) }
+    ensures none { IfOk result (λ found. IfNone found ((command : Command)
+        → Asks (map string_bytes words.now) command → ⊥)) }
+{
+    match words {
+        [] => Ok(None),
+        [only] => Ok(read_lone(only.as_str())),
+        [first, ..] => read_command(alloc, first.as_str(), &words[1..]),
+    }
+}
+
+/// What two or more words ask for, the first of which names a command and the second a file.
+fn read_command<'a>(
+    alloc: Global,
+    first: &str,
+    words: &'a [String],
+) -> Result<Option<Command<'a>>, NoMemory>
+    requires { 0 < length words.now }
+    ensures found { IfOk result (λ found. IfSome found
+        (λ command. Asks (first.now ∷ map string_bytes words.now) command)) }
+    ensures none { IfOk result (λ found. IfNone found ((command : Command)
+        → Asks (first.now ∷ map string_bytes words.now) command → ⊥)) }
+{
+    let file = words[0].as_str();
+    if file.is_empty() {
+        return Ok(None);
+    }
+    match first {
+        "flat" => read_flat(alloc, file, &words[1..]),
+        "plan" => read_plan(alloc, file, &words[1..]),
+        "replay" => Ok(read_replay(file, &words[1..])),
+        _ => Ok(None),
+    }
+}
+
+/// What a word asks for by itself.
+fn read_lone(word: &str) -> Option<Command<'_>>
+    ensures found { IfSome result (λ command. Asks (word.now ∷ []) command) }
+    ensures none { IfNone result ((command : Command) → Asks (word.now ∷ []) command → ⊥) }
+{
+    if word == "--help" {
+        Some(Command::Help)
+    } else if word == "--version" {
+        Some(Command::Version)
+    } else {
+        None
+    }
+}
+
+/// What the word `flat` asks for with a file and these words behind it.
+fn read_flat<'a>(
+    alloc: Global,
+    file: &'a str,
+    words: &'a [String],
+) -> Result<Option<Command<'a>>, NoMemory>
+    requires { file.now ≢ [] }
+    ensures found { IfOk result (λ found. IfSome found
+        (λ command. Asks (codes "flat" ∷ file.now ∷ map string_bytes words.now) command)) }
+    ensures none { IfOk result (λ found. IfNone found ((command : Command)
+        → Asks (codes "flat" ∷ file.now ∷ map string_bytes words.now) command → ⊥)) }
+{
+    match read_call(alloc, words)? {
+        Some(call) => Ok(Some(Command::Flat {
+            file: Word::of(file),
+            call,
+        })),
+        None => Ok(None),
+    }
+}
+
+/// What the word `plan` asks for with a file and these words behind it.
+fn read_plan<'a>(
+    alloc: Global,
+    file: &'a str,
+    words: &'a [String],
+) -> Result<Option<Command<'a>>, NoMemory>
+    requires { file.now ≢ [] }
+    ensures found { IfOk result (λ found. IfSome found
+        (λ command. Asks (codes "plan" ∷ file.now ∷ map string_bytes words.now) command)) }
+    ensures none { IfOk result (λ found. IfNone found ((command : Command)
+        → Asks (codes "plan" ∷ file.now ∷ map string_bytes words.now) command → ⊥)) }
+{
+    let at = parting(words);
+    if at >= words.len() {
+        return Ok(None);
+    }
+    let Some(call) = read_call(alloc, &words[..at])? else {
+        return Ok(None);
+    };
+    let Some(target) = read_call(alloc, &words[at + 1..])? else {
+        return Ok(None);
+    };
+    Ok(Some(Command::Plan {
+        file: Word::of(file),
+        call,
+        target,
+    }))
+}
+
+/// What the word `replay` asks for with a file and these words behind it.
+fn read_replay<'a>(file: &'a str, words: &'a [String]) -> Option<Command<'a>>
+    requires { file.now ≢ [] }
+    ensures found { IfSome result (λ command. Asks (codes "replay" ∷ file.now ∷ map string_bytes words.now) command) }
+    ensures none { IfNone result ((command : Command)
+        → Asks (codes "replay" ∷ file.now ∷ map string_bytes words.now) command → ⊥) }
+{
+    match words {
+        [] => None,
+        [events] => read_events_name(file, events.as_str()),
+        [_, _, ..] => None,
+    }
+}
+
+/// What the word `replay` asks for with a file and a word behind it.
+fn read_events_name<'a>(file: &'a str, events: &'a str) -> Option<Command<'a>>
+    requires { file.now ≢ [] }
+    ensures found { IfSome result (λ command. Asks (codes "replay" ∷ file.now ∷ events.now ∷ []) command) }
+    ensures none { IfNone result ((command : Command) → Asks (codes "replay" ∷ file.now ∷ events.now ∷ []) command
+        → ⊥) }
+{
+    if events.is_empty() {
+        return None;
+    }
+    Some(Command::Replay {
+        file: Word::of(file),
+        events: Word::of(events),
+    })
+}
+
+/// How many words stand before the first `--`, or how many there are where none is.
+fn parting(words: &[String]) -> usize
+    ensures { result ≡ prefix_len (λ word. is_part (string_bytes word)) words.now }
+{
+    words
+        .iter()
+        .take_while(|word| word.as_str() != "--")
+        .count()
+}
+
+/// The component and the arguments that these words are.
+fn read_call(alloc: Global, words: &[String]) -> Result<Option<TopCall<'_>>, NoMemory>
+    ensures found { IfOk result (λ found. IfSome found (λ call. IsCall (map string_bytes words.now) call)) }
+    ensures none { IfOk result (λ found. IfNone found ((call : TopCall) → IsCall (map string_bytes words.now) call
+        → ⊥)) }
+{
+    if words.is_empty() {
+        return Ok(None);
+    }
+    let top = words[0].as_str();
+    if !is_name(top.as_bytes()) {
+        return Ok(None);
+    }
+    let Some(args) = integers(alloc, &words[1..])? else {
+        return Ok(None);
+    };
+    Ok(Some(TopCall {
+        top: Word::of(top),
+        args: List::of(args),
+    }))
+}
+
+/// The values of words that are all integers.
+fn integers(alloc: Global, words: &[String]) -> Result<Option<Vec<i32>>, NoMemory>
+    ensures found { IfOk result (λ found. IfSome found
+        (λ args. AllByRecursion IsInteger (map string_bytes words.now)
+        × (args.items ≡ map integer_of (map string_bytes words.now)))) }
+    ensures none { IfOk result (λ found. IfNone found (AllByRecursion IsInteger (map string_bytes words.now) → ⊥)) }
+{
+    let mut values = Vec::new(alloc);
+    for word in words {
+        match integer(word.as_str()) {
+            Some(value) => values.push(value)?,
+            None => return Ok(None),
+        }
+    }
+    Ok(Some(values))
+}
+
+/// The value of a word that is an optional `-` and digits, where it is in the range of an `i32`.
+fn integer(word: &str) -> Option<i32>
+    ensures { SomeIff result (IsInteger word.now) (integer_of word.now) }
+{
+    if word.starts_with('+') {
+        return None;
+    }
+    word.parse().ok()
+}

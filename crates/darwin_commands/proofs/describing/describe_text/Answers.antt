@@ -1,9 +1,0 @@
--- What the text gives, or what refuses it, is answered.
-use Rattle.darwin_commands.specs.Answers.{answered}
-use Rattle.darwin_commands.proofs.describing.describe_text.Goals as goal
-
-pub returns-in-Ok : goal.returns-in-Ok
-returns-in-Ok c = answered c.args.text.now c.in-Ok.answer.status c.in-Ok.answer.text.items c.in-Ok.ensures.gives
-
-pub returns-in-Err : goal.returns-in-Err
-returns-in-Err c = c.refuse.ensures c.args.query.now c.args.text.now c.in-Err.ensures.refused

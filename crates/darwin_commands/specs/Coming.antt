@@ -1,0 +1,31 @@
+-- What the parts of a run answer, before it is written.
+use Rattle.std.specs.Prelude.{◌≡◌, ℕ, List, ◌++◌, Option, Result, Ok, Err}
+use Rattle.std.specs.List.{AllByRecursion}
+use Rattle.cfg_io.specs.Shelf.{Files}
+use Rattle.command_answers.specs.Answers.{Shows, refusal, no_memory, no_memory_line}
+use Rattle.command_answers.specs.declared.status.Status.{Status}
+use Rattle.command_answers.specs.declared.status.Status.TheVariants as status
+use Rattle.command_runs.specs.Courses.{Course}
+use Rattle.command_runs.specs.Fetches.{Fetch, failed_names, Gave}
+use Rattle.file_answers.specs.declared.answer.Answer.{Answer}
+
+-- the status and the text of an answer, or those for want of memory
+abbrev pub result_status : {E : Type 0} → Result Answer E → Status
+result_status (Ok answer) = answer.status
+result_status (Err _) = status.NoMemory
+
+abbrev pub result_text : {E : Type 0} → Result Answer E → List ℕ
+result_text (Ok answer) = answer.text.items
+result_text (Err _) = no_memory_line
+
+-- these fetches and this answer, or want of memory, are of the course
+abbrev pub EndsBy : {E : Type 0} → Course → List Fetch → Result Answer E → Type 0
+EndsBy course fetches (Ok answer) = Shows (course fetches) answer.status answer.text.items
+EndsBy course fetches (Err _) = course fetches (refusal no_memory)
+
+-- the same of a shelf
+pub record ComesBy {E : Type 0} (files : Option Files) (course : Course) (failures failures' : List (List ℕ)) (result : Result Answer E) : Type 0 where
+  pub fetches : List Fetch
+  pub noted : failures' ≡ failures ++ failed_names fetches
+  pub told : AllByRecursion (Gave files) fetches
+  pub ends : EndsBy course fetches result

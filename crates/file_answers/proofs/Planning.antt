@@ -1,0 +1,62 @@
+-- What the parts of planning answer, as refusals and as plans.
+use Rattle.std.proofs.Common.{◌≡◌, ◌≢◌, false, ◌⊎◌, inl, inr, ℕ, ℤ, List, [], Result, Ok, Err, IfOk, IfErr, refl, sym, subst}
+use Rattle.config_graph.specs.Graph.{Graph}
+use Rattle.config_graph.specs.declared.node.Made.{Made}
+use Rattle.change_plan.specs.Refusals.{IsRefusal}
+use Rattle.change_plan.specs.declared.error.PlanError.{PlanError}
+use Rattle.change_plan.specs.declared.error.PlanError.TheVariants.{NoMemory}
+use Rattle.command_answers.specs.DescriptionFaults.{MayRefuse, fault_words, is_no_memory}
+use Rattle.command_answers.specs.declared.error.DescriptionFault.{DescriptionFault}
+use Rattle.command_answers.specs.declared.error.DescriptionFault.TheVariants as fault
+use Rattle.command_words.specs.declared.words.TopCall.{TopCall}
+use Rattle.command_runs.specs.Descriptions.{HasGraph, IsDescriptionRefusal}
+use Rattle.command_runs.specs.Plans.{Starts, has_no_graph, HasPlan, HasSteps, RefusesPlan, starts_not, gets_full, made_of}
+use Rattle.command_runs.specs.Queries.{IsRefused}
+use Rattle.command_runs.specs.declared.query.Query.{Query}
+use Rattle.command_runs.specs.declared.query.Query.TheVariants as queries
+use Rattle.file_answers.specs.Planning.{IsFull}
+
+-- a refusal of a plan without moves
+pub full_words :
+    (old new : Graph) (made : Made) (e : PlanError) → (e ≡ NoMemory) ⊎ IsRefusal old new [] made e → MayRefuse (IsFull old new made) (fault.Plan e)
+full_words old new made e (inl memory) plain = absurd (is_memory e memory plain)
+  where
+    is_memory : (e : PlanError) → e ≡ NoMemory → is_no_memory (fault.Plan e) ≢ false
+    is_memory e none = rw none (λ is. cc)
+full_words old new made e (inr refuses) plain = record { fault = e; refuses = refuses; named = refl }
+
+pub plan_refused :
+    (text : List ℕ) (call target : TopCall) (old new : Graph) (words : List (List ℕ)) → Starts text call.top call.args old → HasGraph text target.top target.args new
+    → IsFull old new (made_of old) words → RefusesPlan text call target words
+plan_refused text call target old new words starts has full =
+    subst (RefusesPlan text call target) (sym full.named) (gets_full old new full.fault starts has full.refuses)
+
+pub plan_of :
+    (text : List ℕ) (call target : TopCall) (old new : Graph) (written : List ℕ) → Starts text call.top call.args old → HasGraph text target.top target.args new
+    → HasSteps old new written → HasPlan text call target written
+plan_of text call target old new written starts has s = record {
+  old = old;
+  new = new;
+  starts = starts;
+  has_graph = has;
+  has_steps = s;
+}
+
+-- a refusal by way of another
+pub refused_through :
+    (P Q : List (List ℕ) → Type 0) (e : DescriptionFault) → ((words : List (List ℕ)) → P words → Q words) → MayRefuse P e → MayRefuse Q e
+refused_through P Q e leads refuses plain = leads (fault_words e) (refuses plain)
+
+-- what reading refuses, whatever is wanted
+pub reading_refused : (query : Query) (text : List ℕ) (e : DescriptionFault) → ((top : List ℕ) (args : List ℤ) → MayRefuse (IsDescriptionRefusal text top args) e) → MayRefuse (IsRefused query text) e
+reading_refused (queries.Graph call) text e refuses plain = refuses call.top call.args plain
+reading_refused (queries.Plan call target) text e refuses plain = starts_not (fault_words e) (has_no_graph (fault_words e) (refuses call.top call.args plain))
+reading_refused (queries.Replay script) text e refuses plain = has_no_graph (fault_words e) (refuses script.name script.args plain)
+
+pub if_ok : {A E : Type 0} (r : Result A E) (P Q : A → Type 0) → ((a : A) → P a → Q a) → IfOk r P → IfOk r Q
+if_ok (Ok a) P Q leads holds = leads a holds
+if_ok (Err e) P Q leads holds = tt
+
+pub if_err : {A E : Type 0} (r : Result A E) (P Q : E → Type 0) → ((e : E) → P e → Q e) → IfErr r P → IfErr r Q
+if_err (Ok a) P Q leads holds = tt
+if_err (Err e) P Q leads holds = leads e holds
