@@ -3,7 +3,7 @@
 use config_graph::{Graph, List, Node, Text};
 use quiesce_core::Event;
 
-/// A report of a run, all of whose values are those that its text tells.
+/// A report of a run, as its text says it.
 #[derive(Debug, Drop)]
 pub struct Report {
     /// What the change did, in order.
@@ -52,7 +52,8 @@ pub enum HistoryLine {
     Reopen {
         port: u32,
     },
-    /// A look found the port drained: no transaction of this serial is open there.
+    /// A look found the port closed, and no transaction there that its owner began by itself. Its last serial is this; a
+    /// call of a service may be under way.
     Drained {
         port: u32,
         serial: u32,
@@ -70,7 +71,7 @@ pub enum HistoryLine {
         port: u32,
         serial: u32,
     },
-    /// A run of at least `k` transactions ended so many.
+    /// A `run` of `k` transactions ended so many.
     Run {
         k: u32,
         ended: u64,

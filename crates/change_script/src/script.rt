@@ -26,7 +26,7 @@ pub enum Body {
         name: Text,
         args: List<i32>,
     },
-    /// `run NUM`: at least so many transactions end, or all that can.
+    /// `run NUM`: rounds of turns are made until at least so many transactions ended, or one moves nothing.
     Run(u32),
     /// `change to C(ARGS) within NUM moving PATH -> PATH, ..`: the system becomes that of this component, after so
     /// many rounds at most; removed nodes hand their state to created ones.
@@ -36,7 +36,7 @@ pub enum Body {
         within: u32,
         moves: List<Move>,
     },
-    /// `finish within NUM`: the system runs until it is at rest, so many rounds at most.
+    /// `finish within NUM`: rounds are made until the system is at rest, or one moves nothing, so many at most.
     Finish(u32),
     /// `show`: the graph at this place is written.
     Show,

@@ -1,6 +1,6 @@
 //! A node's turn on one thread.
 
-ghost use Rattle.std.specs.Prelude.{◌≡◌, ◌++◌, ℕ, List, Some, OnOk, option_to_list};
+ghost use Rattle.std.specs.Prelude.{◌≡◌, ◌++◌, ℕ, List, Some, OnErr, OnOk, option_to_list};
 ghost use Rattle.node_host.specs.Hosted.{node_of};
 ghost use Rattle.node_host.specs.Trying.{own_box};
 ghost use Rattle.node_host.specs.Turning.{event_of, state_then};
@@ -27,6 +27,9 @@ pub fn turn_at_core<C: Component + Drop>(
     ensures fits { FitsCore gate.new.core.state node.new.seat.slot node.new.seat.known }
     ensures node { node_at gate.new.core.state.config node.new.seat.slot ≡ node_of node.new.slot node.new.first_port (C.state node.new.inner) }
     ensures exact { (held : List ℕ) → ⟦<PlainHints as Hints>⟧.tells hints.old node.old.slot ≡ Some held → OnOk result (event_of result ≡ move_of gate.old.core.state node.old.slot (C.state node.old.inner) (own_box node.old.slot node.old.first_port node.old.waiting held) begins) }
+    ensures place { (node.new.slot ≡ node.old.slot) × (node.new.first_port ≡ node.old.first_port) }
+    ensures past { node.new.past ≡ node.old.past }
+    ensures memory { OnErr result ((node.new.waiting ≡ node.old.waiting) × (node.new.seat ≡ node.old.seat) × (gate.new ≡ gate.old) × (hints.new ≡ hints.old)) }
     ensures logged { OnOk result (node.new.log.items ≡ node.old.log.items ++ option_to_list (event_of result)) }
     ensures state { OnOk result (gate.new.core.state ≡ state_then gate.old.core.state (event_of result)) }
 {
