@@ -39,7 +39,8 @@ pub fn starts_may_be_done()
 }
 
 /// Each event of a plan's commit may be done on a board after those before it, where the record notes the ports of all
-/// nodes that the plan freezes: so on every board a commit can't fail. After it the graph is the new one.
+/// nodes that the plan freezes: so on every board with the room that was reserved a commit can't fail. After it the graph
+/// is the new one.
 pub fn plans_may_be_carried_out()
     ensures may { (old new : Graph) (moves : List Move) (plan : Plan) (r : List Entry) → IsRecord r
         → MayCarryOut old new moves plan r → MayDoAll r (commit_events old new plan (config_of r)) }
