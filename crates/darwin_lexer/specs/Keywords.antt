@@ -87,6 +87,10 @@ kind_or_name (Some keyword) = Word keyword
 abbrev pub word_kind : List ℕ → TokenKind
 word_kind word = kind_or_name (keyword_of word)
 
+-- the first of these signs that stands at the front of a text
+abbrev pub sign_in : List ℕ → List Sign → Option Sign
+sign_in text some = find (λ sign. starts_with nat_eq text (sign_bytes sign)) some
+
 -- the sign at the front of a text, the longest
 abbrev pub sign_at : List ℕ → Option Sign
-sign_at text = find (λ sign. starts_with nat_eq text (sign_bytes sign)) signs
+sign_at text = sign_in text signs

@@ -1,8 +1,7 @@
-//! The keywords and the signs with their bytes, as two tables.
+//! The keywords and the signs with their bytes.
 
-ghost use Rattle.std.specs.Prelude.{◌≡◌, nat_eq};
-ghost use Rattle.std.specs.List.{starts_with};
-ghost use Rattle.darwin_lexer.specs.Keywords.{keyword_bytes, keyword_of, sign_at, sign_bytes, word_kind};
+ghost use Rattle.std.specs.Prelude.{◌≡◌, [], ◌∷◌};
+ghost use Rattle.darwin_lexer.specs.Keywords.{keyword_bytes, keyword_of, one_byte_signs, sign_at, sign_bytes, sign_in, two_byte_signs, word_kind};
 
 use crate::token::{Keyword, Sign, TokenKind};
 
@@ -18,33 +17,6 @@ pub const KEYWORDS: [Keyword; 11] = [
     Keyword::Int,
     Keyword::And,
     Keyword::Or,
-];
-
-/// The signs, those of two bytes first, so that the first that fits is the longest.
-pub const SIGNS: [Sign; 23] = [
-    Sign::DotDot,
-    Sign::DashDash,
-    Sign::LessEq,
-    Sign::GreaterEq,
-    Sign::EqEq,
-    Sign::NotEq,
-    Sign::OpenBrace,
-    Sign::CloseBrace,
-    Sign::OpenParen,
-    Sign::CloseParen,
-    Sign::OpenBracket,
-    Sign::CloseBracket,
-    Sign::Semicolon,
-    Sign::Colon,
-    Sign::Comma,
-    Sign::Dot,
-    Sign::Less,
-    Sign::Greater,
-    Sign::Plus,
-    Sign::Minus,
-    Sign::Star,
-    Sign::Slash,
-    Sign::Percent,
 ];
 
 impl Keyword {
@@ -121,17 +93,54 @@ pub fn word_kind(word: &[u8]) -> TokenKind
     }
 }
 
-/// Whether the sign stands at the front of `text`. Its first byte alone rules out most.
-fn begins_with(text: &[u8], sign: Sign) -> bool
-    ensures { result ≡ starts_with nat_eq text.now (sign_bytes sign) }
+/// The sign that two bytes are.
+fn sign_of_two(first: u8, second: u8) -> Option<Sign>
+    ensures { result ≡ sign_in (first ∷ second ∷ []) two_byte_signs }
 {
-    let bytes = sign.bytes();
-    text.first() == bytes.first() && text.starts_with(bytes)
+    match (first, second) {
+        (b'.', b'.') => Some(Sign::DotDot),
+        (b'-', b'-') => Some(Sign::DashDash),
+        (b'<', b'=') => Some(Sign::LessEq),
+        (b'>', b'=') => Some(Sign::GreaterEq),
+        (b'=', b'=') => Some(Sign::EqEq),
+        (b'!', b'=') => Some(Sign::NotEq),
+        _ => None,
+    }
+}
+
+/// The sign that one byte is.
+fn sign_of_one(byte: u8) -> Option<Sign>
+    ensures { result ≡ sign_in (byte ∷ []) one_byte_signs }
+{
+    match byte {
+        b'{' => Some(Sign::OpenBrace),
+        b'}' => Some(Sign::CloseBrace),
+        b'(' => Some(Sign::OpenParen),
+        b')' => Some(Sign::CloseParen),
+        b'[' => Some(Sign::OpenBracket),
+        b']' => Some(Sign::CloseBracket),
+        b';' => Some(Sign::Semicolon),
+        b':' => Some(Sign::Colon),
+        b',' => Some(Sign::Comma),
+        b'.' => Some(Sign::Dot),
+        b'<' => Some(Sign::Less),
+        b'>' => Some(Sign::Greater),
+        b'+' => Some(Sign::Plus),
+        b'-' => Some(Sign::Minus),
+        b'*' => Some(Sign::Star),
+        b'/' => Some(Sign::Slash),
+        b'%' => Some(Sign::Percent),
+        _ => None,
+    }
 }
 
 /// The sign at the front of `text`, the longest.
 pub fn sign_at(text: &[u8]) -> Option<Sign>
     ensures { result ≡ sign_at text.now }
 {
-    SIGNS.iter().copied().find(|sign| begins_with(text, *sign))
+    match text {
+        [] => None,
+        [byte] => sign_of_one(*byte),
+        [first, second, ..] => sign_of_two(*first, *second).or(sign_of_one(*first)),
+    }
 }
