@@ -43,6 +43,17 @@ pub lacks_port-at : (cs : List code.Component) (ports : List (List Name)) (compo
 lacks_port-at cs ports component port i ns are place at =
     ap (λ o. option_map_or (λ c. is_none (port_named c port)) o false) (component_named-at cs component (Some i) place) ∙ lacks_port-found (slice_get cs i) ns port (sym (slice_get-map names_in_component cs i) ∙ ap (λ ps. slice_get ps i) (sym are) ∙ at)
 
+port-found : (o : Option code.Component) (ns : List Name) (name : Name) → option_map names_in_component o ≡ Some ns → option_map (λ c. position (λ p. bytes_eq name p.name) c.ports) (option_map component_of o) ≡ Some (position (bytes_eq name) ns)
+port-found None ns name h = cc
+port-found (Some c) ns name h =
+    let e : names_in_component c ≡ ns = cc in
+    ap Some (position-map (λ p. bytes_eq name p.name) port_of c.ports.items ∙ sym (position-map (bytes_eq name) (λ p. p.name) c.ports.items) ∙ ap (position (bytes_eq name)) e)
+
+-- the place of a port in the component at a place
+pub port-at : (cs : List code.Component) (ports : List (List Name)) (i : ℕ) (ns : List Name) (name : Name) → ports ≡ names_of_ports cs → slice_get ports i ≡ Some ns → option_map (λ c. position (λ p. bytes_eq name p.name) c.ports) (slice_get (components_of cs) i) ≡ Some (position (bytes_eq name) ns)
+port-at cs ports i ns name are at =
+    ap (option_map (λ c. position (λ p. bytes_eq name p.name) c.ports)) (slice_get-map component_of cs i) ∙ port-found (slice_get cs i) ns name (sym (slice_get-map names_in_component cs i) ∙ ap (λ ps. slice_get ps i) (sym are) ∙ at)
+
 pub within_ports : (cs : List code.Component) (names : List Name) (ports : List (List Name)) (i : ℕ) → names ≡ names_of_components cs → ports ≡ names_of_ports cs → i < length names → i < length ports
 within_ports cs names ports i named are within =
     omega (arith, ap length named ∙ length-map cs (λ c. c.name), ap length are ∙ length-map cs names_in_component)

@@ -7,7 +7,7 @@ ghost use Rattle.darwin_parser.specs.Tree.{component_of, tree_of};
 ghost use Rattle.darwin_types.specs.declared.error.TypeError.TheVariants.{NoMemory};
 ghost use Rattle.darwin_types.specs.Faults.{Fault, NoFault};
 ghost use Rattle.darwin_types.specs.Checked.{description, Takes};
-ghost use Rattle.darwin_types.specs.Check.{Judges, components_of, unit_faults, component_faults, param_faults, array_name_faults, names_of_arrays, names_of_components, names_in_component};
+ghost use Rattle.darwin_types.specs.Check.{Judges, components_of, unit_faults, component_faults, param_faults, array_name_faults, names_of_arrays, names_of_components, names_of_ports, names_in_component};
 ghost use Rattle.darwin_types.specs.Scope.{is_primitive};
 
 use crate::TypeError;
@@ -35,30 +35,41 @@ pub fn check(alloc: Global, unit: Unit) -> Result<Checked, TypeError>
     ensures fault { IfErr result (Refuses NoMemory (Fault (tree_of unit))) }
 {
     let index = check_components(alloc, unit.components.as_slice())?;
-    let ComponentIndex { names, primitive } = index;
+    let ComponentIndex {
+        names,
+        ports,
+        primitive,
+    } = index;
     Ok(Checked {
         unit,
         names,
+        ports,
         primitive,
     })
 }
 
-/// The names of the components of a description, and which of them are primitive.
+/// The names of the components of a description, those of the ports of each, and which of them are primitive.
 #[derive(Drop)]
 struct ComponentIndex {
     names: Names,
+    ports: Vec<Names>,
     primitive: Vec<bool>,
 }
 
 fn check_components(alloc: Global, components: &[Component]) -> Result<ComponentIndex, TypeError>
     ensures judged { Judges (unit_faults (components_of components.now)) result }
     ensures names { IfOk result (λ index. index.names ≡ names_of_components components.now) }
+    ensures ports { IfOk result (λ index. index.ports.items ≡ names_of_ports components.now) }
     ensures primitive { IfOk result (λ index. index.primitive.items ≡ map is_primitive (components_of components.now)) }
 {
     let directory = Directory::of(alloc, components)?;
     let primitive = check_each(alloc, &directory)?;
-    let Directory { names, .. } = directory;
-    Ok(ComponentIndex { names, primitive })
+    let Directory { names, ports, .. } = directory;
+    Ok(ComponentIndex {
+        names,
+        ports,
+        primitive,
+    })
 }
 
 /// Checks the components one by one, and says of each whether it is primitive.

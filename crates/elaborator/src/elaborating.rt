@@ -63,7 +63,7 @@ fn graph_or_fault(
     ensures sound { IfOk result (λ g. Sound g) }
     ensures fault { IfErr result (Refuses NoMemory (Faults (description checked.now) top.now args.now)) }
 {
-    let directory = Directory::of(alloc, checked)?;
+    let directory = Directory::of(checked);
     let instance = top_of(alloc, &directory, top, args)?;
     let expansion = expand(alloc, directory, instance)?;
     build_graph(alloc, &expansion)

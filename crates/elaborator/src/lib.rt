@@ -11,7 +11,6 @@ mod instance;
 mod laws;
 mod links;
 mod making;
-mod name_index;
 mod nodes;
 mod opening;
 mod pairs;

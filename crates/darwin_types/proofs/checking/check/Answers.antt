@@ -19,5 +19,6 @@ invariant_of-result c =
     record {
       no_fault = no_fault (tree_of c.args.unit) (rw c.as_slice.ensures.value at c.in_ok-index.ensures.judged);
       named = rw c.as_slice.ensures.value at c.in_ok-index.ensures.names;
+      with_ports = rw c.as_slice.ensures.value at c.in_ok-index.ensures.ports;
       noted = rw c.as_slice.ensures.value at c.in_ok-index.ensures.primitive;
     }
