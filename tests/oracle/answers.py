@@ -5,6 +5,7 @@ import functools
 import os
 
 import model
+import runs
 import scripts
 from language import GREATEST, LEAST, Description
 
@@ -99,7 +100,66 @@ def replay(words, files):
     return answer
 
 
-COMMANDS = {b"flat": flat, b"plan": plan, b"replay": replay}
+def room(file, made, wanted):
+    """Refuses a plan for which there is no room beside what was made."""
+    if made[0] + wanted[0] > model.MAX_NODES:
+        raise Refusal(2, [b"description " + file + b": NodesFull %d %d" % (made[0], wanted[0])])
+    if made[1] + wanted[1] > model.MAX_PORTS:
+        raise Refusal(2, [b"description " + file + b": PortsFull %d %d" % (made[1], wanted[1])])
+
+
+def call_text(name, args):
+    return name.encode() + b"(" + b",".join(b"%d" % arg for arg in args) + b")"
+
+
+def used(files, name):
+    """The text of a description that a script uses, without a fault of its tokens, its grammar or its names."""
+    text = fetched(files, name, 2, b"description")
+    faults = described(text).faults
+    if faults:
+        raise Refusal(2, [b"description " + name + b": " + fault.encode() for fault in faults])
+    return text
+
+
+def statements_of(said, files):
+    """The statements of a script with their graphs and plans."""
+    made, count, last, text, file = [], (0, 0), model.EMPTY, None, None
+    for statement in said:
+        name = statement[0]
+        if name == "use":
+            file, text = statement[1], used(files, statement[1])
+        elif name == "start":
+            last = graph(text, file, statement[1], statement[2])
+            count = model.count_made(last)
+            room(file, (0, 0), count)
+            made.append(("start", call_text(*statement[1:3]), last))
+        elif name == "change":
+            _, top, args, within, moves = statement
+            new = graph(text, file, top, args)
+            fault = runs.move_fault(last, new, moves)
+            if fault:
+                raise Refusal(2, [b"description " + file + b": " + fault])
+            plan = runs.Plan(last, new, moves)
+            wanted = model.count_made(({path: new[0][path] for path in plan.created}, {port: None for port in new[1] if port[0] in set(plan.created)}))
+            room(file, count, wanted)
+            count = count[0] + wanted[0], count[1] + wanted[1]
+            made.append(("change", call_text(top, args), plan, new, within))
+            last = new
+        else:
+            made.append(statement)
+    return made
+
+
+def step(words, files):
+    """`step SCRIPT`"""
+    usage(len(words) == 2 and words[1])
+    said, fault = scripts.parse_script(fetched(files, words[1], 3, b"script"))
+    if fault:
+        raise Refusal(3, [b"script " + words[1] + b": " + fault.encode()])
+    return runs.report(statements_of(said, files))
+
+
+COMMANDS = {b"flat": flat, b"plan": plan, b"replay": replay, b"step": step}
 
 
 def wrong(words, files, status, written):
@@ -114,7 +174,8 @@ def wrong(words, files, status, written):
             except UnicodeDecodeError:
                 usage(False)
         usage(words and words[0] in COMMANDS)
-        wanted, is_open = {(0, COMMANDS[words[0]](words, files))}, False
+        answer = COMMANDS[words[0]](words, files)
+        wanted, is_open = {answer if isinstance(answer, tuple) else (0, answer)}, False
     except Refusal as refusal:
         wanted, is_open = refusal.answers, refusal.is_open
     if (status, written) in wanted:

@@ -142,7 +142,9 @@ def judge(words, files, status, written):
     words = [os.fsencode(word) for word in words]
     command = words[0].decode("utf-8", "replace") if words else ""
     file = words[1] if len(words) > 1 else b""
-    if status == 0 and command == "flat":
+    if command == "step" and len(words) == 2:
+        want(status in (0, 2, 3, 4, 7, 8), "a status that shouldn't come here")
+    elif status == 0 and command == "flat":
         graph(written)
     elif status == 0 and command == "plan":
         want(FREEZE.fullmatch(written), "no text of a plan")
