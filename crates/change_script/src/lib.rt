@@ -11,6 +11,7 @@ mod lines;
 mod numbers;
 mod paths;
 mod report;
+mod report_room;
 mod report_writing;
 mod script;
 mod script_files;

@@ -9,6 +9,7 @@ ghost use Rattle.change_script.specs.Reports.{HasOneMake, LogsAreMade, Version, 
 ghost use Rattle.change_script.specs.MadeNodes.{made_of};
 
 use crate::report::{HistoryLine, Last, NodeLog, Report};
+use crate::report_room::text_room;
 use config_graph::{Graph, Kind, NoMemory, Node, graph_text, kind_text};
 use itoa::Buffer;
 use quiesce_core::Event;
@@ -29,7 +30,7 @@ pub fn report_text(alloc: Global, report: &Report) -> Result<Vec<u8>, NoMemory>
     ensures { IfOk result (λ text. text.items ≡ report_text report.now) }
 {
     let made = list_made(alloc, report.history.items())?;
-    let mut text = Vec::new(alloc);
+    let mut text = Vec::with_capacity(alloc, text_room(report))?;
     push_one(&mut text, b"report", 2)?;
     push_history(&mut text, report.history.items())?;
     push_logs(&mut text, made.as_slice(), report.logs.items())?;
