@@ -5,8 +5,8 @@ use Rattle.std.specs.Option.{option_map_or}
 use Rattle.std.proofs.lemmas.Bool.{eq-eqb, eqb-true, false≢true, le-leb, lt-ltb, ltb-true, ne_eqb}
 use Rattle.config_graph.specs.Kinds.{row, calls_of, depends_on, mores_of}
 use Rattle.config_graph.specs.declared.node.Target.{Target}
-use Rattle.gate_word.specs.Phases.{is_answered, is_asked, is_idle, is_in_more}
-use Rattle.gate_word.specs.Words.{FitsWord, pack, unpack}
+use Rattle.gate_word.specs.Phases.{is_asked, is_idle, is_in_more}
+use Rattle.gate_word.specs.Words.{FitsWord, is_missing, pack, unpack}
 use Rattle.gate_word.specs.declared.word.Word.{Word}
 use Rattle.quiesce_core.specs.Doers.{is_of_change}
 use Rattle.quiesce_core.specs.Knowledge.{IsPortKnown, IsServed, KnowsService, known_next}
@@ -24,42 +24,29 @@ use Rattle.quiesce_core.specs.declared.known.Known.{Known}
 use Rattle.quiesce_core.specs.declared.known.PortKnown.{PortKnown}
 use Rattle.quiesce_core.specs.declared.known.Served.{Served}
 use Rattle.config_graph.proofs.KindLaws.{few_calls, few_mores, two_requires}
-use Rattle.base.proofs.OptionLaws.{Some-from_is_some, is_none-is_some}
+use Rattle.base.proofs.OptionLaws.{Some-from_is_some}
 use Rattle.quiesce_core.specs.declared.state.Service.{Service}
 use Rattle.quiesce_core.specs.declared.state.Slot.{Slot}
 use Rattle.quiesce_core.proofs.KnownLaws.{judged_calls, judged_ended, judged_heard, judged_mores, judged_serves_through, judged_taken}
+use Rattle.quiesce_core.proofs.StabilityLaws.{busy_is_live}
 use Rattle.quiesce_core.proofs.StateLaws.{served_busy, target_service_is}
-use Rattle.gate_word.proofs.PhaseLaws.{asked_busy, serving_busy}
+use Rattle.gate_word.proofs.PhaseLaws.{answered_not_more, asked_busy, more_not_answered, serving_busy}
 use Rattle.quiesce_core.proofs.LegalLaws.{allowed, legal}
 use Rattle.quiesce_core.proofs.RunLaws.{effect_config}
 use Rattle.quiesce_core.proofs.WordLaws.{port_words_decode, port_words_fit}
-use Rattle.port_gate.specs.Answers.{HasWord, IsSpentAt, IsTargetAt, SeeSays, is_missing}
+use Rattle.port_gate.specs.Answers.{HasWord, IsSpentAt, IsTargetAt, SeeSays}
 use Rattle.port_gate.specs.Looks.{Shows}
 use Rattle.port_gate.specs.Moves.{seen_by, with_seen}
 use Rattle.port_gate.specs.declared.answers.SeeAnswer.{SeeAnswer}
 use Rattle.port_gate.specs.declared.answers.SeeAnswer.TheVariants.{Answer, NotYet}
 use Rattle.port_gate.specs.declared.answers.SeeAnswer.TheVariants as see
-use Rattle.gate_word.specs.declared.phase.Phase.{Phase}
-use Rattle.gate_word.specs.declared.phase.Phase.TheVariants as phase
 use Rattle.std.proofs.Common.{inl, inr}
 use Rattle.std.proofs.lemmas.List.{length-set}
 use Rattle.std.proofs.lemmas.Option.{same_Some}
 use Rattle.base.proofs.PlaceLaws.{slice_get-set_cases}
 use Rattle.port_gate.specs.Core.{FitsCore, node_at}
 use Rattle.port_gate.specs.Seats.{HasEndedCalls, IsOwn, MayAsk, MayBegin, MayCall, MayEnd, MayGive, MayHear, MaySee, MaySendMore, MayTake, NodeAt, has_calls_left, has_heard, has_mores_left, port_known, serial_served, serves, value_seen}
-use Rattle.port_gate.proofs.CoreLemmas.{and_intro, busy_live, change_next_kept, fits_by_others, fits_by_own, known_there, made_slot, node_is, own_at, own_from, own_known, own_live, owner_is}
-
-answered_not_more : (f : Phase) → is_answered f ≡ true → is_in_more f ≡ false
-answered_not_more phase.Idle h = refl
-answered_not_more phase.Asked h = refl
-answered_not_more phase.Answered h = refl
-answered_not_more phase.More h = absurd (false≢true h)
-
-more_not_answered : (f : Phase) → is_in_more f ≡ true → is_answered f ≡ false
-more_not_answered phase.Idle h = refl
-more_not_answered phase.Asked h = refl
-more_not_answered phase.Answered h = absurd (false≢true h)
-more_not_answered phase.More h = refl
+use Rattle.port_gate.proofs.CoreLemmas.{and_intro, change_next_kept, fits_by_others, fits_by_own, known_there, made_slot, node_is, own_known, own_live, owner_is}
 
 one_doer : (o : Option ℕ) (n m : ℕ) → option_map_or (λ i. i == n) o false ≡ true → (m ≡ n → ⊥) → option_map_or (λ i. i == m) o false ≡ false
 one_doer None n m does other = absurd (false≢true does)
@@ -149,7 +136,7 @@ module _ (s : State) (wf : IsWellFormed s) (con : IsConsistent s) (n : ℕ) (w :
     served_busy_there = served_busy s u.port con n served.0 served.1 (sym served.2.port)
 
     served_live : is_live_port s.config u.port ≡ true
-    served_live = busy_live s wf con u.port (serving_busy (exchange s u.port).phase served_busy_there)
+    served_live = busy_is_live s u.port con (serving_busy (exchange s u.port).phase served_busy_there)
 
     served_serial : (serial_served w == (exchange s u.port).serial) ≡ true
     served_serial =
@@ -287,7 +274,7 @@ module _ (s : State) (wf : IsWellFormed s) (con : IsConsistent s) (n : ℕ) (w :
       let free_ : target_service s p ≡ None = target_service_is s p t linked_ ∙ ap (service s) here ∙ none_ in
       allowed s (Take p (exchange s p).serial (exchange s p).value)
       (record {
-        live = busy_live s wf con p (asked_busy (exchange s p).phase asked);
+        live = busy_is_live s p con (asked_busy (exchange s p).phase asked);
         asked = asked;
         untaken = ap (λ o. not (option_map_or (λ (x : Service). x.port == p) o false)) free_;
         free = ap is_none free_;

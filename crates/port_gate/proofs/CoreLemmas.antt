@@ -1,11 +1,10 @@
 -- What the state has of a node whose seat fits.
 use Rattle.std.proofs.Common.{◌≡◌, ◌∙◌, ℕ, suc, ◌+◌, ◌-◌, ◌^◌, ◌<◌, Bool, true, false, ◌&&◌, List, [], ◌∷◌, length, Option, Some, None, refl, ap, sym, subst, arith, rules}
-use Rattle.std.specs.Prelude.{slice_get, is_some}
+use Rattle.std.specs.Prelude.{slice_get}
 use Rattle.std.specs.Option.{option_map_or}
 use Rattle.std.proofs.lemmas.Bool.{false≢true, lt-ltb, true≢false}
 use Rattle.std.proofs.lemmas.Option.{slice_get-get_or, slice_get_within}
 use Rattle.config_graph.proofs.KindLaws.{two_requires}
-use Rattle.gate_word.specs.Phases.{is_idle}
 use Rattle.quiesce_core.specs.Effect.{change_next, effect}
 use Rattle.quiesce_core.specs.Doers.{is_of_change}
 use Rattle.quiesce_core.specs.Knowledge.{IsKnown, IsPortKnown, known_next, ports_known_next, port_at_start}
@@ -13,7 +12,7 @@ use Rattle.quiesce_core.specs.Legal.{Legal}
 use Rattle.quiesce_core.specs.Reach.{IsPortOf}
 use Rattle.quiesce_core.specs.Rules.{is_live_port}
 use Rattle.quiesce_core.specs.Runs.{is_doer}
-use Rattle.quiesce_core.specs.State.{Configuration, State, exchange, is_live, owner, slot}
+use Rattle.quiesce_core.specs.State.{Configuration, State, is_live, owner, slot}
 use Rattle.quiesce_core.specs.Traffic.{IsConsistent}
 use Rattle.quiesce_core.specs.WellFormed.{IsWellFormed}
 use Rattle.quiesce_core.specs.declared.event.Event.{Event}
@@ -24,7 +23,6 @@ use Rattle.quiesce_core.specs.declared.event.Event.TheVariants.{Begin, Call, Tak
 use Rattle.quiesce_core.proofs.KnownLaws.{known_by_others, known_by_own}
 use Rattle.quiesce_core.proofs.ReachLaws.{owner_of}
 use Rattle.quiesce_core.proofs.RunLaws.{effect_config}
-use Rattle.quiesce_core.proofs.StateLaws.{busy_made}
 use Rattle.port_gate.specs.Core.{FitsCore, node_at, node_in}
 use Rattle.port_gate.specs.Seats.{IsOwn, IsWithinLimits, NodeAt, port_known}
 
@@ -64,18 +62,6 @@ pub first_small : (s : State) (n : ℕ) (m : Slot) → IsWellFormed s → Some m
 first_small s n m wf there = omega (arith, (wf.sound.rows n m (sym there)).within, wf.sound.few_ports)
 
 module _ (s : State) (wf : IsWellFormed s) (con : IsConsistent s) where
-  -- a port that isn't idle is one of a live node
-  pub busy_live : (p : ℕ) → is_idle (exchange s p).phase ≡ false → is_live_port s.config p ≡ true
-  busy_live p busy =
-      by (is_live s.config (owner s.config p)) refl
-    where
-      made : p < length s.config.gates
-      made = busy_made s p con busy
-
-      by : (b : Bool) → is_live s.config (owner s.config p) ≡ b → is_live_port s.config p ≡ true
-      by true live = search (rules, lt-ltb p (length s.config.gates) made, live)
-      by false gone = absurd (false≢true (ap is_some (sym (con.removed p gone).1) ∙ con.linked p busy))
-
   module _ (n : ℕ) (w : Known) (fits : FitsCore s n w) where
     pub made_slot : (m : Slot) × (slot s.config n ≡ Some m)
     made_slot = live_in (slot s.config n) fits.live

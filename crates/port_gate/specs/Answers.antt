@@ -1,11 +1,10 @@
 -- What each answer of a gate says of the port's word and of its own numbers.
-use Rattle.std.specs.Prelude.{◌≡◌, ◌≢◌, ℕ, ◌<◌, ◌≤◌, Bool, true, false, not, ◌==◌, ◌&&◌, ◌||◌, length, Option, Some, None, is_none, is_some, option_map, ⊤}
-use Rattle.std.specs.Option.{option_map_or}
+use Rattle.std.specs.Prelude.{◌≡◌, ◌≢◌, ℕ, ◌<◌, ◌≤◌, Bool, true, false, not, ◌&&◌, length, Option, Some, None, is_none, is_some, option_map, ⊤}
 use Rattle.config_graph.specs.Kinds.{row}
 use Rattle.config_graph.specs.declared.TheConstants.{MAX_NODES}
 use Rattle.config_graph.specs.declared.node.Target.{Target}
 use Rattle.gate_word.specs.Phases.{is_asked, is_in_more}
-use Rattle.gate_word.specs.Words.{unpack}
+use Rattle.gate_word.specs.Words.{is_message_to, is_missing, unpack}
 use Rattle.gate_word.specs.declared.word.Word.{Word}
 use Rattle.quiesce_core.specs.Rules.{last_serial, value_limit}
 use Rattle.quiesce_core.specs.State.{State}
@@ -28,14 +27,6 @@ use Rattle.port_gate.specs.declared.answers.TakeAnswer.TheVariants.{Stale, Taken
 abbrev pub IsWordAt : Option State → ℕ → ℕ → Type 0
 IsWordAt None p w = ⊤
 IsWordAt (Some s) p w = w ≡ word_of s p
-
--- a request or message is asked of this node
-abbrev pub is_asked_of : ℕ → Word → Bool
-is_asked_of n w = is_asked w.phase && option_map_or (λ (t : Target). t.node == n) w.target false
-
--- no call can be made: there is no target, or no further serial
-abbrev pub is_missing : Word → Bool
-is_missing w = is_none w.target || w.serial == last_serial
 
 -- the cause of a refusal, by the word that it carries; a gate that tells its state answers it exactly where that holds of the state
 pub record HasWord (s : Option State) (p w : ℕ) (shows : Word → Bool) : Type 0 where
@@ -70,7 +61,7 @@ CallSays s p (Missed w) = HasWord s p w is_missing
 
 abbrev pub TakeSays : Option State → NodeAt → ℕ → TakeAnswer → Type 0
 TakeSays s n p (Taken x k v) = (x < length (row n.kind).provides) × (k ≤ last_serial) × (v < value_limit)
-TakeSays s n p (Stale w) = HasWord s p w (λ x. not (is_asked_of n.slot x))
+TakeSays s n p (Stale w) = HasWord s p w (λ x. not (is_message_to n.slot x))
 
 abbrev pub SeeSays : Option State → ℕ → SeeAnswer → Type 0
 SeeSays s p (see.Answer v) = (v < value_limit) × IsShownAt s p (see.Answer v)

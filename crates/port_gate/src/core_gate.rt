@@ -3,7 +3,7 @@
 ghost use Rattle.std.specs.Prelude.{◌≡◌, ◌≢◌, ◌<◌, ◌^◌, ℕ, slice_index_or, [], ◌∷◌, true, false, Some, None};
 ghost use Rattle.gate_word.specs.Phases as phases;
 ghost use Rattle.gate_word.specs.Phases.{is_idle};
-ghost use Rattle.gate_word.specs.Words.{FitsWord};
+ghost use Rattle.gate_word.specs.Words.{FitsWord, is_missing};
 ghost use Rattle.port_gate.specs.Looks.{Shows};
 ghost use Rattle.quiesce_core.specs.Traffic.{IsConsistent};
 ghost use Rattle.quiesce_core.specs.WellFormed.{IsWellFormed};
@@ -17,7 +17,7 @@ ghost use Rattle.quiesce_core.specs.declared.known.Known.{Known as Knows};
 ghost use Rattle.port_gate.specs.Core.{FitsCore, node_at, within_limits};
 ghost use Rattle.port_gate.specs.Moves.{Does};
 ghost use Rattle.port_gate.specs.Noting.{CanCount};
-ghost use Rattle.port_gate.specs.Answers.{CallSays, is_missing};
+ghost use Rattle.port_gate.specs.Answers.{CallSays};
 ghost use Rattle.port_gate.specs.Moves.{events_of_call};
 ghost use Rattle.port_gate.specs.Seats.{MayCall, serial_served, value_seen};
 
@@ -71,6 +71,8 @@ impl GateSeat for CoreSeat {
     ghost known = { λ s. s.known };
 
     ghost tells = { λ s. None };
+
+    ghost loads = { λ s. None };
 
     fn slot(&self) -> u32 {
         self.slot

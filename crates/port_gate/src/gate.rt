@@ -3,6 +3,7 @@
 ghost use Rattle.std.specs.Prelude.{◌≡◌, ◌≢◌, ◌<◌, ℕ, List, Option, []};
 ghost use Rattle.config_graph.specs.declared.TheConstants.{MAX_NODES};
 ghost use Rattle.port_gate.specs.Answers.{BeginSays, CallSays, HearSays, SeeSays, TakeSays};
+ghost use Rattle.port_gate.specs.Loads.{Loads, LoadsAt, LoadsHear, LoadsNothing, LoadsTake, TellsLoads, begin_shows, call_shows, hear_shows, see_shows, take_shows};
 ghost use Rattle.port_gate.specs.Moves as moves;
 ghost use Rattle.port_gate.specs.Moves.{Does};
 ghost use Rattle.port_gate.specs.Seats.{IsWithinLimits, MayAsk, MayBegin, MayCall, MayEnd, MayGive, MayHear, MaySee, MaySendMore, MayTake, NodeAt};
@@ -22,6 +23,9 @@ pub trait GateSeat {
 
     /// The events of its node, where the seat tells them.
     ghost tells: { Self → Option (List Event) };
+
+    /// The words that it loaded, where the seat tells them.
+    ghost loads: { Self → Option Loads };
 
     fn slot(&self) -> u32
         ensures { result ≡ slot_of self.now };
@@ -48,7 +52,8 @@ pub trait PortGate {
         ensures node { node self.new seat.new ≡ node self.old seat.old }
         ensures others { (other : Self.Seat) → Self.Seat.slot_of other ≢ Self.Seat.slot_of seat.old → fits self.old other → fits self.new other × (node self.new other ≡ node self.old other) }
         ensures does { Does (node self.old seat.old) (moves.events_of_begin port value result) (Self.Seat.known seat.old) (Self.Seat.known seat.new) (Self.Seat.tells seat.old) (Self.Seat.tells seat.new) (state self.old) (state self.new) }
-        ensures says { BeginSays (state self.old) port result };
+        ensures says { BeginSays (state self.old) port result }
+        ensures loads { TellsLoads (LoadsAt port (begin_shows result)) (Self.Seat.loads seat.old) (Self.Seat.loads seat.new) };
 
     /// Makes a call of the service that the node is in, whether the gate is closed or not.
     fn call(&mut self, seat: &mut Self::Seat, port: u32, value: u32) -> CallAnswer
@@ -58,7 +63,8 @@ pub trait PortGate {
         ensures node { node self.new seat.new ≡ node self.old seat.old }
         ensures others { (other : Self.Seat) → Self.Seat.slot_of other ≢ Self.Seat.slot_of seat.old → fits self.old other → fits self.new other × (node self.new other ≡ node self.old other) }
         ensures does { Does (node self.old seat.old) (moves.events_of_call port value result) (Self.Seat.known seat.old) (Self.Seat.known seat.new) (Self.Seat.tells seat.old) (Self.Seat.tells seat.new) (state self.old) (state self.new) }
-        ensures says { CallSays (state self.old) port result };
+        ensures says { CallSays (state self.old) port result }
+        ensures loads { TellsLoads (LoadsAt port (call_shows result)) (Self.Seat.loads seat.old) (Self.Seat.loads seat.new) };
 
     /// Takes a request up that is asked of the node at another's port.
     fn take(&mut self, seat: &mut Self::Seat, port: u32) -> TakeAnswer
@@ -68,7 +74,8 @@ pub trait PortGate {
         ensures node { node self.new seat.new ≡ node self.old seat.old }
         ensures others { (other : Self.Seat) → Self.Seat.slot_of other ≢ Self.Seat.slot_of seat.old → fits self.old other → fits self.new other × (node self.new other ≡ node self.old other) }
         ensures does { Does (node self.old seat.old) (moves.events_of_take port result) (Self.Seat.known seat.old) (Self.Seat.known seat.new) (Self.Seat.tells seat.old) (Self.Seat.tells seat.new) (state self.old) (state self.new) }
-        ensures says { TakeSays (state self.old) (node self.old seat.old) port result };
+        ensures says { TakeSays (state self.old) (node self.old seat.old) port result }
+        ensures loads { TellsLoads (LoadsTake port (take_shows (node self.old seat.old).slot result)) (Self.Seat.loads seat.old) (Self.Seat.loads seat.new) };
 
     /// Answers the request that the node services.
     fn give(&mut self, seat: &mut Self::Seat, port: u32, value: u32)
@@ -77,7 +84,8 @@ pub trait PortGate {
         ensures fits { fits self.new seat.new }
         ensures node { node self.new seat.new ≡ node self.old seat.old }
         ensures others { (other : Self.Seat) → Self.Seat.slot_of other ≢ Self.Seat.slot_of seat.old → fits self.old other → fits self.new other × (node self.new other ≡ node self.old other) }
-        ensures does { Does (node self.old seat.old) (moves.events_of_give port value (Self.Seat.known seat.old)) (Self.Seat.known seat.old) (Self.Seat.known seat.new) (Self.Seat.tells seat.old) (Self.Seat.tells seat.new) (state self.old) (state self.new) };
+        ensures does { Does (node self.old seat.old) (moves.events_of_give port value (Self.Seat.known seat.old)) (Self.Seat.known seat.old) (Self.Seat.known seat.new) (Self.Seat.tells seat.old) (Self.Seat.tells seat.new) (state self.old) (state self.new) }
+        ensures loads { TellsLoads LoadsNothing (Self.Seat.loads seat.old) (Self.Seat.loads seat.new) };
 
     /// Looks for a reply at a port of the node's own that isn't idle. It is no event.
     fn see(&mut self, seat: &mut Self::Seat, port: u32) -> SeeAnswer
@@ -89,7 +97,8 @@ pub trait PortGate {
         ensures known { Self.Seat.known seat.new ≡ moves.with_seen (node self.old seat.old) port result (Self.Seat.known seat.old) }
         ensures events { Self.Seat.tells seat.new ≡ Self.Seat.tells seat.old }
         ensures state { state self.new ≡ state self.old }
-        ensures says { SeeSays (state self.old) port result };
+        ensures says { SeeSays (state self.old) port result }
+        ensures loads { TellsLoads (LoadsAt port (see_shows result)) (Self.Seat.loads seat.old) (Self.Seat.loads seat.new) };
 
     /// Ends a transaction whose answer was seen.
     fn end(&mut self, seat: &mut Self::Seat, port: u32)
@@ -98,7 +107,8 @@ pub trait PortGate {
         ensures fits { fits self.new seat.new }
         ensures node { node self.new seat.new ≡ node self.old seat.old }
         ensures others { (other : Self.Seat) → Self.Seat.slot_of other ≢ Self.Seat.slot_of seat.old → fits self.old other → fits self.new other × (node self.new other ≡ node self.old other) }
-        ensures does { Does (node self.old seat.old) (moves.events_of_end (node self.old seat.old) port (Self.Seat.known seat.old)) (Self.Seat.known seat.old) (Self.Seat.known seat.new) (Self.Seat.tells seat.old) (Self.Seat.tells seat.new) (state self.old) (state self.new) };
+        ensures does { Does (node self.old seat.old) (moves.events_of_end (node self.old seat.old) port (Self.Seat.known seat.old)) (Self.Seat.known seat.old) (Self.Seat.known seat.new) (Self.Seat.tells seat.old) (Self.Seat.tells seat.new) (state self.old) (state self.new) }
+        ensures loads { TellsLoads LoadsNothing (Self.Seat.loads seat.old) (Self.Seat.loads seat.new) };
 
     /// Sends an intermediate reply for the request that the node services.
     fn more(&mut self, seat: &mut Self::Seat, port: u32, value: u32)
@@ -107,7 +117,8 @@ pub trait PortGate {
         ensures fits { fits self.new seat.new }
         ensures node { node self.new seat.new ≡ node self.old seat.old }
         ensures others { (other : Self.Seat) → Self.Seat.slot_of other ≢ Self.Seat.slot_of seat.old → fits self.old other → fits self.new other × (node self.new other ≡ node self.old other) }
-        ensures does { Does (node self.old seat.old) (moves.events_of_more port value (Self.Seat.known seat.old)) (Self.Seat.known seat.old) (Self.Seat.known seat.new) (Self.Seat.tells seat.old) (Self.Seat.tells seat.new) (state self.old) (state self.new) };
+        ensures does { Does (node self.old seat.old) (moves.events_of_more port value (Self.Seat.known seat.old)) (Self.Seat.known seat.old) (Self.Seat.known seat.new) (Self.Seat.tells seat.old) (Self.Seat.tells seat.new) (state self.old) (state self.new) }
+        ensures loads { TellsLoads LoadsNothing (Self.Seat.loads seat.old) (Self.Seat.loads seat.new) };
 
     /// Replies to an intermediate reply that was seen.
     fn ask(&mut self, seat: &mut Self::Seat, port: u32, value: u32)
@@ -116,7 +127,8 @@ pub trait PortGate {
         ensures fits { fits self.new seat.new }
         ensures node { node self.new seat.new ≡ node self.old seat.old }
         ensures others { (other : Self.Seat) → Self.Seat.slot_of other ≢ Self.Seat.slot_of seat.old → fits self.old other → fits self.new other × (node self.new other ≡ node self.old other) }
-        ensures does { Does (node self.old seat.old) (moves.events_of_ask (node self.old seat.old) port value (Self.Seat.known seat.old)) (Self.Seat.known seat.old) (Self.Seat.known seat.new) (Self.Seat.tells seat.old) (Self.Seat.tells seat.new) (state self.old) (state self.new) };
+        ensures does { Does (node self.old seat.old) (moves.events_of_ask (node self.old seat.old) port value (Self.Seat.known seat.old)) (Self.Seat.known seat.old) (Self.Seat.known seat.new) (Self.Seat.tells seat.old) (Self.Seat.tells seat.new) (state self.old) (state self.new) }
+        ensures loads { TellsLoads LoadsNothing (Self.Seat.loads seat.old) (Self.Seat.loads seat.new) };
 
     /// Looks for the further message for which the node's service waits.
     fn hear(&mut self, seat: &mut Self::Seat, port: u32) -> HearAnswer
@@ -126,7 +138,8 @@ pub trait PortGate {
         ensures node { node self.new seat.new ≡ node self.old seat.old }
         ensures others { (other : Self.Seat) → Self.Seat.slot_of other ≢ Self.Seat.slot_of seat.old → fits self.old other → fits self.new other × (node self.new other ≡ node self.old other) }
         ensures does { Does (node self.old seat.old) (moves.events_of_hear port (Self.Seat.known seat.old) result) (Self.Seat.known seat.old) (Self.Seat.known seat.new) (Self.Seat.tells seat.old) (Self.Seat.tells seat.new) (state self.old) (state self.new) }
-        ensures says { HearSays (state self.old) port result };
+        ensures says { HearSays (state self.old) port result }
+        ensures loads { TellsLoads (LoadsHear port (hear_shows result)) (Self.Seat.loads seat.old) (Self.Seat.loads seat.new) };
 
     /// A law: a seat that fits is one of a slot and of ports as one run has them.
     ghost within: { (gate : Self) (seat : Self.Seat) → fits gate seat → IsWithinLimits (node gate seat) × ((node gate seat).slot ≡ Self.Seat.slot_of seat) };
