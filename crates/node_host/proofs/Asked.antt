@@ -3,7 +3,7 @@ use Rattle.std.proofs.Common.{inl, inr, ◌≤◌, ℕ, arith, subst}
 use Rattle.port_queue.specs.Inboxes.{Counts, Rose}
 use Rattle.node_host.specs.Trying.{IsAsked, IsGrown, LookedAt}
 
-rose_since : (a b c : ℕ) → a ≤ b → Rose b c → Rose a c
+pub rose_since : (a b c : ℕ) → a ≤ b → Rose b c → Rose a c
 rose_since a b c few rose = (omega (arith, few, rose.0), λ short. grind (arith, few, rose.0, rose.1, short))
 
 pub asked_since : (a b c : Counts) → IsGrown a b → LookedAt b c → IsAsked a c

@@ -7,6 +7,7 @@ mod Growing
 mod Hinting
 mod Idle
 mod InService
+mod Loading
 mod Looking
 mod Moving
 mod Opening
@@ -14,3 +15,4 @@ mod Permitted
 mod Placing
 mod Replying
 mod Still
+mod Tries

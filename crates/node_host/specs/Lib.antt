@@ -4,6 +4,7 @@ pub mod HostedProps
 pub mod Moved
 pub mod Told
 pub mod Trying
+pub mod Tried
 pub mod Posting
 pub mod Awaiting
 pub mod Turning

@@ -1,6 +1,7 @@
 -- What becomes of the hint of a request that a node sends.
-use Rattle.std.specs.Prelude.{◌≡◌, ◌≢◌, ◌+◌, ◌-◌, ℕ, Bool, true, false, List, Option, Some, None, slice_index_or, slice_set, if◌then◌else◌}
+use Rattle.std.specs.Prelude.{◌≡◌, ◌≢◌, ◌+◌, ◌-◌, ℕ, Bool, true, false, List, Option, Some, None, is_none, slice_index_or, slice_set, if◌then◌else◌}
 use Rattle.port_gate.specs.Answers.{IsTargetAt}
+use Rattle.port_gate.specs.Loads.{IsLoaded, Loads, TellsLoads, leads_to}
 use Rattle.port_gate.specs.Seats.{NodeAt}
 use Rattle.port_queue.specs.Inboxes.{Counts, CountsNext, after_next, after_post, front, has_room}
 use Rattle.quiesce_core.specs.State.{State}
@@ -8,6 +9,7 @@ use Rattle.quiesce_core.specs.declared.event.Event.{Event}
 use Rattle.quiesce_core.specs.declared.event.Event.TheVariants.{Begin, Call}
 use Rattle.quiesce_core.specs.declared.known.Known.{Known}
 use Rattle.node_host.specs.Told.{IsTold}
+use Rattle.node_host.specs.Tried.{is_passed}
 use Rattle.node_host.specs.Trying.{CountsTried}
 
 -- what contracts see of the inboxes of all nodes, and of the hints of one node that wait
@@ -27,10 +29,17 @@ pub record IsPosted (first r m : ℕ) (old new : Hinted) : Type 0 where
   pub counts : (other : ℕ) → other ≢ m → new.counts other ≡ old.counts other
   pub told : (other : ℕ) → other ≢ m → new.told other ≡ old.told other
 
--- it is posted for the node to which the port leads
-pub record IsSent (o : Option State) (first p : ℕ) (old new : Hinted) : Type 0 where
+-- what contracts see of a gate: its state, where it tells that, and what the node's seat tells of its loads before and after
+pub record GateSeen : Type 0 where
+  pub state : Option State
+  pub before : Option Loads
+  pub after : Option Loads
+
+-- it is posted for the node to which the port leads, by the gate's state and by the word that the seat loaded
+pub record IsSent (g : GateSeen) (first p : ℕ) (old new : Hinted) : Type 0 where
   pub target : ℕ
-  pub leads : IsTargetAt o p target
+  pub leads : IsTargetAt g.state p target
+  pub loaded : TellsLoads (IsLoaded p (leads_to target)) g.before g.after
   pub posted : IsPosted first (p - first) target old new
 
 -- whether it is an event that asks something of another node
@@ -40,10 +49,10 @@ is_asking (Some (Call p k v)) = true
 is_asking _ = false
 
 -- the hint of an event that asks, and of no other
-abbrev pub HintOf : Option State → ℕ → Option Event → Hinted → Hinted → Type 0
-HintOf o first (Some (Begin p k v)) old new = IsSent o first p old new
-HintOf o first (Some (Call p k v)) old new = IsSent o first p old new
-HintOf o first _ old new = new ≡ old
+abbrev pub HintOf : GateSeen → ℕ → Option Event → Hinted → Hinted → Type 0
+HintOf g first (Some (Begin p k v)) old new = IsSent g first p old new
+HintOf g first (Some (Call p k v)) old new = IsSent g first p old new
+HintOf g first _ old new = new ≡ old
 
 -- ---- all that a turn does with hints
 
@@ -73,20 +82,22 @@ Looked true slot old new = IsLooked slot old new
 Looked false slot old new = new ≡ old
 
 -- where the inbox was asked, it was so before the event, whose hint is sent then
-pub record IsSentAfter (o : Option State) (slot first : ℕ) (asked : Bool) (e : Option Event) (old new : Hinted) : Type 0 where
+pub record IsSentAfter (g : GateSeen) (slot first : ℕ) (asked : Bool) (e : Option Event) (old new : Hinted) : Type 0 where
   pub between : Hinted
   pub looked : Looked asked slot old between
-  pub sent : HintOf o first e between new
+  pub sent : HintOf g first e between new
 
--- the inbox is asked where the node is in no service, and exactly where the rule says so, if the gate tells its state
-pub record IsSentBy (o : Option State) (n : NodeAt) (known : Known) (rule : State → Bool) (e : Option Event) (old new : Hinted) : Type 0 where
+-- The inbox is asked where the node is in no service and no move before that one was made; if the gate tells its state, exactly where the
+-- rule says so.
+pub record IsSentBy (g : GateSeen) (n : NodeAt) (known : Known) (rule : State → Bool) (e : Option Event) (old new : Hinted) : Type 0 where
   pub asked : Bool
   pub free : asked ≡ true → known.service ≡ None
-  pub ruled : (s : State) → IsTold o n known s → asked ≡ rule s
-  pub after : IsSentAfter o n.slot n.first asked e old new
+  pub passed : is_passed 2 e ≡ true → asked ≡ is_none known.service
+  pub ruled : (s : State) → IsTold g.state n known s → asked ≡ rule s
+  pub after : IsSentAfter g n.slot n.first asked e old new
 
 -- a turn posts the hints that wait, then asks the inbox, and then sends the hint of its event
-pub record IsHinted (o : Option State) (n : NodeAt) (known : Known) (rule : State → Bool) (e : Option Event) (old new : Hinted) : Type 0 where
+pub record IsHinted (g : GateSeen) (n : NodeAt) (known : Known) (rule : State → Bool) (e : Option Event) (old new : Hinted) : Type 0 where
   pub posted : Hinted
   pub waits : ArePosted n.first old posted
-  pub sent : IsSentBy o n known rule e posted new
+  pub sent : IsSentBy g n known rule e posted new

@@ -8,6 +8,8 @@ ghost use Rattle.node_host.specs.Told.{IsTold};
 ghost use Rattle.node_host.specs.Trying.{LookedAt};
 ghost use Rattle.quiesce_core.specs.State.{State, service};
 ghost use Rattle.turns.specs.Turn.{begins, looks, move_of, or_else, serves, takes};
+ghost use Rattle.node_host.specs.Tried.{AreLaterTried, AreMovesTried, IsTried, Keeps, is_passed};
+ghost use Rattle.port_gate.specs.Loads.{TellsLoads};
 
 use crate::node::HostNode;
 use component_trait::Component;
@@ -35,8 +37,11 @@ impl<C: Component + Drop, S: GateSeat + Drop> HostNode<C, S> {
         ensures place { (self.new.slot ≡ self.old.slot) × (self.new.first_port ≡ self.old.first_port) }
         ensures past { self.new.past ≡ self.old.past }
         ensures looked { result ≡ None → (C.state self.old.inner).service ≡ None → LookedAt (H.counts hints.old self.old.slot) (H.counts hints.new self.old.slot) }
-        ensures sent { IsSentAfter (G.state gate.old) self.old.slot self.old.first_port true result (record { waiting = self.old.waiting; counts = H.counts hints.old; told = H.tells hints.old }) (record { waiting = self.new.waiting; counts = H.counts hints.new; told = H.tells hints.new }) }
+        ensures sent { IsSentAfter (record { state = G.state gate.old; before = S.loads self.old.seat; after = S.loads self.new.seat }) self.old.slot self.old.first_port true result (record { waiting = self.old.waiting; counts = H.counts hints.old; told = H.tells hints.old }) (record { waiting = self.new.waiting; counts = H.counts hints.new; told = H.tells hints.new }) }
         ensures exact { (s : State) (held : List ℕ) → IsTold (G.state gate.old) (node_of self.old.slot self.old.first_port (C.state self.old.inner)) (S.known self.old.seat) s → H.tells hints.old self.old.slot ≡ Some held → result ≡ or_else (takes s self.old.slot held) (if allowed then begins s self.old.slot (C.state self.old.inner) else None) }
+        ensures passed { is_passed 2 result ≡ true }
+        ensures loads { TellsLoads (Keeps 3 self.old.first_port self.old.known) (S.loads self.old.seat) (S.loads self.new.seat) }
+        ensures tried { AreLaterTried (node_of self.old.slot self.old.first_port (C.state self.old.inner)) (C.state self.old.inner) self.old.known allowed result (H.counts hints.old self.old.slot) (H.counts hints.new self.old.slot) (S.loads self.old.seat) (S.loads self.new.seat) }
     {
         match self.take_next(gate, hints) {
             Some(event) => Some(event),
@@ -62,8 +67,11 @@ impl<C: Component + Drop, S: GateSeat + Drop> HostNode<C, S> {
         ensures place { (self.new.slot ≡ self.old.slot) × (self.new.first_port ≡ self.old.first_port) }
         ensures past { self.new.past ≡ self.old.past }
         ensures looked { result ≡ None → (C.state self.old.inner).service ≡ None → LookedAt (H.counts hints.old self.old.slot) (H.counts hints.new self.old.slot) }
-        ensures sent { IsSentAfter (G.state gate.old) self.old.slot self.old.first_port (is_none self.old.known.service) result (record { waiting = self.old.waiting; counts = H.counts hints.old; told = H.tells hints.old }) (record { waiting = self.new.waiting; counts = H.counts hints.new; told = H.tells hints.new }) }
+        ensures sent { IsSentAfter (record { state = G.state gate.old; before = S.loads self.old.seat; after = S.loads self.new.seat }) self.old.slot self.old.first_port (is_none self.old.known.service) result (record { waiting = self.old.waiting; counts = H.counts hints.old; told = H.tells hints.old }) (record { waiting = self.new.waiting; counts = H.counts hints.new; told = H.tells hints.new }) }
         ensures exact { (s : State) (held : List ℕ) → IsTold (G.state gate.old) (node_of self.old.slot self.old.first_port (C.state self.old.inner)) (S.known self.old.seat) s → H.tells hints.old self.old.slot ≡ Some held → result ≡ or_else (if is_none (service s self.old.slot) then takes s self.old.slot held else None) (if allowed then begins s self.old.slot (C.state self.old.inner) else None) }
+        ensures passed { is_passed 2 result ≡ true }
+        ensures loads { TellsLoads (Keeps 3 self.old.first_port self.old.known) (S.loads self.old.seat) (S.loads self.new.seat) }
+        ensures tried { AreLaterTried (node_of self.old.slot self.old.first_port (C.state self.old.inner)) (C.state self.old.inner) self.old.known allowed result (H.counts hints.old self.old.slot) (H.counts hints.new self.old.slot) (S.loads self.old.seat) (S.loads self.new.seat) }
     {
         if self.known.service.is_some() {
             self.begin_if(gate, hints, allowed)
@@ -90,8 +98,11 @@ impl<C: Component + Drop, S: GateSeat + Drop> HostNode<C, S> {
         ensures place { (self.new.slot ≡ self.old.slot) × (self.new.first_port ≡ self.old.first_port) }
         ensures past { self.new.past ≡ self.old.past }
         ensures looked { result ≡ None → (C.state self.old.inner).service ≡ None → LookedAt (H.counts hints.old self.old.slot) (H.counts hints.new self.old.slot) }
-        ensures sent { IsSentBy (G.state gate.old) (node_of self.old.slot self.old.first_port (C.state self.old.inner)) (S.known self.old.seat) (λ s. is_none (serves s self.old.slot (C.state self.old.inner)) && is_none (service s self.old.slot)) result (record { waiting = self.old.waiting; counts = H.counts hints.old; told = H.tells hints.old }) (record { waiting = self.new.waiting; counts = H.counts hints.new; told = H.tells hints.new }) }
+        ensures sent { IsSentBy (record { state = G.state gate.old; before = S.loads self.old.seat; after = S.loads self.new.seat }) (node_of self.old.slot self.old.first_port (C.state self.old.inner)) (S.known self.old.seat) (λ s. is_none (serves s self.old.slot (C.state self.old.inner)) && is_none (service s self.old.slot)) result (record { waiting = self.old.waiting; counts = H.counts hints.old; told = H.tells hints.old }) (record { waiting = self.new.waiting; counts = H.counts hints.new; told = H.tells hints.new }) }
         ensures exact { (s : State) (held : List ℕ) → IsTold (G.state gate.old) (node_of self.old.slot self.old.first_port (C.state self.old.inner)) (S.known self.old.seat) s → H.tells hints.old self.old.slot ≡ Some held → result ≡ or_else (serves s self.old.slot (C.state self.old.inner)) (or_else (if is_none (service s self.old.slot) then takes s self.old.slot held else None) (if allowed then begins s self.old.slot (C.state self.old.inner) else None)) }
+        ensures passed { is_passed 1 result ≡ true }
+        ensures loads { TellsLoads (Keeps 2 self.old.first_port self.old.known) (S.loads self.old.seat) (S.loads self.new.seat) }
+        ensures tried { AreMovesTried (node_of self.old.slot self.old.first_port (C.state self.old.inner)) (C.state self.old.inner) self.old.known allowed result (H.counts hints.old self.old.slot) (H.counts hints.new self.old.slot) (S.loads self.old.seat) (S.loads self.new.seat) }
     {
         match self.serve(gate, hints) {
             Some(event) => Some(event),
@@ -117,8 +128,9 @@ impl<C: Component + Drop, S: GateSeat + Drop> HostNode<C, S> {
         ensures place { (self.new.slot ≡ self.old.slot) × (self.new.first_port ≡ self.old.first_port) }
         ensures past { self.new.past ≡ self.old.past }
         ensures looked { result ≡ None → (C.state self.old.inner).service ≡ None → LookedAt (H.counts hints.old self.old.slot) (H.counts hints.new self.old.slot) }
-        ensures sent { IsSentBy (G.state gate.old) (node_of self.old.slot self.old.first_port (C.state self.old.inner)) (S.known self.old.seat) (λ s. looks s self.old.slot (C.state self.old.inner)) result (record { waiting = self.old.waiting; counts = H.counts hints.old; told = H.tells hints.old }) (record { waiting = self.new.waiting; counts = H.counts hints.new; told = H.tells hints.new }) }
+        ensures sent { IsSentBy (record { state = G.state gate.old; before = S.loads self.old.seat; after = S.loads self.new.seat }) (node_of self.old.slot self.old.first_port (C.state self.old.inner)) (S.known self.old.seat) (λ s. looks s self.old.slot (C.state self.old.inner)) result (record { waiting = self.old.waiting; counts = H.counts hints.old; told = H.tells hints.old }) (record { waiting = self.new.waiting; counts = H.counts hints.new; told = H.tells hints.new }) }
         ensures exact { (s : State) (held : List ℕ) → IsTold (G.state gate.old) (node_of self.old.slot self.old.first_port (C.state self.old.inner)) (S.known self.old.seat) s → H.tells hints.old self.old.slot ≡ Some held → result ≡ move_of s self.old.slot (C.state self.old.inner) held allowed }
+        ensures tried { IsTried (node_of self.old.slot self.old.first_port (C.state self.old.inner)) (C.state self.old.inner) self.old.known allowed result (H.counts hints.old self.old.slot) (H.counts hints.new self.old.slot) (S.loads self.old.seat) (S.loads self.new.seat) }
     {
         match self.end_or_ask(gate) {
             Some(event) => Some(event),

@@ -1,6 +1,6 @@
 //! A node's last move: it begins what it wants.
 
-ghost use Rattle.std.specs.Prelude.{◌≡◌, ◌≢◌, ℕ, ◌<◌, List, length, map, vec_capacity, None, Some, if◌then◌else◌};
+ghost use Rattle.std.specs.Prelude.{◌≡◌, ◌≢◌, ℕ, ◌<◌, List, length, map, vec_capacity, None, Some, if◌then◌else◌, true};
 ghost use Rattle.component_trait.specs.Bounds.{FitsRequest};
 ghost use Rattle.component_trait.specs.Moves as moves;
 ghost use Rattle.node_host.specs.Hosted.{node_of};
@@ -9,6 +9,8 @@ ghost use Rattle.node_host.specs.Posting.{HintOf};
 ghost use Rattle.node_host.specs.Told.{IsTold};
 ghost use Rattle.quiesce_core.specs.State.{State};
 ghost use Rattle.turns.specs.Turn.{begins};
+ghost use Rattle.node_host.specs.Tried.{CannotBegin, Keeps, is_move};
+ghost use Rattle.port_gate.specs.Loads.{TellsLoads};
 
 use crate::ending::port_known;
 use crate::keeping::{keep, place};
@@ -38,9 +40,12 @@ impl<C: Component + Drop, S: GateSeat + Drop> HostNode<C, S> {
         ensures moved { Moved (node_of self.old.slot self.old.first_port (C.state self.old.inner)) result (C.state self.old.inner) (C.state self.new.inner) self.old.log.items self.new.log.items (record { slot = S.slot_of self.old.seat; known = S.known self.old.seat; told = S.tells self.old.seat }) (record { slot = S.slot_of self.new.seat; known = S.known self.new.seat; told = S.tells self.new.seat }) (G.state gate.old) (G.state gate.new) }
         ensures place { (self.new.slot ≡ self.old.slot) × (self.new.first_port ≡ self.old.first_port) }
         ensures past { self.new.past ≡ self.old.past }
-        ensures hint { HintOf (G.state gate.old) self.old.first_port result (record { waiting = self.old.waiting; counts = H.counts hints.old; told = H.tells hints.old }) (record { waiting = self.new.waiting; counts = H.counts hints.new; told = H.tells hints.new }) }
+        ensures hint { HintOf (record { state = G.state gate.old; before = S.loads self.old.seat; after = S.loads self.new.seat }) self.old.first_port result (record { waiting = self.old.waiting; counts = H.counts hints.old; told = H.tells hints.old }) (record { waiting = self.new.waiting; counts = H.counts hints.new; told = H.tells hints.new }) }
         ensures quiet { result ≡ None → (hints.new ≡ hints.old) × (self.new.waiting ≡ self.old.waiting) }
         ensures exact { (s : State) → IsTold (G.state gate.old) (node_of self.old.slot self.old.first_port (C.state self.old.inner)) (S.known self.old.seat) s → result ≡ begins s self.old.slot (C.state self.old.inner) }
+        ensures number { is_move 4 result ≡ true }
+        ensures loads { TellsLoads (Keeps 4 self.old.first_port self.old.known) (S.loads self.old.seat) (S.loads self.new.seat) }
+        ensures tried { result ≡ None → CannotBegin self.old.first_port (C.state self.old.inner) self.old.known (S.loads self.old.seat) (S.loads self.new.seat) }
     {
         place(gate, &self.seat);
         if !port_known(&self.known, ask.require).idle {
@@ -96,9 +101,12 @@ impl<C: Component + Drop, S: GateSeat + Drop> HostNode<C, S> {
         ensures moved { Moved (node_of self.old.slot self.old.first_port (C.state self.old.inner)) result (C.state self.old.inner) (C.state self.new.inner) self.old.log.items self.new.log.items (record { slot = S.slot_of self.old.seat; known = S.known self.old.seat; told = S.tells self.old.seat }) (record { slot = S.slot_of self.new.seat; known = S.known self.new.seat; told = S.tells self.new.seat }) (G.state gate.old) (G.state gate.new) }
         ensures place { (self.new.slot ≡ self.old.slot) × (self.new.first_port ≡ self.old.first_port) }
         ensures past { self.new.past ≡ self.old.past }
-        ensures hint { HintOf (G.state gate.old) self.old.first_port result (record { waiting = self.old.waiting; counts = H.counts hints.old; told = H.tells hints.old }) (record { waiting = self.new.waiting; counts = H.counts hints.new; told = H.tells hints.new }) }
+        ensures hint { HintOf (record { state = G.state gate.old; before = S.loads self.old.seat; after = S.loads self.new.seat }) self.old.first_port result (record { waiting = self.old.waiting; counts = H.counts hints.old; told = H.tells hints.old }) (record { waiting = self.new.waiting; counts = H.counts hints.new; told = H.tells hints.new }) }
         ensures quiet { result ≡ None → (hints.new ≡ hints.old) × (self.new.waiting ≡ self.old.waiting) }
         ensures exact { (s : State) → IsTold (G.state gate.old) (node_of self.old.slot self.old.first_port (C.state self.old.inner)) (S.known self.old.seat) s → result ≡ begins s self.old.slot (C.state self.old.inner) }
+        ensures number { is_move 4 result ≡ true }
+        ensures loads { TellsLoads (Keeps 4 self.old.first_port self.old.known) (S.loads self.old.seat) (S.loads self.new.seat) }
+        ensures tried { result ≡ None → CannotBegin self.old.first_port (C.state self.old.inner) self.old.known (S.loads self.old.seat) (S.loads self.new.seat) }
     {
         match self.inner.wants() {
             None => None,
@@ -122,9 +130,12 @@ impl<C: Component + Drop, S: GateSeat + Drop> HostNode<C, S> {
         ensures moved { Moved (node_of self.old.slot self.old.first_port (C.state self.old.inner)) result (C.state self.old.inner) (C.state self.new.inner) self.old.log.items self.new.log.items (record { slot = S.slot_of self.old.seat; known = S.known self.old.seat; told = S.tells self.old.seat }) (record { slot = S.slot_of self.new.seat; known = S.known self.new.seat; told = S.tells self.new.seat }) (G.state gate.old) (G.state gate.new) }
         ensures place { (self.new.slot ≡ self.old.slot) × (self.new.first_port ≡ self.old.first_port) }
         ensures past { self.new.past ≡ self.old.past }
-        ensures hint { HintOf (G.state gate.old) self.old.first_port result (record { waiting = self.old.waiting; counts = H.counts hints.old; told = H.tells hints.old }) (record { waiting = self.new.waiting; counts = H.counts hints.new; told = H.tells hints.new }) }
+        ensures hint { HintOf (record { state = G.state gate.old; before = S.loads self.old.seat; after = S.loads self.new.seat }) self.old.first_port result (record { waiting = self.old.waiting; counts = H.counts hints.old; told = H.tells hints.old }) (record { waiting = self.new.waiting; counts = H.counts hints.new; told = H.tells hints.new }) }
         ensures quiet { result ≡ None → (hints.new ≡ hints.old) × (self.new.waiting ≡ self.old.waiting) }
         ensures exact { (s : State) → IsTold (G.state gate.old) (node_of self.old.slot self.old.first_port (C.state self.old.inner)) (S.known self.old.seat) s → result ≡ (if allowed then begins s self.old.slot (C.state self.old.inner) else None) }
+        ensures number { is_move 4 result ≡ true }
+        ensures loads { TellsLoads (Keeps 4 self.old.first_port self.old.known) (S.loads self.old.seat) (S.loads self.new.seat) }
+        ensures tried { result ≡ None → allowed ≡ true → CannotBegin self.old.first_port (C.state self.old.inner) self.old.known (S.loads self.old.seat) (S.loads self.new.seat) }
     {
         if allowed {
             self.begin_wanted(gate, hints)

@@ -14,6 +14,8 @@ ghost use Rattle.quiesce_core.specs.State.{State};
 ghost use Rattle.quiesce_core.specs.declared.event.Event.TheVariants as event;
 ghost use Rattle.turn_laws.specs.Agreement.{expects};
 ghost use Rattle.turns.specs.Turn.{ends};
+ghost use Rattle.node_host.specs.Tried.{HasNoReply, HaveNoReplies, LoadsPort, Steps, is_move, is_reply_at};
+ghost use Rattle.port_gate.specs.Loads.{TellsLoads};
 
 use crate::keeping::{keep, place};
 use crate::node::HostNode;
@@ -61,6 +63,10 @@ impl<C: Component + Drop, S: GateSeat + Drop> HostNode<C, S> {
         ensures room { result ≡ None → (self.new.log ≡ self.old.log) × (self.new.inner ≡ self.old.inner) }
         ensures asks_nothing { is_asking result ≡ false }
         ensures exact { (s : State) → IsTold (G.state gate.old) (node_of self.old.slot self.old.first_port (C.state self.old.inner)) (S.known self.old.seat) s → result ≡ reply_at s (C.state self.old.inner) (self.old.first_port + require) }
+        ensures known { result ≡ None → self.new.known ≡ self.old.known }
+        ensures replies { is_reply_at (self.old.first_port + require) result ≡ true }
+        ensures loads { TellsLoads (LoadsPort (self.old.first_port + require)) (S.loads self.old.seat) (S.loads self.new.seat) }
+        ensures no_reply { result ≡ None → HasNoReply self.old.first_port self.old.known require (S.loads self.old.seat) (S.loads self.new.seat) }
     {
         place(gate, &self.seat);
         let known = port_known(&self.known, require);
@@ -134,6 +140,10 @@ impl<C: Component + Drop, S: GateSeat + Drop> HostNode<C, S> {
         ensures room { result ≡ None → (self.new.log ≡ self.old.log) × (self.new.inner ≡ self.old.inner) }
         ensures asks_nothing { is_asking result ≡ false }
         ensures exact { (s : State) → IsTold (G.state gate.old) (node_of self.old.slot self.old.first_port (C.state self.old.inner)) (S.known self.old.seat) s → result ≡ ends s self.old.slot (C.state self.old.inner) }
+        ensures known { result ≡ None → self.new.known ≡ self.old.known }
+        ensures number { is_move 1 result ≡ true }
+        ensures steps { TellsLoads Steps (S.loads self.old.seat) (S.loads self.new.seat) }
+        ensures tried { HaveNoReplies (node_of self.old.slot self.old.first_port (C.state self.old.inner)) self.old.known result (S.loads self.old.seat) (S.loads self.new.seat) }
     {
         match self.reply_at(gate, 0) {
             Some(event) => Some(event),
@@ -156,6 +166,10 @@ impl<C: Component + Drop, S: GateSeat + Drop> HostNode<C, S> {
         ensures room { result ≡ None → (self.new.log ≡ self.old.log) × (self.new.inner ≡ self.old.inner) }
         ensures asks_nothing { is_asking result ≡ false }
         ensures exact { (s : State) → IsTold (G.state gate.old) (node_of self.old.slot self.old.first_port (C.state self.old.inner)) (S.known self.old.seat) s → result ≡ ends s self.old.slot (C.state self.old.inner) }
+        ensures known { result ≡ None → self.new.known ≡ self.old.known }
+        ensures number { is_move 1 result ≡ true }
+        ensures steps { TellsLoads Steps (S.loads self.old.seat) (S.loads self.new.seat) }
+        ensures tried { HaveNoReplies (node_of self.old.slot self.old.first_port (C.state self.old.inner)) self.old.known result (S.loads self.old.seat) (S.loads self.new.seat) }
     {
         match self.inner.kind().requires_() {
             0 => None,

@@ -23,6 +23,7 @@ pub struct Past<S: GateSeat + Drop> {
     pub arg: u32,
     pub seat: S,
     pub log: Vec<Event>,
+    ghost told: { (es : List Event) → S.tells seat ≡ Some es → es ≡ log.items },
 }
 
 /// A node with its seat and its log. Its state is the fold of the log from its opening state, which the past decides.

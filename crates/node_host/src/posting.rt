@@ -40,7 +40,7 @@ impl<C: Component + Drop, S: GateSeat + Drop> HostNode<C, S> {
     /// Posts the hint that waits at one requirement, if one does.
     fn post_at<H: Hints>(&mut self, hints: &mut H, require: u32)
         requires { require < 2 }
-        ensures same { (self.new.inner ≡ self.old.inner) × (self.new.seat ≡ self.old.seat) × (self.new.log ≡ self.old.log) × (self.new.past ≡ self.old.past) }
+        ensures same { (self.new.inner ≡ self.old.inner) × (self.new.seat ≡ self.old.seat) × (self.new.log ≡ self.old.log) × (self.new.past ≡ self.old.past) × (self.new.known ≡ self.old.known) }
         ensures place { (self.new.slot ≡ self.old.slot) × (self.new.first_port ≡ self.old.first_port) }
         ensures reposted { Reposted (slice_index_or self.old.waiting require None) self.old.first_port require (record { waiting = self.old.waiting; counts = H.counts hints.old; told = H.tells hints.old }) (record { waiting = self.new.waiting; counts = H.counts hints.new; told = H.tells hints.new }) }
         ensures own { (held : List ℕ) → H.tells hints.old self.old.slot ≡ Some held → H.tells hints.new self.old.slot ≡ Some (own_post self.old.slot (self.old.first_port + require) (slice_index_or self.old.waiting require None) held) }
@@ -59,7 +59,7 @@ impl<C: Component + Drop, S: GateSeat + Drop> HostNode<C, S> {
 
     /// Posts its waiting hints, by port. Those that find a full inbox go on waiting.
     pub fn post_waiting<H: Hints>(&mut self, hints: &mut H)
-        ensures same { (self.new.inner ≡ self.old.inner) × (self.new.seat ≡ self.old.seat) × (self.new.log ≡ self.old.log) × (self.new.past ≡ self.old.past) }
+        ensures same { (self.new.inner ≡ self.old.inner) × (self.new.seat ≡ self.old.seat) × (self.new.log ≡ self.old.log) × (self.new.past ≡ self.old.past) × (self.new.known ≡ self.old.known) }
         ensures place { (self.new.slot ≡ self.old.slot) × (self.new.first_port ≡ self.old.first_port) }
         ensures posted { ArePosted self.old.first_port (record { waiting = self.old.waiting; counts = H.counts hints.old; told = H.tells hints.old }) (record { waiting = self.new.waiting; counts = H.counts hints.new; told = H.tells hints.new }) }
         ensures own { (held : List ℕ) → H.tells hints.old self.old.slot ≡ Some held → H.tells hints.new self.old.slot ≡ Some (own_box self.old.slot self.old.first_port self.old.waiting held) }

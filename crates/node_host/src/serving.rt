@@ -14,6 +14,8 @@ ghost use Rattle.node_host.specs.Told.{IsTold};
 ghost use Rattle.quiesce_core.specs.State.{State};
 ghost use Rattle.quiesce_core.specs.declared.event.Event.TheVariants as event;
 ghost use Rattle.turns.specs.Turn.{calls, does_next, hears, serves};
+ghost use Rattle.node_host.specs.Tried.{IsBarred, IsHeld, Keeps, is_busy, is_move, shows_in_more};
+ghost use Rattle.port_gate.specs.Loads.{IsLed, TellsLoads};
 
 use crate::ending::port_known;
 use crate::keeping::{keep, place};
@@ -51,6 +53,10 @@ impl<C: Component + Drop, S: GateSeat + Drop> HostNode<C, S> {
         ensures waiting { self.new.waiting ≡ self.old.waiting }
         ensures asks_nothing { is_asking result ≡ false }
         ensures exact { (s : State) → IsTold (G.state gate.old) (node_of self.old.slot self.old.first_port (C.state self.old.inner)) (S.known self.old.seat) s → result ≡ hears s served.port }
+        ensures known { result ≡ None → self.new.known ≡ self.old.known }
+        ensures number { is_move 2 result ≡ true }
+        ensures loads { TellsLoads (Keeps 2 self.old.first_port self.old.known) (S.loads self.old.seat) (S.loads self.new.seat) }
+        ensures unheard { result ≡ None → TellsLoads (λ a b. IsLed served.port shows_in_more a.steps b.steps b.hear) (S.loads self.old.seat) (S.loads self.new.seat) }
     {
         place(gate, &self.seat);
         let port = served.port;
@@ -103,6 +109,7 @@ impl<C: Component + Drop, S: GateSeat + Drop> HostNode<C, S> {
         ensures waiting { self.new.waiting ≡ self.old.waiting }
         ensures event { result ≡ Some (event.Give served.port served.serial value) }
         ensures exact { (s : State) → IsTold (G.state gate.old) (node_of self.old.slot self.old.first_port (C.state self.old.inner)) (S.known self.old.seat) s → result ≡ does_next s self.old.first_port served.port (next.Give value) }
+        ensures loads { TellsLoads (Keeps 2 self.old.first_port self.old.known) (S.loads self.old.seat) (S.loads self.new.seat) }
     {
         place(gate, &self.seat);
         let port = served.port;
@@ -151,6 +158,7 @@ impl<C: Component + Drop, S: GateSeat + Drop> HostNode<C, S> {
         ensures waiting { self.new.waiting ≡ self.old.waiting }
         ensures event { result ≡ Some (event.More served.port served.serial value) }
         ensures exact { (s : State) → IsTold (G.state gate.old) (node_of self.old.slot self.old.first_port (C.state self.old.inner)) (S.known self.old.seat) s → result ≡ does_next s self.old.first_port served.port (next.More value) }
+        ensures loads { TellsLoads (Keeps 2 self.old.first_port self.old.known) (S.loads self.old.seat) (S.loads self.new.seat) }
     {
         place(gate, &self.seat);
         let port = served.port;
@@ -198,9 +206,13 @@ impl<C: Component + Drop, S: GateSeat + Drop> HostNode<C, S> {
         ensures place { (self.new.slot ≡ self.old.slot) × (self.new.first_port ≡ self.old.first_port) }
         ensures past { self.new.past ≡ self.old.past }
         ensures room { result ≡ None → (self.new.log ≡ self.old.log) × (self.new.inner ≡ self.old.inner) }
-        ensures hint { HintOf (G.state gate.old) self.old.first_port result (record { waiting = self.old.waiting; counts = H.counts hints.old; told = H.tells hints.old }) (record { waiting = self.new.waiting; counts = H.counts hints.new; told = H.tells hints.new }) }
+        ensures hint { HintOf (record { state = G.state gate.old; before = S.loads self.old.seat; after = S.loads self.new.seat }) self.old.first_port result (record { waiting = self.old.waiting; counts = H.counts hints.old; told = H.tells hints.old }) (record { waiting = self.new.waiting; counts = H.counts hints.new; told = H.tells hints.new }) }
         ensures quiet { result ≡ None → (hints.new ≡ hints.old) × (self.new.waiting ≡ self.old.waiting) }
         ensures exact { (s : State) → IsTold (G.state gate.old) (node_of self.old.slot self.old.first_port (C.state self.old.inner)) (S.known self.old.seat) s → result ≡ calls s (self.old.first_port + ask.require) ask.value }
+        ensures known { result ≡ None → self.new.known ≡ self.old.known }
+        ensures number { is_move 2 result ≡ true }
+        ensures loads { TellsLoads (Keeps 2 self.old.first_port self.old.known) (S.loads self.old.seat) (S.loads self.new.seat) }
+        ensures barred { result ≡ None → is_busy self.old.known ask.require ≡ true }
     {
         place(gate, &self.seat);
         if !port_known(&self.known, ask.require).idle {
@@ -266,9 +278,13 @@ impl<C: Component + Drop, S: GateSeat + Drop> HostNode<C, S> {
         ensures place { (self.new.slot ≡ self.old.slot) × (self.new.first_port ≡ self.old.first_port) }
         ensures past { self.new.past ≡ self.old.past }
         ensures room { result ≡ None → (self.new.log ≡ self.old.log) × (self.new.inner ≡ self.old.inner) }
-        ensures hint { HintOf (G.state gate.old) self.old.first_port result (record { waiting = self.old.waiting; counts = H.counts hints.old; told = H.tells hints.old }) (record { waiting = self.new.waiting; counts = H.counts hints.new; told = H.tells hints.new }) }
+        ensures hint { HintOf (record { state = G.state gate.old; before = S.loads self.old.seat; after = S.loads self.new.seat }) self.old.first_port result (record { waiting = self.old.waiting; counts = H.counts hints.old; told = H.tells hints.old }) (record { waiting = self.new.waiting; counts = H.counts hints.new; told = H.tells hints.new }) }
         ensures quiet { result ≡ None → (hints.new ≡ hints.old) × (self.new.waiting ≡ self.old.waiting) }
         ensures exact { (s : State) → IsTold (G.state gate.old) (node_of self.old.slot self.old.first_port (C.state self.old.inner)) (S.known self.old.seat) s → result ≡ option_and_then (does_next s self.old.first_port served.port) (moves.next (C.state self.old.inner)) }
+        ensures known { result ≡ None → self.new.known ≡ self.old.known }
+        ensures number { is_move 2 result ≡ true }
+        ensures loads { TellsLoads (Keeps 2 self.old.first_port self.old.known) (S.loads self.old.seat) (S.loads self.new.seat) }
+        ensures barred { result ≡ None → IsBarred (C.state self.old.inner) self.old.known }
     {
         match self.inner.next() {
             Next::Give(value) => self.give(gate, served, value),
@@ -296,9 +312,13 @@ impl<C: Component + Drop, S: GateSeat + Drop> HostNode<C, S> {
         ensures place { (self.new.slot ≡ self.old.slot) × (self.new.first_port ≡ self.old.first_port) }
         ensures past { self.new.past ≡ self.old.past }
         ensures room { result ≡ None → (self.new.log ≡ self.old.log) × (self.new.inner ≡ self.old.inner) }
-        ensures hint { HintOf (G.state gate.old) self.old.first_port result (record { waiting = self.old.waiting; counts = H.counts hints.old; told = H.tells hints.old }) (record { waiting = self.new.waiting; counts = H.counts hints.new; told = H.tells hints.new }) }
+        ensures hint { HintOf (record { state = G.state gate.old; before = S.loads self.old.seat; after = S.loads self.new.seat }) self.old.first_port result (record { waiting = self.old.waiting; counts = H.counts hints.old; told = H.tells hints.old }) (record { waiting = self.new.waiting; counts = H.counts hints.new; told = H.tells hints.new }) }
         ensures quiet { result ≡ None → (hints.new ≡ hints.old) × (self.new.waiting ≡ self.old.waiting) }
         ensures exact { (s : State) → IsTold (G.state gate.old) (node_of self.old.slot self.old.first_port (C.state self.old.inner)) (S.known self.old.seat) s → result ≡ serves s self.old.slot (C.state self.old.inner) }
+        ensures known { result ≡ None → self.new.known ≡ self.old.known }
+        ensures number { is_move 2 result ≡ true }
+        ensures loads { TellsLoads (Keeps 2 self.old.first_port self.old.known) (S.loads self.old.seat) (S.loads self.new.seat) }
+        ensures held { result ≡ None → IsHeld (C.state self.old.inner) self.old.known (Some served) (S.loads self.old.seat) (S.loads self.new.seat) }
     {
         if served.heard {
             self.go_on(gate, hints, served)
@@ -323,9 +343,13 @@ impl<C: Component + Drop, S: GateSeat + Drop> HostNode<C, S> {
         ensures place { (self.new.slot ≡ self.old.slot) × (self.new.first_port ≡ self.old.first_port) }
         ensures past { self.new.past ≡ self.old.past }
         ensures room { result ≡ None → (self.new.log ≡ self.old.log) × (self.new.inner ≡ self.old.inner) }
-        ensures hint { HintOf (G.state gate.old) self.old.first_port result (record { waiting = self.old.waiting; counts = H.counts hints.old; told = H.tells hints.old }) (record { waiting = self.new.waiting; counts = H.counts hints.new; told = H.tells hints.new }) }
+        ensures hint { HintOf (record { state = G.state gate.old; before = S.loads self.old.seat; after = S.loads self.new.seat }) self.old.first_port result (record { waiting = self.old.waiting; counts = H.counts hints.old; told = H.tells hints.old }) (record { waiting = self.new.waiting; counts = H.counts hints.new; told = H.tells hints.new }) }
         ensures quiet { result ≡ None → (hints.new ≡ hints.old) × (self.new.waiting ≡ self.old.waiting) }
         ensures exact { (s : State) → IsTold (G.state gate.old) (node_of self.old.slot self.old.first_port (C.state self.old.inner)) (S.known self.old.seat) s → result ≡ serves s self.old.slot (C.state self.old.inner) }
+        ensures known { result ≡ None → self.new.known ≡ self.old.known }
+        ensures number { is_move 2 result ≡ true }
+        ensures loads { TellsLoads (Keeps 2 self.old.first_port self.old.known) (S.loads self.old.seat) (S.loads self.new.seat) }
+        ensures held { result ≡ None → IsHeld (C.state self.old.inner) self.old.known self.old.known.service (S.loads self.old.seat) (S.loads self.new.seat) }
     {
         if awaits_call(&self.known) {
             return None;

@@ -1,6 +1,6 @@
 //! A node's third move: it takes up the request at the next hint.
 
-ghost use Rattle.std.specs.Prelude.{◌≡◌, ◌≢◌, false, ℕ, ◌<◌, ◌∷◌, List, length, map, vec_capacity, is_none, None, Some};
+ghost use Rattle.std.specs.Prelude.{◌≡◌, ◌≢◌, false, ℕ, ◌<◌, ◌∷◌, List, length, map, vec_capacity, is_none, None, Some, true};
 ghost use Rattle.config_graph.specs.declared.TheConstants.{MAX_PORTS};
 ghost use Rattle.node_host.specs.Hosted.{node_of};
 ghost use Rattle.node_host.specs.Moved.{Moved};
@@ -10,6 +10,8 @@ ghost use Rattle.node_host.specs.Told.{IsTold};
 ghost use Rattle.port_queue.specs.Inboxes.{after_next};
 ghost use Rattle.quiesce_core.specs.State.{State};
 ghost use Rattle.turns.specs.Turn.{takes};
+ghost use Rattle.node_host.specs.Tried.{HasNoRequest, Keeps, is_move, is_stale_for};
+ghost use Rattle.port_gate.specs.Loads.{IsLed, TellsLoads};
 
 use crate::keeping::{keep, place};
 use crate::node::HostNode;
@@ -37,6 +39,10 @@ impl<C: Component + Drop, S: GateSeat + Drop> HostNode<C, S> {
         ensures room { result ≡ None → (self.new.log ≡ self.old.log) × (self.new.inner ≡ self.old.inner) }
         ensures asks_nothing { is_asking result ≡ false }
         ensures exact { (s : State) (later : List ℕ) → IsTold (G.state gate.old) (node_of self.old.slot self.old.first_port (C.state self.old.inner)) (S.known self.old.seat) s → result ≡ takes s self.old.slot (port ∷ later) }
+        ensures known { result ≡ None → self.new.known ≡ self.old.known }
+        ensures number { is_move 3 result ≡ true }
+        ensures loads { TellsLoads (Keeps 3 self.old.first_port self.old.known) (S.loads self.old.seat) (S.loads self.new.seat) }
+        ensures stale { result ≡ None → TellsLoads (λ a b. IsLed port (is_stale_for self.old.slot) a.steps b.steps b.take) (S.loads self.old.seat) (S.loads self.new.seat) }
     {
         place(gate, &self.seat);
         match gate.take(&mut self.seat, port) {
@@ -93,6 +99,10 @@ impl<C: Component + Drop, S: GateSeat + Drop> HostNode<C, S> {
         ensures inboxes { (other : ℕ) → other ≢ self.old.slot → H.tells hints.new other ≡ H.tells hints.old other }
         ensures asks_nothing { is_asking result ≡ false }
         ensures exact { (s : State) (held : List ℕ) → IsTold (G.state gate.old) (node_of self.old.slot self.old.first_port (C.state self.old.inner)) (S.known self.old.seat) s → H.tells hints.old self.old.slot ≡ Some held → result ≡ takes s self.old.slot held }
+        ensures known { result ≡ None → self.new.known ≡ self.old.known }
+        ensures number { is_move 3 result ≡ true }
+        ensures loads { TellsLoads (Keeps 3 self.old.first_port self.old.known) (S.loads self.old.seat) (S.loads self.new.seat) }
+        ensures tried { result ≡ None → HasNoRequest self.old.slot (H.counts hints.old self.old.slot) (H.counts hints.new self.old.slot) (S.loads self.old.seat) (S.loads self.new.seat) }
     {
         place(gate, &self.seat);
         match hints.next(self.slot) {

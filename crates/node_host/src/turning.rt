@@ -10,6 +10,7 @@ ghost use Rattle.node_host.specs.declared.turning.Turn.TheVariants as turn;
 ghost use Rattle.node_host.specs.Trying.{IsAsked, own_box};
 ghost use Rattle.quiesce_core.specs.State.{State};
 ghost use Rattle.turns.specs.Turn.{looks, move_of};
+ghost use Rattle.node_host.specs.Tried.{IsTried};
 
 use crate::node::HostNode;
 use component_trait::Component;
@@ -55,8 +56,9 @@ impl<C: Component + Drop, S: GateSeat + Drop> HostNode<C, S> {
         ensures past { self.new.past ≡ self.old.past }
         ensures memory { OnErr result ((self.new.waiting ≡ self.old.waiting) × (self.new.seat ≡ self.old.seat) × (gate.new ≡ gate.old) × (hints.new ≡ hints.old)) }
         ensures exact { (s : State) (held : List ℕ) → IsTold (G.state gate.old) (node_of self.old.slot self.old.first_port (C.state self.old.inner)) (S.known self.old.seat) s → H.tells hints.old self.old.slot ≡ Some held → OnOk result (event_of result ≡ move_of s self.old.slot (C.state self.old.inner) (own_box self.old.slot self.old.first_port self.old.waiting held) begins) }
-        ensures hints { OnOk result (IsHinted (G.state gate.old) (node_of self.old.slot self.old.first_port (C.state self.old.inner)) (S.known self.old.seat) (λ s. looks s self.old.slot (C.state self.old.inner)) (event_of result) (record { waiting = self.old.waiting; counts = H.counts hints.old; told = H.tells hints.old }) (record { waiting = self.new.waiting; counts = H.counts hints.new; told = H.tells hints.new })) }
+        ensures hints { OnOk result (IsHinted (record { state = G.state gate.old; before = S.loads self.old.seat; after = S.loads self.new.seat }) (node_of self.old.slot self.old.first_port (C.state self.old.inner)) (S.known self.old.seat) (λ s. looks s self.old.slot (C.state self.old.inner)) (event_of result) (record { waiting = self.old.waiting; counts = H.counts hints.old; told = H.tells hints.old }) (record { waiting = self.new.waiting; counts = H.counts hints.new; told = H.tells hints.new })) }
         ensures looked { result ≡ Ok turn.Still → (C.state self.old.inner).service ≡ None → IsAsked (H.counts hints.old self.old.slot) (H.counts hints.new self.old.slot) }
+        ensures tried { OnOk result (IsTried (node_of self.old.slot self.old.first_port (C.state self.old.inner)) (C.state self.old.inner) self.old.known begins (event_of result) (H.counts hints.old self.old.slot) (H.counts hints.new self.old.slot) (S.loads self.old.seat) (S.loads self.new.seat)) }
     {
         reserve(&mut self.log)?;
         self.inner.room()?;

@@ -12,6 +12,8 @@ use Rattle.node_host.proofs.Exactly.{calls_busy, calls_called, calls_missed}
 use Rattle.node_host.proofs.Growing.{hosted_after, moved_after, node_after}
 use Rattle.node_host.proofs.InService.{no_call}
 use Rattle.node_host.proofs.Idle.{not_false, not_true}
+use Rattle.port_gate.specs.Loads.{leads_to}
+use Rattle.node_host.proofs.Loading.{loads_at}
 use Rattle.node_host.proofs.Permitted.{call_folds, can_call, can_miss, did_by, may_call, miss_folds}
 use Rattle.node_host.proofs.Still.{hosted_waiting}
 use Rattle.node_host.proofs.node.HostNode.call.Goals as goal
@@ -179,4 +181,4 @@ returns-in-Called-clause-hint g c =
       counts = c.post.ensures.others;
       told = c.post.ensures.other_inboxes;
     } in
-    record { target = c.in-Called.target; leads = c.in-Called.ensures.says.2; posted = subst (λ r. IsPosted h.first_port r c.in-Called.target old new) (sym (index_is h.first_port c.args.ask.require)) posted }
+    record { target = c.in-Called.target; leads = c.in-Called.ensures.says.2; loaded = loads_at (h.first_port + c.args.ask.require) (leads_to c.in-Called.target) (g.S.GateSeat.loads h.seat) (g.S.GateSeat.loads c.call.new.seat) c.in-Called.ensures.loads; posted = subst (λ r. IsPosted h.first_port r c.in-Called.target old new) (sym (index_is h.first_port c.args.ask.require)) posted }

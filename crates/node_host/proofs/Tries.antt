@@ -1,0 +1,489 @@
+-- That the moves before the one that was made aren't possible, put together from what each call shows.
+use Rattle.std.proofs.Common.{inl, inr, ◌≡◌, ◌∙◌, ◌⊎◌, ℕ, zero, suc, ◌+◌, ◌<◌, ◌≤◌, Bool, true, false, length, Option, Some, None, refl, sym, ap, subst, arith}
+use Rattle.std.specs.Prelude.{◌==◌, ◌||◌, ◌&&◌, not, is_some, is_none, nat_lt}
+use Rattle.std.specs.Option.{option_map_or}
+use Rattle.std.proofs.lemmas.Bool.{and_parts, both_ways, eq-eqb, eqb-true, ltb-true}
+use Rattle.std.proofs.lemmas.Option.{none-some, same_Some}
+use Rattle.config_graph.specs.Kinds.{row}
+use Rattle.component_trait.specs.Moves as moves
+use Rattle.component_trait.specs.States.{NodeState}
+use Rattle.component_trait.specs.declared.next.Ask.{Ask as Request}
+use Rattle.gate_word.specs.Words.{is_missing, is_spent, unpack}
+use Rattle.quiesce_core.specs.Knowledge.{KnowsService}
+use Rattle.quiesce_core.specs.State.{State, service}
+use Rattle.quiesce_core.specs.declared.event.Event.{Event}
+use Rattle.quiesce_core.specs.declared.event.Event.TheVariants.{Ask, Begin, Call, End}
+use Rattle.quiesce_core.specs.declared.known.Known.{Known}
+use Rattle.quiesce_core.specs.declared.known.Served.{Served}
+use Rattle.quiesce_core.specs.declared.state.Service.{Service}
+use Rattle.turns.specs.Turn.{serves}
+use Rattle.port_gate.specs.Answers.{BeginSays}
+use Rattle.port_gate.specs.Loads.{IsLed, IsLoaded, Load, Loads, LoadsAt, TellsLoads, begin_shows, has_found, is_word, leads_to, shows_asked, shows_spent}
+use Rattle.port_gate.specs.Seats.{NodeAt}
+use Rattle.port_gate.specs.declared.answers.BeginAnswer.TheVariants as begin
+use Rattle.port_queue.specs.Inboxes.{Counts, Gave, Refused, Rose}
+use Rattle.node_host.specs.Awaiting.{awaits}
+use Rattle.node_host.specs.Hosted.{node_of}
+use Rattle.node_host.specs.Posting.{GateSeen, HintOf, Hinted, IsSent, IsSentAfter, IsSentBy}
+use Rattle.node_host.specs.Told.{IsTold}
+use Rattle.node_host.specs.Tried.{AreLaterTried, AreMovesTried, CannotBegin, HasNoReply, HasNoRequest, HaveNoReplies, IsHeld, IsTried, Keeps, LoadsPort, Steps, bars_begin, is_busy, is_move, is_passed, is_reply_at, is_stale_for, move_number, passed_ports, shows_in_more}
+use Rattle.node_host.specs.Trying.{CountsTried, IsGrown}
+use Rattle.node_host.proofs.Asked.{rose_since}
+use Rattle.node_host.proofs.Loading.{keeps_steps, led_kept, led_since, loaded_kept, loaded_since, loads_as, then_so}
+
+-- ---- numbers of moves
+
+pub same_port : (p : ℕ) → (p == p) ≡ true
+same_port p = eq-eqb p p refl
+
+pub reply_is_first : (p : ℕ) (o : Option Event) → is_reply_at p o ≡ true → is_move 1 o ≡ true
+reply_is_first p None h = refl
+reply_is_first p (Some (End q k v)) h = refl
+reply_is_first p (Some (Ask q k v)) h = refl
+reply_is_first p (Some e) h = absurd (both_ways false refl h)
+
+not_passed : (k j : ℕ) (e : Event) → k ≤ j → is_move k (Some e) ≡ true → is_passed j (Some e) ≡ true → ⊥
+not_passed k j e few is after =
+    let here = eqb-true (move_number e) k is in
+    let later = ltb-true j (move_number e) after in
+    omega (arith, few, here, later)
+
+pub later_passed : (k j : ℕ) (o : Option Event) → is_move k o ≡ true → nat_lt j k ≡ true → is_passed j o ≡ true
+later_passed k j None h few = refl
+later_passed k j (Some e) h few = subst (λ i. nat_lt j i ≡ true) (sym (eqb-true (move_number e) k h)) few
+
+all_passed : (n : NodeAt) (o : Option Event) → is_passed 1 o ≡ true → passed_ports n o ≡ length (row n.kind).requires_
+all_passed n None h = refl
+all_passed n (Some (End q k v)) h = absurd (both_ways false refl h)
+all_passed n (Some (Ask q k v)) h = absurd (both_ways false refl h)
+all_passed n (Some e) h = refl
+
+passed_by : (first r : ℕ) (n : NodeAt) (e : Event) → n.first ≡ first → is_reply_at (first + r) (Some e) ≡ true → passed_ports n (Some e) ≡ r
+passed_by first r n (End q k v) is h = let there = eqb-true q (first + r) h in omega (arith, there, is)
+passed_by first r n (Ask q k v) is h = let there = eqb-true q (first + r) h in omega (arith, there, is)
+passed_by first r n e is h = absurd (both_ways false refl h)
+
+-- ---- replies
+
+no_reply_kept : (k first r : ℕ) (w : Known) (a b c : Option Loads) → TellsLoads (Keeps k first w) b c → HasNoReply first w r a b → HasNoReply first w r a c
+no_reply_kept k first r w a b c kept (inl idle) = inl idle
+no_reply_kept k first r w a b c kept (inr loaded) = by (is_busy w r) refl
+  where
+    by : (busy : Bool) → is_busy w r ≡ busy → HasNoReply first w r a c
+    by false is = inl is
+    by true is =
+        inr (then_so (IsLoaded (first + r) shows_asked) (Keeps k first w) (IsLoaded (first + r) shows_asked)
+        (λ x y z l s. loaded_kept (first + r) shows_asked x y z s.steps (s.busy r is) l) a b c loaded kept)
+
+no_reply_since : (first r : ℕ) (w : Known) (a b c : Option Loads) → TellsLoads Steps a b → HasNoReply first w r b c → HasNoReply first w r a c
+no_reply_since first r w a b c steps (inl idle) = inl idle
+no_reply_since first r w a b c steps (inr loaded) =
+    inr (then_so Steps (IsLoaded (first + r) shows_asked) (IsLoaded (first + r) shows_asked) (λ x y z s l. loaded_since (first + r) shows_asked x y z s l) a b c steps loaded)
+
+no_reply_past : (first : ℕ) (w : Known) (a b c : Option Loads) → TellsLoads (LoadsPort (first + 1)) b c → HasNoReply first w 0 a b → HasNoReply first w 0 a c
+no_reply_past first w a b c past (inl idle) = inl idle
+no_reply_past first w a b c past (inr loaded) =
+    inr (then_so (IsLoaded (first + 0) shows_asked) (LoadsPort (first + 1)) (IsLoaded (first + 0) shows_asked)
+    (λ x y z l s. loaded_kept (first + 0) shows_asked x y z s.steps (s.others (first + 0) (λ same. apart same)) l) a b c loaded past)
+  where
+    apart : first + 0 ≡ first + 1 → ⊥
+    apart same = omega (arith, same)
+
+-- a reply at the first port passes none over
+pub tried_left : (n : NodeAt) (w : Known) (e : Event) (a b : Option Loads) → is_reply_at (n.first + 0) (Some e) ≡ true → HaveNoReplies n w (Some e) a b
+tried_left n w e a b is r below = let none_ = passed_by n.first 0 n e refl is in absurd (omega (arith, below, none_))
+
+pub tried_right : (n : NodeAt) (w : Known) (o : Option Event) (a b c : Option Loads) → length (row n.kind).requires_ ≡ 2 → HasNoReply n.first w 0 a b → TellsLoads Steps a b
+    → TellsLoads (LoadsPort (n.first + 1)) b c → is_reply_at (n.first + 1) o ≡ true → (o ≡ None → HasNoReply n.first w 1 b c) → HaveNoReplies n w o a c
+tried_right n w o a b c two left steps past is right zero below = no_reply_past n.first w a b c past left
+tried_right n w None a b c two left steps past is right (suc zero) below = no_reply_since n.first 1 w a b c steps (right refl)
+tried_right n w (Some e) a b c two left steps past is right (suc zero) below = let one = passed_by n.first 1 n e refl is in absurd (omega (arith, below, one))
+tried_right n w None a b c two left steps past is right (suc (suc r)) below = absurd (omega (arith, below, two))
+tried_right n w (Some e) a b c two left steps past is right (suc (suc r)) below = let one = passed_by n.first 1 n e refl is in absurd (omega (arith, below, one))
+
+pub tried_one : (n : NodeAt) (w : Known) (o : Option Event) (a b : Option Loads) → length (row n.kind).requires_ ≡ 1 → is_reply_at (n.first + 0) o ≡ true → (o ≡ None → HasNoReply n.first w 0 a b)
+    → HaveNoReplies n w o a b
+tried_one n w None a b one is none_ zero below = none_ refl
+tried_one n w None a b one is none_ (suc r) below = absurd (omega (arith, below, one))
+tried_one n w (Some e) a b one is none_ r below = tried_left n w e a b is r below
+
+pub tried_zero : (n : NodeAt) (w : Known) (a b : Option Loads) → length (row n.kind).requires_ ≡ 0 → HaveNoReplies n w None a b
+tried_zero n w a b none_ r below = absurd (omega (arith, below, none_))
+
+-- ---- the service
+
+led_over : (p : ℕ) (shows : Load → Bool) (first : ℕ) (w : Known) (a b c : Option Loads) → TellsLoads (Keeps 3 first w) b c
+    → TellsLoads (λ x y. IsLed p shows x.steps y.steps y.hear) a b → TellsLoads (λ x y. IsLed p shows x.steps y.steps y.hear) a c
+led_over p shows first w a b c kept led =
+    then_so (λ x y. IsLed p shows x.steps y.steps y.hear) (Keeps 3 first w) (λ x y. IsLed p shows x.steps y.steps y.hear)
+    (λ x y z l s. led_kept p shows x.steps y.steps z.steps y.hear z.hear s.steps (s.hear (omega arith)) l) a b c led kept
+
+held_kept : (t : NodeState) (first : ℕ) (w : Known) (o : Option Served) (a b c : Option Loads) → TellsLoads (Keeps 3 first w) b c → IsHeld t w o a b → IsHeld t w o a c
+held_kept t first w None a b c kept h = h
+held_kept t first w (Some u) a b c kept (inl left) = inl left
+held_kept t first w (Some u) a b c kept (inr (inl waits)) = inr (inl (waits.0, led_over u.port shows_in_more first w a b c kept waits.1))
+held_kept t first w (Some u) a b c kept (inr (inr barred)) = inr (inr barred)
+
+held_since : (t : NodeState) (w : Known) (o : Option Served) (a b c : Option Loads) → TellsLoads Steps a b → IsHeld t w o b c → IsHeld t w o a c
+held_since t w None a b c steps h = h
+held_since t w (Some u) a b c steps (inl left) = inl left
+held_since t w (Some u) a b c steps (inr (inl waits)) =
+    inr (inl (
+      waits.0,
+      then_so Steps (λ x y. IsLed u.port shows_in_more x.steps y.steps y.hear) (λ x y. IsLed u.port shows_in_more x.steps y.steps y.hear)
+          (λ x y z s l. led_since u.port shows_in_more x.steps y.steps z.steps z.hear s l) a b c steps waits.1,
+    ))
+held_since t w (Some u) a b c steps (inr (inr barred)) = inr (inr barred)
+
+pub held_by_call : (t : NodeState) (w : Known) (o : Option Served) (a b : Option Loads) → awaits w ≡ true → IsHeld t w o a b
+held_by_call t w None a b h = tt
+held_by_call t w (Some u) a b h = inl h
+
+-- ---- the next request
+
+-- counts that an event's own hint may change
+pub record After (old new : Counts) : Type 0 where
+  pub refused : old.refused ≤ new.refused
+  pub given : new.given ≡ old.given
+  pub last : new.last ≡ old.last
+
+rose_on : (a b c : ℕ) → Rose a b → b ≤ c → Rose a c
+rose_on a b c rose few = (omega (arith, few, rose.0), λ short. grind (arith, few, rose.0, rose.1, short))
+
+request_kept : (n first : ℕ) (w : Known) (c c1 c2 : Counts) (a b d : Option Loads) → After c1 c2 → TellsLoads (Keeps 4 first w) b d → HasNoRequest n c c1 a b → HasNoRequest n c c2 a d
+request_kept n first w c c1 c2 a b d on kept (inl empty) = inl (rose_on c.refused c1.refused c2.refused empty on.refused)
+request_kept n first w c c1 c2 a b d on kept (inr (rose, p, last, led)) =
+    inr (
+      subst (λ i. Rose c.given i) (sym on.given) rose,
+      p,
+      on.last ∙ last,
+      then_so (λ x y. IsLed p (is_stale_for n) x.steps y.steps y.take) (Keeps 4 first w) (λ x y. IsLed p (is_stale_for n) x.steps y.steps y.take)
+          (λ x y z l s. led_kept p (is_stale_for n) x.steps y.steps z.steps y.take z.take s.steps (s.take (omega arith)) l) a b d led kept,
+    )
+
+request_since : (n : ℕ) (c c' : Counts) (a b d : Option Loads) → TellsLoads Steps a b → HasNoRequest n c c' b d → HasNoRequest n c c' a d
+request_since n c c' a b d steps (inl empty) = inl empty
+request_since n c c' a b d steps (inr (rose, p, last, led)) =
+    inr (
+      rose,
+      p,
+      last,
+      then_so Steps (λ x y. IsLed p (is_stale_for n) x.steps y.steps y.take) (λ x y. IsLed p (is_stale_for n) x.steps y.steps y.take)
+          (λ x y z s l. led_since p (is_stale_for n) x.steps y.steps z.steps z.take s l) a b d steps led,
+    )
+
+request_grown : (n : ℕ) (c c1 c2 : Counts) (a b : Option Loads) → IsGrown c c1 → HasNoRequest n c1 c2 a b → HasNoRequest n c c2 a b
+request_grown n c c1 c2 a b grown (inl empty) = inl (rose_since c.refused c1.refused c2.refused grown.0 empty)
+request_grown n c c1 c2 a b grown (inr (rose, p, last, led)) = inr (subst (λ k. Rose k c2.given) grown.1 rose, p, last, led)
+
+pub empty_is_asked : (n : ℕ) (c c' : Counts) (a b : Option Loads) → Refused c c' → HasNoRequest n c c' a b
+empty_is_asked n c c' a b h = inl h.refused
+
+pub stale_is_asked : (n p : ℕ) (c c' : Counts) (a b : Option Loads) → Gave c p c' → TellsLoads (λ x y. IsLed p (is_stale_for n) x.steps y.steps y.take) a b → HasNoRequest n c c' a b
+stale_is_asked n p c c' a b h led = inr (h.given, p, h.last, led)
+
+-- what the hint of an event leaves of what is counted of a node
+after_same : (c : Counts) → After c c
+after_same c = record { refused = omega arith; given = refl; last = refl }
+
+after_tried : (posted : Bool) (c c' : Counts) → CountsTried posted c c' → After c c'
+after_tried true c c' h = subst (λ x. After c x) (sym h) (after_same c)
+after_tried false c c' h = record { refused = h.refused.0; given = h.given; last = h.last }
+
+after_sent : (g : GateSeen) (first p n : ℕ) (old new : Hinted) → IsSent g first p old new → After (old.counts n) (new.counts n)
+after_sent g first p n old new h = by (n == h.target) refl
+  where
+    by : (b : Bool) → (n == h.target) ≡ b → After (old.counts n) (new.counts n)
+    by true is = subst (λ i. After (old.counts i) (new.counts i)) (sym (eqb-true n h.target is)) (after_tried h.posted.posted (old.counts h.target) (new.counts h.target) h.posted.tried)
+    by false is = subst (λ x. After (old.counts n) x) (sym (h.posted.counts n (λ same. both_ways (n == h.target) is (eq-eqb n h.target same)))) (after_same (old.counts n))
+
+pub after_hint : (g : GateSeen) (first n : ℕ) (e : Option Event) (old new : Hinted) → HintOf g first e old new → After (old.counts n) (new.counts n)
+after_hint g first n None old new h = subst (λ (x : Hinted). After (old.counts n) (x.counts n)) (sym h) (after_same (old.counts n))
+after_hint g first n (Some (Begin p k v)) old new h = after_sent g first p n old new h
+after_hint g first n (Some (Call p k v)) old new h = after_sent g first p n old new h
+after_hint g first n (Some e) old new h = subst (λ (x : Hinted). After (old.counts n) (x.counts n)) (sym h) (after_same (old.counts n))
+
+-- ---- a beginning
+
+bars_closed : (w : ℕ) (l : Load) → (unpack w).closed ≡ true → (is_word w l || has_found w l) ≡ true → bars_begin l ≡ true
+bars_closed w l closed h = by (is_word w l) refl l.found h
+  where
+    shown : is_word w l ≡ true → (unpack l.word).closed ≡ true
+    shown is = ap (λ i. (unpack i).closed) (eqb-true l.word w is) ∙ closed
+
+    left : (a b c : Bool) → a ≡ true → ((a || b) || c) ≡ true
+    left true b c h = refl
+    left false b c h = absurd (both_ways false refl h)
+
+    right : (a : Bool) (o : Option ℕ) → option_map_or (λ (x : ℕ). x == w) o false ≡ true → (a || is_some o) ≡ true
+    right true o h = refl
+    right false None h = absurd (both_ways false refl h)
+    right false (Some x) h = refl
+
+    by : (b : Bool) → is_word w l ≡ b → (o : Option ℕ) → (is_word w l || has_found w l) ≡ true → bars_begin l ≡ true
+    by true is o h = left (unpack l.word).closed (is_missing (unpack l.word)) (is_some l.found) (shown is)
+    by false is o h = right ((unpack l.word).closed || is_missing (unpack l.word)) l.found (sym (ap (λ b. b || has_found w l) is) ∙ h)
+
+bars_missing : (l : Load) → is_missing (unpack l.word) ≡ true → bars_begin l ≡ true
+bars_missing l h = by (unpack l.word).closed (is_missing (unpack l.word)) (is_some l.found) h
+  where
+    by : (a b c : Bool) → b ≡ true → ((a || b) || c) ≡ true
+    by true b c h = refl
+    by false true c h = refl
+    by false false c h = absurd (both_ways false refl h)
+
+bars_unlinked : (w : ℕ) (l : Load) → (not (unpack w).closed && is_none (unpack w).target) ≡ true → is_word w l ≡ true → bars_begin l ≡ true
+bars_unlinked w l h is =
+    bars_missing l (left (is_none (unpack l.word).target) (is_spent (unpack l.word)) (ap (λ i. is_none (unpack i).target) (eqb-true l.word w is) ∙ (and_parts (not (unpack w).closed) (is_none (unpack w).target) h).1))
+  where
+    left : (a b : Bool) → a ≡ true → (a || b) ≡ true
+    left true b h = refl
+    left false b h = absurd (both_ways false refl h)
+
+bars_spent : (l : Load) → shows_spent l ≡ true → bars_begin l ≡ true
+bars_spent l h =
+    bars_missing l (right (is_none (unpack l.word).target) (is_spent (unpack l.word)) (and_parts (not (unpack l.word).closed && is_some (unpack l.word).target) (is_spent (unpack l.word)) h).1)
+  where
+    right : (a b : Bool) → b ≡ true → (a || b) ≡ true
+    right true b h = refl
+    right false b h = h
+
+bars_again : (i f : ℕ) (l : Load) → (is_word i l && has_found f l) ≡ true → bars_begin l ≡ true
+bars_again i f l h = by ((unpack l.word).closed || is_missing (unpack l.word)) l.found (and_parts (is_word i l) (has_found f l) h).1
+  where
+    by : (a : Bool) (o : Option ℕ) → option_map_or (λ (x : ℕ). x == f) o false ≡ true → (a || is_some o) ≡ true
+    by true o h = refl
+    by false None h = absurd (both_ways false refl h)
+    by false (Some x) h = refl
+
+module _ (o : Option State) (first : ℕ) (t : NodeState) (w : Known) (a : Request) (wanted : moves.wants t ≡ Some a) (old new : Option Loads) where
+  cannot_by : (shows : Load → Bool) → ((l : Load) → shows l ≡ true → bars_begin l ≡ true) → TellsLoads (LoadsAt (first + a.require) shows) old new → CannotBegin first t w old new
+  cannot_by shows bars loads b wants =
+      inr (subst (λ (x : Request). TellsLoads (IsLoaded (first + x.require) bars_begin) old new) (same_Some a b (sym wanted ∙ wants)) (loads_as (first + a.require) shows bars_begin bars old new loads))
+
+  pub cannot_busy : is_busy w a.require ≡ true → CannotBegin first t w old new
+  cannot_busy busy b wants = inl (subst (λ (x : Request). is_busy w x.require ≡ true) (same_Some a b (sym wanted ∙ wants)) busy)
+
+  pub cannot_closed : (word : ℕ) → BeginSays o (first + a.require) (begin.Closed word) → TellsLoads (LoadsAt (first + a.require) (begin_shows (begin.Closed word))) old new → CannotBegin first t w old new
+  cannot_closed word says loads = cannot_by (begin_shows (begin.Closed word)) (λ l h. bars_closed word l says.cause h) loads
+
+  pub cannot_unlinked : (word : ℕ) → BeginSays o (first + a.require) (begin.Unlinked word) → TellsLoads (LoadsAt (first + a.require) (begin_shows (begin.Unlinked word))) old new → CannotBegin first t w old new
+  cannot_unlinked word says loads = cannot_by (begin_shows (begin.Unlinked word)) (λ l h. bars_unlinked word l says.cause h) loads
+
+  pub cannot_spent : (k : ℕ) → TellsLoads (LoadsAt (first + a.require) (begin_shows (begin.Spent k))) old new → CannotBegin first t w old new
+  cannot_spent k loads = cannot_by (begin_shows (begin.Spent k)) (λ l h. bars_spent l h) loads
+
+  pub cannot_again : (i f : ℕ) → TellsLoads (LoadsAt (first + a.require) (begin_shows (begin.Again i f))) old new → CannotBegin first t w old new
+  cannot_again i f loads = cannot_by (begin_shows (begin.Again i f)) (λ l h. bars_again i f l h) loads
+
+pub cannot_unwanted : (first : ℕ) (t : NodeState) (w : Known) (old new : Option Loads) → None ≡ moves.wants t → CannotBegin first t w old new
+cannot_unwanted first t w old new none_ b wants = absurd (none-some b (none_ ∙ wants))
+
+cannot_since : (first : ℕ) (t : NodeState) (w : Known) (a b c : Option Loads) → TellsLoads Steps a b → CannotBegin first t w b c → CannotBegin first t w a c
+cannot_since first t w a b c steps cannot r wants = by (cannot r wants)
+  where
+    by : (is_busy w r.require ≡ true) ⊎ TellsLoads (IsLoaded (first + r.require) bars_begin) b c → (is_busy w r.require ≡ true) ⊎ TellsLoads (IsLoaded (first + r.require) bars_begin) a c
+    by (inl busy) = inl busy
+    by (inr loaded) =
+        inr (then_so Steps (IsLoaded (first + r.require) bars_begin) (IsLoaded (first + r.require) bars_begin) (λ x y z s l. loaded_since (first + r.require) bars_begin x y z s l) a b c steps loaded)
+
+-- ---- hints
+
+sent_since : (s : Option State) (a b c : Option Loads) (first p : ℕ) (old new : Hinted) → TellsLoads Steps a b → IsSent (record { state = s; before = b; after = c }) first p old new
+    → IsSent (record { state = s; before = a; after = c }) first p old new
+sent_since s a b c first p old new steps h = record {
+  target = h.target;
+  leads = h.leads;
+  loaded = then_so Steps (IsLoaded p (leads_to h.target)) (IsLoaded p (leads_to h.target)) (λ x y z s l. loaded_since p (leads_to h.target) x y z s l) a b c steps h.loaded;
+  posted = h.posted;
+}
+
+pub hint_since : (s : Option State) (a b c : Option Loads) (first : ℕ) (e : Option Event) (old new : Hinted) → TellsLoads Steps a b → HintOf (record { state = s; before = b; after = c }) first e old new
+    → HintOf (record { state = s; before = a; after = c }) first e old new
+hint_since s a b c first None old new steps h = h
+hint_since s a b c first (Some (Begin p k v)) old new steps h = sent_since s a b c first p old new steps h
+hint_since s a b c first (Some (Call p k v)) old new steps h = sent_since s a b c first p old new steps h
+hint_since s a b c first (Some e) old new steps h = h
+
+-- ---- all moves
+
+module _ (n : NodeAt) (t : NodeState) (w : Known) (allowed : Bool) where
+  pub later_taken : (e : Event) (c c' : Counts) (a b : Option Loads) → is_move 3 (Some e) ≡ true → AreLaterTried n t w allowed (Some e) c c' a b
+  later_taken e c c' a b is = record { request = λ after free. absurd (not_passed 3 3 e (omega arith) is after); begin = λ none_ may. absurd (none-some e (sym none_)) }
+
+  pub later_then : (o : Option Event) (c c1 c2 : Counts) (a b d : Option Loads) → HasNoRequest n.slot c c1 a b → TellsLoads (Keeps 3 n.first w) a b → (o ≡ None → allowed ≡ true → CannotBegin n.first t w b d)
+      → TellsLoads (Keeps 4 n.first w) b d → After c1 c2 → AreLaterTried n t w allowed o c c2 a d
+  later_then o c c1 c2 a b d asked kept cannot later on = record {
+    request = λ after free. request_kept n.slot n.first w c c1 c2 a b d on later asked;
+    begin = λ none_ may. cannot_since n.first t w a b d (keeps_steps 3 n.first w a b kept) (cannot none_ may);
+  }
+
+  pub later_in_service : (o : Option Event) (c c' : Counts) (a b : Option Loads) → is_some w.service ≡ true → (o ≡ None → allowed ≡ true → CannotBegin n.first t w a b) → AreLaterTried n t w allowed o c c' a b
+  later_in_service o c c' a b serving cannot = record {
+    request = λ after free. absurd (both_ways (is_some w.service) (ap is_some free) serving);
+    begin = cannot;
+  }
+
+  later_since : (o : Option Event) (c c' : Counts) (a b d : Option Loads) → TellsLoads Steps a b → AreLaterTried n t w allowed o c c' b d → AreLaterTried n t w allowed o c c' a d
+  later_since o c c' a b d steps h = record {
+    request = λ after free. request_since n.slot c c' a b d steps (h.request after free);
+    begin = λ none_ may. cannot_since n.first t w a b d steps (h.begin none_ may);
+  }
+
+  pub moves_served : (e : Event) (c c' : Counts) (a b : Option Loads) → is_move 2 (Some e) ≡ true → AreMovesTried n t w allowed (Some e) c c' a b
+  moves_served e c c' a b is = record {
+    service = λ after. absurd (not_passed 2 2 e (omega arith) is after);
+    later = record { request = λ after free. absurd (not_passed 2 3 e (omega arith) is after); begin = λ none_ may. absurd (none-some e (sym none_)) };
+  }
+
+  pub moves_then : (o : Option Event) (c c' : Counts) (a b d : Option Loads) → IsHeld t w w.service a b → TellsLoads (Keeps 2 n.first w) a b → TellsLoads (Keeps 3 n.first w) b d
+      → AreLaterTried n t w allowed o c c' b d → AreMovesTried n t w allowed o c c' a d
+  moves_then o c c' a b d held steps kept later = record {
+    service = λ after. held_kept t n.first w w.service a b d kept held;
+    later = later_since o c c' a b d (keeps_steps 2 n.first w a b steps) later;
+  }
+
+  moves_since : (o : Option Event) (c c' : Counts) (a b d : Option Loads) → TellsLoads Steps a b → AreMovesTried n t w allowed o c c' b d → AreMovesTried n t w allowed o c c' a d
+  moves_since o c c' a b d steps h = record {
+    service = λ after. held_since t w w.service a b d steps (h.service after);
+    later = later_since o c c' a b d steps h.later;
+  }
+
+  pub tried_replied : (e : Event) (c c' : Counts) (a b : Option Loads) → is_move 1 (Some e) ≡ true → HaveNoReplies n w (Some e) a b → IsTried n t w allowed (Some e) c c' a b
+  tried_replied e c c' a b is replies = record {
+    replies = replies;
+    further = record {
+      service = λ after. absurd (not_passed 1 2 e (omega arith) is after);
+      later = record { request = λ after free. absurd (not_passed 1 3 e (omega arith) is after); begin = λ none_ may. absurd (none-some e (sym none_)) };
+    };
+  }
+
+  pub tried_then : (o : Option Event) (c c' : Counts) (a b d : Option Loads) → HaveNoReplies n w None a b → TellsLoads Steps a b → TellsLoads (Keeps 2 n.first w) b d → is_passed 1 o ≡ true
+      → AreMovesTried n t w allowed o c c' b d → IsTried n t w allowed o c c' a d
+  tried_then o c c' a b d replies steps kept passed moves = record {
+    replies = λ r below. no_reply_kept 2 n.first r w a b d kept (replies r (subst (λ k. r < k) (all_passed n o passed) below));
+    further = moves_since o c c' a b d steps moves;
+  }
+
+  pub tried_grown : (o : Option Event) (c c1 c2 : Counts) (a b : Option Loads) → IsGrown c c1 → IsTried n t w allowed o c1 c2 a b → IsTried n t w allowed o c c2 a b
+  tried_grown o c c1 c2 a b grown h = record {
+    replies = h.replies;
+    further = record {
+      service = h.further.service;
+      later = record { request = λ after free. request_grown n.slot c c1 c2 a b grown (h.further.later.request after free); begin = h.further.later.begin };
+    };
+  }
+
+-- ---- of a node that is as it was
+
+later_as : (slot slot' first first' : ℕ) (t t' : NodeState) (w w' : Known) (allowed : Bool) (o : Option Event) (old old' new : ℕ → Counts) (a b : Option Loads) → slot' ≡ slot → first' ≡ first → t' ≡ t → w' ≡ w → old' ≡ old
+    → AreLaterTried (node_of slot' first' t') t' w' allowed o (old' slot') (new slot') a b → AreLaterTried (node_of slot first t) t w allowed o (old slot) (new slot) a b
+later_as slot slot' first first' t t' w w' allowed o old old' new a b es ef et ew eo h =
+    subst (λ c. AreLaterTried (node_of slot first t) t w allowed o (c slot) (new slot) a b) eo
+    (subst (λ x. AreLaterTried (node_of slot first t) t x allowed o (old' slot) (new slot) a b) ew
+    (subst (λ x. AreLaterTried (node_of slot first x) x w' allowed o (old' slot) (new slot) a b) et
+    (subst (λ x. AreLaterTried (node_of slot x t') t' w' allowed o (old' slot) (new slot) a b) ef
+    (subst (λ x. AreLaterTried (node_of x first' t') t' w' allowed o (old' x) (new x) a b) es h))))
+
+moves_as : (slot slot' first first' : ℕ) (t t' : NodeState) (w w' : Known) (allowed : Bool) (o : Option Event) (old new : ℕ → Counts) (a b : Option Loads) → slot' ≡ slot → first' ≡ first → t' ≡ t → w' ≡ w
+    → AreMovesTried (node_of slot' first' t') t' w' allowed o (old slot') (new slot') a b → AreMovesTried (node_of slot first t) t w allowed o (old slot) (new slot) a b
+moves_as slot slot' first first' t t' w w' allowed o old new a b es ef et ew h =
+    subst (λ x. AreMovesTried (node_of slot first t) t x allowed o (old slot) (new slot) a b) ew
+    (subst (λ x. AreMovesTried (node_of slot first x) x w' allowed o (old slot) (new slot) a b) et
+    (subst (λ x. AreMovesTried (node_of slot x t') t' w' allowed o (old slot) (new slot) a b) ef
+    (subst (λ x. AreMovesTried (node_of x first' t') t' w' allowed o (old x) (new x) a b) es h)))
+
+tried_as : (slot slot' first first' : ℕ) (t t' : NodeState) (w w' : Known) (allowed : Bool) (o : Option Event) (old new : ℕ → Counts) (a a' b : Option Loads) → slot' ≡ slot → first' ≡ first → t' ≡ t → w' ≡ w → a' ≡ a
+    → IsTried (node_of slot' first' t') t' w' allowed o (old slot') (new slot') a' b → IsTried (node_of slot first t) t w allowed o (old slot) (new slot) a b
+tried_as slot slot' first first' t t' w w' allowed o old new a a' b es ef et ew ea h =
+    subst (λ x. IsTried (node_of slot first t) t w allowed o (old slot) (new slot) x b) ea
+    (subst (λ x. IsTried (node_of slot first t) t x allowed o (old slot) (new slot) a' b) ew
+    (subst (λ x. IsTried (node_of slot first x) x w' allowed o (old slot) (new slot) a' b) et
+    (subst (λ x. IsTried (node_of slot x t') t' w' allowed o (old slot) (new slot) a' b) ef
+    (subst (λ x. IsTried (node_of x first' t') t' w' allowed o (old x) (new x) a' b) es h))))
+
+-- the turn of a node whose waiting hints were posted
+pub tried_posted : (slot slot' first first' : ℕ) (t t' : NodeState) (w w' : Known) (allowed : Bool) (o : Option Event) (old mid new : ℕ → Counts) (a a' b : Option Loads) → slot' ≡ slot → first' ≡ first → t' ≡ t → w' ≡ w → a' ≡ a
+    → IsGrown (old slot) (mid slot) → IsTried (node_of slot' first' t') t' w' allowed o (mid slot') (new slot') a' b → IsTried (node_of slot first t) t w allowed o (old slot) (new slot) a b
+tried_posted slot slot' first first' t t' w w' allowed o old mid new a a' b es ef et ew ea grown h =
+    tried_grown (node_of slot first t) t w allowed o (old slot) (mid slot) (new slot) a b grown (tried_as slot slot' first first' t t' w w' allowed o mid new a a' b es ef et ew ea h)
+
+keeps_as : (k first first' : ℕ) (w w' : Known) (a b : Option Loads) → first' ≡ first → w' ≡ w → TellsLoads (Keeps k first' w') a b → TellsLoads (Keeps k first w) a b
+keeps_as k first first' w w' a b ef ew h = subst (λ x. TellsLoads (Keeps k first x) a b) ew (subst (λ x. TellsLoads (Keeps k x w') a b) ef h)
+
+-- one function after another that did nothing: the begin after a look for a request
+pub begun_after_look : (slot first first' : ℕ) (t t' : NodeState) (w w' : Known) (allowed : Bool) (o : Option Event) (c c1 c2 : Counts) (a b d : Option Loads) → first' ≡ first → t' ≡ t → w' ≡ w
+    → HasNoRequest slot c c1 a b → TellsLoads (Keeps 3 first w) a b → (o ≡ None → allowed ≡ true → CannotBegin first' t' w' b d) → TellsLoads (Keeps 4 first' w') b d → After c1 c2
+    → AreLaterTried (node_of slot first t) t w allowed o c c2 a d
+begun_after_look slot first first' t t' w w' allowed o c c1 c2 a b d ef et ew asked kept cannot later on =
+    later_then (node_of slot first t) t w allowed o c c1 c2 a b d asked kept
+    (λ none_ may. subst (λ x. CannotBegin first t x b d) ew (subst (λ x. CannotBegin first x w' b d) et (subst (λ x. CannotBegin x t' w' b d) ef (cannot none_ may))))
+    (keeps_as 4 first first' w w' b d ef ew later) on
+
+-- the later moves after the service
+pub later_after_service : (slot slot' first first' : ℕ) (t t' : NodeState) (w w' : Known) (allowed : Bool) (o : Option Event) (old old' new : ℕ → Counts) (a b d : Option Loads) → slot' ≡ slot → first' ≡ first → t' ≡ t → w' ≡ w → old' ≡ old
+    → IsHeld t w w.service a b → TellsLoads (Keeps 2 first w) a b → TellsLoads (Keeps 3 first' w') b d → AreLaterTried (node_of slot' first' t') t' w' allowed o (old' slot') (new slot') b d
+    → AreMovesTried (node_of slot first t) t w allowed o (old slot) (new slot) a d
+later_after_service slot slot' first first' t t' w w' allowed o old old' new a b d es ef et ew eo held kept later tried =
+    moves_then (node_of slot first t) t w allowed o (old slot) (new slot) a b d held kept (keeps_as 3 first first' w w' b d ef ew later)
+    (later_as slot slot' first first' t t' w w' allowed o old old' new b d es ef et ew eo tried)
+
+-- all moves after the replies
+pub moves_after_replies : (slot slot' first first' : ℕ) (t t' : NodeState) (w w' : Known) (allowed : Bool) (o : Option Event) (old new : ℕ → Counts) (a b d : Option Loads) → slot' ≡ slot → first' ≡ first → t' ≡ t → w' ≡ w
+    → HaveNoReplies (node_of slot first t) w None a b → TellsLoads Steps a b → TellsLoads (Keeps 2 first' w') b d → is_passed 1 o ≡ true
+    → AreMovesTried (node_of slot' first' t') t' w' allowed o (old slot') (new slot') b d → IsTried (node_of slot first t) t w allowed o (old slot) (new slot) a d
+moves_after_replies slot slot' first first' t t' w w' allowed o old new a b d es ef et ew replies steps kept passed moves =
+    tried_then (node_of slot first t) t w allowed o (old slot) (new slot) a b d replies steps (keeps_as 2 first first' w w' b d ef ew kept) passed
+    (moves_as slot slot' first first' t t' w w' allowed o old new b d es ef et ew moves)
+
+-- ---- the hints of such a node
+
+pub sent_as : (s s' : Option State) (a b d : Option Loads) (slot slot' first first' : ℕ) (w w' : Known) (e : Option Event) (old old' new : Hinted) → s' ≡ s → slot' ≡ slot → first' ≡ first → w' ≡ w → old' ≡ old → TellsLoads Steps a b
+    → IsSentAfter (record { state = s'; before = b; after = d }) slot' first' (is_none w'.service) e old' new → IsSentAfter (record { state = s; before = a; after = d }) slot first (is_none w.service) e old new
+sent_as s s' a b d slot slot' first first' w w' e old old' new st es ef ew eo steps h =
+    let one = subst (λ x. IsSentAfter (record { state = x; before = b; after = d }) slot' first' (is_none w'.service) e old' new) st h in
+    let two = subst (λ x. IsSentAfter (record { state = s; before = b; after = d }) x first' (is_none w'.service) e old' new) es one in
+    let three = subst (λ x. IsSentAfter (record { state = s; before = b; after = d }) slot x (is_none w'.service) e old' new) ef two in
+    let four = subst (λ (x : Known). IsSentAfter (record { state = s; before = b; after = d }) slot first (is_none x.service) e old' new) ew three in
+    let five = subst (λ x. IsSentAfter (record { state = s; before = b; after = d }) slot first (is_none w.service) e x new) eo four in
+    record { between = five.between; looked = five.looked; sent = hint_since s a b d first e five.between new steps five.sent }
+
+pub sent_by_as : (s s' : Option State) (a b d : Option Loads) (n n' : NodeAt) (w w' : Known) (rule rule' : State → Bool) (e : Option Event) (old old' new : Hinted) → s' ≡ s → n' ≡ n → w' ≡ w → old' ≡ old → TellsLoads Steps a b
+    → ((x : State) → IsTold s n w x → rule' x ≡ rule x)
+    → IsSentBy (record { state = s'; before = b; after = d }) n' w' rule' e old' new → IsSentBy (record { state = s; before = a; after = d }) n w rule e old new
+sent_by_as s s' a b d n n' w w' rule rule' e old old' new st en ew eo steps same h =
+    let one = subst (λ x. IsSentBy (record { state = x; before = b; after = d }) n' w' rule' e old' new) st h in
+    let two = subst (λ x. IsSentBy (record { state = s; before = b; after = d }) x w' rule' e old' new) en one in
+    let three = subst (λ x. IsSentBy (record { state = s; before = b; after = d }) n x rule' e old' new) ew two in
+    let four = subst (λ x. IsSentBy (record { state = s; before = b; after = d }) n w rule' e x new) eo three in
+    record {
+      asked = four.asked;
+      free = four.free;
+      passed = four.passed;
+      ruled = λ x told. four.ruled x told ∙ same x told;
+      after = record { between = four.after.between; looked = four.after.looked; sent = hint_since s a b d n.first e four.after.between new steps four.after.sent };
+    }
+
+-- where a gate tells its state, a service is known exactly where there is one
+same_none : (s : State) (o : Option Service) (u : Option Served) → KnowsService s o u → is_none u ≡ is_none o
+same_none s None None h = refl
+same_none s None (Some u) h = absurd h
+same_none s (Some v) None h = absurd h
+same_none s (Some v) (Some u) h = refl
+
+none_is : (o : Option Served) → is_none o ≡ true → o ≡ None
+none_is None h = refl
+none_is (Some u) h = absurd (both_ways false refl h)
+
+-- the look after the service
+pub sent_after_service : (g : GateSeen) (n : NodeAt) (t : NodeState) (w seat : Known) (e : Option Event) (old new : Hinted) → w ≡ seat → ((s : State) → IsTold g.state n seat s → None ≡ serves s n.slot t)
+    → IsSentAfter g n.slot n.first (is_none w.service) e old new → IsSentBy g n seat (λ s. is_none (serves s n.slot t) && is_none (service s n.slot)) e old new
+sent_after_service g n t w seat e old new kept exact h = record {
+  asked = is_none w.service;
+  free = λ is. ap (λ (k : Known). k.service) (sym kept) ∙ none_is w.service is;
+  passed = λ after. ap (λ (k : Known). is_none k.service) kept;
+  ruled = λ s told.
+      ap (λ (k : Known). is_none k.service) kept ∙ same_none s (service s n.slot) seat.service told.fits.known.service
+      ∙ ap (λ o. is_none o && is_none (service s n.slot)) (exact s told);
+  after = h;
+}

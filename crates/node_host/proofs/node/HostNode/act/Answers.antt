@@ -1,0 +1,55 @@
+use Rattle.std.proofs.Common.{◌∙◌, refl, ap}
+use Rattle.std.specs.Prelude.{◌&&◌, is_none}
+use Rattle.node_host.specs.Hosted.{SeatSeen, node_of}
+use Rattle.node_host.specs.Posting.{Hinted}
+use Rattle.node_host.proofs.Composing.{same_known, same_machine, same_node, same_state}
+use Rattle.node_host.proofs.Tries.{moves_after_replies, sent_by_as}
+use Rattle.quiesce_core.specs.State.{service}
+use Rattle.turns.specs.Turn.{looks, serves}
+use Rattle.node_host.proofs.node.HostNode.act.Goals as goal
+
+pub returns-in-None-clause-sent : goal.returns-in-None-clause-sent
+returns-in-None-clause-sent g c =
+    let h = c.args.self.now in
+    let t = g.C.Component.state h.inner in
+    let seat : SeatSeen = record { slot = g.S.GateSeat.slot_of h.seat; known = g.S.GateSeat.known h.seat; told = g.S.GateSeat.tells h.seat } in
+    let m = c.end_or_ask.new.self in
+    let tm = g.C.Component.state m.inner in
+    let seatm : SeatSeen = record { slot = g.S.GateSeat.slot_of m.seat; known = g.S.GateSeat.known m.seat; told = g.S.GateSeat.tells m.seat } in
+    let a = g.S.GateSeat.loads h.seat in
+    let b = g.S.GateSeat.loads m.seat in
+    let k = c.work.new.self in
+    let d = g.S.GateSeat.loads k.seat in
+    let o = g.G.PortGate.state c.args.gate.now in
+    let same = same_state (node_of h.slot h.first_port t) t tm h.log.items m.log.items seat seatm (g.G.PortGate.state c.args.gate.now) (g.G.PortGate.state c.end_or_ask.new.gate) c.in-None.ensures.moved in
+    let old : Hinted = record { waiting = h.waiting; counts = g.H.Hints.counts c.args.hints.now; told = g.H.Hints.tells c.args.hints.now } in
+    let between : Hinted = record { waiting = m.waiting; counts = g.H.Hints.counts c.args.hints.now; told = g.H.Hints.tells c.args.hints.now } in
+    let new : Hinted = record { waiting = k.waiting; counts = g.H.Hints.counts c.work.new.hints; told = g.H.Hints.tells c.work.new.hints } in
+    sent_by_as o (g.G.PortGate.state c.end_or_ask.new.gate) a b d (node_of h.slot h.first_port t) (node_of m.slot m.first_port tm) seat.known seatm.known
+    (λ s. looks s h.slot t) (λ s. is_none (serves s m.slot tm) && is_none (service s m.slot)) c.work.result old between new
+    (same_machine (node_of h.slot h.first_port t) t tm h.log.items m.log.items seat seatm (g.G.PortGate.state c.args.gate.now) (g.G.PortGate.state c.end_or_ask.new.gate) c.in-None.ensures.moved)
+    (same_node h.slot m.slot h.first_port m.first_port t tm c.in-None.ensures.place.0 c.in-None.ensures.place.1 same)
+    (same_known (node_of h.slot h.first_port t) t tm h.log.items m.log.items seat seatm (g.G.PortGate.state c.args.gate.now) (g.G.PortGate.state c.end_or_ask.new.gate) c.in-None.ensures.moved)
+    (ap (λ x. record { waiting = x; counts = g.H.Hints.counts c.args.hints.now; told = g.H.Hints.tells c.args.hints.now }) c.in-None.ensures.waiting)
+    c.in-None.ensures.steps
+    (λ s told.
+    ap (λ i. is_none (serves s i tm) && is_none (service s i)) c.in-None.ensures.place.0
+    ∙ ap (λ x. is_none (serves s h.slot x) && is_none (service s h.slot)) same
+    ∙ ap (λ e. is_none e && is_none (serves s h.slot t) && is_none (service s h.slot)) (c.in-None.ensures.exact s told))
+    c.work.ensures.sent
+
+pub returns-in-None-clause-tried : goal.returns-in-None-clause-tried
+returns-in-None-clause-tried g c =
+    let h = c.args.self.now in
+    let t = g.C.Component.state h.inner in
+    let seat : SeatSeen = record { slot = g.S.GateSeat.slot_of h.seat; known = g.S.GateSeat.known h.seat; told = g.S.GateSeat.tells h.seat } in
+    let m = c.end_or_ask.new.self in
+    let tm = g.C.Component.state m.inner in
+    let seatm : SeatSeen = record { slot = g.S.GateSeat.slot_of m.seat; known = g.S.GateSeat.known m.seat; told = g.S.GateSeat.tells m.seat } in
+    let a = g.S.GateSeat.loads h.seat in
+    let b = g.S.GateSeat.loads m.seat in
+    let k = c.work.new.self in
+    let d = g.S.GateSeat.loads k.seat in
+    moves_after_replies h.slot m.slot h.first_port m.first_port t tm h.known m.known c.args.allowed c.work.result (g.H.Hints.counts c.args.hints.now) (g.H.Hints.counts c.work.new.hints) a b d
+    c.in-None.ensures.place.0 c.in-None.ensures.place.1 (same_state (node_of h.slot h.first_port t) t tm h.log.items m.log.items seat seatm (g.G.PortGate.state c.args.gate.now) (g.G.PortGate.state c.end_or_ask.new.gate) c.in-None.ensures.moved) (c.in-None.ensures.known refl)
+    c.in-None.ensures.tried c.in-None.ensures.steps c.work.ensures.loads c.work.ensures.passed c.work.ensures.tried

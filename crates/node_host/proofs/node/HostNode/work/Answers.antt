@@ -1,0 +1,49 @@
+use Rattle.std.proofs.Common.{◌∙◌, refl, ap}
+use Rattle.node_host.specs.Hosted.{SeatSeen, node_of}
+use Rattle.node_host.specs.Posting.{GateSeen, Hinted}
+use Rattle.node_host.proofs.Composing.{same_machine, same_state}
+use Rattle.node_host.proofs.Loading.{keeps_steps}
+use Rattle.node_host.proofs.Tries.{later_after_service, sent_after_service, sent_as}
+use Rattle.node_host.proofs.node.HostNode.work.Goals as goal
+
+pub returns-in-None-clause-sent : goal.returns-in-None-clause-sent
+returns-in-None-clause-sent g c =
+    let h = c.args.self.now in
+    let t = g.C.Component.state h.inner in
+    let seat : SeatSeen = record { slot = g.S.GateSeat.slot_of h.seat; known = g.S.GateSeat.known h.seat; told = g.S.GateSeat.tells h.seat } in
+    let m = c.serve.new.self in
+    let tm = g.C.Component.state m.inner in
+    let seatm : SeatSeen = record { slot = g.S.GateSeat.slot_of m.seat; known = g.S.GateSeat.known m.seat; told = g.S.GateSeat.tells m.seat } in
+    let a = g.S.GateSeat.loads h.seat in
+    let b = g.S.GateSeat.loads m.seat in
+    let k = c.look.new.self in
+    let d = g.S.GateSeat.loads k.seat in
+    let o = g.G.PortGate.state c.args.gate.now in
+    let seen : GateSeen = record { state = o; before = a; after = d } in
+    let old : Hinted = record { waiting = h.waiting; counts = g.H.Hints.counts c.args.hints.now; told = g.H.Hints.tells c.args.hints.now } in
+    let between : Hinted = record { waiting = m.waiting; counts = g.H.Hints.counts c.serve.new.hints; told = g.H.Hints.tells c.serve.new.hints } in
+    let new : Hinted = record { waiting = k.waiting; counts = g.H.Hints.counts c.look.new.hints; told = g.H.Hints.tells c.look.new.hints } in
+    let quiet = c.in-None.ensures.quiet refl in
+    sent_after_service seen (node_of h.slot h.first_port t) t h.known seat.known c.look.result old new h.hosted.kept (λ s told. c.in-None.ensures.exact s told)
+    (sent_as o (g.G.PortGate.state c.serve.new.gate) a b d h.slot m.slot h.first_port m.first_port h.known m.known c.look.result old between new
+    (same_machine (node_of h.slot h.first_port t) t tm h.log.items m.log.items seat seatm (g.G.PortGate.state c.args.gate.now) (g.G.PortGate.state c.serve.new.gate) c.in-None.ensures.moved)
+    c.in-None.ensures.place.0 c.in-None.ensures.place.1 (c.in-None.ensures.known refl)
+    (ap (λ x. record { waiting = m.waiting; counts = g.H.Hints.counts x; told = g.H.Hints.tells x }) quiet.0 ∙ ap (λ x. record { waiting = x; counts = g.H.Hints.counts c.args.hints.now; told = g.H.Hints.tells c.args.hints.now }) quiet.1)
+    (keeps_steps 2 h.first_port h.known a b c.in-None.ensures.loads) c.look.ensures.sent)
+
+pub returns-in-None-clause-tried : goal.returns-in-None-clause-tried
+returns-in-None-clause-tried g c =
+    let h = c.args.self.now in
+    let t = g.C.Component.state h.inner in
+    let seat : SeatSeen = record { slot = g.S.GateSeat.slot_of h.seat; known = g.S.GateSeat.known h.seat; told = g.S.GateSeat.tells h.seat } in
+    let m = c.serve.new.self in
+    let tm = g.C.Component.state m.inner in
+    let seatm : SeatSeen = record { slot = g.S.GateSeat.slot_of m.seat; known = g.S.GateSeat.known m.seat; told = g.S.GateSeat.tells m.seat } in
+    let a = g.S.GateSeat.loads h.seat in
+    let b = g.S.GateSeat.loads m.seat in
+    let k = c.look.new.self in
+    let d = g.S.GateSeat.loads k.seat in
+    later_after_service h.slot m.slot h.first_port m.first_port t tm h.known m.known c.args.allowed c.look.result (g.H.Hints.counts c.args.hints.now) (g.H.Hints.counts c.serve.new.hints) (g.H.Hints.counts c.look.new.hints) a b d
+    c.in-None.ensures.place.0 c.in-None.ensures.place.1 (same_state (node_of h.slot h.first_port t) t tm h.log.items m.log.items seat seatm (g.G.PortGate.state c.args.gate.now) (g.G.PortGate.state c.serve.new.gate) c.in-None.ensures.moved) (c.in-None.ensures.known refl)
+    (ap (λ x. g.H.Hints.counts x) (c.in-None.ensures.quiet refl).0)
+    (c.in-None.ensures.held refl) c.in-None.ensures.loads c.look.ensures.loads c.look.ensures.tried
