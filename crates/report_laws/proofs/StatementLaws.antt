@@ -1,0 +1,182 @@
+-- A script has one list of statements, and in a script whose graphs are sound the statements are so.
+use Rattle.std.proofs.Common.{◌≡◌, ◌∙◌, ℕ, ℤ, Bool, true, false, List, [], ◌∷◌, ◌++◌, length, Option, Some, None, Result, Ok, Err, refl, sym, ap, subst}
+use Rattle.std.specs.Prelude.{◌||◌, ◌&&◌, not, ⊤, if◌then◌else◌, sum_by}
+use Rattle.std.specs.List.{range_with_len}
+use Rattle.std.specs.Option.{option_or}
+use Rattle.std.proofs.lemmas.Bool.{both_ways, or_left, or_parts}
+use Rattle.std.proofs.lemmas.List.Folds.{list_any-append}
+use Rattle.config_graph.specs.Graph.{Graph, ports, requires_at}
+use Rattle.change_plan.specs.Differences.{IsGone}
+use Rattle.change_plan.specs.Refusals.{CreatesSoMany}
+use Rattle.change_plan.specs.declared.plan_data.Move.{Move}
+use Rattle.change_plan.proofs.SelectsLaws.{Selects-one}
+use Rattle.change_script.specs.EventFiles.{first_fault}
+use Rattle.change_script.specs.Lines.{Line, statements}
+use Rattle.change_script.specs.ScriptFiles.{IsScript, fault_in_lines, fault_of, has, is_full, is_out_of_order, is_start, lack, line_faults, needs_start, said, said_by, said_with}
+use Rattle.change_script.specs.ScriptLines.{meaning}
+use Rattle.change_script.specs.declared.error.LineFault.{LineFault}
+use Rattle.change_script.specs.declared.error.ScriptError.{ScriptError}
+use Rattle.change_script.specs.declared.error.ScriptError.TheVariants as errors
+use Rattle.change_script.specs.declared.script.Body.{Body}
+use Rattle.change_script.specs.declared.script.Body.TheVariants as bodies
+use Rattle.change_script.specs.declared.script.Script.{Script}
+use Rattle.change_script.specs.declared.script.ScriptLine.{ScriptLine}
+use Rattle.change_law.specs.Scripts.{Above, SayAll, Says, SaysChange, SaysStart, StatementsOf, more_made, nothing_above}
+use Rattle.change_law.specs.Statements.{Statement, start, change}
+use Rattle.report_laws.specs.SoundStatements.{AreSound, GoOnSoundly, IsSoundGraph}
+
+-- so many nodes and ports are created
+pub one_count : (old new : Graph) (n p m q : ℕ) → CreatesSoMany old new n p → CreatesSoMany old new m q → (n ≡ m) × (p ≡ q)
+one_count old new n p m q a b =
+    let same : a.created ≡ b.created = Selects-one (IsGone new old) (range_with_len 0 (length new.nodes)) a.created b.created a.gone b.gone in
+    (a.nodes_are ∙ ap (λ (js : List ℕ). length js) same ∙ sym b.nodes_are, a.ports_are ∙ ap (sum_by (requires_at new.nodes)) same ∙ sym b.ports_are)
+
+module _ (elab : List ℕ → List ℕ → List ℤ → Graph → Type 0) where
+  module _ (one_graph : (file name : List ℕ) (args : List ℤ) (g h : Graph) → elab file name args g → elab file name args h → g ≡ h) where
+    -- what two ways to read a line come to is the same
+    record SameSaid (own own' : List Statement) (next next' : Above) : Type 0 where
+      owns : own ≡ own'
+      nexts : next ≡ next'
+
+    one_start : (above : Above) (name : List ℕ) (args : List ℤ) (own own' : List Statement) (next next' : Above) → SaysStart elab above name args own next → SaysStart elab above name args own' next' → SameSaid own own' next next'
+    one_start above name args own own' next next' a b =
+        let same = one_graph above.file name args a.graph b.graph a.elaborates b.elaborates in
+        record {
+          owns = a.own_is ∙ ap (λ g. start name args g ∷ []) same ∙ sym b.own_is;
+          nexts = a.next_is ∙ ap (λ (g : Graph). let next : Above = record above { graph = g; made = more_made above.made (length g.nodes) (length (ports g.nodes)) } in next) same ∙ sym b.next_is;
+        }
+
+    one_change : (above : Above) (name : List ℕ) (args : List ℤ) (within : ℕ) (moves : List Move) (own own' : List Statement) (next next' : Above)
+        → SaysChange elab above name args within moves own next → SaysChange elab above name args within moves own' next' → SameSaid own own' next next'
+    one_change above name args within moves own own' next next' a b =
+        let same = one_graph above.file name args a.graph b.graph a.elaborates b.elaborates in
+        let counts = one_count above.graph b.graph a.can_plan.nodes a.can_plan.ports b.can_plan.nodes b.can_plan.ports (subst (λ g. CreatesSoMany above.graph g a.can_plan.nodes a.can_plan.ports) same a.can_plan.wanted) b.can_plan.wanted in
+        record {
+          owns = a.own_is ∙ ap (λ g. change name args g within moves ∷ []) same ∙ sym b.own_is;
+          nexts = a.next_is ∙ (λ i. record above { graph = same i; made = more_made above.made (counts.0 i) (counts.1 i) }) ∙ sym b.next_is;
+        }
+
+    one_said : (body : Body) (above : Above) (own own' : List Statement) (next next' : Above) → Says elab above body own next → Says elab above body own' next' → SameSaid own own' next next'
+    one_said (bodies.File name) above own own' next next' a b = record { owns = a.0 ∙ sym b.0; nexts = a.1 ∙ sym b.1 }
+    one_said (bodies.Start name args) above own own' next next' a b = one_start above name args own own' next next' a b
+    one_said (bodies.Run k) above own own' next next' a b = record { owns = a.0 ∙ sym b.0; nexts = a.1 ∙ sym b.1 }
+    one_said (bodies.Change name args within moves) above own own' next next' a b = one_change above name args within moves own own' next next' a b
+    one_said (bodies.Finish n) above own own' next next' a b = record { owns = a.0 ∙ sym b.0; nexts = a.1 ∙ sym b.1 }
+    one_said bodies.Show above own own' next next' a b = record { owns = a.0 ∙ sym b.0; nexts = a.1 ∙ sym b.1 }
+    one_said bodies.Stop above own own' next next' a b = record { owns = a.0 ∙ sym b.0; nexts = a.1 ∙ sym b.1 }
+
+    one_list_below : (lines : List ScriptLine) (above : Above) (a b : List Statement) → SayAll elab lines above a → SayAll elab lines above b → a ≡ b
+    one_list_below [] above a b x y = x ∙ sym y
+    one_list_below (line ∷ lines) above a b x y =
+        let said_so = one_said line.body above x.own y.own x.next y.next x.says y.says in
+        let rest = one_list_below lines y.next x.rest y.rest (subst (λ n. SayAll elab lines n x.rest) said_so.nexts x.below) y.below in
+        x.are ∙ (λ i. said_so.owns i ++ rest i) ∙ sym y.are
+
+    pub one_list : (script : Script) (a b : List Statement) → StatementsOf elab script a → StatementsOf elab script b → a ≡ b
+    one_list script a b x y = one_list_below script.lines nothing_above a b x y
+
+-- each line is in order below those above it
+abbrev pub AreInOrder : List ScriptLine → List ScriptLine → Type 0
+AreInOrder above [] = ⊤
+AreInOrder above (line ∷ lines) = (is_out_of_order above line.body ≡ false) × AreInOrder (above ++ line ∷ []) lines
+
+right_line : (n : ℕ) (full out : Bool) (rest : List (Option ScriptError)) → first_fault ((if full then Some (errors.TooManyLines n) else (if out then Some (errors.Order n) else None)) ∷ rest) ≡ None
+    → (out ≡ false) × (first_fault rest ≡ None)
+right_line n true out rest h = absurd (cc h)
+right_line n false true rest h = absurd (cc h)
+right_line n false false rest h = (refl, h)
+
+in_order : (above : List ScriptLine) (ls : List Line) → first_fault (line_faults above ls) ≡ None → AreInOrder above (said ls)
+in_order above [] h = tt
+in_order above (line ∷ ls) h = by (meaning line.bytes) refl (in_order (above ++ said_by line) ls)
+  where
+    by : (m : Result Body LineFault) → meaning line.bytes ≡ m → (first_fault (line_faults (above ++ said_by line) ls) ≡ None → AreInOrder (above ++ said_by line) (said ls)) → AreInOrder above (said (line ∷ ls))
+    by (Err fault) means rest = absurd (cc (ap (λ m. first_fault (Rattle.change_script.specs.ScriptFiles.fault_in above line.number m ∷ line_faults (above ++ said_by line) ls)) (sym means) ∙ h))
+    by (Ok body) means rest =
+        let one : said_by line ≡ record { number = line.number; body = body } ∷ [] = ap (said_with line.number) means in
+        let right = right_line line.number (is_full above) (is_out_of_order above body) (line_faults (above ++ said_by line) ls)
+        (ap (λ m. first_fault (Rattle.change_script.specs.ScriptFiles.fault_in above line.number m ∷ line_faults (above ++ said_by line) ls)) (sym means) ∙ h) in
+        subst (λ xs. AreInOrder above (xs ++ said ls)) (sym one)
+        (right.0, subst (λ xs. AreInOrder (above ++ xs) (said ls)) one (rest right.1))
+
+module _ (elab : List ℕ → List ℕ → List ℤ → Graph → Type 0) (sound : (file name : List ℕ) (args : List ℤ) (g : Graph) → elab file name args g → IsSoundGraph g) where
+  second_start : (above : List ScriptLine) (body : Body) → is_start body ≡ true → has is_start above ≡ true → is_out_of_order above body ≡ false → ⊥
+  second_start above body starts has_one right =
+      let at = or_parts _ _ (or_parts _ _ (or_parts _ _ (or_parts _ _ right).0).0).0 in
+      both_ways (is_start body && has is_start above) at.1 (rw starts has_one)
+
+  goes_on : (above : List ScriptLine) (lines : List ScriptLine) (a : Above) (ss : List Statement) → has is_start above ≡ true → AreInOrder above lines → SayAll elab lines a ss → GoOnSoundly ss a.graph a.made
+  goes_on above [] a ss started order says = subst (λ xs. GoOnSoundly xs a.graph a.made) (sym says) tt
+  goes_on above (line ∷ lines) a ss started order says =
+      subst (λ xs. GoOnSoundly xs a.graph a.made) (sym says.are)
+      (by line.body order.0 says.own says.next says.says (goes_on (above ++ line ∷ []) lines says.next says.rest still order.1 says.below))
+    where
+      still : has is_start (above ++ line ∷ []) ≡ true
+      still = list_any-append (λ (l : ScriptLine). is_start l.body) above (line ∷ []) ∙ or_left (has is_start above) (has is_start (line ∷ [])) started
+
+      by : (body : Body) → is_out_of_order above body ≡ false → (own : List Statement) (next : Above) → Says elab a body own next → GoOnSoundly says.rest next.graph next.made → GoOnSoundly (own ++ says.rest) a.graph a.made
+      by (bodies.File name) right own next w rest =
+          subst (λ xs. GoOnSoundly (xs ++ says.rest) a.graph a.made) (sym w.0) (subst (λ (n : Above). GoOnSoundly says.rest n.graph n.made) w.1 rest)
+      by (bodies.Start name args) right own next w rest = absurd (second_start above (bodies.Start name args) refl started right)
+      by (bodies.Run k) right own next w rest =
+          subst (λ xs. GoOnSoundly (xs ++ says.rest) a.graph a.made) (sym w.0) (subst (λ (n : Above). GoOnSoundly says.rest n.graph n.made) w.1 rest)
+      by (bodies.Change name args within moves) right own next w rest =
+          subst (λ xs. GoOnSoundly (xs ++ says.rest) a.graph a.made) (sym w.own_is)
+          (record { graph = sound a.file name args w.graph w.elaborates; can_plan = w.can_plan; below = subst (λ (n : Above). GoOnSoundly says.rest n.graph n.made) w.next_is rest })
+      by (bodies.Finish n) right own next w rest =
+          subst (λ xs. GoOnSoundly (xs ++ says.rest) a.graph a.made) (sym w.0) (subst (λ (n : Above). GoOnSoundly says.rest n.graph n.made) w.1 rest)
+      by bodies.Show right own next w rest =
+          subst (λ xs. GoOnSoundly (xs ++ says.rest) a.graph a.made) (sym w.0) (subst (λ (n : Above). GoOnSoundly says.rest n.graph n.made) w.1 rest)
+      by bodies.Stop right own next w rest =
+          subst (λ xs. GoOnSoundly (xs ++ says.rest) a.graph a.made) (sym w.0) (subst (λ (n : Above). GoOnSoundly says.rest n.graph n.made) w.1 rest)
+
+  needs_one : (above : List ScriptLine) (body : Body) → needs_start body ≡ true → has is_start above ≡ false → is_out_of_order above body ≡ false → ⊥
+  needs_one above body needs none right =
+      let at = or_parts _ _ (or_parts _ _ (or_parts _ _ right).0).0 in
+      both_ways (needs_start body && not (has is_start above)) at.1 (rw needs (ap not none))
+
+  begins : (above : List ScriptLine) (lines : List ScriptLine) (a : Above) (ss : List Statement) → a.made ≡ nothing_above.made → has is_start above ≡ false → has is_start lines ≡ true → AreInOrder above lines
+      → SayAll elab lines a ss → AreSound ss
+  begins above [] a ss made none some order says = absurd (both_ways false refl some)
+  begins above (line ∷ lines) a ss made none some order says =
+      subst AreSound (sym says.are) (by line.body refl order.0 says.own says.next says.says (λ still fresh left. begins (above ++ line ∷ []) lines says.next says.rest still fresh left order.1 says.below))
+    where
+      later : (says.next.made ≡ nothing_above.made → has is_start (above ++ line ∷ []) ≡ false → has is_start lines ≡ true → AreSound says.rest) → is_start line.body ≡ false → (next : Above) → next.made ≡ nothing_above.made → says.next ≡ next → AreSound says.rest
+      later go other next still is =
+          go (ap (λ (n : Above). n.made) is ∙ still) (list_any-append (λ (l : ScriptLine). is_start l.body) above (line ∷ []) ∙ rw none (rw other refl)) (sym (ap (λ b. b || has is_start lines) other) ∙ some)
+
+      by : (body : Body) → line.body ≡ body → is_out_of_order above body ≡ false → (own : List Statement) (next : Above) → Says elab a body own says.next → (says.next.made ≡ nothing_above.made → has is_start (above ++ line ∷ []) ≡ false → has is_start lines ≡ true → AreSound says.rest) → AreSound (own ++ says.rest)
+      by (bodies.File name) is right own next w go =
+          subst (λ xs. AreSound (xs ++ says.rest)) (sym w.0) (later go (ap is_start is) (record a { file = name }) made w.1)
+      by (bodies.Start name args) is right own next w go =
+          subst (λ xs. AreSound (xs ++ says.rest)) (sym w.own_is)
+          (record {
+            graph = sound a.file name args w.graph w.elaborates;
+            room = subst (λ m. Rattle.change_plan.specs.Room.HasRoomFor m w.graph) made w.room;
+            below = subst (λ m. GoOnSoundly says.rest w.graph (more_made m (length w.graph.nodes) (length (ports w.graph.nodes)))) made
+                (subst (λ (n : Above). GoOnSoundly says.rest n.graph n.made) w.next_is
+                (goes_on (above ++ line ∷ []) lines says.next says.rest
+                (list_any-append (λ (l : ScriptLine). is_start l.body) above (line ∷ []) ∙ rw none (rw is refl)) order.1 says.below));
+          })
+      by (bodies.Run k) is right own next w go = absurd (needs_one above (bodies.Run k) refl none right)
+      by (bodies.Change name args within moves) is right own next w go = absurd (needs_one above (bodies.Change name args within moves) refl none right)
+      by (bodies.Finish n) is right own next w go = absurd (needs_one above (bodies.Finish n) refl none right)
+      by bodies.Show is right own next w go = absurd (needs_one above bodies.Show refl none right)
+      by bodies.Stop is right own next w go = subst (λ xs. AreSound (xs ++ says.rest)) (sym w.0) (later go (ap is_start is) a made w.1)
+
+  has_start : (lines : List ScriptLine) → lack lines ≡ None → has is_start lines ≡ true
+  has_start lines h = by (has is_start lines) refl
+    where
+      by : (b : Bool) → has is_start lines ≡ b → has is_start lines ≡ true
+      by true is = is
+      by false is = absurd (cc (ap (λ b. if b then (if Rattle.change_script.specs.ScriptFiles.ends_with_end lines then None else Some errors.NoEnd) else Some errors.NoStart) (sym is) ∙ h))
+
+  pub sound_list : (text : List ℕ) (script : Script) → IsScript text script → (ss : List Statement) → StatementsOf elab script ss → AreSound ss
+  sound_list text script is ss says =
+      let parts = none_first (first_fault (line_faults [] (statements text))) (lack (said (statements text))) is.0 in
+      begins [] (said (statements text)) nothing_above ss refl refl (has_start (said (statements text)) parts.1) (in_order [] (statements text) parts.0)
+      (subst (λ ls. SayAll elab ls nothing_above ss) is.1 says)
+    where
+      none_first : (a b : Option ScriptError) → option_or a b ≡ None → (a ≡ None) × (b ≡ None)
+      none_first None b h = (refl, h)
+      none_first (Some x) b h = absurd (cc h)

@@ -1,0 +1,2 @@
+pub mod SoundStatements
+pub mod Described

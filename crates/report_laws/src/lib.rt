@@ -1,0 +1,10 @@
+//! Laws of reports: which statements a script has, what its commits leave, and what the report of the rounds is.
+#![tactic(auto)]
+
+mod committing;
+mod folding;
+mod saying;
+
+pub use committing::{changes_are_a_run_by_themselves, commits_leave_the_described_graph};
+pub use folding::states_are_folds_of_own_events;
+pub use saying::{a_script_has_one_list_of_statements, sound_scripts_have_sound_statements};
