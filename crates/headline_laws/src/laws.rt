@@ -1,0 +1,73 @@
+//! Laws of transcripts: what was done and told of each statement of a script makes a lawful report.
+
+ghost use Rattle.std.specs.Prelude.{ℕ, Bool, List, All};
+ghost use Rattle.base.specs.Each.{Each};
+ghost use Rattle.change_board.specs.Records.{IsRecordOf, Moment};
+ghost use Rattle.change_board.specs.Transcripts.{Item, entries, lines};
+ghost use Rattle.change_law.specs.Follows.{Follows};
+ghost use Rattle.change_law.specs.Lawful.{IsDrainedAt, IsEndedOnce, IsFolded, IsQuiescentAt, Merge};
+ghost use Rattle.change_law.specs.Members.{Member, events};
+ghost use Rattle.change_law.specs.Statements.{Statement};
+ghost use Rattle.change_script.specs.declared.report.Report.{Report};
+ghost use Rattle.quiesce_core.specs.Runs.{IsRun};
+ghost use Rattle.headline_laws.specs.Joining.{AreJoined};
+ghost use Rattle.headline_laws.specs.Pieces.{IsTranscript};
+ghost use Rattle.headline_laws.specs.Reports.{IsReport};
+
+use change_law::nothing_is_open_at_the_end;
+
+/// The lines of a transcript are a history that follows the script.
+pub fn transcripts_follow_their_scripts()
+    ensures follows { (alone : Bool) (statements : List Statement) (t : List Item) → IsTranscript alone statements t
+        → Follows statements (lines t) }
+{}
+
+/// What was told and what was done in the run of a record are joined in one list of members.
+pub fn records_and_transcripts_join()
+    ensures join { (t : List Item) (m : List Moment) → IsRecordOf (entries t) m
+        → (members : List Member) × AreJoined t m members }
+{}
+
+/// The events of these members are a run of the machine.
+pub fn joined_members_are_a_run()
+    ensures runs { (alone : Bool) (statements : List Statement) (t : List Item) (m : List Moment) (members : List Member)
+        → IsTranscript alone statements t → AreJoined t m members → IsRecordOf (entries t) m → IsRun (events members) }
+{}
+
+/// What a line tells as drained is so at its place, with the serial that is told.
+pub fn what_is_told_as_drained_is_so()
+    ensures drained { (alone : Bool) (statements : List Statement) (t : List Item) (m : List Moment)
+        (members : List Member) → IsTranscript alone statements t → AreJoined t m members → IsRecordOf (entries t) m
+        → Each IsDrainedAt members }
+{}
+
+/// The logs and the history are parts of these members, and nothing else is.
+pub fn logs_and_history_merge()
+    ensures merge { (alone : Bool) (statements : List Statement) (t : List Item) (m : List Moment) (members : List Member)
+        (report : Report) → IsTranscript alone statements t → AreJoined t m members → IsRecordOf (entries t) m
+        → IsReport t m report → Merge members report }
+{}
+
+/// What is linked, unlinked or removed is quiescent then.
+pub fn what_is_touched_is_quiescent()
+    ensures quiescent { (alone : Bool) (statements : List Statement) (t : List Item) (m : List Moment)
+        (members : List Member) → IsTranscript alone statements t → AreJoined t m members → IsRecordOf (entries t) m
+        → Each IsQuiescentAt members }
+{}
+
+/// Each transaction that was begun or called has ended once, with all that it needs.
+pub fn each_transaction_ends_once()
+    ensures ended_once { (alone : Bool) (statements : List Statement) (t : List Item) (m : List Moment)
+        (members : List Member) (report : Report) → IsTranscript alone statements t → AreJoined t m members
+        → IsRecordOf (entries t) m → IsReport t m report → (p k : ℕ) → IsEndedOnce (events members) p k }
+{
+    nothing_is_open_at_the_end();
+}
+
+/// Each log is one of its node's kind, from what the node was made with, and ends with its last state or tells to which
+/// node that went.
+pub fn logs_have_folds()
+    ensures folds { (alone : Bool) (statements : List Statement) (t : List Item) (m : List Moment) (members : List Member)
+        (report : Report) → IsTranscript alone statements t → AreJoined t m members → IsRecordOf (entries t) m
+        → IsReport t m report → All (IsFolded members report.history) report.logs }
+{}

@@ -1,0 +1,10 @@
+//! What follows for the report of a run from what was done and told in it, on any board.
+#![tactic(auto)]
+
+mod laws;
+
+pub use laws::{
+    each_transaction_ends_once, joined_members_are_a_run, logs_and_history_merge, logs_have_folds,
+    records_and_transcripts_join, transcripts_follow_their_scripts, what_is_told_as_drained_is_so,
+    what_is_touched_is_quiescent,
+};
