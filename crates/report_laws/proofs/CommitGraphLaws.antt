@@ -147,12 +147,12 @@ pub record Fits (done : List Statement) (h : List HistoryLine) (g : Graph) (made
   pub stands : list_any is_pending h ≡ false → Stands h g made
 
 -- a statement's lines, and what stands behind them
-record Onward (statements done : List Statement) (s : Statement) (h ls : List HistoryLine) (rest : List Statement) : Type 0 where
-  graph : Graph
-  made : Made
-  each : EachAfter (IsLeftAt statements) h ls
-  fits : Fits (done ++ s ∷ []) (h ++ ls) graph made
-  below : GoOnSoundly rest graph made
+pub record Onward (statements done : List Statement) (s : Statement) (h ls : List HistoryLine) (rest : List Statement) : Type 0 where
+  pub graph : Graph
+  pub made : Made
+  pub each : EachAfter (IsLeftAt statements) h ls
+  pub fits : Fits (done ++ s ∷ []) (h ++ ls) graph made
+  pub below : GoOnSoundly rest graph made
 
 not_pending : (h ls : List HistoryLine) → list_any is_pending (h ++ ls) ≡ false → (list_any is_pending h ≡ false) × (list_any is_pending ls ≡ false)
 not_pending h ls none = or_parts (list_any is_pending h) (list_any is_pending ls) (sym (list_any-append is_pending h ls) ∙ none)
@@ -360,7 +360,7 @@ module _ (each_may : EachMayCommit) (by_config : CommitsByConfiguration) (leaves
         }
 
   -- each statement behind the start
-  onward : (done : List Statement) (s : Statement) (h ls : List HistoryLine) (rest : List Statement) (g : Graph) (made : Made) → statements ≡ done ++ s ∷ rest → IsRight h s ls → IsRun (changes h) → Fits done h g made
+  pub onward : (done : List Statement) (s : Statement) (h ls : List HistoryLine) (rest : List Statement) (g : Graph) (made : Made) → statements ≡ done ++ s ∷ rest → IsRight h s ls → IsRun (changes h) → Fits done h g made
       → GoOnSoundly (s ∷ rest) g made → Onward statements done s h ls rest
   onward done (start name args new) h ls rest g made parts right run_so fits says = absurd says
   onward done (change name args new within moves) h ls rest g made parts right run_so fits says = ⊎_elim
@@ -409,10 +409,10 @@ module _ (each_may : EachMayCommit) (by_config : CommitsByConfiguration) (leaves
 
   -- the start
   module _ (name : List ℕ) (args : List ℤ) (g : Graph) (rest : List Statement) (parts : statements ≡ start name args g ∷ rest) (says : StartsSoundly g rest) where
-    few_nodes : length g.nodes ≤ Rattle.config_graph.specs.declared.TheConstants.MAX_NODES
+    pub few_nodes : length g.nodes ≤ Rattle.config_graph.specs.declared.TheConstants.MAX_NODES
     few_nodes = let fit = says.room.nodes_fit in omega (arith, fit)
 
-    few_ports : length (ports g.nodes) ≤ Rattle.config_graph.specs.declared.TheConstants.MAX_PORTS
+    pub few_ports : length (ports g.nodes) ≤ Rattle.config_graph.specs.declared.TheConstants.MAX_PORTS
     few_ports = let fit = says.room.ports_fit in omega (arith, fit)
 
     start_config : config_after (to.Start name args ∷ lines_of_events (start_of g)) ≡ (started g).config
@@ -428,7 +428,7 @@ module _ (each_may : EachMayCommit) (by_config : CommitsByConfiguration) (leaves
         let all_ports : length (started g).config.gates ≡ 0 + length (ports g.nodes) = omega (arith, many_ports) in
         λ i. record { nodes = nodes i; ports = all_ports i }
 
-    begun : (ls : List HistoryLine) → ls ≡ start_lines name args g → Onward statements [] (start name args g) [] ls rest
+    pub begun : (ls : List HistoryLine) → ls ≡ start_lines name args g → Onward statements [] (start name args g) [] ls rest
     begun ls are =
         let front = to.Start name args ∷ lines_of_events (start_of g) in
         let heads : count_by is_head front ≡ 1 = one_head (to.Start name args) (lines_of_events (start_of g)) refl (heads_in_events (start_of g)) in

@@ -45,7 +45,7 @@ gone_slots : (o : Option Slot) (xs : List Slot) (n : ℕ) → length (option_map
 gone_slots None xs n = refl
 gone_slots (Some m) xs n = length-set xs n (record m { live = false })
 
-nodes_next : (c : Configuration) (e : Event) → length (change_next c e).slots ≡ length c.slots + nodes_by e
+pub nodes_next : (c : Configuration) (e : Event) → length (change_next c e).slots ≡ length c.slots + nodes_by e
 nodes_next c (Make n node from) =
     length-append c.slots (record { node = node; first_port = length c.gates; from = from; live = true } ∷ [])
 nodes_next c (Remove n) = omega (arith, gone_slots (slot c n) c.slots n)

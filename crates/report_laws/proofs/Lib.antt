@@ -1,6 +1,12 @@
 pub mod AloneLaws
+mod ClosedPortLemmas
+pub mod ClosingLaws
 pub mod CommitGraphLaws
+pub mod CourseLaws
 pub mod FoldLaws
 mod GrowthLemmas
 pub mod LineLaws
+pub mod LookLaws
+pub mod PlayLaws
+pub mod RoundLaws
 pub mod StatementLaws

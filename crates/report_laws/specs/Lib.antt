@@ -1,2 +1,4 @@
 pub mod SoundStatements
 pub mod Described
+pub mod Courses
+pub mod Rounds

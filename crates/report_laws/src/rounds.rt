@@ -1,0 +1,33 @@
+//! What the report of the rounds is.
+
+ghost use Rattle.std.specs.Prelude.{List};
+ghost use Rattle.change_law.specs.Follows.{Follows};
+ghost use Rattle.change_law.specs.Lawful.{Lawful, in_rounds};
+ghost use Rattle.change_law.specs.Serial.{Serial};
+ghost use Rattle.change_law.specs.Statements.{Statement};
+ghost use Rattle.change_script.specs.declared.report.Report.{Report};
+ghost use Rattle.report_laws.specs.Rounds.{IsInOrderOfRounds};
+ghost use Rattle.report_laws.specs.SoundStatements.{AreSound};
+
+use change_law::{
+    a_moved_state_is_the_last_one, changes_find_nodes_quiescent, nothing_is_open_at_the_end,
+};
+use plan_laws::{commits_can_not_fail, commits_leave_the_new_graph, each_plan_may_commit};
+
+/// The report of the rounds of a sound script follows the script, and is lawful in rounds. The one list that is said to
+/// be there is the order in which the rounds made the events.
+pub fn reports_of_rounds_are_lawful()
+    ensures follows { (statements : List Statement) (report : Report) → AreSound statements
+        → Serial statements report → Follows statements report.history }
+    ensures in_order { (statements : List Statement) (report : Report) → AreSound statements
+        → (serial : Serial statements report) → IsInOrderOfRounds statements report serial }
+    ensures lawful { (statements : List Statement) (report : Report) → AreSound statements
+        → (serial : Serial statements report) → Lawful statements (in_rounds report serial) report }
+{
+    each_plan_may_commit();
+    commits_can_not_fail();
+    commits_leave_the_new_graph();
+    changes_find_nodes_quiescent();
+    nothing_is_open_at_the_end();
+    a_moved_state_is_the_last_one();
+}
