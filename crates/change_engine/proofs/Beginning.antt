@@ -91,19 +91,24 @@ turned_last (x ∷ xs) ys h k =
     let parts = or_parts (is_turning x) (list_any is_turning xs) h in
     ap (λ b. cond b (list_all is_turning (xs ++ ys)) (gates_come_last (xs ++ ys))) parts.0 ∙ turned_last xs ys parts.1 k
 
+pub start_is_of_change : (g : Graph) → list_all is_of_change (start_of g) ≡ true
+start_is_of_change g =
+    let makes = map make_of (enumerate_from 0 g.nodes) in
+    let links = filter_map (link_of g) (enumerate_from 0 (ports g.nodes)) in
+    let opens = map reopen_of (enumerate_from 0 (ports g.nodes)) in
+    list_all-append is_of_change (makes ++ links) opens
+    ∙ ap (λ b. b && list_all is_of_change opens) (list_all-append is_of_change makes links
+    ∙ ap (λ b. b && list_all is_of_change links) (all_mapped is_of_change make_of (λ x. refl) (enumerate_from 0 g.nodes)) ∙ (links_are g (enumerate_from 0 (ports g.nodes))).0)
+    ∙ all_mapped is_of_change reopen_of (λ x. refl) (enumerate_from 0 (ports g.nodes))
+
 pub may_start : (g : Graph) → ((more_ left : List Event) (e : Event) → IsRun more_ → filter is_of_change more_ ++ e ∷ left ≡ start_of g → denial (state_after more_) e ≡ None) → MayDoAll [] (start_of g)
 may_start g allowed =
     let makes = map make_of (enumerate_from 0 g.nodes) in
     let links = filter_map (link_of g) (enumerate_from 0 (ports g.nodes)) in
     let opens = map reopen_of (enumerate_from 0 (ports g.nodes)) in
     let links_ = links_are g (enumerate_from 0 (ports g.nodes)) in
-    let all : list_all is_of_change (start_of g) ≡ true =
-    list_all-append is_of_change (makes ++ links) opens
-    ∙ ap (λ b. b && list_all is_of_change opens) (list_all-append is_of_change makes links
-    ∙ ap (λ b. b && list_all is_of_change links) (all_mapped is_of_change make_of (λ x. refl) (enumerate_from 0 g.nodes)) ∙ links_.0)
-    ∙ all_mapped is_of_change reopen_of (λ x. refl) (enumerate_from 0 (ports g.nodes)) in
     let last_ : gates_come_last (start_of g) ≡ true =
     turned_last (makes ++ links) opens
     (list_any-append is_turning makes links ∙ ap (λ b. b || list_any is_turning links) (none_mapped make_of (λ x. refl) (enumerate_from 0 g.nodes)) ∙ links_.1)
     (all_mapped is_turning reopen_of (λ x. refl) (enumerate_from 0 (ports g.nodes))) in
-    may_do_all noted [] (start_of g) last_ (λ p n. refl) (steps_from (start_of g) allowed [] (start_of g) refl tt refl all)
+    may_do_all noted [] (start_of g) last_ (λ p n. refl) (steps_from (start_of g) allowed [] (start_of g) refl tt refl (start_is_of_change g))

@@ -6,3 +6,8 @@ mod Noting
 mod Planning
 mod Quieting
 mod Beginning
+mod Listing
+mod LayoutLemmas
+mod EngineLemmas
+mod StartLemmas
+mod RunLemmas

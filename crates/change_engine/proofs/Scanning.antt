@@ -1,7 +1,6 @@
 -- Scans, one after the other.
 use Rattle.std.proofs.Common.{◌≡◌, ℕ, ◌+◌, Bool, true, List, [], ◌∷◌, ◌++◌, refl, sym, ap, ◌∙◌, subst, arith}
-use Rattle.std.specs.Prelude.{flat_map}
-use Rattle.std.specs.List.{AllByRecursion, sum_by}
+use Rattle.std.specs.List.{AllByRecursion}
 use Rattle.std.proofs.lemmas.Grind.{flat_map-append}
 use Rattle.std.proofs.lemmas.List.{append-nil}
 use Rattle.std.proofs.lemmas.List.Concat.{flat_map-cons}
@@ -26,7 +25,7 @@ all_push P (y ∷ xs) x h p = (h.0, all_push P xs x h.1 p)
 pub entries_pushed : (scans : List Seen) (w : Seen) → all_entries (scans ++ w ∷ []) ≡ all_entries scans ++ seen_entries w
 entries_pushed scans w = flat_map-append seen_entries scans (w ∷ []) ∙ ap (λ es. all_entries scans ++ es) (append-nil (seen_entries w))
 
-all_quiet : (scans : List Seen) → events_in (all_entries scans) ≡ []
+pub all_quiet : (scans : List Seen) → events_in (all_entries scans) ≡ []
 all_quiet [] = refl
 all_quiet (w ∷ scans) =
     ap events_in (flat_map-cons seen_entries w scans) ∙ filter_map-append event_in (seen_entries w) (all_entries scans)

@@ -4,3 +4,9 @@ pub mod Passivating
 pub mod Finishing
 pub mod Planning
 pub mod Stopping
+pub mod Beginning
+pub mod Running
+pub mod Layouts
+pub mod Engines
+pub mod Ending
+pub mod Calls

@@ -2,13 +2,22 @@
 #![tactic(auto)]
 
 mod carrying;
+mod ending;
+mod engine;
 mod finishing;
+mod launching;
 mod laws;
+mod layout;
 mod passivating;
+mod running;
+mod starting;
 mod stopping;
+mod telling;
 
 pub use carrying::carry_out;
+pub use engine::{Change, Engine};
 pub use finishing::finish;
 pub use laws::{passivated_ports_are_noted, plans_may_be_carried_out, starts_may_be_done};
+pub use layout::Layout;
 pub use passivating::{LeftRoot, passivate};
 pub use stopping::stop;

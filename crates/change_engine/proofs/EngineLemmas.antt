@@ -1,0 +1,171 @@
+-- An engine between changes.
+use Rattle.std.proofs.Common.{◌≡◌, ◌≤◌, ◌-◌, ◌^◌, ℕ, Bool, true, List, [], ◌∷◌, ◌++◌, length, map, refl, sym, ap, ◌∙◌, subst}
+use Rattle.std.specs.Prelude.{IfOk, Result, Ok, Err}
+use Rattle.std.specs.List.{AllByRecursion, range_with_len}
+use Rattle.base.specs.Each.{Each}
+use Rattle.change_law.specs.Endings.{status_of}
+use Rattle.change_script.specs.declared.report.HistoryLine.TheVariants as to
+use Rattle.change_script.specs.declared.report.Report.{Report}
+use Rattle.std.proofs.lemmas.List.{append-nil, length-map}
+use Rattle.std.proofs.lemmas.List.Elements.{filter_map-append}
+use Rattle.change_script.specs.declared.report.HistoryLine.{HistoryLine}
+use Rattle.commit_laws.specs.Steps.{live_ports}
+use Rattle.config_graph.specs.Graph.{Graph, IsGraph}
+use Rattle.config_graph.specs.Sound.{Sound}
+use Rattle.config_graph.specs.declared.TheConstants.{MAX_PORTS}
+use Rattle.quiesce_core.specs.Live.{IsGraphOf}
+use Rattle.quiesce_core.specs.State.{Configuration}
+use Rattle.quiesce_core.specs.WellFormed.{IsSound}
+use Rattle.quiesce_core.proofs.RunLaws.{runs_are_well_formed}
+use Rattle.change_board.specs.Entries.{Entry, config_of, event_in, events_in}
+use Rattle.change_board.specs.Records.{Adds, IsRecord, events}
+use Rattle.change_board.specs.Scans.{Found, look_entry}
+use Rattle.change_board.specs.Transcripts.{Item, entries, lines, said}
+use Rattle.change_board.proofs.RecordLaws.{config_is}
+use Rattle.change_board.specs.declared.board.Collected.{Collected}
+use Rattle.quiesce_core.specs.declared.event.Event.{Event}
+use Rattle.change_engine.specs.Calls.{Continues, HasFinished, HasRun, HasStopped, stop_items}
+use Rattle.change_engine.specs.Ending.{unfinished_in}
+use Rattle.change_engine.specs.Running.{Counts, RunsOn, ScansUntil, ended_since, run_ends}
+use Rattle.change_engine.specs.Stopping.{Stops}
+use Rattle.change_engine.specs.Engines.{IsIdle, Tells}
+use Rattle.change_engine.specs.Finishing.{Finished, IsScanIn, Seen, all_entries}
+use Rattle.change_engine.specs.Growing.{Grew}
+use Rattle.change_engine.specs.Layouts.{IsLayoutOf, live_at, port_of}
+use Rattle.change_engine.specs.Passivating.{silent_items}
+use Rattle.change_engine.specs.declared.engine.Engine.{Engine}
+use Rattle.change_engine.specs.declared.layout.Layout.{Layout}
+use Rattle.change_engine.proofs.Growing.{adds_both, entries_both, lines_both}
+use Rattle.change_engine.proofs.LayoutLemmas.{live_ports_are}
+use Rattle.change_engine.proofs.Passing.{config_quiet, looks_quiet, silent_entries, silent_lines}
+use Rattle.change_engine.proofs.Scanning.{all_quiet}
+
+-- the configuration that a record makes is a sound one
+pub record_sound : (r : List Entry) → IsRecord r → IsSound (config_of r)
+record_sound r h = subst IsSound (sym (config_is r h.moments h.is_of)) (runs_are_well_formed (events h.moments) h.is_of.runs).sound
+
+pub few_ports : (l : Layout) (g : Graph) (r : List Entry) → IsRecord r → IsLayoutOf l (config_of r) g → length l.ports.items ≤ MAX_PORTS
+few_ports l g r h x = subst (λ n. n ≤ MAX_PORTS) (sym (ap length x.ports_are ∙ length-map (config_of r).gates port_of)) (record_sound r h).few_ports
+
+pub as_many : (l : Layout) (g : Graph) (c : Configuration) → IsLayoutOf l c g → length l.ports.items ≡ length c.gates
+as_many l g c x = ap length x.ports_are ∙ length-map c.gates port_of
+
+-- the transcript goes on by items that are no events of the change
+pub config_goes : (t items : List Item) → events_in (entries items) ≡ [] → config_of (entries (t ++ items)) ≡ config_of (entries t)
+config_goes t items quiet = ap config_of (entries_both t items) ∙ config_quiet (entries t) (entries items) quiet
+
+module _ {B : Type 0} (S : B → List Entry → Type 0) where
+  pub tells_more : (e : Engine B) (b : B) (h : List HistoryLine) (t items : List Item) → Tells S e t → Grew S e.board b e.history.items h items → events_in (entries items) ≡ []
+      → (f : Engine B) → f.board ≡ b → f.history.items ≡ h → f.graph ≡ e.graph → f.layout ≡ e.layout → Tells S f (t ++ items)
+  tells_more e b h t items x grew quiet f board history graph layout =
+      let same = config_goes t items quiet in
+      record {
+        board = subst (λ a. S a (entries (t ++ items))) (sym board) (subst (S b) (sym (entries_both t items)) (grew.adds (entries t) x.board));
+        history = history ∙ grew.adds_lines ∙ ap (λ ls. ls ++ lines items) x.history ∙ sym (lines_both t items);
+        graph = subst (λ g. IsGraphOf (config_of (entries (t ++ items))) g) (sym graph) (subst (λ c. IsGraphOf c e.graph) (sym same) x.graph);
+        is_graph = subst IsGraph (sym graph) x.is_graph;
+        sound = subst Sound (sym graph) x.sound;
+        layout = subst (λ g. IsLayoutOf f.layout (config_of (entries (t ++ items))) g) (sym graph)
+            (subst (λ l. IsLayoutOf l (config_of (entries (t ++ items))) e.graph) (sym layout) (subst (λ c. IsLayoutOf e.layout c e.graph) (sym same) x.layout));
+      }
+
+  pub continues : (e f : Engine B) (items : List Item) → Grew S e.board f.board e.history.items f.history.items items → events_in (entries items) ≡ []
+      → f.graph ≡ e.graph → f.layout ≡ e.layout → f.change ≡ e.change → Continues S e f items
+  continues e f items grew quiet graph layout change t x = record {
+    tells = tells_more e f.board f.history.items t items x.tells grew quiet f refl refl graph layout;
+    none_open = change ∙ x.none_open;
+  }
+
+  -- lines alone
+  pub said_alone : (b : B) (h i : List HistoryLine) (ls : List HistoryLine) → i ≡ h ++ ls → Grew S b b h i (map said ls)
+  said_alone b h i ls grown = record {
+    adds = λ r s. subst (S b) (sym (ap (λ es. r ++ es) (none_ ls) ∙ append-nil r)) s;
+    adds_lines = grown ∙ ap (λ zs. h ++ zs) (sym (all_ ls));
+  }
+    where
+      none_ : (ls : List HistoryLine) → entries (map said ls) ≡ []
+      none_ [] = refl
+      none_ (l ∷ ls) = none_ ls
+
+      all_ : (ls : List HistoryLine) → lines (map said ls) ≡ ls
+      all_ [] = refl
+      all_ (l ∷ ls) = ap (λ zs. l ∷ zs) (all_ ls)
+
+  -- entries that no line tells, and then a line
+  pub grew_silently : (a b : B) (h i : List HistoryLine) (es : List Entry) (l : HistoryLine) → Adds S a b es → i ≡ h ++ l ∷ [] → Grew S a b h i (silent_items es ++ said l ∷ [])
+  grew_silently a b h i es l adds grown =
+      let line : List Item = said l ∷ [] in
+      record {
+        adds = subst (λ zs. Adds S a b zs) (sym (entries_both (silent_items es) line ∙ ap (λ zs. zs ++ []) (silent_entries es) ∙ append-nil es)) adds;
+        adds_lines = grown ∙ ap (λ ls. h ++ ls) (sym (lines_both (silent_items es) line ∙ ap (λ ls. ls ++ lines line) (silent_lines es)));
+      }
+
+pub quiet_silently : (es : List Entry) (l : HistoryLine) → events_in es ≡ [] → events_in (entries (silent_items es ++ said l ∷ [])) ≡ []
+quiet_silently es l quiet = ap events_in (entries_both (silent_items es) (said l ∷ []) ∙ ap (λ zs. zs ++ []) (silent_entries es) ∙ append-nil es) ∙ quiet
+
+pub looks_and_scans_quiet : (looks : List Found) (scans : List Seen) → events_in (map look_entry looks ++ all_entries scans) ≡ []
+looks_and_scans_quiet looks scans = filter_map-append event_in (map look_entry looks) (all_entries scans) ∙ ap (λ es. es ++ events_in (all_entries scans)) (looks_quiet looks) ∙ all_quiet scans
+
+pub in_ok : {A E : Type 0} (P Q : A → Type 0) → ((x : A) → P x → Q x) → (r : Result A E) → IfOk r P → IfOk r Q
+in_ok P Q f (Ok x) h = f x h
+in_ok P Q f (Err e) h = tt
+
+module _ {B : Type 0} (S : B → List Entry → Type 0) (alone : Bool) where
+  pub has_finished : (e f : Engine B) (n rounds : ℕ) → f.graph ≡ e.graph → f.layout ≡ e.layout → f.change ≡ e.change
+      → Finished S alone e.board f.board e.history.items f.history.items n rounds → HasFinished S alone e f n rounds
+  has_finished e f n rounds graph layout change x = record {
+    scans = x.scans;
+    few = x.few;
+    are_scans = λ t h. x.are_scans (entries t) h.tells.board;
+    rounds_are = x.rounds_are;
+    ends = x.ends;
+    goes = continues S e f (silent_items (all_entries x.scans) ++ said (to.Finish n rounds) ∷ []) x.grew
+        (quiet_silently (all_entries x.scans) (to.Finish n rounds) (all_quiet x.scans)) graph layout change;
+  }
+
+  pub has_run : (e f : Engine B) (b : B) (ports shown k ended : ℕ) → f.graph ≡ e.graph → f.layout ≡ e.layout → f.change ≡ e.change
+      → ((t : List Item) → IsIdle S e t → ports ≡ length (config_of (entries t)).gates)
+      → Counts S e.board b ports shown → ScansUntil S alone b f.board shown k ended → f.history.items ≡ e.history.items ++ to.Run k ended ∷ [] → HasRun S alone e f k ended
+  has_run e f b ports shown k ended graph layout change many x y grown =
+      let looks = map look_entry x.looks in
+      record {
+        looks = x.looks;
+        scans = y.scans;
+        at_ports = λ t h. x.at_ports ∙ ap (range_with_len 0) (many t h);
+        are_scans = λ t h. subst (λ c. AllByRecursion (IsScanIn c) y.scans) (config_quiet (entries t) looks (looks_quiet x.looks))
+            (y.are_scans (entries t ++ looks) (x.adds (entries t) h.tells.board));
+        go_on = subst (λ n. Each (RunsOn alone k n) y.scans) x.ended_is y.go_on;
+        ends = subst (λ n. run_ends alone k n y.scans ≡ true) x.ended_is y.ends;
+        ended_is = subst (λ n. ended ≡ ended_since n y.scans) x.ended_is y.ended_is;
+        goes = continues S e f (silent_items (looks ++ all_entries y.scans) ++ said (to.Run k ended) ∷ [])
+            (grew_silently S e.board f.board e.history.items f.history.items (looks ++ all_entries y.scans) (to.Run k ended)
+            (adds_both S e.board b f.board looks (all_entries y.scans) x.adds y.adds) grown)
+            (quiet_silently (looks ++ all_entries y.scans) (to.Run k ended) (looks_and_scans_quiet x.looks y.scans)) graph layout change;
+      }
+
+-- a stop finds the ports of all live nodes
+pub all_are_live : {B : Type 0} (S : B → List Entry → Type 0) (e : Engine B) (t : List Item) → IsIdle S e t → live_at e.layout.places.items e.layout.ports.items ≡ live_ports (config_of (entries t))
+all_are_live S e t h = live_ports_are (config_of (entries t)) e.graph h.tells.graph e.layout h.tells.layout
+
+pub has_stopped : {B : Type 0} (S : B → List Entry → Type 0) (taken : B → List (List Event)) (e : Engine B) (b : B) (h : List HistoryLine) (given : Collected) (report : Report)
+    → Stops S e.board b (taken b) e.history.items h (live_at e.layout.places.items e.layout.ports.items) (2 ^ 64 - 1) given
+    → report.history ≡ h → report.logs ≡ given.logs → report.unfinished ≡ unfinished_in h given.undone → report.status ≡ status_of report.history report.unfinished
+    → HasStopped S taken e report b
+has_stopped S taken e b h given report x history logs unfinished status =
+    let closed = live_at e.layout.places.items e.layout.ports.items in
+    let items = stop_items closed x.how in
+    record {
+      closed = closed;
+      how = x.how;
+      closed_are = λ t i. all_are_live S e t i;
+      is_passivation = x.is_passivation;
+      none_left = x.none_left;
+      quiet = x.quiet;
+      stands = λ t i. subst (S x.quiet) (sym (entries_both t items)) (x.grew.adds (entries t) i.tells.board);
+      given = given;
+      collected = x.collected;
+      history_is = λ t i. history ∙ x.grew.adds_lines ∙ ap (λ ls. ls ++ lines items) i.tells.history ∙ sym (lines_both t items);
+      logs_are = logs;
+      unfinished_is = unfinished ∙ ap (λ ls. unfinished_in ls given.undone) (sym history);
+      status_is = status;
+    }

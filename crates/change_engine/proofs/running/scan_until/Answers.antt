@@ -1,0 +1,91 @@
+use Rattle.std.proofs.Common.{◌++◌, ◌∷◌, [], refl, sym, ap, ◌∙◌, subst, arith}
+use Rattle.std.proofs.lemmas.List.{append-nil}
+use Rattle.base.proofs.EachLaws.{each_pushed}
+use Rattle.change_engine.specs.Running.{RunsOn, is_run_out}
+use Rattle.change_engine.proofs.Growing.{breaks, breaks_after, if_err, stands_on}
+use Rattle.change_engine.proofs.RunLemmas.{out_pushed, run_enough, run_on, run_out, since_pushed}
+use Rattle.change_engine.proofs.Scanning.{scans_add, scans_are, seen_by}
+use Rattle.change_engine.proofs.running.scan_until.Goals as goal
+
+pub loop-scan-init : goal.loop-scan-init
+loop-scan-init g c = record {
+  room = refl;
+  scans = [];
+  are_scans = λ r s. tt;
+  go_on = tt;
+  not_out = refl;
+  ended_is = refl;
+  adds = λ r s. subst (g.B.Board.stands_for c.args.board.now) (sym (append-nil r)) s;
+}
+
+pub loop-scan-preserved : goal.loop-scan-preserved
+loop-scan-preserved g c =
+    let S = g.B.Board.stands_for in
+    let alone = g.B.Board.alone in
+    let inv = c.loop-scan.invariant in
+    let a = c.args.board.now in
+    let b = c.loop-scan.board in
+    let d = c.scan.new.self in
+    let s = c.in_ok-seen.seen in
+    let x = c.in_ok-seen.ensures.ok in
+    let w = seen_by S b d s x in
+    record {
+      room = c.in_ok-seen.ensures.room ∙ inv.room;
+      scans = inv.scans ++ w ∷ [];
+      are_scans = scans_are S a b d inv.scans s x inv.adds inv.are_scans;
+      go_on = (each_pushed (RunsOn alone c.args.k c.args.shown) inv.scans w).1 (
+        inv.go_on,
+        run_on alone c.args.k c.args.shown c.loop-scan.ended inv.scans inv.ended_is
+            (omega (arith, c.from.ensures, c.if-from-ended.false)) inv.not_out,
+      );
+      not_out = out_pushed alone inv.scans w ∙ ap (λ one. is_run_out one s) (sym c.is_alone-alone.ensures) ∙ sym c.is_run_out.ensures ∙ c.if-is_run_out.false;
+      ended_is = c.saturating_sub-ended.ensures ∙ sym (since_pushed c.args.shown inv.scans w);
+      adds = scans_add S a b d inv.scans s x inv.adds;
+    }
+
+pub returns-then-from-ended-clause-ok : goal.returns-then-from-ended-clause-ok
+returns-then-from-ended-clause-ok g c =
+    let inv = c.loop-scan.invariant in
+    record {
+      scans = inv.scans;
+      are_scans = inv.are_scans;
+      go_on = inv.go_on;
+      ends = run_enough g.B.Board.alone c.args.k c.args.shown c.loop-scan.ended inv.scans inv.ended_is
+          (omega (arith, c.from.ensures, c.if-from-ended.true));
+      ended_is = inv.ended_is;
+      adds = inv.adds;
+    }
+
+pub returns-then-is_run_out-clause-ok : goal.returns-then-is_run_out-clause-ok
+returns-then-is_run_out-clause-ok g c =
+    let S = g.B.Board.stands_for in
+    let alone = g.B.Board.alone in
+    let inv = c.loop-scan.invariant in
+    let a = c.args.board.now in
+    let b = c.loop-scan.board in
+    let d = c.scan.new.self in
+    let s = c.in_ok-seen.seen in
+    let x = c.in_ok-seen.ensures.ok in
+    let w = seen_by S b d s x in
+    record {
+      scans = inv.scans ++ w ∷ [];
+      are_scans = scans_are S a b d inv.scans s x inv.adds inv.are_scans;
+      go_on = (each_pushed (RunsOn alone c.args.k c.args.shown) inv.scans w).1 (
+        inv.go_on,
+        run_on alone c.args.k c.args.shown c.loop-scan.ended inv.scans inv.ended_is
+            (omega (arith, c.from.ensures, c.if-from-ended.false)) inv.not_out,
+      );
+      ends = run_out alone c.args.k c.args.shown (inv.scans ++ w ∷ [])
+          (out_pushed alone inv.scans w ∙ ap (λ one. is_run_out one s) (sym c.is_alone-alone.ensures) ∙ sym c.is_run_out.ensures ∙ c.if-is_run_out.true);
+      ended_is = c.saturating_sub-ended.ensures ∙ sym (since_pushed c.args.shown inv.scans w);
+      adds = scans_add S a b d inv.scans s x inv.adds;
+    }
+
+pub returns-in_err-seen-clause-err : goal.returns-in_err-seen-clause-err
+returns-in_err-seen-clause-err g c =
+    let S = g.B.Board.stands_for in
+    let K = g.B.Board.broke_off in
+    if_err (breaks_after S K c.args.board.now c.loop-scan.board c.scan.new.self _ c.loop-scan.invariant.adds (breaks S K c.loop-scan.board c.scan.new.self c.in_err-seen.ensures.err)) c.from_residual.result
+
+pub returns-clause-err : goal.returns-clause-err
+returns-clause-err g c = stands_on g.B.Board.stands_for g.B.Board.broke_off c.args.board.now c.loop-scan.board _ c.loop-scan.invariant.adds

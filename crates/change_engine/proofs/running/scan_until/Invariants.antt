@@ -1,0 +1,19 @@
+use Rattle.std.proofs.Common.{◌≡◌, List, false}
+use Rattle.std.specs.List.{AllByRecursion}
+use Rattle.base.specs.Each.{Each}
+use Rattle.change_board.specs.Entries.{Entry, config_of}
+use Rattle.change_board.specs.Records.{Adds}
+use Rattle.change_engine.specs.Finishing.{IsScanIn, Seen, all_entries}
+use Rattle.change_engine.specs.Running.{RunsOn, ended_since, is_out_after}
+use Rattle.change_engine.proofs.running.scan_until.Given as goal
+
+abbrev pub invariant-loop-scan : goal.invariant-loop-scan
+invariant-loop-scan g l = record {
+  room : g.B.Board.room l.board ≡ g.B.Board.room l.fn.board;
+  scans : List Seen;
+  are_scans : (r : List Entry) → g.B.Board.stands_for l.fn.board r → AllByRecursion (IsScanIn (config_of r)) scans;
+  go_on : Each (RunsOn g.B.Board.alone l.k l.shown) scans;
+  not_out : is_out_after g.B.Board.alone scans ≡ false;
+  ended_is : l.ended ≡ ended_since l.shown scans;
+  adds : Adds g.B.Board.stands_for l.fn.board l.board (all_entries scans);
+}

@@ -1,0 +1,20 @@
+-- A start on a board: its events, told between two lines.
+use Rattle.std.specs.Prelude.{◌≡◌, ℕ, ℤ, List, [], ◌∷◌, ◌++◌, map, flat_map}
+use Rattle.config_graph.specs.Graph.{Graph}
+use Rattle.quiescence_laws.specs.Starts.{start_of}
+use Rattle.change_script.specs.declared.report.HistoryLine.{HistoryLine}
+use Rattle.change_script.specs.declared.report.HistoryLine.TheVariants as to
+use Rattle.change_board.specs.Entries.{Entry}
+use Rattle.change_board.specs.Steps.{Deed}
+use Rattle.change_board.specs.Transcripts.{Item, said}
+use Rattle.change_engine.specs.Carrying.{deed_items}
+use Rattle.change_engine.specs.Growing.{Grew}
+
+abbrev pub start_items : List ℕ → List ℤ → List Deed → List Item
+start_items name args deeds = said (to.Start name args) ∷ (flat_map deed_items deeds ++ said to.Commit ∷ [])
+
+pub record Begins {B : Type 0} (S : B → List Entry → Type 0) (old new : B) (history : List HistoryLine) (name : List ℕ)
+    (args : List ℤ) (g : Graph) : Type 0 where
+  pub deeds : List Deed
+  pub events_are : map (λ (d : Deed). d.event) deeds ≡ start_of g
+  pub grew : Grew S old new [] history (start_items name args deeds)

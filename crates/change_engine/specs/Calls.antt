@@ -1,0 +1,157 @@
+-- What each call of an engine does: the transcript that it adds, with all that it saw.
+use Rattle.std.specs.Prelude.{◌≡◌, ◌≤◌, ◌<◌, ◌-◌, ◌^◌, ℕ, ℤ, Bool, true, List, [], ◌∷◌, ◌++◌, map, flat_map, length}
+use Rattle.std.specs.List.{AllByRecursion}
+use Rattle.base.specs.Each.{Each}
+use Rattle.change_plan.specs.declared.plan_data.Move.{Move}
+use Rattle.change_plan.specs.declared.plan_data.Plan.{Plan}
+use Rattle.change_script.specs.declared.report.HistoryLine.{HistoryLine}
+use Rattle.change_script.specs.declared.report.HistoryLine.TheVariants as to
+use Rattle.change_script.specs.declared.report.Report.{Report}
+use Rattle.commit_laws.specs.Steps.{live_ports}
+use Rattle.config_graph.specs.Graph.{Graph}
+use Rattle.plan_laws.specs.Commit.{commit_events, ports_to_close}
+use Rattle.quiesce_core.specs.declared.event.Event.{Event}
+use Rattle.quiesce_core.specs.declared.event.Event.TheVariants as event
+use Rattle.quiescence_laws.specs.Starts.{start_of}
+use Rattle.change_law.specs.Endings.{status_of}
+use Rattle.change_board.specs.declared.board.Collected.{Collected}
+use Rattle.change_board.specs.Collecting.{Collects}
+use Rattle.change_board.specs.Entries.{Entry, config_of}
+use Rattle.change_board.specs.Scans.{Found, all_ports, ended_in, look_entry, ports_of}
+use Rattle.change_board.specs.Steps.{Deed, Room}
+use Rattle.change_board.specs.Transcripts.{Item, entries, lines, said}
+use Rattle.change_engine.specs.Beginning.{start_items}
+use Rattle.change_engine.specs.Carrying.{deed_items}
+use Rattle.change_engine.specs.Ending.{unfinished_in}
+use Rattle.change_engine.specs.Engines.{IsIdle, IsOpen, IsPlanned, MayAbandon, MayCommit}
+use Rattle.change_engine.specs.Finishing.{EndsAfter, IsScanIn, Seen, all_entries, rounds_in}
+use Rattle.change_engine.specs.Passivating.{IsPassivation, Passivation, left_after, passivation_items, silent_items}
+use Rattle.change_engine.specs.Running.{RunsOn, ended_since, run_ends}
+use Rattle.change_engine.specs.declared.engine.Engine.{Engine}
+use Rattle.change_engine.specs.declared.passivating.LeftRoot.{LeftRoot}
+
+-- Between the changes: an engine on which none is open goes on so, by these items.
+abbrev pub Continues : {B : Type 0} → (B → List Entry → Type 0) → Engine B → Engine B → List Item → Type 0
+Continues S old new items = (t : List Item) → IsIdle S old t → IsIdle S new (t ++ items)
+
+-- Start: all of the graph was made, linked and opened, on a board on which nothing was made.
+pub record HasStarted {B : Type 0} (S : B → List Entry → Type 0) (e : Engine B) (name : List ℕ) (args : List ℤ) (g : Graph)
+    : Type 0 where
+  pub deeds : List Deed
+  pub events_are : map (λ (d : Deed). d.event) deeds ≡ start_of g
+  pub idle : IsIdle S e (start_items name args deeds)
+  pub graph_is : e.graph ≡ g
+
+-- Show and skip: lines alone.
+abbrev pub HasShown : {B : Type 0} → (B → List Entry → Type 0) → Engine B → Engine B → Type 0
+HasShown S old new = Continues S old new (said (to.Show old.graph) ∷ [])
+
+abbrev pub HasSkipped : {B : Type 0} → (B → List Entry → Type 0) → Engine B → Engine B → List ℕ → List ℤ → Type 0
+HasSkipped S old new name args = Continues S old new (said (to.Change name args) ∷ said to.Skipped ∷ [])
+
+-- Run: a look at each port made, and then scans in which nodes may begin transactions, until the ports show so many
+-- more transactions as ended, or a scan was the last.
+pub record HasRun {B : Type 0} (S : B → List Entry → Type 0) (alone : Bool) (old new : Engine B) (k ended : ℕ) : Type 0 where
+  pub looks : List Found
+  pub scans : List Seen
+  pub at_ports : (t : List Item) → IsIdle S old t → ports_of looks ≡ all_ports (config_of (entries t))
+  pub are_scans : (t : List Item) → IsIdle S old t → AllByRecursion (IsScanIn (config_of (entries t))) scans
+  pub go_on : Each (RunsOn alone k (ended_in looks)) scans
+  pub ends : run_ends alone k (ended_in looks) scans ≡ true
+  pub ended_is : ended ≡ ended_since (ended_in looks) scans
+  pub goes : Continues S old new
+      (silent_items (map look_entry looks ++ all_entries scans) ++ said (to.Run k ended) ∷ [])
+
+-- Finish: scans until one saw all at rest, or so many were made, or one moved nothing where nodes take turns in scans
+-- alone.
+pub record HasFinished {B : Type 0} (S : B → List Entry → Type 0) (alone : Bool) (old new : Engine B) (n rounds : ℕ)
+    : Type 0 where
+  pub scans : List Seen
+  pub few : length scans ≤ n
+  pub are_scans : (t : List Item) → IsIdle S old t → AllByRecursion (IsScanIn (config_of (entries t))) scans
+  pub rounds_are : rounds ≡ rounds_in scans
+  pub ends : EndsAfter alone n scans
+  pub goes : Continues S old new (silent_items (all_entries scans) ++ said (to.Finish n rounds) ∷ [])
+
+-- Prepare: all memory is there, and the line that begins the change.
+pub record HasPrepared {B : Type 0} (S : B → List Entry → Type 0) (R : B → Room) (old new : Engine B) (name : List ℕ)
+    (args : List ℤ) (plan : Plan) (next_ : Graph) : Type 0 where
+  pub graph_is : new.graph ≡ old.graph
+  pub opens : (t : List Item) (moves : List Move) → IsIdle S old t
+      → IsPlanned old.graph next_ moves plan (config_of (entries t))
+      → IsOpen S R new (t ++ said (to.Change name args) ∷ []) moves plan next_
+
+-- Passivate, to its end: each port that was closed was found drained.
+pub record HasPassivated {B : Type 0} (S : B → List Entry → Type 0) (R : B → Room) (old new : Engine B) (plan : Plan)
+    (within : ℕ) : Type 0 where
+  pub closed : List ℕ
+  pub how : Passivation
+  pub closed_are : (t : List Item) (moves : List Move) (next_ : Graph) → IsOpen S R old t moves plan next_
+      → closed ≡ ports_to_close old.graph plan (config_of (entries t))
+  pub is_passivation : IsPassivation closed within how
+  pub none_left : left_after how.first how.rounds ≡ []
+  pub graph_is : new.graph ≡ old.graph
+  pub opens : (t : List Item) (moves : List Move) (next_ : Graph) → IsOpen S R old t moves plan next_
+      → MayCommit S R new (t ++ passivation_items closed how) moves plan next_
+
+-- Passivate, given up: the first look and each of the rounds saw a root. These are the roots that the last look saw.
+abbrev pub root_line : LeftRoot → HistoryLine
+root_line x = to.Root x.port x.serial
+
+abbrev pub pending_items : ℕ → List LeftRoot → List Item
+pending_items within left = said (to.Pending within) ∷ map (λ (x : LeftRoot). said (root_line x)) left
+
+pub record HasLeft {B : Type 0} (S : B → List Entry → Type 0) (R : B → Room) (old new : Engine B) (plan : Plan)
+    (within : ℕ) (left : List LeftRoot) : Type 0 where
+  pub closed : List ℕ
+  pub how : Passivation
+  pub closed_are : (t : List Item) (moves : List Move) (next_ : Graph) → IsOpen S R old t moves plan next_
+      → closed ≡ ports_to_close old.graph plan (config_of (entries t))
+  pub is_passivation : IsPassivation closed within how
+  pub all_rounds : length how.rounds ≡ within
+  pub left_is : left ≡ left_after how.first how.rounds
+  pub some_left : 0 < length left
+  pub graph_is : new.graph ≡ old.graph
+  pub opens : (t : List Item) (moves : List Move) (next_ : Graph) → IsOpen S R old t moves plan next_
+      → MayAbandon S R new (t ++ (passivation_items closed how ++ pending_items within left)) moves plan next_
+
+-- Commit: the plan was carried out, and its graph is the one that stands.
+pub record HasCommitted {B : Type 0} (S : B → List Entry → Type 0) (R : B → Room) (old new : Engine B) (plan : Plan)
+    (next_ : Graph) : Type 0 where
+  pub deeds : List Deed
+  pub events_are : (t : List Item) (moves : List Move) → MayCommit S R old t moves plan next_
+      → map (λ (d : Deed). d.event) deeds ≡ commit_events old.graph next_ plan (config_of (entries t))
+  pub graph_is : new.graph ≡ next_
+  pub goes : (t : List Item) (moves : List Move) → MayCommit S R old t moves plan next_
+      → IsIdle S new (t ++ (flat_map deed_items deeds ++ said to.Commit ∷ []))
+
+-- Abandon: what was closed was opened again.
+pub record HasAbandoned {B : Type 0} (S : B → List Entry → Type 0) (R : B → Room) (old new : Engine B) (plan : Plan)
+    : Type 0 where
+  pub deeds : List Deed
+  pub events_are : (t : List Item) (moves : List Move) (next_ : Graph) → MayAbandon S R old t moves plan next_
+      → map (λ (d : Deed). d.event) deeds ≡ map event.Reopen (ports_to_close old.graph plan (config_of (entries t)))
+  pub graph_is : new.graph ≡ old.graph
+  pub goes : (t : List Item) (moves : List Move) (next_ : Graph) → MayAbandon S R old t moves plan next_
+      → IsIdle S new (t ++ (flat_map deed_items deeds ++ said to.Abandon ∷ []))
+
+-- Stop: the ports of all live nodes were passivated, and all logs taken in.
+abbrev pub stop_items : List ℕ → Passivation → List Item
+stop_items closed how = said to.Stop ∷ passivation_items closed how
+
+pub record HasStopped {B : Type 0} (S : B → List Entry → Type 0) (taken : B → List (List Event)) (old : Engine B)
+    (report : Report) (board : B) : Type 0 where
+  pub closed : List ℕ
+  pub how : Passivation
+  pub closed_are : (t : List Item) → IsIdle S old t → closed ≡ live_ports (config_of (entries t))
+  pub is_passivation : IsPassivation closed (2 ^ 64 - 1) how
+  pub none_left : left_after how.first how.rounds ≡ []
+  -- the board when all was drained, and what it then gave
+  pub quiet : B
+  pub stands : (t : List Item) → IsIdle S old t → S quiet (entries (t ++ stop_items closed how))
+  pub given : Collected
+  pub collected : Collects S quiet board (taken board) given
+  pub history_is : (t : List Item) → IsIdle S old t → report.history ≡ lines (t ++ stop_items closed how)
+  pub logs_are : report.logs ≡ given.logs
+  pub unfinished_is : report.unfinished ≡ unfinished_in report.history given.undone
+  pub status_is : report.status ≡ status_of report.history report.unfinished

@@ -1,0 +1,13 @@
+-- What a report says of a node that isn't done.
+use Rattle.std.specs.Prelude.{ℕ, Bool, true, false, List, Option, None, if◌then◌else◌}
+use Rattle.std.specs.List.{list_any}
+use Rattle.change_script.specs.declared.report.HistoryLine.{HistoryLine}
+use Rattle.change_script.specs.declared.report.HistoryLine.TheVariants as to
+
+abbrev pub is_finish_line : HistoryLine → Bool
+is_finish_line (to.Finish n rounds) = true
+is_finish_line _ = false
+
+-- a live node that isn't done is named where the history has a finish
+abbrev pub unfinished_in : List HistoryLine → Option ℕ → Option ℕ
+unfinished_in history undone = if list_any is_finish_line history then undone else None

@@ -1,0 +1,73 @@
+-- What an engine keeps of a system on a board, where the board's record and the history are told by one transcript.
+use Rattle.std.specs.Prelude.{◌≡◌, ◌≤◌, ◌+◌, List, [], ◌∷◌, ◌++◌, map, None, Some, vec_capacity, vec_len}
+use Rattle.change_plan.specs.Plans.{IsPlanOf}
+use Rattle.change_plan.specs.Refusals.{CanPlan}
+use Rattle.change_plan.specs.declared.plan_data.Move.{Move}
+use Rattle.change_plan.specs.declared.plan_data.Plan.{Plan}
+use Rattle.change_script.specs.declared.report.HistoryLine.TheVariants as to
+use Rattle.commit_laws.specs.Steps.{change_all}
+use Rattle.config_graph.specs.Graph.{Graph, IsGraph}
+use Rattle.config_graph.specs.Sound.{Sound}
+use Rattle.plan_laws.specs.Commit.{commit_events, ports_to_close}
+use Rattle.plan_laws.specs.Committing.{made_in}
+use Rattle.quiesce_core.specs.Live.{IsGraphOf}
+use Rattle.quiesce_core.specs.State.{Configuration}
+use Rattle.quiesce_core.specs.declared.event.Event.TheVariants as event
+use Rattle.change_law.specs.Members.{lines_of_events}
+use Rattle.change_board.specs.Entries.{Entry, config_of}
+use Rattle.change_board.specs.Steps.{AreWithin, Room}
+use Rattle.change_board.specs.Transcripts.{Item, entries, lines}
+use Rattle.change_engine.specs.Layouts.{IsLayoutOf}
+use Rattle.change_engine.specs.Planning.{MayCarryOut}
+use Rattle.change_engine.specs.declared.engine.Change.{Change}
+use Rattle.change_engine.specs.declared.engine.Engine.{Engine}
+
+-- The board stands for the transcript's entries and the history has its lines; the graph that is kept is the one that
+-- the entries make.
+pub record Tells {B : Type 0} (S : B → List Entry → Type 0) (e : Engine B) (t : List Item) : Type 0 where
+  pub board : S e.board (entries t)
+  pub history : e.history.items ≡ lines t
+  pub graph : IsGraphOf (config_of (entries t)) e.graph
+  pub is_graph : IsGraph e.graph
+  pub sound : Sound e.graph
+  pub layout : IsLayoutOf e.layout (config_of (entries t)) e.graph
+
+-- and no change is open
+pub record IsIdle {B : Type 0} (S : B → List Entry → Type 0) (e : Engine B) (t : List Item) : Type 0 where
+  pub tells : Tells S e t
+  pub none_open : e.change ≡ None
+
+-- the plan leads from the graph that stands to a sound graph, and there is room for what it creates
+pub record IsPlanned (old new : Graph) (moves : List Move) (plan : Plan) (c : Configuration) : Type 0 where
+  pub new_graph : IsGraph new
+  pub new_sound : Sound new
+  pub is_plan : IsPlanOf old new moves plan
+  pub can_plan : CanPlan old new moves (made_in c)
+
+-- a change by this plan is open
+pub record IsOpen {B : Type 0} (S : B → List Entry → Type 0) (R : B → Room) (e : Engine B) (t : List Item)
+    (moves : List Move) (plan : Plan) (new : Graph) : Type 0 where
+  pub tells : Tells S e t
+  pub planned : IsPlanned e.graph new moves plan (config_of (entries t))
+  pub change : Change
+  pub open_ : e.change ≡ Some change
+  pub closed : change.closed.items ≡ ports_to_close e.graph plan (config_of (entries t))
+  pub events : change.events.items ≡ commit_events e.graph new plan (config_of (entries t))
+  pub lines_are : change.lines.items ≡ lines_of_events change.events.items ++ to.Commit ∷ []
+  pub reopens : change.reopens.items ≡ map event.Reopen change.closed.items
+  pub reopen_lines : change.reopen_lines.items ≡ map to.Reopen change.closed.items ++ to.Abandon ∷ []
+  pub next_ : IsLayoutOf change.next (change_all (config_of (entries t)) change.events.items) new
+  pub room : AreWithin (R e.board) change.events.items
+
+-- its commit can't fail: what it closed is noted as drained, and the history has room
+pub record MayCommit {B : Type 0} (S : B → List Entry → Type 0) (R : B → Room) (e : Engine B) (t : List Item)
+    (moves : List Move) (plan : Plan) (new : Graph) : Type 0 where
+  pub is_open : IsOpen S R e t moves plan new
+  pub may_ : MayCarryOut e.graph new moves plan (entries t)
+  pub place : vec_len e.history + vec_len is_open.change.lines ≤ vec_capacity e.history
+
+-- it can be given up
+pub record MayAbandon {B : Type 0} (S : B → List Entry → Type 0) (R : B → Room) (e : Engine B) (t : List Item)
+    (moves : List Move) (plan : Plan) (new : Graph) : Type 0 where
+  pub is_open : IsOpen S R e t moves plan new
+  pub place : vec_len e.history + vec_len is_open.change.reopen_lines ≤ vec_capacity e.history

@@ -1,0 +1,53 @@
+-- How a system is run until so many transactions have ended: looks at all ports, and then scans in which nodes may
+-- begin transactions.
+use Rattle.std.specs.Prelude.{◌≡◌, ◌-◌, ℕ, Bool, true, false, not, ◌||◌, nat_le, List, fold, map, if◌then◌else◌}
+use Rattle.std.specs.List.{AllByRecursion, range_with_len}
+use Rattle.base.specs.Each.{Each}
+use Rattle.change_board.specs.declared.board.Scan.{Scan}
+use Rattle.change_board.specs.declared.looking.Look.{Look}
+use Rattle.change_board.specs.declared.looking.Look.TheVariants.{Drained, Busy}
+use Rattle.change_board.specs.Entries.{Entry, config_of}
+use Rattle.change_board.specs.Looks.{ended_in_word}
+use Rattle.change_board.specs.Records.{Adds}
+use Rattle.change_board.specs.Scans.{Found, ended_in, look_entry, ports_of}
+use Rattle.change_engine.specs.Finishing.{IsScanIn, Seen, all_entries}
+
+-- how many transactions a look shows as ended
+abbrev pub ended_by : Look → ℕ
+ended_by (Drained k idle) = if idle then k else k - 1
+ended_by (Busy w) = ended_in_word w
+
+-- None follows a scan that moved nothing where nodes take turns in scans alone; elsewhere, none that saw all at rest.
+abbrev pub is_run_out : Bool → Scan → Bool
+is_run_out alone s = if alone then not s.moved else s.done
+
+-- how many ended from the looks, which showed so many as ended, to the last of the scans
+abbrev pub ended_since : ℕ → List Seen → ℕ
+ended_since shown scans = fold (λ n (w : Seen). w.answer.ended - shown) 0 scans
+
+abbrev pub is_out_after : Bool → List Seen → Bool
+is_out_after alone scans = fold (λ b (w : Seen). is_run_out alone w.answer) false scans
+
+abbrev pub run_ends : Bool → ℕ → ℕ → List Seen → Bool
+run_ends alone k shown scans = nat_le k (ended_since shown scans) || is_out_after alone scans
+
+-- each scan is made where the run doesn't end before it
+abbrev pub RunsOn : Bool → ℕ → ℕ → List Seen → Seen → Type 0
+RunsOn alone k shown before w = run_ends alone k shown before ≡ false
+
+-- a look at each of the first so many ports, and how many transactions they show as ended
+pub record Counts {B : Type 0} (S : B → List Entry → Type 0) (old new : B) (ports ended : ℕ) : Type 0 where
+  pub looks : List Found
+  pub at_ports : ports_of looks ≡ range_with_len 0 ports
+  pub ended_is : ended ≡ ended_in looks
+  pub adds : Adds S old new (map look_entry looks)
+
+-- scans until the run ends
+pub record ScansUntil {B : Type 0} (S : B → List Entry → Type 0) (alone : Bool) (old new : B) (shown k ended : ℕ)
+    : Type 0 where
+  pub scans : List Seen
+  pub are_scans : (r : List Entry) → S old r → AllByRecursion (IsScanIn (config_of r)) scans
+  pub go_on : Each (RunsOn alone k shown) scans
+  pub ends : run_ends alone k shown scans ≡ true
+  pub ended_is : ended ≡ ended_since shown scans
+  pub adds : Adds S old new (all_entries scans)

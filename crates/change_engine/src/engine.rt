@@ -1,0 +1,154 @@
+//! A system on a board, between its start and its stop.
+
+ghost use Rattle.std.specs.Prelude.{◌≡◌, ◌≤◌, ◌∷◌, [], ℕ, length, List, IfOk, OnErr, OnOk};
+ghost use Rattle.config_graph.specs.Graph.{ports};
+ghost use Rattle.config_graph.specs.Sound.{Sound};
+ghost use Rattle.config_graph.specs.declared.TheConstants.{MAX_NODES, MAX_PORTS};
+ghost use Rattle.change_board.specs.Transcripts.{Item};
+ghost use Rattle.change_engine.specs.Calls.{Continues, HasFinished, HasRun, HasShown, HasSkipped, HasStarted, HasStopped};
+ghost use Rattle.change_engine.specs.Engines.{IsIdle};
+ghost use Rattle.change_engine.specs.Growing.{BrokeOff};
+
+use crate::layout::Layout;
+use crate::{ending, finishing, launching, running};
+use change_board::Board;
+use change_script::{HistoryLine, Report};
+use config_graph::{Graph, List, NoMemory, Text};
+use quiesce_core::Event;
+use quiescence_laws::started_systems_are_reached;
+use std::alloc::Global;
+
+/// All that a change will do, once it is prepared.
+#[derive(Debug, Drop)]
+pub struct Change {
+    /// The ports that it closes.
+    pub closed: Vec<u32>,
+    /// What its commit does, and the lines that tell it.
+    pub events: Vec<Event>,
+    pub lines: Vec<HistoryLine>,
+    /// What is done where it is given up, and the lines that tell it.
+    pub reopens: Vec<Event>,
+    pub reopen_lines: Vec<HistoryLine>,
+    /// What is made on the board after the commit.
+    pub next: Layout,
+}
+
+/// A system on a board, with the history of what its change did and saw.
+#[derive(Debug, Drop)]
+pub struct Engine<B> {
+    pub board: B,
+    pub history: Vec<HistoryLine>,
+    /// The graph of the last commit.
+    pub graph: Graph,
+    /// What was made on the board.
+    pub layout: Layout,
+    /// The change that is open, from when it is prepared until it is committed or given up.
+    pub change: Option<Change>,
+}
+
+impl<B: Board + Drop> Engine<B> {
+    /// Makes, links and opens all of a graph on a board on which nothing was made.
+    pub fn start(
+        alloc: Global,
+        board: B,
+        name: Text,
+        args: Vec<i32>,
+        graph: Graph,
+    ) -> Result<Engine<B>, NoMemory>
+        requires sound { Sound graph }
+        requires few_nodes { length graph.nodes ≤ MAX_NODES }
+        requires few_ports { length (ports graph.nodes) ≤ MAX_PORTS }
+        requires nothing_made { B.stands_for board [] }
+        ensures { IfOk result (λ e. HasStarted B.stands_for e name args.items graph) }
+    {
+        started_systems_are_reached();
+        let mut board = board;
+        let begun = launching::begin(alloc, &mut board, name, args, &graph)?;
+        Ok(Engine {
+            board,
+            history: begun.history,
+            graph,
+            layout: begun.layout,
+            change: None,
+        })
+    }
+
+    /// The graph of the last commit.
+    pub fn graph(&self) -> &Graph
+        ensures { result.now ≡ self.now.graph }
+    {
+        &self.graph
+    }
+
+    /// Scans until at least `k` transactions ended since the call, and gives how many did. It ends earlier where a scan
+    /// moved nothing on a board on which nodes take turns in scans alone, and elsewhere where one saw all at rest.
+    pub fn run(&mut self, k: u32) -> Result<u64, NoMemory>
+        requires idle { (t : List Item) × IsIdle B.stands_for self.old t }
+        ensures ok { IfOk result (λ ended. HasRun B.stands_for B.alone self.old self.new k ended) }
+        ensures graph { self.new.graph ≡ self.old.graph }
+        ensures err { OnErr result (BrokeOff B.stands_for B.broke_off self.old.board self.new.board) }
+    {
+        let shown = running::count_ended(&mut self.board, self.layout.port_count());
+        let ended = running::scan_until(&mut self.board, shown, k)?;
+        self.history.push(HistoryLine::Run { k, ended })?;
+        Ok(ended)
+    }
+
+    /// Scans at most `n` times, and gives how many of the scans were rounds. It ends earlier where a scan saw all at rest,
+    /// or moved nothing on a board on which nodes take turns in scans alone.
+    pub fn finish(&mut self, n: u32) -> Result<u32, NoMemory>
+        requires idle { (t : List Item) × IsIdle B.stands_for self.old t }
+        ensures ok { IfOk result (λ rounds. HasFinished B.stands_for B.alone self.old self.new n rounds) }
+        ensures graph { self.new.graph ≡ self.old.graph }
+        ensures err { OnErr result (BrokeOff B.stands_for B.broke_off self.old.board self.new.board) }
+    {
+        finishing::finish(&mut self.board, &mut self.history, n)
+    }
+
+    /// Tells the graph of the last commit.
+    pub fn show(&mut self) -> Result<(), NoMemory>
+        requires idle { (t : List Item) × IsIdle B.stands_for self.old t }
+        ensures ok { IfOk result (λ _. HasShown B.stands_for self.old self.new) }
+        ensures graph { self.new.graph ≡ self.old.graph }
+        ensures err { OnErr result (Continues B.stands_for self.old self.new []) }
+    {
+        let graph = self.graph.try_clone()?;
+        self.history.push(HistoryLine::Show { graph })?;
+        Ok(())
+    }
+
+    /// Tells of a change that isn't tried.
+    pub fn skip(&mut self, name: Text, args: Vec<i32>) -> Result<(), NoMemory>
+        requires idle { (t : List Item) × IsIdle B.stands_for self.old t }
+        ensures ok { IfOk result (λ _. HasSkipped B.stands_for self.old self.new name args.items) }
+        ensures graph { self.new.graph ≡ self.old.graph }
+        ensures err { OnErr result (Continues B.stands_for self.old self.new []) }
+    {
+        let mut lines = Vec::with_capacity(*self.history.allocator(), 2)?;
+        lines.push(HistoryLine::Change {
+            name,
+            args: List::of(args),
+        })?;
+        lines.push(HistoryLine::Skipped)?;
+        self.history.append(&mut lines)?;
+        Ok(())
+    }
+
+    /// Closes the ports of all live nodes, makes rounds until each was found drained, and takes all logs in. Gives the
+    /// report and the board. Where 2^64 - 1 rounds leave a root, that is answered as want of memory.
+    pub fn stop(self) -> Result<(Report, B), NoMemory>
+        requires idle { (t : List Item) × IsIdle B.stands_for self t }
+        ensures { IfOk result (λ x. HasStopped B.stands_for B.taken self x.0 x.1) }
+    {
+        let mut engine = self;
+        let given = ending::take_logs(&mut engine.board, &mut engine.history, &engine.layout)?;
+        let Engine {
+            board,
+            history,
+            graph: _,
+            layout: _,
+            change: _,
+        } = engine;
+        Ok((ending::report_of(history, given), board))
+    }
+}
