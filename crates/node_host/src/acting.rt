@@ -31,6 +31,7 @@ impl<C: Component + Drop, S: GateSeat + Drop> HostNode<C, S> {
         requires has_room { C.has_room self.old.inner }
         requires free { (C.state self.old.inner).service ≡ None }
         ensures fits { G.fits gate.new self.new.seat }
+        ensures spare { G.spare gate.new ≡ G.spare gate.old }
         ensures node { G.node gate.new self.new.seat ≡ node_of self.new.slot self.new.first_port (C.state self.new.inner) }
         ensures others { (other : S) → S.slot_of other ≢ self.old.slot → G.fits gate.old other → G.fits gate.new other × (G.node gate.new other ≡ G.node gate.old other) }
         ensures moved { Moved (node_of self.old.slot self.old.first_port (C.state self.old.inner)) result (C.state self.old.inner) (C.state self.new.inner) self.old.log.items self.new.log.items (record { slot = S.slot_of self.old.seat; known = S.known self.old.seat; told = S.tells self.old.seat }) (record { slot = S.slot_of self.new.seat; known = S.known self.new.seat; told = S.tells self.new.seat }) (G.state gate.old) (G.state gate.new) }
@@ -61,6 +62,7 @@ impl<C: Component + Drop, S: GateSeat + Drop> HostNode<C, S> {
         requires room { length self.old.log.items < vec_capacity self.old.log }
         requires has_room { C.has_room self.old.inner }
         ensures fits { G.fits gate.new self.new.seat }
+        ensures spare { G.spare gate.new ≡ G.spare gate.old }
         ensures node { G.node gate.new self.new.seat ≡ node_of self.new.slot self.new.first_port (C.state self.new.inner) }
         ensures others { (other : S) → S.slot_of other ≢ self.old.slot → G.fits gate.old other → G.fits gate.new other × (G.node gate.new other ≡ G.node gate.old other) }
         ensures moved { Moved (node_of self.old.slot self.old.first_port (C.state self.old.inner)) result (C.state self.old.inner) (C.state self.new.inner) self.old.log.items self.new.log.items (record { slot = S.slot_of self.old.seat; known = S.known self.old.seat; told = S.tells self.old.seat }) (record { slot = S.slot_of self.new.seat; known = S.known self.new.seat; told = S.tells self.new.seat }) (G.state gate.old) (G.state gate.new) }
@@ -92,6 +94,7 @@ impl<C: Component + Drop, S: GateSeat + Drop> HostNode<C, S> {
         requires room { length self.old.log.items < vec_capacity self.old.log }
         requires has_room { C.has_room self.old.inner }
         ensures fits { G.fits gate.new self.new.seat }
+        ensures spare { G.spare gate.new ≡ G.spare gate.old }
         ensures node { G.node gate.new self.new.seat ≡ node_of self.new.slot self.new.first_port (C.state self.new.inner) }
         ensures others { (other : S) → S.slot_of other ≢ self.old.slot → G.fits gate.old other → G.fits gate.new other × (G.node gate.new other ≡ G.node gate.old other) }
         ensures moved { Moved (node_of self.old.slot self.old.first_port (C.state self.old.inner)) result (C.state self.old.inner) (C.state self.new.inner) self.old.log.items self.new.log.items (record { slot = S.slot_of self.old.seat; known = S.known self.old.seat; told = S.tells self.old.seat }) (record { slot = S.slot_of self.new.seat; known = S.known self.new.seat; told = S.tells self.new.seat }) (G.state gate.old) (G.state gate.new) }
@@ -122,6 +125,7 @@ impl<C: Component + Drop, S: GateSeat + Drop> HostNode<C, S> {
         requires room { length self.old.log.items < vec_capacity self.old.log }
         requires has_room { C.has_room self.old.inner }
         ensures fits { G.fits gate.new self.new.seat }
+        ensures spare { G.spare gate.new ≡ G.spare gate.old }
         ensures node { G.node gate.new self.new.seat ≡ node_of self.new.slot self.new.first_port (C.state self.new.inner) }
         ensures others { (other : S) → S.slot_of other ≢ self.old.slot → G.fits gate.old other → G.fits gate.new other × (G.node gate.new other ≡ G.node gate.old other) }
         ensures moved { Moved (node_of self.old.slot self.old.first_port (C.state self.old.inner)) result (C.state self.old.inner) (C.state self.new.inner) self.old.log.items self.new.log.items (record { slot = S.slot_of self.old.seat; known = S.known self.old.seat; told = S.tells self.old.seat }) (record { slot = S.slot_of self.new.seat; known = S.known self.new.seat; told = S.tells self.new.seat }) (G.state gate.old) (G.state gate.new) }

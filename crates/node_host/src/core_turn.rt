@@ -28,6 +28,7 @@ pub fn turn_at_core<C: Component + Drop>(
     ensures node { node_at gate.new.core.state.config node.new.seat.slot ≡ node_of node.new.slot node.new.first_port (C.state node.new.inner) }
     ensures exact { (held : List ℕ) → ⟦<PlainHints as Hints>⟧.tells hints.old node.old.slot ≡ Some held → OnOk result (event_of result ≡ move_of gate.old.core.state node.old.slot (C.state node.old.inner) (own_box node.old.slot node.old.first_port node.old.waiting held) begins) }
     ensures place { (node.new.slot ≡ node.old.slot) × (node.new.first_port ≡ node.old.first_port) }
+    ensures spare { gate.new.core.spare ≡ gate.old.core.spare }
     ensures past { node.new.past ≡ node.old.past }
     ensures memory { OnErr result ((node.new.waiting ≡ node.old.waiting) × (node.new.seat ≡ node.old.seat) × (gate.new ≡ gate.old) × (hints.new ≡ hints.old)) }
     ensures logged { OnOk result (node.new.log.items ≡ node.old.log.items ++ option_to_list (event_of result)) }

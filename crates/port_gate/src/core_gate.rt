@@ -150,6 +150,7 @@ impl CoreGate {
         ensures fits { FitsCore self.new.core.state seat.new.slot seat.new.known }
         ensures slot { seat.new.slot ≡ seat.old.slot }
         ensures config { self.new.core.state.config ≡ self.old.core.state.config }
+        ensures spare { self.new.core.spare ≡ self.old.core.spare }
         ensures others { (n : ℕ) (w : Knows) → n ≢ seat.old.slot → FitsCore self.old.core.state n w → FitsCore self.new.core.state n w }
         ensures does { Does (node_at self.old.core.state.config seat.old.slot) (event.now ∷ []) seat.old.known seat.new.known None None (Some self.old.core.state) (Some self.new.core.state) }
     {
@@ -170,6 +171,7 @@ impl CoreGate {
         ensures fits { FitsCore self.new.core.state seat.new.slot seat.new.known }
         ensures slot { seat.new.slot ≡ seat.old.slot }
         ensures config { self.new.core.state.config ≡ self.old.core.state.config }
+        ensures spare { self.new.core.spare ≡ self.old.core.spare }
         ensures others { (n : ℕ) (w : Knows) → n ≢ seat.old.slot → FitsCore self.old.core.state n w → FitsCore self.new.core.state n w }
         ensures does { Does (node_at self.old.core.state.config seat.old.slot) (events_of_call port 0 result) seat.old.known seat.new.known None None (Some self.old.core.state) (Some self.new.core.state) }
         ensures says { CallSays (Some self.old.core.state) port result }
@@ -188,6 +190,8 @@ impl PortGate for CoreGate {
     ghost node = { λ g s. node_at g.core.state.config s.slot };
 
     ghost state = { λ g. Some g.core.state };
+
+    ghost spare = { λ g. g.core.spare };
 
     #[tactic(auto, using(crate::proofs::Allowed::begin_by_word, crate::proofs::Allowed::begin_doer, crate::proofs::Allowed::has_word, crate::proofs::Allowed::target_at, crate::proofs::Allowed::spent_at))]
     fn begin(&mut self, seat: &mut CoreSeat, port: u32, value: u32) -> BeginAnswer {

@@ -32,7 +32,7 @@ pub trait GateSeat {
 }
 
 /// A gate, at which nodes do their events. A seat that fits is one of a node of this gate, of the kind and with the first port that
-/// `node` says; after each call it still fits, and so does each seat of another slot that fitted before. No call takes memory.
+/// `node` says; after each call it still fits, and so does each seat of another slot that fitted before. No call takes memory, or uses up what there is.
 pub trait PortGate {
     type Seat: GateSeat;
 
@@ -44,12 +44,16 @@ pub trait PortGate {
     /// The state of the change machine, where the gate tells it.
     ghost state: { Self → Option State };
 
+    /// For how many nodes more it has memory.
+    ghost spare: { Self → ℕ };
+
     /// Begins a transaction of the node's own at an idle port.
     fn begin(&mut self, seat: &mut Self::Seat, port: u32, value: u32) -> BeginAnswer
         requires fits { fits self.old seat.old }
         requires may { MayBegin (node self.old seat.old) (Self.Seat.known seat.old) port value }
         ensures fits { fits self.new seat.new }
         ensures node { node self.new seat.new ≡ node self.old seat.old }
+        ensures spare { spare self.new ≡ spare self.old }
         ensures others { (other : Self.Seat) → Self.Seat.slot_of other ≢ Self.Seat.slot_of seat.old → fits self.old other → fits self.new other × (node self.new other ≡ node self.old other) }
         ensures does { Does (node self.old seat.old) (moves.events_of_begin port value result) (Self.Seat.known seat.old) (Self.Seat.known seat.new) (Self.Seat.tells seat.old) (Self.Seat.tells seat.new) (state self.old) (state self.new) }
         ensures says { BeginSays (state self.old) port result }
@@ -61,6 +65,7 @@ pub trait PortGate {
         requires may { MayCall (node self.old seat.old) (Self.Seat.known seat.old) port value }
         ensures fits { fits self.new seat.new }
         ensures node { node self.new seat.new ≡ node self.old seat.old }
+        ensures spare { spare self.new ≡ spare self.old }
         ensures others { (other : Self.Seat) → Self.Seat.slot_of other ≢ Self.Seat.slot_of seat.old → fits self.old other → fits self.new other × (node self.new other ≡ node self.old other) }
         ensures does { Does (node self.old seat.old) (moves.events_of_call port value result) (Self.Seat.known seat.old) (Self.Seat.known seat.new) (Self.Seat.tells seat.old) (Self.Seat.tells seat.new) (state self.old) (state self.new) }
         ensures says { CallSays (state self.old) port result }
@@ -72,6 +77,7 @@ pub trait PortGate {
         requires may { MayTake (Self.Seat.known seat.old) port }
         ensures fits { fits self.new seat.new }
         ensures node { node self.new seat.new ≡ node self.old seat.old }
+        ensures spare { spare self.new ≡ spare self.old }
         ensures others { (other : Self.Seat) → Self.Seat.slot_of other ≢ Self.Seat.slot_of seat.old → fits self.old other → fits self.new other × (node self.new other ≡ node self.old other) }
         ensures does { Does (node self.old seat.old) (moves.events_of_take port result) (Self.Seat.known seat.old) (Self.Seat.known seat.new) (Self.Seat.tells seat.old) (Self.Seat.tells seat.new) (state self.old) (state self.new) }
         ensures says { TakeSays (state self.old) (node self.old seat.old) port result }
@@ -83,6 +89,7 @@ pub trait PortGate {
         requires may { MayGive (Self.Seat.known seat.old) port value }
         ensures fits { fits self.new seat.new }
         ensures node { node self.new seat.new ≡ node self.old seat.old }
+        ensures spare { spare self.new ≡ spare self.old }
         ensures others { (other : Self.Seat) → Self.Seat.slot_of other ≢ Self.Seat.slot_of seat.old → fits self.old other → fits self.new other × (node self.new other ≡ node self.old other) }
         ensures does { Does (node self.old seat.old) (moves.events_of_give port value (Self.Seat.known seat.old)) (Self.Seat.known seat.old) (Self.Seat.known seat.new) (Self.Seat.tells seat.old) (Self.Seat.tells seat.new) (state self.old) (state self.new) }
         ensures loads { TellsLoads LoadsNothing (Self.Seat.loads seat.old) (Self.Seat.loads seat.new) };
@@ -93,6 +100,7 @@ pub trait PortGate {
         requires may { MaySee (node self.old seat.old) (Self.Seat.known seat.old) port }
         ensures fits { fits self.new seat.new }
         ensures node { node self.new seat.new ≡ node self.old seat.old }
+        ensures spare { spare self.new ≡ spare self.old }
         ensures others { (other : Self.Seat) → Self.Seat.slot_of other ≢ Self.Seat.slot_of seat.old → fits self.old other → fits self.new other × (node self.new other ≡ node self.old other) }
         ensures known { Self.Seat.known seat.new ≡ moves.with_seen (node self.old seat.old) port result (Self.Seat.known seat.old) }
         ensures events { Self.Seat.tells seat.new ≡ Self.Seat.tells seat.old }
@@ -106,6 +114,7 @@ pub trait PortGate {
         requires may { MayEnd (node self.old seat.old) (Self.Seat.known seat.old) port }
         ensures fits { fits self.new seat.new }
         ensures node { node self.new seat.new ≡ node self.old seat.old }
+        ensures spare { spare self.new ≡ spare self.old }
         ensures others { (other : Self.Seat) → Self.Seat.slot_of other ≢ Self.Seat.slot_of seat.old → fits self.old other → fits self.new other × (node self.new other ≡ node self.old other) }
         ensures does { Does (node self.old seat.old) (moves.events_of_end (node self.old seat.old) port (Self.Seat.known seat.old)) (Self.Seat.known seat.old) (Self.Seat.known seat.new) (Self.Seat.tells seat.old) (Self.Seat.tells seat.new) (state self.old) (state self.new) }
         ensures loads { TellsLoads LoadsNothing (Self.Seat.loads seat.old) (Self.Seat.loads seat.new) };
@@ -116,6 +125,7 @@ pub trait PortGate {
         requires may { MaySendMore (node self.old seat.old) (Self.Seat.known seat.old) port value }
         ensures fits { fits self.new seat.new }
         ensures node { node self.new seat.new ≡ node self.old seat.old }
+        ensures spare { spare self.new ≡ spare self.old }
         ensures others { (other : Self.Seat) → Self.Seat.slot_of other ≢ Self.Seat.slot_of seat.old → fits self.old other → fits self.new other × (node self.new other ≡ node self.old other) }
         ensures does { Does (node self.old seat.old) (moves.events_of_more port value (Self.Seat.known seat.old)) (Self.Seat.known seat.old) (Self.Seat.known seat.new) (Self.Seat.tells seat.old) (Self.Seat.tells seat.new) (state self.old) (state self.new) }
         ensures loads { TellsLoads LoadsNothing (Self.Seat.loads seat.old) (Self.Seat.loads seat.new) };
@@ -126,6 +136,7 @@ pub trait PortGate {
         requires may { MayAsk (node self.old seat.old) (Self.Seat.known seat.old) port value }
         ensures fits { fits self.new seat.new }
         ensures node { node self.new seat.new ≡ node self.old seat.old }
+        ensures spare { spare self.new ≡ spare self.old }
         ensures others { (other : Self.Seat) → Self.Seat.slot_of other ≢ Self.Seat.slot_of seat.old → fits self.old other → fits self.new other × (node self.new other ≡ node self.old other) }
         ensures does { Does (node self.old seat.old) (moves.events_of_ask (node self.old seat.old) port value (Self.Seat.known seat.old)) (Self.Seat.known seat.old) (Self.Seat.known seat.new) (Self.Seat.tells seat.old) (Self.Seat.tells seat.new) (state self.old) (state self.new) }
         ensures loads { TellsLoads LoadsNothing (Self.Seat.loads seat.old) (Self.Seat.loads seat.new) };
@@ -136,6 +147,7 @@ pub trait PortGate {
         requires may { MayHear (Self.Seat.known seat.old) port }
         ensures fits { fits self.new seat.new }
         ensures node { node self.new seat.new ≡ node self.old seat.old }
+        ensures spare { spare self.new ≡ spare self.old }
         ensures others { (other : Self.Seat) → Self.Seat.slot_of other ≢ Self.Seat.slot_of seat.old → fits self.old other → fits self.new other × (node self.new other ≡ node self.old other) }
         ensures does { Does (node self.old seat.old) (moves.events_of_hear port (Self.Seat.known seat.old) result) (Self.Seat.known seat.old) (Self.Seat.known seat.new) (Self.Seat.tells seat.old) (Self.Seat.tells seat.new) (state self.old) (state self.new) }
         ensures says { HearSays (state self.old) port result }
