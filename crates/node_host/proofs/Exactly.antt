@@ -191,11 +191,6 @@ module _ (o : Option State) (n : NodeAt) (known : Known) (s : State) (told : IsT
       ∙ sym (begins_if a t wanted)
 
   -- ---- its service
-  pub calls_busy : (r v : ℕ) → r < length (row n.kind).requires_ → (slice_index_or known.ports r port_at_start).idle ≡ false → None ≡ calls s (n.first + r) v
-  calls_busy r v within busy =
-      let p : ℕ = n.first + r in
-      ap (λ b. cond (not b) None (cond (is_missing s p) (Some (Miss p)) (Some (Call p ((exchange s p).serial + 1) v)))) (sym (sym (own_known r within).idle ∙ busy))
-
   pub calls_missed : (p v : ℕ) (u : Option State) → Leads n.slot o (Miss p ∷ []) u → Some (Miss p) ≡ calls s p v
   calls_missed p v u led =
       let l = (stepped n.slot s o u (Miss p) told.told led).0 in

@@ -3,14 +3,14 @@ use Rattle.std.proofs.Common.{◌≡◌, ◌∙◌, ℕ, zero, suc, ◌+◌, ◌
 use Rattle.std.specs.Prelude.{not, ◌==◌, ◌&&◌, ◌||◌, fold, option_and_then, slice_get, slice_index_or}
 use Rattle.std.specs.List.{list_any}
 use Rattle.std.specs.Option.{option_map_or}
-use Rattle.std.proofs.lemmas.Bool.{both_ways, eqb-true}
+use Rattle.std.proofs.lemmas.Bool.{both_ways, eq-eqb, eqb-true}
 use Rattle.std.proofs.lemmas.Option.{same_Some, slice_get-get_or, slice_get_within}
 use Rattle.config_graph.specs.Kinds.{depends_on, row}
 use Rattle.config_graph.specs.declared.kind.Kind.{Kind}
 use Rattle.config_graph.specs.declared.kind.Kind.TheVariants.{Place, Map, Buffer, Branch}
 use Rattle.config_graph.proofs.KindLaws.{two_requires}
 use Rattle.component_trait.proofs.BoundLaws.{asks_depend}
-use Rattle.component_trait.specs.Fold.{asked_by, is_request_at}
+use Rattle.component_trait.specs.Fold.{asked_by, calls_at, is_request_at, wants_at}
 use Rattle.component_trait.specs.Moves as moves
 use Rattle.component_trait.specs.Moves.{next_in}
 use Rattle.component_trait.specs.States.{Kept, NodeState, Service as Serving}
@@ -26,6 +26,7 @@ use Rattle.quiesce_core.specs.declared.known.PortKnown.{PortKnown}
 use Rattle.quiesce_core.specs.declared.known.Served.{Served}
 use Rattle.quiesce_core.proofs.KnownLaws.{service_of_log}
 use Rattle.port_gate.specs.Seats.{HasEndedCalls}
+use Rattle.turn_laws.proofs.AgreementLaws.{who_wants_asks_nothing}
 use Rattle.turn_laws.specs.Agreement.{HasNoCall, ServiceAgrees, ServicesAgree, expects}
 use Rattle.node_host.specs.Hosted.{IsHosted, SeatSeen}
 use Rattle.node_host.specs.Lines.{Member}
@@ -154,6 +155,18 @@ module _ (slot first : ℕ) (t : NodeState) (log : List Event) (line : List Memb
       let within = slice_get_within known.ports r x here in
       let two : r < 2 = omega (arith, within, two_known slot first t log line known waiting seat h) in
       ap (λ (k : PortKnown). k.consequent) (sym (same_Some (known_port r) x (sym (slice_get-get_or known.ports r port_at_start within) ∙ here))) ∙ ended_at still r two
+
+  -- and the port of its next one is idle: what else is open there it wants, and who wants asks nothing
+  pub idle_to_call : (a : Request) → a.require < 2 → awaits known ≡ false → moves.next t ≡ Some (next.Ask a) → (known_port a.require).idle ≡ true
+  idle_to_call a two still asks = by (known_port a.require).idle refl
+    where
+      by : (b : Bool) → (known_port a.require).idle ≡ b → (known_port a.require).idle ≡ true
+      by true is = is
+      by false busy =
+          let p : ℕ = first + a.require in
+          let wanted : wants_at first t p ≡ true =
+          subst (λ b. expects b first t p ≡ true) (ended_at still a.require two) (expected_at slot first t log line known waiting seat h a.require (known_port a.require) two refl busy) in
+          absurd (both_ways (calls_at first t p) (who_wants_asks_nothing first p p t wanted) (ap (λ o. is_request_at first p (asked_by o)) asks ∙ eq-eqb p p refl))
 
   -- and in the log as a function of ports
   pub no_call : awaits known ≡ false → HasNoCall (λ p. own_port_after p log)

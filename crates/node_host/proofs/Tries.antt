@@ -1,14 +1,9 @@
 -- That the moves before the one that was made aren't possible, put together from what each call shows.
 use Rattle.std.proofs.Common.{inl, inr, ◌≡◌, ◌∙◌, ◌⊎◌, ℕ, zero, suc, ◌+◌, ◌<◌, ◌≤◌, Bool, true, false, length, Option, Some, None, refl, sym, ap, subst, arith}
-use Rattle.std.specs.Prelude.{◌==◌, ◌||◌, ◌&&◌, not, is_some, is_none, nat_lt}
-use Rattle.std.specs.Option.{option_map_or}
-use Rattle.std.proofs.lemmas.Bool.{and_parts, both_ways, eq-eqb, eqb-true, ltb-true}
-use Rattle.std.proofs.lemmas.Option.{none-some, same_Some}
+use Rattle.std.specs.Prelude.{◌==◌, ◌&&◌, is_none}
+use Rattle.std.proofs.lemmas.Bool.{both_ways, eq-eqb, eqb-true}
 use Rattle.config_graph.specs.Kinds.{row}
-use Rattle.component_trait.specs.Moves as moves
 use Rattle.component_trait.specs.States.{NodeState}
-use Rattle.component_trait.specs.declared.next.Ask.{Ask as Request}
-use Rattle.gate_word.specs.Words.{is_missing, is_spent, unpack}
 use Rattle.quiesce_core.specs.Knowledge.{KnowsService}
 use Rattle.quiesce_core.specs.State.{State, service}
 use Rattle.quiesce_core.specs.declared.event.Event.{Event}
@@ -17,40 +12,18 @@ use Rattle.quiesce_core.specs.declared.known.Known.{Known}
 use Rattle.quiesce_core.specs.declared.known.Served.{Served}
 use Rattle.quiesce_core.specs.declared.state.Service.{Service}
 use Rattle.turns.specs.Turn.{serves}
-use Rattle.port_gate.specs.Answers.{BeginSays}
-use Rattle.port_gate.specs.Loads.{IsLed, IsLoaded, Load, Loads, LoadsAt, TellsLoads, begin_shows, has_found, is_word, leads_to, shows_asked, shows_spent}
+use Rattle.port_gate.specs.Loads.{IsLed, IsLoaded, Load, Loads, TellsLoads, leads_to, shows_asked}
 use Rattle.port_gate.specs.Seats.{NodeAt}
-use Rattle.port_gate.specs.declared.answers.BeginAnswer.TheVariants as begin
-use Rattle.port_queue.specs.Inboxes.{Counts, Gave, Refused, Rose}
-use Rattle.node_host.specs.Awaiting.{awaits}
+use Rattle.port_queue.specs.Inboxes.{Counts, Rose}
 use Rattle.node_host.specs.Hosted.{node_of}
 use Rattle.node_host.specs.Posting.{GateSeen, HintOf, Hinted, IsSent, IsSentAfter, IsSentBy}
 use Rattle.node_host.specs.Told.{IsTold}
-use Rattle.node_host.specs.Tried.{AreLaterTried, AreMovesTried, CannotBegin, HasNoReply, HasNoRequest, HaveNoReplies, IsHeld, IsTried, Keeps, LoadsPort, Steps, bars_begin, is_busy, is_move, is_passed, is_reply_at, is_stale_for, move_number, passed_ports, shows_in_more}
+use Rattle.node_host.specs.Tried.{AreLaterTried, AreMovesTried, CannotBegin, HasNoReply, HasNoRequest, HaveNoReplies, IsHeld, IsTried, Keeps, LoadsPort, Steps, bars_begin, is_busy, is_passed, is_reply_at, is_stale_for, passed_ports, shows_in_more}
 use Rattle.node_host.specs.Trying.{CountsTried, IsGrown}
 use Rattle.node_host.proofs.Asked.{rose_since}
-use Rattle.node_host.proofs.Loading.{keeps_steps, led_kept, led_since, loaded_kept, loaded_since, loads_as, then_so}
+use Rattle.node_host.proofs.Loading.{keeps_steps, led_kept, led_since, loaded_kept, loaded_since, then_so}
 
 -- ---- numbers of moves
-
-pub same_port : (p : ℕ) → (p == p) ≡ true
-same_port p = eq-eqb p p refl
-
-pub reply_is_first : (p : ℕ) (o : Option Event) → is_reply_at p o ≡ true → is_move 1 o ≡ true
-reply_is_first p None h = refl
-reply_is_first p (Some (End q k v)) h = refl
-reply_is_first p (Some (Ask q k v)) h = refl
-reply_is_first p (Some e) h = absurd (both_ways false refl h)
-
-not_passed : (k j : ℕ) (e : Event) → k ≤ j → is_move k (Some e) ≡ true → is_passed j (Some e) ≡ true → ⊥
-not_passed k j e few is after =
-    let here = eqb-true (move_number e) k is in
-    let later = ltb-true j (move_number e) after in
-    omega (arith, few, here, later)
-
-pub later_passed : (k j : ℕ) (o : Option Event) → is_move k o ≡ true → nat_lt j k ≡ true → is_passed j o ≡ true
-later_passed k j None h few = refl
-later_passed k j (Some e) h few = subst (λ i. nat_lt j i ≡ true) (sym (eqb-true (move_number e) k h)) few
 
 all_passed : (n : NodeAt) (o : Option Event) → is_passed 1 o ≡ true → passed_ports n o ≡ length (row n.kind).requires_
 all_passed n None h = refl
@@ -89,10 +62,6 @@ no_reply_past first w a b c past (inr loaded) =
     apart : first + 0 ≡ first + 1 → ⊥
     apart same = omega (arith, same)
 
--- a reply at the first port passes none over
-pub tried_left : (n : NodeAt) (w : Known) (e : Event) (a b : Option Loads) → is_reply_at (n.first + 0) (Some e) ≡ true → HaveNoReplies n w (Some e) a b
-tried_left n w e a b is r below = let none_ = passed_by n.first 0 n e refl is in absurd (omega (arith, below, none_))
-
 pub tried_right : (n : NodeAt) (w : Known) (o : Option Event) (a b c : Option Loads) → length (row n.kind).requires_ ≡ 2 → HasNoReply n.first w 0 a b → TellsLoads Steps a b
     → TellsLoads (LoadsPort (n.first + 1)) b c → is_reply_at (n.first + 1) o ≡ true → (o ≡ None → HasNoReply n.first w 1 b c) → HaveNoReplies n w o a c
 tried_right n w o a b c two left steps past is right zero below = no_reply_past n.first w a b c past left
@@ -100,15 +69,6 @@ tried_right n w None a b c two left steps past is right (suc zero) below = no_re
 tried_right n w (Some e) a b c two left steps past is right (suc zero) below = let one = passed_by n.first 1 n e refl is in absurd (omega (arith, below, one))
 tried_right n w None a b c two left steps past is right (suc (suc r)) below = absurd (omega (arith, below, two))
 tried_right n w (Some e) a b c two left steps past is right (suc (suc r)) below = let one = passed_by n.first 1 n e refl is in absurd (omega (arith, below, one))
-
-pub tried_one : (n : NodeAt) (w : Known) (o : Option Event) (a b : Option Loads) → length (row n.kind).requires_ ≡ 1 → is_reply_at (n.first + 0) o ≡ true → (o ≡ None → HasNoReply n.first w 0 a b)
-    → HaveNoReplies n w o a b
-tried_one n w None a b one is none_ zero below = none_ refl
-tried_one n w None a b one is none_ (suc r) below = absurd (omega (arith, below, one))
-tried_one n w (Some e) a b one is none_ r below = tried_left n w e a b is r below
-
-pub tried_zero : (n : NodeAt) (w : Known) (a b : Option Loads) → length (row n.kind).requires_ ≡ 0 → HaveNoReplies n w None a b
-tried_zero n w a b none_ r below = absurd (omega (arith, below, none_))
 
 -- ---- the service
 
@@ -118,26 +78,20 @@ led_over p shows first w a b c kept led =
     then_so (λ x y. IsLed p shows x.steps y.steps y.hear) (Keeps 3 first w) (λ x y. IsLed p shows x.steps y.steps y.hear)
     (λ x y z l s. led_kept p shows x.steps y.steps z.steps y.hear z.hear s.steps (s.hear (omega arith)) l) a b c led kept
 
-held_kept : (t : NodeState) (first : ℕ) (w : Known) (o : Option Served) (a b c : Option Loads) → TellsLoads (Keeps 3 first w) b c → IsHeld t w o a b → IsHeld t w o a c
-held_kept t first w None a b c kept h = h
-held_kept t first w (Some u) a b c kept (inl left) = inl left
-held_kept t first w (Some u) a b c kept (inr (inl waits)) = inr (inl (waits.0, led_over u.port shows_in_more first w a b c kept waits.1))
-held_kept t first w (Some u) a b c kept (inr (inr barred)) = inr (inr barred)
+held_kept : (first : ℕ) (w : Known) (o : Option Served) (a b c : Option Loads) → TellsLoads (Keeps 3 first w) b c → IsHeld w o a b → IsHeld w o a c
+held_kept first w None a b c kept h = h
+held_kept first w (Some u) a b c kept (inl left) = inl left
+held_kept first w (Some u) a b c kept (inr waits) = inr (waits.0, led_over u.port shows_in_more first w a b c kept waits.1)
 
-held_since : (t : NodeState) (w : Known) (o : Option Served) (a b c : Option Loads) → TellsLoads Steps a b → IsHeld t w o b c → IsHeld t w o a c
-held_since t w None a b c steps h = h
-held_since t w (Some u) a b c steps (inl left) = inl left
-held_since t w (Some u) a b c steps (inr (inl waits)) =
-    inr (inl (
+held_since : (w : Known) (o : Option Served) (a b c : Option Loads) → TellsLoads Steps a b → IsHeld w o b c → IsHeld w o a c
+held_since w None a b c steps h = h
+held_since w (Some u) a b c steps (inl left) = inl left
+held_since w (Some u) a b c steps (inr waits) =
+    inr (
       waits.0,
       then_so Steps (λ x y. IsLed u.port shows_in_more x.steps y.steps y.hear) (λ x y. IsLed u.port shows_in_more x.steps y.steps y.hear)
           (λ x y z s l. led_since u.port shows_in_more x.steps y.steps z.steps z.hear s l) a b c steps waits.1,
-    ))
-held_since t w (Some u) a b c steps (inr (inr barred)) = inr (inr barred)
-
-pub held_by_call : (t : NodeState) (w : Known) (o : Option Served) (a b : Option Loads) → awaits w ≡ true → IsHeld t w o a b
-held_by_call t w None a b h = tt
-held_by_call t w (Some u) a b h = inl h
+    )
 
 -- ---- the next request
 
@@ -176,12 +130,6 @@ request_grown : (n : ℕ) (c c1 c2 : Counts) (a b : Option Loads) → IsGrown c 
 request_grown n c c1 c2 a b grown (inl empty) = inl (rose_since c.refused c1.refused c2.refused grown.0 empty)
 request_grown n c c1 c2 a b grown (inr (rose, p, last, led)) = inr (subst (λ k. Rose k c2.given) grown.1 rose, p, last, led)
 
-pub empty_is_asked : (n : ℕ) (c c' : Counts) (a b : Option Loads) → Refused c c' → HasNoRequest n c c' a b
-empty_is_asked n c c' a b h = inl h.refused
-
-pub stale_is_asked : (n p : ℕ) (c c' : Counts) (a b : Option Loads) → Gave c p c' → TellsLoads (λ x y. IsLed p (is_stale_for n) x.steps y.steps y.take) a b → HasNoRequest n c c' a b
-stale_is_asked n p c c' a b h led = inr (h.given, p, h.last, led)
-
 -- what the hint of an event leaves of what is counted of a node
 after_same : (c : Counts) → After c c
 after_same c = record { refused = omega arith; given = refl; last = refl }
@@ -204,80 +152,6 @@ after_hint g first n (Some (Call p k v)) old new h = after_sent g first p n old 
 after_hint g first n (Some e) old new h = subst (λ (x : Hinted). After (old.counts n) (x.counts n)) (sym h) (after_same (old.counts n))
 
 -- ---- a beginning
-
-bars_closed : (w : ℕ) (l : Load) → (unpack w).closed ≡ true → (is_word w l || has_found w l) ≡ true → bars_begin l ≡ true
-bars_closed w l closed h = by (is_word w l) refl l.found h
-  where
-    shown : is_word w l ≡ true → (unpack l.word).closed ≡ true
-    shown is = ap (λ i. (unpack i).closed) (eqb-true l.word w is) ∙ closed
-
-    left : (a b c : Bool) → a ≡ true → ((a || b) || c) ≡ true
-    left true b c h = refl
-    left false b c h = absurd (both_ways false refl h)
-
-    right : (a : Bool) (o : Option ℕ) → option_map_or (λ (x : ℕ). x == w) o false ≡ true → (a || is_some o) ≡ true
-    right true o h = refl
-    right false None h = absurd (both_ways false refl h)
-    right false (Some x) h = refl
-
-    by : (b : Bool) → is_word w l ≡ b → (o : Option ℕ) → (is_word w l || has_found w l) ≡ true → bars_begin l ≡ true
-    by true is o h = left (unpack l.word).closed (is_missing (unpack l.word)) (is_some l.found) (shown is)
-    by false is o h = right ((unpack l.word).closed || is_missing (unpack l.word)) l.found (sym (ap (λ b. b || has_found w l) is) ∙ h)
-
-bars_missing : (l : Load) → is_missing (unpack l.word) ≡ true → bars_begin l ≡ true
-bars_missing l h = by (unpack l.word).closed (is_missing (unpack l.word)) (is_some l.found) h
-  where
-    by : (a b c : Bool) → b ≡ true → ((a || b) || c) ≡ true
-    by true b c h = refl
-    by false true c h = refl
-    by false false c h = absurd (both_ways false refl h)
-
-bars_unlinked : (w : ℕ) (l : Load) → (not (unpack w).closed && is_none (unpack w).target) ≡ true → is_word w l ≡ true → bars_begin l ≡ true
-bars_unlinked w l h is =
-    bars_missing l (left (is_none (unpack l.word).target) (is_spent (unpack l.word)) (ap (λ i. is_none (unpack i).target) (eqb-true l.word w is) ∙ (and_parts (not (unpack w).closed) (is_none (unpack w).target) h).1))
-  where
-    left : (a b : Bool) → a ≡ true → (a || b) ≡ true
-    left true b h = refl
-    left false b h = absurd (both_ways false refl h)
-
-bars_spent : (l : Load) → shows_spent l ≡ true → bars_begin l ≡ true
-bars_spent l h =
-    bars_missing l (right (is_none (unpack l.word).target) (is_spent (unpack l.word)) (and_parts (not (unpack l.word).closed && is_some (unpack l.word).target) (is_spent (unpack l.word)) h).1)
-  where
-    right : (a b : Bool) → b ≡ true → (a || b) ≡ true
-    right true b h = refl
-    right false b h = h
-
-bars_again : (i f : ℕ) (l : Load) → (is_word i l && has_found f l) ≡ true → bars_begin l ≡ true
-bars_again i f l h = by ((unpack l.word).closed || is_missing (unpack l.word)) l.found (and_parts (is_word i l) (has_found f l) h).1
-  where
-    by : (a : Bool) (o : Option ℕ) → option_map_or (λ (x : ℕ). x == f) o false ≡ true → (a || is_some o) ≡ true
-    by true o h = refl
-    by false None h = absurd (both_ways false refl h)
-    by false (Some x) h = refl
-
-module _ (o : Option State) (first : ℕ) (t : NodeState) (w : Known) (a : Request) (wanted : moves.wants t ≡ Some a) (old new : Option Loads) where
-  cannot_by : (shows : Load → Bool) → ((l : Load) → shows l ≡ true → bars_begin l ≡ true) → TellsLoads (LoadsAt (first + a.require) shows) old new → CannotBegin first t w old new
-  cannot_by shows bars loads b wants =
-      inr (subst (λ (x : Request). TellsLoads (IsLoaded (first + x.require) bars_begin) old new) (same_Some a b (sym wanted ∙ wants)) (loads_as (first + a.require) shows bars_begin bars old new loads))
-
-  pub cannot_busy : is_busy w a.require ≡ true → CannotBegin first t w old new
-  cannot_busy busy b wants = inl (subst (λ (x : Request). is_busy w x.require ≡ true) (same_Some a b (sym wanted ∙ wants)) busy)
-
-  pub cannot_closed : (word : ℕ) → BeginSays o (first + a.require) (begin.Closed word) → TellsLoads (LoadsAt (first + a.require) (begin_shows (begin.Closed word))) old new → CannotBegin first t w old new
-  cannot_closed word says loads = cannot_by (begin_shows (begin.Closed word)) (λ l h. bars_closed word l says.cause h) loads
-
-  pub cannot_unlinked : (word : ℕ) → BeginSays o (first + a.require) (begin.Unlinked word) → TellsLoads (LoadsAt (first + a.require) (begin_shows (begin.Unlinked word))) old new → CannotBegin first t w old new
-  cannot_unlinked word says loads = cannot_by (begin_shows (begin.Unlinked word)) (λ l h. bars_unlinked word l says.cause h) loads
-
-  pub cannot_spent : (k : ℕ) → TellsLoads (LoadsAt (first + a.require) (begin_shows (begin.Spent k))) old new → CannotBegin first t w old new
-  cannot_spent k loads = cannot_by (begin_shows (begin.Spent k)) (λ l h. bars_spent l h) loads
-
-  pub cannot_again : (i f : ℕ) → TellsLoads (LoadsAt (first + a.require) (begin_shows (begin.Again i f))) old new → CannotBegin first t w old new
-  cannot_again i f loads = cannot_by (begin_shows (begin.Again i f)) (λ l h. bars_again i f l h) loads
-
-pub cannot_unwanted : (first : ℕ) (t : NodeState) (w : Known) (old new : Option Loads) → None ≡ moves.wants t → CannotBegin first t w old new
-cannot_unwanted first t w old new none_ b wants = absurd (none-some b (none_ ∙ wants))
 
 cannot_since : (first : ℕ) (t : NodeState) (w : Known) (a b c : Option Loads) → TellsLoads Steps a b → CannotBegin first t w b c → CannotBegin first t w a c
 cannot_since first t w a b c steps cannot r wants = by (cannot r wants)
@@ -308,20 +182,11 @@ hint_since s a b c first (Some e) old new steps h = h
 -- ---- all moves
 
 module _ (n : NodeAt) (t : NodeState) (w : Known) (allowed : Bool) where
-  pub later_taken : (e : Event) (c c' : Counts) (a b : Option Loads) → is_move 3 (Some e) ≡ true → AreLaterTried n t w allowed (Some e) c c' a b
-  later_taken e c c' a b is = record { request = λ after free. absurd (not_passed 3 3 e (omega arith) is after); begin = λ none_ may. absurd (none-some e (sym none_)) }
-
   pub later_then : (o : Option Event) (c c1 c2 : Counts) (a b d : Option Loads) → HasNoRequest n.slot c c1 a b → TellsLoads (Keeps 3 n.first w) a b → (o ≡ None → allowed ≡ true → CannotBegin n.first t w b d)
       → TellsLoads (Keeps 4 n.first w) b d → After c1 c2 → AreLaterTried n t w allowed o c c2 a d
   later_then o c c1 c2 a b d asked kept cannot later on = record {
     request = λ after free. request_kept n.slot n.first w c c1 c2 a b d on later asked;
     begin = λ none_ may. cannot_since n.first t w a b d (keeps_steps 3 n.first w a b kept) (cannot none_ may);
-  }
-
-  pub later_in_service : (o : Option Event) (c c' : Counts) (a b : Option Loads) → is_some w.service ≡ true → (o ≡ None → allowed ≡ true → CannotBegin n.first t w a b) → AreLaterTried n t w allowed o c c' a b
-  later_in_service o c c' a b serving cannot = record {
-    request = λ after free. absurd (both_ways (is_some w.service) (ap is_some free) serving);
-    begin = cannot;
   }
 
   later_since : (o : Option Event) (c c' : Counts) (a b d : Option Loads) → TellsLoads Steps a b → AreLaterTried n t w allowed o c c' b d → AreLaterTried n t w allowed o c c' a d
@@ -330,32 +195,17 @@ module _ (n : NodeAt) (t : NodeState) (w : Known) (allowed : Bool) where
     begin = λ none_ may. cannot_since n.first t w a b d steps (h.begin none_ may);
   }
 
-  pub moves_served : (e : Event) (c c' : Counts) (a b : Option Loads) → is_move 2 (Some e) ≡ true → AreMovesTried n t w allowed (Some e) c c' a b
-  moves_served e c c' a b is = record {
-    service = λ after. absurd (not_passed 2 2 e (omega arith) is after);
-    later = record { request = λ after free. absurd (not_passed 2 3 e (omega arith) is after); begin = λ none_ may. absurd (none-some e (sym none_)) };
-  }
-
-  pub moves_then : (o : Option Event) (c c' : Counts) (a b d : Option Loads) → IsHeld t w w.service a b → TellsLoads (Keeps 2 n.first w) a b → TellsLoads (Keeps 3 n.first w) b d
+  pub moves_then : (o : Option Event) (c c' : Counts) (a b d : Option Loads) → IsHeld w w.service a b → TellsLoads (Keeps 2 n.first w) a b → TellsLoads (Keeps 3 n.first w) b d
       → AreLaterTried n t w allowed o c c' b d → AreMovesTried n t w allowed o c c' a d
   moves_then o c c' a b d held steps kept later = record {
-    service = λ after. held_kept t n.first w w.service a b d kept held;
+    service = λ after. held_kept n.first w w.service a b d kept held;
     later = later_since o c c' a b d (keeps_steps 2 n.first w a b steps) later;
   }
 
   moves_since : (o : Option Event) (c c' : Counts) (a b d : Option Loads) → TellsLoads Steps a b → AreMovesTried n t w allowed o c c' b d → AreMovesTried n t w allowed o c c' a d
   moves_since o c c' a b d steps h = record {
-    service = λ after. held_since t w w.service a b d steps (h.service after);
+    service = λ after. held_since w w.service a b d steps (h.service after);
     later = later_since o c c' a b d steps h.later;
-  }
-
-  pub tried_replied : (e : Event) (c c' : Counts) (a b : Option Loads) → is_move 1 (Some e) ≡ true → HaveNoReplies n w (Some e) a b → IsTried n t w allowed (Some e) c c' a b
-  tried_replied e c c' a b is replies = record {
-    replies = replies;
-    further = record {
-      service = λ after. absurd (not_passed 1 2 e (omega arith) is after);
-      later = record { request = λ after free. absurd (not_passed 1 3 e (omega arith) is after); begin = λ none_ may. absurd (none-some e (sym none_)) };
-    };
   }
 
   pub tried_then : (o : Option Event) (c c' : Counts) (a b d : Option Loads) → HaveNoReplies n w None a b → TellsLoads Steps a b → TellsLoads (Keeps 2 n.first w) b d → is_passed 1 o ≡ true
@@ -422,7 +272,7 @@ begun_after_look slot first first' t t' w w' allowed o c c1 c2 a b d ef et ew as
 
 -- the later moves after the service
 pub later_after_service : (slot slot' first first' : ℕ) (t t' : NodeState) (w w' : Known) (allowed : Bool) (o : Option Event) (old old' new : ℕ → Counts) (a b d : Option Loads) → slot' ≡ slot → first' ≡ first → t' ≡ t → w' ≡ w → old' ≡ old
-    → IsHeld t w w.service a b → TellsLoads (Keeps 2 first w) a b → TellsLoads (Keeps 3 first' w') b d → AreLaterTried (node_of slot' first' t') t' w' allowed o (old' slot') (new slot') b d
+    → IsHeld w w.service a b → TellsLoads (Keeps 2 first w) a b → TellsLoads (Keeps 3 first' w') b d → AreLaterTried (node_of slot' first' t') t' w' allowed o (old' slot') (new slot') b d
     → AreMovesTried (node_of slot first t) t w allowed o (old slot) (new slot) a d
 later_after_service slot slot' first first' t t' w w' allowed o old old' new a b d es ef et ew eo held kept later tried =
     moves_then (node_of slot first t) t w allowed o (old slot) (new slot) a b d held kept (keeps_as 3 first first' w w' b d ef ew later)

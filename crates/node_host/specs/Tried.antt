@@ -7,7 +7,6 @@ use Rattle.gate_word.specs.Words.{is_message_to, is_missing, unpack}
 use Rattle.component_trait.specs.Moves as moves
 use Rattle.component_trait.specs.States.{NodeState}
 use Rattle.component_trait.specs.declared.next.Ask.{Ask}
-use Rattle.component_trait.specs.declared.next.Next.TheVariants as next
 use Rattle.quiesce_core.specs.Knowledge.{port_at_start}
 use Rattle.quiesce_core.specs.declared.event.Event.{Event}
 use Rattle.quiesce_core.specs.declared.event.Event.TheVariants as event
@@ -70,15 +69,10 @@ HaveNoReplies n w e old new = (r : ℕ) → r < passed_ports n e → HasNoReply 
 abbrev pub shows_in_more : Load → Bool
 shows_in_more l = is_in_more (unpack l.word).phase
 
--- the next call is at a port that isn't idle
-abbrev pub IsBarred : NodeState → Known → Type 0
-IsBarred t w = (a : Ask) × (moves.next t ≡ Some (next.Ask a)) × (is_busy w a.require ≡ true)
-
--- A call of the service is left to end; or its intermediate reply is unanswered, as the last `hear` shows; or its next call can't be made.
-abbrev pub IsHeld : NodeState → Known → Option Served → Option Loads → Option Loads → Type 0
-IsHeld t w None old new = ⊤
-IsHeld t w (Some u) old new =
-    (awaits w ≡ true) ⊎ (((u.heard ≡ false) × TellsLoads (λ a b. IsLed u.port shows_in_more a.steps b.steps b.hear) old new) ⊎ IsBarred t w)
+-- a call of the service is left to end, or its intermediate reply is unanswered, as the last `hear` shows
+abbrev pub IsHeld : Known → Option Served → Option Loads → Option Loads → Type 0
+IsHeld w None old new = ⊤
+IsHeld w (Some u) old new = (awaits w ≡ true) ⊎ ((u.heard ≡ false) × TellsLoads (λ a b. IsLed u.port shows_in_more a.steps b.steps b.hear) old new)
 
 -- ---- the next request
 
@@ -118,7 +112,7 @@ pub record AreLaterTried (n : NodeAt) (t : NodeState) (w : Known) (allowed : Boo
   pub begin : e ≡ None → allowed ≡ true → CannotBegin n.first t w old new
 
 pub record AreMovesTried (n : NodeAt) (t : NodeState) (w : Known) (allowed : Bool) (e : Option Event) (counts counts' : Counts) (old new : Option Loads) : Type 0 where
-  pub service : is_passed 2 e ≡ true → IsHeld t w w.service old new
+  pub service : is_passed 2 e ≡ true → IsHeld w w.service old new
   pub later : AreLaterTried n t w allowed e counts counts' old new
 
 -- each move before the one that was made isn't possible; nor is any where none was

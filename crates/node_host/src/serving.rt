@@ -1,6 +1,6 @@
 //! A node's second move: it goes on with its service.
 
-ghost use Rattle.std.specs.Prelude.{◌≡◌, ◌≢◌, ℕ, ◌+◌, ◌<◌, true, false, List, length, map, vec_capacity, option_and_then, None, Some};
+ghost use Rattle.std.specs.Prelude.{◌≡◌, ◌≢◌, ℕ, ◌+◌, ◌<◌, true, false, List, length, map, vec_capacity, option_and_then, is_some, None, Some};
 ghost use Rattle.config_graph.specs.Kinds.{depends_on, row};
 ghost use Rattle.component_trait.specs.Bounds.{FitsRequest};
 ghost use Rattle.component_trait.specs.Moves as moves;
@@ -14,10 +14,9 @@ ghost use Rattle.node_host.specs.Told.{IsTold};
 ghost use Rattle.quiesce_core.specs.State.{State};
 ghost use Rattle.quiesce_core.specs.declared.event.Event.TheVariants as event;
 ghost use Rattle.turns.specs.Turn.{calls, does_next, hears, serves};
-ghost use Rattle.node_host.specs.Tried.{IsBarred, IsHeld, Keeps, is_busy, is_move, shows_in_more};
+ghost use Rattle.node_host.specs.Tried.{IsHeld, Keeps, is_move, shows_in_more};
 ghost use Rattle.port_gate.specs.Loads.{IsLed, TellsLoads};
 
-use crate::ending::port_known;
 use crate::keeping::{keep, place};
 use crate::node::HostNode;
 use crate::posting::post;
@@ -107,7 +106,6 @@ impl<C: Component + Drop, S: GateSeat + Drop> HostNode<C, S> {
         ensures moved { Moved (node_of self.old.slot self.old.first_port (C.state self.old.inner)) result (C.state self.old.inner) (C.state self.new.inner) self.old.log.items self.new.log.items (record { slot = S.slot_of self.old.seat; known = S.known self.old.seat; told = S.tells self.old.seat }) (record { slot = S.slot_of self.new.seat; known = S.known self.new.seat; told = S.tells self.new.seat }) (G.state gate.old) (G.state gate.new) }
         ensures place { (self.new.slot ≡ self.old.slot) × (self.new.first_port ≡ self.old.first_port) }
         ensures past { self.new.past ≡ self.old.past }
-        ensures room { result ≡ None → (self.new.log ≡ self.old.log) × (self.new.inner ≡ self.old.inner) }
         ensures waiting { self.new.waiting ≡ self.old.waiting }
         ensures event { result ≡ Some (event.Give served.port served.serial value) }
         ensures exact { (s : State) → IsTold (G.state gate.old) (node_of self.old.slot self.old.first_port (C.state self.old.inner)) (S.known self.old.seat) s → result ≡ does_next s self.old.first_port served.port (next.Give value) }
@@ -157,7 +155,6 @@ impl<C: Component + Drop, S: GateSeat + Drop> HostNode<C, S> {
         ensures moved { Moved (node_of self.old.slot self.old.first_port (C.state self.old.inner)) result (C.state self.old.inner) (C.state self.new.inner) self.old.log.items self.new.log.items (record { slot = S.slot_of self.old.seat; known = S.known self.old.seat; told = S.tells self.old.seat }) (record { slot = S.slot_of self.new.seat; known = S.known self.new.seat; told = S.tells self.new.seat }) (G.state gate.old) (G.state gate.new) }
         ensures place { (self.new.slot ≡ self.old.slot) × (self.new.first_port ≡ self.old.first_port) }
         ensures past { self.new.past ≡ self.old.past }
-        ensures room { result ≡ None → (self.new.log ≡ self.old.log) × (self.new.inner ≡ self.old.inner) }
         ensures waiting { self.new.waiting ≡ self.old.waiting }
         ensures event { result ≡ Some (event.More served.port served.serial value) }
         ensures exact { (s : State) → IsTold (G.state gate.old) (node_of self.old.slot self.old.first_port (C.state self.old.inner)) (S.known self.old.seat) s → result ≡ does_next s self.old.first_port served.port (next.More value) }
@@ -209,19 +206,13 @@ impl<C: Component + Drop, S: GateSeat + Drop> HostNode<C, S> {
         ensures moved { Moved (node_of self.old.slot self.old.first_port (C.state self.old.inner)) result (C.state self.old.inner) (C.state self.new.inner) self.old.log.items self.new.log.items (record { slot = S.slot_of self.old.seat; known = S.known self.old.seat; told = S.tells self.old.seat }) (record { slot = S.slot_of self.new.seat; known = S.known self.new.seat; told = S.tells self.new.seat }) (G.state gate.old) (G.state gate.new) }
         ensures place { (self.new.slot ≡ self.old.slot) × (self.new.first_port ≡ self.old.first_port) }
         ensures past { self.new.past ≡ self.old.past }
-        ensures room { result ≡ None → (self.new.log ≡ self.old.log) × (self.new.inner ≡ self.old.inner) }
         ensures hint { HintOf (record { state = G.state gate.old; before = S.loads self.old.seat; after = S.loads self.new.seat }) self.old.first_port result (record { waiting = self.old.waiting; counts = H.counts hints.old; told = H.tells hints.old }) (record { waiting = self.new.waiting; counts = H.counts hints.new; told = H.tells hints.new }) }
-        ensures quiet { result ≡ None → (hints.new ≡ hints.old) × (self.new.waiting ≡ self.old.waiting) }
         ensures exact { (s : State) → IsTold (G.state gate.old) (node_of self.old.slot self.old.first_port (C.state self.old.inner)) (S.known self.old.seat) s → result ≡ calls s (self.old.first_port + ask.require) ask.value }
-        ensures known { result ≡ None → self.new.known ≡ self.old.known }
         ensures number { is_move 2 result ≡ true }
         ensures loads { TellsLoads (Keeps 2 self.old.first_port self.old.known) (S.loads self.old.seat) (S.loads self.new.seat) }
-        ensures barred { result ≡ None → is_busy self.old.known ask.require ≡ true }
+        ensures acts { is_some result ≡ true }
     {
         place(gate, &self.seat);
-        if !port_known(&self.known, ask.require).idle {
-            return None;
-        }
         let port = self.first_port + ask.require;
         let value = ask.value;
         match gate.call(&mut self.seat, port, value) {
@@ -282,14 +273,11 @@ impl<C: Component + Drop, S: GateSeat + Drop> HostNode<C, S> {
         ensures moved { Moved (node_of self.old.slot self.old.first_port (C.state self.old.inner)) result (C.state self.old.inner) (C.state self.new.inner) self.old.log.items self.new.log.items (record { slot = S.slot_of self.old.seat; known = S.known self.old.seat; told = S.tells self.old.seat }) (record { slot = S.slot_of self.new.seat; known = S.known self.new.seat; told = S.tells self.new.seat }) (G.state gate.old) (G.state gate.new) }
         ensures place { (self.new.slot ≡ self.old.slot) × (self.new.first_port ≡ self.old.first_port) }
         ensures past { self.new.past ≡ self.old.past }
-        ensures room { result ≡ None → (self.new.log ≡ self.old.log) × (self.new.inner ≡ self.old.inner) }
         ensures hint { HintOf (record { state = G.state gate.old; before = S.loads self.old.seat; after = S.loads self.new.seat }) self.old.first_port result (record { waiting = self.old.waiting; counts = H.counts hints.old; told = H.tells hints.old }) (record { waiting = self.new.waiting; counts = H.counts hints.new; told = H.tells hints.new }) }
-        ensures quiet { result ≡ None → (hints.new ≡ hints.old) × (self.new.waiting ≡ self.old.waiting) }
         ensures exact { (s : State) → IsTold (G.state gate.old) (node_of self.old.slot self.old.first_port (C.state self.old.inner)) (S.known self.old.seat) s → result ≡ option_and_then (does_next s self.old.first_port served.port) (moves.next (C.state self.old.inner)) }
-        ensures known { result ≡ None → self.new.known ≡ self.old.known }
         ensures number { is_move 2 result ≡ true }
         ensures loads { TellsLoads (Keeps 2 self.old.first_port self.old.known) (S.loads self.old.seat) (S.loads self.new.seat) }
-        ensures barred { result ≡ None → IsBarred (C.state self.old.inner) self.old.known }
+        ensures acts { is_some result ≡ true }
     {
         match self.inner.next() {
             Next::Give(value) => self.give(gate, served, value),
@@ -324,7 +312,7 @@ impl<C: Component + Drop, S: GateSeat + Drop> HostNode<C, S> {
         ensures known { result ≡ None → self.new.known ≡ self.old.known }
         ensures number { is_move 2 result ≡ true }
         ensures loads { TellsLoads (Keeps 2 self.old.first_port self.old.known) (S.loads self.old.seat) (S.loads self.new.seat) }
-        ensures held { result ≡ None → IsHeld (C.state self.old.inner) self.old.known (Some served) (S.loads self.old.seat) (S.loads self.new.seat) }
+        ensures held { result ≡ None → IsHeld self.old.known (Some served) (S.loads self.old.seat) (S.loads self.new.seat) }
     {
         if served.heard {
             self.go_on(gate, hints, served)
@@ -356,7 +344,7 @@ impl<C: Component + Drop, S: GateSeat + Drop> HostNode<C, S> {
         ensures known { result ≡ None → self.new.known ≡ self.old.known }
         ensures number { is_move 2 result ≡ true }
         ensures loads { TellsLoads (Keeps 2 self.old.first_port self.old.known) (S.loads self.old.seat) (S.loads self.new.seat) }
-        ensures held { result ≡ None → IsHeld (C.state self.old.inner) self.old.known self.old.known.service (S.loads self.old.seat) (S.loads self.new.seat) }
+        ensures held { result ≡ None → IsHeld self.old.known self.old.known.service (S.loads self.old.seat) (S.loads self.new.seat) }
     {
         if awaits_call(&self.known) {
             return None;

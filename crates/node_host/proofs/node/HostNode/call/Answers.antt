@@ -1,5 +1,5 @@
 use Rattle.std.proofs.Common.{◌∙◌, ◌+◌, List, [], ◌∷◌, refl, sym, ap, subst, arith}
-use Rattle.std.specs.Prelude.{map, slice_index_or}
+use Rattle.std.specs.Prelude.{map, not, slice_index_or}
 use Rattle.quiesce_core.specs.Knowledge.{port_at_start}
 use Rattle.quiesce_core.specs.declared.event.Event.{Event}
 use Rattle.quiesce_core.specs.declared.event.Event.TheVariants as event
@@ -7,24 +7,16 @@ use Rattle.node_host.specs.Hosted.{SeatSeen, node_of}
 use Rattle.node_host.specs.Posting.{Hinted, IsPosted}
 use Rattle.node_host.proofs.Replying.{index_is}
 use Rattle.node_host.specs.Lines.{Member}
+use Rattle.config_graph.proofs.KindLaws.{two_requires}
 use Rattle.port_gate.specs.Seats.{MayCall}
-use Rattle.node_host.proofs.Exactly.{calls_busy, calls_called, calls_missed}
+use Rattle.node_host.proofs.Exactly.{calls_called, calls_missed}
 use Rattle.node_host.proofs.Growing.{hosted_after, moved_after, node_after}
-use Rattle.node_host.proofs.InService.{no_call}
-use Rattle.node_host.proofs.Idle.{not_false, not_true}
-use Rattle.port_gate.specs.Loads.{leads_to}
-use Rattle.node_host.proofs.Loading.{loads_at}
+use Rattle.node_host.proofs.InService.{idle_to_call, no_call}
+use Rattle.port_gate.specs.Loads.{is_word, leads_to}
+use Rattle.node_host.proofs.Loading.{keeps_loaded, loads_at}
 use Rattle.node_host.proofs.Permitted.{call_folds, can_call, can_miss, did_by, may_call, miss_folds}
 use Rattle.node_host.proofs.Still.{hosted_waiting}
 use Rattle.node_host.proofs.node.HostNode.call.Goals as goal
-
-pub returns-then-not-port_known-clause-exact : goal.returns-then-not-port_known-clause-exact
-returns-then-not-port_known-clause-exact g c =
-    let h = c.args.self.now in
-    let t = g.C.Component.state h.inner in
-    let line : List Member = map (λ p. record { first = p.first_port; arg = p.arg; log = p.log.items }) h.past.items in
-    let seat : SeatSeen = record { slot = g.S.GateSeat.slot_of h.seat; known = g.S.GateSeat.known h.seat; told = g.S.GateSeat.tells h.seat } in
-    λ s told. calls_busy (g.G.PortGate.state c.args.gate.now) (node_of h.slot h.first_port t) seat.known s told c.args.ask.require c.args.ask.value c.requires.fits_ask.require (ap (λ w. (slice_index_or w.ports c.args.ask.require port_at_start).idle) (sym h.hosted.kept) ∙ ap (λ x. x.idle) (sym c.port_known.ensures) ∙ not_true c.port_known.result.idle c.if-not-port_known.true)
 
 pub call-requires-clause-may : goal.call-requires-clause-may
 call-requires-clause-may g c =
@@ -33,7 +25,7 @@ call-requires-clause-may g c =
     let line : List Member = map (λ p. record { first = p.first_port; arg = p.arg; log = p.log.items }) h.past.items in
     let seat : SeatSeen = record { slot = g.S.GateSeat.slot_of h.seat; known = g.S.GateSeat.known h.seat; told = g.S.GateSeat.tells h.seat } in
     subst (λ m. MayCall m seat.known (h.first_port + c.args.ask.require) c.args.ask.value) (sym c.requires.node)
-    (may_call h.slot h.first_port t h.log.items line h.known h.waiting seat h.hosted c.args.served c.requires.served c.requires.heard c.requires.ended c.args.ask c.port_known.result c.requires.asks c.requires.fits_ask c.requires.depends c.port_known.ensures (not_false c.port_known.result.idle c.if-not-port_known.false))
+    (may_call h.slot h.first_port t h.log.items line h.known h.waiting seat h.hosted c.args.served c.requires.served c.requires.heard c.requires.ended c.args.ask (slice_index_or h.known.ports c.args.ask.require port_at_start) c.requires.asks c.requires.fits_ask c.requires.depends refl (idle_to_call h.slot h.first_port t h.log.items line h.known h.waiting seat h.hosted c.args.ask (omega (arith, c.requires.fits_ask.require, two_requires t.kind)) c.requires.ended c.requires.asks))
 
 pub answered-requires-clause-asked : goal.answered-requires-clause-asked
 answered-requires-clause-asked g c =
@@ -182,3 +174,21 @@ returns-in-Called-clause-hint g c =
       told = c.post.ensures.other_inboxes;
     } in
     record { target = c.in-Called.target; leads = c.in-Called.ensures.says.2; loaded = loads_at (h.first_port + c.args.ask.require) (leads_to c.in-Called.target) (g.S.GateSeat.loads h.seat) (g.S.GateSeat.loads c.call.new.seat) c.in-Called.ensures.loads; posted = subst (λ r. IsPosted h.first_port r c.in-Called.target old new) (sym (index_is h.first_port c.args.ask.require)) posted }
+
+pub returns-in-Missed-clause-loads : goal.returns-in-Missed-clause-loads
+returns-in-Missed-clause-loads g c =
+    let h = c.args.self.now in
+    let t = g.C.Component.state h.inner in
+    let line : List Member = map (λ p. record { first = p.first_port; arg = p.arg; log = p.log.items }) h.past.items in
+    let seat : SeatSeen = record { slot = g.S.GateSeat.slot_of h.seat; known = g.S.GateSeat.known h.seat; told = g.S.GateSeat.tells h.seat } in
+    let idle = idle_to_call h.slot h.first_port t h.log.items line h.known h.waiting seat h.hosted c.args.ask (omega (arith, c.requires.fits_ask.require, two_requires t.kind)) c.requires.ended c.requires.asks in
+    keeps_loaded 2 h.first_port c.args.ask.require (is_word c.in-Missed.word) h.known (g.S.GateSeat.loads h.seat) (g.S.GateSeat.loads c.call.new.seat) (ap not idle) c.in-Missed.ensures.loads
+
+pub returns-in-Called-clause-loads : goal.returns-in-Called-clause-loads
+returns-in-Called-clause-loads g c =
+    let h = c.args.self.now in
+    let t = g.C.Component.state h.inner in
+    let line : List Member = map (λ p. record { first = p.first_port; arg = p.arg; log = p.log.items }) h.past.items in
+    let seat : SeatSeen = record { slot = g.S.GateSeat.slot_of h.seat; known = g.S.GateSeat.known h.seat; told = g.S.GateSeat.tells h.seat } in
+    let idle = idle_to_call h.slot h.first_port t h.log.items line h.known h.waiting seat h.hosted c.args.ask (omega (arith, c.requires.fits_ask.require, two_requires t.kind)) c.requires.ended c.requires.asks in
+    keeps_loaded 2 h.first_port c.args.ask.require (leads_to c.in-Called.target) h.known (g.S.GateSeat.loads h.seat) (g.S.GateSeat.loads c.call.new.seat) (ap not idle) c.in-Called.ensures.loads
