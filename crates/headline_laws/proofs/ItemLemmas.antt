@@ -5,8 +5,10 @@ use Rattle.std.specs.List.{cons_option, list_all}
 use Rattle.std.specs.Option.{option_map_or}
 use Rattle.std.proofs.lemmas.Bool.{and_parts, both_ways}
 use Rattle.std.proofs.lemmas.List.Elements.{filter_map-append}
+use Rattle.std.proofs.lemmas.List.Sums.{fold-append}
 use Rattle.commit_laws.specs.Steps.{change_all}
 use Rattle.quiesce_core.specs.Doers.{is_of_change}
+use Rattle.quiesce_core.specs.Effect.{change_next}
 use Rattle.quiesce_core.specs.State.{empty}
 use Rattle.quiesce_core.specs.declared.event.Event.{Event}
 use Rattle.quiesce_core.specs.declared.event.Event.TheVariants.{Begin, Call, Take, Give, End, More, Ask, Hear, Miss, Close, Reopen, Make, Link, Unlink, Remove}
@@ -16,7 +18,7 @@ use Rattle.change_law.specs.Changes.{drained_lines, seen_in_all}
 use Rattle.change_law.specs.Members.{event_of, line_of, lines_of_events}
 use Rattle.change_law.specs.Scene as scene
 use Rattle.change_law.specs.Scene.{config_after, drained_line}
-use Rattle.change_board.specs.Entries.{Entry, did, looked, event_in, events_in}
+use Rattle.change_board.specs.Entries.{Entry, did, looked, config_of, event_in, events_in}
 use Rattle.change_board.specs.Looks.{is_drained_word, serial_of}
 use Rattle.change_board.specs.Scans.{Found, look_entry, scan_entries}
 use Rattle.change_board.specs.Sights.{Sight, sight_entry}
@@ -263,3 +265,10 @@ fair_passivation ports how =
     let shut = map close_item ports in
     let first = map look_item how.first in
     fair_both (shut ++ first) (flat_map round_items how.rounds) (fair_both shut first (fair_closes ports) (fair_looks how.first)) (fair_rounds how.rounds)
+
+-- ---- configurations of items, one behind the other
+
+pub config_over : (t u : List Item) → config_at (t ++ u) ≡ change_all (config_at t) (events_in (entries u))
+config_over t u =
+    ap config_of (entries_both t u) ∙ ap (change_all empty.config) (filter_map-append event_in (entries t) (entries u))
+    ∙ fold-append change_next empty.config (events_in (entries t)) (events_in (entries u))

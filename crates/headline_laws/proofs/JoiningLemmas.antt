@@ -8,7 +8,7 @@ use Rattle.std.proofs.lemmas.List.{append-nil}
 use Rattle.std.proofs.lemmas.List.Elements.{filter_map-append}
 use Rattle.std.proofs.lemmas.Option.{none-some, same_Some}
 use Rattle.base.specs.Each.{Each, EachAfter}
-use Rattle.base.proofs.EachLaws.{each_carried, each_weaker}
+use Rattle.base.proofs.EachLaws.{each_carried, each_parts, each_weaker}
 use Rattle.base.proofs.PlaceLaws.{heads_are, tails_are}
 use Rattle.quiesce_core.specs.declared.event.Event.{Event}
 use Rattle.quiesce_core.specs.Runs.{IsRun}
@@ -19,7 +19,7 @@ use Rattle.change_law.specs.Members as members
 use Rattle.change_law.specs.Members.{Member, event_of, is_root, without_roots}
 use Rattle.change_board.specs.Entries.{Entry, event_in}
 use Rattle.change_board.specs.Records as records
-use Rattle.change_board.specs.Records.{Moment, IsSo, event_at, entry_at}
+use Rattle.change_board.specs.Records.{Moment, IsRecordOf, IsSo, event_at, entry_at}
 use Rattle.change_board.specs.Transcripts as transcripts
 use Rattle.change_board.specs.Transcripts.{Item}
 use Rattle.headline_laws.specs.Joining.{Joint, of_node, of_line, of_entry, item_of, items_in, line_member, member_of, members_in, moment_of, moments_in}
@@ -200,19 +200,39 @@ each_front before (j ∷ js) run =
       each_front (before ++ j ∷ []) js (subst (λ k. IsRun (records.events (moments_in k))) (sym (append_assoc before (j ∷ []) js)) run),
     )
 
--- what is known at a place: what is so there, that the items up to it are fair, and that there is a run up to it
+-- items and moments have the same entries
+both_entries : (js : List Joint) → transcripts.entries (items_in js) ≡ records.entries (moments_in js)
+both_entries [] = refl
+both_entries (of_node e ∷ js) = both_entries js
+both_entries (of_line l ∷ js) = both_entries js
+both_entries (of_entry x None ∷ js) = ap (λ es. x ∷ es) (both_entries js)
+both_entries (of_entry x (Some l) ∷ js) = ap (λ es. x ∷ es) (both_entries js)
+
+-- what is so up to each place
+abbrev IsFrontSo : List Joint → Joint → Type 0
+IsFrontSo before j = Each IsSo (moments_in before)
+
+each_so : (before js : List Joint) → Each IsSo (moments_in (before ++ js)) → EachAfter IsFrontSo before js
+each_so before [] so = tt
+each_so before (j ∷ js) so = (
+  (each_parts IsSo [] (moments_in before) (moments_in (j ∷ js)) (subst (λ m. Each IsSo m) (filter_map-append moment_of before (j ∷ js)) so)).0,
+  each_so (before ++ j ∷ []) js (subst (λ k. Each IsSo (moments_in k)) (sym (append_assoc before (j ∷ []) js)) so),
+)
+
+-- what is known at a place: what is so there, that the items up to it are fair, and of which run their entries are the record
 pub record IsKnown (before : List Joint) (j : Joint) : Type 0 where
   pub so : Lifted moment_of IsSo before j
   pub fair : AreFair (items_in before)
   pub fair_here : AreFair (items_in (j ∷ []))
-  pub run : IsRun (records.events (moments_in before))
+  pub is_of : IsRecordOf (transcripts.entries (items_in before)) (moments_in before)
 
 pub known : (js : List Joint) → AreFair (items_in js) → IsRun (records.events (moments_in js)) → Each IsSo (moments_in js) → Each IsKnown js
 known js f run so =
-    each_weaker (λ ys x. (Lifted moment_of IsSo ys x × AreFairTo ys x) × IsFrontRun ys x) IsKnown [] js
-    (λ ys x w. record { so = w.0.0; fair = w.0.1.0; fair_here = w.0.1.1; run = w.1 })
-    (each_both (λ ys x. Lifted moment_of IsSo ys x × AreFairTo ys x) IsFrontRun [] js
-    (each_both (Lifted moment_of IsSo) AreFairTo [] js (lifted moment_of IsSo [] js so) (each_fair [] js f)) (each_front [] js run))
+    each_weaker (λ ys x. (Lifted moment_of IsSo ys x × AreFairTo ys x) × (IsFrontRun ys x × IsFrontSo ys x)) IsKnown [] js
+    (λ ys x w. record { so = w.0.0; fair = w.0.1.0; fair_here = w.0.1.1; is_of = record { record_is = sym (both_entries ys); runs = w.1.0; so = w.1.1 } })
+    (each_both (λ ys x. Lifted moment_of IsSo ys x × AreFairTo ys x) (λ ys x. IsFrontRun ys x × IsFrontSo ys x) [] js
+    (each_both (Lifted moment_of IsSo) AreFairTo [] js (lifted moment_of IsSo [] js so) (each_fair [] js f))
+    (each_both IsFrontRun IsFrontSo [] js (each_front [] js run) (each_so [] js so)))
 
 -- a fact of members that follows from what is known
 pub by_known : (Q : List Member → Member → Type 0) → ((before : List Joint) (j : Joint) (x : Member) → member_of j ≡ Some x → IsKnown before j → Q (members_in before) x)

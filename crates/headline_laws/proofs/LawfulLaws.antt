@@ -49,7 +49,7 @@ same_line : (l : HistoryLine) (x : Member) (b : Bool) → cond b None (Some (of_
 same_line l x true h = absurd (none-some x h)
 same_line l x false h = sym (same_Some (of_history l) x h)
 
-line_there : (l : HistoryLine) (x : Member) → line_member l ≡ Some x → x ≡ of_history l
+pub line_there : (l : HistoryLine) (x : Member) → line_member l ≡ Some x → x ≡ of_history l
 line_there l x h = same_line l x (is_root l) h
 
 -- ---- nodes' events are nodes'
@@ -138,7 +138,7 @@ drained_at before (of_entry y (Some l)) x h k = subst (IsDrainedAt (members_in b
         let w = look_of_line y p n t in
         let so : w.word ≡ word_of (records.state_at (moments_in before)) p = subst (λ z. IsSo (moments_in before) (records.entry z)) w.look (k.so (records.entry y) refl) in
         subst (λ es. (is_drained (state_after es) p ≡ true) × ((exchange (state_after es) p).serial ≡ n)) (sym (member_events before k.fair))
-        (by_word (records.events (moments_in before)) p n w.word k.run so w.drained w.serial)
+        (by_word (records.events (moments_in before)) p n w.word k.is_of.runs so w.drained w.serial)
     by _ t = tt
 
 -- ---- a transcript and its run
@@ -159,7 +159,7 @@ module _ (t : List Item) (m : List Moment) (ms : List Member) (fair : AreFair t)
   lines_are = ap members.lines (sym j.members_are) ∙ member_lines j.joint ∙ ap (λ k. without_roots (lines k)) j.items_are
 
   module _ (is_of : IsRecordOf (entries t) m) where
-    all_known : Each IsKnown j.joint
+    pub all_known : Each IsKnown j.joint
     all_known = known j.joint fair_joint (subst (λ k. IsRun (records.events k)) (sym j.moments_are) is_of.runs) (subst (λ k. Each IsSo k) (sym j.moments_are) is_of.so)
 
     pub runs : IsRun (members.events ms)

@@ -1,10 +1,17 @@
+pub mod EndLaws
 pub mod FoldLaws
 pub mod FollowLaws
+pub mod GraphLaws
 mod HeirLemmas
 mod ItemLemmas
 mod JoiningLemmas
 pub mod LawfulLaws
+mod LineLemmas
 mod LookLemmas
 pub mod MadeLaws
 pub mod MergeLaws
+pub mod OpenLaws
+pub mod PendingLaws
 mod PortLemmas
+pub mod RootLaws
+pub mod RoomLaws

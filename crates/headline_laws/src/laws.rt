@@ -1,11 +1,12 @@
 //! Laws of transcripts: what was done and told of each statement of a script makes a lawful report.
 
-ghost use Rattle.std.specs.Prelude.{ℕ, Bool, List, All};
+ghost use Rattle.std.specs.Prelude.{◌≡◌, ℕ, Bool, List, All};
 ghost use Rattle.base.specs.Each.{Each};
 ghost use Rattle.change_board.specs.Records.{IsRecordOf, Moment};
 ghost use Rattle.change_board.specs.Transcripts.{Item, entries, lines};
+ghost use Rattle.change_law.specs.Endings.{status_of};
 ghost use Rattle.change_law.specs.Follows.{Follows};
-ghost use Rattle.change_law.specs.Lawful.{IsDrainedAt, IsEndedOnce, IsFolded, IsQuiescentAt, Merge};
+ghost use Rattle.change_law.specs.Lawful.{IsDrainedAt, IsEndedOnce, IsFolded, IsGraphAt, IsLawfulBy, IsQuiescentAt, Merge, StoodOpenWhereSaid, unfinished_of};
 ghost use Rattle.change_law.specs.Members.{Member, events};
 ghost use Rattle.change_law.specs.Statements.{Statement};
 ghost use Rattle.change_script.specs.declared.report.Report.{Report};
@@ -71,3 +72,39 @@ pub fn logs_have_folds()
         (report : Report) → IsTranscript alone statements t → AreJoined t m members → IsRecordOf (entries t) m
         → IsReport t m report → All (IsFolded members report.history) report.logs }
 {}
+
+/// At each commit the graph is that of the description, and at each show the one that is shown.
+pub fn graphs_are_those_described()
+    ensures graphs { (alone : Bool) (statements : List Statement) (t : List Item) (m : List Moment)
+        (members : List Member) → IsTranscript alone statements t → AreJoined t m members → IsRecordOf (entries t) m
+        → Each (IsGraphAt statements) members }
+{}
+
+/// The first live node that isn't done is named, where the script has a finish; and the status says whether a change was
+/// given up or a node wasn't done.
+pub fn reports_name_what_is_undone()
+    ensures unfinished { (alone : Bool) (statements : List Statement) (t : List Item) (m : List Moment)
+        (members : List Member) (report : Report) → IsTranscript alone statements t → AreJoined t m members
+        → IsRecordOf (entries t) m → IsReport t m report → report.unfinished ≡ unfinished_of statements (events members) }
+    ensures status { (t : List Item) (m : List Moment) (report : Report) → IsReport t m report
+        → report.status ≡ status_of report.history report.unfinished }
+{}
+
+/// What a line tells as open stood open from the close of its port on to a place behind all closes of its change.
+pub fn what_is_told_as_open_stood_open()
+    ensures stood_open { (alone : Bool) (statements : List Statement) (t : List Item) (m : List Moment)
+        (members : List Member) (report : Report) → IsTranscript alone statements t → AreJoined t m members
+        → IsRecordOf (entries t) m → IsReport t m report → Each (StoodOpenWhereSaid members) report.history }
+{}
+
+/// All of these together: the report follows the script, and is lawful by these members, as far as that isn't a matter of
+/// the numbers of `run` and `finish` lines.
+pub fn joined_members_make_a_report_lawful()
+    ensures follows { (alone : Bool) (statements : List Statement) (t : List Item) (m : List Moment) (report : Report)
+        → IsTranscript alone statements t → IsReport t m report → Follows statements report.history }
+    ensures lawful { (alone : Bool) (statements : List Statement) (t : List Item) (m : List Moment) (members : List Member)
+        (report : Report) → IsTranscript alone statements t → AreJoined t m members → IsRecordOf (entries t) m
+        → IsReport t m report → IsLawfulBy statements report members }
+{
+    nothing_is_open_at_the_end();
+}
