@@ -1,0 +1,7 @@
+mod TurnLemmas
+mod HeirLemmas
+mod StandingLemmas
+mod LookLemmas
+mod SeeingLemmas
+mod LogLemmas
+mod BoardLemmas
