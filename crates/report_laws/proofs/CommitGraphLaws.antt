@@ -51,7 +51,7 @@ use Rattle.change_law.specs.Scripts.{more_made}
 use Rattle.change_law.specs.Statements.{Statement, start, change, run, finish, show, graph_of}
 use Rattle.change_law.proofs.MemberLaws.{all_parts, changes_are_lines, config_of_lines, events_without_roots, lines_parts}
 use Rattle.report_laws.specs.Described.{IsLeftAt, LeavesDescribed}
-use Rattle.report_laws.specs.SoundStatements.{AreSound, ChangesSoundly, GoOnSoundly, IsSoundGraph, StartsSoundly, made_of}
+use Rattle.report_laws.specs.SoundStatements.{named_by, AreSound, ChangesSoundly, GoOnSoundly, IsSoundGraph, StartsSoundly, made_of}
 use Rattle.report_laws.proofs.AloneLaws.{changes_run}
 use Rattle.report_laws.proofs.GrowthLemmas.{commit_nodes, commit_ports, nodes_after, nodes_by, ports_after, ports_by, total, total_both, total_none}
 use Rattle.report_laws.proofs.LineLaws.{all_changes, changes, changes_both, changes_of_closes, changes_of_lines, changes_of_looks, config_more, config_of, none_both, none_counted, none_mapped, none_of_events}
@@ -147,8 +147,9 @@ pub record Fits (done : List Statement) (h : List HistoryLine) (g : Graph) (made
   pub stands : list_any is_pending h ≡ false → Stands h g made
 
 -- a statement's lines, and what stands behind them
-pub record Onward (statements done : List Statement) (s : Statement) (h ls : List HistoryLine) (rest : List Statement) : Type 0 where
+pub record Onward (statements done : List Statement) (s : Statement) (h ls : List HistoryLine) (rest : List Statement) (old : Graph) : Type 0 where
   pub graph : Graph
+  pub named : graph ≡ named_by s old
   pub made : Made
   pub each : EachAfter (IsLeftAt statements) h ls
   pub fits : Fits (done ++ s ∷ []) (h ++ ls) graph made
@@ -159,11 +160,12 @@ not_pending h ls none = or_parts (list_any is_pending h) (list_any is_pending ls
 
 -- lines without events
 calm_onward : (statements done : List Statement) (s : Statement) (h ls : List HistoryLine) (rest : List Statement) (g : Graph) (made : Made) → graph_of s ≡ None → changes ls ≡ [] → list_any is_commit ls ≡ false
-    → list_any is_head ls ≡ false → Fits done h g made → GoOnSoundly rest g made → Onward statements done s h ls rest
-calm_onward statements done s h ls rest g made graphless eventless commitless headless fits below =
+    → list_any is_head ls ≡ false → Fits done h g made → GoOnSoundly rest g made → g ≡ named_by s g → Onward statements done s h ls rest g
+calm_onward statements done s h ls rest g made graphless eventless commitless headless fits below named =
     let same : config_after (h ++ ls) ≡ config_after h = config_more h ls ∙ ap (change_all (config_after h)) eventless in
     record {
       graph = g;
+      named = named;
       made = made;
       each = free statements h ls commitless;
       fits = record {
@@ -301,7 +303,7 @@ module _ (each_may : EachMayCommit) (by_config : CommitsByConfiguration) (leaves
       -- a commit
       committed : (ls : List HistoryLine)
           → ls ≡ (opening_lines name args old plan (config_after h) ++ (drained_lines looks ++ lines_of_events (commit_events old new plan (config_after (h ++ opening_lines name args old plan (config_after h)))))) ++ to.Commit ∷ []
-          → Onward statements done (change name args new within moves) h ls rest
+          → Onward statements done (change name args new within moves) h ls rest old
       committed ls are =
           let o = opening_lines name args old plan (config_after h) in
           let tail = drained_lines looks ++ lines_of_events (commit_events old new plan (config_after (h ++ o))) in
@@ -313,6 +315,7 @@ module _ (each_may : EachMayCommit) (by_config : CommitsByConfiguration) (leaves
           ap (λ xs. config_after (h ++ xs)) are ∙ ap config_after (sym (append_assoc h (o ++ tail) (to.Commit ∷ []))) ∙ config_more (h ++ (o ++ tail)) (to.Commit ∷ []) in
           record {
             graph = new;
+            named = refl;
             made = more_made made says.can_plan.nodes says.can_plan.ports;
             each = subst (EachAfter (IsLeftAt statements) h) (sym are)
                 (last_left statements h (o ++ tail) commitless (record { graph = new; described_so = described_here statements done rest s new (h ++ (o ++ tail)) parts refl heads; stands = graph_left }));
@@ -326,7 +329,7 @@ module _ (each_may : EachMayCommit) (by_config : CommitsByConfiguration) (leaves
 
     -- a change that is given up
     given_up : (ls rest_lines : List HistoryLine) → ls ≡ opening_lines name args old plan (config_after h) ++ rest_lines → IsGivenUp (ports_to_close old plan (config_after h)) within rest_lines
-        → Onward statements done (change name args new within moves) h ls rest
+        → Onward statements done (change name args new within moves) h ls rest old
     given_up ls rest_lines are w =
         let o = opening_lines name args old plan (config_after h) in
         let s = change name args new within moves in
@@ -346,6 +349,7 @@ module _ (each_may : EachMayCommit) (by_config : CommitsByConfiguration) (leaves
         ∙ Rattle.std.proofs.lemmas.Bool.or_right (list_any is_pending (drained_lines w.looks)) (list_any is_pending (pending_lines within w.left closed)) refl) in
         record {
           graph = new;
+          named = refl;
           made = more_made made says.can_plan.nodes says.can_plan.ports;
           each = subst (EachAfter (IsLeftAt statements) h) (sym whole)
               (free statements h (o ++ (drained_lines w.looks ++ pending_lines within w.left closed)) (none_in is_commit (λ p. refl) (λ d. refl) refl (λ d. refl) (λ p. refl) refl));
@@ -361,7 +365,7 @@ module _ (each_may : EachMayCommit) (by_config : CommitsByConfiguration) (leaves
 
   -- each statement behind the start
   pub onward : (done : List Statement) (s : Statement) (h ls : List HistoryLine) (rest : List Statement) (g : Graph) (made : Made) → statements ≡ done ++ s ∷ rest → IsRight h s ls → IsRun (changes h) → Fits done h g made
-      → GoOnSoundly (s ∷ rest) g made → Onward statements done s h ls rest
+      → GoOnSoundly (s ∷ rest) g made → Onward statements done s h ls rest g
   onward done (start name args new) h ls rest g made parts right run_so fits says = absurd says
   onward done (change name args new within moves) h ls rest g made parts right run_so fits says = ⊎_elim
       (λ (skipped : list_any is_pending h ≡ true).
@@ -369,6 +373,7 @@ module _ (each_may : EachMayCommit) (by_config : CommitsByConfiguration) (leaves
       let are = right.0 skipped in
       record {
         graph = new;
+        named = refl;
         made = more_made made says.can_plan.nodes says.can_plan.ports;
         each = subst (EachAfter (IsLeftAt statements) h) (sym are) (tt, (tt, tt));
         fits = record {
@@ -391,11 +396,11 @@ module _ (each_may : EachMayCommit) (by_config : CommitsByConfiguration) (leaves
       w.ends)
       (cases_Bool (list_any is_pending h))
   onward done (run k) h ls rest g made parts right run_so fits says =
-      calm_onward statements done (run k) h ls rest g made refl (ap changes right.are) (ap (list_any is_commit) right.are) (ap (list_any is_head) right.are) fits says
+      calm_onward statements done (run k) h ls rest g made refl (ap changes right.are) (ap (list_any is_commit) right.are) (ap (list_any is_head) right.are) fits says refl
   onward done (finish n) h ls rest g made parts right run_so fits says =
-      calm_onward statements done (finish n) h ls rest g made refl (ap changes right.are) (ap (list_any is_commit) right.are) (ap (list_any is_head) right.are) fits says
+      calm_onward statements done (finish n) h ls rest g made refl (ap changes right.are) (ap (list_any is_commit) right.are) (ap (list_any is_head) right.are) fits says refl
   onward done show h ls rest g made parts right run_so fits says =
-      calm_onward statements done show h ls rest g made refl (ap changes right.are) (ap (list_any is_commit) right.are) (ap (list_any is_head) right.are) fits says
+      calm_onward statements done show h ls rest g made refl (ap changes right.are) (ap (list_any is_commit) right.are) (ap (list_any is_head) right.are) fits says refl
 
   all_left : (done : List Statement) (h : List HistoryLine) (parts : List Part) (g : Graph) (made : Made) → statements ≡ done ++ map (λ (p : Part). p.statement) parts → AreRightAfter h parts → IsRun (changes (h ++ lines_of parts))
       → Fits done h g made → GoOnSoundly (map (λ (p : Part). p.statement) parts) g made → EachAfter (IsLeftAt statements) h (lines_of parts)
@@ -428,7 +433,7 @@ module _ (each_may : EachMayCommit) (by_config : CommitsByConfiguration) (leaves
         let all_ports : length (started g).config.gates ≡ 0 + length (ports g.nodes) = omega (arith, many_ports) in
         λ i. record { nodes = nodes i; ports = all_ports i }
 
-    pub begun : (ls : List HistoryLine) → ls ≡ start_lines name args g → Onward statements [] (start name args g) [] ls rest
+    pub begun : (ls : List HistoryLine) → ls ≡ start_lines name args g → Onward statements [] (start name args g) [] ls rest g
     begun ls are =
         let front = to.Start name args ∷ lines_of_events (start_of g) in
         let heads : count_by is_head front ≡ 1 = one_head (to.Start name args) (lines_of_events (start_of g)) refl (heads_in_events (start_of g)) in
@@ -437,6 +442,7 @@ module _ (each_may : EachMayCommit) (by_config : CommitsByConfiguration) (leaves
         let graph : IsGraphOf (started g).config g = graph_started g says.graph.sound few_nodes few_ports in
         record {
           graph = g;
+          named = refl;
           made = made_of g;
           each = subst (EachAfter (IsLeftAt statements) []) (sym are)
               (last_left statements [] front (commits_in_events (start_of g))
@@ -457,14 +463,14 @@ module _ (each_may : EachMayCommit) (by_config : CommitsByConfiguration) (leaves
       rest : List Statement
       rest = map (λ (q : Part). q.statement) ps
 
-      then : (s : Statement) → p.statement ≡ s → Onward statements [] s [] p.lines (map (λ (q : Part). q.statement) ps) → EachAfter (IsLeftAt statements) [] (lines_of (p ∷ ps))
-      then s is first =
+      then : (s : Statement) → p.statement ≡ s → (old : Graph) → Onward statements [] s [] p.lines (map (λ (q : Part). q.statement) ps) old → EachAfter (IsLeftAt statements) [] (lines_of (p ∷ ps))
+      then s is old first =
           each_joined (IsLeftAt statements) [] p.lines (lines_of ps) first.each
           (all_left (s ∷ []) p.lines ps first.graph first.made (are ∙ ap (λ x. x ∷ map (λ (q : Part). q.statement) ps) is) right.1 run_so first.fits first.below)
 
       by : (s : Statement) → p.statement ≡ s → IsRight [] s p.lines → AreSound (s ∷ map (λ (q : Part). q.statement) ps) → EachAfter (IsLeftAt statements) [] (lines_of (p ∷ ps))
       by (start name args g) is right_so says =
-          then (start name args g) is (begun name args g (map (λ (q : Part). q.statement) ps) (are ∙ ap (λ x. x ∷ map (λ (q : Part). q.statement) ps) is) says p.lines right_so)
+          then (start name args g) is g (begun name args g (map (λ (q : Part). q.statement) ps) (are ∙ ap (λ x. x ∷ map (λ (q : Part). q.statement) ps) is) says p.lines right_so)
       by (change name args g within moves) is right_so says = absurd says
       by (run k) is right_so says = absurd says
       by (finish n) is right_so says = absurd says

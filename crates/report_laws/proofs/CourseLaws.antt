@@ -224,14 +224,14 @@ with_move history w v m (Some e) c reached same node = record {
 }
 
 -- what a turn leaves but hints
-turn_events : (w : World) (n : ℕ) (begins : Bool) → (turn w n begins).world.events ≡ w.events ++ cons_option (turn w n begins).event []
+pub turn_events : (w : World) (n : ℕ) (begins : Bool) → (turn w n begins).world.events ≡ w.events ++ cons_option (turn w n begins).event []
 turn_events w n begins = ap (λ (u : World). u.events) (turns_do w n begins) ∙ by (turn w n begins).event
   where
     by : (o : Option Event) → (without_hints (after_move w n o)).events ≡ w.events ++ cons_option o []
     by None = sym (append-nil w.events)
     by (Some e) = refl
 
-turn_config : (w : World) (n : ℕ) (begins : Bool) → ((e : Event) → (turn w n begins).event ≡ Some e → is_of_change e ≡ false) → (turn w n begins).world.machine.config ≡ w.machine.config
+pub turn_config : (w : World) (n : ℕ) (begins : Bool) → ((e : Event) → (turn w n begins).event ≡ Some e → is_of_change e ≡ false) → (turn w n begins).world.machine.config ≡ w.machine.config
 turn_config w n begins node = ap (λ (u : World). u.machine.config) (turns_do w n begins) ∙ by (turn w n begins).event node
   where
     by : (o : Option Event) → ((e : Event) → o ≡ Some e → is_of_change e ≡ false) → (without_hints (after_move w n o)).machine.config ≡ w.machine.config

@@ -3,6 +3,8 @@ mod ClosedPortLemmas
 pub mod ClosingLaws
 pub mod CommitGraphLaws
 pub mod CourseLaws
+pub mod EndingRoundLaws
+pub mod ExistenceLaws
 pub mod FoldLaws
 mod GrowthLemmas
 pub mod LineLaws

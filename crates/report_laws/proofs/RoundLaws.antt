@@ -60,7 +60,7 @@ use Rattle.report_laws.proofs.LineLaws.{changes, config_of}
 use Rattle.report_laws.proofs.PlayLaws.{CommitsRun, plays_by, starts_by, stops_by}
 
 -- the events of a course's lines are a run by themselves
-course_changes : (h : List HistoryLine) (w : World) (m : List Member) → Course h w m → IsRun (changes h)
+pub course_changes : (h : List HistoryLine) (w : World) (m : List Member) → Course h w m → IsRun (changes h)
 course_changes h w m c =
     let all : filter is_of_change (events m) ≡ changes h = changes_are_lines m c.kinds ∙ ap changes c.lines_are ∙ events_without_roots h in
     subst IsRun all (changes_run (events m) (subst IsRun (sym c.events_are) (course_run h w m c)))
@@ -85,7 +85,7 @@ kept_links g (q ∷ ps) =
 kept_both : (xs ys : List Event) → filter is_of_change xs ≡ xs → filter is_of_change ys ≡ ys → filter is_of_change (xs ++ ys) ≡ xs ++ ys
 kept_both xs ys a b = filter-append is_of_change xs ys ∙ (λ i. a i ++ b i)
 
-kept_start : (g : Graph) → filter is_of_change (start_of g) ≡ start_of g
+pub kept_start : (g : Graph) → filter is_of_change (start_of g) ≡ start_of g
 kept_start g =
     let nodes = map make_of (enumerate_from 0 g.nodes) in
     let links = filter_map (link_of g) (enumerate_from 0 (ports g.nodes)) in
@@ -94,7 +94,7 @@ kept_start g =
     (kept_mapped reopen_of (λ x. refl) (enumerate_from 0 (ports g.nodes)))
 
 -- statements that were played from a world on
-abbrev PlayedAfter : List HistoryLine → World → List Played → Type 0
+abbrev pub PlayedAfter : List HistoryLine → World → List Played → Type 0
 PlayedAfter h w [] = ⊤
 PlayedAfter h w (p ∷ ps) = Plays h w p.statement p.lines p.world × PlayedAfter (h ++ p.lines) p.world ps
 

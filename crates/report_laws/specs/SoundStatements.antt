@@ -26,6 +26,14 @@ none_made = nothing_above.made
 abbrev pub made_of : Graph → Made
 made_of g = more_made none_made (length g.nodes) (length (ports g.nodes))
 
+-- the graph that was named last, behind a statement
+abbrev pub named_by : Statement → Graph → Graph
+named_by (start name args g) old = g
+named_by (change name args g within moves) old = g
+named_by (run k) old = old
+named_by (finish n) old = old
+named_by show old = old
+
 -- a change, and what stands below it
 pub record ChangesSoundly (old : Graph) (made : Made) (new : Graph) (moves : List Move) (Below : Graph → Made → Type 0)
     : Type 0 where

@@ -8,5 +8,7 @@ mod saying;
 
 pub use committing::{changes_are_a_run_by_themselves, commits_leave_the_described_graph};
 pub use folding::states_are_folds_of_own_events;
-pub use rounds::reports_of_rounds_are_lawful;
+pub use rounds::{
+    a_report_exists_where_stops_end, reports_of_rounds_are_lawful, runs_come_to_an_end,
+};
 pub use saying::{a_script_has_one_list_of_statements, sound_scripts_have_sound_statements};

@@ -1,17 +1,21 @@
 //! What the report of the rounds is.
 
-ghost use Rattle.std.specs.Prelude.{List};
+ghost use Rattle.std.specs.Prelude.{ℕ, List, IsTrue};
 ghost use Rattle.change_law.specs.Follows.{Follows};
 ghost use Rattle.change_law.specs.Lawful.{Lawful, in_rounds};
-ghost use Rattle.change_law.specs.Serial.{Serial};
+ghost use Rattle.change_law.specs.Serial.{Serial, run_ends};
 ghost use Rattle.change_law.specs.Statements.{Statement};
 ghost use Rattle.change_script.specs.declared.report.Report.{Report};
+ghost use Rattle.report_laws.specs.Existing.{HavePlans, StopsEnd};
 ghost use Rattle.report_laws.specs.Rounds.{IsInOrderOfRounds};
 ghost use Rattle.report_laws.specs.SoundStatements.{AreSound};
+ghost use Rattle.turn_laws.specs.Reached.{IsReached};
+ghost use Rattle.turns.specs.World.{World};
 
 use change_law::{
     a_moved_state_is_the_last_one, changes_find_nodes_quiescent, nothing_is_open_at_the_end,
 };
+use drain_laws::rest_falls_by_steps;
 use plan_laws::{commits_can_not_fail, commits_leave_the_new_graph, each_plan_may_commit};
 
 /// The report of the rounds of a sound script follows the script, and is lawful in rounds. The one list that is said to
@@ -30,4 +34,24 @@ pub fn reports_of_rounds_are_lawful()
     changes_find_nodes_quiescent();
     nothing_is_open_at_the_end();
     a_moved_state_is_the_last_one();
+}
+
+/// In every world that is reached a `run` comes to an end in rounds: so many transactions ended, or a round moved
+/// nothing.
+pub fn runs_come_to_an_end()
+    ensures ends { (w : World) (k : ℕ) → IsReached w → (j : ℕ) × IsTrue (run_ends w k j) }
+{
+    rest_falls_by_steps();
+}
+
+/// A report of rounds exists for the statements of a sound script, where each change has a plan, and where each stop
+/// comes to an end in rounds.
+pub fn a_report_exists_where_stops_end()
+    ensures exists { StopsEnd → (statements : List Statement) → AreSound statements → HavePlans statements
+        → (report : Report) × Serial statements report }
+{
+    each_plan_may_commit();
+    commits_can_not_fail();
+    commits_leave_the_new_graph();
+    rest_falls_by_steps();
 }
