@@ -45,12 +45,6 @@ all_if f g h (x ∷ xs) e = let w = and_parts (f x) (list_all f xs) e in and_fro
 
 -- what the change may do while nodes work it may do where nothing is under way
 module _ (c : Configuration) (t u : Traffic) (still : IsStill (record { config = c; traffic = u })) where
-  busy : State
-  busy = record { config = c; traffic = t }
-
-  calm : State
-  calm = record { config = c; traffic = u }
-
   quiet : (p : ℕ) → is_quiet (record { config = c; traffic = t }) p ≡ true → is_quiet (record { config = c; traffic = u }) p ≡ true
   quiet p h =
       and_from (gate c p).closed (is_idle (exchange (record { config = c; traffic = u }) p).phase)

@@ -85,9 +85,6 @@ put_weight g s t p d e x made long same is at =
     subst (λ n. sum_by (weight g t) (range_with_len 0 n) + d ≤ idle_weight g s + e) (sym same) all
 
 module _ (falls : RestFalls) (rises : RestRises) (c : Configuration) where
-  abbrev size : ℕ
-  size = most c + 1
-
   live_made : (s : State) (p : ℕ) → (nat_lt p (length s.config.gates) && is_live s.config (owner s.config p)) ≡ true → p < length s.config.gates
   live_made s p h = ltb-true p (length s.config.gates) (and_parts (nat_lt p (length s.config.gates)) (is_live s.config (owner s.config p)) h).0
 
@@ -147,15 +144,7 @@ module _ (falls : RestFalls) (rises : RestRises) (c : Configuration) where
   spent s (event.Unlink p) config well traffic l step node = absurd (both_ways true node refl)
   spent s (event.Remove n) config well traffic l step node = absurd (both_ways true node refl)
 
-  -- what is left to spend
-  abbrev purse : State → ℕ
-  purse s = rest s + idle_weight (most c + 1) s
-
   module _ (start : List Event) (config : (state_after start).config ≡ c) where
-    abbrev Spent : List Event → Type 0
-    Spent xs = ((state_after (start ++ xs)).config ≡ c)
-        × ((rest (state_after (start ++ xs)) + idle_weight (most c + 1) (state_after (start ++ xs))) + length xs ≤ (rest (state_after start) + idle_weight (most c + 1) (state_after start)) + total (end_weight (most c + 1)) xs)
-
     one_spent : (xs : List Event) (e : Event) → IsNext (start ++ xs) e → is_of_change e ≡ false
         → ((state_after (start ++ xs)).config ≡ c)
         × ((rest (state_after (start ++ xs)) + idle_weight (most c + 1) (state_after (start ++ xs))) + length xs ≤ (rest (state_after start) + idle_weight (most c + 1) (state_after start)) + total (end_weight (most c + 1)) xs)

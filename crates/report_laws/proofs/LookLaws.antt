@@ -33,12 +33,6 @@ use Rattle.report_laws.proofs.CourseLaws.{WentOn, course_machine, course_run, ev
 
 -- those that pass, and those that don't
 
-abbrev passing : (ℕ → Bool) → List ℕ → List ℕ
-passing t xs = filter t xs
-
-abbrev failing : (ℕ → Bool) → List ℕ → List ℕ
-failing t xs = filter (λ p. not (t p)) xs
-
 in_passing : (t : ℕ → Bool) (xs : List ℕ) (p : ℕ) → In (filter t xs) p → In xs p × (t p ≡ true)
 in_passing t [] p h = absurd h
 in_passing t (x ∷ xs) p h = by (t x) refl (in_passing t xs p) h

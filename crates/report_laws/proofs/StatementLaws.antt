@@ -1,15 +1,13 @@
 -- A script has one list of statements, and in a script whose graphs are sound the statements are so.
 use Rattle.std.proofs.Common.{◌≡◌, ◌∙◌, ℕ, ℤ, Bool, true, false, List, [], ◌∷◌, ◌++◌, length, Option, Some, None, Result, Ok, Err, refl, sym, ap, subst}
-use Rattle.std.specs.Prelude.{◌||◌, ◌&&◌, not, ⊤, if◌then◌else◌, sum_by}
-use Rattle.std.specs.List.{range_with_len}
+use Rattle.std.specs.Prelude.{◌||◌, ◌&&◌, not, ⊤, if◌then◌else◌}
 use Rattle.std.specs.Option.{option_or}
 use Rattle.std.proofs.lemmas.Bool.{both_ways, or_left, or_parts}
 use Rattle.std.proofs.lemmas.List.Folds.{list_any-append}
-use Rattle.config_graph.specs.Graph.{Graph, ports, requires_at}
-use Rattle.change_plan.specs.Differences.{IsGone}
+use Rattle.config_graph.specs.Graph.{Graph, ports}
 use Rattle.change_plan.specs.Refusals.{CreatesSoMany}
 use Rattle.change_plan.specs.declared.plan_data.Move.{Move}
-use Rattle.change_plan.proofs.SelectsLaws.{Selects-one}
+use Rattle.change_plan.proofs.RoomLaws.{one_wanted}
 use Rattle.change_script.specs.EventFiles.{first_fault}
 use Rattle.change_script.specs.Lines.{Line, statements}
 use Rattle.change_script.specs.ScriptFiles.{IsScript, fault_in_lines, fault_of, has, is_full, is_out_of_order, is_start, lack, line_faults, needs_start, said, said_by, said_with}
@@ -24,12 +22,6 @@ use Rattle.change_script.specs.declared.script.ScriptLine.{ScriptLine}
 use Rattle.change_law.specs.Scripts.{Above, SayAll, Says, SaysChange, SaysStart, StatementsOf, more_made, nothing_above}
 use Rattle.change_law.specs.Statements.{Statement, start, change}
 use Rattle.report_laws.specs.SoundStatements.{AreSound, GoOnSoundly, IsSoundGraph}
-
--- so many nodes and ports are created
-pub one_count : (old new : Graph) (n p m q : ℕ) → CreatesSoMany old new n p → CreatesSoMany old new m q → (n ≡ m) × (p ≡ q)
-one_count old new n p m q a b =
-    let same : a.created ≡ b.created = Selects-one (IsGone new old) (range_with_len 0 (length new.nodes)) a.created b.created a.gone b.gone in
-    (a.nodes_are ∙ ap (λ (js : List ℕ). length js) same ∙ sym b.nodes_are, a.ports_are ∙ ap (sum_by (requires_at new.nodes)) same ∙ sym b.ports_are)
 
 module _ (elab : List ℕ → List ℕ → List ℤ → Graph → Type 0) where
   module _ (one_graph : (file name : List ℕ) (args : List ℤ) (g h : Graph) → elab file name args g → elab file name args h → g ≡ h) where
@@ -50,7 +42,7 @@ module _ (elab : List ℕ → List ℕ → List ℤ → Graph → Type 0) where
         → SaysChange elab above name args within moves own next → SaysChange elab above name args within moves own' next' → SameSaid own own' next next'
     one_change above name args within moves own own' next next' a b =
         let same = one_graph above.file name args a.graph b.graph a.elaborates b.elaborates in
-        let counts = one_count above.graph b.graph a.can_plan.nodes a.can_plan.ports b.can_plan.nodes b.can_plan.ports (subst (λ g. CreatesSoMany above.graph g a.can_plan.nodes a.can_plan.ports) same a.can_plan.wanted) b.can_plan.wanted in
+        let counts = one_wanted above.graph b.graph a.can_plan.nodes a.can_plan.ports b.can_plan.nodes b.can_plan.ports (subst (λ g. CreatesSoMany above.graph g a.can_plan.nodes a.can_plan.ports) same a.can_plan.wanted) b.can_plan.wanted in
         record {
           owns = a.own_is ∙ ap (λ g. change name args g within moves ∷ []) same ∙ sym b.own_is;
           nexts = a.next_is ∙ (λ i. record above { graph = same i; made = more_made above.made (counts.0 i) (counts.1 i) }) ∙ sym b.next_is;
