@@ -1,0 +1,16 @@
+mod Slots
+mod Keeping
+mod ChangeLemmas
+mod MakeLemmas
+mod Showing
+pub mod LogLaws
+mod Hinting
+mod TurnLemmas
+mod FitProps
+mod TableLemmas
+mod TurnTable
+mod HostLemmas
+mod ReadLemmas
+mod RoomLemmas
+mod LineLemmas
+mod MakeTable

@@ -1,0 +1,22 @@
+-- The line of a node: the earlier nodes from which its state was handed on, the earliest first, by the configuration of a run.
+use Rattle.std.specs.Prelude.{◌≡◌, ℕ, ◌<◌, List, [], ◌∷◌, ◌++◌, Some, None}
+use Rattle.std.specs.Option.{option_map_or}
+use Rattle.quiesce_core.specs.Runs.{done_by, state_after}
+use Rattle.quiesce_core.specs.State.{slot}
+use Rattle.quiesce_core.specs.declared.event.Event.{Event}
+use Rattle.quiesce_core.specs.declared.state.Slot.{Slot}
+use Rattle.node_table.specs.Entries.{Member}
+
+-- the argument of a node, and 0 where its kind has none
+abbrev pub argument : Slot → ℕ
+argument m = option_map_or (λ a. a) m.node.arg 0
+
+-- a node that was made as this slot says, as a member of a line
+abbrev pub member : List Event → ℕ → Slot → Member
+member es n m = record { slot = n; first = m.first_port; arg = argument m; log = done_by n es }
+
+-- the nodes before node n in its line
+pub data IsPast (es : List Event) : ℕ → List Member → Type 0 where
+  first_of_line : (n : ℕ) (m : Slot) → slot (state_after es).config n ≡ Some m → m.from ≡ None → IsPast es n []
+  behind : (n k : ℕ) (m old : Slot) (ms : List Member) → slot (state_after es).config n ≡ Some m → m.from ≡ Some k → k < n
+      → slot (state_after es).config k ≡ Some old → IsPast es k ms → IsPast es n (ms ++ member es k old ∷ [])

@@ -1,0 +1,45 @@
+-- Which worlds a table shows, what it keeps of its nodes, and for what it has memory.
+use Rattle.std.specs.Prelude.{◌≡◌, ℕ, ◌<◌, true, min, nat_lt, List, map, Option}
+use Rattle.std.specs.Option.{option_map_or}
+use Rattle.component_trait.specs.States.{NodeState}
+use Rattle.port_queue.specs.declared.plain.PlainHints.{PlainHints}
+use Rattle.quiesce_core.specs.State.{State}
+use Rattle.quiesce_core.specs.declared.event.Event.{Event}
+use Rattle.state_handover.specs.declared.any_node.AnyNode.{AnyNode}
+use Rattle.turns.specs.World.{World}
+use Rattle.node_table.specs.Entries.{Entry, log_in}
+use Rattle.node_table.specs.Seen.{seen}
+use Rattle.node_table.specs.Worlds.{ShowsIn}
+use Rattle.node_table.specs.declared.table.NodeTable.{NodeTable}
+
+-- the machine's state
+abbrev pub machine : NodeTable → State
+machine t = t.gate.core.state
+
+-- one entry a slot; the first argument tells the state of a component
+abbrev pub entries : (AnyNode → NodeState) → NodeTable → List Entry
+entries state_of t = map (seen state_of) t.nodes.items
+
+-- All is as in this world: the machine's state, what each node has come to, the hints in the inboxes and those that wait; and what each
+-- node made did in the world's events is its log, wherever that lies. The second argument tells what the inboxes hold.
+abbrev pub Shows : (AnyNode → NodeState) → (PlainHints → ℕ → Option (List ℕ)) → NodeTable → World → Type 0
+Shows state_of tells t w = ShowsIn (machine t) (entries state_of t) t.line_ends.items (tells t.hints) w
+
+-- what each node made did, by slot
+abbrev pub logs : (AnyNode → NodeState) → NodeTable → List (List Event)
+logs state_of t = map (log_in (entries state_of t) t.line_ends.items) (entries state_of t)
+
+-- there is memory for so many nodes more, each of which may take over the state of one in a slot below `sources`
+abbrev pub spare : NodeTable → ℕ
+spare t = min t.spare t.gate.core.spare
+
+abbrev pub sources : NodeTable → ℕ
+sources t = t.sources
+
+pub record HasRoom (t : NodeTable) (from : Option ℕ) : Type 0 where
+  pub node : 0 < spare t
+  pub source : option_map_or (λ k. nat_lt k (sources t)) from true ≡ true
+
+pub record KeepsRoom (old new : NodeTable) : Type 0 where
+  pub spare_kept : spare new ≡ spare old
+  pub sources_kept : sources new ≡ sources old

@@ -1,0 +1,14 @@
+//! What a table keeps of a slot.
+
+use crate::handed::Handed;
+use node_host::HostNode;
+use port_gate::CoreSeat;
+use state_handover::AnyNode;
+
+/// What is kept of a node that was made.
+#[derive(Drop)]
+pub enum Held {
+    /// The node, which is live, or was removed and is kept.
+    Node(HostNode<AnyNode, CoreSeat>),
+    Handed(Handed),
+}
