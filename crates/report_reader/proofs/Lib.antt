@@ -7,3 +7,6 @@ pub mod BracketLemmas
 pub mod IntegerLemmas
 pub mod MakeLemmas
 pub mod HistoryLemmas
+pub mod ReadingLaws
+pub mod EndLaws
+pub mod GraphLineLaws

@@ -236,7 +236,7 @@ kind_lacks Account = (refl, refl)
 kind_lacks Asker = (refl, refl)
 kind_lacks Adder = (refl, refl)
 
-kind_of_written : (kind : Kind) (arg : Option ℕ) → IfSome arg Is32 → kind_in (kind_text kind arg) ≡ Some (kind, arg)
+pub kind_of_written : (kind : Kind) (arg : Option ℕ) → IfSome arg Is32 → kind_in (kind_text kind arg) ≡ Some (kind, arg)
 kind_of_written kind arg small =
     let inside = option_map_or decimal arg [] in
     ap kind_in (kind_bracket kind arg)

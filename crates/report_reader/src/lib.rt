@@ -2,6 +2,8 @@
 #![tactic(auto)]
 
 mod cuts;
+mod ends;
+mod graph_lines;
 mod history;
 mod laws;
 mod logs;
@@ -9,6 +11,8 @@ mod numbers;
 mod parts;
 mod verbs;
 
+pub use ends::{status_line, unfinished_line};
+pub use graph_lines::{is_graph_line, node_line, target_word};
 pub use history::history_line;
 pub use laws::{
     a_line_says_an_event_as_it_is_written, a_line_says_history_as_it_is_written,
