@@ -1,0 +1,20 @@
+use Rattle.std.proofs.Common.{◌≡◌, ◌≤◌, [], length}
+use Rattle.change_script.specs.Reports.{makes}
+use Rattle.report_parser.specs.declared.history.Behind.TheVariants as behinds
+use Rattle.report_parser.specs.Rests.{Follows}
+use Rattle.report_parser.specs.Stages.{history_from}
+use Rattle.report_parser.specs.TextLines.{lines}
+use Rattle.report_parser.proofs.history.read_history.Given as goal
+
+-- What is left goes on with what was read.
+abbrev pub invariant-lines : goal.invariant-lines
+invariant-lines l = record {
+  same : history_from l.version l.history.items l.place.behind l.left.number (lines l.left.text.now)
+      ≡ history_from l.version [] behinds.Other l.rest.number (lines l.rest.text.now);
+  made : l.place.made ≡ length (makes l.history.items);
+  few : l.place.made ≤ l.left.number;
+  follows : Follows l.rest l.left;
+}
+
+abbrev pub decreases-lines : goal.decreases-lines
+decreases-lines l = length l.left.text.now

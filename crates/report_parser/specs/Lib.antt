@@ -1,0 +1,6 @@
+pub mod TextLines
+pub mod Limits
+pub mod ReportTexts
+pub mod GraphTexts
+pub mod Stages
+pub mod Rests

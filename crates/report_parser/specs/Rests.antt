@@ -1,0 +1,18 @@
+-- What is left of a text, as a stage leaves it behind.
+use Rattle.std.specs.Prelude.{◌≡◌, ◌≤◌, ◌+◌, ◌<◌, ◌^◌, length}
+use Rattle.report_parser.specs.declared.rest.Rest.{Rest}
+use Rattle.report_parser.specs.Stages.{Front, front}
+use Rattle.report_parser.specs.TextLines.{lines, tail}
+
+-- the numbers of all lines that are left can be told
+abbrev pub HasRoom : Rest → Type 0
+HasRoom rest = rest.number + length rest.text.now < 2 ^ 31
+
+-- what a stage read, and what it leaves
+abbrev pub leaving : {A : Type 0} → A → Rest → Front A
+leaving read rest = front read rest.number (lines rest.text.now)
+
+-- what is left is the end of what there was
+pub record Follows (old new : Rest) : Type 0 where
+  pub tail : tail new.text.now ≡ tail old.text.now
+  pub room : new.number + length new.text.now ≤ old.number + length old.text.now

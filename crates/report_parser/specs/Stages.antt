@@ -1,0 +1,209 @@
+-- How a report is read from the lines of its text, in stages: each reads as many lines as fit, and the next names the line that doesn't.
+use Rattle.std.specs.Prelude.{◌≡◌, ℕ, ◌+◌, ◌==◌, Bool, true, false, ◌&&◌, if◌then◌else◌, List, [], ◌∷◌, ◌++◌, bytes_eq, codes, length, Option, Some, None, option_map, Result, Ok, Err}
+use Rattle.quiesce_core.specs.declared.event.Event.{Event}
+use Rattle.change_script.specs.Reports.{Made, log_head, makes}
+use Rattle.change_script.specs.declared.report.HistoryLine.{HistoryLine}
+use Rattle.change_script.specs.declared.report.HistoryLine.TheVariants as history
+use Rattle.change_script.specs.declared.report.Last.{Last}
+use Rattle.change_script.specs.declared.report.NodeLog.{NodeLog}
+use Rattle.change_script.specs.declared.report.Report.{Report}
+use Rattle.report_reader.specs.Ends.{status_in, unfinished_in}
+use Rattle.report_reader.specs.GraphLines.{is_graph_line}
+use Rattle.report_reader.specs.Parts.{is_end, words}
+use Rattle.report_reader.specs.Readings.{event_in, last_in, line_in}
+use Rattle.report_parser.specs.declared.error.ReportFault.{ReportFault}
+use Rattle.report_parser.specs.declared.error.ReportFault.TheVariants as faults
+use Rattle.report_parser.specs.declared.history.Behind.{Behind}
+use Rattle.report_parser.specs.declared.history.Behind.TheVariants as behinds
+use Rattle.report_parser.specs.declared.version.Version.{Version}
+use Rattle.report_parser.specs.declared.version.Version.TheVariants as versions
+use Rattle.report_parser.specs.Limits.{event_keeps, is_slot, last_keeps, line_keeps}
+use Rattle.report_parser.specs.ReportTexts.{is_pending, written_by}
+use Rattle.report_parser.specs.GraphTexts.{behind_graph, graph_in, graph_lines}
+use Rattle.report_parser.specs.TextLines.{lines, tail}
+
+-- what was read, the number of the next line, and the lines that are left
+pub record Front (A : Type 0) : Type 0 where
+  pub read : A
+  pub number : ℕ
+  pub left : List (List ℕ)
+
+abbrev pub Stage : Type 0 → Type 0
+Stage A = Result (Front A) ReportFault
+
+abbrev pub front : {A : Type 0} → A → ℕ → List (List ℕ) → Front A
+front read number left = record { read = read; number = number; left = left }
+
+-- the next stage, where this one has no fault
+abbrev pub after : {A B : Type 0} → Stage A → (Front A → Stage B) → Stage B
+after (Err fault) next = Err fault
+after (Ok f) next = next f
+
+-- what a line says, or that it is the first that can't stand there
+abbrev pub named : {A : Type 0} → Option A → ℕ → List (List ℕ) → Stage A
+named None number left = Err (faults.BadLine number)
+named (Some read) number left = Ok (front read (number + 1) left)
+
+-- goes on with what was found, and else stops
+abbrev pub goes_on : {A B : Type 0} → Option A → (A → B) → B → B
+goes_on None on stop = stop
+goes_on (Some found) on stop = on found
+
+-- a value, where a test holds of it
+abbrev pub keeping : {A : Type 0} → (A → Bool) → Option A → Option A
+keeping test None = None
+keeping test (Some value) = if test value then Some value else None
+
+-- `report 1`, `report 2`
+abbrev pub version_in : List ℕ → Option Version
+version_in line =
+    if bytes_eq line (codes "report 1") then Some versions.First else (if bytes_eq line (codes "report 2") then Some versions.Second else None)
+
+abbrev pub version_from : ℕ → List (List ℕ) → Stage Version
+version_from number [] = Err faults.Short
+version_from number (line ∷ more) = named (version_in line) number more
+
+-- whether an `open` line may stand behind a line
+abbrev pub is_after_pending : Behind → Bool
+is_after_pending behinds.Pending = true
+is_after_pending behind = false
+
+abbrev pub is_after_show : Behind → Bool
+is_after_show behinds.Show = true
+is_after_show behind = false
+
+abbrev pub behind_line : HistoryLine → Behind
+behind_line says = if is_pending says then behinds.Pending else behinds.Other
+
+-- whether a line can stand there, where so many nodes were made: nodes are made in the slots 0, 1 and on
+abbrev pub stands : ℕ → Behind → HistoryLine → Bool
+stands made behind (history.Make slot node from) = slot == made
+stands made behind (history.Root port serial) = is_after_pending behind
+stands made behind says = true
+
+-- a history so far, and what its last line is
+abbrev pub Past : Type 0
+Past = List HistoryLine × Behind
+
+abbrev pub with_line : List HistoryLine → HistoryLine → Past
+with_line past says = (past ++ says ∷ [], behind_line says)
+
+-- `show` before these lines: the graph is judged where a line stands behind its text
+abbrev pub shown_in : List HistoryLine → List (List ℕ) → Option Past
+shown_in past more =
+    if is_end (behind_graph more) then Some (past, behinds.Show)
+    else option_map (λ graph. (past ++ history.Show graph ∷ [], behinds.Show)) (graph_in (graph_lines more))
+
+-- a line of one form of its own
+abbrev pub said_in : Version → List HistoryLine → Behind → List ℕ → Option Past
+said_in version past behind line =
+    option_map (with_line past) (keeping (λ says. line_keeps version says && stands (length (makes past)) behind says) (line_in (words line)))
+
+-- the history with its next line, where the line fits; `show` stands for the lines of its graph
+abbrev pub past_with : Version → List HistoryLine → Behind → List ℕ → List (List ℕ) → Option Past
+past_with version past behind line more =
+    if is_after_show behind && is_graph_line (words line) then Some (past, behinds.Show)
+    else if bytes_eq line (codes "show") then shown_in past more
+    else said_in version past behind line
+
+abbrev pub history_from : Version → List HistoryLine → Behind → ℕ → List (List ℕ) → Front (List HistoryLine)
+history_from version past behind number [] = front past number []
+history_from version past behind number (line ∷ more) =
+    goes_on (past_with version past behind line more) (λ next. history_from version next.0 next.1 (number + 1) more) (front past number (line ∷ more))
+
+-- an event of a node
+abbrev pub event_of : Version → List ℕ → Option Event
+event_of version line = keeping (event_keeps version) (event_in (words line))
+
+abbrev pub events_from : Version → List Event → ℕ → List (List ℕ) → Front (List Event)
+events_from version past number [] = front past number []
+events_from version past number (line ∷ more) =
+    goes_on (event_of version line) (λ event. events_from version (past ++ event ∷ []) (number + 1) more) (front past number (line ∷ more))
+
+-- the end of a log
+abbrev pub last_of : Version → List ℕ → Option Last
+last_of version line = keeping (last_keeps version) (last_in (words line))
+
+abbrev pub last_from : Version → ℕ → List (List ℕ) → Stage Last
+last_from version number [] = Err faults.Short
+last_from version number (line ∷ more) = named (last_of version line) number more
+
+-- the line above the log of a node
+abbrev pub head_in : Version → Made → List ℕ → Option Made
+head_in version made line = if bytes_eq line (log_head (written_by version) made.path made.slot) then Some made else None
+
+abbrev pub head_from : Version → Made → ℕ → List (List ℕ) → Stage Made
+head_from version made number [] = Err faults.Short
+head_from version made number (line ∷ more) = named (head_in version made line) number more
+
+-- the log of a node: its events and their end
+abbrev pub log_with : ℕ → List Event → Front Last → Front NodeLog
+log_with slot events last = front (record { slot = slot; events = events; last = last.read }) last.number last.left
+
+abbrev pub ended_from : Version → ℕ → Front (List Event) → Stage NodeLog
+ended_from version slot events = after (last_from version events.number events.left) (λ last. Ok (log_with slot events.read last))
+
+abbrev pub log_from : Version → Made → ℕ → List (List ℕ) → Stage NodeLog
+log_from version made number left =
+    after (head_from version made number left) (λ head. ended_from version made.slot (events_from version [] head.number head.left))
+
+-- one log of each node that is made, in order
+abbrev pub logs_from : Version → List Made → List NodeLog → ℕ → List (List ℕ) → Stage (List NodeLog)
+logs_from version [] logs number left = Ok (front logs number left)
+logs_from version (made ∷ others) logs number left =
+    after (log_from version made number left) (λ log. logs_from version others (logs ++ log.read ∷ []) log.number log.left)
+
+-- `unfinished SLOT`, where it is there
+abbrev pub unfinished_of : Version → List ℕ → Option ℕ
+unfinished_of version line = keeping (is_slot version) (unfinished_in (words line))
+
+abbrev pub unfinished_from : Version → ℕ → List (List ℕ) → Front (Option ℕ)
+unfinished_from version number [] = front None number []
+unfinished_from version number (line ∷ more) =
+    goes_on (unfinished_of version line) (λ slot. front (Some slot) (number + 1) more) (front None number (line ∷ more))
+
+-- `status N`
+abbrev pub status_from : ℕ → List (List ℕ) → Stage ℕ
+status_from number [] = Err faults.Short
+status_from number (line ∷ more) = named (status_in (words line)) number more
+
+-- Nothing stands behind the line of the status: a line there is bad, and so are bytes that are no line.
+abbrev pub is_over : List (List ℕ) → List ℕ → Bool
+is_over [] [] = true
+is_over left rest = false
+
+pub record Found : Type 0 where
+  pub version : Version
+  pub report : Report
+
+abbrev pub over : Version → List HistoryLine → List NodeLog → Option ℕ → List ℕ → Front ℕ → Result Found ReportFault
+over version past logs unfinished rest status =
+    if is_over status.left rest
+    then Ok (record { version = version; report = record { history = past; logs = logs; unfinished = unfinished; status = status.read } })
+    else Err (faults.BadLine status.number)
+
+abbrev pub finish : {A : Type 0} → Stage A → (Front A → Result Found ReportFault) → Result Found ReportFault
+finish (Err fault) next = Err fault
+finish (Ok f) next = next f
+
+abbrev pub after_unfinished : Version → List HistoryLine → List NodeLog → List ℕ → Front (Option ℕ) → Result Found ReportFault
+after_unfinished version past logs rest unfinished =
+    finish (status_from unfinished.number unfinished.left) (over version past logs unfinished.read rest)
+
+abbrev pub after_logs : Version → List HistoryLine → List ℕ → Front (List NodeLog) → Result Found ReportFault
+after_logs version past rest logs = after_unfinished version past logs.read rest (unfinished_from version logs.number logs.left)
+
+abbrev pub after_history : Version → List ℕ → Front (List HistoryLine) → Result Found ReportFault
+after_history version rest past =
+    finish (logs_from version (makes past.read) [] past.number past.left) (after_logs version past.read rest)
+
+abbrev pub after_version : List ℕ → Front Version → Result Found ReportFault
+after_version rest version = after_history version.read rest (history_from version.read [] behinds.Other version.number version.left)
+
+-- The report of a text and its version; or the first line that can't stand in its place, or that the text ends too soon.
+abbrev pub reading : List ℕ → Result Found ReportFault
+reading text = finish (version_from 1 (lines text)) (after_version (tail text))
+
+-- This is the first line that can't stand in its place, or no line is and the text ends too soon.
+abbrev pub IsReportFault : List ℕ → ReportFault → Type 0
+IsReportFault text fault = reading text ≡ Err fault

@@ -1,0 +1,66 @@
+//! What is left of a text, line by line.
+
+ghost use Rattle.std.specs.Prelude.{◌≡◌, ◌<◌, ◌≤◌, ◌+◌, ◌==◌, ◌∷◌, ◌++◌, [], not, length, IfSome, MatchOption};
+ghost use Rattle.std.specs.List.{prefix_len};
+ghost use Rattle.report_reader.specs.Parts.{is_end};
+ghost use Rattle.report_parser.specs.Rests.{Follows, HasRoom};
+ghost use Rattle.report_parser.specs.TextLines.{lines, tail};
+
+/// What is left of a text, where its first line has this number.
+#[derive(Clone, Copy)]
+pub struct Rest<'a> {
+    pub number: u32,
+    pub text: &'a [u8],
+}
+
+/// The next line, without its line feed, and what is left behind it.
+pub fn next_line(rest: Rest<'_>) -> Option<(&[u8], Rest<'_>)>
+    requires { HasRoom rest }
+    ensures line { MatchOption result (lines rest.entry.text.now ≡ [])
+        (λ found. lines rest.entry.text.now ≡ found.0.now ∷ lines found.1.text.now) }
+    ensures number { IfSome result (λ found. found.1.number ≡ rest.entry.number + 1) }
+    ensures follows { IfSome result (λ found. Follows rest.entry found.1) }
+    ensures shorter { IfSome result (λ found. length found.1.text.now < length rest.entry.text.now) }
+{
+    let (line, text) = first_line(rest.text)?;
+    Some((
+        line,
+        Rest {
+            number: rest.number + 1,
+            text,
+        },
+    ))
+}
+
+/// The first line of a text, without its line feed, and the text behind it.
+pub fn first_line(text: &[u8]) -> Option<(&[u8], &[u8])>
+    ensures line { MatchOption result (lines text.now ≡ [])
+        (λ found. lines text.now ≡ found.0.now ∷ lines found.1.now) }
+    ensures tail { IfSome result (λ found. tail text.now ≡ tail found.1.now) }
+    ensures parts { IfSome result (λ found. text.now ≡ found.0.now ++ 10 ∷ found.1.now) }
+{
+    let len = line_len(text);
+    if len < text.len() {
+        Some((&text[..len], &text[len + 1..]))
+    } else {
+        None
+    }
+}
+
+/// Whether a text has no line.
+pub fn has_no_line(text: &[u8]) -> bool
+    ensures { result ≡ is_end (lines text.now) }
+{
+    match first_line(text) {
+        Some(_) => false,
+        None => true,
+    }
+}
+
+/// How many bytes stand before the first line feed.
+fn line_len(text: &[u8]) -> usize
+    ensures len { result ≡ prefix_len (λ byte. not (byte == 10)) text.now }
+    ensures within { result ≤ length text.now }
+{
+    text.iter().take_while(|byte| **byte != b'\n').count()
+}
