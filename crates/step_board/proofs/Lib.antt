@@ -5,3 +5,4 @@ mod LookLemmas
 mod SeeingLemmas
 mod LogLemmas
 mod BoardLemmas
+mod TableLemmas

@@ -6,3 +6,4 @@ pub mod Standing
 pub mod TurnFacts
 pub mod RunFacts
 pub mod Agreeing
+pub mod TableFacts

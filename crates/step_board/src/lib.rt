@@ -6,6 +6,7 @@ mod copying;
 mod nodes;
 mod scanning;
 mod standing;
+mod tables;
 
 pub use nodes::Nodes;
 pub use standing::StepBoard;
