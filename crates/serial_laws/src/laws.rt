@@ -1,0 +1,63 @@
+//! Laws of transcripts whose records are of rounds.
+
+ghost use Rattle.std.specs.Prelude.{◌≡◌, ℕ, ℤ, Bool, false, List, ◌++◌};
+ghost use Rattle.std.specs.List.{list_any};
+ghost use Rattle.change_board.specs.Records.{Moment};
+ghost use Rattle.change_board.specs.Transcripts.{Item, entries};
+ghost use Rattle.change_law.specs.Serial.{Serial};
+ghost use Rattle.change_law.specs.Statements.{Statement, change, run, show, start};
+ghost use Rattle.change_plan.specs.declared.plan_data.Move.{Move};
+ghost use Rattle.change_script.specs.declared.report.Report.{Report};
+ghost use Rattle.config_graph.specs.Graph.{Graph};
+ghost use Rattle.headline_laws.specs.Pieces.{IsDone, IsStopped, IsTranscript, config_at};
+ghost use Rattle.headline_laws.specs.Reports.{IsReport, taken_in};
+ghost use Rattle.serial_laws.specs.Behind.{AreByRounds, IsPlayedBehind, IsRunUntil, StopsBehind, TimedArePlayed, is_timed};
+ghost use Rattle.step_board.specs.Standing.{AreOfRounds};
+
+use headline_laws::{joined_members_make_a_report_lawful, records_and_transcripts_join};
+use report_laws::states_are_folds_of_own_events;
+
+/// The items of a start are those that rounds make.
+pub fn starts_are_played()
+    ensures start { (alone : Bool) (before t : List Item) (name : List ℕ) (args : List ℤ) (g : Graph)
+        → IsDone alone before (start name args g) t → IsPlayedBehind before (start name args g) t }
+{}
+
+/// And those of a change: it waits for as many rounds, finds the same ports drained, and ends in the same way.
+pub fn changes_are_played()
+    ensures change { (alone : Bool) (before t : List Item) (name : List ℕ) (args : List ℤ) (g : Graph) (within : ℕ)
+        (moves : List Move) → AreByRounds (before ++ t) → IsDone alone before (change name args g within moves) t
+        → IsPlayedBehind before (change name args g within moves) t }
+{}
+
+/// And that of a show.
+pub fn shows_are_played()
+    ensures show { (alone : Bool) (before t : List Item) → AreByRounds (before ++ t) → IsDone alone before show t
+        → IsPlayedBehind before show t }
+{}
+
+/// And those of a run, where its looks and scans are what a run promises of them.
+pub fn runs_are_played()
+    ensures run { (before t : List Item) (k : ℕ) → AreByRounds (before ++ t) → IsRunUntil (config_at before) k t
+        → IsPlayedBehind before (run k) t }
+{}
+
+/// And those of the stop: it waits for as many rounds, until each port that it closed is drained.
+pub fn stops_are_played()
+    ensures stop { (before t : List Item) → AreByRounds (before ++ t) → IsStopped before t → StopsBehind before t }
+{}
+
+/// The report is the one that rounds have, where runs and finishes are played by rounds, and where the logs are what the
+/// rounds of the record come to.
+pub fn reports_are_those_of_rounds()
+    ensures serial { (alone : Bool) (statements : List Statement) (t : List Item) (m : List Moment) (report : Report)
+        → (x : IsTranscript alone statements t) → TimedArePlayed x.pieces → AreOfRounds (entries t) (taken_in report)
+        → IsReport t m report → Serial statements report }
+    ensures untimed { (alone : Bool) (statements : List Statement) (t : List Item) (m : List Moment) (report : Report)
+        → IsTranscript alone statements t → list_any is_timed statements ≡ false
+        → AreOfRounds (entries t) (taken_in report) → IsReport t m report → Serial statements report }
+{
+    joined_members_make_a_report_lawful();
+    records_and_transcripts_join();
+    states_are_folds_of_own_events();
+}
