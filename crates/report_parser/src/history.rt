@@ -64,18 +64,28 @@ pub fn read_history<'a>(
     Ok(left)
 }
 
-/// How many lines stand before the first that is of no history, so that no more memory is taken than they need.
+/// How many bytes a line of a history has at least.
+const SHORTEST_LINE: usize = 4;
+
+/// How many lines may be of a history: those before the first that begins or ends all logs, or is too short, without those
+/// of graphs. So what is taken for them keeps in proportion to their length, whatever they say.
 fn count_lines(text: &[u8]) -> usize {
     let mut count = 0;
     let mut left = text;
     while let Some((line, behind)) = first_line(left) {
-        if line.starts_with(b"log ") || line.starts_with(b"status ") {
+        if is_behind_history(line) {
             return count;
         }
-        count += 1;
+        if !is_graph_line(line) {
+            count += 1;
+        }
         left = behind;
     }
     count
+}
+
+fn is_behind_history(line: &[u8]) -> bool {
+    line.len() < SHORTEST_LINE || line.starts_with(b"log ") || line.starts_with(b"status ")
 }
 
 /// The next line, where it fits; `None` where it doesn't. `behind` is what is left behind it.

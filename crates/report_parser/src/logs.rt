@@ -150,12 +150,16 @@ fn read_events<'a>(
     Ok((events, left))
 }
 
-/// How many lines stand before the first that ends a log, so that no more memory is taken than they need.
+/// How many bytes the line of an event has at least.
+const SHORTEST_EVENT: usize = 6;
+
+/// How many lines may be of events: those before the first that ends a log, or is too short. So what is taken for them
+/// keeps in proportion to their length, whatever they say.
 fn count_events(text: &[u8]) -> usize {
     let mut count = 0;
     let mut left = text;
     while let Some((line, behind)) = first_line(left) {
-        if line.starts_with(b"state") || line.starts_with(b"moved") {
+        if line.len() < SHORTEST_EVENT || line.starts_with(b"state") || line.starts_with(b"moved") {
             return count;
         }
         count += 1;
