@@ -1,6 +1,6 @@
 //! Laws of the definitions that the contract of `parse_report` cites.
 
-ghost use Rattle.std.specs.Prelude.{◌≡◌, ◌⊎◌, ℕ, List, Some, flat_map};
+ghost use Rattle.std.specs.Prelude.{◌≡◌, ◌⊎◌, ℕ, List, Ok, Some, flat_map};
 ghost use Rattle.change_script.specs.Reports.{ended, report_text};
 ghost use Rattle.change_script.specs.declared.report.Report.{Report};
 ghost use Rattle.config_graph.specs.Graph.{Graph};
@@ -11,7 +11,7 @@ ghost use Rattle.report_parser.specs.declared.version.Version.{Version};
 ghost use Rattle.report_parser.specs.declared.version.Version.TheVariants as versions;
 ghost use Rattle.report_parser.specs.GraphTexts.{graph_in};
 ghost use Rattle.report_parser.specs.ReportTexts.{CanBeShown, IsGraphText, IsReport, IsReportText};
-ghost use Rattle.report_parser.specs.Stages.{IsReportFault};
+ghost use Rattle.report_parser.specs.Stages.{IsReportFault, reading};
 ghost use Rattle.report_parser.specs.TextLines.{lines};
 
 /// No text is that of two reports, in whatever version.
@@ -20,10 +20,12 @@ pub fn a_text_tells_its_report()
         → IsReportText other text same → (version ≡ other) × (report ≡ same) }
 {}
 
-/// The text that is written of a report is that of this report.
+/// The text that is written of a report is that of this report, and is read as it.
 pub fn a_written_report_is_read()
-    ensures { (report : Report) → IsReport versions.Second report
+    ensures text { (report : Report) → IsReport versions.Second report
         → IsReportText versions.Second (report_text report) report }
+    ensures read { (report : Report) → IsReport versions.Second report
+        → reading (report_text report) ≡ Ok (record { version = versions.Second; report = report }) }
 {}
 
 /// A text is that of a report, or has one fault, and never both.
