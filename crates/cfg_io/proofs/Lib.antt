@@ -1,3 +1,4 @@
 pub mod Bytes
 pub mod FilesLemmas
+mod Known
 mod ReadLemmas

@@ -1,10 +1,11 @@
 //! Standard output as a sink.
 
-ghost use Rattle.std.specs.Prelude.{◌≡◌, ◌≤◌, IfOk, length};
+ghost use Rattle.std.specs.Prelude.{◌≡◌, ◌≤◌, ◌<◌, IfOk, length};
+ghost use Rattle.std.specs.Io.KnownBytes.{WriteAppends};
 
 use crate::sink::{Sink, SinkFailed};
 use std::io;
-use std::io::ErrorKind;
+use std::io::{ErrorKind, Write};
 use std::marker::Model;
 
 /// Standard output. What it took is not told, and nothing that it took waits in a buffer. Contracts
@@ -40,29 +41,30 @@ impl<R: Print> Sink for OutSink<R> {
     ghost taken = { λ _. None };
 
     fn put(&mut self, piece: &[u8]) -> Result<usize, SinkFailed> {
-        if piece.is_empty() {
-            return Ok(0);
+        let written = write_front(&mut io::writer(&self.rt), piece);
+        if written.is_err() {
+            self.faults = self.faults.saturating_add(1);
         }
-        match write_some(&self.rt, piece) {
-            Ok(count) if count > 0 => Ok(count),
-            // A write that takes nothing of such a piece would take nothing the next time either.
-            Ok(_) | Err(_) => {
-                self.faults = self.faults.saturating_add(1);
-                Err(SinkFailed)
-            }
-        }
+        written
     }
 }
 
-// One write, again where a signal interrupts it.
-fn write_some<R: Print>(rt: &R, piece: &[u8]) -> io::Result<usize>
-    ensures { IfOk result (λ count. count ≤ length piece.now) }
+// Bytes from the front of a piece, at least one where it has any. It writes again where a signal interrupts it. A
+// write that takes nothing of such a piece would take nothing the next time either.
+fn write_front<W: Write>(writer: &mut W, piece: &[u8]) -> Result<usize, SinkFailed>
+    ensures within { IfOk result (λ count. count ≤ length piece.now) }
+    ensures moves { IfOk result (λ count. 0 < length piece.now → 0 < count) }
+    ensures wrote { WriteAppends (W.contents writer.old) (W.contents writer.new) result piece.now }
 {
+    if piece.is_empty() {
+        return Ok(0);
+    }
     for _ in 0..u64::MAX {
-        match rt.write_some(piece) {
+        match writer.write(piece) {
+            Ok(count) if count > 0 => return Ok(count),
             Err(error) if error.kind() == ErrorKind::Interrupted => {}
-            written => return written,
+            Ok(_) | Err(_) => return Err(SinkFailed),
         }
     }
-    Err(io::Error::from(ErrorKind::TimedOut))
+    Err(SinkFailed)
 }
