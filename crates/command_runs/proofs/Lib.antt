@@ -1,6 +1,7 @@
 pub mod CourseLaws
 pub mod Courses
 pub mod Ending
+pub mod Existence
 pub mod FailureLaws
 pub mod Flattening
 pub mod Inverting
@@ -10,4 +11,5 @@ pub mod Readings
 pub mod RunLaws
 pub mod Statuses
 pub mod Telling
+pub mod Totality
 pub mod Wanting

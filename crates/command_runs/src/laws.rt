@@ -1,14 +1,17 @@
 //! Laws of runs, by status. Whatever runs, as all commands do or the program over real files, has them.
 
-ghost use Rattle.std.specs.Prelude.{◌≡◌, ◌≢◌, ◌≤◌, ◌∷◌, ◌++◌, [], ℕ, List, Option, Some, length};
+ghost use Rattle.std.specs.Prelude.{◌≡◌, ◌≢◌, ◌≤◌, ◌∷◌, ◌++◌, ◌⊎◌, [], ℕ, ℤ, List, Option, Some, length};
 ghost use Rattle.cfg_io.specs.Count.{Rose};
 ghost use Rattle.cfg_io.specs.Shelf.{Files};
 ghost use Rattle.cfg_io.specs.Sink.{with_bytes};
 ghost use Rattle.config_graph.specs.Graph.{Graph};
+ghost use Rattle.config_graph.specs.declared.node.Made.{Made};
 ghost use Rattle.quiesce_core.specs.Start.{started};
 ghost use Rattle.change_script.specs.declared.event_files.EventFile.{EventFile};
 ghost use Rattle.event_replay.specs.Replay.{IsDenied};
 ghost use Rattle.change_plan.specs.Plans.{IsPlanOf};
+ghost use Rattle.change_plan.specs.Room.{HasRoomFor, LacksRoomFor};
+ghost use Rattle.change_plan.specs.declared.error.PlanError.{PlanError};
 ghost use Rattle.change_plan.specs.declared.plan_data.Plan.{Plan};
 ghost use Rattle.change_script.specs.EventFiles.{IsEventFile};
 ghost use Rattle.command_answers.specs.Answers.{Answer, Shows, refusal, no_memory, status_of, text_of, usage_line};
@@ -21,7 +24,7 @@ ghost use Rattle.command_answers.specs.declared.status.Status.TheVariants.{Unfin
 ghost use Rattle.command_words.specs.CommandLine.{Asks, HasNoForm};
 ghost use Rattle.command_words.specs.declared.words.Command.TheVariants as commands;
 ghost use Rattle.command_words.specs.declared.words.TopCall.{TopCall};
-ghost use Rattle.command_runs.specs.Descriptions.{HasGraph};
+ghost use Rattle.command_runs.specs.Descriptions.{HasGraph, IsDescriptionRefusal};
 ghost use Rattle.command_runs.specs.Commands.{course_of, course_of_query};
 ghost use Rattle.command_runs.specs.Failures.{FailsLast, Uses};
 ghost use Rattle.command_runs.specs.Lines.{Aim, Line, Progress, Follows};
@@ -32,11 +35,14 @@ ghost use Rattle.command_runs.specs.declared.fetched.Fetched.TheVariants.{Held};
 ghost use Rattle.command_runs.specs.Outcomes.{NamesFile, Ends, WroteFront, Flattened, Planned, Replayed, Refused};
 ghost use Rattle.command_runs.specs.Outcomes.{ScriptRefused, MustRefuse, MustRefuseScript, NothingRefuses};
 ghost use Rattle.command_runs.specs.Outcomes.{EndsAsGiven, Wants};
-ghost use Rattle.command_runs.specs.Plans.{Starts};
+ghost use Rattle.command_runs.specs.Plans.{RefusesStart, Starts};
 ghost use Rattle.command_runs.specs.Queries.{AnswersQuery, IsRefused};
 ghost use Rattle.command_runs.specs.Runs.{AnswersWords, Runs};
 ghost use Rattle.command_runs.specs.declared.query.Query.{Query};
 ghost use Rattle.command_runs.specs.declared.query.Query.TheVariants as queries;
+
+use darwin_types::a_fault_or_none;
+use elaborator::a_graph_or_a_fault;
 
 /// A law of runs: Usage comes where the words have none of the forms, with its line, and nowhere else.
 pub fn usage_is_of_words_without_a_form()
@@ -217,3 +223,19 @@ pub fn what_bytes_give_is_one()
         → AnswersQuery query text own written → ¬ IsRefused query text words }
     ensures one_plan { (old new : Graph) (p q : Plan) → IsPlanOf old new [] p → IsPlanOf old new [] q → p ≡ q }
 {}
+
+/// A law: nothing hides behind want of memory. Of each text a graph of a component stands or a refusal, and a start or a
+/// refusal of it; there is room for a graph, or none. That what is wanted of a text is neither refused nor answered
+/// can't be.
+pub fn what_is_wanted_is_refused_or_answered()
+    ensures graphs { (text name : List ℕ) (args : List ℤ) → ((g : Graph) × HasGraph text name args g)
+        ⊎ ((words : List (List ℕ)) × IsDescriptionRefusal text name args words) }
+    ensures starts { (text top : List ℕ) (args : List ℤ) → ((g : Graph) × Starts text top args g)
+        ⊎ ((words : List (List ℕ)) × RefusesStart text top args words) }
+    ensures room { (made : Made) (g : Graph) → HasRoomFor made g ⊎ ((e : PlanError) × LacksRoomFor made g e) }
+    ensures queries { (query : Query) (text : List ℕ) → ¬ (((words : List (List ℕ)) → ¬ IsRefused query text words)
+        × ((own : Status) (written : List ℕ) → ¬ AnswersQuery query text own written)) }
+{
+    a_fault_or_none();
+    a_graph_or_a_fault();
+}

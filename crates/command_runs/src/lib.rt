@@ -12,6 +12,7 @@ pub use laws::{
     descriptions_are_refused_for_faults_that_hold, own_texts_are_written,
     read_faults_are_failed_fetches, scripts_are_refused_for_their_first_fault,
     usage_is_of_words_without_a_form, want_of_memory_has_its_line, what_bytes_give_is_one,
-    what_is_asked_for_is_written, what_is_not_refused_is_answered, write_faults_are_failed_puts,
+    what_is_asked_for_is_written, what_is_not_refused_is_answered,
+    what_is_wanted_is_refused_or_answered, write_faults_are_failed_puts,
 };
 pub use query::Query;

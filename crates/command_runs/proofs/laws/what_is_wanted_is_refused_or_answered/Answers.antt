@@ -1,0 +1,13 @@
+use Rattle.command_runs.proofs.Totality.{room_for, graphs_or_refusals, starts_or_refusals, refused_or_answered}
+use Rattle.command_runs.proofs.laws.what_is_wanted_is_refused_or_answered.Goals as goal
+
+pub returns : goal.returns
+returns c =
+    let names = c.a_fault_or_none.ensures in
+    let graphs = c.a_graph_or_a_fault.ensures in
+    record {
+      graphs = graphs_or_refusals names graphs;
+      starts = starts_or_refusals names graphs;
+      room = room_for;
+      queries = refused_or_answered names graphs;
+    }
