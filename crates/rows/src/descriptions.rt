@@ -139,3 +139,18 @@ pub const MANY: &str =
 /// An asker whose request an adder answers after a further message.
 pub const ASKING: &str =
     "component asker(int n) { require sum; } component adder { provide sum; } component Two { inst a:asker(2); d:adder; bind a.sum -- d.sum; }";
+
+/// A teller leads to a branch, whose ports lead to an account, as does the port of a source.
+pub const BRANCHES: &str = "component teller(int n) { require move; }
+component branch { provide move; require from, to; }
+component account(int b) { provide post; }
+component source(int n) { require out; }
+component Branches {
+  inst a:account(100); r:branch; w:teller(3); x:source(1);
+  bind w.move -- r.move; r.from -- a.post; r.to -- a.post; x.out -- a.post;
+}
+";
+
+/// Two maps, of which the first leads to the second.
+pub const PAIR: &str =
+    "component map(int k) { provide in; require next; } component Pair { inst a:map(1); b:map(1); bind a.next -- b.in; }";

@@ -2,6 +2,8 @@
 #![tactic(auto)]
 
 #[cfg(test)]
+mod denial_rows;
+#[cfg(test)]
 mod descriptions;
 #[cfg(test)]
 mod fetch_rows;
@@ -11,6 +13,8 @@ mod flat_refusals;
 mod flat_rows;
 #[cfg(test)]
 mod guide_rows;
+#[cfg(test)]
+mod limit_rows;
 #[cfg(test)]
 mod plan_rows;
 #[cfg(test)]

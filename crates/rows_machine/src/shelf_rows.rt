@@ -109,6 +109,69 @@ impl Print for ShortOutput {
     }
 }
 
+/// A file longer than any piece in which it is read.
+#[test]
+fn a_long_file_is_read_whole(rt: HostRuntime) -> Result<(), Fail> {
+    let path = "rows_machine_long_file";
+    let mut text = String::new(rt.alloc());
+    for line in 0..20_000 {
+        text.push_str(if line % 3 == 0 { "three\n" } else { "other\n" })?;
+    }
+    fs::write(&rt, path, text.as_str())?;
+    let mut shelf = FileShelf::new(&rt, rt.alloc());
+    let fits = shelf.fetch(path, 120_000);
+    let longer = shelf.fetch(path, 119_999);
+    fs::remove_file(&rt, path)?;
+    assert!(rt; fits?.as_slice() == text.as_bytes());
+    assert!(rt; matches!(longer, Err(ShelfError::TooLong { limit: 119_999 })));
+    Ok(())
+}
+
+/// A standard output that takes at most 5,000 bytes of a piece.
+#[derive(Drop)]
+struct NarrowOutput {
+    taken: RefCell<Vec<u8>>,
+}
+
+impl Print for NarrowOutput {
+    fn print<D: Display + Drop>(&self, _value: D) -> io::Result<()> {
+        Err(io::Error::from(ErrorKind::Unsupported))
+    }
+
+    fn println<D: Display + Drop>(&self, _value: D) -> io::Result<()> {
+        Err(io::Error::from(ErrorKind::Unsupported))
+    }
+
+    fn write_all(&self, _bytes: &[u8]) -> io::Result<()> {
+        Err(io::Error::from(ErrorKind::Unsupported))
+    }
+
+    fn write_some(&self, bytes: &[u8]) -> io::Result<usize> {
+        let count = bytes.len().min(5_000);
+        let Ok(mut taken) = self.taken.try_borrow_mut() else {
+            return Err(io::Error::from(ErrorKind::ResourceBusy));
+        };
+        taken.extend_from_slice(&bytes[..count])?;
+        Ok(count)
+    }
+}
+
+/// Short writes of more than 4,096 bytes.
+#[test]
+fn long_texts_go_out_in_pieces(rt: HostRuntime) -> Result<(), Fail> {
+    let mut text = Vec::new(rt.alloc());
+    for number in 0..12_345 {
+        text.push((number % 251) as u8)?;
+    }
+    let output = NarrowOutput {
+        taken: RefCell::new(Vec::new(rt.alloc())),
+    };
+    let written = write_all(&mut OutSink::new(&output), text.as_slice());
+    assert_eq!(rt; written, Ok(()));
+    assert!(rt; output.taken.into_inner().as_slice() == text.as_slice());
+    Ok(())
+}
+
 #[test]
 fn what_goes_out_is_the_front_that_is_told(rt: HostRuntime) -> Result<(), Fail> {
     let output = ShortOutput {
