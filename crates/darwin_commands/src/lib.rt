@@ -4,11 +4,12 @@
 mod answering;
 mod commands;
 mod fetching;
+mod program;
 mod writing;
 
 pub use command_answers::Status;
 pub use commands::still;
-pub use writing::no_memory;
+pub use program::run_program;
 
 /// What is written where the words have none of the forms.
 const USAGE: &str = "usage\n";
