@@ -6,6 +6,8 @@ use Rattle.quiesce_core.specs.State.{State}
 use Rattle.change_plan.specs.declared.plan_data.Plan.{Plan}
 use Rattle.change_plan.specs.PlanText.{plan_text}
 use Rattle.event_replay.specs.ReplayText.{replay_text}
+use Rattle.change_script.specs.Reports.{report_text}
+use Rattle.change_script.specs.declared.report.Report.{Report}
 use Rattle.command_answers.specs.declared.status.Status.{Status}
 use Rattle.command_answers.specs.declared.status.Status.TheVariants as status
 use Rattle.command_answers.specs.RefusalLines.{read_fault_line, description_line, script_line, denied_line}
@@ -15,7 +17,7 @@ pub data Refusal : Type 0 where
   usage : Refusal
   -- a description is too long, or it or its use has a fault, which these words name
   description : (file : List ℕ) (fault : List (List ℕ)) → Refusal
-  -- the same of a script or a file of events
+  -- the same of a script, a file of events or a report
   script : (file : List ℕ) (fault : List (List ℕ)) → Refusal
   -- a file can't be read
   read_fault : (file : List ℕ) → Refusal
@@ -34,6 +36,8 @@ pub data Answer : Type 0 where
   denied : (number rule : ℕ) → Answer
   -- how many events led to the state, and the slots of the nodes that are settled in it
   replay : (count : ℕ) → State → (settled : List ℕ) → Answer
+  -- a report in the version that is written today
+  report : Report → Answer
 
 abbrev pub refusal_status : Refusal → Status
 refusal_status usage = status.Usage
@@ -51,6 +55,7 @@ status_of (graph g) = status.Ok
 status_of (plan old new steps) = status.Ok
 status_of (denied number rule) = status.Denied
 status_of (replay count s settled) = status.Ok
+status_of (report r) = status.Ok
 
 abbrev pub usage_line : List ℕ
 usage_line = codes "usage" ++ 10 ∷ []
@@ -66,6 +71,7 @@ help_text =
     ++ codes "darwin_run flat FILE NAME INT*\n"
     ++ codes "darwin_run plan FILE NAME INT* -- NAME INT*\n"
     ++ codes "darwin_run replay FILE EVENTS\n"
+    ++ codes "darwin_run upgrade FILE\n"
 
 abbrev pub version_text : List ℕ
 version_text = codes "darwin_run 0.1.0\n"
@@ -85,6 +91,7 @@ text_of (graph g) = graph_text g
 text_of (plan old new steps) = plan_text old new steps
 text_of (denied number rule) = denied_line number rule
 text_of (replay count s settled) = replay_text count s settled
+text_of (report r) = report_text r
 
 -- some answer of a kind has this status and this text
 pub record Shows (Is : Answer → Type 0) (own : Status) (text : List ℕ) : Type 0 where

@@ -13,6 +13,8 @@ use Rattle.change_script.specs.declared.error.ScriptError.{ScriptError}
 use Rattle.change_script.specs.declared.error.ScriptError.TheVariants as scripting
 use Rattle.change_plan.specs.declared.error.PlanError.{PlanError}
 use Rattle.change_plan.specs.declared.error.PlanError.TheVariants as planning
+use Rattle.report_parser.specs.declared.error.ReportFault.{ReportFault}
+use Rattle.report_parser.specs.declared.error.ReportFault.TheVariants as reporting
 pub use Rattle.change_script.specs.Writing.{spaced}
 
 abbrev pub place_word : At → List ℕ
@@ -81,6 +83,12 @@ script_words (scripting.NumberTooBig line) = codes "NumberTooBig" ∷ decimal li
 script_words (scripting.TooManyLines line) = codes "TooManyLines" ∷ decimal line ∷ []
 script_words scripting.NoMemory = []
 
+-- Those of a report too.
+abbrev pub report_words : ReportFault → List (List ℕ)
+report_words (reporting.BadLine line) = codes "BadLine" ∷ decimal line ∷ []
+report_words reporting.Short = codes "Short" ∷ []
+report_words reporting.NoMemory = []
+
 -- the line of a file that can't be read
 abbrev pub read_fault_line : List ℕ → List ℕ
 read_fault_line file = codes "read fault " ++ file ++ 10 ∷ []
@@ -89,7 +97,7 @@ read_fault_line file = codes "read fault " ++ file ++ 10 ∷ []
 abbrev pub description_line : List ℕ → List (List ℕ) → List ℕ
 description_line file words = codes "description " ++ file ++ codes ":" ++ spaced words ++ 10 ∷ []
 
--- the line of a file of events with a fault
+-- the line of a script, a file of events or a report with a fault
 abbrev pub script_line : List ℕ → List (List ℕ) → List ℕ
 script_line file words = codes "script " ++ file ++ codes ":" ++ spaced words ++ 10 ∷ []
 

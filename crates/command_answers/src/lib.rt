@@ -8,7 +8,7 @@ mod status;
 
 pub use error::DescriptionFault;
 pub use lines::{
-    denied_line, description_line, description_too_long_line, read_fault_line, script_line,
-    script_too_long_line,
+    denied_line, description_line, description_too_long_line, read_fault_line, report_line,
+    script_line, script_too_long_line,
 };
 pub use status::Status;

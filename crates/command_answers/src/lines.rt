@@ -5,11 +5,12 @@ ghost use Rattle.command_answers.specs.RefusalLines as lines;
 ghost use Rattle.command_answers.specs.DescriptionFaults.{fault_words};
 
 use crate::error::DescriptionFault;
-use crate::rendering::{push_fault, push_script_fault, push_word};
+use crate::rendering::{push_fault, push_report_fault, push_script_fault, push_word};
 use change_script::ScriptError;
 use config_graph::NoMemory;
 use event_replay::Denial;
 use itoa::Buffer;
+use report_parser::ReportFault;
 use std::alloc::Global;
 
 /// The line of a description with a fault.
@@ -56,7 +57,17 @@ pub fn script_line(alloc: Global, name: &str, fault: &ScriptError) -> Result<Vec
     Ok(line)
 }
 
-/// The line of a file of events that is too long.
+/// The line of a report with a fault.
+pub fn report_line(alloc: Global, name: &str, fault: &ReportFault) -> Result<Vec<u8>, NoMemory>
+    ensures { IfOk result (λ line. line.items ≡ lines.script_line name.now (lines.report_words fault.now)) }
+{
+    let mut line = begun(alloc, b"script ", name)?;
+    push_report_fault(&mut line, fault)?;
+    line.extend_from_slice(b"\n")?;
+    Ok(line)
+}
+
+/// The line of a file of events or a report that is too long.
 pub fn script_too_long_line(alloc: Global, name: &str) -> Result<Vec<u8>, NoMemory>
     ensures { IfOk result (λ line. line.items ≡ lines.script_line name.now (codes "TooLong" ∷ [])) }
 {

@@ -12,6 +12,7 @@ use darwin_lexer::{At, LexError};
 use darwin_types::TypeError;
 use elaborator::ElabError;
 use itoa::Buffer;
+use report_parser::ReportFault;
 
 /// Writes what names a fault of a description, each word after a space.
 pub fn push_fault(line: &mut Vec<u8>, fault: &DescriptionFault) -> Result<(), NoMemory>
@@ -40,6 +41,17 @@ pub fn push_script_fault(line: &mut Vec<u8>, fault: &ScriptError) -> Result<(), 
         ScriptError::NumberTooBig(number) => push_line(line, b"NumberTooBig", *number),
         ScriptError::TooManyLines(number) => push_line(line, b"TooManyLines", *number),
         ScriptError::NoMemory => Ok(()),
+    }
+}
+
+/// Writes a fault of a report.
+pub fn push_report_fault(line: &mut Vec<u8>, fault: &ReportFault) -> Result<(), NoMemory>
+    ensures { OnOk result (line.new.items ≡ line.old.items ++ lines.spaced (lines.report_words fault.now)) }
+{
+    match fault {
+        ReportFault::BadLine(number) => push_line(line, b"BadLine", *number),
+        ReportFault::Short => push_word(line, b"Short"),
+        ReportFault::NoMemory => Ok(()),
     }
 }
 

@@ -6,8 +6,8 @@ use Rattle.config_graph.specs.declared.node.Made.{Made}
 use Rattle.darwin_parser.specs.Tree.{Tree}
 use Rattle.change_script.specs.declared.event_files.EventFile.{EventFile}
 use Rattle.change_script.specs.EventFiles.{IsEventFile}
-use Rattle.command_answers.specs.Answers.{Answer, Shows, refusal, description, script, read_fault, no_memory, graph, plan}
-use Rattle.command_answers.specs.RefusalLines.{elaborate_words, plan_words, script_words}
+use Rattle.command_answers.specs.Answers.{Answer, Shows, refusal, description, script, read_fault, no_memory, graph, plan, report}
+use Rattle.command_answers.specs.RefusalLines.{elaborate_words, plan_words, script_words, report_words}
 use Rattle.command_answers.specs.declared.status.Status.{Status}
 use Rattle.command_words.specs.declared.words.Command.TheVariants as commands
 use Rattle.command_words.specs.declared.words.TopCall.{TopCall}
@@ -19,11 +19,11 @@ use Rattle.command_runs.specs.Commands.{aim_of, calls_of, course_of_query, cours
 use Rattle.command_runs.specs.Courses.{not_fetched, fetched_alone, failed, too_long, leads_on, refused, gives}
 use Rattle.command_runs.specs.Descriptions.{IsChecked, IsGraphOf, HasGraph, IsDescriptionRefusal, by_text}
 use Rattle.command_runs.specs.Descriptions as descriptions
-use Rattle.command_runs.specs.Fetches.{fetch_of}
+use Rattle.command_runs.specs.Fetches.{fetch_of, report_fetch}
 use Rattle.command_runs.specs.Lines.{Line, calls, Deed, draws, starts, changes, Progress, begun, with_description, with_graph, Allows, by_elaboration, by_deed, Leads, Aim, drawing, planning, replaying, Concludes, Follows, uses}
 use Rattle.command_runs.specs.Plans.{Starts, RefusesStart, has_no_graph, is_full, HasPlan, RefusesPlan, starts_not, leads_nowhere, gets_full, made_of}
 use Rattle.command_runs.specs.Queries.{IsRefused, AnswersQuery}
-use Rattle.command_runs.specs.OneFile.{DescriptionAnswers, cannot_read, is_too_long, answered, ScriptAnswers, cannot_read_script, script_too_long, script_at_fault}
+use Rattle.command_runs.specs.OneFile.{DescriptionAnswers, cannot_read, is_too_long, answered, ScriptAnswers, cannot_read_script, script_too_long, script_at_fault, ReportAnswers, cannot_read_report, report_too_long, report_at_fault, upgraded}
 use Rattle.command_runs.specs.OneFile as files
 use Rattle.command_runs.proofs.Courses.{first_made}
 use Rattle.command_runs.proofs.Readings as readings
@@ -201,3 +201,23 @@ script_unfetched file name = not_fetched
 
 pub script_unread : (file name : List ℕ) (what : Fetched) → course_of (commands.Replay file name) (fetch_of name what ∷ []) (refusal no_memory)
 script_unread file name what = fetched_alone what
+
+-- what is answered of a report
+pub upgrades :
+    (file : List ℕ) (what : Fetched) (own : Status) (text : List ℕ) → ReportAnswers file what own text
+    → Shows (course_of (commands.Upgrade file) (report_fetch file what ∷ [])) own text
+upgrades file _ _ _ cannot_read_report = record { answer = refusal (read_fault file); is = failed; has_status = refl; has_text = refl }
+upgrades file _ _ _ report_too_long =
+    record { answer = refusal (script file (codes "TooLong" ∷ [])); is = too_long; has_status = refl; has_text = refl }
+upgrades file _ _ _ (report_at_fault bytes fault first) =
+    let words = report_words fault in
+    let what = refusal (script file words) in
+    record { answer = what; is = leads_on bytes [] what (refused words (fault, first, refl)); has_status = refl; has_text = refl }
+upgrades file _ _ _ (upgraded bytes r is) =
+    record { answer = report r; is = leads_on bytes [] (report r) (gives r [] (report r) is (refl, refl)); has_status = refl; has_text = refl }
+
+pub report_unfetched : (file : List ℕ) → course_of (commands.Upgrade file) [] (refusal no_memory)
+report_unfetched file = not_fetched
+
+pub report_unread : (file : List ℕ) (what : Fetched) → course_of (commands.Upgrade file) (report_fetch file what ∷ []) (refusal no_memory)
+report_unread file what = fetched_alone what

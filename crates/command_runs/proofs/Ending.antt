@@ -15,8 +15,8 @@ use Rattle.command_runs.specs.declared.query.Query.TheVariants as queries
 use Rattle.command_runs.specs.declared.fetched.Fetched.{Fetched}
 use Rattle.command_runs.specs.declared.fetched.Fetched.TheVariants.{Held}
 use Rattle.command_answers.specs.Answers.{status_of, text_of, help_text, version_text}
-use Rattle.command_runs.specs.Fetches.{Fetch, failed_names, fetch_of}
-use Rattle.command_runs.specs.OneFile.{DescriptionAnswers, cannot_read, is_too_long, refused, answered, ScriptAnswers, cannot_read_script, script_too_long, script_at_fault}
+use Rattle.command_runs.specs.Fetches.{Fetch, failed_names, fetch_of, report_fetch}
+use Rattle.command_runs.specs.OneFile.{DescriptionAnswers, cannot_read, is_too_long, refused, answered, ScriptAnswers, cannot_read_script, script_too_long, script_at_fault, ReportAnswers, cannot_read_report, report_too_long, report_at_fault, upgraded}
 use Rattle.command_runs.specs.Runs.{Written, whole, stopped, Runs}
 use Rattle.command_runs.specs.Outcomes.{NamesFile, MentionsFile, Ends, WroteFront}
 use Rattle.command_runs.proofs.Inverting.{Answer, of_words, AnswersCommand, no_form, answered_to, no_memory, Ran, from_words, Plain, command_status, not_usage, not_write_fault, not_no_memory, not_pending, not_unfinished, not_unlawful}
@@ -67,6 +67,22 @@ script_failed name _ _ _ cannot_read_script some = refl
 script_failed name _ _ _ script_too_long some = absurd (some refl)
 script_failed name _ _ _ (script_at_fault bytes fault first) some = absurd (some refl)
 
+report_fault :
+    (name : List ℕ) (given : Fetched) (own : Status) (text : List ℕ) → ReportAnswers name given own text
+    → own ≡ status.ReadFault → (failed_names (report_fetch name given ∷ []) ≡ name ∷ []) × (text ≡ read_fault_line name)
+report_fault name _ _ _ cannot_read_report is = (refl, refl)
+report_fault name _ _ _ report_too_long is = cc
+report_fault name _ _ _ (report_at_fault bytes fault first) is = cc
+report_fault name _ _ _ (upgraded bytes r reads) is = cc
+
+report_failed :
+    (name : List ℕ) (given : Fetched) (own : Status) (text : List ℕ) → ReportAnswers name given own text
+    → failed_names (report_fetch name given ∷ []) ≢ [] → own ≡ status.ReadFault
+report_failed name _ _ _ cannot_read_report some = refl
+report_failed name _ _ _ report_too_long some = absurd (some refl)
+report_failed name _ _ _ (report_at_fault bytes fault first) some = absurd (some refl)
+report_failed name _ _ _ (upgraded bytes r reads) some = absurd (some refl)
+
 -- the file of which a fetch failed
 failed_file :
     (command : Command) (fetches : List Fetch) (own : Status) (text : List ℕ) → Answer command fetches own text → own ≡ status.ReadFault
@@ -85,6 +101,9 @@ failed_file (commands.Replay file name) fetches own text (inl answer) is =
 failed_file (commands.Replay file name) fetches own text (inr answer) is =
     let told = description_fault file (queries.Replay answer.script) answer.given own text answer.answer is in
     (file, inl refl, ap failed_names answer.is ∙ told.0, told.1)
+failed_file (commands.Upgrade file) fetches own text answer is =
+    let told = report_fault file answer.given own text answer.answer is in
+    (file, refl, ap failed_names answer.is ∙ told.0, told.1)
 
 any_failed :
     (command : Command) (fetches : List Fetch) (own : Status) (text : List ℕ) → Answer command fetches own text → failed_names fetches ≢ []
@@ -99,6 +118,8 @@ any_failed (commands.Replay file name) fetches own text (inl answer) some =
     script_failed name answer.given own text answer.answer (λ none. some (ap failed_names answer.is ∙ none))
 any_failed (commands.Replay file name) fetches own text (inr answer) some =
     description_failed file (queries.Replay answer.script) answer.given own text answer.answer (λ none. some (ap failed_names answer.is ∙ none))
+any_failed (commands.Upgrade file) fetches own text answer some =
+    report_failed file answer.given own text answer.answer (λ none. some (ap failed_names answer.is ∙ none))
 
 -- ---- the clauses
 

@@ -4,16 +4,16 @@ use Rattle.quiesce_core.specs.State.{State}
 use Rattle.quiesce_core.specs.Start.{started}
 use Rattle.quiesce_core.specs.declared.event.Event.{Event}
 use Rattle.change_script.specs.EventFiles.{IsEventFile}
-use Rattle.command_answers.specs.Answers.{Answer, Refusal, refusal, description, script, read_fault, help, version}
+use Rattle.command_answers.specs.Answers.{Answer, Refusal, refusal, description, script, read_fault, help, version, report}
 use Rattle.command_words.specs.declared.words.Command.TheVariants as commands
 use Rattle.command_runs.specs.declared.fetched.Fetched.TheVariants.{Held, TooLong, Failed}
 use Rattle.command_runs.specs.declared.query.Query.{Query}
 use Rattle.command_runs.specs.declared.query.Query.TheVariants as queries
-use Rattle.command_runs.specs.Commands.{RefusesEvents, calls_of, course_of_query}
+use Rattle.command_runs.specs.Commands.{RefusesEvents, RefusesReport, TellsReport, calls_of, course_of_query}
 use Rattle.command_runs.specs.Courses.{Course, Says, AfterFetch, not_fetched, fetched_alone, failed, too_long, leads_on, After, not_judged, refused, gives}
 use Rattle.command_runs.specs.Descriptions.{IsTextRefusal, IsChecked}
 use Rattle.command_runs.specs.Failures.{Uses, FailsLast}
-use Rattle.command_runs.specs.Fetches.{Fetch, failed_names, file_limit}
+use Rattle.command_runs.specs.Fetches.{Fetch, failed_names, file_limit, report_limit}
 use Rattle.command_runs.specs.Lines.{Line, uses, calls, Aim, drawing, planning, replaying, Progress, begun, with_description, IsCallRefusal, Leads, Concludes, Follows}
 use Rattle.command_runs.specs.Outcomes.{NamesFile}
 use Rattle.command_runs.specs.Replays.{IsReplayed, one_denied, all_steps}
@@ -139,3 +139,10 @@ of_words words _ _ (asked (commands.Replay file name) fetches answer asks course
     of_fetch Named name file_limit refuse Then fetches answer (commands.Replay file name, asks, inr refl) (other_script Named name)
     (λ bytes fs a then_. of_step Named (RefusesEvents bytes) refuse (IsEventFile bytes) (λ events. course_of_query file (queries.Replay events)) fs a (other_script Named name)
     (λ events gs b is rest. of_query Named file (queries.Replay events) gs b (commands.Replay file name, asks, inl refl) rest) then_) course
+of_words words _ _ (asked (commands.Upgrade file) fetches answer asks course) =
+    let Named = NamesFile words in
+    let refuse = λ (ws : List (List ℕ)). refusal (script file ws) in
+    let Then = λ (bytes : List ℕ). After (RefusesReport bytes) refuse (TellsReport bytes) (λ r. Says (report r)) in
+    of_fetch Named file report_limit refuse Then fetches answer (commands.Upgrade file, asks, refl) (other_script Named file)
+    (λ bytes fs a then_. of_step Named (RefusesReport bytes) refuse (TellsReport bytes) (λ r. Says (report r)) fs a (other_script Named file)
+    (λ r gs b is says. of_says Named (report r) gs b (λ other same. cc) says) then_) course

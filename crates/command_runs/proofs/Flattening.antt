@@ -11,6 +11,10 @@ use Rattle.event_replay.specs.Replay.{IsDenied}
 use Rattle.change_script.specs.declared.error.ScriptError.{ScriptError}
 use Rattle.change_script.specs.declared.event_files.EventFile.{EventFile}
 use Rattle.change_script.specs.EventFiles.{IsEventFile, IsFirstFault}
+use Rattle.change_script.specs.declared.report.Report.{Report}
+use Rattle.report_parser.specs.Stages.{IsReportFault}
+use Rattle.report_parser.specs.declared.error.ReportFault.{ReportFault}
+use Rattle.command_runs.specs.Commands.{TellsReport}
 use Rattle.command_words.specs.declared.words.TopCall.{TopCall}
 use Rattle.command_answers.specs.declared.status.Status.{Status}
 use Rattle.command_answers.specs.declared.status.Status.TheVariants as status
@@ -27,14 +31,14 @@ use Rattle.command_runs.specs.declared.query.Query.TheVariants as queries
 use Rattle.command_runs.specs.Queries.{IsRefused, AnswersQuery}
 use Rattle.command_runs.specs.declared.fetched.Fetched.{Fetched}
 use Rattle.command_runs.specs.declared.fetched.Fetched.TheVariants.{Failed}
-use Rattle.command_runs.specs.Fetches.{Fetch, failed_names, fetch_of, file_limit, Gave}
-use Rattle.command_runs.specs.OneFile.{DescriptionAnswers, cannot_read, is_too_long, refused, answered, ScriptAnswers, cannot_read_script, script_too_long, script_at_fault}
+use Rattle.command_runs.specs.Fetches.{Fetch, failed_names, fetch_of, file_limit, Gave, report_fetch, report_limit}
+use Rattle.command_runs.specs.OneFile.{DescriptionAnswers, cannot_read, is_too_long, refused, answered, ScriptAnswers, cannot_read_script, script_too_long, script_at_fault, ReportAnswers, cannot_read_report, report_too_long, report_at_fault, upgraded}
 use Rattle.command_runs.specs.Runs.{Written, whole, stopped}
-use Rattle.command_runs.specs.Outcomes.{Ends, Wants, Flattened, Planned, Replayed, Refused, too_long, at_fault, ScriptRefused, events_too_long, events_at_fault, HoldsFile, MustRefuse, MustRefuseScript, NothingRefuses, EndsAsGiven}
-use Rattle.command_runs.proofs.Inverting.{Answer, of_words, AnswersCommand, no_form, answered_to, no_memory, Ran, OfDescription, OfScript, OfReplay}
+use Rattle.command_runs.specs.Outcomes.{Ends, Wants, Flattened, Planned, Replayed, Refused, too_long, at_fault, ScriptRefused, events_too_long, events_at_fault, HoldsFile, MustRefuse, MustRefuseScript, NothingRefuses, EndsAsGiven, Upgraded, ReportRefused, is_longer, has_fault, RefusesScript, MustRefuseReport, NothingRefusesReport}
+use Rattle.command_runs.proofs.Inverting.{Answer, of_words, AnswersCommand, no_form, answered_to, no_memory, Ran, OfDescription, OfScript, OfReplay, OfReport}
 use Rattle.change_script.proofs.EventFileLaws as scripts
 use Rattle.command_runs.proofs.Statuses.{IsGiven, well, with_denial, not_two, memory_not_given, write_fault_not_given, ok_denied, ok_description, ok_script, usage_denied, usage_description, usage_script, memory_denied, memory_description, memory_script, write_fault_denied, write_fault_description, write_fault_script}
-use Rattle.command_runs.proofs.Telling.{held_told, held_within, long_told, same_content, within_not_long, none_added}
+use Rattle.command_runs.proofs.Telling.{held_told, held_within, long_told, longer_told, report_told, report_within, same_content, within_not_long, none_added}
 use Rattle.command_runs.proofs.Wanting.{gives_status, gives_one, never_both}
 
 -- nothing refuses what was held
@@ -82,6 +86,30 @@ need_no_refusal (Some other) bytes script must is within file = by must
     by (inl long) = omega (arith, long, within, ap length same)
     by (inr first) = scripts.never_both bytes script first.0 file (subst (λ b. IsFirstFault b first.0) same first.1)
 
+-- a report needn't be refused
+need_no_fault :
+    (never : (bytes : List ℕ) (r : Report) (fault : ReportFault) → TellsReport bytes r → IsReportFault bytes fault → ⊥)
+    (content : Option (List ℕ)) (bytes : List ℕ) (r : Report) → MustRefuseReport content → content ≡ Some bytes → length bytes ≤ report_limit
+    → TellsReport bytes r → ⊥
+need_no_fault never None bytes r must is within tells = must
+need_no_fault never (Some other) bytes r must is within tells = by must
+  where
+    same : other ≡ bytes
+    same = same_Some other bytes is
+
+    by : (report_limit < length other) ⊎ ((fault : ReportFault) × IsReportFault other fault) → ⊥
+    by (inl long) = omega (arith, long, within, ap length same)
+    by (inr first) = never bytes r first.0 tells (subst (λ b. IsReportFault b first.0) same first.1)
+
+-- nothing refuses a report that was held
+no_fault_refuses : (content : Option (List ℕ)) (bytes : List ℕ) (fault : ReportFault) → NothingRefusesReport content → content ≡ Some bytes → IsReportFault bytes fault → ⊥
+no_fault_refuses None bytes fault nothing is first = nothing
+no_fault_refuses (Some other) bytes fault nothing is first = nothing.1 fault (subst (λ b. IsReportFault b fault) (sym (same_Some other bytes is)) first)
+
+not_longer : (content : Option (List ℕ)) → NothingRefusesReport content → IsSomeAnd content (λ bytes. report_limit < length bytes) → ⊥
+not_longer None nothing long = nothing
+not_longer (Some bytes) nothing long = omega (arith, nothing.0, long)
+
 -- what was written of a description that gave an answer
 pub record WroteAnswer (files : Option Files) (file : List ℕ) (query : Query) (own : Status) (taken taken' : Option (List ℕ)) : Type 0 where
   pub text : List ℕ
@@ -92,6 +120,9 @@ pub record WroteAnswer (files : Option Files) (file : List ℕ) (query : Query) 
   pub wrote : taken' ≡ with_bytes taken written
 
 -- a failed fetch is noted
+unread_report : (name : List ℕ) → failed_names (report_fetch name Failed ∷ []) ≡ [] → ⊥
+unread_report name none = cc
+
 unread_script : (name : List ℕ) → failed_names (fetch_of name Failed ∷ []) ≡ [] → ⊥
 unread_script name none = cc
 
@@ -159,6 +190,43 @@ module _ (files : Option Files) (taken taken' : Option (List ℕ)) where
   script_not_description name _ _ _ cannot_read_script is = cc
   script_not_description name _ _ _ script_too_long is = cc
   script_not_description name _ _ _ (script_at_fault bytes fault first) is = cc
+
+  report_not_denied : (name : List ℕ) (given : Fetched) (own : Status) (text : List ℕ) → ReportAnswers name given own text → own ≢ status.Denied
+  report_not_denied name _ _ _ cannot_read_report is = cc
+  report_not_denied name _ _ _ report_too_long is = cc
+  report_not_denied name _ _ _ (report_at_fault bytes fault first) is = cc
+  report_not_denied name _ _ _ (upgraded bytes r reads) is = cc
+
+  report_not_description : (name : List ℕ) (given : Fetched) (own : Status) (text : List ℕ) → ReportAnswers name given own text → own ≢ status.Description
+  report_not_description name _ _ _ cannot_read_report is = cc
+  report_not_description name _ _ _ report_too_long is = cc
+  report_not_description name _ _ _ (report_at_fault bytes fault first) is = cc
+  report_not_description name _ _ _ (upgraded bytes r reads) is = cc
+
+  -- a report that was written
+  given_report :
+      (name : List ℕ) (given : Fetched) (own : Status) (text : List ℕ) → ReportAnswers name given own text → own ≡ status.Ok
+      → Gave files (report_fetch name given) → taken' ≡ with_bytes taken text → Upgraded files name taken taken'
+  given_report name _ _ _ cannot_read_report is gave took = cc
+  given_report name _ _ _ report_too_long is gave took = cc
+  given_report name _ _ _ (report_at_fault bytes fault first) is gave took = cc
+  given_report name _ _ _ (upgraded bytes r reads) is gave took = record {
+    bytes = bytes;
+    report = r;
+    told = report_told files name bytes gave;
+    within = report_within files name bytes gave;
+    is_report = reads;
+    written = took;
+  }
+
+  of_report_refusal :
+      (name : List ℕ) (given : Fetched) (own : Status) (text : List ℕ) → ReportAnswers name given own text → own ≡ status.Script
+      → Gave files (report_fetch name given) → taken' ≡ with_bytes taken text → ReportRefused files name taken taken'
+  of_report_refusal name _ _ _ cannot_read_report is gave took = cc
+  of_report_refusal name _ _ _ report_too_long is gave took = is_longer (longer_told files name gave) took
+  of_report_refusal name _ _ _ (report_at_fault bytes fault first) is gave took =
+      has_fault bytes fault (report_told files name bytes gave) (report_within files name bytes gave) first took
+  of_report_refusal name _ _ _ (upgraded bytes r reads) is gave took = cc
 
   -- a replay that gave an answer
   of_replay :
@@ -245,6 +313,12 @@ module _ (words : List (List ℕ)) (files : Option Files) (failures failures' : 
   pub replays : (file name : List ℕ) → Asks words (commands.Replay file name) → result ≡ status.Ok → Replayed files file name status.Ok taken taken'
   replays file name asks is = replays_with file name status.Ok well asks is
 
+  pub upgrades : (file : List ℕ) → Asks words (commands.Upgrade file) → result ≡ status.Ok → Upgraded files file taken taken'
+  upgrades file asks is =
+      let f = found (commands.Upgrade file) status.Ok well asks is in
+      let each = subst (AllByRecursion (Gave files)) f.0.0.is run.told in
+      given_report files taken taken' file f.0.0.given run.own run.text f.0.0.answer f.0.1 each.0 f.1
+
   -- only `replay` is denied
   pub denies : result ≡ status.Denied → (file name : List ℕ) × Asks words (commands.Replay file name) × Replayed files file name status.Denied taken taken'
   denies is = by result run.written is
@@ -260,6 +334,7 @@ module _ (words : List (List ℕ)) (files : Option Files) (failures failures' : 
       of (commands.Replay file name) asks (inl s) is took = absurd (script_not_given files taken taken' name s.given run.own run.text status.Denied with_denial s.answer is)
       of (commands.Replay file name) asks (inr r) is took =
           (file, name, asks, of_replay files taken taken' file name run.fetches run.own run.text status.Denied with_denial r is run.told took)
+      of (commands.Upgrade file) asks answer is took = absurd (report_not_denied files taken taken' file answer.given run.own run.text answer.answer is)
 
       own : (fetches : List Fetch) (s : Status) (text : List ℕ) → AnswersCommand words fetches s text → s ≡ status.Denied
           → ((command : Command) → Asks words command → Answer command fetches s text → s ≡ status.Denied
@@ -298,6 +373,8 @@ module _ (words : List (List ℕ)) (files : Option Files) (failures failures' : 
             (name, r.bytes, asks, held_told files name r.bytes each.0, held_within files name r.bytes each.0, r.is_script),
             of_refusal files taken taken' file (queries.Replay r.script) r.given own text r.answer is each.1.0 took,
           )
+      of (commands.Upgrade file) fetches own text asks answer is told took =
+          absurd (report_not_description files taken taken' file answer.given own text answer.answer is)
 
       own : (fetches : List Fetch) (s : Status) (text : List ℕ) → AnswersCommand words fetches s text → s ≡ status.Description → AllByRecursion (Gave files) fetches
           → taken' ≡ with_bytes taken text → (file : List ℕ) × (query : Query) × Wants files words file query × Refused files file query taken taken'
@@ -310,11 +387,11 @@ module _ (words : List (List ℕ)) (files : Option Files) (failures failures' : 
       by _ (whole took steady) is = own run.fetches run.own run.text run.answers is run.told took
       by _ (stopped n short took rose) is = absurd (write_fault_description is)
 
-  pub script : result ≡ status.Script → (file name : List ℕ) × Asks words (commands.Replay file name) × ScriptRefused files name taken taken'
+  pub script : result ≡ status.Script → RefusesScript words files taken taken'
   script is = by result run.written is
     where
       of : (command : Command) (fetches : List Fetch) (own : Status) (text : List ℕ) → Asks words command → Answer command fetches own text → own ≡ status.Script
-          → AllByRecursion (Gave files) fetches → taken' ≡ with_bytes taken text → (file name : List ℕ) × Asks words (commands.Replay file name) × ScriptRefused files name taken taken'
+          → AllByRecursion (Gave files) fetches → taken' ≡ with_bytes taken text → RefusesScript words files taken taken'
       of commands.Help fetches own text asks answer is told took = absurd (not_two own status.Ok status.Script answer.0 is ok_script)
       of commands.Version fetches own text asks answer is told took = absurd (not_two own status.Ok status.Script answer.0 is ok_script)
       of (commands.Flat file call) fetches own text asks answer is told took =
@@ -323,18 +400,21 @@ module _ (words : List (List ℕ)) (files : Option Files) (failures failures' : 
           absurd (no_script_status files taken taken' file (queries.Plan call target) answer.given own text answer.answer is)
       of (commands.Replay file name) fetches own text asks (inl s) is told took =
           let each = subst (AllByRecursion (Gave files)) s.is told in
-          (file, name, asks, of_script_refusal files taken taken' name s.given own text s.answer is each.0 took)
+          inl (file, name, asks, of_script_refusal files taken taken' name s.given own text s.answer is each.0 took)
       of (commands.Replay file name) fetches own text asks (inr r) is told took =
           absurd (no_script_status files taken taken' file (queries.Replay r.script) r.given own text r.answer is)
+      of (commands.Upgrade file) fetches own text asks answer is told took =
+          let each = subst (AllByRecursion (Gave files)) answer.is told in
+          inr (file, asks, of_report_refusal files taken taken' file answer.given own text answer.answer is each.0 took)
 
       own : (fetches : List Fetch) (s : Status) (text : List ℕ) → AnswersCommand words fetches s text → s ≡ status.Script → AllByRecursion (Gave files) fetches
-          → taken' ≡ with_bytes taken text → (file name : List ℕ) × Asks words (commands.Replay file name) × ScriptRefused files name taken taken'
+          → taken' ≡ with_bytes taken text → RefusesScript words files taken taken'
       own _ _ _ (no_form none) is told took = absurd (usage_script is)
       own _ _ _ (answered_to command fetches s text asks to) is told took = of command fetches s text asks to is told took
       own _ _ _ (no_memory fetches) is told took = absurd (memory_script is)
 
       by : (r : Status) → Written run.own run.text taken taken' faults faults' r → r ≡ status.Script
-          → (file name : List ℕ) × Asks words (commands.Replay file name) × ScriptRefused files name taken taken'
+          → RefusesScript words files taken taken'
       by _ (whole took steady) is = own run.fetches run.own run.text run.answers is run.told took
       by _ (stopped n short took rose) is = absurd (write_fault_script is)
 
@@ -452,6 +532,44 @@ module _ (words : List (List ℕ)) (files : Option Files) (failures failures' : 
         of_answer (inr r) =
             let gave = subst (AllByRecursion (Gave (Some f))) r.is told in
             absurd (need_no_refusal (f name) r.bytes r.script must gave.0.1 gave.0.0 r.is_script)
+
+    -- the status of an answer to a report
+    of_report :
+        (file : List ℕ) (due : Status) → Asks words (commands.Upgrade file)
+        → ((given : Fetched) (own : Status) (text : List ℕ) → ReportAnswers file given own text → failed_names (report_fetch file given ∷ []) ≡ []
+        → Gave (Some f) (report_fetch file given) → own ≡ due)
+        → Ends result due
+    of_report file due asks of_answer = ends (commands.Upgrade file) due asks own
+      where
+        own : OfReport file run.fetches run.own run.text → run.own ≡ due
+        own answer =
+            of_answer answer.given run.own run.text answer.answer (sym (ap failed_names answer.is) ∙ none_failed)
+            ((subst (AllByRecursion (Gave (Some f))) answer.is told).0)
+
+    pub must_refuse_report :
+        ((bytes : List ℕ) (r : Report) (fault : ReportFault) → TellsReport bytes r → IsReportFault bytes fault → ⊥)
+        → (file : List ℕ) → Asks words (commands.Upgrade file) → MustRefuseReport (f file) → Ends result status.Script
+    must_refuse_report never file asks must = of_report file status.Script asks of_answer
+      where
+        of_answer :
+            (given : Fetched) (own : Status) (text : List ℕ) → ReportAnswers file given own text → failed_names (report_fetch file given ∷ []) ≡ []
+            → Gave (Some f) (report_fetch file given) → own ≡ status.Script
+        of_answer _ _ _ cannot_read_report none gave = absurd (unread_report file none)
+        of_answer _ _ _ report_too_long none gave = refl
+        of_answer _ _ _ (report_at_fault bytes fault first) none gave = refl
+        of_answer _ _ _ (upgraded bytes r reads) none gave = absurd (need_no_fault never (f file) bytes r must gave.1 gave.0 reads)
+
+    -- a report in which no line is at fault
+    pub completes_report : (file : List ℕ) → Asks words (commands.Upgrade file) → NothingRefusesReport (f file) → Ends result status.Ok
+    completes_report file asks nothing = of_report file status.Ok asks of_answer
+      where
+        of_answer :
+            (given : Fetched) (own : Status) (text : List ℕ) → ReportAnswers file given own text → failed_names (report_fetch file given ∷ []) ≡ []
+            → Gave (Some f) (report_fetch file given) → own ≡ status.Ok
+        of_answer _ _ _ cannot_read_report none gave = absurd (unread_report file none)
+        of_answer _ _ _ report_too_long none gave = absurd (not_longer (f file) nothing gave.1)
+        of_answer _ _ _ (report_at_fault bytes fault first) none gave = absurd (no_fault_refuses (f file) bytes fault nothing gave.1 first)
+        of_answer _ _ _ (upgraded bytes r reads) none gave = refl
 
     -- ---- where nothing refuses the description
 

@@ -19,8 +19,8 @@ use Rattle.command_answers.specs.RefusalLines.{script_line}
 use Rattle.command_runs.specs.Commands.{course_of}
 use Rattle.command_runs.specs.Courses.{not_fetched, fetched_alone, failed, too_long, leads_on, not_judged}
 use Rattle.command_runs.specs.Courses as courses
-use Rattle.command_runs.specs.Fetches.{Fetch, fetch_of, failed_names, Gave}
-use Rattle.command_runs.specs.OneFile.{DescriptionAnswers, cannot_read, is_too_long, refused, answered, ScriptAnswers, cannot_read_script, script_too_long, script_at_fault}
+use Rattle.command_runs.specs.Fetches.{Fetch, fetch_of, failed_names, Gave, report_fetch}
+use Rattle.command_runs.specs.OneFile.{DescriptionAnswers, cannot_read, is_too_long, refused, answered, ScriptAnswers, cannot_read_script, script_too_long, script_at_fault, ReportAnswers, cannot_read_report, report_too_long, report_at_fault, upgraded}
 use Rattle.command_runs.specs.Runs.{Written, AnswersWords, asked, Runs}
 use Rattle.command_runs.specs.Runs as runs
 use Rattle.command_words.proofs.WordsLaws.{one_command}
@@ -46,6 +46,11 @@ pub record OfReplay (file name : List ℕ) (fetches : List Fetch) (own : Status)
   pub is_script : IsEventFile bytes script
   pub answer : DescriptionAnswers file (queries.Replay script) given own text
 
+pub record OfReport (name : List ℕ) (fetches : List Fetch) (own : Status) (text : List ℕ) : Type 0 where
+  pub given : Fetched
+  pub is : fetches ≡ report_fetch name given ∷ []
+  pub answer : ReportAnswers name given own text
+
 -- what is answered to a command
 abbrev pub Answer : Command → List Fetch → Status → List ℕ → Type 0
 Answer commands.Help fetches own text = (own ≡ status.Ok) × (fetches ≡ []) × (text ≡ help_text)
@@ -53,6 +58,7 @@ Answer commands.Version fetches own text = (own ≡ status.Ok) × (fetches ≡ [
 Answer (commands.Flat file call) fetches own text = OfDescription file (queries.Graph call) fetches own text
 Answer (commands.Plan file call target) fetches own text = OfDescription file (queries.Plan call target) fetches own text
 Answer (commands.Replay file name) fetches own text = OfScript name fetches own text ⊎ OfReplay file name fetches own text
+Answer (commands.Upgrade file) fetches own text = OfReport file fetches own text
 
 pub from_command :
     (command : Command) (fetches : List Fetch) (answer : values.Answer) → course_of command fetches answer
@@ -91,6 +97,23 @@ from_command (commands.Replay file name) _ _ (leads_on bytes _ _ (courses.gives 
     by _ _ (out_of_memory fs) = inr refl
     by _ _ (of_description what a d) =
         inl (inr (record { bytes = bytes; script = events; given = what; is = refl; is_script = is; answer = d }))
+from_command (commands.Upgrade file) _ _ not_fetched = inr refl
+from_command (commands.Upgrade file) _ _ (fetched_alone what) = inr refl
+from_command (commands.Upgrade file) _ _ failed = inl (record { given = Failed; is = refl; answer = cannot_read_report })
+from_command (commands.Upgrade file) _ _ too_long = inl (record { given = TooLong; is = refl; answer = report_too_long })
+from_command (commands.Upgrade file) _ _ (leads_on bytes _ _ not_judged) = inr refl
+from_command (commands.Upgrade file) _ _ (leads_on bytes _ _ (courses.refused words (fault, first, is))) =
+    inl (record {
+      given = Held bytes;
+      is = refl;
+      answer = subst (λ w. ReportAnswers file (Held bytes) status.Script (script_line file w)) (sym is) (report_at_fault bytes fault first);
+    })
+from_command (commands.Upgrade file) _ _ (leads_on bytes _ _ (courses.gives r fetches answer is says)) =
+    inl (record {
+      given = Held bytes;
+      is = ap (λ fs. report_fetch file (Held bytes) ∷ fs) says.0;
+      answer = subst (λ a. ReportAnswers file (Held bytes) (status_of a) (text_of a)) (sym says.1) (upgraded bytes r is);
+    })
 
 -- the status and the text of an answer to words
 pub data AnswersCommand (words : List (List ℕ)) : List Fetch → Status → List ℕ → Type 0 where
@@ -167,6 +190,12 @@ script_status name _ _ _ cannot_read_script = read_fault
 script_status name _ _ _ script_too_long = script
 script_status name _ _ _ (script_at_fault bytes fault first) = script
 
+pub report_status : (name : List ℕ) (given : Fetched) (own : Status) (text : List ℕ) → ReportAnswers name given own text → Plain own
+report_status name _ _ _ cannot_read_report = read_fault
+report_status name _ _ _ report_too_long = script
+report_status name _ _ _ (report_at_fault bytes fault first) = script
+report_status name _ _ _ (upgraded bytes r is) = well
+
 pub command_status : (command : Command) (fetches : List Fetch) (own : Status) (text : List ℕ) → Answer command fetches own text → Plain own
 command_status commands.Help fetches own text answer = rw answer.0 well
 command_status commands.Version fetches own text answer = rw answer.0 well
@@ -174,6 +203,7 @@ command_status (commands.Flat file call) fetches own text answer = description_s
 command_status (commands.Plan file call target) fetches own text answer = description_status file (queries.Plan call target) answer.given own text answer.answer
 command_status (commands.Replay file name) fetches own text (inl answer) = script_status name answer.given own text answer.answer
 command_status (commands.Replay file name) fetches own text (inr answer) = description_status file (queries.Replay answer.script) answer.given own text answer.answer
+command_status (commands.Upgrade file) fetches own text answer = report_status file answer.given own text answer.answer
 
 pub not_usage : (own : Status) → Plain own → own ≢ status.Usage
 not_usage _ well is = cc

@@ -8,6 +8,7 @@ pub mod Inverting
 pub mod OneAnswer
 pub mod Planning
 pub mod Readings
+pub mod Reports
 pub mod RunLaws
 pub mod Statuses
 pub mod Telling

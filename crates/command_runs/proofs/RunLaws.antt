@@ -6,7 +6,7 @@ use Rattle.command_answers.specs.declared.status.Status.TheVariants as status
 use Rattle.command_words.specs.CommandLine.{Asks}
 use Rattle.command_words.specs.declared.words.Command.TheVariants as commands
 use Rattle.command_words.specs.declared.words.TopCall.{TopCall}
-use Rattle.command_runs.specs.Outcomes.{Flattened, Planned, Replayed, NothingRefuses, EndsAsGiven, Wants}
+use Rattle.command_runs.specs.Outcomes.{Flattened, Planned, Replayed, Upgraded, NothingRefuses, EndsAsGiven, Wants}
 use Rattle.command_runs.specs.Runs.{Runs}
 use Rattle.command_runs.specs.declared.query.Query.{Query}
 use Rattle.command_runs.proofs.Flattening as flattening
@@ -27,6 +27,9 @@ module _ (words : List (List ℕ)) (files : Option Files) (failures failures' : 
       (file events : List ℕ) → Asks words (commands.Replay file events) → result ≡ status.Ok
       → Replayed files file events status.Ok taken taken'
   replays = flattening.replays words files failures failures' taken taken' faults faults' result (ran words files failures failures' taken taken' faults faults' result run)
+
+  pub upgrades : (file : List ℕ) → Asks words (commands.Upgrade file) → result ≡ status.Ok → Upgraded files file taken taken'
+  upgrades = flattening.upgrades words files failures failures' taken taken' faults faults' result (ran words files failures failures' taken taken' faults faults' result run)
 
   pub denies :
       result ≡ status.Denied

@@ -3,8 +3,8 @@ use Rattle.std.proofs.Common.{◌≡◌, ◌∙◌, ◌≤◌, ◌<◌, ℕ, Lis
 use Rattle.std.proofs.lemmas.Option.{same_Some, none-some}
 use Rattle.cfg_io.specs.Shelf.{Files}
 use Rattle.command_runs.specs.declared.fetched.Fetched.TheVariants.{Held, TooLong}
-use Rattle.command_runs.specs.Fetches.{file_limit, fetch_of, Gave}
-use Rattle.command_runs.specs.Outcomes.{HoldsFile, TellsTooLong}
+use Rattle.command_runs.specs.Fetches.{file_limit, fetch_of, Gave, report_fetch, report_limit}
+use Rattle.command_runs.specs.Outcomes.{HoldsFile, TellsLonger, TellsTooLong}
 
 -- what is told of a file that was fetched
 pub held_told : (files : Option Files) (file text : List ℕ) → Gave files (fetch_of file (Held text)) → HoldsFile files file text
@@ -18,6 +18,19 @@ held_within (Some f) file text gave = gave.0
 pub long_told : (files : Option Files) (file : List ℕ) → Gave files (fetch_of file TooLong) → TellsTooLong files file
 long_told None file gave = tt
 long_told (Some f) file gave = gave.1
+
+-- the same of a report
+pub report_told : (files : Option Files) (file text : List ℕ) → Gave files (report_fetch file (Held text)) → HoldsFile files file text
+report_told None file text gave = tt
+report_told (Some f) file text gave = gave.1
+
+pub report_within : (files : Option Files) (file text : List ℕ) → Gave files (report_fetch file (Held text)) → length text ≤ report_limit
+report_within None file text gave = gave
+report_within (Some f) file text gave = gave.0
+
+pub longer_told : (files : Option Files) (file : List ℕ) → Gave files (report_fetch file TooLong) → TellsLonger report_limit files file
+longer_told None file gave = tt
+longer_told (Some f) file gave = gave.1
 
 -- a file has one content
 pub same_content : (content : Option (List ℕ)) (text other : List ℕ) → content ≡ Some text → content ≡ Some other → text ≡ other

@@ -3,14 +3,19 @@
 use Rattle.std.specs.Prelude.{◌≡◌, ℕ, List, [], ◌∷◌}
 use Rattle.change_script.specs.EventFiles.{IsEventFile, IsFirstFault}
 use Rattle.change_script.specs.declared.error.ScriptError.{ScriptError}
-use Rattle.command_answers.specs.Answers.{refusal, script, help, version}
-use Rattle.command_answers.specs.RefusalLines.{script_words}
+use Rattle.change_script.specs.declared.report.Report.{Report}
+use Rattle.report_parser.specs.ReportTexts.{IsReportText}
+use Rattle.report_parser.specs.Stages.{IsReportFault}
+use Rattle.report_parser.specs.declared.error.ReportFault.{ReportFault}
+use Rattle.report_parser.specs.declared.version.Version.{Version}
+use Rattle.command_answers.specs.Answers.{refusal, script, help, version, report}
+use Rattle.command_answers.specs.RefusalLines.{report_words, script_words}
 use Rattle.command_words.specs.declared.words.Command.{Command}
 use Rattle.command_words.specs.declared.words.Command.TheVariants as commands
 use Rattle.command_runs.specs.declared.query.Query.{Query}
 use Rattle.command_runs.specs.declared.query.Query.TheVariants as queries
 use Rattle.command_runs.specs.Courses.{Course, Says, AfterFetch, After}
-use Rattle.command_runs.specs.Fetches.{file_limit}
+use Rattle.command_runs.specs.Fetches.{file_limit, report_limit}
 use Rattle.command_runs.specs.Lines.{Line, uses, calls, draws, starts, changes, Aim, drawing, planning, replaying, begun, Follows}
 
 abbrev pub aim_of : Query → Aim
@@ -34,6 +39,14 @@ course_of_query file query = Follows (aim_of query) begun (uses file ∷ calls_o
 abbrev pub RefusesEvents : List ℕ → List (List ℕ) → Type 0
 RefusesEvents bytes words = (fault : ScriptError) × IsFirstFault bytes fault × (words ≡ script_words fault)
 
+-- the bytes are the text of the report, in some version
+abbrev pub TellsReport : List ℕ → Report → Type 0
+TellsReport bytes r = (version : Version) × IsReportText version bytes r
+
+-- the words of what refuses a report
+abbrev pub RefusesReport : List ℕ → List (List ℕ) → Type 0
+RefusesReport bytes words = (fault : ReportFault) × IsReportFault bytes fault × (words ≡ report_words fault)
+
 abbrev pub course_of : Command → Course
 course_of commands.Help = Says help
 course_of commands.Version = Says version
@@ -44,3 +57,7 @@ course_of (commands.Replay file name) =
     AfterFetch name file_limit refuse
     (λ bytes. After (RefusesEvents bytes) refuse (IsEventFile bytes)
     (λ events. course_of_query file (queries.Replay events)))
+course_of (commands.Upgrade file) =
+    let refuse = λ (words : List (List ℕ)). refusal (script file words) in
+    AfterFetch file report_limit refuse
+    (λ bytes. After (RefusesReport bytes) refuse (TellsReport bytes) (λ r. Says (report r)))

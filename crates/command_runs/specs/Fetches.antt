@@ -3,6 +3,7 @@ use Rattle.std.specs.Prelude.{◌≡◌, ◌≤◌, ◌<◌, ℕ, List, [], ◌�
 use Rattle.std.specs.List.{flat_map}
 use Rattle.cfg_io.specs.Shelf.{Files}
 use Rattle.darwin_lexer.specs.declared.lexing.TheConstants.{MAX_TEXT}
+use Rattle.report_parser.specs.declared.texts.TheConstants.{MAX_REPORT}
 use Rattle.command_runs.specs.declared.fetched.Fetched.{Fetched}
 use Rattle.command_runs.specs.declared.fetched.Fetched.TheVariants.{Held, TooLong, Failed}
 
@@ -46,3 +47,10 @@ file_limit = MAX_TEXT
 
 abbrev pub fetch_of : List ℕ → Fetched → Fetch
 fetch_of file given = record { name = file; limit = file_limit; given = given }
+
+-- the most bytes of a report
+abbrev pub report_limit : ℕ
+report_limit = MAX_REPORT
+
+abbrev pub report_fetch : List ℕ → Fetched → Fetch
+report_fetch file given = record { name = file; limit = report_limit; given = given }

@@ -2,12 +2,17 @@
 use Rattle.std.specs.Prelude.{ℕ, List, [], ◌∷◌, codes}
 use Rattle.change_script.specs.EventFiles.{IsFirstFault}
 use Rattle.change_script.specs.declared.error.ScriptError.{ScriptError}
-use Rattle.command_answers.specs.RefusalLines.{read_fault_line, description_line, script_line, script_words}
+use Rattle.change_script.specs.Reports.{report_text}
+use Rattle.change_script.specs.declared.report.Report.{Report}
+use Rattle.report_parser.specs.Stages.{IsReportFault}
+use Rattle.report_parser.specs.declared.error.ReportFault.{ReportFault}
+use Rattle.command_answers.specs.RefusalLines.{read_fault_line, description_line, report_words, script_line, script_words}
 use Rattle.command_answers.specs.declared.status.Status.{Status}
 use Rattle.command_answers.specs.declared.status.Status.TheVariants as status
 use Rattle.command_runs.specs.declared.fetched.Fetched.{Fetched}
 use Rattle.command_runs.specs.declared.fetched.Fetched.TheVariants.{Held, TooLong, Failed}
 use Rattle.command_runs.specs.declared.query.Query.{Query}
+use Rattle.command_runs.specs.Commands.{TellsReport}
 use Rattle.command_runs.specs.Queries.{IsRefused, AnswersQuery}
 
 -- of a description
@@ -28,3 +33,12 @@ pub data ScriptAnswers (name : List ℕ) : Fetched → Status → List ℕ → T
   script_at_fault :
       (bytes : List ℕ) (fault : ScriptError) → IsFirstFault bytes fault
       → ScriptAnswers name (Held bytes) status.Script (script_line name (script_words fault))
+
+-- of a report
+pub data ReportAnswers (name : List ℕ) : Fetched → Status → List ℕ → Type 0 where
+  cannot_read_report : ReportAnswers name Failed status.ReadFault (read_fault_line name)
+  report_too_long : ReportAnswers name TooLong status.Script (script_line name (codes "TooLong" ∷ []))
+  report_at_fault :
+      (bytes : List ℕ) (fault : ReportFault) → IsReportFault bytes fault
+      → ReportAnswers name (Held bytes) status.Script (script_line name (report_words fault))
+  upgraded : (bytes : List ℕ) (r : Report) → TellsReport bytes r → ReportAnswers name (Held bytes) status.Ok (report_text r)

@@ -14,7 +14,12 @@ use Rattle.command_answers.specs.declared.status.Status.TheVariants as status
 use Rattle.command_words.specs.declared.words.Command.{Command}
 use Rattle.command_words.specs.declared.words.Command.TheVariants as commands
 use Rattle.command_words.specs.CommandLine.{Asks}
-use Rattle.command_answers.specs.RefusalLines.{description_line, script_line, script_words}
+use Rattle.change_script.specs.Reports.{report_text}
+use Rattle.change_script.specs.declared.report.Report.{Report}
+use Rattle.report_parser.specs.Stages.{IsReportFault}
+use Rattle.report_parser.specs.declared.error.ReportFault.{ReportFault}
+use Rattle.command_answers.specs.RefusalLines.{description_line, report_words, script_line, script_words}
+use Rattle.command_runs.specs.Commands.{TellsReport}
 use Rattle.command_runs.specs.Descriptions.{HasGraph}
 use Rattle.command_runs.specs.Plans.{HasPlan}
 use Rattle.command_runs.specs.Replays.{HasReplay}
@@ -22,7 +27,7 @@ use Rattle.command_runs.specs.declared.query.Query.{Query}
 use Rattle.command_runs.specs.declared.query.Query.TheVariants as queries
 use Rattle.command_runs.specs.Queries.{IsRefused, AnswersQuery}
 use Rattle.command_answers.specs.Answers.{Answer, status_of, text_of}
-use Rattle.command_runs.specs.Fetches.{Fetch, Gave, failed_names, file_limit}
+use Rattle.command_runs.specs.Fetches.{Fetch, Gave, failed_names, file_limit, report_limit}
 use Rattle.command_runs.specs.Runs.{AnswersWords}
 
 -- the command names the file
@@ -32,6 +37,7 @@ MentionsFile commands.Version name = ⊥
 MentionsFile (commands.Flat file call) name = name ≡ file
 MentionsFile (commands.Plan file call target) name = name ≡ file
 MentionsFile (commands.Replay file events) name = (name ≡ file) ⊎ (name ≡ events)
+MentionsFile (commands.Upgrade file) name = name ≡ file
 
 -- the words name the file
 abbrev pub NamesFile : List (List ℕ) → List ℕ → Type 0
@@ -59,10 +65,14 @@ abbrev pub HoldsFile : Option Files → List ℕ → List ℕ → Type 0
 HoldsFile None file text = Unit {0}
 HoldsFile (Some files) file text = files file ≡ Some text
 
--- where the shelf tells its files, the file of the name has more bytes than a description may have
+-- where the shelf tells its files, the file of the name has more bytes than this
+abbrev pub TellsLonger : ℕ → Option Files → List ℕ → Type 0
+TellsLonger limit None file = Unit {0}
+TellsLonger limit (Some files) file = IsSomeAnd (files file) (λ bytes. limit < length bytes)
+
+-- than a description may have
 abbrev pub TellsTooLong : Option Files → List ℕ → Type 0
-TellsTooLong None file = Unit {0}
-TellsTooLong (Some files) file = IsSomeAnd (files file) (λ bytes. file_limit < length bytes)
+TellsTooLong = TellsLonger file_limit
 
 -- The words ask for this of the description in a file, where the shelf tells of events what the file of events holds.
 abbrev pub Wants : Option Files → List (List ℕ) → List ℕ → Query → Type 0
@@ -138,3 +148,35 @@ pub data ScriptRefused (files : Option Files) (name : List ℕ) (taken taken' : 
 -- the file has more bytes than a file of events may have, or isn't one
 abbrev pub MustRefuseScript : Option (List ℕ) → Type 0
 MustRefuseScript file = IsSomeAnd file (λ bytes. (file_limit < length bytes) ⊎ ((fault : ScriptError) × IsFirstFault bytes fault))
+
+-- The file holds a report, and its text of the version that is written today was written.
+pub record Upgraded (files : Option Files) (file : List ℕ) (taken taken' : Option (List ℕ)) : Type 0 where
+  pub bytes : List ℕ
+  pub report : Report
+  pub told : HoldsFile files file bytes
+  pub within : length bytes ≤ report_limit
+  pub is_report : TellsReport bytes report
+  pub written : taken' ≡ with_bytes taken (report_text report)
+
+-- The report is too long, or the fault of its first line at fault was named; and the line that says so was written.
+pub data ReportRefused (files : Option Files) (name : List ℕ) (taken taken' : Option (List ℕ)) : Type 0 where
+  is_longer :
+      TellsLonger report_limit files name → taken' ≡ with_bytes taken (script_line name (codes "TooLong" ∷ []))
+      → ReportRefused files name taken taken'
+  has_fault :
+      (bytes : List ℕ) (fault : ReportFault) → HoldsFile files name bytes → length bytes ≤ report_limit → IsReportFault bytes fault
+      → taken' ≡ with_bytes taken (script_line name (report_words fault)) → ReportRefused files name taken taken'
+
+-- the words ask for a file of events, or for a report, and it was refused
+abbrev pub RefusesScript : List (List ℕ) → Option Files → Option (List ℕ) → Option (List ℕ) → Type 0
+RefusesScript words files taken taken' =
+    ((file events : List ℕ) × Asks words (commands.Replay file events) × ScriptRefused files events taken taken')
+    ⊎ ((file : List ℕ) × Asks words (commands.Upgrade file) × ReportRefused files file taken taken')
+
+-- the file has more bytes than a report may have, or isn't one
+abbrev pub MustRefuseReport : Option (List ℕ) → Type 0
+MustRefuseReport file = IsSomeAnd file (λ bytes. (report_limit < length bytes) ⊎ ((fault : ReportFault) × IsReportFault bytes fault))
+
+-- the file has no more bytes than a report may have, and no line of it is at fault
+abbrev pub NothingRefusesReport : Option (List ℕ) → Type 0
+NothingRefusesReport file = IsSomeAnd file (λ bytes. (length bytes ≤ report_limit) × ((fault : ReportFault) → ¬ IsReportFault bytes fault))

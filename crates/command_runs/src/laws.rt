@@ -25,16 +25,19 @@ ghost use Rattle.command_words.specs.CommandLine.{Asks, HasNoForm};
 ghost use Rattle.command_words.specs.declared.words.Command.TheVariants as commands;
 ghost use Rattle.command_words.specs.declared.words.TopCall.{TopCall};
 ghost use Rattle.command_runs.specs.Descriptions.{HasGraph, IsDescriptionRefusal};
-ghost use Rattle.command_runs.specs.Commands.{course_of, course_of_query};
+ghost use Rattle.change_script.specs.declared.report.Report.{Report};
+ghost use Rattle.report_parser.specs.Stages.{IsReportFault};
+ghost use Rattle.report_parser.specs.declared.error.ReportFault.{ReportFault};
+ghost use Rattle.command_runs.specs.Commands.{TellsReport, course_of, course_of_query};
 ghost use Rattle.command_runs.specs.Failures.{FailsLast, Uses};
 ghost use Rattle.command_runs.specs.Lines.{Aim, Line, Progress, Follows};
-ghost use Rattle.command_runs.specs.Fetches.{Fetch, fetch_of, file_limit};
-ghost use Rattle.command_runs.specs.OneFile.{DescriptionAnswers, ScriptAnswers};
+ghost use Rattle.command_runs.specs.Fetches.{Fetch, fetch_of, file_limit, report_fetch};
+ghost use Rattle.command_runs.specs.OneFile.{DescriptionAnswers, ReportAnswers, ScriptAnswers};
 ghost use Rattle.command_runs.specs.declared.fetched.Fetched.{Fetched};
 ghost use Rattle.command_runs.specs.declared.fetched.Fetched.TheVariants.{Held};
 ghost use Rattle.command_runs.specs.Outcomes.{NamesFile, Ends, WroteFront, Flattened, Planned, Replayed, Refused};
-ghost use Rattle.command_runs.specs.Outcomes.{ScriptRefused, MustRefuse, MustRefuseScript, NothingRefuses};
-ghost use Rattle.command_runs.specs.Outcomes.{EndsAsGiven, Wants};
+ghost use Rattle.command_runs.specs.Outcomes.{RefusesScript, MustRefuse, MustRefuseScript, NothingRefuses};
+ghost use Rattle.command_runs.specs.Outcomes.{EndsAsGiven, MustRefuseReport, NothingRefusesReport, Upgraded, Wants};
 ghost use Rattle.command_runs.specs.Plans.{RefusesStart, Starts};
 ghost use Rattle.command_runs.specs.Queries.{AnswersQuery, IsRefused};
 ghost use Rattle.command_runs.specs.Runs.{AnswersWords, Runs};
@@ -43,6 +46,7 @@ ghost use Rattle.command_runs.specs.declared.query.Query.TheVariants as queries;
 
 use darwin_types::a_fault_or_none;
 use elaborator::a_graph_or_a_fault;
+use report_parser::{a_text_tells_its_report, one_report_or_one_fault};
 
 /// A law of runs: Usage comes where the words have none of the forms, with its line, and nowhere else.
 pub fn usage_is_of_words_without_a_form()
@@ -99,7 +103,8 @@ pub fn own_texts_are_written()
         → Ends result Status.Ok × (result ≡ Status.Ok → taken' ≡ with_bytes taken version_text) }
 {}
 
-/// A law of runs: Ok comes with the text of the graph, of the plan, or of what events leave open and settled.
+/// A law of runs: Ok comes with the text of the graph, of the plan, of what events leave open and settled, or of the
+/// report.
 pub fn what_is_asked_for_is_written()
     ensures flattened { (words : List (List ℕ)) (files : Option Files) (failures failures' : List (List ℕ))
         (taken taken' : Option (List ℕ)) (faults faults' : ℕ) (result : Status) → Runs words files failures failures' taken taken' faults faults' result
@@ -113,6 +118,9 @@ pub fn what_is_asked_for_is_written()
         (taken taken' : Option (List ℕ)) (faults faults' : ℕ) (result : Status) → Runs words files failures failures' taken taken' faults faults' result
         → (file events : List ℕ) → Asks words (commands.Replay file events) → result ≡ Status.Ok
         → Replayed files file events Status.Ok taken taken' }
+    ensures upgraded { (words : List (List ℕ)) (files : Option Files) (failures failures' : List (List ℕ))
+        (taken taken' : Option (List ℕ)) (faults faults' : ℕ) (result : Status) → Runs words files failures failures' taken taken' faults faults' result
+        → (file : List ℕ) → Asks words (commands.Upgrade file) → result ≡ Status.Ok → Upgraded files file taken taken' }
 {}
 
 /// A law of runs: Denied comes where an event is no step from the state before it, and nowhere else; the line has the
@@ -130,19 +138,24 @@ pub fn denials_are_of_first_events()
         → Ends result Denied }
 {}
 
-/// A law of runs: Script comes where the file of events is too long or isn't one, and nowhere else; the line names
-/// the first fault.
+/// A law of runs: Script comes where the file of events or the report is too long or isn't one, and nowhere else; the
+/// line names the first fault.
 pub fn scripts_are_refused_for_their_first_fault()
     ensures only { (words : List (List ℕ)) (files : Option Files) (failures failures' : List (List ℕ))
         (taken taken' : Option (List ℕ)) (faults faults' : ℕ) (result : Status) → Runs words files failures failures' taken taken' faults faults' result
-        → result ≡ Script → (file events : List ℕ) × Asks words (commands.Replay file events)
-        × ScriptRefused files events taken taken' }
+        → result ≡ Script → RefusesScript words files taken taken' }
     ensures always { (words : List (List ℕ)) (files : Files) (failures failures' : List (List ℕ))
         (taken taken' : Option (List ℕ)) (faults faults' : ℕ) (result : Status) → Runs words (Some files) failures failures' taken taken' faults faults' result
         → failures' ≡ failures → (file events : List ℕ) → Asks words (commands.Replay file events)
         → MustRefuseScript (files events)
         → Ends result Script }
-{}
+    ensures always_report { (words : List (List ℕ)) (files : Files) (failures failures' : List (List ℕ))
+        (taken taken' : Option (List ℕ)) (faults faults' : ℕ) (result : Status) → Runs words (Some files) failures failures' taken taken' faults faults' result
+        → failures' ≡ failures → (file : List ℕ) → Asks words (commands.Upgrade file) → MustRefuseReport (files file)
+        → Ends result Script }
+{
+    one_report_or_one_fault();
+}
 
 /// A law of runs: Description comes where the file is too long or something refuses what it holds, and nowhere else;
 /// the line names a fault that holds.
@@ -158,7 +171,8 @@ pub fn descriptions_are_refused_for_faults_that_hold()
         → Ends result Description }
 {}
 
-/// A law of runs: where nothing refuses the description, the run ends with what its bytes give.
+/// A law of runs: where nothing refuses the description, the run ends with what its bytes give; and where no line of a
+/// report is at fault, with its text.
 pub fn what_is_not_refused_is_answered()
     ensures complete { (words : List (List ℕ)) (files : Files) (failures failures' : List (List ℕ))
         (taken taken' : Option (List ℕ)) (faults faults' : ℕ) (result : Status) → Runs words (Some files) failures failures' taken taken' faults faults' result
@@ -175,6 +189,10 @@ pub fn what_is_not_refused_is_answered()
         → failures' ≡ failures → (file : List ℕ) (call : TopCall) (text : List ℕ) (graph : Graph)
         → Asks words (commands.Flat file call)
         → files file ≡ Some text → length text ≤ file_limit → HasGraph text call.top call.args graph
+        → Ends result Status.Ok }
+    ensures complete_report { (words : List (List ℕ)) (files : Files) (failures failures' : List (List ℕ))
+        (taken taken' : Option (List ℕ)) (faults faults' : ℕ) (result : Status) → Runs words (Some files) failures failures' taken taken' faults faults' result
+        → failures' ≡ failures → (file : List ℕ) → Asks words (commands.Upgrade file) → NothingRefusesReport (files file)
         → Ends result Status.Ok }
 {}
 
@@ -206,6 +224,15 @@ pub fn courses_of_replays_are_by_two_files()
         × course_of (commands.Replay file name) (fetch_of name given ∷ []) (refusal no_memory) }
 {}
 
+/// A law: the course of a report is what is answered of its file.
+pub fn courses_of_reports_are_by_one_file()
+    ensures gives { (file : List ℕ) (given : Fetched) (own : Status) (text : List ℕ) → ReportAnswers file given own text
+        → Shows (course_of (commands.Upgrade file) (report_fetch file given ∷ [])) own text }
+    ensures short { (file : List ℕ) (given : Fetched)
+        → course_of (commands.Upgrade file) [] (refusal no_memory)
+        × course_of (commands.Upgrade file) (report_fetch file given ∷ []) (refusal no_memory) }
+{}
+
 /// A law: a fetch that fails is the last, and the only one; it is of a file that the lines use, or the words name,
 /// and the answer says so unless memory ran out.
 pub fn a_failed_fetch_is_the_last()
@@ -222,11 +249,17 @@ pub fn what_bytes_give_is_one()
     ensures never_both { (query : Query) (text : List ℕ) (own : Status) (written : List ℕ) (words : List (List ℕ))
         → AnswersQuery query text own written → ¬ IsRefused query text words }
     ensures one_plan { (old new : Graph) (p q : Plan) → IsPlanOf old new [] p → IsPlanOf old new [] q → p ≡ q }
-{}
+    ensures one_report { (bytes : List ℕ) (r s : Report) → TellsReport bytes r → TellsReport bytes s → r ≡ s }
+    ensures no_fault_beside { (bytes : List ℕ) (r : Report) (fault : ReportFault) → TellsReport bytes r
+        → ¬ IsReportFault bytes fault }
+{
+    a_text_tells_its_report();
+    one_report_or_one_fault();
+}
 
 /// A law: nothing hides behind want of memory. Of each text a graph of a component stands or a refusal, and a start or a
-/// refusal of it; there is room for a graph, or none. That what is wanted of a text is neither refused nor answered
-/// can't be.
+/// refusal of it; there is room for a graph, or none; and each text is one of a report, or has a fault. That what is
+/// wanted of a text is neither refused nor answered can't be.
 pub fn what_is_wanted_is_refused_or_answered()
     ensures graphs { (text name : List ℕ) (args : List ℤ) → ((g : Graph) × HasGraph text name args g)
         ⊎ ((words : List (List ℕ)) × IsDescriptionRefusal text name args words) }
@@ -235,7 +268,10 @@ pub fn what_is_wanted_is_refused_or_answered()
     ensures room { (made : Made) (g : Graph) → HasRoomFor made g ⊎ ((e : PlanError) × LacksRoomFor made g e) }
     ensures queries { (query : Query) (text : List ℕ) → ¬ (((words : List (List ℕ)) → ¬ IsRefused query text words)
         × ((own : Status) (written : List ℕ) → ¬ AnswersQuery query text own written)) }
+    ensures reports { (bytes : List ℕ) → ((r : Report) × TellsReport bytes r)
+        ⊎ ((fault : ReportFault) × IsReportFault bytes fault) }
 {
     a_fault_or_none();
     a_graph_or_a_fault();
+    one_report_or_one_fault();
 }

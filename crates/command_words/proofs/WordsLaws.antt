@@ -14,6 +14,7 @@ pub data Form : Type 0 where
   flat : Form
   plan : Form
   replay : Form
+  upgrade : Form
 
 abbrev pub form : Command → Form
 form commands.Help = help
@@ -21,6 +22,7 @@ form commands.Version = version
 form (commands.Flat file call) = flat
 form (commands.Plan file call target) = plan
 form (commands.Replay file events) = replay
+form (commands.Upgrade file) = upgrade
 
 abbrev pub Carried : Form → Type 0
 Carried help = Unit {0}
@@ -28,6 +30,7 @@ Carried version = Unit {0}
 Carried flat = List ℕ × TopCall
 Carried plan = List ℕ × TopCall × TopCall
 Carried replay = List ℕ × List ℕ
+Carried upgrade = List ℕ
 
 abbrev pub command : (f : Form) → Carried f → Command
 command help p = commands.Help
@@ -35,6 +38,7 @@ command version p = commands.Version
 command flat p = commands.Flat p.0 p.1
 command plan p = commands.Plan p.0 p.1 p.2
 command replay p = commands.Replay p.0 p.1
+command upgrade p = commands.Upgrade p
 
 abbrev pub carried : (c : Command) → Carried (form c)
 carried commands.Help = tt
@@ -42,6 +46,7 @@ carried commands.Version = tt
 carried (commands.Flat file call) = (file, call)
 carried (commands.Plan file call target) = (file, call, target)
 carried (commands.Replay file events) = (file, events)
+carried (commands.Upgrade file) = file
 
 is_command : (c : Command) → c ≡ command (form c) (carried c)
 is_command commands.Help = refl
@@ -49,6 +54,7 @@ is_command commands.Version = refl
 is_command (commands.Flat file call) = refl
 is_command (commands.Plan file call target) = refl
 is_command (commands.Replay file events) = refl
+is_command (commands.Upgrade file) = refl
 
 -- the form that a first word tells
 pub form_of : List ℕ → Option Form
@@ -57,7 +63,8 @@ form_of word =
     if bytes_eq word (codes "--version") then Some version else
     if bytes_eq word (codes "flat") then Some flat else
     if bytes_eq word (codes "plan") then Some plan else
-    if bytes_eq word (codes "replay") then Some replay else None
+    if bytes_eq word (codes "replay") then Some replay else
+    if bytes_eq word (codes "upgrade") then Some upgrade else None
 
 pub form_is : (c : Command) → form_of (keyword c) ≡ Some (form c)
 unfolding form_of
@@ -66,6 +73,7 @@ form_is commands.Version = refl
 form_is (commands.Flat file call) = refl
 form_is (commands.Plan file call target) = refl
 form_is (commands.Replay file events) = refl
+form_is (commands.Upgrade file) = refl
 
 pub flat_word : form_of (codes "flat") ≡ Some flat
 unfolding form_of
@@ -106,6 +114,10 @@ one_body replay (f, e) (g, h) body x y =
   where
     same : f ≡ g → e ≡ h → commands.Replay f e ≡ commands.Replay g h
     same file events = rw (file, events) refl
+one_body upgrade f g body x y = same (head_is f g [] [] (sym x.0 ∙ y.0))
+  where
+    same : f ≡ g → commands.Upgrade f ≡ commands.Upgrade g
+    same file = rw file refl
 
 -- words ask for one command at most
 pub one_command : (words : List (List ℕ)) (c d : Command) → Asks words c → Asks words d → c ≡ d

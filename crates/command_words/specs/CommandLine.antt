@@ -30,6 +30,7 @@ keyword commands.Version = codes "--version"
 keyword (commands.Flat file call) = codes "flat"
 keyword (commands.Plan file call target) = codes "plan"
 keyword (commands.Replay file events) = codes "replay"
+keyword (commands.Upgrade file) = codes "upgrade"
 
 -- the words behind it
 abbrev pub IsBody : Command → List (List ℕ) → Type 0
@@ -41,6 +42,7 @@ IsBody (commands.Plan file call target) body =
     (first second : List (List ℕ)) × (body ≡ file ∷ (first ++ codes "--" ∷ second)) × (file ≢ [])
     × IsCall first call × IsCall second target
 IsBody (commands.Replay file events) body = (body ≡ file ∷ events ∷ []) × (file ≢ []) × (events ≢ [])
+IsBody (commands.Upgrade file) body = (body ≡ file ∷ []) × (file ≢ [])
 
 -- the words ask for the command
 abbrev pub Asks : List (List ℕ) → Command → Type 0

@@ -68,6 +68,10 @@ pub enum Command<'a> {
         file: Word<'a>,
         events: Word<'a>,
     },
+    /// The report of a file, in the version that is written today.
+    Upgrade {
+        file: Word<'a>,
+    },
 }
 
 /// What the words ask for, where they have one of the forms.
@@ -103,6 +107,7 @@ fn read_command<'a>(
         "flat" => read_flat(alloc, file, &words[1..]),
         "plan" => read_plan(alloc, file, &words[1..]),
         "replay" => Ok(read_replay(file, &words[1..])),
+        "upgrade" => Ok(read_upgrade(file, &words[1..])),
         _ => Ok(None),
     }
 }
@@ -199,6 +204,21 @@ fn read_events_name<'a>(file: &'a str, events: &'a str) -> Option<Command<'a>>
         file: Word::of(file),
         events: Word::of(events),
     })
+}
+
+/// What the word `upgrade` asks for with a file and these words behind it.
+fn read_upgrade<'a>(file: &'a str, words: &[String]) -> Option<Command<'a>>
+    requires { file.now ≢ [] }
+    ensures found { IfSome result (λ command. Asks (codes "upgrade" ∷ file.now ∷ map string_bytes words.now) command) }
+    ensures none { IfNone result ((command : Command)
+        → Asks (codes "upgrade" ∷ file.now ∷ map string_bytes words.now) command → ⊥) }
+{
+    match words {
+        [] => Some(Command::Upgrade {
+            file: Word::of(file),
+        }),
+        [_, ..] => None,
+    }
 }
 
 /// How many words stand before the first `--`, or how many there are where none is.

@@ -10,8 +10,8 @@ use Rattle.command_words.specs.declared.words.Command.{Command}
 use Rattle.command_words.specs.declared.words.Command.TheVariants as commands
 use Rattle.command_words.specs.CommandLine.{Asks}
 use Rattle.command_runs.specs.Commands.{course_of, course_of_query}
-use Rattle.command_runs.specs.Fetches.{fetch_of, failed_name, failed_names, Gave}
-use Rattle.command_runs.specs.OneFile.{DescriptionAnswers}
+use Rattle.command_runs.specs.Fetches.{fetch_of, failed_name, failed_names, Gave, report_fetch}
+use Rattle.command_runs.specs.OneFile.{DescriptionAnswers, ReportAnswers}
 use Rattle.command_runs.specs.Runs.{Written, AnswersWords, asked, Runs}
 use Rattle.command_runs.specs.declared.fetched.Fetched.{Fetched}
 use Rattle.command_runs.specs.declared.fetched.Fetched.TheVariants.{Held}
@@ -154,3 +154,25 @@ module _ {E : Type 0} where
     told = tt;
     ends = courses.script_unfetched file name;
   }
+
+  -- a report by one fetch
+  pub upgraded_by :
+      (files : Option Files) (file : List ℕ) (given : Fetched) (failures failures' : List (List ℕ)) (r : Result Answer E)
+      → failures' ≡ failures ++ failed_name (report_fetch file given) → Gave files (report_fetch file given)
+      → IfOk r (λ a. ReportAnswers file given a.status a.text.items) → ComesBy files (course_of (commands.Upgrade file)) failures failures' r
+  upgraded_by files file given failures failures' r noted gave is = record {
+    fetches = report_fetch file given ∷ [];
+    noted = one_noted (failed_name (report_fetch file given)) failures failures' noted;
+    told = (gave, tt);
+    ends = of r is;
+  }
+    where
+      of : (r : Result Answer E) → IfOk r (λ a. ReportAnswers file given a.status a.text.items) → EndsBy (course_of (commands.Upgrade file)) (report_fetch file given ∷ []) r
+      of (Ok answer) is = courses.upgrades file given answer.status answer.text.items is
+      of (Err e) is = courses.report_unread file given
+
+  pub not_upgraded :
+      (files : Option Files) (file : List ℕ) (failures failures' : List (List ℕ)) (e : E) → failures' ≡ failures
+      → ComesBy files (course_of (commands.Upgrade file)) failures failures' (Err e)
+  not_upgraded files file failures failures' e noted =
+      record { fetches = []; noted = noted ∙ sym (append-nil failures); told = tt; ends = courses.report_unfetched file }

@@ -7,7 +7,7 @@ ghost use Rattle.command_runs.specs.Commands.{course_of, course_of_query};
 ghost use Rattle.command_runs.specs.Runs.{Runs};
 ghost use Rattle.darwin_commands.specs.Coming.{ComesBy};
 
-use crate::fetching::fetch_file;
+use crate::fetching::{FILE_LIMIT, REPORT_LIMIT, fetch_file};
 use crate::writing::{finish, no_memory, write};
 use crate::{HELP, USAGE, VERSION};
 use cfg_io::{Shelf, Sink};
@@ -15,7 +15,7 @@ use command_answers::Status;
 use command_runs::Query;
 use command_words::{Command, read_words};
 use config_graph::NoMemory;
-use file_answers::{Answer, Read, describe, read_script};
+use file_answers::{Answer, Read, describe, read_script, upgrade};
 use std::alloc::Global;
 
 /// Does what the words ask for, or says that they have none of the forms. The program's own texts are written from
@@ -65,6 +65,7 @@ fn run_command<H: Shelf, K: Sink>(
             out,
             answer_replay(alloc, shelf, file.as_str(), events.as_str()),
         ),
+        Command::Upgrade { file } => finish(out, answer_report(alloc, shelf, file.as_str())),
     }
 }
 
@@ -79,7 +80,7 @@ fn answer_description<H: Shelf>(
         (H.failed shelf.old) (H.failed shelf.new) result }
     ensures kept { H.files shelf.new ≡ H.files shelf.old }
 {
-    let fetched = fetch_file(shelf, file)?;
+    let fetched = fetch_file(shelf, file, FILE_LIMIT)?;
     describe(alloc, file, query, fetched)
 }
 
@@ -93,9 +94,18 @@ fn answer_replay<H: Shelf>(
     ensures answers { ComesBy (H.files shelf.old) (course_of (commands.Replay file.now events.now)) (H.failed shelf.old) (H.failed shelf.new) result }
     ensures kept { H.files shelf.new ≡ H.files shelf.old }
 {
-    let fetched = fetch_file(shelf, events)?;
+    let fetched = fetch_file(shelf, events, FILE_LIMIT)?;
     match read_script(alloc, events, fetched)? {
         Read::Events(script) => answer_description(alloc, shelf, file, &Query::Replay(script)),
         Read::Refused(answer) => Ok(answer),
     }
+}
+
+/// Fetches a report, and answers its text in the version that is written today.
+fn answer_report<H: Shelf>(alloc: Global, shelf: &mut H, file: &str) -> Result<Answer, NoMemory>
+    ensures answers { ComesBy (H.files shelf.old) (course_of (commands.Upgrade file.now)) (H.failed shelf.old) (H.failed shelf.new) result }
+    ensures kept { H.files shelf.new ≡ H.files shelf.old }
+{
+    let fetched = fetch_file(shelf, file, REPORT_LIMIT)?;
+    upgrade(alloc, file, fetched)
 }

@@ -7,7 +7,7 @@ ghost use Rattle.command_answers.specs.declared.status.Status.TheVariants.{Denie
 ghost use Rattle.command_words.specs.CommandLine.{Asks};
 ghost use Rattle.command_words.specs.declared.words.Command.TheVariants as commands;
 ghost use Rattle.command_words.specs.declared.words.TopCall.{TopCall};
-ghost use Rattle.command_runs.specs.Outcomes.{Flattened, Planned, Replayed, NothingRefuses, EndsAsGiven, Wants};
+ghost use Rattle.command_runs.specs.Outcomes.{Flattened, Planned, Replayed, Upgraded, NothingRefuses, EndsAsGiven, Wants};
 ghost use Rattle.command_runs.specs.Runs.{Runs};
 ghost use Rattle.command_runs.specs.declared.query.Query.{Query};
 
@@ -30,7 +30,8 @@ pub fn still<H: Shelf, K: Sink>(
         (K.taken out.old) (K.taken out.new) (K.faults out.old) (K.faults out.new) result }
     // No fetch changes the files.
     ensures kept { H.files shelf.new ≡ H.files shelf.old }
-    // Of `flat` the text of the graph, of `plan` that of the plan, and of `replay` that of what is open and settled.
+    // Of `flat` the text of the graph, of `plan` that of the plan, of `replay` that of what is open and settled, and of
+    // `upgrade` that of the report.
     ensures flattened { (file : List ℕ) (call : TopCall) → Asks (map string_bytes words.now) (commands.Flat file call)
         → result ≡ Status.Ok → Flattened (H.files shelf.old) file call (K.taken out.old) (K.taken out.new) }
     ensures planned { (file : List ℕ) (call target : TopCall)
@@ -38,6 +39,8 @@ pub fn still<H: Shelf, K: Sink>(
         → Planned (H.files shelf.old) file call target (K.taken out.old) (K.taken out.new) }
     ensures replayed { (file events : List ℕ) → Asks (map string_bytes words.now) (commands.Replay file events)
         → result ≡ Status.Ok → Replayed (H.files shelf.old) file events Status.Ok (K.taken out.old) (K.taken out.new) }
+    ensures upgraded { (file : List ℕ) → Asks (map string_bytes words.now) (commands.Upgrade file) → result ≡ Status.Ok
+        → Upgraded (H.files shelf.old) file (K.taken out.old) (K.taken out.new) }
     // The first event that is no step is denied, with its first failing rule.
     ensures denied { result ≡ Denied → (file events : List ℕ)
         × Asks (map string_bytes words.now) (commands.Replay file events)

@@ -22,4 +22,6 @@ mod replay_rows;
 #[cfg(test)]
 mod running;
 #[cfg(test)]
+mod upgrade_rows;
+#[cfg(test)]
 mod word_rows;

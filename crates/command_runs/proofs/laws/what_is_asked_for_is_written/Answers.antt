@@ -5,5 +5,6 @@ pub returns : goal.returns
 returns c = record {
   flattened = λ words files failures failures' taken taken' faults faults' result run. laws.flattens words files failures failures' taken taken' faults faults' result run;
   planned = λ words files failures failures' taken taken' faults faults' result run. laws.plans words files failures failures' taken taken' faults faults' result run;
+  upgraded = λ words files failures failures' taken taken' faults faults' result run. laws.upgrades words files failures failures' taken taken' faults faults' result run;
   replayed = λ words files failures failures' taken taken' faults faults' result run. laws.replays words files failures failures' taken taken' faults faults' result run;
 }

@@ -9,6 +9,8 @@ returns c = record {
       (ran words (Some files) failures failures' taken taken' faults faults' result run) files refl steady file query;
   every_answer = λ words files failures failures' taken taken' faults faults' result run steady file query text own written. flattening.answers_as words (Some files) failures failures' taken taken' faults faults' result
       (ran words (Some files) failures failures' taken taken' faults faults' result run) files refl steady file query text own written;
+  complete_report = λ words files failures failures' taken taken' faults faults' result run steady. flattening.completes_report words (Some files) failures failures' taken taken' faults faults' result
+      (ran words (Some files) failures failures' taken taken' faults faults' result run) files refl steady;
   every_graph = λ words files failures failures' taken taken' faults faults' result run steady file call text graph. flattening.every_graph words (Some files) failures failures' taken taken' faults faults' result
       (ran words (Some files) failures failures' taken taken' faults faults' result run) files refl steady file call text graph;
 }

@@ -1,4 +1,5 @@
 use Rattle.command_runs.proofs.Totality.{room_for, graphs_or_refusals, starts_or_refusals, refused_or_answered}
+use Rattle.command_runs.proofs.Reports.{one_or_fault}
 use Rattle.command_runs.proofs.laws.what_is_wanted_is_refused_or_answered.Goals as goal
 
 pub returns : goal.returns
@@ -9,5 +10,6 @@ returns c =
       graphs = graphs_or_refusals names graphs;
       starts = starts_or_refusals names graphs;
       room = room_for;
+      reports = one_or_fault c.one_report_or_one_fault.ensures.always_one;
       queries = refused_or_answered names graphs;
     }

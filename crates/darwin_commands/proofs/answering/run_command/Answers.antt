@@ -33,3 +33,9 @@ returns-in-Replay-clause-runs g c words asks =
     c.answer_replay.result c.finish-in-Replay.result (rw c.in-Replay.is at asks)
     (rw (c.as_str-in-Replay.ensures, c.as_str-in-Replay-2.ensures) at c.answer_replay.ensures.answers)
     c.finish-in-Replay.ensures
+
+pub returns-in-Upgrade-clause-runs : goal.returns-in-Upgrade-clause-runs
+returns-in-Upgrade-clause-runs g c words asks =
+    runs_by words (commands.Upgrade c.in-Upgrade.file) _ _ _ _ _ _ _
+    c.answer_report.result c.finish-in-Upgrade.result (rw c.in-Upgrade.is at asks)
+    (rw c.as_str-in-Upgrade.ensures at c.answer_report.ensures.answers) c.finish-in-Upgrade.ensures

@@ -11,6 +11,7 @@ returns g c =
       flattened = laws.flattens _ _ _ _ _ _ _ _ _ run;
       planned = laws.plans _ _ _ _ _ _ _ _ _ run;
       replayed = laws.replays _ _ _ _ _ _ _ _ _ run;
+      upgraded = laws.upgrades _ _ _ _ _ _ _ _ _ run;
       denied = laws.denies _ _ _ _ _ _ _ _ _ run;
       complete = λ file query files wants telling steady. laws.completes _ _ _ _ _ _ _ _ _ run files telling steady file query wants;
     }

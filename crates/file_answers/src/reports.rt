@@ -1,0 +1,69 @@
+//! Reports.
+
+ghost use Rattle.std.specs.Prelude.{◌≡◌, ◌≢◌, ◌≤◌, ◌↔◌, ℕ, List, length, IfOk, IsTrue};
+ghost use Rattle.report_parser.specs.Stages.{IsReportFault};
+ghost use Rattle.report_parser.specs.declared.error.ReportFault.TheVariants as faults;
+ghost use Rattle.command_runs.specs.Fetches.{FitsFileLimit, report_limit};
+ghost use Rattle.command_runs.specs.OneFile.{ReportAnswers};
+ghost use Rattle.command_runs.specs.declared.fetched.Fetched.TheVariants.{Held};
+
+use crate::answer::Answer;
+use change_script::report_text;
+use command_answers::{Status, read_fault_line, report_line, script_too_long_line};
+use command_runs::Fetched;
+use config_graph::NoMemory;
+use report_parser::{ReportFault, parse_report};
+use std::alloc::{AllocError, Global};
+
+/// The text of a report in the version that is written today, or the line that refuses it.
+pub fn upgrade(alloc: Global, name: &str, fetched: Fetched) -> Result<Answer, NoMemory>
+    requires { FitsFileLimit report_limit fetched }
+    ensures { IfOk result (λ answer. ReportAnswers name.now fetched answer.status answer.text.items) }
+{
+    match fetched {
+        Fetched::Held(bytes) => upgrade_bytes(alloc, name, bytes.items()),
+        Fetched::TooLong => Ok(Answer {
+            status: Status::Script,
+            text: script_too_long_line(alloc, name)?,
+        }),
+        Fetched::Failed => Ok(Answer {
+            status: Status::ReadFault,
+            text: read_fault_line(alloc, name)?,
+        }),
+    }
+}
+
+/// The same for its bytes.
+fn upgrade_bytes(alloc: Global, name: &str, bytes: &[u8]) -> Result<Answer, NoMemory>
+    requires { length bytes.now ≤ report_limit }
+    ensures { IfOk result (λ answer. ReportAnswers name.now (Held bytes.now) answer.status answer.text.items) }
+{
+    match parse_report(alloc, bytes) {
+        Ok(report) => Ok(Answer {
+            status: Status::Ok,
+            text: report_text(alloc, &report)?,
+        }),
+        Err(fault) => refuse_report(alloc, name, &fault),
+    }
+}
+
+/// The line that refuses a report.
+fn refuse_report(alloc: Global, name: &str, fault: &ReportFault) -> Result<Answer, NoMemory>
+    ensures { (bytes : List ℕ) → (fault.now ≢ faults.NoMemory → IsReportFault bytes fault.now)
+        → IfOk result (λ answer. ReportAnswers name.now (Held bytes) answer.status answer.text.items) }
+{
+    if is_no_memory(fault) {
+        return Err(AllocError);
+    }
+    Ok(Answer {
+        status: Status::Script,
+        text: report_line(alloc, name, fault)?,
+    })
+}
+
+/// Whether it is want of memory, and no fault of the report.
+fn is_no_memory(fault: &ReportFault) -> bool
+    ensures { IsTrue result ↔ (fault.now ≡ faults.NoMemory) }
+{
+    matches!(fault, ReportFault::NoMemory)
+}

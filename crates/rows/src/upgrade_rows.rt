@@ -1,0 +1,101 @@
+//! Rows of `upgrade`. What may stand where in a report is told by the rows of its reader.
+
+use crate::running::{AMPLE, Row, run};
+use cfg_io::{MemShelf, MemSink};
+use darwin_commands::{Status, still};
+use std::test::Fail;
+
+/// The run of a source that leads to nothing, in the two versions.
+const FIRST: &str = "report 1\nstart Lone()\nmake 0 s source(2)\nreopen 0\ncommit\nfinish 5 1\nstop\nclose 0\ndrained 0 0\nlog 0\nstate 0\nunfinished 0\nstatus 8\n";
+const SECOND: &str = "report 2\nstart Lone()\nmake 0 s source(2)\nreopen 0\ncommit\nfinish 5 1\nstop\nclose 0\ndrained 0 0\nlog 0 s\nstate 0\nunfinished 0\nstatus 8\n";
+
+/// The same without its last line.
+const SHORT: &str = "report 1\nstart Lone()\nmake 0 s source(2)\nreopen 0\ncommit\nfinish 5 1\nstop\nclose 0\ndrained 0 0\nlog 0\nstate 0\nunfinished 0\n";
+
+/// The same with the log of a slot in which nothing was made.
+const OTHER_LOG: &str = "report 1\nstart Lone()\nmake 0 s source(2)\nreopen 0\ncommit\nfinish 5 1\nstop\nclose 0\ndrained 0 0\nlog 1\nstate 0\nunfinished 0\nstatus 8\n";
+
+static ROWS: [Row<'static>; 8] = [
+    Row {
+        words: &["upgrade", "old.txt"],
+        files: &[("old.txt", FIRST)],
+        room: AMPLE,
+        status: 0,
+        written: SECOND,
+    },
+    Row {
+        words: &["upgrade", "new.txt"],
+        files: &[("new.txt", SECOND)],
+        room: AMPLE,
+        status: 0,
+        written: SECOND,
+    },
+    Row {
+        words: &["upgrade", "old.txt"],
+        files: &[("old.txt", SHORT)],
+        room: AMPLE,
+        status: 3,
+        written: "script old.txt: Short\n",
+    },
+    Row {
+        words: &["upgrade", "old.txt"],
+        files: &[("old.txt", OTHER_LOG)],
+        room: AMPLE,
+        status: 3,
+        written: "script old.txt: BadLine 10\n",
+    },
+    Row {
+        words: &["upgrade", "old.txt"],
+        files: &[("old.txt", "report 1\nstop\nstatus 8\nmore\n")],
+        room: AMPLE,
+        status: 3,
+        written: "script old.txt: BadLine 4\n",
+    },
+    Row {
+        words: &["upgrade", "none.txt"],
+        files: &[("old.txt", FIRST)],
+        room: AMPLE,
+        status: 4,
+        written: "read fault none.txt\n",
+    },
+    Row {
+        words: &["upgrade", "old.txt"],
+        files: &[("old.txt", FIRST)],
+        room: 12,
+        status: 5,
+        written: "report 2\nsta",
+    },
+    Row {
+        words: &["upgrade", "old.txt", "new.txt"],
+        files: &[("old.txt", FIRST)],
+        room: AMPLE,
+        status: 1,
+        written: "usage\n",
+    },
+];
+
+#[test]
+fn upgrade_writes_reports_again(rt: HostRuntime) -> Result<(), Fail> {
+    for row in &ROWS {
+        run(&rt, rt.alloc(), row)?;
+    }
+    Ok(())
+}
+
+/// A file longer than a report may be.
+#[test]
+fn long_reports_are_refused(rt: HostRuntime) -> Result<(), Fail> {
+    let alloc = rt.alloc();
+    let words = vec![in alloc;
+        String::from_str(alloc, "upgrade")?,
+        String::from_str(alloc, "long.txt")?,
+    ]?;
+    let mut shelf = MemShelf::new(alloc);
+    let blanks = Vec::from_elem(alloc, b'\n', 67_108_865)?;
+    shelf.add("long.txt", blanks.as_slice())?;
+    let mut sink = MemSink::new(alloc, AMPLE)?;
+    let status = still(alloc, words.as_slice(), &mut shelf, &mut sink);
+    assert_eq!(rt; sink.bytes(), b"script long.txt: TooLong\n".as_slice());
+    assert_eq!(rt; status, Status::Script);
+    Ok(())
+}
