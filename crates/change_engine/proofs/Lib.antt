@@ -11,3 +11,4 @@ mod LayoutLemmas
 mod EngineLemmas
 mod StartLemmas
 mod RunLemmas
+mod ChangeLemmas

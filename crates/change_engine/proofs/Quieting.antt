@@ -33,7 +33,7 @@ rounds_quiet (w ∷ rounds) =
     ∙ filter_map-append event_in (entries (round_items w)) (entries (flat_map round_items rounds))
     ∙ ap (λ es. es ++ events_in (entries (flat_map round_items rounds))) (round_quiet w) ∙ rounds_quiet rounds
 
-passivation_events : (ports : List ℕ) (how : Passivation) → events_in (entries (passivation_items ports how)) ≡ map event.Close ports
+pub passivation_events : (ports : List ℕ) (how : Passivation) → events_in (entries (passivation_items ports how)) ≡ map event.Close ports
 passivation_events ports how =
     let shut = map close_item ports in
     let first = map look_item how.first in

@@ -4,7 +4,6 @@ use Rattle.std.specs.List.{AllByRecursion}
 use Rattle.base.specs.Each.{Each}
 use Rattle.change_plan.specs.declared.plan_data.Move.{Move}
 use Rattle.change_plan.specs.declared.plan_data.Plan.{Plan}
-use Rattle.change_script.specs.declared.report.HistoryLine.{HistoryLine}
 use Rattle.change_script.specs.declared.report.HistoryLine.TheVariants as to
 use Rattle.change_script.specs.declared.report.Report.{Report}
 use Rattle.commit_laws.specs.Steps.{live_ports}
@@ -22,6 +21,7 @@ use Rattle.change_board.specs.Steps.{Deed, Room}
 use Rattle.change_board.specs.Transcripts.{Item, entries, lines, said}
 use Rattle.change_engine.specs.Beginning.{start_items}
 use Rattle.change_engine.specs.Carrying.{deed_items}
+use Rattle.change_engine.specs.Draining.{pending_items}
 use Rattle.change_engine.specs.Ending.{unfinished_in}
 use Rattle.change_engine.specs.Engines.{IsIdle, IsOpen, IsPlanned, MayAbandon, MayCommit}
 use Rattle.change_engine.specs.Finishing.{EndsAfter, IsScanIn, Seen, all_entries, rounds_in}
@@ -95,12 +95,6 @@ pub record HasPassivated {B : Type 0} (S : B → List Entry → Type 0) (R : B �
       → MayCommit S R new (t ++ passivation_items closed how) moves plan next_
 
 -- Passivate, given up: the first look and each of the rounds saw a root. These are the roots that the last look saw.
-abbrev pub root_line : LeftRoot → HistoryLine
-root_line x = to.Root x.port x.serial
-
-abbrev pub pending_items : ℕ → List LeftRoot → List Item
-pending_items within left = said (to.Pending within) ∷ map (λ (x : LeftRoot). said (root_line x)) left
-
 pub record HasLeft {B : Type 0} (S : B → List Entry → Type 0) (R : B → Room) (old new : Engine B) (plan : Plan)
     (within : ℕ) (left : List LeftRoot) : Type 0 where
   pub closed : List ℕ

@@ -12,6 +12,7 @@ use Rattle.plan_laws.specs.Commit.{commit_events, ports_to_close}
 use Rattle.plan_laws.specs.Committing.{made_in}
 use Rattle.quiesce_core.specs.Live.{IsGraphOf}
 use Rattle.quiesce_core.specs.State.{Configuration}
+use Rattle.quiesce_core.specs.WellFormed.{IsSound}
 use Rattle.quiesce_core.specs.declared.event.Event.TheVariants as event
 use Rattle.change_law.specs.Members.{lines_of_events}
 use Rattle.change_board.specs.Entries.{Entry, config_of}
@@ -21,6 +22,7 @@ use Rattle.change_engine.specs.Layouts.{IsLayoutOf}
 use Rattle.change_engine.specs.Planning.{MayCarryOut}
 use Rattle.change_engine.specs.declared.engine.Change.{Change}
 use Rattle.change_engine.specs.declared.engine.Engine.{Engine}
+use Rattle.change_engine.specs.declared.layout.Layout.{Layout}
 
 -- The board stands for the transcript's entries and the history has its lines; the graph that is kept is the one that
 -- the entries make.
@@ -44,19 +46,30 @@ pub record IsPlanned (old new : Graph) (moves : List Move) (plan : Plan) (c : Co
   pub is_plan : IsPlanOf old new moves plan
   pub can_plan : CanPlan old new moves (made_in c)
 
--- a change by this plan is open
+-- a configuration that a layout tells, with its graph
+pub record IsTold (layout : Layout) (g : Graph) (c : Configuration) : Type 0 where
+  pub laid : IsLayoutOf layout c g
+  pub graph : IsGraphOf c g
+  pub sound : IsSound c
+
+-- What was prepared is what the plan asks for, in each configuration that the layout tells: ports may be closed or open.
+pub record IsFor (layout : Layout) (old new : Graph) (plan : Plan) (change : Change) : Type 0 where
+  pub closed : (c : Configuration) → IsTold layout old c → change.closed.items ≡ ports_to_close old plan c
+  pub events : (c : Configuration) → IsTold layout old c → change.events.items ≡ commit_events old new plan c
+  pub next_ : (c : Configuration) → IsTold layout old c
+      → IsLayoutOf change.next (change_all c (commit_events old new plan c)) new
+  pub lines_are : change.lines.items ≡ lines_of_events change.events.items ++ to.Commit ∷ []
+  pub reopens : change.reopens.items ≡ map event.Reopen change.closed.items
+  pub reopen_lines : change.reopen_lines.items ≡ lines_of_events change.reopens.items ++ to.Abandon ∷ []
+
+-- a change by this plan is open, and there is room for all that it makes
 pub record IsOpen {B : Type 0} (S : B → List Entry → Type 0) (R : B → Room) (e : Engine B) (t : List Item)
     (moves : List Move) (plan : Plan) (new : Graph) : Type 0 where
   pub tells : Tells S e t
   pub planned : IsPlanned e.graph new moves plan (config_of (entries t))
   pub change : Change
   pub open_ : e.change ≡ Some change
-  pub closed : change.closed.items ≡ ports_to_close e.graph plan (config_of (entries t))
-  pub events : change.events.items ≡ commit_events e.graph new plan (config_of (entries t))
-  pub lines_are : change.lines.items ≡ lines_of_events change.events.items ++ to.Commit ∷ []
-  pub reopens : change.reopens.items ≡ map event.Reopen change.closed.items
-  pub reopen_lines : change.reopen_lines.items ≡ map to.Reopen change.closed.items ++ to.Abandon ∷ []
-  pub next_ : IsLayoutOf change.next (change_all (config_of (entries t)) change.events.items) new
+  pub is_for : IsFor e.layout e.graph new plan change
   pub room : AreWithin (R e.board) change.events.items
 
 -- its commit can't fail: what it closed is noted as drained, and the history has room

@@ -9,4 +9,5 @@ pub mod Running
 pub mod Layouts
 pub mod Engines
 pub mod Ending
+pub mod Draining
 pub mod Calls

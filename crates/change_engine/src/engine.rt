@@ -1,17 +1,23 @@
 //! A system on a board, between its start and its stop.
 
-ghost use Rattle.std.specs.Prelude.{◌≡◌, ◌≤◌, ◌∷◌, [], ℕ, length, List, IfOk, OnErr, OnOk};
-ghost use Rattle.config_graph.specs.Graph.{ports};
+ghost use Rattle.std.specs.Prelude.{◌≡◌, ◌≤◌, ◌∷◌, [], ℕ, length, List, IfErr, IfOk, OnErr, OnOk};
+ghost use Rattle.change_plan.specs.declared.plan_data.Move.{Move};
+ghost use Rattle.config_graph.specs.Graph.{Graph, ports};
 ghost use Rattle.config_graph.specs.Sound.{Sound};
 ghost use Rattle.config_graph.specs.declared.TheConstants.{MAX_NODES, MAX_PORTS};
 ghost use Rattle.change_board.specs.Transcripts.{Item};
-ghost use Rattle.change_engine.specs.Calls.{Continues, HasFinished, HasRun, HasShown, HasSkipped, HasStarted, HasStopped};
-ghost use Rattle.change_engine.specs.Engines.{IsIdle};
+ghost use Rattle.change_engine.specs.Calls.{Continues, HasAbandoned, HasCommitted, HasFinished, HasLeft, HasPassivated, HasRun, HasShown, HasSkipped, HasStarted, HasStopped};
+ghost use Rattle.change_engine.specs.Draining.{WhereNoMemory, WherePending};
+ghost use Rattle.change_engine.specs.Engines.{IsIdle, IsOpen, MayAbandon, MayCommit};
 ghost use Rattle.change_engine.specs.Growing.{BrokeOff};
 
+use crate::carrying::carry_out;
+use crate::draining::PassError;
+use crate::laws::plans_may_be_carried_out;
 use crate::layout::Layout;
-use crate::{ending, finishing, launching, running};
+use crate::{draining, ending, finishing, launching, running};
 use change_board::Board;
+use change_plan::Plan;
 use change_script::{HistoryLine, Report};
 use config_graph::{Graph, List, NoMemory, Text};
 use quiesce_core::Event;
@@ -132,6 +138,66 @@ impl<B: Board + Drop> Engine<B> {
         lines.push(HistoryLine::Skipped)?;
         self.history.append(&mut lines)?;
         Ok(())
+    }
+
+    /// Closes each port of the nodes that the plan freezes, and makes rounds until each was found drained, at most so
+    /// many. Where roots are left then, it is answered which; the ports stay closed until the change is given up.
+    pub fn passivate(&mut self, plan: &Plan, rounds: u32) -> Result<(), PassError>
+        requires prepared { (t : List Item) × (moves : List Move) × (next : Graph)
+            × IsOpen B.stands_for B.room self.old t moves plan.now next }
+        ensures ok { IfOk result (λ _. HasPassivated B.stands_for B.room self.old self.new plan.now rounds) }
+        ensures pending { IfErr result (WherePending
+            (λ k left. (k ≡ rounds) × HasLeft B.stands_for B.room self.old self.new plan.now rounds left)) }
+        ensures no_memory { IfErr result (WhereNoMemory
+            (BrokeOff B.stands_for B.broke_off self.old.board self.new.board)) }
+    {
+        let _ = plan;
+        let Some(change) = &self.change else {
+            return Ok(());
+        };
+        let left = draining::drain(&mut self.board, &mut self.history, change, rounds)?;
+        draining::answer(rounds, left)
+    }
+
+    /// Carries the plan out. It can't fail, and takes no memory.
+    pub fn commit(&mut self, plan: Plan, new: Graph)
+        requires passive { (t : List Item) × (moves : List Move)
+            × MayCommit B.stands_for B.room self.old t moves plan new }
+        ensures { HasCommitted B.stands_for B.room self.old self.new plan new }
+    {
+        plans_may_be_carried_out();
+        let _ = plan;
+        let Some(change) = self.change.take() else {
+            return;
+        };
+        let mut lines = change.lines;
+        carry_out(
+            &mut self.board,
+            &mut self.history,
+            change.events,
+            &mut lines,
+        );
+        self.layout = change.next;
+        self.graph = new;
+    }
+
+    /// Opens again what was closed for the plan. It can't fail, and takes no memory.
+    pub fn abandon(&mut self, plan: Plan)
+        requires pending { (t : List Item) × (moves : List Move) × (next : Graph)
+            × MayAbandon B.stands_for B.room self.old t moves plan next }
+        ensures { HasAbandoned B.stands_for B.room self.old self.new plan }
+    {
+        let _ = plan;
+        let Some(change) = self.change.take() else {
+            return;
+        };
+        let mut lines = change.reopen_lines;
+        carry_out(
+            &mut self.board,
+            &mut self.history,
+            change.reopens,
+            &mut lines,
+        );
     }
 
     /// Closes the ports of all live nodes, makes rounds until each was found drained, and takes all logs in. Gives the

@@ -2,6 +2,7 @@
 #![tactic(auto)]
 
 mod carrying;
+mod draining;
 mod ending;
 mod engine;
 mod finishing;
@@ -15,6 +16,7 @@ mod stopping;
 mod telling;
 
 pub use carrying::carry_out;
+pub use draining::PassError;
 pub use engine::{Change, Engine};
 pub use finishing::finish;
 pub use laws::{passivated_ports_are_noted, plans_may_be_carried_out, starts_may_be_done};

@@ -1,0 +1,377 @@
+-- An engine whose change is open.
+use Rattle.std.proofs.Common.{◌≡◌, ◌≤◌, ◌<◌, ◌+◌, ℕ, zero, suc, Bool, true, false, cond, List, [], ◌∷◌, ◌++◌, length, map, Option, Some, None, get_or, refl, sym, ap, ◌∙◌, subst, ⊎_elim, arith}
+use Rattle.std.specs.Prelude.{IfErr, IfOk, OnOk, Result, Ok, Err, filter, flat_map, nat_lt, unwrap_or}
+use Rattle.std.specs.List.{AllByRecursion, range_with_len}
+use Rattle.std.specs.Option.{option_map_or}
+use Rattle.std.specs.Global.{Vec}
+use Rattle.std.specs.Vec.{vec_capacity}
+use Rattle.std.proofs.Common.{vec_len}
+use Rattle.std.proofs.lemmas.Bool.{and_from, and_parts, both_ways, lt-ltb, or_cases}
+use Rattle.std.proofs.lemmas.List.{append-nil, get_or-map, length-map, same_lists}
+use Rattle.std.proofs.lemmas.List.Elements.{All-from_recursion, All-head, All-tail}
+use Rattle.change_plan.specs.Refusals.{CanPlan}
+use Rattle.change_plan.specs.declared.plan_data.Move.{Move}
+use Rattle.change_plan.specs.declared.plan_data.Plan.{Plan}
+use Rattle.change_script.specs.declared.report.HistoryLine.{HistoryLine}
+use Rattle.change_script.specs.declared.report.HistoryLine.TheVariants as to
+use Rattle.change_law.specs.Members.{lines_of_events}
+use Rattle.commit_laws.specs.Lists.{In}
+use Rattle.commit_laws.specs.Steps.{change_all}
+use Rattle.commit_laws.proofs.MemberLaws.{select}
+use Rattle.commit_laws.proofs.TurningLaws.{SameLinks, live_port, same_graph, same_turned}
+use Rattle.config_graph.specs.Graph.{Graph}
+use Rattle.config_graph.specs.declared.node.Port.{Port}
+use Rattle.plan_laws.specs.Commit.{commit_events, is_at, is_one_of, node_path, ports_to_close, stands_in}
+use Rattle.plan_laws.specs.Committing.{made_in}
+use Rattle.quiesce_core.specs.Effect.{with_closed}
+use Rattle.quiesce_core.specs.Live.{IsGraphOf}
+use Rattle.quiesce_core.specs.Rules.{is_live_port}
+use Rattle.quiesce_core.specs.State.{Configuration, fresh_gate, gate, is_live, owner, slot}
+use Rattle.quiesce_core.specs.WellFormed.{IsSound}
+use Rattle.quiesce_core.specs.declared.event.Event.TheVariants as event
+use Rattle.quiesce_core.specs.declared.state.Slot.{Slot}
+use Rattle.change_board.specs.Entries.{Entry, config_of, did, events_in}
+use Rattle.change_board.specs.Notes.{is_noted}
+use Rattle.change_board.specs.Records.{IsRecord}
+use Rattle.change_board.specs.Steps.{AreWithin, Deed, MayDoAll, Room}
+use Rattle.change_board.specs.Transcripts.{Item, entries, lines, said}
+use Rattle.change_board.proofs.StepLaws.{config_more}
+use Rattle.change_engine.specs.Carrying.{CarriesOut, deed_items}
+use Rattle.change_engine.specs.Calls.{HasAbandoned, HasCommitted, HasLeft, HasPassivated}
+use Rattle.change_engine.specs.Draining.{Waits, WherePending, pending_items, pending_lines}
+use Rattle.change_engine.specs.declared.draining.PassError.{PassError}
+use Rattle.change_engine.specs.declared.draining.PassError.TheVariants.{NoMemory, Pending}
+use Rattle.change_engine.specs.Engines.{IsFor, IsOpen, IsTold, MayCommit, Tells}
+use Rattle.change_engine.specs.Growing.{Grew}
+use Rattle.change_engine.specs.Layouts.{IsLayoutOf, place_in, port_of}
+use Rattle.change_engine.specs.Passivating.{AreLivePorts, Passivated, Passivation, left_after, passivation_items}
+use Rattle.change_engine.specs.Planning.{MayCarryOut}
+use Rattle.change_engine.specs.declared.engine.Change.{Change}
+use Rattle.change_engine.specs.declared.engine.Engine.{Engine}
+use Rattle.change_engine.specs.declared.layout.Layout.{Layout}
+use Rattle.change_engine.specs.declared.passivating.LeftRoot.{LeftRoot}
+use Rattle.change_engine.proofs.CarryingLemmas.{carried_entries}
+use Rattle.change_engine.proofs.EngineLemmas.{record_sound, said_alone}
+use Rattle.change_engine.proofs.Growing.{entries_both, grew_both, lines_both}
+use Rattle.change_engine.proofs.Noting.{passivated_noted}
+use Rattle.change_engine.proofs.Passing.{closed_links, config_over, live_same, same_here}
+use Rattle.change_engine.proofs.Quieting.{passivation_events}
+use Rattle.change_engine.proofs.StartLemmas.{deeds_events}
+
+-- Ports of frozen nodes are live.
+stands_live : (g : Graph) (i : ℕ) (c : Configuration) (n : ℕ) → stands_in g i c n ≡ true → is_live c n ≡ true
+stands_live g i c n h = by (slot c n) h
+  where
+    by : (o : Option Slot) → option_map_or (is_at (node_path g i)) o false ≡ true → option_map_or (λ (m : Slot). m.live) o false ≡ true
+    by None h = h
+    by (Some m) h = (and_parts m.live _ h).0
+
+one_live : (g : Graph) (places : List ℕ) (c : Configuration) (n : ℕ) → is_one_of g places c n ≡ true → is_live c n ≡ true
+one_live g [] c n h = absurd (both_ways false refl h)
+one_live g (i ∷ places) c n h = ⊎_elim (stands_live g i c n) (one_live g places c n) (or_cases (stands_in g i c n) (is_one_of g places c n) h)
+
+pub closed_live : (g : Graph) (plan : Plan) (c : Configuration) → AreLivePorts c (ports_to_close g plan c)
+closed_live g plan c = All-from_recursion (λ p. is_live_port c p ≡ true) (ports_to_close g plan c) (from 0 (length c.gates) (omega arith))
+  where
+    test : ℕ → Bool
+    test p = is_one_of g plan.freeze c (owner c p)
+
+    from : (a n : ℕ) → a + n ≤ length c.gates → AllByRecursion (λ p. is_live_port c p ≡ true) (filter test (range_with_len a n))
+    from a zero few = tt
+    from a (suc n) few = by (test a) refl (from (a + 1) n (omega (arith, few)))
+      where
+        by : (b : Bool) → test a ≡ b → AllByRecursion (λ p. is_live_port c p ≡ true) (filter test (range_with_len (a + 1) n))
+            → AllByRecursion (λ p. is_live_port c p ≡ true) (cond b (a ∷ filter test (range_with_len (a + 1) n)) (filter test (range_with_len (a + 1) n)))
+        by true e rest = (and_from (nat_lt a (length c.gates)) (is_live c (owner c a)) (lt-ltb a (length c.gates) (omega (arith, few))) (one_live g plan.freeze c (owner c a) e), rest)
+        by false e rest = rest
+
+-- A layout tells no gate's being closed or open.
+pub same_laid : (l : Layout) (c d : Configuration) (g : Graph) → SameLinks c d → IsLayoutOf l c g → IsLayoutOf l d g
+same_laid l c d g same h = record {
+  places_are = h.places_are ∙ ap (map (place_in g)) (sym same.slots);
+  ports_are = h.ports_are ∙ sym (same_lists (map port_of d.gates) (map port_of c.gates) long each);
+}
+  where
+    long : length (map port_of d.gates) ≡ length (map port_of c.gates)
+    long = length-map d.gates port_of ∙ same.long ∙ sym (length-map c.gates port_of)
+
+    each : (k : ℕ) (x : Port) → k < length (map port_of d.gates) → get_or (map port_of d.gates) k x ≡ get_or (map port_of c.gates) k x
+    each k x low =
+        let below : k < length d.gates = subst (λ n. k < n) (length-map d.gates port_of) low in
+        let under : k < length c.gates = subst (λ n. k < n) same.long below in
+        get_or-map port_of d.gates k fresh_gate x below
+        ∙ ap (λ n. record { node = n; require = (gate d k).require }) (same.owners k) ∙ ap (λ r. record { node = owner c k; require = r }) (same.requirements k)
+        ∙ sym (get_or-map port_of c.gates k fresh_gate x under)
+
+pub same_told : (l : Layout) (g : Graph) (c d : Configuration) → SameLinks c d → IsSound d → IsTold l g c → IsTold l g d
+same_told l g c d same sound h = record { laid = same_laid l c d g same h.laid; graph = same_graph c d g same h.graph; sound = sound }
+
+same_made : (c d : Configuration) → SameLinks c d → made_in c ≡ made_in d
+same_made c d same = ap (λ (s : List Slot). record { nodes = length s; ports = length c.gates }) (sym same.slots) ∙ ap (λ n. record { nodes = length d.slots; ports = n }) (sym same.long)
+
+pub same_one : (g : Graph) (places : List ℕ) (c d : Configuration) (n : ℕ) → SameLinks c d → is_one_of g places d n ≡ is_one_of g places c n
+same_one g places c d n same = ap (λ (s : List Slot). is_one_of g places (record { slots = s; gates = [] }) n) same.slots
+
+-- Gates of live nodes may be opened, one after the other.
+opened_links : (c d : Configuration) (ps : List ℕ) → AreLivePorts c ps → SameLinks c d → SameLinks c (change_all d (map event.Reopen ps))
+opened_links c d [] h same = same
+opened_links c d (p ∷ ps) h same =
+    opened_links c (with_closed d p false) ps (All-tail (λ q. is_live_port c q ≡ true) p ps h)
+    (same_turned c d p false (subst (λ n. p < n) (sym same.long) (live_port c p (All-head (λ q. is_live_port c q ≡ true) p ps h)).made) same)
+
+opens_may : (c : Configuration) (ps : List ℕ) (r : List Entry) → AreLivePorts c ps → SameLinks c (config_of r) → MayDoAll r (map event.Reopen ps)
+opens_may c [] r h same = tt
+opens_may c (p ∷ ps) r h same =
+    let here = All-head (λ q. is_live_port c q ≡ true) p ps h in
+    let d = config_of r in (
+      live_same c d p same ∙ here,
+      opens_may c ps (r ++ did (event.Reopen p) ∷ []) (All-tail (λ q. is_live_port c q ≡ true) p ps h)
+          (subst (SameLinks c) (sym (config_more r (event.Reopen p))) (same_turned c d p false (subst (λ n. p < n) (sym same.long) (live_port c p here).made) same)),
+    )
+
+opens_fit : (ps : List ℕ) (room : Room) → AreWithin room (map event.Reopen ps)
+opens_fit [] room = tt
+opens_fit (p ∷ ps) room = (tt, opens_fit ps room)
+
+some_is : {A : Type 0} {x y : A} → Some x ≡ Some y → x ≡ y
+some_is {x = x} e = ap (λ o. unwrap_or o x) e
+
+done_events : (deeds : List Deed) (l : HistoryLine) → events_in (entries (flat_map deed_items deeds ++ said l ∷ [])) ≡ map (λ (d : Deed). d.event) deeds
+done_events deeds l =
+    ap events_in (entries_both (flat_map deed_items deeds) (said l ∷ []) ∙ append-nil (entries (flat_map deed_items deeds)) ∙ carried_entries deeds) ∙ deeds_events deeds
+
+module _ {B : Type 0} (S : B → List Entry → Type 0) (R : B → Room) (runs : (b : B) (r : List Entry) → S b r → IsRecord r) (e : Engine B) where
+  told : (t : List Item) → Tells S e t → IsTold e.layout e.graph (config_of (entries t))
+  told t h = record { laid = h.layout; graph = h.graph; sound = record_sound (entries t) (runs e.board (entries t) h.board) }
+
+  -- the change that is open
+  one_change : (t : List Item) (moves : List Move) (plan : Plan) (new : Graph) (change : Change) (h : IsOpen S R e t moves plan new) → e.change ≡ Some change → h.change ≡ change
+  one_change t moves plan new change h open_ = some_is (sym h.open_ ∙ open_)
+
+  is_for : (t : List Item) (moves : List Move) (plan : Plan) (new : Graph) (change : Change) (h : IsOpen S R e t moves plan new) → e.change ≡ Some change → IsFor e.layout e.graph new plan change
+  is_for t moves plan new change h open_ = subst (IsFor e.layout e.graph new plan) (one_change t moves plan new change h open_) h.is_for
+
+  pub closed_are : (t : List Item) (moves : List Move) (plan : Plan) (new : Graph) (change : Change) (h : IsOpen S R e t moves plan new) → e.change ≡ Some change
+      → change.closed.items ≡ ports_to_close e.graph plan (config_of (entries t))
+  closed_are t moves plan new change h open_ = (is_for t moves plan new change h open_).closed (config_of (entries t)) (told t h.tells)
+
+  pub all_live : (t : List Item) (moves : List Move) (plan : Plan) (new : Graph) (change : Change) (h : IsOpen S R e t moves plan new) → e.change ≡ Some change
+      → AreLivePorts (config_of (entries t)) change.closed.items
+  all_live t moves plan new change h open_ =
+      subst (AreLivePorts (config_of (entries t))) (sym (closed_are t moves plan new change h open_)) (closed_live e.graph plan (config_of (entries t)))
+
+  pub lines_for : (t : List Item) (moves : List Move) (plan : Plan) (new : Graph) (change : Change) (h : IsOpen S R e t moves plan new) → e.change ≡ Some change
+      → change.lines.items ≡ lines_of_events change.events.items ++ to.Commit ∷ []
+  lines_for t moves plan new change h open_ = (is_for t moves plan new change h open_).lines_are
+
+  pub reopen_lines_for : (t : List Item) (moves : List Move) (plan : Plan) (new : Graph) (change : Change) (h : IsOpen S R e t moves plan new) → e.change ≡ Some change
+      → change.reopen_lines.items ≡ lines_of_events change.reopens.items ++ to.Abandon ∷ []
+  reopen_lines_for t moves plan new change h open_ = (is_for t moves plan new change h open_).reopen_lines
+
+  pub commit_may : (t : List Item) (moves : List Move) (plan : Plan) (new : Graph) (change : Change) (m : MayCommit S R e t moves plan new) → e.change ≡ Some change
+      → MayDoAll (entries t) (commit_events e.graph new plan (config_of (entries t))) → MayDoAll (entries t) change.events.items
+  commit_may t moves plan new change m open_ may_ =
+      subst (MayDoAll (entries t)) (sym ((is_for t moves plan new change m.is_open open_).events (config_of (entries t)) (told t m.is_open.tells))) may_
+
+  pub committed : (b : B) (v : Vec HistoryLine) (o : Option Change) (change : Change) (plan : Plan) (new : Graph) → e.change ≡ Some change → o ≡ None
+      → ((old g : Graph) (moves : List Move) (p : Plan) (r : List Entry) → IsRecord r → MayCarryOut old g moves p r → IsGraphOf (change_all (config_of r) (commit_events old g p (config_of r))) g)
+      → CarriesOut S e.board b e.history.items v.items [] change.events.items (to.Commit ∷ [])
+      → HasCommitted S R e (record { board = b; history = v; graph = new; layout = change.next; change = o }) plan new
+  committed b v o change plan new open_ none_ graphs x = record {
+    deeds = x.deeds;
+    events_are = λ t moves m. x.events_are ∙ (is_for t moves plan new change m.is_open open_).events (config_of (entries t)) (told t m.is_open.tells);
+    graph_is = refl;
+    goes = λ t moves m.
+        let h = m.is_open in
+        let c = config_of (entries t) in
+        let items : List Item = flat_map deed_items x.deeds ++ said to.Commit ∷ [] in
+        let for_ = is_for t moves plan new change h open_ in
+        let made : config_of (entries (t ++ items)) ≡ change_all c (commit_events e.graph new plan c) =
+        ap config_of (entries_both t items) ∙ config_over (entries t) (entries items)
+        ∙ ap (change_all c) (done_events x.deeds to.Commit ∙ x.events_are ∙ for_.events c (told t h.tells)) in
+        record {
+          tells = record {
+            board = subst (S b) (sym (entries_both t items)) (x.grew.adds (entries t) h.tells.board);
+            history = x.grew.adds_lines ∙ ap (λ ls. ls ++ lines items) h.tells.history ∙ sym (lines_both t items);
+            graph = subst (λ d. IsGraphOf d new) (sym made) (graphs e.graph new moves plan (entries t) (runs e.board (entries t) h.tells.board) m.may_);
+            is_graph = h.planned.new_graph;
+            sound = h.planned.new_sound;
+            layout = subst (λ d. IsLayoutOf change.next d new) (sym made) (for_.next_ c (told t h.tells));
+          };
+          none_open = none_;
+        };
+  }
+
+  pub abandon_may : (t : List Item) (moves : List Move) (plan : Plan) (new : Graph) (change : Change) (h : IsOpen S R e t moves plan new) → e.change ≡ Some change → MayDoAll (entries t) change.reopens.items
+  abandon_may t moves plan new change h open_ =
+      subst (MayDoAll (entries t)) (sym (is_for t moves plan new change h open_).reopens)
+      (opens_may (config_of (entries t)) change.closed.items (entries t) (all_live t moves plan new change h open_) (same_here (config_of (entries t))))
+
+  pub abandon_fits : (t : List Item) (moves : List Move) (plan : Plan) (new : Graph) (change : Change) (room : Room) (h : IsOpen S R e t moves plan new) → e.change ≡ Some change → AreWithin room change.reopens.items
+  abandon_fits t moves plan new change room h open_ = subst (AreWithin room) (sym (is_for t moves plan new change h open_).reopens) (opens_fit change.closed.items room)
+
+  pub abandoned : (b : B) (v : Vec HistoryLine) (o : Option Change) (change : Change) (plan : Plan) → e.change ≡ Some change → o ≡ None
+      → CarriesOut S e.board b e.history.items v.items [] change.reopens.items (to.Abandon ∷ [])
+      → HasAbandoned S R e (record { board = b; history = v; graph = e.graph; layout = e.layout; change = o }) plan
+  abandoned b v o change plan open_ none_ x = record {
+    deeds = x.deeds;
+    events_are = λ t moves new m. x.events_are ∙ (is_for t moves plan new change m.is_open open_).reopens ∙ ap (map event.Reopen) (closed_are t moves plan new change m.is_open open_);
+    graph_is = refl;
+    goes = λ t moves new m.
+        let h = m.is_open in
+        let c = config_of (entries t) in
+        let items : List Item = flat_map deed_items x.deeds ++ said to.Abandon ∷ [] in
+        let made : config_of (entries (t ++ items)) ≡ change_all c (map event.Reopen change.closed.items) =
+        ap config_of (entries_both t items) ∙ config_over (entries t) (entries items)
+        ∙ ap (change_all c) (done_events x.deeds to.Abandon ∙ x.events_are ∙ (is_for t moves plan new change h open_).reopens) in
+        let same : SameLinks c (config_of (entries (t ++ items))) =
+        subst (SameLinks c) (sym made) (opened_links c c change.closed.items (all_live t moves plan new change h open_) (same_here c)) in
+        record {
+          tells = record {
+            board = subst (S b) (sym (entries_both t items)) (x.grew.adds (entries t) h.tells.board);
+            history = x.grew.adds_lines ∙ ap (λ ls. ls ++ lines items) h.tells.history ∙ sym (lines_both t items);
+            graph = same_graph c (config_of (entries (t ++ items))) e.graph same h.tells.graph;
+            is_graph = h.tells.is_graph;
+            sound = h.tells.sound;
+            layout = same_laid e.layout c (config_of (entries (t ++ items))) e.graph same h.tells.layout;
+          };
+          none_open = none_;
+        };
+  }
+
+  -- a passivation leaves a change open
+  waited_events : (ports : List ℕ) (how : Passivation) (within : ℕ) (left : List LeftRoot) → events_in (entries (passivation_items ports how ++ pending_items within left)) ≡ map event.Close ports
+  waited_events ports how within left =
+      ap events_in (entries_both (passivation_items ports how) (pending_items within left) ∙ ap (λ es. entries (passivation_items ports how) ++ es) (none_ (pending_lines within left))
+      ∙ append-nil (entries (passivation_items ports how))) ∙ passivation_events ports how
+    where
+      none_ : (ls : List HistoryLine) → entries (map said ls) ≡ []
+      none_ [] = refl
+      none_ (l ∷ ls) = none_ ls
+
+  same_closed : (t items : List Item) (moves : List Move) (plan : Plan) (new : Graph) (change : Change) (h : IsOpen S R e t moves plan new) → e.change ≡ Some change
+      → events_in (entries items) ≡ map event.Close change.closed.items → SameLinks (config_of (entries t)) (config_of (entries (t ++ items)))
+  same_closed t items moves plan new change h open_ shut =
+      let c = config_of (entries t) in
+      subst (SameLinks c) (sym (ap config_of (entries_both t items) ∙ config_over (entries t) (entries items) ∙ ap (change_all c) shut))
+      (closed_links c c change.closed.items (all_live t moves plan new change h open_) (same_here c))
+
+  still_open : (b : B) (v : Vec HistoryLine) (t items : List Item) (moves : List Move) (plan : Plan) (new : Graph) (change : Change) (h : IsOpen S R e t moves plan new) → e.change ≡ Some change
+      → Grew S e.board b e.history.items v.items items → events_in (entries items) ≡ map event.Close change.closed.items → R b ≡ R e.board
+      → IsOpen S R (record e { board = b; history = v }) (t ++ items) moves plan new
+  still_open b v t items moves plan new change h open_ grew shut room =
+      let c = config_of (entries t) in
+      let d = config_of (entries (t ++ items)) in
+      let same = same_closed t items moves plan new change h open_ shut in
+      record {
+        tells = record {
+          board = subst (S b) (sym (entries_both t items)) (grew.adds (entries t) h.tells.board);
+          history = grew.adds_lines ∙ ap (λ ls. ls ++ lines items) h.tells.history ∙ sym (lines_both t items);
+          graph = same_graph c d e.graph same h.tells.graph;
+          is_graph = h.tells.is_graph;
+          sound = h.tells.sound;
+          layout = same_laid e.layout c d e.graph same h.tells.layout;
+        };
+        planned = record {
+          new_graph = h.planned.new_graph;
+          new_sound = h.planned.new_sound;
+          is_plan = h.planned.is_plan;
+          can_plan = subst (CanPlan e.graph new moves) (same_made c d same) h.planned.can_plan;
+        };
+        change = change;
+        open_ = open_;
+        is_for = is_for t moves plan new change h open_;
+        room = subst (λ x. AreWithin x change.events.items) (sym room) (subst (λ (x : Change). AreWithin (R e.board) x.events.items) (one_change t moves plan new change h open_) h.room);
+      }
+
+  pub has_passivated : (b : B) (v : Vec HistoryLine) (change : Change) (plan : Plan) (within : ℕ) (left : List LeftRoot) → e.change ≡ Some change
+      → Waits S e.board b e.history.items v.items change.closed.items within left → left ≡ [] → R b ≡ R e.board → vec_len v + vec_len change.lines ≤ vec_capacity v
+      → HasPassivated S R e (record e { board = b; history = v }) plan within
+  unfolding still_open
+  has_passivated b v change plan within left open_ x none_ room place = record {
+    closed = change.closed.items;
+    how = x.how;
+    closed_are = λ t moves new h. closed_are t moves plan new change h open_;
+    is_passivation = x.is_passivation;
+    none_left = none_left;
+    graph_is = refl;
+    opens = λ t moves new h.
+        let c = config_of (entries t) in
+        let items = passivation_items change.closed.items x.how in
+        let shut = passivation_events change.closed.items x.how in
+        let d = config_of (entries (t ++ items)) in
+        let same = same_closed t items moves plan new change h open_ shut in
+        let open' = still_open b v t items moves plan new change h open_ grew shut room in
+        record {
+          is_open = open';
+          may_ = record {
+            old_graph = h.tells.is_graph;
+            new_graph = h.planned.new_graph;
+            new_sound = h.planned.new_sound;
+            is_plan = h.planned.is_plan;
+            can_plan = open'.planned.can_plan;
+            graph = open'.tells.graph;
+            noted = λ p made frozen. noted t moves new h p
+                (subst (λ n. p < n) same.long made)
+                (sym (same_one e.graph plan.freeze c d (owner c p) same) ∙ sym (ap (is_one_of e.graph plan.freeze d) (same.owners p)) ∙ frozen);
+          };
+          place = place;
+        };
+  }
+    where
+      none_left : left_after x.how.first x.how.rounds ≡ []
+      none_left = sym x.left_is ∙ none_
+
+      grew : Grew S e.board b e.history.items v.items (passivation_items change.closed.items x.how)
+      grew = subst (Grew S e.board b e.history.items v.items)
+          (ap (λ l. passivation_items change.closed.items x.how ++ pending_items within l) none_ ∙ append-nil (passivation_items change.closed.items x.how)) x.grew
+
+      noted : (t : List Item) (moves : List Move) (new : Graph) (h : IsOpen S R e t moves plan new) (p : ℕ) → p < length (config_of (entries t)).gates
+          → is_one_of e.graph plan.freeze (config_of (entries t)) (owner (config_of (entries t)) p) ≡ true
+          → is_noted (entries (t ++ passivation_items change.closed.items x.how)) p ≡ true
+      noted t moves new h p made frozen =
+          let c = config_of (entries t) in
+          subst (λ r. is_noted r p ≡ true) (sym (entries_both t (passivation_items change.closed.items x.how)))
+          (passivated_noted (entries t) change.closed.items within p x.how x.is_passivation none_left
+          (subst (λ ps. In ps p) (sym (closed_are t moves plan new change h open_))
+          (select (λ q. is_one_of e.graph plan.freeze c (owner c q)) 0 (length c.gates) p (omega arith) (omega (arith, made)) frozen)))
+
+  pub has_left : (b : B) (v : Vec HistoryLine) (change : Change) (plan : Plan) (within : ℕ) (left : List LeftRoot) → e.change ≡ Some change
+      → Waits S e.board b e.history.items v.items change.closed.items within left → 0 < length left → R b ≡ R e.board → vec_len v + vec_len change.reopen_lines ≤ vec_capacity v
+      → HasLeft S R e (record e { board = b; history = v }) plan within left
+  unfolding still_open
+  has_left b v change plan within left open_ x some_ room place = record {
+    closed = change.closed.items;
+    how = x.how;
+    closed_are = λ t moves new h. closed_are t moves plan new change h open_;
+    is_passivation = x.is_passivation;
+    all_rounds = ⊎_elim (λ (none_ : left ≡ []). absurd (omega (arith, some_, ap length none_))) (λ (all : length x.how.rounds ≡ within). all) x.ends;
+    left_is = x.left_is;
+    some_left = some_;
+    graph_is = refl;
+    opens = λ t moves new h. record {
+      is_open = still_open b v t (passivation_items change.closed.items x.how ++ pending_items within left) moves plan new change h open_ x.grew (waited_events change.closed.items x.how within left) room;
+      place = place;
+    };
+  }
+
+-- a passivation with the lines behind it
+pub waited : {B : Type 0} (S : B → List Entry → Type 0) (a b : B) (h i j : List HistoryLine) (ports : List ℕ) (within : ℕ) (left : List LeftRoot) → Passivated S a b h i ports within left → j ≡ i ++ pending_lines within left
+    → Waits S a b h j ports within left
+waited S a b h i j ports within left x grown = record {
+  how = x.how;
+  is_passivation = x.is_passivation;
+  left_is = x.left_is;
+  ends = x.ends;
+  grew = grew_both S a b b h i j (passivation_items ports x.how) (pending_items within left) x.grew (said_alone S b i j (pending_lines within left) grown);
+}
+
+-- what an answer says of the roots that are left
+pub ok_if : {E : Type 0} (P Q : Type 0) → (P → Q) → (r : Result (Unit {0}) E) → OnOk r P → IfOk r (λ _. Q)
+ok_if P Q f (Ok x) h = f h
+ok_if P Q f (Err e) h = tt
+
+pub pending_if : (P Q : ℕ → List LeftRoot → Type 0) → ((k : ℕ) (left : List LeftRoot) → P k left → Q k left) → (r : Result (Unit {0}) PassError) → IfErr r (WherePending P) → IfErr r (WherePending Q)
+pending_if P Q f (Ok x) h = tt
+pending_if P Q f (Err (Pending k left)) h = f k left h
+pending_if P Q f (Err NoMemory) h = tt
