@@ -66,7 +66,7 @@ stands_live g i c n h = by (slot c n) h
     by None h = h
     by (Some m) h = (and_parts m.live _ h).0
 
-one_live : (g : Graph) (places : List ℕ) (c : Configuration) (n : ℕ) → is_one_of g places c n ≡ true → is_live c n ≡ true
+pub one_live : (g : Graph) (places : List ℕ) (c : Configuration) (n : ℕ) → is_one_of g places c n ≡ true → is_live c n ≡ true
 one_live g [] c n h = absurd (both_ways false refl h)
 one_live g (i ∷ places) c n h = ⊎_elim (stands_live g i c n) (one_live g places c n) (or_cases (stands_in g i c n) (is_one_of g places c n) h)
 

@@ -52,7 +52,7 @@ place_there nodes rise i m at = by (index_of nodes m.path) refl
 
 -- a node that is live has a place in the graph
 module _ (c : Configuration) (g : Graph) (is : IsGraphOf c g) where
-  has_place : (n : ℕ) (m : Slot) → slice_get c.slots n ≡ Some m → is_some (place_in g m) ≡ m.live
+  pub has_place : (n : ℕ) (m : Slot) → slice_get c.slots n ≡ Some m → is_some (place_in g m) ≡ m.live
   has_place n m at = by m.live refl
     where
       found : m.live ≡ true → (o : Option ℕ) → index_of g.nodes m.node.path ≡ o → is_some o ≡ true

@@ -12,3 +12,7 @@ mod EngineLemmas
 mod StartLemmas
 mod RunLemmas
 mod ChangeLemmas
+mod StandLemmas
+mod CommitRoom
+mod ListLemmas
+mod PlanInLemmas

@@ -7,6 +7,8 @@ pub mod Stopping
 pub mod Beginning
 pub mod Running
 pub mod Layouts
+pub mod Lists
+pub mod PlanIn
 pub mod Engines
 pub mod Ending
 pub mod Draining

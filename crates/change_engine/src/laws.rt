@@ -1,20 +1,26 @@
 //! Laws of transcripts.
 
-ghost use Rattle.std.specs.Prelude.{◌≡◌, ℕ, List, [], ◌++◌, IsTrue, ◌≤◌, length};
+ghost use Rattle.std.specs.Prelude.{◌≡◌, ◌+◌, ℕ, List, [], ◌++◌, IsTrue, ◌≤◌, length};
+ghost use Rattle.change_plan.specs.Plans.{IsPlanOf};
 ghost use Rattle.change_plan.specs.declared.plan_data.Move.{Move};
 ghost use Rattle.change_plan.specs.declared.plan_data.Plan.{Plan};
 ghost use Rattle.commit_laws.specs.Lists.{In};
 ghost use Rattle.commit_laws.specs.Steps.{change_all};
-ghost use Rattle.config_graph.specs.Graph.{Graph, ports};
+ghost use Rattle.config_graph.specs.Graph.{Graph, IsGraph, ports};
 ghost use Rattle.config_graph.specs.Sound.{Sound};
 ghost use Rattle.config_graph.specs.declared.TheConstants.{MAX_NODES, MAX_PORTS};
 ghost use Rattle.quiescence_laws.specs.Starts.{start_of};
-ghost use Rattle.plan_laws.specs.Commit.{commit_events};
+ghost use Rattle.plan_laws.specs.Commit.{commit_events, ports_to_close};
 ghost use Rattle.quiesce_core.specs.Live.{IsGraphOf};
+ghost use Rattle.quiesce_core.specs.State.{Configuration};
 ghost use Rattle.change_board.specs.Entries.{Entry, config_of};
 ghost use Rattle.change_board.specs.Notes.{is_noted};
 ghost use Rattle.change_board.specs.Records.{IsRecord};
-ghost use Rattle.change_board.specs.Steps.{MayDoAll};
+ghost use Rattle.change_board.specs.Steps.{AreWithin, MayDoAll, Room};
+ghost use Rattle.change_engine.specs.Engines.{IsPlanned};
+ghost use Rattle.change_engine.specs.Layouts.{IsLayoutOf};
+ghost use Rattle.change_engine.specs.Lists.{closed_by, commit_by, places_after, ports_after};
+ghost use Rattle.change_engine.specs.declared.layout.Layout.{Layout};
 ghost use Rattle.change_board.specs.Transcripts.{entries};
 ghost use Rattle.change_engine.specs.Planning.{MayCarryOut};
 ghost use Rattle.change_engine.specs.Passivating.{IsPassivation, Passivation, left_after, passivation_items};
@@ -51,3 +57,28 @@ pub fn plans_may_be_carried_out()
     commits_can_not_fail();
     commits_leave_the_new_graph();
 }
+
+/// What a plan closes and commits in a configuration is what its lists say by the layout that tells the configuration,
+/// whether gates are closed or open; and the layout that they say is that of the configuration behind the commit.
+pub fn layouts_tell_commits()
+    ensures closed { (old new : Graph) (moves : List Move) (plan : Plan) (c : Configuration) (l : Layout) → IsGraph old
+        → IsGraph new → IsPlanOf old new moves plan → IsGraphOf c old → IsLayoutOf l c old
+        → ports_to_close old plan c ≡ closed_by l.places.items l.ports.items plan.freeze }
+    ensures events { (old new : Graph) (moves : List Move) (plan : Plan) (c : Configuration) (l : Layout) → IsGraph old
+        → IsGraph new → IsPlanOf old new moves plan → IsGraphOf c old → IsLayoutOf l c old
+        → commit_events old new plan c ≡ commit_by old new plan l.places.items l.ports.items }
+    ensures layout { (old new : Graph) (moves : List Move) (plan : Plan) (c : Configuration) (l next : Layout)
+        → IsGraph old → IsGraph new → IsPlanOf old new moves plan → IsGraphOf c old → IsLayoutOf l c old
+        → next.places.items ≡ places_after old new plan l.places.items
+        → next.ports.items ≡ ports_after new plan l.places.items l.ports.items
+        → IsLayoutOf next (change_all c (commit_events old new plan c)) new }
+{}
+
+/// A board that has room for all nodes that a plan creates, each of which may take over the state of one made before, has
+/// room for the plan's commit; and a plan creates no more than a run may make.
+pub fn commits_have_room()
+    ensures room { (old new : Graph) (plan : Plan) (c : Configuration) (room : Room) → length plan.create ≤ room.nodes
+        → length c.slots ≤ room.sources → AreWithin room (commit_events old new plan c) }
+    ensures few { (old new : Graph) (moves : List Move) (plan : Plan) (c : Configuration)
+        → IsPlanned old new moves plan c → length c.slots + length plan.create ≤ MAX_NODES }
+{}

@@ -19,7 +19,10 @@ pub use carrying::carry_out;
 pub use draining::PassError;
 pub use engine::{Change, Engine};
 pub use finishing::finish;
-pub use laws::{passivated_ports_are_noted, plans_may_be_carried_out, starts_may_be_done};
+pub use laws::{
+    commits_have_room, layouts_tell_commits, passivated_ports_are_noted, plans_may_be_carried_out,
+    starts_may_be_done,
+};
 pub use layout::Layout;
 pub use passivating::{LeftRoot, passivate};
 pub use stopping::stop;
