@@ -16,3 +16,5 @@ mod StandLemmas
 mod CommitRoom
 mod ListLemmas
 mod PlanInLemmas
+mod PrepareLemmas
+mod ListLoops

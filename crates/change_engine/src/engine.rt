@@ -5,16 +5,18 @@ ghost use Rattle.change_plan.specs.declared.plan_data.Move.{Move};
 ghost use Rattle.config_graph.specs.Graph.{Graph, ports};
 ghost use Rattle.config_graph.specs.Sound.{Sound};
 ghost use Rattle.config_graph.specs.declared.TheConstants.{MAX_NODES, MAX_PORTS};
-ghost use Rattle.change_board.specs.Transcripts.{Item};
-ghost use Rattle.change_engine.specs.Calls.{Continues, HasAbandoned, HasCommitted, HasFinished, HasLeft, HasPassivated, HasRun, HasShown, HasSkipped, HasStarted, HasStopped};
+ghost use Rattle.change_board.specs.Entries.{config_of};
+ghost use Rattle.change_board.specs.Transcripts.{Item, entries};
+ghost use Rattle.change_engine.specs.Calls.{Continues, HasAbandoned, HasCommitted, HasFinished, HasLeft, HasPassivated, HasPrepared, HasRun, HasShown, HasSkipped, HasStarted, HasStopped};
 ghost use Rattle.change_engine.specs.Draining.{WhereNoMemory, WherePending};
-ghost use Rattle.change_engine.specs.Engines.{IsIdle, IsOpen, MayAbandon, MayCommit};
+ghost use Rattle.change_engine.specs.Engines.{IsIdle, IsOpen, IsPlanned, MayAbandon, MayCommit};
 ghost use Rattle.change_engine.specs.Growing.{BrokeOff};
 
 use crate::carrying::carry_out;
 use crate::draining::PassError;
-use crate::laws::plans_may_be_carried_out;
+use crate::laws::{commits_have_room, plans_may_be_carried_out};
 use crate::layout::Layout;
+use crate::preparing::{line_count, list_change};
 use crate::{draining, ending, finishing, launching, running};
 use change_board::Board;
 use change_plan::Plan;
@@ -137,6 +139,34 @@ impl<B: Board + Drop> Engine<B> {
         })?;
         lines.push(HistoryLine::Skipped)?;
         self.history.append(&mut lines)?;
+        Ok(())
+    }
+
+    /// Takes all memory of a change by this plan to this graph: its lists, its lines, and its nodes' on the board. Then
+    /// tells that it begins. After want of memory nothing has changed, but that some memory may stay taken.
+    pub fn prepare(
+        &mut self,
+        name: Text,
+        args: Vec<i32>,
+        plan: &Plan,
+        new: &Graph,
+    ) -> Result<(), NoMemory>
+        requires planned { (t : List Item) × (moves : List Move) × IsIdle B.stands_for self.old t
+            × IsPlanned self.old.graph new.now moves plan.now (config_of (entries t)) }
+        ensures ok { IfOk result
+            (λ _. HasPrepared B.stands_for B.room self.old self.new name args.items plan.now new.now) }
+        ensures err { OnErr result (Continues B.stands_for self.old self.new []) }
+    {
+        commits_have_room();
+        let alloc = *self.history.allocator();
+        let change = list_change(alloc, &self.layout, &self.graph, new, plan)?;
+        self.history.reserve(line_count(&change))?;
+        self.board.reserve(plan.create.items().len() as u32)?;
+        self.history.push(HistoryLine::Change {
+            name,
+            args: List::of(args),
+        })?;
+        self.change = Some(change);
         Ok(())
     }
 

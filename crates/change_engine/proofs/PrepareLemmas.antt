@@ -1,0 +1,88 @@
+-- A change that is prepared.
+use Rattle.std.proofs.Common.{◌≡◌, ℕ, ◌+◌, ◌≤◌, List, [], ◌∷◌, ◌++◌, length, Option, Some, None, refl, sym, ap, ◌∙◌, subst, arith}
+use Rattle.std.specs.Prelude.{slice_get, sum_by, unwrap_or}
+use Rattle.std.specs.List.{range_with_len}
+use Rattle.std.specs.Option.{option_map_or}
+use Rattle.std.proofs.lemmas.List.{append-nil, length-append, length-map}
+use Rattle.std.proofs.lemmas.List.FromFn.{length-range_with_len}
+use Rattle.std.proofs.lemmas.List.Sums.{sum_by-cons}
+use Rattle.change_plan.specs.Differences.{IsGone}
+use Rattle.change_plan.specs.declared.plan_data.Move.{Move}
+use Rattle.change_plan.specs.declared.plan_data.Plan.{Plan}
+use Rattle.change_plan.proofs.SelectsLaws.{Selects-one}
+use Rattle.change_script.specs.declared.report.HistoryLine.TheVariants as to
+use Rattle.config_graph.specs.Graph.{Graph, requires_at, requires_of}
+use Rattle.config_graph.specs.Kinds.{row}
+use Rattle.config_graph.specs.declared.TheConstants.{MAX_PORTS}
+use Rattle.config_graph.specs.declared.kind.Kind.TheVariants.{Fork}
+use Rattle.config_graph.specs.declared.node.Node.{Node}
+use Rattle.plan_laws.specs.Commit.{commit_events, node_at}
+use Rattle.quiesce_core.specs.State.{Configuration}
+use Rattle.change_board.specs.Entries.{Entry, config_of}
+use Rattle.change_board.specs.Records.{Adds, IsRecord}
+use Rattle.change_board.specs.Steps.{AreWithin, Room}
+use Rattle.change_board.specs.Transcripts.{Item, entries, said}
+use Rattle.change_engine.specs.Calls.{Continues, HasPrepared}
+use Rattle.change_engine.specs.Engines.{IsFor, IsIdle, IsPlanned, IsTold}
+use Rattle.change_engine.specs.Layouts.{IsLayoutOf, port_of}
+use Rattle.change_engine.specs.Lists.{ports_after, ports_from, ports_in}
+use Rattle.change_engine.specs.declared.engine.Change.{Change}
+use Rattle.change_engine.specs.declared.engine.Engine.{Engine}
+use Rattle.change_engine.specs.declared.layout.Layout.{Layout}
+use Rattle.change_engine.proofs.EngineLemmas.{config_goes, record_sound, tells_more}
+
+-- so many ports are added
+wanted_at : (o : Option Node) → length (row (unwrap_or o (record { path = []; kind = Fork; arg = None })).kind).requires_ ≡ option_map_or requires_of o 0
+wanted_at None = refl
+wanted_at (Some n) = refl
+
+ports_many : (new : Graph) (k : ℕ) (js : List ℕ) → length (ports_from new k js) ≡ sum_by (requires_at new.nodes) js
+ports_many new k [] = refl
+ports_many new k (j ∷ js) =
+    length-append (ports_in new k j) (ports_from new (k + 1) js)
+    ∙ ap (λ n. n + length (ports_from new (k + 1) js)) (length-map (range_with_len 0 (length (row (node_at new j).kind).requires_)) _ ∙ length-range_with_len 0 (length (row (node_at new j).kind).requires_) ∙ wanted_at (slice_get new.nodes j))
+    ∙ ap (λ n. requires_at new.nodes j + n) (ports_many new (k + 1) js) ∙ sym (sum_by-cons (requires_at new.nodes) j js)
+
+ports_fit : (old new : Graph) (moves : List Move) (plan : Plan) (c : Configuration) → IsPlanned old new moves plan c → length c.gates + sum_by (requires_at new.nodes) plan.create ≤ MAX_PORTS
+ports_fit old new moves plan c h =
+    let can = h.can_plan in
+    let same : can.wanted.created ≡ plan.create =
+    Selects-one (IsGone new old) (range_with_len 0 (length new.nodes)) can.wanted.created plan.create can.wanted.gone h.is_plan.steps.create in
+    let many : can.ports ≡ sum_by (requires_at new.nodes) plan.create = can.wanted.ports_are ∙ ap (sum_by (requires_at new.nodes)) same in
+    omega (arith, many, can.room.ports_fit)
+
+pub ports_few : (old new : Graph) (moves : List Move) (plan : Plan) (c : Configuration) (l : Layout) → IsPlanned old new moves plan c → IsLayoutOf l c old → length (ports_after new plan l.places.items l.ports.items) ≤ MAX_PORTS
+ports_few old new moves plan c l h laid =
+    omega (arith, length-append l.ports.items (ports_from new (length l.places.items) plan.create), ports_many new (length l.places.items) plan.create, ap length laid.ports_are ∙ length-map c.gates port_of, ports_fit old new moves plan c h)
+
+module _ {B : Type 0} (S : B → List Entry → Type 0) where
+  -- nothing was done and told
+  pub idle_still : (e f : Engine B) → Adds S e.board f.board [] → f.history.items ≡ e.history.items → f.graph ≡ e.graph → f.layout ≡ e.layout → f.change ≡ e.change → Continues S e f []
+  idle_still e f adds history graph layout change t x = record {
+    tells = tells_more S e f.board f.history.items t [] x.tells (record { adds = adds; adds_lines = history ∙ sym (append-nil e.history.items) }) refl f refl refl graph layout;
+    none_open = change ∙ x.none_open;
+  }
+
+  module _ (R : B → Room) (runs : (b : B) (r : List Entry) → S b r → IsRecord r) where
+    pub has_prepared : (e f : Engine B) (name : List ℕ) (args : List _) (plan : Plan) (new : Graph) (change : Change)
+        → Adds S e.board f.board [] → f.history.items ≡ e.history.items ++ to.Change name args ∷ [] → f.graph ≡ e.graph → f.layout ≡ e.layout → f.change ≡ Some change
+        → IsFor e.layout e.graph new plan change
+        → ((t : List Item) → IsIdle S e t → AreWithin (R f.board) (commit_events e.graph new plan (config_of (entries t))))
+        → HasPrepared S R e f name args plan new
+    has_prepared e f name args plan new change adds history graph layout open_ for_ room = record {
+      graph_is = graph;
+      opens = λ t moves x planned.
+          let items : List Item = said (to.Change name args) ∷ [] in
+          let c = config_of (entries t) in
+          let tells = tells_more S e f.board f.history.items t items x.tells (record { adds = adds; adds_lines = history }) refl f refl refl graph layout in
+          let same : config_of (entries (t ++ items)) ≡ c = config_goes t items refl in
+          let told : IsTold e.layout e.graph c = record { laid = x.tells.layout; graph = x.tells.graph; sound = record_sound (entries t) (runs e.board (entries t) x.tells.board) } in
+          record {
+            tells = tells;
+            planned = subst (λ g. IsPlanned g new moves plan (config_of (entries (t ++ items)))) (sym graph) (subst (IsPlanned e.graph new moves plan) (sym same) planned);
+            change = change;
+            open_ = open_;
+            is_for = subst (λ l. IsFor l f.graph new plan change) (sym layout) (subst (λ g. IsFor e.layout g new plan change) (sym graph) for_);
+            room = subst (AreWithin (R f.board)) (sym (for_.events c told)) (room t x);
+          };
+    }

@@ -1,0 +1,83 @@
+//! What a change will do, listed before it begins.
+
+ghost use Rattle.std.specs.Prelude.{◌≡◌, ◌++◌, ◌∷◌, [], List, map, IfOk};
+ghost use Rattle.change_law.specs.Members.{lines_of_events};
+ghost use Rattle.change_plan.specs.declared.plan_data.Move.{Move};
+ghost use Rattle.change_engine.specs.Engines.{IsFor, IsPlanned, IsTold};
+ghost use Rattle.config_graph.specs.Graph.{IsGraph};
+ghost use Rattle.quiesce_core.specs.State.{Configuration};
+ghost use Rattle.quiesce_core.specs.declared.event.Event.TheVariants as event;
+
+use crate::engine::Change;
+use crate::laws::layouts_tell_commits;
+use crate::layout::Layout;
+use crate::telling::push_lines;
+use change_plan::Plan;
+use change_script::HistoryLine;
+use config_graph::{Graph, NoMemory};
+use quiesce_core::Event;
+use std::alloc::Global;
+
+/// The events that open these ports.
+fn list_reopens(alloc: Global, ports: &[u32]) -> Result<Vec<Event>, NoMemory>
+    ensures { IfOk result (λ events. events.items ≡ map event.Reopen ports.now) }
+{
+    let mut events = Vec::with_capacity(alloc, ports.len())?;
+    for port in ports {
+        events.push(Event::Reopen { port: *port })?;
+    }
+    Ok(events)
+}
+
+/// The lines of these events, and one behind them.
+fn list_lines(
+    alloc: Global,
+    events: &[Event],
+    last: HistoryLine,
+) -> Result<Vec<HistoryLine>, NoMemory>
+    ensures { IfOk result (λ lines. lines.items ≡ lines_of_events events.now ++ last ∷ []) }
+{
+    let mut lines = Vec::with_capacity(alloc, events.len())?;
+    push_lines(&mut lines, events)?;
+    lines.push(last)?;
+    Ok(lines)
+}
+
+/// All that a change by this plan does and tells, whether it is committed or given up.
+pub(crate) fn list_change(
+    alloc: Global,
+    layout: &Layout,
+    old: &Graph,
+    new: &Graph,
+    plan: &Plan,
+) -> Result<Change, NoMemory>
+    requires planned { (c : Configuration) × (moves : List Move) × IsGraph old.now × IsTold layout.now old.now c
+        × IsPlanned old.now new.now moves plan.now c }
+    ensures { IfOk result (λ change. IsFor layout.now old.now new.now plan.now change) }
+{
+    layouts_tell_commits();
+    let closed = layout.ports_at(alloc, plan.freeze.items())?;
+    let commit = layout.list_commit(alloc, old, new, plan)?;
+    let lines = list_lines(alloc, &commit.events, HistoryLine::Commit)?;
+    let reopens = list_reopens(alloc, &closed)?;
+    let reopen_lines = list_lines(alloc, &reopens, HistoryLine::Abandon)?;
+    Ok(Change {
+        closed,
+        events: commit.events,
+        lines,
+        reopens,
+        reopen_lines,
+        next: commit.next,
+    })
+}
+
+/// How many lines a change by these lists tells at most, and a few more: its own, one for each close, one for each
+/// port that is drained or left, and those of either end.
+pub(crate) fn line_count(change: &Change) -> usize {
+    change
+        .closed
+        .len()
+        .saturating_mul(3)
+        .saturating_add(change.lines.len())
+        .saturating_add(4)
+}
