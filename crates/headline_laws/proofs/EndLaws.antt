@@ -20,9 +20,10 @@ use Rattle.change_board.specs.Transcripts.{Item, said, entries, lines}
 use Rattle.change_engine.specs.Carrying.{deed_items, sight_item}
 use Rattle.change_engine.specs.Finishing.{all_entries, rounds_in}
 use Rattle.change_engine.specs.Passivating.{left_after, passivation_items}
+use Rattle.change_engine.specs.Ending.{is_finish_line}
 use Rattle.headline_laws.specs.Joining.{AreJoined}
 use Rattle.headline_laws.specs.Pieces.{IsCommitted, IsDone, IsGivenUp, IsTranscript, IsTried, Piece, config_at, items_of, opening_items, pending_items}
-use Rattle.headline_laws.specs.Reports.{IsReport, is_finish_line, taken_in}
+use Rattle.headline_laws.specs.Reports.{IsReport, taken_in}
 use Rattle.headline_laws.proofs.FoldLaws.{undone}
 use Rattle.headline_laws.proofs.FollowLaws.{fair_transcript}
 use Rattle.headline_laws.proofs.ItemLemmas.{is_aside, sight_lines}

@@ -1,3 +1,4 @@
+pub mod ConfigLaws
 pub mod EndLaws
 pub mod FoldLaws
 pub mod FollowLaws

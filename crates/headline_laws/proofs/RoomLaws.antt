@@ -26,7 +26,7 @@ use Rattle.quiescence_laws.specs.Starts as starts
 use Rattle.quiescence_laws.specs.Starts.{start_of}
 use Rattle.quiesce_core.specs.State.{Configuration, empty}
 use Rattle.quiesce_core.specs.declared.event.Event.{Event}
-use Rattle.quiesce_core.specs.declared.event.Event.TheVariants.{Reopen, Unlink, Remove, Link}
+use Rattle.quiesce_core.specs.declared.event.Event.TheVariants.{Close, Reopen, Unlink, Remove, Link}
 use Rattle.change_law.specs.Scripts.{more_made}
 use Rattle.headline_laws.proofs.MadeLaws.{gates_all, nodes_made, ports_made, slots_all}
 
@@ -144,6 +144,15 @@ module _ (old new : Graph) (plan : Plan) (c : Configuration) where
       (gates_all c (commit_events old new plan c) ∙ ap (λ k. length c.gates + k)
       (commit_summed ports_made (λ p. refl) (λ n. refl) (λ l. refl) (λ p. refl)
       ∙ ports_summed (length c.slots) plan.create (Selects-only (IsGone new old) (range_with_len 0 (length new.nodes)) plan.create is_plan.steps.create)))
+
+-- closing makes nothing
+pub closes_make : (c : Configuration) (ps : List ℕ) → made_in (change_all c (map Close ps)) ≡ made_in c
+closes_make c ps = same_made _ _ _ _
+    (slots_all c (map Close ps) ∙ ap (λ k. length c.slots + k) (none_summed nodes_made Close (λ p. refl) ps) ∙ nothing_more (length c.slots))
+    (gates_all c (map Close ps) ∙ ap (λ k. length c.gates + k) (none_summed ports_made Close (λ p. refl) ps) ∙ nothing_more (length c.gates))
+  where
+    nothing_more : (n : ℕ) → n + 0 ≡ n
+    nothing_more n = omega arith
 
 -- what was found to fit is what a plan creates
 pub wanted_as_planned : (old new : Graph) (moves : List Move) (made : Made) (plan : Plan) (can : CanPlan old new moves made) → IsPlanOf old new moves plan

@@ -1,16 +1,15 @@
 -- Which report a transcript has, where the logs of its run were taken in.
-use Rattle.std.specs.Prelude.{◌≡◌, ℕ, Bool, true, false, List, map, length, All, None, if◌then◌else◌}
-use Rattle.std.specs.List.{list_any, range_with_len}
+use Rattle.std.specs.Prelude.{◌≡◌, ℕ, List, map, length, All}
+use Rattle.std.specs.List.{range_with_len}
 use Rattle.quiesce_core.specs.Runs.{done_by}
 use Rattle.quiesce_core.specs.declared.event.Event.{Event}
 use Rattle.change_law.specs.Endings.{status_of}
-use Rattle.change_script.specs.declared.report.HistoryLine.{HistoryLine}
-use Rattle.change_script.specs.declared.report.HistoryLine.TheVariants as to
 use Rattle.change_script.specs.declared.report.NodeLog.{NodeLog}
 use Rattle.change_script.specs.declared.report.Report.{Report}
 use Rattle.change_board.specs.Collecting.{IsEndOf, first_undone}
 use Rattle.change_board.specs.Records.{Moment, events}
 use Rattle.change_board.specs.Transcripts.{Item, lines}
+use Rattle.change_engine.specs.Ending.{unfinished_in}
 use Rattle.headline_laws.specs.Pieces.{config_at}
 
 -- what each node did in a run, by slot
@@ -21,10 +20,6 @@ logs_in m n = map (λ k. done_by k (events m)) (range_with_len 0 n)
 abbrev pub taken_in : Report → List (List Event)
 taken_in report = map (λ (l : NodeLog). l.events) report.logs
 
-abbrev pub is_finish_line : HistoryLine → Bool
-is_finish_line (to.Finish n rounds) = true
-is_finish_line _ = false
-
 -- The history has the transcript's lines, and there is a log of each node made, with what it did, which ends with its last state or tells
 -- where that went. The first live node that isn't done is named where there is a finish.
 pub record IsReport (t : List Item) (m : List Moment) (report : Report) : Type 0 where
@@ -32,6 +27,5 @@ pub record IsReport (t : List Item) (m : List Moment) (report : Report) : Type 0
   pub slots : map (λ (l : NodeLog). l.slot) report.logs ≡ range_with_len 0 (length (config_at t).slots)
   pub events_are : taken_in report ≡ logs_in m (length (config_at t).slots)
   pub ends : All (IsEndOf (config_at t) (taken_in report)) report.logs
-  pub unfinished_is : report.unfinished
-      ≡ if list_any is_finish_line report.history then first_undone (config_at t) (taken_in report) else None
+  pub unfinished_is : report.unfinished ≡ unfinished_in report.history (first_undone (config_at t) (taken_in report))
   pub status_is : report.status ≡ status_of report.history report.unfinished
