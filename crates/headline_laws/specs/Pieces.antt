@@ -19,13 +19,14 @@ use Rattle.quiesce_core.specs.declared.event.Event.TheVariants as event
 use Rattle.change_law.specs.Members.{is_pending}
 use Rattle.change_law.specs.Statements.{Statement, start, change, run, finish, show}
 use Rattle.change_board.specs.Entries.{config_of}
-use Rattle.change_board.specs.Scans.{Found, all_ports, look_entry, ports_of}
+use Rattle.change_board.specs.Scans.{Found, all_ports, ended_in, look_entry, ports_of}
 use Rattle.change_board.specs.Sights.{Sight}
 use Rattle.change_board.specs.Steps.{Deed}
 use Rattle.change_board.specs.Transcripts.{Item, said, entries, lines}
 use Rattle.change_engine.specs.Carrying.{deed_items, sight_item}
 use Rattle.change_engine.specs.Finishing.{EndsAfter, IsScanIn, Seen, all_entries, rounds_in}
 use Rattle.change_engine.specs.Passivating.{IsPassivation, Passivation, left_after, passivation_items, silent_items}
+use Rattle.change_engine.specs.Running.{RunsOn, ended_since, run_ends}
 use Rattle.change_engine.specs.declared.passivating.LeftRoot.{LeftRoot}
 
 -- the configuration behind items
@@ -87,13 +88,17 @@ pub record IsTried (before : List Item) (name : List ℕ) (args : List ℤ) (new
 abbrev pub skip_items : List ℕ → List ℤ → List Item
 skip_items name args = said (to.Change name args) ∷ said to.Skipped ∷ []
 
--- A run: looks at all ports, and scans in which nodes may begin transactions, and the line that tells of them.
-pub record IsRunOn (c : Configuration) (k : ℕ) (t : List Item) : Type 0 where
+-- A run: looks at all ports, and scans in which nodes may begin transactions, until the ports show so many more as ended, or a scan
+-- was the last; and the line that tells how many ended.
+pub record IsRunOn (alone : Bool) (c : Configuration) (k : ℕ) (t : List Item) : Type 0 where
   pub looks : List Found
   pub at_ports : ports_of looks ≡ all_ports c
   pub scans : List Seen
   pub are_scans : AllByRecursion (IsScanIn c) scans
+  pub go_on : Each (RunsOn alone k (ended_in looks)) scans
+  pub ends : run_ends alone k (ended_in looks) scans ≡ true
   pub ended : ℕ
+  pub ended_is : ended ≡ ended_since (ended_in looks) scans
   pub are : t ≡ silent_items (map look_entry looks ++ all_entries scans) ++ said (to.Run k ended) ∷ []
 
 -- A finish: scans alone.
@@ -115,7 +120,7 @@ IsDone alone before (start name args g) t = IsStarted before name args g t
 IsDone alone before (change name args g within moves) t =
     (list_any is_pending (lines before) ≡ true → t ≡ skip_items name args)
     × (list_any is_pending (lines before) ≡ false → IsTried before name args g within moves t)
-IsDone alone before (run k) t = IsRunOn (config_at before) k t
+IsDone alone before (run k) t = IsRunOn alone (config_at before) k t
 IsDone alone before (finish n) t = IsRunOut alone (config_at before) n t
 IsDone alone before show t = IsShown (config_at before) t
 
