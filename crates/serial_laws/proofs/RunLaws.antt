@@ -17,14 +17,14 @@ use Rattle.change_engine.specs.Running as engine
 use Rattle.change_law.specs.Serial.{run_ends}
 use Rattle.change_law.specs.Statements.{run}
 use Rattle.change_script.specs.declared.report.HistoryLine.TheVariants as to
-use Rattle.headline_laws.specs.Pieces.{config_at}
+use Rattle.headline_laws.specs.Pieces.{IsRunOn, config_at}
 use Rattle.quiesce_core.specs.State.{Configuration}
 use Rattle.step_board.specs.Playing.{play}
 use Rattle.step_board.specs.RunFacts.{round_goes_on}
 use Rattle.turn_laws.specs.Reached.{IsReached}
 use Rattle.turns.specs.Round.{after_rounds, ended, round, stands_still}
 use Rattle.turns.specs.World.{World}
-use Rattle.serial_laws.specs.Behind.{AreByRounds, IsPlayedBehind, IsRunUntil, world_behind}
+use Rattle.serial_laws.specs.Behind.{AreByRounds, IsPlayedBehind, world_behind}
 use Rattle.serial_laws.proofs.CountLaws.{all_ended}
 use Rattle.serial_laws.proofs.LineLemmas.{lines_both, silent_lines}
 use Rattle.serial_laws.proofs.WaitLaws.{AreTrue, true_entries}
@@ -105,7 +105,7 @@ module _ (w : World) (k : ℕ) (c : Configuration) (same : c ≡ w.machine.confi
 nothing_since : (n : ℕ) → ◌≡◌ {A = ℕ} 0 (n - n)
 nothing_since n = omega arith
 
-module _ (before t : List Item) (k : ℕ) (rounds : AreByRounds (before ++ t)) (x : IsRunUntil (config_at before) k t) where
+module _ (before t : List Item) (k : ℕ) (rounds : AreByRounds (before ++ t)) (x : IsRunOn true (config_at before) k t) where
   abbrev from : World
   from = world_behind before
 
@@ -166,5 +166,5 @@ module _ (before t : List Item) (k : ℕ) (rounds : AreByRounds (before ++ t)) (
         (x.ended_is ∙ ap (λ n. engine.ended_since n x.scans) shown ∙ all.ran.since ∙ ap (λ (u : World). ended u - ended from) (sym leads));
   }
 
-pub run_played : (before t : List Item) (k : ℕ) → AreByRounds (before ++ t) → IsRunUntil (config_at before) k t → IsPlayedBehind before (run k) t
+pub run_played : (before t : List Item) (k : ℕ) → AreByRounds (before ++ t) → IsRunOn true (config_at before) k t → IsPlayedBehind before (run k) t
 run_played before t k rounds x = ran before t k rounds x

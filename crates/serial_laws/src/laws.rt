@@ -1,17 +1,17 @@
 //! Laws of transcripts whose records are of rounds.
 
-ghost use Rattle.std.specs.Prelude.{◌≡◌, ℕ, ℤ, Bool, false, List, ◌++◌};
+ghost use Rattle.std.specs.Prelude.{◌≡◌, ℕ, ℤ, Bool, true, false, List, ◌++◌};
 ghost use Rattle.std.specs.List.{list_any};
 ghost use Rattle.change_board.specs.Records.{Moment};
 ghost use Rattle.change_board.specs.Transcripts.{Item, entries};
 ghost use Rattle.change_law.specs.Serial.{Serial};
-ghost use Rattle.change_law.specs.Statements.{Statement, change, run, show, start};
+ghost use Rattle.change_law.specs.Statements.{Statement, change, is_finish, run, show, start};
 ghost use Rattle.change_plan.specs.declared.plan_data.Move.{Move};
 ghost use Rattle.change_script.specs.declared.report.Report.{Report};
 ghost use Rattle.config_graph.specs.Graph.{Graph};
-ghost use Rattle.headline_laws.specs.Pieces.{IsDone, IsStopped, IsTranscript, config_at};
+ghost use Rattle.headline_laws.specs.Pieces.{IsDone, IsStopped, IsTranscript};
 ghost use Rattle.headline_laws.specs.Reports.{IsReport, taken_in};
-ghost use Rattle.serial_laws.specs.Behind.{AreByRounds, IsPlayedBehind, IsRunUntil, StopsBehind, TimedArePlayed, is_timed};
+ghost use Rattle.serial_laws.specs.Behind.{AreByRounds, FinishesArePlayed, IsPlayedBehind, StopsBehind};
 ghost use Rattle.step_board.specs.Standing.{AreOfRounds};
 
 use headline_laws::{joined_members_make_a_report_lawful, records_and_transcripts_join};
@@ -36,9 +36,9 @@ pub fn shows_are_played()
         → IsPlayedBehind before show t }
 {}
 
-/// And those of a run, where its looks and scans are what a run promises of them.
+/// And those of a run: it makes as many rounds, and tells how many transactions ended.
 pub fn runs_are_played()
-    ensures run { (before t : List Item) (k : ℕ) → AreByRounds (before ++ t) → IsRunUntil (config_at before) k t
+    ensures run { (before t : List Item) (k : ℕ) → AreByRounds (before ++ t) → IsDone true before (run k) t
         → IsPlayedBehind before (run k) t }
 {}
 
@@ -47,14 +47,14 @@ pub fn stops_are_played()
     ensures stop { (before t : List Item) → AreByRounds (before ++ t) → IsStopped before t → StopsBehind before t }
 {}
 
-/// The report is the one that rounds have, where runs and finishes are played by rounds, and where the logs are what the
-/// rounds of the record come to.
+/// The report is the one that rounds have, where each finish is played by rounds, and where the logs are what the rounds
+/// of the record come to.
 pub fn reports_are_those_of_rounds()
-    ensures serial { (alone : Bool) (statements : List Statement) (t : List Item) (m : List Moment) (report : Report)
-        → (x : IsTranscript alone statements t) → TimedArePlayed x.pieces → AreOfRounds (entries t) (taken_in report)
+    ensures serial { (statements : List Statement) (t : List Item) (m : List Moment) (report : Report)
+        → (x : IsTranscript true statements t) → FinishesArePlayed x.pieces → AreOfRounds (entries t) (taken_in report)
         → IsReport t m report → Serial statements report }
-    ensures untimed { (alone : Bool) (statements : List Statement) (t : List Item) (m : List Moment) (report : Report)
-        → IsTranscript alone statements t → list_any is_timed statements ≡ false
+    ensures no_finish { (statements : List Statement) (t : List Item) (m : List Moment) (report : Report)
+        → IsTranscript true statements t → list_any is_finish statements ≡ false
         → AreOfRounds (entries t) (taken_in report) → IsReport t m report → Serial statements report }
 {
     joined_members_make_a_report_lawful();
