@@ -1,6 +1,7 @@
 -- What a seat loaded, over several calls.
-use Rattle.std.proofs.Common.{◌≡◌, ◌∙◌, ℕ, ◌+◌, ◌≤◌, Bool, false, Option, Some, None, sym, ap, arith}
-use Rattle.std.proofs.lemmas.Bool.{both_ways}
+use Rattle.std.proofs.Common.{◌≡◌, ◌∙◌, ℕ, ◌+◌, ◌≤◌, Bool, true, false, Option, Some, None, sym, ap, arith}
+use Rattle.std.specs.Prelude.{◌&&◌}
+use Rattle.std.proofs.lemmas.Bool.{and_parts, both_ways}
 use Rattle.std.proofs.lemmas.Option.{none-some}
 use Rattle.port_gate.specs.Loads.{IsLed, IsLoaded, IsOfNow, Led, Load, Loads, LoadsAt, TellsLoads}
 use Rattle.quiesce_core.specs.declared.known.Known.{Known}
@@ -39,8 +40,14 @@ led_since p shows a b c o few h = record { led = h.led; there = h.there; port = 
 pub led_kept : (p : ℕ) (shows : Load → Bool) (a b c : ℕ) (o o' : Option Led) → b ≤ c → o' ≡ o → IsLed p shows a b o → IsLed p shows a c o'
 led_kept p shows a b c o o' few same h = record { led = h.led; there = same ∙ h.there; port = h.port; now = now_kept shows a b c h.led.load few h.now }
 
-pub loads_at : (p : ℕ) (shows : Load → Bool) (a b : Option Loads) → TellsLoads (LoadsAt p shows) a b → TellsLoads (IsLoaded p shows) a b
-loads_at p shows a b loads = as_so (LoadsAt p shows) (IsLoaded p shows) (λ x y did. did.loaded) a b loads
+loaded_as : (p : ℕ) (shows shows' : Load → Bool) → ((l : Load) → shows l ≡ true → shows' l ≡ true) → (a b : Loads) → IsLoaded p shows a b → IsLoaded p shows' a b
+loaded_as p shows shows' f a b h = record { load = h.load; there = h.there; now = record { after = h.now.after; until = h.now.until; shown = f h.load h.now.shown } }
+
+-- what was loaded shows the first of two things that the answer shows
+pub loads_first : (p : ℕ) (shows more_ : Load → Bool) (a b : Option Loads) → TellsLoads (LoadsAt p (λ l. shows l && more_ l)) a b → TellsLoads (IsLoaded p shows) a b
+loads_first p shows more_ a b loads =
+    as_so (LoadsAt p (λ l. shows l && more_ l)) (IsLoaded p shows)
+    (λ x y did. loaded_as p (λ l. shows l && more_ l) shows (λ l h. (and_parts (shows l) (more_ l) h).0) x y did.loaded) a b loads
 
 -- ---- what calls leave
 

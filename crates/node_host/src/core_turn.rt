@@ -1,6 +1,6 @@
 //! A node's turn on one thread.
 
-ghost use Rattle.std.specs.Prelude.{◌≡◌, ◌++◌, ℕ, List, Some, OnErr, OnOk, option_to_list};
+ghost use Rattle.std.specs.Prelude.{◌≡◌, ◌++◌, ◌<◌, ℕ, List, Some, length, vec_capacity, OnErr, OnOk, option_to_list};
 ghost use Rattle.node_host.specs.Hosted.{node_of};
 ghost use Rattle.node_host.specs.Trying.{own_box};
 ghost use Rattle.node_host.specs.Turning.{event_of, state_then};
@@ -31,6 +31,7 @@ pub fn turn_at_core<C: Component + Drop>(
     ensures spare { gate.new.core.spare ≡ gate.old.core.spare }
     ensures past { node.new.past ≡ node.old.past }
     ensures memory { OnErr result ((node.new.waiting ≡ node.old.waiting) × (node.new.seat ≡ node.old.seat) × (gate.new ≡ gate.old) × (hints.new ≡ hints.old)) }
+    ensures full { OnErr result (length node.old.log.items < vec_capacity node.old.log → C.has_room node.old.inner → ⊥) }
     ensures logged { OnOk result (node.new.log.items ≡ node.old.log.items ++ option_to_list (event_of result)) }
     ensures state { OnOk result (gate.new.core.state ≡ state_then gate.old.core.state (event_of result)) }
 {

@@ -28,6 +28,10 @@ abbrev pub IsWordAt : Option State → ℕ → ℕ → Type 0
 IsWordAt None p w = ⊤
 IsWordAt (Some s) p w = w ≡ word_of s p
 
+-- the word of a port at which its owner may begin: it is open, leads to a node, and isn't spent
+abbrev pub may_begin : Word → Bool
+may_begin w = not w.closed && not (is_missing w)
+
 -- the cause of a refusal, by the word that it carries; a gate that tells its state answers it exactly where that holds of the state
 pub record HasWord (s : Option State) (p w : ℕ) (shows : Word → Bool) : Type 0 where
   pub cause : shows (unpack w) ≡ true
@@ -53,7 +57,7 @@ BeginSays s p (Begun k t) = (k ≤ last_serial) × (t < MAX_NODES) × IsTargetAt
 BeginSays s p (Closed w) = HasWord s p w (λ x. x.closed)
 BeginSays s p (Unlinked w) = HasWord s p w (λ x. not x.closed && is_none x.target)
 BeginSays s p (Spent k) = (k ≡ last_serial) × IsSpentAt s p
-BeginSays s p (Again l f) = (s ≡ None) × ((unpack f).closed ≡ false) × (f ≢ l)
+BeginSays s p (Again l f) = (s ≡ None) × (may_begin (unpack l) ≡ true) × ((unpack f).closed ≡ false) × (f ≢ l)
 
 abbrev pub CallSays : Option State → ℕ → CallAnswer → Type 0
 CallSays s p (Called k t) = (k ≤ last_serial) × (t < MAX_NODES) × IsTargetAt s p t

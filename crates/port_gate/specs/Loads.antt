@@ -1,5 +1,5 @@
 -- What a seat may tell of the words that it loaded, and what each call loads.
-use Rattle.std.specs.Prelude.{◌≡◌, ◌≢◌, ℕ, ◌<◌, ◌≤◌, Bool, true, false, not, ◌==◌, ◌&&◌, ◌||◌, Option, Some, None, is_some}
+use Rattle.std.specs.Prelude.{◌≡◌, ◌≢◌, ℕ, ◌+◌, ◌<◌, ◌≤◌, Bool, true, false, not, ◌==◌, ◌&&◌, ◌||◌, Option, Some, None, is_none, is_some}
 use Rattle.std.specs.Option.{option_map_or}
 use Rattle.config_graph.specs.declared.node.Target.{Target}
 use Rattle.gate_word.specs.Phases.{is_answered, is_asked, is_in_more}
@@ -98,6 +98,10 @@ has_found f l = option_map_or (λ (x : ℕ). x == f) l.found false
 abbrev pub leads_to : ℕ → Load → Bool
 leads_to n l = option_map_or (λ (t : Target). t.node == n) (unpack l.word).target false
 
+-- and through this provision
+abbrev pub is_asked_through : ℕ → Load → Bool
+is_asked_through x l = option_map_or (λ (t : Target). t.provide == x) (unpack l.word).target false
+
 -- it is asked; it is open and linked, but spent
 abbrev pub shows_asked : Load → Bool
 shows_asked l = is_asked (unpack l.word).phase
@@ -105,16 +109,24 @@ shows_asked l = is_asked (unpack l.word).phase
 abbrev pub shows_spent : Load → Bool
 shows_spent l = not (unpack l.word).closed && is_some (unpack l.word).target && is_spent (unpack l.word)
 
+-- what is begun has the serial after that of the port's word
+abbrev pub is_next : ℕ → Load → Bool
+is_next k l = (unpack l.word).serial + 1 == k
+
+-- and no other word than that, which is open, was found
+abbrev pub is_begun : ℕ → Load → Bool
+is_begun k l = is_next k l && (not (unpack l.word).closed && is_none l.found)
+
 -- a refusal has the word that was loaded, or the closed one that was found in its place
 abbrev pub begin_shows : BeginAnswer → Load → Bool
-begin_shows (Begun k t) l = leads_to t l
+begin_shows (Begun k t) l = leads_to t l && is_begun k l
 begin_shows (Closed w) l = is_word w l || has_found w l
 begin_shows (Unlinked w) l = is_word w l
 begin_shows (Spent k) l = shows_spent l
 begin_shows (Again i f) l = is_word i l && has_found f l
 
 abbrev pub call_shows : CallAnswer → Load → Bool
-call_shows (Called k t) l = leads_to t l
+call_shows (Called k t) l = leads_to t l && is_next k l
 call_shows (Missed w) l = is_word w l
 
 abbrev pub see_shows : SeeAnswer → Load → Bool
@@ -123,7 +135,7 @@ see_shows (see.More v) l = is_in_more (unpack l.word).phase && (unpack l.word).v
 see_shows (see.NotYet w) l = is_word w l
 
 abbrev pub take_shows : ℕ → TakeAnswer → Load → Bool
-take_shows n (Taken x k v) l = is_message_to n (unpack l.word) && (unpack l.word).value == v
+take_shows n (Taken x k v) l = is_message_to n (unpack l.word) && (is_asked_through x l && ((unpack l.word).serial == k && (unpack l.word).value == v))
 take_shows n (Stale w) l = is_word w l
 
 abbrev pub hear_shows : HearAnswer → Load → Bool

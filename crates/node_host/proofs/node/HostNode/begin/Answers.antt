@@ -12,8 +12,8 @@ use Rattle.port_gate.specs.Seats.{MayBegin}
 use Rattle.node_host.proofs.Exactly.{begins_again, begins_begun, begins_busy, begins_closed, begins_spent, begins_unlinked}
 use Rattle.node_host.proofs.Growing.{hosted_after, moved_after}
 use Rattle.node_host.proofs.Idle.{idle_at, not_false, not_true}
-use Rattle.port_gate.specs.Loads.{leads_to}
-use Rattle.node_host.proofs.Loading.{loads_at}
+use Rattle.port_gate.specs.Loads.{is_begun, leads_to}
+use Rattle.node_host.proofs.Loading.{loads_first}
 use Rattle.node_host.proofs.Permitted.{begin_folds, did_by, may_begin}
 use Rattle.node_host.proofs.Still.{hosted_still, hosted_waiting, moved_still}
 use Rattle.node_host.proofs.node.HostNode.begin.Goals as goal
@@ -220,4 +220,4 @@ returns-in-Begun-clause-hint g c =
       counts = c.post.ensures.others;
       told = c.post.ensures.other_inboxes;
     } in
-    record { target = c.in-Begun.target; leads = c.in-Begun.ensures.says.2; loaded = loads_at (h.first_port + c.args.ask.require) (leads_to c.in-Begun.target) (g.S.GateSeat.loads h.seat) (g.S.GateSeat.loads c.begin.new.seat) c.in-Begun.ensures.loads; posted = subst (λ r. IsPosted h.first_port r c.in-Begun.target old new) (sym (index_is h.first_port c.args.ask.require)) posted }
+    record { target = c.in-Begun.target; leads = c.in-Begun.ensures.says.2; loaded = loads_first (h.first_port + c.args.ask.require) (leads_to c.in-Begun.target) (is_begun c.in-Begun.serial) (g.S.GateSeat.loads h.seat) (g.S.GateSeat.loads c.begin.new.seat) c.in-Begun.ensures.loads; posted = subst (λ r. IsPosted h.first_port r c.in-Begun.target old new) (sym (index_is h.first_port c.args.ask.require)) posted }

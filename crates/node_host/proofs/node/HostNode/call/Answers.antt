@@ -1,5 +1,5 @@
 use Rattle.std.proofs.Common.{◌∙◌, ◌+◌, List, [], ◌∷◌, refl, sym, ap, subst, arith}
-use Rattle.std.specs.Prelude.{map, not, slice_index_or}
+use Rattle.std.specs.Prelude.{◌&&◌, map, not, slice_index_or}
 use Rattle.quiesce_core.specs.Knowledge.{port_at_start}
 use Rattle.quiesce_core.specs.declared.event.Event.{Event}
 use Rattle.quiesce_core.specs.declared.event.Event.TheVariants as event
@@ -12,8 +12,8 @@ use Rattle.port_gate.specs.Seats.{MayCall}
 use Rattle.node_host.proofs.Exactly.{calls_called, calls_missed}
 use Rattle.node_host.proofs.Growing.{hosted_after, moved_after, node_after}
 use Rattle.node_host.proofs.InService.{idle_to_call, no_call}
-use Rattle.port_gate.specs.Loads.{is_word, leads_to}
-use Rattle.node_host.proofs.Loading.{keeps_loaded, loads_at}
+use Rattle.port_gate.specs.Loads.{is_next, is_word, leads_to}
+use Rattle.node_host.proofs.Loading.{keeps_loaded, loads_first}
 use Rattle.node_host.proofs.Permitted.{call_folds, can_call, can_miss, did_by, may_call, miss_folds}
 use Rattle.node_host.proofs.Still.{hosted_waiting}
 use Rattle.node_host.proofs.node.HostNode.call.Goals as goal
@@ -173,7 +173,7 @@ returns-in-Called-clause-hint g c =
       counts = c.post.ensures.others;
       told = c.post.ensures.other_inboxes;
     } in
-    record { target = c.in-Called.target; leads = c.in-Called.ensures.says.2; loaded = loads_at (h.first_port + c.args.ask.require) (leads_to c.in-Called.target) (g.S.GateSeat.loads h.seat) (g.S.GateSeat.loads c.call.new.seat) c.in-Called.ensures.loads; posted = subst (λ r. IsPosted h.first_port r c.in-Called.target old new) (sym (index_is h.first_port c.args.ask.require)) posted }
+    record { target = c.in-Called.target; leads = c.in-Called.ensures.says.2; loaded = loads_first (h.first_port + c.args.ask.require) (leads_to c.in-Called.target) (is_next c.in-Called.serial) (g.S.GateSeat.loads h.seat) (g.S.GateSeat.loads c.call.new.seat) c.in-Called.ensures.loads; posted = subst (λ r. IsPosted h.first_port r c.in-Called.target old new) (sym (index_is h.first_port c.args.ask.require)) posted }
 
 pub returns-in-Missed-clause-loads : goal.returns-in-Missed-clause-loads
 returns-in-Missed-clause-loads g c =
@@ -191,4 +191,4 @@ returns-in-Called-clause-loads g c =
     let line : List Member = map (λ p. record { first = p.first_port; arg = p.arg; log = p.log.items }) h.past.items in
     let seat : SeatSeen = record { slot = g.S.GateSeat.slot_of h.seat; known = g.S.GateSeat.known h.seat; told = g.S.GateSeat.tells h.seat } in
     let idle = idle_to_call h.slot h.first_port t h.log.items line h.known h.waiting seat h.hosted c.args.ask (omega (arith, c.requires.fits_ask.require, two_requires t.kind)) c.requires.ended c.requires.asks in
-    keeps_loaded 2 h.first_port c.args.ask.require (leads_to c.in-Called.target) h.known (g.S.GateSeat.loads h.seat) (g.S.GateSeat.loads c.call.new.seat) (ap not idle) c.in-Called.ensures.loads
+    keeps_loaded 2 h.first_port c.args.ask.require (λ l. leads_to c.in-Called.target l && is_next c.in-Called.serial l) h.known (g.S.GateSeat.loads h.seat) (g.S.GateSeat.loads c.call.new.seat) (ap not idle) c.in-Called.ensures.loads
