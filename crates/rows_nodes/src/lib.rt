@@ -9,3 +9,5 @@ mod inbox_rows;
 mod kind_rows;
 #[cfg(test)]
 mod steps;
+#[cfg(test)]
+mod turn_rows;
