@@ -1,0 +1,83 @@
+-- What a step adds, by what its calls of the engine did.
+use Rattle.std.proofs.Common.{◌≡◌, ◌∙◌, ℕ, Bool, true, false, List, [], ◌∷◌, ◌++◌, append_assoc, length, map, refl, sym, ap, subst, inl, inr, Result, Ok, Err}
+use Rattle.std.specs.Prelude.{◌||◌, ℤ, flat_map, IfOk}
+use Rattle.std.proofs.lemmas.Bool.{both_ways, or_parts}
+use Rattle.config_graph.specs.Graph.{Graph}
+use Rattle.plan_laws.specs.Committing.{made_in}
+use Rattle.change_script.specs.declared.report.HistoryLine.TheVariants as to
+use Rattle.change_board.specs.Entries.{Entry}
+use Rattle.change_board.specs.Scans.{look_entry}
+use Rattle.change_board.specs.Transcripts.{Item, said}
+use Rattle.change_engine.specs.Calls.{HasFinished, HasRun, HasShown, HasSkipped}
+use Rattle.change_engine.specs.Engines.{IsIdle}
+use Rattle.change_engine.specs.Finishing.{all_entries}
+use Rattle.change_engine.specs.Passivating.{silent_items}
+use Rattle.change_engine.specs.declared.engine.Engine.{Engine}
+use Rattle.headline_laws.specs.Pieces.{config_at, skip_items}
+use Rattle.headline_laws.proofs.ConfigLaws.{finish_config, run_config, said_config}
+use Rattle.headline_laws.proofs.PendingLaws.{pending_both, quiet_none}
+use Rattle.script_runner.specs.Doing.{Carried, is_given_up}
+use Rattle.script_steps.specs.declared.steps.Replacement.{Replacement}
+use Rattle.script_steps.specs.declared.steps.Step.TheVariants as steps
+
+pub in_ok : {A E : Type 0} (P Q : A → Type 0) → ((x : A) → P x → Q x) → (r : Result A E) → IfOk r P → IfOk r Q
+in_ok P Q f (Ok x) h = f x h
+in_ok P Q f (Err e) h = tt
+
+nothing_more : (b : Bool) → (b || false) ≡ b
+nothing_more true = refl
+nothing_more false = refl
+
+pub kept : (t u : List Item) → is_given_up u ≡ false → is_given_up (t ++ u) ≡ is_given_up t
+kept t u h = pending_both t u ∙ ap (λ b. is_given_up t || b) h ∙ nothing_more (is_given_up t)
+
+module _ {B : Type 0} (S : B → List Entry → Type 0) (alone : Bool) (e f : Engine B) where
+  pub ran : (k ended : ℕ) → HasRun S alone e f k ended → f.graph ≡ e.graph → (t : List Item) (given : Bool) → IsIdle S e t → given ≡ is_given_up t → Carried S alone e f t (steps.Run k) given
+  ran k ended x same t given idle flag =
+      let es = map look_entry x.looks ++ all_entries x.scans in
+      record {
+        items = silent_items es ++ said (to.Run k ended) ∷ [];
+        done = record { looks = x.looks; at_ports = x.at_ports t idle; scans = x.scans; are_scans = x.are_scans t idle; go_on = x.go_on; ends = x.ends; ended = ended; ended_is = x.ended_is; are = refl };
+        idle = x.goes t idle;
+        flag = flag ∙ sym (kept t (silent_items es ++ said (to.Run k ended) ∷ []) (quiet_none es (to.Run k ended) refl));
+        graph = λ _. same;
+        made = λ _. ap made_in (run_config t x.looks x.scans k ended);
+      }
+
+  pub finished : (n rounds : ℕ) → HasFinished S alone e f n rounds → f.graph ≡ e.graph → (t : List Item) (given : Bool) → IsIdle S e t → given ≡ is_given_up t → Carried S alone e f t (steps.Finish n) given
+  finished n rounds x same t given idle flag =
+      let es = all_entries x.scans in
+      record {
+        items = silent_items es ++ said (to.Finish n rounds) ∷ [];
+        done = record {
+          scans = x.scans;
+          few = x.few;
+          are_scans = x.are_scans t idle;
+          ends = x.ends;
+          are = ap (λ r. silent_items es ++ said (to.Finish n r) ∷ []) x.rounds_are;
+        };
+        idle = x.goes t idle;
+        flag = flag ∙ sym (kept t (silent_items es ++ said (to.Finish n rounds) ∷ []) (quiet_none es (to.Finish n rounds) refl));
+        graph = λ _. same;
+        made = λ _. ap made_in (finish_config t x.scans n rounds);
+      }
+
+  pub shown : HasShown S e f → f.graph ≡ e.graph → (t : List Item) (given : Bool) → IsIdle S e t → given ≡ is_given_up t → Carried S alone e f t steps.Show given
+  shown x same t given idle flag = record {
+    items = said (to.Show e.graph) ∷ [];
+    done = record { graph = e.graph; stands = idle.tells.graph; are = refl };
+    idle = x t idle;
+    flag = flag ∙ sym (kept t (said (to.Show e.graph) ∷ []) refl);
+    graph = λ _. same;
+    made = λ _. ap made_in (said_config t (to.Show e.graph));
+  }
+
+  pub skipped : (c : Replacement) → HasSkipped S e f c.name c.args → (t : List Item) → IsIdle S e t → is_given_up t ≡ true → Carried S alone e f t (steps.Change c) true
+  skipped c x t idle given = record {
+    items = skip_items c.name c.args;
+    done = (λ h. refl, λ h. absurd (both_ways (is_given_up t) h given));
+    idle = x t idle;
+    flag = sym (kept t (skip_items c.name c.args) refl ∙ given);
+    graph = λ h. absurd (both_ways true h refl);
+    made = λ h. absurd (both_ways true h refl);
+  }

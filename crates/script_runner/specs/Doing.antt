@@ -1,0 +1,55 @@
+-- What a step adds to the transcript of an engine.
+use Rattle.std.specs.Prelude.{◌≡◌, ⊤, ℕ, true, false, Bool, List, ◌++◌, length}
+use Rattle.std.specs.List.{list_any, sum_by}
+use Rattle.config_graph.specs.Graph.{Graph, requires_at}
+use Rattle.config_graph.specs.declared.node.Made.{Made}
+use Rattle.change_plan.specs.declared.plan_data.Plan.{Plan}
+use Rattle.plan_laws.specs.Committing.{made_in}
+use Rattle.change_law.specs.Members.{is_pending}
+use Rattle.change_law.specs.Scripts.{more_made}
+use Rattle.change_board.specs.Entries.{Entry}
+use Rattle.change_board.specs.Steps.{Room}
+use Rattle.change_board.specs.Transcripts.{Item, lines}
+use Rattle.change_engine.specs.Calls.{HasAbandoned, HasCommitted, HasLeft, HasPassivated}
+use Rattle.change_engine.specs.Engines.{IsIdle, IsPlanned}
+use Rattle.change_engine.specs.declared.engine.Engine.{Engine}
+use Rattle.change_engine.specs.declared.passivating.LeftRoot.{LeftRoot}
+use Rattle.headline_laws.specs.Pieces.{IsDone, config_at}
+use Rattle.script_steps.specs.Asked.{statement_of}
+use Rattle.script_steps.specs.declared.steps.Step.{Step}
+use Rattle.script_steps.specs.declared.steps.Step.TheVariants as steps
+
+-- whether a change was given up
+abbrev pub is_given_up : List Item → Bool
+is_given_up t = list_any is_pending (lines t)
+
+-- a change that isn't to be skipped is planned from the graph that stands
+abbrev pub IsReady : Graph → List Item → Step → Type 0
+IsReady graph t (steps.Change c) = is_given_up t ≡ false → IsPlanned graph c.graph c.moves c.plan (config_at t)
+IsReady graph t _ = ⊤
+
+-- the graph that stands behind a step, and how much was made then, where no change was given up
+abbrev pub graph_behind : Graph → Step → Graph
+graph_behind graph (steps.Change c) = c.graph
+graph_behind graph _ = graph
+
+abbrev pub made_behind : Made → Step → Made
+made_behind made (steps.Change c) = more_made made (length c.plan.create) (sum_by (requires_at c.graph.nodes) c.plan.create)
+made_behind made _ = made
+
+pub record Carried {B : Type 0} (S : B → List Entry → Type 0) (alone : Bool) (old new : Engine B) (t : List Item) (step : Step)
+    (given_up : Bool) : Type 0 where
+  pub items : List Item
+  pub done : IsDone alone t (statement_of step) items
+  pub idle : IsIdle S new (t ++ items)
+  pub flag : given_up ≡ is_given_up (t ++ items)
+  pub graph : given_up ≡ false → new.graph ≡ graph_behind old.graph step
+  pub made : given_up ≡ false → made_in (config_at (t ++ items)) ≡ made_behind (made_in (config_at t)) step
+
+-- a prepared change waited for its ports, and was carried out, or given up
+abbrev pub WentThrough : {B : Type 0} → (B → List Entry → Type 0) → (B → Room) → Engine B → Engine B → Plan → Graph → ℕ → Bool
+    → Type 0
+WentThrough {B} S R old new plan next_ within false =
+    (mid : Engine B) × HasPassivated S R old mid plan within × HasCommitted S R mid new plan next_
+WentThrough {B} S R old new plan next_ within true =
+    (mid : Engine B) × (left : List LeftRoot) × HasLeft S R old mid plan within left × HasAbandoned S R mid new plan

@@ -1,0 +1,6 @@
+//! Scripts carried out: the statements of a script, one after the other, by the engine on any board.
+#![tactic(auto)]
+
+mod running;
+
+pub use running::run_statements;

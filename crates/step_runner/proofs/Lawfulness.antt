@@ -1,0 +1,39 @@
+-- What was carried out, with the logs that are parts of its run, is a report of one list of members.
+use Rattle.std.proofs.Common.{◌≡◌, ◌∙◌, Bool, List, length, map, sym, ap, subst}
+use Rattle.std.specs.Prelude.{All}
+use Rattle.quiesce_core.specs.State.{Configuration}
+use Rattle.quiesce_core.specs.declared.event.Event.{Event}
+use Rattle.change_script.specs.declared.report.Report.{Report}
+use Rattle.change_law.specs.Lawful.{IsLawfulBy}
+use Rattle.change_law.specs.Members.{Member}
+use Rattle.change_law.specs.Statements.{Statement}
+use Rattle.change_board.specs.Collecting.{IsEndOf, first_undone}
+use Rattle.change_board.specs.Entries.{Entry}
+use Rattle.change_board.specs.Records.{IsRecordOf, Moment}
+use Rattle.change_board.specs.Transcripts.{Item, entries}
+use Rattle.change_engine.specs.Ending.{unfinished_in}
+use Rattle.headline_laws.specs.Joining.{AreJoined}
+use Rattle.headline_laws.specs.Pieces.{IsTranscript, config_at}
+use Rattle.headline_laws.specs.Reports.{IsReport, taken_in}
+use Rattle.headline_laws.proofs.LawfulLaws.{join}
+use Rattle.script_runner.specs.Ran.{HasCarriedOut}
+use Rattle.step_board.specs.Standing.{AreParts}
+
+module _ {B : Type 0} (S : B → List Entry → Type 0) (alone : Bool) (taken : B → List (List Event)) (statements : List Statement) (report : Report) (board : B)
+    (x : HasCarriedOut S alone taken statements report board) (parts : AreParts (entries x.transcript) (taken board)) where
+  is_report : IsReport x.transcript parts.moments report
+  is_report = record {
+    history_is = x.history_is;
+    slots = x.slots;
+    events_are = x.logs_are ∙ parts.logs_are;
+    ends = subst (λ ls. All (IsEndOf (config_at x.transcript) ls) report.logs) (sym x.logs_are) x.ends;
+    unfinished_is = x.unfinished_is ∙ ap (λ ls. unfinished_in report.history (first_undone (config_at x.transcript) ls)) (sym x.logs_are);
+    status_is = x.status_is;
+  }
+
+  pub lawful_by : ((alone : Bool) (statements : List Statement) (t : List Item) (m : List Moment) (members : List Member) (report : Report)
+      → IsTranscript alone statements t → AreJoined t m members → IsRecordOf (entries t) m → IsReport t m report → IsLawfulBy statements report members)
+      → (members : List Member) × IsLawfulBy statements report members
+  lawful_by law =
+      let j = join x.transcript parts.moments parts.is_of in
+      (j.0, law alone statements x.transcript parts.moments j.0 report x.is_transcript j.1 parts.is_of is_report)

@@ -1,0 +1,36 @@
+//! A script on nodes of one thread, from its start to its report.
+
+ghost use Rattle.std.specs.Prelude.{List, [], IfOk};
+ghost use Rattle.change_law.specs.Follows.{Follows};
+ghost use Rattle.change_law.specs.Lawful.{IsLawfulBy};
+ghost use Rattle.change_law.specs.Members.{Member};
+ghost use Rattle.script_steps.specs.Asked.{CanDoAll, CanStart, after_start, statements_of};
+
+use change_board::Board;
+use change_script::Report;
+use config_graph::NoMemory;
+use headline_laws::joined_members_make_a_report_lawful;
+use script_runner::run_statements;
+use script_steps::{Start, Step};
+use std::alloc::Global;
+use step_board::{Nodes, StepBoard};
+
+/// Carries out a script on a board on which nothing was made, and gives its report. The history follows the script, and
+/// the logs and the history are parts of one run of the machine by which the report is lawful.
+pub fn run_in_rounds<N: Nodes + Drop>(
+    alloc: Global,
+    board: StepBoard<N>,
+    start: Start,
+    steps: Vec<Step>,
+) -> Result<Report, NoMemory>
+    requires start { CanStart start }
+    requires steps { CanDoAll (after_start start) steps.items }
+    requires board { ⟦<StepBoard<N> as Board>⟧.stands_for board [] }
+    ensures follows { IfOk result (λ r. Follows (statements_of start steps.items) r.history) }
+    ensures lawful { IfOk result (λ r. (members : List Member) × IsLawfulBy (statements_of start steps.items) r members) }
+{
+    joined_members_make_a_report_lawful();
+    let (report, board) = run_statements(alloc, board, start, steps)?;
+    board.close_down();
+    Ok(report)
+}
