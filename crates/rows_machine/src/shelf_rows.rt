@@ -159,10 +159,9 @@ impl Print for NarrowOutput {
 /// Short writes of more than 4,096 bytes.
 #[test]
 fn long_texts_go_out_in_pieces(rt: HostRuntime) -> Result<(), Fail> {
-    let mut text = Vec::new(rt.alloc());
-    for number in 0..12_345 {
-        text.push((number % 251) as u8)?;
-    }
+    let mut text = Vec::from_elem(rt.alloc(), b'a', 7_000)?;
+    let end = Vec::from_elem(rt.alloc(), b'b', 5_345)?;
+    text.extend_from_slice(end.as_slice())?;
     let output = NarrowOutput {
         taken: RefCell::new(Vec::new(rt.alloc())),
     };
