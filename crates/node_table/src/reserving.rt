@@ -3,7 +3,7 @@
 ghost use Rattle.std.specs.Prelude.{◌≡◌, ◌≤◌, ◌<◌, ◌+◌, ℕ, true, length, map, slice_get, OnOk, Some};
 ghost use Rattle.component_trait.specs.States.{NodeState};
 ghost use Rattle.config_graph.specs.declared.TheConstants.{MAX_NODES};
-ghost use Rattle.state_handover.specs.declared.any_node.AnyNode.{AnyNode as Any};
+ghost use Rattle.state_handover.specs.declared.any_node.AnyNode.{AnyNode as PureNode};
 ghost use Rattle.turns.specs.World.{World};
 ghost use Rattle.node_table.specs.Rooms.{has_past_room};
 ghost use Rattle.node_table.specs.Seen.{seen};
@@ -18,7 +18,7 @@ use state_handover::AnyNode;
 
 /// Makes room in the past of a node for the node itself.
 fn reserve_past(held: &mut Held) -> Result<(), NoMemory>
-    ensures seen { (states : Any → NodeState) → seen states held.new ≡ seen states held.old }
+    ensures seen { (states : PureNode → NodeState) → seen states held.new ≡ seen states held.old }
     ensures room { OnOk result (has_past_room held.new ≡ true) }
     ensures kept { has_past_room held.old ≡ true → has_past_room held.new ≡ true }
 {
@@ -30,7 +30,7 @@ fn reserve_past(held: &mut Held) -> Result<(), NoMemory>
 
 /// Makes room in the past of each node.
 fn reserve_pasts(nodes: &mut [Held]) -> Result<(), NoMemory>
-    ensures seen { (states : Any → NodeState) → map (seen states) nodes.new ≡ map (seen states) nodes.old }
+    ensures seen { (states : PureNode → NodeState) → map (seen states) nodes.new ≡ map (seen states) nodes.old }
     ensures room { OnOk result ((k : ℕ) (h : _) → slice_get nodes.new k ≡ Some h → has_past_room h ≡ true) }
     ensures kept { (k : ℕ) (h h' : _) → slice_get nodes.old k ≡ Some h → has_past_room h ≡ true → slice_get nodes.new k ≡ Some h' → has_past_room h' ≡ true }
 {

@@ -9,7 +9,7 @@ use std::process::Abort;
 use std::test::Fail;
 
 /// A description, events over it, the status, and what is written, where they are the files `f.dar` and `e.txt`.
-type Replay = (&'static str, &'static str, u8, &'static str);
+pub type Replay = (&'static str, &'static str, u8, &'static str);
 
 /// Events that are steps, and events that are denied.
 static EVENTS: [Replay; 16] = [
@@ -206,7 +206,7 @@ static UNREAD: [Row<'static>; 4] = [
 ];
 
 /// Replays events over descriptions, and stops the test where another text or status comes.
-fn replay_all(rt: &impl Abort, alloc: Global, rows: &[Replay]) -> Result<(), Fail> {
+pub fn replay_all(rt: &impl Abort, alloc: Global, rows: &[Replay]) -> Result<(), Fail> {
     for (description, events, status, written) in rows {
         let row = Row {
             words: &["replay", "f.dar", "e.txt"],

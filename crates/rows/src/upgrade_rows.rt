@@ -6,14 +6,19 @@ use darwin_commands::{Status, still};
 use std::test::Fail;
 
 /// The run of a source that leads to nothing, in the two versions.
-const FIRST: &str = "report 1\nstart Lone()\nmake 0 s source(2)\nreopen 0\ncommit\nfinish 5 1\nstop\nclose 0\ndrained 0 0\nlog 0\nstate 0\nunfinished 0\nstatus 8\n";
-const SECOND: &str = "report 2\nstart Lone()\nmake 0 s source(2)\nreopen 0\ncommit\nfinish 5 1\nstop\nclose 0\ndrained 0 0\nlog 0 s\nstate 0\nunfinished 0\nstatus 8\n";
+const FIRST: &str =
+    "report 1\nstart Lone()\nmake 0 s source(2)\nreopen 0\ncommit\nfinish 5 1\nstop\nclose 0\ndrained 0 0\nlog 0\nstate 0\nunfinished 0\nstatus 8\n";
+
+const SECOND: &str =
+    "report 2\nstart Lone()\nmake 0 s source(2)\nreopen 0\ncommit\nfinish 5 1\nstop\nclose 0\ndrained 0 0\nlog 0 s\nstate 0\nunfinished 0\nstatus 8\n";
 
 /// The same without its last line.
-const SHORT: &str = "report 1\nstart Lone()\nmake 0 s source(2)\nreopen 0\ncommit\nfinish 5 1\nstop\nclose 0\ndrained 0 0\nlog 0\nstate 0\nunfinished 0\n";
+const SHORT: &str =
+    "report 1\nstart Lone()\nmake 0 s source(2)\nreopen 0\ncommit\nfinish 5 1\nstop\nclose 0\ndrained 0 0\nlog 0\nstate 0\nunfinished 0\n";
 
 /// The same with the log of a slot in which nothing was made.
-const OTHER_LOG: &str = "report 1\nstart Lone()\nmake 0 s source(2)\nreopen 0\ncommit\nfinish 5 1\nstop\nclose 0\ndrained 0 0\nlog 1\nstate 0\nunfinished 0\nstatus 8\n";
+const OTHER_LOG: &str =
+    "report 1\nstart Lone()\nmake 0 s source(2)\nreopen 0\ncommit\nfinish 5 1\nstop\nclose 0\ndrained 0 0\nlog 1\nstate 0\nunfinished 0\nstatus 8\n";
 
 static ROWS: [Row<'static>; 8] = [
     Row {
