@@ -1,5 +1,5 @@
 -- The configuration behind the items of each statement.
-use Rattle.std.proofs.Common.{◌≡◌, ◌∙◌, ℕ, List, [], ◌∷◌, ◌++◌, append_assoc, map, Option, Some, None, refl, sym, ap}
+use Rattle.std.proofs.Common.{◌≡◌, ◌∙◌, ℕ, List, [], ◌∷◌, ◌++◌, map, Option, Some, None, refl, sym, ap}
 use Rattle.std.specs.Prelude.{ℤ, filter_map, flat_map}
 use Rattle.std.specs.List.{cons_option}
 use Rattle.std.specs.Option.{option_map_or}
@@ -16,11 +16,11 @@ use Rattle.change_board.specs.Scans.{Found, look_entry}
 use Rattle.change_board.specs.Sights.{Sight, sight_entry}
 use Rattle.change_board.specs.Steps.{Deed}
 use Rattle.change_board.specs.Transcripts.{Item, silent, told, said, entries, entry_in, lines}
-use Rattle.change_engine.specs.Carrying.{deed_items, event_item, sight_item}
+use Rattle.change_engine.specs.Carrying.{deed_items, sight_item}
 use Rattle.change_engine.specs.Finishing.{Seen, all_entries}
 use Rattle.change_engine.specs.Passivating.{silent_items}
 use Rattle.headline_laws.specs.Pieces.{config_at, events_of}
-use Rattle.headline_laws.proofs.ItemLemmas.{config_over, entries_both, fair_both, fair_events, fair_run, fair_scans, lines_both, sight_lines, silent_entries, silent_lines}
+use Rattle.headline_laws.proofs.ItemLemmas.{config_over, entries_both, fair_events, fair_run, fair_scans, lines_both, sight_lines, silent_entries, silent_lines}
 
 -- ---- what a change does
 

@@ -1,4 +1,5 @@
 pub mod ConfigLaws
+mod CountLemmas
 pub mod EndLaws
 pub mod FoldLaws
 pub mod FollowLaws
@@ -11,6 +12,7 @@ mod LineLemmas
 mod LookLemmas
 pub mod MadeLaws
 pub mod MergeLaws
+pub mod NumberLaws
 pub mod OpenLaws
 pub mod PendingLaws
 mod PortLemmas

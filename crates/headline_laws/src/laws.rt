@@ -12,6 +12,7 @@ ghost use Rattle.change_law.specs.Statements.{Statement};
 ghost use Rattle.change_script.specs.declared.report.Report.{Report};
 ghost use Rattle.quiesce_core.specs.Runs.{IsRun};
 ghost use Rattle.headline_laws.specs.Joining.{AreJoined};
+ghost use Rattle.headline_laws.specs.Numbers.{IsEndedAt};
 ghost use Rattle.headline_laws.specs.Pieces.{IsTranscript};
 ghost use Rattle.headline_laws.specs.Reports.{IsReport};
 
@@ -108,3 +109,9 @@ pub fn joined_members_make_a_report_lawful()
 {
     nothing_is_open_at_the_end();
 }
+
+/// At least so many transactions as the line of a run tells ended since the line before it.
+pub fn runs_ended_as_many_as_they_tell()
+    ensures ended { (alone : Bool) (statements : List Statement) (t : List Item) (m : List Moment) (members : List Member)
+        → IsTranscript alone statements t → AreJoined t m members → IsRecordOf (entries t) m → Each IsEndedAt members }
+{}
