@@ -4,12 +4,10 @@ use Rattle.std.specs.Prelude.{◌||◌, flat_map}
 use Rattle.std.specs.List.{sum_by}
 use Rattle.std.proofs.lemmas.Bool.{both_ways}
 use Rattle.commit_laws.specs.Steps.{change_all}
-use Rattle.config_graph.specs.Graph.{Graph, requires_at}
-use Rattle.config_graph.specs.declared.node.Made.{Made}
+use Rattle.config_graph.specs.Graph.{requires_at}
 use Rattle.plan_laws.specs.Commit.{commit_events, ports_to_close}
 use Rattle.plan_laws.specs.Committing.{made_in}
 use Rattle.quiesce_core.specs.Live.{IsGraphOf}
-use Rattle.quiesce_core.specs.State.{Configuration}
 use Rattle.quiesce_core.specs.declared.event.Event.TheVariants as event
 use Rattle.change_script.specs.declared.report.HistoryLine.TheVariants as to
 use Rattle.change_law.specs.Scripts.{more_made}
@@ -20,14 +18,14 @@ use Rattle.change_engine.specs.Calls.{HasAbandoned, HasCommitted, HasLeft, HasPa
 use Rattle.change_engine.specs.Carrying.{deed_items}
 use Rattle.change_engine.specs.Draining as draining
 use Rattle.change_engine.specs.Engines.{IsIdle, IsOpen, IsPlanned, MayAbandon, MayCommit}
-use Rattle.change_engine.specs.Passivating.{left_after, passivation_items}
+use Rattle.change_engine.specs.Passivating.{passivation_items}
 use Rattle.change_engine.specs.declared.engine.Engine.{Engine}
 use Rattle.change_engine.specs.declared.passivating.LeftRoot.{LeftRoot}
 use Rattle.headline_laws.specs.Pieces.{config_at, opening_items, pending_items, root_item}
 use Rattle.headline_laws.proofs.ConfigLaws.{deeds_config, said_config}
 use Rattle.headline_laws.proofs.PendingLaws.{commit_none, config_opened, none_in_both, opening_none, pending_both, still_closed}
 use Rattle.headline_laws.proofs.RoomLaws.{closes_make, commit_makes}
-use Rattle.script_runner.specs.Doing.{Carried, IsReady, WentThrough, is_given_up}
+use Rattle.script_runner.specs.Doing.{Carried, WentThrough, is_given_up}
 use Rattle.script_steps.specs.declared.steps.Replacement.{Replacement}
 use Rattle.script_steps.specs.declared.steps.Step.TheVariants as steps
 use Rattle.script_runner.proofs.DoingLemmas.{kept}

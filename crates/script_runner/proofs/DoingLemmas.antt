@@ -1,8 +1,7 @@
 -- What a step adds, by what its calls of the engine did.
-use Rattle.std.proofs.Common.{◌≡◌, ◌∙◌, ℕ, Bool, true, false, List, [], ◌∷◌, ◌++◌, append_assoc, length, map, refl, sym, ap, subst, inl, inr, Result, Ok, Err}
-use Rattle.std.specs.Prelude.{◌||◌, ℤ, flat_map, IfOk}
-use Rattle.std.proofs.lemmas.Bool.{both_ways, or_parts}
-use Rattle.config_graph.specs.Graph.{Graph}
+use Rattle.std.proofs.Common.{◌≡◌, ◌∙◌, ℕ, Bool, true, false, List, [], ◌∷◌, ◌++◌, map, refl, sym, ap, Result, Ok, Err}
+use Rattle.std.specs.Prelude.{◌||◌, IfOk}
+use Rattle.std.proofs.lemmas.Bool.{both_ways}
 use Rattle.plan_laws.specs.Committing.{made_in}
 use Rattle.change_script.specs.declared.report.HistoryLine.TheVariants as to
 use Rattle.change_board.specs.Entries.{Entry}
@@ -13,7 +12,7 @@ use Rattle.change_engine.specs.Engines.{IsIdle}
 use Rattle.change_engine.specs.Finishing.{all_entries}
 use Rattle.change_engine.specs.Passivating.{silent_items}
 use Rattle.change_engine.specs.declared.engine.Engine.{Engine}
-use Rattle.headline_laws.specs.Pieces.{config_at, skip_items}
+use Rattle.headline_laws.specs.Pieces.{skip_items}
 use Rattle.headline_laws.proofs.ConfigLaws.{finish_config, run_config, said_config}
 use Rattle.headline_laws.proofs.PendingLaws.{pending_both, quiet_none}
 use Rattle.script_runner.specs.Doing.{Carried, is_given_up}

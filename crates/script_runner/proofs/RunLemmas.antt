@@ -1,14 +1,12 @@
 -- A script, step after step: what was done so far, and what may be done next.
-use Rattle.std.proofs.Common.{◌≡◌, ◌∙◌, ℕ, ◌-◌, ◌^◌, Bool, true, false, List, [], ◌∷◌, ◌++◌, append_assoc, length, map, refl, sym, ap, subst}
-use Rattle.std.specs.Prelude.{◌||◌, flat_map, All}
+use Rattle.std.proofs.Common.{◌≡◌, ◌∙◌, ◌-◌, ◌^◌, Bool, false, List, [], ◌∷◌, ◌++◌, append_assoc, length, map, refl, sym, ap, subst}
+use Rattle.std.specs.Prelude.{All}
 use Rattle.std.specs.List.{range_with_len}
 use Rattle.std.proofs.lemmas.Bool.{or_parts}
 use Rattle.std.proofs.lemmas.Grind.{flat_map-append}
 use Rattle.std.proofs.lemmas.List.{append-nil, map-append}
 use Rattle.base.proofs.EachLaws.{each_pushed}
 use Rattle.commit_laws.specs.Steps.{change_all}
-use Rattle.config_graph.specs.Graph.{Graph}
-use Rattle.config_graph.specs.declared.node.Made.{Made}
 use Rattle.change_plan.specs.Plans.{IsPlanOf}
 use Rattle.change_plan.specs.Refusals.{CanPlan}
 use Rattle.plan_laws.specs.Committing.{made_in}
@@ -20,13 +18,12 @@ use Rattle.change_script.specs.declared.report.Report.{Report}
 use Rattle.change_law.specs.Statements as statements
 use Rattle.change_board.specs.Collecting.{IsEndOf, first_undone}
 use Rattle.change_board.specs.Entries.{Entry, config_of}
-use Rattle.change_board.specs.Sights.{sight_entry}
-use Rattle.change_board.specs.Transcripts.{Item, said, entries, lines}
+use Rattle.change_board.specs.Transcripts.{Item, entries, lines}
 use Rattle.change_engine.specs.Beginning.{start_items}
 use Rattle.change_engine.specs.Calls.{HasStarted, HasStopped, stop_items}
 use Rattle.change_engine.specs.Carrying.{sight_item}
 use Rattle.change_engine.specs.Ending.{unfinished_in}
-use Rattle.change_engine.specs.Engines.{IsIdle, IsPlanned}
+use Rattle.change_engine.specs.Engines.{IsIdle}
 use Rattle.change_engine.specs.declared.engine.Engine.{Engine}
 use Rattle.headline_laws.specs.Pieces.{AreDone, IsDone, Piece, config_at, items_of}
 use Rattle.headline_laws.proofs.ConfigLaws.{sights_behind, sights_config, sights_lines, start_config}

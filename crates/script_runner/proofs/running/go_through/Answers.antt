@@ -1,9 +1,7 @@
-use Rattle.std.proofs.Common.{◌≡◌, ◌++◌, ℕ, List, subst}
+use Rattle.std.proofs.Common.{◌≡◌, ◌++◌, subst}
 use Rattle.change_engine.specs.Calls.{HasLeft}
 use Rattle.change_engine.specs.Draining.{WherePending, pending_items}
 use Rattle.change_engine.specs.Passivating.{passivation_items}
-use Rattle.change_engine.specs.declared.draining.PassError.{PassError}
-use Rattle.change_engine.specs.declared.passivating.LeftRoot.{LeftRoot}
 use Rattle.script_runner.proofs.running.go_through.Goals as goal
 
 pub commit-requires : goal.commit-requires

@@ -1,4 +1,4 @@
-use Rattle.std.proofs.Common.{◌∙◌, subst}
+use Rattle.std.proofs.Common.{subst}
 use Rattle.change_engine.specs.Calls.{HasSkipped}
 use Rattle.script_runner.proofs.DoingLemmas.{skipped}
 use Rattle.script_runner.proofs.running.skip_change.Goals as goal
