@@ -1,0 +1,5 @@
+pub mod HintLaws
+mod LookLemmas
+mod PostLemmas
+mod RestLaws
+mod RequestLemmas
