@@ -11,7 +11,7 @@ use Rattle.quiesce_core.specs.declared.state.Service.{Service}
 use Rattle.quiesce_core.specs.State.{State, owner, target, provision, ports_of, depends, exchange, service}
 use Rattle.gate_word.specs.Phases.{is_idle, is_asked, is_answered, is_in_more}
 use Rattle.quiesce_core.specs.Reach.{can_walk}
-use Rattle.quiesce_core.specs.Rules.{is_called_within, was_heard, denial}
+use Rattle.quiesce_core.specs.Rules.{calls_have_ended, is_called_within, was_heard, denial}
 use Rattle.quiesce_core.specs.Runs.{IsRun, state_after}
 use Rattle.quiesce_core.specs.WellFormed.{IsWellFormed}
 use Rattle.quiesce_core.specs.Traffic.{IsConsistent}
@@ -37,6 +37,7 @@ ends s p w k h = record {
     answered = h;
     message = and_from ((exchange s p).serial == (exchange s p).serial) ((exchange s p).value == (exchange s p).value) (eq-eqb (exchange s p).serial (exchange s p).serial refl) (eq-eqb (exchange s p).value (exchange s p).value refl);
   });
+  between_calls = refl;
 }
 
 asks : (s : State) (p : ℕ) → IsWellFormed s → IsConsistent s → is_in_more (exchange s p).phase ≡ true → Possible s
@@ -50,6 +51,7 @@ asks s p w k h = record {
     serial = eq-eqb (exchange s p).serial (exchange s p).serial refl;
     value = refl;
   });
+  between_calls = refl;
 }
 
 takes : (s : State) (p : ℕ) (t : Target) → IsWellFormed s → IsConsistent s → is_asked (exchange s p).phase ≡ true → target s.config p ≡ Some t → service s t.node ≡ None → Possible s
@@ -64,6 +66,7 @@ takes s p t w k h e free = record {
     free = ap is_none (target_service_is s p t e ∙ free);
     message = and_from ((exchange s p).serial == (exchange s p).serial) ((exchange s p).value == (exchange s p).value) (eq-eqb (exchange s p).serial (exchange s p).serial refl) (eq-eqb (exchange s p).value (exchange s p).value refl);
   });
+  between_calls = refl;
 }
 
 -- the service of a port by its target
@@ -72,8 +75,16 @@ record Served (s : State) (q : ℕ) (t : Target) (v : Service) : Type 0 where
   serviced : service s t.node ≡ Some v
   of_port : v.port ≡ q
 
-hears : (s : State) (q : ℕ) (t : Target) (v : Service) → IsWellFormed s → IsConsistent s → Served s q t v → is_asked (exchange s q).phase ≡ true → v.heard ≡ false → Possible s
-hears s q t v w k on h unheard = record {
+-- each of its calls has ended
+none_called : (s : State) (q : ℕ) (t : Target) (v : Service) → Served s q t v → list_any (is_called_within s q) (ports_of s.config t.node) ≡ false → calls_have_ended s q ≡ true
+none_called s q t v on none_ =
+    map_or_at (λ (u : Target). list_all (λ i. not (is_called_within s q i)) (ports_of s.config u.node)) (target s.config q) true t on.leads
+    ∙ of_all s.config t.node (λ i. not (is_called_within s q i)) (λ i owned. not_from_false (is_called_within s q i) (false_from_ne_true (is_called_within s q i)
+    (λ called. both_ways (list_any (is_called_within s q) (ports_of s.config t.node)) none_ (of_any s.config t.node (is_called_within s q) i owned called))))
+
+hears : (s : State) (q : ℕ) (t : Target) (v : Service) → IsWellFormed s → IsConsistent s → Served s q t v → is_asked (exchange s q).phase ≡ true → v.heard ≡ false
+    → list_any (is_called_within s q) (ports_of s.config t.node) ≡ false → Possible s
+hears s q t v w k on h unheard none_ = record {
   event = Hear q (exchange s q).serial (exchange s q).value;
   advances = refl;
   onward = refl;
@@ -84,6 +95,7 @@ hears s q t v w k on h unheard = record {
     unheard = ap (λ o. not (was_heard o)) (target_service_is s q t on.leads ∙ on.serviced) ∙ ap not unheard;
     message = and_from ((exchange s q).serial == (exchange s q).serial) ((exchange s q).value == (exchange s q).value) (eq-eqb (exchange s q).serial (exchange s q).serial refl) (eq-eqb (exchange s q).value (exchange s q).value refl);
   });
+  between_calls = none_called s q t v on none_;
 }
 
 -- the service has no open call
@@ -98,11 +110,10 @@ gives s q t v w k on busy heard none_ = record {
     taken = is_taken_if s q t v on.leads on.serviced on.of_port;
     heard = ap was_heard (target_service_is s q t on.leads ∙ on.serviced) ∙ heard;
     serial = eq-eqb (exchange s q).serial (exchange s q).serial refl;
-    calls_ended = map_or_at (λ (u : Target). list_all (λ i. not (is_called_within s q i)) (ports_of s.config u.node)) (target s.config q) true t on.leads
-        ∙ of_all s.config t.node (λ i. not (is_called_within s q i)) (λ i owned. not_from_false (is_called_within s q i) (false_from_ne_true (is_called_within s q i)
-        (λ called. both_ways (list_any (is_called_within s q) (ports_of s.config t.node)) none_ (of_any s.config t.node (is_called_within s q) i owned called))));
+    calls_ended = none_called s q t v on none_;
     value = refl;
   });
+  between_calls = refl;
 }
 
 -- a call of the service is open: so much further down its chain ends
@@ -131,12 +142,12 @@ served s d t v w k short f next =
     let busy = serving_busy (exchange s v.port).phase at.busy in
     ⊎_elim
     (λ (asked : is_asked (exchange s v.port).phase ≡ true). ⊎_elim
-    (λ (heard : v.heard ≡ true). ⊎_elim
     (λ (open_ : list_any (is_called_within s v.port) (ports_of s.config t.node) ≡ true). called s v.port d t w k short (any_of s.config t.node (is_called_within s v.port) open_) next)
-    (λ (none_ : list_any (is_called_within s v.port) (ports_of s.config t.node) ≡ false). gives s v.port to v w k on busy heard none_)
-    (cases_Bool (list_any (is_called_within s v.port) (ports_of s.config t.node))))
-    (λ (unheard : v.heard ≡ false). hears s v.port to v w k on asked unheard)
+    (λ (none_ : list_any (is_called_within s v.port) (ports_of s.config t.node) ≡ false). ⊎_elim
+    (λ (heard : v.heard ≡ true). gives s v.port to v w k on busy heard none_)
+    (λ (unheard : v.heard ≡ false). hears s v.port to v w k on asked unheard none_)
     (cases_Bool v.heard))
+    (cases_Bool (list_any (is_called_within s v.port) (ports_of s.config t.node))))
     (λ (more_ : is_in_more (exchange s v.port).phase ≡ true). asks s v.port w k more_)
     (or_cases (is_asked (exchange s v.port).phase) (is_in_more (exchange s v.port).phase) at.busy)
 

@@ -14,8 +14,8 @@ ghost use Rattle.drain_laws.specs.Belongs.{Transactions, belongs};
 ghost use Rattle.drain_laws.specs.Drain.{Possible, rest_of};
 
 /// Where a transaction is open, in a state that is well formed and consistent, some event of an open transaction is
-/// possible that is neither a call nor a miss nor an intermediate reply; where it is a reply, each call of its service
-/// has ended. So it is after every run.
+/// possible that is neither a call nor a miss nor an intermediate reply; where it is a reply, or a further message is
+/// heard, each call of its service has ended. So it is after every run.
 pub fn some_event_is_possible()
     ensures by_state { (s : State) → IsWellFormed s → IsConsistent s → (p : ℕ) → is_idle (exchange s p).phase ≡ false
         → Possible s }
