@@ -129,7 +129,7 @@ for_made s sound m p h =
     let t = map_or_true (λ (t : Target). t.node == m) (target s.config p) (and_parts (waits s p) (leads_to s.config m p) h).1 in
     subst (λ k. k < length s.config.slots) (eqb-true t.0.node m t.2) (live_made s.config t.0.node (sound.targets p t.0 t.1).live)
 
-some_hint : (b : Bool) (n : ℕ) → n ≡ cond b 1 0 → 1 ≤ n → b ≡ true
+pub some_hint : (b : Bool) (n : ℕ) → n ≡ cond b 1 0 → 1 ≤ n → b ≡ true
 some_hint true n e low = refl
 some_hint false n e low = absurd (omega (arith, e, low))
 

@@ -1,5 +1,8 @@
 pub mod HintLaws
 mod LookLemmas
+pub mod MovingLaws
 mod PostLemmas
-mod RestLaws
+pub mod PostedLaws
 mod RequestLemmas
+pub mod RestLaws
+pub mod StillLaws

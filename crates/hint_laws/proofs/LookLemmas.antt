@@ -15,7 +15,7 @@ use Rattle.gate_word.specs.Phases.{is_answered, is_asked, is_idle}
 use Rattle.quiesce_core.specs.Rules.{is_missing, is_open, is_taken}
 use Rattle.quiesce_core.specs.State.{State, exchange, ports_of, service, target}
 use Rattle.quiesce_core.specs.declared.event.Event.{Event}
-use Rattle.quiesce_core.specs.declared.event.Event.TheVariants.{Ask, Begin, Call, End, Hear, Miss, Take}
+use Rattle.quiesce_core.specs.declared.event.Event.TheVariants.{Ask, Begin, Call, End, Give, Hear, Miss, More, Take}
 use Rattle.quiesce_core.specs.declared.state.Service.{Service}
 use Rattle.turns.specs.Turn.{awaits_call, begins, begins_at, does_next, ends, goes_on, has_reply, hears, is_for, looks, move_of, or_else, reply_to, serves, takes, without_hint}
 use Rattle.turns.specs.World.{World, first_port, inbox}
@@ -29,61 +29,87 @@ is_take_at p _ = false
 abbrev pub takes_at : ℕ → Option Event → Bool
 takes_at p o = option_map_or (is_take_at p) o false
 
+-- ---- moves that a test doesn't pass
+
+-- neither the ends of a node nor what its services do pass the test
+pub record Avoids (f : Event → Bool) : Type 0 where
+  pub ending : (p k v : ℕ) → f (End p k v) ≡ false
+  pub asking : (p k v : ℕ) → f (Ask p k v) ≡ false
+  pub giving : (p k v : ℕ) → f (Give p k v) ≡ false
+  pub sending : (p k v : ℕ) → f (More p k v) ≡ false
+  pub hearing : (p k v : ℕ) → f (Hear p k v) ≡ false
+  pub calling : (p k v : ℕ) → f (Call p k v) ≡ false
+  pub missing : (p : ℕ) → f (Miss p) ≡ false
+
+abbrev pub passes : (Event → Bool) → Option Event → Bool
+passes f o = option_map_or f o false
+
+neither_passes : (f : Event → Bool) (b : Bool) (x y : Option Event) → passes f x ≡ false → passes f y ≡ false → passes f (cond b x y) ≡ false
+neither_passes f true x y h g = h
+neither_passes f false x y h g = g
+
+module _ (f : Event → Bool) (a : Avoids f) (s : State) (n : ℕ) (t : NodeState) where
+  pub ends_avoid : passes f (ends s n t) ≡ false
+  ends_avoid = by (find (has_reply s) (ports_of s.config n))
+    where
+      one : (b : Bool) (e g : Event) → f e ≡ false → f g ≡ false → f (cond b e g) ≡ false
+      one true e g h i = h
+      one false e g h i = i
+
+      by : (o : Option ℕ) → passes f (option_map (reply_to s t) o) ≡ false
+      by None = refl
+      by (Some q) =
+          one (is_answered (exchange s q).phase) (End q (exchange s q).serial (exchange s q).value) (Ask q (exchange s q).serial (moves.replies t))
+          (a.ending q (exchange s q).serial (exchange s q).value) (a.asking q (exchange s q).serial (moves.replies t))
+
+  next_avoids : (first q : ℕ) (x : Next) → passes f (does_next s first q x) ≡ false
+  next_avoids first q (next.Give v) = a.giving q (exchange s q).serial v
+  next_avoids first q (next.More v) = a.sending q (exchange s q).serial v
+  next_avoids first q (next.Ask x) =
+      let r = first + x.require in
+      neither_passes f (not (is_idle (exchange s r).phase)) None (cond (is_missing s r) (Some (Miss r)) (Some (Call r ((exchange s r).serial + 1) x.value))) refl
+      (neither_passes f (is_missing s r) (Some (Miss r)) (Some (Call r ((exchange s r).serial + 1) x.value)) (a.missing r) (a.calling r ((exchange s r).serial + 1) x.value))
+
+  pub serves_avoid : passes f (serves s n t) ≡ false
+  serves_avoid = neither_passes f (awaits_call s n) None (option_and_then (goes_on s n t) (service s n)) refl (by (service s n))
+    where
+      then_ : (q : ℕ) (o : Option Next) → passes f (option_and_then (does_next s (first_port s n) q) o) ≡ false
+      then_ q None = refl
+      then_ q (Some x) = next_avoids (first_port s n) q x
+
+      by : (o : Option Service) → passes f (option_and_then (goes_on s n t) o) ≡ false
+      by None = refl
+      by (Some v) =
+          neither_passes f v.heard (option_and_then (does_next s (first_port s n) v.port) (moves.next t)) (hears s v.port) (then_ v.port (moves.next t))
+          (neither_passes f (is_asked (exchange s v.port).phase) (Some (Hear v.port (exchange s v.port).serial (exchange s v.port).value)) None
+          (a.hearing v.port (exchange s v.port).serial (exchange s v.port).value) refl)
+
+no_take : (p : ℕ) → Avoids (is_take_at p)
+no_take p = record {
+  ending = λ q k v. refl;
+  asking = λ q k v. refl;
+  giving = λ q k v. refl;
+  sending = λ q k v. refl;
+  hearing = λ q k v. refl;
+  calling = λ q k v. refl;
+  missing = λ q. refl;
+}
+
 -- ---- moves that take nothing
 
 module _ (p : ℕ) (s : State) (n : ℕ) (t : NodeState) where
-  ends_take_nothing : takes_at p (ends s n t) ≡ false
-  ends_take_nothing = by (find (has_reply s) (ports_of s.config n))
-    where
-      one : (b : Bool) (e f : Event) → is_take_at p e ≡ false → is_take_at p f ≡ false → is_take_at p (cond b e f) ≡ false
-      one true e f h g = h
-      one false e f h g = g
-
-      by : (o : Option ℕ) → takes_at p (option_map (reply_to s t) o) ≡ false
-      by None = refl
-      by (Some q) = one (is_answered (exchange s q).phase) (End q (exchange s q).serial (exchange s q).value) (Ask q (exchange s q).serial (moves.replies t)) refl refl
-
-  either_nothing : (b : Bool) (x y : Option Event) → takes_at p x ≡ false → takes_at p y ≡ false → takes_at p (cond b x y) ≡ false
-  either_nothing true x y h g = h
-  either_nothing false x y h g = g
-
-  next_takes_nothing : (first q : ℕ) (x : Next) → takes_at p (does_next s first q x) ≡ false
-  next_takes_nothing first q (next.Give v) = refl
-  next_takes_nothing first q (next.More v) = refl
-  next_takes_nothing first q (next.Ask a) =
-      let r = first + a.require in
-      either_nothing (not (is_idle (exchange s r).phase)) None (cond (is_missing s r) (Some (Miss r)) (Some (Call r ((exchange s r).serial + 1) a.value))) refl
-      (either_nothing (is_missing s r) (Some (Miss r)) (Some (Call r ((exchange s r).serial + 1) a.value)) refl refl)
-
-  serves_take_nothing : takes_at p (serves s n t) ≡ false
-  serves_take_nothing = either_nothing (awaits_call s n) None (option_and_then (goes_on s n t) (service s n)) refl (by (service s n))
-    where
-      then_ : (q : ℕ) (o : Option Next) → takes_at p (option_and_then (does_next s (first_port s n) q) o) ≡ false
-      then_ q None = refl
-      then_ q (Some x) = next_takes_nothing (first_port s n) q x
-
-      by : (o : Option Service) → takes_at p (option_and_then (goes_on s n t) o) ≡ false
-      by None = refl
-      by (Some v) =
-          either_nothing v.heard (option_and_then (does_next s (first_port s n) v.port) (moves.next t)) (hears s v.port) (then_ v.port (moves.next t))
-          (either_nothing (is_asked (exchange s v.port).phase) (Some (Hear v.port (exchange s v.port).serial (exchange s v.port).value)) None refl refl)
-
   begins_take_nothing : (allowed : Bool) → takes_at p (cond allowed (begins s n t) None) ≡ false
-  begins_take_nothing allowed = either_nothing allowed (begins s n t) None (by (moves.wants t)) refl
+  begins_take_nothing allowed = neither_passes (is_take_at p) allowed (begins s n t) None (by (moves.wants t)) refl
     where
       by : (o : Option Asking) → takes_at p (option_and_then (λ (a : Asking). begins_at s (first_port s n + a.require) a.value) o) ≡ false
       by None = refl
       by (Some a) =
           let r = first_port s n + a.require in
-          either_nothing (is_idle (exchange s r).phase && is_open s.config r && not (is_missing s r)) (Some (Begin r ((exchange s r).serial + 1) a.value)) None refl refl
-
-  or_nothing : (a b : Option Event) → takes_at p a ≡ false → takes_at p b ≡ false → takes_at p (or_else a b) ≡ false
-  or_nothing None b h g = g
-  or_nothing (Some e) b h g = h
+          neither_passes (is_take_at p) (is_idle (exchange s r).phase && is_open s.config r && not (is_missing s r)) (Some (Begin r ((exchange s r).serial + 1) a.value)) None refl refl
 
   -- it doesn't look, or there is no hint that is for it
   takes_nothing : (box : List ℕ) (allowed : Bool) → (looks s n t ≡ true → takes s n box ≡ None) → takes_at p (move_of s n t box allowed) ≡ false
-  takes_nothing box allowed h = by (ends s n t) (serves s n t) (service s n) ends_take_nothing serves_take_nothing h
+  takes_nothing box allowed h = by (ends s n t) (serves s n t) (service s n) (ends_avoid (is_take_at p) (no_take p) s n t) (serves_avoid (is_take_at p) (no_take p) s n t) h
     where
       by : (a b : Option Event) (c : Option Service) → takes_at p a ≡ false → takes_at p b ≡ false → ((is_none a && is_none b && is_none c) ≡ true → takes s n box ≡ None)
           → takes_at p (or_else a (or_else b (or_else (cond (is_none c) (takes s n box) None) (cond allowed (begins s n t) None)))) ≡ false
@@ -93,7 +119,7 @@ module _ (p : ℕ) (s : State) (n : ℕ) (t : NodeState) where
       by None None None x y h = ap (λ o. takes_at p (or_else o (cond allowed (begins s n t) None))) (h refl) ∙ begins_take_nothing allowed
 
 -- a node that looks at a hint that is for it takes it
-takes_front : (s : State) (n : ℕ) (t : NodeState) (q : ℕ) (box : List ℕ) (allowed : Bool) → looks s n t ≡ true → is_for s n q ≡ true
+pub takes_front : (s : State) (n : ℕ) (t : NodeState) (q : ℕ) (box : List ℕ) (allowed : Bool) → looks s n t ≡ true → is_for s n q ≡ true
     → move_of s n t (q ∷ box) allowed ≡ Some (Take q (exchange s q).serial (exchange s q).value)
 takes_front s n t q box allowed look for_ = by (ends s n t) (serves s n t) (service s n) look
   where
@@ -105,6 +131,19 @@ takes_front s n t q box allowed look for_ = by (ends s n t) (serves s n t) (serv
     by None None (Some v) h = absurd (both_ways false refl h)
 
 -- ---- what is left
+
+-- an empty inbox stays as it is
+pub empty_stays : (v : World) (n : ℕ) → inbox v n ≡ [] → (m : ℕ) → inbox (without_hint v n) m ≡ inbox v m
+empty_stays v n is m = ⊎_elim
+    (λ (same : m ≡ n). ap (inbox (without_hint v n)) same ∙ here (cases_lt n (length v.inboxes)) ∙ sym is ∙ ap (inbox v) (sym same))
+    (λ (other : m ≡ n → ⊥). get_or-set_other v.inboxes n m (drop 1 (inbox v n)) [] other)
+    (cases_eq m n)
+  where
+    here : (n < length v.inboxes) ⊎ (length v.inboxes ≤ n) → inbox (without_hint v n) n ≡ []
+    here h = ⊎_elim
+        (λ (made : n < length v.inboxes). get_or-set_same v.inboxes n (drop 1 (inbox v n)) [] made ∙ ap (drop 1) is)
+        (λ (past : length v.inboxes ≤ n). get_or_past (without_hint v n).inboxes n [] (let long = length-set v.inboxes n (drop 1 (inbox v n)) in omega (arith, long, past)))
+        h
 
 module _ (v : World) (hints : HintsAreRequests v) (boxes : length v.inboxes ≡ length v.machine.config.slots) (n : ℕ) (t : NodeState) (allowed : Bool) where
   abbrev s : State
@@ -175,20 +214,8 @@ module _ (v : World) (hints : HintsAreRequests v) (boxes : length v.inboxes ≡ 
           ∙ ap (λ o. option_map_or (λ (x : Target). x.node == m) o false) to.1
           ∙ ne_eqb to.0.node m (λ e. elsewhere (sym (eqb-true to.0.node n to.2) ∙ e))
 
-  -- an empty inbox stays as it is
   nothing_gone : (m p : ℕ) → inbox v n ≡ [] → hints_for (without_hint v n) m p ≡ hints_for v m p
-  nothing_gone m p is =
-      ap (λ box. count_of p box + cond (is_at m (kept_back v p)) 1 0)
-      (⊎_elim
-      (λ (same : m ≡ n). ap (inbox (without_hint v n)) same ∙ here (cases_lt n (length v.inboxes)) ∙ sym is ∙ ap (inbox v) (sym same))
-      (λ (other : m ≡ n → ⊥). get_or-set_other v.inboxes n m (drop 1 (inbox v n)) [] other)
-      (cases_eq m n))
-    where
-      here : (n < length v.inboxes) ⊎ (length v.inboxes ≤ n) → inbox (without_hint v n) n ≡ []
-      here h = ⊎_elim
-          (λ (made : n < length v.inboxes). get_or-set_same v.inboxes n (drop 1 (inbox v n)) [] made ∙ ap (drop 1) is)
-          (λ (past : length v.inboxes ≤ n). get_or_past (without_hint v n).inboxes n [] (let long = length-set v.inboxes n (drop 1 (inbox v n)) in omega (arith, long, past)))
-          h
+  nothing_gone m p is = ap (λ box. count_of p box + cond (is_at m (kept_back v p)) 1 0) (empty_stays v n is m)
 
   unlooked : (m p : ℕ) (o : Option Event) → takes_at p o ≡ false → hints_for v m p ≡ cond (takes_at p o) 0 (cond (waits_for s m p) 1 0)
   unlooked m p o none_ = hints m p ∙ ap (λ b. cond b 0 (cond (waits_for s m p) 1 0)) (sym none_)
