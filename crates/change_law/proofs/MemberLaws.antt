@@ -1,6 +1,6 @@
 -- Lists of members: their places and parts, their events and their lines, and what their configuration comes from.
-use Rattle.std.proofs.Common.{◌≡◌, ◌∙◌, Bool, true, false, ◌||◌, cond, List, [], ◌∷◌, ◌++◌, append_assoc, Option, Some, None, refl, ap, sym, subst}
-use Rattle.std.specs.Prelude.{filter, filter_map, fold, not, All}
+use Rattle.std.proofs.Common.{◌≡◌, ◌∙◌, Bool, true, false, ◌||◌, cond, List, [], ◌∷◌, ◌++◌, append_assoc, Option, Some, None, refl, ap, sym, subst, inl, inr}
+use Rattle.std.specs.Prelude.{◌⊎◌, filter, filter_map, fold, not, All}
 use Rattle.std.specs.List.{cons_option, list_any}
 use Rattle.std.proofs.lemmas.Bool.{both_ways, or_parts}
 use Rattle.std.proofs.lemmas.List.{append-nil}
@@ -30,6 +30,18 @@ each_if P before (x ∷ xs) h = (
 pub all_parts : {A : Type 0} (P : A → Type 0) (xs ys : List A) → All P (xs ++ ys) → All P xs × All P ys
 all_parts P [] ys h = (All-nil P, h)
 all_parts P (x ∷ xs) ys h = let w = all_parts P xs ys (All-tail P x (xs ++ ys) h) in (All-cons P x xs (All-head P x (xs ++ ys) h) w.0, w.1)
+
+-- an element of a list that is put together stands in the first part or in the second
+pub parted_at : {A : Type 0} (x : List A) (e : A) (y b a : List A) → x ++ e ∷ y ≡ b ++ a → ((z : List A) × (b ≡ x ++ e ∷ z)) ⊎ ((z : List A) × (a ≡ z ++ e ∷ y) × (x ≡ b ++ z))
+parted_at [] e y [] a h = inr ([], sym h, refl)
+parted_at [] e y (c ∷ b) a h = inl (b, ap (λ k. k ∷ b) (sym (heads_are e c y (b ++ a) h)))
+parted_at (d ∷ x) e y [] a h = inr (d ∷ x, sym h, refl)
+parted_at {A} (d ∷ x) e y (c ∷ b) a h = by (heads_are d c (x ++ e ∷ y) (b ++ a) h) (parted_at x e y b a (tails_are d c (x ++ e ∷ y) (b ++ a) h))
+  where
+    by : d ≡ c → ((z : List A) × (b ≡ x ++ e ∷ z)) ⊎ ((z : List A) × (a ≡ z ++ e ∷ y) × (x ≡ b ++ z))
+        → ((z : List A) × (c ∷ b ≡ (d ∷ x) ++ e ∷ z)) ⊎ ((z : List A) × (a ≡ z ++ e ∷ y) × (d ∷ x ≡ (c ∷ b) ++ z))
+    by same (inl (z, is)) = inl (z, ap (λ k. k ∷ b) (sym same) ∙ ap (λ ks. d ∷ ks) is)
+    by same (inr (z, is, front)) = inr (z, is, ap (λ k. k ∷ x) same ∙ ap (λ ks. c ∷ ks) front)
 
 pub events_parts : (m k : List Member) → events (m ++ k) ≡ events m ++ events k
 events_parts m k = filter_map-append event_in m k

@@ -1,5 +1,5 @@
 -- A plan that was computed is the plan, and there is one.
-use Rattle.std.proofs.Common.{◌≡◌, ◌∙◌, ℕ, zero, suc, ◌<◌, Bool, true, false, not, ◌&&◌, ◌||◌, List, map, flat_map, length, Option, Some, None, refl, sym, ap, subst, ⊎_elim, arith, get_or, Contains, Decides}
+use Rattle.std.proofs.Common.{◌≡◌, ◌∙◌, ℕ, zero, suc, ◌<◌, Bool, true, false, not, ◌&&◌, ◌||◌, List, map, length, Option, Some, None, refl, sym, ap, subst, ⊎_elim, arith, get_or, Contains, Decides}
 use Rattle.std.specs.Prelude.{◌==◌, AllPairs, Any, bytes_eq, nat_lt, option_map, slice_get, take}
 use Rattle.std.specs.List.{list_all, list_any, range_with_len}
 use Rattle.std.specs.Option.{option_map_or}
@@ -273,12 +273,12 @@ gone_at_decides g h path i = (found, shown)
         and_from (is_gone g h i) _ ((gone_decides g h i).1 (record { node = w.node; here = w.here; gone = w.gone }))
         (ap (λ p. option_map_or (λ (m : Node). bytes_eq m.path path) p false) w.here ∙ (bytes_eq-Decides w.node.path path).1 w.named)
 
-led_decides : (old new : Graph) (s : Shift) (m : Move) → Decides (is_led old new s m) (MoveLeads old new m s.old s.new)
+pub led_decides : (old new : Graph) (s : Shift) (m : Move) → Decides (is_led old new s m) (MoveLeads old new m s.old s.new)
 led_decides old new s m =
     Decides-like (is_led old new s m) (λ w. record { removed = w.0; created = w.1 }) (λ (l : MoveLeads old new m s.old s.new). (l.removed, l.created))
     (Decides-and _ _ (gone_at_decides old new m.from s.old) (gone_at_decides new old m.to s.new))
 
-shift_decides : (old new : Graph) (moves : List Move) (s : Shift) → Decides (is_shift old new moves s) (IsShift old new moves s)
+pub shift_decides : (old new : Graph) (moves : List Move) (s : Shift) → Decides (is_shift old new moves s) (IsShift old new moves s)
 shift_decides old new moves s = (
   λ e. let w = any_has (is_led old new s) moves e in record { move = w.0; there = w.1; leads = (led_decides old new s w.0).0 w.2 },
   λ (w : IsShift old new moves s). has_any (is_led old new s) moves w.move w.there ((led_decides old new s w.move).1 w.leads),

@@ -21,7 +21,7 @@ use Rattle.change_script.specs.declared.report.HistoryLine.{HistoryLine}
 use Rattle.change_script.specs.declared.report.HistoryLine.TheVariants as to
 use Rattle.change_script.specs.declared.report.Report.{Report}
 use Rattle.change_law.specs.Changes.{IsCommitted, IsGivenUp, commit_lines, drained_lines, opening_lines, pending_lines, seen_in_all}
-use Rattle.change_law.specs.Follows.{Follows, IsRight, Part, lines_of, skip_lines, start_lines, stop_lines}
+use Rattle.change_law.specs.Follows.{Follows, IsRight, Part, lines_of}
 use Rattle.change_law.specs.Lawful.{IsGraphAt, IsLawfulBy, IsOfItsKind, described}
 use Rattle.change_law.specs.Members.{Member, of_history, event_of, events, is_commit, is_pending, is_root, lines, lines_of_events, state_at, without_roots}
 use Rattle.change_law.specs.Scene.{config_after, drained_line, live_ports, root_line}

@@ -1,6 +1,6 @@
 //! Laws of lawful reports: what follows from being one run, and what from their lines.
 
-ghost use Rattle.std.specs.Prelude.{◌≡◌, ℕ, Bool, true, false, List, ◌∷◌, ◌++◌, Contains, length, Some, option_and_then, option_map};
+ghost use Rattle.std.specs.Prelude.{◌≡◌, ℕ, Bool, true, false, List, ◌∷◌, ◌++◌, length, Some, option_and_then, option_map};
 ghost use Rattle.std.specs.List.{list_any};
 ghost use Rattle.base.specs.Each.{Each};
 ghost use Rattle.change_plan.specs.Moves.{MayMoveAll};
@@ -77,11 +77,12 @@ pub fn a_show_is_of_the_last_commit()
         → described statements (lines x) ≡ Some g }
 {}
 
-/// Before the lines of the stop a port is closed only for a change of the script, whose plan freezes the port's node:
-/// so a node that no plan freezes isn't closed before the stop.
+/// Each `close` before the lines of the stop is one of those with which a change begins: of the change whose line stands
+/// before them, and whose plan freezes the port's node. So a node that no plan freezes isn't closed before the stop.
 pub fn only_frozen_nodes_are_closed_before_the_stop()
-    ensures frozen { (statements : List Statement) (history : List HistoryLine) (follows : Follows statements history) (p : ℕ)
-        → Contains (lines_of follows.parts) (Close p) → IsClosedFor statements history p }
+    ensures frozen { (statements : List Statement) (history : List HistoryLine) (follows : Follows statements history)
+        (front back : List HistoryLine) (p : ℕ) → lines_of follows.parts ≡ front ++ Close p ∷ back
+        → IsClosedFor follows.parts front p }
 {}
 
 /// A node that was made from another begins with what that one kept at last, and with its own argument, whatever
