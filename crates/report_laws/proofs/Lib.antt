@@ -12,3 +12,4 @@ pub mod LookLaws
 pub mod PlayLaws
 pub mod RoundLaws
 pub mod StatementLaws
+pub mod PlanFoundLaws
