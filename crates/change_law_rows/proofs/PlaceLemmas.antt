@@ -1,12 +1,11 @@
 -- Places of a list of members: where a node did an event of its log, and what its configuration is there.
-use Rattle.std.proofs.Common.{◌≡◌, ◌∙◌, ℕ, ◌+◌, Bool, true, false, cond, List, [], ◌∷◌, ◌++◌, append_assoc, filter, length, take, refl, sym, ap, subst, inl, inr, ⊎_elim, arith, Contains}
-use Rattle.std.specs.Prelude.{◌⊎◌, filter_map, All}
+use Rattle.std.proofs.Common.{◌≡◌, ◌∙◌, ℕ, ◌+◌, Bool, true, false, cond, List, [], ◌∷◌, ◌++◌, append_assoc, filter, length, take, refl, sym, ap, subst, ⊎_elim, arith, Contains}
+use Rattle.std.specs.Prelude.{filter_map, All}
 use Rattle.std.specs.List.{list_all, range_with_len}
 use Rattle.std.proofs.lemmas.List.{append-nil, length-append}
 use Rattle.std.proofs.lemmas.List.Elements.{filter-append}
 use Rattle.std.proofs.Math.Seq.{take-append_seam}
 use Rattle.base.proofs.ContainsLaws.{Contains-cons_cases, Contains-nil}
-use Rattle.base.proofs.PlaceLaws.{heads_are, tails_are}
 use Rattle.base.proofs.RangeLaws.{all_in_range}
 use Rattle.quiesce_core.specs.Doers.{is_of_change}
 use Rattle.quiesce_core.specs.Effect.{configuration_after, effect}
@@ -54,18 +53,6 @@ done_there n xs (f ∷ es) e h =
 -- an event of a log has its place among all events
 pub done_at : (n : ℕ) (es : List Event) (log : List Event) (e : Event) → done_by n es ≡ log → Contains log e → DoneAt n [] es e
 done_at n es log e is there = done_there n [] es e (subst (λ xs. Contains xs e) (sym is) there)
-
--- an element of a list that is put together stands in the first part or in the second
-pub parted_at : {A : Type 0} (x : List A) (e : A) (y b a : List A) → x ++ e ∷ y ≡ b ++ a → ((z : List A) × (b ≡ x ++ e ∷ z)) ⊎ ((z : List A) × (a ≡ z ++ e ∷ y) × (x ≡ b ++ z))
-parted_at [] e y [] a h = inr ([], sym h, refl)
-parted_at [] e y (c ∷ b) a h = inl (b, ap (λ k. k ∷ b) (sym (heads_are e c y (b ++ a) h)))
-parted_at (d ∷ x) e y [] a h = inr (d ∷ x, sym h, refl)
-parted_at {A} (d ∷ x) e y (c ∷ b) a h = by (heads_are d c (x ++ e ∷ y) (b ++ a) h) (parted_at x e y b a (tails_are d c (x ++ e ∷ y) (b ++ a) h))
-  where
-    by : d ≡ c → ((z : List A) × (b ≡ x ++ e ∷ z)) ⊎ ((z : List A) × (a ≡ z ++ e ∷ y) × (x ≡ b ++ z))
-        → ((z : List A) × (c ∷ b ≡ (d ∷ x) ++ e ∷ z)) ⊎ ((z : List A) × (a ≡ z ++ e ∷ y) × (d ∷ x ≡ (c ∷ b) ++ z))
-    by same (inl (z, is)) = inl (z, ap (λ k. k ∷ b) (sym same) ∙ ap (λ ks. d ∷ ks) is)
-    by same (inr (z, is, front)) = inr (z, is, ap (λ k. k ∷ x) same ∙ ap (λ ks. c ∷ ks) front)
 
 -- a test that the configuration passes after each of the lines passes at each place
 pub passes_there : (test : Configuration → Bool) (changes : List Event) → list_all (λ j. test (configuration_after (take j changes))) (range_with_len 0 (length changes + 1)) ≡ true

@@ -1,5 +1,5 @@
 -- A script says its statements.
-use Rattle.std.proofs.Common.{List, [], ◌∷◌, refl, arith}
+use Rattle.std.proofs.Common.{[], ◌∷◌, refl, arith}
 use Rattle.std.specs.Prelude.{codes, pos}
 use Rattle.change_plan.specs.Refusals.{CanPlan}
 use Rattle.change_law.specs.Scripts.{Above, StatementsOf, more_made, nothing_above}

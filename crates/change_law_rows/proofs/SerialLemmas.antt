@@ -19,7 +19,7 @@ use Rattle.change_law_rows.specs.GivenUp as given_up
 use Rattle.change_law_rows.specs.Ran as ran_line
 use Rattle.change_law_rows.specs.Shown as shown_sink
 use Rattle.change_law_rows.specs.Summed as summed_up
-use Rattle.change_law_rows.specs.Systems.{line, lone, one_or_none, sums}
+use Rattle.change_law_rows.specs.Systems.{line, lone, one, sums}
 use Rattle.change_law_rows.specs.Waited as waited
 
 no_test : (b : Bool) → not b ≡ true → b ≡ false
@@ -149,14 +149,14 @@ given_up_is_serial = record {
 -- without a change
 
 abbrev sink_alone : World
-sink_alone = fold with_event nowhere (start_of (one_or_none 1))
+sink_alone = fold with_event nowhere (start_of one)
 
 pub shown_is_serial : Serial shown_sink.script shown_sink.report
 shown_is_serial = record {
-  parts = record { statement = start (codes "Maybe") (pos 1 ∷ []) (one_or_none 1); lines = take 3 shown_sink.history; world = sink_alone }
+  parts = record { statement = start (codes "One") [] one; lines = take 3 shown_sink.history; world = sink_alone }
       ∷ record { statement = show; lines = take 1 (drop 3 shown_sink.history); world = sink_alone } ∷ [];
   statements_are = refl;
-  played = ((refl, refl), ((record { graph = one_or_none 1; is_graph = graph_by sink_alone.machine.config (one_or_none 1) refl; are = refl }, refl), tt));
+  played = ((refl, refl), ((record { graph = one; is_graph = graph_by sink_alone.machine.config one refl; are = refl }, refl), tt));
   stop = drop 4 shown_sink.history;
   world = sink_alone;
   stops = record { waiting = sink_alone; waits = refl; rounds = 0; number = first_at (is_none_left sink_alone []) 0 refl refl; world = refl; are = refl };

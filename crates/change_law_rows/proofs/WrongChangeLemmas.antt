@@ -24,7 +24,7 @@ use Rattle.change_law.specs.Planning.{planned}
 use Rattle.change_law.specs.Scene.{Seen, config_after, drained_line, root_line}
 use Rattle.change_law.specs.Statements.{change}
 use Rattle.change_law.proofs.StandingLaws.{graph_by}
-use Rattle.change_law_rows.specs.Systems.{line, one_or_none, pair}
+use Rattle.change_law_rows.specs.Systems.{line, one, pair}
 use Rattle.change_law_rows.specs.WrongChanges.{closed_for_nothing, keeping_line, keeping_sink, looked_again, looking_once, m_to_m, moving_nowhere, skipped_for_nothing}
 use Rattle.change_law_rows.proofs.StatementLemmas.{after_start, known}
 
@@ -55,13 +55,13 @@ ends_there old new plan within c closed rest (inr e) =
     ap (list_any is_end) e.are ∙ any_right is_end (drained_lines e.looks) (pending_lines within e.left closed) (pending_ends within e.left closed)
 
 abbrev sink_started : List HistoryLine
-sink_started = start_lines (codes "Maybe") (pos 1 ∷ []) (one_or_none 1) ++ []
+sink_started = start_lines (codes "One") [] one ++ []
 
 pub not_skipped_for_nothing : Follows keeping_sink skipped_for_nothing → ⊥
 not_skipped_for_nothing f =
-    let name = codes "Maybe" in
-    let args = pos 1 ∷ [] in
-    let new = one_or_none 1 in
+    let name = codes "One" in
+    let args = [] in
+    let new = one in
     let w = after_start name args new (change name args new 0 []) skipped_for_nothing f in
     let c : IsChange sink_started name args new 0 [] w.lines = w.right.1 refl in
     let opening = opening_lines name args c.old c.plan (config_after sink_started) in

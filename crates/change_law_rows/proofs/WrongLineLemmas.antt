@@ -36,7 +36,7 @@ use Rattle.change_law.proofs.TestLaws.{counted_some}
 use Rattle.change_law_rows.specs.Alone.{log_0, report, report_of, script, start_lines as lone_starts, stop_lines as lone_stops}
 use Rattle.change_law_rows.specs.Ran as ran
 use Rattle.change_law_rows.specs.Shown as shown
-use Rattle.change_law_rows.specs.Systems.{line, lone, one_or_none, sink_t, source_at}
+use Rattle.change_law_rows.specs.Systems.{line, lone, one, sink_t, source_at}
 use Rattle.change_law_rows.specs.WrongLines.{finishing_two, never_reopened, outrun, shown_wrongly, starting, two_sinks, unseen}
 use Rattle.change_law_rows.specs.WrongLogs.{hurried}
 use Rattle.change_law_rows.proofs.SerialLemmas.{alone_is_serial}
@@ -76,13 +76,12 @@ not_without_reopening f =
 -- another graph is shown than there is
 pub not_shown_wrongly : (m : List Member) → Merge m shown_wrongly → Each (IsGraphAt shown.script) m → ⊥
 not_shown_wrongly m merge graphs =
-    let front = to.Start (codes "Maybe") (pos 1 ∷ []) ∷ to.Make 0 sink_t None ∷ to.Commit ∷ [] in
+    let front = to.Start (codes "One") [] ∷ to.Make 0 sink_t None ∷ to.Commit ∷ [] in
     let w = at_line m front (to.Show two_sinks) (to.Stop ∷ []) merge.history in
     let there : IsGraphOf (state_at w.before).config two_sinks = each_at (IsGraphAt shown.script) w.before w.after (of_history (to.Show two_sinks)) (subst (Each (IsGraphAt shown.script)) w.parts graphs) in
     let kinds = (all_parts IsOfItsKind w.before (of_history (to.Show two_sinks) ∷ w.after) (subst (All IsOfItsKind) w.parts merge.by_nodes)).0 in
     let here : (state_at w.before).config ≡ config_after front = config_of_lines w.before kinds ∙ ap config_after w.lines_before in
     let c = config_after front in
-    let one = one_or_none 1 in
     let same : one ≡ two_sinks = one_graph (IsLiveNode c) (AreLinked c) one two_sinks (graph_by c one refl) (subst (λ d. IsGraphOf d two_sinks) here there) in
     both_ways (length two_sinks.nodes == 1) refl (ap (λ (g : Graph). length g.nodes == 1) (sym same))
 
@@ -116,25 +115,28 @@ none_from s n (e ∷ es) more_ h = by (is_doer s n e) h (none_from (effect s e) 
     by true k rest = absurd (cc k)
     by false k rest = rest k
 
-lines_of_nodes : (es : List Event) → lines (map by_node es) ≡ []
+pub lines_of_nodes : (es : List Event) → lines (map by_node es) ≡ []
 lines_of_nodes [] = refl
 lines_of_nodes (e ∷ es) = lines_of_nodes es
 
-never_rests : (m before after : List Member) (l : HistoryLine) → m ≡ before ++ of_history l ∷ after → All IsOfItsKind m → done_by 0 (events m) ≡ [] → lines before ≡ lone_starts → CameToRest before → ⊥
-never_rests m before after l parts kinds did are rest =
-    let c = config_after lone_starts in
+-- where the node of a slot does nothing, and isn't done so, nothing comes to rest before a line
+pub never_rests : (x : Slot) → ((es : List Event) → slot (state_after es).config 0 ≡ Some x → done_by 0 es ≡ [] → is_done es 0 ≡ false) → (starts : List HistoryLine) → is_live (config_after starts) 0 ≡ true
+    → slot (config_after starts) 0 ≡ Some x → (m before after : List Member) (l : HistoryLine) → m ≡ before ++ of_history l ∷ after → All IsOfItsKind m → done_by 0 (events m) ≡ []
+    → lines before ≡ starts → CameToRest before → ⊥
+never_rests x undone starts live stands m before after l parts kinds did are rest =
+    let c = config_after starts in
     let kinds_before = (all_parts IsOfItsKind before (of_history l ∷ after) (subst (All IsOfItsKind) parts kinds)).0 in
     let here : (state_at before).config ≡ c = config_of_lines before kinds_before ∙ ap config_after are in
-    let held = rest.nodes 0 (ap (λ (d : Configuration). is_live d 0) here) in
+    let held = rest.nodes 0 (ap (λ (d : Configuration). is_live d 0) here ∙ live) in
     let kinds_front = (all_parts IsOfItsKind held.front (map by_node held.later) (subst (All IsOfItsKind) held.parts kinds_before)).0 in
-    let lines_front : lines held.front ≡ lone_starts =
+    let lines_front : lines held.front ≡ starts =
     sym (ap (λ ls. lines held.front ++ ls) (lines_of_nodes held.later) ∙ append-nil (lines held.front)) ∙ sym (ap lines held.parts ∙ lines_parts held.front (map by_node held.later)) ∙ are in
     let there : (state_at held.front).config ≡ c = config_of_lines held.front kinds_front ∙ ap config_after lines_front in
     let left = map by_node held.later ++ of_history l ∷ after in
     let whole : events m ≡ events held.front ++ events left =
     ap events (parts ∙ ap (λ k. k ++ of_history l ∷ after) held.parts ∙ append_assoc held.front (map by_node held.later) (of_history l ∷ after)) ∙ events_parts held.front left in
     let none = none_from empty 0 (events held.front) (events left) (sym (ap (done_by 0) whole) ∙ did) in
-    both_ways (is_done (events held.front) 0) (never_done (events held.front) (ap (λ (d : Configuration). slot d 0) there) none) held.held
+    both_ways (is_done (events held.front) 0) (undone (events held.front) (ap (λ (d : Configuration). slot d 0) there ∙ stands) none) held.held
 
 -- the rounds end with the first one
 
@@ -155,7 +157,7 @@ not_given_up_early pace m merge finishes =
     let said : IsFinishAt pace w.before (of_history (to.Finish 5 3)) = each_at (IsFinishAt pace) w.before w.after (of_history (to.Finish 5 3)) (subst (Each (IsFinishAt pace)) w.parts finishes) in
     ⊎_elim (λ (all : 3 ≡ 5). absurd (omega (arith, all)))
     (λ (early : (3 < 5) × (CameToRest w.before ⊎ IsOfRounds pace w.before (to.Finish 5 3))). ⊎_elim
-    (λ (rest : CameToRest w.before). never_rests m w.before w.after (to.Finish 5 3) w.parts merge.by_nodes (All-head (IsLogIn m) log_0 [] merge.logs) w.lines_before rest)
+    (λ (rest : CameToRest w.before). never_rests lone_slot never_done lone_starts refl refl m w.before w.after (to.Finish 5 3) w.parts merge.by_nodes (All-head (IsLogIn m) log_0 [] merge.logs) w.lines_before rest)
     (λ (so : IsOfRounds pace w.before (to.Finish 5 3)). not_of_rounds pace w.before w.lines_before so) early.1) said
 
 -- more rounds were made than were allowed

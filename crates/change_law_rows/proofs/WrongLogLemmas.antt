@@ -1,5 +1,5 @@
 -- Wrong logs: two sinks have each other's, a map takes what wasn't sent, and more is said to have ended than did.
-use Rattle.std.proofs.Common.{◌≡◌, ◌∙◌, ℕ, ◌+◌, ◌≤◌, Bool, true, false, not, ◌||◌, cond, List, [], ◌∷◌, ◌++◌, append_assoc, length, map, take, Option, refl, sym, ap, subst, inl, inr, arith}
+use Rattle.std.proofs.Common.{◌≡◌, ◌∙◌, ℕ, ◌+◌, ◌≤◌, Bool, true, false, not, ◌||◌, cond, List, [], ◌∷◌, ◌++◌, append_assoc, length, map, take, refl, sym, ap, subst, inl, inr, arith}
 use Rattle.std.specs.Prelude.{◌==◌, ◌⊎◌, filter_map, nat_le, nat_lt, option_map}
 use Rattle.std.specs.List.{count_by, list_all, list_any, range_with_len}
 use Rattle.std.specs.Option.{option_map_or}
@@ -27,17 +27,16 @@ use Rattle.quiescence_laws.specs.Events.{is_take_of}
 use Rattle.quiesce_core.proofs.PortEventLaws.{next_serial}
 use Rattle.quiescence_laws.proofs.OrderLaws.{begun_count, in_order, was_begun}
 use Rattle.turns.specs.Round.{is_end}
-use Rattle.change_script.specs.declared.report.HistoryLine.{HistoryLine}
 use Rattle.change_script.specs.declared.report.HistoryLine.TheVariants as to
 use Rattle.change_script.specs.declared.report.Last.TheVariants as last
 use Rattle.change_script.specs.declared.report.NodeLog.{NodeLog}
 use Rattle.change_law.specs.Lawful.{EndedSince, IsRunAt, Merge, Pace}
 use Rattle.change_law.specs.Members.{Member, by_node, of_history, event_of, events}
 use Rattle.change_law.proofs.FoundLaws.{events_of_nodes}
-use Rattle.change_law.proofs.MemberLaws.{at_line, events_parts}
+use Rattle.change_law.proofs.MemberLaws.{at_line, events_parts, parted_at}
 use Rattle.change_law.proofs.TestLaws.{counted_some, some_counted}
 use Rattle.change_law_rows.specs.WrongLogs.{altered, hurried, running_two, swapped}
-use Rattle.change_law_rows.proofs.PlaceLemmas.{done_at, parted_at, passes_there}
+use Rattle.change_law_rows.proofs.PlaceLemmas.{done_at, passes_there}
 
 -- two sinks: port 1 never leads to the first
 
@@ -128,7 +127,7 @@ not_altered m merge run =
 
 -- more is said to have ended than did: each end is in the log of one of the two sources
 
-abbrev ends_by_sources : Configuration → Bool
+abbrev pub ends_by_sources : Configuration → Bool
 ends_by_sources c = list_all (λ p. owner c p == 0 || owner c p == 1) (range_with_len 0 (length c.gates))
 
 owned : (c : Configuration) (p : ℕ) → ends_by_sources c ≡ true → is_live_port c p ≡ true → (owner c p == 0 || owner c p == 1) ≡ true
@@ -141,7 +140,7 @@ done_by_one s (event.End p k v) h l is = owned s.config p h l.live
 done_by_one s _ h l is = absurd (both_ways false refl is)
 
 -- the ends of what was done are not more than those of two nodes
-abbrev AreFew : List Event → Type 0
+abbrev pub AreFew : List Event → Type 0
 AreFew es = count_by is_end es ≤ count_by is_end (done_by 0 es) + count_by is_end (done_by 1 es)
 
 one_more : (n : ℕ) (es : List Event) (e : Event) → count_by is_end (done_by n (es ++ e ∷ [])) ≡ count_by is_end (done_by n es) + count_by is_end (cond (is_doer (state_after es) n e) (e ∷ []) [])
@@ -169,7 +168,7 @@ few_more es e does few =
     by true false true h does a b w = omega (arith, few, a, b, w, one true h)
     by true false false h does a b w = absurd (both_ways false refl (does refl))
 
-few_behind : (whole : List Event) → IsRun whole → ((before after : List Event) → whole ≡ before ++ after → ends_by_sources (state_after before).config ≡ true)
+pub few_behind : (whole : List Event) → IsRun whole → ((before after : List Event) → whole ≡ before ++ after → ends_by_sources (state_after before).config ≡ true)
     → (xs es : List Event) → whole ≡ xs ++ es → AreFew xs → AreFew (xs ++ es)
 few_behind whole run there xs [] is few = subst AreFew (sym (append-nil xs)) few
 few_behind whole run there xs (e ∷ es) is few =

@@ -31,9 +31,9 @@ use Rattle.change_script.specs.declared.report.HistoryLine.{HistoryLine}
 use Rattle.change_script.specs.declared.report.HistoryLine.TheVariants as to
 use Rattle.change_law.specs.Lawful.{IsDrainedAt, IsOfItsKind, Merge, StoodOpen, StoodOpenWhereSaid}
 use Rattle.change_law.specs.Members.{Member, of_history, event_of, events, is_close, lines, state_at}
-use Rattle.change_law.proofs.MemberLaws.{all_parts, at_line, events_parts, line_there, lines_parts, none_happens}
+use Rattle.change_law.proofs.MemberLaws.{all_parts, at_line, events_parts, line_there, lines_parts, none_happens, parted_at}
 use Rattle.change_law_rows.specs.WrongLooks.{early, outdated}
-use Rattle.change_law_rows.proofs.PlaceLemmas.{done_at, parted_at}
+use Rattle.change_law_rows.proofs.PlaceLemmas.{done_at}
 use Rattle.change_law_rows.proofs.WrongLogLemmas.{begun_before, log_of_s, some_log}
 
 reopening_is_of_the_change : (p : ℕ) (e : Event) → is_of_change e ≡ false → reopens p e ≡ false

@@ -9,23 +9,41 @@ use Rattle.change_law.specs.Members.{Member, of_history}
 use Rattle.change_law.specs.Scene.{Seen}
 use Rattle.change_law.specs.Statements.{Statement, start, change}
 use Rattle.change_law.specs.Told.{Told, no_more, looked}
-use Rattle.change_law_rows.specs.Systems.{one_or_none, sink_t}
+use Rattle.change_law_rows.specs.Systems.{found, line, map_m, sink_t, source_at}
 
 abbrev pub script : List Statement
 script =
-    start (codes "Maybe") (pos 1 ∷ []) (one_or_none 1) ∷ change (codes "Maybe") (pos 1 ∷ []) (one_or_none 1) 0 [] ∷ []
+    start (codes "Line") (pos 3 ∷ pos 10 ∷ []) (line 10)
+    ∷ change (codes "Line") (pos 3 ∷ pos 10 ∷ []) (line 10) 0 [] ∷ []
 
 abbrev pub history : List HistoryLine
 history =
-    to.Start (codes "Maybe") (pos 1 ∷ []) ∷ to.Make 0 sink_t None ∷ to.Commit ∷ to.Change (codes "Maybe") (pos 1 ∷ [])
-    ∷ to.Commit ∷ to.Stop ∷ []
+    to.Start (codes "Line") (pos 3 ∷ pos 10 ∷ []) ∷ to.Make 0 (map_m 10) None
+    ∷ to.Make 1 (source_at (codes "s") 3) None ∷ to.Make 2 sink_t None ∷ to.Link 0 2 0 ∷ to.Link 1 0 0 ∷ to.Reopen 0
+    ∷ to.Reopen 1 ∷ to.Commit ∷ to.Change (codes "Line") (pos 3 ∷ pos 10 ∷ []) ∷ to.Commit ∷ to.Stop ∷ to.Close 0
+    ∷ to.Close 1 ∷ to.Drained 0 0 ∷ to.Drained 1 0 ∷ []
 
 abbrev pub log_0 : NodeLog
 log_0 =
     record {
       slot = 0;
-      events =
-          [];
+      events = [];
+      last = last.State [];
+    }
+
+abbrev pub log_1 : NodeLog
+log_1 =
+    record {
+      slot = 1;
+      events = [];
+      last = last.State (0 ∷ []);
+    }
+
+abbrev pub log_2 : NodeLog
+log_2 =
+    record {
+      slot = 2;
+      events = [];
       last = last.State [];
     }
 
@@ -33,7 +51,7 @@ abbrev pub report : Report
 report =
     record {
       history = history;
-      logs = log_0 ∷ [];
+      logs = log_0 ∷ log_1 ∷ log_2 ∷ [];
       unfinished = None;
       status = 0;
     }
@@ -42,15 +60,17 @@ report =
 abbrev pub members : List Member
 members =
     map of_history (
-    to.Start (codes "Maybe") (pos 1 ∷ []) ∷ to.Make 0 sink_t None ∷ to.Commit
-    ∷ to.Change (codes "Maybe") (pos 1 ∷ []) ∷ to.Commit ∷ to.Stop ∷ []
+    to.Start (codes "Line") (pos 3 ∷ pos 10 ∷ []) ∷ to.Make 0 (map_m 10) None
+    ∷ to.Make 1 (source_at (codes "s") 3) None ∷ to.Make 2 sink_t None ∷ to.Link 0 2 0 ∷ to.Link 1 0 0 ∷ to.Reopen 0
+    ∷ to.Reopen 1 ∷ to.Commit ∷ to.Change (codes "Line") (pos 3 ∷ pos 10 ∷ []) ∷ to.Commit ∷ to.Stop ∷ to.Close 0
+    ∷ to.Close 1 ∷ to.Drained 0 0 ∷ to.Drained 1 0 ∷ []
     )
 
 -- what the history tells beside the script
 abbrev pub tells : List Told
 tells =
-    no_more ∷ looked (one_or_none 1) ([] ∷ []) [] ∷ []
+    no_more ∷ looked (line 10) ([] ∷ []) [] ∷ []
 
 abbrev pub stopped : List Seen
 stopped =
-    []
+    found 0 0 ∷ found 1 0 ∷ []

@@ -16,7 +16,12 @@ pub mod Emptied
 pub mod OpenUnordered
 pub mod EndedEarly
 pub mod SecondLook
+pub mod Stuck
+pub mod RunOut
+pub mod GivenUpLater
 pub mod WrongChanges
 pub mod WrongLogs
 pub mod WrongLines
+pub mod WrongSights
+pub mod WrongRuns
 pub mod WrongLooks

@@ -1,5 +1,5 @@
 -- One sink that is started and shown.
-use Rattle.std.specs.Prelude.{List, [], ◌∷◌, codes, map, pos, None}
+use Rattle.std.specs.Prelude.{List, [], ◌∷◌, codes, map, None}
 use Rattle.change_script.specs.declared.report.HistoryLine.{HistoryLine}
 use Rattle.change_script.specs.declared.report.HistoryLine.TheVariants as to
 use Rattle.change_script.specs.declared.report.Last.TheVariants as last
@@ -9,15 +9,15 @@ use Rattle.change_law.specs.Members.{Member, of_history}
 use Rattle.change_law.specs.Scene.{Seen}
 use Rattle.change_law.specs.Statements.{Statement, start, show}
 use Rattle.change_law.specs.Told.{Told, no_more, shown_graph}
-use Rattle.change_law_rows.specs.Systems.{one_or_none, sink_t}
+use Rattle.change_law_rows.specs.Systems.{one, sink_t}
 
 abbrev pub script : List Statement
 script =
-    start (codes "Maybe") (pos 1 ∷ []) (one_or_none 1) ∷ show ∷ []
+    start (codes "One") [] one ∷ show ∷ []
 
 abbrev pub history : List HistoryLine
 history =
-    to.Start (codes "Maybe") (pos 1 ∷ []) ∷ to.Make 0 sink_t None ∷ to.Commit ∷ to.Show (one_or_none 1) ∷ to.Stop ∷ []
+    to.Start (codes "One") [] ∷ to.Make 0 sink_t None ∷ to.Commit ∷ to.Show one ∷ to.Stop ∷ []
 
 abbrev pub log_0 : NodeLog
 log_0 =
@@ -41,14 +41,14 @@ report =
 abbrev pub members : List Member
 members =
     map of_history (
-    to.Start (codes "Maybe") (pos 1 ∷ []) ∷ to.Make 0 sink_t None ∷ to.Commit ∷ to.Show (one_or_none 1) ∷ to.Stop
+    to.Start (codes "One") [] ∷ to.Make 0 sink_t None ∷ to.Commit ∷ to.Show one ∷ to.Stop
     ∷ []
     )
 
 -- what the history tells beside the script
 abbrev pub tells : List Told
 tells =
-    no_more ∷ shown_graph (one_or_none 1) ∷ []
+    no_more ∷ shown_graph one ∷ []
 
 abbrev pub stopped : List Seen
 stopped =

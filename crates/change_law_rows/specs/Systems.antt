@@ -63,12 +63,24 @@ abbrev pub one_or_none : ℕ → Graph
 one_or_none zero = record { nodes = []; links = [] }
 one_or_none (suc n) = record { nodes = sink_t ∷ []; links = [] }
 
+-- one sink
+abbrev pub one : Graph
+one = record { nodes = sink_t ∷ []; links = [] }
+
 -- two sources of n items lead to one sink
 abbrev pub pair : ℕ → Graph
 pair n =
     record {
       nodes = source_at (codes "a") n ∷ source_at (codes "b") n ∷ sink_t ∷ [];
       links = leads 0 0 2 ∷ leads 1 0 2 ∷ [];
+    }
+
+-- so do three
+abbrev pub three : ℕ → Graph
+three n =
+    record {
+      nodes = source_at (codes "a") n ∷ source_at (codes "b") n ∷ source_at (codes "c") n ∷ sink_t ∷ [];
+      links = leads 0 0 3 ∷ leads 1 0 3 ∷ leads 2 0 3 ∷ [];
     }
 
 -- a source of two items leads through a buffer of c to a sink
@@ -87,9 +99,12 @@ two =
       links = leads 0 0 2 ∷ leads 1 0 3 ∷ [];
     }
 
--- a source that leads nowhere
+-- a source of n items that leads nowhere
+abbrev pub lone_of : ℕ → Graph
+lone_of n = record { nodes = source_at (codes "s") n ∷ []; links = [] }
+
 abbrev pub lone : Graph
-lone = record { nodes = source_at (codes "s") 2 ∷ []; links = [] }
+lone = lone_of 2
 
 -- a source hands one item to a buffer of one, which leads to a sink
 abbrev pub small : Graph

@@ -4,17 +4,17 @@ use Rattle.change_script.specs.declared.report.HistoryLine.{HistoryLine}
 use Rattle.change_script.specs.declared.report.HistoryLine.TheVariants as to
 use Rattle.change_plan.specs.declared.plan_data.Move.{Move}
 use Rattle.change_law.specs.Statements.{Statement, start, change}
-use Rattle.change_law_rows.specs.Systems.{line, map_m, one_or_none, pair, sink_t, source_at}
+use Rattle.change_law_rows.specs.Systems.{line, map_m, one, pair, sink_t, source_at}
 use Rattle.change_law_rows.specs.SecondLook as second_look
 
 -- a change is skipped though none before it was given up
 abbrev pub keeping_sink : List Statement
 keeping_sink =
-    start (codes "Maybe") (pos 1 ∷ []) (one_or_none 1) ∷ change (codes "Maybe") (pos 1 ∷ []) (one_or_none 1) 0 [] ∷ []
+    start (codes "One") [] one ∷ change (codes "One") [] one 0 [] ∷ []
 
 abbrev pub skipped_for_nothing : List HistoryLine
 skipped_for_nothing =
-    to.Start (codes "Maybe") (pos 1 ∷ []) ∷ to.Make 0 sink_t None ∷ to.Commit ∷ to.Change (codes "Maybe") (pos 1 ∷ [])
+    to.Start (codes "One") [] ∷ to.Make 0 sink_t None ∷ to.Commit ∷ to.Change (codes "One") []
     ∷ to.Skipped ∷ to.Stop ∷ []
 
 -- a change that changes nothing closes all ports

@@ -34,7 +34,7 @@ abbrev pub shown_wrongly : Report
 shown_wrongly =
     record shown.report {
       history =
-          to.Start (codes "Maybe") (pos 1 ∷ []) ∷ to.Make 0 sink_t None ∷ to.Commit ∷ to.Show two_sinks
+          to.Start (codes "One") [] ∷ to.Make 0 sink_t None ∷ to.Commit ∷ to.Show two_sinks
           ∷ to.Stop ∷ [];
     }
 

@@ -8,16 +8,19 @@ ghost use Rattle.change_law_rows.specs.Emptied as emptied;
 ghost use Rattle.change_law_rows.specs.EndedEarly as ended_early;
 ghost use Rattle.change_law_rows.specs.Filled as filled;
 ghost use Rattle.change_law_rows.specs.GivenUp as given_up;
+ghost use Rattle.change_law_rows.specs.GivenUpLater as given_up_later;
 ghost use Rattle.change_law_rows.specs.Kept as kept;
 ghost use Rattle.change_law_rows.specs.Looped as looped;
 ghost use Rattle.change_law_rows.specs.Moved as moved;
 ghost use Rattle.change_law_rows.specs.MovedTwice as moved_twice;
 ghost use Rattle.change_law_rows.specs.OpenUnordered as open_unordered;
 ghost use Rattle.change_law_rows.specs.Ran as ran;
+ghost use Rattle.change_law_rows.specs.RunOut as run_out;
 ghost use Rattle.change_law_rows.specs.SecondLook as second_look;
 ghost use Rattle.change_law_rows.specs.Said as said;
 ghost use Rattle.change_law_rows.specs.Shown as shown;
 ghost use Rattle.change_law_rows.specs.Skipped as skipped;
+ghost use Rattle.change_law_rows.specs.Stuck as stuck;
 ghost use Rattle.change_law_rows.specs.Summed as summed;
 ghost use Rattle.change_law_rows.specs.Waited as waited;
 
@@ -40,6 +43,20 @@ pub fn a_lone_source_ends_after_one_round()
     ensures lawful { (serial : Serial alone.script alone.report)
         → Lawful alone.script (in_rounds alone.report serial) alone.report }
     ensures serial { Serial alone.script alone.report }
+{}
+
+/// So does a run of such a source: it is lawful as the report of rounds, though nothing came to rest.
+pub fn a_run_of_a_lone_source_ends_after_one_round()
+    ensures lawful { (serial : Serial stuck.script stuck.report)
+        → Lawful stuck.script (in_rounds stuck.report serial) stuck.report }
+    ensures serial { Serial stuck.script stuck.report }
+{}
+
+/// More transactions may end in a run than were asked for; and where all is at rest, a run ends with none.
+/// This is the report of rounds too.
+pub fn a_run_may_end_with_more_or_fewer()
+    ensures lawful { Lawful run_out.script on_threads run_out.report }
+    ensures serial { Serial run_out.script run_out.report }
 {}
 
 /// A change to the same graph closes nothing, and commits at once.
@@ -65,6 +82,14 @@ pub fn rest_may_be_seen_at_different_places()
 pub fn a_change_may_be_given_up()
     ensures lawful { Lawful given_up.script on_threads given_up.report }
     ensures serial { Serial given_up.script given_up.report }
+{}
+
+/// A change may be given up after rounds in which a port was found drained. Nothing more is done then: the first of
+/// the nodes that aren't done is named, and the status is that of a change that was given up.
+/// This is the report of rounds too.
+pub fn a_change_may_be_given_up_after_rounds()
+    ensures lawful { Lawful given_up_later.script on_threads given_up_later.report }
+    ensures serial { Serial given_up_later.script given_up_later.report }
 {}
 
 /// A change waits for one round, in which that root ends, and commits.

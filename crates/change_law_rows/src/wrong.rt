@@ -5,15 +5,18 @@ ghost use Rattle.base.specs.Each.{Each};
 ghost use Rattle.quiesce_core.specs.Runs.{IsRun};
 ghost use Rattle.change_script.specs.declared.report.HistoryLine.{HistoryLine};
 ghost use Rattle.change_law.specs.Follows.{Follows};
-ghost use Rattle.change_law.specs.Lawful.{IsDrainedAt, IsFinishAt, IsFolded, IsGraphAt, IsRunAt, Merge, Pace, StoodOpenWhereSaid, unfinished_of};
+ghost use Rattle.change_law.specs.Lawful.{IsDrainedAt, IsFinishAt, IsFolded, IsGraphAt, IsRunAt, Merge, Pace, StoodOpenWhereSaid, on_threads, unfinished_of};
 ghost use Rattle.change_law.specs.Members.{Member, events};
 ghost use Rattle.change_law_rows.specs.Alone as alone;
 ghost use Rattle.change_law_rows.specs.Ran as ran;
+ghost use Rattle.change_law_rows.specs.RunOut as run_out;
 ghost use Rattle.change_law_rows.specs.Shown as shown;
 ghost use Rattle.change_law_rows.specs.WrongChanges as changes;
 ghost use Rattle.change_law_rows.specs.WrongLines as wrong_lines;
 ghost use Rattle.change_law_rows.specs.WrongLogs as logs;
 ghost use Rattle.change_law_rows.specs.WrongLooks as looks;
+ghost use Rattle.change_law_rows.specs.WrongRuns as runs;
+ghost use Rattle.change_law_rows.specs.WrongSights as sights;
 
 /// A start that doesn't reopen a port; a stop that closes one and doesn't find it drained; a graph that isn't the one
 /// that stands; a finish that ends early though nothing came to rest, and neither the rounds end there; one that makes
@@ -40,22 +43,49 @@ pub fn wrong_changes_are_refuted()
     ensures moved { (history : List HistoryLine) → Follows changes.moving_nowhere history → ⊥ }
 {}
 
-/// Logs of two nodes with each other's events are part of no list with the history. A map that takes another value
-/// than was sent is in no run. A `run` line that says that three transactions ended where two did is wrong, on
-/// threads as on one.
+/// A change that commits though the port that it closed wasn't found drained, or was found so twice; one that is given
+/// up though no root is left, or with other rounds than it was allowed; and ports that were found both drained and
+/// open, or neither. So for the stop, which finds a port drained twice.
+pub fn wrong_sights_are_refuted()
+    ensures unseen { Follows sights.replacing sights.unseen → ⊥ }
+    ensures twice { Follows sights.replacing sights.seen_twice → ⊥ }
+    ensures idly { Follows sights.replacing sights.given_up_idly → ⊥ }
+    ensures late { Follows sights.replacing sights.given_up_late → ⊥ }
+    ensures both { Follows sights.replacing sights.seen_both_ways → ⊥ }
+    ensures neither { Follows sights.replacing_pair sights.seen_neither_way → ⊥ }
+    ensures stopped { Follows alone.script sights.stopped_twice → ⊥ }
+{}
+
+/// A `run` that ends with nothing though nothing came to rest, and neither the rounds end so; one that counts what
+/// ended before the line before it; and a finish that ends early, for a rest that was before that line.
+pub fn wrong_runs_are_refuted()
+    ensures idle { (pace : Pace run_out.script) (m : List Member) → Merge m runs.ended_idly → Each (IsRunAt pace) m
+        → ⊥ }
+    ensures rested_before { (m : List Member) → Merge m runs.rested_before → IsRun (events m)
+        → Each (IsRunAt {statements = runs.resting_small} on_threads) m → Each (IsFinishAt {statements = runs.resting_small} on_threads) m → ⊥ }
+    ensures twice { (pace : Pace run_out.script) (m : List Member) → Merge m runs.counted_twice → IsRun (events m)
+        → Each (IsRunAt pace) m → ⊥ }
+{}
+
+/// Logs of two nodes with each other's events are part of no list with the history; nor is a report in which a node has
+/// no log, or two. A map that takes another value than was sent is in no run. A `run` line that says that three
+/// transactions ended where two did is wrong, on threads as on one.
 pub fn wrong_logs_are_refuted()
     ensures swapped { (m : List Member) → Merge m logs.swapped → ⊥ }
+    ensures unlogged { (m : List Member) → Merge m runs.unlogged → ⊥ }
+    ensures logged_twice { (m : List Member) → Merge m runs.logged_twice → ⊥ }
     ensures altered { (m : List Member) → Merge m logs.altered → IsRun (events m) → ⊥ }
     ensures hurried { (pace : Pace logs.running_two) (m : List Member) → Merge m logs.hurried → IsRun (events m)
         → Each (IsRunAt pace) m → ⊥ }
 {}
 
 /// An account that was replaced has moved its state: the one that replaces it doesn't begin with 100 again, and it
-/// tells no state itself.
+/// tells no state itself, nor that its state went to another node.
 pub fn wrong_states_are_refuted()
     ensures forgotten { (m : List Member) → Merge m logs.forgetting
         → All (IsFolded m logs.forgetting.history) logs.forgetting.logs → ⊥ }
     ensures kept_back { (m : List Member) → All (IsFolded m logs.keeping_back.history) logs.keeping_back.logs → ⊥ }
+    ensures misled { (m : List Member) → All (IsFolded m runs.misleading.history) runs.misleading.logs → ⊥ }
 {}
 
 /// A port isn't drained with the serial before its last, and a root that ended before the change before isn't open.

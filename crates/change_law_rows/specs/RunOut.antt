@@ -1,0 +1,94 @@
+-- Two sources of one item end their transactions in one round. Then all is at rest, and a run ends with none.
+use Rattle.std.specs.Prelude.{List, [], ◌∷◌, ◌++◌, codes, map, pos, None}
+use Rattle.quiesce_core.specs.declared.event.Event.TheVariants as event
+use Rattle.change_script.specs.declared.report.HistoryLine.{HistoryLine}
+use Rattle.change_script.specs.declared.report.HistoryLine.TheVariants as to
+use Rattle.change_script.specs.declared.report.Last.TheVariants as last
+use Rattle.change_script.specs.declared.report.NodeLog.{NodeLog}
+use Rattle.change_script.specs.declared.report.Report.{Report}
+use Rattle.change_law.specs.Members.{Member, by_node, of_history}
+use Rattle.change_law.specs.Scene.{Seen}
+use Rattle.change_law.specs.Statements.{Statement, start, run}
+use Rattle.change_law.specs.Told.{Told, no_more, counted}
+use Rattle.change_law_rows.specs.Systems.{found, sink_t, sink_u, source_at, two}
+
+abbrev pub script : List Statement
+script =
+    start (codes "Two") (pos 1 ∷ []) two ∷ run 1 ∷ run 5 ∷ []
+
+abbrev pub history : List HistoryLine
+history =
+    to.Start (codes "Two") (pos 1 ∷ []) ∷ to.Make 0 (source_at (codes "a") 1) None
+    ∷ to.Make 1 (source_at (codes "b") 1) None ∷ to.Make 2 sink_t None ∷ to.Make 3 sink_u None ∷ to.Link 0 2 0
+    ∷ to.Link 1 3 0 ∷ to.Reopen 0 ∷ to.Reopen 1 ∷ to.Commit ∷ to.Run 1 2 ∷ to.Run 5 0 ∷ to.Stop ∷ to.Close 0
+    ∷ to.Close 1 ∷ to.Drained 0 1 ∷ to.Drained 1 1 ∷ []
+
+abbrev pub log_0 : NodeLog
+log_0 =
+    record {
+      slot = 0;
+      events =
+          event.Begin 0 1 1 ∷ event.End 0 1 1 ∷ [];
+      last = last.State (1 ∷ []);
+    }
+
+abbrev pub log_1 : NodeLog
+log_1 =
+    record {
+      slot = 1;
+      events =
+          event.Begin 1 1 1 ∷ event.End 1 1 1 ∷ [];
+      last = last.State (1 ∷ []);
+    }
+
+abbrev pub log_2 : NodeLog
+log_2 =
+    record {
+      slot = 2;
+      events =
+          event.Take 0 1 1 ∷ event.Give 0 1 1 ∷ [];
+      last = last.State (1 ∷ []);
+    }
+
+abbrev pub log_3 : NodeLog
+log_3 =
+    record {
+      slot = 3;
+      events =
+          event.Take 1 1 1 ∷ event.Give 1 1 1 ∷ [];
+      last = last.State (1 ∷ []);
+    }
+
+abbrev pub report : Report
+report =
+    record {
+      history = history;
+      logs = log_0 ∷ log_1 ∷ log_2 ∷ log_3 ∷ [];
+      unfinished = None;
+      status = 0;
+    }
+
+-- an order in which all of it happened
+abbrev pub members : List Member
+members =
+    map of_history (
+    to.Start (codes "Two") (pos 1 ∷ []) ∷ to.Make 0 (source_at (codes "a") 1) None
+    ∷ to.Make 1 (source_at (codes "b") 1) None ∷ to.Make 2 sink_t None ∷ to.Make 3 sink_u None ∷ to.Link 0 2 0
+    ∷ to.Link 1 3 0 ∷ to.Reopen 0 ∷ to.Reopen 1 ∷ to.Commit ∷ []
+    )
+    ++ map by_node (
+    event.Begin 0 1 1 ∷ event.Begin 1 1 1 ∷ event.Take 0 1 1 ∷ event.Take 1 1 1 ∷ event.Give 0 1 1 ∷ event.Give 1 1 1
+    ∷ event.End 0 1 1 ∷ event.End 1 1 1 ∷ []
+    )
+    ++ map of_history (
+    to.Run 1 2 ∷ to.Run 5 0 ∷ to.Stop ∷ to.Close 0 ∷ to.Close 1 ∷ to.Drained 0 1 ∷ to.Drained 1 1 ∷ []
+    )
+
+-- what the history tells beside the script
+abbrev pub tells : List Told
+tells =
+    no_more ∷ counted 2 ∷ counted 0 ∷ []
+
+abbrev pub stopped : List Seen
+stopped =
+    found 0 1 ∷ found 1 1 ∷ []

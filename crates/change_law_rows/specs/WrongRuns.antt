@@ -1,0 +1,73 @@
+-- Wrong numbers of runs, wrong rests, and logs that no node has.
+use Rattle.std.specs.Prelude.{List, [], ◌∷◌, ◌++◌, codes, drop, take, None}
+use Rattle.change_script.specs.declared.report.HistoryLine.TheVariants as to
+use Rattle.change_script.specs.declared.report.Last.TheVariants as last
+use Rattle.change_script.specs.declared.report.NodeLog.{NodeLog}
+use Rattle.change_script.specs.declared.report.Report.{Report}
+use Rattle.change_law.specs.Statements.{Statement, start, run, finish}
+use Rattle.change_law_rows.specs.Filled as filled
+use Rattle.change_law_rows.specs.Moved as moved
+use Rattle.change_law_rows.specs.RunOut as run_out
+use Rattle.change_law_rows.specs.Shown as shown
+use Rattle.change_law_rows.specs.Systems.{small}
+
+-- the first run ends with nothing, though nothing is at rest: no node does anything
+abbrev pub ended_idly : Report
+ended_idly =
+    record {
+      history =
+          take 10 run_out.history ++ to.Run 1 0 ∷ to.Run 5 0 ∷ to.Stop ∷ to.Close 0 ∷ to.Close 1 ∷ to.Drained 0 0
+          ∷ to.Drained 1 0 ∷ [];
+      logs =
+          record {
+            slot = 0;
+            events =
+                [];
+            last = last.State (0 ∷ []);
+          } ∷ record {
+            slot = 1;
+            events =
+                [];
+            last = last.State (0 ∷ []);
+          } ∷ record {
+            slot = 2;
+            events =
+                [];
+            last = last.State [];
+          } ∷ record {
+            slot = 3;
+            events =
+                [];
+            last = last.State [];
+          } ∷ [];
+      unfinished = None;
+      status = 0;
+    }
+
+-- what ended in the first run is counted in the second too
+abbrev pub counted_twice : Report
+counted_twice =
+    record run_out.report { history = take 11 run_out.history ++ to.Run 5 2 ∷ drop 12 run_out.history }
+
+-- a buffer was empty before it took its item, and is full at each place since the line before
+abbrev pub resting_small : List Statement
+resting_small =
+    start (codes "Small") [] small ∷ run 1 ∷ finish 10 ∷ []
+
+abbrev pub rested_before : Report
+rested_before =
+    record filled.report { history = take 9 filled.history ++ to.Run 1 1 ∷ drop 9 filled.history }
+
+-- a node has no log, or two
+abbrev pub unlogged : Report
+unlogged = record shown.report { logs = [] }
+
+abbrev pub logged_twice : Report
+logged_twice = record shown.report { logs = shown.log_0 ∷ shown.log_0 ∷ [] }
+
+-- a state is said to have gone to another node than was made from it
+abbrev pub misled : NodeLog
+misled = record moved.log_0 { last = last.Moved 3 }
+
+abbrev pub misleading : Report
+misleading = record moved.report { logs = misled ∷ moved.log_1 ∷ moved.log_2 ∷ moved.log_3 ∷ moved.log_4 ∷ [] }
