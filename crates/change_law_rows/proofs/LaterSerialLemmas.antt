@@ -16,7 +16,7 @@ use Rattle.change_law.proofs.StandingLaws.{graph_by}
 use Rattle.change_law_rows.specs.GivenUpLater as later
 use Rattle.change_law_rows.specs.RunOut as run_out
 use Rattle.change_law_rows.specs.Stuck as stuck
-use Rattle.change_law_rows.specs.Systems.{lone, three, two}
+use Rattle.change_law_rows.specs.Systems.{lone, three, two_of}
 use Rattle.change_law_rows.proofs.SerialLemmas.{first_at}
 
 -- a source that leads nowhere
@@ -42,31 +42,31 @@ stuck_is_serial = record {
   report_is = refl;
 }
 
--- two sources, of which each ends its transaction in the third round; the fourth moves nothing
+-- two sources, of which each ends a transaction in the third round and one in the sixth; the seventh moves nothing
 
 abbrev two_started : World
-two_started = fold with_event nowhere (start_of two)
+two_started = fold with_event nowhere (start_of (two_of 2))
 
 abbrev two_ended : World
 two_ended = after_rounds true two_started 3
 
 abbrev two_ran : World
-two_ran = after_rounds true two_ended 1
+two_ran = after_rounds true two_ended 4
 
 abbrev two_closed : World
 two_closed = after_changes two_ran (map Close (0 ∷ 1 ∷ []))
 
 pub run_out_is_serial : Serial run_out.script run_out.report
 run_out_is_serial = record {
-  parts = record { statement = start (codes "Two") (pos 1 ∷ []) two; lines = take 10 run_out.history; world = two_started }
+  parts = record { statement = start (codes "Two") (pos 2 ∷ []) (two_of 2); lines = take 10 run_out.history; world = two_started }
       ∷ record { statement = run 1; lines = take 1 (drop 10 run_out.history); world = two_ended }
-      ∷ record { statement = run 5; lines = take 1 (drop 11 run_out.history); world = two_ran } ∷ [];
+      ∷ record { statement = run 9; lines = take 1 (drop 11 run_out.history); world = two_ran } ∷ [];
   statements_are = refl;
   played = (
     (refl, refl),
     (
       record { rounds = 3; number = first_at (run_ends two_started 1) 3 refl refl; world = refl; are = refl },
-      (record { rounds = 1; number = first_at (run_ends two_ended 5) 1 refl refl; world = refl; are = refl }, tt),
+      (record { rounds = 4; number = first_at (run_ends two_ended 9) 4 refl refl; world = refl; are = refl }, tt),
     ),
   );
   stop = drop 12 run_out.history;

@@ -37,10 +37,10 @@ use Rattle.change_law_rows.proofs.WrongStateLemmas.{folds_so}
 -- the first run ends with nothing, though neither anything rests nor the rounds end so
 
 abbrev first_source : Slot
-first_source = record { node = source_at (codes "a") 1; first_port = 0; from = None; live = true }
+first_source = record { node = source_at (codes "a") 2; first_port = 0; from = None; live = true }
 
 never_done : (es : List Event) → slot (state_after es).config 0 ≡ Some first_source → done_by 0 es ≡ [] → is_done es 0 ≡ false
-never_done es there did = ap (λ (o : Option NodeState). option_map_or moves.is_done o false) (folds_so es 0 0 first_source [] (opening kind.Source 1) there did refl)
+never_done es there did = ap (λ (o : Option NodeState). option_map_or moves.is_done o false) (folds_so es 0 0 first_source [] (opening kind.Source 2) there did refl)
 
 abbrev starts : List HistoryLine
 starts = take 10 history
@@ -90,22 +90,22 @@ ends_in before n s =
 
 pub not_counted_twice : (pace : Pace script) (m : List Member) → Merge m counted_twice → IsRun (events m) → Each (IsRunAt pace) m → ⊥
 not_counted_twice pace m merge run runs =
-    let w = at_line m (take 11 history) (to.Run 5 2) (drop 12 history) merge.history in
-    let second : EndedSince w.before 2 = (each_at (IsRunAt pace) w.before w.after (of_history (to.Run 5 2)) (subst (Each (IsRunAt pace)) w.parts runs)).0 in
+    let w = at_line m (take 11 history) (to.Run 9 4) (drop 12 history) merge.history in
+    let second : EndedSince w.before 4 = (each_at (IsRunAt pace) w.before w.after (of_history (to.Run 9 4)) (subst (Each (IsRunAt pace)) w.parts runs)).0 in
     let v = at_line w.before starts (to.Run 1 2) [] w.lines_before in
-    let whole : m ≡ v.before ++ of_history (to.Run 1 2) ∷ (v.after ++ of_history (to.Run 5 2) ∷ w.after) =
-    w.parts ∙ ap (λ k. k ++ of_history (to.Run 5 2) ∷ w.after) v.parts ∙ append_assoc v.before (of_history (to.Run 1 2) ∷ v.after) (of_history (to.Run 5 2) ∷ w.after) in
+    let whole : m ≡ v.before ++ of_history (to.Run 1 2) ∷ (v.after ++ of_history (to.Run 9 4) ∷ w.after) =
+    w.parts ∙ ap (λ k. k ++ of_history (to.Run 9 4) ∷ w.after) v.parts ∙ append_assoc v.before (of_history (to.Run 1 2) ∷ v.after) (of_history (to.Run 9 4) ∷ w.after) in
     let first : EndedSince v.before 2 =
-    (each_at (IsRunAt pace) v.before (v.after ++ of_history (to.Run 5 2) ∷ w.after) (of_history (to.Run 1 2)) (subst (Each (IsRunAt pace)) whole runs)).0 in
+    (each_at (IsRunAt pace) v.before (v.after ++ of_history (to.Run 9 4) ∷ w.after) (of_history (to.Run 1 2)) (subst (Each (IsRunAt pace)) whole runs)).0 in
     let front = behind_line v.before v.after second.front (to.Run 1 2) second.later (sym v.parts ∙ second.parts) in
     let in_front = ap (count_by is_end) (ap events front.1 ∙ events_parts v.before (of_history (to.Run 1 2) ∷ front.0)) ∙ count_by-append is_end (events v.before) (events front.0) in
     let few : AreFew (events m) = few_behind (events m) run
     (λ before after is. passes_there ends_by_sources (filter_map event_of counted_twice.history) refl m merge.by_nodes (ap (filter_map event_of) merge.history) before after is)
     [] (events m) refl (omega arith) in
-    let a : count_by is_end (done_by 0 (events m)) ≡ 1 = ap (count_by is_end) (merge.logs 0 some_log (omega arith)) in
-    let b : count_by is_end (done_by 1 (events m)) ≡ 1 = ap (count_by is_end) (merge.logs 1 some_log (omega arith)) in
-    let in_all = ap (count_by is_end) (ap events w.parts ∙ events_parts w.before (of_history (to.Run 5 2) ∷ w.after)) ∙ count_by-append is_end (events w.before) (events w.after) in
-    omega (arith, few, a, b, in_all, ends_in w.before 2 second, ends_in v.before 2 first, in_front)
+    let a : count_by is_end (done_by 0 (events m)) ≡ 2 = ap (count_by is_end) (merge.logs 0 some_log (omega arith)) in
+    let b : count_by is_end (done_by 1 (events m)) ≡ 2 = ap (count_by is_end) (merge.logs 1 some_log (omega arith)) in
+    let in_all = ap (count_by is_end) (ap events w.parts ∙ events_parts w.before (of_history (to.Run 9 4) ∷ w.after)) ∙ count_by-append is_end (events w.before) (events w.after) in
+    omega (arith, few, a, b, in_all, ends_in w.before 4 second, ends_in v.before 2 first, in_front)
 
 -- each node has one log
 

@@ -1,4 +1,5 @@
--- Two sources of one item end their transactions in one round. Then all is at rest, and a run ends with none.
+-- Two sources of two items end one transaction each in one round, where one was asked for. Then they end what is left, and all is at rest
+-- before nine have ended.
 use Rattle.std.specs.Prelude.{List, [], ◌∷◌, ◌++◌, codes, map, pos, None}
 use Rattle.quiesce_core.specs.declared.event.Event.TheVariants as event
 use Rattle.change_script.specs.declared.report.HistoryLine.{HistoryLine}
@@ -10,26 +11,26 @@ use Rattle.change_law.specs.Members.{Member, by_node, of_history}
 use Rattle.change_law.specs.Scene.{Seen}
 use Rattle.change_law.specs.Statements.{Statement, start, run}
 use Rattle.change_law.specs.Told.{Told, no_more, counted}
-use Rattle.change_law_rows.specs.Systems.{found, sink_t, sink_u, source_at, two}
+use Rattle.change_law_rows.specs.Systems.{found, sink_t, sink_u, source_at, two_of}
 
 abbrev pub script : List Statement
 script =
-    start (codes "Two") (pos 1 ∷ []) two ∷ run 1 ∷ run 5 ∷ []
+    start (codes "Two") (pos 2 ∷ []) (two_of 2) ∷ run 1 ∷ run 9 ∷ []
 
 abbrev pub history : List HistoryLine
 history =
-    to.Start (codes "Two") (pos 1 ∷ []) ∷ to.Make 0 (source_at (codes "a") 1) None
-    ∷ to.Make 1 (source_at (codes "b") 1) None ∷ to.Make 2 sink_t None ∷ to.Make 3 sink_u None ∷ to.Link 0 2 0
-    ∷ to.Link 1 3 0 ∷ to.Reopen 0 ∷ to.Reopen 1 ∷ to.Commit ∷ to.Run 1 2 ∷ to.Run 5 0 ∷ to.Stop ∷ to.Close 0
-    ∷ to.Close 1 ∷ to.Drained 0 1 ∷ to.Drained 1 1 ∷ []
+    to.Start (codes "Two") (pos 2 ∷ []) ∷ to.Make 0 (source_at (codes "a") 2) None
+    ∷ to.Make 1 (source_at (codes "b") 2) None ∷ to.Make 2 sink_t None ∷ to.Make 3 sink_u None ∷ to.Link 0 2 0
+    ∷ to.Link 1 3 0 ∷ to.Reopen 0 ∷ to.Reopen 1 ∷ to.Commit ∷ to.Run 1 2 ∷ to.Run 9 2 ∷ to.Stop ∷ to.Close 0
+    ∷ to.Close 1 ∷ to.Drained 0 2 ∷ to.Drained 1 2 ∷ []
 
 abbrev pub log_0 : NodeLog
 log_0 =
     record {
       slot = 0;
       events =
-          event.Begin 0 1 1 ∷ event.End 0 1 1 ∷ [];
-      last = last.State (1 ∷ []);
+          event.Begin 0 1 1 ∷ event.End 0 1 1 ∷ event.Begin 0 2 2 ∷ event.End 0 2 1 ∷ [];
+      last = last.State (2 ∷ []);
     }
 
 abbrev pub log_1 : NodeLog
@@ -37,8 +38,8 @@ log_1 =
     record {
       slot = 1;
       events =
-          event.Begin 1 1 1 ∷ event.End 1 1 1 ∷ [];
-      last = last.State (1 ∷ []);
+          event.Begin 1 1 1 ∷ event.End 1 1 1 ∷ event.Begin 1 2 2 ∷ event.End 1 2 1 ∷ [];
+      last = last.State (2 ∷ []);
     }
 
 abbrev pub log_2 : NodeLog
@@ -46,8 +47,8 @@ log_2 =
     record {
       slot = 2;
       events =
-          event.Take 0 1 1 ∷ event.Give 0 1 1 ∷ [];
-      last = last.State (1 ∷ []);
+          event.Take 0 1 1 ∷ event.Give 0 1 1 ∷ event.Take 0 2 2 ∷ event.Give 0 2 1 ∷ [];
+      last = last.State (1 ∷ 2 ∷ []);
     }
 
 abbrev pub log_3 : NodeLog
@@ -55,8 +56,8 @@ log_3 =
     record {
       slot = 3;
       events =
-          event.Take 1 1 1 ∷ event.Give 1 1 1 ∷ [];
-      last = last.State (1 ∷ []);
+          event.Take 1 1 1 ∷ event.Give 1 1 1 ∷ event.Take 1 2 2 ∷ event.Give 1 2 1 ∷ [];
+      last = last.State (1 ∷ 2 ∷ []);
     }
 
 abbrev pub report : Report
@@ -72,8 +73,8 @@ report =
 abbrev pub members : List Member
 members =
     map of_history (
-    to.Start (codes "Two") (pos 1 ∷ []) ∷ to.Make 0 (source_at (codes "a") 1) None
-    ∷ to.Make 1 (source_at (codes "b") 1) None ∷ to.Make 2 sink_t None ∷ to.Make 3 sink_u None ∷ to.Link 0 2 0
+    to.Start (codes "Two") (pos 2 ∷ []) ∷ to.Make 0 (source_at (codes "a") 2) None
+    ∷ to.Make 1 (source_at (codes "b") 2) None ∷ to.Make 2 sink_t None ∷ to.Make 3 sink_u None ∷ to.Link 0 2 0
     ∷ to.Link 1 3 0 ∷ to.Reopen 0 ∷ to.Reopen 1 ∷ to.Commit ∷ []
     )
     ++ map by_node (
@@ -81,14 +82,21 @@ members =
     ∷ event.End 0 1 1 ∷ event.End 1 1 1 ∷ []
     )
     ++ map of_history (
-    to.Run 1 2 ∷ to.Run 5 0 ∷ to.Stop ∷ to.Close 0 ∷ to.Close 1 ∷ to.Drained 0 1 ∷ to.Drained 1 1 ∷ []
+    to.Run 1 2 ∷ []
+    )
+    ++ map by_node (
+    event.Begin 0 2 2 ∷ event.Begin 1 2 2 ∷ event.Take 0 2 2 ∷ event.Take 1 2 2 ∷ event.Give 0 2 1 ∷ event.Give 1 2 1
+    ∷ event.End 0 2 1 ∷ event.End 1 2 1 ∷ []
+    )
+    ++ map of_history (
+    to.Run 9 2 ∷ to.Stop ∷ to.Close 0 ∷ to.Close 1 ∷ to.Drained 0 2 ∷ to.Drained 1 2 ∷ []
     )
 
 -- what the history tells beside the script
 abbrev pub tells : List Told
 tells =
-    no_more ∷ counted 2 ∷ counted 0 ∷ []
+    no_more ∷ counted 2 ∷ counted 2 ∷ []
 
 abbrev pub stopped : List Seen
 stopped =
-    found 0 1 ∷ found 1 1 ∷ []
+    found 0 2 ∷ found 1 2 ∷ []

@@ -91,13 +91,16 @@ buffered c =
       links = leads 0 0 2 ∷ leads 1 0 0 ∷ [];
     }
 
--- two sources of one item, each with a sink of its own
-abbrev pub two : Graph
-two =
+-- two sources of n items, each with a sink of its own
+abbrev pub two_of : ℕ → Graph
+two_of n =
     record {
-      nodes = source_at (codes "a") 1 ∷ source_at (codes "b") 1 ∷ sink_t ∷ sink_u ∷ [];
+      nodes = source_at (codes "a") n ∷ source_at (codes "b") n ∷ sink_t ∷ sink_u ∷ [];
       links = leads 0 0 2 ∷ leads 1 0 3 ∷ [];
     }
+
+abbrev pub two : Graph
+two = two_of 1
 
 -- a source of n items that leads nowhere
 abbrev pub lone_of : ℕ → Graph

@@ -16,7 +16,7 @@ abbrev pub ended_idly : Report
 ended_idly =
     record {
       history =
-          take 10 run_out.history ++ to.Run 1 0 ∷ to.Run 5 0 ∷ to.Stop ∷ to.Close 0 ∷ to.Close 1 ∷ to.Drained 0 0
+          take 10 run_out.history ++ to.Run 1 0 ∷ to.Run 9 0 ∷ to.Stop ∷ to.Close 0 ∷ to.Close 1 ∷ to.Drained 0 0
           ∷ to.Drained 1 0 ∷ [];
       logs =
           record {
@@ -47,7 +47,7 @@ ended_idly =
 -- what ended in the first run is counted in the second too
 abbrev pub counted_twice : Report
 counted_twice =
-    record run_out.report { history = take 11 run_out.history ++ to.Run 5 2 ∷ drop 12 run_out.history }
+    record run_out.report { history = take 11 run_out.history ++ to.Run 9 4 ∷ drop 12 run_out.history }
 
 -- a buffer was empty before it took its item, and is full at each place since the line before
 abbrev pub resting_small : List Statement

@@ -52,7 +52,7 @@ pub fn a_run_of_a_lone_source_ends_after_one_round()
     ensures serial { Serial stuck.script stuck.report }
 {}
 
-/// More transactions may end in a run than were asked for; and where all is at rest, a run ends with none.
+/// More transactions may end in a run than were asked for; and where all came to rest, it ends with fewer.
 /// This is the report of rounds too.
 pub fn a_run_may_end_with_more_or_fewer()
     ensures lawful { Lawful run_out.script on_threads run_out.report }
