@@ -29,4 +29,5 @@ mod WrongLookLemmas
 mod WrongSightLemmas
 mod WrongRunLemmas
 mod WrongRestLemmas
+mod WrongDrainLemmas
 mod WrongStateLemmas

@@ -78,9 +78,9 @@ not_early m merge run drained =
 
 -- a root that a port hasn't, though it has come to that serial, it never has again
 
-record HasPassed (s : State) (p k : ℕ) : Type 0 where
-  low : k ≤ (exchange s p).serial
-  none : has_root s p k ≡ false
+pub record HasPassed (s : State) (p k : ℕ) : Type 0 where
+  pub low : k ≤ (exchange s p).serial
+  pub none : has_root s p k ≡ false
 
 abbrev is_root : ℕ → Exchange → Bool
 is_root k x = (not (is_idle x.phase) && not (is_some x.within)) && x.serial == k
@@ -127,7 +127,7 @@ passed_on : (before es : List Event) (p k : ℕ) → IsRun (before ++ es) → Ha
 passed_on before es p k run h =
     along (λ xs. HasPassed (state_after xs) p k) unbarred (λ xs e here free kept. passed_next p k xs e here kept) before es run (none_barred es) h
 
-drained_passed : (s : State) (p k : ℕ) → is_drained s p ≡ true → (exchange s p).serial ≡ k → HasPassed s p k
+pub drained_passed : (s : State) (p k : ℕ) → is_drained s p ≡ true → (exchange s p).serial ≡ k → HasPassed s p k
 drained_passed s p k h serial =
     record { low = omega (arith, serial); none = by (has_root s p k) refl }
   where

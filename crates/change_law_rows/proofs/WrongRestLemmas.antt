@@ -54,7 +54,7 @@ done_parts s n (e ∷ xs) ys = by (is_doer s n e) (done_parts (effect s e) n xs 
     by false h = h
 
 -- an event of a log that is the only one of its sort stands in the part of all events in which there is one
-placed : (test : Event → Bool) (n : ℕ) (es rest log : List Event) (e : Event) → done_by n (es ++ rest) ≡ log → Contains log e → test e ≡ true → count_by test (es ++ rest) ≤ 1 → 1 ≤ count_by test es → DoneAt n [] es e
+pub placed : (test : Event → Bool) (n : ℕ) (es rest log : List Event) (e : Event) → done_by n (es ++ rest) ≡ log → Contains log e → test e ≡ true → count_by test (es ++ rest) ≤ 1 → 1 ≤ count_by test es → DoneAt n [] es e
 placed test n es rest log e did there passes few some_ =
     let w = done_at n (es ++ rest) log e did there in
     ⊎_elim

@@ -1,10 +1,11 @@
 -- Wrong tellings of what looks saw.
-use Rattle.std.specs.Prelude.{[], ◌∷◌, codes, pos, None}
+use Rattle.std.specs.Prelude.{List, [], ◌∷◌, codes, pos, None}
 use Rattle.quiesce_core.specs.declared.event.Event.TheVariants as event
 use Rattle.change_script.specs.declared.report.HistoryLine.TheVariants as to
 use Rattle.change_script.specs.declared.report.Last.TheVariants as last
 use Rattle.change_script.specs.declared.report.Report.{Report}
-use Rattle.change_law_rows.specs.Systems.{map_m, sink_t, source_at}
+use Rattle.change_law.specs.Statements.{Statement, start, change, run}
+use Rattle.change_law_rows.specs.Systems.{map_m, pair, sink_t, source_at}
 
 -- a port is said to be drained with the serial before its last
 abbrev pub early : Report
@@ -74,6 +75,42 @@ outdated =
             events =
                 [];
             last = last.State [];
+          } ∷ [];
+      unfinished = None;
+      status = 7;
+    }
+
+-- a port is said to be drained, and its root ends later: in the run behind the change two transactions end, and all
+-- that end are two
+abbrev pub looking_hastily : List Statement
+looking_hastily =
+    start (codes "Pair") (pos 1 ∷ []) (pair 1) ∷ run 0 ∷ change (codes "Pair") (pos 2 ∷ []) (pair 2) 0 [] ∷ run 2 ∷ []
+
+abbrev pub hasty : Report
+hasty =
+    record {
+      history =
+          to.Start (codes "Pair") (pos 1 ∷ []) ∷ to.Make 0 (source_at (codes "a") 1) None
+          ∷ to.Make 1 (source_at (codes "b") 1) None ∷ to.Make 2 sink_t None ∷ to.Link 0 2 0 ∷ to.Link 1 2 0
+          ∷ to.Reopen 0 ∷ to.Reopen 1 ∷ to.Commit ∷ to.Run 0 0 ∷ to.Change (codes "Pair") (pos 2 ∷ []) ∷ to.Close 0
+          ∷ to.Close 1 ∷ to.Drained 0 1 ∷ to.Pending 0 ∷ to.Root 1 1 ∷ to.Reopen 0 ∷ to.Reopen 1 ∷ to.Abandon
+          ∷ to.Run 2 2 ∷ to.Stop ∷ to.Close 0 ∷ to.Close 1 ∷ to.Drained 0 1 ∷ to.Drained 1 1 ∷ [];
+      logs =
+          record {
+            slot = 0;
+            events =
+                event.Begin 0 1 1 ∷ event.End 0 1 1 ∷ [];
+            last = last.State (1 ∷ []);
+          } ∷ record {
+            slot = 1;
+            events =
+                event.Begin 1 1 1 ∷ event.End 1 1 1 ∷ [];
+            last = last.State (1 ∷ []);
+          } ∷ record {
+            slot = 2;
+            events =
+                event.Take 0 1 1 ∷ event.Give 0 1 1 ∷ event.Take 1 1 1 ∷ event.Give 1 1 1 ∷ [];
+            last = last.State (1 ∷ 1 ∷ []);
           } ∷ [];
       unfinished = None;
       status = 7;

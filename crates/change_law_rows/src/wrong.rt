@@ -18,6 +18,8 @@ ghost use Rattle.change_law_rows.specs.WrongLooks as looks;
 ghost use Rattle.change_law_rows.specs.WrongRuns as runs;
 ghost use Rattle.change_law_rows.specs.WrongSights as sights;
 
+use quiescence_laws::open_roots_are_seen;
+
 /// A start that doesn't reopen a port; a stop that closes one and doesn't find it drained; a graph that isn't the one
 /// that stands; a finish that ends early though nothing came to rest, and neither the rounds end there; one that makes
 /// more rounds than were allowed; and a node that isn't done, of which nothing is said.
@@ -88,9 +90,14 @@ pub fn wrong_states_are_refuted()
     ensures misled { (m : List Member) → All (IsFolded m runs.misleading.history) runs.misleading.logs → ⊥ }
 {}
 
-/// A port isn't drained with the serial before its last, and a root that ended before the change before isn't open.
+/// A port isn't drained with the serial before its last, nor while its root is open, and a root that ended before the
+/// change before isn't open.
 pub fn wrong_looks_are_refuted()
     ensures early { (m : List Member) → Merge m looks.early → IsRun (events m) → Each IsDrainedAt m → ⊥ }
+    ensures hasty { (pace : Pace looks.looking_hastily) (m : List Member) → Merge m looks.hasty → IsRun (events m)
+        → Each (IsRunAt pace) m → Each IsDrainedAt m → ⊥ }
     ensures outdated { (m : List Member) → Merge m looks.outdated → IsRun (events m) → Each IsDrainedAt m
         → Each (StoodOpenWhereSaid m) looks.outdated.history → ⊥ }
-{}
+{
+    open_roots_are_seen();
+}
