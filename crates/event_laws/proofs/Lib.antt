@@ -1,0 +1,4 @@
+pub mod FormLemmas
+pub mod MarginLemmas
+pub mod LineTextLemmas
+pub mod FileLemmas
