@@ -1,5 +1,5 @@
 -- Scans: turns given to nodes, then sights of those that are done, and a look at each port.
-use Rattle.std.specs.Prelude.{◌≡◌, ℕ, Bool, not, ◌&&◌, ◌||◌, List, ◌∷◌, ◌++◌, map, length, filter}
+use Rattle.std.specs.Prelude.{◌≡◌, ℕ, Bool, true, not, ◌&&◌, ◌||◌, List, ◌∷◌, ◌++◌, map, length, filter}
 use Rattle.std.specs.List.{list_all, range_with_len, sum_by}
 use Rattle.quiesce_core.specs.Rules.{is_live_port}
 use Rattle.quiesce_core.specs.State.{Configuration, is_live}
@@ -42,11 +42,18 @@ ended_in found = sum_by (λ (f : Found). ended_in_word f.word) found
 abbrev pub scan_entries : Bool → Bool → List Sight → List Found → List Entry
 scan_entries begins moved sights found = scanned begins moved ∷ (map sight_entry sights ++ map look_entry found)
 
--- what a scan adds to the records of a board, and what it answers
-pub record Scanned {B : Type 0} (S : B → List Entry → Type 0) (old new : B) (begins : Bool) (s : Scan) : Type 0 where
+-- each node made was sighted, in the order of slots
+abbrev pub SightsAll : Configuration → List Sight → Type 0
+SightsAll c sights = map (λ (s : Sight). s.slot) sights ≡ range_with_len 0 (length c.slots)
+
+-- What a scan adds to the records of a board, and what it answers. A board that is alone, which gets every node, sights
+-- each one.
+pub record Scanned {B : Type 0} (S : B → List Entry → Type 0) (alone : Bool) (old new : B) (begins : Bool) (s : Scan)
+    : Type 0 where
   pub sights : List Sight
   pub found : List Found
   pub adds : Adds S old new (scan_entries begins s.moved sights found)
   pub at_ports : (r : List Entry) → S old r → ports_of found ≡ all_ports (config_of r)
+  pub all_sighted : alone ≡ true → (r : List Entry) → S old r → SightsAll (config_of r) sights
   pub done : (r : List Entry) → S old r → s.done ≡ is_seen_at_rest (config_of r) sights found
   pub ended : s.ended ≡ ended_in found

@@ -114,9 +114,9 @@ pub trait Board {
 
     /// Gives the live nodes that it gets a turn each, in the order of their slots, in which they may begin transactions
     /// or not. Then it looks at all nodes that it gets, and sights those that are done, with those whose state they
-    /// took over; and it looks once at each port made.
+    /// took over, or all where nodes take turns in its scans alone; and it looks once at each port made.
     fn scan(&mut self, begins: bool) -> Result<Scan, NoMemory>
-        ensures ok { IfOk result (Scanned stands_for self.old self.new begins) }
+        ensures ok { IfOk result (Scanned stands_for alone self.old self.new begins) }
         ensures room { OnOk result (room self.new ≡ room self.old) }
         ensures err { OnErr result ((r : List Entry) → stands_for self.old r → broke_off self.new r) };
 

@@ -132,7 +132,7 @@ module _ {B : Type 0} (S : B → List Entry → Type 0) (alone : Bool) where
         looks = x.looks;
         scans = y.scans;
         at_ports = λ t h. x.at_ports ∙ ap (range_with_len 0) (many t h);
-        are_scans = λ t h. subst (λ c. AllByRecursion (IsScanIn c) y.scans) (config_quiet (entries t) looks (looks_quiet x.looks))
+        are_scans = λ t h. subst (λ c. AllByRecursion (IsScanIn alone c) y.scans) (config_quiet (entries t) looks (looks_quiet x.looks))
             (y.are_scans (entries t ++ looks) (x.adds (entries t) h.tells.board));
         go_on = subst (λ n. Each (RunsOn alone k n) y.scans) x.ended_is y.go_on;
         ends = subst (λ n. run_ends alone k n y.scans ≡ true) x.ended_is y.ends;

@@ -212,8 +212,8 @@ module _ {B : Type 0} (S : B → List Entry → Type 0) where
       subst (λ t. Grew S a c h j t) (sym (append-nil (map close_item ps ++ map look_item w.found)))
       (grew_both S a b c h i j (map close_item ps) (map look_item w.found) (grew_closes a b h i ps x e) w.grew)
 
-  pub rounded : (b c d : B) (i j : List HistoryLine) (left next : List LeftRoot) (s : Scan) → Scanned S b c false s → Passed S c d i j (root_ports left) next → Rounded S b d i j left next
-  rounded b c d i j left next s x y =
+  pub rounded : (alone : Bool) (b c d : B) (i j : List HistoryLine) (left next : List LeftRoot) (s : Scan) → Scanned S alone b c false s → Passed S c d i j (root_ports left) next → Rounded S b d i j left next
+  rounded alone b c d i j left next s x y =
       let scan = scan_entries false s.moved x.sights x.found in
       record {
         round = record { moved = s.moved; sights = x.sights; scan = x.found; found = y.found };
@@ -239,8 +239,8 @@ module _ {B : Type 0} (S : B → List Entry → Type 0) where
         (subst (λ zs. AreMadePorts (config_of r) (root_ports zs)) (sym w.left_is) (roots_made (config_of r) w.found (subst (AreMadePorts (config_of r)) (sym w.at_ports) m))),
   )
 
-  pub made_scanned : (a b : B) (ps : List ℕ) (s : Scan) (r : List Entry) → S a r → AreMadePorts (config_of r) ps → Scanned S a b false s → (q : List Entry) × S b q × AreMadePorts (config_of q) ps
-  made_scanned a b ps s r x m w =
+  pub made_scanned : (alone : Bool) (a b : B) (ps : List ℕ) (s : Scan) (r : List Entry) → S a r → AreMadePorts (config_of r) ps → Scanned S alone a b false s → (q : List Entry) × S b q × AreMadePorts (config_of q) ps
+  made_scanned alone a b ps s r x m w =
       let es = scan_entries false s.moved w.sights w.found in
       (r ++ es, w.adds r x, subst (λ c. AreMadePorts c ps) (sym (config_quiet r es (scan_quiet false s.moved w.sights w.found))) m)
 

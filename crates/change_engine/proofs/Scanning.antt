@@ -35,22 +35,22 @@ pub rounds_pushed : (scans : List Seen) (w : Seen) → rounds_in (scans ++ w ∷
 rounds_pushed scans w = sum_by-append (λ (w : Seen). count_of w.answer) scans (w ∷ []) ∙ omega arith
 
 module _ {B : Type 0} (S : B → List Entry → Type 0) where
-  abbrev pub seen_by : (b c : B) (s : Scan) → Scanned S b c true s → Seen
-  seen_by b c s x = record { answer = s; sights = x.sights; found = x.found }
+  abbrev pub seen_by : (alone : Bool) (b c : B) (s : Scan) → Scanned S alone b c true s → Seen
+  seen_by alone b c s x = record { answer = s; sights = x.sights; found = x.found }
 
-  pub scans_add : (a b c : B) (scans : List Seen) (s : Scan) (x : Scanned S b c true s) → Adds S a b (all_entries scans) → Adds S a c (all_entries (scans ++ seen_by b c s x ∷ []))
-  scans_add a b c scans s x adds =
-      let w = seen_by b c s x in
+  pub scans_add : (alone : Bool) (a b c : B) (scans : List Seen) (s : Scan) (x : Scanned S alone b c true s) → Adds S a b (all_entries scans) → Adds S a c (all_entries (scans ++ seen_by alone b c s x ∷ []))
+  scans_add alone a b c scans s x adds =
+      let w = seen_by alone b c s x in
       subst (λ es. Adds S a c es) (sym (entries_pushed scans w)) (adds_both S a b c (all_entries scans) (seen_entries w) adds x.adds)
 
-  pub scans_are : (a b c : B) (scans : List Seen) (s : Scan) (x : Scanned S b c true s) → Adds S a b (all_entries scans)
-      → ((r : List Entry) → S a r → AllByRecursion (IsScanIn (config_of r)) scans)
-      → (r : List Entry) → S a r → AllByRecursion (IsScanIn (config_of r)) (scans ++ seen_by b c s x ∷ [])
-  scans_are a b c scans s x adds are r h =
-      let w = seen_by b c s x in
+  pub scans_are : (alone : Bool) (a b c : B) (scans : List Seen) (s : Scan) (x : Scanned S alone b c true s) → Adds S a b (all_entries scans)
+      → ((r : List Entry) → S a r → AllByRecursion (IsScanIn alone (config_of r)) scans)
+      → (r : List Entry) → S a r → AllByRecursion (IsScanIn alone (config_of r)) (scans ++ seen_by alone b c s x ∷ [])
+  scans_are alone a b c scans s x adds are r h =
+      let w = seen_by alone b c s x in
       let q = r ++ all_entries scans in
-      let there : IsScanIn (config_of q) w = record { at_ports = x.at_ports q (adds r h); done = x.done q (adds r h); ended = x.ended } in
-      all_push (IsScanIn (config_of r)) scans w (are r h) (subst (λ c. IsScanIn c w) (config_quiet r (all_entries scans) (all_quiet scans)) there)
+      let there : IsScanIn alone (config_of q) w = record { all_sighted = λ is. x.all_sighted is q (adds r h); at_ports = x.at_ports q (adds r h); done = x.done q (adds r h); ended = x.ended } in
+      all_push (IsScanIn alone (config_of r)) scans w (are r h) (subst (λ c. IsScanIn alone c w) (config_quiet r (all_entries scans) (all_quiet scans)) there)
 
   pub finished : (a b : B) (h i : List HistoryLine) (n rounds : ℕ) (alone : Bool) → Scans S alone a b n rounds → i ≡ h ++ to.Finish n rounds ∷ [] → Finished S alone a b h i n rounds
   finished a b h i n rounds alone x grown =

@@ -55,7 +55,7 @@ pub record HasRun {B : Type 0} (S : B → List Entry → Type 0) (alone : Bool) 
   pub looks : List Found
   pub scans : List Seen
   pub at_ports : (t : List Item) → IsIdle S old t → ports_of looks ≡ all_ports (config_of (entries t))
-  pub are_scans : (t : List Item) → IsIdle S old t → AllByRecursion (IsScanIn (config_of (entries t))) scans
+  pub are_scans : (t : List Item) → IsIdle S old t → AllByRecursion (IsScanIn alone (config_of (entries t))) scans
   pub go_on : Each (RunsOn alone k (ended_in looks)) scans
   pub ends : run_ends alone k (ended_in looks) scans ≡ true
   pub ended_is : ended ≡ ended_since (ended_in looks) scans
@@ -68,7 +68,7 @@ pub record HasFinished {B : Type 0} (S : B → List Entry → Type 0) (alone : B
     : Type 0 where
   pub scans : List Seen
   pub few : length scans ≤ n
-  pub are_scans : (t : List Item) → IsIdle S old t → AllByRecursion (IsScanIn (config_of (entries t))) scans
+  pub are_scans : (t : List Item) → IsIdle S old t → AllByRecursion (IsScanIn alone (config_of (entries t))) scans
   pub rounds_are : rounds ≡ rounds_in scans
   pub ends : EndsAfter alone n scans
   pub goes : Continues S old new (silent_items (all_entries scans) ++ said (to.Finish n rounds) ∷ [])

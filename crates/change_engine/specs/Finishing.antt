@@ -7,7 +7,7 @@ use Rattle.quiesce_core.specs.State.{Configuration}
 use Rattle.change_board.specs.declared.board.Scan.{Scan}
 use Rattle.change_board.specs.Entries.{Entry, config_of}
 use Rattle.change_board.specs.Records.{Adds}
-use Rattle.change_board.specs.Scans.{Found, all_ports, ended_in, is_seen_at_rest, ports_of, scan_entries}
+use Rattle.change_board.specs.Scans.{Found, SightsAll, all_ports, ended_in, is_seen_at_rest, ports_of, scan_entries}
 use Rattle.change_board.specs.Sights.{Sight}
 use Rattle.change_board.specs.Transcripts.{said}
 use Rattle.change_engine.specs.Growing.{Grew}
@@ -25,8 +25,9 @@ seen_entries w = scan_entries true w.answer.moved w.sights w.found
 abbrev pub all_entries : List Seen → List Entry
 all_entries scans = flat_map seen_entries scans
 
--- the answer tells what was seen, in this configuration
-pub record IsScanIn (c : Configuration) (w : Seen) : Type 0 where
+-- the answer tells what was seen, in this configuration; on a board that is alone, each node was
+pub record IsScanIn (alone : Bool) (c : Configuration) (w : Seen) : Type 0 where
+  pub all_sighted : alone ≡ true → SightsAll c w.sights
   pub at_ports : ports_of w.found ≡ all_ports c
   pub done : w.answer.done ≡ is_seen_at_rest c w.sights w.found
   pub ended : w.answer.ended ≡ ended_in w.found
@@ -60,7 +61,7 @@ EndsAfter alone n scans = EndsWith alone scans ⊎ ((length scans ≡ n) × AllB
 pub record Scans {B : Type 0} (S : B → List Entry → Type 0) (alone : Bool) (old new : B) (n rounds : ℕ) : Type 0 where
   pub scans : List Seen
   pub few : length scans ≤ n
-  pub are_scans : (r : List Entry) → S old r → AllByRecursion (IsScanIn (config_of r)) scans
+  pub are_scans : (r : List Entry) → S old r → AllByRecursion (IsScanIn alone (config_of r)) scans
   pub rounds_are : rounds ≡ rounds_in scans
   pub ends : EndsAfter alone n scans
   pub adds : Adds S old new (all_entries scans)
@@ -70,7 +71,7 @@ pub record Finished {B : Type 0} (S : B → List Entry → Type 0) (alone : Bool
     (before after : List HistoryLine) (n rounds : ℕ) : Type 0 where
   pub scans : List Seen
   pub few : length scans ≤ n
-  pub are_scans : (r : List Entry) → S old r → AllByRecursion (IsScanIn (config_of r)) scans
+  pub are_scans : (r : List Entry) → S old r → AllByRecursion (IsScanIn alone (config_of r)) scans
   pub rounds_are : rounds ≡ rounds_in scans
   pub ends : EndsAfter alone n scans
   pub grew : Grew S old new before after (silent_items (all_entries scans) ++ said (to.Finish n rounds) ∷ [])

@@ -46,7 +46,7 @@ pub record Counts {B : Type 0} (S : B → List Entry → Type 0) (old new : B) (
 pub record ScansUntil {B : Type 0} (S : B → List Entry → Type 0) (alone : Bool) (old new : B) (shown k ended : ℕ)
     : Type 0 where
   pub scans : List Seen
-  pub are_scans : (r : List Entry) → S old r → AllByRecursion (IsScanIn (config_of r)) scans
+  pub are_scans : (r : List Entry) → S old r → AllByRecursion (IsScanIn alone (config_of r)) scans
   pub go_on : Each (RunsOn alone k shown) scans
   pub ends : run_ends alone k shown scans ≡ true
   pub ended_is : ended ≡ ended_since shown scans

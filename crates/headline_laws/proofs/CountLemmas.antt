@@ -111,19 +111,19 @@ module _ (low high : ℕ → ℕ) where
   seen_part w h = (both_parts (map sight_entry w.sights) (map look_entry w.found) h.1).1
 
   -- by how much the last of some scans shows more
-  last_shows : (scans : List Seen) (c : Configuration) (shown : ℕ) → AllByRecursion (IsScanIn c) scans → AllByRecursion IsBetween (all_entries scans) → sum_by low (all_ports c) ≤ shown
+  last_shows : (alone : Bool) (scans : List Seen) (c : Configuration) (shown : ℕ) → AllByRecursion (IsScanIn alone c) scans → AllByRecursion IsBetween (all_entries scans) → sum_by low (all_ports c) ≤ shown
       → (before : ℕ) → before ≤ sum_by high (all_ports c) - sum_by low (all_ports c) → fold (λ n (w : Seen). w.answer.ended - shown) before scans ≤ sum_by high (all_ports c) - sum_by low (all_ports c)
-  last_shows [] c shown are h least before fits = fits
-  last_shows (w ∷ scans) c shown are h least before fits =
+  last_shows alone [] c shown are h least before fits = fits
+  last_shows alone (w ∷ scans) c shown are h least before fits =
       let parts = both_parts (seen_entries w) (all_entries scans) h in
       let most = shown_most w.found (seen_part w parts.0) in
       let same = ap (sum_by high) are.0.at_ports in
-      last_shows scans c shown are.1 parts.1 least (w.answer.ended - shown) (omega (arith, are.0.ended, most, same, least))
+      last_shows alone scans c shown are.1 parts.1 least (w.answer.ended - shown) (omega (arith, are.0.ended, most, same, least))
 
-  pub run_shows : (looks : List Found) (scans : List Seen) (c : Configuration) → ports_of looks ≡ all_ports c → AllByRecursion (IsScanIn c) scans
+  pub run_shows : (alone : Bool) (looks : List Found) (scans : List Seen) (c : Configuration) → ports_of looks ≡ all_ports c → AllByRecursion (IsScanIn alone c) scans
       → AllByRecursion IsBetween (map look_entry looks ++ all_entries scans) → ended_since (ended_in looks) scans ≤ sum_by high (all_ports c) - sum_by low (all_ports c)
-  run_shows looks scans c at_ports are h =
+  run_shows alone looks scans c at_ports are h =
       let parts = both_parts (map look_entry looks) (all_entries scans) h in
       let least = shown_least looks parts.0 in
       let same = ap (sum_by low) at_ports in
-      last_shows scans c (ended_in looks) are parts.1 (omega (arith, least, same)) 0 (omega arith)
+      last_shows alone scans c (ended_in looks) are parts.1 (omega (arith, least, same)) 0 (omega arith)

@@ -145,12 +145,12 @@ module _ (front back : List Joint) (es : List Entry) (are : items_in back ≡ si
       nodes_alone rest fs (tails_are (silent y) (silent g) (items_in rest) (silent_items fs) h) f.1
       ∙ ap (map by_node) (sym (ap (λ o. cons_option o (records.events (moments_in rest))) f.0))
 
-  ended_between : (looks : List Found) (scans : List Seen) (c : Configuration) → es ≡ map look_entry looks ++ all_entries scans → ports_of looks ≡ all_ports c → AllByRecursion (IsScanIn c) scans
+  ended_between : (alone : Bool) (looks : List Found) (scans : List Seen) (c : Configuration) → es ≡ map look_entry looks ++ all_entries scans → ports_of looks ≡ all_ports c → AllByRecursion (IsScanIn alone c) scans
       → EndedSince (members_in (front ++ back)) (ended_since (ended_in looks) scans)
-  ended_between looks scans c es_are at_ports scans_are =
+  ended_between alone looks scans c es_are at_ports scans_are =
       let later = records.events (moments_in back) in
       let all = between [] back es refl are in
-      let shows = run_shows low high looks scans c at_ports scans_are (subst (λ fs. AllByRecursion (IsBetween low high) fs) es_are all) in
+      let shows = run_shows low high alone looks scans c at_ports scans_are (subst (λ fs. AllByRecursion (IsBetween low high) fs) es_are all) in
       let more_ : (p : ℕ) → high p ≡ low p + count_by (is_end_at p) later = λ p.
       ap (count_by (is_end_at p)) (events_both front back) ∙ count_by-append (is_end_at p) (records.events (moments_in front)) later in
       record {
@@ -175,13 +175,14 @@ module _ (front back : List Joint) (es : List Entry) (are : items_in back ≡ si
 -- ---- what each line of a run tells, by items
 
 record RunTold (before : List Item) (n : ℕ) : Type 0 where
+  alone : Bool
   pre : List Item
   config : Configuration
   looks : List Found
   scans : List Seen
   parts : before ≡ pre ++ silent_items (map look_entry looks ++ all_entries scans)
   at_ports : ports_of looks ≡ all_ports config
-  are_scans : AllByRecursion (IsScanIn config) scans
+  are_scans : AllByRecursion (IsScanIn alone config) scans
   ended_is : n ≡ ended_since (ended_in looks) scans
 
 abbrev is_run_line : HistoryLine → Bool
@@ -240,7 +241,7 @@ piece_told alone before (run k) u d =
     let es = map look_entry d.looks ++ all_entries d.scans in
     subst (EachAfter IsRunTold before) (sym d.are)
     (each_joined IsRunTold before (silent_items es) (said (to.Run k d.ended) ∷ []) (all_none before (silent_items es) (none_silent is_run_line es))
-    (record { pre = before; config = config_at before; looks = d.looks; scans = d.scans; parts = refl; at_ports = d.at_ports; are_scans = d.are_scans; ended_is = d.ended_is }, tt))
+    (record { alone = alone; pre = before; config = config_at before; looks = d.looks; scans = d.scans; parts = refl; at_ports = d.at_ports; are_scans = d.are_scans; ended_is = d.ended_is }, tt))
 piece_told alone before (finish n) u d =
     let es = all_entries d.scans in
     subst (EachAfter IsRunTold before) (sym d.are) (all_none before (silent_items es ++ said (to.Finish n (rounds_in d.scans)) ∷ []) (silent_line is_run_line es (to.Finish n (rounds_in d.scans))))
@@ -297,7 +298,7 @@ run_at before j n k x =
     let fair = fair_back (items_in w.front) (items_in w.back) (subst AreFair (ap items_in w.parts ∙ filter_map-append item_of w.front w.back) k.fair) in
     subst (λ b. EndedSince (members_in b) n) (sym w.parts)
     (subst (EndedSince (members_in (w.front ++ w.back))) (sym x.ended_is)
-    (ended_between w.front w.back es w.back_items so runs_ fair x.looks x.scans x.config refl x.at_ports x.are_scans))
+    (ended_between w.front w.back es w.back_items so runs_ fair x.alone x.looks x.scans x.config refl x.at_ports x.are_scans))
 
 line_at : (before : List Joint) (j : Joint) (l : HistoryLine) → IsKnown before j → IsRunTold (items_in before) (said l) → IsEndedAt (members_in before) (of_history l)
 line_at before j (to.Run k n) known_ h = run_at before j n known_ h

@@ -94,7 +94,7 @@ pub record IsRunOn (alone : Bool) (c : Configuration) (k : ℕ) (t : List Item) 
   pub looks : List Found
   pub at_ports : ports_of looks ≡ all_ports c
   pub scans : List Seen
-  pub are_scans : AllByRecursion (IsScanIn c) scans
+  pub are_scans : AllByRecursion (IsScanIn alone c) scans
   pub go_on : Each (RunsOn alone k (ended_in looks)) scans
   pub ends : run_ends alone k (ended_in looks) scans ≡ true
   pub ended : ℕ
@@ -105,7 +105,7 @@ pub record IsRunOn (alone : Bool) (c : Configuration) (k : ℕ) (t : List Item) 
 pub record IsRunOut (alone : Bool) (c : Configuration) (n : ℕ) (t : List Item) : Type 0 where
   pub scans : List Seen
   pub few : length scans ≤ n
-  pub are_scans : AllByRecursion (IsScanIn c) scans
+  pub are_scans : AllByRecursion (IsScanIn alone c) scans
   pub ends : EndsAfter alone n scans
   pub are : t ≡ silent_items (all_entries scans) ++ said (to.Finish n (rounds_in scans)) ∷ []
 

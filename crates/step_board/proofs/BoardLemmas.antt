@@ -1,5 +1,5 @@
 -- What a scan and the taking in of logs come to on a board.
-use Rattle.std.proofs.Common.{◌≡◌, ◌∙◌, ◌<◌, ℕ, Bool, true, false, List, [], ◌++◌, Option, Some, None, Result, Ok, Err, map, length, refl, sym, ap, subst, arith}
+use Rattle.std.proofs.Common.{◌≡◌, ◌∙◌, ◌<◌, ℕ, Bool, true, false, List, [], ◌∷◌, ◌++◌, Option, Some, None, Result, Ok, Err, map, length, refl, sym, ap, subst, arith}
 use Rattle.std.specs.Prelude.{◌&&◌, All, IfOk, OnErr, find, is_none, is_some, not, slice_get, slice_index_or}
 use Rattle.std.specs.List.{list_all, range_with_len}
 use Rattle.std.proofs.Math.Logic.{∥∥₁_map}
@@ -9,8 +9,8 @@ use Rattle.std.proofs.lemmas.Option.{slice_get-get_or}
 use Rattle.change_board.specs.Collecting.{IsEndOf, first_undone, heir_of}
 use Rattle.change_board.specs.Entries.{Entry, config_of}
 use Rattle.change_board.specs.Records.{Adds}
-use Rattle.change_board.specs.Scans.{all_ports, is_idle_if_live, is_seen_at_rest, live_nodes, look_entry, ports_of, scan_entries}
-use Rattle.change_board.specs.Sights.{is_seen_done, seen_in, sight_entry}
+use Rattle.change_board.specs.Scans.{SightsAll, all_ports, is_idle_if_live, is_seen_at_rest, live_nodes, look_entry, ports_of, scan_entries}
+use Rattle.change_board.specs.Sights.{Sight, is_seen_done, seen_in, sight_entry}
 use Rattle.change_law.specs.Lawful.{EndsAs}
 use Rattle.change_law.specs.Opening.{fold_of_node}
 use Rattle.change_script.specs.declared.report.NodeLog.{NodeLog}
@@ -24,9 +24,9 @@ use Rattle.step_board.specs.Agreeing.{config_at}
 use Rattle.step_board.specs.Going.{BrokeOff, GaveTurns, ShowsSome}
 use Rattle.step_board.specs.Playing.{played}
 use Rattle.step_board.specs.RunFacts.{config_here, round_goes_on, rounds_play}
-use Rattle.step_board.specs.Seeing.{first_undone_in, found_all, sights_of}
+use Rattle.step_board.specs.Seeing.{first_undone_in, found_all, sight_of, sights_of}
 use Rattle.step_board.specs.Standing.{AreLogs, StandsBehind, StandsFor}
-use Rattle.step_board.proofs.SeeingLemmas.{all_agree, find_agree, log_there, looks_at_all, looks_seen, none_left, seen_done, seen_state, sighted_at, sights_seen}
+use Rattle.step_board.proofs.SeeingLaws.{all_agree, find_agree, log_there, looks_at_all, looks_seen, none_left, seen_done, seen_state, sighted_at, sights_seen}
 use Rattle.step_board.proofs.StandingLemmas.{AreSeen, scan_adds, seen_both}
 
 is_none_by : (o : Option ℕ) (b : Bool) → is_some o ≡ not b → b ≡ is_none o
@@ -34,6 +34,10 @@ is_none_by None true h = refl
 is_none_by None false h = h
 is_none_by (Some n) true h = h
 is_none_by (Some n) false h = refl
+
+slots_sighted : (logs : List (List Event)) (ns : List ℕ) → map (λ (x : Sight). x.slot) (map (sight_of logs) ns) ≡ ns
+slots_sighted logs [] = refl
+slots_sighted logs (n ∷ ns) = ap (λ ks. n ∷ ks) (slots_sighted logs ns)
 
 module _ {B : Type 0} (S : B → World → Type 0) where
   pub some_after : {E : Type 0} (a b : B) (begins : Bool) (r : Result Bool E) → IfOk r (λ moved. GaveTurns S a b begins moved) → OnErr r (BrokeOff S a b) → ShowsSome S a → ShowsSome S b
@@ -69,6 +73,13 @@ module _ {B : Type 0} (S : B → World → Type 0) where
 
     log_length : (b : B) (w : World) → S b w → length (logs b) ≡ length w.machine.config.slots
     log_length b w s = ap length (logs_are b w s) ∙ length-map-range_with_len (λ n. done_by n w.events) 0 (length w.machine.config.slots)
+
+    pub sighted_all : (a b : B) (begins moved : Bool) → GaveTurns S a b begins moved → (r : List Entry) → StandsFor S a r → SightsAll (config_of r) (sights_of (logs b))
+    sighted_all a b begins moved gave r h =
+        let v = (round begins (played r)).world in
+        let s = (gave (played r) h.shows).shows in
+        slots_sighted (logs b) (range_with_len 0 (length (logs b)))
+        ∙ ap (range_with_len 0) (log_length b v s ∙ ap (λ (t : State). length t.config.slots) (machine_is b v s) ∙ ap (λ c. length c.slots) (sym (config_behind a b begins moved gave r h)))
 
     log_at_slot : (b : B) (w : World) → S b w → (k : ℕ) → k < length w.machine.config.slots → slice_index_or (logs b) k [] ≡ done_by k w.events
     log_at_slot b w s k below = log_there w (logs b) (logs_are b w s) k (omega (arith, below, log_length b w s))

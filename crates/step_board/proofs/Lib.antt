@@ -2,7 +2,7 @@ mod TurnLemmas
 mod HeirLemmas
 mod StandingLemmas
 mod LookLemmas
-mod SeeingLemmas
+pub mod SeeingLaws
 mod LogLemmas
 mod BoardLemmas
 mod TableLemmas

@@ -58,7 +58,7 @@ module _ (w : World) (logs : List (List Event)) (is : logs ≡ logs_of w.events 
   pub sights_seen : AreSeen w (map sight_entry (sights_of logs))
   sights_seen = sights_from w logs 0 (length logs) (λ k below. log_there k (omega (arith, below)))
 
-find_in_range : (a n k : ℕ) → a ≤ k → k < a + n → find (λ x. x == k) (range_with_len a n) ≡ Some k
+pub find_in_range : (a n k : ℕ) → a ≤ k → k < a + n → find (λ x. x == k) (range_with_len a n) ≡ Some k
 find_in_range a zero k low high = absurd (omega (arith, low, high))
 find_in_range a (suc n) k low high = ⊎_elim
     (λ (same : a ≡ k). rw (eq-eqb a k same) (ap Some same))

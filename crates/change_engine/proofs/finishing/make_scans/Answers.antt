@@ -26,16 +26,16 @@ loop-made-preserved g c =
     let d = c.scan.new.self in
     let s = c.in_ok-seen.seen in
     let x = c.in_ok-seen.ensures.ok in
-    let w = seen_by S b d s x in
+    let w = seen_by S g.B.Board.alone b d s x in
     record {
       room = c.in_ok-seen.ensures.room ∙ inv.room;
       scans = inv.scans ++ w ∷ [];
       all_scans = length-append inv.scans (w ∷ []) ∙ ap (λ k. k + 1) inv.all_scans;
-      are_scans = scans_are S a b d inv.scans s x inv.adds inv.are_scans;
+      are_scans = scans_are S g.B.Board.alone a b d inv.scans s x inv.adds inv.are_scans;
       go_on = all_push (GoesOn g.B.Board.alone) inv.scans w inv.go_on (ap (λ alone. is_last alone s) (sym c.is_alone-alone.ensures) ∙ sym c.if-is_last.ensures);
       rounds_are = ap (λ k. k + c.count_of-rounds.result) inv.rounds_are ∙ ap (λ k. rounds_in inv.scans + k) c.count_of-rounds.ensures.value ∙ sym (rounds_pushed inv.scans w);
       few = omega (arith, inv.few, c.count_of-rounds.ensures.few);
-      adds = scans_add S a b d inv.scans s x inv.adds;
+      adds = scans_add S g.B.Board.alone a b d inv.scans s x inv.adds;
     }
 
 pub returns-then-is_last-clause-ok : goal.returns-then-is_last-clause-ok
@@ -47,15 +47,15 @@ returns-then-is_last-clause-ok g c =
     let d = c.scan.new.self in
     let s = c.in_ok-seen.seen in
     let x = c.in_ok-seen.ensures.ok in
-    let w = seen_by S b d s x in
+    let w = seen_by S g.B.Board.alone b d s x in
     let long : length (inv.scans ++ w ∷ []) ≡ c.loop-made._made + 1 = length-append inv.scans (w ∷ []) ∙ ap (λ k. k + 1) inv.all_scans in
     record {
       scans = inv.scans ++ w ∷ [];
       few = omega (arith, long, c.loop-made-test);
-      are_scans = scans_are S a b d inv.scans s x inv.adds inv.are_scans;
+      are_scans = scans_are S g.B.Board.alone a b d inv.scans s x inv.adds inv.are_scans;
       rounds_are = ap (λ k. k + c.count_of-rounds.result) inv.rounds_are ∙ ap (λ k. rounds_in inv.scans + k) c.count_of-rounds.ensures.value ∙ sym (rounds_pushed inv.scans w);
       ends = inl (record { before = inv.scans; final = w; parts = refl; go_on = inv.go_on; ends = ap (λ alone. is_last alone s) (sym c.is_alone-alone.ensures) ∙ sym c.if-is_last.ensures });
-      adds = scans_add S a b d inv.scans s x inv.adds;
+      adds = scans_add S g.B.Board.alone a b d inv.scans s x inv.adds;
     }
 
 pub returns-clause-ok : goal.returns-clause-ok

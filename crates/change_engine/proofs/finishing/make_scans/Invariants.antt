@@ -10,7 +10,7 @@ invariant-loop-made g l = record {
   room : g.B.Board.room l.board ≡ g.B.Board.room l.fn.board;
   scans : List Seen;
   all_scans : length scans ≡ l._made;
-  are_scans : (r : List Entry) → g.B.Board.stands_for l.fn.board r → AllByRecursion (IsScanIn (config_of r)) scans;
+  are_scans : (r : List Entry) → g.B.Board.stands_for l.fn.board r → AllByRecursion (IsScanIn g.B.Board.alone (config_of r)) scans;
   go_on : AllByRecursion (GoesOn g.B.Board.alone) scans;
   rounds_are : l.rounds ≡ rounds_in scans;
   few : l.rounds ≤ l._made;

@@ -17,7 +17,7 @@ on_err f (Err e) h = f h
 pub look_at-requires : goal.look_at-requires
 look_at-requires g c =
     let q = c.requires.made in
-    let m = made_scanned g.B.Board.stands_for c.args.board.now c.scan.new.self (root_ports c.args.left.now) c.in_ok-scan.field-0 q.0 q.1 q.2 c.in_ok-scan.ensures.ok in
+    let m = made_scanned g.B.Board.stands_for g.B.Board.alone c.args.board.now c.scan.new.self (root_ports c.args.left.now) c.in_ok-scan.field-0 q.0 q.1 q.2 c.in_ok-scan.ensures.ok in
     record { made = (m.0, m.1, subst (AreMadePorts (config_of m.0)) (sym (c.deref.ensures.value ∙ c.in_ok-ports.ensures)) m.2) }
 
 pub returns-clause-ok : goal.returns-clause-ok
@@ -30,7 +30,7 @@ returns-clause-ok g c =
     let j = c.look_at.new.history.items in
     let left = c.args.left.now in
     in_ok (λ v. Passed S b d i j c.deref.result.now v.items) (λ v. Rounded S a d i j left v.items)
-    (λ v w. rounded S a b d i j left v.items c.in_ok-scan.field-0 c.in_ok-scan.ensures.ok
+    (λ v w. rounded S g.B.Board.alone a b d i j left v.items c.in_ok-scan.field-0 c.in_ok-scan.ensures.ok
     (subst (λ ps. Passed S b d i j ps v.items) (c.deref.ensures.value ∙ c.in_ok-ports.ensures) w)) c.look_at.result c.look_at.ensures.ok
 
 pub returns-in_err-scan-clause-err : goal.returns-in_err-scan-clause-err

@@ -28,11 +28,11 @@ loop-scan-preserved g c =
     let d = c.scan.new.self in
     let s = c.in_ok-seen.seen in
     let x = c.in_ok-seen.ensures.ok in
-    let w = seen_by S b d s x in
+    let w = seen_by S g.B.Board.alone b d s x in
     record {
       room = c.in_ok-seen.ensures.room ∙ inv.room;
       scans = inv.scans ++ w ∷ [];
-      are_scans = scans_are S a b d inv.scans s x inv.adds inv.are_scans;
+      are_scans = scans_are S g.B.Board.alone a b d inv.scans s x inv.adds inv.are_scans;
       go_on = (each_pushed (RunsOn alone c.args.k c.args.shown) inv.scans w).1 (
         inv.go_on,
         run_on alone c.args.k c.args.shown c.loop-scan.ended inv.scans inv.ended_is
@@ -40,7 +40,7 @@ loop-scan-preserved g c =
       );
       not_out = out_pushed alone inv.scans w ∙ ap (λ one. is_run_out one s) (sym c.is_alone-alone.ensures) ∙ sym c.is_run_out.ensures ∙ c.if-is_run_out.false;
       ended_is = c.saturating_sub-ended.ensures ∙ sym (since_pushed c.args.shown inv.scans w);
-      adds = scans_add S a b d inv.scans s x inv.adds;
+      adds = scans_add S g.B.Board.alone a b d inv.scans s x inv.adds;
     }
 
 pub returns-then-from-ended-clause-ok : goal.returns-then-from-ended-clause-ok
@@ -66,10 +66,10 @@ returns-then-is_run_out-clause-ok g c =
     let d = c.scan.new.self in
     let s = c.in_ok-seen.seen in
     let x = c.in_ok-seen.ensures.ok in
-    let w = seen_by S b d s x in
+    let w = seen_by S g.B.Board.alone b d s x in
     record {
       scans = inv.scans ++ w ∷ [];
-      are_scans = scans_are S a b d inv.scans s x inv.adds inv.are_scans;
+      are_scans = scans_are S g.B.Board.alone a b d inv.scans s x inv.adds inv.are_scans;
       go_on = (each_pushed (RunsOn alone c.args.k c.args.shown) inv.scans w).1 (
         inv.go_on,
         run_on alone c.args.k c.args.shown c.loop-scan.ended inv.scans inv.ended_is
@@ -78,7 +78,7 @@ returns-then-is_run_out-clause-ok g c =
       ends = run_out alone c.args.k c.args.shown (inv.scans ++ w ∷ [])
           (out_pushed alone inv.scans w ∙ ap (λ one. is_run_out one s) (sym c.is_alone-alone.ensures) ∙ sym c.is_run_out.ensures ∙ c.if-is_run_out.true);
       ended_is = c.saturating_sub-ended.ensures ∙ sym (since_pushed c.args.shown inv.scans w);
-      adds = scans_add S a b d inv.scans s x inv.adds;
+      adds = scans_add S g.B.Board.alone a b d inv.scans s x inv.adds;
     }
 
 pub returns-in_err-seen-clause-err : goal.returns-in_err-seen-clause-err

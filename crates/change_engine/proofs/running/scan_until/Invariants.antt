@@ -11,7 +11,7 @@ abbrev pub invariant-loop-scan : goal.invariant-loop-scan
 invariant-loop-scan g l = record {
   room : g.B.Board.room l.board ≡ g.B.Board.room l.fn.board;
   scans : List Seen;
-  are_scans : (r : List Entry) → g.B.Board.stands_for l.fn.board r → AllByRecursion (IsScanIn (config_of r)) scans;
+  are_scans : (r : List Entry) → g.B.Board.stands_for l.fn.board r → AllByRecursion (IsScanIn g.B.Board.alone (config_of r)) scans;
   go_on : Each (RunsOn g.B.Board.alone l.k l.shown) scans;
   not_out : is_out_after g.B.Board.alone scans ≡ false;
   ended_is : l.ended ≡ ended_since l.shown scans;

@@ -1,5 +1,5 @@
 use Rattle.step_board.specs.Seeing.{found_all, sights_of}
-use Rattle.step_board.proofs.BoardLemmas.{looked_at_all, scan_entries_added, seen_at_rest, some_after}
+use Rattle.step_board.proofs.BoardLemmas.{looked_at_all, scan_entries_added, seen_at_rest, sighted_all, some_after}
 use Rattle.step_board.proofs.standing.StepBoardBoard.scan.Goals as goal
 
 pub invariant_of-self : goal.invariant_of-self
@@ -24,6 +24,7 @@ returns-clause-ok g c =
       sights = sights_of (logs new);
       found = found_all (machine new);
       adds = scan_entries_added S machine is reached folds logs logs_are old new c.args.begins moved gave;
+      all_sighted = λ alone. sighted_all S machine is reached folds logs logs_are old new c.args.begins moved gave;
       at_ports = looked_at_all S machine is reached folds logs logs_are old new c.args.begins moved gave;
       done = seen_at_rest S machine is reached folds logs logs_are old new c.args.begins moved ports.result.idle c.is_none.result c.first_undone-undone.result gave c.is_none.ensures
           c.first_undone-undone.ensures ports.ensures.idle;
