@@ -18,3 +18,6 @@ mod ListLemmas
 mod PlanInLemmas
 mod PrepareLemmas
 mod ListLoops
+mod LookupLemmas
+mod RangeLemmas
+mod Rooting

@@ -84,3 +84,8 @@ plan_in old new moves plan old_graph new_graph h = record {
   link = all_if (AreEndsIn new) plan.link (λ l there. ends_low new new_graph l (Selects-part (λ l. ¬ IsKeptLink new old l) new.links plan.link h.steps.link l there));
   moves = all_if (λ (s : Shift). s.old < length old.nodes) plan.moves (λ s there. let x = (h.moves.sound s there).leads.removed in slice_get_within old.nodes s.old x.node x.here);
 }
+
+-- a move leads to a node that is created
+pub moves_in : (old new : Graph) (moves : List Move) (plan : Plan) → IsPlanOf old new moves plan → All (λ (s : Shift). s.new < length new.nodes) plan.moves
+moves_in old new moves plan h =
+    all_if (λ (s : Shift). s.new < length new.nodes) plan.moves (λ s there. let x = (h.moves.sound s there).leads.created in slice_get_within new.nodes s.new x.node x.here)

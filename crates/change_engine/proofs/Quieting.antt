@@ -25,7 +25,7 @@ use Rattle.change_engine.proofs.Noting.{passivated_noted}
 use Rattle.change_engine.proofs.Passing.{close_entries, closed_links, closes_events, config_over, live_same, look_entries, looks_quiet, round_quiet, same_here}
 
 -- the events of a passivation are its closes
-rounds_quiet : (rounds : List Round) → events_in (entries (flat_map round_items rounds)) ≡ []
+pub rounds_quiet : (rounds : List Round) → events_in (entries (flat_map round_items rounds)) ≡ []
 rounds_quiet [] = refl
 rounds_quiet (w ∷ rounds) =
     ap (λ t. events_in (entries t)) (flat_map-cons round_items w rounds)

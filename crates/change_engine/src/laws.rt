@@ -1,6 +1,6 @@
 //! Laws of transcripts.
 
-ghost use Rattle.std.specs.Prelude.{◌≡◌, ◌+◌, ℕ, List, [], ◌++◌, IsTrue, ◌≤◌, length};
+ghost use Rattle.std.specs.Prelude.{◌≡◌, ◌+◌, ℕ, true, false, List, [], ◌∷◌, ◌++◌, IsTrue, ◌≤◌, length};
 ghost use Rattle.change_plan.specs.Plans.{IsPlanOf};
 ghost use Rattle.change_plan.specs.declared.plan_data.Move.{Move};
 ghost use Rattle.change_plan.specs.declared.plan_data.Plan.{Plan};
@@ -12,8 +12,11 @@ ghost use Rattle.config_graph.specs.declared.TheConstants.{MAX_NODES, MAX_PORTS}
 ghost use Rattle.quiescence_laws.specs.Starts.{start_of};
 ghost use Rattle.plan_laws.specs.Commit.{commit_events, ports_to_close};
 ghost use Rattle.quiesce_core.specs.Live.{IsGraphOf};
-ghost use Rattle.quiesce_core.specs.State.{Configuration};
-ghost use Rattle.change_board.specs.Entries.{Entry, config_of};
+ghost use Rattle.quiesce_core.specs.State.{Configuration, gate};
+ghost use Rattle.gate_word.specs.Words.{has_root, unpack};
+ghost use Rattle.change_board.specs.Entries.{Entry, config_of, looked};
+ghost use Rattle.change_board.specs.Looks.{is_drained_word};
+ghost use Rattle.change_board.specs.Scans.{Found};
 ghost use Rattle.change_board.specs.Notes.{is_noted};
 ghost use Rattle.change_board.specs.Records.{IsRecord};
 ghost use Rattle.change_board.specs.Steps.{AreWithin, MayDoAll, Room};
@@ -23,7 +26,7 @@ ghost use Rattle.change_engine.specs.Lists.{closed_by, commit_by, places_after, 
 ghost use Rattle.change_engine.specs.declared.layout.Layout.{Layout};
 ghost use Rattle.change_board.specs.Transcripts.{entries};
 ghost use Rattle.change_engine.specs.Planning.{MayCarryOut};
-ghost use Rattle.change_engine.specs.Passivating.{IsPassivation, Passivation, left_after, passivation_items};
+ghost use Rattle.change_engine.specs.Passivating.{AreLivePorts, IsPassivation, Passivation, Round, left_after, passivation_items};
 
 use commit_laws::starts_can_not_fail;
 use plan_laws::{commits_can_not_fail, commits_leave_the_new_graph};
@@ -34,6 +37,21 @@ pub fn passivated_ports_are_noted()
     ensures { (r : List Entry) (ports : List ℕ) (rounds p : ℕ) (how : Passivation) → IsPassivation ports rounds how
         → left_after how.first how.rounds ≡ [] → In ports p
         → IsTrue (is_noted (r ++ entries (passivation_items ports how)) p) }
+{}
+
+/// A look at a port that is closed loads a word with a root, where it doesn't show the port drained; so do a passivation's
+/// looks. So what is left of a passivation are roots, of the serials that its last looks loaded.
+pub fn looks_behind_closes_find_roots()
+    ensures closed { (before after : List Entry) (p w : ℕ) → IsRecord (before ++ looked p w ∷ after)
+        → (gate (config_of before) p).closed ≡ true → is_drained_word w ≡ false → IsTrue (has_root (unpack w)) }
+    ensures first { (r : List Entry) (ports : List ℕ) (within : ℕ) (how : Passivation) (f : Found)
+        → IsRecord (r ++ entries (passivation_items ports how)) → AreLivePorts (config_of r) ports
+        → IsPassivation ports within how → In how.first f → is_drained_word f.word ≡ false
+        → IsTrue (has_root (unpack f.word)) }
+    ensures rounds { (r : List Entry) (ports : List ℕ) (within : ℕ) (how : Passivation) (w : Round) (f : Found)
+        → IsRecord (r ++ entries (passivation_items ports how)) → AreLivePorts (config_of r) ports
+        → IsPassivation ports within how → In how.rounds w → In w.found f → is_drained_word f.word ≡ false
+        → IsTrue (has_root (unpack f.word)) }
 {}
 
 /// Each event of a sound graph's start may be done, after those before it, on a board for which nothing is recorded.

@@ -10,7 +10,9 @@ mod launching;
 mod laws;
 mod layout;
 mod lists;
+mod lookups;
 mod passivating;
+mod plan_index;
 mod preparing;
 mod running;
 mod starting;
@@ -22,8 +24,8 @@ pub use draining::PassError;
 pub use engine::{Change, Engine};
 pub use finishing::finish;
 pub use laws::{
-    commits_have_room, layouts_tell_commits, passivated_ports_are_noted, plans_may_be_carried_out,
-    starts_may_be_done,
+    commits_have_room, layouts_tell_commits, looks_behind_closes_find_roots,
+    passivated_ports_are_noted, plans_may_be_carried_out, starts_may_be_done,
 };
 pub use layout::Layout;
 pub use passivating::{LeftRoot, passivate};

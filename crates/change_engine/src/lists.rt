@@ -1,103 +1,26 @@
 //! The lists of a plan on a board: what is closed for it, what its commit does, and what is made after it.
 
-ghost use Rattle.std.specs.Prelude.{◌≡◌, ◌^◌, ◌<◌, ◌+◌, ◌==◌, ◌++◌, ◌∷◌, [], filter, filter_map, find, length, map, position, option_and_then, option_to_list, All, Some, IfOk, IfSome, OnOk};
-ghost use Rattle.std.specs.List.{list_any, range_with_len};
-ghost use Rattle.change_plan.specs.declared.plan_data.Shift.{Shift as PureShift};
-ghost use Rattle.change_engine.specs.Layouts.{is_among, is_place, place_at};
+ghost use Rattle.std.specs.Prelude.{◌≡◌, ◌^◌, ◌<◌, ◌+◌, ◌++◌, ◌∷◌, [], filter, filter_map, find, length, map, nat_lt, option_and_then, option_to_list, true, All, IfOk, IsTrue, OnOk};
+ghost use Rattle.std.specs.List.{range_with_len};
+ghost use Rattle.std.specs.Option.{option_map_or};
+ghost use Rattle.change_engine.specs.Layouts.{is_among, place_at};
 ghost use Rattle.change_engine.specs.Lists as lists;
 ghost use Rattle.config_graph.specs.Kinds.{row};
 ghost use Rattle.plan_laws.specs.Commit.{node_path};
 ghost use Rattle.quiesce_core.specs.declared.event.Event.TheVariants as event;
 
 use crate::layout::Layout;
-use change_plan::{Plan, Shift};
+use crate::lookups::SlotIndex;
+use crate::plan_index::PlanIndex;
 use config_graph::{Graph, Kind, Link, NoMemory, Port};
 use quiesce_core::Event;
 use std::alloc::Global;
 
-fn has(list: &[u32], place: u32) -> bool
-    ensures { result ≡ list_any (λ i. place == i) list.now }
-{
-    list.iter().any(|other| place == *other)
-}
-
-/// Whether a place is one of these.
-fn is_among(list: &[u32], place: Option<u32>) -> bool
-    ensures { result ≡ is_among list.now place }
-{
-    match place {
-        Some(place) => has(list, place),
-        None => false,
-    }
-}
-
-fn is_place(place: u32, other: Option<u32>) -> bool
-    ensures { result ≡ is_place place other }
-{
-    match other {
-        Some(other) => other == place,
-        None => false,
-    }
-}
-
-fn position_of(places: &[Option<u32>], place: u32) -> Option<usize>
-    ensures position { result ≡ position (is_place place) places.now }
-    ensures within { IfSome result (λ n. n < length places.now) }
-{
-    places.iter().position(|other| is_place(place, *other))
-}
-
-/// The slot of the node at a place.
-fn slot_of(places: &[Option<u32>], place: u32) -> Option<u32>
-    requires few { length places.now < 2 ^ 32 }
-    ensures { result ≡ lists.slot_of places.now place }
-{
-    match position_of(places, place) {
-        Some(slot) => Some(slot as u32),
-        None => None,
-    }
-}
-
-/// Whether a port of the node at this place is that requirement of the other's node.
-fn is_port_at(place: Option<u32>, made: Port, other: Port) -> bool
-    ensures { result ≡ lists.is_port_at place made other }
-{
-    is_place(other.node, place) && made.require == other.require
-}
-
-fn has_port(ports: &[Port], place: Option<u32>, made: Port) -> bool
-    ensures { result ≡ list_any (lists.is_port_at place made) ports.now }
-{
-    ports.iter().any(|other| is_port_at(place, made, *other))
-}
-
-fn shift_to(moves: &[Shift], place: u32) -> Option<Shift>
-    ensures { result ≡ find (λ (s : PureShift). s.new == place) moves.now }
-{
-    moves.iter().copied().find(|shift| shift.new == place)
-}
-
-/// Whether a link begins at a port of the node at this place.
-fn is_link_at(place: Option<u32>, made: Port, link: Link) -> bool
-    ensures { result ≡ lists.is_link_at place made link }
-{
-    is_place(link.from, place) && made.require == link.require
-}
-
-fn link_from(link: &[Link], place: Option<u32>, made: Port) -> Option<Link>
-    ensures { result ≡ find (lists.is_link_at place made) link.now }
-{
-    link.iter()
-        .copied()
-        .find(|new| is_link_at(place, made, *new))
-}
-
 /// The link that a port gets, to the slot of the node at which it ends.
-fn link_to(places: &[Option<u32>], port: u32, link: Link) -> Option<Event>
-    requires few { length places.now < 2 ^ 32 }
-    ensures { result ≡ lists.link_to places.now port link }
+fn link_to(slots: &SlotIndex<'_>, port: u32, link: Link) -> Option<Event>
+    ensures { result ≡ lists.link_to slots.now port link }
 {
-    match slot_of(places, link.to) {
+    match slots.slot(link.to) {
         Some(node) => Some(Event::Link {
             port,
             node,
@@ -117,12 +40,22 @@ fn path_of(graph: &Graph, place: u32) -> &[u8]
     }
 }
 
+/// The slot of the node whose state the one at a place of the new graph takes over.
+fn source(slots: &SlotIndex<'_>, plan: &PlanIndex<'_>, place: u32) -> Option<u32>
+    ensures { result ≡ lists.source_by slots.now plan.now.moves place }
+{
+    match plan.source(place) {
+        Some(old) => slots.slot(old),
+        None => None,
+    }
+}
+
 /// Where the node at a place of the old graph stands in the new one, while it isn't removed.
-fn place_after(old: &Graph, new: &Graph, remove: &[u32], place: Option<u32>) -> Option<u32>
-    ensures { result ≡ lists.place_after old.now new.now remove.now place }
+fn place_after(old: &Graph, new: &Graph, plan: &PlanIndex<'_>, place: Option<u32>) -> Option<u32>
+    ensures { result ≡ lists.place_after old.now new.now plan.now.remove place }
 {
     let stood = place?;
-    if is_among(remove, place) {
+    if plan.removes(place) {
         return None;
     }
     new.index_of(path_of(old, stood))
@@ -155,36 +88,45 @@ impl Layout {
         self.place(made.node)
     }
 
-    /// Adds the port where its owner is at one of these places.
-    fn push_if_among(&self, ports: &mut Vec<u32>, places: &[u32], port: u32) -> Result<(), NoMemory>
+    /// Adds the port where its owner is frozen.
+    fn push_if_frozen(
+        &self,
+        ports: &mut Vec<u32>,
+        plan: &PlanIndex<'_>,
+        port: u32,
+    ) -> Result<(), NoMemory>
         ensures { OnOk result (ports.new.items ≡ ports.old.items
-            ++ filter (λ p. is_among places.now (lists.owner_place self.now.places.items self.now.ports.items p)) (port ∷ [])) }
+            ++ filter (λ p. is_among plan.now.freeze (lists.owner_place self.now.places.items self.now.ports.items p)) (port ∷ [])) }
     {
-        if is_among(places, self.owner_place(port)) {
+        if plan.freezes(self.owner_place(port)) {
             ports.push(port)?;
         }
         Ok(())
     }
 
-    /// The ports of the nodes at these places, in order.
-    pub(crate) fn ports_at(&self, alloc: Global, places: &[u32]) -> Result<Vec<u32>, NoMemory>
+    /// The ports of the nodes that a plan freezes, in order.
+    pub(crate) fn list_closed(
+        &self,
+        alloc: Global,
+        plan: &PlanIndex<'_>,
+    ) -> Result<Vec<u32>, NoMemory>
         requires few { length self.now.ports.items < 2 ^ 32 }
         ensures { IfOk result
-            (λ list. list.items ≡ lists.closed_by self.now.places.items self.now.ports.items places.now) }
+            (λ list. list.items ≡ lists.closed_by self.now.places.items self.now.ports.items plan.now.freeze) }
     {
         let mut ports = Vec::new(alloc);
         for port in 0..self.port_count() {
-            self.push_if_among(&mut ports, places, port)?;
+            self.push_if_frozen(&mut ports, plan, port)?;
         }
         Ok(ports)
     }
 
     /// Whether a port is one that a plan unlinks.
-    fn is_unlinked(&self, unlink: &[Port], port: u32) -> bool
-        ensures { result ≡ lists.is_unlinked_at self.now.places.items self.now.ports.items unlink.now port }
+    fn is_unlinked(&self, plan: &PlanIndex<'_>, port: u32) -> bool
+        ensures { result ≡ lists.is_unlinked_at self.now.places.items self.now.ports.items plan.now.unlink port }
     {
         match self.ports.get(port as usize) {
-            Some(made) => has_port(unlink, self.place(made.node), *made),
+            Some(made) => plan.unlinks(self.place(made.node), *made),
             None => false,
         }
     }
@@ -192,25 +134,25 @@ impl Layout {
     fn push_if_unlinked(
         &self,
         events: &mut Vec<Event>,
-        unlink: &[Port],
+        plan: &PlanIndex<'_>,
         port: u32,
     ) -> Result<(), NoMemory>
         ensures { OnOk result (events.new.items ≡ events.old.items ++ map event.Unlink
-            (filter (lists.is_unlinked_at self.now.places.items self.now.ports.items unlink.now) (port ∷ []))) }
+            (filter (lists.is_unlinked_at self.now.places.items self.now.ports.items plan.now.unlink) (port ∷ []))) }
     {
-        if self.is_unlinked(unlink, port) {
+        if self.is_unlinked(plan, port) {
             events.push(Event::Unlink { port })?;
         }
         Ok(())
     }
 
-    fn push_unlinks(&self, events: &mut Vec<Event>, unlink: &[Port]) -> Result<(), NoMemory>
+    fn push_unlinks(&self, events: &mut Vec<Event>, plan: &PlanIndex<'_>) -> Result<(), NoMemory>
         requires few { length self.now.ports.items < 2 ^ 32 }
         ensures { OnOk result (events.new.items ≡ events.old.items
-            ++ map event.Unlink (lists.unlinks_by self.now.places.items self.now.ports.items unlink.now)) }
+            ++ map event.Unlink (lists.unlinks_by self.now.places.items self.now.ports.items plan.now.unlink)) }
     {
         for port in 0..self.port_count() {
-            self.push_if_unlinked(events, unlink, port)?;
+            self.push_if_unlinked(events, plan, port)?;
         }
         Ok(())
     }
@@ -226,76 +168,94 @@ impl Layout {
     fn push_if_removed(
         &self,
         events: &mut Vec<Event>,
-        remove: &[u32],
+        plan: &PlanIndex<'_>,
         node: u32,
     ) -> Result<(), NoMemory>
         ensures { OnOk result (events.new.items ≡ events.old.items ++ map event.Remove
-            (filter (λ n. is_among remove.now (place_at self.now.places.items n)) (node ∷ []))) }
+            (filter (λ n. is_among plan.now.remove (place_at self.now.places.items n)) (node ∷ []))) }
     {
-        if is_among(remove, self.place(node)) {
+        if plan.removes(self.place(node)) {
             events.push(Event::Remove { node })?;
         }
         Ok(())
     }
 
-    fn push_removes(&self, events: &mut Vec<Event>, remove: &[u32]) -> Result<(), NoMemory>
+    fn push_removes(&self, events: &mut Vec<Event>, plan: &PlanIndex<'_>) -> Result<(), NoMemory>
         requires few { length self.now.places.items < 2 ^ 32 }
         ensures { OnOk result (events.new.items ≡ events.old.items
-            ++ map event.Remove (lists.removes_by self.now.places.items remove.now)) }
+            ++ map event.Remove (lists.removes_by self.now.places.items plan.now.remove)) }
     {
         for node in 0..self.slot_count() {
-            self.push_if_removed(events, remove, node)?;
+            self.push_if_removed(events, plan, node)?;
         }
         Ok(())
     }
 
-    /// The slot of the node whose state the one at a place of the new graph takes over.
-    fn source(&self, moves: &[Shift], place: u32) -> Option<u32>
-        requires few { length self.now.places.items < 2 ^ 32 }
-        ensures { result ≡ lists.source_by self.now.places.items moves.now place }
-    {
-        match shift_to(moves, place) {
-            Some(shift) => slot_of(&self.places, shift.old),
-            None => None,
-        }
-    }
-
-    fn push_makes(&self, events: &mut Vec<Event>, new: &Graph, plan: &Plan) -> Result<(), NoMemory>
+    fn push_makes(
+        &self,
+        events: &mut Vec<Event>,
+        slots: &SlotIndex<'_>,
+        new: &Graph,
+        plan: &PlanIndex<'_>,
+    ) -> Result<(), NoMemory>
         requires few { length self.now.places.items + length plan.now.create < 2 ^ 32 }
         requires within { All (λ j. j < length new.now.nodes) plan.now.create }
         ensures { OnOk result (events.new.items ≡ events.old.items
-            ++ lists.makes_by self.now.places.items plan.now.moves new.now (length self.now.places.items) plan.now.create) }
+            ++ lists.makes_by slots.now plan.now.moves new.now (length self.now.places.items) plan.now.create) }
     {
-        let create = plan.create.items();
+        let create = plan.create();
         for index in 0..create.len() {
             let place = create[index];
             events.push(Event::Make {
                 slot: self.slot_count() + index as u32,
                 node: new.node(place).try_clone()?,
-                from: self.source(plan.moves.items(), place),
+                from: source(slots, plan, place),
             })?;
         }
         Ok(())
     }
 
+    fn push_all_makes(
+        &self,
+        events: &mut Vec<Event>,
+        count: u32,
+        new: &Graph,
+        plan: &PlanIndex<'_>,
+    ) -> Result<(), NoMemory>
+        requires few { length self.now.places.items + length plan.now.create < 2 ^ 32 }
+        requires within { All (λ j. j < length new.now.nodes) plan.now.create }
+        requires places { All (λ place. IsTrue (option_map_or (λ i. nat_lt i count) place true)) self.now.places.items }
+        ensures { OnOk result (events.new.items ≡ events.old.items
+            ++ lists.makes_by self.now.places.items plan.now.moves new.now (length self.now.places.items) plan.now.create) }
+    {
+        let slots = SlotIndex::of(*events.allocator(), count, &self.places)?;
+        self.push_makes(events, &slots, new, plan)
+    }
+
     /// The link that begins at a port.
-    fn link_at(&self, link: &[Link], port: u32) -> Option<Event>
-        requires few { length self.now.places.items < 2 ^ 32 }
-        ensures { result ≡ lists.link_at self.now.places.items self.now.ports.items link.now port }
+    fn link_at(&self, slots: &SlotIndex<'_>, plan: &PlanIndex<'_>, port: u32) -> Option<Event>
+        requires { slots.now ≡ self.now.places.items }
+        ensures { result ≡ lists.link_at self.now.places.items self.now.ports.items plan.now.link port }
     {
         match self.ports.get(port as usize) {
-            Some(made) => self.link_of(link, *made, port),
+            Some(made) => self.link_of(slots, plan, *made, port),
             None => None,
         }
     }
 
-    fn link_of(&self, link: &[Link], made: Port, port: u32) -> Option<Event>
-        requires few { length self.now.places.items < 2 ^ 32 }
+    fn link_of(
+        &self,
+        slots: &SlotIndex<'_>,
+        plan: &PlanIndex<'_>,
+        made: Port,
+        port: u32,
+    ) -> Option<Event>
+        requires { slots.now ≡ self.now.places.items }
         ensures { result ≡ option_and_then (lists.link_to self.now.places.items port)
-            (find (lists.is_link_at (place_at self.now.places.items made.node) made) link.now) }
+            (find (lists.is_link_at (place_at self.now.places.items made.node) made) plan.now.link) }
     {
-        match link_from(link, self.place(made.node), made) {
-            Some(found) => link_to(&self.places, port, found),
+        match plan.link(self.place(made.node), made) {
+            Some(found) => link_to(slots, port, found),
             None => None,
         }
     }
@@ -303,46 +263,68 @@ impl Layout {
     fn push_link_at(
         &self,
         events: &mut Vec<Event>,
-        link: &[Link],
+        slots: &SlotIndex<'_>,
+        plan: &PlanIndex<'_>,
         port: u32,
     ) -> Result<(), NoMemory>
-        requires few { length self.now.places.items < 2 ^ 32 }
+        requires { slots.now ≡ self.now.places.items }
         ensures { OnOk result (events.new.items ≡ events.old.items
-            ++ option_to_list (lists.link_at self.now.places.items self.now.ports.items link.now port)) }
+            ++ option_to_list (lists.link_at self.now.places.items self.now.ports.items plan.now.link port)) }
     {
-        if let Some(event) = self.link_at(link, port) {
+        if let Some(event) = self.link_at(slots, plan, port) {
             events.push(event)?;
         }
         Ok(())
     }
 
-    fn push_links(&self, events: &mut Vec<Event>, link: &[Link]) -> Result<(), NoMemory>
-        requires few { length self.now.places.items < 2 ^ 32 }
+    fn push_links(
+        &self,
+        events: &mut Vec<Event>,
+        slots: &SlotIndex<'_>,
+        plan: &PlanIndex<'_>,
+    ) -> Result<(), NoMemory>
+        requires slots { slots.now ≡ self.now.places.items }
         requires few_ports { length self.now.ports.items < 2 ^ 32 }
         ensures { OnOk result (events.new.items ≡ events.old.items
-            ++ lists.links_by self.now.places.items self.now.ports.items link.now) }
+            ++ lists.links_by self.now.places.items self.now.ports.items plan.now.link) }
     {
         for port in 0..self.port_count() {
-            self.push_link_at(events, link, port)?;
+            self.push_link_at(events, slots, plan, port)?;
         }
         Ok(())
     }
 
+    fn push_all_links(
+        &self,
+        events: &mut Vec<Event>,
+        count: u32,
+        plan: &PlanIndex<'_>,
+    ) -> Result<(), NoMemory>
+        requires few { length self.now.places.items < 2 ^ 32 }
+        requires few_ports { length self.now.ports.items < 2 ^ 32 }
+        requires places { All (λ place. IsTrue (option_map_or (λ i. nat_lt i count) place true)) self.now.places.items }
+        ensures { OnOk result (events.new.items ≡ events.old.items
+            ++ lists.links_by self.now.places.items self.now.ports.items plan.now.link) }
+    {
+        let slots = SlotIndex::of(*events.allocator(), count, &self.places)?;
+        self.push_links(events, &slots, plan)
+    }
+
     /// Whether a port is reopened by the commit.
-    fn is_reopened(&self, plan: &Plan, port: u32) -> bool
+    fn is_reopened(&self, plan: &PlanIndex<'_>, port: u32) -> bool
         ensures { result ≡ lists.is_reopened_at self.now.places.items self.now.ports.items plan.now port }
     {
         if port as usize >= self.ports.len() {
             return true;
         }
         let place = self.owner_place(port);
-        is_among(plan.freeze.items(), place) && !is_among(plan.remove.items(), place)
+        plan.freezes(place) && !plan.removes(place)
     }
 
     fn push_if_reopened(
         &self,
         events: &mut Vec<Event>,
-        plan: &Plan,
+        plan: &PlanIndex<'_>,
         port: u32,
     ) -> Result<(), NoMemory>
         ensures { OnOk result (events.new.items ≡ events.old.items ++ map event.Reopen
@@ -354,7 +336,12 @@ impl Layout {
         Ok(())
     }
 
-    fn push_reopens(&self, events: &mut Vec<Event>, plan: &Plan, count: u32) -> Result<(), NoMemory>
+    fn push_reopens(
+        &self,
+        events: &mut Vec<Event>,
+        plan: &PlanIndex<'_>,
+        count: u32,
+    ) -> Result<(), NoMemory>
         ensures { OnOk result (events.new.items ≡ events.old.items
             ++ map event.Reopen (lists.reopens_by self.now.places.items self.now.ports.items plan.now count)) }
     {
@@ -370,28 +357,33 @@ impl Layout {
         alloc: Global,
         old: &Graph,
         new: &Graph,
-        plan: &Plan,
+        plan: &PlanIndex<'_>,
     ) -> Result<Vec<Option<u32>>, NoMemory>
         ensures { IfOk result (λ places. places.items ≡ lists.places_after old.now new.now plan.now self.now.places.items) }
     {
         let mut places = Vec::with_capacity(alloc, self.places.len())?;
         for place in &self.places {
-            places.push(place_after(old, new, plan.remove.items(), *place))?;
+            places.push(place_after(old, new, plan, *place))?;
         }
-        for place in plan.create.items() {
+        for place in plan.create() {
             places.push(Some(*place))?;
         }
         Ok(places)
     }
 
-    fn ports_after(&self, alloc: Global, new: &Graph, plan: &Plan) -> Result<Vec<Port>, NoMemory>
+    fn ports_after(
+        &self,
+        alloc: Global,
+        new: &Graph,
+        plan: &PlanIndex<'_>,
+    ) -> Result<Vec<Port>, NoMemory>
         requires few { length self.now.places.items + length plan.now.create < 2 ^ 32 }
         requires within { All (λ j. j < length new.now.nodes) plan.now.create }
         ensures { IfOk result (λ ports. ports.items ≡ lists.ports_after new.now plan.now self.now.places.items self.now.ports.items) }
     {
         let mut ports = Vec::with_capacity(alloc, self.ports.len())?;
         ports.extend_from_slice(&self.ports)?;
-        let create = plan.create.items();
+        let create = plan.create();
         for index in 0..create.len() {
             let kind = new.node(create[index]).kind;
             push_ports(&mut ports, self.slot_count() + index as u32, kind)?;
@@ -405,7 +397,7 @@ impl Layout {
         alloc: Global,
         old: &Graph,
         new: &Graph,
-        plan: &Plan,
+        plan: &PlanIndex<'_>,
     ) -> Result<Layout, NoMemory>
         requires few { length self.now.places.items + length plan.now.create < 2 ^ 32 }
         requires within { All (λ j. j < length new.now.nodes) plan.now.create }
@@ -426,11 +418,12 @@ impl Layout {
         alloc: Global,
         old: &Graph,
         new: &Graph,
-        plan: &Plan,
+        plan: &PlanIndex<'_>,
     ) -> Result<Commit, NoMemory>
         requires few { length self.now.places.items + length plan.now.create < 2 ^ 32 }
         requires few_ports { length (lists.ports_after new.now plan.now self.now.places.items self.now.ports.items) < 2 ^ 32 }
         requires within { All (λ j. j < length new.now.nodes) plan.now.create }
+        requires places { All (λ place. IsTrue (option_map_or (λ i. nat_lt i (length old.now.nodes)) place true)) self.now.places.items }
         ensures events { IfOk result (λ x. x.events.items
             ≡ lists.commit_by old.now new.now plan.now self.now.places.items self.now.ports.items) }
         ensures places { IfOk result
@@ -440,10 +433,10 @@ impl Layout {
     {
         let next = self.after(alloc, old, new, plan)?;
         let mut events = Vec::new(alloc);
-        self.push_unlinks(&mut events, plan.unlink.items())?;
-        self.push_removes(&mut events, plan.remove.items())?;
-        self.push_makes(&mut events, new, plan)?;
-        next.push_links(&mut events, plan.link.items())?;
+        self.push_unlinks(&mut events, plan)?;
+        self.push_removes(&mut events, plan)?;
+        self.push_all_makes(&mut events, old.node_count(), new, plan)?;
+        next.push_all_links(&mut events, new.node_count(), plan)?;
         self.push_reopens(&mut events, plan, next.port_count())?;
         Ok(Commit { events, next })
     }

@@ -11,6 +11,7 @@ ghost use Rattle.quiesce_core.specs.declared.event.Event.TheVariants as event;
 use crate::engine::Change;
 use crate::laws::layouts_tell_commits;
 use crate::layout::Layout;
+use crate::plan_index::PlanIndex;
 use crate::telling::push_lines;
 use change_plan::Plan;
 use change_script::HistoryLine;
@@ -55,8 +56,23 @@ pub(crate) fn list_change(
         × IsPlanned old.now new.now moves plan.now c }
     ensures { IfOk result (λ change. IsFor layout.now old.now new.now plan.now change) }
 {
+    let plan = PlanIndex::of(alloc, old.node_count(), new.node_count(), plan)?;
+    list_by(alloc, layout, old, new, &plan)
+}
+
+fn list_by(
+    alloc: Global,
+    layout: &Layout,
+    old: &Graph,
+    new: &Graph,
+    plan: &PlanIndex<'_>,
+) -> Result<Change, NoMemory>
+    requires planned { (c : Configuration) × (moves : List Move) × IsGraph old.now × IsTold layout.now old.now c
+        × IsPlanned old.now new.now moves plan.now c }
+    ensures { IfOk result (λ change. IsFor layout.now old.now new.now plan.now change) }
+{
     layouts_tell_commits();
-    let closed = layout.ports_at(alloc, plan.freeze.items())?;
+    let closed = layout.list_closed(alloc, plan)?;
     let commit = layout.list_commit(alloc, old, new, plan)?;
     let lines = list_lines(alloc, &commit.events, HistoryLine::Commit)?;
     let reopens = list_reopens(alloc, &closed)?;

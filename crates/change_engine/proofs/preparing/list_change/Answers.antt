@@ -1,46 +1,31 @@
-use Rattle.std.proofs.Common.{◌++◌, ◌∷◌, [], length, map, sym, ap, ◌∙◌, arith}
-use Rattle.std.proofs.lemmas.List.{length-map}
-use Rattle.change_law.specs.Members.{lines_of_events}
-use Rattle.change_script.specs.declared.report.HistoryLine.TheVariants as to
-use Rattle.quiesce_core.specs.declared.event.Event.TheVariants as event
-use Rattle.change_engine.specs.Layouts.{place_in}
-use Rattle.change_engine.specs.Lists.{closed_by}
-use Rattle.change_engine.proofs.CommitRoom.{nodes_fit}
-use Rattle.change_engine.proofs.PlanInLemmas.{plan_in}
-use Rattle.change_engine.proofs.PrepareLemmas.{ports_few}
+use Rattle.std.proofs.Common.{◌<◌, All, subst, sym}
+use Rattle.std.specs.Prelude.{IfOk}
+use Rattle.change_plan.specs.declared.plan_data.Plan.{Plan}
+use Rattle.change_plan.specs.declared.plan_data.Shift.{Shift}
+use Rattle.change_engine.specs.Engines.{IsFor, IsPlanned}
+use Rattle.change_engine.proofs.PlanInLemmas.{moves_in, plan_in}
 use Rattle.change_engine.proofs.preparing.list_change.Goals as goal
 
-pub list_commit-requires-clause-few : goal.list_commit-requires-clause-few
-list_commit-requires-clause-few c =
-    let w = c.requires.planned in
-    let old = c.args.old.now in
-    let new = c.args.new.now in
-    omega (arith, ap length w.3.laid.places_are ∙ length-map w.0.slots (place_in old), nodes_fit old new w.1 c.args.plan.now w.0 w.4)
-
-pub list_commit-requires-clause-few_ports : goal.list_commit-requires-clause-few_ports
-list_commit-requires-clause-few_ports c =
-    let w = c.requires.planned in
-    omega (arith, ports_few c.args.old.now c.args.new.now w.1 c.args.plan.now w.0 c.args.layout.now w.4 w.3.laid)
-
-pub list_commit-requires-clause-within : goal.list_commit-requires-clause-within
-list_commit-requires-clause-within c =
-    let w = c.requires.planned in
-    (plan_in c.args.old.now c.args.new.now w.1 c.args.plan.now w.2 w.4.new_graph w.4.is_plan).create
-
-pub returns : goal.returns
-returns c =
+pub of-requires : goal.of-requires
+of-requires c =
     let w = c.requires.planned in
     let old = c.args.old.now in
     let new = c.args.new.now in
     let plan = c.args.plan.now in
-    let l = c.args.layout.now in
-    let laws = c.layouts_tell_commits.ensures in
-    let x = c.in_ok-commit.ensures in
+    let places = plan_in old new w.1 plan w.2 w.4.new_graph w.4.is_plan in
     record {
-      closed = λ d told. c.in_ok-closed.ensures ∙ ap (closed_by l.places.items l.ports.items) c.items.ensures ∙ sym (laws.closed old new w.1 plan d l w.2 w.4.new_graph w.4.is_plan told.graph told.laid);
-      events = λ d told. x.events ∙ sym (laws.events old new w.1 plan d l w.2 w.4.new_graph w.4.is_plan told.graph told.laid);
-      next_ = λ d told. laws.layout old new w.1 plan d l c.in_ok-commit.commit.next w.2 w.4.new_graph w.4.is_plan told.graph told.laid x.places x.ports;
-      lines_are = c.in_ok-lines.ensures ∙ ap (λ es. lines_of_events es ++ to.Commit ∷ []) c.deref.ensures.value;
-      reopens = c.in_ok-reopens.ensures ∙ ap (map event.Reopen) c.deref-2.ensures.value;
-      reopen_lines = c.in_ok-reopen_lines.ensures ∙ ap (λ es. lines_of_events es ++ to.Abandon ∷ []) c.deref-3.ensures.value;
+      freeze = subst (λ n. All (λ i. i < n) plan.freeze) (sym c.node_count.ensures.count) places.freeze;
+      remove = subst (λ n. All (λ i. i < n) plan.remove) (sym c.node_count.ensures.count) places.remove;
+      moves = subst (λ n. All (λ (s : Shift). s.new < n) plan.moves) (sym c.node_count-2.ensures.count) (moves_in old new w.1 plan w.4.is_plan);
     }
+
+pub list_by-requires : goal.list_by-requires
+list_by-requires c =
+    let w = c.requires.planned in
+    record {
+      planned = (w.0, w.1, w.2, w.3, subst (λ (p : Plan). IsPlanned c.args.old.now c.args.new.now w.1 p w.0) (sym c.in_ok-plan.ensures) w.4);
+    }
+
+pub returns : goal.returns
+returns c =
+    subst (λ (p : Plan). IfOk c.list_by.result (λ change. IsFor c.args.layout.now c.args.old.now c.args.new.now p change)) c.in_ok-plan.ensures c.list_by.ensures

@@ -5,4 +5,4 @@ use Rattle.change_engine.specs.Lists.{link_at}
 use Rattle.change_engine.proofs.layout.Layout.push_links.Given as goal
 
 abbrev pub invariant-loop-port : goal.invariant-loop-port
-invariant-loop-port l = l.events.items ≡ l.fn.events.items ++ filter_map (link_at l.self.places.items l.self.ports.items l.link) (range_with_len 0 l.port)
+invariant-loop-port l = l.events.items ≡ l.fn.events.items ++ filter_map (link_at l.self.places.items l.self.ports.items l.plan.link) (range_with_len 0 l.port)

@@ -6,4 +6,4 @@ use Rattle.change_engine.specs.Lists.{is_unlinked_at}
 use Rattle.change_engine.proofs.layout.Layout.push_unlinks.Given as goal
 
 abbrev pub invariant-loop-port : goal.invariant-loop-port
-invariant-loop-port l = l.events.items ≡ l.fn.events.items ++ map event.Unlink (filter (is_unlinked_at l.self.places.items l.self.ports.items l.unlink) (range_with_len 0 l.port))
+invariant-loop-port l = l.events.items ≡ l.fn.events.items ++ map event.Unlink (filter (is_unlinked_at l.self.places.items l.self.ports.items l.plan.unlink) (range_with_len 0 l.port))
