@@ -1,3 +1,4 @@
 mod ChangeLemmas
 mod DoingLemmas
+mod LogLemmas
 mod RunLemmas

@@ -5,6 +5,7 @@ ghost use Rattle.change_board.specs.Transcripts.{Item};
 ghost use Rattle.change_engine.specs.Engines.{IsIdle, IsOpen};
 ghost use Rattle.change_plan.specs.declared.plan_data.Move.{Move};
 ghost use Rattle.change_law.specs.Follows.{Follows};
+ghost use Rattle.change_script.specs.Reports.{LogsAreMade};
 ghost use Rattle.script_steps.specs.Asked.{CanDoAll, CanStart, after_start, statements_of};
 ghost use Rattle.script_runner.specs.Doing.{Carried, IsReady, WentThrough, is_given_up};
 ghost use Rattle.script_runner.specs.Ran.{HasCarriedOut};
@@ -117,6 +118,7 @@ pub fn run_statements<B: Board + Drop>(
     requires board { B.stands_for board [] }
     ensures ok { IfOk result (λ x. HasCarriedOut B.stands_for B.alone B.taken (statements_of start steps.items) x.0 x.1) }
     ensures follows { IfOk result (λ x. Follows (statements_of start steps.items) x.0.history) }
+    ensures logs { IfOk result (λ x. LogsAreMade x.0) }
 {
     transcripts_follow_their_scripts();
     let Start { name, args, graph } = start;

@@ -4,6 +4,7 @@ ghost use Rattle.std.specs.Prelude.{List, [], IfOk};
 ghost use Rattle.change_law.specs.Follows.{Follows};
 ghost use Rattle.change_law.specs.Lawful.{IsLawfulBy};
 ghost use Rattle.change_law.specs.Members.{Member};
+ghost use Rattle.change_script.specs.Reports.{LogsAreMade};
 ghost use Rattle.script_steps.specs.Asked.{CanDoAll, CanStart, after_start, statements_of};
 
 use change_board::Board;
@@ -28,6 +29,7 @@ pub fn run_in_rounds<N: Nodes + Drop>(
     requires board { ⟦<StepBoard<N> as Board>⟧.stands_for board [] }
     ensures follows { IfOk result (λ r. Follows (statements_of start steps.items) r.history) }
     ensures lawful { IfOk result (λ r. (members : List Member) × IsLawfulBy (statements_of start steps.items) r members) }
+    ensures logs { IfOk result LogsAreMade }
 {
     joined_members_make_a_report_lawful();
     let (report, board) = run_statements(alloc, board, start, steps)?;
