@@ -4,4 +4,6 @@ mod LineLemmas
 pub mod PieceLaws
 pub mod CountLaws
 pub mod RunLaws
+pub mod RestedLaws
+pub mod FinishLaws
 pub mod SerialLaws

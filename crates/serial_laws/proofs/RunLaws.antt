@@ -35,13 +35,13 @@ use Rattle.serial_laws.proofs.WorldLaws.{AreSo, behind_both, config_behind, fron
 abbrev scan : Seen → List Entry
 scan s = seen_entries s
 
-scan_leads : (w : World) (s : Seen) → fold play w (scan s) ≡ (round true w).world
+pub scan_leads : (w : World) (s : Seen) → fold play w (scan s) ≡ (round true w).world
 scan_leads w s =
     let v = (round true w).world in
     fold-append play v (map sight_entry s.sights) (map look_entry s.found)
     ∙ ap (λ u. fold play u (map look_entry s.found)) (sights_leave v s.sights) ∙ looks_leave v s.found
 
-true_scan : (w : World) (s : Seen) → AreSo w (scan s) → AreTrue (round true w).world s.found
+pub true_scan : (w : World) (s : Seen) → AreSo w (scan s) → AreTrue (round true w).world s.found
 true_scan w s so =
     let v = (round true w).world in
     true_entries v s.found
@@ -63,7 +63,7 @@ module _ (w : World) (k : ℕ) (c : Configuration) (same : c ≡ w.machine.confi
   ends_so : (b : List Seen) (j : ℕ) → Ran b j → engine.run_ends true k (ended w) b ≡ run_ends w k j
   ends_so b j h = λ i. nat_le k (h.since i) || h.out i
 
-  ran_next : (b : List Seen) (j : ℕ) (s : Seen) → Ran b j → engine.RunsOn true k (ended w) b s → IsScanIn c s → AreSo (world j) (scan s) → Ran (b ++ s ∷ []) (suc j)
+  ran_next : (b : List Seen) (j : ℕ) (s : Seen) → Ran b j → engine.RunsOn true k (ended w) b s → IsScanIn true c s → AreSo (world j) (scan s) → Ran (b ++ s ∷ []) (suc j)
   ran_next b j s h on is so =
       let next = round_goes_on (world j) true h.reached in
       let config : (world (suc j)).machine.config ≡ w.machine.config = next.config ∙ h.config in
@@ -87,7 +87,7 @@ module _ (w : World) (k : ℕ) (c : Configuration) (same : c ≡ w.machine.confi
     pub ran : Ran (b ++ ss) number
     pub leads : fold play (world j) (all_entries ss) ≡ world number
 
-  ran_on : (b ss : List Seen) (j : ℕ) → Ran b j → EachAfter (engine.RunsOn true k (ended w)) b ss → AllByRecursion (IsScanIn c) ss → AreSo (world j) (all_entries ss) → RanAll b ss j
+  ran_on : (b ss : List Seen) (j : ℕ) → Ran b j → EachAfter (engine.RunsOn true k (ended w)) b ss → AllByRecursion (IsScanIn true c) ss → AreSo (world j) (all_entries ss) → RanAll b ss j
   ran_on b [] j h on is so = record { number = j; ran = subst (λ bs. Ran bs j) (sym (append-nil b)) h; leads = refl }
   ran_on b (s ∷ ss) j h on is so =
       let parts = so_parts (world j) (scan s) (all_entries ss) so in

@@ -38,7 +38,8 @@ use Rattle.step_board.specs.Standing.{AreOfRounds}
 use Rattle.turn_laws.specs.Reached.{IsReached}
 use Rattle.turns.specs.Round.{is_done}
 use Rattle.turns.specs.World.{World, nowhere, state_of}
-use Rattle.serial_laws.specs.Behind.{AreByRounds, FinishesArePlayed, IsPlayedBehind, IsPlayedIfFinish, world_behind}
+use Rattle.serial_laws.specs.Behind.{AreByRounds, IsPlayedBehind, world_behind}
+use Rattle.serial_laws.proofs.FinishLaws.{AreFolds, RestStays, finish_played}
 use Rattle.serial_laws.proofs.LineLemmas.{lines_both}
 use Rattle.serial_laws.proofs.PieceLaws.{change_played, show_played, start_played, stop_played}
 use Rattle.serial_laws.proofs.RunLaws.{run_played}
@@ -46,13 +47,12 @@ use Rattle.serial_laws.proofs.WorldLaws.{config_behind, front_of_rounds}
 
 -- ---- each statement
 
-piece_played : (before t : List Item) (s : Statement) → AreByRounds (before ++ t) → IsDone true before s t
-    → (is_finish s ≡ true → IsPlayedBehind before s t) → IsPlayedBehind before s t
-piece_played before t (start name args g) rounds d finishes = start_played true before t name args g d
-piece_played before t (change name args g within moves_) rounds d finishes = change_played true before t name args g within moves_ rounds d
-piece_played before t (run k) rounds d finishes = run_played before t k rounds d
-piece_played before t (finish n) rounds d finishes = finishes refl
-piece_played before t show rounds d finishes = show_played true before t rounds d
+piece_played : RestStays → AreFolds → (before t : List Item) (s : Statement) → AreByRounds (before ++ t) → IsDone true before s t → IsPlayedBehind before s t
+piece_played stays folds before t (start name args g) rounds d = start_played true before t name args g d
+piece_played stays folds before t (change name args g within moves_) rounds d = change_played true before t name args g within moves_ rounds d
+piece_played stays folds before t (run k) rounds d = run_played before t k rounds d
+piece_played stays folds before t (finish n) rounds d = finish_played stays folds before t n rounds d
+piece_played stays folds before t show rounds d = show_played true before t rounds d
 
 items_pushed : (before : List Piece) (p : Piece) → items_of (before ++ p ∷ []) ≡ items_of before ++ p.items
 items_pushed before p = flat_map-append (λ (q : Piece). q.items) before (p ∷ []) ∙ ap (λ t. items_of before ++ t) (append-nil p.items)
@@ -99,19 +99,19 @@ front_with before p ps h =
     front_of_rounds (items_of (before ++ p ∷ [])) (items_of ps)
     (subst AreByRounds (ap items_of (sym (append_assoc before (p ∷ []) ps)) ∙ flat_map-append (λ (q : Piece). q.items) (before ++ p ∷ []) ps) h)
 
-all_played : (before ps : List Piece) (qs : List Played) → AreAlike before qs → AreByRounds (items_of (before ++ ps)) → EachAfter IsDonePiece before ps
-    → EachAfter IsPlayedIfFinish before ps → EachAfter IsPlayed qs (parts_of before ps)
-all_played before [] qs alike rounds done finishes = tt
-all_played before (p ∷ ps) qs alike rounds done finishes =
+all_played : RestStays → AreFolds → (before ps : List Piece) (qs : List Played) → AreAlike before qs → AreByRounds (items_of (before ++ ps)) → EachAfter IsDonePiece before ps
+    → EachAfter IsPlayed qs (parts_of before ps)
+all_played stays folds before [] qs alike rounds done = tt
+all_played stays folds before (p ∷ ps) qs alike rounds done =
     let t = items_of before in
     let here : IsPlayedBehind t p.statement p.items =
-    piece_played t p.items p.statement (subst AreByRounds (items_pushed before p) (front_with before p ps rounds)) done.0 finishes.0 in
+    piece_played stays folds t p.items p.statement (subst AreByRounds (items_pushed before p) (front_with before p ps rounds)) done.0 in
     let after : world_behind (t ++ p.items) ≡ world_behind (items_of (before ++ p ∷ [])) = ap world_behind (sym (items_pushed before p)) in (
       subst (λ v. Plays (lines_played qs) (world_after qs) p.statement (lines p.items) v) after
           (subst (λ w. Plays (lines_played qs) w p.statement (lines p.items) (world_behind (t ++ p.items))) (sym alike.world_is)
           (subst (λ ls. Plays ls (world_behind t) p.statement (lines p.items) (world_behind (t ++ p.items))) (sym alike.lines_are) here)),
-      all_played (before ++ p ∷ []) ps (qs ++ part_of before p ∷ []) (alike_next before p qs alike)
-          (subst (λ bs. AreByRounds (items_of bs)) (sym (append_assoc before (p ∷ []) ps)) rounds) done.1 finishes.1,
+      all_played stays folds (before ++ p ∷ []) ps (qs ++ part_of before p ∷ []) (alike_next before p qs alike)
+          (subst (λ bs. AreByRounds (items_of bs)) (sym (append_assoc before (p ∷ []) ps)) rounds) done.1,
     )
 
 -- ---- the logs, and what wasn't finished
@@ -191,10 +191,7 @@ abbrev IsLawfulWhereJoined : Type 0
 IsLawfulWhereJoined = (alone : Bool) (statements : List Statement) (t : List Item) (m : List Moment) (ms : List Member) (report : Report)
     → IsTranscript alone statements t → AreJoined t m ms → IsRecordOf (entries t) m → IsReport t m report → IsLawfulBy statements report ms
 
-abbrev StatesAreFolds : Type 0
-StatesAreFolds = (w : World) → IsReached w → (n : ℕ) → state_of w n ≡ fold_of_node w.events n
-
-module _ (join : JoinsMembers) (lawful : IsLawfulWhereJoined) (folds : StatesAreFolds) (statements : List Statement) (t : List Item)
+module _ (join : JoinsMembers) (lawful : IsLawfulWhereJoined) (stays : RestStays) (folds : AreFolds) (statements : List Statement) (t : List Item)
     (m : List Moment) (report : Report) (x : IsTranscript true statements t) (of_rounds : AreOfRounds (entries t) (taken_in report)) (has : IsReport t m report) where
   abbrev w : World
   w = world_behind t
@@ -255,31 +252,14 @@ module _ (join : JoinsMembers) (lawful : IsLawfulWhereJoined) (folds : StatesAre
   history : report.history ≡ lines_played (parts_of [] x.pieces) ++ lines x.stop
   history = has.history_is ∙ ap lines (sym x.are) ∙ lines_both (items_of x.pieces) x.stop ∙ ap (λ ls. ls ++ lines x.stop) (sym alike.lines_are)
 
-  pub is_serial : FinishesArePlayed x.pieces → Serial statements report
-  is_serial finishes = record {
+  pub is_serial : Serial statements report
+  is_serial = record {
     parts = parts_of [] x.pieces;
     statements_are = statements_of [] x.pieces ∙ x.statements_are;
-    played = all_played [] x.pieces [] (record { lines_are = refl; world_is = refl }) (front_of_rounds (items_of x.pieces) x.stop rounds_here) x.done finishes;
+    played = all_played stays folds [] x.pieces [] (record { lines_are = refl; world_is = refl }) (front_of_rounds (items_of x.pieces) x.stop rounds_here) x.done;
     stop = lines x.stop;
     world = w;
     stops = subst (λ v. StopsAt (world_after (parts_of [] x.pieces)) (lines x.stop) v) (ap world_behind x.are)
         (subst (λ u. StopsAt u (lines x.stop) (world_behind (items_of x.pieces ++ x.stop))) (sym alike.world_is) (stop_played (items_of x.pieces) x.stop rounds_here x.stops));
     report_is = report_is ∙ ap (λ h. report_of statements h w) history;
   }
-
--- ---- no finish
-
-none_finishes : (before ps : List Piece) → list_any is_finish (map (λ (p : Piece). p.statement) ps) ≡ false → EachAfter IsPlayedIfFinish before ps
-none_finishes before [] h = tt
-none_finishes before (p ∷ ps) h =
-    let rest = map (λ (q : Piece). q.statement) ps in (
-      λ is. absurd (both_ways (is_finish p.statement || list_any is_finish rest) h (or_left (is_finish p.statement) (list_any is_finish rest) is)),
-      none_finishes (before ++ p ∷ []) ps (not_later (is_finish p.statement) (list_any is_finish rest) h),
-    )
-  where
-    not_later : (a b : Bool) → (a || b) ≡ false → b ≡ false
-    not_later true b e = absurd (both_ways true e refl)
-    not_later false b e = e
-
-pub no_finish : (statements : List Statement) (ps : List Piece) → map (λ (p : Piece). p.statement) ps ≡ statements → list_any is_finish statements ≡ false → FinishesArePlayed ps
-no_finish statements ps same h = none_finishes [] ps (ap (list_any is_finish) same ∙ h)

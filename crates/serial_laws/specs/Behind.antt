@@ -1,10 +1,8 @@
 -- Transcripts of a board of one thread: the worlds behind their items.
-use Rattle.std.specs.Prelude.{◌≡◌, true, List, ◌++◌}
-use Rattle.base.specs.Each.{Each}
+use Rattle.std.specs.Prelude.{List, ◌++◌}
 use Rattle.change_board.specs.Transcripts.{Item, entries, lines}
 use Rattle.change_law.specs.Serial.{Plays, StopsAt}
-use Rattle.change_law.specs.Statements.{Statement, is_finish}
-use Rattle.headline_laws.specs.Pieces.{Piece, items_of}
+use Rattle.change_law.specs.Statements.{Statement}
 use Rattle.step_board.specs.Playing.{IsOfRounds, played}
 use Rattle.turns.specs.World.{World}
 
@@ -23,10 +21,3 @@ IsPlayedBehind before s t = Plays (lines before) (world_behind before) s (lines 
 -- and those of the stop
 abbrev pub StopsBehind : List Item → List Item → Type 0
 StopsBehind before t = StopsAt (world_behind before) (lines t) (world_behind (before ++ t))
-
--- finishes are played by rounds
-abbrev pub IsPlayedIfFinish : List Piece → Piece → Type 0
-IsPlayedIfFinish before p = is_finish p.statement ≡ true → IsPlayedBehind (items_of before) p.statement p.items
-
-abbrev pub FinishesArePlayed : List Piece → Type 0
-FinishesArePlayed pieces = Each IsPlayedIfFinish pieces

@@ -1,20 +1,20 @@
 //! Laws of transcripts whose records are of rounds.
 
-ghost use Rattle.std.specs.Prelude.{◌≡◌, ℕ, ℤ, Bool, true, false, List, ◌++◌};
-ghost use Rattle.std.specs.List.{list_any};
+ghost use Rattle.std.specs.Prelude.{ℕ, ℤ, Bool, true, List, ◌++◌};
 ghost use Rattle.change_board.specs.Records.{Moment};
 ghost use Rattle.change_board.specs.Transcripts.{Item, entries};
 ghost use Rattle.change_law.specs.Serial.{Serial};
-ghost use Rattle.change_law.specs.Statements.{Statement, change, is_finish, run, show, start};
+ghost use Rattle.change_law.specs.Statements.{Statement, change, finish, run, show, start};
 ghost use Rattle.change_plan.specs.declared.plan_data.Move.{Move};
 ghost use Rattle.change_script.specs.declared.report.Report.{Report};
 ghost use Rattle.config_graph.specs.Graph.{Graph};
 ghost use Rattle.headline_laws.specs.Pieces.{IsDone, IsStopped, IsTranscript};
 ghost use Rattle.headline_laws.specs.Reports.{IsReport, taken_in};
-ghost use Rattle.serial_laws.specs.Behind.{AreByRounds, FinishesArePlayed, IsPlayedBehind, StopsBehind};
+ghost use Rattle.serial_laws.specs.Behind.{AreByRounds, IsPlayedBehind, StopsBehind};
 ghost use Rattle.step_board.specs.Standing.{AreOfRounds};
 
 use headline_laws::{joined_members_make_a_report_lawful, records_and_transcripts_join};
+use hint_laws::worlds_at_rest_stay;
 use report_laws::states_are_folds_of_own_events;
 
 /// The items of a start are those that rounds make.
@@ -42,21 +42,28 @@ pub fn runs_are_played()
         → IsPlayedBehind before (run k) t }
 {}
 
+/// And those of a finish: it makes as many rounds, since a scan that moves nothing where all is at rest leaves all as it
+/// is.
+pub fn finishes_are_played()
+    ensures finish { (before t : List Item) (n : ℕ) → AreByRounds (before ++ t) → IsDone true before (finish n) t
+        → IsPlayedBehind before (finish n) t }
+{
+    worlds_at_rest_stay();
+    states_are_folds_of_own_events();
+}
+
 /// And those of the stop: it waits for as many rounds, until each port that it closed is drained.
 pub fn stops_are_played()
     ensures stop { (before t : List Item) → AreByRounds (before ++ t) → IsStopped before t → StopsBehind before t }
 {}
 
-/// The report is the one that rounds have, where each finish is played by rounds, and where the logs are what the rounds
-/// of the record come to.
+/// The report is the one that rounds have, where the logs are what the rounds of the record come to.
 pub fn reports_are_those_of_rounds()
     ensures serial { (statements : List Statement) (t : List Item) (m : List Moment) (report : Report)
-        → (x : IsTranscript true statements t) → FinishesArePlayed x.pieces → AreOfRounds (entries t) (taken_in report)
-        → IsReport t m report → Serial statements report }
-    ensures no_finish { (statements : List Statement) (t : List Item) (m : List Moment) (report : Report)
-        → IsTranscript true statements t → list_any is_finish statements ≡ false
-        → AreOfRounds (entries t) (taken_in report) → IsReport t m report → Serial statements report }
+        → IsTranscript true statements t → AreOfRounds (entries t) (taken_in report) → IsReport t m report
+        → Serial statements report }
 {
+    worlds_at_rest_stay();
     joined_members_make_a_report_lawful();
     records_and_transcripts_join();
     states_are_folds_of_own_events();

@@ -4,6 +4,7 @@ ghost use Rattle.std.specs.Prelude.{List, [], IfOk};
 ghost use Rattle.change_law.specs.Follows.{Follows};
 ghost use Rattle.change_law.specs.Lawful.{IsLawfulBy};
 ghost use Rattle.change_law.specs.Members.{Member};
+ghost use Rattle.change_law.specs.Serial.{Serial};
 ghost use Rattle.change_script.specs.Reports.{LogsAreMade};
 ghost use Rattle.script_steps.specs.Asked.{CanDoAll, CanStart, after_start, statements_of};
 
@@ -13,11 +14,13 @@ use config_graph::NoMemory;
 use headline_laws::joined_members_make_a_report_lawful;
 use script_runner::run_statements;
 use script_steps::{Start, Step};
+use serial_laws::reports_are_those_of_rounds;
 use std::alloc::Global;
 use step_board::{Nodes, StepBoard};
 
 /// Carries out a script on a board on which nothing was made, and gives its report. The history follows the script, and
-/// the logs and the history are parts of one run of the machine by which the report is lawful.
+/// the logs and the history are parts of one run of the machine by which the report is lawful. It is the report that
+/// rounds have: its lines, its logs and its numbers.
 pub fn run_in_rounds<N: Nodes + Drop>(
     alloc: Global,
     board: StepBoard<N>,
@@ -29,9 +32,11 @@ pub fn run_in_rounds<N: Nodes + Drop>(
     requires board { ⟦<StepBoard<N> as Board>⟧.stands_for board [] }
     ensures follows { IfOk result (λ r. Follows (statements_of start steps.items) r.history) }
     ensures lawful { IfOk result (λ r. (members : List Member) × IsLawfulBy (statements_of start steps.items) r members) }
+    ensures serial { IfOk result (λ r. Serial (statements_of start steps.items) r) }
     ensures logs { IfOk result LogsAreMade }
 {
     joined_members_make_a_report_lawful();
+    reports_are_those_of_rounds();
     let (report, board) = run_statements(alloc, board, start, steps)?;
     board.close_down();
     Ok(report)

@@ -1,4 +1,4 @@
-use Rattle.serial_laws.proofs.SerialLaws.{is_serial, no_finish}
+use Rattle.serial_laws.proofs.SerialLaws.{is_serial}
 use Rattle.serial_laws.proofs.laws.reports_are_those_of_rounds.Goals as goal
 
 pub returns : goal.returns
@@ -7,7 +7,5 @@ returns c =
     let lawful = c.joined_members_make_a_report_lawful.ensures.lawful in
     let folds = c.states_are_folds_of_own_events.ensures.one in
     record {
-      serial = λ statements t m report x finishes of_rounds has. is_serial join lawful folds statements t m report x of_rounds has finishes;
-      no_finish = λ statements t m report x none of_rounds has.
-          is_serial join lawful folds statements t m report x of_rounds has (no_finish statements x.pieces x.statements_are none);
+      serial = λ statements t m report x of_rounds has. is_serial join lawful c.worlds_at_rest_stay.ensures.stays folds statements t m report x of_rounds has;
     }

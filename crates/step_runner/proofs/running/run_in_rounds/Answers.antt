@@ -1,6 +1,6 @@
 use Rattle.change_board.specs.Transcripts.{entries}
 use Rattle.script_steps.specs.Asked.{statements_of}
-use Rattle.step_runner.proofs.Lawfulness.{lawful_by}
+use Rattle.step_runner.proofs.Lawfulness.{lawful_by, serial_by}
 use Rattle.step_runner.proofs.running.run_in_rounds.Goals as goal
 
 pub returns-clause-lawful : goal.returns-clause-lawful
@@ -8,3 +8,10 @@ returns-clause-lawful g c =
     let x = c.in_ok-report.ensures.ok in
     lawful_by _ _ _ (statements_of c.args.start c.args.steps.items) c.in_ok-report.report c.in_ok-report.board x (c.close_down.ensures.merge (entries x.transcript) x.stands)
     c.joined_members_make_a_report_lawful.ensures.lawful
+
+pub returns-clause-serial : goal.returns-clause-serial
+returns-clause-serial g c =
+    let x = c.in_ok-report.ensures.ok in
+    let stands = c.close_down.ensures in
+    serial_by _ _ (statements_of c.args.start c.args.steps.items) c.in_ok-report.report c.in_ok-report.board x (stands.merge (entries x.transcript) x.stands)
+    (stands.rounds (entries x.transcript) x.stands) c.reports_are_those_of_rounds.ensures.serial
