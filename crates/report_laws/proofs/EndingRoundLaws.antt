@@ -250,21 +250,21 @@ by_rounds w (suc j) r =
 
 -- a round that moved made an event
 
-record Grew (long : ℕ) (r : Round) : Type 0 where
-  no_less : long ≤ length r.world.events
-  by_one : r.moved ≡ true → long + 1 ≤ length r.world.events
+pub record Grew (long : ℕ) (r : Round) : Type 0 where
+  pub no_less : long ≤ length r.world.events
+  pub by_one : r.moved ≡ true → long + 1 ≤ length r.world.events
 
-turn_long : (w : World) (n : ℕ) → length (turn w n true).world.events ≡ length w.events + cond (is_some (turn w n true).event) 1 0
-turn_long w n = ap (λ (es : List Event). length es) (turn_events w n true) ∙ length-append w.events (cons_option (turn w n true).event []) ∙ by (turn w n true).event
+turn_long : (begins : Bool) (w : World) (n : ℕ) → length (turn w n begins).world.events ≡ length w.events + cond (is_some (turn w n begins).event) 1 0
+turn_long begins w n = ap (λ (es : List Event). length es) (turn_events w n begins) ∙ length-append w.events (cons_option (turn w n begins).event []) ∙ by (turn w n begins).event
   where
     by : (o : Option Event) → length w.events + length (cons_option o []) ≡ length w.events + cond (is_some o) 1 0
     by None = refl
     by (Some e) = refl
 
-turn_grew : (long : ℕ) (r : Round) (n : ℕ) → Grew long r → Grew long (give_turn true r n)
-turn_grew long r n h =
-    let o = (turn r.world n true).event in
-    let all = turn_long r.world n in
+turn_grew : (begins : Bool) (long : ℕ) (r : Round) (n : ℕ) → Grew long r → Grew long (give_turn begins r n)
+turn_grew begins long r n h =
+    let o = (turn r.world n begins).event in
+    let all = turn_long begins r.world n in
     let low = h.no_less in
     record {
       no_less = omega (arith, all, low);
@@ -274,22 +274,22 @@ turn_grew long r n h =
           (or_cases r.moved (is_some o) moved);
     }
 
-turns_grew : (long : ℕ) (ns : List ℕ) (r : Round) → Grew long r → Grew long (fold (give_turn true) r ns)
-turns_grew long [] r h = h
-turns_grew long (n ∷ ns) r h = turns_grew long ns (give_turn true r n) (turn_grew long r n h)
+turns_grew : (begins : Bool) (long : ℕ) (ns : List ℕ) (r : Round) → Grew long r → Grew long (fold (give_turn begins) r ns)
+turns_grew begins long [] r h = h
+turns_grew begins long (n ∷ ns) r h = turns_grew begins long ns (give_turn begins r n) (turn_grew begins long r n h)
 
-rounds_long : (w : World) (j : ℕ) → ((i : ℕ) → i ≤ j → stands_still true w i ≡ false) → length w.events + j ≤ length (after_rounds true w j).events
-rounds_long w zero h = omega arith
-rounds_long w (suc j) h =
-    let v = after_rounds true w j in
-    let before = rounds_long w j (λ i low. h i (omega (arith, low))) in
-    let moved : (round true v).moved ≡ true = true_from_not (round true v).moved (h (suc j) (omega arith)) in
-    let grew = turns_grew (length v.events) (live_nodes v) (record { world = v; moved = false }) (record { no_less = omega arith; by_one = λ e. absurd (both_ways false refl e) }) in
+pub rounds_long : (begins : Bool) (w : World) (j : ℕ) → ((i : ℕ) → i ≤ j → stands_still begins w i ≡ false) → length w.events + j ≤ length (after_rounds begins w j).events
+rounds_long begins w zero h = omega arith
+rounds_long begins w (suc j) h =
+    let v = after_rounds begins w j in
+    let before = rounds_long begins w j (λ i low. h i (omega (arith, low))) in
+    let moved : (round begins v).moved ≡ true = true_from_not (round begins v).moved (h (suc j) (omega arith)) in
+    let grew = turns_grew begins (length v.events) (live_nodes v) (record { world = v; moved = false }) (record { no_less = omega arith; by_one = λ e. absurd (both_ways false refl e) }) in
     let more = grew.by_one moved in
     omega (arith, before, more)
 
 -- some number passes, or none up to here
-some_or_none : (test : ℕ → Bool) (n : ℕ) → ((j : ℕ) × (test j ≡ true)) ⊎ ((j : ℕ) → j ≤ n → test j ≡ false)
+pub some_or_none : (test : ℕ → Bool) (n : ℕ) → ((j : ℕ) × (test j ≡ true)) ⊎ ((j : ℕ) → j ≤ n → test j ≡ false)
 some_or_none test zero = ⊎_elim
     (λ (e : test 0 ≡ true). inl (0, e))
     (λ (e : test 0 ≡ false). inr (λ j low. let zero_is : j ≡ 0 = omega (arith, low) in ap test zero_is ∙ e))
@@ -313,7 +313,7 @@ runs_end falls rises w k r = ⊎_elim
     let v = after_rounds true w bound in
     let still : (i : ℕ) → i ≤ bound → stands_still true w i ≡ false = λ i low. (or_parts (nat_le k (ended (after_rounds true w i) - ended w)) (stands_still true w i) (none i low)).1 in
     let few : nat_le k (ended v - ended w) ≡ false = (or_parts (nat_le k (ended v - ended w)) (stands_still true w bound) (none bound (omega arith))).0 in
-    let long = rounds_long w bound still in
+    let long = rounds_long true w bound still in
     let all_long : length v.events ≡ length w.events + length went.later = ap (λ (es : List Event). length es) went.events_are ∙ length-append w.events went.later in
     let all_ended : ended v ≡ ended w + count_by is_end went.later = ap (count_by is_end) went.events_are ∙ count_by-append is_end w.events went.later in
     let less : ended v - ended w < k = below k (ended v - ended w) few in
