@@ -1,5 +1,5 @@
 -- What the program answers, as values: why it refuses, or what it was asked for; and the status and the text of each.
-use Rattle.std.specs.Prelude.{◌≡◌, ℕ, List, [], ◌∷◌, ◌++◌, codes}
+use Rattle.std.specs.Prelude.{◌≡◌, ◌==◌, ℕ, if◌then◌else◌, List, [], ◌∷◌, ◌++◌, codes}
 use Rattle.config_graph.specs.Graph.{Graph}
 use Rattle.config_graph.specs.GraphText.{graph_text}
 use Rattle.quiesce_core.specs.State.{State}
@@ -38,6 +38,8 @@ pub data Answer : Type 0 where
   replay : (count : ℕ) → State → (settled : List ℕ) → Answer
   -- a report in the version that is written today
   report : Report → Answer
+  -- the report of a run that was made now
+  ran : Report → Answer
 
 abbrev pub refusal_status : Refusal → Status
 refusal_status usage = status.Usage
@@ -45,6 +47,10 @@ refusal_status (description file fault) = status.Description
 refusal_status (script file fault) = status.Script
 refusal_status (read_fault file) = status.ReadFault
 refusal_status no_memory = status.NoMemory
+
+-- a run ends as its report says: a change was given up, or a node wasn't done, or neither
+abbrev pub run_status : ℕ → Status
+run_status n = if n == 7 then status.Pending else if n == 8 then status.Unfinished else status.Ok
 
 -- the status with which the program ends where the answer is written
 abbrev pub status_of : Answer → Status
@@ -56,6 +62,7 @@ status_of (plan old new steps) = status.Ok
 status_of (denied number rule) = status.Denied
 status_of (replay count s settled) = status.Ok
 status_of (report r) = status.Ok
+status_of (ran r) = run_status r.status
 
 abbrev pub usage_line : List ℕ
 usage_line = codes "usage" ++ 10 ∷ []
@@ -71,6 +78,7 @@ help_text =
     ++ codes "darwin_run flat FILE NAME INT*\n"
     ++ codes "darwin_run plan FILE NAME INT* -- NAME INT*\n"
     ++ codes "darwin_run replay FILE EVENTS\n"
+    ++ codes "darwin_run step SCRIPT\n"
     ++ codes "darwin_run upgrade FILE\n"
 
 abbrev pub version_text : List ℕ
@@ -92,6 +100,7 @@ text_of (plan old new steps) = plan_text old new steps
 text_of (denied number rule) = denied_line number rule
 text_of (replay count s settled) = replay_text count s settled
 text_of (report r) = report_text r
+text_of (ran r) = report_text r
 
 -- some answer of a kind has this status and this text
 pub record Shows (Is : Answer → Type 0) (own : Status) (text : List ℕ) : Type 0 where

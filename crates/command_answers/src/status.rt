@@ -1,6 +1,7 @@
 //! How a run of the program ends.
 
 ghost use Rattle.std.specs.Prelude.{◌≡◌};
+ghost use Rattle.command_answers.specs.Answers.{run_status};
 ghost use Rattle.command_answers.specs.Statuses.{status_number};
 
 /// How a run ends.
@@ -34,5 +35,16 @@ impl Status {
         ensures { result ≡ status_number self }
     {
         self as u8
+    }
+
+    /// How a run ends whose report has this number: 7 where a change was given up, 8 where a node isn't done.
+    pub fn of_run(number: u8) -> Status
+        ensures { result ≡ run_status number }
+    {
+        match number {
+            7 => Status::Pending,
+            8 => Status::Unfinished,
+            _ => Status::Ok,
+        }
     }
 }

@@ -1,11 +1,13 @@
--- Courses from what the parts of the program say: of a description that was fetched, of a file of events, and where memory ran
--- out.
+-- Courses from what the parts of the program say: of a description that was fetched, of a file of events, of a script, and where
+-- memory ran out.
 use Rattle.std.proofs.Common.{◌≡◌, ℕ, ℤ, List, [], ◌∷◌, Some, codes, refl, sym, subst}
 use Rattle.config_graph.specs.Graph.{Graph}
 use Rattle.config_graph.specs.declared.node.Made.{Made}
 use Rattle.darwin_parser.specs.Tree.{Tree}
 use Rattle.change_script.specs.declared.event_files.EventFile.{EventFile}
 use Rattle.change_script.specs.EventFiles.{IsEventFile}
+use Rattle.change_script.specs.ScriptFiles.{IsScript}
+use Rattle.change_script.specs.declared.script.Script.{Script}
 use Rattle.command_answers.specs.Answers.{Answer, Shows, refusal, description, script, read_fault, no_memory, graph, plan, report}
 use Rattle.command_answers.specs.RefusalLines.{elaborate_words, plan_words, script_words, report_words}
 use Rattle.command_answers.specs.declared.status.Status.{Status}
@@ -19,19 +21,20 @@ use Rattle.command_runs.specs.Commands.{aim_of, calls_of, course_of_query, cours
 use Rattle.command_runs.specs.Courses.{not_fetched, fetched_alone, failed, too_long, leads_on, refused, gives}
 use Rattle.command_runs.specs.Descriptions.{IsChecked, IsGraphOf, HasGraph, IsDescriptionRefusal, by_text}
 use Rattle.command_runs.specs.Descriptions as descriptions
-use Rattle.command_runs.specs.Fetches.{fetch_of, report_fetch}
-use Rattle.command_runs.specs.Lines.{Line, calls, Deed, draws, starts, changes, Progress, begun, with_description, with_graph, Allows, by_elaboration, by_deed, Leads, Aim, drawing, planning, replaying, Concludes, Follows, uses}
+use Rattle.command_runs.specs.Fetches.{Fetch, fetch_of, report_fetch}
+use Rattle.command_runs.specs.Lines.{Line, calls, Deed, draws, starts, changes, Progress, begun, with_description, with_call, Allows, by_elaboration, by_deed, Leads, Aim, drawing, planning, replaying, running, Concludes, Follows, uses}
 use Rattle.command_runs.specs.Plans.{Starts, RefusesStart, has_no_graph, is_full, HasPlan, RefusesPlan, starts_not, leads_nowhere, gets_full, made_of}
 use Rattle.command_runs.specs.Queries.{IsRefused, AnswersQuery}
-use Rattle.command_runs.specs.OneFile.{DescriptionAnswers, cannot_read, is_too_long, answered, ScriptAnswers, cannot_read_script, script_too_long, script_at_fault, ReportAnswers, cannot_read_report, report_too_long, report_at_fault, upgraded}
+use Rattle.command_runs.specs.OneFile.{DescriptionAnswers, cannot_read, is_too_long, answered, ScriptAnswers, cannot_read_script, script_too_long, script_at_fault, StatementsAnswers, cannot_read_statements, statements_too_long, statements_at_fault, ReportAnswers, cannot_read_report, report_too_long, report_at_fault, upgraded}
 use Rattle.command_runs.specs.OneFile as files
+use Rattle.command_runs.specs.Scripts.{lines_of}
 use Rattle.command_runs.proofs.Courses.{first_made}
 use Rattle.command_runs.proofs.Readings as readings
 
 -- a call that leads on
 leads_to :
     (p : Progress) (tree : Tree) (deed : Deed) (name : List ℕ) (args : List ℤ) (g : Graph) (made : Made) → p.used ≡ Some tree
-    → IsGraphOf tree name args g → Allows p deed g made → Leads p deed name args (with_graph p g made)
+    → IsGraphOf tree name args g → Allows p deed g made → Leads p deed name args (with_call p deed name args g made)
 leads_to p tree deed name args g made used is allowed = record {
   tree = tree;
   is_used = used;
@@ -76,7 +79,7 @@ module _ (file text : List ℕ) where
   -- a start that goes on
   start_leads :
       (tree : Tree) (name : List ℕ) (args : List ℤ) (old : Graph) (start : Starts text name args old) → IsChecked text tree
-      → Leads (with_description begun file tree) starts name args (with_graph (with_description begun file tree) old (made_of old))
+      → Leads (with_description begun file tree) starts name args (with_call (with_description begun file tree) starts name args old (made_of old))
   start_leads tree name args old start checked =
       leads_to (with_description begun file tree) tree starts name args old (made_of old) refl
       (subst (λ t. IsGraphOf t name args old) (readings.one_tree text start.has_graph.tree tree start.has_graph.checked.is_tree checked.is_tree) start.has_graph.is)
@@ -85,7 +88,7 @@ module _ (file text : List ℕ) where
   plan_refused :
       (call target : TopCall) (words : List (List ℕ)) → RefusesPlan text call target words
       → course_of_query file (queries.Plan call target) (fetch_of file (Held text) ∷ []) (refusal (description file words))
-  plan_refused call target _ (starts_not words is) = start_refused planning call.top call.args (calls (changes []) target.top target.args ∷ []) words is
+  plan_refused call target _ (starts_not words is) = start_refused planning call.top call.args (calls (changes 0 []) target.top target.args ∷ []) words is
   plan_refused call target _ (leads_nowhere old _ start (by_text words is)) =
       absurd (readings.never_both text call.top call.args old words start.has_graph (by_text words is))
   plan_refused call target _ (leads_nowhere old _ start (descriptions.by_elaboration tree e checked faults)) =
@@ -93,13 +96,13 @@ module _ (file text : List ℕ) where
       let what = refusal (description file words) in
       let p = with_description begun file tree in
       read (queries.Plan call target) tree what checked
-      (gives (with_graph p old (made_of old)) [] what (start_leads tree call.top call.args old start checked) (refused words (by_elaboration tree e refl faults)))
+      (gives (with_call p starts call.top call.args old (made_of old)) [] what (start_leads tree call.top call.args old start checked) (refused words (by_elaboration tree e refl faults)))
   plan_refused call target _ (gets_full old new e start has full) =
       let words = plan_words e in
       let what = refusal (description file words) in
       let p = with_description begun file has.tree in
       read (queries.Plan call target) has.tree what has.checked
-      (gives (with_graph p old (made_of old)) [] what (start_leads has.tree call.top call.args old start has.checked)
+      (gives (with_call p starts call.top call.args old (made_of old)) [] what (start_leads has.tree call.top call.args old start has.checked)
       (refused words (by_deed has.tree new words refl has.is (old, [], refl, (e, full, refl)))))
 
   pub query_refused :
@@ -118,12 +121,12 @@ module _ (file text : List ℕ) where
       let steps = has.has_steps.steps in
       let can = has.has_steps.has_room in
       let what = plan has.old has.new steps in
-      let p = with_graph (with_description begun file tree) has.old (made_of has.old) in
+      let p = with_call (with_description begun file tree) starts call.top call.args has.old (made_of has.old) in
       let made = Rattle.command_runs.specs.Lines.and_made (made_of has.old) can.nodes can.ports in
       read (queries.Plan call target) tree what checked
       (gives p [] what (start_leads tree call.top call.args has.old has.starts checked)
-      (gives (with_graph p has.new made) [] what (leads_to p tree (changes []) target.top target.args has.new made refl has.has_graph.is (has.old, [], refl, (can, refl)))
-      (concluded planning (with_graph p has.new made) what (has.old, has.new, [], refl, (steps, has.has_steps.is_plan, refl)))))
+      (gives (with_call p (changes 0 []) target.top target.args has.new made) [] what (leads_to p tree (changes 0 []) target.top target.args has.new made refl has.has_graph.is (has.old, [], refl, (can, refl)))
+      (concluded planning (with_call p (changes 0 []) target.top target.args has.new made) what (has.old, has.new, [], refl, (steps, has.has_steps.is_plan, refl)))))
 
   pub query_given :
       (query : Query) (own : Status) (written : List ℕ) → AnswersQuery query text own written
@@ -135,8 +138,8 @@ module _ (file text : List ℕ) where
       record {
         answer = graph g;
         is = read (queries.Graph call) has.tree (graph g) has.checked
-            (gives (with_graph p g p.made) [] (graph g) (leads_to p has.tree draws call.top call.args g p.made refl has.is refl)
-            (concluded drawing (with_graph p g p.made) (graph g) (g, [], refl, refl)));
+            (gives (with_call p draws call.top call.args g p.made) [] (graph g) (leads_to p has.tree draws call.top call.args g p.made refl has.is refl)
+            (concluded drawing (with_call p draws call.top call.args g p.made) (graph g) (g, [], refl, refl)));
         has_status = is.0;
         has_text = is.1.2;
       }
@@ -149,7 +152,7 @@ module _ (file text : List ℕ) where
   query_given (queries.Replay events) own written is =
       let tree = is.starts.has_graph.tree in
       let checked = is.starts.has_graph.checked in
-      let p = with_graph (with_description begun file tree) is.graph (made_of is.graph) in
+      let p = with_call (with_description begun file tree) starts events.name events.args is.graph (made_of is.graph) in
       record {
         answer = is.replays.answer;
         is = read (queries.Replay events) tree is.replays.answer checked
@@ -191,7 +194,7 @@ script_refused file name _ _ _ (script_at_fault bytes fault first) =
 
 -- what a file of events leads to
 pub script_read :
-    (file name bytes : List ℕ) (events : EventFile) (fetches : List Rattle.command_runs.specs.Fetches.Fetch) (answer : Answer) → IsEventFile bytes events
+    (file name bytes : List ℕ) (events : EventFile) (fetches : List Fetch) (answer : Answer) → IsEventFile bytes events
     → course_of_query file (queries.Replay events) fetches answer
     → course_of (commands.Replay file name) (fetch_of name (Held bytes) ∷ fetches) answer
 script_read file name bytes events fetches answer is course = leads_on bytes fetches answer (gives events fetches answer is course)
@@ -201,6 +204,31 @@ script_unfetched file name = not_fetched
 
 pub script_unread : (file name : List ℕ) (what : Fetched) → course_of (commands.Replay file name) (fetch_of name what ∷ []) (refusal no_memory)
 script_unread file name what = fetched_alone what
+
+-- what is answered of a script that isn't one
+pub statements_refused :
+    (name : List ℕ) (what : Fetched) (own : Status) (text : List ℕ) → StatementsAnswers name what own text
+    → Shows (course_of (commands.Step name) (fetch_of name what ∷ [])) own text
+statements_refused name _ _ _ cannot_read_statements = record { answer = refusal (read_fault name); is = failed; has_status = refl; has_text = refl }
+statements_refused name _ _ _ statements_too_long =
+    record { answer = refusal (script name (codes "TooLong" ∷ [])); is = too_long; has_status = refl; has_text = refl }
+statements_refused name _ _ _ (statements_at_fault bytes fault first) =
+    let words = script_words fault in
+    let what = refusal (script name words) in
+    record { answer = what; is = leads_on bytes [] what (refused words (fault, first, refl)); has_status = refl; has_text = refl }
+
+-- what a script leads to
+pub statements_read :
+    (name bytes : List ℕ) (parsed : Script) (fetches : List Fetch) (answer : Answer) → IsScript bytes parsed
+    → Follows running begun (lines_of parsed.lines) fetches answer
+    → course_of (commands.Step name) (fetch_of name (Held bytes) ∷ fetches) answer
+statements_read name bytes parsed fetches answer is follows = leads_on bytes fetches answer (gives parsed fetches answer is follows)
+
+pub statements_unfetched : (name : List ℕ) → course_of (commands.Step name) [] (refusal no_memory)
+statements_unfetched name = not_fetched
+
+pub statements_unread : (name : List ℕ) (what : Fetched) → course_of (commands.Step name) (fetch_of name what ∷ []) (refusal no_memory)
+statements_unread name what = fetched_alone what
 
 -- what is answered of a report
 pub upgrades :

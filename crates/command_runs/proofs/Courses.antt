@@ -20,7 +20,7 @@ use Rattle.command_runs.specs.Courses.{not_fetched, fetched_alone, failed, too_l
 use Rattle.command_runs.specs.Descriptions.{IsChecked, IsGraphOf, HasGraph, IsTextRefusal, IsDescriptionRefusal, by_text}
 use Rattle.command_runs.specs.Descriptions as descriptions
 use Rattle.command_runs.specs.Fetches.{Fetch, fetch_of}
-use Rattle.command_runs.specs.Lines.{Deed, draws, starts, changes, Progress, begun, with_description, with_graph, and_made, Allows, Forbids, IsCallRefusal, by_elaboration, by_deed, Leads, Aim, drawing, planning, replaying, Concludes, Follows}
+use Rattle.command_runs.specs.Lines.{Deed, draws, starts, changes, Progress, begun, with_description, with_call, and_made, Allows, Forbids, IsCallRefusal, by_elaboration, by_deed, Leads, Aim, drawing, planning, replaying, Concludes, Follows}
 use Rattle.command_runs.specs.Plans.{Starts, RefusesStart, has_no_graph, is_full, RefusesPlan, starts_not, leads_nowhere, gets_full, nothing_made, made_of}
 use Rattle.command_runs.specs.Queries.{IsRefused, AnswersQuery}
 use Rattle.command_runs.specs.Replays.{IsReplayed}
@@ -101,10 +101,10 @@ module _ (file text : List ℕ) (tree : Tree) (checked : IsChecked text tree) wh
       by (inl is) = is
       by (inr never) = absurd never.2
   from_graph call _ _ (gives next fetches answer leads then_) =
-      let end = end_of drawing (with_graph used leads.graph leads.made) fetches answer (subst (λ n. Follows drawing n [] fetches answer) leads.is_next then_) in
+      let end = end_of drawing (with_call used draws call.top call.args leads.graph leads.made) fetches answer (subst (λ n. Follows drawing n [] fetches answer) leads.is_next then_) in
       (end.0, by end.1)
     where
-      by : (answer ≡ refusal no_memory) ⊎ Concludes drawing (with_graph used leads.graph leads.made) answer → EndsAs file (queries.Graph call) text answer
+      by : (answer ≡ refusal no_memory) ⊎ Concludes drawing (with_call used draws call.top call.args leads.graph leads.made) answer → EndsAs file (queries.Graph call) text answer
       by (inl is) = subst (EndsAs file (queries.Graph call) text) (sym is) short
       by (inr (g, earlier, is, what)) =
           let same = what ∙ ap graph (sym (head_is leads.graph g [] earlier is)) in
@@ -133,11 +133,11 @@ module _ (file text : List ℕ) (tree : Tree) (checked : IsChecked text tree) wh
   from_replay events _ _ not_judged = (refl, short)
   from_replay events _ _ (refused words why) = (refl, refuses words (start_refused events.name events.args words why))
   from_replay events _ _ (gives next fetches answer leads then_) =
-      let end = end_of (replaying events.events) (with_graph used leads.graph leads.made) fetches answer
+      let end = end_of (replaying events.events) (with_call used starts events.name events.args leads.graph leads.made) fetches answer
       (subst (λ n. Follows (replaying events.events) n [] fetches answer) leads.is_next then_) in
       (end.0, by end.1)
     where
-      by : (answer ≡ refusal no_memory) ⊎ Concludes (replaying events.events) (with_graph used leads.graph leads.made) answer → EndsAs file (queries.Replay events) text answer
+      by : (answer ≡ refusal no_memory) ⊎ Concludes (replaying events.events) (with_call used starts events.name events.args leads.graph leads.made) answer → EndsAs file (queries.Replay events) text answer
       by (inl is) = subst (EndsAs file (queries.Replay events) text) (sym is) short
       by (inr (g, earlier, is, what)) =
           given answer (record {
@@ -154,13 +154,13 @@ module _ (file text : List ℕ) (tree : Tree) (checked : IsChecked text tree) wh
   -- the second call of a plan
   module _ (call target : TopCall) (old : Graph) (made : Made) (start : Starts text call.top call.args old) (made_is : made ≡ made_of old) where
     started_ : Progress
-    started_ = with_graph used old made
+    started_ = with_call used starts call.top call.args old made
 
-    change_refused : (words : List (List ℕ)) → IsCallRefusal started_ (changes []) target.top target.args words → RefusesPlan text call target words
+    change_refused : (words : List (List ℕ)) → IsCallRefusal started_ (changes 0 []) target.top target.args words → RefusesPlan text call target words
     unfolding used started_
-    change_refused words why = by (refusal_of text started_ tree refl checked (changes []) target.top target.args words why)
+    change_refused words why = by (refusal_of text started_ tree refl checked (changes 0 []) target.top target.args words why)
       where
-        by : IsDescriptionRefusal text target.top target.args words ⊎ ((g : Graph) × HasGraph text target.top target.args g × Forbids started_ (changes []) g words)
+        by : IsDescriptionRefusal text target.top target.args words ⊎ ((g : Graph) × HasGraph text target.top target.args g × Forbids started_ (changes 0 []) g words)
             → RefusesPlan text call target words
         by (inl is) = leads_nowhere old words start is
         by (inr (new, has, (other, earlier, graphs, (e, full, is)))) =
@@ -169,13 +169,13 @@ module _ (file text : List ℕ) (tree : Tree) (checked : IsChecked text tree) wh
             (subst (λ m. IsRefusal old new [] m e) made_is (subst (λ g. IsRefusal g new [] made e) (sym (head_is old other [] earlier graphs)) full)))
 
     from_change :
-        (fetches : List Fetch) (answer : Answer) → Follows planning started_ (Rattle.command_runs.specs.Lines.calls (changes []) target.top target.args ∷ []) fetches answer
+        (fetches : List Fetch) (answer : Answer) → Follows planning started_ (Rattle.command_runs.specs.Lines.calls (changes 0 []) target.top target.args ∷ []) fetches answer
         → Ended file (queries.Plan call target) text fetches answer
     unfolding used started_
     from_change _ _ not_judged = (refl, short)
     from_change _ _ (refused words why) = (refl, refuses words (change_refused words why))
     from_change _ _ (gives next fetches answer leads then_) =
-        let end = end_of planning (with_graph started_ leads.graph leads.made) fetches answer (subst (λ n. Follows planning n [] fetches answer) leads.is_next then_) in
+        let end = end_of planning (with_call started_ (changes 0 []) target.top target.args leads.graph leads.made) fetches answer (subst (λ n. Follows planning n [] fetches answer) leads.is_next then_) in
         (end.0, by end.1)
       where
         new : Graph
@@ -184,7 +184,7 @@ module _ (file text : List ℕ) (tree : Tree) (checked : IsChecked text tree) wh
         can : CanPlan old new [] (made_of old)
         can = subst (λ m. CanPlan old new [] m) made_is (subst (λ g. CanPlan g new [] made) (sym (head_is old leads.allowed.0 [] leads.allowed.1 leads.allowed.2)) leads.allowed.3.0)
 
-        by : (answer ≡ refusal no_memory) ⊎ Concludes planning (with_graph started_ leads.graph leads.made) answer → EndsAs file (queries.Plan call target) text answer
+        by : (answer ≡ refusal no_memory) ⊎ Concludes planning (with_call started_ (changes 0 []) target.top target.args leads.graph leads.made) answer → EndsAs file (queries.Plan call target) text answer
         by (inl is) = subst (EndsAs file (queries.Plan call target) text) (sym is) short
         by (inr (o, n, earlier, graphs, (steps, is_plan, what))) =
             let new_is = head_is new n (old ∷ []) (o ∷ earlier) graphs in
@@ -198,7 +198,7 @@ module _ (file text : List ℕ) (tree : Tree) (checked : IsChecked text tree) wh
                 old = old;
                 new = new;
                 starts = start;
-                has_graph = graph_of text started_ tree refl checked (changes []) target.top target.args next leads;
+                has_graph = graph_of text started_ tree refl checked (changes 0 []) target.top target.args next leads;
                 has_steps = record { steps = steps; has_room = can; is_plan = is; is_text = refl };
               },
             ))
@@ -211,7 +211,7 @@ module _ (file text : List ℕ) (tree : Tree) (checked : IsChecked text tree) wh
   from_plan call target _ _ (refused words why) = (refl, refuses words (starts_not words (start_refused call.top call.args words why)))
   from_plan call target _ _ (gives next fetches answer leads then_) =
       from_change call target leads.graph leads.made (start_of call.top call.args next leads) (leads.allowed.1 ∙ first_made leads.graph) fetches answer
-      (subst (λ n. Follows planning n (Rattle.command_runs.specs.Lines.calls (changes []) target.top target.args ∷ []) fetches answer) leads.is_next then_)
+      (subst (λ n. Follows planning n (Rattle.command_runs.specs.Lines.calls (changes 0 []) target.top target.args ∷ []) fetches answer) leads.is_next then_)
 
   pub from_calls :
       (query : Query) (fetches : List Fetch) (answer : Answer) → Follows (aim_of query) (with_description begun file tree) (calls_of query) fetches answer

@@ -1,6 +1,7 @@
 -- What each status of a run says of its words and fetches, from the one relation of runs.
 use Rattle.std.proofs.Common.{◌≡◌, ◌≢◌, ◌∙◌, ◌⊎◌, inl, inr, ℕ, List, [], ◌∷◌, ◌++◌, Option, append-nil, refl, ap}
 use Rattle.std.specs.Prelude.{codes}
+use Rattle.std.specs.List.{AllByRecursion}
 use Rattle.cfg_io.specs.Count.{Rose}
 use Rattle.cfg_io.specs.Shelf.{Files}
 use Rattle.cfg_io.specs.Sink.{with_bytes}
@@ -15,12 +16,14 @@ use Rattle.command_runs.specs.declared.query.Query.TheVariants as queries
 use Rattle.command_runs.specs.declared.fetched.Fetched.{Fetched}
 use Rattle.command_runs.specs.declared.fetched.Fetched.TheVariants.{Held}
 use Rattle.command_answers.specs.Answers.{status_of, text_of, help_text, version_text}
-use Rattle.command_runs.specs.Fetches.{Fetch, failed_names, fetch_of, report_fetch}
+use Rattle.command_runs.specs.Fetches.{Fetch, Gave, failed_names, fetch_of, report_fetch}
 use Rattle.command_runs.specs.OneFile.{DescriptionAnswers, cannot_read, is_too_long, refused, answered, ScriptAnswers, cannot_read_script, script_too_long, script_at_fault, ReportAnswers, cannot_read_report, report_too_long, report_at_fault, upgraded}
 use Rattle.command_runs.specs.Runs.{Written, whole, stopped, Runs}
-use Rattle.command_runs.specs.Outcomes.{NamesFile, MentionsFile, Ends, WroteFront}
-use Rattle.command_runs.proofs.Inverting.{Answer, of_words, AnswersCommand, no_form, answered_to, no_memory, Ran, from_words, Plain, command_status, not_usage, not_write_fault, not_no_memory, not_pending, not_unfinished, not_unlawful}
-use Rattle.command_runs.proofs.Statuses.{not_two, ok_read_fault, denied_read_fault, memory_ok, write_fault_ok, usage_pending, usage_unfinished, usage_unlawful, memory_pending, memory_unfinished, memory_unlawful, write_fault_pending, write_fault_unfinished, write_fault_unlawful}
+use Rattle.command_runs.specs.Outcomes.{NamesFile, MentionsFile, HoldsFile, Ends, WroteFront}
+use Rattle.command_runs.proofs.Inverting.{Answer, of_words, AnswersCommand, no_form, answered_to, no_memory, Ran, from_words, Own, command_status, not_usage, not_write_fault, not_no_memory, not_unlawful}
+use Rattle.command_runs.proofs.Statuses.{not_two, ok_read_fault, denied_read_fault, memory_ok, write_fault_ok, usage_unlawful, memory_unlawful, write_fault_unlawful}
+use Rattle.command_runs.proofs.ScriptEnds.{script_ends}
+use Rattle.command_runs.proofs.ScriptEnds as scripts
 use Rattle.command_runs.proofs.Wanting.{gives_status}
 
 -- ---- statuses of answers
@@ -85,41 +88,46 @@ report_failed name _ _ _ (upgraded bytes r reads) some = absurd (some refl)
 
 -- the file of which a fetch failed
 failed_file :
-    (command : Command) (fetches : List Fetch) (own : Status) (text : List ℕ) → Answer command fetches own text → own ≡ status.ReadFault
-    → (file : List ℕ) × MentionsFile command file × (failed_names fetches ≡ file ∷ []) × (text ≡ read_fault_line file)
-failed_file commands.Help fetches own text answer is = cc (answer.0, is)
-failed_file commands.Version fetches own text answer is = cc (answer.0, is)
-failed_file (commands.Flat file call) fetches own text answer is =
-    let told = description_fault file (queries.Graph call) answer.given own text answer.answer is in
-    (file, refl, ap failed_names answer.is ∙ told.0, told.1)
-failed_file (commands.Plan file call target) fetches own text answer is =
-    let told = description_fault file (queries.Plan call target) answer.given own text answer.answer is in
-    (file, refl, ap failed_names answer.is ∙ told.0, told.1)
-failed_file (commands.Replay file name) fetches own text (inl answer) is =
-    let told = script_fault name answer.given own text answer.answer is in
-    (name, inr refl, ap failed_names answer.is ∙ told.0, told.1)
-failed_file (commands.Replay file name) fetches own text (inr answer) is =
-    let told = description_fault file (queries.Replay answer.script) answer.given own text answer.answer is in
-    (file, inl refl, ap failed_names answer.is ∙ told.0, told.1)
-failed_file (commands.Upgrade file) fetches own text answer is =
-    let told = report_fault file answer.given own text answer.answer is in
-    (file, refl, ap failed_names answer.is ∙ told.0, told.1)
+    (files : Option Files) (command : Command) (fetches : List Fetch) (own : Status) (text : List ℕ) → Answer command fetches own text
+    → AllByRecursion (Gave files) fetches → own ≡ status.ReadFault
+    → (file : List ℕ) × MentionsFile (HoldsFile files) command file × (failed_names fetches ≡ file ∷ []) × (text ≡ read_fault_line file)
+failed_file files commands.Help fetches own text answer told is = cc (answer.0, is)
+failed_file files commands.Version fetches own text answer told is = cc (answer.0, is)
+failed_file files (commands.Flat file call) fetches own text answer told is =
+    let fault = description_fault file (queries.Graph call) answer.given own text answer.answer is in
+    (file, refl, ap failed_names answer.is ∙ fault.0, fault.1)
+failed_file files (commands.Plan file call target) fetches own text answer told is =
+    let fault = description_fault file (queries.Plan call target) answer.given own text answer.answer is in
+    (file, refl, ap failed_names answer.is ∙ fault.0, fault.1)
+failed_file files (commands.Replay file name) fetches own text (inl answer) told is =
+    let fault = script_fault name answer.given own text answer.answer is in
+    (name, inr refl, ap failed_names answer.is ∙ fault.0, fault.1)
+failed_file files (commands.Replay file name) fetches own text (inr answer) told is =
+    let fault = description_fault file (queries.Replay answer.script) answer.given own text answer.answer is in
+    (file, inl refl, ap failed_names answer.is ∙ fault.0, fault.1)
+failed_file files (commands.Upgrade file) fetches own text answer told is =
+    let fault = report_fault file answer.given own text answer.answer is in
+    (file, refl, ap failed_names answer.is ∙ fault.0, fault.1)
+failed_file files (commands.Step name) fetches own text answer told is =
+    scripts.failed_file files name fetches own text (script_ends files name fetches own text answer told) is
 
 any_failed :
-    (command : Command) (fetches : List Fetch) (own : Status) (text : List ℕ) → Answer command fetches own text → failed_names fetches ≢ []
-    → own ≡ status.ReadFault
-any_failed commands.Help fetches own text answer some = absurd (some (ap failed_names answer.1))
-any_failed commands.Version fetches own text answer some = absurd (some (ap failed_names answer.1))
-any_failed (commands.Flat file call) fetches own text answer some =
+    (files : Option Files) (command : Command) (fetches : List Fetch) (own : Status) (text : List ℕ) → Answer command fetches own text
+    → AllByRecursion (Gave files) fetches → failed_names fetches ≢ [] → own ≡ status.ReadFault
+any_failed files commands.Help fetches own text answer told some = absurd (some (ap failed_names answer.1))
+any_failed files commands.Version fetches own text answer told some = absurd (some (ap failed_names answer.1))
+any_failed files (commands.Flat file call) fetches own text answer told some =
     description_failed file (queries.Graph call) answer.given own text answer.answer (λ none. some (ap failed_names answer.is ∙ none))
-any_failed (commands.Plan file call target) fetches own text answer some =
+any_failed files (commands.Plan file call target) fetches own text answer told some =
     description_failed file (queries.Plan call target) answer.given own text answer.answer (λ none. some (ap failed_names answer.is ∙ none))
-any_failed (commands.Replay file name) fetches own text (inl answer) some =
+any_failed files (commands.Replay file name) fetches own text (inl answer) told some =
     script_failed name answer.given own text answer.answer (λ none. some (ap failed_names answer.is ∙ none))
-any_failed (commands.Replay file name) fetches own text (inr answer) some =
+any_failed files (commands.Replay file name) fetches own text (inr answer) told some =
     description_failed file (queries.Replay answer.script) answer.given own text answer.answer (λ none. some (ap failed_names answer.is ∙ none))
-any_failed (commands.Upgrade file) fetches own text answer some =
+any_failed files (commands.Upgrade file) fetches own text answer told some =
     report_failed file answer.given own text answer.answer (λ none. some (ap failed_names answer.is ∙ none))
+any_failed files (commands.Step name) fetches own text answer told some =
+    scripts.any_failed files name fetches own text (script_ends files name fetches own text answer told) some
 
 -- ---- the clauses
 
@@ -150,20 +158,20 @@ module _ (words : List (List ℕ)) (files : Option Files) (failures failures' : 
       by _ (whole took same) = own run.fetches run.own run.text run.answers
       by _ (stopped n short took rose) = inr (inr refl)
 
-  pub read_fault : result ≡ status.ReadFault → (file : List ℕ) × NamesFile words file × (failures' ≡ failures ++ file ∷ []) × (taken' ≡ with_bytes taken (read_fault_line file))
+  pub read_fault : result ≡ status.ReadFault → (file : List ℕ) × NamesFile (HoldsFile files) words file × (failures' ≡ failures ++ file ∷ []) × (taken' ≡ with_bytes taken (read_fault_line file))
   read_fault is = by result run.written is
     where
-      own : (fetches : List Fetch) (s : Status) (text : List ℕ) → AnswersCommand words fetches s text → s ≡ status.ReadFault → failures' ≡ failures ++ failed_names fetches → taken' ≡ with_bytes taken text
-          → (file : List ℕ) × NamesFile words file × (failures' ≡ failures ++ file ∷ []) × (taken' ≡ with_bytes taken (read_fault_line file))
-      own _ _ _ (no_form none) is noted took = cc
-      own _ _ _ (answered_to command fetches s text asks to) is noted took =
-          let found = failed_file command fetches s text to is in
+      own : (fetches : List Fetch) (s : Status) (text : List ℕ) → AnswersCommand words fetches s text → AllByRecursion (Gave files) fetches → s ≡ status.ReadFault → failures' ≡ failures ++ failed_names fetches → taken' ≡ with_bytes taken text
+          → (file : List ℕ) × NamesFile (HoldsFile files) words file × (failures' ≡ failures ++ file ∷ []) × (taken' ≡ with_bytes taken (read_fault_line file))
+      own _ _ _ (no_form none) told is noted took = cc
+      own _ _ _ (answered_to command fetches s text asks to) told is noted took =
+          let found = failed_file files command fetches s text to told is in
           (found.0, (command, asks, found.1), noted ∙ ap (λ names. failures ++ names) found.2, took ∙ ap (with_bytes taken) found.3)
-      own _ _ _ (no_memory fetches) is noted took = cc
+      own _ _ _ (no_memory fetches) told is noted took = cc
 
       by : (r : Status) → Written run.own run.text taken taken' faults faults' r → r ≡ status.ReadFault
-          → (file : List ℕ) × NamesFile words file × (failures' ≡ failures ++ file ∷ []) × (taken' ≡ with_bytes taken (read_fault_line file))
-      by _ (whole took same) is = own run.fetches run.own run.text run.answers is run.noted took
+          → (file : List ℕ) × NamesFile (HoldsFile files) words file × (failures' ≡ failures ++ file ∷ []) × (taken' ≡ with_bytes taken (read_fault_line file))
+      by _ (whole took same) is = own run.fetches run.own run.text run.answers run.told is run.noted took
       by _ (stopped n short took rose) is = cc
 
   pub every_read_fault : failures' ≢ failures → Ends result status.ReadFault
@@ -172,14 +180,14 @@ module _ (words : List (List ℕ)) (files : Option Files) (failures failures' : 
       no_names : (names : List (List ℕ)) → failures' ≡ failures ++ names → names ≢ []
       no_names names noted is = changed (noted ∙ ap (λ ns. failures ++ ns) is ∙ append-nil failures)
 
-      own : (fetches : List Fetch) (s : Status) (text : List ℕ) → AnswersCommand words fetches s text → failures' ≡ failures ++ failed_names fetches → Ends s status.ReadFault
-      own _ _ _ (no_form none) noted = absurd (no_names [] noted refl)
-      own _ _ _ (answered_to command fetches s text asks to) noted =
-          inl (any_failed command fetches s text to (no_names (failed_names fetches) noted))
-      own _ _ _ (no_memory fetches) noted = inr (inl refl)
+      own : (fetches : List Fetch) (s : Status) (text : List ℕ) → AnswersCommand words fetches s text → AllByRecursion (Gave files) fetches → failures' ≡ failures ++ failed_names fetches → Ends s status.ReadFault
+      own _ _ _ (no_form none) told noted = absurd (no_names [] noted refl)
+      own _ _ _ (answered_to command fetches s text asks to) told noted =
+          inl (any_failed files command fetches s text to told (no_names (failed_names fetches) noted))
+      own _ _ _ (no_memory fetches) told noted = inr (inl refl)
 
       by : (r : Status) → Written run.own run.text taken taken' faults faults' r → Ends r status.ReadFault
-      by _ (whole took same) = own run.fetches run.own run.text run.answers run.noted
+      by _ (whole took same) = own run.fetches run.own run.text run.answers run.told run.noted
       by _ (stopped n short took rose) = inr (inr refl)
 
   pub every_write_fault : result ≢ status.WriteFault → faults' ≡ faults
@@ -227,7 +235,7 @@ module _ (words : List (List ℕ)) (files : Option Files) (failures failures' : 
   versioned asks = its_text commands.Version version_text asks (λ fetches s text answer. (answer.0, answer.2))
 
   -- no answer of words has this status, and no failing sink gives it
-  never : (other : Status) → ((s : Status) → Plain s → s ≢ other) → status.Usage ≢ other → status.NoMemory ≢ other → status.WriteFault ≢ other → result ≢ other
+  never : (other : Status) → ((s : Status) → Own s → s ≢ other) → status.Usage ≢ other → status.NoMemory ≢ other → status.WriteFault ≢ other → result ≢ other
   never other plain not_used not_short not_failed = by result run.written
     where
       own : (fetches : List Fetch) (s : Status) (text : List ℕ) → AnswersCommand words fetches s text → s ≢ other
@@ -239,8 +247,8 @@ module _ (words : List (List ℕ)) (files : Option Files) (failures failures' : 
       by _ (whole took same) = own run.fetches run.own run.text run.answers
       by _ (stopped n short took rose) = not_failed
 
-  pub no_other : (result ≢ status.Pending) × (result ≢ status.Unfinished) × (result ≢ status.Unlawful)
-  no_other = (never status.Pending not_pending usage_pending memory_pending write_fault_pending, never status.Unfinished not_unfinished usage_unfinished memory_unfinished write_fault_unfinished, never status.Unlawful not_unlawful usage_unlawful memory_unlawful write_fault_unlawful)
+  pub no_other : result ≢ status.Unlawful
+  no_other = never status.Unlawful not_unlawful usage_unlawful memory_unlawful write_fault_unlawful
 
 -- what a failing sink took
 pub write_fault :

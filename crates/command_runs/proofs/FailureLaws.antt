@@ -4,19 +4,23 @@ use Rattle.quiesce_core.specs.State.{State}
 use Rattle.quiesce_core.specs.Start.{started}
 use Rattle.quiesce_core.specs.declared.event.Event.{Event}
 use Rattle.change_script.specs.EventFiles.{IsEventFile}
+use Rattle.change_script.specs.ScriptFiles.{IsScript}
+use Rattle.std.specs.Prelude.{Contains}
+use Rattle.base.proofs.ContainsLaws.{Contains-here}
 use Rattle.command_answers.specs.Answers.{Answer, Refusal, refusal, description, script, read_fault, help, version, report}
 use Rattle.command_words.specs.declared.words.Command.TheVariants as commands
 use Rattle.command_runs.specs.declared.fetched.Fetched.TheVariants.{Held, TooLong, Failed}
 use Rattle.command_runs.specs.declared.query.Query.{Query}
 use Rattle.command_runs.specs.declared.query.Query.TheVariants as queries
-use Rattle.command_runs.specs.Commands.{RefusesEvents, RefusesReport, TellsReport, calls_of, course_of_query}
+use Rattle.command_runs.specs.Commands.{RefusesEvents, RefusesReport, RefusesStatements, TellsReport, calls_of, course_of_query}
 use Rattle.command_runs.specs.Courses.{Course, Says, AfterFetch, not_fetched, fetched_alone, failed, too_long, leads_on, After, not_judged, refused, gives}
 use Rattle.command_runs.specs.Descriptions.{IsTextRefusal, IsChecked}
 use Rattle.command_runs.specs.Failures.{Uses, FailsLast}
-use Rattle.command_runs.specs.Fetches.{Fetch, failed_names, file_limit, report_limit}
-use Rattle.command_runs.specs.Lines.{Line, uses, calls, Aim, drawing, planning, replaying, Progress, begun, with_description, IsCallRefusal, Leads, Concludes, Follows}
+use Rattle.command_runs.specs.Fetches.{Fetch, WasHeld, failed_names, fetch_of, file_limit, report_limit}
+use Rattle.command_runs.specs.Lines.{Line, uses, calls, does, Aim, drawing, planning, replaying, running, Progress, begun, with_description, with_statement, IsCallRefusal, Leads, Concludes, Follows}
 use Rattle.command_runs.specs.Outcomes.{NamesFile}
 use Rattle.command_runs.specs.Replays.{IsReplayed, one_denied, all_steps}
+use Rattle.command_runs.specs.Scripts.{lines_of}
 use Rattle.command_runs.specs.Runs.{AnswersWords, asked}
 use Rattle.command_runs.specs.Runs as runs
 
@@ -30,6 +34,7 @@ concludes_well : (aim : Aim) (p : Progress) (answer : Answer) (why : Refusal) �
 concludes_well drawing p answer why (g, earlier, graphs, what) same = cc (what, same)
 concludes_well planning p answer why (old, new, earlier, graphs, (steps, is, what)) same = cc (what, same)
 concludes_well (replaying events) p answer why (g, earlier, graphs, what) same = no_refusal_of (started g) events answer why what same
+concludes_well running p answer why (r, is, what) same = cc (what, same)
 
 -- ---- the single steps
 
@@ -53,7 +58,7 @@ module _ (Named : List ℕ → Type 0) where
   of_fetch :
       (name : List ℕ) (limit : ℕ) (refuse : List (List ℕ) → Answer) (Then : List ℕ → Course) (fetches : List Fetch) (answer : Answer) → Named name
       → ((words : List (List ℕ)) (file : List ℕ) → refuse words ≢ refusal (read_fault file))
-      → ((bytes : List ℕ) (fs : List Fetch) (a : Answer) → Then bytes fs a → FailsLast Named fs a)
+      → ((bytes : List ℕ) (fs : List Fetch) (a : Answer) → fetches ≡ record { name = name; limit = limit; given = Held bytes } ∷ fs → Then bytes fs a → FailsLast Named fs a)
       → AfterFetch name limit refuse Then fetches answer → FailsLast Named fetches answer
   of_fetch name limit refuse Then _ _ named other rest not_fetched = inl (refl, λ file is. cc)
   of_fetch name limit refuse Then _ _ named other rest (fetched_alone (Held bytes)) = inl (refl, λ file is. cc)
@@ -64,7 +69,7 @@ module _ (Named : List ℕ → Type 0) where
       inr (record { before = []; none_before = refl; name = name; limit = limit; named = named; parts = refl; says = inl refl })
   of_fetch name limit refuse Then _ _ named other rest too_long = inl (refl, other _)
   of_fetch name limit refuse Then _ _ named other rest (leads_on bytes fetches answer then_) =
-      more_fetches (record { name = name; limit = limit; given = Held bytes }) fetches answer refl refl (λ before none. none) (rest bytes fetches answer then_)
+      more_fetches (record { name = name; limit = limit; given = Held bytes }) fetches answer refl refl (λ before none. none) (rest bytes fetches answer refl then_)
 
   of_step :
       {A : Type 0} (Refuses : List (List ℕ) → Type 0) (refuse : List (List ℕ) → Answer) (Gives : A → Type 0) (Then : A → Course) (fetches : List Fetch) (answer : Answer)
@@ -94,11 +99,12 @@ module _ (Named : List ℕ → Type 0) where
       of_fetch file file_limit refuse
       (λ bytes. After (IsTextRefusal bytes) refuse (IsChecked bytes) (λ tree. Follows aim (with_description p file tree) lines)) fetches answer
       (named file (inl refl)) (other_refusal file)
-      (λ bytes fs a then_. of_step (IsTextRefusal bytes) refuse (IsChecked bytes) (λ tree. Follows aim (with_description p file tree) lines) fs a (other_refusal file)
+      (λ bytes fs a here then_. of_step (IsTextRefusal bytes) refuse (IsChecked bytes) (λ tree. Follows aim (with_description p file tree) lines) fs a (other_refusal file)
       (λ tree gs b checked rest. of_lines aim (with_description p file tree) lines gs b (λ other is. named other (inr is)) rest) then_) follows
   of_lines aim p (calls deed name args ∷ lines) fetches answer named follows =
       of_step (IsCallRefusal p deed name args) (λ words. refusal (description p.file words)) (Leads p deed name args) (λ next. Follows aim next lines) fetches answer
       (other_refusal p.file) (λ next fs a leads rest. of_lines aim next lines fs a named rest) follows
+  of_lines aim p (does what ∷ lines) fetches answer named follows = of_lines aim (with_statement p what) lines fetches answer named follows
 
   of_query :
       (file : List ℕ) (query : Query) (fetches : List Fetch) (answer : Answer) → Named file → course_of_query file query fetches answer → FailsLast Named fetches answer
@@ -123,26 +129,37 @@ module _ (Named : List ℕ → Type 0) where
 
 -- ---- words
 
-pub of_words : (words : List (List ℕ)) (fetches : List Fetch) (answer : Answer) → AnswersWords words fetches answer → FailsLast (NamesFile words) fetches answer
+held : (name bytes : List ℕ) (fetches later : List Fetch) → fetches ≡ fetch_of name (Held bytes) ∷ later → WasHeld fetches name bytes
+held name bytes fetches later here = subst (λ fs. Contains fs (fetch_of name (Held bytes))) (sym here) (Contains-here (fetch_of name (Held bytes)) later)
+
+pub of_words : (words : List (List ℕ)) (fetches : List Fetch) (answer : Answer) → AnswersWords words fetches answer → FailsLast (NamesFile (WasHeld fetches) words) fetches answer
 of_words words _ _ (runs.no_form none) = inl (refl, λ file is. cc)
 of_words words _ _ runs.not_read = inl (refl, λ file is. cc)
-of_words words _ _ (asked commands.Help fetches answer asks course) = of_says (NamesFile words) help fetches answer (λ file is. cc) course
-of_words words _ _ (asked commands.Version fetches answer asks course) = of_says (NamesFile words) version fetches answer (λ file is. cc) course
+of_words words _ _ (asked commands.Help fetches answer asks course) = of_says (NamesFile (WasHeld fetches) words) help fetches answer (λ file is. cc) course
+of_words words _ _ (asked commands.Version fetches answer asks course) = of_says (NamesFile (WasHeld fetches) words) version fetches answer (λ file is. cc) course
 of_words words _ _ (asked (commands.Flat file call) fetches answer asks course) =
-    of_query (NamesFile words) file (queries.Graph call) fetches answer (commands.Flat file call, asks, refl) course
+    of_query (NamesFile (WasHeld fetches) words) file (queries.Graph call) fetches answer (commands.Flat file call, asks, refl) course
 of_words words _ _ (asked (commands.Plan file call target) fetches answer asks course) =
-    of_query (NamesFile words) file (queries.Plan call target) fetches answer (commands.Plan file call target, asks, refl) course
+    of_query (NamesFile (WasHeld fetches) words) file (queries.Plan call target) fetches answer (commands.Plan file call target, asks, refl) course
 of_words words _ _ (asked (commands.Replay file name) fetches answer asks course) =
-    let Named = NamesFile words in
+    let Named = NamesFile (WasHeld fetches) words in
     let refuse = λ (ws : List (List ℕ)). refusal (script name ws) in
     let Then = λ (bytes : List ℕ). After (RefusesEvents bytes) refuse (IsEventFile bytes) (λ events. course_of_query file (queries.Replay events)) in
     of_fetch Named name file_limit refuse Then fetches answer (commands.Replay file name, asks, inr refl) (other_script Named name)
-    (λ bytes fs a then_. of_step Named (RefusesEvents bytes) refuse (IsEventFile bytes) (λ events. course_of_query file (queries.Replay events)) fs a (other_script Named name)
+    (λ bytes fs a here then_. of_step Named (RefusesEvents bytes) refuse (IsEventFile bytes) (λ events. course_of_query file (queries.Replay events)) fs a (other_script Named name)
     (λ events gs b is rest. of_query Named file (queries.Replay events) gs b (commands.Replay file name, asks, inl refl) rest) then_) course
 of_words words _ _ (asked (commands.Upgrade file) fetches answer asks course) =
-    let Named = NamesFile words in
+    let Named = NamesFile (WasHeld fetches) words in
     let refuse = λ (ws : List (List ℕ)). refusal (script file ws) in
     let Then = λ (bytes : List ℕ). After (RefusesReport bytes) refuse (TellsReport bytes) (λ r. Says (report r)) in
     of_fetch Named file report_limit refuse Then fetches answer (commands.Upgrade file, asks, refl) (other_script Named file)
-    (λ bytes fs a then_. of_step Named (RefusesReport bytes) refuse (TellsReport bytes) (λ r. Says (report r)) fs a (other_script Named file)
+    (λ bytes fs a here then_. of_step Named (RefusesReport bytes) refuse (TellsReport bytes) (λ r. Says (report r)) fs a (other_script Named file)
     (λ r gs b is says. of_says Named (report r) gs b (λ other same. cc) says) then_) course
+of_words words _ _ (asked (commands.Step name) fetches answer asks course) =
+    let Named = NamesFile (WasHeld fetches) words in
+    let refuse = λ (ws : List (List ℕ)). refusal (script name ws) in
+    let Then = λ (bytes : List ℕ). After (RefusesStatements bytes) refuse (IsScript bytes) (λ lines. Follows running begun (lines_of lines.lines)) in
+    of_fetch Named name file_limit refuse Then fetches answer (commands.Step name, asks, inl refl) (other_script Named name)
+    (λ bytes fs a here then_. of_step Named (RefusesStatements bytes) refuse (IsScript bytes) (λ lines. Follows running begun (lines_of lines.lines)) fs a (other_script Named name)
+    (λ lines gs b is rest. of_lines Named running begun (lines_of lines.lines) gs b
+    (λ file used. (commands.Step name, asks, inr (bytes, lines, held name bytes fetches fs here, is, used))) rest) then_) course

@@ -34,9 +34,11 @@ use Rattle.command_runs.specs.declared.fetched.Fetched.TheVariants.{Failed}
 use Rattle.command_runs.specs.Fetches.{Fetch, failed_names, fetch_of, file_limit, Gave, report_fetch, report_limit}
 use Rattle.command_runs.specs.OneFile.{DescriptionAnswers, cannot_read, is_too_long, refused, answered, ScriptAnswers, cannot_read_script, script_too_long, script_at_fault, ReportAnswers, cannot_read_report, report_too_long, report_at_fault, upgraded}
 use Rattle.command_runs.specs.Runs.{Written, whole, stopped}
-use Rattle.command_runs.specs.Outcomes.{Ends, Wants, Flattened, Planned, Replayed, Refused, too_long, at_fault, ScriptRefused, events_too_long, events_at_fault, HoldsFile, MustRefuse, MustRefuseScript, NothingRefuses, EndsAsGiven, Upgraded, ReportRefused, is_longer, has_fault, RefusesScript, MustRefuseReport, NothingRefusesReport}
+use Rattle.command_runs.specs.Outcomes.{Ends, Wants, Flattened, Planned, Replayed, Refused, too_long, at_fault, ScriptRefused, events_too_long, events_at_fault, HoldsFile, MustRefuse, MustRefuseScript, NothingRefuses, EndsAsGiven, Upgraded, ReportRefused, is_longer, has_fault, RefusesScript, RefusesDescription, MustRefuseReport, NothingRefusesReport}
 use Rattle.command_runs.proofs.Inverting.{Answer, of_words, AnswersCommand, no_form, answered_to, no_memory, Ran, OfDescription, OfScript, OfReplay, OfReport}
 use Rattle.change_script.proofs.EventFileLaws as scripts
+use Rattle.command_runs.proofs.ScriptEnds.{script_ends}
+use Rattle.command_runs.proofs.ScriptEnds as ending
 use Rattle.command_runs.proofs.Statuses.{IsGiven, well, with_denial, not_two, memory_not_given, write_fault_not_given, ok_denied, ok_description, ok_script, usage_denied, usage_description, usage_script, memory_denied, memory_description, memory_script, write_fault_denied, write_fault_description, write_fault_script}
 use Rattle.command_runs.proofs.Telling.{held_told, held_within, long_told, longer_told, report_told, report_within, same_content, within_not_long, none_added}
 use Rattle.command_runs.proofs.Wanting.{gives_status, gives_one, never_both}
@@ -335,6 +337,8 @@ module _ (words : List (List ℕ)) (files : Option Files) (failures failures' : 
       of (commands.Replay file name) asks (inr r) is took =
           (file, name, asks, of_replay files taken taken' file name run.fetches run.own run.text status.Denied with_denial r is run.told took)
       of (commands.Upgrade file) asks answer is took = absurd (report_not_denied files taken taken' file answer.given run.own run.text answer.answer is)
+      of (commands.Step name) asks answer is took =
+          absurd (ending.not_denied files name run.fetches run.own run.text (script_ends files name run.fetches run.own run.text answer run.told) is)
 
       own : (fetches : List Fetch) (s : Status) (text : List ℕ) → AnswersCommand words fetches s text → s ≡ status.Denied
           → ((command : Command) → Asks words command → Answer command fetches s text → s ≡ status.Denied
@@ -351,23 +355,23 @@ module _ (words : List (List ℕ)) (files : Option Files) (failures failures' : 
 
   -- ---- what Description and Script say
 
-  pub refuses : result ≡ status.Description → (file : List ℕ) × (query : Query) × Wants files words file query × Refused files file query taken taken'
+  pub refuses : result ≡ status.Description → RefusesDescription words files taken taken'
   refuses is = by result run.written is
     where
       of : (command : Command) (fetches : List Fetch) (own : Status) (text : List ℕ) → Asks words command → Answer command fetches own text → own ≡ status.Description
-          → AllByRecursion (Gave files) fetches → taken' ≡ with_bytes taken text
-          → (file : List ℕ) × (query : Query) × Wants files words file query × Refused files file query taken taken'
+          → AllByRecursion (Gave files) fetches → taken' ≡ with_bytes taken text → RefusesDescription words files taken taken'
       of commands.Help fetches own text asks answer is told took = absurd (not_two own status.Ok status.Description answer.0 is ok_description)
       of commands.Version fetches own text asks answer is told took = absurd (not_two own status.Ok status.Description answer.0 is ok_description)
       of (commands.Flat file call) fetches own text asks answer is told took =
           let each = subst (AllByRecursion (Gave files)) answer.is told in
-          (file, queries.Graph call, asks, of_refusal files taken taken' file (queries.Graph call) answer.given own text answer.answer is each.0 took)
+          inl (file, queries.Graph call, asks, of_refusal files taken taken' file (queries.Graph call) answer.given own text answer.answer is each.0 took)
       of (commands.Plan file call target) fetches own text asks answer is told took =
           let each = subst (AllByRecursion (Gave files)) answer.is told in
-          (file, queries.Plan call target, asks, of_refusal files taken taken' file (queries.Plan call target) answer.given own text answer.answer is each.0 took)
+          inl (file, queries.Plan call target, asks, of_refusal files taken taken' file (queries.Plan call target) answer.given own text answer.answer is each.0 took)
       of (commands.Replay file name) fetches own text asks (inl s) is told took = absurd (script_not_description files taken taken' name s.given own text s.answer is)
       of (commands.Replay file name) fetches own text asks (inr r) is told took =
-          let each = subst (AllByRecursion (Gave files)) r.is told in (
+          let each = subst (AllByRecursion (Gave files)) r.is told in
+          inl (
             file,
             queries.Replay r.script,
             (name, r.bytes, asks, held_told files name r.bytes each.0, held_within files name r.bytes each.0, r.is_script),
@@ -375,15 +379,16 @@ module _ (words : List (List ℕ)) (files : Option Files) (failures failures' : 
           )
       of (commands.Upgrade file) fetches own text asks answer is told took =
           absurd (report_not_description files taken taken' file answer.given own text answer.answer is)
+      of (commands.Step name) fetches own text asks answer is told took =
+          inr (name, asks, ending.line_refused files name fetches taken taken' own text (script_ends files name fetches own text answer told) is took)
 
       own : (fetches : List Fetch) (s : Status) (text : List ℕ) → AnswersCommand words fetches s text → s ≡ status.Description → AllByRecursion (Gave files) fetches
-          → taken' ≡ with_bytes taken text → (file : List ℕ) × (query : Query) × Wants files words file query × Refused files file query taken taken'
+          → taken' ≡ with_bytes taken text → RefusesDescription words files taken taken'
       own _ _ _ (no_form none) is told took = absurd (usage_description is)
       own _ _ _ (answered_to command fetches s text asks to) is told took = of command fetches s text asks to is told took
       own _ _ _ (no_memory fetches) is told took = absurd (memory_description is)
 
-      by : (r : Status) → Written run.own run.text taken taken' faults faults' r → r ≡ status.Description
-          → (file : List ℕ) × (query : Query) × Wants files words file query × Refused files file query taken taken'
+      by : (r : Status) → Written run.own run.text taken taken' faults faults' r → r ≡ status.Description → RefusesDescription words files taken taken'
       by _ (whole took steady) is = own run.fetches run.own run.text run.answers is run.told took
       by _ (stopped n short took rose) is = absurd (write_fault_description is)
 
@@ -405,7 +410,9 @@ module _ (words : List (List ℕ)) (files : Option Files) (failures failures' : 
           absurd (no_script_status files taken taken' file (queries.Replay r.script) r.given own text r.answer is)
       of (commands.Upgrade file) fetches own text asks answer is told took =
           let each = subst (AllByRecursion (Gave files)) answer.is told in
-          inr (file, asks, of_report_refusal files taken taken' file answer.given own text answer.answer is each.0 took)
+          inr (inl (file, asks, of_report_refusal files taken taken' file answer.given own text answer.answer is each.0 took))
+      of (commands.Step name) fetches own text asks answer is told took =
+          inr (inr (name, asks, ending.statements_refused files name fetches taken taken' own text (script_ends files name fetches own text answer told) is took))
 
       own : (fetches : List Fetch) (s : Status) (text : List ℕ) → AnswersCommand words fetches s text → s ≡ status.Script → AllByRecursion (Gave files) fetches
           → taken' ≡ with_bytes taken text → RefusesScript words files taken taken'

@@ -1,9 +1,12 @@
 -- What an answer of words says, by the command that they ask for.
-use Rattle.std.proofs.Common.{◌≡◌, ◌≢◌, ◌⊎◌, inl, inr, ℕ, List, [], ◌∷◌, ◌++◌, Option, refl, sym, ap, subst}
+use Rattle.std.proofs.Common.{◌≡◌, ◌≢◌, ◌∙◌, ◌⊎◌, inl, inr, ℕ, Bool, true, false, if◌then◌else◌, List, [], ◌∷◌, ◌++◌, Option, codes, refl, sym, ap, subst}
+use Rattle.std.specs.Prelude.{◌==◌}
 use Rattle.std.specs.List.{AllByRecursion}
 use Rattle.cfg_io.specs.Shelf.{Files}
 use Rattle.change_script.specs.declared.event_files.EventFile.{EventFile}
 use Rattle.change_script.specs.EventFiles.{IsEventFile}
+use Rattle.change_script.specs.ScriptFiles.{IsScript}
+use Rattle.change_script.specs.declared.script.Script.{Script}
 use Rattle.command_answers.specs.declared.status.Status.{Status}
 use Rattle.command_answers.specs.declared.status.Status.TheVariants as status
 use Rattle.command_words.specs.declared.words.Command.{Command}
@@ -14,18 +17,68 @@ use Rattle.command_runs.specs.declared.query.Query.TheVariants as queries
 use Rattle.command_runs.specs.declared.fetched.Fetched.{Fetched}
 use Rattle.command_runs.specs.declared.fetched.Fetched.TheVariants.{Held, TooLong, Failed}
 use Rattle.command_answers.specs.Answers as values
-use Rattle.command_answers.specs.Answers.{refusal, status_of, text_of, usage_line, no_memory_line, help_text, version_text}
-use Rattle.command_answers.specs.RefusalLines.{script_line}
+use Rattle.command_answers.specs.Answers.{refusal, run_status, status_of, text_of, usage_line, no_memory_line, help_text, version_text}
+use Rattle.command_answers.specs.RefusalLines.{read_fault_line, script_line}
 use Rattle.command_runs.specs.Commands.{course_of}
 use Rattle.command_runs.specs.Courses.{not_fetched, fetched_alone, failed, too_long, leads_on, not_judged}
 use Rattle.command_runs.specs.Courses as courses
 use Rattle.command_runs.specs.Fetches.{Fetch, fetch_of, failed_names, Gave, report_fetch}
-use Rattle.command_runs.specs.OneFile.{DescriptionAnswers, cannot_read, is_too_long, refused, answered, ScriptAnswers, cannot_read_script, script_too_long, script_at_fault, ReportAnswers, cannot_read_report, report_too_long, report_at_fault, upgraded}
+use Rattle.command_runs.specs.Lines.{Line, uses, calls, does, Progress, begun, with_description, with_statement, running, Follows}
+use Rattle.command_runs.specs.OneFile.{DescriptionAnswers, cannot_read, is_too_long, refused, answered, ScriptAnswers, cannot_read_script, script_too_long, script_at_fault, StatementsAnswers, cannot_read_statements, statements_too_long, statements_at_fault, ReportAnswers, cannot_read_report, report_too_long, report_at_fault, upgraded}
 use Rattle.command_runs.specs.Runs.{Written, AnswersWords, asked, Runs}
 use Rattle.command_runs.specs.Runs as runs
+use Rattle.command_runs.specs.Scripts.{lines_of}
 use Rattle.command_words.proofs.WordsLaws.{one_command}
 use Rattle.command_runs.proofs.Courses.{OfQuery, out_of_memory, of_description, from_query}
 use Rattle.command_runs.proofs.Wanting.{gives_status}
+
+-- ---- the statuses that answers have
+
+-- a status that an answer of one file may have
+pub data Plain : Status → Type 0 where
+  well : Plain status.Ok
+  description : Plain status.Description
+  script : Plain status.Script
+  read_fault : Plain status.ReadFault
+  denied : Plain status.Denied
+
+-- a status that a command may have of itself
+pub data Own : Status → Type 0 where
+  plain : (s : Status) → Plain s → Own s
+  pending : Own status.Pending
+  unfinished : Own status.Unfinished
+
+-- of a run, by its report
+run_own_with : (waits undone : Bool) → Own (if waits then status.Pending else if undone then status.Unfinished else status.Ok)
+run_own_with true undone = pending
+run_own_with false true = unfinished
+run_own_with false false = plain status.Ok well
+
+run_own : (n : ℕ) → Own (run_status n)
+run_own n = run_own_with (n == 7) (n == 8)
+
+-- of lines that are run
+follows_status :
+    (p : Progress) (lines : List Line) (fetches : List Fetch) (answer : values.Answer) → Follows running p lines fetches answer
+    → Own (status_of answer) ⊎ (answer ≡ refusal values.no_memory)
+follows_status p [] _ _ not_judged = inr refl
+follows_status p [] _ _ (courses.refused words never) = absurd never
+follows_status p [] _ _ (courses.gives what fetches answer concludes says) =
+    inl (subst (λ a. Own (status_of a)) (sym (says.1 ∙ concludes.2)) (run_own concludes.0.status))
+follows_status p (uses file ∷ lines) _ _ not_fetched = inr refl
+follows_status p (uses file ∷ lines) _ _ (fetched_alone what) = inr refl
+follows_status p (uses file ∷ lines) _ _ failed = inl (plain status.ReadFault read_fault)
+follows_status p (uses file ∷ lines) _ _ too_long = inl (plain status.Description description)
+follows_status p (uses file ∷ lines) _ _ (leads_on bytes _ _ not_judged) = inr refl
+follows_status p (uses file ∷ lines) _ _ (leads_on bytes _ _ (courses.refused words why)) = inl (plain status.Description description)
+follows_status p (uses file ∷ lines) _ _ (leads_on bytes _ _ (courses.gives tree fetches answer checked follows)) =
+    follows_status (with_description p file tree) lines fetches answer follows
+follows_status p (calls deed name args ∷ lines) _ _ not_judged = inr refl
+follows_status p (calls deed name args ∷ lines) _ _ (courses.refused words why) = inl (plain status.Description description)
+follows_status p (calls deed name args ∷ lines) _ _ (courses.gives next fetches answer leads follows) = follows_status next lines fetches answer follows
+follows_status p (does what ∷ lines) fetches answer follows = follows_status (with_statement p what) lines fetches answer follows
+
+-- ---- what is answered, by what was fetched
 
 -- an answer of one description
 pub record OfDescription (file : List ℕ) (query : Query) (fetches : List Fetch) (own : Status) (text : List ℕ) : Type 0 where
@@ -51,6 +104,15 @@ pub record OfReport (name : List ℕ) (fetches : List Fetch) (own : Status) (tex
   pub is : fetches ≡ report_fetch name given ∷ []
   pub answer : ReportAnswers name given own text
 
+-- an answer of a script: it isn't one, or its lines have an answer that isn't for want of memory
+pub data OfStep (name : List ℕ) : List Fetch → Status → List ℕ → Type 0 where
+  of_statements :
+      (given : Fetched) (own : Status) (text : List ℕ) → StatementsAnswers name given own text → OfStep name (fetch_of name given ∷ []) own text
+  of_lines :
+      (bytes : List ℕ) (parsed : Script) (fetches : List Fetch) (answer : values.Answer) → IsScript bytes parsed
+      → Follows running begun (lines_of parsed.lines) fetches answer → Own (status_of answer)
+      → OfStep name (fetch_of name (Held bytes) ∷ fetches) (status_of answer) (text_of answer)
+
 -- what is answered to a command
 abbrev pub Answer : Command → List Fetch → Status → List ℕ → Type 0
 Answer commands.Help fetches own text = (own ≡ status.Ok) × (fetches ≡ []) × (text ≡ help_text)
@@ -59,6 +121,7 @@ Answer (commands.Flat file call) fetches own text = OfDescription file (queries.
 Answer (commands.Plan file call target) fetches own text = OfDescription file (queries.Plan call target) fetches own text
 Answer (commands.Replay file name) fetches own text = OfScript name fetches own text ⊎ OfReplay file name fetches own text
 Answer (commands.Upgrade file) fetches own text = OfReport file fetches own text
+Answer (commands.Step name) fetches own text = OfStep name fetches own text
 
 pub from_command :
     (command : Command) (fetches : List Fetch) (answer : values.Answer) → course_of command fetches answer
@@ -114,6 +177,22 @@ from_command (commands.Upgrade file) _ _ (leads_on bytes _ _ (courses.gives r fe
       is = ap (λ fs. report_fetch file (Held bytes) ∷ fs) says.0;
       answer = subst (λ a. ReportAnswers file (Held bytes) (status_of a) (text_of a)) (sym says.1) (upgraded bytes r is);
     })
+from_command (commands.Step name) _ _ not_fetched = inr refl
+from_command (commands.Step name) _ _ (fetched_alone what) = inr refl
+from_command (commands.Step name) _ _ failed = inl (of_statements Failed status.ReadFault (read_fault_line name) cannot_read_statements)
+from_command (commands.Step name) _ _ too_long =
+    inl (of_statements TooLong status.Script (script_line name (codes "TooLong" ∷ [])) statements_too_long)
+from_command (commands.Step name) _ _ (leads_on bytes _ _ not_judged) = inr refl
+from_command (commands.Step name) _ _ (leads_on bytes _ _ (courses.refused words (fault, first, is))) =
+    inl (of_statements (Held bytes) status.Script (script_line name words)
+    (subst (λ w. StatementsAnswers name (Held bytes) status.Script (script_line name w)) (sym is) (statements_at_fault bytes fault first)))
+from_command (commands.Step name) _ _ (leads_on bytes _ _ (courses.gives parsed fetches answer is follows)) =
+    by (follows_status begun (lines_of parsed.lines) fetches answer follows)
+  where
+    by : Own (status_of answer) ⊎ (answer ≡ refusal values.no_memory)
+        → OfStep name (fetch_of name (Held bytes) ∷ fetches) (status_of answer) (text_of answer) ⊎ (answer ≡ refusal values.no_memory)
+    by (inl own) = inl (of_lines bytes parsed fetches answer is follows own)
+    by (inr short) = inr short
 
 -- the status and the text of an answer to words
 pub data AnswersCommand (words : List (List ℕ)) : List Fetch → Status → List ℕ → Type 0 where
@@ -166,14 +245,6 @@ of_words words command _ _ _ asks (no_memory fetches) = inr refl
 
 -- ---- statuses of answers
 
--- a status that a command may have of itself
-pub data Plain : Status → Type 0 where
-  well : Plain status.Ok
-  description : Plain status.Description
-  script : Plain status.Script
-  read_fault : Plain status.ReadFault
-  denied : Plain status.Denied
-
 pub description_status :
     (file : List ℕ) (query : Query) (given : Fetched) (own : Status) (text : List ℕ) → DescriptionAnswers file query given own text → Plain own
 description_status file query _ _ _ cannot_read = read_fault
@@ -196,53 +267,92 @@ report_status name _ _ _ report_too_long = script
 report_status name _ _ _ (report_at_fault bytes fault first) = script
 report_status name _ _ _ (upgraded bytes r is) = well
 
-pub command_status : (command : Command) (fetches : List Fetch) (own : Status) (text : List ℕ) → Answer command fetches own text → Plain own
-command_status commands.Help fetches own text answer = rw answer.0 well
-command_status commands.Version fetches own text answer = rw answer.0 well
-command_status (commands.Flat file call) fetches own text answer = description_status file (queries.Graph call) answer.given own text answer.answer
-command_status (commands.Plan file call target) fetches own text answer = description_status file (queries.Plan call target) answer.given own text answer.answer
-command_status (commands.Replay file name) fetches own text (inl answer) = script_status name answer.given own text answer.answer
-command_status (commands.Replay file name) fetches own text (inr answer) = description_status file (queries.Replay answer.script) answer.given own text answer.answer
-command_status (commands.Upgrade file) fetches own text answer = report_status file answer.given own text answer.answer
+pub statements_status : (name : List ℕ) (given : Fetched) (own : Status) (text : List ℕ) → StatementsAnswers name given own text → Plain own
+statements_status name _ _ _ cannot_read_statements = read_fault
+statements_status name _ _ _ statements_too_long = script
+statements_status name _ _ _ (statements_at_fault bytes fault first) = script
 
-pub not_usage : (own : Status) → Plain own → own ≢ status.Usage
-not_usage _ well is = cc
-not_usage _ description is = cc
-not_usage _ script is = cc
-not_usage _ read_fault is = cc
-not_usage _ denied is = cc
+step_status : (name : List ℕ) (fetches : List Fetch) (own : Status) (text : List ℕ) → OfStep name fetches own text → Own own
+step_status name _ _ _ (of_statements given own text answer) = plain own (statements_status name given own text answer)
+step_status name _ _ _ (of_lines bytes parsed fetches answer is follows own) = own
 
-pub not_write_fault : (own : Status) → Plain own → own ≢ status.WriteFault
-not_write_fault _ well is = cc
-not_write_fault _ description is = cc
-not_write_fault _ script is = cc
-not_write_fault _ read_fault is = cc
-not_write_fault _ denied is = cc
+pub command_status : (command : Command) (fetches : List Fetch) (own : Status) (text : List ℕ) → Answer command fetches own text → Own own
+command_status commands.Help fetches own text answer = rw answer.0 (plain status.Ok well)
+command_status commands.Version fetches own text answer = rw answer.0 (plain status.Ok well)
+command_status (commands.Flat file call) fetches own text answer = plain own (description_status file (queries.Graph call) answer.given own text answer.answer)
+command_status (commands.Plan file call target) fetches own text answer = plain own (description_status file (queries.Plan call target) answer.given own text answer.answer)
+command_status (commands.Replay file name) fetches own text (inl answer) = plain own (script_status name answer.given own text answer.answer)
+command_status (commands.Replay file name) fetches own text (inr answer) = plain own (description_status file (queries.Replay answer.script) answer.given own text answer.answer)
+command_status (commands.Upgrade file) fetches own text answer = plain own (report_status file answer.given own text answer.answer)
+command_status (commands.Step name) fetches own text answer = step_status name fetches own text answer
 
-pub not_no_memory : (own : Status) → Plain own → own ≢ status.NoMemory
-not_no_memory _ well is = cc
-not_no_memory _ description is = cc
-not_no_memory _ script is = cc
-not_no_memory _ read_fault is = cc
-not_no_memory _ denied is = cc
+pub not_usage : (own : Status) → Own own → own ≢ status.Usage
+not_usage _ (plain _ well) is = cc
+not_usage _ (plain _ description) is = cc
+not_usage _ (plain _ script) is = cc
+not_usage _ (plain _ read_fault) is = cc
+not_usage _ (plain _ denied) is = cc
+not_usage _ pending is = cc
+not_usage _ unfinished is = cc
 
-pub not_pending : (own : Status) → Plain own → own ≢ status.Pending
+pub not_write_fault : (own : Status) → Own own → own ≢ status.WriteFault
+not_write_fault _ (plain _ well) is = cc
+not_write_fault _ (plain _ description) is = cc
+not_write_fault _ (plain _ script) is = cc
+not_write_fault _ (plain _ read_fault) is = cc
+not_write_fault _ (plain _ denied) is = cc
+not_write_fault _ pending is = cc
+not_write_fault _ unfinished is = cc
+
+pub not_no_memory : (own : Status) → Own own → own ≢ status.NoMemory
+not_no_memory _ (plain _ well) is = cc
+not_no_memory _ (plain _ description) is = cc
+not_no_memory _ (plain _ script) is = cc
+not_no_memory _ (plain _ read_fault) is = cc
+not_no_memory _ (plain _ denied) is = cc
+not_no_memory _ pending is = cc
+not_no_memory _ unfinished is = cc
+
+pub not_unlawful : (own : Status) → Own own → own ≢ status.Unlawful
+not_unlawful _ (plain _ well) is = cc
+not_unlawful _ (plain _ description) is = cc
+not_unlawful _ (plain _ script) is = cc
+not_unlawful _ (plain _ read_fault) is = cc
+not_unlawful _ (plain _ denied) is = cc
+not_unlawful _ pending is = cc
+not_unlawful _ unfinished is = cc
+
+not_pending : (own : Status) → Plain own → own ≢ status.Pending
 not_pending _ well is = cc
 not_pending _ description is = cc
 not_pending _ script is = cc
 not_pending _ read_fault is = cc
 not_pending _ denied is = cc
 
-pub not_unfinished : (own : Status) → Plain own → own ≢ status.Unfinished
+not_unfinished : (own : Status) → Plain own → own ≢ status.Unfinished
 not_unfinished _ well is = cc
 not_unfinished _ description is = cc
 not_unfinished _ script is = cc
 not_unfinished _ read_fault is = cc
 not_unfinished _ denied is = cc
 
-pub not_unlawful : (own : Status) → Plain own → own ≢ status.Unlawful
-not_unlawful _ well is = cc
-not_unlawful _ description is = cc
-not_unlawful _ script is = cc
-not_unlawful _ read_fault is = cc
-not_unlawful _ denied is = cc
+not_run : (own : Status) → Plain own → (own ≡ status.Pending) ⊎ (own ≡ status.Unfinished) → ⊥
+not_run own is_plain (inl is) = not_pending own is_plain is
+not_run own is_plain (inr is) = not_unfinished own is_plain is
+
+-- only the run of a script ends so
+pub only_scripts :
+    (command : Command) (fetches : List Fetch) (own : Status) (text : List ℕ) → Answer command fetches own text
+    → (own ≡ status.Pending) ⊎ (own ≡ status.Unfinished) → (name : List ℕ) × (command ≡ commands.Step name)
+only_scripts commands.Help fetches own text answer is = absurd (not_run own (rw answer.0 well) is)
+only_scripts commands.Version fetches own text answer is = absurd (not_run own (rw answer.0 well) is)
+only_scripts (commands.Flat file call) fetches own text answer is =
+    absurd (not_run own (description_status file (queries.Graph call) answer.given own text answer.answer) is)
+only_scripts (commands.Plan file call target) fetches own text answer is =
+    absurd (not_run own (description_status file (queries.Plan call target) answer.given own text answer.answer) is)
+only_scripts (commands.Replay file name) fetches own text (inl answer) is =
+    absurd (not_run own (script_status name answer.given own text answer.answer) is)
+only_scripts (commands.Replay file name) fetches own text (inr answer) is =
+    absurd (not_run own (description_status file (queries.Replay answer.script) answer.given own text answer.answer) is)
+only_scripts (commands.Upgrade file) fetches own text answer is = absurd (not_run own (report_status file answer.given own text answer.answer) is)
+only_scripts (commands.Step name) fetches own text answer is = (name, refl)

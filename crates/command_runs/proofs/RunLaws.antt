@@ -6,11 +6,13 @@ use Rattle.command_answers.specs.declared.status.Status.TheVariants as status
 use Rattle.command_words.specs.CommandLine.{Asks}
 use Rattle.command_words.specs.declared.words.Command.TheVariants as commands
 use Rattle.command_words.specs.declared.words.TopCall.{TopCall}
-use Rattle.command_runs.specs.Outcomes.{Flattened, Planned, Replayed, Upgraded, NothingRefuses, EndsAsGiven, Wants}
+use Rattle.command_runs.specs.Outcomes as outcomes
+use Rattle.command_runs.specs.Outcomes.{Flattened, Planned, Replayed, Upgraded, IsRunStatus, NothingRefuses, EndsAsGiven, NothingRefusesLines, EndsAsRun, Wants}
 use Rattle.command_runs.specs.Runs.{Runs}
 use Rattle.command_runs.specs.declared.query.Query.{Query}
 use Rattle.command_runs.proofs.Flattening as flattening
 use Rattle.command_runs.proofs.Inverting.{ran}
+use Rattle.command_runs.proofs.Stepping as stepping
 
 module _ (words : List (List ℕ)) (files : Option Files) (failures failures' : List (List ℕ)) (taken taken' : Option (List ℕ)) (faults faults' : ℕ) (result : Status) (run : Runs words files failures failures' taken taken' faults faults' result) where
   pub flattens :
@@ -36,8 +38,17 @@ module _ (words : List (List ℕ)) (files : Option Files) (failures failures' : 
       → (file events : List ℕ) × Asks words (commands.Replay file events) × Replayed files file events status.Denied taken taken'
   denies = flattening.denies words files failures failures' taken taken' faults faults' result (ran words files failures failures' taken taken' faults faults' result run)
 
+  -- what a script was run to
+  pub runs : (name : List ℕ) → Asks words (commands.Step name) → IsRunStatus result → outcomes.Ran files name result taken taken'
+  runs = stepping.runs words files failures failures' taken taken' faults faults' result (ran words files failures failures' taken taken' faults faults' result run)
+
   -- where the shelf tells its files and no fetch failed
   pub completes :
       (told : Files) → files ≡ Some told → failures' ≡ failures → (file : List ℕ) (query : Query) → Wants (Some told) words file query
       → NothingRefuses query (told file) → EndsAsGiven query (told file) result
   completes told telling steady = flattening.completes words files failures failures' taken taken' faults faults' result (ran words files failures failures' taken taken' faults faults' result run) told telling steady
+
+  pub completes_script :
+      (told : Files) → files ≡ Some told → failures' ≡ failures → (name : List ℕ) → Asks words (commands.Step name)
+      → NothingRefusesLines told (told name) → EndsAsRun result
+  completes_script told telling steady = stepping.completes words files failures failures' taken taken' faults faults' result (ran words files failures failures' taken taken' faults faults' result run) told telling steady

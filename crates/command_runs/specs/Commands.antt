@@ -2,6 +2,7 @@
 -- and then call them.
 use Rattle.std.specs.Prelude.{◌≡◌, ℕ, List, [], ◌∷◌}
 use Rattle.change_script.specs.EventFiles.{IsEventFile, IsFirstFault}
+use Rattle.change_script.specs.ScriptFiles.{IsScript, IsScriptFault}
 use Rattle.change_script.specs.declared.error.ScriptError.{ScriptError}
 use Rattle.change_script.specs.declared.report.Report.{Report}
 use Rattle.report_parser.specs.ReportTexts.{IsReportText}
@@ -16,7 +17,8 @@ use Rattle.command_runs.specs.declared.query.Query.{Query}
 use Rattle.command_runs.specs.declared.query.Query.TheVariants as queries
 use Rattle.command_runs.specs.Courses.{Course, Says, AfterFetch, After}
 use Rattle.command_runs.specs.Fetches.{file_limit, report_limit}
-use Rattle.command_runs.specs.Lines.{Line, uses, calls, draws, starts, changes, Aim, drawing, planning, replaying, begun, Follows}
+use Rattle.command_runs.specs.Lines.{Line, uses, calls, draws, starts, changes, Aim, drawing, planning, replaying, running, begun, Follows}
+use Rattle.command_runs.specs.Scripts.{lines_of}
 
 abbrev pub aim_of : Query → Aim
 aim_of (queries.Graph call) = drawing
@@ -24,11 +26,11 @@ aim_of (queries.Plan call target) = planning
 aim_of (queries.Replay events) = replaying events.events
 
 -- Of a graph the component is drawn. For a plan a run starts with the first component and changes to the second,
--- without moves; and events begin with a start.
+-- without moves and without waiting; and events begin with a start.
 abbrev pub calls_of : Query → List Line
 calls_of (queries.Graph call) = calls draws call.top call.args ∷ []
 calls_of (queries.Plan call target) =
-    calls starts call.top call.args ∷ calls (changes []) target.top target.args ∷ []
+    calls starts call.top call.args ∷ calls (changes 0 []) target.top target.args ∷ []
 calls_of (queries.Replay events) = calls starts events.name events.args ∷ []
 
 -- what is wanted of the description in a file
@@ -47,6 +49,10 @@ TellsReport bytes r = (version : Version) × IsReportText version bytes r
 abbrev pub RefusesReport : List ℕ → List (List ℕ) → Type 0
 RefusesReport bytes words = (fault : ReportFault) × IsReportFault bytes fault × (words ≡ report_words fault)
 
+-- the words of what refuses a script
+abbrev pub RefusesStatements : List ℕ → List (List ℕ) → Type 0
+RefusesStatements bytes words = (fault : ScriptError) × IsScriptFault bytes fault × (words ≡ script_words fault)
+
 abbrev pub course_of : Command → Course
 course_of commands.Help = Says help
 course_of commands.Version = Says version
@@ -61,3 +67,8 @@ course_of (commands.Upgrade file) =
     let refuse = λ (words : List (List ℕ)). refusal (script file words) in
     AfterFetch file report_limit refuse
     (λ bytes. After (RefusesReport bytes) refuse (TellsReport bytes) (λ r. Says (report r)))
+course_of (commands.Step name) =
+    let refuse = λ (words : List (List ℕ)). refusal (script name words) in
+    AfterFetch name file_limit refuse
+    (λ bytes. After (RefusesStatements bytes) refuse (IsScript bytes)
+    (λ script. Follows running begun (lines_of script.lines)))

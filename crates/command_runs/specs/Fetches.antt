@@ -1,5 +1,5 @@
 -- Fetches of files by their names, and what a shelf tells of them.
-use Rattle.std.specs.Prelude.{◌≡◌, ◌≤◌, ◌<◌, ℕ, List, [], ◌∷◌, Option, Some, None, IsSomeAnd, length}
+use Rattle.std.specs.Prelude.{◌≡◌, ◌≤◌, ◌<◌, ℕ, List, [], ◌∷◌, Option, Some, None, IsSomeAnd, Contains, length}
 use Rattle.std.specs.List.{flat_map}
 use Rattle.cfg_io.specs.Shelf.{Files}
 use Rattle.darwin_lexer.specs.declared.lexing.TheConstants.{MAX_TEXT}
@@ -47,6 +47,10 @@ file_limit = MAX_TEXT
 
 abbrev pub fetch_of : List ℕ → Fetched → Fetch
 fetch_of file given = record { name = file; limit = file_limit; given = given }
+
+-- the file was fetched, as a description is, and gave these bytes
+abbrev pub WasHeld : List Fetch → List ℕ → List ℕ → Type 0
+WasHeld fetches file bytes = Contains fetches (fetch_of file (Held bytes))
 
 -- the most bytes of a report
 abbrev pub report_limit : ℕ

@@ -9,4 +9,7 @@ pub mod Outcomes
 pub mod Plans
 pub mod Queries
 pub mod Replays
+pub mod RunReports
 pub mod Runs
+pub mod Scripts
+pub mod Ways

@@ -1,6 +1,6 @@
 -- What a run does line by line, whether the lines are those of a script or stand for the words of a command: which
 -- description is used from there on, and which graph is drawn, started, or changed to.
-use Rattle.std.specs.Prelude.{◌≡◌, ◌+◌, ℕ, ℤ, List, [], ◌∷◌, Option, Some, None, length}
+use Rattle.std.specs.Prelude.{◌≡◌, ◌+◌, ℕ, ℤ, List, [], ◌∷◌, ◌++◌, Option, Some, None, length}
 use Rattle.config_graph.specs.Graph.{Graph, ports}
 use Rattle.config_graph.specs.declared.node.Made.{Made}
 use Rattle.darwin_parser.specs.Tree.{Name, Tree}
@@ -14,12 +14,15 @@ use Rattle.change_plan.specs.Room.{HasRoomFor, LacksRoomFor}
 use Rattle.change_plan.specs.declared.error.PlanError.{PlanError}
 use Rattle.change_plan.specs.declared.plan_data.Move.{Move}
 use Rattle.change_plan.specs.declared.plan_data.Plan.{Plan}
-use Rattle.command_answers.specs.Answers.{Answer, refusal, description, graph, plan}
+use Rattle.change_law.specs.Statements.{Statement, start, change}
+use Rattle.change_script.specs.declared.report.Report.{Report}
+use Rattle.command_answers.specs.Answers.{Answer, refusal, description, graph, plan, ran}
 use Rattle.command_answers.specs.RefusalLines.{elaborate_words, plan_words}
 use Rattle.command_runs.specs.Courses.{Course, Says, AfterFetch, After}
 use Rattle.command_runs.specs.Descriptions.{IsChecked, IsGraphOf, IsTextRefusal}
 use Rattle.command_runs.specs.Fetches.{file_limit}
 use Rattle.command_runs.specs.Replays.{IsReplayed}
+use Rattle.command_runs.specs.RunReports.{IsReportOf}
 
 -- what is done with the graph of a component
 pub data Deed : Type 0 where
@@ -27,32 +30,45 @@ pub data Deed : Type 0 where
   draws : Deed
   -- a run starts with it
   starts : Deed
-  -- what runs is changed to it, and these states go on
-  changes : List Move → Deed
+  -- what runs is changed to it, within so many rounds, and these states go on
+  changes : (within : ℕ) → List Move → Deed
 
 pub data Line : Type 0 where
   -- the lines below are of the description in this file
   uses : (file : List ℕ) → Line
   -- a component of it, with arguments
   calls : Deed → (name : Name) → (args : List ℤ) → Line
+  -- what the run does of itself, for which no description is asked
+  does : (what : Statement) → Line
 
 -- How far lines came: the file that was used last and the tree of its description; the graphs of the calls, the
--- latest first; and what the run has made.
+-- latest first; what the run is to do, in order; and what it makes if each change is committed.
 pub record Progress : Type 0 where
   pub file : List ℕ
   pub used : Option Tree
   pub graphs : List Graph
+  pub statements : List Statement
   pub made : Made
 
 -- before the first line
 abbrev pub begun : Progress
-begun = record { file = []; used = None; graphs = []; made = record { nodes = 0; ports = 0 } }
+begun = record { file = []; used = None; graphs = []; statements = []; made = record { nodes = 0; ports = 0 } }
 
 abbrev pub with_description : Progress → List ℕ → Tree → Progress
-with_description p file tree = record { file = file; used = Some tree; graphs = p.graphs; made = p.made }
+with_description p file tree = record p { file = file; used = Some tree }
 
-abbrev pub with_graph : Progress → Graph → Made → Progress
-with_graph p g made = record { file = p.file; used = p.used; graphs = g ∷ p.graphs; made = made }
+-- the statement that a call is, where something is to run
+abbrev pub said_by : Deed → Name → List ℤ → Graph → List Statement
+said_by draws name args g = []
+said_by starts name args g = start name args g ∷ []
+said_by (changes within moves) name args g = change name args g within moves ∷ []
+
+abbrev pub with_call : Progress → Deed → Name → List ℤ → Graph → Made → Progress
+with_call p deed name args g made =
+    record p { graphs = g ∷ p.graphs; statements = p.statements ++ said_by deed name args g; made = made }
+
+abbrev pub with_statement : Progress → Statement → Progress
+with_statement p what = record p { statements = p.statements ++ what ∷ [] }
 
 abbrev pub and_made : Made → ℕ → ℕ → Made
 and_made made nodes wanted_ports = record { nodes = made.nodes + nodes; ports = made.ports + wanted_ports }
@@ -61,7 +77,7 @@ and_made made nodes wanted_ports = record { nodes = made.nodes + nodes; ports = 
 abbrev pub Allows : Progress → Deed → Graph → Made → Type 0
 Allows p draws g made = made ≡ p.made
 Allows p starts g made = HasRoomFor p.made g × (made ≡ and_made p.made (length g.nodes) (length (ports g.nodes)))
-Allows p (changes moves) g made =
+Allows p (changes within moves) g made =
     (old : Graph) × (earlier : List Graph) × (p.graphs ≡ old ∷ earlier)
     × ((can : CanPlan old g moves p.made) × (made ≡ and_made p.made can.nodes can.ports))
 
@@ -69,7 +85,7 @@ Allows p (changes moves) g made =
 abbrev pub Forbids : Progress → Deed → Graph → List (List ℕ) → Type 0
 Forbids p draws g words = ⊥
 Forbids p starts g words = (e : PlanError) × LacksRoomFor p.made g e × (words ≡ plan_words e)
-Forbids p (changes moves) g words =
+Forbids p (changes within moves) g words =
     (old : Graph) × (earlier : List Graph) × (p.graphs ≡ old ∷ earlier)
     × ((e : PlanError) × IsRefusal old g moves p.made e × (words ≡ plan_words e))
 
@@ -81,7 +97,7 @@ pub record Leads (p : Progress) (deed : Deed) (name : Name) (args : List ℤ) (n
   pub is_graph : IsGraphOf tree name args graph
   pub made : Made
   pub allowed : Allows p deed graph made
-  pub is_next : next ≡ with_graph p graph made
+  pub is_next : next ≡ with_call p deed name args graph made
 
 -- the words of why a call leads nowhere: a fault of its elaboration, or else one of what is done with its graph
 pub data IsCallRefusal (p : Progress) (deed : Deed) (name : Name) (args : List ℤ) : List (List ℕ) → Type 0 where
@@ -101,6 +117,8 @@ pub data Aim : Type 0 where
   planning : Aim
   -- that of what events come to from a start with it
   replaying : List Event → Aim
+  -- the report of a run of all that is to be done
+  running : Aim
 
 -- the answer to what is wanted
 abbrev pub Concludes : Aim → Progress → Answer → Type 0
@@ -110,8 +128,9 @@ Concludes planning p answer =
     × ((steps : Plan) × IsPlanOf old new [] steps × (answer ≡ plan old new steps))
 Concludes (replaying events) p answer =
     (g : Graph) × (earlier : List Graph) × (p.graphs ≡ g ∷ earlier) × IsReplayed (started g) events answer
+Concludes running p answer = (r : Report) × IsReportOf p.statements r × (answer ≡ ran r)
 
--- The course of lines. A line that uses a file fetches it, and a call fetches nothing.
+-- The course of lines. A line that uses a file fetches it, and no other line fetches anything.
 abbrev pub Follows : Aim → Progress → List Line → Course
 Follows aim p [] = After (λ words. ⊥) (λ words. refusal (description p.file words)) (Concludes aim p) Says
 Follows aim p (uses file ∷ lines) =
@@ -122,3 +141,4 @@ Follows aim p (uses file ∷ lines) =
 Follows aim p (calls deed name args ∷ lines) =
     After (IsCallRefusal p deed name args) (λ words. refusal (description p.file words)) (Leads p deed name args)
     (λ next. Follows aim next lines)
+Follows aim p (does what ∷ lines) = Follows aim (with_statement p what) lines

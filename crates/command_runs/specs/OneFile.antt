@@ -1,6 +1,7 @@
 -- What is answered of one file, by what the fetch of it gave: the status and the text.
 use Rattle.std.specs.Prelude.{ℕ, List, [], ◌∷◌, codes}
 use Rattle.change_script.specs.EventFiles.{IsFirstFault}
+use Rattle.change_script.specs.ScriptFiles.{IsScriptFault}
 use Rattle.change_script.specs.declared.error.ScriptError.{ScriptError}
 use Rattle.change_script.specs.Reports.{report_text}
 use Rattle.change_script.specs.declared.report.Report.{Report}
@@ -33,6 +34,14 @@ pub data ScriptAnswers (name : List ℕ) : Fetched → Status → List ℕ → T
   script_at_fault :
       (bytes : List ℕ) (fault : ScriptError) → IsFirstFault bytes fault
       → ScriptAnswers name (Held bytes) status.Script (script_line name (script_words fault))
+
+-- of a script that isn't one
+pub data StatementsAnswers (name : List ℕ) : Fetched → Status → List ℕ → Type 0 where
+  cannot_read_statements : StatementsAnswers name Failed status.ReadFault (read_fault_line name)
+  statements_too_long : StatementsAnswers name TooLong status.Script (script_line name (codes "TooLong" ∷ []))
+  statements_at_fault :
+      (bytes : List ℕ) (fault : ScriptError) → IsScriptFault bytes fault
+      → StatementsAnswers name (Held bytes) status.Script (script_line name (script_words fault))
 
 -- of a report
 pub data ReportAnswers (name : List ℕ) : Fetched → Status → List ℕ → Type 0 where

@@ -15,7 +15,11 @@ use Rattle.command_words.specs.declared.words.Command.{Command}
 use Rattle.command_words.specs.declared.words.Command.TheVariants as commands
 use Rattle.command_words.specs.CommandLine.{Asks}
 use Rattle.change_script.specs.Reports.{report_text}
+use Rattle.change_script.specs.ScriptFiles.{IsScript, IsScriptFault}
 use Rattle.change_script.specs.declared.report.Report.{Report}
+use Rattle.change_script.specs.declared.script.Script.{Script}
+use Rattle.change_law.specs.Scripts.{StatementsOf}
+use Rattle.change_law.specs.Statements.{Statement}
 use Rattle.report_parser.specs.Stages.{IsReportFault}
 use Rattle.report_parser.specs.declared.error.ReportFault.{ReportFault}
 use Rattle.command_answers.specs.RefusalLines.{description_line, report_words, script_line, script_words}
@@ -26,22 +30,29 @@ use Rattle.command_runs.specs.Replays.{HasReplay}
 use Rattle.command_runs.specs.declared.query.Query.{Query}
 use Rattle.command_runs.specs.declared.query.Query.TheVariants as queries
 use Rattle.command_runs.specs.Queries.{IsRefused, AnswersQuery}
-use Rattle.command_answers.specs.Answers.{Answer, status_of, text_of}
+use Rattle.command_answers.specs.Answers.{Answer, run_status, status_of, text_of}
+use Rattle.command_runs.specs.Failures.{Uses}
+use Rattle.command_runs.specs.Lines.{begun}
+use Rattle.command_runs.specs.RunReports.{IsReportOf}
+use Rattle.command_runs.specs.Scripts.{lines_of}
+use Rattle.command_runs.specs.Ways.{AreRefused, Elaborates}
 use Rattle.command_runs.specs.Fetches.{Fetch, Gave, failed_names, file_limit, report_limit}
 use Rattle.command_runs.specs.Runs.{AnswersWords}
 
--- the command names the file
-abbrev pub MentionsFile : Command → List ℕ → Type 0
-MentionsFile commands.Help name = ⊥
-MentionsFile commands.Version name = ⊥
-MentionsFile (commands.Flat file call) name = name ≡ file
-MentionsFile (commands.Plan file call target) name = name ≡ file
-MentionsFile (commands.Replay file events) name = (name ≡ file) ⊎ (name ≡ events)
-MentionsFile (commands.Upgrade file) name = name ≡ file
+-- the command names the file, in the words or in a `use` line of a script
+abbrev pub MentionsFile : (List ℕ → List ℕ → Type 0) → Command → List ℕ → Type 0
+MentionsFile Holds commands.Help name = ⊥
+MentionsFile Holds commands.Version name = ⊥
+MentionsFile Holds (commands.Flat file call) name = name ≡ file
+MentionsFile Holds (commands.Plan file call target) name = name ≡ file
+MentionsFile Holds (commands.Replay file events) name = (name ≡ file) ⊎ (name ≡ events)
+MentionsFile Holds (commands.Upgrade file) name = name ≡ file
+MentionsFile Holds (commands.Step script) name =
+    (name ≡ script) ⊎ ((bytes : List ℕ) × (lines : Script) × Holds script bytes × IsScript bytes lines × Uses (lines_of lines.lines) name)
 
 -- the words name the file
-abbrev pub NamesFile : List (List ℕ) → List ℕ → Type 0
-NamesFile words file = (command : Command) × Asks words command × MentionsFile command file
+abbrev pub NamesFile : (List ℕ → List ℕ → Type 0) → List (List ℕ) → List ℕ → Type 0
+NamesFile Holds words file = (command : Command) × Asks words command × MentionsFile Holds command file
 
 -- the status, unless memory ran out or the sink failed
 abbrev pub Ends : Status → Status → Type 0
@@ -73,6 +84,72 @@ TellsLonger limit (Some files) file = IsSomeAnd (files file) (λ bytes. limit < 
 -- than a description may have
 abbrev pub TellsTooLong : Option Files → List ℕ → Type 0
 TellsTooLong = TellsLonger file_limit
+
+-- the script of a name, whose statements are those of its file
+pub record IsScriptOf (files : Option Files) (name : List ℕ) (script : Script) : Type 0 where
+  pub bytes : List ℕ
+  pub told : HoldsFile files name bytes
+  pub within : length bytes ≤ file_limit
+  pub is_script : IsScript bytes script
+
+-- The script was run: its statements have the graphs to which the descriptions elaborate that the files hold, and the text
+-- of the report of their run was written. The run ended as the report says.
+pub record Ran (files : Option Files) (name : List ℕ) (own : Status) (taken taken' : Option (List ℕ)) : Type 0 where
+  pub script : Script
+  pub is_script : IsScriptOf files name script
+  pub statements : List Statement
+  pub have_graphs : StatementsOf (Elaborates (HoldsFile files)) script statements
+  pub report : Report
+  pub is_report : IsReportOf statements report
+  pub ended : own ≡ run_status report.status
+  pub written : taken' ≡ with_bytes taken (report_text report)
+
+-- A line of the script is refused, the first that leads nowhere, and the line that says so was written.
+pub record LineRefused (files : Option Files) (name : List ℕ) (taken taken' : Option (List ℕ)) : Type 0 where
+  pub script : Script
+  pub is_script : IsScriptOf files name script
+  pub file : List ℕ
+  pub words : List (List ℕ)
+  pub refused : AreRefused (HoldsFile files) (TellsTooLong files) (lines_of script.lines) begun file words
+  pub written : taken' ≡ with_bytes taken (description_line file words)
+
+-- The script is too long, or the fault of its first line at fault was named, or what it lacks; and the line that says so
+-- was written.
+pub data StatementsRefused (files : Option Files) (name : List ℕ) (taken taken' : Option (List ℕ)) : Type 0 where
+  script_too_long :
+      TellsTooLong files name → taken' ≡ with_bytes taken (script_line name (codes "TooLong" ∷ []))
+      → StatementsRefused files name taken taken'
+  script_at_fault :
+      (bytes : List ℕ) (fault : ScriptError) → HoldsFile files name bytes → length bytes ≤ file_limit → IsScriptFault bytes fault
+      → taken' ≡ with_bytes taken (script_line name (script_words fault)) → StatementsRefused files name taken taken'
+
+-- the file has more bytes than a script may have, or isn't one
+abbrev pub MustRefuseStatements : Option (List ℕ) → Type 0
+MustRefuseStatements file = IsSomeAnd file (λ bytes. (file_limit < length bytes) ⊎ ((fault : ScriptError) × IsScriptFault bytes fault))
+
+-- a run of a script ends with one of these, by its report
+abbrev pub IsRunStatus : Status → Type 0
+IsRunStatus own = (own ≡ status.Ok) ⊎ (own ≡ status.Pending) ⊎ (own ≡ status.Unfinished)
+
+-- the same, unless memory ran out or the sink failed
+abbrev pub EndsAsRun : Status → Type 0
+EndsAsRun result = IsRunStatus result ⊎ (result ≡ status.NoMemory) ⊎ (result ≡ status.WriteFault)
+
+-- the file holds a script, and a line of it is refused
+abbrev pub MustRefuseLine : Files → Option (List ℕ) → Type 0
+MustRefuseLine files file =
+    IsSomeAnd file
+    (λ bytes. (length bytes ≤ file_limit)
+    × ((script : Script) × (used : List ℕ) × (words : List (List ℕ)) × IsScript bytes script
+    × AreRefused (HoldsFile (Some files)) (TellsTooLong (Some files)) (lines_of script.lines) begun used words))
+
+-- the file has no more bytes than a script may have, nothing is wrong with it, and no line of it is refused
+abbrev pub NothingRefusesLines : Files → Option (List ℕ) → Type 0
+NothingRefusesLines files file =
+    IsSomeAnd file
+    (λ bytes. (length bytes ≤ file_limit) × ((fault : ScriptError) → ¬ IsScriptFault bytes fault)
+    × ((script : Script) (used : List ℕ) (words : List (List ℕ)) → IsScript bytes script
+    → ¬ AreRefused (HoldsFile (Some files)) (TellsTooLong (Some files)) (lines_of script.lines) begun used words))
 
 -- The words ask for this of the description in a file, where the shelf tells of events what the file of events holds.
 abbrev pub Wants : Option Files → List (List ℕ) → List ℕ → Query → Type 0
@@ -167,11 +244,18 @@ pub data ReportRefused (files : Option Files) (name : List ℕ) (taken taken' : 
       (bytes : List ℕ) (fault : ReportFault) → HoldsFile files name bytes → length bytes ≤ report_limit → IsReportFault bytes fault
       → taken' ≡ with_bytes taken (script_line name (report_words fault)) → ReportRefused files name taken taken'
 
--- the words ask for a file of events, or for a report, and it was refused
+-- the words ask for a file of events, or for a report, or for the run of a script, and it was refused
 abbrev pub RefusesScript : List (List ℕ) → Option Files → Option (List ℕ) → Option (List ℕ) → Type 0
 RefusesScript words files taken taken' =
     ((file events : List ℕ) × Asks words (commands.Replay file events) × ScriptRefused files events taken taken')
     ⊎ ((file : List ℕ) × Asks words (commands.Upgrade file) × ReportRefused files file taken taken')
+    ⊎ ((name : List ℕ) × Asks words (commands.Step name) × StatementsRefused files name taken taken')
+
+-- the words ask for something of a description, or for the run of a script, and a description was refused
+abbrev pub RefusesDescription : List (List ℕ) → Option Files → Option (List ℕ) → Option (List ℕ) → Type 0
+RefusesDescription words files taken taken' =
+    ((file : List ℕ) × (query : Query) × Wants files words file query × Refused files file query taken taken')
+    ⊎ ((name : List ℕ) × Asks words (commands.Step name) × LineRefused files name taken taken')
 
 -- the file has more bytes than a report may have, or isn't one
 abbrev pub MustRefuseReport : Option (List ℕ) → Type 0

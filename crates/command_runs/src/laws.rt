@@ -1,6 +1,8 @@
 //! Laws of runs, by status. Whatever runs, as all commands do or the program over real files, has them.
 
-ghost use Rattle.std.specs.Prelude.{◌≡◌, ◌≢◌, ◌≤◌, ◌∷◌, ◌++◌, ◌⊎◌, [], ℕ, ℤ, List, Option, Some, length};
+ghost use Rattle.std.specs.Prelude.{◌≡◌, ◌≢◌, ◌≤◌, ◌∷◌, ◌++◌, ◌⊎◌, ◌↔◌, [], ℕ, ℤ, List, Option, Some, length};
+ghost use Rattle.std.specs.Prelude.{true, false, is_some};
+ghost use Rattle.std.specs.List.{list_any};
 ghost use Rattle.cfg_io.specs.Count.{Rose};
 ghost use Rattle.cfg_io.specs.Shelf.{Files};
 ghost use Rattle.cfg_io.specs.Sink.{with_bytes};
@@ -14,6 +16,10 @@ ghost use Rattle.change_plan.specs.Room.{HasRoomFor, LacksRoomFor};
 ghost use Rattle.change_plan.specs.declared.error.PlanError.{PlanError};
 ghost use Rattle.change_plan.specs.declared.plan_data.Plan.{Plan};
 ghost use Rattle.change_script.specs.EventFiles.{IsEventFile};
+ghost use Rattle.change_script.specs.ScriptFiles.{IsScript};
+ghost use Rattle.change_script.specs.declared.script.Script.{Script as ScriptOf};
+ghost use Rattle.change_law.specs.Members.{is_pending};
+ghost use Rattle.change_law.specs.Scripts.{StatementsOf};
 ghost use Rattle.command_answers.specs.Answers.{Answer, Shows, refusal, no_memory, status_of, text_of, usage_line};
 ghost use Rattle.command_answers.specs.Answers.{no_memory_line, help_text, version_text};
 ghost use Rattle.command_answers.specs.RefusalLines.{read_fault_line};
@@ -30,17 +36,21 @@ ghost use Rattle.report_parser.specs.Stages.{IsReportFault};
 ghost use Rattle.report_parser.specs.declared.error.ReportFault.{ReportFault};
 ghost use Rattle.command_runs.specs.Commands.{TellsReport, course_of, course_of_query};
 ghost use Rattle.command_runs.specs.Failures.{FailsLast, Uses};
-ghost use Rattle.command_runs.specs.Lines.{Aim, Line, Progress, Follows};
-ghost use Rattle.command_runs.specs.Fetches.{Fetch, fetch_of, file_limit, report_fetch};
-ghost use Rattle.command_runs.specs.OneFile.{DescriptionAnswers, ReportAnswers, ScriptAnswers};
+ghost use Rattle.command_runs.specs.Lines.{Aim, Line, Progress, Follows, begun, running};
+ghost use Rattle.command_runs.specs.Fetches.{Fetch, WasHeld, fetch_of, file_limit, report_fetch};
+ghost use Rattle.command_runs.specs.OneFile.{DescriptionAnswers, ReportAnswers, ScriptAnswers, StatementsAnswers};
 ghost use Rattle.command_runs.specs.declared.fetched.Fetched.{Fetched};
 ghost use Rattle.command_runs.specs.declared.fetched.Fetched.TheVariants.{Held};
-ghost use Rattle.command_runs.specs.Outcomes.{NamesFile, Ends, WroteFront, Flattened, Planned, Replayed, Refused};
-ghost use Rattle.command_runs.specs.Outcomes.{RefusesScript, MustRefuse, MustRefuseScript, NothingRefuses};
+ghost use Rattle.command_runs.specs.Outcomes.{HoldsFile, NamesFile, Ends, WroteFront, Flattened, Planned, Replayed};
+ghost use Rattle.command_runs.specs.Outcomes.{RefusesDescription, RefusesScript, MustRefuse, MustRefuseScript};
+ghost use Rattle.command_runs.specs.Outcomes.{EndsAsRun, IsRunStatus, MustRefuseLine, MustRefuseStatements};
+ghost use Rattle.command_runs.specs.Outcomes.{NothingRefuses, NothingRefusesLines, Ran};
 ghost use Rattle.command_runs.specs.Outcomes.{EndsAsGiven, MustRefuseReport, NothingRefusesReport, Upgraded, Wants};
 ghost use Rattle.command_runs.specs.Plans.{RefusesStart, Starts};
 ghost use Rattle.command_runs.specs.Queries.{AnswersQuery, IsRefused};
 ghost use Rattle.command_runs.specs.Runs.{AnswersWords, Runs};
+ghost use Rattle.command_runs.specs.Scripts.{lines_of};
+ghost use Rattle.command_runs.specs.Ways.{Elaborates, LeadTo};
 ghost use Rattle.command_runs.specs.declared.query.Query.{Query};
 ghost use Rattle.command_runs.specs.declared.query.Query.TheVariants as queries;
 
@@ -59,11 +69,11 @@ pub fn usage_is_of_words_without_a_form()
 {}
 
 /// A law of runs: ReadFault comes where a fetch failed, and nowhere else. One fetch fails at most, of a file that the
-/// words name, and the line names it.
+/// words name or a `use` line of the script that they name, and the line names it.
 pub fn read_faults_are_failed_fetches()
     ensures only { (words : List (List ℕ)) (files : Option Files) (failures failures' : List (List ℕ))
         (taken taken' : Option (List ℕ)) (faults faults' : ℕ) (result : Status) → Runs words files failures failures' taken taken' faults faults' result
-        → result ≡ ReadFault → (file : List ℕ) × NamesFile words file × (failures' ≡ failures ++ file ∷ [])
+        → result ≡ ReadFault → (file : List ℕ) × NamesFile (HoldsFile files) words file × (failures' ≡ failures ++ file ∷ [])
         × (taken' ≡ with_bytes taken (read_fault_line file)) }
     ensures always { (words : List (List ℕ)) (files : Option Files) (failures failures' : List (List ℕ))
         (taken taken' : Option (List ℕ)) (faults faults' : ℕ) (result : Status) → Runs words files failures failures' taken taken' faults faults' result
@@ -88,7 +98,33 @@ pub fn want_of_memory_has_its_line()
         → result ≡ NoMemory → taken' ≡ with_bytes taken no_memory_line }
     ensures no_other { (words : List (List ℕ)) (files : Option Files) (failures failures' : List (List ℕ))
         (taken taken' : Option (List ℕ)) (faults faults' : ℕ) (result : Status) → Runs words files failures failures' taken taken' faults faults' result
-        → (result ≢ Pending) × (result ≢ Unfinished) × (result ≢ Unlawful) }
+        → result ≢ Unlawful }
+{}
+
+/// A law of runs: the run of a script ends with Ok, Pending or Unfinished, and comes with the text of its report: Pending
+/// exactly where the report says that a change was given up, Unfinished exactly where it names a node that wasn't done
+/// and no such change. The two come for no other command.
+pub fn runs_end_by_their_reports()
+    ensures ran { (words : List (List ℕ)) (files : Option Files) (failures failures' : List (List ℕ))
+        (taken taken' : Option (List ℕ)) (faults faults' : ℕ) (result : Status) → Runs words files failures failures' taken taken' faults faults' result
+        → (name : List ℕ) → Asks words (commands.Step name) → IsRunStatus result → Ran files name result taken taken' }
+    ensures only { (words : List (List ℕ)) (files : Option Files) (failures failures' : List (List ℕ))
+        (taken taken' : Option (List ℕ)) (faults faults' : ℕ) (result : Status) → Runs words files failures failures' taken taken' faults faults' result
+        → (result ≡ Pending) ⊎ (result ≡ Unfinished) → (name : List ℕ) × Asks words (commands.Step name) }
+    ensures pending { (files : Option Files) (name : List ℕ) (own : Status) (taken taken' : Option (List ℕ))
+        (r : Ran files name own taken taken') → (own ≡ Pending) ↔ (list_any is_pending r.report.history ≡ true) }
+    ensures unfinished { (files : Option Files) (name : List ℕ) (own : Status) (taken taken' : Option (List ℕ))
+        (r : Ran files name own taken taken')
+        → (own ≡ Unfinished)
+        ↔ ((list_any is_pending r.report.history ≡ false) × (is_some r.report.unfinished ≡ true)) }
+{}
+
+/// A law: the lines of a script that lead on say its statements, each start and change with the graph to which its
+/// component elaborates.
+pub fn lines_that_lead_on_are_statements()
+    ensures { (files : Option Files) (script : ScriptOf) (end : Progress)
+        → LeadTo (HoldsFile files) begun (lines_of script.lines) end
+        → StatementsOf (Elaborates (HoldsFile files)) script end.statements }
 {}
 
 /// A law of runs: the program's own texts are written where they are asked for.
@@ -138,8 +174,8 @@ pub fn denials_are_of_first_events()
         → Ends result Denied }
 {}
 
-/// A law of runs: Script comes where the file of events or the report is too long or isn't one, and nowhere else; the
-/// line names the first fault.
+/// A law of runs: Script comes where the script, the file of events or the report is too long or isn't one, and nowhere
+/// else; the line names the first fault, or what a script lacks.
 pub fn scripts_are_refused_for_their_first_fault()
     ensures only { (words : List (List ℕ)) (files : Option Files) (failures failures' : List (List ℕ))
         (taken taken' : Option (List ℕ)) (faults faults' : ℕ) (result : Status) → Runs words files failures failures' taken taken' faults faults' result
@@ -153,26 +189,35 @@ pub fn scripts_are_refused_for_their_first_fault()
         (taken taken' : Option (List ℕ)) (faults faults' : ℕ) (result : Status) → Runs words (Some files) failures failures' taken taken' faults faults' result
         → failures' ≡ failures → (file : List ℕ) → Asks words (commands.Upgrade file) → MustRefuseReport (files file)
         → Ends result Script }
+    ensures always_script { (words : List (List ℕ)) (files : Files) (failures failures' : List (List ℕ))
+        (taken taken' : Option (List ℕ)) (faults faults' : ℕ) (result : Status) → Runs words (Some files) failures failures' taken taken' faults faults' result
+        → failures' ≡ failures → (name : List ℕ) → Asks words (commands.Step name) → MustRefuseStatements (files name)
+        → Ends result Script }
 {
     one_report_or_one_fault();
 }
 
-/// A law of runs: Description comes where the file is too long or something refuses what it holds, and nowhere else;
-/// the line names a fault that holds.
+/// A law of runs: Description comes where a description is too long or something refuses what is wanted of it, and
+/// nowhere else; the line names a fault that holds, of a script the first line that leads nowhere.
 pub fn descriptions_are_refused_for_faults_that_hold()
     ensures only { (words : List (List ℕ)) (files : Option Files) (failures failures' : List (List ℕ))
         (taken taken' : Option (List ℕ)) (faults faults' : ℕ) (result : Status) → Runs words files failures failures' taken taken' faults faults' result
-        → result ≡ Description → (file : List ℕ) × (query : Query) × Wants files words file query
-        × Refused files file query taken taken' }
+        → result ≡ Description → RefusesDescription words files taken taken' }
     ensures always { (words : List (List ℕ)) (files : Files) (failures failures' : List (List ℕ))
         (taken taken' : Option (List ℕ)) (faults faults' : ℕ) (result : Status) → Runs words (Some files) failures failures' taken taken' faults faults' result
         → failures' ≡ failures → (file : List ℕ) (query : Query) → Wants (Some files) words file query
         → MustRefuse query (files file)
         → Ends result Description }
-{}
+    ensures always_line { (words : List (List ℕ)) (files : Files) (failures failures' : List (List ℕ))
+        (taken taken' : Option (List ℕ)) (faults faults' : ℕ) (result : Status) → Runs words (Some files) failures failures' taken taken' faults faults' result
+        → failures' ≡ failures → (name : List ℕ) → Asks words (commands.Step name) → MustRefuseLine files (files name)
+        → Ends result Description }
+{
+    a_graph_or_a_fault();
+}
 
-/// A law of runs: where nothing refuses the description, the run ends with what its bytes give; and where no line of a
-/// report is at fault, with its text.
+/// A law of runs: where nothing refuses the description, the run ends with what its bytes give; where no line of a
+/// report is at fault, with its text; and where nothing refuses a script and its lines, with the report of its run.
 pub fn what_is_not_refused_is_answered()
     ensures complete { (words : List (List ℕ)) (files : Files) (failures failures' : List (List ℕ))
         (taken taken' : Option (List ℕ)) (faults faults' : ℕ) (result : Status) → Runs words (Some files) failures failures' taken taken' faults faults' result
@@ -194,6 +239,10 @@ pub fn what_is_not_refused_is_answered()
         (taken taken' : Option (List ℕ)) (faults faults' : ℕ) (result : Status) → Runs words (Some files) failures failures' taken taken' faults faults' result
         → failures' ≡ failures → (file : List ℕ) → Asks words (commands.Upgrade file) → NothingRefusesReport (files file)
         → Ends result Status.Ok }
+    ensures complete_script { (words : List (List ℕ)) (files : Files) (failures failures' : List (List ℕ))
+        (taken taken' : Option (List ℕ)) (faults faults' : ℕ) (result : Status) → Runs words (Some files) failures failures' taken taken' faults faults' result
+        → failures' ≡ failures → (name : List ℕ) → Asks words (commands.Step name) → NothingRefusesLines files (files name)
+        → EndsAsRun result }
 {}
 
 /// A law: the course of what is wanted of a description is what is answered of its file, by what one fetch gave,
@@ -224,6 +273,20 @@ pub fn courses_of_replays_are_by_two_files()
         × course_of (commands.Replay file name) (fetch_of name given ∷ []) (refusal no_memory) }
 {}
 
+/// A law: the course of a run is what is answered of its script, where that isn't one, and else that of its lines.
+pub fn courses_of_runs_are_by_their_lines()
+    ensures refused { (name : List ℕ) (given : Fetched) (own : Status) (text : List ℕ)
+        → StatementsAnswers name given own text
+        → Shows (course_of (commands.Step name) (fetch_of name given ∷ [])) own text }
+    ensures read { (name bytes : List ℕ) (script : ScriptOf) (fetches : List Fetch) (answer : Answer)
+        → IsScript bytes script
+        → Follows running begun (lines_of script.lines) fetches answer
+        → course_of (commands.Step name) (fetch_of name (Held bytes) ∷ fetches) answer }
+    ensures short { (name : List ℕ) (given : Fetched)
+        → course_of (commands.Step name) [] (refusal no_memory)
+        × course_of (commands.Step name) (fetch_of name given ∷ []) (refusal no_memory) }
+{}
+
 /// A law: the course of a report is what is answered of its file.
 pub fn courses_of_reports_are_by_one_file()
     ensures gives { (file : List ℕ) (given : Fetched) (own : Status) (text : List ℕ) → ReportAnswers file given own text
@@ -233,13 +296,13 @@ pub fn courses_of_reports_are_by_one_file()
         × course_of (commands.Upgrade file) (report_fetch file given ∷ []) (refusal no_memory) }
 {}
 
-/// A law: a fetch that fails is the last, and the only one; it is of a file that the lines use, or the words name,
-/// and the answer says so unless memory ran out.
+/// A law: a fetch that fails is the last, and the only one; it is of a file that the lines use, or the words name or a
+/// line of the script that was fetched, and the answer says so unless memory ran out.
 pub fn a_failed_fetch_is_the_last()
     ensures of_lines { (aim : Aim) (p : Progress) (lines : List Line) (fetches : List Fetch) (answer : Answer)
         → Follows aim p lines fetches answer → FailsLast (Uses lines) fetches answer }
     ensures of_words { (words : List (List ℕ)) (fetches : List Fetch) (answer : Answer)
-        → AnswersWords words fetches answer → FailsLast (NamesFile words) fetches answer }
+        → AnswersWords words fetches answer → FailsLast (NamesFile (WasHeld fetches) words) fetches answer }
 {}
 
 /// A law: what bytes give is one, status and text, and they aren't refused too.

@@ -15,6 +15,7 @@ pub data Form : Type 0 where
   plan : Form
   replay : Form
   upgrade : Form
+  step : Form
 
 abbrev pub form : Command → Form
 form commands.Help = help
@@ -23,6 +24,7 @@ form (commands.Flat file call) = flat
 form (commands.Plan file call target) = plan
 form (commands.Replay file events) = replay
 form (commands.Upgrade file) = upgrade
+form (commands.Step script) = step
 
 abbrev pub Carried : Form → Type 0
 Carried help = Unit {0}
@@ -31,6 +33,7 @@ Carried flat = List ℕ × TopCall
 Carried plan = List ℕ × TopCall × TopCall
 Carried replay = List ℕ × List ℕ
 Carried upgrade = List ℕ
+Carried step = List ℕ
 
 abbrev pub command : (f : Form) → Carried f → Command
 command help p = commands.Help
@@ -39,6 +42,7 @@ command flat p = commands.Flat p.0 p.1
 command plan p = commands.Plan p.0 p.1 p.2
 command replay p = commands.Replay p.0 p.1
 command upgrade p = commands.Upgrade p
+command step p = commands.Step p
 
 abbrev pub carried : (c : Command) → Carried (form c)
 carried commands.Help = tt
@@ -47,6 +51,7 @@ carried (commands.Flat file call) = (file, call)
 carried (commands.Plan file call target) = (file, call, target)
 carried (commands.Replay file events) = (file, events)
 carried (commands.Upgrade file) = file
+carried (commands.Step script) = script
 
 is_command : (c : Command) → c ≡ command (form c) (carried c)
 is_command commands.Help = refl
@@ -55,6 +60,7 @@ is_command (commands.Flat file call) = refl
 is_command (commands.Plan file call target) = refl
 is_command (commands.Replay file events) = refl
 is_command (commands.Upgrade file) = refl
+is_command (commands.Step script) = refl
 
 -- the form that a first word tells
 pub form_of : List ℕ → Option Form
@@ -64,7 +70,8 @@ form_of word =
     if bytes_eq word (codes "flat") then Some flat else
     if bytes_eq word (codes "plan") then Some plan else
     if bytes_eq word (codes "replay") then Some replay else
-    if bytes_eq word (codes "upgrade") then Some upgrade else None
+    if bytes_eq word (codes "upgrade") then Some upgrade else
+    if bytes_eq word (codes "step") then Some step else None
 
 pub form_is : (c : Command) → form_of (keyword c) ≡ Some (form c)
 unfolding form_of
@@ -74,6 +81,7 @@ form_is (commands.Flat file call) = refl
 form_is (commands.Plan file call target) = refl
 form_is (commands.Replay file events) = refl
 form_is (commands.Upgrade file) = refl
+form_is (commands.Step script) = refl
 
 pub flat_word : form_of (codes "flat") ≡ Some flat
 unfolding form_of
@@ -118,6 +126,10 @@ one_body upgrade f g body x y = same (head_is f g [] [] (sym x.0 ∙ y.0))
   where
     same : f ≡ g → commands.Upgrade f ≡ commands.Upgrade g
     same file = rw file refl
+one_body step f g body x y = same (head_is f g [] [] (sym x.0 ∙ y.0))
+  where
+    same : f ≡ g → commands.Step f ≡ commands.Step g
+    same script = rw script refl
 
 -- words ask for one command at most
 pub one_command : (words : List (List ℕ)) (c d : Command) → Asks words c → Asks words d → c ≡ d

@@ -31,6 +31,7 @@ keyword (commands.Flat file call) = codes "flat"
 keyword (commands.Plan file call target) = codes "plan"
 keyword (commands.Replay file events) = codes "replay"
 keyword (commands.Upgrade file) = codes "upgrade"
+keyword (commands.Step script) = codes "step"
 
 -- the words behind it
 abbrev pub IsBody : Command → List (List ℕ) → Type 0
@@ -43,6 +44,7 @@ IsBody (commands.Plan file call target) body =
     × IsCall first call × IsCall second target
 IsBody (commands.Replay file events) body = (body ≡ file ∷ events ∷ []) × (file ≢ []) × (events ≢ [])
 IsBody (commands.Upgrade file) body = (body ≡ file ∷ []) × (file ≢ [])
+IsBody (commands.Step script) body = (body ≡ script ∷ []) × (script ≢ [])
 
 -- the words ask for the command
 abbrev pub Asks : List (List ℕ) → Command → Type 0

@@ -72,6 +72,10 @@ pub enum Command<'a> {
     Upgrade {
         file: Word<'a>,
     },
+    /// The report of a run of the script of a file.
+    Step {
+        script: Word<'a>,
+    },
 }
 
 /// What the words ask for, where they have one of the forms.
@@ -107,6 +111,7 @@ fn read_command<'a>(
         "flat" => read_flat(alloc, file, &words[1..]),
         "plan" => read_plan(alloc, file, &words[1..]),
         "replay" => Ok(read_replay(file, &words[1..])),
+        "step" => Ok(read_step(file, &words[1..])),
         "upgrade" => Ok(read_upgrade(file, &words[1..])),
         _ => Ok(None),
     }
@@ -216,6 +221,21 @@ fn read_upgrade<'a>(file: &'a str, words: &[String]) -> Option<Command<'a>>
     match words {
         [] => Some(Command::Upgrade {
             file: Word::of(file),
+        }),
+        [_, ..] => None,
+    }
+}
+
+/// What the word `step` asks for with a script and these words behind it.
+fn read_step<'a>(script: &'a str, words: &[String]) -> Option<Command<'a>>
+    requires { script.now ≢ [] }
+    ensures found { IfSome result (λ command. Asks (codes "step" ∷ script.now ∷ map string_bytes words.now) command) }
+    ensures none { IfNone result ((command : Command)
+        → Asks (codes "step" ∷ script.now ∷ map string_bytes words.now) command → ⊥) }
+{
+    match words {
+        [] => Some(Command::Step {
+            script: Word::of(script),
         }),
         [_, ..] => None,
     }

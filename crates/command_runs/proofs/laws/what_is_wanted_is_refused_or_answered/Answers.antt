@@ -1,4 +1,4 @@
-use Rattle.command_runs.proofs.Totality.{room_for, graphs_or_refusals, starts_or_refusals, refused_or_answered}
+use Rattle.command_runs.proofs.TotalityLaws.{room_for, graphs_or_refusals, starts_or_refusals, refused_or_answered}
 use Rattle.command_runs.proofs.Reports.{one_or_fault}
 use Rattle.command_runs.proofs.laws.what_is_wanted_is_refused_or_answered.Goals as goal
 

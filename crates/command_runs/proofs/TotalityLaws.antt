@@ -132,7 +132,7 @@ planned old new sound none =
     )
 
 -- how much is to be created
-wanted : (old new : Graph) → ¬ ¬ ((nodes : ℕ) × (wanted_ports : ℕ) × CreatesSoMany old new nodes wanted_ports)
+pub wanted : (old new : Graph) → ¬ ¬ ((nodes : ℕ) × (wanted_ports : ℕ) × CreatesSoMany old new nodes wanted_ports)
 wanted old new none = selected (IsGone new old) (range_with_len 0 (length new.nodes)) (λ created.
     none (length created.0, sum_by (requires_at new.nodes) created.0, record { created = created.0; gone = created.1; nodes_are = refl; ports_are = refl }))
 
@@ -165,7 +165,7 @@ settled_nodes s none = those (Settled s) (length s.config.slots) (λ t.
 
 -- Laws of the crates below, as they stand there.
 module _ (names : (t : Tree) → NoFault t ⊎ ((e : TypeError) × NameFault t e)) (graphs : (tree : Tree) (name : Name) (args : List ℤ) → NoFault tree → ((f : ElabError) × Faults tree name args f) ⊎ ((g : Graph) × HasNoFault tree name args × ElaboratesTo tree name args g × Sound g)) where
-  text_or_refusal : (text : List ℕ) → ((tree : Tree) × IsChecked text tree) ⊎ ((words : List (List ℕ)) × IsTextRefusal text words)
+  pub text_or_refusal : (text : List ℕ) → ((tree : Tree) × IsChecked text tree) ⊎ ((words : List (List ℕ)) × IsTextRefusal text words)
   text_or_refusal text = by (lexing.always_one text)
     where
       named :

@@ -1,0 +1,93 @@
+-- How the course of lines ends, by the way that they lead where the shelf tells its files.
+use Rattle.std.proofs.Common.{◌≡◌, inl, inr, ℕ, ℤ, List, [], ◌∷◌, Option, codes, refl, sym, ap, subst}
+use Rattle.std.specs.List.{AllByRecursion}
+use Rattle.cfg_io.specs.Shelf.{Files}
+use Rattle.change_law.specs.Statements.{Statement}
+use Rattle.darwin_parser.specs.Tree.{Tree}
+use Rattle.command_answers.specs.Answers.{Answer, refusal, description, read_fault, no_memory}
+use Rattle.command_runs.specs.declared.fetched.Fetched.TheVariants.{Held, TooLong, Failed}
+use Rattle.command_runs.specs.Courses.{not_fetched, fetched_alone, failed, too_long, leads_on, not_judged, refused, gives}
+use Rattle.command_runs.specs.Failures.{Uses}
+use Rattle.command_runs.specs.Fetches.{Fetch, fetch_of, failed_names, Gave}
+use Rattle.command_runs.specs.Lines.{Deed, Line, uses, calls, does, Aim, Progress, with_description, with_statement, Leads, Concludes, Follows}
+use Rattle.command_runs.specs.Outcomes.{HoldsFile, TellsTooLong}
+use Rattle.command_runs.specs.Ways.{LeadsIn, LeadTo, too_long_to_use, at_fault, leads_nowhere, AreRefused}
+use Rattle.command_runs.proofs.Telling.{held_told, held_within, long_told}
+use Rattle.command_runs.proofs.WayLaws.{refused_at, refused_below_use, refused_below_call, refused_below_deed}
+
+pub data LinesEnd (files : Option Files) (aim : Aim) (p : Progress) (lines : List Line) : List Fetch → Answer → Type 0 where
+  short : (fetches : List Fetch) → LinesEnd files aim p lines fetches (refusal no_memory)
+  unread :
+      (file : List ℕ) (fetches : List Fetch) → Uses lines file → failed_names fetches ≡ file ∷ []
+      → LinesEnd files aim p lines fetches (refusal (read_fault file))
+  stop :
+      (file : List ℕ) (words : List (List ℕ)) (fetches : List Fetch) → AreRefused (HoldsFile files) (TellsTooLong files) lines p file words
+      → failed_names fetches ≡ [] → LinesEnd files aim p lines fetches (refusal (description file words))
+  conclude :
+      (end : Progress) (fetches : List Fetch) (answer : Answer) → LeadTo (HoldsFile files) p lines end → Concludes aim end answer
+      → failed_names fetches ≡ [] → LinesEnd files aim p lines fetches answer
+
+module _ (files : Option Files) where
+  module _ (aim : Aim) (p : Progress) (lines : List Line) where
+    below_use :
+        (file bytes : List ℕ) (tree : Tree) (fetches : List Fetch) (answer : Answer) → LeadsIn (HoldsFile files) file tree
+        → LinesEnd files aim (with_description p file tree) lines fetches answer
+        → LinesEnd files aim p (uses file ∷ lines) (fetch_of file (Held bytes) ∷ fetches) answer
+    below_use file bytes tree _ _ leads (short fetches) = short (fetch_of file (Held bytes) ∷ fetches)
+    below_use file bytes tree _ _ leads (unread other fetches used names) = unread other (fetch_of file (Held bytes) ∷ fetches) (inr used) names
+    below_use file bytes tree _ _ leads (stop other words fetches are none) =
+        stop other words (fetch_of file (Held bytes) ∷ fetches)
+        (refused_below_use (HoldsFile files) (TellsTooLong files) p lines file tree other words leads are) none
+    below_use file bytes tree _ _ leads (conclude end fetches answer lead concludes none) =
+        conclude end (fetch_of file (Held bytes) ∷ fetches) answer (tree, leads, lead) concludes none
+
+    below_call :
+        (deed : Deed) (name : List ℕ) (args : List ℤ) (next : Progress) (fetches : List Fetch) (answer : Answer) → Leads p deed name args next
+        → LinesEnd files aim next lines fetches answer → LinesEnd files aim p (calls deed name args ∷ lines) fetches answer
+    below_call deed name args next _ _ leads (short fetches) = short fetches
+    below_call deed name args next _ _ leads (unread other fetches used names) = unread other fetches used names
+    below_call deed name args next _ _ leads (stop other words fetches are none) =
+        stop other words fetches
+        (refused_below_call (HoldsFile files) (TellsTooLong files) p lines deed name args next other words leads are) none
+    below_call deed name args next _ _ leads (conclude end fetches answer lead concludes none) =
+        conclude end fetches answer (next, leads, lead) concludes none
+
+    below_deed :
+        (what : Statement) (fetches : List Fetch) (answer : Answer) → LinesEnd files aim (with_statement p what) lines fetches answer
+        → LinesEnd files aim p (does what ∷ lines) fetches answer
+    below_deed what _ _ (short fetches) = short fetches
+    below_deed what _ _ (unread other fetches used names) = unread other fetches used names
+    below_deed what _ _ (stop other words fetches are none) =
+        stop other words fetches
+        (refused_below_deed (HoldsFile files) (TellsTooLong files) p lines what other words are) none
+    below_deed what _ _ (conclude end fetches answer lead concludes none) = conclude end fetches answer lead concludes none
+
+  pub lines_end :
+      (aim : Aim) (p : Progress) (lines : List Line) (fetches : List Fetch) (answer : Answer) → Follows aim p lines fetches answer
+      → AllByRecursion (Gave files) fetches → LinesEnd files aim p lines fetches answer
+  lines_end aim p [] _ _ not_judged told = short []
+  lines_end aim p [] _ _ (refused words never) told = absurd never
+  lines_end aim p [] _ _ (gives what fetches answer concludes says) told =
+      conclude p fetches answer refl (subst (Concludes aim p) (sym says.1) concludes) (ap failed_names says.0)
+  lines_end aim p (uses file ∷ lines) _ _ not_fetched told = short []
+  lines_end aim p (uses file ∷ lines) _ _ (fetched_alone what) told = short (fetch_of file what ∷ [])
+  lines_end aim p (uses file ∷ lines) _ _ failed told = unread file (fetch_of file Failed ∷ []) (inl refl) refl
+  lines_end aim p (uses file ∷ lines) _ _ too_long told =
+      let words = codes "TooLong" ∷ [] in
+      stop file words (fetch_of file TooLong ∷ []) (refused_at (HoldsFile files) (TellsTooLong files) p lines (uses file) file words (too_long_to_use file (long_told files file told.0))) refl
+  lines_end aim p (uses file ∷ lines) _ _ (leads_on bytes _ _ not_judged) told = short (fetch_of file (Held bytes) ∷ [])
+  lines_end aim p (uses file ∷ lines) _ _ (leads_on bytes _ _ (refused words why)) told =
+      stop file words (fetch_of file (Held bytes) ∷ [])
+      (refused_at (HoldsFile files) (TellsTooLong files) p lines (uses file) file words
+      (at_fault file bytes words (held_told files file bytes told.0, held_within files file bytes told.0) why)) refl
+  lines_end aim p (uses file ∷ lines) _ _ (leads_on bytes _ _ (gives tree fetches answer checked follows)) told =
+      below_use aim p lines file bytes tree fetches answer
+      (record { text = bytes; is_text = (held_told files file bytes told.0, held_within files file bytes told.0); checked = checked })
+      (lines_end aim (with_description p file tree) lines fetches answer follows told.1)
+  lines_end aim p (calls deed name args ∷ lines) _ _ not_judged told = short []
+  lines_end aim p (calls deed name args ∷ lines) _ _ (refused words why) told =
+      stop p.file words [] (refused_at (HoldsFile files) (TellsTooLong files) p lines (calls deed name args) p.file words (leads_nowhere deed name args words why)) refl
+  lines_end aim p (calls deed name args ∷ lines) _ _ (gives next fetches answer leads follows) told =
+      below_call aim p lines deed name args next fetches answer leads (lines_end aim next lines fetches answer follows told)
+  lines_end aim p (does what ∷ lines) fetches answer follows told =
+      below_deed aim p lines what fetches answer (lines_end aim (with_statement p what) lines fetches answer follows told)

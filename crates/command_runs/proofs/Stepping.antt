@@ -1,0 +1,237 @@
+-- What a run says of a script, and how it must end, from the one relation of runs.
+use Rattle.std.proofs.Common.{◌≡◌, ◌∙◌, ◌≤◌, ◌<◌, ◌⊎◌, inl, inr, ℕ, ℤ, Bool, true, false, is_some, if◌then◌else◌, List, [], ◌∷◌, Option, Some, None, length, refl, sym, ap, subst, arith}
+use Rattle.std.specs.Prelude.{◌↔◌}
+use Rattle.std.specs.List.{AllByRecursion, list_any}
+use Rattle.std.proofs.lemmas.Option.{same_Some}
+use Rattle.cfg_io.specs.Shelf.{Files}
+use Rattle.cfg_io.specs.Sink.{with_bytes}
+use Rattle.config_graph.specs.Graph.{Graph}
+use Rattle.config_graph.specs.Sound.{Sound}
+use Rattle.darwin_parser.specs.Tree.{Name, Tree}
+use Rattle.darwin_types.specs.Faults.{NoFault}
+use Rattle.elaborator.specs.Elaboration.{HasNoFault, ElaboratesTo}
+use Rattle.elaborator.specs.Faults.{Faults}
+use Rattle.elaborator.specs.declared.error.ElabError.{ElabError}
+use Rattle.change_law.specs.Members.{is_pending}
+use Rattle.change_script.specs.ScriptFiles.{IsScript, IsScriptFault}
+use Rattle.change_script.specs.declared.error.ScriptError.{ScriptError}
+use Rattle.change_script.specs.declared.script.Script.{Script}
+use Rattle.change_script.proofs.ScriptFileLaws as scripts
+use Rattle.command_answers.specs.Answers.{run_status}
+use Rattle.command_answers.specs.declared.status.Status.{Status}
+use Rattle.command_answers.specs.declared.status.Status.TheVariants as status
+use Rattle.command_words.specs.declared.words.Command.TheVariants as commands
+use Rattle.command_words.specs.CommandLine.{Asks}
+use Rattle.command_runs.specs.Fetches.{Fetch, failed_names, file_limit, Gave}
+use Rattle.command_runs.specs.Lines.{begun}
+use Rattle.command_runs.specs.OneFile.{cannot_read_statements, statements_too_long, statements_at_fault}
+use Rattle.command_runs.specs.Outcomes as outcomes
+use Rattle.command_runs.specs.Outcomes.{Ends, HoldsFile, TellsTooLong, IsScriptOf, IsRunStatus, EndsAsRun, MustRefuseStatements, MustRefuseLine, NothingRefusesLines}
+use Rattle.command_runs.specs.Runs.{Written, whole, stopped}
+use Rattle.command_runs.specs.Scripts.{lines_of}
+use Rattle.command_runs.specs.Ways.{IsTextIn, AreRefused}
+use Rattle.command_runs.proofs.Inverting.{Answer, of_words, AnswersCommand, no_form, answered_to, no_memory, only_scripts, Ran}
+use Rattle.command_runs.proofs.WayLaws as ways
+use Rattle.command_runs.proofs.ScriptEnds.{ScriptEnds, is_none, unread, refuses, reports, script_ends, reported, run_is, no_run, for_memory, for_sink}
+use Rattle.command_runs.proofs.Statuses.{usage_pending, usage_unfinished, memory_pending, memory_unfinished, write_fault_pending, write_fault_unfinished}
+use Rattle.command_runs.proofs.Telling.{none_added, same_content, within_not_long}
+
+-- ---- how a report says that it ended
+
+ends_with :
+    (own : Status) (waits undone : Bool) → own ≡ run_status (if waits then 7 else if undone then 8 else 0)
+    → ((own ≡ status.Pending) ↔ (waits ≡ true)) × ((own ≡ status.Unfinished) ↔ ((waits ≡ false) × (undone ≡ true)))
+ends_with own true undone is = ((λ same. refl, λ same. is), (λ same. cc (is, same), λ same. cc (same.0)))
+ends_with own false true is = ((λ same. cc (is, same), λ same. cc (same)), (λ same. (refl, refl), λ same. is))
+ends_with own false false is = ((λ same. cc (is, same), λ same. cc (same)), (λ same. cc (is, same), λ same. cc (same.1)))
+
+pub ends_by_report :
+    (files : Option Files) (name : List ℕ) (own : Status) (taken taken' : Option (List ℕ)) (r : outcomes.Ran files name own taken taken')
+    → ((own ≡ status.Pending) ↔ (list_any is_pending r.report.history ≡ true))
+    × ((own ≡ status.Unfinished) ↔ ((list_any is_pending r.report.history ≡ false) × (is_some r.report.unfinished ≡ true)))
+ends_by_report files name own taken taken' r =
+    ends_with own (list_any is_pending r.report.history) (is_some r.report.unfinished) (r.ended ∙ ap run_status r.is_report.lawful.by_them.status)
+
+-- ---- what a file holds
+
+-- a script needn't be refused
+need_no_refusal :
+    (content : Option (List ℕ)) (bytes : List ℕ) (script : Script) → MustRefuseStatements content → content ≡ Some bytes → length bytes ≤ file_limit
+    → IsScript bytes script → ⊥
+need_no_refusal None bytes script must holds within is = must
+need_no_refusal (Some other) bytes script must holds within is = by must
+  where
+    same : other ≡ bytes
+    same = same_Some other bytes holds
+
+    by : (file_limit < length other) ⊎ ((fault : ScriptError) × IsScriptFault other fault) → ⊥
+    by (inl long) = omega (arith, long, within, ap length same)
+    by (inr first) = scripts.never_both bytes script first.0 is (subst (λ b. IsScriptFault b first.0) same first.1)
+
+-- the script that a file holds of which a line is refused
+record Refusing (f : Files) (name : List ℕ) : Type 0 where
+  pub bytes : List ℕ
+  pub holds : f name ≡ Some bytes
+  pub within : length bytes ≤ file_limit
+  pub script : Script
+  pub is_script : IsScript bytes script
+  pub used : List ℕ
+  pub words : List (List ℕ)
+  pub refused : AreRefused (HoldsFile (Some f)) (TellsTooLong (Some f)) (lines_of script.lines) begun used words
+
+refusing : (f : Files) (name : List ℕ) → MustRefuseLine f (f name) → Refusing f name
+refusing f name must = by (f name) refl must
+  where
+    by : (content : Option (List ℕ)) → f name ≡ content → MustRefuseLine f content → Refusing f name
+    by None is must = absurd must
+    by (Some bytes) is must = record {
+      bytes = bytes;
+      holds = is;
+      within = must.0;
+      script = must.1.0;
+      is_script = must.1.3;
+      used = must.1.1;
+      words = must.1.2;
+      refused = must.1.4;
+    }
+
+-- a file that holds a script of which no line is refused
+record Leading (f : Files) (name : List ℕ) : Type 0 where
+  pub bytes : List ℕ
+  pub holds : f name ≡ Some bytes
+  pub within : length bytes ≤ file_limit
+  pub right : (fault : ScriptError) → ¬ IsScriptFault bytes fault
+  pub none : (script : Script) (used : List ℕ) (words : List (List ℕ)) → IsScript bytes script
+      → ¬ AreRefused (HoldsFile (Some f)) (TellsTooLong (Some f)) (lines_of script.lines) begun used words
+
+leading : (f : Files) (name : List ℕ) → NothingRefusesLines f (f name) → Leading f name
+leading f name nothing = by (f name) refl nothing
+  where
+    by : (content : Option (List ℕ)) → f name ≡ content → NothingRefusesLines f content → Leading f name
+    by None is nothing = absurd nothing
+    by (Some bytes) is nothing = record { bytes = bytes; holds = is; within = nothing.0; right = nothing.1; none = nothing.2 }
+
+-- a text that keeps the limit isn't too long
+not_long : (f : Files) (file text : List ℕ) → IsTextIn (HoldsFile (Some f)) file text → TellsTooLong (Some f) file → ⊥
+not_long f file text is long = within_not_long (f file) text is.0 is.1 long
+
+module _ (words : List (List ℕ)) (files : Option Files) (failures failures' : List (List ℕ)) (taken taken' : Option (List ℕ)) (faults faults' : ℕ) (result : Status) (run : Ran words files failures failures' taken taken' faults faults' result) where
+  -- ---- what Ok, Pending and Unfinished say
+
+  pub runs : (name : List ℕ) → Asks words (commands.Step name) → IsRunStatus result → outcomes.Ran files name result taken taken'
+  runs name asks is = by result run.written is
+    where
+      own : Answer (commands.Step name) run.fetches run.own run.text ⊎ (run.own ≡ status.NoMemory) → IsRunStatus run.own → taken' ≡ with_bytes taken run.text
+          → outcomes.Ran files name run.own taken taken'
+      own (inl answer) is took =
+          reported files name run.fetches taken taken' run.own run.text (script_ends files name run.fetches run.own run.text answer run.told) is took
+      own (inr memory) is took = absurd (no_run status.NoMemory for_memory (subst IsRunStatus memory is))
+
+      by : (r : Status) → Written run.own run.text taken taken' faults faults' r → IsRunStatus r → outcomes.Ran files name r taken taken'
+      by _ (whole took same) is = own (of_words words (commands.Step name) run.fetches run.own run.text asks run.answers) is took
+      by _ (stopped n short took rose) is = absurd (no_run status.WriteFault for_sink is)
+
+  pub asked_to_step : (result ≡ status.Pending) ⊎ (result ≡ status.Unfinished) → (name : List ℕ) × Asks words (commands.Step name)
+  asked_to_step is = by result run.written is
+    where
+      own : (fetches : List Fetch) (s : Status) (text : List ℕ) → AnswersCommand words fetches s text → (s ≡ status.Pending) ⊎ (s ≡ status.Unfinished)
+          → (name : List ℕ) × Asks words (commands.Step name)
+      own _ _ _ (no_form none) (inl is) = absurd (usage_pending is)
+      own _ _ _ (no_form none) (inr is) = absurd (usage_unfinished is)
+      own _ _ _ (answered_to command fetches s text asks to) is =
+          let only = only_scripts command fetches s text to is in
+          (only.0, subst (λ c. Asks words c) only.1 asks)
+      own _ _ _ (no_memory fetches) (inl is) = absurd (memory_pending is)
+      own _ _ _ (no_memory fetches) (inr is) = absurd (memory_unfinished is)
+
+      by : (r : Status) → Written run.own run.text taken taken' faults faults' r → (r ≡ status.Pending) ⊎ (r ≡ status.Unfinished)
+          → (name : List ℕ) × Asks words (commands.Step name)
+      by _ (whole took same) is = own run.fetches run.own run.text run.answers is
+      by _ (stopped n short took rose) (inl is) = absurd (write_fault_pending is)
+      by _ (stopped n short took rose) (inr is) = absurd (write_fault_unfinished is)
+
+  -- ---- which status must come, where the shelf tells its files and no fetch failed
+
+  module _ (f : Files) (telling : files ≡ Some f) (steady : failures' ≡ failures) where
+    none_failed : failed_names run.fetches ≡ []
+    none_failed = none_added failures (failed_names run.fetches) (sym steady ∙ run.noted)
+
+    failed_none : (file : List ℕ) → failed_names run.fetches ≡ file ∷ [] → ⊥
+    failed_none file names = let e : [] ≡ file ∷ [] = sym none_failed ∙ names in cc
+
+    -- the status of the run of a script, unless memory ran out or the sink failed
+    finishes :
+        (name : List ℕ) (Due : Status → Type 0) → Asks words (commands.Step name)
+        → ((own : Status) (text : List ℕ) → ScriptEnds (Some f) name run.fetches own text → Due own)
+        → Due result ⊎ (result ≡ status.NoMemory) ⊎ (result ≡ status.WriteFault)
+    finishes name Due asks of_end = by result run.written
+      where
+        told : AllByRecursion (Gave (Some f)) run.fetches
+        told = subst (λ fs. AllByRecursion (Gave fs) run.fetches) telling run.told
+
+        own : Answer (commands.Step name) run.fetches run.own run.text ⊎ (run.own ≡ status.NoMemory)
+            → Due run.own ⊎ (run.own ≡ status.NoMemory) ⊎ (run.own ≡ status.WriteFault)
+        own (inl answer) = inl (of_end run.own run.text (script_ends (Some f) name run.fetches run.own run.text answer told))
+        own (inr memory) = inr (inl memory)
+
+        by : (r : Status) → Written run.own run.text taken taken' faults faults' r → Due r ⊎ (r ≡ status.NoMemory) ⊎ (r ≡ status.WriteFault)
+        by _ (whole took same) = own (of_words words (commands.Step name) run.fetches run.own run.text asks run.answers)
+        by _ (stopped n short took rose) = inr (inr refl)
+
+    pub must_refuse_statements : (name : List ℕ) → Asks words (commands.Step name) → MustRefuseStatements (f name) → Ends result status.Script
+    must_refuse_statements name asks must = finishes name (λ s. s ≡ status.Script) asks of_end
+      where
+        not_one : (script : Script) → IsScriptOf (Some f) name script → ⊥
+        not_one script is = need_no_refusal (f name) is.bytes script must is.told is.within is.is_script
+
+        of_end : (own : Status) (text : List ℕ) → ScriptEnds (Some f) name run.fetches own text → own ≡ status.Script
+        of_end _ _ (is_none _ _ _ names gave cannot_read_statements) = absurd (failed_none name names)
+        of_end _ _ (is_none _ _ _ names gave statements_too_long) = refl
+        of_end _ _ (is_none _ _ _ names gave (statements_at_fault bytes fault first)) = refl
+        of_end _ _ (unread script file is used names) = absurd (not_one script is)
+        of_end _ _ (refuses script file ws is are none) = absurd (not_one script is)
+        of_end _ _ (reports script end report is lead is_report none) = absurd (not_one script is)
+
+    -- a file that holds one script
+    one_script : (name bytes : List ℕ) (script other : Script) → f name ≡ Some bytes → IsScript bytes script → IsScriptOf (Some f) name other → other ≡ script
+    one_script name bytes script other holds is also =
+        scripts.one_script bytes other script (subst (λ b. IsScript b other) (same_content (f name) also.bytes bytes also.told holds) also.is_script) is
+
+    -- From a law of the elaborator, as it stands there.
+    pub must_refuse_line :
+        ((tree : Tree) (name : Name) (args : List ℤ) → NoFault tree → ((e : ElabError) × Faults tree name args e)
+        ⊎ ((g : Graph) × HasNoFault tree name args × ElaboratesTo tree name args g × Sound g))
+        → (name : List ℕ) → Asks words (commands.Step name) → MustRefuseLine f (f name) → Ends result status.Description
+    must_refuse_line graphs name asks must = finishes name (λ s. s ≡ status.Description) asks of_end
+      where
+        r : Refusing f name
+        r = refusing f name must
+
+        of_end : (own : Status) (text : List ℕ) → ScriptEnds (Some f) name run.fetches own text → own ≡ status.Description
+        of_end _ _ (is_none _ _ _ names gave cannot_read_statements) = absurd (failed_none name names)
+        of_end _ _ (is_none _ _ _ names gave statements_too_long) = absurd (within_not_long (f name) r.bytes r.holds r.within gave.1)
+        of_end _ _ (is_none _ _ _ names gave (statements_at_fault bytes fault first)) =
+            absurd (scripts.never_both r.bytes r.script fault r.is_script (subst (λ b. IsScriptFault b fault) (same_content (f name) bytes r.bytes gave.1 r.holds) first))
+        of_end _ _ (unread script file is used names) = absurd (failed_none file names)
+        of_end _ _ (refuses script file ws is are none) = refl
+        of_end _ _ (reports script end report is lead is_report none) =
+            absurd (ways.not_refused graphs (HoldsFile (Some f)) (TellsTooLong (Some f)) (λ file a b x y. same_content (f file) a b x y) (not_long f)
+            (lines_of script.lines) end r.used r.words lead
+            (subst (λ (s : Script). AreRefused (HoldsFile (Some f)) (TellsTooLong (Some f)) (lines_of s.lines) begun r.used r.words)
+            (sym (one_script name r.bytes r.script script r.holds r.is_script is)) r.refused))
+
+    pub completes : (name : List ℕ) → Asks words (commands.Step name) → NothingRefusesLines f (f name) → EndsAsRun result
+    completes name asks nothing = finishes name IsRunStatus asks of_end
+      where
+        l : Leading f name
+        l = leading f name nothing
+
+        of_end : (own : Status) (text : List ℕ) → ScriptEnds (Some f) name run.fetches own text → IsRunStatus own
+        of_end _ _ (is_none _ _ _ names gave cannot_read_statements) = absurd (failed_none name names)
+        of_end _ _ (is_none _ _ _ names gave statements_too_long) = absurd (within_not_long (f name) l.bytes l.holds l.within gave.1)
+        of_end _ _ (is_none _ _ _ names gave (statements_at_fault bytes fault first)) =
+            absurd (l.right fault (subst (λ b. IsScriptFault b fault) (same_content (f name) bytes l.bytes gave.1 l.holds) first))
+        of_end _ _ (unread script file is used names) = absurd (failed_none file names)
+        of_end _ _ (refuses script file ws is are none) =
+            absurd (l.none script file ws (subst (λ b. IsScript b script) (same_content (f name) is.bytes l.bytes is.told l.holds) is.is_script) are)
+        of_end _ _ (reports script end report is lead is_report none) = run_is report.status
