@@ -7,7 +7,6 @@ ghost use Rattle.command_runs.specs.Commands.{course_of, course_of_query};
 ghost use Rattle.command_runs.specs.Runs.{Runs};
 ghost use Rattle.darwin_commands.specs.Coming.{ComesBy};
 
-use crate::fetching::{FILE_LIMIT, REPORT_LIMIT, fetch_file};
 use crate::writing::{finish, no_memory, write};
 use crate::{HELP, USAGE, VERSION};
 use cfg_io::{Shelf, Sink};
@@ -15,8 +14,15 @@ use command_answers::Status;
 use command_runs::Query;
 use command_words::{Command, read_words};
 use config_graph::NoMemory;
-use file_answers::{Answer, Read, describe, read_script, upgrade};
+use file_answers::{
+    Answer, FILE_LIMIT, REPORT_LIMIT, Read, answer_run, describe, fetch_file, read_script, upgrade,
+};
+use node_table::NodeTable;
+use script_answers::{Prepared, prepare};
+use script_steps::{Start, Step};
 use std::alloc::Global;
+use step_board::StepBoard;
+use step_runner::run_in_rounds;
 
 /// Does what the words ask for, or says that they have none of the forms. The program's own texts are written from
 /// where they stand.
@@ -66,6 +72,7 @@ fn run_command<H: Shelf, K: Sink>(
             answer_replay(alloc, shelf, file.as_str(), events.as_str()),
         ),
         Command::Upgrade { file } => finish(out, answer_report(alloc, shelf, file.as_str())),
+        Command::Step { script } => finish(out, answer_script(alloc, shelf, script.as_str())),
     }
 }
 
@@ -108,4 +115,22 @@ fn answer_report<H: Shelf>(alloc: Global, shelf: &mut H, file: &str) -> Result<A
 {
     let fetched = fetch_file(shelf, file, REPORT_LIMIT)?;
     upgrade(alloc, file, fetched)
+}
+
+/// Fetches a script and what it uses, runs it, and answers the report.
+fn answer_script<H: Shelf>(alloc: Global, shelf: &mut H, name: &str) -> Result<Answer, NoMemory>
+    ensures answers { ComesBy (H.files shelf.old) (course_of (commands.Step name.now)) (H.failed shelf.old) (H.failed shelf.new) result }
+    ensures kept { H.files shelf.new ≡ H.files shelf.old }
+{
+    match prepare(alloc, shelf, name)? {
+        Prepared::Asked { start, steps } => run_script(alloc, start, steps),
+        Prepared::Refused(answer) => Ok(answer),
+    }
+}
+
+/// Runs what a script asks for, and answers the report.
+fn run_script(alloc: Global, start: Start, steps: Vec<Step>) -> Result<Answer, NoMemory> {
+    let board = StepBoard::<NodeTable>::new(alloc)?;
+    let report = run_in_rounds(alloc, board, start, steps)?;
+    answer_run(alloc, &report)
 }

@@ -3,7 +3,6 @@
 
 mod answering;
 mod commands;
-mod fetching;
 mod program;
 mod writing;
 

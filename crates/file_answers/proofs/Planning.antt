@@ -1,5 +1,5 @@
 -- What the parts of planning answer, as refusals and as plans.
-use Rattle.std.proofs.Common.{◌≡◌, ◌≢◌, false, ◌⊎◌, inl, inr, ℕ, ℤ, List, [], Result, Ok, Err, IfOk, IfErr, refl, sym, subst}
+use Rattle.std.proofs.Common.{◌≡◌, ◌≢◌, false, ◌⊎◌, inl, inr, ℕ, List, [], Result, Ok, Err, IfOk, IfErr, refl, sym, subst}
 use Rattle.config_graph.specs.Graph.{Graph}
 use Rattle.config_graph.specs.declared.node.Made.{Made}
 use Rattle.change_plan.specs.Refusals.{IsRefusal}
@@ -9,12 +9,24 @@ use Rattle.command_answers.specs.DescriptionFaults.{MayRefuse, fault_words, is_n
 use Rattle.command_answers.specs.declared.error.DescriptionFault.{DescriptionFault}
 use Rattle.command_answers.specs.declared.error.DescriptionFault.TheVariants as fault
 use Rattle.command_words.specs.declared.words.TopCall.{TopCall}
-use Rattle.command_runs.specs.Descriptions.{HasGraph, IsDescriptionRefusal}
+use Rattle.command_runs.specs.Descriptions.{HasGraph, IsTextRefusal, by_text}
+use Rattle.command_runs.specs.OneFile.{DescriptionAnswers, refused}
 use Rattle.command_runs.specs.Plans.{Starts, has_no_graph, HasPlan, HasSteps, RefusesPlan, starts_not, gets_full, made_of}
 use Rattle.command_runs.specs.Queries.{IsRefused}
+use Rattle.command_runs.specs.declared.fetched.Fetched.TheVariants.{Held}
 use Rattle.command_runs.specs.declared.query.Query.{Query}
 use Rattle.command_runs.specs.declared.query.Query.TheVariants as queries
 use Rattle.file_answers.specs.Planning.{IsFull}
+use Rattle.file_answers.specs.Refusals.{IsRefusalFor}
+use Rattle.file_answers.specs.declared.answer.Answer.{Answer}
+
+pub if_ok : {A E : Type 0} (r : Result A E) (P Q : A → Type 0) → ((a : A) → P a → Q a) → IfOk r P → IfOk r Q
+if_ok (Ok a) P Q leads holds = leads a holds
+if_ok (Err e) P Q leads holds = tt
+
+pub if_err : {A E : Type 0} (r : Result A E) (P Q : E → Type 0) → ((e : E) → P e → Q e) → IfErr r P → IfErr r Q
+if_err (Ok a) P Q leads holds = tt
+if_err (Err e) P Q leads holds = leads e holds
 
 -- a refusal of a plan without moves
 pub full_words :
@@ -48,15 +60,17 @@ pub refused_through :
 refused_through P Q e leads refuses plain = leads (fault_words e) (refuses plain)
 
 -- what reading refuses, whatever is wanted
-pub reading_refused : (query : Query) (text : List ℕ) (e : DescriptionFault) → ((top : List ℕ) (args : List ℤ) → MayRefuse (IsDescriptionRefusal text top args) e) → MayRefuse (IsRefused query text) e
-reading_refused (queries.Graph call) text e refuses plain = refuses call.top call.args plain
-reading_refused (queries.Plan call target) text e refuses plain = starts_not (fault_words e) (has_no_graph (fault_words e) (refuses call.top call.args plain))
-reading_refused (queries.Replay script) text e refuses plain = has_no_graph (fault_words e) (refuses script.name script.args plain)
+pub reading_refused :
+    (query : Query) (text : List ℕ) (e : DescriptionFault) → MayRefuse (IsTextRefusal text) e → MayRefuse (IsRefused query text) e
+reading_refused (queries.Graph call) text e refuses plain = by_text (fault_words e) (refuses plain)
+reading_refused (queries.Plan call target) text e refuses plain =
+    starts_not (fault_words e) (has_no_graph (fault_words e) (by_text (fault_words e) (refuses plain)))
+reading_refused (queries.Replay script) text e refuses plain = has_no_graph (fault_words e) (by_text (fault_words e) (refuses plain))
 
-pub if_ok : {A E : Type 0} (r : Result A E) (P Q : A → Type 0) → ((a : A) → P a → Q a) → IfOk r P → IfOk r Q
-if_ok (Ok a) P Q leads holds = leads a holds
-if_ok (Err e) P Q leads holds = tt
-
-pub if_err : {A E : Type 0} (r : Result A E) (P Q : E → Type 0) → ((e : E) → P e → Q e) → IfErr r P → IfErr r Q
-if_err (Ok a) P Q leads holds = tt
-if_err (Err e) P Q leads holds = leads e holds
+-- the line that refuses what is wanted of a description
+pub query_refused :
+    {E : Type 0} (file : List ℕ) (query : Query) (text : List ℕ) (e : DescriptionFault) (r : Result Answer E) → MayRefuse (IsRefused query text) e
+    → IfOk r (IsRefusalFor file e) → IfOk r (λ answer. DescriptionAnswers file query (Held text) answer.status answer.text.items)
+query_refused file query text e r may =
+    if_ok r (IsRefusalFor file e) (λ answer. DescriptionAnswers file query (Held text) answer.status answer.text.items)
+    (λ answer is. rw (is.status_is, is.text_is) (refused text (fault_words e) (may is.plain)))

@@ -1,2 +1,4 @@
+pub mod Fetching
 pub mod Planning
 pub mod Reading
+pub mod Refusals

@@ -1,13 +1,21 @@
--- What was read of a file of events.
+-- What was read of a file of events, or of a script.
 use Rattle.std.specs.Prelude.{◌≡◌, ℕ, List}
 use Rattle.change_script.specs.EventFiles.{IsEventFile}
+use Rattle.change_script.specs.ScriptFiles.{IsScript}
 use Rattle.command_runs.specs.declared.fetched.Fetched.{Fetched}
 use Rattle.command_runs.specs.declared.fetched.Fetched.TheVariants.{Held}
-use Rattle.command_runs.specs.OneFile.{ScriptAnswers}
+use Rattle.command_runs.specs.OneFile.{ScriptAnswers, StatementsAnswers}
 use Rattle.file_answers.specs.declared.scripts.Read.{Read}
-use Rattle.file_answers.specs.declared.scripts.Read.TheVariants.{Events, Refused}
+use Rattle.file_answers.specs.declared.scripts.Read.TheVariants as events
+use Rattle.file_answers.specs.declared.scripts.ReadScript.{ReadScript}
+use Rattle.file_answers.specs.declared.scripts.ReadScript.TheVariants as scripts
 
--- what it says, or the answer that refuses it
+-- what a file of events says, or the answer that refuses it
 abbrev pub Reads : List ℕ → Fetched → Read → Type 0
-Reads name given (Events script) = (bytes : List ℕ) × (given ≡ Held bytes) × IsEventFile bytes script
-Reads name given (Refused answer) = ScriptAnswers name given answer.status answer.text.items
+Reads name given (events.Events script) = (bytes : List ℕ) × (given ≡ Held bytes) × IsEventFile bytes script
+Reads name given (events.Refused answer) = ScriptAnswers name given answer.status answer.text.items
+
+-- the same of a script
+abbrev pub ReadsStatements : List ℕ → Fetched → ReadScript → Type 0
+ReadsStatements name given (scripts.Statements script) = (bytes : List ℕ) × (given ≡ Held bytes) × IsScript bytes script
+ReadsStatements name given (scripts.Refused answer) = StatementsAnswers name given answer.status answer.text.items

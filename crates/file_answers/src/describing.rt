@@ -9,6 +9,7 @@ ghost use Rattle.command_runs.specs.Queries.{AnswersQuery, IsRefused};
 ghost use Rattle.command_runs.specs.declared.query.Query.{Query};
 ghost use Rattle.command_runs.specs.declared.fetched.Fetched.TheVariants.{Held};
 ghost use Rattle.command_answers.specs.DescriptionFaults.{MayRefuse};
+ghost use Rattle.file_answers.specs.Refusals.{IsRefusalFor};
 
 use crate::answer::Answer;
 use crate::description::{checked_of, graph_of_call};
@@ -58,7 +59,7 @@ fn describe_text(
 {
     match answer_of(alloc, query, text) {
         Ok(answer) => Ok(answer),
-        Err(fault) => refuse(alloc, file, &fault),
+        Err(fault) => refuse_description(alloc, file, &fault),
     }
 }
 
@@ -112,9 +113,12 @@ fn graph_text_of(
 }
 
 /// The line that refuses a description.
-fn refuse(alloc: Global, file: &str, fault: &DescriptionFault) -> Result<Answer, NoMemory>
-    ensures { (query : Query) (text : List ℕ) → MayRefuse (IsRefused query text) fault.now
-        → IfOk result (λ answer. DescriptionAnswers file.now query (Held text) answer.status answer.text.items) }
+pub fn refuse_description(
+    alloc: Global,
+    file: &str,
+    fault: &DescriptionFault,
+) -> Result<Answer, NoMemory>
+    ensures { IfOk result (IsRefusalFor file.now fault.now) }
 {
     if fault.is_no_memory() {
         return Err(AllocError);

@@ -1,12 +1,13 @@
 //! From the bytes of a description to the graphs of its components.
 
-ghost use Rattle.std.specs.Prelude.{◌≡◌, ◌≤◌, ℕ, ℤ, List, length, IfOk, IfErr};
+ghost use Rattle.std.specs.Prelude.{◌≡◌, ◌≤◌, ℕ, List, length, IfOk, IfErr};
 ghost use Rattle.darwin_lexer.specs.Tokens.{IsTokens};
 ghost use Rattle.darwin_parser.specs.Tree.{tree_of};
 ghost use Rattle.config_graph.specs.Sound.{Sound};
 ghost use Rattle.darwin_types.specs.Checked.{description};
-ghost use Rattle.command_runs.specs.Descriptions.{IsTree, IsChecked, HasGraph, IsDescriptionRefusal};
+ghost use Rattle.command_runs.specs.Descriptions.{IsTree, IsChecked, IsGraphOf, HasGraph, IsTextRefusal, IsDescriptionRefusal};
 ghost use Rattle.command_answers.specs.DescriptionFaults.{MayRefuse};
+ghost use Rattle.file_answers.specs.Refusals.{NamesFault};
 
 use crate::places::place_at;
 use command_answers::DescriptionFault;
@@ -22,8 +23,7 @@ use std::alloc::Global;
 pub fn checked_of(alloc: Global, text: &[u8]) -> Result<Checked, DescriptionFault>
     requires { length text.now ≤ MAX_TEXT }
     ensures checked { IfOk result (λ checked. IsChecked text.now (description checked)) }
-    ensures refused { (top : List ℕ) (args : List ℤ)
-        → IfErr result (MayRefuse (IsDescriptionRefusal text.now top args)) }
+    ensures refused { IfErr result (MayRefuse (IsTextRefusal text.now)) }
 {
     let tokens = lex(alloc, text)?;
     let unit = tree_of_tokens(alloc, text, tokens.as_slice())?;
@@ -37,9 +37,11 @@ pub fn graph_of(
     top: &[u8],
     args: &[i32],
 ) -> Result<Graph, DescriptionFault>
+    ensures is_graph { IfOk result (IsGraphOf (description checked.now) top.now args.now) }
+    ensures sound { IfOk result (λ graph. Sound graph) }
+    ensures at_fault { IfErr result (MayRefuse (NamesFault (description checked.now) top.now args.now)) }
     ensures graph { (text : List ℕ) → IsChecked text (description checked.now)
         → IfOk result (HasGraph text top.now args.now) }
-    ensures sound { IfOk result (λ graph. Sound graph) }
     ensures refused { (text : List ℕ) → IsChecked text (description checked.now)
         → IfErr result (MayRefuse (IsDescriptionRefusal text top.now args.now)) }
 {
@@ -71,8 +73,7 @@ fn tree_of_tokens(alloc: Global, text: &[u8], tokens: &[Token]) -> Result<Unit, 
     requires few { length tokens.now ≤ length text.now }
     requires parted { IsTokens text.now tokens.now }
     ensures tree { IfOk result (λ unit. IsTree text.now (tree_of unit)) }
-    ensures refused { (top : List ℕ) (args : List ℤ)
-        → IfErr result (MayRefuse (IsDescriptionRefusal text.now top args)) }
+    ensures refused { IfErr result (MayRefuse (IsTextRefusal text.now)) }
 {
     match parse(alloc, text, tokens) {
         Ok(unit) => Ok(unit),

@@ -1,9 +1,10 @@
-//! What is answered of one file, from its bytes: of a description, of a file of events, and of a report.
+//! What is answered of one file, from its bytes: of a description, of a file of events, of a script, and of a report.
 #![tactic(auto)]
 
 mod answer;
 mod describing;
 mod description;
+mod fetching;
 mod places;
 mod plans;
 mod replaying;
@@ -11,6 +12,8 @@ mod reports;
 mod scripts;
 
 pub use answer::Answer;
-pub use describing::describe;
-pub use reports::upgrade;
-pub use scripts::{Read, read_script};
+pub use describing::{describe, refuse_description};
+pub use description::{checked_of, graph_of};
+pub use fetching::{FILE_LIMIT, REPORT_LIMIT, fetch_file};
+pub use reports::{answer_run, upgrade};
+pub use scripts::{Read, ReadScript, read_script, read_statements};

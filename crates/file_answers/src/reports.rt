@@ -3,12 +3,14 @@
 ghost use Rattle.std.specs.Prelude.{◌≡◌, ◌≢◌, ◌≤◌, ◌↔◌, ℕ, List, length, IfOk, IsTrue};
 ghost use Rattle.report_parser.specs.Stages.{IsReportFault};
 ghost use Rattle.report_parser.specs.declared.error.ReportFault.TheVariants as faults;
+ghost use Rattle.change_script.specs.Reports as of_reports;
+ghost use Rattle.command_answers.specs.Answers.{run_status};
 ghost use Rattle.command_runs.specs.Fetches.{FitsFileLimit, report_limit};
 ghost use Rattle.command_runs.specs.OneFile.{ReportAnswers};
 ghost use Rattle.command_runs.specs.declared.fetched.Fetched.TheVariants.{Held};
 
 use crate::answer::Answer;
-use change_script::report_text;
+use change_script::{Report, report_text};
 use command_answers::{Status, read_fault_line, report_line, script_too_long_line};
 use command_runs::Fetched;
 use config_graph::NoMemory;
@@ -45,6 +47,18 @@ fn upgrade_bytes(alloc: Global, name: &str, bytes: &[u8]) -> Result<Answer, NoMe
         }),
         Err(fault) => refuse_report(alloc, name, &fault),
     }
+}
+
+/// The report of a run that was made now, and how the run ends by it.
+pub fn answer_run(alloc: Global, report: &Report) -> Result<Answer, NoMemory>
+    requires { of_reports.LogsAreMade report.now }
+    ensures status { IfOk result (λ answer. answer.status ≡ run_status report.now.status) }
+    ensures text { IfOk result (λ answer. answer.text.items ≡ of_reports.report_text report.now) }
+{
+    Ok(Answer {
+        status: Status::of_run(report.status),
+        text: report_text(alloc, report)?,
+    })
 }
 
 /// The line that refuses a report.

@@ -1,13 +1,14 @@
-//! Files of events.
+//! Files of events, and scripts.
 
 ghost use Rattle.std.specs.Prelude.{◌≡◌, ◌≢◌, ◌≤◌, ◌↔◌, ℕ, List, length, IfOk, IsTrue};
 ghost use Rattle.change_script.specs.EventFiles.{IsFirstFault};
+ghost use Rattle.change_script.specs.ScriptFiles.{IsScriptFault};
 ghost use Rattle.command_runs.specs.Fetches.{FitsFileLimit, file_limit};
 ghost use Rattle.command_runs.specs.declared.fetched.Fetched.TheVariants.{Held};
-ghost use Rattle.file_answers.specs.Reading.{Reads};
+ghost use Rattle.file_answers.specs.Reading.{Reads, ReadsStatements};
 
 use crate::answer::Answer;
-use change_script::{EventFile, ScriptError, parse_events};
+use change_script::{EventFile, Script, ScriptError, parse_events, parse_script};
 use command_answers::{Status, read_fault_line, script_line, script_too_long_line};
 use command_runs::Fetched;
 use config_graph::NoMemory;
@@ -17,6 +18,14 @@ use std::alloc::{AllocError, Global};
 #[derive(Debug, Drop)]
 pub enum Read {
     Events(EventFile),
+    /// It isn't one.
+    Refused(Answer),
+}
+
+/// What was read of a script.
+#[derive(Debug, Drop)]
+pub enum ReadScript {
+    Statements(Script),
     /// It isn't one.
     Refused(Answer),
 }
@@ -39,7 +48,25 @@ pub fn read_script(alloc: Global, name: &str, fetched: Fetched) -> Result<Read, 
     }
 }
 
-/// The same for its bytes.
+/// What a script says, or the line that refuses it.
+pub fn read_statements(alloc: Global, name: &str, fetched: Fetched) -> Result<ReadScript, NoMemory>
+    requires { FitsFileLimit file_limit fetched }
+    ensures { IfOk result (ReadsStatements name.now fetched) }
+{
+    match fetched {
+        Fetched::Held(bytes) => read_statement_bytes(alloc, name, bytes.items()),
+        Fetched::TooLong => Ok(ReadScript::Refused(Answer {
+            status: Status::Script,
+            text: script_too_long_line(alloc, name)?,
+        })),
+        Fetched::Failed => Ok(ReadScript::Refused(Answer {
+            status: Status::ReadFault,
+            text: read_fault_line(alloc, name)?,
+        })),
+    }
+}
+
+/// The same for the bytes of a file of events.
 fn read_bytes(alloc: Global, name: &str, bytes: &[u8]) -> Result<Read, NoMemory>
     requires { length bytes.now ≤ file_limit }
     ensures { IfOk result (Reads name.now (Held bytes.now)) }
@@ -47,6 +74,17 @@ fn read_bytes(alloc: Global, name: &str, bytes: &[u8]) -> Result<Read, NoMemory>
     match parse_events(alloc, bytes) {
         Ok(script) => Ok(Read::Events(script)),
         Err(fault) => refuse_script(alloc, name, &fault),
+    }
+}
+
+/// The same for the bytes of a script.
+fn read_statement_bytes(alloc: Global, name: &str, bytes: &[u8]) -> Result<ReadScript, NoMemory>
+    requires { length bytes.now ≤ file_limit }
+    ensures { IfOk result (ReadsStatements name.now (Held bytes.now)) }
+{
+    match parse_script(alloc, bytes) {
+        Ok(script) => Ok(ReadScript::Statements(script)),
+        Err(fault) => refuse_statements(alloc, name, &fault),
     }
 }
 
@@ -59,6 +97,20 @@ fn refuse_script(alloc: Global, name: &str, fault: &ScriptError) -> Result<Read,
         return Err(AllocError);
     }
     Ok(Read::Refused(Answer {
+        status: Status::Script,
+        text: script_line(alloc, name, fault)?,
+    }))
+}
+
+/// The line that refuses a script.
+fn refuse_statements(alloc: Global, name: &str, fault: &ScriptError) -> Result<ReadScript, NoMemory>
+    ensures { (bytes : List ℕ) → (fault.now ≢ ScriptError.NoMemory → IsScriptFault bytes fault.now)
+        → IfOk result (ReadsStatements name.now (Held bytes)) }
+{
+    if is_no_memory(fault) {
+        return Err(AllocError);
+    }
+    Ok(ReadScript::Refused(Answer {
         status: Status::Script,
         text: script_line(alloc, name, fault)?,
     }))

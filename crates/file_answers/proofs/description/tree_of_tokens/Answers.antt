@@ -1,17 +1,15 @@
 -- A refusal of the parser is that of a token of the text.
 use Rattle.std.proofs.Common.{Err, ap}
-use Rattle.command_answers.specs.RefusalLines.{expected_words, too_nested_words}
-use Rattle.command_runs.specs.Descriptions.{place_at, by_text, by_grammar, by_nesting}
+use Rattle.command_runs.specs.Descriptions.{by_grammar, by_nesting}
 use Rattle.file_answers.proofs.description.tree_of_tokens.Goals as goal
 
 pub returns-in-Err-Expected-clause-refused : goal.returns-in-Err-Expected-clause-refused
-returns-in-Err-Expected-clause-refused c top args _ =
+returns-in-Err-Expected-clause-refused c _ =
     let step = c.in-Err-Expected in
-    rw c.place_at.ensures (by_text (expected_words (place_at c.args.text.now c.args.tokens.now step.n))
-    (by_grammar c.args.tokens.now step.n c.requires.parted (step.ensures.unexpected step.n (ap Err step.field-0-is))))
+    rw c.place_at.ensures (by_grammar c.args.tokens.now step.n c.requires.parted (step.ensures.unexpected step.n (ap Err step.field-0-is)))
 
 pub returns-in-Err-TooNested-clause-refused : goal.returns-in-Err-TooNested-clause-refused
-returns-in-Err-TooNested-clause-refused c top args _ =
+returns-in-Err-TooNested-clause-refused c _ =
     let step = c.in-Err-TooNested in
-    rw c.place_at-in-Err-TooNested.ensures (by_text (too_nested_words (place_at c.args.text.now c.args.tokens.now step.n))
-    (by_nesting c.args.tokens.now step.n c.requires.parted (step.ensures.too_nested step.n (ap Err step.field-0-is))))
+    rw c.place_at-in-Err-TooNested.ensures
+    (by_nesting c.args.tokens.now step.n c.requires.parted (step.ensures.too_nested step.n (ap Err step.field-0-is)))

@@ -1,7 +1,7 @@
 //! Fetches of descriptions, of files of events and of reports.
 
 ghost use Rattle.std.specs.Prelude.{◌≡◌, ◌≤◌, vec_len};
-ghost use Rattle.darwin_commands.specs.Fetching.{Fetches};
+ghost use Rattle.file_answers.specs.Fetching.{Fetches};
 
 use cfg_io::{Shelf, ShelfError};
 use command_runs::Fetched;

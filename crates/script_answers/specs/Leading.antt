@@ -1,0 +1,54 @@
+-- Where lines lead: on to a further progress, or to an answer that their course has.
+use Rattle.std.specs.Prelude.{◌≡◌, ◌||◌, ℕ, List, [], ◌∷◌, ◌++◌, Option, Some, None, Result, Ok, Err, is_some}
+use Rattle.std.specs.List.{AllByRecursion}
+use Rattle.cfg_io.specs.Shelf.{Files}
+use Rattle.change_script.specs.ScriptFiles.{is_file, is_start}
+use Rattle.change_script.specs.declared.script.Body.{Body}
+use Rattle.command_answers.specs.Answers as values
+use Rattle.command_answers.specs.Answers.{Shows, refusal, no_memory}
+use Rattle.command_runs.specs.Descriptions.{IsChecked}
+use Rattle.command_runs.specs.Fetches.{Fetch, Gave, failed_names, fetch_of}
+use Rattle.command_runs.specs.Lines.{Line, uses, Follows, Progress, running}
+use Rattle.command_runs.specs.declared.fetched.Fetched.{Fetched}
+use Rattle.command_runs.specs.declared.fetched.Fetched.TheVariants.{Held}
+use Rattle.darwin_types.specs.Checked.{description}
+use Rattle.file_answers.specs.declared.answer.Answer.{Answer}
+use Rattle.script_answers.specs.Ways.{IsAt}
+use Rattle.script_answers.specs.declared.describing.Described.{Described}
+use Rattle.script_answers.specs.declared.describing.Described.TheVariants as described
+use Rattle.script_answers.specs.declared.way.Way.{Way}
+
+-- The lines lead to an answer; or none of them refuses, and what follows behind them follows with them.
+abbrev pub LeadOn : {E : Type 0} → Progress → List Line → List Fetch → Way → Result (Option Answer) E → Type 0
+LeadOn p lines fetches way (Ok None) =
+    (q : Progress) × IsAt way q
+    × ((rest : List Line) (more : List Fetch) (answer : values.Answer) → Follows running q rest more answer
+    → Follows running p (lines ++ rest) (fetches ++ more) answer)
+LeadOn p lines fetches way (Ok (Some answer)) =
+    (rest : List Line) → Shows (Follows running p (lines ++ rest) fetches) answer.status answer.text.items
+LeadOn p lines fetches way (Err _) = (rest : List Line) → Follows running p (lines ++ rest) fetches (refusal no_memory)
+
+-- the same by fetches whose failures the shelf notes, and which gave what its files hold
+pub record Took {E : Type 0} (files : Option Files) (p : Progress) (lines : List Line) (failures failures' : List (List ℕ))
+    (way : Way) (result : Result (Option Answer) E) : Type 0 where
+  pub fetches : List Fetch
+  pub noted : failures' ≡ failures ++ failed_names fetches
+  pub told : AllByRecursion (Gave files) fetches
+  pub lead : LeadOn p lines fetches way result
+
+-- a way knows whether a description is used, and whether a start stands, with one line more
+pub record Marks (way next : Way) (body : Body) : Type 0 where
+  pub described : is_some next.used ≡ (is_some way.used || is_file body)
+  pub begun : is_some next.start ≡ (is_some way.start || is_start body)
+
+abbrev pub MarksOnward : {E : Type 0} → Way → Way → Body → Result (Option Answer) E → Type 0
+MarksOnward way next body (Ok None) = Marks way next body
+MarksOnward way next body (Ok (Some answer)) = Unit {0}
+MarksOnward way next body (Err _) = Unit {0}
+
+-- what was read of a file that is used
+abbrev pub Describes : List ℕ → Fetched → Described → Type 0
+Describes file given (described.Checked checked) = (bytes : List ℕ) × (given ≡ Held bytes) × IsChecked bytes (description checked)
+Describes file given (described.Refused answer) =
+    (p : Progress) (rest : List Line)
+    → Shows (Follows running p (uses file ∷ rest) (fetch_of file given ∷ [])) answer.status answer.text.items

@@ -1,0 +1,5 @@
+pub mod Calls
+pub mod Fitting
+pub mod Leading
+pub mod Preparing
+pub mod Ways
