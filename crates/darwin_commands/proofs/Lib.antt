@@ -1,1 +1,3 @@
 pub mod Running
+mod ScriptRuns
+mod SoundSteps

@@ -1,10 +1,13 @@
 //! What is done for words and for commands, by fetches.
 
-ghost use Rattle.std.specs.Prelude.{◌≡◌, ℕ, List, map, string_bytes};
+ghost use Rattle.std.specs.Prelude.{◌≡◌, ℕ, List, map, string_bytes, IfOk};
+ghost use Rattle.command_answers.specs.Answers.{Shows};
 ghost use Rattle.command_words.specs.CommandLine.{Asks};
 ghost use Rattle.command_words.specs.declared.words.Command.TheVariants as commands;
 ghost use Rattle.command_runs.specs.Commands.{course_of, course_of_query};
 ghost use Rattle.command_runs.specs.Runs.{Runs};
+ghost use Rattle.script_answers.specs.Preparing.{EndsRun};
+ghost use Rattle.script_steps.specs.Asked.{CanDoAll, CanStart, after_start, statements_of};
 ghost use Rattle.darwin_commands.specs.Coming.{ComesBy};
 
 use crate::writing::{finish, no_memory, write};
@@ -18,6 +21,7 @@ use file_answers::{
     Answer, FILE_LIMIT, REPORT_LIMIT, Read, answer_run, describe, fetch_file, read_script, upgrade,
 };
 use node_table::NodeTable;
+use report_laws::reports_of_rounds_are_lawful;
 use script_answers::{Prepared, prepare};
 use script_steps::{Start, Step};
 use std::alloc::Global;
@@ -129,7 +133,12 @@ fn answer_script<H: Shelf>(alloc: Global, shelf: &mut H, name: &str) -> Result<A
 }
 
 /// Runs what a script asks for, and answers the report.
-fn run_script(alloc: Global, start: Start, steps: Vec<Step>) -> Result<Answer, NoMemory> {
+fn run_script(alloc: Global, start: Start, steps: Vec<Step>) -> Result<Answer, NoMemory>
+    requires start { CanStart start }
+    requires steps { CanDoAll (after_start start) steps.items }
+    ensures { IfOk result (λ answer. Shows (EndsRun (statements_of start steps.items)) answer.status answer.text.items) }
+{
+    reports_of_rounds_are_lawful();
     let board = StepBoard::<NodeTable>::new(alloc)?;
     let report = run_in_rounds(alloc, board, start, steps)?;
     answer_run(alloc, &report)

@@ -8,6 +8,7 @@ ghost use Rattle.command_words.specs.CommandLine.{Asks};
 ghost use Rattle.command_words.specs.declared.words.Command.TheVariants as commands;
 ghost use Rattle.command_words.specs.declared.words.TopCall.{TopCall};
 ghost use Rattle.command_runs.specs.Outcomes.{Flattened, Planned, Replayed, Upgraded, NothingRefuses, EndsAsGiven, Wants};
+ghost use Rattle.command_runs.specs.Outcomes.{EndsAsRun, IsRunStatus, NothingRefusesLines, Ran};
 ghost use Rattle.command_runs.specs.Runs.{Runs};
 ghost use Rattle.command_runs.specs.declared.query.Query.{Query};
 
@@ -41,6 +42,10 @@ pub fn still<H: Shelf, K: Sink>(
         → result ≡ Status.Ok → Replayed (H.files shelf.old) file events Status.Ok (K.taken out.old) (K.taken out.new) }
     ensures upgraded { (file : List ℕ) → Asks (map string_bytes words.now) (commands.Upgrade file) → result ≡ Status.Ok
         → Upgraded (H.files shelf.old) file (K.taken out.old) (K.taken out.new) }
+    // Of `step` the text of the report of the script's run, and the status that the report tells. The report is the one of
+    // rounds for the statements of the script over the graphs of its descriptions, and it is lawful for them.
+    ensures ran { (name : List ℕ) → Asks (map string_bytes words.now) (commands.Step name) → IsRunStatus result
+        → Ran (H.files shelf.old) name result (K.taken out.old) (K.taken out.new) }
     // The first event that is no step is denied, with its first failing rule.
     ensures denied { result ≡ Denied → (file events : List ℕ)
         × Asks (map string_bytes words.now) (commands.Replay file events)
@@ -50,6 +55,10 @@ pub fn still<H: Shelf, K: Sink>(
         → Wants (Some files) (map string_bytes words.now) file query
         → H.files shelf.old ≡ Some files → H.failed shelf.new ≡ H.failed shelf.old → NothingRefuses query (files file)
         → EndsAsGiven query (files file) result }
+    // Where nothing refuses the script and its lines, it is run.
+    ensures complete_script { (name : List ℕ) (files : Files) → Asks (map string_bytes words.now) (commands.Step name)
+        → H.files shelf.old ≡ Some files → H.failed shelf.new ≡ H.failed shelf.old → NothingRefusesLines files (files name)
+        → EndsAsRun result }
 {
     run_words(alloc, words, shelf, out)
 }

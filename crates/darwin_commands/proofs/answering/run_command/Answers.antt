@@ -39,3 +39,9 @@ returns-in-Upgrade-clause-runs g c words asks =
     runs_by words (commands.Upgrade c.in-Upgrade.file) _ _ _ _ _ _ _
     c.answer_report.result c.finish-in-Upgrade.result (rw c.in-Upgrade.is at asks)
     (rw c.as_str-in-Upgrade.ensures at c.answer_report.ensures.answers) c.finish-in-Upgrade.ensures
+
+pub returns-in-Step-clause-runs : goal.returns-in-Step-clause-runs
+returns-in-Step-clause-runs g c words asks =
+    runs_by words (commands.Step c.in-Step.script) _ _ _ _ _ _ _
+    c.answer_script.result c.finish-in-Step.result (rw c.in-Step.is at asks)
+    (rw c.as_str-in-Step.ensures at c.answer_script.ensures.answers) c.finish-in-Step.ensures

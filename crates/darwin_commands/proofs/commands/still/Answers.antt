@@ -12,6 +12,8 @@ returns g c =
       planned = laws.plans _ _ _ _ _ _ _ _ _ run;
       replayed = laws.replays _ _ _ _ _ _ _ _ _ run;
       upgraded = laws.upgrades _ _ _ _ _ _ _ _ _ run;
+      ran = laws.runs _ _ _ _ _ _ _ _ _ run;
       denied = laws.denies _ _ _ _ _ _ _ _ _ run;
       complete = λ file query files wants telling steady. laws.completes _ _ _ _ _ _ _ _ _ run files telling steady file query wants;
+      complete_script = λ name files asks telling steady. laws.completes_script _ _ _ _ _ _ _ _ _ run files telling steady name asks;
     }
