@@ -1,0 +1,3 @@
+pub mod Leading
+pub mod OneRun
+pub mod Premises

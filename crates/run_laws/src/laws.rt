@@ -1,0 +1,54 @@
+//! Laws of runs of scripts, where the shelf tells its files.
+
+ghost use Rattle.std.specs.Prelude.{◌≡◌, ℕ, List, Option, Some};
+ghost use Rattle.cfg_io.specs.Shelf.{Files};
+ghost use Rattle.change_script.specs.ScriptFiles.{IsScript};
+ghost use Rattle.change_script.specs.declared.script.Script.{Script};
+ghost use Rattle.command_answers.specs.declared.status.Status.{Status};
+ghost use Rattle.command_runs.specs.Failures.{Uses};
+ghost use Rattle.command_runs.specs.Lines.{Line, Progress, begun};
+ghost use Rattle.command_runs.specs.Outcomes.{HoldsFile, MustRefuseLine, MustRefuseStatements};
+ghost use Rattle.command_runs.specs.Outcomes.{NothingRefusesLines, Ran, TellsTooLong};
+ghost use Rattle.command_runs.specs.Scripts.{lines_of};
+ghost use Rattle.command_runs.specs.Ways.{AreRefused, LeadTo};
+
+use darwin_types::a_fault_or_none;
+use elaborator::a_graph_or_a_fault;
+
+/// A law: a run of a script is a function of the files. Two runs that end by a report write the same text, and end with
+/// the same status.
+pub fn a_script_has_one_run()
+    ensures { (files : Files) (name : List ℕ) (own other : Status) (taken t also : Option (List ℕ))
+        → Ran (Some files) name own taken t → Ran (Some files) name other taken also → (own ≡ other) × (t ≡ also) }
+{}
+
+/// A law: the lines of a script lead to one end at most, and none of them is refused then. That they neither lead on nor
+/// stop can't be, where the shelf has each file that they use.
+pub fn lines_lead_or_are_refused()
+    ensures one_end { (files : Files) (lines : List Line) (end other : Progress)
+        → LeadTo (HoldsFile (Some files)) begun lines end → LeadTo (HoldsFile (Some files)) begun lines other → end ≡ other }
+    ensures never_both { (files : Files) (lines : List Line) (end : Progress) (used : List ℕ) (words : List (List ℕ))
+        → LeadTo (HoldsFile (Some files)) begun lines end
+        → ¬ AreRefused (HoldsFile (Some files)) (TellsTooLong (Some files)) lines begun used words }
+    ensures not_neither { (files : Files) (bytes : List ℕ) (script : Script) → IsScript bytes script
+        → ((file : List ℕ) → Uses (lines_of script.lines) file → (text : List ℕ) × (files file ≡ Some text))
+        → ¬ (((end : Progress) → ¬ LeadTo (HoldsFile (Some files)) begun (lines_of script.lines) end)
+        × ((used : List ℕ) (words : List (List ℕ))
+        → ¬ AreRefused (HoldsFile (Some files)) (TellsTooLong (Some files)) (lines_of script.lines) begun used words)) }
+{
+    a_fault_or_none();
+    a_graph_or_a_fault();
+}
+
+/// A law: what is asked of a file so that it must be refused as a script, that a line of it must be refused, or that
+/// nothing is refused: no two of these hold of the same bytes, and that none holds can't be. So no run of a script can
+/// hide behind want of memory.
+pub fn each_script_is_refused_or_run()
+    ensures whole_or_line { (files : Files) (bytes : List ℕ) → MustRefuseStatements (Some bytes) → ¬ MustRefuseLine files (Some bytes) }
+    ensures whole_or_nothing { (files : Files) (bytes : List ℕ) → MustRefuseStatements (Some bytes)
+        → ¬ NothingRefusesLines files (Some bytes) }
+    ensures line_or_nothing { (files : Files) (bytes : List ℕ) → MustRefuseLine files (Some bytes)
+        → ¬ NothingRefusesLines files (Some bytes) }
+    ensures not_neither { (files : Files) (bytes : List ℕ) → ¬ ((¬ MustRefuseStatements (Some bytes))
+        × (¬ MustRefuseLine files (Some bytes)) × (¬ NothingRefusesLines files (Some bytes))) }
+{}
