@@ -1,3 +1,5 @@
+pub mod Few
 pub mod Leading
 pub mod OneRun
 pub mod Premises
+pub mod Reports

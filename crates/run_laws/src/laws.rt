@@ -10,10 +10,32 @@ ghost use Rattle.command_runs.specs.Lines.{Line, Progress, begun};
 ghost use Rattle.command_runs.specs.Outcomes.{HoldsFile, MustRefuseLine, MustRefuseStatements};
 ghost use Rattle.command_runs.specs.Outcomes.{NothingRefusesLines, Ran, TellsTooLong};
 ghost use Rattle.command_runs.specs.Scripts.{lines_of};
-ghost use Rattle.command_runs.specs.Ways.{AreRefused, LeadTo};
+ghost use Rattle.command_runs.specs.RunReports.{IsReportOf};
+ghost use Rattle.command_runs.specs.Ways.{AreRefused, Elaborates, LeadTo};
+ghost use Rattle.change_law.specs.Scripts.{StatementsOf};
+ghost use Rattle.change_law.specs.Statements.{Statement};
+ghost use Rattle.change_script.specs.declared.report.Report.{Report};
+ghost use Rattle.report_laws.specs.Existing.{StopsEnd};
+ghost use Rattle.report_laws.specs.SoundStatements.{AreSound};
 
 use darwin_types::a_fault_or_none;
-use elaborator::a_graph_or_a_fault;
+use elaborator::{a_graph_or_a_fault, one_graph};
+use report_laws::{a_sound_script_has_a_report_where_stops_end, reports_of_rounds_are_lawful};
+
+/// A law: the statements of a script are sound, since its graphs are those of descriptions. So they have a report, by which
+/// a run of them may end, where each stop comes to an end in rounds.
+pub fn a_script_has_a_report_where_stops_end()
+    ensures sound { (files : Option Files) (bytes : List ℕ) (script : Script) (statements : List Statement) → IsScript bytes script
+        → StatementsOf (Elaborates (HoldsFile files)) script statements → AreSound statements }
+    ensures exists { (files : Option Files) (bytes : List ℕ) (script : Script) (statements : List Statement) → IsScript bytes script
+        → StatementsOf (Elaborates (HoldsFile files)) script statements
+        → StopsEnd → (report : Report) × IsReportOf statements report }
+{
+    a_graph_or_a_fault();
+    one_graph();
+    a_sound_script_has_a_report_where_stops_end();
+    reports_of_rounds_are_lawful();
+}
 
 /// A law: a run of a script is a function of the files. Two runs that end by a report write the same text, and end with
 /// the same status.
@@ -41,8 +63,8 @@ pub fn lines_lead_or_are_refused()
 }
 
 /// A law: what is asked of a file so that it must be refused as a script, that a line of it must be refused, or that
-/// nothing is refused: no two of these hold of the same bytes, and that none holds can't be. So no run of a script can
-/// hide behind want of memory.
+/// nothing is refused: no two of these hold of the same bytes, and that none holds can't be. So for each text one of three
+/// answers is due, where memory lasts.
 pub fn each_script_is_refused_or_run()
     ensures whole_or_line { (files : Files) (bytes : List ℕ) → MustRefuseStatements (Some bytes) → ¬ MustRefuseLine files (Some bytes) }
     ensures whole_or_nothing { (files : Files) (bytes : List ℕ) → MustRefuseStatements (Some bytes)

@@ -3,4 +3,7 @@
 
 mod laws;
 
-pub use laws::{a_script_has_one_run, each_script_is_refused_or_run, lines_lead_or_are_refused};
+pub use laws::{
+    a_script_has_a_report_where_stops_end, a_script_has_one_run, each_script_is_refused_or_run,
+    lines_lead_or_are_refused,
+};
