@@ -1,4 +1,4 @@
--- The statements of a script are sound, and have a report where stops come to an end.
+-- The statements of a script are sound, and have a report.
 use Rattle.std.proofs.Common.{◌≡◌, ◌⊎◌, inl, inr, ℕ, ℤ, List, subst}
 use Rattle.config_graph.specs.Graph.{Graph}
 use Rattle.config_graph.specs.Sound.{Sound}
@@ -14,7 +14,6 @@ use Rattle.darwin_types.specs.Faults.{NoFault}
 use Rattle.elaborator.specs.Elaboration.{HasNoFault, ElaboratesTo}
 use Rattle.elaborator.specs.Faults.{Faults}
 use Rattle.elaborator.specs.declared.error.ElabError.{ElabError}
-use Rattle.report_laws.specs.Existing.{StopsEnd}
 use Rattle.report_laws.specs.SoundStatements.{AreSound, IsSoundGraph}
 use Rattle.report_laws.proofs.StatementLaws.{sound_list}
 use Rattle.command_runs.specs.RunReports.{IsReportOf}
@@ -39,11 +38,11 @@ module _ (graphs : (tree : Tree) (name : Name) (args : List ℤ) → NoFault tre
   are_sound bytes script statements is says = sound_list (Elaborates Holds) sound_graph bytes script is statements says
 
   pub report_there :
-      (StopsEnd → (statements : List Statement) → AreSound statements → (report : Report) × Serial statements report)
+      ((statements : List Statement) → AreSound statements → (report : Report) × Serial statements report)
       → ((statements : List Statement) (report : Report) → AreSound statements → (serial : Serial statements report) → Lawful statements (in_rounds report serial) report)
       → (bytes : List ℕ) (script : Script) (statements : List Statement) → IsScript bytes script → StatementsOf (Elaborates Holds) script statements
-      → StopsEnd → (report : Report) × IsReportOf statements report
-  report_there exists lawful bytes script statements is says stops =
+      → (report : Report) × IsReportOf statements report
+  report_there exists lawful bytes script statements is says =
       let sound = are_sound bytes script statements is says in
-      let there = exists stops statements sound in
+      let there = exists statements sound in
       (there.0, record { serial = there.1; lawful = lawful statements there.0 sound there.1 })

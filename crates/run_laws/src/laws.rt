@@ -15,25 +15,24 @@ ghost use Rattle.command_runs.specs.Ways.{AreRefused, Elaborates, LeadTo};
 ghost use Rattle.change_law.specs.Scripts.{StatementsOf};
 ghost use Rattle.change_law.specs.Statements.{Statement};
 ghost use Rattle.change_script.specs.declared.report.Report.{Report};
-ghost use Rattle.report_laws.specs.Existing.{StopsEnd};
 ghost use Rattle.report_laws.specs.SoundStatements.{AreSound};
 
 use darwin_types::a_fault_or_none;
 use elaborator::{a_graph_or_a_fault, one_graph};
-use report_laws::{a_sound_script_has_a_report_where_stops_end, reports_of_rounds_are_lawful};
+use ending_laws::a_sound_script_has_a_report;
+use report_laws::reports_of_rounds_are_lawful;
 
 /// A law: the statements of a script are sound, since its graphs are those of descriptions. So they have a report, by which
-/// a run of them may end, where each stop comes to an end in rounds.
-pub fn a_script_has_a_report_where_stops_end()
+/// a run of them may end.
+pub fn a_script_has_a_report()
     ensures sound { (files : Option Files) (bytes : List ℕ) (script : Script) (statements : List Statement) → IsScript bytes script
         → StatementsOf (Elaborates (HoldsFile files)) script statements → AreSound statements }
     ensures exists { (files : Option Files) (bytes : List ℕ) (script : Script) (statements : List Statement) → IsScript bytes script
-        → StatementsOf (Elaborates (HoldsFile files)) script statements
-        → StopsEnd → (report : Report) × IsReportOf statements report }
+        → StatementsOf (Elaborates (HoldsFile files)) script statements → (report : Report) × IsReportOf statements report }
 {
     a_graph_or_a_fault();
     one_graph();
-    a_sound_script_has_a_report_where_stops_end();
+    a_sound_script_has_a_report();
     reports_of_rounds_are_lawful();
 }
 

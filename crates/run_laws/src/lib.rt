@@ -4,6 +4,6 @@
 mod laws;
 
 pub use laws::{
-    a_script_has_a_report_where_stops_end, a_script_has_one_run, each_script_is_refused_or_run,
+    a_script_has_a_report, a_script_has_one_run, each_script_is_refused_or_run,
     lines_lead_or_are_refused,
 };
