@@ -1,0 +1,105 @@
+//! Rows of scripts as large as they may be, and one past it.
+
+use crate::descriptions::{LINE, MANY};
+use crate::running::{AMPLE, STEP, words_of};
+use cfg_io::{MemShelf, MemSink};
+use darwin_commands::{Status, still};
+use std::alloc::Global;
+use std::process::Abort;
+use std::test::Fail;
+
+/// Room of a sink that takes the report of the largest system.
+const WIDE: usize = 65_536;
+
+/// The most statements of a script.
+const MOST: u32 = 256;
+
+/// As many nodes as one run may make.
+#[test]
+fn the_largest_system_runs(rt: HostRuntime) -> Result<(), Fail> {
+    let alloc = rt.alloc();
+    let mut shelf = MemShelf::new(alloc);
+    shelf.add("many.dar", MANY.as_bytes())?;
+    shelf.add("s.cfg", b"use many.dar\nstart Many(1023)\nend\n")?;
+    let mut sink = MemSink::new(alloc, WIDE)?;
+    let words = words_of(alloc, &STEP)?;
+    let status = still(alloc, words.as_slice(), &mut shelf, &mut sink);
+    let text = sink.bytes();
+    assert_eq!(rt; status, Status::Ok);
+    assert!(rt;
+        text.starts_with(b"report 2\nstart Many(1023)\nmake 0 A[0] sink()\nmake 1 A[1000] sink()\n")
+    );
+    assert!(rt; text.ends_with(b"log 1022 A[9]\nstate\nstatus 0\n"));
+    assert_eq!(rt; text.len(), 44_711);
+    assert_eq!(rt; text.iter().filter(|byte| **byte == b'\n').count(), 3_074);
+    Ok(())
+}
+
+/// Runs a script over a line with so many `run` lines, and stops the test where another status comes, or a text that
+/// begins otherwise.
+fn run_often(
+    rt: &impl Abort,
+    alloc: Global,
+    lines: u32,
+    status: Status,
+    front: &[u8],
+) -> Result<(), Fail> {
+    let mut script = String::from_str(alloc, "use line.dar\nstart Line(3,10)\n")?;
+    for _ in 0..lines {
+        script.push_str("run 1\n")?;
+    }
+    script.push_str("end\n")?;
+    let mut shelf = MemShelf::new(alloc);
+    shelf.add("line.dar", LINE.as_bytes())?;
+    shelf.add("s.cfg", script.as_bytes())?;
+    let mut sink = MemSink::new(alloc, AMPLE)?;
+    let words = words_of(alloc, &STEP)?;
+    let came = still(alloc, words.as_slice(), &mut shelf, &mut sink);
+    assert_eq!(rt; came, status);
+    assert!(rt; sink.bytes().starts_with(front));
+    Ok(())
+}
+
+/// The statements are those between `use` and `end`, both among them.
+#[test]
+fn scripts_have_so_many_statements(rt: HostRuntime) -> Result<(), Fail> {
+    let alloc = rt.alloc();
+    run_often(&rt, alloc, MOST - 3, Status::Ok, b"report 2\n")?;
+    run_often(
+        &rt,
+        alloc,
+        MOST - 2,
+        Status::Script,
+        b"script s.cfg: TooManyLines 257\n",
+    )
+}
+
+#[test]
+fn long_scripts_are_refused(rt: HostRuntime) -> Result<(), Fail> {
+    let alloc = rt.alloc();
+    let blanks = Vec::from_elem(alloc, b' ', 1_048_577)?;
+    let mut shelf = MemShelf::new(alloc);
+    shelf.add("s.cfg", blanks.as_slice())?;
+    let mut sink = MemSink::new(alloc, AMPLE)?;
+    let words = words_of(alloc, &STEP)?;
+    let status = still(alloc, words.as_slice(), &mut shelf, &mut sink);
+    assert_eq!(rt; sink.bytes(), b"script s.cfg: TooLong\n".as_slice());
+    assert_eq!(rt; status, Status::Script);
+    Ok(())
+}
+
+/// A description that is too long is refused by the line that uses it, and so is a file that isn't one.
+#[test]
+fn long_descriptions_are_refused(rt: HostRuntime) -> Result<(), Fail> {
+    let alloc = rt.alloc();
+    let blanks = Vec::from_elem(alloc, b' ', 1_048_577)?;
+    let mut shelf = MemShelf::new(alloc);
+    shelf.add("long.dar", blanks.as_slice())?;
+    shelf.add("s.cfg", b"use long.dar\nstart L()\nend\n")?;
+    let mut sink = MemSink::new(alloc, AMPLE)?;
+    let words = words_of(alloc, &STEP)?;
+    let status = still(alloc, words.as_slice(), &mut shelf, &mut sink);
+    assert_eq!(rt; sink.bytes(), b"description long.dar: TooLong\n".as_slice());
+    assert_eq!(rt; status, Status::Description);
+    Ok(())
+}

@@ -1,0 +1,56 @@
+//! How a row is run.
+
+use cfg_io::{MemShelf, MemSink};
+use darwin_commands::still;
+use std::alloc::Global;
+use std::process::Abort;
+use std::test::Fail;
+
+/// Room of a sink that takes every text of the rows.
+pub const AMPLE: usize = 4_096;
+
+/// The words of a run of a script.
+pub const STEP: [&str; 2] = ["step", "s.cfg"];
+
+/// A run over files in memory, and what must come of it.
+#[derive(Drop)]
+pub struct Row<'a> {
+    pub words: &'a [&'a str],
+    /// Names and texts.
+    pub files: &'a [(&'a str, &'a str)],
+    pub room: usize,
+    pub status: u8,
+    pub written: &'a str,
+}
+
+/// The words of a command line.
+pub fn words_of(alloc: Global, words: &[&str]) -> Result<Vec<String>, Fail> {
+    let mut given = Vec::new(alloc);
+    for word in words {
+        given.push(String::from_str(alloc, word)?)?;
+    }
+    Ok(given)
+}
+
+/// Runs a row, and stops the test where another text or status comes.
+fn run(rt: &impl Abort, alloc: Global, row: &Row<'_>) -> Result<(), Fail> {
+    let mut shelf = MemShelf::new(alloc);
+    for (name, text) in row.files {
+        shelf.add(name, text.as_bytes())?;
+    }
+    let mut sink = MemSink::new(alloc, row.room)?;
+    let words = words_of(alloc, row.words)?;
+    let status = still(alloc, words.as_slice(), &mut shelf, &mut sink);
+    let written = row.written;
+    assert_eq!(rt; sink.bytes(), written.as_bytes(), "{written}");
+    assert_eq!(rt; status.number(), row.status, "{written}");
+    Ok(())
+}
+
+/// Runs the rows of a table.
+pub fn run_all(rt: &impl Abort, alloc: Global, rows: &[Row<'_>]) -> Result<(), Fail> {
+    for row in rows {
+        run(rt, alloc, row)?;
+    }
+    Ok(())
+}
