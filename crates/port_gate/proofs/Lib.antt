@@ -1,3 +1,3 @@
 mod CoreLemmas
-mod Allowed
+pub mod AllowedLaws
 pub mod SeatLaws

@@ -107,7 +107,7 @@ impl CoreGate {
     }
 
     /// The fields of a port's word.
-    #[tactic(auto, using(crate::proofs::Allowed::fields_fit))]
+    #[tactic(auto, using(crate::proofs::AllowedLaws::fields_fit))]
     fn fields(&self, port: u32) -> Word
         ensures fields { result ≡ fields_of self.now.core.state port }
         ensures fits { FitsWord result }
@@ -140,7 +140,7 @@ impl CoreGate {
     }
 
     /// The node at the seat does an event that no rule denies.
-    #[tactic(auto, using(crate::proofs::Allowed::config_then))]
+    #[tactic(auto, using(crate::proofs::AllowedLaws::config_then))]
     fn act(&mut self, seat: &mut CoreSeat, event: &Event)
         requires fits { FitsCore self.old.core.state seat.old.slot seat.old.known }
         requires allowed { denial self.old.core.state event.now ≡ None }
@@ -161,7 +161,7 @@ impl CoreGate {
     }
 
     /// The node at the seat counts a call that it can't make.
-    #[tactic(auto, using(crate::proofs::Allowed::miss_by_word, crate::proofs::Allowed::miss_doer, crate::proofs::Allowed::few_calls_known, crate::proofs::Allowed::has_word))]
+    #[tactic(auto, using(crate::proofs::AllowedLaws::miss_by_word, crate::proofs::AllowedLaws::miss_doer, crate::proofs::AllowedLaws::few_calls_known, crate::proofs::AllowedLaws::has_word))]
     fn miss(&mut self, seat: &mut CoreSeat, port: u32, word: Word) -> CallAnswer
         requires fits { FitsCore self.old.core.state seat.old.slot seat.old.known }
         requires may { ((v : ℕ) × MayCall (node_at self.old.core.state.config seat.old.slot) seat.old.known port v) }
@@ -193,7 +193,7 @@ impl PortGate for CoreGate {
 
     ghost spare = { λ g. g.core.spare };
 
-    #[tactic(auto, using(crate::proofs::Allowed::begin_by_word, crate::proofs::Allowed::begin_doer, crate::proofs::Allowed::has_word, crate::proofs::Allowed::target_at, crate::proofs::Allowed::spent_at))]
+    #[tactic(auto, using(crate::proofs::AllowedLaws::begin_by_word, crate::proofs::AllowedLaws::begin_doer, crate::proofs::AllowedLaws::has_word, crate::proofs::AllowedLaws::target_at, crate::proofs::AllowedLaws::spent_at))]
     fn begin(&mut self, seat: &mut CoreSeat, port: u32, value: u32) -> BeginAnswer {
         self.holds();
         let word = self.fields(port);
@@ -223,7 +223,7 @@ impl PortGate for CoreGate {
         }
     }
 
-    #[tactic(auto, using(crate::proofs::Allowed::call_by_word, crate::proofs::Allowed::call_doer, crate::proofs::Allowed::few_calls_known, crate::proofs::Allowed::target_at))]
+    #[tactic(auto, using(crate::proofs::AllowedLaws::call_by_word, crate::proofs::AllowedLaws::call_doer, crate::proofs::AllowedLaws::few_calls_known, crate::proofs::AllowedLaws::target_at))]
     fn call(&mut self, seat: &mut CoreSeat, port: u32, value: u32) -> CallAnswer {
         self.holds();
         let word = self.fields(port);
@@ -248,7 +248,7 @@ impl PortGate for CoreGate {
         }
     }
 
-    #[tactic(auto, using(crate::proofs::Allowed::take_by_word, crate::proofs::Allowed::take_doer_by_word, crate::proofs::Allowed::take_provides, crate::proofs::Allowed::has_word))]
+    #[tactic(auto, using(crate::proofs::AllowedLaws::take_by_word, crate::proofs::AllowedLaws::take_doer_by_word, crate::proofs::AllowedLaws::take_provides, crate::proofs::AllowedLaws::has_word))]
     fn take(&mut self, seat: &mut CoreSeat, port: u32) -> TakeAnswer {
         self.holds();
         let word = self.fields(port);
@@ -274,7 +274,7 @@ impl PortGate for CoreGate {
         }
     }
 
-    #[tactic(auto, using(crate::proofs::Allowed::give_allowed, crate::proofs::Allowed::give_doer))]
+    #[tactic(auto, using(crate::proofs::AllowedLaws::give_allowed, crate::proofs::AllowedLaws::give_doer))]
     fn give(&mut self, seat: &mut CoreSeat, port: u32, value: u32) {
         self.holds();
         let serial = seat.serial_served();
@@ -288,7 +288,7 @@ impl PortGate for CoreGate {
         );
     }
 
-    #[tactic(auto, using(crate::proofs::Allowed::own_require, crate::proofs::Allowed::sees_busy, crate::proofs::Allowed::says_seen, crate::proofs::Allowed::fits_seen))]
+    #[tactic(auto, using(crate::proofs::AllowedLaws::own_require, crate::proofs::AllowedLaws::sees_busy, crate::proofs::AllowedLaws::says_seen, crate::proofs::AllowedLaws::fits_seen))]
     fn see(&mut self, seat: &mut CoreSeat, port: u32) -> SeeAnswer {
         self.holds();
         let word = self.fields(port);
@@ -299,7 +299,7 @@ impl PortGate for CoreGate {
         answer
     }
 
-    #[tactic(auto, using(crate::proofs::Allowed::end_allowed, crate::proofs::Allowed::end_doer, crate::proofs::Allowed::own_require))]
+    #[tactic(auto, using(crate::proofs::AllowedLaws::end_allowed, crate::proofs::AllowedLaws::end_doer, crate::proofs::AllowedLaws::own_require))]
     fn end(&mut self, seat: &mut CoreSeat, port: u32) {
         self.holds();
         let known = seat.port_known(port - self.first_port(seat.slot));
@@ -315,7 +315,7 @@ impl PortGate for CoreGate {
         );
     }
 
-    #[tactic(auto, using(crate::proofs::Allowed::more_allowed, crate::proofs::Allowed::more_doer, crate::proofs::Allowed::few_mores_known))]
+    #[tactic(auto, using(crate::proofs::AllowedLaws::more_allowed, crate::proofs::AllowedLaws::more_doer, crate::proofs::AllowedLaws::few_mores_known))]
     fn more(&mut self, seat: &mut CoreSeat, port: u32, value: u32) {
         self.holds();
         let serial = seat.serial_served();
@@ -329,7 +329,7 @@ impl PortGate for CoreGate {
         );
     }
 
-    #[tactic(auto, using(crate::proofs::Allowed::ask_allowed, crate::proofs::Allowed::ask_doer, crate::proofs::Allowed::own_require))]
+    #[tactic(auto, using(crate::proofs::AllowedLaws::ask_allowed, crate::proofs::AllowedLaws::ask_doer, crate::proofs::AllowedLaws::own_require))]
     fn ask(&mut self, seat: &mut CoreSeat, port: u32, value: u32) {
         self.holds();
         let serial = seat.port_known(port - self.first_port(seat.slot)).serial;
@@ -343,7 +343,7 @@ impl PortGate for CoreGate {
         );
     }
 
-    #[tactic(auto, using(crate::proofs::Allowed::hear_by_word, crate::proofs::Allowed::hear_doer, crate::proofs::Allowed::not_yet_by_word, crate::proofs::Allowed::has_word))]
+    #[tactic(auto, using(crate::proofs::AllowedLaws::hear_by_word, crate::proofs::AllowedLaws::hear_doer, crate::proofs::AllowedLaws::not_yet_by_word, crate::proofs::AllowedLaws::has_word))]
     fn hear(&mut self, seat: &mut CoreSeat, port: u32) -> HearAnswer {
         self.holds();
         let word = self.fields(port);

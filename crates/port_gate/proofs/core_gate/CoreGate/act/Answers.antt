@@ -2,7 +2,7 @@ use Rattle.std.proofs.Common.{◌∙◌, ap, sym, subst}
 use Rattle.quiesce_core.specs.Knowledge.{known_next}
 use Rattle.quiesce_core.specs.declared.known.Known.{Known}
 use Rattle.port_gate.specs.Core.{FitsCore}
-use Rattle.port_gate.proofs.Allowed.{fits_then, others_fit_then}
+use Rattle.port_gate.proofs.AllowedLaws.{fits_then, others_fit_then}
 use Rattle.port_gate.proofs.core_gate.CoreGate.act.Goals as goal
 
 pub returns-clause-fits : goal.returns-clause-fits

@@ -1,4 +1,4 @@
-use Rattle.port_gate.proofs.Allowed.{miss_by_word}
+use Rattle.port_gate.proofs.AllowedLaws.{miss_by_word}
 use Rattle.port_gate.proofs.core_gate.CoreGate.miss.Goals as goal
 
 pub act-requires-clause-allowed : goal.act-requires-clause-allowed

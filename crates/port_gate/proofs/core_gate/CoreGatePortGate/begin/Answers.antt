@@ -1,5 +1,5 @@
 use Rattle.std.proofs.Common.{arith}
-use Rattle.port_gate.proofs.Allowed.{begin_by_word, begin_doer}
+use Rattle.port_gate.proofs.AllowedLaws.{begin_by_word, begin_doer}
 use Rattle.port_gate.proofs.core_gate.CoreGatePortGate.begin.Goals as goal
 
 pub act-requires-clause-allowed : goal.act-requires-clause-allowed

@@ -1,5 +1,5 @@
 use Rattle.std.proofs.Common.{arith}
-use Rattle.port_gate.proofs.Allowed.{call_by_word, call_doer}
+use Rattle.port_gate.proofs.AllowedLaws.{call_by_word, call_doer}
 use Rattle.port_gate.proofs.core_gate.CoreGatePortGate.call.Goals as goal
 
 pub act-requires-clause-allowed : goal.act-requires-clause-allowed

@@ -4,7 +4,7 @@ use Rattle.quiesce_core.specs.Rules.{denial}
 use Rattle.quiesce_core.specs.declared.event.Event.TheVariants.{End}
 use Rattle.quiesce_core.specs.declared.known.PortKnown.{PortKnown}
 use Rattle.port_gate.specs.Seats.{value_seen}
-use Rattle.port_gate.proofs.Allowed.{end_allowed, end_doer}
+use Rattle.port_gate.proofs.AllowedLaws.{end_allowed, end_doer}
 use Rattle.port_gate.proofs.core_gate.CoreGatePortGate.end.Goals as goal
 
 pub act-requires-clause-allowed : goal.act-requires-clause-allowed

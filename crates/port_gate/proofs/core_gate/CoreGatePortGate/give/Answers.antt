@@ -1,4 +1,4 @@
-use Rattle.port_gate.proofs.Allowed.{give_doer}
+use Rattle.port_gate.proofs.AllowedLaws.{give_doer}
 use Rattle.port_gate.proofs.core_gate.CoreGatePortGate.give.Goals as goal
 
 pub act-requires-clause-doer : goal.act-requires-clause-doer

@@ -1,7 +1,7 @@
 use Rattle.std.proofs.Common.{sym}
 use Rattle.gate_word.specs.Phases.{is_in_more}
 use Rattle.gate_word.specs.declared.word.Word.{Word}
-use Rattle.port_gate.proofs.Allowed.{has_word, hear_doer, not_yet_by_word}
+use Rattle.port_gate.proofs.AllowedLaws.{has_word, hear_doer, not_yet_by_word}
 use Rattle.port_gate.proofs.core_gate.CoreGatePortGate.hear.Goals as goal
 
 pub act-requires-clause-doer : goal.act-requires-clause-doer

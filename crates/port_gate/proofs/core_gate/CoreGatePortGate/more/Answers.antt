@@ -1,4 +1,4 @@
-use Rattle.port_gate.proofs.Allowed.{more_doer}
+use Rattle.port_gate.proofs.AllowedLaws.{more_doer}
 use Rattle.port_gate.proofs.core_gate.CoreGatePortGate.more.Goals as goal
 
 pub act-requires-clause-doer : goal.act-requires-clause-doer

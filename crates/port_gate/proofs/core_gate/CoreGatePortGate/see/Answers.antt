@@ -4,7 +4,7 @@ use Rattle.quiesce_core.specs.Knowledge.{port_at_start}
 use Rattle.quiesce_core.specs.declared.known.PortKnown.{PortKnown}
 use Rattle.port_gate.specs.Core.{FitsCore}
 use Rattle.port_gate.specs.Moves.{seen_by}
-use Rattle.port_gate.proofs.Allowed.{fits_seen}
+use Rattle.port_gate.proofs.AllowedLaws.{fits_seen}
 use Rattle.port_gate.proofs.core_gate.CoreGatePortGate.see.Goals as goal
 
 pub returns-clause-fits : goal.returns-clause-fits
