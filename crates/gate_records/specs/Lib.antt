@@ -1,0 +1,4 @@
+pub mod Looks
+pub mod Entries
+pub mod Notes
+pub mod Records
