@@ -1,0 +1,185 @@
+-- The steps of the change keep the rule: each is shown by the world with its event, look or sight.
+use Rattle.std.proofs.Common.{◌≡◌, ◌∙◌, ℕ, ◌+◌, ◌<◌, true, ◌&&◌, List, [], length, set, Option, Some, None, refl, sym, ap, subst, arith}
+use Rattle.std.specs.Prelude.{◌==◌, bit_and, bit_or, bit_xor, nat_le, nat_lt, slice_index}
+use Rattle.std.proofs.lemmas.Bool.{and_parts, ltb-true}
+use Rattle.atomic_table.specs.Table.{Allows, State as Table, keeps}
+use Rattle.config_graph.specs.Kinds.{row}
+use Rattle.config_graph.specs.declared.TheConstants.{MAX_NODES, MAX_PORTS}
+use Rattle.config_graph.specs.declared.node.Node.{Node}
+use Rattle.config_graph.specs.declared.node.Target.{Target}
+use Rattle.gate_word.specs.Operands.{link_difference}
+use Rattle.gate_word.specs.SlotWords.{pack_slot}
+use Rattle.gate_word.specs.declared.operands.TheConstants.{ALL_BUT_CLOSED, CLOSED}
+use Rattle.gate_word.specs.declared.slot_word.SlotWord.{SlotWord}
+use Rattle.gate_records.specs.Entries.{config_of}
+use Rattle.gate_records.specs.Records.{IsRecordOf, May, events, state_at}
+use Rattle.gate_records.specs.declared.entry.Entry.TheVariants.{Did, Looked}
+use Rattle.gate_records.proofs.NoteLaws.{may_is_allowed}
+use Rattle.gate_records.proofs.RecordLaws.{config_is}
+use Rattle.quiesce_core.specs.Doers.{is_of_change}
+use Rattle.quiesce_core.specs.Effect.{effect}
+use Rattle.quiesce_core.specs.Rules.{denial, is_live_port}
+use Rattle.quiesce_core.specs.Runs.{Step}
+use Rattle.quiesce_core.specs.State.{State, is_live, owner, target}
+use Rattle.quiesce_core.specs.WellFormed.{IsWellFormed}
+use Rattle.quiesce_core.specs.Words.{changed_port, changed_slot, slot_word_of, word_of}
+use Rattle.quiesce_core.specs.declared.event.Event.{Event}
+use Rattle.quiesce_core.specs.declared.event.Event.TheVariants.{Close, Reopen, Make, Link, Unlink, Remove}
+use Rattle.quiesce_core.proofs.LegalLaws.{legal}
+use Rattle.quiesce_core.proofs.OperationLaws.{close_by, link_by, make_by, reopen_by, unlink_by}
+use Rattle.quiesce_core.proofs.RunLaws.{runs_are_well_formed}
+use Rattle.gate_rule.specs.Steps.{noted}
+use Rattle.gate_rule.specs.Views.{notes, of_change}
+use Rattle.gate_rule.specs.Worlds.{Holds}
+use Rattle.gate_rule.specs.declared.view.ChangeView.{ChangeView}
+use Rattle.gate_rule.specs.declared.view.NodeView.{NodeView}
+use Rattle.gate_rule.specs.declared.view.View.{View}
+use Rattle.gate_rule.proofs.WorldLaws.{changes, same_words, sees, shows_none, shows_port, shows_slot}
+use mathlib.Core.Option.{some}
+use lib.ListN.{get_elem?}
+
+abbrev Gates : Type 0
+Gates = Table (Unit {0}) View
+
+-- the rule of a table with these words
+abbrev With : Gates → ℕ → View → List ℕ → Type 0
+With t id v words = Holds (record { words = words; homes = t.homes; views = set t.views id v })
+
+module _ (nodes : List NodeView) (c : ChangeView) (t : Gates) (h : Holds t) (id : ℕ) (at : get_elem? t.views id ≡ some (of_change nodes c)) where
+  abbrev s : State
+  s = state_at h.world.moments
+
+  w : IsWellFormed s
+  w = runs_are_well_formed (events h.world.moments) h.reached.is_record.runs
+
+  -- its record is that of the world
+  is_record : IsRecordOf c.entries h.world.moments
+  is_record = subst (λ r. IsRecordOf r h.world.moments) (sym ((h.views id (of_change nodes c) at).change c refl).entries) h.reached.is_record
+
+  config : config_of c.entries ≡ s.config
+  config = config_is c.entries h.world.moments is_record
+
+  allowed : (e : Event) → May c.entries e → denial s e ≡ None
+  allowed e may = may_is_allowed c.entries h.world.moments e is_record may
+
+  then_ : (e : Event) → May c.entries e → Step s e (effect s e)
+  then_ e may = record { allowed = allowed e may; changed = refl }
+
+  -- an event that changes a port's word to this; a slot's; and none, by a load
+  turns : (e : Event) (p v : ℕ) → is_of_change e ≡ true → May c.entries e → p < MAX_PORTS → changed_port e ≡ Some p → changed_slot e ≡ None → v ≡ word_of (effect s e) p
+      → With t id (of_change nodes (notes c (Did e))) (set t.words p v)
+  turns e p v change may few port slot is =
+      changes t h id t.homes nodes c e (set t.words p v) at change (allowed e may) (shows_port t.words s (effect s e) e w (then_ e may) h.shows p v few port slot is)
+
+  fills : (e : Event) (n v : ℕ) → is_of_change e ≡ true → May c.entries e → n < MAX_NODES → changed_port e ≡ None → changed_slot e ≡ Some n → v ≡ slot_word_of (effect s e).config n
+      → With t id (of_change nodes (notes c (Did e))) (set t.words (MAX_PORTS + n) v)
+  fills e n v change may few port slot is =
+      changes t h id t.homes nodes c e (set t.words (MAX_PORTS + n) v) at change (allowed e may) (shows_slot t.words s (effect s e) e w (then_ e may) h.shows n v few port slot is)
+
+  quietly : (e : Event) (i : ℕ) → is_of_change e ≡ true → May c.entries e → changed_port e ≡ None → changed_slot e ≡ None
+      → With t id (of_change nodes (notes c (Did e))) (set t.words i (slice_index t.words i))
+  quietly e i change may port slot =
+      subst (With t id (of_change nodes (notes c (Did e)))) (sym (same_words t.words i))
+      (changes t h id t.homes nodes c e t.words at change (allowed e may) (shows_none t.words s (effect s e) e w (then_ e may) h.shows port slot))
+
+  -- a port by which there is an event was made
+  port_few : (p : ℕ) → is_live_port s.config p ≡ true → p < MAX_PORTS
+  port_few p live =
+      omega (arith, ltb-true p (length s.config.gates) (and_parts (nat_lt p (length s.config.gates)) (is_live s.config (owner s.config p)) live).0, w.sound.few_ports)
+
+module _ (slots id : ℕ) (nodes : List NodeView) (c : ChangeView) where
+  -- ---- close and reopen
+
+  pub closes : (p : ℕ) → May c.entries (Close p) → Allows Holds slots id (of_change nodes c, []) p (λ x. bit_or x CLOSED) (λ found new. new ≡ noted (of_change nodes c, []) (Did (Close p)))
+  closes p may t h _ at _ =
+      let few = port_few nodes c t h id at p (legal (state_at h.world.moments) (Close p) (allowed nodes c t h id at (Close p) may)).live in
+      let s' = state_at h.world.moments in (
+        of_change nodes (notes c (Did (Close p))),
+        keeps,
+        tt,
+        turns nodes c t h id at (Close p) p (bit_or (slice_index t.words p) CLOSED) refl may few refl refl
+            (ap (λ x. bit_or x CLOSED) (h.shows.ports p few) ∙ sym (close_by s' (effect s' (Close p)) p (w nodes c t h id at) (then_ nodes c t h id at (Close p) may))),
+        refl,
+      )
+
+  pub reopens : (p : ℕ) → May c.entries (Reopen p) → Allows Holds slots id (of_change nodes c, []) p (λ x. bit_and x ALL_BUT_CLOSED) (λ found new. new ≡ noted (of_change nodes c, []) (Did (Reopen p)))
+  reopens p may t h _ at _ =
+      let few = port_few nodes c t h id at p (legal (state_at h.world.moments) (Reopen p) (allowed nodes c t h id at (Reopen p) may)).live in
+      let s' = state_at h.world.moments in (
+        of_change nodes (notes c (Did (Reopen p))),
+        keeps,
+        tt,
+        turns nodes c t h id at (Reopen p) p (bit_and (slice_index t.words p) ALL_BUT_CLOSED) refl may few refl refl
+            (ap (λ x. bit_and x ALL_BUT_CLOSED) (h.shows.ports p few) ∙ sym (reopen_by s' (effect s' (Reopen p)) p (w nodes c t h id at) (then_ nodes c t h id at (Reopen p) may))),
+        refl,
+      )
+
+  -- ---- look
+
+  pub looks : (p : ℕ) → p < MAX_PORTS → Allows Holds slots id (of_change nodes c, []) p (λ x. x) (λ found new. new ≡ noted (of_change nodes c, []) (Looked p found))
+  looks p few t h _ at _ =
+      let found = slice_index t.words p in (
+        of_change nodes (notes c (Looked p found)),
+        keeps,
+        tt,
+        subst (With t id (of_change nodes (notes c (Looked p found)))) (sym (same_words t.words p)) (sees t h id t.homes nodes c (Looked p found) at refl (h.shows.ports p few)),
+        refl,
+      )
+
+  -- ---- link and unlink
+
+  pub links : (p n x : ℕ) → May c.entries (Link p n x)
+      → Allows Holds slots id (of_change nodes c, []) p (λ k. bit_xor k (link_difference (record { node = n; provide = x }))) (λ found new. new ≡ noted (of_change nodes c, []) (Did (Link p n x)))
+  links p n x may t h _ at _ =
+      let few = port_few nodes c t h id at p (legal (state_at h.world.moments) (Link p n x) (allowed nodes c t h id at (Link p n x) may)).live in
+      let s' = state_at h.world.moments in
+      let d = link_difference (record { node = n; provide = x }) in (
+        of_change nodes (notes c (Did (Link p n x))),
+        keeps,
+        tt,
+        turns nodes c t h id at (Link p n x) p (bit_xor (slice_index t.words p) d) refl may few refl refl
+            (ap (λ k. bit_xor k d) (h.shows.ports p few) ∙ sym (link_by s' (effect s' (Link p n x)) p n x (w nodes c t h id at) (then_ nodes c t h id at (Link p n x) may))),
+        refl,
+      )
+
+  pub unlinks : (p : ℕ) (to : Target) → target (config_of c.entries) p ≡ Some to → May c.entries (Unlink p)
+      → Allows Holds slots id (of_change nodes c, []) p (λ k. bit_xor k (link_difference to)) (λ found new. new ≡ noted (of_change nodes c, []) (Did (Unlink p)))
+  unlinks p to leads may t h _ at _ =
+      let few = port_few nodes c t h id at p (legal (state_at h.world.moments) (Unlink p) (allowed nodes c t h id at (Unlink p) may)).live in
+      let s' = state_at h.world.moments in
+      let there : target s'.config p ≡ Some to = subst (λ k. target k p ≡ Some to) (config nodes c t h id at) leads in (
+        of_change nodes (notes c (Did (Unlink p))),
+        keeps,
+        tt,
+        turns nodes c t h id at (Unlink p) p (bit_xor (slice_index t.words p) (link_difference to)) refl may few refl refl
+            (ap (λ k. bit_xor k (link_difference to)) (h.shows.ports p few) ∙ sym (unlink_by s' (effect s' (Unlink p)) p to (w nodes c t h id at) there (then_ nodes c t h id at (Unlink p) may))),
+        refl,
+      )
+
+  -- ---- remove, by a load of word 0
+
+  pub removes : (n i : ℕ) → May c.entries (Remove n) → Allows Holds slots id (of_change nodes c, []) i (λ x. x) (λ found new. new ≡ noted (of_change nodes c, []) (Did (Remove n)))
+  removes n i may t h _ at _ = (of_change nodes (notes c (Did (Remove n))), keeps, tt, quietly nodes c t h id at (Remove n) i refl may refl refl, refl)
+
+  -- ---- make
+
+  -- what the word of the new node's slot says
+  abbrev new_slot : Node → Option ℕ → SlotWord
+  new_slot node from = record { kind = node.kind; first_port = length (config_of c.entries).gates; arg = node.arg; from = from }
+
+  pub makes : (n : ℕ) (node : Node) (from : Option ℕ) → May c.entries (Make n node from)
+      → Allows Holds slots id (of_change nodes c, []) (MAX_PORTS + n) (λ x. bit_or x (pack_slot (new_slot node from))) (λ found new. new ≡ noted (of_change nodes c, []) (Did (Make n node from)))
+  makes n node from may t h _ at _ =
+      let s' = state_at h.world.moments in
+      let e : Event = Make n node from in
+      let l = legal s' e (allowed nodes c t h id at e may) in
+      let room = (and_parts (n == length s'.config.slots && nat_lt n MAX_NODES) (nat_le (length s'.config.gates + length (row node.kind).requires_) MAX_PORTS) l.room).0 in
+      let few = ltb-true n MAX_NODES (and_parts (n == length s'.config.slots) (nat_lt n MAX_NODES) room).1 in (
+        of_change nodes (notes c (Did e)),
+        keeps,
+        tt,
+        fills nodes c t h id at e n (bit_or (slice_index t.words (MAX_PORTS + n)) (pack_slot (new_slot node from))) refl may few refl refl
+            ((λ i. bit_or (h.shows.slots n few i) (pack_slot (record { kind = node.kind; first_port = length (config nodes c t h id at i).gates; arg = node.arg; from = from })))
+            ∙ sym (make_by s' (effect s' e) n node from (w nodes c t h id at) (then_ nodes c t h id at e may))),
+        refl,
+      )

@@ -1,0 +1,478 @@
+-- The steps of nodes keep the rule: each is shown by the world with its event, or by the same world.
+use Rattle.std.proofs.Common.{◌≡◌, ◌∙◌, ℕ, ◌+◌, ◌<◌, ◌^◌, ◌%◌, Bool, true, false, ◌||◌, cond, List, [], set, Option, Some, None, refl, sym, ap, subst, arith}
+use Rattle.std.specs.Prelude.{◌==◌, bit_xor, is_none, slice_index}
+use Rattle.std.proofs.lemmas.Bool.{both_ways, eqb-false, eqb-true}
+use Rattle.std.proofs.lemmas.Option.{same_Some}
+use Rattle.atomic_table.specs.Table.{Allows, State as Table, keeps}
+use Rattle.config_graph.specs.declared.TheConstants.{MAX_PORTS}
+use Rattle.config_graph.specs.declared.node.Target.{Target}
+use Rattle.gate_word.specs.Operands.{call_difference, end_difference, message_difference}
+use Rattle.gate_word.specs.Phases.{is_answered, is_asked, is_idle, is_in_more}
+use Rattle.gate_word.specs.Words.{FitsWord, is_message_to, is_missing, pack, unpack}
+use Rattle.gate_word.specs.declared.phase.Phase.{Phase}
+use Rattle.gate_word.specs.declared.phase.Phase.TheVariants as phase
+use Rattle.gate_word.specs.declared.word.Word.{Word}
+use Rattle.gate_word.proofs.OperandLaws.{call_turns}
+use Rattle.gate_records.specs.Records.{events, state_at}
+use Rattle.quiesce_core.specs.Doers.{is_of_change}
+use Rattle.quiesce_core.specs.Effect.{effect}
+use Rattle.quiesce_core.specs.Fields.{fields_of}
+use Rattle.quiesce_core.specs.Knowledge.{IsKnown}
+use Rattle.quiesce_core.specs.Rules.{denial, last_serial}
+use Rattle.quiesce_core.specs.Runs.{IsRun, Step, is_doer}
+use Rattle.quiesce_core.specs.State.{State, exchange}
+use Rattle.quiesce_core.specs.Words.{changed_port, changed_slot, word_of}
+use Rattle.quiesce_core.specs.declared.event.Event.{Event}
+use Rattle.quiesce_core.specs.declared.event.Event.TheVariants.{Begin, Call, Take, Give, End, More, Ask, Hear, Miss}
+use Rattle.quiesce_core.specs.declared.known.PortKnown.{PortKnown}
+use Rattle.quiesce_core.proofs.LoadLaws.{take_judged}
+use Rattle.quiesce_core.proofs.OperationLaws.{ask_by, begin_by, end_by, give_by, more_by}
+use Rattle.quiesce_core.proofs.WordLaws.{port_word_follows, port_words_decode, port_words_fit}
+use Rattle.port_gate.specs.Looks.{Shows as Shows'}
+use Rattle.port_gate.specs.Moves.{with_seen}
+use Rattle.port_gate.specs.declared.answers.SeeAnswer.TheVariants as see
+use Rattle.port_gate.specs.Seats.{MayAsk, MayBegin, MayCall, MayEnd, MayGive, MayHear, MaySee, MaySendMore, MayTake, NodeAt, port_known, serial_served, value_seen}
+use Rattle.port_gate.proofs.AllowedLaws.{ask_allowed, ask_doer, begin_by_word, begin_doer, call_allowed, call_doer, end_allowed, end_doer, fits_seen, give_allowed, give_doer, hear_by_word, hear_doer, miss_by_word, miss_doer, more_allowed, more_doer}
+use Rattle.gate_rule.specs.Steps.{Seat, WasShown, did, seen_in, to_call, value_served}
+use Rattle.gate_rule.specs.Views.{does, node_at, of_node}
+use Rattle.gate_rule.specs.Worlds.{Holds, IsLoadedOf, KnowsNode, ShowsExchange}
+use Rattle.gate_rule.specs.declared.view.NodeView.{NodeView}
+use Rattle.gate_rule.specs.declared.view.View.{View}
+use Rattle.gate_rule.proofs.FittingLaws as fitting
+use Rattle.gate_rule.proofs.WorldLaws.{acts, learns, same_words, shows_none, shows_port}
+use mathlib.Core.Option.{some}
+use lib.ListN.{get_elem?}
+use prog.Atomic.{either}
+
+abbrev Gates : Type 0
+Gates = Table (Unit {0}) View
+
+-- the rule of a table with these words
+abbrev With : Gates → ℕ → View → List ℕ → Type 0
+With t id v words = Holds (record { words = words; homes = t.homes; views = set t.views id v })
+
+module _ (n : NodeView) (t : Gates) (h : Holds t) (id : ℕ) (at : get_elem? t.views id ≡ some (of_node n)) where
+  abbrev es : List Event
+  es = events h.world.moments
+
+  abbrev s : State
+  s = state_at h.world.moments
+
+  run : IsRun es
+  run = h.reached.is_record.runs
+
+  mine : KnowsNode es n
+  mine = (h.views id (of_node n) at).nodes.0.knows
+
+  -- what a load tells
+  shown : (p : ℕ) → p < MAX_PORTS → WasShown n p (slice_index t.words p)
+  shown p few = record { run = es; runs = run; knows = mine; shown = h.shows.ports p few }
+
+  fields : (p : ℕ) → p < MAX_PORTS → unpack (slice_index t.words p) ≡ fields_of s p
+  fields p few = ap unpack (h.shows.ports p few) ∙ port_words_decode s (fitting.w es run n mine) p
+
+  -- a load that changes nothing
+  rests : (p : ℕ) → With t id (of_node n) (set t.words p (slice_index t.words p))
+  rests p = subst (With t id (of_node n)) (sym (same_words t.words p)) (learns t h id t.homes n n at refl (λ k. k))
+
+  -- an event that changes the port's word to this
+  moves : (e : Event) (p v : ℕ) → is_of_change e ≡ false → denial s e ≡ None → is_doer s n.slot e ≡ true → p < MAX_PORTS → changed_port e ≡ Some p → changed_slot e ≡ None
+      → v ≡ word_of (effect s e) p → With t id (of_node (does n e)) (set t.words p v)
+  moves e p v by_node may does_ few port slot is =
+      acts t h id t.homes n e (set t.words p v) at by_node may does_
+      (shows_port t.words s (effect s e) e (fitting.w es run n mine) (record { allowed = may; changed = refl }) h.shows p v few port slot is)
+
+  -- an event that changes no word, by a load
+  takes_up : (e : Event) (p : ℕ) → is_of_change e ≡ false → denial s e ≡ None → is_doer s n.slot e ≡ true → changed_port e ≡ None → changed_slot e ≡ None
+      → With t id (of_node (does n e)) (set t.words p (slice_index t.words p))
+  takes_up e p by_node may does_ port slot =
+      subst (With t id (of_node (does n e))) (sym (same_words t.words p))
+      (acts t h id t.homes n e t.words at by_node may does_ (shows_none t.words s (effect s e) e (fitting.w es run n mine) (record { allowed = may; changed = refl }) h.shows port slot))
+
+-- neither of two tests
+neither_of : (a b : Bool) → (a || b) ≡ false → (a ≡ false) × (b ≡ false)
+neither_of true b h = absurd (both_ways true h refl)
+neither_of false b h = (refl, h)
+
+some_if : (o : Option Target) → is_none o ≡ false → (t : Target) × (o ≡ Some t)
+some_if None h = absurd (both_ways true h refl)
+some_if (Some t) h = (t, refl)
+
+-- a seat that holds no slot
+abbrev alone : View → Seat
+alone v = (v, [])
+
+-- by a test, the node does an event or stays
+picks : (t : Gates) (id : ℕ) (n n' : NodeView) (words : Bool → List ℕ) (b : Bool) → (b ≡ true → With t id (of_node n') (words true)) → (b ≡ false → With t id (of_node n) (words false))
+    → (v : View) × With t id v (words b) × (alone v ≡ cond b (alone (of_node n')) (alone (of_node n)))
+picks t id n n' words true moved stays = (of_node n', moved refl, refl)
+picks t id n n' words false moved stays = (of_node n, stays refl, refl)
+
+-- ---- load
+
+pub loads : (slots id p : ℕ) (n : NodeView) → p < MAX_PORTS → Allows Holds slots id (of_node n, []) p (λ x. x) (λ found new. (new ≡ (of_node n, [])) × WasShown n p found)
+loads slots id p n few t h _ at _ = (of_node n, keeps, tt, rests n t h id at p, (refl, shown n t h id at p few))
+
+-- ---- take
+
+module _ (n : NodeView) (p : ℕ) (may : MayTake n.known p) (t : Gates) (h : Holds t) (id : ℕ) (at : get_elem? t.views id ≡ some (of_node n)) where
+  abbrev asked_at : ℕ
+  asked_at = slice_index t.words p
+
+  abbrev take_event : Event
+  take_event = Take p (unpack asked_at).serial (unpack asked_at).value
+
+  take_moves : is_message_to n.slot (unpack asked_at) ≡ true → With t id (of_node (does n take_event)) (set t.words p asked_at)
+  take_moves asked =
+      let es' = events h.world.moments in
+      let s' = state_at h.world.moments in
+      let runs = run n t h id at in
+      let knows = mine n t h id at in
+      let is = h.shows.ports p may.made in
+      takes_up n t h id at take_event p refl
+      (subst (λ x. denial s' (Take p (unpack x).serial (unpack x).value) ≡ None) (sym is)
+      (take_judged s' p n.slot (fitting.w es' runs n knows) (fitting.c es' runs n knows) (fitting.free_serves es' runs n knows may.free) (subst (λ x. is_message_to n.slot (unpack x) ≡ true) is asked)))
+      (fitting.message_doer s' p n.slot (subst (λ x. is_message_to n.slot x ≡ true) (fields n t h id at p may.made) asked))
+      refl refl
+
+pub takes : (slots id p : ℕ) (n : NodeView) → MayTake n.known p
+    → Allows Holds slots id (of_node n, []) p (λ x. x)
+    (λ found new. (new ≡ cond (is_message_to n.slot (unpack found)) (did (of_node n, []) (Take p (unpack found).serial (unpack found).value)) (of_node n, [])) × WasShown n p found)
+takes slots id p n may t h _ at _ =
+    let found = slice_index t.words p in
+    let it = picks t id n (does n (take_event n p may t h id at)) (λ b. set t.words p found) (is_message_to n.slot (unpack found)) (take_moves n p may t h id at) (λ _. rests n t h id at p) in
+    (it.0, keeps, tt, it.1, (it.2, shown n t h id at p may.made))
+
+-- ---- begin
+
+module _ (n : NodeView) (p v old : ℕ) (may : MayBegin (node_at n) n.known p v) (to : Target) (opened : (unpack old).closed ≡ false) (leads : (unpack old).target ≡ Some to)
+    (unspent : (unpack old).serial < last_serial) where
+  abbrev new_word : Word
+  new_word = record (unpack old) { phase = phase.Asked; serial = (unpack old).serial + 1; value = v; consequent = false }
+
+  module _ (t : Gates) (h : Holds t) (id : ℕ) (at : get_elem? t.views id ≡ some (of_node n)) where
+    abbrev event : Event
+    event = Begin p ((unpack old).serial + 1) v
+
+    begin_moves : slice_index t.words p ≡ old → With t id (of_node (does n event)) (set t.words p (pack new_word))
+    begin_moves is =
+        let es' = events h.world.moments in
+        let s' = state_at h.world.moments in
+        let runs = run n t h id at in
+        let knows = mine n t h id at in
+        let few = fitting.port_below es' runs n knows p may.own in
+        let word : unpack old ≡ fields_of s' p = sym (ap unpack is) ∙ fields n t h id at p few in
+        let w = fitting.w es' runs n knows in
+        let c = fitting.c es' runs n knows in
+        let live = fitting.open_lives es' runs n knows p may.own (sym (ap (λ (x : Word). x.closed) word) ∙ opened) in
+        let fits = fitting.fits_core es' runs n knows live in
+        let may' = subst (λ (x : NodeAt). MayBegin x n.known p v) (sym (fitting.node_is es' runs n knows)) may in
+        let allowed = begin_by_word s' w c n.slot n.known fits p v (unpack old) to word may' opened leads unspent in
+        moves n t h id at event p (pack new_word) refl allowed (begin_doer s' w c n.slot n.known fits p ((unpack old).serial + 1) v may'.own) few refl refl
+        (ap (λ (x : Word). pack (record x { phase = phase.Asked; serial = (unpack old).serial + 1; value = v; consequent = false })) word
+        ∙ sym (begin_by s' (effect s' event) p ((unpack old).serial + 1) v w (record { allowed = allowed; changed = refl })))
+
+  pub begins : (slots id : ℕ) → Allows Holds slots id (of_node n, []) p (λ x. either (x == old) (pack new_word) x)
+      (λ found new. (new ≡ cond (found == old) (did (of_node n, []) (Begin p ((unpack old).serial + 1) v)) (of_node n, [])) × WasShown n p found)
+  begins slots id t h _ at _ =
+      let found = slice_index t.words p in
+      let few = fitting.port_below (events h.world.moments) (run n t h id at) n (mine n t h id at) p may.own in
+      let it = picks t id n (does n (Begin p ((unpack old).serial + 1) v)) (λ b. set t.words p (either b (pack new_word) found)) (found == old)
+      (λ same. begin_moves t h id at (eqb-true found old same)) (λ _. rests n t h id at p) in
+      (it.0, keeps, tt, it.1, (it.2, shown n t h id at p few))
+
+-- ---- give
+
+module _ (n : NodeView) (p v : ℕ) (may : MayGive n.known p v) (t : Gates) (h : Holds t) (id : ℕ) (at : get_elem? t.views id ≡ some (of_node n)) where
+  give_moves : p < MAX_PORTS
+      → With t id (of_node (does n (Give p (serial_served n.known) v))) (set t.words p (bit_xor (slice_index t.words p) (message_difference phase.Asked (value_served n.known % 2 ^ 24) phase.Answered v)))
+  give_moves few =
+      let es' = events h.world.moments in
+      let s' = state_at h.world.moments in
+      let runs = run n t h id at in
+      let knows = mine n t h id at in
+      let w = fitting.w es' runs n knows in
+      let c = fitting.c es' runs n knows in
+      let fits = fitting.fits_core es' runs n knows (fitting.serving_lives es' runs n knows p may.serving) in
+      let allowed = give_allowed s' w c n.slot n.known fits p v may in
+      let e : Event = Give p (serial_served n.known) v in
+      moves n t h id at e p _ refl allowed (give_doer s' w c n.slot n.known fits p (serial_served n.known) v may.serving) few refl refl
+      (ap (λ x. bit_xor x (message_difference phase.Asked (value_served n.known % 2 ^ 24) phase.Answered v)) (h.shows.ports p few)
+      ∙ ap (λ u. bit_xor (word_of s' p) (message_difference phase.Asked u phase.Answered v)) (fitting.low_value_is es' runs n knows p may.serving may.heard)
+      ∙ sym (give_by s' (effect s' e) p (serial_served n.known) v w c (record { allowed = allowed; changed = refl })))
+
+pub gives : (slots id p v : ℕ) (n : NodeView) → MayGive n.known p v
+    → Allows Holds slots id (of_node n, []) p (λ x. bit_xor x (message_difference phase.Asked (value_served n.known % 2 ^ 24) phase.Answered v))
+    (λ found new. new ≡ did (of_node n, []) (Give p (serial_served n.known) v))
+gives slots id p v n may t h _ at _ =
+    (of_node (does n (Give p (serial_served n.known) v)), keeps, tt, give_moves n p v may t h id at (fitting.serving_below (events h.world.moments) (run n t h id at) n (mine n t h id at) p may.serving), refl)
+
+-- ---- end
+
+module _ (n : NodeView) (p : ℕ) (may : MayEnd (node_at n) n.known p) where
+  abbrev port : PortKnown
+  port = port_known (node_at n) n.known p
+
+  abbrev end_event : Event
+  end_event = End p port.serial (value_seen port)
+
+  end_moves : (t : Gates) (h : Holds t) (id : ℕ) → get_elem? t.views id ≡ some (of_node n)
+      → With t id (of_node (does n end_event)) (set t.words p (bit_xor (slice_index t.words p) (end_difference (value_seen port % 2 ^ 24) port.consequent)))
+  end_moves t h id at =
+      let es' = events h.world.moments in
+      let s' = state_at h.world.moments in
+      let runs = run n t h id at in
+      let knows = mine n t h id at in
+      let w = fitting.w es' runs n knows in
+      let c = fitting.c es' runs n knows in
+      let few = fitting.port_below es' runs n knows p may.own in
+      let fits = fitting.fits_core es' runs n knows (fitting.busy_lives es' runs n knows p may.own (fitting.seen_busy es' runs n knows p may.own may.seen)) in
+      let is = fitting.node_is es' runs n knows in
+      let may' = subst (λ (x : NodeAt). MayEnd x n.known p) (sym is) may in
+      let allowed : denial s' end_event ≡ None =
+      subst (λ (x : NodeAt). denial s' (End p (port_known x n.known p).serial (value_seen (port_known x n.known p))) ≡ None) is (end_allowed s' w c n.slot n.known fits p may') in
+      moves n t h id at end_event p _ refl allowed (end_doer s' w c n.slot n.known fits p port.serial (value_seen port) may'.own) few refl refl
+      ((λ i. bit_xor (h.shows.ports p few i) (end_difference (fitting.low_seen_is es' runs n knows p may.own may.seen i) ((fitting.port_known_is es' runs n knows p may.own).consequent i)))
+      ∙ sym (end_by s' (effect s' end_event) p port.serial (value_seen port) w (record { allowed = allowed; changed = refl })))
+
+  pub ends : (slots id : ℕ) → Allows Holds slots id (of_node n, []) p (λ x. bit_xor x (end_difference (value_seen port % 2 ^ 24) port.consequent)) (λ found new. new ≡ did (of_node n, []) end_event)
+  ends slots id t h _ at _ = (of_node (does n end_event), keeps, tt, end_moves t h id at, refl)
+
+-- ---- see
+
+shows_of : (x : Word) (k : ℕ) (f : Phase) → f ≡ x.phase → k ≡ pack x → is_idle f ≡ false
+    → Shows' x (cond (is_answered f) (see.Answer x.value) (cond (is_in_more f) (see.More x.value) (see.NotYet k)))
+shows_of x k phase.Idle is packed busy = absurd (both_ways true busy refl)
+shows_of x k phase.Asked is packed busy = (ap is_asked (sym is), packed)
+shows_of x k phase.Answered is packed busy = (ap is_answered (sym is), refl)
+shows_of x k phase.More is packed busy = (ap is_in_more (sym is), refl)
+
+module _ (n : NodeView) (p : ℕ) (may : MaySee (node_at n) n.known p) (t : Gates) (h : Holds t) (id : ℕ) (at : get_elem? t.views id ≡ some (of_node n)) where
+  abbrev seen_word : ℕ
+  seen_word = slice_index t.words p
+
+  abbrev seeing : NodeView
+  seeing = record n { known = with_seen (node_at n) p (seen_in seen_word) n.known }
+
+  see_knows : KnowsNode (events h.world.moments) n → KnowsNode (events h.world.moments) seeing
+  see_knows knows =
+      let es' = events h.world.moments in
+      let s' = state_at h.world.moments in
+      let runs = run n t h id at in
+      let w = fitting.w es' runs n knows in
+      let c = fitting.c es' runs n knows in
+      let few = fitting.port_below es' runs n knows p may.own in
+      let word : unpack seen_word ≡ fields_of s' p = fields n t h id at p few in
+      let known = fitting.port_known_is es' runs n knows p may.own in
+      let busy : is_idle (exchange s' p).phase ≡ false = sym known.idle ∙ may.busy in
+      let fits = fitting.fits_core es' runs n knows (fitting.busy_lives es' runs n knows p may.own busy) in
+      let is = fitting.node_is es' runs n knows in
+      let packed : seen_word ≡ pack (unpack seen_word) = h.shows.ports p few ∙ sym (ap pack word) in
+      let answer = shows_of (unpack seen_word) seen_word (unpack seen_word).phase refl packed (ap (λ (x : Word). is_idle x.phase) word ∙ busy) in
+      let then_ = fits_seen s' w c n.slot n.known fits p (unpack seen_word) (seen_in seen_word) word (subst (λ (x : NodeAt). MaySee x n.known p) (sym is) may) answer in
+      record {
+        made = knows.made;
+        log = knows.log;
+        known = subst (λ (x : NodeAt). IsKnown s' n.slot x.first (with_seen x p (seen_in seen_word) n.known)) is then_.known;
+        loaded = knows.loaded;
+      }
+
+pub sees : (slots id p : ℕ) (n : NodeView) → MaySee (node_at n) n.known p → Allows Holds slots id (of_node n, []) p (λ x. x)
+    (λ found new. (new ≡ (of_node (record n { known = with_seen (node_at n) p (seen_in found) n.known }), [])) × WasShown n p found)
+sees slots id p n may t h _ at _ =
+    let few = fitting.port_below (events h.world.moments) (run n t h id at) n (mine n t h id at) p may.own in
+    let after = seeing n p may t h id at in (
+      of_node after,
+      keeps,
+      tt,
+      subst (With t id (of_node after)) (sym (same_words t.words p)) (learns t h id t.homes n after at refl (see_knows n p may t h id at)),
+      (refl, shown n t h id at p few),
+    )
+
+-- ---- more
+
+module _ (n : NodeView) (p v : ℕ) (may : MaySendMore (node_at n) n.known p v) (t : Gates) (h : Holds t) (id : ℕ) (at : get_elem? t.views id ≡ some (of_node n)) where
+  more_moves : p < MAX_PORTS
+      → With t id (of_node (does n (More p (serial_served n.known) v))) (set t.words p (bit_xor (slice_index t.words p) (message_difference phase.Asked (value_served n.known % 2 ^ 24) phase.More v)))
+  more_moves few =
+      let es' = events h.world.moments in
+      let s' = state_at h.world.moments in
+      let runs = run n t h id at in
+      let knows = mine n t h id at in
+      let w = fitting.w es' runs n knows in
+      let c = fitting.c es' runs n knows in
+      let fits = fitting.fits_core es' runs n knows (fitting.serving_lives es' runs n knows p may.give.serving) in
+      let may' = subst (λ (x : NodeAt). MaySendMore x n.known p v) (sym (fitting.node_is es' runs n knows)) may in
+      let allowed = more_allowed s' w c n.slot n.known fits p v may' in
+      let e : Event = More p (serial_served n.known) v in
+      moves n t h id at e p _ refl allowed (more_doer s' w c n.slot n.known fits p (serial_served n.known) v may.give.serving) few refl refl
+      (ap (λ x. bit_xor x (message_difference phase.Asked (value_served n.known % 2 ^ 24) phase.More v)) (h.shows.ports p few)
+      ∙ ap (λ u. bit_xor (word_of s' p) (message_difference phase.Asked u phase.More v)) (fitting.low_value_is es' runs n knows p may.give.serving may.give.heard)
+      ∙ sym (more_by s' (effect s' e) p (serial_served n.known) v w c (record { allowed = allowed; changed = refl })))
+
+pub mores : (slots id p v : ℕ) (n : NodeView) → MaySendMore (node_at n) n.known p v
+    → Allows Holds slots id (of_node n, []) p (λ x. bit_xor x (message_difference phase.Asked (value_served n.known % 2 ^ 24) phase.More v))
+    (λ found new. new ≡ did (of_node n, []) (More p (serial_served n.known) v))
+mores slots id p v n may t h _ at _ =
+    (of_node (does n (More p (serial_served n.known) v)), keeps, tt, more_moves n p v may t h id at (fitting.serving_below (events h.world.moments) (run n t h id at) n (mine n t h id at) p may.give.serving), refl)
+
+-- ---- ask
+
+module _ (n : NodeView) (p v : ℕ) (may : MayAsk (node_at n) n.known p v) where
+  abbrev asking : PortKnown
+  asking = port_known (node_at n) n.known p
+
+  abbrev ask_event : Event
+  ask_event = Ask p asking.serial v
+
+  ask_moves : (t : Gates) (h : Holds t) (id : ℕ) → get_elem? t.views id ≡ some (of_node n)
+      → With t id (of_node (does n ask_event)) (set t.words p (bit_xor (slice_index t.words p) (message_difference phase.More (value_seen asking % 2 ^ 24) phase.Asked v)))
+  ask_moves t h id at =
+      let es' = events h.world.moments in
+      let s' = state_at h.world.moments in
+      let runs = run n t h id at in
+      let knows = mine n t h id at in
+      let w = fitting.w es' runs n knows in
+      let c = fitting.c es' runs n knows in
+      let few = fitting.port_below es' runs n knows p may.own in
+      let fits = fitting.fits_core es' runs n knows (fitting.busy_lives es' runs n knows p may.own (fitting.seen_busy es' runs n knows p may.own may.seen)) in
+      let is = fitting.node_is es' runs n knows in
+      let may' = subst (λ (x : NodeAt). MayAsk x n.known p v) (sym is) may in
+      let allowed : denial s' ask_event ≡ None =
+      subst (λ (x : NodeAt). denial s' (Ask p (port_known x n.known p).serial v) ≡ None) is (ask_allowed s' w c n.slot n.known fits p v may') in
+      moves n t h id at ask_event p _ refl allowed (ask_doer s' w c n.slot n.known fits p asking.serial v may'.own) few refl refl
+      ((λ i. bit_xor (h.shows.ports p few i) (message_difference phase.More ((fitting.low_seen_is es' runs n knows p may.own may.seen ∙ fitting.seen_is es' runs n knows p may.own may.seen) i) phase.Asked v))
+      ∙ sym (ask_by s' (effect s' ask_event) p asking.serial v w (record { allowed = allowed; changed = refl })))
+
+  pub asks : (slots id : ℕ) → Allows Holds slots id (of_node n, []) p (λ x. bit_xor x (message_difference phase.More (value_seen asking % 2 ^ 24) phase.Asked v)) (λ found new. new ≡ did (of_node n, []) ask_event)
+  asks slots id t h _ at _ = (of_node (does n ask_event), keeps, tt, ask_moves t h id at, refl)
+
+-- ---- hear
+
+module _ (n : NodeView) (p : ℕ) (may : MayHear n.known p) (t : Gates) (h : Holds t) (id : ℕ) (at : get_elem? t.views id ≡ some (of_node n)) where
+  abbrev heard_word : ℕ
+  heard_word = slice_index t.words p
+
+  abbrev hear_event : Event
+  hear_event = Hear p (serial_served n.known) (unpack heard_word).value
+
+  hear_moves : p < MAX_PORTS → is_asked (unpack heard_word).phase ≡ true → With t id (of_node (does n hear_event)) (set t.words p heard_word)
+  hear_moves few asked =
+      let es' = events h.world.moments in
+      let s' = state_at h.world.moments in
+      let runs = run n t h id at in
+      let knows = mine n t h id at in
+      let w = fitting.w es' runs n knows in
+      let c = fitting.c es' runs n knows in
+      let fits = fitting.fits_core es' runs n knows (fitting.serving_lives es' runs n knows p may.serving) in
+      takes_up n t h id at hear_event p refl
+      (hear_by_word s' w c n.slot n.known fits p (unpack heard_word) (fields n t h id at p few) may asked)
+      (hear_doer s' w c n.slot n.known fits p (serial_served n.known) (unpack heard_word).value may.serving)
+      refl refl
+
+pub hears : (slots id p : ℕ) (n : NodeView) → MayHear n.known p
+    → Allows Holds slots id (of_node n, []) p (λ x. x)
+    (λ found new. (new ≡ cond (is_asked (unpack found).phase) (did (of_node n, []) (Hear p (serial_served n.known) (unpack found).value)) (of_node n, [])) × WasShown n p found)
+hears slots id p n may t h _ at _ =
+    let found = slice_index t.words p in
+    let few = fitting.serving_below (events h.world.moments) (run n t h id at) n (mine n t h id at) p may.serving in
+    let it = picks t id n (does n (hear_event n p may t h id at)) (λ b. set t.words p found) (is_asked (unpack found).phase) (hear_moves n p may t h id at few) (λ _. rests n t h id at p) in
+    (it.0, keeps, tt, it.1, (it.2, shown n t h id at p few))
+
+-- ---- call
+
+module _ (n : NodeView) (p v : ℕ) (may : MayCall (node_at n) n.known p v) where
+  module _ (t : Gates) (h : Holds t) (id : ℕ) (at : get_elem? t.views id ≡ some (of_node n)) where
+    abbrev call_word : ℕ
+    call_word = slice_index t.words p
+
+    abbrev calling : NodeView
+    calling = record n { loaded = Some (record { port = p; word = call_word }) }
+
+    miss_moves : is_missing (unpack call_word) ≡ true → With t id (of_node (does n (Miss p))) (set t.words p call_word)
+    miss_moves missing =
+        let es' = events h.world.moments in
+        let s' = state_at h.world.moments in
+        let runs = run n t h id at in
+        let knows = mine n t h id at in
+        let w = fitting.w es' runs n knows in
+        let c = fitting.c es' runs n knows in
+        let few = fitting.port_below es' runs n knows p may.own in
+        let fits = fitting.fits_core es' runs n knows (fitting.heard_lives es' runs n knows may.heard) in
+        let may' = subst (λ (x : NodeAt). MayCall x n.known p v) (sym (fitting.node_is es' runs n knows)) may in
+        takes_up n t h id at (Miss p) p refl
+        (miss_by_word s' w c n.slot n.known fits p v (unpack call_word) (fields n t h id at p few) may' missing)
+        (miss_doer s' w c n.slot n.known fits p may'.own) refl refl
+
+    -- what is loaded there is so
+    loaded_knows : KnowsNode (events h.world.moments) n → KnowsNode (events h.world.moments) calling
+    loaded_knows knows =
+        let es' = events h.world.moments in
+        let s' = state_at h.world.moments in
+        let runs = run n t h id at in
+        let w = fitting.w es' runs n knows in
+        let few = fitting.port_below es' runs n knows p may.own in
+        let word : unpack call_word ≡ fields_of s' p = fields n t h id at p few in
+        let o = fitting.own_port es' runs n knows p may.own in
+        let here : IsLoadedOf s' n.slot (record { port = p; word = call_word }) = record {
+          made = omega (arith, o.below, (w.sound.rows n.slot o.node o.made).within);
+          owned = fitting.owner_is es' runs n knows p may.own;
+          idle = sym (fitting.port_known_is es' runs n knows p may.own).idle ∙ may.idle;
+          shown = subst (λ (x : Word). ShowsExchange x (exchange s' p)) (sym word) refl;
+          leads = λ u serves. ap (λ (x : Word). x.target) (sym word);
+        } in
+        record {
+          made = knows.made;
+          log = knows.log;
+          known = knows.known;
+          loaded = λ l is. subst (λ l. IsLoadedOf s' n.slot l) (same_Some (record { port = p; word = call_word }) l is) here;
+        }
+
+  pub looks_to_call : (slots id : ℕ) → Allows Holds slots id (of_node n, []) p (λ x. x)
+      (λ found new. (new ≡ cond (is_missing (unpack found)) (did (of_node n, []) (Miss p)) (to_call (of_node n, []) p found)) × WasShown n p found)
+  looks_to_call slots id t h _ at _ =
+      let found = slice_index t.words p in
+      let few = fitting.port_below (events h.world.moments) (run n t h id at) n (mine n t h id at) p may.own in
+      let after = calling t h id at in
+      let it = picks t id after (does n (Miss p)) (λ b. set t.words p found) (is_missing (unpack found)) (miss_moves t h id at)
+      (λ _. subst (With t id (of_node after)) (sym (same_words t.words p)) (learns t h id t.homes n after at refl (loaded_knows t h id at))) in
+      (it.0, keeps, tt, it.1, (it.2, shown n t h id at p few))
+
+  -- the word that was loaded, by which it calls
+  module _ (word : ℕ) (was : n.loaded ≡ Some (record { port = p; word = word })) (fit : FitsWord (unpack word)) (found_there : is_missing (unpack word) ≡ false) where
+    abbrev call_event : Event
+    call_event = Call p ((unpack word).serial + 1) v
+
+    to : (t : Target) × ((unpack word).target ≡ Some t) × ((unpack word).serial < last_serial)
+    to =
+        let parts = neither_of (is_none (unpack word).target) ((unpack word).serial == last_serial) found_there in
+        let leads = some_if (unpack word).target parts.0 in
+        (leads.0, leads.1, (let few = fit.serial in let apart = eqb-false (unpack word).serial last_serial parts.1 in omega (arith, few, apart)))
+
+    call_moves : (t : Gates) (h : Holds t) (id : ℕ) → get_elem? t.views id ≡ some (of_node n)
+        → With t id (of_node (does n call_event)) (set t.words p (bit_xor (slice_index t.words p) (call_difference (unpack word) v)))
+    call_moves t h id at =
+        let es' = events h.world.moments in
+        let s' = state_at h.world.moments in
+        let runs = run n t h id at in
+        let knows = mine n t h id at in
+        let w = fitting.w es' runs n knows in
+        let c = fitting.c es' runs n knows in
+        let few = fitting.port_below es' runs n knows p may.own in
+        let fits = fitting.fits_core es' runs n knows (fitting.heard_lives es' runs n knows may.heard) in
+        let may' = subst (λ (x : NodeAt). MayCall x n.known p v) (sym (fitting.node_is es' runs n knows)) may in
+        let loaded = knows.loaded (record { port = p; word = word }) was in
+        let serves = fitting.heard_serves es' runs n knows may.heard in
+        let serial : (exchange s' p).serial ≡ (unpack word).serial = ap (λ (x : Word). x.serial) loaded.shown in
+        let allowed : denial s' call_event ≡ None =
+        subst (λ k. denial s' (Call p (k + 1) v) ≡ None) serial
+        (call_allowed s' w c n.slot n.known fits p v to.0 may' (loaded.leads serves.0 serves.1 ∙ to.1) (omega (arith, serial, to.2))) in
+        let step : Step s' call_event (effect s' call_event) = record { allowed = allowed; changed = refl } in
+        moves n t h id at call_event p _ refl allowed (call_doer s' w c n.slot n.known fits p ((unpack word).serial + 1) v may'.own) few refl refl
+        (ap (λ x. bit_xor x (call_difference (unpack word) v)) (h.shows.ports p few)
+        ∙ call_turns (unpack word) v fit (omega (arith, to.2)) may.small (fields_of s' p) (port_words_fit s' w p)
+        (ap (λ (x : Word). x.phase) loaded.shown) (ap (λ (x : Word). x.consequent) loaded.shown) serial (ap (λ (x : Word). x.value) loaded.shown)
+        ∙ sym (ap pack (port_word_follows s' (effect s' call_event) call_event w step p refl)))
+
+    pub calls : (slots id : ℕ) → Allows Holds slots id (of_node n, []) p (λ x. bit_xor x (call_difference (unpack word) v)) (λ found new. new ≡ did (of_node n, []) call_event)
+    calls slots id t h _ at _ = (of_node (does n call_event), keeps, tt, call_moves t h id at, refl)

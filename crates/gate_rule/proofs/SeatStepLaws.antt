@@ -1,0 +1,311 @@
+-- The steps by which seats are given out and taken in keep the rule, and the change learns what all that it has is of.
+use Rattle.std.proofs.Common.{◌≡◌, ◌≢◌, ◌∙◌, ℕ, zero, suc, ◌+◌, ◌<◌, ◌≤◌, cond, List, [], ◌∷◌, ◌++◌, length, set, replicate, Some, refl, sym, ap, subst, ⊎_elim, arith}
+use Rattle.std.specs.Prelude.{◌==◌, option_map, slice_index}
+use Rattle.std.specs.Option.{option_map_or}
+use Rattle.std.proofs.lemmas.Bool.{eq-eqb, ne_eqb}
+use Rattle.std.proofs.lemmas.Option.{same_Some, slice_get_within}
+use Rattle.std.proofs.lemmas.List.{get_or-append-add, get_or-replicate, get_or_append_left, length-append, length-replicate}
+use Rattle.atomic_table.specs.Table.{Allows, Joins, Splits, State as Table, keeps, opening}
+use Rattle.atomic_table.proofs.Lists.{at_set, set_again}
+use Rattle.base.proofs.OptionLaws.{option_map_some}
+use Rattle.base.proofs.PlaceLaws.{slice_get-there}
+use Rattle.config_graph.specs.declared.TheConstants.{MAX_NODES, MAX_PORTS}
+use Rattle.gate_word.specs.declared.operands.TheConstants.{CLOSED}
+use Rattle.gate_word.specs.SlotWords.{unpack_slot}
+use Rattle.gate_records.specs.Entries.{config_of}
+use Rattle.gate_records.specs.Records.{IsRecordOf, entry, events}
+use Rattle.gate_records.specs.declared.entry.Entry.{Entry}
+use Rattle.gate_records.specs.declared.entry.Entry.TheVariants.{Looked, Sighted}
+use Rattle.gate_records.proofs.RecordLaws.{config_is, quiet_events, seen_more}
+use Rattle.quiesce_core.specs.Knowledge.{IsKnown, known_after}
+use Rattle.quiesce_core.specs.Runs.{done_by, state_after}
+use Rattle.quiesce_core.specs.State.{empty, slot}
+use Rattle.quiesce_core.specs.Words.{slot_fields_of}
+use Rattle.quiesce_core.proofs.KnownLaws.{nodes_know_by_index}
+use Rattle.quiesce_core.proofs.LoadLaws.{unmade_port}
+use Rattle.quiesce_core.proofs.RunLaws.{runs_are_well_formed}
+use Rattle.quiesce_core.proofs.SoundnessLaws.{well_formed_empty}
+use Rattle.quiesce_core.proofs.WordLaws.{slot_words_of_runs}
+use Rattle.gate_rule.specs.Steps.{AreOfOneRun, noted}
+use Rattle.gate_rule.specs.Views.{given_out, new_seat, newest, nobody, notes, nothing_done, of_change, of_node, seat_again, unknown, with_seat, with_sight, without_seat}
+use Rattle.gate_rule.specs.Worlds.{first_words, Every, Fits, FitsChange, FitsNode, Holds, IsReached, KnowsNode, Shows, World}
+use Rattle.gate_rule.specs.declared.view.ChangeView.{ChangeView}
+use Rattle.gate_rule.specs.declared.view.NodeView.{NodeView}
+use Rattle.gate_rule.specs.declared.view.View.{View}
+use Rattle.gate_rule.proofs.WorldLaws.{all_into, holds_joined, holds_parted, same_words, sees}
+use mathlib.Core.Option.{some, some-injective, some-ne-none}
+use lib.ListN.{get_elem?}
+
+-- ---- owners
+
+-- who has the seats, where this seat has the node of this slot
+abbrev own : (ℕ → ℕ) → ℕ → ℕ → ℕ → ℕ
+own owner slot_ id n = cond (n == slot_) id (owner n)
+
+own_here : (owner : ℕ → ℕ) (slot_ id : ℕ) → own owner slot_ id slot_ ≡ id
+own_here owner slot_ id = ap (λ b. cond b id (owner slot_)) (eq-eqb slot_ slot_ refl)
+
+own_else : (owner : ℕ → ℕ) (slot_ id n : ℕ) → n ≢ slot_ → own owner slot_ id n ≡ owner n
+own_else owner slot_ id n apart = ap (λ b. cond b id (owner n)) (ne_eqb n slot_ apart)
+
+-- another node's seat
+other_owner : (w : World) (slot_ id seats j : ℕ) (n : NodeView) → w.seats ≤ seats → n.slot ≢ slot_ → FitsNode w j n → FitsNode (record w { owner = own w.owner slot_ id; seats = seats }) j n
+other_owner w slot_ id seats j n more_ apart f = record {
+  owned = own_else w.owner slot_ id n.slot apart ∙ f.owned;
+  seated = (let below = f.seated in omega (arith, below, more_));
+  knows = f.knows;
+}
+
+-- the nodes of a list that are apart from the one
+every_apart : (P Q : NodeView → Type 0) (R : NodeView → Type 0) (ns : List NodeView) → ((n : NodeView) → R n → P n → Q n) → Every R ns → Every P ns → Every Q ns
+every_apart P Q R [] f rs ps = tt
+every_apart P Q R (n ∷ ns) f rs ps = (f n rs.0 ps.0, every_apart P Q R ns f rs.1 ps.1)
+
+-- ---- a new seat
+
+module _ (id : ℕ) (nodes : List NodeView) (c : ChangeView) (more_ : c.seats < length (config_of c.entries).slots) where
+  -- a node whose seat wasn't given out is known as the record has it
+  newest_known : (w : World) → IsReached w → c.seats ≡ w.seats → c.entries ≡ w.entries → KnowsNode (events w.moments) (newest c)
+  newest_known w reached seats entries =
+      let es = events w.moments in
+      let run = reached.is_record.runs in
+      let config = config_is c.entries w.moments (subst (λ r. IsRecordOf r w.moments) (sym entries) reached.is_record) in
+      let none_ : done_by c.seats es ≡ [] = reached.unseated c.seats (omega (arith, seats)) in
+      let m = slice_get-there (config_of c.entries).slots c.seats more_ in
+      let there : slot (config_of c.entries) c.seats ≡ Some m.0 = m.1 in
+      record {
+        made = ap (λ k. option_map slot_fields_of (slot k c.seats)) (sym config) ∙ ap (option_map slot_fields_of) there
+            ∙ ap Some (sym (ap (λ o. option_map_or slot_fields_of o unknown.made) there));
+        log = sym none_;
+        known = subst (λ log. IsKnown (state_after es) c.seats (newest c).made.first_port (known_after (newest c).made.first_port log)) none_
+            (nodes_know_by_index es run c.seats (newest c).made.first_port);
+        loaded = λ l is. absurd (cc is);
+      }
+
+  pub gives_seat : Splits Holds id (of_change nodes c) (without_seat (of_change nodes c)) (new_seat (of_change nodes c))
+  gives_seat t h at =
+      let w = h.world in
+      let fit = h.views id (of_change nodes c) at in
+      let mine = fit.change c refl in
+      let w' : World = record w { owner = own w.owner c.seats (length t.views); seats = w.seats + 1 } in
+      let node : (j : ℕ) (u : NodeView) → FitsNode w j u → FitsNode w' j u =
+      λ j u f. other_owner w c.seats (length t.views) (w.seats + 1) j u (omega arith) (λ is. omega (arith, is, f.seated, mine.seats)) f in
+      let c' : ChangeView = record c { seats = c.seats + 1 } in
+      holds_parted t w' id (of_change nodes c') (of_node (newest c)) t.homes
+      (record { is_record = h.reached.is_record; unseated = λ n none_. h.reached.unseated n (omega (arith, none_)) })
+      h.shows
+      (λ j u apart there.
+      let f = h.views j u there in
+      record {
+        nodes = all_into (FitsNode w j) (FitsNode w' j) u.nodes (node j) f.nodes;
+        apart = f.apart;
+        change = λ d is. absurd (apart (sym (f.change d is).change ∙ mine.change));
+      })
+      (record {
+        nodes = all_into (FitsNode w id) (FitsNode w' id) nodes (node id) fit.nodes;
+        apart = fit.apart;
+        change = λ d is. subst (λ (d : ChangeView). FitsChange w' id d) (same_Some c' d is) (record { change = mine.change; seats = ap (λ k. k + 1) mine.seats; entries = mine.entries });
+      })
+      (record {
+        nodes = (
+          record {
+            owned = own_here w.owner c.seats (length t.views);
+            seated = (let same = mine.seats in omega (arith, same));
+            knows = newest_known w h.reached mine.seats mine.entries;
+          },
+          tt,
+        );
+        apart = (tt, tt);
+        change = λ d is. absurd (cc is);
+      })
+
+-- what the new seat reads of its slot's word
+pub adopts : (slots id : ℕ) (n : NodeView) → Allows Holds slots id (of_node n, []) (MAX_PORTS + n.slot) (λ x. x) (λ found new. (new ≡ (of_node n, [])) × (unpack_slot found ≡ Some n.made))
+adopts slots id n t h _ at _ =
+    let fit = (h.views id (of_node n) at).nodes.0 in
+    let es = events h.world.moments in
+    let s = state_after es in
+    let run = h.reached.is_record.runs in
+    let m = option_map_some slot_fields_of (slot s.config n.slot) n.made fit.knows.made in
+    let few : n.slot < MAX_NODES = omega (arith, slice_get_within s.config.slots n.slot m.0 m.1, (runs_are_well_formed es run).sound.few_nodes) in (
+      of_node n,
+      keeps,
+      tt,
+      subst (λ ws. Holds (record { words = ws; homes = t.homes; views = set t.views id (of_node n) })) (sym (same_words t.words (MAX_PORTS + n.slot)))
+          (subst (λ vs. Holds (record { words = t.words; homes = t.homes; views = vs })) (sym (set_again t.views id (of_node n) at)) h),
+      (refl, ap unpack_slot (h.shows.slots n.slot few) ∙ slot_words_of_runs es n.slot run ∙ fit.knows.made),
+    )
+
+-- ---- a seat that is taken in, for good or for a sight
+
+module _ (id : ℕ) (nodes : List NodeView) (c : ChangeView) (other : ℕ) (n : NodeView) (t : Table (Unit {0}) View) (h : Holds t) (at : get_elem? t.views id ≡ some (of_change nodes c))
+    (two : ¬ (other ≡ id)) (there : get_elem? t.views other ≡ some (of_node n)) (c' : ChangeView) (w' : World) (owner : w'.owner ≡ own h.world.owner n.slot id) (change : w'.change ≡ h.world.change)
+    (seats : w'.seats ≡ h.world.seats) (same : events w'.moments ≡ events h.world.moments) (reached : IsReached w') (seats' : c'.seats ≡ w'.seats) (entries' : c'.entries ≡ w'.entries) where
+  abbrev w : World
+  w = h.world
+
+  theirs : FitsNode w other n
+  theirs = (h.views other (of_node n) there).nodes.0
+
+  mine : Fits w id (of_change nodes c)
+  mine = h.views id (of_change nodes c) at
+
+  moved : (j : ℕ) (u : NodeView) → u.slot ≢ n.slot → FitsNode w j u → FitsNode w' j u
+  moved j u apart f = record {
+    owned = ap (λ (k : ℕ → ℕ). k u.slot) owner ∙ own_else w.owner n.slot id u.slot apart ∙ f.owned;
+    seated = subst (λ k. u.slot < k) (sym seats) f.seated;
+    knows = subst (λ es. KnowsNode es u) (sym same) f.knows;
+  }
+
+  -- a node of another seat than that
+  not_it : (j : ℕ) (u : NodeView) → j ≢ other → FitsNode w j u → u.slot ≢ n.slot
+  not_it j u apart f is = apart (sym f.owned ∙ ap w.owner is ∙ theirs.owned)
+
+  all_not : (j : ℕ) (us : List NodeView) → j ≢ other → Every (FitsNode w j) us → Every (λ (u : NodeView). u.slot ≢ n.slot) us
+  all_not j us apart fits = all_into (FitsNode w j) (λ (u : NodeView). u.slot ≢ n.slot) us (λ u f. not_it j u apart f) fits
+
+  all_moved : (j : ℕ) (us : List NodeView) → j ≢ other → Every (FitsNode w j) us → Every (FitsNode w' j) us
+  all_moved j us apart fits = all_into (FitsNode w j) (FitsNode w' j) us (λ u f. moved j u (not_it j u apart f) f) fits
+
+  pub joins : Holds (record { words = t.words; homes = t.homes; views = set (set t.views id (of_change (n ∷ nodes) c')) other nobody })
+  joins =
+      holds_joined t w' id other (of_change (n ∷ nodes) c') t.homes reached
+      (subst (λ es. Shows t.words (state_after es)) (sym same) h.shows)
+      (λ j u not_id not_other there'.
+      let f = h.views j u there' in
+      record {
+        nodes = all_moved j u.nodes not_other f.nodes;
+        apart = f.apart;
+        change = λ d is. absurd (not_id (sym (f.change d is).change ∙ (mine.change c refl).change));
+      })
+      (record {
+        nodes = (
+          record {
+            owned = ap (λ (k : ℕ → ℕ). k n.slot) owner ∙ own_here w.owner n.slot id;
+            seated = subst (λ k. n.slot < k) (sym seats) theirs.seated;
+            knows = subst (λ es. KnowsNode es n) (sym same) theirs.knows;
+          },
+          all_moved id nodes (λ is. two (sym is)) mine.nodes,
+        );
+        apart = (all_not id nodes (λ is. two (sym is)) mine.nodes, mine.apart);
+        change = λ d is. subst (λ (d : ChangeView). FitsChange w' id d) (same_Some c' d is) (record { change = change ∙ (mine.change c refl).change; seats = seats'; entries = entries' });
+      })
+
+-- a place where another was written
+elsewhere : (views : List View) (id other : ℕ) (v u : View) → ¬ (other ≡ id) → get_elem? (set views id v) other ≡ some u → get_elem? views other ≡ some u
+elsewhere views id other v u two at = ⊎_elim (λ (x : (other ≡ id) × (v ≡ u)). absurd (two x.0)) (λ x. x.1) (at_set views id other v u at)
+
+pub takes_seat : (id : ℕ) (nodes : List NodeView) (c : ChangeView) (other : ℕ) (n : NodeView)
+    → Joins Holds id (of_change nodes c) other (of_node n) (with_seat (of_change nodes c) (of_node n)) nobody
+takes_seat id nodes c other n t h at two at' =
+    let w = h.world in
+    let mine = (h.views id (of_change nodes c) at).change c refl in
+    let there = elsewhere t.views id other (with_seat (of_change nodes c) (of_node n)) (of_node n) two at' in
+    joins id nodes c other n t h at two there c (record w { owner = own w.owner n.slot id }) refl refl refl refl
+    (record { is_record = h.reached.is_record; unseated = h.reached.unseated }) mine.seats mine.entries
+
+pub takes_sight : (id : ℕ) (nodes : List NodeView) (c : ChangeView) (other : ℕ) (n : NodeView)
+    → Joins Holds id (of_change nodes c) other (of_node n) (with_sight (of_change nodes c) (of_node n)) nobody
+takes_sight id nodes c other n t h at two at' =
+    let w = h.world in
+    let x : Entry = Sighted n.slot n.log in
+    let mine = (h.views id (of_change nodes c) at).change c refl in
+    let there = elsewhere t.views id other (with_sight (of_change nodes c) (of_node n)) (of_node n) two at' in
+    let theirs = (h.views other (of_node n) there).nodes.0 in
+    let same = quiet_events w.moments x refl in
+    joins id nodes c other n t h at two there (notes c x) (record w { owner = own w.owner n.slot id; moments = w.moments ++ entry x ∷ []; entries = w.entries ++ x ∷ [] }) refl refl refl same
+    (record {
+      is_record = seen_more w.entries w.moments x h.reached.is_record refl theirs.knows.log;
+      unseated = λ m none_. ap (done_by m) same ∙ h.reached.unseated m none_;
+    })
+    mine.seats (ap (λ r. r ++ x ∷ []) mine.entries)
+
+-- and given out again
+pub gives_back : (id : ℕ) (n : NodeView) (nodes : List NodeView) (c : ChangeView)
+    → Splits Holds id (of_change (n ∷ nodes) c) (given_out (of_change (n ∷ nodes) c)) (seat_again (of_change (n ∷ nodes) c))
+gives_back id n nodes c t h at =
+    let w = h.world in
+    let fit = h.views id (of_change (n ∷ nodes) c) at in
+    let mine = fit.change c refl in
+    let new = length t.views in
+    let w' : World = record w { owner = own w.owner n.slot new } in
+    let node : (j : ℕ) (u : NodeView) → u.slot ≢ n.slot → FitsNode w j u → FitsNode w' j u =
+    λ j u apart f. other_owner w n.slot new w.seats j u (omega arith) apart f in
+    holds_parted t w' id (of_change nodes c) (of_node n) t.homes
+    (record { is_record = h.reached.is_record; unseated = h.reached.unseated })
+    h.shows
+    (λ j u apart there.
+    let f = h.views j u there in
+    record {
+      nodes = all_into (FitsNode w j) (FitsNode w' j) u.nodes (λ k g. node j k (λ is. apart (sym g.owned ∙ ap w.owner is ∙ fit.nodes.0.owned)) g) f.nodes;
+      apart = f.apart;
+      change = λ d is. absurd (apart (sym (f.change d is).change ∙ mine.change));
+    })
+    (record {
+      nodes = every_apart (FitsNode w id) (FitsNode w' id) (λ (u : NodeView). u.slot ≢ n.slot) nodes (node id) fit.apart.0 fit.nodes.1;
+      apart = fit.apart.1;
+      change = λ d is. subst (λ (d : ChangeView). FitsChange w' id d) (same_Some c d is) (record { change = mine.change; seats = mine.seats; entries = mine.entries });
+    })
+    (record {
+      nodes = (record { owned = own_here w.owner n.slot new; seated = fit.nodes.0.seated; knows = fit.nodes.0.knows }, tt);
+      apart = (tt, tt);
+      change = λ d is. absurd (cc is);
+    })
+
+-- ---- what the change learns by one more look
+
+pub merges : (slots id p : ℕ) (nodes : List NodeView) (c : ChangeView) → p < MAX_PORTS → Allows Holds slots id (of_change nodes c, []) p (λ x. x)
+    (λ found new. (new ≡ noted (of_change nodes c, []) (Looked p found)) × AreOfOneRun (notes c (Looked p found)) nodes)
+merges slots id p nodes c few t h _ at _ =
+    let w = h.world in
+    let found = slice_index t.words p in
+    let x : Entry = Looked p found in
+    let fit = h.views id (of_change nodes c) at in
+    let same = quiet_events w.moments x refl in
+    let so = h.shows.ports p few in (
+      of_change nodes (notes c x),
+      keeps,
+      tt,
+      subst (λ ws. Holds (record { words = ws; homes = t.homes; views = set t.views id (of_change nodes (notes c x)) })) (sym (same_words t.words p)) (sees t h id t.homes nodes c x at refl so),
+      (
+        refl,
+        record {
+          moments = w.moments ++ entry x ∷ [];
+          is_record = subst (λ r. IsRecordOf (r ++ x ∷ []) (w.moments ++ entry x ∷ [])) (sym (fit.change c refl).entries) (seen_more w.entries w.moments x h.reached.is_record refl so);
+          are_known = all_into (FitsNode w id) (KnowsNode (events (w.moments ++ entry x ∷ []))) nodes (λ u f. subst (λ es. KnowsNode es u) (sym same) f.knows) fit.nodes;
+        },
+      ),
+    )
+
+-- ---- the beginning
+
+count_of : (a b x y : ℕ) → length (replicate a x ++ replicate b y) ≡ a + b
+count_of a b x y = length-append (replicate a x) (replicate b y) ∙ (λ i. length-replicate a x i + length-replicate b y i)
+
+front_of : (a b x y p : ℕ) → p < a → slice_index (replicate a x ++ replicate b y) p ≡ x
+front_of a b x y p few = get_or_append_left (replicate a x) (replicate b y) 0 p (subst (λ k. p < k) (sym (length-replicate a x)) few) ∙ get_or-replicate a p x 0 few
+
+back_of : (a b x y n : ℕ) → n < b → slice_index (replicate a x ++ replicate b y) (a + n) ≡ y
+back_of a b x y n few =
+    ap (λ k. slice_index (replicate a x ++ replicate b y) (k + n)) (sym (length-replicate a x))
+    ∙ get_or-append-add (replicate a x) (replicate b y) n 0 ∙ get_or-replicate b n y 0 few
+
+first_shows : Shows first_words empty
+first_shows = record {
+  count = count_of MAX_PORTS MAX_NODES CLOSED 0;
+  ports = λ p few. front_of MAX_PORTS MAX_NODES CLOSED 0 p few ∙ sym (unmade_port empty well_formed_empty p (omega arith));
+  slots = λ n few. back_of MAX_PORTS MAX_NODES CLOSED 0 n few;
+}
+
+pub begins : Holds (opening first_words [] (of_change [] nothing_done))
+begins = record {
+  world = record { moments = []; entries = []; owner = λ n. 0; change = 0; seats = 0 };
+  reached = record { is_record = record { record_is = refl; runs = tt; so = tt }; unseated = λ n none_. refl };
+  shows = first_shows;
+  views = one;
+}
+  where
+    one : (id : ℕ) (v : View) → get_elem? (of_change [] nothing_done ∷ []) id ≡ some v → Fits (record { moments = []; entries = []; owner = λ n. 0; change = 0; seats = 0 }) id v
+    one zero v e = subst (Fits (record { moments = []; entries = []; owner = λ n. 0; change = 0; seats = 0 }) 0) (some-injective (of_change [] nothing_done) v e)
+        (record { nodes = tt; apart = tt; change = λ c is. subst (λ (c : ChangeView). FitsChange (record { moments = []; entries = []; owner = λ n. 0; change = 0; seats = 0 }) 0 c) (same_Some nothing_done c is) (record { change = refl; seats = refl; entries = refl }) })
+    one (suc n) v e = absurd (some-ne-none v (sym e))

@@ -1,0 +1,114 @@
+-- What each kind of step tells its caller: of the step, of the seat before, and of the word that was found.
+use Rattle.std.specs.Prelude.{◌≡◌, ℕ, ◌==◌, List, [], Some, if◌then◌else◌}
+use Rattle.std.specs.Option.{option_map_or}
+use Rattle.atomic_table.specs.Table.{Me, Step}
+use Rattle.gate_records.specs.Records.{IsRecordOf, Moment, events}
+use Rattle.gate_records.specs.declared.entry.Entry.{Entry}
+use Rattle.gate_records.specs.declared.entry.Entry.TheVariants.{Looked}
+use Rattle.gate_word.specs.Phases.{is_answered, is_asked, is_in_more}
+use Rattle.gate_word.specs.SlotWords.{unpack_slot}
+use Rattle.gate_word.specs.Words.{is_message_to, is_missing, unpack}
+use Rattle.quiesce_core.specs.Runs.{IsRun, state_after}
+use Rattle.quiesce_core.specs.Words.{word_of}
+use Rattle.quiesce_core.specs.declared.event.Event.{Event}
+use Rattle.quiesce_core.specs.declared.event.Event.TheVariants.{Take, Hear, Miss}
+use Rattle.quiesce_core.specs.declared.known.Known.{Known}
+use Rattle.quiesce_core.specs.declared.known.Served.{Served}
+use Rattle.port_gate.specs.Moves.{with_seen}
+use Rattle.port_gate.specs.Seats.{serial_served}
+use Rattle.port_gate.specs.declared.answers.SeeAnswer.{SeeAnswer}
+use Rattle.port_gate.specs.declared.answers.SeeAnswer.TheVariants as see
+use Rattle.gate_rule.specs.Views.{change_of, does, node_at, node_of, notes, of_change, of_node}
+use Rattle.gate_rule.specs.Worlds.{Every, KnowsNode}
+use Rattle.gate_rule.specs.declared.view.ChangeView.{ChangeView}
+use Rattle.gate_rule.specs.declared.view.NodeView.{NodeView}
+use Rattle.gate_rule.specs.declared.view.View.{View}
+
+abbrev pub Seat : Type 0
+Seat = Me (Unit {0}) View
+
+-- the seat of a node, and that of the change
+abbrev pub IsNode : Seat → Type 0
+IsNode me = me ≡ (of_node (node_of me.0), [])
+
+abbrev pub IsChange : Seat → Type 0
+IsChange me = me ≡ (of_change me.0.nodes (change_of me.0), [])
+
+-- the seat of a node that did one event more, and of a change that has one entry more
+abbrev pub did : Seat → Event → Seat
+did me e = (of_node (does (node_of me.0) e), [])
+
+abbrev pub noted : Seat → Entry → Seat
+noted me x = (of_change me.0.nodes (notes (change_of me.0) x), [])
+
+-- a run in which the node did its events, and what is known of it is so, had this word at the port
+pub record WasShown (n : NodeView) (p word : ℕ) : Type 0 where
+  pub run : List Event
+  pub runs : IsRun run
+  pub knows : KnowsNode run n
+  pub shown : word ≡ word_of (state_after run) p
+
+-- the value of the last message that was heard in the service
+abbrev pub value_served : Known → ℕ
+value_served w = option_map_or (λ (u : Served). u.value) w.service 0
+
+-- what an owner sees by a word
+abbrev pub seen_in : ℕ → SeeAnswer
+seen_in w =
+    if is_answered (unpack w).phase then see.Answer (unpack w).value
+    else if is_in_more (unpack w).phase then see.More (unpack w).value
+    else see.NotYet w
+
+-- ---- a node's steps
+
+-- a load tells the word, and changes nothing
+abbrev pub Loads : Step (Unit {0}) → Seat → ℕ → Seat → Type 0
+Loads st me found new = (new ≡ me) × WasShown (node_of me.0) st.word found
+
+-- an exchange is the event, where it found the word that it expects
+abbrev pub Begins : Event → Step (Unit {0}) → Seat → ℕ → Seat → Type 0
+Begins e st me found new = (new ≡ (if found == st.first then did me e else me)) × WasShown (node_of me.0) st.word found
+
+-- a load takes what is asked of the node
+abbrev pub Takes : Step (Unit {0}) → Seat → ℕ → Seat → Type 0
+Takes st me found new =
+    (new ≡ (if is_message_to (node_of me.0).slot (unpack found) then did me (Take st.word (unpack found).serial (unpack found).value) else me))
+    × WasShown (node_of me.0) st.word found
+
+abbrev pub Sees : Step (Unit {0}) → Seat → ℕ → Seat → Type 0
+Sees st me found new =
+    (new ≡ (of_node (record (node_of me.0) { known = with_seen (node_at (node_of me.0)) st.word (seen_in found) (node_of me.0).known }), []))
+    × WasShown (node_of me.0) st.word found
+
+-- a load that goes before a call, or tells that it is missed
+abbrev pub to_call : Seat → ℕ → ℕ → Seat
+to_call me p word = (of_node (record (node_of me.0) { loaded = Some (record { port = p; word = word }) }), [])
+
+abbrev pub LooksToCall : Step (Unit {0}) → Seat → ℕ → Seat → Type 0
+LooksToCall st me found new =
+    (new ≡ (if is_missing (unpack found) then did me (Miss st.word) else to_call me st.word found)) × WasShown (node_of me.0) st.word found
+
+-- a load hears the further message
+abbrev pub Hears : Step (Unit {0}) → Seat → ℕ → Seat → Type 0
+Hears st me found new =
+    (new ≡ (if is_asked (unpack found).phase then did me (Hear st.word (serial_served (node_of me.0).known) (unpack found).value) else me))
+    × WasShown (node_of me.0) st.word found
+
+-- a load of the slot's word by the new node's seat
+abbrev pub Adopts : Step (Unit {0}) → Seat → ℕ → Seat → Type 0
+Adopts st me found new = (new ≡ me) × (unpack_slot found ≡ Some (node_of me.0).made)
+
+-- ---- the change's steps
+
+abbrev pub LooksAt : Step (Unit {0}) → Seat → ℕ → Seat → Type 0
+LooksAt st me found new = new ≡ noted me (Looked st.word found)
+
+-- the record, and what is known of nodes, are of one run, in which each look and each sight stands at its place
+pub record AreOfOneRun (c : ChangeView) (nodes : List NodeView) : Type 0 where
+  pub moments : List Moment
+  pub is_record : IsRecordOf c.entries moments
+  pub are_known : Every (KnowsNode (events moments)) nodes
+
+-- a look at a port by which the change learns that
+abbrev pub Merges : Step (Unit {0}) → Seat → ℕ → Seat → Type 0
+Merges st me found new = (new ≡ noted me (Looked st.word found)) × AreOfOneRun (notes (change_of me.0) (Looked st.word found)) me.0.nodes

@@ -1,0 +1,36 @@
+//! What one seat at the gates knows. Views are what contracts see of seats: no value of these types is made.
+
+use gate_records::Entry;
+use gate_word::SlotWord;
+use quiesce_core::{Event, Known};
+use std::collections::LinkedList;
+
+/// The word of an idle port that its owner loaded, to call there by it.
+pub struct Loaded {
+    pub port: u32,
+    pub word: u64,
+}
+
+/// What is known of a node by whoever has its seat.
+pub struct NodeView {
+    pub slot: u32,
+    /// What its slot's word says of it.
+    pub made: SlotWord,
+    /// What it knows of itself, and what it has seen at its ports.
+    pub known: Known,
+    /// Its events, in order.
+    pub log: LinkedList<Event>,
+    pub loaded: Option<Loaded>,
+}
+
+/// What the change knows: for how many of the nodes that it made, the first ones, the seats were given out; and what it did and saw.
+pub struct ChangeView {
+    pub seats: u32,
+    pub entries: LinkedList<Entry>,
+}
+
+/// The seat of a node has one node. The change's has those whose seats it took in.
+pub struct View {
+    pub nodes: LinkedList<NodeView>,
+    pub change: Option<ChangeView>,
+}
