@@ -1,0 +1,109 @@
+-- The steps at any seat that is a node's or the change's.
+use Rattle.std.proofs.Common.{◌≡◌, ◌∙◌, ℕ, ◌+◌, ◌<◌, ◌%◌, ◌^◌, Bool, true, false, cond, [], length, Option, Some, sym, ap, subst}
+use Rattle.std.specs.Prelude.{◌==◌, bit_and, bit_or, bit_xor}
+use Rattle.atomic_table.specs.Table.{Allows, Splits, step}
+use Rattle.config_graph.specs.declared.TheConstants.{MAX_PORTS}
+use Rattle.config_graph.specs.declared.node.Node.{Node}
+use Rattle.config_graph.specs.declared.node.Target.{Target}
+use Rattle.gate_word.specs.Operands.{end_difference, message_difference}
+use Rattle.gate_word.specs.SlotWords.{pack_slot}
+use Rattle.gate_word.specs.Words.{pack, unpack}
+use Rattle.gate_word.specs.declared.operands.TheConstants.{ALL_BUT_CLOSED, CLOSED}
+use Rattle.gate_word.specs.declared.phase.Phase.TheVariants as phase
+use Rattle.gate_records.specs.Entries.{config_of}
+use Rattle.gate_records.specs.Records.{May}
+use Rattle.gate_records.specs.declared.entry.Entry.TheVariants.{Did}
+use Rattle.quiesce_core.specs.Rules.{last_serial}
+use Rattle.quiesce_core.specs.declared.event.Event.{Event}
+use Rattle.quiesce_core.specs.declared.event.Event.TheVariants.{Begin, Give, End, Close, Reopen, Make}
+use Rattle.port_gate.specs.Seats.{MayBegin, MayEnd, MayGive, MaySee, MayTake, port_known, serial_served, value_seen}
+use Rattle.gate_rule.specs.Steps.{Adopts, Begins, IsChange, IsNode, Loads, LooksAt, Seat, Sees, Takes, did, noted, value_served}
+use Rattle.gate_rule.specs.Views.{change_of, new_seat, node_at, node_of, of_change, of_node, without_seat}
+use Rattle.gate_rule.specs.Worlds.{Holds}
+use Rattle.gate_rule.proofs.ChangeStepLaws as change_
+use Rattle.gate_rule.proofs.NodeStepLaws as node_
+use Rattle.gate_rule.proofs.SeatStepLaws as seat_
+use mathlib.Core.Option.{none}
+use prog.Atomic.{either}
+
+module _ (slots id : ℕ) (me : Seat) (is : IsNode me) where
+  as_node : (P : Seat → Type 0) → P (of_node (node_of me.0), []) → P me
+  as_node P h = subst P (sym is) h
+
+  pub loads : (p : ℕ) → p < MAX_PORTS → Allows Holds slots id me p (λ x. x) (Loads (step slots p 0 0 none) me)
+  loads p few = as_node (λ m. Allows Holds slots id m p (λ x. x) (Loads (step slots p 0 0 none) m)) (node_.loads slots id p (node_of me.0) few)
+
+  pub begins : (p v old new : ℕ) (e : Event) → e ≡ Begin p ((unpack old).serial + 1) v → MayBegin (node_at (node_of me.0)) (node_of me.0).known p v → (unpack old).closed ≡ false
+      → (t : Target) → (unpack old).target ≡ Some t → (unpack old).serial < last_serial
+      → new ≡ pack (record (unpack old) { phase = phase.Asked; serial = (unpack old).serial + 1; value = v; consequent = false })
+      → Allows Holds slots id me p (λ x. either (x == old) new x) (Begins e (step slots p old new none) me)
+  begins p v old new e event may opened t leads unspent asked =
+      as_node (λ m. Allows Holds slots id m p (λ x. either (x == old) new x) (Begins e (step slots p old new none) m))
+      (subst (λ (y : ℕ × Event). Allows Holds slots id (of_node (node_of me.0), []) p (λ x. either (x == old) y.0 x) (Begins y.1 (step slots p old y.0 none) (of_node (node_of me.0), []))) (λ i. (sym asked i, sym event i))
+      (node_.begins (node_of me.0) p v old may t opened leads unspent slots id))
+
+  pub takes : (p : ℕ) → MayTake (node_of me.0).known p → Allows Holds slots id me p (λ x. x) (Takes (step slots p 0 0 none) me)
+  takes p may = as_node (λ m. Allows Holds slots id m p (λ x. x) (Takes (step slots p 0 0 none) m)) (node_.takes slots id p (node_of me.0) may)
+
+  pub sees : (p : ℕ) → MaySee (node_at (node_of me.0)) (node_of me.0).known p → Allows Holds slots id me p (λ x. x) (Sees (step slots p 0 0 none) me)
+  sees p may = as_node (λ m. Allows Holds slots id m p (λ x. x) (Sees (step slots p 0 0 none) m)) (node_.sees slots id p (node_of me.0) may)
+
+  -- an event that an operand of exclusive or makes
+  acts : (p k k' : ℕ) (e e' : Event) → e ≡ e' → k ≡ k' → Allows Holds slots id (of_node (node_of me.0), []) p (λ x. bit_xor x k') (λ found new. new ≡ did (of_node (node_of me.0), []) e')
+      → Allows Holds slots id me p (λ x. bit_xor x k) (λ found new. new ≡ did me e)
+  acts p k k' e e' event operand h =
+      as_node (λ m. Allows Holds slots id m p (λ x. bit_xor x k) (λ found new. new ≡ did m e))
+      (subst (λ (y : ℕ × Event). Allows Holds slots id (of_node (node_of me.0), []) p (λ x. bit_xor x y.0) (λ found new. new ≡ did (of_node (node_of me.0), []) y.1)) (λ i. (sym operand i, sym event i)) h)
+
+  pub gives : (p v k : ℕ) (e : Event) → e ≡ Give p (serial_served (node_of me.0).known) v → k ≡ message_difference phase.Asked (value_served (node_of me.0).known % 2 ^ 24) phase.Answered v
+      → MayGive (node_of me.0).known p v → Allows Holds slots id me p (λ x. bit_xor x k) (λ found new. new ≡ did me e)
+  gives p v k e event operand may = acts p k _ e _ event operand (node_.gives slots id p v (node_of me.0) may)
+
+  pub ends : (p k : ℕ) (e : Event) → e ≡ End p (port_known (node_at (node_of me.0)) (node_of me.0).known p).serial (value_seen (port_known (node_at (node_of me.0)) (node_of me.0).known p))
+      → k ≡ end_difference (value_seen (port_known (node_at (node_of me.0)) (node_of me.0).known p) % 2 ^ 24) (port_known (node_at (node_of me.0)) (node_of me.0).known p).consequent
+      → MayEnd (node_at (node_of me.0)) (node_of me.0).known p → Allows Holds slots id me p (λ x. bit_xor x k) (λ found new. new ≡ did me e)
+  ends p k e event operand may = acts p k _ e _ event operand (node_.ends (node_of me.0) p may slots id)
+
+  pub adopts : (n i : ℕ) → (node_of me.0).slot ≡ n → i ≡ MAX_PORTS + n → Allows Holds slots id me i (λ x. x) (Adopts (step slots i 0 0 none) me)
+  adopts n i slot_ place =
+      subst (λ j. Allows Holds slots id me j (λ x. x) (Adopts (step slots j 0 0 none) me)) (sym (place ∙ ap (λ k. MAX_PORTS + k) (sym slot_)))
+      (as_node (λ m. Allows Holds slots id m (MAX_PORTS + (node_of me.0).slot) (λ x. x) (Adopts (step slots (MAX_PORTS + (node_of me.0).slot) 0 0 none) m)) (seat_.adopts slots id (node_of me.0)))
+
+module _ (slots id : ℕ) (me : Seat) (is : IsChange me) where
+  as_change : (P : Seat → Type 0) → P (of_change me.0.nodes (change_of me.0), []) → P me
+  as_change P h = subst P (sym is) h
+
+  pub closes : (p : ℕ) (e : Event) → e ≡ Close p → May (change_of me.0).entries (Close p) → Allows Holds slots id me p (λ x. bit_or x CLOSED) (λ found new. new ≡ noted me (Did e))
+  closes p e event may =
+      as_change (λ m. Allows Holds slots id m p (λ x. bit_or x CLOSED) (λ found new. new ≡ noted m (Did e)))
+      (subst (λ e. Allows Holds slots id (of_change me.0.nodes (change_of me.0), []) p (λ x. bit_or x CLOSED) (λ found new. new ≡ noted (of_change me.0.nodes (change_of me.0), []) (Did e))) (sym event)
+      (change_.closes slots id me.0.nodes (change_of me.0) p may))
+
+  pub reopens : (p : ℕ) (e : Event) → e ≡ Reopen p → May (change_of me.0).entries (Reopen p) → Allows Holds slots id me p (λ x. bit_and x ALL_BUT_CLOSED) (λ found new. new ≡ noted me (Did e))
+  reopens p e event may =
+      as_change (λ m. Allows Holds slots id m p (λ x. bit_and x ALL_BUT_CLOSED) (λ found new. new ≡ noted m (Did e)))
+      (subst (λ e. Allows Holds slots id (of_change me.0.nodes (change_of me.0), []) p (λ x. bit_and x ALL_BUT_CLOSED) (λ found new. new ≡ noted (of_change me.0.nodes (change_of me.0), []) (Did e))) (sym event)
+      (change_.reopens slots id me.0.nodes (change_of me.0) p may))
+
+  pub looks : (p : ℕ) → p < MAX_PORTS → Allows Holds slots id me p (λ x. x) (LooksAt (step slots p 0 0 none) me)
+  looks p few = as_change (λ m. Allows Holds slots id m p (λ x. x) (LooksAt (step slots p 0 0 none) m)) (change_.looks slots id me.0.nodes (change_of me.0) p few)
+
+  pub makes : (n i word : ℕ) (node : Node) (from : Option ℕ) (e : Event) → e ≡ Make n node from → i ≡ MAX_PORTS + n → May (change_of me.0).entries (Make n node from)
+      → word ≡ pack_slot (record { kind = node.kind; first_port = length (config_of (change_of me.0).entries).gates; arg = node.arg; from = from })
+      → Allows Holds slots id me i (λ x. bit_or x word) (λ found new. new ≡ noted me (Did e))
+  makes n i word node from e event place may packed =
+      as_change (λ m. Allows Holds slots id m i (λ x. bit_or x word) (λ found new. new ≡ noted m (Did e)))
+      (subst (λ (y : ℕ × ℕ × Event). Allows Holds slots id (of_change me.0.nodes (change_of me.0), []) y.0 (λ x. bit_or x y.1) (λ found new. new ≡ noted (of_change me.0.nodes (change_of me.0), []) (Did y.2)))
+      (λ j. (sym place j, sym packed j, sym event j))
+      (change_.makes slots id me.0.nodes (change_of me.0) n node from may))
+
+  pub gives_seat : (change_of me.0).seats < length (config_of (change_of me.0).entries).slots → Splits Holds id me.0 (without_seat me.0) (new_seat me.0)
+  gives_seat more_ =
+      subst (λ (m : Seat). Splits Holds id m.0 (without_seat m.0) (new_seat m.0)) (sym is) (seat_.gives_seat id me.0.nodes (change_of me.0) more_)
+
+-- which of two it is
+pub when : {A : Type 0} (b : Bool) (x y z : A) → z ≡ cond b x y → b ≡ true → z ≡ x
+when b x y z is h = is ∙ ap (λ c. cond c x y) h
+
+pub unless : {A : Type 0} (b : Bool) (x y z : A) → z ≡ cond b x y → b ≡ false → z ≡ y
+unless b x y z is h = is ∙ ap (λ c. cond c x y) h

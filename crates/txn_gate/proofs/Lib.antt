@@ -1,0 +1,3 @@
+mod AsSeats
+mod Saws
+mod Sizes

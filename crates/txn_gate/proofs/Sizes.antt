@@ -1,0 +1,185 @@
+-- How many nodes and ports were made, as a record grows.
+use Rattle.std.proofs.Common.{◌≡◌, ◌∙◌, ℕ, ◌+◌, ◌<◌, ◌≤◌, ◌^◌, Bool, true, false, ◌&&◌, not, cond, List, [], ◌∷◌, ◌++◌, length, Option, Some, None, refl, sym, ap, subst, arith}
+use Rattle.std.specs.Prelude.{◌==◌, IfSome, is_none, is_some, nat_le, nat_lt}
+use Rattle.std.specs.Option.{option_map_or}
+use Rattle.std.proofs.lemmas.Bool.{and_parts, both_ways, eqb-true, leb-true, ltb-true}
+use Rattle.std.proofs.lemmas.Option.{slice_get_within}
+use Rattle.std.proofs.lemmas.List.{append-nil, length-append, length-set}
+use Rattle.base.proofs.OptionLaws.{map_or_at}
+use Rattle.base.proofs.PlaceLaws.{slice_get-last}
+use Rattle.config_graph.specs.Kinds.{row}
+use Rattle.config_graph.specs.declared.TheConstants.{MAX_NODES, MAX_PORTS}
+use Rattle.config_graph.specs.declared.kind.Kind.{Kind}
+use Rattle.config_graph.specs.declared.node.Node.{Node}
+use Rattle.gate_word.specs.SlotWords.{FitsSlotWord}
+use Rattle.std.proofs.lemmas.List.Elements.{filter_map-append}
+use Rattle.std.proofs.lemmas.List.Sums.{fold_push}
+use Rattle.commit_laws.specs.Steps.{change_all}
+use Rattle.gate_records.specs.Entries.{config_of, event_in, events_in}
+use Rattle.gate_records.specs.declared.entry.Entry.{Entry}
+use Rattle.gate_records.specs.declared.entry.Entry.TheVariants.{Did, Looked}
+use Rattle.quiesce_core.specs.Effect.{change_next, with_node}
+use Rattle.quiesce_core.specs.Knowledge.{nothing_known}
+use Rattle.quiesce_core.specs.Legal.{CanMake}
+use Rattle.quiesce_core.specs.Rules.{can_move, has_its_argument, is_kind, is_path_taken, is_value, value_limit, was_moved}
+use Rattle.quiesce_core.specs.Words.{slot_fields_of}
+use Rattle.quiesce_core.specs.declared.state.Slot.{Slot}
+use Rattle.quiesce_core.proofs.TableLaws.{new_gates_length}
+use Rattle.quiesce_core.specs.State.{Configuration, empty, slot}
+use Rattle.quiesce_core.specs.declared.event.Event.{Event}
+use Rattle.quiesce_core.specs.declared.event.Event.TheVariants.{Close, Reopen, Make}
+use Rattle.gate_rule.specs.Steps.{IsChange, Seat, noted}
+use Rattle.gate_rule.specs.Views.{change_of, new_seat, newest, notes, of_node, unknown, without_seat}
+use Rattle.gate_rule.specs.declared.view.ChangeView.{ChangeView}
+use Rattle.txn_gate.specs.Calls.{made_node}
+
+-- the configuration with one event of the change more, and with a look more
+pub config_did : (r : List Entry) (e : Event) → config_of (r ++ Did e ∷ []) ≡ change_next (config_of r) e
+config_did r e = ap (change_all empty.config) (filter_map-append event_in r (Did e ∷ [])) ∙ fold_push change_next empty.config (events_in r) e
+
+pub config_looked : (r : List Entry) (p w : ℕ) → config_of (r ++ Looked p w ∷ []) ≡ config_of r
+config_looked r p w = ap (change_all empty.config) (filter_map-append event_in r (Looked p w ∷ []) ∙ append-nil (events_in r))
+
+-- a gate is turned: as many nodes and ports
+pub closed_nodes : (r : List Entry) (p : ℕ) → length (config_of (r ++ Did (Close p) ∷ [])).slots ≡ length (config_of r).slots
+closed_nodes r p = ap (λ (c : Configuration). length c.slots) (config_did r (Close p))
+
+pub closed_ports : (r : List Entry) (p : ℕ) → length (config_of (r ++ Did (Close p) ∷ [])).gates ≡ length (config_of r).gates
+closed_ports r p = ap (λ (c : Configuration). length c.gates) (config_did r (Close p)) ∙ length-set (config_of r).gates p _
+
+pub reopened_nodes : (r : List Entry) (p : ℕ) → length (config_of (r ++ Did (Reopen p) ∷ [])).slots ≡ length (config_of r).slots
+reopened_nodes r p = ap (λ (c : Configuration). length c.slots) (config_did r (Reopen p))
+
+pub reopened_ports : (r : List Entry) (p : ℕ) → length (config_of (r ++ Did (Reopen p) ∷ [])).gates ≡ length (config_of r).gates
+reopened_ports r p = ap (λ (c : Configuration). length c.gates) (config_did r (Reopen p)) ∙ length-set (config_of r).gates p _
+
+pub looked_nodes : (r : List Entry) (p w : ℕ) → length (config_of (r ++ Looked p w ∷ [])).slots ≡ length (config_of r).slots
+looked_nodes r p w = ap (λ (c : Configuration). length c.slots) (config_looked r p w)
+
+pub looked_ports : (r : List Entry) (p w : ℕ) → length (config_of (r ++ Looked p w ∷ [])).gates ≡ length (config_of r).gates
+looked_ports r p w = ap (λ (c : Configuration). length c.gates) (config_looked r p w)
+
+-- a node is made
+module _ (r : List Entry) (n : ℕ) (node : Node) (from : Option ℕ) where
+  made_config : config_of (r ++ Did (Make n node from) ∷ []) ≡ with_node (config_of r) node from
+  made_config = config_did r (Make n node from)
+
+  pub made_nodes : length (config_of (r ++ Did (Make n node from) ∷ [])).slots ≡ length (config_of r).slots + 1
+  made_nodes = ap (λ (c : Configuration). length c.slots) made_config ∙ length-append (config_of r).slots _
+
+  pub made_ports : length (config_of (r ++ Did (Make n node from) ∷ [])).gates ≡ length (config_of r).gates + length (row node.kind).requires_
+  made_ports = ap (λ (c : Configuration). length c.gates) made_config ∙ new_gates_length (config_of r).gates (length (config_of r).slots) (length (row node.kind).requires_)
+
+  -- it is in the next slot
+  pub made_there : slot (config_of (r ++ Did (Make n node from) ∷ [])) (length (config_of r).slots)
+      ≡ Some (record { node = node; first_port = length (config_of r).gates; from = from; live = true })
+  made_there = ap (λ (c : Configuration). slot c (length (config_of r).slots)) made_config ∙ slice_get-last (config_of r).slots _
+
+-- the seat that is given out then is that node's
+pub newest_made : (c : ChangeView) (k first : ℕ) (node : Node) (from : Option ℕ) → c.seats ≡ k → length (config_of c.entries).slots ≡ k → length (config_of c.entries).gates ≡ first
+    → newest (notes c (Did (Make k node from))) ≡ made_node k first node from
+newest_made c k first node from seats nodes ports =
+    let there = ap (slot (config_of (c.entries ++ Did (Make k node from) ∷ []))) (seats ∙ sym nodes) ∙ made_there c.entries k node from in
+    λ i. record {
+      slot = seats i;
+      made = (map_or_at slot_fields_of (slot (config_of (c.entries ++ Did (Make k node from) ∷ [])) c.seats) unknown.made _ there
+          ∙ ap (λ f. record { kind = node.kind; first_port = f; arg = node.arg; from = from }) ports) i;
+      known = nothing_known;
+      log = [];
+      loaded = None;
+    }
+
+-- what rule 18 says
+pub record HasRoom (c : Configuration) (n : ℕ) (node : Node) : Type 0 where
+  pub next : n ≡ length c.slots
+  pub few : n < MAX_NODES
+  pub ports : length c.gates + length (row node.kind).requires_ ≤ MAX_PORTS
+
+pub room_of : (c : Configuration) (n : ℕ) (node : Node) (from : Option ℕ) → CanMake c n node from → HasRoom c n node
+room_of c n node from may =
+    let both = and_parts (n == length c.slots && nat_lt n MAX_NODES) (nat_le (length c.gates + length (row node.kind).requires_) MAX_PORTS) may.room in
+    let first = and_parts (n == length c.slots) (nat_lt n MAX_NODES) both.0 in
+    record { next = eqb-true n (length c.slots) first.0; few = ltb-true n MAX_NODES first.1; ports = leb-true (length c.gates + length (row node.kind).requires_) MAX_PORTS both.1 }
+
+-- the word of its slot has room for it
+source_there : (o : Option Slot) (kind : Kind) → option_map_or (λ (m : Slot). not m.live && is_kind m.node.kind kind) o false ≡ true → (m : Slot) × (o ≡ Some m)
+source_there None kind h = absurd (both_ways false refl h)
+source_there (Some m) kind h = (m, refl)
+
+source_fits : (c : Configuration) (kind : Kind) (from : Option ℕ) → length c.slots < MAX_NODES → option_map_or (λ k. can_move c k kind) from true ≡ true → IfSome from (λ k. k < MAX_NODES)
+source_fits c kind None few moves = tt
+source_fits c kind (Some k) few moves =
+    let parts = and_parts (option_map_or (λ (m : Slot). not m.live && is_kind m.node.kind kind) (slot c k) false) (not (was_moved c k)) moves in
+    let m = source_there (slot c k) kind parts.0 in
+    let below = slice_get_within c.slots k m.0 m.1 in
+    omega (arith, below, few)
+
+arg_fits : (there : Bool) (arg : Option ℕ) → cond there (option_map_or is_value arg false) (is_none arg) ≡ true → (is_some arg ≡ there) × IfSome arg (λ a. a < 2 ^ 24)
+arg_fits true None h = absurd (both_ways false refl h)
+arg_fits true (Some a) h = (refl, ltb-true a value_limit h)
+arg_fits false None h = (refl, tt)
+arg_fits false (Some a) h = absurd (both_ways false refl h)
+
+pub new_slot_fits : (c : Configuration) (n : ℕ) (node : Node) (from : Option ℕ) → CanMake c n node from
+    → FitsSlotWord (record { kind = node.kind; first_port = length c.gates; arg = node.arg; from = from })
+new_slot_fits c n node from may =
+    let room = room_of c n node from may in
+    let arg = arg_fits (is_some (row node.kind).arg) node.arg (and_parts (not (is_path_taken c node.path)) (has_its_argument node) may.new_path).1 in
+    record {
+      first_port = (let few = room.ports in omega (arith, few));
+      present = arg.0;
+      arg = arg.1;
+      from = source_fits c node.kind from (let next = room.next in let few = room.few in omega (arith, next, few)) may.moves;
+    }
+
+-- ---- the change's seat with one entry more
+
+module _ (me new : Seat) (x : Entry) (is : new ≡ noted me x) where
+  pub still_change : IsChange new
+  still_change = subst IsChange (sym is) refl
+
+  pub still_nodes : (k : ℕ) → length (config_of ((change_of me.0).entries ++ x ∷ [])).slots ≡ length (config_of (change_of me.0).entries).slots
+      → length (config_of (change_of me.0).entries).slots ≡ k → length (config_of (change_of new.0).entries).slots ≡ k
+  still_nodes k same was = ap (λ (m : Seat). length (config_of (change_of m.0).entries).slots) is ∙ same ∙ was
+
+  pub still_ports : (k : ℕ) → length (config_of ((change_of me.0).entries ++ x ∷ [])).gates ≡ length (config_of (change_of me.0).entries).gates
+      → length (config_of (change_of me.0).entries).gates ≡ k → length (config_of (change_of new.0).entries).gates ≡ k
+  still_ports k same was = ap (λ (m : Seat). length (config_of (change_of m.0).entries).gates) is ∙ same ∙ was
+
+  pub still_seats : (k : ℕ) → (change_of me.0).seats ≡ k → (change_of new.0).seats ≡ k
+  still_seats k was = ap (λ (m : Seat). (change_of m.0).seats) is ∙ was
+
+-- the change's seat once it made a node, and once it gave that node's seat out
+module _ (me m1 : Seat) (k first : ℕ) (node : Node) (from : Option ℕ) (e : Event) (event : e ≡ Make k node from) (is : m1 ≡ noted me (Did e))
+    (seats : (change_of me.0).seats ≡ k) (nodes : length (config_of (change_of me.0).entries).slots ≡ k) (ports : length (config_of (change_of me.0).entries).gates ≡ first) where
+  made_is : m1 ≡ noted me (Did (Make k node from))
+  made_is = is ∙ ap (λ f. noted me (Did f)) event
+
+  nodes_then : length (config_of (change_of m1.0).entries).slots ≡ k + 1
+  nodes_then = ap (λ (m : Seat). length (config_of (change_of m.0).entries).slots) made_is ∙ made_nodes (change_of me.0).entries k node from ∙ ap (λ j. j + 1) nodes
+
+  pub may_give : (change_of m1.0).seats < length (config_of (change_of m1.0).entries).slots
+  may_give =
+      let s : (change_of m1.0).seats ≡ k = ap (λ (m : Seat). (change_of m.0).seats) made_is ∙ seats in
+      let n = nodes_then in
+      omega (arith, s, n)
+
+  pub given_node : (m : Seat) → m ≡ (new_seat m1.0, []) → m ≡ (of_node (made_node k first node from), [])
+  given_node m at = at ∙ ap (λ (x : Seat). (new_seat x.0, [])) made_is ∙ ap (λ n. (of_node n, [])) (newest_made (change_of me.0) k first node from seats nodes ports)
+
+  module _ (m2 : Seat) (then_ : m2 ≡ (without_seat m1.0, [])) where
+    pub given_change : IsChange m2
+    given_change = subst IsChange (sym then_) refl
+
+    pub given_nodes : length (config_of (change_of m2.0).entries).slots ≡ k + 1
+    given_nodes = ap (λ (m : Seat). length (config_of (change_of m.0).entries).slots) then_ ∙ nodes_then
+
+    pub given_ports : (more_ : ℕ) → more_ ≡ length (row node.kind).requires_ → length (config_of (change_of m2.0).entries).gates ≡ first + more_
+    given_ports more_ count =
+        ap (λ (m : Seat). length (config_of (change_of m.0).entries).gates) then_
+        ∙ ap (λ (m : Seat). length (config_of (change_of m.0).entries).gates) made_is
+        ∙ made_ports (change_of me.0).entries k node from ∙ (λ i. ports i + sym count i)
+
+    pub given_seats : (change_of m2.0).seats ≡ k + 1
+    given_seats =
+        ap (λ (m : Seat). (change_of m.0).seats) then_ ∙ ap (λ (m : Seat). (change_of m.0).seats + 1) made_is ∙ ap (λ j. j + 1) seats

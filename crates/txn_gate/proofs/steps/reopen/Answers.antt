@@ -1,0 +1,6 @@
+use Rattle.std.proofs.Common.{arith}
+use Rattle.txn_gate.proofs.AsSeats as seats
+use Rattle.txn_gate.proofs.steps.reopen.Goals as goal
+
+pub fetch_and-requires : goal.fetch_and-requires
+fetch_and-requires g c = (c.requires.here.same, (let w = c.requires.here.words in let few = c.requires.port in omega arith), seats.reopens _ _ c.args.seat.now.me c.requires.change c.args.port _ c.requires.event c.requires.may)

@@ -1,0 +1,193 @@
+//! The calls of the change at the gates.
+
+ghost use Rattle.std.specs.Prelude.{◌≡◌, ◌+◌, ◌<◌, ◌≤◌, ℕ, [], IfOk, IsTrue, OnOk, length, replicate};
+ghost use Rattle.config_graph.specs.Kinds.{row};
+ghost use Rattle.config_graph.specs.declared.TheConstants.{MAX_NODES, MAX_PORTS};
+ghost use Rattle.gate_records.specs.Entries.{config_of};
+ghost use Rattle.gate_records.specs.Looks.{look_of};
+ghost use Rattle.gate_records.specs.declared.entry.Entry.TheVariants.{Did, Looked};
+ghost use Rattle.quiesce_core.specs.Knowledge.{nothing_known};
+ghost use Rattle.quiesce_core.specs.Legal.{CanMake};
+ghost use Rattle.quiesce_core.specs.Rules.{is_live_port};
+ghost use Rattle.quiesce_core.specs.declared.event.Event.TheVariants as event;
+ghost use Rattle.gate_rule.specs.Views.{change_of, node_of, notes, nothing_done, of_node};
+ghost use Rattle.gate_rule.specs.declared.view.NodeView.{NodeView as NodeFields};
+ghost use Rattle.txn_gate.specs.Calls.{made_node};
+ghost use Rattle.gate_rule.specs.Worlds.{first_words};
+
+use crate::change_seat::ChangeSeat;
+use crate::gates::Gates;
+use crate::node_seat::NodeSeat;
+use crate::plays::Names;
+use crate::steps;
+use crate::steps::{AnySeat, Words};
+use config_graph::{MAX_NODES, MAX_PORTS, NoMemory, Node};
+use gate_records::Look;
+use gate_word::{CLOSED, SlotWord};
+use port_gate::unknown;
+use std::alloc::Global;
+use std::marker::Brand;
+
+/// So many words, all of them this one.
+fn copies(alloc: Global, word: u64, count: u32) -> Result<Vec<u64>, NoMemory>
+    ensures { IfOk result (λ v. v.items ≡ replicate count word) }
+{
+    vec![in alloc; word; count as usize]
+}
+
+/// The words of ports and slots that were never made.
+fn fresh_words(alloc: Global) -> Result<Vec<u64>, NoMemory>
+    ensures { IfOk result (λ v. v.items ≡ first_words) }
+{
+    let mut words = copies(alloc, CLOSED, MAX_PORTS)?;
+    let slots = copies(alloc, 0, MAX_NODES)?;
+    words.extend_from_slice(&slots)?;
+    Ok(words)
+}
+
+impl Gates {
+    /// Nothing is made: each port's word is closed, idle and unlinked, and each slot's word is 0.
+    pub fn new(alloc: Global) -> Result<(Gates, ChangeSeat), NoMemory>
+        ensures here { IfOk result (λ r. r.1.seat.table_id ≡ r.0.words.shared.table_id) }
+        ensures change { IfOk result (λ r. (change_of r.1.seat.me.0 ≡ nothing_done) × (r.1.seat.me.0.nodes ≡ []) × (r.1.spare ≡ 0)) }
+    {
+        let fresh = fresh_words(alloc)?;
+        let (words, seat) = Words::of_words(alloc, fresh.as_slice(), &())?;
+        let gates = Gates { words };
+        let seat = ChangeSeat {
+            nodes: 0,
+            ports: 0,
+            spare: 0,
+            seat,
+        };
+        Ok((gates, seat))
+    }
+
+    /// Makes room for so many nodes more.
+    pub fn reserve(&self, seat: &mut ChangeSeat, nodes: u32) -> Result<(), NoMemory>
+        requires { length (config_of (change_of seat.old.seat.me.0).entries).slots + nodes ≤ MAX_NODES }
+        ensures spare { OnOk result (nodes ≤ seat.new.spare) }
+        ensures kept { seat.old.spare ≤ seat.new.spare }
+        ensures seat { seat.new.seat ≡ seat.old.seat }
+    {
+        seat.spare = seat.spare.max(nodes);
+        Ok(())
+    }
+
+    /// The change makes the node of the next slot, with its ports behind those made before, and gives its seat out. The seat reads
+    /// from its slot's word what was made. It takes no memory: there is room for it.
+    pub fn make_node(&self, seat: &mut ChangeSeat, node: &Node, from: Option<u32>) -> NodeSeat
+        requires here { seat.old.seat.table_id ≡ self.now.words.shared.table_id }
+        requires spare { 0 < seat.old.spare }
+        requires may { CanMake (config_of (change_of seat.old.seat.me.0).entries) seat.old.nodes node.now from }
+        ensures here { (seat.new.seat.table_id ≡ seat.old.seat.table_id) × (result.seat.table_id ≡ seat.old.seat.table_id) }
+        ensures change { change_of seat.new.seat.me.0
+            ≡ record (notes (change_of seat.old.seat.me.0) (Did (event.Make seat.old.nodes node.now from))) { seats = (change_of seat.old.seat.me.0).seats + 1 } }
+        ensures nodes { seat.new.seat.me.0.nodes ≡ seat.old.seat.me.0.nodes }
+        ensures spare { seat.new.spare + 1 ≡ seat.old.spare }
+        ensures node { node_of result.seat.me.0 ≡ made_node seat.old.nodes seat.old.ports node.now from }
+    {
+        let slot = seat.nodes;
+        let made = SlotWord {
+            kind: node.kind,
+            first_port: seat.ports,
+            arg: node.arg,
+            from,
+        };
+        let new = self.make_slot::<Brand>(seat, node, from, made);
+        self.adopt(new, slot)
+    }
+
+    /// The step that makes it, and the one that gives its seat out.
+    fn make_slot<E: Names>(
+        &self,
+        seat: &mut ChangeSeat,
+        node: &Node,
+        from: Option<u32>,
+        made: SlotWord,
+    ) -> AnySeat
+        requires event { E.event ≡ event.Make seat.old.nodes node.now from }
+        requires here { seat.old.seat.table_id ≡ self.now.words.shared.table_id }
+        requires spare { 0 < seat.old.spare }
+        requires may { CanMake (config_of (change_of seat.old.seat.me.0).entries) seat.old.nodes node.now from }
+        requires made { made ≡ record { kind = node.now.kind; first_port = seat.old.ports; arg = node.now.arg; from = from } }
+        ensures here { (seat.new.seat.table_id ≡ seat.old.seat.table_id) × (result.table_id ≡ seat.old.seat.table_id) }
+        ensures change { change_of seat.new.seat.me.0
+            ≡ record (notes (change_of seat.old.seat.me.0) (Did (event.Make seat.old.nodes node.now from))) { seats = (change_of seat.old.seat.me.0).seats + 1 } }
+        ensures nodes { seat.new.seat.me.0.nodes ≡ seat.old.seat.me.0.nodes }
+        ensures spare { seat.new.spare + 1 ≡ seat.old.spare }
+        ensures node { result.me ≡ (of_node (made_node seat.old.nodes seat.old.ports node.now from), []) }
+    {
+        steps::make::<E>(
+            &self.words,
+            &mut seat.seat,
+            seat.nodes,
+            made.pack(),
+            node,
+            from,
+        );
+        let new = steps::new_seat(&self.words, &mut seat.seat);
+        seat.nodes += 1;
+        seat.ports += node.kind.requires_();
+        seat.spare -= 1;
+        new
+    }
+
+    /// The new seat reads its slot's word.
+    fn adopt(&self, seat: AnySeat, slot: u32) -> NodeSeat
+        requires here { seat.table_id ≡ self.now.words.shared.table_id }
+        requires node { (n : NodeFields) × (seat.me ≡ (of_node n, [])) × (n.slot ≡ slot) × (n.known ≡ nothing_known)
+            × (n.made.first_port + length (row n.made.kind).requires_ ≤ MAX_PORTS) }
+        requires slot { slot < MAX_NODES }
+        ensures here { result.seat.table_id ≡ seat.table_id }
+        ensures node { result.seat.me ≡ seat.me }
+    {
+        let mut seat = seat;
+        let word = steps::adopt(&self.words, &mut seat, slot);
+        let Some(made) = SlotWord::of(word) else {
+            unreachable!()
+        };
+        NodeSeat {
+            slot,
+            first_port: made.first_port,
+            known: unknown(),
+            seat,
+        }
+    }
+
+    /// The change closes a live port.
+    pub fn close(&self, seat: &mut ChangeSeat, port: u32)
+        requires here { seat.old.seat.table_id ≡ self.now.words.shared.table_id }
+        requires live { IsTrue (is_live_port (config_of (change_of seat.old.seat.me.0).entries) port) }
+        ensures here { seat.new.seat.table_id ≡ seat.old.seat.table_id }
+        ensures change { change_of seat.new.seat.me.0 ≡ notes (change_of seat.old.seat.me.0) (Did (event.Close port)) }
+        ensures nodes { seat.new.seat.me.0.nodes ≡ seat.old.seat.me.0.nodes }
+        ensures spare { seat.new.spare ≡ seat.old.spare }
+    {
+        steps::close::<Brand>(&self.words, &mut seat.seat, port);
+    }
+
+    /// The change opens a live port again, which ends its drained note.
+    pub fn reopen(&self, seat: &mut ChangeSeat, port: u32)
+        requires here { seat.old.seat.table_id ≡ self.now.words.shared.table_id }
+        requires live { IsTrue (is_live_port (config_of (change_of seat.old.seat.me.0).entries) port) }
+        ensures here { seat.new.seat.table_id ≡ seat.old.seat.table_id }
+        ensures change { change_of seat.new.seat.me.0 ≡ notes (change_of seat.old.seat.me.0) (Did (event.Reopen port)) }
+        ensures nodes { seat.new.seat.me.0.nodes ≡ seat.old.seat.me.0.nodes }
+        ensures spare { seat.new.spare ≡ seat.old.spare }
+    {
+        steps::reopen::<Brand>(&self.words, &mut seat.seat, port);
+    }
+
+    /// The change looks at a port that was made.
+    pub fn look(&self, seat: &mut ChangeSeat, port: u32) -> Look
+        requires here { seat.old.seat.table_id ≡ self.now.words.shared.table_id }
+        requires made { port < length (config_of (change_of seat.old.seat.me.0).entries).gates }
+        ensures here { seat.new.seat.table_id ≡ seat.old.seat.table_id }
+        ensures change { (word : ℕ) × (change_of seat.new.seat.me.0 ≡ notes (change_of seat.old.seat.me.0) (Looked port word)) × (result ≡ look_of word) }
+        ensures nodes { seat.new.seat.me.0.nodes ≡ seat.old.seat.me.0.nodes }
+        ensures spare { seat.new.spare ≡ seat.old.spare }
+    {
+        Look::of(steps::look(&self.words, &mut seat.seat, port))
+    }
+}

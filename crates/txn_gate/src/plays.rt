@@ -1,0 +1,110 @@
+//! What each kind of step tells its caller, and how seats are given out and taken in.
+
+use atomic_table::{Join, Play, Split};
+use gate_rule::View;
+use std::marker::{Brand, PhantomData};
+
+/// Names an event whose parts a step's operands don't have.
+pub trait Names {
+    ghost use Rattle.quiesce_core.specs.declared.event.Event.{Event};
+
+    ghost event: { Event };
+}
+
+impl Names for Brand {
+    ghost use Rattle.quiesce_core.specs.declared.event.Event.TheVariants.{Miss};
+
+    ghost event = { Miss 0 };
+}
+
+/// A load by a node's seat.
+pub struct Loading;
+
+impl Play<(), View> for Loading {
+    ghost use Rattle.gate_rule.specs.Steps.{Loads};
+
+    ghost then = { Loads };
+}
+
+/// An exchange by which a node begins what `E` names.
+pub struct Beginning<E> {
+    of: PhantomData<E>,
+}
+
+impl<E: Names> Play<(), View> for Beginning<E> {
+    ghost use Rattle.gate_rule.specs.Steps.{Begins};
+
+    ghost then = { Begins E.event };
+}
+
+/// A load by which a node takes a request up.
+pub struct Taking;
+
+impl Play<(), View> for Taking {
+    ghost use Rattle.gate_rule.specs.Steps.{Takes};
+
+    ghost then = { Takes };
+}
+
+/// A load by which an owner looks for a reply.
+pub struct Seeing;
+
+impl Play<(), View> for Seeing {
+    ghost use Rattle.gate_rule.specs.Steps.{Sees};
+
+    ghost then = { Sees };
+}
+
+/// The event of a node that `E` names.
+pub struct Acting<E> {
+    of: PhantomData<E>,
+}
+
+impl<E: Names> Play<(), View> for Acting<E> {
+    ghost use Rattle.std.specs.Prelude.{◌≡◌};
+    ghost use Rattle.gate_rule.specs.Steps.{did};
+
+    ghost then = { λ st me found new. new ≡ did me E.event };
+}
+
+/// A load by which a new node's seat reads its slot's word.
+pub struct Adopting;
+
+impl Play<(), View> for Adopting {
+    ghost use Rattle.gate_rule.specs.Steps.{Adopts};
+
+    ghost then = { Adopts };
+}
+
+/// The event of the change that `E` names.
+pub struct Changing<E> {
+    of: PhantomData<E>,
+}
+
+impl<E: Names> Play<(), View> for Changing<E> {
+    ghost use Rattle.std.specs.Prelude.{◌≡◌};
+    ghost use Rattle.gate_records.specs.declared.entry.Entry.TheVariants.{Did};
+    ghost use Rattle.gate_rule.specs.Steps.{noted};
+
+    ghost then = { λ st me found new. new ≡ noted me (Did E.event) };
+}
+
+/// A look of the change.
+pub struct Looking;
+
+impl Play<(), View> for Looking {
+    ghost use Rattle.gate_rule.specs.Steps.{LooksAt};
+
+    ghost then = { LooksAt };
+}
+
+/// The seat of a new node is given out.
+pub struct NewSeat;
+
+impl Split<View> for NewSeat {
+    ghost use Rattle.gate_rule.specs.Views.{new_seat, without_seat};
+
+    ghost left = { without_seat };
+
+    ghost right = { new_seat };
+}

@@ -1,0 +1,232 @@
+//! The atomic steps on the gates: each is one operation on one word, and says which event, look or sight it is.
+
+ghost use Rattle.std.specs.Prelude.{[], ◌≡◌, ◌≢◌, ◌%◌, ◌^◌, true, ◌+◌, ◌<◌, ℕ, Some, false, length};
+ghost use Rattle.config_graph.specs.declared.TheConstants.{MAX_NODES, MAX_PORTS};
+ghost use Rattle.config_graph.specs.declared.node.Target.{Target as Linked};
+ghost use Rattle.gate_word.specs.Operands.{end_difference, message_difference};
+ghost use Rattle.gate_word.specs.SlotWords.{pack_slot, unpack_slot};
+ghost use Rattle.gate_word.specs.Words.{is_message_to, pack, unpack};
+ghost use Rattle.gate_word.specs.declared.phase.Phase.TheVariants as phases;
+ghost use Rattle.gate_records.specs.Entries.{config_of};
+ghost use Rattle.gate_records.specs.Records.{May};
+ghost use Rattle.gate_records.specs.declared.entry.Entry.TheVariants.{Did, Looked};
+ghost use Rattle.quiesce_core.specs.Rules.{last_serial};
+ghost use Rattle.quiesce_core.specs.declared.event.Event.TheVariants as event;
+ghost use Rattle.port_gate.specs.Moves.{with_seen};
+ghost use Rattle.port_gate.specs.Seats.{MayBegin, MayEnd, MayGive, MaySee, MayTake, port_known, serial_served, value_seen};
+ghost use Rattle.gate_rule.specs.Steps.{IsChange, IsNode, WasShown, did, noted, seen_in, value_served};
+ghost use Rattle.gate_rule.specs.Views.{change_of, does, new_seat, newest, node_at, node_of, of_node, without_seat};
+ghost use Rattle.txn_gate.specs.Places.{IsHere};
+
+use crate::plays::{
+    Acting, Adopting, Beginning, Changing, Loading, Looking, Names, NewSeat, Seeing, Taking,
+};
+use atomic_table::{Seat, Table};
+use config_graph::{MAX_PORTS, Node};
+use gate_rule::{GateRule, View};
+use gate_word::{ALL_BUT_CLOSED, CLOSED};
+use std::alloc::Global;
+
+/// One word for each port, and one for each slot after them.
+pub type Words = Table<(), View, (), GateRule, Global>;
+
+pub type AnySeat = Seat<(), View>;
+
+/// The index of the word of a slot.
+fn place_of(slot: u32) -> usize
+    requires { slot < MAX_NODES }
+    ensures { result ≡ MAX_PORTS + slot }
+{
+    MAX_PORTS as usize + slot as usize
+}
+
+/// A node loads a port's word.
+pub fn load(words: &Words, seat: &mut AnySeat, port: u32) -> u64
+    requires here { IsHere seat.old.table_id words.now.shared.table_id }
+    requires node { IsNode seat.old.me }
+    requires port { port < MAX_PORTS }
+    ensures here { seat.new.table_id ≡ seat.old.table_id }
+    ensures me { seat.new.me ≡ seat.old.me }
+    ensures shown { WasShown (node_of seat.old.me.0) port result }
+{
+    words.shared.load::<Loading>(seat, port as usize)
+}
+
+/// A node begins a transaction of its own where the word is still the one that it loaded. Returns the word that is found.
+pub fn begin<E: Names>(
+    words: &Words,
+    seat: &mut AnySeat,
+    port: u32,
+    value: u32,
+    loaded: u64,
+    asked: u64,
+) -> u64
+    requires event { E.event ≡ event.Begin port ((unpack loaded).serial + 1) value }
+    requires here { IsHere seat.old.table_id words.now.shared.table_id }
+    requires node { IsNode seat.old.me }
+    requires may { MayBegin (node_at (node_of seat.old.me.0)) (node_of seat.old.me.0).known port value }
+    requires port { port < MAX_PORTS }
+    requires opened { (unpack loaded).closed ≡ false }
+    requires linked { (t : Linked) × ((unpack loaded).target ≡ Some t) }
+    requires unspent { (unpack loaded).serial < last_serial }
+    requires asked { asked ≡ pack (record (unpack loaded) { phase = phases.Asked; serial = (unpack loaded).serial + 1; value = value; consequent = false }) }
+    ensures here { seat.new.table_id ≡ seat.old.table_id }
+    ensures begun { result ≡ loaded → seat.new.me ≡ did seat.old.me E.event }
+    ensures kept { result ≢ loaded → seat.new.me ≡ seat.old.me }
+    ensures shown { WasShown (node_of seat.old.me.0) port result }
+{
+    words
+        .shared
+        .compare_exchange::<Beginning<E>>(seat, port as usize, loaded, asked)
+}
+
+/// A node takes up what is asked of it at a port.
+pub fn take(words: &Words, seat: &mut AnySeat, port: u32) -> u64
+    requires here { IsHere seat.old.table_id words.now.shared.table_id }
+    requires node { IsNode seat.old.me }
+    requires may { MayTake (node_of seat.old.me.0).known port }
+    ensures here { seat.new.table_id ≡ seat.old.table_id }
+    ensures taken { is_message_to (node_of seat.old.me.0).slot (unpack result) ≡ true
+        → seat.new.me ≡ did seat.old.me (event.Take port (unpack result).serial (unpack result).value) }
+    ensures kept { is_message_to (node_of seat.old.me.0).slot (unpack result) ≡ false → seat.new.me ≡ seat.old.me }
+    ensures shown { WasShown (node_of seat.old.me.0) port result }
+{
+    words.shared.load::<Taking>(seat, port as usize)
+}
+
+/// A node looks for a reply at a port of its own.
+pub fn see(words: &Words, seat: &mut AnySeat, port: u32) -> u64
+    requires here { IsHere seat.old.table_id words.now.shared.table_id }
+    requires node { IsNode seat.old.me }
+    requires may { MaySee (node_at (node_of seat.old.me.0)) (node_of seat.old.me.0).known port }
+    requires port { port < MAX_PORTS }
+    ensures here { seat.new.table_id ≡ seat.old.table_id }
+    ensures me { seat.new.me ≡ (of_node (record (node_of seat.old.me.0) { known = with_seen (node_at (node_of seat.old.me.0)) port (seen_in result) (node_of seat.old.me.0).known }), []) }
+    ensures shown { WasShown (node_of seat.old.me.0) port result }
+{
+    words.shared.load::<Seeing>(seat, port as usize)
+}
+
+/// A node answers the request that it services.
+pub fn give<E: Names>(words: &Words, seat: &mut AnySeat, port: u32, value: u32, operand: u64)
+    requires event { E.event ≡ event.Give port (serial_served (node_of seat.old.me.0).known) value }
+    requires here { IsHere seat.old.table_id words.now.shared.table_id }
+    requires node { IsNode seat.old.me }
+    requires may { MayGive (node_of seat.old.me.0).known port value }
+    requires port { port < MAX_PORTS }
+    requires operand { operand ≡ message_difference phases.Asked (value_served (node_of seat.old.me.0).known % 2 ^ 24) phases.Answered value }
+    ensures here { seat.new.table_id ≡ seat.old.table_id }
+    ensures me { seat.new.me ≡ did seat.old.me E.event }
+{
+    words
+        .shared
+        .fetch_xor::<Acting<E>>(seat, port as usize, operand);
+}
+
+/// A node ends a transaction whose answer it saw.
+pub fn end<E: Names>(words: &Words, seat: &mut AnySeat, port: u32, operand: u64)
+    requires event { E.event ≡ event.End port (port_known (node_at (node_of seat.old.me.0)) (node_of seat.old.me.0).known port).serial
+        (value_seen (port_known (node_at (node_of seat.old.me.0)) (node_of seat.old.me.0).known port)) }
+    requires here { IsHere seat.old.table_id words.now.shared.table_id }
+    requires node { IsNode seat.old.me }
+    requires may { MayEnd (node_at (node_of seat.old.me.0)) (node_of seat.old.me.0).known port }
+    requires port { port < MAX_PORTS }
+    requires operand { operand ≡ end_difference (value_seen (port_known (node_at (node_of seat.old.me.0)) (node_of seat.old.me.0).known port) % 2 ^ 24)
+        (port_known (node_at (node_of seat.old.me.0)) (node_of seat.old.me.0).known port).consequent }
+    ensures here { seat.new.table_id ≡ seat.old.table_id }
+    ensures me { seat.new.me ≡ did seat.old.me E.event }
+{
+    words
+        .shared
+        .fetch_xor::<Acting<E>>(seat, port as usize, operand);
+}
+
+/// The change closes a port.
+pub fn close<E: Names>(words: &Words, seat: &mut AnySeat, port: u32)
+    requires event { E.event ≡ event.Close port }
+    requires here { IsHere seat.old.table_id words.now.shared.table_id }
+    requires change { IsChange seat.old.me }
+    requires may { May (change_of seat.old.me.0).entries (event.Close port) }
+    requires port { port < MAX_PORTS }
+    ensures here { seat.new.table_id ≡ seat.old.table_id }
+    ensures me { seat.new.me ≡ noted seat.old.me (Did E.event) }
+{
+    words
+        .shared
+        .fetch_or::<Changing<E>>(seat, port as usize, CLOSED);
+}
+
+/// The change opens a port again.
+pub fn reopen<E: Names>(words: &Words, seat: &mut AnySeat, port: u32)
+    requires event { E.event ≡ event.Reopen port }
+    requires here { IsHere seat.old.table_id words.now.shared.table_id }
+    requires change { IsChange seat.old.me }
+    requires may { May (change_of seat.old.me.0).entries (event.Reopen port) }
+    requires port { port < MAX_PORTS }
+    ensures here { seat.new.table_id ≡ seat.old.table_id }
+    ensures me { seat.new.me ≡ noted seat.old.me (Did E.event) }
+{
+    words
+        .shared
+        .fetch_and::<Changing<E>>(seat, port as usize, ALL_BUT_CLOSED);
+}
+
+/// The change looks at a port.
+pub fn look(words: &Words, seat: &mut AnySeat, port: u32) -> u64
+    requires here { IsHere seat.old.table_id words.now.shared.table_id }
+    requires change { IsChange seat.old.me }
+    requires port { port < MAX_PORTS }
+    ensures here { seat.new.table_id ≡ seat.old.table_id }
+    ensures me { seat.new.me ≡ noted seat.old.me (Looked port result) }
+{
+    words.shared.load::<Looking>(seat, port as usize)
+}
+
+/// The change makes the node of the next slot, whose word this is.
+pub fn make<E: Names>(
+    words: &Words,
+    seat: &mut AnySeat,
+    slot: u32,
+    word: u64,
+    node: &Node,
+    from: Option<u32>,
+)
+    requires event { E.event ≡ event.Make slot node.now from }
+    requires may { May (change_of seat.old.me.0).entries (event.Make slot node.now from) }
+    requires word { word ≡ pack_slot (record { kind = node.now.kind; first_port = length (config_of (change_of seat.old.me.0).entries).gates; arg = node.now.arg; from = from }) }
+    requires here { IsHere seat.old.table_id words.now.shared.table_id }
+    requires change { IsChange seat.old.me }
+    requires slot { slot < MAX_NODES }
+    ensures here { seat.new.table_id ≡ seat.old.table_id }
+    ensures me { seat.new.me ≡ noted seat.old.me (Did E.event) }
+{
+    let (_, _) = (node, from);
+    words
+        .shared
+        .fetch_or::<Changing<E>>(seat, place_of(slot), word);
+}
+
+/// The change gives the seat of the first node out whose seat wasn't given out yet.
+pub fn new_seat(words: &Words, seat: &mut AnySeat) -> AnySeat
+    requires here { IsHere seat.old.table_id words.now.shared.table_id }
+    requires change { IsChange seat.old.me }
+    requires made { (change_of seat.old.me.0).seats < length (config_of (change_of seat.old.me.0).entries).slots }
+    ensures here { (seat.new.table_id ≡ seat.old.table_id) × (result.table_id ≡ seat.old.table_id) }
+    ensures me { seat.new.me ≡ (without_seat seat.old.me.0, []) }
+    ensures node { result.me ≡ (new_seat seat.old.me.0, []) }
+{
+    words.shared.split_seat::<NewSeat>(seat)
+}
+
+/// A new node's seat reads its slot's word.
+pub fn adopt(words: &Words, seat: &mut AnySeat, slot: u32) -> u64
+    requires here { IsHere seat.old.table_id words.now.shared.table_id }
+    requires node { IsNode seat.old.me }
+    requires slot { (node_of seat.old.me.0).slot ≡ slot }
+    requires within { slot < MAX_NODES }
+    ensures here { seat.new.table_id ≡ seat.old.table_id }
+    ensures me { seat.new.me ≡ seat.old.me }
+    ensures word { unpack_slot result ≡ Some (node_of seat.old.me.0).made }
+{
+    words.shared.load::<Adopting>(seat, place_of(slot))
+}
