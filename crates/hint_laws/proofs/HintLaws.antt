@@ -39,7 +39,7 @@ use Rattle.turns.proofs.TurnLaws.{posts_keep}
 use Rattle.turns.specs.Turn.{do_event, is_full, looks, move_of, post, post_one, post_request, post_waiting, request_of, turn, turn_in, with_hint, with_waiting, without_hint}
 use Rattle.turns.specs.World.{World, first_port, inbox, state_of, waiting_of, with_event, with_event_of}
 use Rattle.hint_laws.specs.Requests.{HintsAreRequests, hints_for, kept_back, leads_to, waits, waits_for}
-use Rattle.hint_laws.proofs.LookLemmas.{after_look, is_take_at, takes_at}
+use Rattle.hint_laws.proofs.LookLaws.{after_look, is_take_at, takes_at}
 use Rattle.hint_laws.proofs.PostLemmas.{IsPlace, count_of, is_at, posted, read}
 use Rattle.hint_laws.proofs.RequestLemmas.{idle_not_asked, is_of, same_taken, unasked, waits_after, waits_next}
 

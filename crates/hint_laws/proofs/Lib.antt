@@ -1,5 +1,5 @@
 pub mod HintLaws
-mod LookLemmas
+pub mod LookLaws
 pub mod MovingLaws
 mod PostLemmas
 pub mod PostedLaws

@@ -394,6 +394,12 @@ turns_in_row allowed c a (suc k) r h = by (is_live c a) refl (λ q x. turns_in_r
           almost = almost_past_dead r.world a (λ i m is. none_of_dead r.world (hinted_where_reached r.world h.reached) h.reached a i m (ap (λ d. is_live d a) h.config ∙ dead) is) h.almost;
         }))
 
+-- a round leads to a world that is reached, and keeps the configuration
+pub round_reaches : (w : World) (allowed : Bool) → IsReached w → IsReached (round allowed w).world × ((round allowed w).world.machine.config ≡ w.machine.config)
+round_reaches w allowed r =
+    let t = turns_in_row allowed w.machine.config 0 (length w.machine.config.slots) (record { world = w; moved = false }) (record { reached = r; config = refl; almost = λ k j l low. absurd (omega (arith, low)) }) in
+    (t.reached, t.config)
+
 pub posted_behind_round : (w : World) (allowed : Bool) → IsReached w → ArePosted (round allowed w).world
 posted_behind_round w allowed r n i m is =
     let c = w.machine.config in

@@ -21,7 +21,7 @@ use Rattle.turns.specs.Round.{Round, give_turn}
 use Rattle.turns.specs.Turn.{begins, do_event, ends, is_full, looks, move_of, or_else, post, post_one, post_waiting, serves, takes, turn, turn_in, with_hint, with_waiting, without_hint}
 use Rattle.turns.specs.World.{World, first_port, inbox, state_of, waiting_of}
 use Rattle.hint_laws.proofs.HintLaws.{Hinted, hinted_where_reached, posted_machine, waiting_are_posted, well_where_reached}
-use Rattle.hint_laws.proofs.LookLemmas.{asked_for, empty_stays, front_is_for, takes_front}
+use Rattle.hint_laws.proofs.LookLaws.{asked_for, empty_stays, front_is_for, takes_front}
 
 -- ---- inboxes grow by posts
 

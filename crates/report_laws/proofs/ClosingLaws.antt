@@ -26,7 +26,7 @@ use Rattle.change_law.specs.Scene.{root_line}
 use Rattle.change_law.specs.Serial.{after_changes, seen_at}
 use Rattle.change_law.proofs.MemberLaws.{events_parts}
 use Rattle.report_laws.specs.Courses.{Course}
-use Rattle.report_laws.proofs.ClosedPortLemmas.{around, root_there}
+use Rattle.report_laws.proofs.ClosedPortLaws.{around, root_there}
 use Rattle.report_laws.proofs.CourseLaws.{course_machine, course_run, with_changes, with_root}
 use Rattle.report_laws.proofs.LineLaws.{none_both}
 

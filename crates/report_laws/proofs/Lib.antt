@@ -1,5 +1,5 @@
 pub mod AloneLaws
-mod ClosedPortLemmas
+pub mod ClosedPortLaws
 pub mod ClosingLaws
 pub mod CommitGraphLaws
 pub mod CourseLaws

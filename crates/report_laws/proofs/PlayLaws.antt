@@ -40,7 +40,7 @@ use Rattle.change_law.specs.Statements.{Statement, start, change, run, finish, s
 use Rattle.change_law.proofs.MemberLaws.{events_parts}
 use Rattle.report_laws.specs.Courses.{Course}
 use Rattle.report_laws.specs.SoundStatements.{GoOnSoundly, IsSoundGraph}
-use Rattle.report_laws.proofs.ClosedPortLemmas.{all_live, frozen_listed, frozen_live, frozen_same, same_to_close, where_rise}
+use Rattle.report_laws.proofs.ClosedPortLaws.{all_live, frozen_listed, frozen_live, frozen_same, same_to_close, where_rise}
 use Rattle.report_laws.proofs.ClosingLaws.{lines_of_reopens, reopens_are_of_change, reopens_run, shut, shut_same, with_roots}
 use Rattle.report_laws.proofs.CommitGraphLaws.{CommitsByConfiguration, Fits, Stands}
 use Rattle.report_laws.proofs.CourseLaws.{WentOn, course_config, course_machine, course_run, events_done, with_changes, with_rounds, with_said}

@@ -98,7 +98,7 @@ abbrev pub PlayedAfter : List HistoryLine → World → List Played → Type 0
 PlayedAfter h w [] = ⊤
 PlayedAfter h w (p ∷ ps) = Plays h w p.statement p.lines p.world × PlayedAfter (h ++ p.lines) p.world ps
 
-played_after : (before ps : List Played) → EachAfter IsPlayed before ps → PlayedAfter (lines_played before) (world_after before) ps
+pub played_after : (before ps : List Played) → EachAfter IsPlayed before ps → PlayedAfter (lines_played before) (world_after before) ps
 played_after before [] each = tt
 played_after before (p ∷ ps) each =
     let here : lines_played (before ++ p ∷ []) ≡ lines_played before ++ p.lines = flat_map-append (λ (q : Played). q.lines) before (p ∷ []) ∙ ap (λ xs. lines_played before ++ xs) (append-nil p.lines) in
@@ -123,10 +123,10 @@ right_each before (p ∷ ps) right =
     (right.0, right_each (before ++ p ∷ []) ps (subst (λ h. AreRightAfter h ps) here right.1))
 
 -- all that was played goes by
-record Gone (h : List HistoryLine) (w : World) (ps : List Played) : Type 0 where
-  right : AreRightAfter h (map part_of ps)
-  members : List Member
-  course : Course (h ++ lines_played ps) (fold (λ (u : World) (p : Played). p.world) w ps) members
+pub record Gone (h : List HistoryLine) (w : World) (ps : List Played) : Type 0 where
+  pub right : AreRightAfter h (map part_of ps)
+  pub members : List Member
+  pub course : Course (h ++ lines_played ps) (fold (λ (u : World) (p : Played). p.world) w ps) members
 
 module _ (each_may : EachMayCommit) (by_config : CommitsByConfiguration) (leaves : CommitsLeaveGraphs) (commits_run : CommitsRun) (statements : List Statement) where
   all_go : (done : List Statement) (h : List HistoryLine) (w : World) (m : List Member) (ps : List Played) (g : Graph) (made : Made) → statements ≡ done ++ map (λ (p : Played). p.statement) ps → PlayedAfter h w ps → Course h w m
@@ -143,7 +143,7 @@ module _ (each_may : EachMayCommit) (by_config : CommitsByConfiguration) (leaves
         course = subst (λ x. Course x (fold (λ (u : World) (q : Played). q.world) p.world ps) later.members) (append_assoc h p.lines (lines_played ps)) later.course;
       }
 
-  from_start : (ps : List Played) → statements ≡ map (λ (p : Played). p.statement) ps → PlayedAfter [] nowhere ps → AreSound (map (λ (p : Played). p.statement) ps) → Gone [] nowhere ps
+  pub from_start : (ps : List Played) → statements ≡ map (λ (p : Played). p.statement) ps → PlayedAfter [] nowhere ps → AreSound (map (λ (p : Played). p.statement) ps) → Gone [] nowhere ps
   from_start [] are played sound = absurd sound
   from_start (p ∷ ps) are played sound = by p.statement refl played.0 sound
     where
