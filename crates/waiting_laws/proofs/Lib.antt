@@ -1,0 +1,4 @@
+mod MoveLemmas
+mod RoundLemmas
+mod WaitLemmas
+mod PartLemmas
