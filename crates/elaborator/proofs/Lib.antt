@@ -18,6 +18,7 @@ pub mod LinkLawLemmas
 pub mod LinkLemmas
 pub mod MakingLemmas
 pub mod MappedLemmas
+pub mod NameLaws
 pub mod NameLemmas
 pub mod NamingLemmas
 pub mod NodeLemmas

@@ -1,6 +1,6 @@
 -- The bytes of paths: where the names of instances are written in letters, digits and `_`, a path is written in these, full stops
 -- and indexes in brackets.
-use Rattle.std.proofs.Common.{◌+◌, get_or, ◌<◌, ◌≡◌, ◌≢◌, ℕ, zero, suc, ◌/◌, ◌%◌, ◌||◌, eqb, Bool, true, false, cond, ℤ, pos, negsuc, List, [], ◌∷◌, ◌++◌, All, Option, Some, None, refl, sym, subst, arith, codes}
+use Rattle.std.proofs.Common.{length, ◌+◌, get_or, ◌<◌, ◌≡◌, ◌≢◌, ℕ, zero, suc, ◌/◌, ◌%◌, ◌||◌, eqb, Bool, true, false, cond, ℤ, pos, negsuc, List, [], ◌∷◌, ◌++◌, All, Option, Some, None, refl, sym, subst, arith, codes}
 use Rattle.std.specs.List.{AllPass, Contains}
 use Rattle.std.specs.Str.{bytes_eq}
 use Rattle.std.specs.Fmt.{decimal, digits, digits_onto, digit_glyph, signed_decimal}
@@ -10,7 +10,7 @@ use Rattle.std.proofs.lemmas.Bool.{cond-true, false≢true, lt-ltb}
 use Rattle.std.proofs.lemmas.Bool.Decides.{nat_tests}
 use Rattle.std.proofs.lemmas.Option.{slice_get-get_or}
 use Rattle.std.proofs.lemmas.List.Elements.{All-append, All-cons}
-use Rattle.base.proofs.ContainsLaws.{Contains-at, Contains-from_filter_map, Contains-from_flat_map, Contains-nil, Contains-one}
+use Rattle.base.proofs.ContainsLaws.{Contains-at, Contains-from_filter_map, Contains-nil}
 use Rattle.base.proofs.FindLaws.{Contains-find}
 use Rattle.base.proofs.OptionLaws.{made_of_two}
 use Rattle.config_graph.specs.Graph.{Graph}
@@ -20,21 +20,19 @@ use Rattle.config_graph.proofs.TextLaws.{same_from_text}
 use Rattle.config_graph.specs.declared.node.Node.{Node}
 use Rattle.darwin_lexer.specs.Keywords.{begins_name, continues_name}
 use Rattle.darwin_lexer.specs.Tokens.{IsTokens}
-use Rattle.darwin_lexer.specs.declared.token.At.{At}
 use Rattle.darwin_lexer.specs.declared.token.Token.{Token}
 use Rattle.darwin_parser.specs.Grammar.{IsUnit}
-use Rattle.darwin_parser.specs.Tree.{Name, ArrayDecl, single, element, Component, Tree}
-use Rattle.darwin_types.specs.Scope.{array_named, component_named}
-use Rattle.darwin_walk.specs.Value.{Value, integer, out_of_range, zero_divisor, Env, parameters, value}
-use Rattle.darwin_walk.specs.Reached.{Reached, valued, turn, made, bound, reached_in_component}
-use Rattle.darwin_walk.specs.Instance.{Segment, Child, children, children_of, element_child}
+use Rattle.darwin_parser.specs.Tree.{Name, Component, Tree}
+use Rattle.darwin_types.specs.Scope.{component_named}
+use Rattle.darwin_walk.specs.Value.{parameters}
+use Rattle.darwin_walk.specs.Instance.{Segment, Child, children}
 use Rattle.elaborator.specs.PathBytes.{is_path_byte}
 use Rattle.elaborator.specs.Paths.{Path, index_bytes, segment_bytes, within}
 use Rattle.elaborator.specs.Instances.{Instance, Inst, at_top, below, child_path, children_in, instance_of, is_expanded, made_in}
 use Rattle.elaborator.specs.Elaboration.{ElaboratesTo}
-use Rattle.elaborator.proofs.ArgumentLemmas.{reached_entry}
 use Rattle.elaborator.proofs.ElaborationLemmas.{top_parts}
-use Rattle.elaborator.proofs.NameLemmas.{IsNameText, IsComponentSpelled, tree_spelled}
+use Rattle.elaborator.proofs.NameLaws.{IsComponentSpelled, child_named, tree_spelled}
+use Rattle.elaborator.proofs.NameLemmas.{IsNameText, tokens_spelled}
 use Rattle.elaborator.proofs.NodeLemmas.{node_path}
 
 -- ---- bytes
@@ -111,25 +109,6 @@ byte_of_word b is = (
 
 -- ---- instances
 
-child_named : (text : List ℕ) (c : Component) (env : Env) (child : Child) → IsComponentSpelled text c → Contains (children c env) child → IsNameText child.segment.name
-child_named text c env child spelled there =
-    let w = Contains-from_flat_map (children_of c env) (reached_in_component c env) child there in by w.0 w.1 w.2
-  where
-    by_element : (name : Name) (arguments : ArrayDecl → List Value) (place : At) (o : Option ArrayDecl) (v : Value) → array_named c name ≡ o → Contains (element_child o v arguments place) child → IsNameText child.segment.name
-    by_element name arguments place None v is there = absurd (Contains-nil child there)
-    by_element name arguments place (Some array) out_of_range is there = absurd (Contains-nil child there)
-    by_element name arguments place (Some array) zero_divisor is there = absurd (Contains-nil child there)
-    by_element name arguments place (Some array) (integer i) is there =
-        subst (λ (x : Child). IsNameText x.segment.name) (sym (Contains-one _ child there)) (spelled.arrays array (Contains-find (λ a. bytes_eq name a.name) c.arrays array is))
-
-    by : (r : Reached) → Contains (reached_in_component c env) r → Contains (children_of c env r) child → IsNameText child.segment.name
-    by (made (single name component args place) at) reached_ there =
-        subst (λ (x : Child). IsNameText x.segment.name) (sym (Contains-one _ child there)) (spelled.entries (single name component args place) (reached_entry c env (single name component args place) at reached_))
-    by (made (element name index args place) at) reached_ there = by_element name _ place (array_named c name) (value index at) refl there
-    by (valued e at place) reached_ there = absurd (Contains-nil child there)
-    by turn reached_ there = absurd (Contains-nil child there)
-    by (bound b at) reached_ there = absurd (Contains-nil child there)
-
 children_there : (i : Instance) (child : Child) → Contains (children_in i) child → Contains (children i.component i.env) child
 children_there i child there = by (is_expanded i) there
   where
@@ -146,13 +125,13 @@ record IsWritten (tree : Tree) (i : Instance) : Type 0 where
 abbrev instance_by : Instance → Child → Component → List ℤ → Instance
 instance_by i child c arguments = record { path = child_path i child; depth = suc i.depth; component = c; env = parameters c arguments }
 
-module _ (text : List ℕ) (tree : Tree) (spelled : (c : Component) → Contains tree c → IsComponentSpelled text c) where
+module _ (text : List ℕ) (tree : Tree) (spelled : (c : Component) → Contains tree c → IsComponentSpelled IsNameText text c) where
   written_below : (i j : Instance) → IsWritten tree i → Contains (made_in tree i) j → IsWritten tree j
   written_below i j before there =
       let w = Contains-from_filter_map (instance_of tree i) (children_in i) j there in
       let child : Child = w.0 in
       let parts = made_of_two (instance_by i child) (component_named tree child.component) child.arguments j w.2 in
-      let named = child_named text i.component i.env child (spelled i.component before.component) (children_there i child w.1) in
+      let named = child_named IsNameText text i.component i.env child (spelled i.component before.component) (children_there i child w.1) in
       record {
         path = subst (λ (x : Instance). IsPathText x.path) parts.4 (within_is i.path child.segment before.path named);
         component = subst (λ (x : Instance). Contains tree x.component) parts.4 (Contains-find (λ c. bytes_eq child.component c.name) tree parts.0 parts.2);
@@ -170,7 +149,7 @@ paths_written text tokens tree name arguments g parted unit elab k d low =
     let start = top_parts tree name arguments elab.top elab.is_top in
     let first : IsWritten tree elab.top = subst (IsWritten tree) (sym start.is_top)
     (record { path = no_bytes; component = Contains-find (λ c. bytes_eq name c.name) tree start.component start.named }) in
-    let here = written text tree (tree_spelled text tokens tree parted unit) elab.top is.instance first is.is_instance in
+    let here = written text tree (tree_spelled IsNameText text tokens tree (tokens_spelled text 0 (length text) tokens parted) unit) elab.top is.instance first is.is_instance in
     subst IsPathText (sym (node_path is.instance n is.is_node)) here.path
 
 pub paths_one_word : (nodes : List Node) → All (λ n. IsPathText n.path) nodes → All (λ n. IsOneWord n.path) nodes
