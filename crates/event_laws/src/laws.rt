@@ -1,7 +1,13 @@
 //! Laws of the lines of event files, each as the contract of a function that does nothing.
 
-ghost use Rattle.std.specs.Prelude.{◌≡◌, ◌≢◌, ◌↔◌, ◌+◌, ℕ, ℤ, true, false, List, [], ◌∷◌, ◌++◌, Ok, Err};
+ghost use Rattle.std.specs.Prelude.{All, ◌≡◌, ◌≢◌, ◌↔◌, ◌+◌, ℕ, ℤ, true, false, List, [], ◌∷◌, ◌++◌, Ok, Err};
 ghost use Rattle.std.specs.List.{AllByRecursion};
+ghost use Rattle.config_graph.specs.Graph.{Graph};
+ghost use Rattle.darwin_lexer.specs.declared.token.Token.{Token};
+ghost use Rattle.darwin_lexer.specs.Tokens.{IsTokens};
+ghost use Rattle.darwin_parser.specs.Grammar.{IsUnit};
+ghost use Rattle.darwin_parser.specs.Tree.{Name, Tree};
+ghost use Rattle.elaborator.specs.Elaboration.{ElaboratesTo, HasNoFault};
 ghost use Rattle.change_script.specs.declared.error.LineFault.TheVariants.{Bad, Big};
 ghost use Rattle.change_script.specs.declared.event_files.EventFile.{EventFile};
 ghost use Rattle.change_script.specs.declared.event_lines.Statement.{Statement};
@@ -9,7 +15,7 @@ ghost use Rattle.change_script.specs.declared.event_lines.Statement.TheVariants 
 ghost use Rattle.change_script.specs.EventFiles.{IsEventFile};
 ghost use Rattle.change_script.specs.EventLines.{meaning};
 ghost use Rattle.change_script.specs.Lines.{is_margin, statements as lines_of, statements_from};
-ghost use Rattle.change_script.specs.StatementTexts.{IsInteger, IsWrittenName};
+ghost use Rattle.change_script.specs.StatementTexts.{IsInteger, IsWrittenName, IsWrittenPath};
 ghost use Rattle.change_script.specs.Tokens.{tokens};
 ghost use Rattle.event_laws.specs.EventForms.{Form, HasForm, IsTooBig, Means};
 ghost use Rattle.event_laws.specs.FileTexts.{CanBeFile, are_margins, file_text, is_one_line, said, start_text};
@@ -19,6 +25,8 @@ use change_script::{
     names_are_those_of_the_language, words_are_longest,
 };
 use darwin_lexer::fronts_as_spelled;
+use darwin_walk::what_is_reached;
+use elaborator::paths_are_words;
 
 /// A line has one form at most, and what it means is said by its form alone: a line without one is bad, and one with a
 /// number outside its limit is too big.
@@ -64,3 +72,16 @@ pub fn lines_say_what_is_between_their_margins()
         → is_margin first ≡ false → is_margin last ≡ false → first ≢ 35
         → said number (first ∷ more) ≡ record { number = number; bytes = first ∷ more } ∷ [] }
 {}
+
+/// The path of each node of a description's graph is a path as scripts and event files have it, in one word, where the
+/// arguments are integers of the language.
+pub fn paths_of_nodes_are_paths()
+    ensures { (text : List ℕ) (tokens : List Token) (tree : Tree) (name : Name) (arguments : List ℤ) (g : Graph)
+        → IsTokens text tokens → IsUnit text tokens tree → AllByRecursion IsInteger arguments
+        → HasNoFault tree name arguments → ElaboratesTo tree name arguments g → All (λ n. IsWrittenPath n.path) g.nodes }
+{
+    fronts_as_spelled();
+    names_are_those_of_the_language();
+    what_is_reached();
+    paths_are_words();
+}
