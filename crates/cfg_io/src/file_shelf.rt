@@ -1,6 +1,7 @@
 //! The files of the system as a shelf.
 
-ghost use Rattle.std.specs.Prelude.{◌≡◌, ◌≤◌, ◌⊎◌, IfOk, IfSome, Some, [], vec_len};
+ghost use Rattle.std.specs.Prelude.{◌≡◌, ◌≢◌, ◌≤◌, ◌⊎◌, Err, IfErr, IfOk, IfSome, Some, [], vec_len};
+ghost use Rattle.std.specs.IoError.{error_kind};
 ghost use Rattle.cfg_io.specs.Shelf.{CarriesLimit, MayAnswer};
 
 use crate::shelf::{Shelf, ShelfError};
@@ -51,7 +52,7 @@ impl<R: Files> Shelf for FileShelf<R> {
     fn fetch(&mut self, name: &str, limit: u32) -> Result<Vec<u8>, ShelfError> {
         let kept_name = String::from_str(self.alloc, name)?;
         self.failed.reserve(1)?;
-        let outcome = read_file(&self.rt, self.alloc, name, limit);
+        let outcome = read_opened(self.alloc, fs::open(&self.rt, name), limit);
         if let Err(ShelfError::Failed) = &outcome {
             self.failed.push(kept_name).unwrap();
         }
@@ -59,13 +60,22 @@ impl<R: Files> Shelf for FileShelf<R> {
     }
 }
 
-// The bytes of a file that keeps the limit.
-fn read_file<R: Files>(rt: &R, alloc: Global, name: &str, limit: u32) -> Result<Vec<u8>, ShelfError>
+// The bytes of a file, as far as it was opened and keeps the limit. One that couldn't be opened is a failure, unless
+// memory ran out.
+fn read_opened<R: Read + Drop>(
+    alloc: Global,
+    opened: io::Result<R>,
+    limit: u32,
+) -> Result<Vec<u8>, ShelfError>
     ensures within { IfOk result (λ bytes. vec_len bytes ≤ limit) }
     ensures carries { CarriesLimit result limit }
+    ensures told { IfOk opened (λ reader. IfSome (R.remaining reader) (λ left. MayAnswer (Some left) limit result)) }
+    ensures refused { IfErr opened (λ error.
+        ((error_kind error ≡ ErrorKind.OutOfMemory) × (result ≡ Err ShelfError.NoMemory))
+        ⊎ ((error_kind error ≢ ErrorKind.OutOfMemory) × (result ≡ Err ShelfError.Failed))) }
 {
-    match fs::open(rt, name) {
-        Ok(file) => read_within(alloc, file, limit),
+    match opened {
+        Ok(reader) => read_within(alloc, reader, limit),
         Err(error) => Err(refusal(&error)),
     }
 }
@@ -88,7 +98,8 @@ fn read_within<R: Read + Drop>(alloc: Global, reader: R, limit: u32) -> Result<V
 
 // Why a file isn't read.
 fn refusal(error: &io::Error) -> ShelfError
-    ensures { (result ≡ ShelfError.Failed) ⊎ (result ≡ ShelfError.NoMemory) }
+    ensures { ((error_kind error.now ≡ ErrorKind.OutOfMemory) × (result ≡ ShelfError.NoMemory))
+        ⊎ ((error_kind error.now ≢ ErrorKind.OutOfMemory) × (result ≡ ShelfError.Failed)) }
 {
     if error.kind() == ErrorKind::OutOfMemory {
         ShelfError::NoMemory
