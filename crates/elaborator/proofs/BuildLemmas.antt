@@ -25,7 +25,7 @@ use Rattle.base.proofs.ContainsLaws.{Contains-at, at_some_place}
 use Rattle.config_graph.proofs.NumberingLaws.{ports_from}
 
 -- a node has two ports at most
-pub few_ports : (nodes : List Node) → length nodes ≤ 65536 → length (ports nodes) < 2 ^ 32
+pub few_ports : (nodes : List Node) → length nodes ≤ 65537 → length (ports nodes) < 2 ^ 32
 few_ports nodes few = omega (arith, ports_from 0 nodes)
 
 -- ---- the graph

@@ -27,7 +27,7 @@ use Rattle.elaborator.specs.Opening.{cause_at, error_at, Judges, IsNoted, IsFoun
 use Rattle.elaborator.specs.declared.opening.Found.{Found}
 use Rattle.elaborator.specs.ExpansionFaults.{IsTop, GrowthFault, IsClear, IsWhole}
 use Rattle.elaborator.specs.ExpansionFaults.GrowthFault.{out_of_range, zero_divisor, bad_index, two_instances, two_apart, too_deep, too_many}
-use Rattle.elaborator.specs.Growth.{made_by, IsWalkedClean, IsGrown, IsMapped, IsGrowth, IsSpread, IsInPathOrder, IsClash, IsTold}
+use Rattle.elaborator.specs.Growth.{made_by, IsWalkedClean, IsGrown, IsMapped, IsGrowth, IsSpread, IsClash, IsTold}
 use Rattle.elaborator.specs.declared.instance.Instance as code
 use Rattle.elaborator.specs.declared.growing.Growth.{Growth}
 use Rattle.elaborator.specs.declared.instance.Expansion.{Expansion}
@@ -35,8 +35,6 @@ use Rattle.elaborator.specs.declared.error.ElabError.{ElabError}
 use Rattle.elaborator.specs.declared.error.ElabError.TheVariants as error
 use Rattle.elaborator.proofs.NamingLemmas.{made_named}
 use Rattle.elaborator.proofs.TwiceLaws.{twice_at, twice_before, twice_places}
-use Rattle.elaborator.proofs.OrderLemmas.{rising}
-use Rattle.elaborator.proofs.MappedLemmas.{found-in_order, found-before_order}
 use Rattle.elaborator.proofs.GrowthLemmas.{AreApart, earlier_or_same, grown-top, grown-open, grown-sound, grown-complete, grown-distinct, once-made}
 use Rattle.elaborator.proofs.SpreadLemmas.{total-within, spread-top, spread-open, front-above, depth-next}
 use Rattle.base.proofs.ContainsLaws.{Contains-at, Contains-from_map, Contains-map, at_some_place}
@@ -219,28 +217,22 @@ whole-clear top g growth all =
           (subst (λ n. IsSpread (tree_of g.expansion.directory.unit.now) top (map instance_in g.expansion.instances.items) n g.room) (all ∙ sym (length-map g.expansion.instances.items instance_in)) growth.spread);
     }
 
--- the instances of a growth, with the numbers of another expansion
-abbrev renumbered : Growth → Expansion → Expansion
-renumbered g e = record { directory = g.expansion.directory; instances = g.expansion.instances; numbers = e.numbers }
-
 pub whole-kept :
     (top : Instance) (g : Growth) → IsGrowth top g → top.depth ≡ 0 → component_named (tree_of g.expansion.directory.unit.now) top.component.name ≡ Some top.component
-    → is_primitive top.component ≡ false → g.opened ≡ length g.expansion.instances.items → (e : Expansion) → IsInPathOrder g.expansion e → IsNumbering (renumbered g e)
-whole-kept top g growth shallow named composite all e ordered =
+    → is_primitive top.component ≡ false → g.opened ≡ length g.expansion.instances.items → IsNumbering g.expansion
+whole-kept top g growth shallow named composite all =
     record {
       is_expanded = whole-expanded top g growth shallow named composite all;
       few = omega (arith, growth.few);
-      counted = omega (arith, ordered.reordered.1, growth.mapped.counted);
-      in_order = rising (keys e.numbers) ordered.sorted ordered.unique;
       primitive = λ n i at. growth.told n i at;
       bindings = λ n i at. (growth.shown n i (omega (arith, all, slice_get-below _ n i at)) at).bindings;
       sizes = λ n i at. (growth.shown n i (omega (arith, all, slice_get-below _ n i at)) at).sizes;
-      found = λ n i at made. found-in_order g.expansion e ordered i.path n (found n i at made);
+      found = found;
       told = λ n path i is at.
-          let w = growth.mapped.told n path (found-before_order g.expansion e ordered path n is) in
+          let w = growth.mapped.told n path is in
           ap (λ (x : code.Instance). x.path) (same_Some i w.0 (sym at ∙ w.1)) ∙ w.2;
       within = λ n path is.
-          let w = growth.mapped.told n path (found-before_order g.expansion e ordered path n is) in
+          let w = growth.mapped.told n path is in
           slice_get-below g.expansion.instances.items n w.0 w.1;
     }
   where
@@ -264,13 +256,11 @@ whole-of top g growth all =
 
 pub whole :
     (unit : Description) (top : code.Instance) (g : Growth) → IsTop (tree_of unit) top → tree_of g.expansion.directory.unit.now ≡ tree_of unit → IsGrowth (instance_in top) g
-    → length g.expansion.instances.items ≤ g.opened → (e : Expansion) → IsInPathOrder g.expansion e → IsWhole unit top e
-whole unit top g is_top same growth all_opened e ordered =
+    → length g.expansion.instances.items ≤ g.opened → IsWhole unit top g.expansion
+whole unit top g is_top same growth all_opened =
     let all : g.opened ≡ length g.expansion.instances.items = omega (arith, all_opened, growth.within) in
-    let is : e ≡ renumbered g e = λ i. record { directory = ordered.same_directory i; instances = ordered.same_instances i; numbers = e.numbers } in
-    subst (IsWhole unit top) (sym is)
     record {
-      kept = whole-kept (instance_in top) g growth is_top.depth (subst (λ tree. component_named tree top.component.now.name ≡ Some (component_of top.component.now)) (sym same) is_top.named) is_top.composite all e ordered;
+      kept = whole-kept (instance_in top) g growth is_top.depth (subst (λ tree. component_named tree top.component.now.name ≡ Some (component_of top.component.now)) (sym same) is_top.named) is_top.composite all;
       same_tree = same;
       is_of = whole-of (instance_in top) g growth all;
       clear = subst (λ tree. IsClear tree (instance_in top)) same (whole-clear (instance_in top) g growth all);

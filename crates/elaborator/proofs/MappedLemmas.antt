@@ -13,7 +13,7 @@ use Rattle.indexmap.specs.IndexMap.{insert_entry}
 use Rattle.indexmap.proofs.MapLemmas.{insert_entry-absent, absent_from_lookup}
 use Rattle.elaborator.specs.Paths.{Path}
 use Rattle.elaborator.specs.Expansion.{number_at}
-use Rattle.elaborator.specs.Growth.{IsMapped, IsExtended, IsInPathOrder, IsClash}
+use Rattle.elaborator.specs.Growth.{IsMapped, IsExtended, IsClash}
 use Rattle.elaborator.specs.declared.instance.Instance as code
 use Rattle.elaborator.specs.declared.instance.Expansion.{Expansion}
 use Rattle.base.proofs.BytesLaws.{lookup-append}
@@ -139,21 +139,6 @@ clash-add e x key n mapped is_key found =
       one_path = w.2 ∙ is_key;
       other_path = refl;
     }
-
--- ---- in the order of the paths
-
--- what is found by a path stays what is found by it
-pub found-in_order : (old new : Expansion) → IsInPathOrder old new → (path : Path) (n : ℕ) → number_at old path ≡ Some n → number_at new path ≡ Some n
-found-in_order old new ordered path n is =
-    let at = place_from_lookup (at_path path) old.numbers.entries n is in
-    let same : path ≡ at.1.items = (bytes_eq-Decides path at.1.items).0 at.3 in
-    subst (λ p. number_at new p ≡ Some n) (sym same) (ordered.reordered.2 at.1 ∙ subst (λ p. number_at old p ≡ Some n) same is)
-
-pub found-before_order : (old new : Expansion) → IsInPathOrder old new → (path : Path) (n : ℕ) → number_at new path ≡ Some n → number_at old path ≡ Some n
-found-before_order old new ordered path n is =
-    let at = place_from_lookup (at_path path) new.numbers.entries n is in
-    let same : path ≡ at.1.items = (bytes_eq-Decides path at.1.items).0 at.3 in
-    subst (λ p. number_at old p ≡ Some n) (sym same) (sym (ordered.reordered.2 at.1) ∙ subst (λ p. number_at new p ≡ Some n) same is)
 
 -- ---- one instance after another
 

@@ -5,7 +5,6 @@ use Rattle.std.specs.Option.{option_map}
 use Rattle.std.specs.Ordering.{nat_cmp}
 use Rattle.std.specs.Cmp.Lexicographic.{slice_cmp}
 use Rattle.std.specs.declared.cmp.Ordering.TheVariants.{Less}
-use Rattle.std.proofs.lemmas.Bool.{false≢true}
 use Rattle.std.proofs.lemmas.Bool.Decides.{eqb_tells}
 use Rattle.std.proofs.lemmas.List.{length_push, length-set}
 use Rattle.std.proofs.lemmas.List.Quantifiers.{all_pairs_push}
@@ -17,7 +16,7 @@ use Rattle.config_graph.specs.Graph.{PathsRise}
 use Rattle.darwin_types.specs.Scope.{is_primitive}
 use Rattle.elaborator.specs.Instances.{Instance}
 use Rattle.elaborator.specs.Graph.{node_of, natural}
-use Rattle.elaborator.specs.Numbering.{Expanded, Numbered, IsExpanded}
+use Rattle.elaborator.specs.Numbering.{Expanded, Numbered}
 use Rattle.elaborator.specs.NodeOrder.{IsInOrder, AreNodes, AreFirstNodes}
 use Rattle.elaborator.specs.declared.nodes.Nodes.{Nodes}
 use Rattle.elaborator.proofs.IndexLemmas.{same_numbered}
@@ -141,21 +140,15 @@ first_nodes-push e order old new first m i node in_order so_far at numbered is_n
 
 -- the end
 pub nodes-all :
-    (e : Expanded) → IsExpanded e → (order : List ℕ) (n : Nodes) (first : ℕ) → IsInOrder e order → length order ≤ first → first ≤ length order → AreFirstNodes e order first n → AreNodes e n
-nodes-all e expanded order n first in_order all no_more so_far = record {
+    (e : Expanded) (order : List ℕ) (n : Nodes) (first : ℕ) → IsInOrder e order → length order ≤ first → first ≤ length order → AreFirstNodes e order first n → AreNodes e n
+nodes-all e order n first in_order all no_more so_far = record {
   paths_rise = so_far.paths_rise;
   node_at = so_far.node_at;
-  place_at = λ k i node numbered is_node. by_maker numbered.maker k i node numbered.is_at is_node;
+  place_at = λ k i node numbered is_node.
+      let w = in_order.all k i numbered (node_parts i node is_node).primitive in
+      so_far.place_at w.0 k i node (omega (arith, all, slice_get_within order w.0 k w.1)) w.1 numbered is_node;
   placed = so_far.placed;
   all_placed = so_far.all_placed;
   same_length = so_far.same_length;
   few = omega (arith, so_far.few, in_order.few, no_more);
 }
-  where
-    by_maker :
-        (maker : Option ℕ) (k : ℕ) (i : Instance) (node : Node) → slice_get e.made k ≡ Some (record { instance = i; maker = maker }) → node_of i ≡ Some node
-        → (a : ℕ) × (slice_get n.nodes.items a ≡ Some node) × (slice_get n.places.items k ≡ Some (Some a))
-    by_maker None k i node at is_node = absurd (false≢true (sym (expanded.composite_top k i at) ∙ (node_parts i node is_node).primitive))
-    by_maker (Some m) k i node at is_node =
-        let w = in_order.all m k i at in
-        so_far.place_at w.0 k i node (omega (arith, all, slice_get_within order w.0 k w.1)) w.1 (record { maker = Some m; is_at = at }) is_node

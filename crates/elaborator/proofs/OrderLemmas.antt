@@ -1,125 +1,169 @@
--- The instances in the order of their paths, from the map that has them by path, once it is sorted.
-use Rattle.std.proofs.Common.{◌≡◌, ◌∙◌, ℕ, zero, suc, ◌+◌, ◌<◌, Bool, List, [], ◌∷◌, Some, Result, Ok, Err, length, get_or, refl, ap, sym, subst, arith}
-use Rattle.std.specs.List.{slice_get}
+-- The numbers of the nodes in the order of their paths: the nodes are listed by number, and the list is sorted.
+use Rattle.std.proofs.Common.{◌≡◌, ◌∙◌, ℕ, ◌+◌, ◌<◌, ◌≤◌, Bool, true, false, eqb, List, [], ◌∷◌, ◌++◌, Option, Some, None, Result, Ok, Err, length, map, get_or, refl, ap, sym, subst, ⊎_elim, inl, inr, arith}
+use Rattle.std.specs.Global.{Vec}
 use Rattle.std.specs.Result.{IfOk}
-use Rattle.std.specs.Option.{option_map, IsSome}
-use Rattle.std.specs.Cmp.{IsTotalOrder, IsEquivalence, eq_by_cmp_equiv}
+use Rattle.std.specs.List.{Contains, AllPairs, IsDistinct, slice_get}
+use Rattle.std.specs.List.Sorted.{IsPermutation, IsSortedBy}
+use Rattle.std.specs.Ordering.{nat_cmp, is_lt, ordering_reverse}
 use Rattle.std.specs.Cmp.Lexicographic.{slice_cmp, nat_list_cmp_total}
-use Rattle.std.specs.Ordering.{nat_cmp, is_eq, is_lt, eq_by_cmp, ordering_reverse}
 use Rattle.std.specs.declared.cmp.Ordering.{Ordering}
 use Rattle.std.specs.declared.cmp.Ordering.TheVariants.{Less, Equal, Greater}
-use Rattle.std.specs.List.{IsDistinct}
-use Rattle.std.specs.List.Sorted.{IsSorted, IsStrictlySortedBy}
-use Rattle.std.specs.Str.{bytes_eq}
-use Rattle.indexmap.specs.IndexMap.{values, keys}
-use Rattle.std.specs.Global.{Vec}
-use Rattle.std.proofs.lemmas.Cmp.{on_total}
-use Rattle.std.proofs.lemmas.List.{length-map}
-use Rattle.std.proofs.lemmas.Option.{slice_get-map, slice_get_within, get_or_from_slice_get}
-use Rattle.std.proofs.lemmas.Bool.{true≢false}
-use Rattle.std.proofs.lemmas.Map.Keys.{Less-from_sorted, IsDistinct-from_sorted, apart_from_distinct, sorted_from_all_adjacent}
-use Rattle.std.proofs.lemmas.Map.Text.{is_eq-slice_cmp}
-use Rattle.std.proofs.lemmas.Map.Entries.{hash_map_get_place, place_from_lookup}
+use Rattle.std.proofs.lemmas.Bool.{both_ways, cases_eq, false≢true, ne_eqb, eq-eqb, eqb-false}
+use Rattle.std.proofs.lemmas.Bool.Decides.{eqb_tells}
+use Rattle.std.proofs.lemmas.List.{length-map, length_push}
+use Rattle.std.proofs.lemmas.List.Quantifiers.{all_pairs_push}
+use Rattle.std.proofs.lemmas.List.Elements.{Contains-append_left, Contains-append_right, Contains-append_cases}
+use Rattle.std.proofs.lemmas.List.Sorted.{ranks_by, sorted_far, Contains-permutation, IsPermutation-sym, length_permutation}
+use Rattle.std.proofs.lemmas.Map.Keys.{IsDistinct-from_apart, apart_from_distinct, IsDistinct-IsPermutation}
+use Rattle.std.proofs.lemmas.Option.{slice_get-get_or, slice_get-map, slice_get_within, get_or_from_slice_get}
+use Rattle.darwin_types.specs.Scope.{is_primitive}
 use Rattle.elaborator.specs.Instances.{Instance}
-use Rattle.elaborator.specs.Numbering.{NumberedInstance, Numbered}
-use Rattle.elaborator.specs.Expansion.{expanded_of, made_of, number_at, IsNumbering}
-use Rattle.elaborator.specs.NodeOrder.{IsInOrder}
-use Rattle.elaborator.specs.declared.instance.Instance as code_instance
-use Rattle.elaborator.specs.declared.instance.Expansion.{Expansion}
-use Rattle.elaborator.proofs.ChildLaws.{numbered}
-use Rattle.elaborator.proofs.PortLemmas.{same_instance}
+use Rattle.elaborator.specs.Numbering.{Expanded, Numbered, IsExpanded}
+use Rattle.elaborator.specs.NodeOrder.{AreListed, IsInOrder}
+use Rattle.elaborator.specs.declared.nodes.Listed.{Listed}
+use Rattle.elaborator.proofs.IndexLemmas.{same_numbered}
+use Rattle.base.proofs.BytesLaws.{equal_bytes}
+use Rattle.base.proofs.ContainsLaws.{Contains-at, Contains-here, Contains-nil, Contains-one, at_some_place}
 use Rattle.base.proofs.OptionLaws.{option_map_some}
+use Rattle.base.proofs.PlaceLaws.{slice_get-map_at}
 
-abbrev pub path_cmp : Vec ℕ → Vec ℕ → Ordering
-path_cmp p q = slice_cmp nat_cmp p.items q.items
+-- ---- the list
 
-path_cmp_total : IsTotalOrder path_cmp
-path_cmp_total = on_total (λ (p : Vec ℕ). p.items) nat_list_cmp_total
-
-abbrev pub same_path : Vec ℕ → Vec ℕ → Bool
-same_path p q = bytes_eq p.items q.items
-
--- two paths are compared as equal exactly where they are the same
-same_by_cmp : eq_by_cmp path_cmp ≡ same_path
-same_by_cmp = λ i p q. is_eq-slice_cmp p.items q.items i
-
-same_path_equiv : IsEquivalence same_path
-same_path_equiv = subst IsEquivalence same_by_cmp (eq_by_cmp_equiv path_cmp_total)
-
--- keys that don't fall, and differ, rise
-some_rising : (first : Vec ℕ) (ks : List (Vec ℕ)) → IsSorted path_cmp (first ∷ ks) → IsDistinct same_path (first ∷ ks) → IsStrictlySortedBy path_cmp (first ∷ ks)
-some_rising first ks sorted distinct = sorted_from_all_adjacent path_cmp_total (first ∷ ks) first (λ k below. next k below (path_cmp (at k) (at (k + 1))) refl)
-  where
-    at : ℕ → Vec ℕ
-    at k = get_or (first ∷ ks) k first
-
-    next : (k : ℕ) → k + 1 < length (first ∷ ks) → (o : Ordering) → path_cmp (at k) (at (k + 1)) ≡ o → o ≡ Less
-    next k below Less is = refl
-    next k below Equal is =
-        let apart = apart_from_distinct same_path (first ∷ ks) k (k + 1) first distinct (omega arith) below in
-        absurd (true≢false (sym (ap is_eq is) ∙ is_eq-slice_cmp (at k).items (at (k + 1)).items ∙ apart))
-    next k below Greater is =
-        let back : path_cmp (at (k + 1)) (at k) ≡ Less = path_cmp_total.antisymm (at (k + 1)) (at k) ∙ ap ordering_reverse is in
-        absurd (true≢false (sym (ap is_lt back) ∙ sorted k first (omega arith) below))
-
-pub rising : (ks : List (Vec ℕ)) → IsSorted path_cmp ks → IsDistinct same_path ks → IsStrictlySortedBy path_cmp ks
-unfolding IsStrictlySortedBy
-rising [] sorted distinct = tt
-rising (first ∷ ks) sorted distinct = some_rising first ks sorted distinct
-
--- an entry of the map: its number is that of an instance with this path
-pub record Entry (e : Expansion) (a m : ℕ) : Type 0 where
-  pub key : Vec ℕ
-  pub instance : code_instance.Instance
-  pub is_at : slice_get e.numbers.entries a ≡ Some (key, m)
-  pub stands : slice_get e.instances.items m ≡ Some instance
-  pub path : instance.path ≡ key.items
-
-stands_at : (e : Expansion) (m : ℕ) → m < length e.instances.items → (x : code_instance.Instance) × (slice_get e.instances.items m ≡ Some x)
-stands_at e m within = at e.instances.items m within
-  where
-    at : (xs : List code_instance.Instance) (m : ℕ) → m < length xs → (x : code_instance.Instance) × (slice_get xs m ≡ Some x)
-    at [] m within = absurd (omega arith)
-    at (x ∷ xs) zero within = (x, refl)
-    at (x ∷ xs) (suc m) within = at xs m (omega arith)
-
-entry : (e : Expansion) → IsNumbering e → (a m : ℕ) → slice_get (values e.numbers) a ≡ Some m → Entry e a m
-entry e kept a m at =
-    let distinct : IsDistinct same_path (keys e.numbers) = subst (λ same. IsDistinct same (keys e.numbers)) same_by_cmp (IsDistinct-from_sorted path_cmp (keys e.numbers) kept.in_order) in
-    let from = option_map_some (λ (p : Vec ℕ × ℕ). p.1) (slice_get e.numbers.entries a) m (sym (slice_get-map (λ (p : Vec ℕ × ℕ). p.1) e.numbers.entries a) ∙ at) in
-    let key = from.0.0 in
-    let is_at : slice_get e.numbers.entries a ≡ Some (key, m) = from.1 ∙ ap (λ n. Some (key, n)) from.2 in
-    let found : number_at e key.items ≡ Some m = hash_map_get_place same_path_equiv e.numbers a key m distinct is_at in
-    let x = stands_at e m (kept.within m key.items found) in
-    record { key = key; instance = x.0; is_at = is_at; stands = x.1; path = kept.told m key.items x.0 found x.1 }
-
--- the path of the instance of an entry
-path_at : (e : Expansion) (a m : ℕ) (i : Instance) (w : Entry e a m) → Numbered (expanded_of e) m i → i.path ≡ w.key.items
-path_at e a m i w at = ap (λ (j : Instance). j.path) (same_instance e m w.instance i (numbered e m w.instance w.stands) at) ∙ w.path
-
-pub in_order : (e : Expansion) → IsNumbering e → IsInOrder (expanded_of e) (values e.numbers)
-in_order e kept = record {
-  rising = λ a b m n i j below at_a at_b at_i at_j.
-      let v = entry e kept a m at_a in
-      let w = entry e kept b n at_b in
-      let key_a : slice_get (keys e.numbers) a ≡ Some v.key = slice_get-map (λ (p : Vec ℕ × ℕ). p.0) e.numbers.entries a ∙ ap (option_map (λ (p : Vec ℕ × ℕ). p.0)) v.is_at in
-      let key_b : slice_get (keys e.numbers) b ≡ Some w.key = slice_get-map (λ (p : Vec ℕ × ℕ). p.0) e.numbers.entries b ∙ ap (option_map (λ (p : Vec ℕ × ℕ). p.0)) w.is_at in
-      let rises = Less-from_sorted path_cmp (keys e.numbers) a b v.key kept.in_order below (slice_get_within (keys e.numbers) b w.key key_b) in
-      let keys_rise : path_cmp v.key w.key ≡ Less = subst (λ k. path_cmp k w.key ≡ Less) (get_or_from_slice_get (keys e.numbers) a v.key v.key key_a) (subst (λ k. path_cmp (get_or (keys e.numbers) a v.key) k ≡ Less) (get_or_from_slice_get (keys e.numbers) b w.key v.key key_b) rises) in
-      subst (λ p. slice_cmp nat_cmp p j.path ≡ Less) (sym (path_at e a m i v at_i)) (subst (λ p. slice_cmp nat_cmp v.key.items p ≡ Less) (sym (path_at e b n j w at_j)) keys_rise);
-  within = λ a m at.
-      let w = entry e kept a m at in
-      omega (arith, slice_get_within e.instances.items m w.instance w.stands, length-map e.instances.items made_of);
-  all = λ k m i at.
-      let from = option_map_some made_of (slice_get e.instances.items m) _ (sym (slice_get-map made_of e.instances.items m) ∙ at) in
-      let maker : from.0.maker ≡ Some k = ap (λ (y : NumberedInstance). y.maker) from.2 in
-      let found = kept.found m from.0 from.1 (subst IsSome (sym maker) refl) in
-      let place = place_from_lookup (λ p. bytes_eq from.0.path p.items) e.numbers.entries m found in
-      (place.0, slice_get-map (λ (p : Vec ℕ × ℕ). p.1) e.numbers.entries place.0 ∙ ap (option_map (λ (p : Vec ℕ × ℕ). p.1)) place.2);
-  few = omega (arith, kept.few, kept.counted, length-map e.numbers.entries (λ (p : Vec ℕ × ℕ). p.1));
+pub listed-none : (e : Expanded) → AreListed e 0 []
+listed-none e = record {
+  stands = λ x has. absurd (Contains-nil x has);
+  all = λ m i below numbered is. absurd (omega (arith, below));
+  rising = λ i j d low high. absurd (omega (arith, high));
+  few = omega arith;
 }
 
--- the values that a call gives
-pub ordered_values : {E : Type 0} (e : Expansion) → IsNumbering e → (r : Result (Vec ℕ) E) → IfOk r (λ all. all.items ≡ values e.numbers) → IfOk r (λ order. IsInOrder (expanded_of e) order.items)
-ordered_values e kept (Ok all) is = subst (IsInOrder (expanded_of e)) (sym is) (in_order e kept)
-ordered_values e kept (Err x) is = tt
+-- an instance that is no node
+pub listed-skip :
+    (e : Expanded) (count : ℕ) (nodes : List Listed) (i : Instance) → AreListed e count nodes → Numbered e count i → is_primitive i.component ≡ false
+    → AreListed e (count + 1) nodes
+listed-skip e count nodes i so_far numbered none = record {
+  stands = λ x has. let w = so_far.stands x has in (w.0, omega (arith, w.1), w.2, w.3, w.4);
+  all = λ m j below is primitive. ⊎_elim
+      (λ (same : m ≡ count).
+      let one = same_numbered e count j i (subst (λ n. Numbered e n j) same is) numbered in
+      absurd (false≢true (sym none ∙ ap (λ (x : Instance). is_primitive x.component) (sym one) ∙ primitive)))
+      (λ (other : m ≡ count → ⊥). so_far.all m j (before m count below other) is primitive)
+      (cases_eq m count);
+  rising = so_far.rising;
+  few = omega (arith, so_far.few);
+}
+  where
+    before : (m n : ℕ) → m < n + 1 → (m ≡ n → ⊥) → m < n
+    before m n below other = grind (arith, below, other)
+
+-- it is a node among the first so many instances, with its path
+abbrev IsNodeAmong : Expanded → ℕ → Listed → Type 0
+IsNodeAmong e count x =
+    (i : Instance) × (x.number < count) × Numbered e x.number i × (is_primitive i.component ≡ true) × (i.path ≡ x.path.now)
+
+-- an instance that is a node
+pub listed-push :
+    (e : Expanded) (count : ℕ) (old new : List Listed) (x : Listed) (i : Instance) → AreListed e count old → Numbered e count i → is_primitive i.component ≡ true
+    → x.number ≡ count → i.path ≡ x.path.now → new ≡ old ++ x ∷ [] → AreListed e (count + 1) new
+listed-push e count old new x i so_far numbered primitive number path pushed = subst (AreListed e (count + 1)) (sym pushed) (record {
+  stands = λ y has. elim (Contains-append_cases old (x ∷ []) y has) [
+    | inl there ↦ let w = so_far.stands y there in (w.0, omega (arith, w.1), w.2, w.3, w.4)
+    | inr last ↦ subst (IsNodeAmong e (count + 1)) (sym (Contains-one x y last)) (i, omega (arith, number), subst (λ n. Numbered e n i) (sym number) numbered, primitive, path)
+  ];
+  all = λ m j below is is_node. ⊎_elim
+      (λ (same : m ≡ count). (x, Contains-append_right old (x ∷ []) x (Contains-here x []), number ∙ sym same))
+      (λ (other : m ≡ count → ⊥). let w = so_far.all m j (before m count below other) is is_node in (w.0, Contains-append_left old (x ∷ []) w.0 w.1, w.2))
+      (cases_eq m count);
+  rising = all_pairs_push (λ (y z : Listed). y.number < z.number) old x so_far.rising (λ k d within.
+      let w = so_far.stands (get_or old k d) (Contains-at old k (get_or old k d) (slice_get-get_or old k d within)) in
+      omega (arith, w.1, number));
+  few = omega (arith, so_far.few, length_push old x);
+})
+  where
+    before : (m n : ℕ) → m < n + 1 → (m ≡ n → ⊥) → m < n
+    before m n below other = grind (arith, below, other)
+
+-- ---- the order
+
+abbrev pub below : Listed → Listed → Bool
+below x y = is_lt (slice_cmp nat_cmp x.path.now y.path.now)
+
+abbrev same_number : Listed → Listed → Bool
+same_number x y = eqb x.number y.number
+
+eqb_flips : (x y : ℕ) → eqb x y ≡ eqb y x
+eqb_flips x y = ⊎_elim
+    (λ (same : x ≡ y). eq-eqb x y same ∙ sym (eq-eqb y x (sym same)))
+    (λ (other : x ≡ y → ⊥). ne_eqb x y other ∙ sym (ne_eqb y x (λ e. other (sym e)))) (cases_eq x y)
+
+-- a path that isn't behind another and differs is before it
+turned : (p q : List ℕ) (o : Ordering) → slice_cmp nat_cmp q p ≡ o → is_lt o ≡ false → (p ≡ q → ⊥) → slice_cmp nat_cmp p q ≡ Less
+turned p q Less is not_less other = absurd (both_ways true not_less refl)
+turned p q Equal is not_less other = absurd (other (sym (equal_bytes q p is)))
+turned p q Greater is not_less other = nat_list_cmp_total.antisymm p q ∙ ap ordering_reverse is
+
+-- the element at a place has the number
+abbrev Found : List Listed → ℕ → ℕ → Type 0
+Found order a m = (x : Listed) × (slice_get order a ≡ Some x) × (x.number ≡ m)
+
+pub in_order :
+    (e : Expanded) → IsExpanded e → length e.made ≤ 65537 → (listed order : List Listed) → AreListed e (length e.made) listed
+    → IsPermutation listed order → IsSortedBy below order → IsInOrder e (map (λ (x : Listed). x.number) order)
+in_order e expanded few listed order are moved sorted = record {
+  rising = λ a b m n i j before at_a at_b at_i at_j.
+      let x = found a m at_a in
+      let y = found b n at_b in
+      let within : b < length order = slice_get_within order b y.0 y.1 in
+      let far : below (get_or order b x.0) (get_or order a x.0) ≡ false = sorted_far below (ranks_by nat_list_cmp_total (λ (z : Listed). z.path.now)) order sorted a b x.0 (omega (arith, before)) within in
+      let here : below y.0 x.0 ≡ false =
+      ap (λ z. below z x.0) (sym (get_or_from_slice_get order b y.0 x.0 y.1)) ∙ ap (λ z. below (get_or order b x.0) z) (sym (get_or_from_slice_get order a x.0 x.0 x.1)) ∙ far in
+      let less = turned x.0.path.now y.0.path.now (slice_cmp nat_cmp y.0.path.now x.0.path.now) refl here (λ same.
+      let one = one_path m n i j at_i at_j (primitive a m i x at_i) (primitive b n j y at_j) (path a m i x at_i ∙ same ∙ sym (path b n j y at_j)) in
+      eqb-false (get_or order a x.0).number (get_or order b x.0).number (apart_from_distinct same_number order a b x.0 distinct before within)
+      (ap (λ (z : Listed). z.number) (get_or_from_slice_get order a x.0 x.0 x.1) ∙ x.2 ∙ one ∙ sym y.2 ∙ ap (λ (z : Listed). z.number) (sym (get_or_from_slice_get order b y.0 x.0 y.1)))) in
+      subst (λ p. slice_cmp nat_cmp p j.path ≡ Less) (sym (path a m i x at_i)) (subst (λ p. slice_cmp nat_cmp x.0.path.now p ≡ Less) (sym (path b n j y at_j)) less);
+  within = λ a m at. let x = found a m at in omega (arith, (stands a m x).1, x.2);
+  all = λ m i numbered is_node.
+      let x = are.all m i (slice_get_within e.made m _ numbered.is_at) numbered is_node in
+      let place = at_some_place order x.0 (Contains-permutation listed order x.0 moved x.1) in
+      (place.0, slice_get-map_at (λ (z : Listed). z.number) order place.0 x.0 place.1 ∙ ap Some x.2);
+  few = omega (arith, few, are.few, length_permutation listed order moved, length-map order (λ (x : Listed). x.number));
+}
+  where
+    found : (a m : ℕ) → slice_get (map (λ (x : Listed). x.number) order) a ≡ Some m → Found order a m
+    found a m at = option_map_some (λ (x : Listed). x.number) (slice_get order a) m (sym (slice_get-map (λ (x : Listed). x.number) order a) ∙ at)
+
+    stands : (a m : ℕ) (x : Found order a m) → IsNodeAmong e (length e.made) x.0
+    stands a m x = are.stands x.0 (Contains-permutation order listed x.0 (IsPermutation-sym listed order moved) (Contains-at order a x.0 x.1))
+
+    same : (a m : ℕ) (i : Instance) (x : Found order a m) → Numbered e m i → (stands a m x).0 ≡ i
+    same a m i x at = same_numbered e m (stands a m x).0 i (subst (λ n. Numbered e n (stands a m x).0) x.2 (stands a m x).2) at
+
+    primitive : (a m : ℕ) (i : Instance) (x : Found order a m) → Numbered e m i → is_primitive i.component ≡ true
+    primitive a m i x at = ap (λ (j : Instance). is_primitive j.component) (sym (same a m i x at)) ∙ (stands a m x).3
+
+    path : (a m : ℕ) (i : Instance) (x : Found order a m) → Numbered e m i → i.path ≡ x.0.path.now
+    path a m i x at = ap (λ (j : Instance). j.path) (sym (same a m i x at)) ∙ (stands a m x).4
+
+    -- a node is made in an instance, so it is told by its path
+    one_path : (m n : ℕ) (i j : Instance) → Numbered e m i → Numbered e n j → is_primitive i.component ≡ true → is_primitive j.component ≡ true → i.path ≡ j.path → m ≡ n
+    one_path m n i j at_i at_j is_i is_j paths = by at_i.maker at_j.maker at_i.is_at at_j.is_at
+      where
+        by : (k l : Option ℕ) → slice_get e.made m ≡ Some (record { instance = i; maker = k }) → slice_get e.made n ≡ Some (record { instance = j; maker = l }) → m ≡ n
+        by None l at at' = absurd (false≢true (sym (expanded.composite_top m i at) ∙ is_i))
+        by (Some k) None at at' = absurd (false≢true (sym (expanded.composite_top n j at') ∙ is_j))
+        by (Some k) (Some l) at at' = expanded.one_path k l m n i j at at' paths
+
+    distinct : IsDistinct same_number order
+    distinct =
+        IsDistinct-IsPermutation same_number (λ x y. eqb_flips x.number y.number) listed order moved
+        (IsDistinct-from_apart same_number listed (λ i j d low high.
+        let rises = are.rising i j d low high in
+        ne_eqb (get_or listed i d).number (get_or listed j d).number (λ one. omega (arith, rises, one))))
+
+-- the numbers that a call gives
+pub numbers_in_order :
+    {E : Type 0} (e : Expanded) (order : List Listed) (r : Result (Vec ℕ) E) → IsInOrder e (map (λ (x : Listed). x.number) order)
+    → IfOk r (λ v. v.items ≡ map (λ (x : Listed). x.number) order) → IfOk r (λ v. IsInOrder e v.items)
+numbers_in_order e order (Ok v) rises is = subst (IsInOrder e) (sym is) rises
+numbers_in_order e order (Err x) rises is = tt

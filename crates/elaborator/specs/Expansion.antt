@@ -1,12 +1,8 @@
 -- What holds of an expansion as the code keeps it.
-use Rattle.std.specs.Prelude.{◌≡◌, ℕ, ℤ, ◌+◌, ◌<◌, ◌≤◌, List, Option, Some, length, map, slice_get, IsSome, bytes_eq}
+use Rattle.std.specs.Prelude.{◌≡◌, ℕ, ℤ, ◌<◌, ◌≤◌, List, Option, Some, length, map, slice_get, IsSome, bytes_eq}
 use Rattle.std.specs.Map.{lookup}
-use Rattle.std.specs.List.Sorted.{IsStrictlySortedBy}
-use Rattle.std.specs.Ordering.{nat_cmp}
-use Rattle.std.specs.Cmp.Lexicographic.{slice_cmp}
 use Rattle.elaborator.specs.Paths.{Path}
 use Rattle.elaborator.specs.Bindings.{bindings_in}
-use Rattle.indexmap.specs.IndexMap.{keys}
 use Rattle.darwin_types.specs.Scope.{is_primitive}
 use Rattle.darwin_parser.specs.declared.tree.Component as code_component
 use Rattle.darwin_parser.specs.Tree.{Tree, PortDecl, component_of, tree_of}
@@ -50,9 +46,6 @@ pub record IsShown (i : Instance) : Type 0 where
 pub record IsNumbering (e : Expansion) : Type 0 where
   pub is_expanded : IsExpanded (expanded_of e)
   pub few : length e.instances.items ≤ 65537
-  -- each but the top has an entry, and the entries stand in the order of their paths
-  pub counted : length e.numbers.entries + 1 ≡ length e.instances.items
-  pub in_order : IsStrictlySortedBy (λ p q. slice_cmp nat_cmp p.items q.items) (keys e.numbers)
   pub primitive : (n : ℕ) (i : Instance) → slice_get e.instances.items n ≡ Some i → i.is_primitive ≡ is_primitive (component_of i.component.now)
   pub bindings : (n : ℕ) (i : Instance) → slice_get e.instances.items n ≡ Some i → map binding_of i.bindings.items ≡ bindings_in (instance_in i)
   pub sizes : (n : ℕ) (i : Instance) → slice_get e.instances.items n ≡ Some i → AreSizes (instance_in i) i.port_sizes.items

@@ -1,10 +1,6 @@
 -- The instances of an expansion as they are made and opened one after another: what holds of those that are there.
-use Rattle.std.specs.Prelude.{◌≡◌, ℕ, suc, ◌+◌, ◌<◌, ◌≤◌, List, [], ◌++◌, map, length, sum_by, Some, None, slice_get, Contains, bytes_eq}
+use Rattle.std.specs.Prelude.{◌≡◌, ℕ, suc, ◌+◌, ◌<◌, ◌≤◌, List, [], ◌++◌, map, length, sum_by, Some, None, slice_get, Contains}
 use Rattle.std.specs.List.{flat_map}
-use Rattle.std.specs.List.Sorted.{IsSorted}
-use Rattle.std.specs.Ordering.{nat_cmp}
-use Rattle.std.specs.Cmp.Lexicographic.{slice_cmp}
-use Rattle.indexmap.specs.IndexMap.{keys, IsReordered, IsUnique}
 use Rattle.darwin_parser.specs.Tree.{Tree, component_of, tree_of}
 use Rattle.darwin_types.specs.Scope.{is_primitive}
 use Rattle.elaborator.specs.Paths.{Path}
@@ -78,14 +74,6 @@ pub record IsExtended (old : Expansion) (made : List code.Instance) (new : Expan
   pub instances : new.instances.items ≡ old.instances.items ++ made
   pub same_unit : new.directory.unit ≡ old.directory.unit
   pub mapped : IsMapped new
-
--- the same instances, with their numbers in the order of their paths
-pub record IsInPathOrder (old new : Expansion) : Type 0 where
-  pub same_directory : new.directory ≡ old.directory
-  pub same_instances : new.instances ≡ old.instances
-  pub reordered : IsReordered (λ p q. bytes_eq p.items q.items) old.numbers new.numbers
-  pub unique : IsUnique (λ p q. bytes_eq p.items q.items) new.numbers
-  pub sorted : IsSorted (λ p q. slice_cmp nat_cmp p.items q.items) (keys new.numbers)
 
 -- two instances, neither of which is the top, have one path; the second is not among the first so many
 pub record IsClash (all : List code.Instance) (old : ℕ) (path : Path) : Type 0 where

@@ -1,5 +1,5 @@
 -- The nodes of a description in the order of their paths.
-use Rattle.std.specs.Prelude.{◌≡◌, ℕ, ◌<◌, ◌≤◌, List, Some, length, slice_get}
+use Rattle.std.specs.Prelude.{◌≡◌, ℕ, ◌<◌, ◌≤◌, true, List, Some, length, slice_get, Contains, AllPairs}
 use Rattle.std.specs.Ordering.{nat_cmp}
 use Rattle.std.specs.Cmp.Lexicographic.{slice_cmp}
 use Rattle.std.specs.declared.cmp.Ordering.TheVariants.{Less}
@@ -7,8 +7,19 @@ use Rattle.config_graph.specs.Graph.{PathsRise}
 use Rattle.config_graph.specs.declared.node.Node.{Node}
 use Rattle.elaborator.specs.Instances.{Instance}
 use Rattle.elaborator.specs.Graph.{node_of}
-use Rattle.elaborator.specs.Numbering.{Expanded, Numbered, NumberedIn}
+use Rattle.elaborator.specs.Numbering.{Expanded, Numbered}
+use Rattle.elaborator.specs.declared.nodes.Listed.{Listed}
+use Rattle.darwin_types.specs.Scope.{is_primitive}
 use Rattle.elaborator.specs.declared.nodes.Nodes.{Nodes}
+
+-- the nodes among the first so many instances, in the order of their numbers
+pub record AreListed (e : Expanded) (count : ℕ) (nodes : List Listed) : Type 0 where
+  pub stands :
+      (x : Listed) → Contains nodes x
+      → (i : Instance) × (x.number < count) × Numbered e x.number i × (is_primitive i.component ≡ true) × (i.path ≡ x.path.now)
+  pub all : (m : ℕ) (i : Instance) → m < count → Numbered e m i → is_primitive i.component ≡ true → (x : Listed) × Contains nodes x × (x.number ≡ m)
+  pub rising : AllPairs (λ (x y : Listed). x.number < y.number) nodes
+  pub few : length nodes ≤ count
 
 pub record AreNodes (e : Expanded) (n : Nodes) : Type 0 where
   pub paths_rise : PathsRise n.nodes.items
@@ -23,7 +34,7 @@ pub record AreNodes (e : Expanded) (n : Nodes) : Type 0 where
       → (node : Node) × (i : Instance) × (slice_get n.nodes.items a ≡ Some node) × Numbered e k i × (node_of i ≡ Some node)
   pub all_placed : length n.places.items ≡ length e.made
   pub same_length : length n.instances.items ≡ length n.nodes.items
-  pub few : length n.nodes.items ≤ 65536
+  pub few : length n.nodes.items ≤ 65537
 
 -- the same of the first instances of an order
 pub record AreFirstNodes (e : Expanded) (order : List ℕ) (first : ℕ) (n : Nodes) : Type 0 where
@@ -45,10 +56,11 @@ pub record AreFirstNodes (e : Expanded) (order : List ℕ) (first : ℕ) (n : No
   pub same_length : length n.instances.items ≡ length n.nodes.items
   pub few : length n.nodes.items ≤ first
 
+-- the numbers of the nodes, in the order of their paths
 pub record IsInOrder (e : Expanded) (order : List ℕ) : Type 0 where
   pub rising :
       (a b m n : ℕ) (i j : Instance) → a < b → slice_get order a ≡ Some m → slice_get order b ≡ Some n → Numbered e m i → Numbered e n j
       → slice_cmp nat_cmp i.path j.path ≡ Less
   pub within : (a m : ℕ) → slice_get order a ≡ Some m → m < length e.made
-  pub all : (k m : ℕ) (i : Instance) → NumberedIn e k m i → (a : ℕ) × (slice_get order a ≡ Some m)
-  pub few : length order ≤ 65536
+  pub all : (m : ℕ) (i : Instance) → Numbered e m i → is_primitive i.component ≡ true → (a : ℕ) × (slice_get order a ≡ Some m)
+  pub few : length order ≤ 65537

@@ -1,6 +1,6 @@
 //! All instances of an elaboration: each is opened in turn, and the instances that it makes are added.
 
-ghost use Rattle.std.specs.Prelude.{◌≡◌, ◌<◌, ◌≤◌, ◌+◌, [], ◌∷◌, ◌++◌, length, slice_get, Some, IfOk, OnOk};
+ghost use Rattle.std.specs.Prelude.{◌≡◌, ◌<◌, ◌≤◌, ◌+◌, [], ◌∷◌, ◌++◌, length, slice_get, Some, IfOk};
 ghost use Rattle.base.specs.Answers.{Answers};
 ghost use Rattle.darwin_parser.specs.Tree.{tree_of};
 ghost use Rattle.elaborator.specs.Paths.{Path};
@@ -8,7 +8,7 @@ ghost use Rattle.elaborator.specs.Instances.{Instance as PureInstance};
 ghost use Rattle.elaborator.specs.Faults.{own_faults};
 ghost use Rattle.elaborator.specs.Expansion.{instance_in};
 ghost use Rattle.elaborator.specs.ExpansionFaults.{IsTop, IsWhole, GrowthFault};
-ghost use Rattle.elaborator.specs.Growth.{IsGrowth, IsMapped, IsExtended, IsInPathOrder, IsClash};
+ghost use Rattle.elaborator.specs.Growth.{IsGrowth, IsMapped, IsExtended, IsClash};
 ghost use Rattle.elaborator.specs.Opening.{IsFound};
 ghost use Rattle.elaborator.specs.declared.instance.Instance as shown;
 ghost use Rattle.elaborator.specs.declared.error.ElabError.TheVariants.{NoMemory, TwoInstances};
@@ -47,7 +47,6 @@ pub(crate) fn expand<'a>(
     while (growth.opened as usize) < growth.expansion.instances.len() {
         growth.open_next(alloc)?;
     }
-    growth.expansion.sort_by_path()?;
     Ok(growth.expansion)
 }
 
@@ -118,13 +117,6 @@ impl<'a> Growth<'a> {
 }
 
 impl<'a> Expansion<'a> {
-    /// Brings the numbers into the order of their paths.
-    fn sort_by_path(&mut self) -> Result<(), AllocError>
-        ensures { OnOk result (IsInPathOrder self.old self.new) }
-    {
-        self.numbers.sort_keys()
-    }
-
     /// Adds instances, in order.
     fn add_all(&mut self, alloc: Global, made: Vec<Instance<'a>>) -> Result<(), ElabError>
         requires mapped { IsMapped self.old }

@@ -46,7 +46,7 @@ impl Instance<'_> {
 pub struct Expansion<'a> {
     pub directory: Directory<'a>,
     pub instances: Vec<Instance<'a>>,
-    /// The number of each instance but the top, by its path; in the order of the paths once all are made.
+    /// The number of each instance but the top, by its path.
     pub numbers: IndexMap<Vec<u8>, u32>,
 }
 

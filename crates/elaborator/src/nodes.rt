@@ -1,17 +1,16 @@
 //! The nodes of an elaboration: its instances of primitive components.
 
-ghost use Rattle.std.specs.Prelude.{◌≡◌, ◌<◌, ◌≤◌, [], ◌∷◌, ◌++◌, length, slice_set, IfOk, OnOk, Some};
-ghost use Rattle.indexmap.specs.IndexMap.{values};
+ghost use Rattle.std.specs.Prelude.{◌≡◌, ◌<◌, ◌≤◌, [], ◌∷◌, ◌++◌, length, map, slice_set, IfOk, OnOk, Some};
 ghost use Rattle.darwin_parser.specs.Tree.{component_of};
 ghost use Rattle.darwin_types.specs.Scope.{is_primitive};
 ghost use Rattle.elaborator.specs.Graph.{node_of, natural};
 ghost use Rattle.elaborator.specs.Numbering.{Numbered};
 ghost use Rattle.elaborator.specs.Expansion.{expanded_of, instance_in, IsNumbering};
-ghost use Rattle.elaborator.specs.NodeOrder.{AreNodes, IsInOrder};
+ghost use Rattle.elaborator.specs.NodeOrder.{AreNodes, AreListed, IsInOrder};
+ghost use Rattle.elaborator.specs.declared.nodes.Listed as shown;
 
 use crate::instance::{Expansion, Instance};
 use config_graph::{Node, kind_of};
-use indexmap::IndexMap;
 use std::alloc::{AllocError, Global};
 
 /// Nodes in the order of their paths, and which instance each of them is.
@@ -22,6 +21,13 @@ pub struct Nodes {
     pub instances: Vec<u32>,
     /// The place of the node that each instance is; a composite one is none.
     pub places: Vec<Option<u32>>,
+}
+
+/// A node by its path, as it is put in order.
+#[derive(Clone, Copy)]
+struct Listed<'e> {
+    path: &'e [u8],
+    number: u32,
 }
 
 /// The nodes of an expansion.
@@ -43,24 +49,44 @@ pub fn nodes_of(alloc: Global, expansion: &Expansion) -> Result<Nodes, AllocErro
     Ok(nodes)
 }
 
-/// The numbers of all instances but the top, in the order of their paths.
+/// The numbers of the nodes, in the order of their paths.
 fn in_path_order(alloc: Global, expansion: &Expansion) -> Result<Vec<u32>, AllocError>
     requires { IsNumbering expansion.now }
     ensures { IfOk result (λ order. IsInOrder (expanded_of expansion.now) order.items) }
 {
-    values_of(alloc, &expansion.numbers)
+    let mut listed = list_nodes(alloc, expansion)?;
+    listed.sort_by(|node, other| node.path.cmp(other.path))?;
+    numbers_of(alloc, listed.as_slice())
 }
 
-fn values_of(alloc: Global, numbers: &IndexMap<Vec<u8>, u32>) -> Result<Vec<u32>, AllocError>
-    ensures { IfOk result (λ all. all.items ≡ values numbers.now) }
+/// The nodes, in the order of their numbers.
+fn list_nodes<'e>(alloc: Global, expansion: &'e Expansion) -> Result<Vec<Listed<'e>>, AllocError>
+    requires { IsNumbering expansion.now }
+    ensures { IfOk result (λ listed. AreListed (expanded_of expansion.now) (length (expanded_of expansion.now).made) listed.items) }
 {
-    numbers.values().copied().collect(alloc)
+    let mut listed = Vec::new(alloc);
+    for number in 0..expansion.len() {
+        let instance = expansion.instance(number);
+        if instance.is_primitive {
+            listed.push(Listed {
+                path: instance.path.as_bytes(),
+                number,
+            })?;
+        }
+    }
+    Ok(listed)
+}
+
+fn numbers_of(alloc: Global, listed: &[Listed]) -> Result<Vec<u32>, AllocError>
+    ensures { IfOk result (λ numbers. numbers.items ≡ map (λ (x : shown.Listed). x.number) listed.now) }
+{
+    listed.iter().map(|node| node.number).collect(alloc)
 }
 
 impl Nodes {
     /// Adds the node that an instance is.
     fn add(&mut self, node: Node, number: u32) -> Result<(), AllocError>
-        requires few { length self.old.nodes.items < 65536 }
+        requires few { length self.old.nodes.items < 65537 }
         requires within { number < length self.old.places.items }
         ensures nodes { OnOk result (self.new.nodes.items ≡ self.old.nodes.items ++ node ∷ []) }
         ensures instances { OnOk result (self.new.instances.items ≡ self.old.instances.items ++ number ∷ []) }

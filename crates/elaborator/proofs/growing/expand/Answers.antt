@@ -19,4 +19,4 @@ pub returns : goal.returns
 returns c =
     let growth = c.loop-growth.invariant.growth in
     whole c.args.directory.unit.now c.args.top c.loop-growth.growth c.requires c.loop-growth.invariant.same_tree growth
-    (omega (arith, c.loop-growth-test.false, c.len.ensures, c.loop-growth.growth.expansion.instances.ok.0)) c.sort_by_path.new.self c.in_ok-sort_by_path.ensures
+    (omega (arith, c.loop-growth-test.false, c.len.ensures, c.loop-growth.growth.expansion.instances.ok.0))

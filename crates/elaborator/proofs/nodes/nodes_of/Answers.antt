@@ -40,4 +40,4 @@ returns c =
     let e = expanded_of c.args.expansion.now in
     let items = c.deref-number-items.result.now in
     let in_order = subst (IsInOrder e) (sym c.deref-number-items.ensures.value) c.in_ok-order.ensures in
-    nodes-all e c.requires.is_expanded items c.loop-number.nodes c.loop-number.number-index in_order c.loop-number-test.false (omega arith) c.loop-number.invariant
+    nodes-all e items c.loop-number.nodes c.loop-number.number-index in_order c.loop-number-test.false (omega arith) c.loop-number.invariant
