@@ -1,4 +1,5 @@
 pub mod TokenLemmas
+pub mod LineEndLemmas
 pub mod LineLemmas
 pub mod NameLemmas
 pub mod EventFileLaws

@@ -7,6 +7,7 @@ mod error;
 mod event_files;
 mod event_lines;
 mod laws;
+mod line_end;
 mod lines;
 mod numbers;
 mod paths;

@@ -8,6 +8,7 @@ ghost use Rattle.change_script.specs.Writing.{from_words, spaced, with_one, with
 ghost use Rattle.change_script.specs.Reports.{HasOneMake, LogsAreMade, Version, args_text, ended, event_text, history_text, last_text, log_head, log_text, made_by, makes, path_in, report_text, second, unfinished_text, with_system, with_two};
 ghost use Rattle.change_script.specs.MadeNodes.{made_of};
 
+use crate::line_end::{LINE_END, put_number};
 use crate::report::{HistoryLine, Last, NodeLog, Report};
 use crate::report_room::text_room;
 use config_graph::{Graph, Kind, NoMemory, Node, graph_text, kind_text};
@@ -390,19 +391,21 @@ fn push_verb(text: &mut Vec<u8>, verb: &[u8]) -> Result<(), NoMemory>
 fn push_one(text: &mut Vec<u8>, verb: &[u8], first: u64) -> Result<(), NoMemory>
     ensures { OnOk result (text.new.items ≡ text.old.items ++ ended (with_one verb.now first)) }
 {
+    let mut line = [b'\n'; LINE_END];
+    let start = put_number(&mut line, LINE_END - 1, first);
     text.extend_from_slice(verb)?;
-    push_number(text, first)?;
-    text.extend_from_slice(b"\n")
+    text.extend_from_slice(&line[start..])
 }
 
 /// A verb and two numbers.
 fn push_two(text: &mut Vec<u8>, verb: &[u8], first: u64, second: u64) -> Result<(), NoMemory>
     ensures { OnOk result (text.new.items ≡ text.old.items ++ ended (with_two verb.now first second)) }
 {
+    let mut line = [b'\n'; LINE_END];
+    let start = put_number(&mut line, LINE_END - 1, second);
+    let start = put_number(&mut line, start, first);
     text.extend_from_slice(verb)?;
-    push_number(text, first)?;
-    push_number(text, second)?;
-    text.extend_from_slice(b"\n")
+    text.extend_from_slice(&line[start..])
 }
 
 /// A verb and three numbers.
@@ -415,18 +418,19 @@ fn push_three(
 ) -> Result<(), NoMemory>
     ensures { OnOk result (text.new.items ≡ text.old.items ++ ended (with_three verb.now first second third)) }
 {
+    let mut line = [b'\n'; LINE_END];
+    let start = put_number(&mut line, LINE_END - 1, u64::from(third));
+    let start = put_number(&mut line, start, u64::from(second));
+    let start = put_number(&mut line, start, u64::from(first));
     text.extend_from_slice(verb)?;
-    push_number(text, u64::from(first))?;
-    push_number(text, u64::from(second))?;
-    push_number(text, u64::from(third))?;
-    text.extend_from_slice(b"\n")
+    text.extend_from_slice(&line[start..])
 }
 
 /// A number behind a space.
 fn push_number(text: &mut Vec<u8>, number: u64) -> Result<(), NoMemory>
     ensures { OnOk result (text.new.items ≡ text.old.items ++ (codes " " ++ decimal number)) }
 {
-    let mut digits = Buffer::new();
-    text.extend_from_slice(b" ")?;
-    text.extend_from_slice(digits.format(number).as_bytes())
+    let mut line = [b'\n'; LINE_END];
+    let start = put_number(&mut line, LINE_END, number);
+    text.extend_from_slice(&line[start..])
 }
