@@ -23,6 +23,7 @@ use quiesce_core::Event;
 
 impl<C: Component + Drop, S: GateSeat + Drop> HostNode<C, S> {
     /// Begins this, which the component wants, where that port is idle and the gate lets it, and posts the hint.
+    #[inline(never)]
     fn begin<G: PortGate<Seat = S>, H: Hints>(
         &mut self,
         gate: &mut G,

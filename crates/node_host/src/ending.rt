@@ -47,11 +47,13 @@ fn hand_in<C: Component>(inner: &mut C, first_port: u32, require: u32, consequen
 }
 
 impl<C: Component + Drop, S: GateSeat + Drop> HostNode<C, S> {
-    /// Ends or replies at the port of one requirement, where a reply stands there.
-    fn reply_at<G: PortGate<Seat = S>>(&mut self, gate: &mut G, require: u32) -> Option<Event>
+    /// Ends or replies at the port of one requirement that isn't idle, where a reply stands there.
+    #[inline(never)]
+    fn reply_at_busy<G: PortGate<Seat = S>>(&mut self, gate: &mut G, require: u32) -> Option<Event>
         requires fits { G.fits gate.old self.old.seat }
         requires node { G.node gate.old self.old.seat ≡ node_of self.old.slot self.old.first_port (C.state self.old.inner) }
         requires require { require < length (row (C.state self.old.inner).kind).requires_ }
+        requires busy { (slice_index_or self.old.known.ports require port_at_start).idle ≡ false }
         requires room { length self.old.log.items < vec_capacity self.old.log }
         ensures fits { G.fits gate.new self.new.seat }
         ensures spare { G.spare gate.new ≡ G.spare gate.old }
@@ -71,9 +73,6 @@ impl<C: Component + Drop, S: GateSeat + Drop> HostNode<C, S> {
     {
         place(gate, &self.seat);
         let known = port_known(&self.known, require);
-        if known.idle {
-            return None;
-        }
         let port = self.first_port + require;
         let serial = known.serial;
         match gate.see(&mut self.seat, port) {
@@ -123,6 +122,35 @@ impl<C: Component + Drop, S: GateSeat + Drop> HostNode<C, S> {
                 })
             }
         }
+    }
+
+    /// Ends or replies at the port of one requirement, where a reply stands there.
+    fn reply_at<G: PortGate<Seat = S>>(&mut self, gate: &mut G, require: u32) -> Option<Event>
+        requires fits { G.fits gate.old self.old.seat }
+        requires node { G.node gate.old self.old.seat ≡ node_of self.old.slot self.old.first_port (C.state self.old.inner) }
+        requires require { require < length (row (C.state self.old.inner).kind).requires_ }
+        requires room { length self.old.log.items < vec_capacity self.old.log }
+        ensures fits { G.fits gate.new self.new.seat }
+        ensures spare { G.spare gate.new ≡ G.spare gate.old }
+        ensures node { G.node gate.new self.new.seat ≡ node_of self.new.slot self.new.first_port (C.state self.new.inner) }
+        ensures others { (other : S) → S.slot_of other ≢ self.old.slot → G.fits gate.old other → G.fits gate.new other × (G.node gate.new other ≡ G.node gate.old other) }
+        ensures moved { Moved (node_of self.old.slot self.old.first_port (C.state self.old.inner)) result (C.state self.old.inner) (C.state self.new.inner) self.old.log.items self.new.log.items (record { slot = S.slot_of self.old.seat; known = S.known self.old.seat; told = S.tells self.old.seat }) (record { slot = S.slot_of self.new.seat; known = S.known self.new.seat; told = S.tells self.new.seat }) (G.state gate.old) (G.state gate.new) }
+        ensures place { (self.new.slot ≡ self.old.slot) × (self.new.first_port ≡ self.old.first_port) }
+        ensures past { self.new.past ≡ self.old.past }
+        ensures waiting { self.new.waiting ≡ self.old.waiting }
+        ensures room { result ≡ None → (self.new.log ≡ self.old.log) × (self.new.inner ≡ self.old.inner) }
+        ensures asks_nothing { is_asking result ≡ false }
+        ensures exact { (s : State) → IsTold (G.state gate.old) (node_of self.old.slot self.old.first_port (C.state self.old.inner)) (S.known self.old.seat) s → result ≡ reply_at s (C.state self.old.inner) (self.old.first_port + require) }
+        ensures known { result ≡ None → self.new.known ≡ self.old.known }
+        ensures replies { is_reply_at (self.old.first_port + require) result ≡ true }
+        ensures loads { TellsLoads (LoadsPort (self.old.first_port + require)) (S.loads self.old.seat) (S.loads self.new.seat) }
+        ensures no_reply { result ≡ None → HasNoReply self.old.first_port self.old.known require (S.loads self.old.seat) (S.loads self.new.seat) }
+    {
+        place(gate, &self.seat);
+        if port_known(&self.known, require).idle {
+            return None;
+        }
+        self.reply_at_busy(gate, require)
     }
 
     /// Ends or replies at the lower of two ports at which a reply stands.

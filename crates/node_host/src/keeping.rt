@@ -9,6 +9,7 @@ use port_gate::{PortGate, note};
 use quiesce_core::{Event, Known};
 
 /// Puts an event at the end of a log that has room for it, and into what is known.
+#[inline(always)]
 pub fn keep(log: &mut Vec<Event>, known: &mut Known, first_port: u32, event: Event)
     requires room { length log.old.items < vec_capacity log.old }
     requires small { first_port < 2 ^ 31 }

@@ -1,6 +1,7 @@
 //! What a table tells of its nodes and ports.
 
 ghost use Rattle.std.specs.Prelude.{◌≡◌, ◌<◌, ℕ, [], Some, None, length, IfSome, option_and_then, slice_index_or};
+ghost use Rattle.gate_word.specs.Words.{FitsWord, unpack};
 ghost use Rattle.quiesce_core.specs.Rules as rules;
 ghost use Rattle.quiesce_core.specs.Runs.{done_by};
 ghost use Rattle.quiesce_core.specs.State as state;
@@ -16,6 +17,7 @@ use crate::held::Held;
 use crate::table::NodeTable;
 use component_trait::Component;
 use config_graph::Made;
+use gate_word::Word;
 use port_queue::{Hints, PlainHints};
 use quiesce_core::Event;
 use state_handover::AnyNode;
@@ -49,6 +51,17 @@ impl NodeTable {
         ensures { result ≡ word_of (machine self.now) port }
     {
         self.gate.core.word(port)
+    }
+
+    /// What that number spells.
+    #[inline(always)]
+    pub fn fields(&self, port: u32) -> Word
+        ensures fields { result ≡ unpack (word_of (machine self.now) port) }
+        ensures fits { FitsWord result }
+    {
+        // it tells that the state is well formed, so that its words spell it
+        let _ = self.gate.core.made();
+        self.gate.fields(port)
     }
 
     /// The slot of the node whose state the one in this slot took over.

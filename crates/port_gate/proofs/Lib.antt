@@ -1,3 +1,4 @@
 mod CoreLemmas
+mod NotingLaws
 pub mod AllowedLaws
 pub mod SeatLaws

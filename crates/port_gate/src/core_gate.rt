@@ -108,7 +108,8 @@ impl CoreGate {
 
     /// The fields of a port's word.
     #[tactic(auto, using(crate::proofs::AllowedLaws::fields_fit))]
-    fn fields(&self, port: u32) -> Word
+    #[inline(always)]
+    pub fn fields(&self, port: u32) -> Word
         ensures fields { result ≡ fields_of self.now.core.state port }
         ensures fits { FitsWord result }
     {
@@ -140,6 +141,7 @@ impl CoreGate {
     }
 
     /// The node at the seat does an event that no rule denies.
+    #[inline(always)]
     #[tactic(auto, using(crate::proofs::AllowedLaws::config_then))]
     fn act(&mut self, seat: &mut CoreSeat, event: &Event)
         requires fits { FitsCore self.old.core.state seat.old.slot seat.old.known }

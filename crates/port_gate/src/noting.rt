@@ -25,9 +25,10 @@ pub fn unknown() -> Known
     }
 }
 
-/// What it knows of the port after one more event.
-fn port_next(number: u32, port: PortKnown, event: &Event) -> PortKnown
-    ensures { result ≡ knowledge.port_known_next number port event.now }
+/// The owner did one more event: what is known of the port then. It changes in place, since a copy costs more than the rest.
+#[inline(always)]
+fn note_port(port: &mut PortKnown, number: u32, event: &Event)
+    ensures { port.new ≡ knowledge.port_known_next number port.old event.now }
 {
     let (idle, consequent, serial) = match event {
         Event::Begin {
@@ -46,18 +47,17 @@ fn port_next(number: u32, port: PortKnown, event: &Event) -> PortKnown
             ..
         } if *at == number => (true, false, *serial),
         Event::Ask { port: at, .. } if *at == number => (port.idle, port.consequent, port.serial),
-        _ => return port,
+        _ => return,
     };
-    PortKnown {
-        idle,
-        serial,
-        consequent,
-        seen: None,
-        more: false,
-    }
+    port.idle = idle;
+    port.serial = serial;
+    port.consequent = consequent;
+    port.seen = None;
+    port.more = false;
 }
 
 /// What it services after one more event.
+#[inline(always)]
 fn service_next(service: Option<Served>, event: &Event) -> Option<Served>
     requires { CanCount service event.now }
     ensures { result ≡ knowledge.served_next service event.now }
@@ -98,17 +98,34 @@ fn service_next(service: Option<Served>, event: &Event) -> Option<Served>
     }
 }
 
-/// The node at whose seat it is, and whose first port this is, did one more event.
+/// What it knows of its ports after one more event.
+#[inline(always)]
+fn note_ports(ports: &mut [PortKnown; 2], first_port: u32, event: &Event)
+    requires small { first_port < 2 ^ 31 }
+    ensures { ports.new ≡ knowledge.ports_known_next first_port ports.old event.now }
+{
+    note_port(&mut ports[0], first_port, event);
+    note_port(&mut ports[1], first_port + 1, event);
+}
+
+/// The node at whose seat it is, and whose first port this is, did one more event. Only a call is told of a port and of the service.
+#[inline(always)]
+#[tactic(auto, using(crate::proofs::NotingLaws::ports_stay))]
 pub fn note(known: &mut Known, first_port: u32, event: &Event)
     requires small { first_port < 2 ^ 31 }
     requires count { CanCount known.old.service event.now }
     ensures { known.new ≡ knowledge.known_next first_port known.old event.now }
 {
-    known.service = service_next(known.service, event);
-    known.ports = [
-        port_next(first_port, known.ports[0], event),
-        port_next(first_port + 1, known.ports[1], event),
-    ];
+    match event {
+        Event::Begin { .. } | Event::Ask { .. } | Event::End { .. } => {
+            note_ports(&mut known.ports, first_port, event);
+        }
+        Event::Call { .. } => {
+            known.service = service_next(known.service, event);
+            note_ports(&mut known.ports, first_port, event);
+        }
+        _ => known.service = service_next(known.service, event),
+    }
 }
 
 /// What it knows of a port once a reply was looked for there.

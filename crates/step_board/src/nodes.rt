@@ -6,6 +6,7 @@ ghost use Rattle.change_board.specs.Collecting.{heir_of};
 ghost use Rattle.change_board.specs.Steps.{HasRoom, Room, less_one};
 ghost use Rattle.component_trait.specs.Moves as moves;
 ghost use Rattle.config_graph.specs.declared.TheConstants.{MAX_NODES};
+ghost use Rattle.gate_word.specs.Words.{FitsWord, unpack};
 ghost use Rattle.quiesce_core.specs.Rules as rules;
 ghost use Rattle.quiesce_core.specs.Rules.{denial};
 ghost use Rattle.quiesce_core.specs.Runs.{done_by};
@@ -21,6 +22,7 @@ ghost use Rattle.turns.specs.Round.{is_done};
 ghost use Rattle.turns.specs.World.{World, state_of, with_event};
 
 use config_graph::{Made, NoMemory, Node};
+use gate_word::Word;
 use quiesce_core::Event;
 use std::alloc::Global;
 
@@ -55,6 +57,12 @@ pub trait Nodes {
     fn word(&self, port: u32) -> u64
         requires { port < length (machine self.now).config.gates }
         ensures { result ≡ word_of (machine self.now) port };
+
+    /// What that number spells.
+    fn fields(&self, port: u32) -> Word
+        requires { port < length (machine self.now).config.gates }
+        ensures fields { result ≡ unpack (word_of (machine self.now) port) }
+        ensures fits { FitsWord result };
 
     /// The slot of the node whose state this one took over.
     fn source(&self, slot: u32) -> Option<u32>

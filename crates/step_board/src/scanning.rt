@@ -95,7 +95,7 @@ fn look_at<N: Nodes>(nodes: &N, port: u32, seen: PortsSeen) -> PortsSeen
     ensures ended { result.ended ≡ seen.ended + ended_in_word (word_of (N.machine nodes.now) port) }
     ensures few { result.ended ≤ (port + 1) * 2 ^ 24 }
 {
-    let word = Word::of(nodes.word(port));
+    let word = nodes.fields(port);
     let idle = !nodes.is_live_port(port) | word.phase.is_idle();
     PortsSeen {
         idle: seen.idle & idle,

@@ -10,6 +10,7 @@ use crate::standing::StepBoard;
 use change_board::Board;
 use component_trait::Component;
 use config_graph::{Made, NoMemory, Node};
+use gate_word::Word;
 use node_host::Turn;
 use node_table::NodeTable;
 use port_queue::{Hints, PlainHints};
@@ -59,6 +60,11 @@ impl Nodes for NodeTable {
 
     fn word(&self, port: u32) -> u64 {
         self.word(port)
+    }
+
+    #[inline(always)]
+    fn fields(&self, port: u32) -> Word {
+        self.fields(port)
     }
 
     fn source(&self, slot: u32) -> Option<u32> {

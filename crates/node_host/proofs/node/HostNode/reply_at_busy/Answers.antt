@@ -10,14 +10,15 @@ use Rattle.node_host.specs.Hosted.{SeatSeen, node_of}
 use Rattle.node_host.specs.Lines.{Member}
 use Rattle.node_host.proofs.Growing.{busy_at, expected_at, hosted_after, moved_after, node_after, seat_two}
 use Rattle.node_host.proofs.Replying.{ask_folds, asked, ended, not_yet}
-use Rattle.node_host.proofs.node.HostNode.reply_at.Goals as goal
+use Rattle.quiesce_core.specs.declared.known.PortKnown.{PortKnown}
+use Rattle.node_host.proofs.node.HostNode.reply_at_busy.Goals as goal
 
 pub hand_in-requires-clause-expected : goal.hand_in-requires-clause-expected
 hand_in-requires-clause-expected g c =
     let h = c.args.self.now in
     expected_at h.slot h.first_port (g.C.Component.state h.inner) h.log.items (map (λ p. record { first = p.first_port; arg = p.arg; log = p.log.items }) h.past.items) h.known h.waiting
     (record { slot = g.S.GateSeat.slot_of h.seat; known = g.S.GateSeat.known h.seat; told = g.S.GateSeat.tells h.seat }) h.hosted
-    c.args.require c.port_known-known.result (omega (arith, c.requires.require, two_requires (g.C.Component.state h.inner).kind)) c.port_known-known.ensures c.if-known.false
+    c.args.require c.port_known-known.result (omega (arith, c.requires.require, two_requires (g.C.Component.state h.inner).kind)) c.port_known-known.ensures (ap (λ (k : PortKnown). k.idle) c.port_known-known.ensures ∙ c.requires.busy)
 
 pub returns-in-NotYet-clause-exact : goal.returns-in-NotYet-clause-exact
 returns-in-NotYet-clause-exact g c = λ s told.
@@ -42,7 +43,7 @@ invariant_of-self-in-Answer-clause-hosted g c =
     (c.see.ensures.node ∙ c.requires.node) (c.in-Answer.ensures.known ∙ ap (λ m. with_seen m (h.first_port + c.args.require) (see.Answer c.in-Answer.value) seat.known) c.requires.node)
     c.see.ensures.events c.see.ensures.state (omega (arith, two, seat_two h.slot h.first_port t h.log.items line h.known h.waiting seat h.hosted))
     c.port_known-known.result c.in-Answer.value (c.port_known-known.ensures ∙ ap (λ w. slice_index_or w.ports c.args.require port_at_start) h.hosted.kept) refl c.end.ensures.does)
-    (busy_at h.slot h.first_port t h.log.items line h.known h.waiting seat h.hosted c.args.require c.port_known-known.result two c.port_known-known.ensures c.if-known.false) (c.hand_in.ensures.folds c.port_known-known.result.serial) c.keep.ensures.logged c.keep.ensures.known
+    (busy_at h.slot h.first_port t h.log.items line h.known h.waiting seat h.hosted c.args.require c.port_known-known.result two c.port_known-known.ensures (ap (λ (k : PortKnown). k.idle) c.port_known-known.ensures ∙ c.requires.busy)) (c.hand_in.ensures.folds c.port_known-known.result.serial) c.keep.ensures.logged c.keep.ensures.known
 
 pub invariant_of-self-in-More-clause-hosted : goal.invariant_of-self-in-More-clause-hosted
 invariant_of-self-in-More-clause-hosted g c =
@@ -61,7 +62,7 @@ invariant_of-self-in-More-clause-hosted g c =
     (c.see.ensures.node ∙ c.requires.node) (c.in-More.ensures.known ∙ ap (λ m. with_seen m (h.first_port + c.args.require) (see.More c.in-More.value) seat.known) c.requires.node)
     c.see.ensures.events c.see.ensures.state (omega (arith, two, seat_two h.slot h.first_port t h.log.items line h.known h.waiting seat h.hosted))
     c.port_known-known.result c.in-More.value c.replies-value.result (c.port_known-known.ensures ∙ ap (λ w. slice_index_or w.ports c.args.require port_at_start) h.hosted.kept) refl c.ask.ensures.does)
-    (tt) (ask_folds h.first_port (h.first_port + c.args.require) c.port_known-known.result.serial c.replies-value.result t c.port_known-known.result.consequent (expected_at h.slot h.first_port t h.log.items line h.known h.waiting seat h.hosted c.args.require c.port_known-known.result two c.port_known-known.ensures c.if-known.false) c.replies-value.ensures.reply) c.keep-in-More.ensures.logged c.keep-in-More.ensures.known
+    (tt) (ask_folds h.first_port (h.first_port + c.args.require) c.port_known-known.result.serial c.replies-value.result t c.port_known-known.result.consequent (expected_at h.slot h.first_port t h.log.items line h.known h.waiting seat h.hosted c.args.require c.port_known-known.result two c.port_known-known.ensures (ap (λ (k : PortKnown). k.idle) c.port_known-known.ensures ∙ c.requires.busy)) c.replies-value.ensures.reply) c.keep-in-More.ensures.logged c.keep-in-More.ensures.known
 
 pub returns-in-Answer-clause-node : goal.returns-in-Answer-clause-node
 returns-in-Answer-clause-node g c =
@@ -80,7 +81,7 @@ returns-in-Answer-clause-node g c =
     (c.see.ensures.node ∙ c.requires.node) (c.in-Answer.ensures.known ∙ ap (λ m. with_seen m (h.first_port + c.args.require) (see.Answer c.in-Answer.value) seat.known) c.requires.node)
     c.see.ensures.events c.see.ensures.state (omega (arith, two, seat_two h.slot h.first_port t h.log.items line h.known h.waiting seat h.hosted))
     c.port_known-known.result c.in-Answer.value (c.port_known-known.ensures ∙ ap (λ w. slice_index_or w.ports c.args.require port_at_start) h.hosted.kept) refl c.end.ensures.does)
-    (busy_at h.slot h.first_port t h.log.items line h.known h.waiting seat h.hosted c.args.require c.port_known-known.result two c.port_known-known.ensures c.if-known.false) (c.hand_in.ensures.folds c.port_known-known.result.serial) c.keep.ensures.logged c.keep.ensures.known
+    (busy_at h.slot h.first_port t h.log.items line h.known h.waiting seat h.hosted c.args.require c.port_known-known.result two c.port_known-known.ensures (ap (λ (k : PortKnown). k.idle) c.port_known-known.ensures ∙ c.requires.busy)) (c.hand_in.ensures.folds c.port_known-known.result.serial) c.keep.ensures.logged c.keep.ensures.known
 
 pub returns-in-Answer-clause-moved : goal.returns-in-Answer-clause-moved
 returns-in-Answer-clause-moved g c =
@@ -99,7 +100,7 @@ returns-in-Answer-clause-moved g c =
     (c.see.ensures.node ∙ c.requires.node) (c.in-Answer.ensures.known ∙ ap (λ m. with_seen m (h.first_port + c.args.require) (see.Answer c.in-Answer.value) seat.known) c.requires.node)
     c.see.ensures.events c.see.ensures.state (omega (arith, two, seat_two h.slot h.first_port t h.log.items line h.known h.waiting seat h.hosted))
     c.port_known-known.result c.in-Answer.value (c.port_known-known.ensures ∙ ap (λ w. slice_index_or w.ports c.args.require port_at_start) h.hosted.kept) refl c.end.ensures.does)
-    (busy_at h.slot h.first_port t h.log.items line h.known h.waiting seat h.hosted c.args.require c.port_known-known.result two c.port_known-known.ensures c.if-known.false) (c.hand_in.ensures.folds c.port_known-known.result.serial) c.keep.ensures.logged c.keep.ensures.known
+    (busy_at h.slot h.first_port t h.log.items line h.known h.waiting seat h.hosted c.args.require c.port_known-known.result two c.port_known-known.ensures (ap (λ (k : PortKnown). k.idle) c.port_known-known.ensures ∙ c.requires.busy)) (c.hand_in.ensures.folds c.port_known-known.result.serial) c.keep.ensures.logged c.keep.ensures.known
 
 pub returns-in-More-clause-moved : goal.returns-in-More-clause-moved
 returns-in-More-clause-moved g c =
@@ -118,4 +119,4 @@ returns-in-More-clause-moved g c =
     (c.see.ensures.node ∙ c.requires.node) (c.in-More.ensures.known ∙ ap (λ m. with_seen m (h.first_port + c.args.require) (see.More c.in-More.value) seat.known) c.requires.node)
     c.see.ensures.events c.see.ensures.state (omega (arith, two, seat_two h.slot h.first_port t h.log.items line h.known h.waiting seat h.hosted))
     c.port_known-known.result c.in-More.value c.replies-value.result (c.port_known-known.ensures ∙ ap (λ w. slice_index_or w.ports c.args.require port_at_start) h.hosted.kept) refl c.ask.ensures.does)
-    (tt) (ask_folds h.first_port (h.first_port + c.args.require) c.port_known-known.result.serial c.replies-value.result t c.port_known-known.result.consequent (expected_at h.slot h.first_port t h.log.items line h.known h.waiting seat h.hosted c.args.require c.port_known-known.result two c.port_known-known.ensures c.if-known.false) c.replies-value.ensures.reply) c.keep-in-More.ensures.logged c.keep-in-More.ensures.known
+    (tt) (ask_folds h.first_port (h.first_port + c.args.require) c.port_known-known.result.serial c.replies-value.result t c.port_known-known.result.consequent (expected_at h.slot h.first_port t h.log.items line h.known h.waiting seat h.hosted c.args.require c.port_known-known.result two c.port_known-known.ensures (ap (λ (k : PortKnown). k.idle) c.port_known-known.ensures ∙ c.requires.busy)) c.replies-value.ensures.reply) c.keep-in-More.ensures.logged c.keep-in-More.ensures.known
