@@ -15,9 +15,10 @@ use Rattle.change_plan.specs.declared.plan_data.Plan.{Plan}
 use Rattle.change_script.specs.declared.report.HistoryLine.{HistoryLine}
 use Rattle.change_script.specs.declared.report.HistoryLine.TheVariants as to
 use Rattle.change_law.specs.Members.{lines_of_events}
-use Rattle.commit_laws.specs.Lists.{In}
+use Rattle.commit_laws.specs.Commits.{Differ}
+use Rattle.commit_laws.specs.Lists.{Apart, In}
 use Rattle.commit_laws.specs.Steps.{change_all}
-use Rattle.commit_laws.proofs.MemberLaws.{select}
+use Rattle.commit_laws.proofs.MemberLaws.{select, select_apart}
 use Rattle.commit_laws.proofs.TurningLaws.{SameLinks, live_port, same_graph, same_turned}
 use Rattle.config_graph.specs.Graph.{Graph}
 use Rattle.config_graph.specs.declared.node.Port.{Port}
@@ -37,26 +38,31 @@ use Rattle.change_board.specs.Steps.{AreWithin, Deed, MayDoAll, Room}
 use Rattle.change_board.specs.Transcripts.{Item, entries, lines, said}
 use Rattle.change_board.proofs.StepLaws.{config_more}
 use Rattle.change_engine.specs.Carrying.{CarriesOut, deed_items}
-use Rattle.change_engine.specs.Calls.{HasAbandoned, HasCommitted, HasLeft, HasPassivated}
-use Rattle.change_engine.specs.Draining.{Waits, WherePending, pending_items, pending_lines}
+use Rattle.change_engine.specs.Breaking.{BrokeInRound, IsClosedStill}
+use Rattle.change_engine.specs.Calls.{HasAbandoned, HasBrokenOff, HasCommitted, HasLeft, HasPassivated}
+use Rattle.change_engine.specs.Draining.{Waits, WhereNoMemory, WherePending, pending_items, pending_lines}
 use Rattle.change_engine.specs.declared.draining.PassError.{PassError}
 use Rattle.change_engine.specs.declared.draining.PassError.TheVariants.{NoMemory, Pending}
-use Rattle.change_engine.specs.Engines.{IsFor, IsOpen, IsTold, MayCommit, Tells}
+use Rattle.change_engine.specs.Engines.{HasPlace, IsFor, IsOpen, IsPrepared, IsTold, MayCommit, Tells}
 use Rattle.change_engine.specs.Growing.{Grew}
 use Rattle.change_engine.specs.Layouts.{IsLayoutOf, place_in, port_of}
-use Rattle.change_engine.specs.Passivating.{AreLivePorts, Passivated, Passivation, left_after, passivation_items}
+use Rattle.change_engine.specs.Leaving.{IsRootLeft}
+use Rattle.change_engine.specs.Passivating.{AreLivePorts, Passivated, Passivation, last_look, left_after, passivation_items}
 use Rattle.change_engine.specs.Planning.{MayCarryOut}
 use Rattle.change_engine.specs.declared.engine.Change.{Change}
 use Rattle.change_engine.specs.declared.engine.Engine.{Engine}
 use Rattle.change_engine.specs.declared.layout.Layout.{Layout}
 use Rattle.change_engine.specs.declared.passivating.LeftRoot.{LeftRoot}
+use Rattle.change_engine.specs.declared.passivating.Waiting.{Waiting}
 use Rattle.change_engine.proofs.CarryingLemmas.{carried_entries}
 use Rattle.change_engine.proofs.EngineLemmas.{record_sound, said_alone}
 use Rattle.change_engine.proofs.Growing.{entries_both, grew_both, lines_both}
+use Rattle.change_engine.proofs.LeavingLemmas.{root_left}
 use Rattle.change_engine.proofs.Noting.{passivated_noted}
 use Rattle.change_engine.proofs.Passing.{closed_links, config_over, live_same, same_here}
 use Rattle.change_engine.proofs.Quieting.{passivation_events}
 use Rattle.change_engine.proofs.StartLemmas.{deeds_events}
+use Rattle.change_engine.proofs.StayingLemmas.{stays_closed}
 
 -- Ports of frozen nodes are live.
 stands_live : (g : Graph) (i : ℕ) (c : Configuration) (n : ℕ) → stands_in g i c n ≡ true → is_live c n ≡ true
@@ -154,6 +160,9 @@ module _ {B : Type 0} (S : B → List Entry → Type 0) (R : B → Room) (runs :
   pub closed_are : (t : List Item) (moves : List Move) (plan : Plan) (new : Graph) (change : Change) (h : IsOpen S R e t moves plan new) → e.change ≡ Some change
       → change.closed.items ≡ ports_to_close e.graph plan (config_of (entries t))
   closed_are t moves plan new change h open_ = (is_for t moves plan new change h open_).closed (config_of (entries t)) (told t h.tells)
+
+  pub open_place : (t : List Item) (moves : List Move) (plan : Plan) (new : Graph) (change : Change) (h : IsPrepared S R e t moves plan new) → e.change ≡ Some change → HasPlace e.history change
+  open_place t moves plan new change h open_ = subst (HasPlace e.history) (one_change t moves plan new change h.is_open open_) h.place
 
   pub all_live : (t : List Item) (moves : List Move) (plan : Plan) (new : Graph) (change : Change) (h : IsOpen S R e t moves plan new) → e.change ≡ Some change
       → AreLivePorts (config_of (entries t)) change.closed.items
@@ -256,10 +265,27 @@ module _ {B : Type 0} (S : B → List Entry → Type 0) (R : B → Room) (runs :
       subst (SameLinks c) (sym (ap config_of (entries_both t items) ∙ config_over (entries t) (entries items) ∙ ap (change_all c) shut))
       (closed_links c c change.closed.items (all_live t moves plan new change h open_) (same_here c))
 
-  still_open : (b : B) (v : Vec HistoryLine) (t items : List Item) (moves : List Move) (plan : Plan) (new : Graph) (change : Change) (h : IsOpen S R e t moves plan new) → e.change ≡ Some change
+  -- another list to wait in is no other change
+  abbrev pub waiting_in : Change → Waiting → Change
+  waiting_in change w = record change { waiting = w }
+
+  abbrev pub drained : B → Vec HistoryLine → Change → Waiting → Engine B
+  drained b v change w = record e { board = b; history = v; change = Some (waiting_in change w) }
+
+  for_waiting : (plan : Plan) (new : Graph) (change : Change) (w : Waiting) → IsFor e.layout e.graph new plan change → IsFor e.layout e.graph new plan (waiting_in change w)
+  for_waiting plan new change w h = record {
+    closed = h.closed;
+    events = h.events;
+    next_ = h.next_;
+    lines_are = h.lines_are;
+    reopens = h.reopens;
+    reopen_lines = h.reopen_lines;
+  }
+
+  still_open : (b : B) (v : Vec HistoryLine) (w : Waiting) (t items : List Item) (moves : List Move) (plan : Plan) (new : Graph) (change : Change) (h : IsOpen S R e t moves plan new) → e.change ≡ Some change
       → Grew S e.board b e.history.items v.items items → events_in (entries items) ≡ map event.Close change.closed.items → R b ≡ R e.board
-      → IsOpen S R (record e { board = b; history = v }) (t ++ items) moves plan new
-  still_open b v t items moves plan new change h open_ grew shut room =
+      → IsOpen S R (drained b v change w) (t ++ items) moves plan new
+  still_open b v w t items moves plan new change h open_ grew shut room =
       let c = config_of (entries t) in
       let d = config_of (entries (t ++ items)) in
       let same = same_closed t items moves plan new change h open_ shut in
@@ -278,17 +304,17 @@ module _ {B : Type 0} (S : B → List Entry → Type 0) (R : B → Room) (runs :
           is_plan = h.planned.is_plan;
           can_plan = subst (CanPlan e.graph new moves) (same_made c d same) h.planned.can_plan;
         };
-        change = change;
-        open_ = open_;
-        is_for = is_for t moves plan new change h open_;
+        change = waiting_in change w;
+        open_ = refl;
+        is_for = for_waiting plan new change w (is_for t moves plan new change h open_);
         room = subst (λ x. AreWithin x change.events.items) (sym room) (subst (λ (x : Change). AreWithin (R e.board) x.events.items) (one_change t moves plan new change h open_) h.room);
       }
 
-  pub has_passivated : (b : B) (v : Vec HistoryLine) (change : Change) (plan : Plan) (within : ℕ) (left : List LeftRoot) → e.change ≡ Some change
+  pub has_passivated : (b : B) (v : Vec HistoryLine) (w : Waiting) (change : Change) (plan : Plan) (within : ℕ) (left : List LeftRoot) → e.change ≡ Some change
       → Waits S e.board b e.history.items v.items change.closed.items within left → left ≡ [] → R b ≡ R e.board → vec_len v + vec_len change.lines ≤ vec_capacity v
-      → HasPassivated S R e (record e { board = b; history = v }) plan within
+      → HasPassivated S R e (drained b v change w) plan within
   unfolding still_open
-  has_passivated b v change plan within left open_ x none_ room place = record {
+  has_passivated b v w change plan within left open_ x none_ room place = record {
     closed = change.closed.items;
     how = x.how;
     closed_are = λ t moves new h. closed_are t moves plan new change h open_;
@@ -301,7 +327,7 @@ module _ {B : Type 0} (S : B → List Entry → Type 0) (R : B → Room) (runs :
         let shut = passivation_events change.closed.items x.how in
         let d = config_of (entries (t ++ items)) in
         let same = same_closed t items moves plan new change h open_ shut in
-        let open' = still_open b v t items moves plan new change h open_ grew shut room in
+        let open' = still_open b v w t items moves plan new change h open_ grew shut room in
         record {
           is_open = open';
           may_ = record {
@@ -336,11 +362,11 @@ module _ {B : Type 0} (S : B → List Entry → Type 0) (R : B → Room) (runs :
           (subst (λ ps. In ps p) (sym (closed_are t moves plan new change h open_))
           (select (λ q. is_one_of e.graph plan.freeze c (owner c q)) 0 (length c.gates) p (omega arith) (omega (arith, made)) frozen)))
 
-  pub has_left : (b : B) (v : Vec HistoryLine) (change : Change) (plan : Plan) (within : ℕ) (left : List LeftRoot) → e.change ≡ Some change
+  pub has_left : (b : B) (v : Vec HistoryLine) (w : Waiting) (change : Change) (plan : Plan) (within : ℕ) (left : List LeftRoot) → e.change ≡ Some change
       → Waits S e.board b e.history.items v.items change.closed.items within left → 0 < length left → R b ≡ R e.board → vec_len v + vec_len change.reopen_lines ≤ vec_capacity v
-      → HasLeft S R e (record e { board = b; history = v }) plan within left
+      → HasLeft S R e (drained b v change w) plan within left
   unfolding still_open
-  has_left b v change plan within left open_ x some_ room place = record {
+  has_left b v w change plan within left open_ x some_ room place = record {
     closed = change.closed.items;
     how = x.how;
     closed_are = λ t moves new h. closed_are t moves plan new change h open_;
@@ -350,10 +376,51 @@ module _ {B : Type 0} (S : B → List Entry → Type 0) (R : B → Room) (runs :
     some_left = some_;
     graph_is = refl;
     opens = λ t moves new h. record {
-      is_open = still_open b v t (passivation_items change.closed.items x.how ++ pending_items within left) moves plan new change h open_ x.grew (waited_events change.closed.items x.how within left) room;
+      is_open = still_open b v w t items moves plan new change h open_ x.grew (waited_events change.closed.items x.how within left) room;
       place = place;
     };
+    are_roots = λ t moves new h y i.
+        subst (λ r. IsRootLeft change.closed.items (last_look x.how.first x.how.rounds) r y) (sym (whole t))
+        (root_left (entries t) change.closed.items within x.how
+        (subst IsRecord (whole t) (runs b (entries (t ++ items)) (subst (S b) (sym (entries_both t items)) (x.grew.adds (entries t) h.tells.board))))
+        (all_live t moves plan new change h open_)
+        (subst (λ ps. Apart Differ ps) (sym (closed_are t moves plan new change h open_))
+        (select_apart (λ p. is_one_of e.graph plan.freeze (config_of (entries t)) (owner (config_of (entries t)) p)) 0 (length (config_of (entries t)).gates)))
+        x.is_passivation y (subst (λ ys. In ys y) x.left_is i));
   }
+    where
+      items : List Item
+      items = passivation_items change.closed.items x.how ++ pending_items within left
+
+      said_alone_ : (ls : List HistoryLine) → entries (map said ls) ≡ []
+      said_alone_ [] = refl
+      said_alone_ (l ∷ ls) = said_alone_ ls
+
+      whole : (t : List Item) → entries (t ++ items) ≡ entries t ++ entries (passivation_items change.closed.items x.how)
+      whole t =
+          entries_both t items ∙ ap (λ es. entries t ++ es)
+          (entries_both (passivation_items change.closed.items x.how) (pending_items within left)
+          ∙ ap (λ es. entries (passivation_items change.closed.items x.how) ++ es) (said_alone_ (pending_lines within left)) ∙ append-nil (entries (passivation_items change.closed.items x.how)))
+
+  -- a passivation that broke off leaves all closed
+  pub has_broken_off : (Broke : B → List Entry → Type 0) (b : B) (v : Vec HistoryLine) (w : Waiting) (change : Change) (plan : Plan) (within : ℕ) → e.change ≡ Some change
+      → BrokeInRound S Broke e.board b e.history.items v.items change.closed.items within → HasBrokenOff S R Broke e (drained b v change w) plan within
+  has_broken_off Broke b v w change plan within open_ x = record {
+    closed = change.closed.items;
+    how = x.how;
+    closed_are = λ t moves new h. closed_are t moves plan new change h open_;
+    is_passivation = x.is_passivation;
+    fewer = x.fewer;
+    some_left = x.some_left;
+    graph_is = refl;
+    history_is = λ t moves new h. x.told_all ∙ ap (λ ls. ls ++ lines items) h.tells.history ∙ sym (lines_both t items);
+    broke = λ t moves new h. subst (Broke b) (sym (entries_both t items)) (x.broke (entries t) h.tells.board);
+    stay_closed = λ t moves new h p shut. subst (λ r. IsClosedStill r p) (sym (entries_both t items))
+        (stays_closed (entries t) (entries items) change.closed.items p (all_live t moves plan new change h open_) (passivation_events change.closed.items x.how) shut);
+  }
+    where
+      items : List Item
+      items = passivation_items change.closed.items x.how
 
 -- a passivation with the lines behind it
 pub waited : {B : Type 0} (S : B → List Entry → Type 0) (a b : B) (h i j : List HistoryLine) (ports : List ℕ) (within : ℕ) (left : List LeftRoot) → Passivated S a b h i ports within left → j ≡ i ++ pending_lines within left
@@ -370,6 +437,11 @@ waited S a b h i j ports within left x grown = record {
 pub ok_if : {E : Type 0} (P Q : Type 0) → (P → Q) → (r : Result (Unit {0}) E) → OnOk r P → IfOk r (λ _. Q)
 ok_if P Q f (Ok x) h = f h
 ok_if P Q f (Err e) h = tt
+
+pub no_memory_if : (P : Type 0) → P → (r : Result (Unit {0}) PassError) → IfErr r (WhereNoMemory P)
+no_memory_if P h (Ok x) = tt
+no_memory_if P h (Err (Pending k left)) = tt
+no_memory_if P h (Err NoMemory) = h
 
 pub pending_if : (P Q : ℕ → List LeftRoot → Type 0) → ((k : ℕ) (left : List LeftRoot) → P k left → Q k left) → (r : Result (Unit {0}) PassError) → IfErr r (WherePending P) → IfErr r (WherePending Q)
 pending_if P Q f (Ok x) h = tt

@@ -33,6 +33,9 @@ module _ {B : Type 0} (S Broke : B → List Entry → Type 0) where
   pub stands_on : (a b : B) (es : List Entry) → Adds S a b es → BrokeOff S Broke a b
   stands_on a b es x = record { more_ = es; stands = λ r s. inl (x r s) }
 
+  pub nothing_done : (a : B) → BrokeOff S Broke a a
+  nothing_done a = stands_on a a [] (λ r s. subst (S a) (sym (append-nil r)) s)
+
   pub breaks : (a b : B) → ((r : List Entry) → S a r → Broke b r) → BrokeOff S Broke a b
   breaks a b h = record { more_ = []; stands = λ r s. inr (subst (Broke b) (sym (append-nil r)) (h r s)) }
 

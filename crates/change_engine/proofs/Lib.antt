@@ -21,3 +21,6 @@ mod ListLoops
 mod LookupLemmas
 mod RangeLemmas
 mod Rooting
+mod StayingLemmas
+mod LeavingLemmas
+mod Breaking

@@ -23,7 +23,7 @@ use Rattle.change_board.specs.Records.{Adds, IsRecord}
 use Rattle.change_board.specs.Steps.{AreWithin, Room}
 use Rattle.change_board.specs.Transcripts.{Item, entries, said}
 use Rattle.change_engine.specs.Calls.{Continues, HasPrepared}
-use Rattle.change_engine.specs.Engines.{IsFor, IsIdle, IsPlanned, IsTold}
+use Rattle.change_engine.specs.Engines.{HasPlace, IsFor, IsIdle, IsPlanned, IsPrepared, IsTold}
 use Rattle.change_engine.specs.Layouts.{IsLayoutOf, port_of}
 use Rattle.change_engine.specs.Lists.{ports_after, ports_from, ports_in}
 use Rattle.change_engine.specs.declared.engine.Change.{Change}
@@ -64,20 +64,20 @@ module _ {B : Type 0} (S : B → List Entry → Type 0) where
   }
 
   module _ (R : B → Room) (runs : (b : B) (r : List Entry) → S b r → IsRecord r) where
-    pub has_prepared : (e f : Engine B) (name : List ℕ) (args : List _) (plan : Plan) (new : Graph) (change : Change)
+    pub prepared : (e f : Engine B) (name : List ℕ) (args : List _) (plan : Plan) (new : Graph) (change : Change)
         → Adds S e.board f.board [] → f.history.items ≡ e.history.items ++ to.Change name args ∷ [] → f.graph ≡ e.graph → f.layout ≡ e.layout → f.change ≡ Some change
         → IsFor e.layout e.graph new plan change
         → ((t : List Item) → IsIdle S e t → AreWithin (R f.board) (commit_events e.graph new plan (config_of (entries t))))
-        → HasPrepared S R e f name args plan new
-    has_prepared e f name args plan new change adds history graph layout open_ for_ room = record {
-      graph_is = graph;
-      opens = λ t moves x planned.
-          let items : List Item = said (to.Change name args) ∷ [] in
-          let c = config_of (entries t) in
-          let tells = tells_more S e f.board f.history.items t items x.tells (record { adds = adds; adds_lines = history }) refl f refl refl graph layout in
-          let same : config_of (entries (t ++ items)) ≡ c = config_goes t items refl in
-          let told : IsTold e.layout e.graph c = record { laid = x.tells.layout; graph = x.tells.graph; sound = record_sound (entries t) (runs e.board (entries t) x.tells.board) } in
-          record {
+        → HasPlace f.history change
+        → (t : List Item) (moves : List Move) → IsIdle S e t → IsPlanned e.graph new moves plan (config_of (entries t)) → IsPrepared S R f (t ++ said (to.Change name args) ∷ []) moves plan new
+    prepared e f name args plan new change adds history graph layout open_ for_ room place t moves x planned =
+        let items : List Item = said (to.Change name args) ∷ [] in
+        let c = config_of (entries t) in
+        let tells = tells_more S e f.board f.history.items t items x.tells (record { adds = adds; adds_lines = history }) refl f refl refl graph layout in
+        let same : config_of (entries (t ++ items)) ≡ c = config_goes t items refl in
+        let told : IsTold e.layout e.graph c = record { laid = x.tells.layout; graph = x.tells.graph; sound = record_sound (entries t) (runs e.board (entries t) x.tells.board) } in
+        record {
+          is_open = record {
             tells = tells;
             planned = subst (λ g. IsPlanned g new moves plan (config_of (entries (t ++ items)))) (sym graph) (subst (IsPlanned e.graph new moves plan) (sym same) planned);
             change = change;
@@ -85,4 +85,15 @@ module _ {B : Type 0} (S : B → List Entry → Type 0) where
             is_for = subst (λ l. IsFor l f.graph new plan change) (sym layout) (subst (λ g. IsFor e.layout g new plan change) (sym graph) for_);
             room = subst (AreWithin (R f.board)) (sym (for_.events c told)) (room t x);
           };
-    }
+          place = place;
+        }
+
+    pub has_prepared : (e f : Engine B) (name : List ℕ) (args : List _) (plan : Plan) (new : Graph) (change : Change)
+        → Adds S e.board f.board [] → f.history.items ≡ e.history.items ++ to.Change name args ∷ [] → f.graph ≡ e.graph → f.layout ≡ e.layout → f.change ≡ Some change
+        → IsFor e.layout e.graph new plan change
+        → ((t : List Item) → IsIdle S e t → AreWithin (R f.board) (commit_events e.graph new plan (config_of (entries t))))
+        → HasPlace f.history change
+        → HasPrepared S R e f name args plan new
+    has_prepared e f name args plan new change adds history graph layout open_ for_ room place =
+        let is_ = prepared e f name args plan new change adds history graph layout open_ for_ room place in
+        record { graph_is = graph; opens = λ t moves x planned. (is_ t moves x planned).is_open; prepares = is_ }

@@ -1,7 +1,7 @@
 -- What a look behind a close finds, where the port isn't drained: a root.
 use Rattle.std.proofs.Common.{◌≡◌, ℕ, Bool, true, false, cond, not, List, [], ◌∷◌, ◌++◌, append_assoc, map, refl, sym, ap, ◌∙◌, subst, inl, inr, ⊎_elim}
 use Rattle.std.specs.Prelude.{◌&&◌, ◌||◌, flat_map}
-use Rattle.std.proofs.lemmas.Bool.{both_ways}
+use Rattle.std.proofs.lemmas.Bool.{both_ways, cases_Bool}
 use Rattle.std.proofs.lemmas.List.Concat.{flat_map-cons}
 use Rattle.std.proofs.lemmas.List.Elements.{All-head, All-tail, filter_map-append}
 use Rattle.base.specs.Each.{Each, EachAfter}
@@ -20,13 +20,15 @@ use Rattle.quiesce_core.specs.State.{Configuration, gate}
 use Rattle.quiesce_core.specs.Words.{word_of}
 use Rattle.quiesce_core.specs.declared.event.Event.TheVariants as event
 use Rattle.quiesce_core.proofs.RunLaws.{fronts_are_runs, runs_are_well_formed}
-use Rattle.quiesce_core.proofs.WordLaws.{port_words_decode}
+use Rattle.quiesce_core.proofs.WordLaws.{port_words_decode, words_tell_drained}
 use Rattle.change_board.specs.Entries.{Entry, looked, config_of, event_in, events_in}
 use Rattle.change_board.specs.Looks.{is_drained_word}
+use Rattle.change_board.specs.Notes.{is_noted}
 use Rattle.change_board.specs.Records.{IsRecord, IsRecordOf, IsSo, Moment, by_node, entry, entry_at, event_at, events, state_at}
 use Rattle.change_board.specs.Records as records
 use Rattle.change_board.specs.Scans.{Found, look_entry, ports_of, scan_entries}
 use Rattle.change_board.specs.Transcripts.{entries}
+use Rattle.change_board.proofs.NoteLaws.{noted_is_drained}
 use Rattle.change_board.proofs.RecordLaws.{config_is}
 use Rattle.change_engine.specs.Passivating.{AreLivePorts, IsPassivation, IsRound, Passivation, Round, close_item, is_busy, left_after, look_item, passivation_items, root_of, root_ports, roots_of, round_items}
 use Rattle.change_engine.proofs.Growing.{entries_both}
@@ -62,19 +64,44 @@ root_by true false true e h = absurd (both_ways true h refl)
 root_by true false false e h = refl
 root_by false idle within e h = absurd (both_ways false refl e)
 
+-- the run in front of a look, whose word the look loaded
+record LookedAt (before : List Entry) (p w : ℕ) : Type 0 where
+  front : List Moment
+  is_of : IsRecordOf before front
+  word : w ≡ word_of (state_at front) p
+
+looked_at : (before after : List Entry) (p w : ℕ) → IsRecord (before ++ looked p w ∷ after) → LookedAt before p w
+looked_at before after p w r =
+    let at = before_entry r.moments before after (looked p w) r.is_of.record_is in
+    let so : Each IsSo (at.front ++ entry (looked p w) ∷ at.behind) = subst (Each IsSo) at.parts r.is_of.so in
+    let runs : IsRun (events at.front) =
+    fronts_are_runs (events at.front) (events (entry (looked p w) ∷ at.behind)) (subst IsRun (ap events at.parts ∙ filter_map-append event_at at.front (entry (looked p w) ∷ at.behind)) r.is_of.runs) in
+    record {
+      front = at.front;
+      is_of = record { record_is = at.entries_are; runs = runs; so = (each_parts IsSo [] at.front (entry (looked p w) ∷ at.behind) so).0 };
+      word = each_at IsSo at.front at.behind (entry (looked p w)) so;
+    }
+
 -- a look at a port that is closed
 pub busy_has_root : (before after : List Entry) (p w : ℕ) → IsRecord (before ++ looked p w ∷ after) → (gate (config_of before) p).closed ≡ true → is_drained_word w ≡ false → has_root (unpack w) ≡ true
 busy_has_root before after p w r shut busy =
-    let at = before_entry r.moments before after (looked p w) r.is_of.record_is in
-    let so : Each IsSo (at.front ++ entry (looked p w) ∷ at.behind) = subst (Each IsSo) at.parts r.is_of.so in
-    let word : w ≡ word_of (state_at at.front) p = each_at IsSo at.front at.behind (entry (looked p w)) so in
-    let runs : IsRun (events at.front) =
-    fronts_are_runs (events at.front) (events (entry (looked p w) ∷ at.behind)) (subst IsRun (ap events at.parts ∙ filter_map-append event_at at.front (entry (looked p w) ∷ at.behind)) r.is_of.runs) in
-    let front : IsRecordOf before at.front = record { record_is = at.entries_are; runs = runs; so = (each_parts IsSo [] at.front (entry (looked p w) ∷ at.behind) so).0 } in
-    let fields : unpack w ≡ fields_of (state_at at.front) p = ap unpack word ∙ port_words_decode (state_at at.front) (runs_are_well_formed (events at.front) runs) p in
-    let closed : (fields_of (state_at at.front) p).closed ≡ true = ap (λ c. (gate c p).closed) (sym (config_is before at.front front)) ∙ shut in
+    let at = looked_at before after p w r in
+    let fields : unpack w ≡ fields_of (state_at at.front) p = ap unpack at.word ∙ port_words_decode (state_at at.front) (runs_are_well_formed (events at.front) at.is_of.runs) p in
+    let closed : (fields_of (state_at at.front) p).closed ≡ true = ap (λ c. (gate c p).closed) (sym (config_is before at.front at.is_of)) ∙ shut in
     ap has_root fields
     ∙ root_by (fields_of (state_at at.front) p).closed (is_idle (fields_of (state_at at.front) p).phase) (fields_of (state_at at.front) p).consequent closed (sym (ap is_drained fields) ∙ busy)
+
+-- a port at which a look loads a word that isn't drained was not noted
+pub busy_not_noted : (before after : List Entry) (p w : ℕ) → IsRecord (before ++ looked p w ∷ after) → is_drained_word w ≡ false → is_noted before p ≡ false
+busy_not_noted before after p w r busy =
+    let at = looked_at before after p w r in
+    let s = state_at at.front in
+    ⊎_elim
+    (λ (noted : is_noted before p ≡ true). absurd (both_ways (is_drained_word w)
+    busy
+    (ap is_drained_word at.word ∙ words_tell_drained s (runs_are_well_formed (events at.front) at.is_of.runs) p ∙ noted_is_drained before at.front p at.is_of noted)))
+    (λ (not_ : is_noted before p ≡ false). not_)
+    (cases_Bool (is_noted before p))
 
 -- ports that were closed one after the other are closed then
 closed_all : (c : Configuration) (all : List ℕ) (d : Configuration) (left : List ℕ) → Turning c true all d left → Turning c true all (change_all d (map event.Close left)) []
@@ -86,7 +113,7 @@ in_live c [] h p i = absurd i
 in_live c (q ∷ ps) h p (inl same) = subst (IsLivePort c) same (live_port c q (All-head (λ k. is_live_port c k ≡ true) q ps h))
 in_live c (q ∷ ps) h p (inr i) = in_live c ps (All-tail (λ k. is_live_port c k ≡ true) q ps h) p i
 
-shut_behind : (r : List Entry) (ps : List ℕ) → AreLivePorts (config_of r) ps → (p : ℕ) → In ps p → (gate (config_of (r ++ closes ps)) p).closed ≡ true
+pub shut_behind : (r : List Entry) (ps : List ℕ) → AreLivePorts (config_of r) ps → (p : ℕ) → In ps p → (gate (config_of (r ++ closes ps)) p).closed ≡ true
 shut_behind r ps live p i =
     let c = config_of r in
     let all = closed_all c ps c ps (turn_start c true ps (in_live c ps live)) in
@@ -94,12 +121,12 @@ shut_behind r ps live p i =
 
 -- ---- members of lists
 
-record Split {A : Type 0} (xs : List A) (x : A) : Type 0 where
-  front : List A
-  back : List A
-  parts : xs ≡ front ++ x ∷ back
+pub record Split {A : Type 0} (xs : List A) (x : A) : Type 0 where
+  pub front : List A
+  pub back : List A
+  pub parts : xs ≡ front ++ x ∷ back
 
-split : {A : Type 0} (xs : List A) (x : A) → In xs x → Split xs x
+pub split : {A : Type 0} (xs : List A) (x : A) → In xs x → Split xs x
 split [] x i = absurd i
 split (y ∷ xs) x (inl same) = record { front = []; back = xs; parts = ap (λ z. z ∷ xs) same }
 split (y ∷ xs) x (inr i) = let w = split xs x i in record { front = y ∷ w.front; back = w.back; parts = ap (λ zs. y ∷ zs) w.parts }
@@ -109,11 +136,11 @@ in_left [] ys x i = absurd i
 in_left (y ∷ xs) ys x (inl same) = inl same
 in_left (y ∷ xs) ys x (inr i) = inr (in_left xs ys x i)
 
-in_right : {A : Type 0} (xs ys : List A) (x : A) → In ys x → In (xs ++ ys) x
+pub in_right : {A : Type 0} (xs ys : List A) (x : A) → In ys x → In (xs ++ ys) x
 in_right [] ys x i = i
 in_right (y ∷ xs) ys x i = inr (in_right xs ys x i)
 
-in_map : {A B : Type 0} (f : A → B) (xs : List A) (x : A) → In xs x → In (map f xs) (f x)
+pub in_map : {A B : Type 0} (f : A → B) (xs : List A) (x : A) → In xs x → In (map f xs) (f x)
 in_map f [] x i = absurd i
 in_map f (y ∷ xs) x (inl same) = inl (ap f same)
 in_map f (y ∷ xs) x (inr i) = inr (in_map f xs x i)
@@ -132,7 +159,7 @@ quiet_root r es p w rec quiet shut i busy =
 
 -- ---- a passivation's looks are at ports that it closed
 
-roots_there : (found : List Found) (p : ℕ) → In (root_ports (roots_of found)) p → In (ports_of found) p
+pub roots_there : (found : List Found) (p : ℕ) → In (root_ports (roots_of found)) p → In (ports_of found) p
 roots_there [] p i = absurd i
 roots_there (f ∷ found) p i = by (is_busy f) (roots_there found p) (subst (λ xs. In (root_ports xs) p) (roots_cons f found) i)
   where
@@ -162,10 +189,10 @@ round_looks (v ∷ rounds) w f i j =
     i)
 
 module _ (r : List Entry) (ports : List ℕ) (within : ℕ) (how : Passivation) (rec : IsRecord (r ++ entries (passivation_items ports how))) (live : AreLivePorts (config_of r) ports) (is : IsPassivation ports within how) where
-  abbrev behind : List Entry
+  abbrev pub behind : List Entry
   behind = map look_entry how.first ++ entries (flat_map round_items how.rounds)
 
-  whole : r ++ entries (passivation_items ports how) ≡ (r ++ closes ports) ++ behind
+  pub whole : r ++ entries (passivation_items ports how) ≡ (r ++ closes ports) ++ behind
   whole =
       let rest = entries (flat_map round_items how.rounds) in
       ap (λ es. r ++ es) (entries_both (map close_item ports ++ map look_item how.first) (flat_map round_items how.rounds)
@@ -173,12 +200,12 @@ module _ (r : List Entry) (ports : List ℕ) (within : ℕ) (how : Passivation) 
       ∙ append_assoc (closes ports) (map look_entry how.first) rest)
       ∙ sym (append_assoc r (closes ports) behind)
 
-  quiet : events_in behind ≡ []
+  pub quiet : events_in behind ≡ []
   quiet =
       filter_map-append event_in (map look_entry how.first) (entries (flat_map round_items how.rounds))
       ∙ ap (λ es. es ++ events_in (entries (flat_map round_items how.rounds))) (looks_quiet how.first) ∙ rounds_quiet how.rounds
 
-  look_root : (f : Found) → In ports f.port → In behind (look_entry f) → is_drained_word f.word ≡ false → has_root (unpack f.word) ≡ true
+  pub look_root : (f : Found) → In ports f.port → In behind (look_entry f) → is_drained_word f.word ≡ false → has_root (unpack f.word) ≡ true
   look_root f i j = quiet_root (r ++ closes ports) behind f.port f.word (subst IsRecord whole rec) quiet (shut_behind r ports live f.port i) j
 
   first_there : (p : ℕ) → In (root_ports (left_after how.first [])) p → In ports p

@@ -6,6 +6,7 @@ use Rattle.change_plan.specs.declared.plan_data.Move.{Move}
 use Rattle.change_plan.specs.declared.plan_data.Plan.{Plan}
 use Rattle.change_script.specs.declared.report.HistoryLine.TheVariants as to
 use Rattle.change_script.specs.declared.report.Report.{Report}
+use Rattle.commit_laws.specs.Lists.{In}
 use Rattle.commit_laws.specs.Steps.{live_ports}
 use Rattle.config_graph.specs.Graph.{Graph}
 use Rattle.plan_laws.specs.Commit.{commit_events, ports_to_close}
@@ -20,12 +21,14 @@ use Rattle.change_board.specs.Scans.{Found, all_ports, ended_in, look_entry, por
 use Rattle.change_board.specs.Steps.{Deed, Room}
 use Rattle.change_board.specs.Transcripts.{Item, entries, lines, said}
 use Rattle.change_engine.specs.Beginning.{start_items}
+use Rattle.change_engine.specs.Breaking.{IsClosedOr, IsClosedStill}
 use Rattle.change_engine.specs.Carrying.{deed_items}
 use Rattle.change_engine.specs.Draining.{pending_items}
 use Rattle.change_engine.specs.Ending.{unfinished_in}
-use Rattle.change_engine.specs.Engines.{IsIdle, IsOpen, IsPlanned, MayAbandon, MayCommit}
+use Rattle.change_engine.specs.Engines.{IsIdle, IsOpen, IsPlanned, IsPrepared, MayAbandon, MayCommit}
 use Rattle.change_engine.specs.Finishing.{EndsAfter, IsScanIn, Seen, all_entries, rounds_in}
-use Rattle.change_engine.specs.Passivating.{IsPassivation, Passivation, left_after, passivation_items, silent_items}
+use Rattle.change_engine.specs.Leaving.{IsRootLeft}
+use Rattle.change_engine.specs.Passivating.{IsPassivation, Passivation, last_look, left_after, passivation_items, silent_items}
 use Rattle.change_engine.specs.Running.{RunsOn, ended_since, run_ends}
 use Rattle.change_engine.specs.declared.engine.Engine.{Engine}
 use Rattle.change_engine.specs.declared.passivating.LeftRoot.{LeftRoot}
@@ -80,6 +83,9 @@ pub record HasPrepared {B : Type 0} (S : B → List Entry → Type 0) (R : B →
   pub opens : (t : List Item) (moves : List Move) → IsIdle S old t
       → IsPlanned old.graph next_ moves plan (config_of (entries t))
       → IsOpen S R new (t ++ said (to.Change name args) ∷ []) moves plan next_
+  pub prepares : (t : List Item) (moves : List Move) → IsIdle S old t
+      → IsPlanned old.graph next_ moves plan (config_of (entries t))
+      → IsPrepared S R new (t ++ said (to.Change name args) ∷ []) moves plan next_
 
 -- Passivate, to its end: each port that was closed was found drained.
 pub record HasPassivated {B : Type 0} (S : B → List Entry → Type 0) (R : B → Room) (old new : Engine B) (plan : Plan)
@@ -108,6 +114,30 @@ pub record HasLeft {B : Type 0} (S : B → List Entry → Type 0) (R : B → Roo
   pub graph_is : new.graph ≡ old.graph
   pub opens : (t : List Item) (moves : List Move) (next_ : Graph) → IsOpen S R old t moves plan next_
       → MayAbandon S R new (t ++ (passivation_items closed how ++ pending_items within left)) moves plan next_
+  pub are_roots : (t : List Item) (moves : List Move) (next_ : Graph) → IsOpen S R old t moves plan next_
+      → (x : LeftRoot) → In left x
+      → IsRootLeft closed (last_look how.first how.rounds)
+      (entries (t ++ (passivation_items closed how ++ pending_items within left))) x
+
+-- Passivate, broken off in a scan for want of memory: all ports were closed, and each look so far saw roots. All gates that
+-- were closed then, and before, stay so.
+pub record HasBrokenOff {B : Type 0} (S : B → List Entry → Type 0) (R : B → Room) (Broke : B → List Entry → Type 0)
+    (old new : Engine B) (plan : Plan) (within : ℕ) : Type 0 where
+  pub closed : List ℕ
+  pub how : Passivation
+  pub closed_are : (t : List Item) (moves : List Move) (next_ : Graph) → IsOpen S R old t moves plan next_
+      → closed ≡ ports_to_close old.graph plan (config_of (entries t))
+  pub is_passivation : IsPassivation closed within how
+  pub fewer : length how.rounds < within
+  pub some_left : left_after how.first how.rounds ≡ [] → ⊥
+  pub graph_is : new.graph ≡ old.graph
+  pub history_is : (t : List Item) (moves : List Move) (next_ : Graph) → IsOpen S R old t moves plan next_
+      → new.history.items ≡ lines (t ++ passivation_items closed how)
+  pub broke : (t : List Item) (moves : List Move) (next_ : Graph) → IsOpen S R old t moves plan next_
+      → Broke new.board (entries (t ++ passivation_items closed how))
+  pub stay_closed : (t : List Item) (moves : List Move) (next_ : Graph) → IsOpen S R old t moves plan next_
+      → (p : ℕ) → IsClosedOr closed (config_of (entries t)) p
+      → IsClosedStill (entries (t ++ passivation_items closed how)) p
 
 -- Commit: the plan was carried out, and its graph is the one that stands.
 pub record HasCommitted {B : Type 0} (S : B → List Entry → Type 0) (R : B → Room) (old new : Engine B) (plan : Plan)

@@ -1,9 +1,11 @@
 -- What an engine keeps of a system on a board, where the board's record and the history are told by one transcript.
-use Rattle.std.specs.Prelude.{◌≡◌, ◌≤◌, ◌+◌, List, [], ◌∷◌, ◌++◌, map, None, Some, vec_capacity, vec_len}
+use Rattle.std.specs.Global.{Vec}
+use Rattle.std.specs.Prelude.{◌≡◌, ◌≤◌, ◌+◌, ◌*◌, List, [], ◌∷◌, ◌++◌, map, None, Some, vec_capacity, vec_len}
 use Rattle.change_plan.specs.Plans.{IsPlanOf}
 use Rattle.change_plan.specs.Refusals.{CanPlan}
 use Rattle.change_plan.specs.declared.plan_data.Move.{Move}
 use Rattle.change_plan.specs.declared.plan_data.Plan.{Plan}
+use Rattle.change_script.specs.declared.report.HistoryLine.{HistoryLine}
 use Rattle.change_script.specs.declared.report.HistoryLine.TheVariants as to
 use Rattle.commit_laws.specs.Steps.{change_all}
 use Rattle.config_graph.specs.Graph.{Graph, IsGraph}
@@ -19,6 +21,7 @@ use Rattle.change_board.specs.Entries.{Entry, config_of}
 use Rattle.change_board.specs.Steps.{AreWithin, Room}
 use Rattle.change_board.specs.Transcripts.{Item, entries, lines}
 use Rattle.change_engine.specs.Layouts.{IsLayoutOf}
+use Rattle.change_engine.specs.Passivating.{HasPlaceFor}
 use Rattle.change_engine.specs.Planning.{MayCarryOut}
 use Rattle.change_engine.specs.declared.engine.Change.{Change}
 use Rattle.change_engine.specs.declared.engine.Engine.{Engine}
@@ -71,6 +74,18 @@ pub record IsOpen {B : Type 0} (S : B → List Entry → Type 0) (R : B → Room
   pub open_ : e.change ≡ Some change
   pub is_for : IsFor e.layout e.graph new plan change
   pub room : AreWithin (R e.board) change.events.items
+
+-- There is place for the lines of a change, of the wait and of either end, and to wait in.
+pub record HasPlace (history : Vec HistoryLine) (change : Change) : Type 0 where
+  pub commit_lines : vec_len history + 2 * vec_len change.closed + 1 + vec_len change.lines ≤ vec_capacity history
+  pub abandon_lines : vec_len history + 2 * vec_len change.closed + 1 + vec_len change.reopen_lines ≤ vec_capacity history
+  pub waiting : HasPlaceFor change.waiting (vec_len change.closed)
+
+-- it was prepared, and nothing was done since: all its memory is taken
+pub record IsPrepared {B : Type 0} (S : B → List Entry → Type 0) (R : B → Room) (e : Engine B) (t : List Item)
+    (moves : List Move) (plan : Plan) (new : Graph) : Type 0 where
+  pub is_open : IsOpen S R e t moves plan new
+  pub place : HasPlace e.history is_open.change
 
 -- its commit can't fail: what it closed is noted as drained, and the history has room
 pub record MayCommit {B : Type 0} (S : B → List Entry → Type 0) (R : B → Room) (e : Engine B) (t : List Item)

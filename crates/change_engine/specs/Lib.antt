@@ -7,9 +7,11 @@ pub mod Stopping
 pub mod Beginning
 pub mod Running
 pub mod Layouts
+pub mod Leaving
 pub mod Lists
 pub mod PlanIn
 pub mod Engines
 pub mod Ending
 pub mod Draining
+pub mod Breaking
 pub mod Calls

@@ -1,6 +1,6 @@
 -- How ports are passivated (Kramer and Magee 1990): they are closed, looked at, and looked at again after each of some
 -- scans in which no node begins a transaction, until each was found drained.
-use Rattle.std.specs.Prelude.{◌≡◌, ◌⊎◌, ◌≤◌, ◌<◌, ℕ, All, IsTrue, Bool, false, not, List, [], ◌∷◌, ◌++◌, map, filter, flat_map, fold, length, if◌then◌else◌}
+use Rattle.std.specs.Prelude.{◌≡◌, ◌⊎◌, ◌≤◌, ◌<◌, ℕ, All, IsTrue, Bool, false, not, List, [], ◌∷◌, ◌++◌, map, filter, flat_map, fold, length, vec_capacity, if◌then◌else◌}
 use Rattle.base.specs.Each.{Each}
 use Rattle.change_script.specs.declared.report.HistoryLine.{HistoryLine}
 use Rattle.change_script.specs.declared.report.HistoryLine.TheVariants as to
@@ -15,7 +15,13 @@ use Rattle.change_board.specs.Scans.{Found, ports_of, scan_entries}
 use Rattle.change_board.specs.Sights.{Sight}
 use Rattle.change_board.specs.Transcripts.{Item, silent, told}
 use Rattle.change_engine.specs.declared.passivating.LeftRoot.{LeftRoot}
+use Rattle.change_engine.specs.declared.passivating.Waiting.{Waiting}
 use Rattle.change_engine.specs.Growing.{Grew}
+
+-- so many ports can be waited for, without more memory
+pub record HasPlaceFor (waiting : Waiting) (count : ℕ) : Type 0 where
+  pub ports : count ≤ vec_capacity waiting.ports
+  pub left : count ≤ vec_capacity waiting.left
 
 -- a look that isn't a scan's; the history tells it where it found the port drained
 abbrev pub item_at : ℕ → ℕ → Item
@@ -84,6 +90,10 @@ pub record Rounded {B : Type 0} (S : B → List Entry → Type 0) (old new : B) 
 -- what is left after a first look and rounds
 abbrev pub left_after : List Found → List Round → List LeftRoot
 left_after first rounds = fold (λ left (w : Round). roots_of w.found) (roots_of first) rounds
+
+-- what the last look saw
+abbrev pub last_look : List Found → List Round → List Found
+last_look first rounds = fold (λ found (w : Round). w.found) first rounds
 
 -- where something is left, a round looks at it
 pub record IsRound (first : List Found) (before : List Round) (w : Round) : Type 0 where

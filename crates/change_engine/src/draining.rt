@@ -1,13 +1,12 @@
 //! Waiting for the ports that a change closed to drain.
 
-ghost use Rattle.std.specs.Prelude.{◌≡◌, ◌≤◌, ◌<◌, ◌+◌, ◌++◌, [], List, map, length, IfOk, IfErr, OnErr, OnOk, vec_capacity, vec_len};
+ghost use Rattle.std.specs.Prelude.{◌≡◌, ◌≤◌, ◌<◌, ◌+◌, ◌*◌, ◌++◌, [], List, map, length, IfErr, OnErr, OnOk, vec_capacity, vec_len};
 ghost use Rattle.change_board.specs.Entries.{Entry, config_of};
+ghost use Rattle.change_engine.specs.Breaking.{BrokeInRound};
 ghost use Rattle.change_engine.specs.Draining.{Waits, WhereNoMemory, WherePending, pending_lines, root_line};
-ghost use Rattle.change_engine.specs.Growing.{BrokeOff};
-ghost use Rattle.change_engine.specs.Passivating.{AreLivePorts};
+ghost use Rattle.change_engine.specs.Passivating.{AreLivePorts, HasPlaceFor};
 
-use crate::engine::Change;
-use crate::passivating::{LeftRoot, passivate};
+use crate::passivating::{LeftRoot, Waiting, passivate, put};
 use change_board::Board;
 use change_script::HistoryLine;
 use config_graph::{List as Items, NoMemory};
@@ -34,59 +33,60 @@ impl From<AllocError> for PassError {
 }
 
 /// Tells each root that is left.
-fn push_roots(history: &mut Vec<HistoryLine>, left: &[LeftRoot]) -> Result<(), NoMemory>
-    ensures { OnOk result (history.new.items ≡ history.old.items ++ map root_line left.now) }
+fn push_roots(history: &mut Vec<HistoryLine>, left: &[LeftRoot])
+    requires place { vec_len history.old + length left.now ≤ vec_capacity history.old }
+    ensures lines { history.new.items ≡ history.old.items ++ map root_line left.now }
+    ensures len { vec_len history.new ≡ vec_len history.old + length left.now }
+    ensures capacity { vec_capacity history.old ≤ vec_capacity history.new }
 {
     for root in left {
-        history.push(HistoryLine::Root {
-            port: root.port,
-            serial: root.serial,
-        })?;
+        put(
+            history,
+            HistoryLine::Root {
+                port: root.port,
+                serial: root.serial,
+            },
+        );
     }
-    Ok(())
 }
 
 /// Tells how many rounds were made, and which roots they left, if they left some.
-fn push_pending(
-    history: &mut Vec<HistoryLine>,
-    rounds: u32,
-    left: &[LeftRoot],
-) -> Result<(), NoMemory>
-    ensures { OnOk result (history.new.items ≡ history.old.items ++ pending_lines rounds left.now) }
+fn push_pending(history: &mut Vec<HistoryLine>, rounds: u32, left: &[LeftRoot])
+    requires place { vec_len history.old + length left.now + 1 ≤ vec_capacity history.old }
+    ensures lines { history.new.items ≡ history.old.items ++ pending_lines rounds left.now }
+    ensures len { vec_len history.new ≤ vec_len history.old + length left.now + 1 }
+    ensures capacity { vec_capacity history.old ≤ vec_capacity history.new }
 {
     if left.is_empty() {
-        return Ok(());
+        return;
     }
-    history.push(HistoryLine::Pending { rounds })?;
-    push_roots(history, left)
+    put(history, HistoryLine::Pending { rounds });
+    push_roots(history, left);
 }
 
-/// Closes the ports of a change, and makes rounds until each was found drained, at most so many. Gives the roots that are
-/// left then, and tells them. The history has place for the lines of both ends of the change.
+/// Closes these ports, and makes rounds until each was found drained, at most so many. Keeps the roots that are left
+/// then, and tells them. Only a scan takes memory.
 pub(crate) fn drain<B: Board>(
     board: &mut B,
     history: &mut Vec<HistoryLine>,
-    change: &Change,
+    ports: &[u32],
+    waiting: &mut Waiting,
     rounds: u32,
-) -> Result<Vec<LeftRoot>, NoMemory>
-    requires live { (r : List Entry) × B.stands_for board.old r
-        × AreLivePorts (config_of r) change.now.closed.items }
-    ensures ok { IfOk result
-        (λ left. Waits B.stands_for board.old board.new history.old.items history.new.items change.now.closed.items
-        rounds left.items) }
+) -> Result<(), NoMemory>
+    requires live { (r : List Entry) × B.stands_for board.old r × AreLivePorts (config_of r) ports.now }
+    requires line_place { vec_len history.old + 2 * length ports.now + 1 ≤ vec_capacity history.old }
+    requires place { HasPlaceFor waiting.old (length ports.now) }
+    ensures ok { OnOk result (Waits B.stands_for board.old board.new history.old.items history.new.items ports.now
+        rounds waiting.new.left.items) }
     ensures room { OnOk result (B.room board.new ≡ B.room board.old) }
-    ensures commit_place { OnOk result
-        (vec_len history.new + vec_len change.now.lines ≤ vec_capacity history.new) }
-    ensures abandon_place { OnOk result
-        (vec_len history.new + vec_len change.now.reopen_lines ≤ vec_capacity history.new) }
-    ensures err { OnErr result (BrokeOff B.stands_for B.broke_off board.old board.new) }
+    ensures len { OnOk result (vec_len history.new ≤ vec_len history.old + 2 * length ports.now + 1) }
+    ensures capacity { vec_capacity history.old ≤ vec_capacity history.new }
+    ensures err { OnErr result (BrokeInRound B.stands_for B.broke_off board.old board.new history.old.items
+        history.new.items ports.now rounds) }
 {
-    let alloc = *history.allocator();
-    let left = passivate(alloc, board, history, &change.closed, u64::from(rounds))?;
-    push_pending(history, rounds, &left)?;
-    history.reserve(change.lines.len())?;
-    history.reserve(change.reopen_lines.len())?;
-    Ok(left)
+    passivate(board, history, ports, waiting, u64::from(rounds))?;
+    push_pending(history, rounds, &waiting.left);
+    Ok(())
 }
 
 /// Pending where roots are left.

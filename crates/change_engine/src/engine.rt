@@ -7,15 +7,16 @@ ghost use Rattle.config_graph.specs.Sound.{Sound};
 ghost use Rattle.config_graph.specs.declared.TheConstants.{MAX_NODES, MAX_PORTS};
 ghost use Rattle.change_board.specs.Entries.{config_of};
 ghost use Rattle.change_board.specs.Transcripts.{Item, entries};
-ghost use Rattle.change_engine.specs.Calls.{Continues, HasAbandoned, HasCommitted, HasFinished, HasLeft, HasPassivated, HasPrepared, HasRun, HasShown, HasSkipped, HasStarted, HasStopped};
+ghost use Rattle.change_engine.specs.Calls.{Continues, HasAbandoned, HasBrokenOff, HasCommitted, HasFinished, HasLeft, HasPassivated, HasPrepared, HasRun, HasShown, HasSkipped, HasStarted, HasStopped};
 ghost use Rattle.change_engine.specs.Draining.{WhereNoMemory, WherePending};
-ghost use Rattle.change_engine.specs.Engines.{IsIdle, IsOpen, IsPlanned, MayAbandon, MayCommit};
+ghost use Rattle.change_engine.specs.Engines.{IsIdle, IsPlanned, IsPrepared, MayAbandon, MayCommit};
 ghost use Rattle.change_engine.specs.Growing.{BrokeOff};
 
 use crate::carrying::carry_out;
 use crate::draining::PassError;
 use crate::laws::{commits_have_room, plans_may_be_carried_out};
 use crate::layout::Layout;
+use crate::passivating::{Waiting, put};
 use crate::preparing::{line_count, list_change};
 use crate::{draining, ending, finishing, launching, running};
 use change_board::Board;
@@ -25,6 +26,7 @@ use config_graph::{Graph, List, NoMemory, Text};
 use quiesce_core::Event;
 use quiescence_laws::started_systems_are_reached;
 use std::alloc::Global;
+use std::mem;
 
 /// All that a change will do, once it is prepared.
 #[derive(Debug, Drop)]
@@ -39,6 +41,8 @@ pub struct Change {
     pub reopen_lines: Vec<HistoryLine>,
     /// What is made on the board after the commit.
     pub next: Layout,
+    /// Where its wait is kept.
+    pub waiting: Waiting,
 }
 
 /// A system on a board, with the history of what its change did and saw.
@@ -162,30 +166,46 @@ impl<B: Board + Drop> Engine<B> {
         let change = list_change(alloc, &self.layout, &self.graph, new, plan)?;
         self.history.reserve(line_count(&change))?;
         self.board.reserve(plan.create.items().len() as u32)?;
-        self.history.push(HistoryLine::Change {
-            name,
-            args: List::of(args),
-        })?;
+        put(
+            &mut self.history,
+            HistoryLine::Change {
+                name,
+                args: List::of(args),
+            },
+        );
         self.change = Some(change);
         Ok(())
     }
 
     /// Closes each port of the nodes that the plan freezes, and makes rounds until each was found drained, at most so
-    /// many. Where roots are left then, it is answered which; the ports stay closed until the change is given up.
+    /// many. Where roots are left then, it is answered which; the ports stay closed until the change is given up. Memory can
+    /// be wanting in a scan alone; the ports stay closed then.
     pub fn passivate(&mut self, plan: &Plan, rounds: u32) -> Result<(), PassError>
         requires prepared { (t : List Item) × (moves : List Move) × (next : Graph)
-            × IsOpen B.stands_for B.room self.old t moves plan.now next }
+            × IsPrepared B.stands_for B.room self.old t moves plan.now next }
         ensures ok { IfOk result (λ _. HasPassivated B.stands_for B.room self.old self.new plan.now rounds) }
         ensures pending { IfErr result (WherePending
             (λ k left. (k ≡ rounds) × HasLeft B.stands_for B.room self.old self.new plan.now rounds left)) }
         ensures no_memory { IfErr result (WhereNoMemory
             (BrokeOff B.stands_for B.broke_off self.old.board self.new.board)) }
+        ensures stays_closed { IfErr result (WhereNoMemory
+            (HasBrokenOff B.stands_for B.room B.broke_off self.old self.new plan.now rounds)) }
     {
         let _ = plan;
-        let Some(change) = &self.change else {
+        let alloc = *self.history.allocator();
+        let Some(mut change) = self.change.take() else {
             return Ok(());
         };
-        let left = draining::drain(&mut self.board, &mut self.history, change, rounds)?;
+        let drained = draining::drain(
+            &mut self.board,
+            &mut self.history,
+            &change.closed,
+            &mut change.waiting,
+            rounds,
+        );
+        let left = mem::replace(&mut change.waiting.left, Vec::new(alloc));
+        self.change = Some(change);
+        drained?;
         draining::answer(rounds, left)
     }
 

@@ -28,5 +28,5 @@ pub use laws::{
     passivated_ports_are_noted, plans_may_be_carried_out, starts_may_be_done,
 };
 pub use layout::Layout;
-pub use passivating::{LeftRoot, passivate};
+pub use passivating::{LeftRoot, Waiting, passivate};
 pub use stopping::stop;

@@ -1,13 +1,13 @@
 //! Closing ports, and waiting until no transaction that their owners began is open there.
 
-ghost use Rattle.std.specs.Prelude.{◌≡◌, ◌<◌, List, ◌++◌, map, IfOk, OnErr, OnOk};
+ghost use Rattle.std.specs.Prelude.{◌≡◌, ◌<◌, ◌≤◌, ◌+◌, ◌*◌, List, ◌∷◌, [], ◌++◌, length, map, IfOk, OnErr, OnOk, vec_capacity, vec_len};
 ghost use Rattle.quiesce_core.specs.declared.event.Event.TheVariants as event;
 ghost use Rattle.change_script.specs.declared.report.HistoryLine.{HistoryLine};
 ghost use Rattle.change_script.specs.declared.report.HistoryLine.TheVariants as to;
 ghost use Rattle.change_board.specs.Entries.{Entry, did, config_of};
 ghost use Rattle.change_board.specs.Records.{Adds};
-ghost use Rattle.change_engine.specs.Growing.{BrokeOff};
-ghost use Rattle.change_engine.specs.Passivating.{AreLivePorts, AreMadePorts, Passed, Passivated, Rounded, lines_by, root_ports, roots_by};
+ghost use Rattle.change_engine.specs.Breaking.{BrokeInRound, BrokeInScan};
+ghost use Rattle.change_engine.specs.Passivating.{AreLivePorts, AreMadePorts, HasPlaceFor, Passed, Passivated, Rounded, lines_by, root_ports, roots_by};
 
 use change_board::{Board, Look};
 use change_script::HistoryLine;
@@ -22,118 +22,167 @@ pub struct LeftRoot {
     pub serial: u32,
 }
 
-fn close_all<B: Board>(
-    board: &mut B,
-    history: &mut Vec<HistoryLine>,
-    ports: &[u32],
-) -> Result<(), NoMemory>
+/// The lists that a wait is kept in. With place for all ports that are closed it takes no memory.
+#[derive(Debug, Drop)]
+pub struct Waiting {
+    /// The ports that a round looks at.
+    pub ports: Vec<u32>,
+    /// The roots that the last look saw.
+    pub left: Vec<LeftRoot>,
+}
+
+impl Waiting {
+    /// With place for so many ports.
+    pub fn with_capacity(alloc: Global, count: usize) -> Result<Waiting, NoMemory>
+        ensures { IfOk result (λ waiting. HasPlaceFor waiting count) }
+    {
+        let ports = Vec::with_capacity(alloc, count)?;
+        let left = Vec::with_capacity(alloc, count)?;
+        Ok(Waiting { ports, left })
+    }
+}
+
+/// Appends to a list that has place.
+pub(crate) fn put<T: Drop>(list: &mut Vec<T>, item: T)
+    requires place { vec_len list.old < vec_capacity list.old }
+    ensures items { list.new.items ≡ list.old.items ++ item ∷ [] }
+    ensures len { vec_len list.new ≡ vec_len list.old + 1 }
+    ensures capacity { vec_capacity list.old ≤ vec_capacity list.new }
+{
+    let _ = list.push(item);
+}
+
+fn close_all<B: Board>(board: &mut B, history: &mut Vec<HistoryLine>, ports: &[u32])
     requires live { (r : List Entry) × B.stands_for board.old r × AreLivePorts (config_of r) ports.now }
-    ensures board { IfOk result
-        (λ x. Adds B.stands_for board.old board.new (map (λ p. did (event.Close p)) ports.now)) }
-    ensures lines { IfOk result (λ x. history.new.items ≡ history.old.items ++ map to.Close ports.now) }
-    ensures room { OnOk result (B.room board.new ≡ B.room board.old) }
-    ensures err { OnErr result (BrokeOff B.stands_for B.broke_off board.old board.new) }
+    requires place { vec_len history.old + length ports.now ≤ vec_capacity history.old }
+    ensures board { Adds B.stands_for board.old board.new (map (λ p. did (event.Close p)) ports.now) }
+    ensures lines { history.new.items ≡ history.old.items ++ map to.Close ports.now }
+    ensures room { B.room board.new ≡ B.room board.old }
+    ensures len { vec_len history.new ≡ vec_len history.old + length ports.now }
+    ensures capacity { vec_capacity history.old ≤ vec_capacity history.new }
 {
     for port in ports {
-        history.push(HistoryLine::Close { port: *port })?;
+        put(history, HistoryLine::Close { port: *port });
         board.close(*port);
     }
-    Ok(())
 }
 
 /// Tells that a look found the port drained, or notes the root that it saw.
-fn note_look(
-    history: &mut Vec<HistoryLine>,
-    left: &mut Vec<LeftRoot>,
-    port: u32,
-    look: Look,
-) -> Result<(), NoMemory>
-    ensures lines { IfOk result (λ x. history.new.items ≡ history.old.items ++ lines_by port look) }
-    ensures left { IfOk result (λ x. left.new.items ≡ left.old.items ++ roots_by port look) }
+fn note_look(history: &mut Vec<HistoryLine>, left: &mut Vec<LeftRoot>, port: u32, look: Look)
+    requires line_place { vec_len history.old < vec_capacity history.old }
+    requires root_place { vec_len left.old < vec_capacity left.old }
+    ensures lines { history.new.items ≡ history.old.items ++ lines_by port look }
+    ensures left { left.new.items ≡ left.old.items ++ roots_by port look }
+    ensures len { vec_len history.new + vec_len left.new ≡ vec_len history.old + vec_len left.old + 1 }
+    ensures more_ { vec_len history.old ≤ vec_len history.new }
+    ensures capacity { vec_capacity history.old ≤ vec_capacity history.new }
+    ensures left_capacity { vec_capacity left.old ≤ vec_capacity left.new }
 {
     match look {
-        Look::Drained { serial, .. } => history.push(HistoryLine::Drained { port, serial })?,
-        Look::Busy { word } => left.push(LeftRoot {
-            port,
-            serial: Word::of(word).serial,
-        })?,
+        Look::Drained { serial, .. } => put(history, HistoryLine::Drained { port, serial }),
+        Look::Busy { word } => put(
+            left,
+            LeftRoot {
+                port,
+                serial: Word::of(word).serial,
+            },
+        ),
     }
+}
+
+/// Looks once at each of these ports, and keeps the roots that it saw.
+fn look_at<B: Board>(
+    board: &mut B,
+    history: &mut Vec<HistoryLine>,
+    ports: &[u32],
+    left: &mut Vec<LeftRoot>,
+)
+    requires made { (r : List Entry) × B.stands_for board.old r × AreMadePorts (config_of r) ports.now }
+    requires line_place { vec_len history.old + length ports.now ≤ vec_capacity history.old }
+    requires root_place { length ports.now ≤ vec_capacity left.old }
+    ensures passed { Passed B.stands_for board.old board.new history.old.items history.new.items ports.now left.new.items }
+    ensures room { B.room board.new ≡ B.room board.old }
+    ensures len { vec_len history.new + vec_len left.new ≡ vec_len history.old + length ports.now }
+    ensures few { vec_len left.new ≤ length ports.now }
+    ensures capacity { vec_capacity history.old ≤ vec_capacity history.new }
+    ensures left_capacity { vec_capacity left.old ≤ vec_capacity left.new }
+{
+    left.clear();
+    for port in ports {
+        let look = board.look(*port);
+        note_look(history, left, *port, look);
+    }
+}
+
+/// The ports of these roots.
+fn list_ports(ports: &mut Vec<u32>, left: &[LeftRoot])
+    requires place { length left.now ≤ vec_capacity ports.old }
+    ensures items { ports.new.items ≡ root_ports left.now }
+    ensures capacity { vec_capacity ports.old ≤ vec_capacity ports.new }
+{
+    ports.clear();
+    for root in left {
+        put(ports, root.port);
+    }
+}
+
+/// A scan, in which no node begins a transaction, and a look at each port of the roots that the last look saw.
+fn make_round<B: Board>(
+    board: &mut B,
+    history: &mut Vec<HistoryLine>,
+    waiting: &mut Waiting,
+) -> Result<(), NoMemory>
+    requires made { (r : List Entry) × B.stands_for board.old r
+        × AreMadePorts (config_of r) (root_ports waiting.old.left.items) }
+    requires line_place { vec_len history.old + vec_len waiting.old.left ≤ vec_capacity history.old }
+    requires place { HasPlaceFor waiting.old (vec_len waiting.old.left) }
+    ensures ok { OnOk result (Rounded B.stands_for board.old board.new history.old.items history.new.items
+        waiting.old.left.items waiting.new.left.items) }
+    ensures room { OnOk result (B.room board.new ≡ B.room board.old) }
+    ensures len { OnOk result
+        (vec_len history.new + vec_len waiting.new.left ≡ vec_len history.old + vec_len waiting.old.left) }
+    ensures few { OnOk result (vec_len waiting.new.left ≤ vec_len waiting.old.left) }
+    ensures capacity { vec_capacity history.old ≤ vec_capacity history.new }
+    ensures ports_capacity { vec_capacity waiting.old.ports ≤ vec_capacity waiting.new.ports }
+    ensures left_capacity { vec_capacity waiting.old.left ≤ vec_capacity waiting.new.left }
+    ensures err { OnErr result
+        (BrokeInScan B.stands_for B.broke_off board.old board.new history.old.items history.new.items) }
+{
+    board.scan(false)?;
+    list_ports(&mut waiting.ports, &waiting.left);
+    look_at(board, history, &waiting.ports, &mut waiting.left);
     Ok(())
 }
 
-/// Looks once at each of these ports, and gives the roots that it saw.
-fn look_at<B: Board>(
-    alloc: Global,
-    board: &mut B,
-    history: &mut Vec<HistoryLine>,
-    ports: &[u32],
-) -> Result<Vec<LeftRoot>, NoMemory>
-    requires made { (r : List Entry) × B.stands_for board.old r × AreMadePorts (config_of r) ports.now }
-    ensures ok { IfOk result
-        (λ left. Passed B.stands_for board.old board.new history.old.items history.new.items ports.now left.items) }
-    ensures room { OnOk result (B.room board.new ≡ B.room board.old) }
-    ensures err { OnErr result (BrokeOff B.stands_for B.broke_off board.old board.new) }
-{
-    let mut left = Vec::new(alloc);
-    for port in ports {
-        let look = board.look(*port);
-        note_look(history, &mut left, *port, look)?;
-    }
-    Ok(left)
-}
-
-fn ports_left(alloc: Global, left: &[LeftRoot]) -> Result<Vec<u32>, NoMemory>
-    ensures { IfOk result (λ ports. ports.items ≡ root_ports left.now) }
-{
-    let mut ports = Vec::with_capacity(alloc, left.len())?;
-    for root in left {
-        ports.push(root.port)?;
-    }
-    Ok(ports)
-}
-
-/// A scan, in which no node begins a transaction, and a look at each port of these roots. Gives the roots that the look
-/// saw.
-fn make_round<B: Board>(
-    alloc: Global,
-    board: &mut B,
-    history: &mut Vec<HistoryLine>,
-    left: &[LeftRoot],
-) -> Result<Vec<LeftRoot>, NoMemory>
-    requires made { (r : List Entry) × B.stands_for board.old r × AreMadePorts (config_of r) (root_ports left.now) }
-    ensures ok { IfOk result
-        (λ next. Rounded B.stands_for board.old board.new history.old.items history.new.items left.now next.items) }
-    ensures room { OnOk result (B.room board.new ≡ B.room board.old) }
-    ensures err { OnErr result (BrokeOff B.stands_for B.broke_off board.old board.new) }
-{
-    board.scan(false)?;
-    let ports = ports_left(alloc, left)?;
-    look_at(alloc, board, history, &ports)
-}
-
 /// Closes these ports and looks at each. Then it makes at most so many rounds of a scan, in which no node begins a
-/// transaction, and a look at each port that wasn't found drained yet. Gives the roots that the last look saw.
+/// transaction, and a look at each port that wasn't found drained yet. Keeps the roots that the last look saw. Only a
+/// scan takes memory.
 pub fn passivate<B: Board>(
-    alloc: Global,
     board: &mut B,
     history: &mut Vec<HistoryLine>,
     ports: &[u32],
+    waiting: &mut Waiting,
     rounds: u64,
-) -> Result<Vec<LeftRoot>, NoMemory>
+) -> Result<(), NoMemory>
     requires live { (r : List Entry) × B.stands_for board.old r × AreLivePorts (config_of r) ports.now }
-    ensures ok { IfOk result
-        (λ left. Passivated B.stands_for board.old board.new history.old.items history.new.items ports.now rounds
-        left.items) }
+    requires line_place { vec_len history.old + 2 * length ports.now ≤ vec_capacity history.old }
+    requires place { HasPlaceFor waiting.old (length ports.now) }
+    ensures ok { OnOk result (Passivated B.stands_for board.old board.new history.old.items history.new.items ports.now
+        rounds waiting.new.left.items) }
     ensures room { OnOk result (B.room board.new ≡ B.room board.old) }
-    ensures err { OnErr result (BrokeOff B.stands_for B.broke_off board.old board.new) }
+    ensures len { OnOk result
+        (vec_len history.new + vec_len waiting.new.left ≡ vec_len history.old + 2 * length ports.now) }
+    ensures capacity { vec_capacity history.old ≤ vec_capacity history.new }
+    ensures err { OnErr result (BrokeInRound B.stands_for B.broke_off board.old board.new history.old.items
+        history.new.items ports.now rounds) }
 {
-    close_all(board, history, ports)?;
-    let mut left = look_at(alloc, board, history, ports)?;
+    close_all(board, history, ports);
+    look_at(board, history, ports, &mut waiting.left);
     for _round in 0..rounds {
-        if left.is_empty() {
-            return Ok(left);
+        if waiting.left.is_empty() {
+            return Ok(());
         }
-        left = make_round(alloc, board, history, &left)?;
+        make_round(board, history, waiting)?;
     }
-    Ok(left)
+    Ok(())
 }

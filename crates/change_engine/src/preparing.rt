@@ -1,9 +1,10 @@
 //! What a change will do, listed before it begins.
 
-ghost use Rattle.std.specs.Prelude.{◌≡◌, ◌++◌, ◌∷◌, [], List, map, IfOk};
+ghost use Rattle.std.specs.Prelude.{◌≡◌, ◌+◌, ◌*◌, ◌-◌, ◌^◌, ◌<◌, ◌++◌, ◌∷◌, [], List, map, IfOk, vec_len};
 ghost use Rattle.change_law.specs.Members.{lines_of_events};
 ghost use Rattle.change_plan.specs.declared.plan_data.Move.{Move};
 ghost use Rattle.change_engine.specs.Engines.{IsFor, IsPlanned, IsTold};
+ghost use Rattle.change_engine.specs.Passivating.{HasPlaceFor};
 ghost use Rattle.config_graph.specs.Graph.{IsGraph};
 ghost use Rattle.quiesce_core.specs.State.{Configuration};
 ghost use Rattle.quiesce_core.specs.declared.event.Event.TheVariants as event;
@@ -11,6 +12,7 @@ ghost use Rattle.quiesce_core.specs.declared.event.Event.TheVariants as event;
 use crate::engine::Change;
 use crate::laws::layouts_tell_commits;
 use crate::layout::Layout;
+use crate::passivating::Waiting;
 use crate::plan_index::PlanIndex;
 use crate::telling::push_lines;
 use change_plan::Plan;
@@ -54,7 +56,8 @@ pub(crate) fn list_change(
 ) -> Result<Change, NoMemory>
     requires planned { (c : Configuration) × (moves : List Move) × IsGraph old.now × IsTold layout.now old.now c
         × IsPlanned old.now new.now moves plan.now c }
-    ensures { IfOk result (λ change. IsFor layout.now old.now new.now plan.now change) }
+    ensures for_plan { IfOk result (λ change. IsFor layout.now old.now new.now plan.now change) }
+    ensures waiting { IfOk result (λ change. HasPlaceFor change.waiting (vec_len change.closed)) }
 {
     let plan = PlanIndex::of(alloc, old.node_count(), new.node_count(), plan)?;
     list_by(alloc, layout, old, new, &plan)
@@ -69,7 +72,8 @@ fn list_by(
 ) -> Result<Change, NoMemory>
     requires planned { (c : Configuration) × (moves : List Move) × IsGraph old.now × IsTold layout.now old.now c
         × IsPlanned old.now new.now moves plan.now c }
-    ensures { IfOk result (λ change. IsFor layout.now old.now new.now plan.now change) }
+    ensures for_plan { IfOk result (λ change. IsFor layout.now old.now new.now plan.now change) }
+    ensures waiting { IfOk result (λ change. HasPlaceFor change.waiting (vec_len change.closed)) }
 {
     layouts_tell_commits();
     let closed = layout.list_closed(alloc, plan)?;
@@ -77,6 +81,7 @@ fn list_by(
     let lines = list_lines(alloc, &commit.events, HistoryLine::Commit)?;
     let reopens = list_reopens(alloc, &closed)?;
     let reopen_lines = list_lines(alloc, &reopens, HistoryLine::Abandon)?;
+    let waiting = Waiting::with_capacity(alloc, closed.len())?;
     Ok(Change {
         closed,
         events: commit.events,
@@ -84,16 +89,21 @@ fn list_by(
         reopens,
         reopen_lines,
         next: commit.next,
+        waiting,
     })
 }
 
-/// How many lines a change by these lists tells at most, and a few more: its own, one for each close, one for each
-/// port that is drained or left, and those of either end.
-pub(crate) fn line_count(change: &Change) -> usize {
+/// How many lines a change by these lists tells at most: its own, one for each close, one for each port that is drained
+/// or left, one for all that are left, and those of either end.
+pub(crate) fn line_count(change: &Change) -> usize
+    ensures { result < 2 ^ 64 - 1 → result ≡ 2 * vec_len change.now.closed + vec_len change.now.lines
+        + vec_len change.now.reopen_lines + 2 }
+{
     change
         .closed
         .len()
-        .saturating_mul(3)
+        .saturating_mul(2)
         .saturating_add(change.lines.len())
-        .saturating_add(4)
+        .saturating_add(change.reopen_lines.len())
+        .saturating_add(2)
 }

@@ -1,15 +1,22 @@
 //! Stopping a system.
 
-ghost use Rattle.std.specs.Prelude.{◌-◌, ◌^◌, List, IfOk, OnErr};
+ghost use Rattle.std.specs.Prelude.{◌≡◌, ◌+◌, ◌*◌, ◌-◌, ◌^◌, ◌<◌, length, List, IfOk, OnErr};
 ghost use Rattle.change_board.specs.Entries.{Entry};
 ghost use Rattle.change_engine.specs.Growing.{BrokeOff};
 ghost use Rattle.change_engine.specs.Stopping.{AreAllLive, Stops};
 
-use crate::passivating::passivate;
+use crate::passivating::{Waiting, passivate, put};
 use change_board::{Board, Collected};
 use change_script::HistoryLine;
 use config_graph::NoMemory;
 use std::alloc::{AllocError, Global};
+
+/// How many lines a stop tells: its own, and for each port two.
+fn line_count(ports: &[u32]) -> usize
+    ensures { result < 2 ^ 64 - 1 → result ≡ 2 * length ports.now + 1 }
+{
+    ports.len().saturating_mul(2).saturating_add(1)
+}
 
 /// Closes the ports of all live nodes, makes rounds until each was found drained, and takes all logs in. Where
 /// 2^64 - 1 rounds leave a root, that is answered as want of memory.
@@ -25,9 +32,11 @@ pub fn stop<B: Board>(
         ports.now (2 ^ 64 - 1) x) }
     ensures err { OnErr result (BrokeOff B.stands_for B.broke_off board.old board.new) }
 {
-    history.push(HistoryLine::Stop)?;
-    let left = passivate(alloc, board, history, ports, u64::MAX)?;
-    if left.is_empty() {
+    let mut waiting = Waiting::with_capacity(alloc, ports.len())?;
+    history.reserve(line_count(ports))?;
+    put(history, HistoryLine::Stop);
+    passivate(board, history, ports, &mut waiting, u64::MAX)?;
+    if waiting.left.is_empty() {
         return board.collect();
     }
     Err(AllocError)

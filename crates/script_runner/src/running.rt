@@ -2,7 +2,7 @@
 
 ghost use Rattle.std.specs.Prelude.{◌≡◌, true, false, List, [], IfOk};
 ghost use Rattle.change_board.specs.Transcripts.{Item};
-ghost use Rattle.change_engine.specs.Engines.{IsIdle, IsOpen};
+ghost use Rattle.change_engine.specs.Engines.{IsIdle, IsPrepared};
 ghost use Rattle.change_plan.specs.declared.plan_data.Move.{Move};
 ghost use Rattle.change_law.specs.Follows.{Follows};
 ghost use Rattle.change_script.specs.Reports.{LogsAreMade};
@@ -40,7 +40,8 @@ fn go_through<B: Board + Drop>(
     graph: Graph,
     within: u32,
 ) -> Result<bool, NoMemory>
-    requires prepared { (t : List Item) × (moves : List Move) × IsOpen B.stands_for B.room engine.old t moves plan graph }
+    requires prepared { (t : List Item) × (moves : List Move)
+        × IsPrepared B.stands_for B.room engine.old t moves plan graph }
     ensures { IfOk result (λ given_up. WentThrough B.stands_for B.room engine.old engine.new plan graph within given_up) }
 {
     match engine.passivate(&plan, within) {

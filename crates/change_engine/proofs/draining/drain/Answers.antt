@@ -1,21 +1,19 @@
-use Rattle.std.proofs.Common.{◌++◌, ap, ◌∙◌, subst}
+use Rattle.std.proofs.Common.{◌++◌, ap, ◌∙◌, subst, arith, length}
+use Rattle.change_engine.specs.Breaking.{BrokeInRound}
 use Rattle.change_engine.specs.Draining.{pending_lines}
 use Rattle.change_engine.specs.Passivating.{Passivated}
 use Rattle.change_engine.proofs.ChangeLemmas.{waited}
-use Rattle.change_engine.proofs.Growing.{if_err, stands_on}
+use Rattle.change_engine.proofs.Growing.{if_err}
 use Rattle.change_engine.proofs.draining.drain.Goals as goal
 
-pub returns-in_err-push_pending-clause-err : goal.returns-in_err-push_pending-clause-err
-returns-in_err-push_pending-clause-err g c =
-    if_err (stands_on g.B.Board.stands_for g.B.Board.broke_off c.args.board.now c.passivate.new.board _ c.in_ok-left.ensures.ok.grew.adds) c.from_residual-in_err-push_pending.result
+pub passivate-requires-clause-line_place : goal.passivate-requires-clause-line_place
+passivate-requires-clause-line_place g c = omega (arith, c.requires.line_place)
 
-pub returns-in_err-reserve-clause-err : goal.returns-in_err-reserve-clause-err
-returns-in_err-reserve-clause-err g c =
-    if_err (stands_on g.B.Board.stands_for g.B.Board.broke_off c.args.board.now c.passivate.new.board _ c.in_ok-left.ensures.ok.grew.adds) c.from_residual-in_err-reserve.result
-
-pub returns-in_err-reserve-2-clause-err : goal.returns-in_err-reserve-2-clause-err
-returns-in_err-reserve-2-clause-err g c =
-    if_err (stands_on g.B.Board.stands_for g.B.Board.broke_off c.args.board.now c.passivate.new.board _ c.in_ok-left.ensures.ok.grew.adds) c.from_residual-in_err-reserve-2.result
+pub push_pending-requires : goal.push_pending-requires
+push_pending-requires g c =
+    let x = c.in_ok-passivate.ensures in
+    let left = c.passivate.new.waiting.left in
+    record { place = omega (arith, x.len, x.capacity, left.ok.0, ap length c.deref.ensures.value, c.requires.line_place) }
 
 pub returns-clause-ok : goal.returns-clause-ok
 returns-clause-ok g c =
@@ -24,8 +22,18 @@ returns-clause-ok g c =
     let b = c.passivate.new.board in
     let h = c.args.history.now.items in
     let i = c.passivate.new.history.items in
-    let left = c.in_ok-left.left.items in
-    let x = subst (λ ps. Passivated S a b h i ps c.from.result left) c.deref.ensures.value c.in_ok-left.ensures.ok in
-    waited S a b h i c.reserve-2.new.self.items c.args.change.now.closed.items c.args.rounds left
-    (subst (λ n. Passivated S a b h i c.args.change.now.closed.items n left) c.from.ensures x)
-    (c.in_ok-reserve-2.ensures.items ∙ c.in_ok-reserve.ensures.items ∙ c.in_ok-push_pending.ensures ∙ ap (λ l. i ++ pending_lines c.args.rounds l) c.deref-2.ensures.value)
+    let left = c.passivate.new.waiting.left.items in
+    let ports = c.args.ports.now in
+    waited S a b h i c.push_pending.new.history.items ports c.args.rounds left
+    (subst (λ n. Passivated S a b h i ports n left) c.from.ensures c.in_ok-passivate.ensures.ok)
+    (c.push_pending.ensures.lines ∙ ap (λ l. i ++ pending_lines c.args.rounds l) c.deref.ensures.value)
+
+pub returns-clause-len : goal.returns-clause-len
+returns-clause-len g c =
+    let x = c.in_ok-passivate.ensures in
+    let left = c.passivate.new.waiting.left in
+    omega (arith, x.len, c.push_pending.ensures.len, left.ok.0, ap length c.deref.ensures.value)
+
+pub returns-in_err-passivate-clause-err : goal.returns-in_err-passivate-clause-err
+returns-in_err-passivate-clause-err g c =
+    if_err (subst (λ n. BrokeInRound g.B.Board.stands_for g.B.Board.broke_off c.args.board.now c.passivate.new.board c.args.history.now.items c.passivate.new.history.items c.args.ports.now n) c.from.ensures c.in_err-passivate.ensures.err) c.from_residual.result

@@ -1,9 +1,9 @@
-use Rattle.std.proofs.Common.{◌≡◌, true, ◌++◌, ◌∷◌, [], append_assoc, map, take, get_or, sym, ap, ◌∙◌, subst}
+use Rattle.std.proofs.Common.{◌≡◌, true, ◌++◌, ◌∷◌, [], append_assoc, map, take, get_or, sym, ap, ◌∙◌, subst, arith}
 use Rattle.std.proofs.lemmas.List.Elements.{All-take}
 use Rattle.quiesce_core.specs.Rules.{is_live_port}
 use Rattle.change_script.specs.declared.report.HistoryLine.TheVariants as to
 use Rattle.change_board.specs.Entries.{config_of}
-use Rattle.change_engine.proofs.Growing.{adds_both, if_err, stands_on}
+use Rattle.change_engine.proofs.Growing.{adds_both}
 use Rattle.change_engine.proofs.Passing.{closes, closes_more, close_lines_more, live_behind}
 use Rattle.change_engine.proofs.passivating.close_all.Goals as goal
 
@@ -21,6 +21,9 @@ close-requires g c =
       );
     }
 
+pub put-requires : goal.put-requires
+put-requires g c = record { place = omega (arith, c.loop-port.invariant.len, c.loop-port.invariant.capacity, c.loop-port-test.true, c.requires.place) }
+
 pub loop-port-preserved : goal.loop-port-preserved
 loop-port-preserved g c =
     let ps = c.args.ports.now in
@@ -29,11 +32,9 @@ loop-port-preserved g c =
       room = c.close.ensures.room ∙ c.loop-port.invariant.room;
       adds = λ r s. subst (λ es. g.B.Board.stands_for c.close.new.self (r ++ es)) (sym (closes_more ps i c.loop-port-test.true))
           (adds_both g.B.Board.stands_for c.args.board.now c.loop-port.board c.close.new.self (closes (take i ps)) _ c.loop-port.invariant.adds c.close.ensures.board r s);
-      lines = c.in_ok-push.ensures.items ∙ ap (λ ls. ls ++ to.Close (get_or ps i 0) ∷ []) c.loop-port.invariant.lines
+      len = omega (arith, c.put.ensures.len, c.loop-port.invariant.len);
+      capacity = omega (arith, c.put.ensures.capacity, c.loop-port.invariant.capacity);
+      lines = c.put.ensures.items ∙ ap (λ ls. ls ++ to.Close (get_or ps i 0) ∷ []) c.loop-port.invariant.lines
           ∙ append_assoc c.args.history.now.items (map to.Close (take i ps)) (to.Close (get_or ps i 0) ∷ [])
           ∙ ap (λ ls. c.args.history.now.items ++ ls) (sym (close_lines_more ps i c.loop-port-test.true));
     }
-
-pub returns-in_err-push-clause-err : goal.returns-in_err-push-clause-err
-returns-in_err-push-clause-err g c =
-    if_err (stands_on g.B.Board.stands_for g.B.Board.broke_off c.args.board.now c.loop-port.board (closes (take c.loop-port.port-index c.args.ports.now)) c.loop-port.invariant.adds) c.from_residual.result

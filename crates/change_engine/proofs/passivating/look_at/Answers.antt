@@ -1,9 +1,8 @@
-use Rattle.std.proofs.Common.{◌<◌, ◌++◌, ◌∷◌, [], map, get_or, refl, sym, ap, ◌∙◌, subst, length}
+use Rattle.std.proofs.Common.{◌<◌, ◌++◌, ◌∷◌, [], map, get_or, refl, sym, ap, ◌∙◌, subst, length, arith}
 use Rattle.change_board.specs.Entries.{events_in}
 use Rattle.change_board.specs.Scans.{Found}
 use Rattle.change_board.specs.Transcripts.{entries}
 use Rattle.change_engine.specs.Passivating.{lines_by, look_item, roots_by, roots_of}
-use Rattle.change_engine.proofs.Growing.{adds_both, if_err, stands_on}
 use Rattle.change_engine.proofs.Passing.{config_quiet, grew_look, lines_told, look_entries, looks_quiet, ports_push, roots_push, roots_told}
 use Rattle.change_engine.proofs.passivating.look_at.Goals as goal
 
@@ -21,6 +20,14 @@ look-look-requires g c =
       );
     }
 
+pub note_look-requires : goal.note_look-requires
+note_look-requires g c =
+    let inv = c.loop-port.invariant in
+    record {
+      line_place = omega (arith, inv.len, inv.capacity, c.loop-port-test.true, c.requires.line_place);
+      root_place = omega (arith, inv.len, inv.more_, inv.left_capacity, c.loop-port-test.true, c.requires.root_place, c.clear.ensures.capacity);
+    }
+
 pub loop-port-preserved : goal.loop-port-preserved
 loop-port-preserved g c =
     let S = g.B.Board.stands_for in
@@ -34,17 +41,12 @@ loop-port-preserved g c =
       room = c.look-look.ensures.room ∙ inv.room;
       found = inv.found ++ f ∷ [];
       at_ports = ports_push inv.found f ps i c.loop-port-test.true inv.at_ports refl;
-      left_is = c.in_ok-note_look.ensures.left ∙ ap (λ qs. qs ++ roots_by p c.look-look.result) inv.left_is
+      len = omega (arith, c.note_look.ensures.len, inv.len);
+      more_ = omega (arith, c.note_look.ensures.more_, inv.more_);
+      capacity = omega (arith, c.note_look.ensures.capacity, inv.capacity);
+      left_capacity = omega (arith, c.note_look.ensures.left_capacity, inv.left_capacity);
+      left_is = c.note_look.ensures.left ∙ ap (λ qs. qs ++ roots_by p c.look-look.result) inv.left_is
           ∙ ap (λ l. roots_of inv.found ++ roots_by p l) seen.found ∙ ap (λ qs. roots_of inv.found ++ qs) (roots_told p seen.word) ∙ sym (roots_push inv.found f);
       grew = grew_look S c.args.board.now c.loop-port.board c.look-look.new.self c.args.history.now.items c.loop-port.history.items c.note_look.new.history.items inv.found f inv.grew seen.adds
-          (c.in_ok-note_look.ensures.lines ∙ ap (λ l. c.loop-port.history.items ++ lines_by p l) seen.found ∙ ap (λ ls. c.loop-port.history.items ++ ls) (lines_told p seen.word));
+          (c.note_look.ensures.lines ∙ ap (λ l. c.loop-port.history.items ++ lines_by p l) seen.found ∙ ap (λ ls. c.loop-port.history.items ++ ls) (lines_told p seen.word));
     }
-
-pub returns-in_err-note_look-clause-err : goal.returns-in_err-note_look-clause-err
-returns-in_err-note_look-clause-err g c =
-    let S = g.B.Board.stands_for in
-    let inv = c.loop-port.invariant in
-    let seen = c.look-look.ensures.board in
-    let es = entries (map look_item inv.found) in
-    if_err (stands_on S g.B.Board.broke_off c.args.board.now c.look-look.new.self _
-    (adds_both S c.args.board.now c.loop-port.board c.look-look.new.self es _ inv.grew.adds seen.adds)) c.from_residual.result

@@ -1,4 +1,5 @@
-use Rattle.std.proofs.Common.{◌≡◌, map, take}
+use Rattle.std.proofs.Common.{◌≡◌, ◌≤◌, ◌+◌, map, take, vec_len}
+use Rattle.std.specs.Vec.{vec_capacity}
 use Rattle.std.specs.Prelude.{List}
 use Rattle.change_board.specs.Scans.{Found, ports_of}
 use Rattle.change_engine.specs.Growing.{Grew}
@@ -10,6 +11,10 @@ invariant-loop-port g l = record {
   room : g.B.Board.room l.board ≡ g.B.Board.room l.initial.board;
   found : List Found;
   at_ports : ports_of found ≡ take l.port-index l.ports;
+  len : vec_len l.history + vec_len l.left ≡ vec_len l.initial.history + l.port-index;
+  more_ : vec_len l.initial.history ≤ vec_len l.history;
+  capacity : vec_capacity l.initial.history ≤ vec_capacity l.history;
+  left_capacity : vec_capacity l.initial.left ≤ vec_capacity l.left;
   left_is : l.left.items ≡ roots_of found;
   grew : Grew g.B.Board.stands_for l.initial.board l.board l.initial.history.items l.history.items (map look_item found);
 }

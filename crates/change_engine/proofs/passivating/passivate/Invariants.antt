@@ -1,7 +1,8 @@
-use Rattle.std.proofs.Common.{◌≡◌, List, length}
+use Rattle.std.proofs.Common.{◌≡◌, ◌≤◌, ◌+◌, ◌*◌, List, length, vec_len}
+use Rattle.std.specs.Vec.{vec_capacity}
 use Rattle.change_board.specs.Entries.{Entry, config_of}
 use Rattle.change_engine.specs.Growing.{Grew}
-use Rattle.change_engine.specs.Passivating.{AreMadePorts, IsPassivation, Passivation, left_after, passivation_items, root_ports}
+use Rattle.change_engine.specs.Passivating.{AreMadePorts, HasPlaceFor, IsPassivation, Passivation, left_after, passivation_items, root_ports}
 use Rattle.change_engine.proofs.passivating.passivate.Given as goal
 
 abbrev pub invariant-loop-round : goal.invariant-loop-round
@@ -10,7 +11,11 @@ invariant-loop-round g l = record {
   how : Passivation;
   is_passivation : IsPassivation l.ports l._round how;
   all_rounds : length how.rounds ≡ l._round;
-  left_is : l.left.items ≡ left_after how.first how.rounds;
+  len : vec_len l.history + vec_len l.waiting.left ≡ vec_len l.fn.history + 2 * length l.ports;
+  few : vec_len l.waiting.left ≤ length l.ports;
+  capacity : vec_capacity l.fn.history ≤ vec_capacity l.history;
+  place : HasPlaceFor l.waiting (length l.ports);
+  left_is : l.waiting.left.items ≡ left_after how.first how.rounds;
   grew : Grew g.B.Board.stands_for l.fn.board l.board l.fn.history.items l.history.items (passivation_items l.ports how);
-  here : (r : List Entry) × g.B.Board.stands_for l.board r × AreMadePorts (config_of r) (root_ports l.left.items);
+  here : (r : List Entry) × g.B.Board.stands_for l.board r × AreMadePorts (config_of r) (root_ports l.waiting.left.items);
 }

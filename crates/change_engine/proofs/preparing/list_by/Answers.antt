@@ -1,9 +1,10 @@
-use Rattle.std.proofs.Common.{◌++◌, ◌∷◌, [], length, map, sym, ap, ◌∙◌, arith}
+use Rattle.std.proofs.Common.{◌++◌, ◌∷◌, [], length, map, sym, ap, ◌∙◌, subst, arith}
 use Rattle.std.proofs.lemmas.List.{length-map}
 use Rattle.change_law.specs.Members.{lines_of_events}
 use Rattle.change_script.specs.declared.report.HistoryLine.TheVariants as to
 use Rattle.quiesce_core.specs.declared.event.Event.TheVariants as event
 use Rattle.change_engine.specs.Layouts.{place_in}
+use Rattle.change_engine.specs.Passivating.{HasPlaceFor}
 use Rattle.change_engine.proofs.CommitRoom.{nodes_fit}
 use Rattle.change_engine.proofs.PlanInLemmas.{plan_in}
 use Rattle.change_engine.proofs.PrepareLemmas.{ports_few}
@@ -32,8 +33,8 @@ list_commit-requires-clause-places c =
     let w = c.requires.planned in
     places_below c.args.layout.now w.0 c.args.old.now w.3.laid
 
-pub returns : goal.returns
-returns c =
+pub returns-clause-for_plan : goal.returns-clause-for_plan
+returns-clause-for_plan c =
     let w = c.requires.planned in
     let old = c.args.old.now in
     let new = c.args.new.now in
@@ -49,3 +50,6 @@ returns c =
       reopens = c.in_ok-reopens.ensures ∙ ap (map event.Reopen) c.deref-2.ensures.value;
       reopen_lines = c.in_ok-reopen_lines.ensures ∙ ap (λ es. lines_of_events es ++ to.Abandon ∷ []) c.deref-3.ensures.value;
     }
+
+pub returns-clause-waiting : goal.returns-clause-waiting
+returns-clause-waiting c = subst (HasPlaceFor c.in_ok-waiting.waiting) c.len.ensures c.in_ok-waiting.ensures

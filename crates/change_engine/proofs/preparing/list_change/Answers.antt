@@ -26,6 +26,6 @@ list_by-requires c =
       planned = (w.0, w.1, w.2, w.3, subst (λ (p : Plan). IsPlanned c.args.old.now c.args.new.now w.1 p w.0) (sym c.in_ok-plan.ensures) w.4);
     }
 
-pub returns : goal.returns
-returns c =
-    subst (λ (p : Plan). IfOk c.list_by.result (λ change. IsFor c.args.layout.now c.args.old.now c.args.new.now p change)) c.in_ok-plan.ensures c.list_by.ensures
+pub returns-clause-for_plan : goal.returns-clause-for_plan
+returns-clause-for_plan c =
+    subst (λ (p : Plan). IfOk c.list_by.result (λ change. IsFor c.args.layout.now c.args.old.now c.args.new.now p change)) c.in_ok-plan.ensures c.list_by.ensures.for_plan

@@ -1,13 +1,15 @@
-use Rattle.std.proofs.Common.{◌≡◌, ◌++◌, ◌-◌, ◌^◌, [], List, ℕ, length, true, vec_len, sym, ◌∙◌, subst, Result, Ok, Err}
-use Rattle.std.specs.Prelude.{◌==◌, IfOk, OnErr}
+use Rattle.std.proofs.Common.{◌≡◌, ◌∷◌, ◌++◌, ◌-◌, ◌^◌, [], List, ℕ, length, true, vec_len, sym, ap, ◌∙◌, subst, arith, Result, Ok, Err}
+use Rattle.std.specs.Prelude.{◌==◌, IfOk}
 use Rattle.std.proofs.lemmas.Bool.{eqb-true}
 use Rattle.base.proofs.MapLaws.{no_length}
 use Rattle.change_board.specs.Collecting.{Collects}
 use Rattle.change_board.specs.Entries.{config_of}
 use Rattle.change_board.specs.Transcripts.{entries}
+use Rattle.change_script.specs.declared.report.HistoryLine.TheVariants as to
 use Rattle.change_engine.specs.Passivating.{AreLivePorts, passivation_items}
 use Rattle.change_engine.specs.Stopping.{Stops}
-use Rattle.change_engine.proofs.Growing.{breaks, breaks_after, stands_on}
+use Rattle.change_engine.proofs.Breaking.{broke_off, on_err}
+use Rattle.change_engine.proofs.Growing.{breaks, breaks_after, if_err, nothing_done, stands_on}
 use Rattle.change_engine.proofs.Quieting.{all_live, all_noted, stop_grew}
 use Rattle.change_engine.proofs.stopping.stop.Goals as goal
 
@@ -15,23 +17,31 @@ in_ok : {A E : Type 0} (P Q : A → Type 0) → ((x : A) → P x → Q x) → (r
 in_ok P Q f (Ok x) h = f x h
 in_ok P Q f (Err e) h = tt
 
-on_err : {A E P Q : Type 0} → (P → Q) → (r : Result A E) → OnErr r P → OnErr r Q
-on_err f (Ok x) h = tt
-on_err f (Err e) h = f h
+nothing_left : {A : Type 0} (xs : List A) (n : ℕ) → n ≡ length xs → (n == 0) ≡ true → xs ≡ []
+nothing_left xs n e h = no_length xs (sym e ∙ eqb-true n 0 h)
+
+pub put-requires : goal.put-requires
+put-requires g c =
+    let room = c.in_ok-reserve.ensures.ok in
+    let small = c.reserve.new.self.small in
+    record { place = omega (arith, room, small, c.line_count.ensures (omega (arith, room, small))) }
 
 pub passivate-requires : goal.passivate-requires
 passivate-requires g c =
     let q = c.requires.all in
-    record { live = (q.0, q.1, subst (AreLivePorts (config_of q.0)) (sym q.2) (all_live (config_of q.0))) }
-
-nothing_left : {A : Type 0} (xs : List A) (n : ℕ) → n ≡ length xs → (n == 0) ≡ true → xs ≡ []
-nothing_left xs n e h = no_length xs (sym e ∙ eqb-true n 0 h)
+    let room = c.in_ok-reserve.ensures.ok in
+    let small = c.reserve.new.self.small in
+    record {
+      live = (q.0, q.1, subst (AreLivePorts (config_of q.0)) (sym q.2) (all_live (config_of q.0)));
+      line_place = omega (arith, room, c.line_count.ensures (omega (arith, room, small)), c.put.ensures.len, c.put.ensures.capacity);
+      place = c.in_ok-waiting.ensures;
+    }
 
 pub collect-requires : goal.collect-requires
 collect-requires g c =
     let q = c.requires.all in
-    let w = c.in_ok-left.ensures.ok in
-    let left = c.in_ok-left.left in
+    let w = c.in_ok-passivate.ensures.ok in
+    let left = c.passivate.new.waiting.left in
     let none_ = sym w.left_is ∙ nothing_left left.items (vec_len left) left.ok.0 (sym c.if-is_empty.ensures) in
     record { drained = (q.0 ++ entries (passivation_items c.args.ports.now w.how), w.grew.adds q.0 q.1, all_noted q.0 c.args.ports.now (2 ^ 64 - 1) w.how q.2 w.is_passivation none_) }
 
@@ -42,12 +52,12 @@ returns-then-is_empty-clause-ok g c =
     let b = c.passivate.new.board in
     let d = c.collect.new.self in
     let h = c.args.history.now.items in
-    let i = c.push.new.self.items in
+    let i = c.put.new.list.items in
     let j = c.passivate.new.history.items in
     let ports = c.args.ports.now in
     let taken = g.B.Board.taken d in
-    let w = c.in_ok-left.ensures.ok in
-    let left = c.in_ok-left.left in
+    let w = c.in_ok-passivate.ensures.ok in
+    let left = c.passivate.new.waiting.left in
     let none_ = sym w.left_is ∙ nothing_left left.items (vec_len left) left.ok.0 (sym c.if-is_empty.ensures) in
     in_ok (λ x. Collects S b d taken x) (λ x. Stops S a d taken h j ports (2 ^ 64 - 1) x)
     (λ x collected. record {
@@ -55,7 +65,7 @@ returns-then-is_empty-clause-ok g c =
       is_passivation = w.is_passivation;
       none_left = none_;
       quiet = b;
-      grew = stop_grew S a b h i j ports w.how c.in_ok-push.ensures.items w.grew;
+      grew = stop_grew S a b h i j ports w.how (c.put.ensures.items ∙ ap (λ ls. ls ++ to.Stop ∷ []) c.reserve.ensures.items) w.grew;
       collected = collected;
     })
     c.collect.result c.collect.ensures.ok
@@ -66,8 +76,19 @@ returns-then-is_empty-clause-err g c =
     let K = g.B.Board.broke_off in
     let b = c.passivate.new.board in
     let d = c.collect.new.self in
-    on_err (λ broke. breaks_after S K c.args.board.now b d _ c.in_ok-left.ensures.ok.grew.adds (breaks S K b d broke)) c.collect.result c.collect.ensures.err
+    on_err (λ broke. breaks_after S K c.args.board.now b d _ c.in_ok-passivate.ensures.ok.grew.adds (breaks S K b d broke)) c.collect.result c.collect.ensures.err
 
 pub returns-clause-err : goal.returns-clause-err
 returns-clause-err g c =
-    stands_on g.B.Board.stands_for g.B.Board.broke_off c.args.board.now c.passivate.new.board _ c.in_ok-left.ensures.ok.grew.adds
+    stands_on g.B.Board.stands_for g.B.Board.broke_off c.args.board.now c.passivate.new.board _ c.in_ok-passivate.ensures.ok.grew.adds
+
+pub returns-in_err-waiting-clause-err : goal.returns-in_err-waiting-clause-err
+returns-in_err-waiting-clause-err g c = if_err (nothing_done g.B.Board.stands_for g.B.Board.broke_off c.args.board.now) c.from_residual.result
+
+pub returns-in_err-reserve-clause-err : goal.returns-in_err-reserve-clause-err
+returns-in_err-reserve-clause-err g c = if_err (nothing_done g.B.Board.stands_for g.B.Board.broke_off c.args.board.now) c.from_residual-in_err-reserve.result
+
+pub returns-in_err-passivate-clause-err : goal.returns-in_err-passivate-clause-err
+returns-in_err-passivate-clause-err g c =
+    if_err (broke_off g.B.Board.stands_for g.B.Board.broke_off c.args.board.now c.passivate.new.board c.put.new.list.items c.passivate.new.history.items c.args.ports.now (2 ^ 64 - 1) c.in_err-passivate.ensures.err)
+    c.from_residual-in_err-passivate.result

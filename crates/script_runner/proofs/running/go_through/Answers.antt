@@ -8,7 +8,7 @@ pub commit-requires : goal.commit-requires
 commit-requires g c =
     let o = c.requires.prepared in
     let x = c.in-Ok.ensures.ok in
-    record { passive = (o.0 ++ passivation_items x.closed x.how, o.1, x.opens o.0 o.1 c.args.graph o.2) }
+    record { passive = (o.0 ++ passivation_items x.closed x.how, o.1, x.opens o.0 o.1 c.args.graph o.2.is_open) }
 
 pub abandon-requires : goal.abandon-requires
 abandon-requires g c =
@@ -18,7 +18,7 @@ abandon-requires g c =
     let x =
     (subst (λ e. WherePending (λ k left. (k ≡ c.args.within) × HasLeft S R c.args.engine.now c.passivate.new.self c.args.plan c.args.within left) e)
     c.in-Err-Pending.field-0-is c.in-Err-Pending.ensures.pending).1 in
-    record { pending = (o.0 ++ (passivation_items x.closed x.how ++ pending_items c.args.within c.in-Err-Pending.field-0-1), o.1, c.args.graph, x.opens o.0 o.1 c.args.graph o.2) }
+    record { pending = (o.0 ++ (passivation_items x.closed x.how ++ pending_items c.args.within c.in-Err-Pending.field-0-1), o.1, c.args.graph, x.opens o.0 o.1 c.args.graph o.2.is_open) }
 
 pub returns-in-Ok : goal.returns-in-Ok
 returns-in-Ok g c = (c.passivate.new.self, c.in-Ok.ensures.ok, c.commit.ensures)

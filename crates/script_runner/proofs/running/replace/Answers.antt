@@ -23,7 +23,7 @@ go_through-requires g c =
     let e = c.args.engine.now in
     let f = c.prepare.new.self in
     let p = subst (λ xs. HasPrepared S R e f x.name xs x.plan x.graph) c.into_vec.ensures c.in_ok-prepare.ensures.ok in
-    record { prepared = (h.0 ++ said (to.Change x.name x.args) ∷ [], x.moves, p.opens h.0 x.moves h.1 (h.3 h.2)) }
+    record { prepared = (h.0 ++ said (to.Change x.name x.args) ∷ [], x.moves, p.prepares h.0 x.moves h.1 (h.3 h.2)) }
 
 pub returns : goal.returns
 returns g c =

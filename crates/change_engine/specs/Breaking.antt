@@ -1,0 +1,37 @@
+-- How a wait breaks off for want of memory: in a scan, behind closes, looks and rounds that left roots. What was closed
+-- stays closed.
+use Rattle.std.specs.Prelude.{◌≡◌, ◌⊎◌, ◌<◌, ℕ, List, [], ◌++◌, length, IsTrue}
+use Rattle.commit_laws.specs.Lists.{In}
+use Rattle.change_script.specs.declared.report.HistoryLine.{HistoryLine}
+use Rattle.quiesce_core.specs.Runs.{state_after}
+use Rattle.quiesce_core.specs.State.{Configuration, gate}
+use Rattle.change_board.specs.Entries.{Entry}
+use Rattle.change_board.specs.Records.{IsRecordCut}
+use Rattle.change_board.specs.Records as records
+use Rattle.change_board.specs.Transcripts.{entries, lines}
+use Rattle.change_engine.specs.Passivating.{IsPassivation, Passivation, left_after, passivation_items}
+
+-- a call broke off, behind all that is recorded and told
+pub record BrokeInScan {B : Type 0} (S Broke : B → List Entry → Type 0) (old new : B) (before after : List HistoryLine)
+    : Type 0 where
+  pub broke : (r : List Entry) → S old r → Broke new r
+  pub told_none : after ≡ before
+
+-- the call was one of a passivation's scans: rounds were to make still, and each look so far left roots
+pub record BrokeInRound {B : Type 0} (S Broke : B → List Entry → Type 0) (old new : B) (before after : List HistoryLine)
+    (ports : List ℕ) (within : ℕ) : Type 0 where
+  pub how : Passivation
+  pub is_passivation : IsPassivation ports within how
+  pub fewer : length how.rounds < within
+  pub some_left : left_after how.first how.rounds ≡ [] → ⊥
+  pub broke : (r : List Entry) → S old r → Broke new (r ++ entries (passivation_items ports how))
+  pub told_all : after ≡ before ++ lines (passivation_items ports how)
+
+-- the port's gate is closed behind all that was done until a call broke off on a board with this record
+abbrev pub IsClosedStill : List Entry → ℕ → Type 0
+IsClosedStill r p =
+    (w : IsRecordCut r) → IsTrue (gate (state_after (records.events w.moments ++ w.later)).config p).closed
+
+-- a port that was closed by now: one of these, or one whose gate was closed before
+abbrev pub IsClosedOr : List ℕ → Configuration → ℕ → Type 0
+IsClosedOr ports c p = In ports p ⊎ IsTrue (gate c p).closed
