@@ -3,7 +3,7 @@ use Rattle.std.proofs.Common.{◌≡◌, ◌∙◌, ℕ, ◌+◌, ◌<◌, Bool,
 use Rattle.std.specs.Prelude.{◌==◌, nat_le, nat_lt, option_map}
 use Rattle.std.specs.Option.{option_map_or}
 use Rattle.std.proofs.lemmas.Bool.{and_parts, both_ways, eq-eqb, eqb-true, false≢true, ne_eqb}
-use Rattle.std.proofs.lemmas.List.{append-nil}
+use Rattle.std.proofs.lemmas.List.{append_assoc, append-nil}
 use Rattle.std.proofs.lemmas.Option.{same_Some, slice_get_within}
 use Rattle.config_graph.specs.Kinds.{row}
 use Rattle.config_graph.specs.declared.TheConstants.{MAX_NODES, MAX_PORTS}
@@ -20,7 +20,7 @@ use Rattle.quiesce_core.specs.Runs.{IsRun, doer, done_by, is_doer, state_after}
 use Rattle.quiesce_core.specs.State.{State, exchange, owner, service, slot}
 use Rattle.quiesce_core.specs.Traffic.{IsConsistent}
 use Rattle.quiesce_core.specs.WellFormed.{IsWellFormed}
-use Rattle.quiesce_core.specs.Words.{changed_slot, slot_fields_of}
+use Rattle.quiesce_core.specs.Words.{changed_slot, slot_fields_of, word_of}
 use Rattle.quiesce_core.specs.declared.event.Event.{Event}
 use Rattle.quiesce_core.specs.declared.event.Event.TheVariants.{Begin, Call, Take, Give, End, More, Ask, Hear, Miss, Close, Reopen, Make, Link, Unlink, Remove}
 use Rattle.quiesce_core.specs.declared.state.Exchange.{Exchange}
@@ -34,8 +34,10 @@ use Rattle.quiesce_core.proofs.RunLaws.{done_by_more, last_step, runs_are_consis
 use Rattle.quiesce_core.proofs.StabilityLaws.{serving_nodes_stay}
 use Rattle.quiesce_core.proofs.StateLaws.{taken_busy}
 use Rattle.quiesce_core.proofs.WordLaws.{slot_word_stays, slot_words_of_runs}
-use Rattle.gate_rule.specs.Views.{does}
-use Rattle.gate_rule.specs.Worlds.{IsLoadedOf, KnowsNode, ShowsExchange}
+use Rattle.gate_rule.specs.Views.{does, load_step, reads}
+use Rattle.gate_rule.specs.Worlds.{AreLoaded, IsLoadedOf, KnowsNode, ShowsExchange, WasLoaded}
+use Rattle.gate_rule.specs.declared.view.LoadKind.{LoadKind}
+use Rattle.gate_rule.specs.declared.view.LoadStep.{LoadStep}
 use Rattle.gate_rule.specs.declared.view.Loaded.{Loaded}
 use Rattle.gate_rule.specs.declared.view.NodeView.{NodeView}
 
@@ -149,6 +151,28 @@ loaded_stays s e n l w c may other h =
           serving_nodes_stay s e w may n v before l.port h.owned ∙ h.leads v before;
     }
 
+-- ---- the words that were loaded
+
+loads_stay : (n : ℕ) (es rest : List Event) (e : Event) (ls : List LoadStep) → AreLoaded n es rest ls → AreLoaded n es (rest ++ e ∷ []) ls
+loads_stay n es rest e [] h = tt
+loads_stay n es rest e (l ∷ ls) h = (h.0, h.1 ++ e ∷ [], ap (λ es. es ++ e ∷ []) h.2 ∙ append_assoc h.0 h.1 (e ∷ []), h.3, loads_stay n (es ++ h.0) h.1 e ls h.4)
+
+-- one more, at the end of the run
+loads_grow : (n : ℕ) (es rest : List Event) (ls : List LoadStep) (l : LoadStep) → AreLoaded n es rest ls → WasLoaded n (es ++ rest) l → AreLoaded n es rest (ls ++ l ∷ [])
+loads_grow n es rest [] l h now = (rest, [], sym (append-nil rest), now, tt)
+loads_grow n es rest (k ∷ ls) l h now =
+    (h.0, h.1, h.2, h.3, loads_grow n (es ++ h.0) h.1 ls l h.4 (subst (λ es. WasLoaded n es l) (ap (λ r. es ++ r) h.2 ∙ sym (append_assoc es h.0 h.1)) now))
+
+-- a node knows what it has just loaded
+pub read_known : (es : List Event) (n : NodeView) (k : LoadKind) (p w : ℕ) → w ≡ word_of (state_after es) p → KnowsNode es n → KnowsNode es (reads n k p w)
+read_known es n k p w word h = record {
+  made = h.made;
+  log = h.log;
+  loads = loads_grow n.slot [] es n.loads (load_step n k p w) h.loads (record { done = ap length h.log; word = word });
+  known = h.known;
+  loaded = h.loaded;
+}
+
 -- ---- all that is known
 
 module _ (es : List Event) (e : Event) (run : IsRun (es ++ e ∷ [])) (n : NodeView) (h : KnowsNode es n) where
@@ -172,6 +196,7 @@ module _ (es : List Event) (e : Event) (run : IsRun (es ++ e ∷ [])) (n : NodeV
   known_stays other = record {
     made = made_stays es e n.slot n.made run h.made;
     log = h.log ∙ sym (append-nil (done_by n.slot es)) ∙ sym (done_by_more n.slot es e ∙ ap (λ b. done_by n.slot es ++ cond b (e ∷ []) []) other);
+    loads = loads_stay n.slot [] es e n.loads h.loads;
     known = subst (λ t. IsKnown t n.slot n.made.first_port n.known) (sym (state_more es e)) (known_by_others s e n.slot n.made.first_port n.known w c may there other h.known);
     loaded = λ l at. subst (λ t. IsLoadedOf t n.slot l) (sym (state_more es e)) (loaded_stays s e n.slot l w c may other (h.loaded l at));
   }
@@ -181,6 +206,7 @@ module _ (es : List Event) (e : Event) (run : IsRun (es ++ e ∷ [])) (n : NodeV
   known_grows mine = record {
     made = made_stays es e n.slot n.made run h.made;
     log = ap (λ log. log ++ e ∷ []) h.log ∙ sym (done_by_more n.slot es e ∙ ap (λ b. done_by n.slot es ++ cond b (e ∷ []) []) mine);
+    loads = loads_stay n.slot [] es e n.loads h.loads;
     known = subst (λ t. IsKnown t n.slot n.made.first_port (known_next n.made.first_port n.known e)) (sym (state_more es e)) (known_by_own s e n.slot n.made.first_port n.known w c may there mine h.known);
     loaded = λ l at. absurd (cc at);
   }

@@ -4,4 +4,6 @@ pub mod FittingLaws
 pub mod NodeStepLaws
 pub mod ChangeStepLaws
 pub mod SeatStepLaws
+pub mod MergingLaws
+pub mod EarlierNotes
 pub mod RuleLaws

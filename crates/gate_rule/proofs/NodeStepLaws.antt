@@ -33,12 +33,17 @@ use Rattle.port_gate.specs.Moves.{with_seen}
 use Rattle.port_gate.specs.declared.answers.SeeAnswer.TheVariants as see
 use Rattle.port_gate.specs.Seats.{MayAsk, MayBegin, MayCall, MayEnd, MayGive, MayHear, MaySee, MaySendMore, MayTake, NodeAt, port_known, serial_served, value_seen}
 use Rattle.port_gate.proofs.AllowedLaws.{ask_allowed, ask_doer, begin_by_word, begin_doer, call_allowed, call_doer, end_allowed, end_doer, fits_seen, give_allowed, give_doer, hear_by_word, hear_doer, miss_by_word, miss_doer, more_allowed, more_doer}
-use Rattle.gate_rule.specs.Steps.{Seat, WasShown, did, seen_in, to_call, value_served}
-use Rattle.gate_rule.specs.Views.{does, node_at, of_node}
+use Rattle.gate_rule.specs.Steps.{Seat, WasShown, did, looks, read, seen_in, value_served}
+use Rattle.gate_rule.specs.Steps.{sees as sees'}
+use Rattle.gate_rule.specs.Views.{does, node_at, of_node, reads}
 use Rattle.gate_rule.specs.Worlds.{Holds, IsLoadedOf, KnowsNode, ShowsExchange}
+use Rattle.gate_rule.specs.declared.view.LoadKind.{LoadKind}
+use Rattle.gate_rule.specs.declared.view.LoadKind.TheVariants as kinds
+use Rattle.gate_rule.specs.declared.view.LoadKind.TheVariants.{Own, Exchange}
 use Rattle.gate_rule.specs.declared.view.NodeView.{NodeView}
 use Rattle.gate_rule.specs.declared.view.View.{View}
 use Rattle.gate_rule.proofs.FittingLaws as fitting
+use Rattle.gate_rule.proofs.KnowingLaws.{read_known}
 use Rattle.gate_rule.proofs.WorldLaws.{acts, learns, same_words, shows_none, shows_port}
 use mathlib.Core.Option.{some}
 use lib.ListN.{get_elem?}
@@ -71,23 +76,38 @@ module _ (n : NodeView) (t : Gates) (h : Holds t) (id : ℕ) (at : get_elem? t.v
   fields : (p : ℕ) → p < MAX_PORTS → unpack (slice_index t.words p) ≡ fields_of s p
   fields p few = ap unpack (h.shows.ports p few) ∙ port_words_decode s (fitting.w es run n mine) p
 
-  -- a load that changes nothing
-  rests : (p : ℕ) → With t id (of_node n) (set t.words p (slice_index t.words p))
-  rests p = subst (With t id (of_node n)) (sym (same_words t.words p)) (learns t h id t.homes n n at refl (λ k. k))
+  -- what it knows once it has loaded a port's word
+  abbrev reading : LoadKind → ℕ → NodeView
+  reading k p = reads n k p (slice_index t.words p)
 
-  -- an event that changes the port's word to this
-  moves : (e : Event) (p v : ℕ) → is_of_change e ≡ false → denial s e ≡ None → is_doer s n.slot e ≡ true → p < MAX_PORTS → changed_port e ≡ Some p → changed_slot e ≡ None
-      → v ≡ word_of (effect s e) p → With t id (of_node (does n e)) (set t.words p v)
-  moves e p v by_node may does_ few port slot is =
-      acts t h id t.homes n e (set t.words p v) at by_node may does_
+  has_read : (k : LoadKind) (p : ℕ) → p < MAX_PORTS → KnowsNode es n → KnowsNode es (reading k p)
+  has_read k p few = read_known es n k p (slice_index t.words p) (h.shows.ports p few)
+
+  -- by a load it learns something
+  learnt : (n' : NodeView) (p : ℕ) → n'.slot ≡ n.slot → (KnowsNode es n → KnowsNode es n') → With t id (of_node n') (set t.words p (slice_index t.words p))
+  learnt n' p same knows = subst (With t id (of_node n')) (sym (same_words t.words p)) (learns t h id t.homes n n' at same knows)
+
+  rests : (k : LoadKind) (p : ℕ) → p < MAX_PORTS → With t id (of_node (reading k p)) (set t.words p (slice_index t.words p))
+  rests k p few = learnt (reading k p) p refl (has_read k p few)
+
+  -- it learns something and does an event that changes the port's word to this
+  moves_by : (n' : NodeView) → n'.slot ≡ n.slot → (KnowsNode es n → KnowsNode es n') → (e : Event) (p v : ℕ) → is_of_change e ≡ false → denial s e ≡ None → is_doer s n'.slot e ≡ true → p < MAX_PORTS
+      → changed_port e ≡ Some p → changed_slot e ≡ None → v ≡ word_of (effect s e) p → With t id (of_node (does n' e)) (set t.words p v)
+  moves_by n' same knows e p v by_node may does_ few port slot is =
+      acts t h id t.homes n n' e (set t.words p v) at same knows by_node may does_
       (shows_port t.words s (effect s e) e (fitting.w es run n mine) (record { allowed = may; changed = refl }) h.shows p v few port slot is)
 
+  moves : (e : Event) (p v : ℕ) → is_of_change e ≡ false → denial s e ≡ None → is_doer s n.slot e ≡ true → p < MAX_PORTS → changed_port e ≡ Some p → changed_slot e ≡ None
+      → v ≡ word_of (effect s e) p → With t id (of_node (does n e)) (set t.words p v)
+  moves = moves_by n refl (λ k. k)
+
   -- an event that changes no word, by a load
-  takes_up : (e : Event) (p : ℕ) → is_of_change e ≡ false → denial s e ≡ None → is_doer s n.slot e ≡ true → changed_port e ≡ None → changed_slot e ≡ None
-      → With t id (of_node (does n e)) (set t.words p (slice_index t.words p))
-  takes_up e p by_node may does_ port slot =
-      subst (With t id (of_node (does n e))) (sym (same_words t.words p))
-      (acts t h id t.homes n e t.words at by_node may does_ (shows_none t.words s (effect s e) e (fitting.w es run n mine) (record { allowed = may; changed = refl }) h.shows port slot))
+  takes_up : (k : LoadKind) (e : Event) (p : ℕ) → p < MAX_PORTS → is_of_change e ≡ false → denial s e ≡ None → is_doer s n.slot e ≡ true → changed_port e ≡ None → changed_slot e ≡ None
+      → With t id (of_node (does (reading k p) e)) (set t.words p (slice_index t.words p))
+  takes_up k e p few by_node may does_ port slot =
+      subst (With t id (of_node (does (reading k p) e))) (sym (same_words t.words p))
+      (acts t h id t.homes n (reading k p) e t.words at refl (has_read k p few) by_node may does_
+      (shows_none t.words s (effect s e) e (fitting.w es run n mine) (record { allowed = may; changed = refl }) h.shows port slot))
 
 -- neither of two tests
 neither_of : (a b : Bool) → (a || b) ≡ false → (a ≡ false) × (b ≡ false)
@@ -110,8 +130,8 @@ picks t id n n' words false moved stays = (of_node n, stays refl, refl)
 
 -- ---- load
 
-pub loads : (slots id p : ℕ) (n : NodeView) → p < MAX_PORTS → Allows Holds slots id (of_node n, []) p (λ x. x) (λ found new. (new ≡ (of_node n, [])) × WasShown n p found)
-loads slots id p n few t h _ at _ = (of_node n, keeps, tt, rests n t h id at p, (refl, shown n t h id at p few))
+pub loads : (slots id p : ℕ) (n : NodeView) → p < MAX_PORTS → Allows Holds slots id (of_node n, []) p (λ x. x) (λ found new. (new ≡ (of_node (reads n Own p found), [])) × WasShown n p found)
+loads slots id p n few t h _ at _ = (of_node (reading n t h id at Own p), keeps, tt, rests n t h id at Own p few, (refl, shown n t h id at p few))
 
 -- ---- take
 
@@ -122,14 +142,14 @@ module _ (n : NodeView) (p : ℕ) (may : MayTake n.known p) (t : Gates) (h : Hol
   abbrev take_event : Event
   take_event = Take p (unpack asked_at).serial (unpack asked_at).value
 
-  take_moves : is_message_to n.slot (unpack asked_at) ≡ true → With t id (of_node (does n take_event)) (set t.words p asked_at)
+  take_moves : is_message_to n.slot (unpack asked_at) ≡ true → With t id (of_node (does (reads n kinds.Take p asked_at) take_event)) (set t.words p asked_at)
   take_moves asked =
       let es' = events h.world.moments in
       let s' = state_at h.world.moments in
       let runs = run n t h id at in
       let knows = mine n t h id at in
       let is = h.shows.ports p may.made in
-      takes_up n t h id at take_event p refl
+      takes_up n t h id at kinds.Take take_event p may.made refl
       (subst (λ x. denial s' (Take p (unpack x).serial (unpack x).value) ≡ None) (sym is)
       (take_judged s' p n.slot (fitting.w es' runs n knows) (fitting.c es' runs n knows) (fitting.free_serves es' runs n knows may.free) (subst (λ x. is_message_to n.slot (unpack x) ≡ true) is asked)))
       (fitting.message_doer s' p n.slot (subst (λ x. is_message_to n.slot x ≡ true) (fields n t h id at p may.made) asked))
@@ -137,10 +157,14 @@ module _ (n : NodeView) (p : ℕ) (may : MayTake n.known p) (t : Gates) (h : Hol
 
 pub takes : (slots id p : ℕ) (n : NodeView) → MayTake n.known p
     → Allows Holds slots id (of_node n, []) p (λ x. x)
-    (λ found new. (new ≡ cond (is_message_to n.slot (unpack found)) (did (of_node n, []) (Take p (unpack found).serial (unpack found).value)) (of_node n, [])) × WasShown n p found)
+    (λ found new.
+    (new ≡ cond (is_message_to n.slot (unpack found)) (did (read (of_node n, []) kinds.Take p found) (Take p (unpack found).serial (unpack found).value)) (read (of_node n, []) kinds.Take p found))
+    × WasShown n p found)
 takes slots id p n may t h _ at _ =
     let found = slice_index t.words p in
-    let it = picks t id n (does n (take_event n p may t h id at)) (λ b. set t.words p found) (is_message_to n.slot (unpack found)) (take_moves n p may t h id at) (λ _. rests n t h id at p) in
+    let after = reading n t h id at kinds.Take p in
+    let it = picks t id after (does after (take_event n p may t h id at)) (λ b. set t.words p found) (is_message_to n.slot (unpack found)) (take_moves n p may t h id at)
+    (λ _. rests n t h id at kinds.Take p may.made) in
     (it.0, keeps, tt, it.1, (it.2, shown n t h id at p may.made))
 
 -- ---- begin
@@ -154,7 +178,7 @@ module _ (n : NodeView) (p v old : ℕ) (may : MayBegin (node_at n) n.known p v)
     abbrev event : Event
     event = Begin p ((unpack old).serial + 1) v
 
-    begin_moves : slice_index t.words p ≡ old → With t id (of_node (does n event)) (set t.words p (pack new_word))
+    begin_moves : slice_index t.words p ≡ old → With t id (of_node (does (reading n t h id at Exchange p) event)) (set t.words p (pack new_word))
     begin_moves is =
         let es' = events h.world.moments in
         let s' = state_at h.world.moments in
@@ -168,17 +192,19 @@ module _ (n : NodeView) (p v old : ℕ) (may : MayBegin (node_at n) n.known p v)
         let fits = fitting.fits_core es' runs n knows live in
         let may' = subst (λ (x : NodeAt). MayBegin x n.known p v) (sym (fitting.node_is es' runs n knows)) may in
         let allowed = begin_by_word s' w c n.slot n.known fits p v (unpack old) to word may' opened leads unspent in
-        moves n t h id at event p (pack new_word) refl allowed (begin_doer s' w c n.slot n.known fits p ((unpack old).serial + 1) v may'.own) few refl refl
+        moves_by n t h id at (reading n t h id at Exchange p) refl (has_read n t h id at Exchange p few) event p (pack new_word) refl allowed (begin_doer s' w c n.slot n.known fits p ((unpack old).serial + 1) v may'.own) few refl refl
         (ap (λ (x : Word). pack (record x { phase = phase.Asked; serial = (unpack old).serial + 1; value = v; consequent = false })) word
         ∙ sym (begin_by s' (effect s' event) p ((unpack old).serial + 1) v w (record { allowed = allowed; changed = refl })))
 
   pub begins : (slots id : ℕ) → Allows Holds slots id (of_node n, []) p (λ x. either (x == old) (pack new_word) x)
-      (λ found new. (new ≡ cond (found == old) (did (of_node n, []) (Begin p ((unpack old).serial + 1) v)) (of_node n, [])) × WasShown n p found)
+      (λ found new.
+      (new ≡ cond (found == old) (did (read (of_node n, []) Exchange p found) (Begin p ((unpack old).serial + 1) v)) (read (of_node n, []) Exchange p found)) × WasShown n p found)
   begins slots id t h _ at _ =
       let found = slice_index t.words p in
       let few = fitting.port_below (events h.world.moments) (run n t h id at) n (mine n t h id at) p may.own in
-      let it = picks t id n (does n (Begin p ((unpack old).serial + 1) v)) (λ b. set t.words p (either b (pack new_word) found)) (found == old)
-      (λ same. begin_moves t h id at (eqb-true found old same)) (λ _. rests n t h id at p) in
+      let after = reading n t h id at Exchange p in
+      let it = picks t id after (does after (Begin p ((unpack old).serial + 1) v)) (λ b. set t.words p (either b (pack new_word) found)) (found == old)
+      (λ same. begin_moves t h id at (eqb-true found old same)) (λ _. rests n t h id at Exchange p few) in
       (it.0, keeps, tt, it.1, (it.2, shown n t h id at p few))
 
 -- ---- give
@@ -252,7 +278,7 @@ module _ (n : NodeView) (p : ℕ) (may : MaySee (node_at n) n.known p) (t : Gate
   seen_word = slice_index t.words p
 
   abbrev seeing : NodeView
-  seeing = record n { known = with_seen (node_at n) p (seen_in seen_word) n.known }
+  seeing = sees' n p seen_word
 
   see_knows : KnowsNode (events h.world.moments) n → KnowsNode (events h.world.moments) seeing
   see_knows knows =
@@ -273,19 +299,20 @@ module _ (n : NodeView) (p : ℕ) (may : MaySee (node_at n) n.known p) (t : Gate
       record {
         made = knows.made;
         log = knows.log;
+        loads = (has_read n t h id at Own p few knows).loads;
         known = subst (λ (x : NodeAt). IsKnown s' n.slot x.first (with_seen x p (seen_in seen_word) n.known)) is then_.known;
         loaded = knows.loaded;
       }
 
 pub sees : (slots id p : ℕ) (n : NodeView) → MaySee (node_at n) n.known p → Allows Holds slots id (of_node n, []) p (λ x. x)
-    (λ found new. (new ≡ (of_node (record n { known = with_seen (node_at n) p (seen_in found) n.known }), [])) × WasShown n p found)
+    (λ found new. (new ≡ (of_node (sees' n p found), [])) × WasShown n p found)
 sees slots id p n may t h _ at _ =
     let few = fitting.port_below (events h.world.moments) (run n t h id at) n (mine n t h id at) p may.own in
     let after = seeing n p may t h id at in (
       of_node after,
       keeps,
       tt,
-      subst (With t id (of_node after)) (sym (same_words t.words p)) (learns t h id t.homes n after at refl (see_knows n p may t h id at)),
+      learnt n t h id at after p refl (see_knows n p may t h id at),
       (refl, shown n t h id at p few),
     )
 
@@ -356,7 +383,7 @@ module _ (n : NodeView) (p : ℕ) (may : MayHear n.known p) (t : Gates) (h : Hol
   abbrev hear_event : Event
   hear_event = Hear p (serial_served n.known) (unpack heard_word).value
 
-  hear_moves : p < MAX_PORTS → is_asked (unpack heard_word).phase ≡ true → With t id (of_node (does n hear_event)) (set t.words p heard_word)
+  hear_moves : p < MAX_PORTS → is_asked (unpack heard_word).phase ≡ true → With t id (of_node (does (reads n kinds.Hear p heard_word) hear_event)) (set t.words p heard_word)
   hear_moves few asked =
       let es' = events h.world.moments in
       let s' = state_at h.world.moments in
@@ -365,18 +392,22 @@ module _ (n : NodeView) (p : ℕ) (may : MayHear n.known p) (t : Gates) (h : Hol
       let w = fitting.w es' runs n knows in
       let c = fitting.c es' runs n knows in
       let fits = fitting.fits_core es' runs n knows (fitting.serving_lives es' runs n knows p may.serving) in
-      takes_up n t h id at hear_event p refl
+      takes_up n t h id at kinds.Hear hear_event p few refl
       (hear_by_word s' w c n.slot n.known fits p (unpack heard_word) (fields n t h id at p few) may asked)
       (hear_doer s' w c n.slot n.known fits p (serial_served n.known) (unpack heard_word).value may.serving)
       refl refl
 
 pub hears : (slots id p : ℕ) (n : NodeView) → MayHear n.known p
     → Allows Holds slots id (of_node n, []) p (λ x. x)
-    (λ found new. (new ≡ cond (is_asked (unpack found).phase) (did (of_node n, []) (Hear p (serial_served n.known) (unpack found).value)) (of_node n, [])) × WasShown n p found)
+    (λ found new.
+    (new ≡ cond (is_asked (unpack found).phase) (did (read (of_node n, []) kinds.Hear p found) (Hear p (serial_served n.known) (unpack found).value)) (read (of_node n, []) kinds.Hear p found))
+    × WasShown n p found)
 hears slots id p n may t h _ at _ =
     let found = slice_index t.words p in
     let few = fitting.serving_below (events h.world.moments) (run n t h id at) n (mine n t h id at) p may.serving in
-    let it = picks t id n (does n (hear_event n p may t h id at)) (λ b. set t.words p found) (is_asked (unpack found).phase) (hear_moves n p may t h id at few) (λ _. rests n t h id at p) in
+    let after = reading n t h id at kinds.Hear p in
+    let it = picks t id after (does after (hear_event n p may t h id at)) (λ b. set t.words p found) (is_asked (unpack found).phase) (hear_moves n p may t h id at few)
+    (λ _. rests n t h id at kinds.Hear p few) in
     (it.0, keeps, tt, it.1, (it.2, shown n t h id at p few))
 
 -- ---- call
@@ -387,9 +418,9 @@ module _ (n : NodeView) (p v : ℕ) (may : MayCall (node_at n) n.known p v) wher
     call_word = slice_index t.words p
 
     abbrev calling : NodeView
-    calling = record n { loaded = Some (record { port = p; word = call_word }) }
+    calling = looks n p call_word
 
-    miss_moves : is_missing (unpack call_word) ≡ true → With t id (of_node (does n (Miss p))) (set t.words p call_word)
+    miss_moves : is_missing (unpack call_word) ≡ true → With t id (of_node (does (reads n Own p call_word) (Miss p))) (set t.words p call_word)
     miss_moves missing =
         let es' = events h.world.moments in
         let s' = state_at h.world.moments in
@@ -400,7 +431,7 @@ module _ (n : NodeView) (p v : ℕ) (may : MayCall (node_at n) n.known p v) wher
         let few = fitting.port_below es' runs n knows p may.own in
         let fits = fitting.fits_core es' runs n knows (fitting.heard_lives es' runs n knows may.heard) in
         let may' = subst (λ (x : NodeAt). MayCall x n.known p v) (sym (fitting.node_is es' runs n knows)) may in
-        takes_up n t h id at (Miss p) p refl
+        takes_up n t h id at Own (Miss p) p few refl
         (miss_by_word s' w c n.slot n.known fits p v (unpack call_word) (fields n t h id at p few) may' missing)
         (miss_doer s' w c n.slot n.known fits p may'.own) refl refl
 
@@ -424,18 +455,19 @@ module _ (n : NodeView) (p v : ℕ) (may : MayCall (node_at n) n.known p v) wher
         record {
           made = knows.made;
           log = knows.log;
+          loads = (has_read n t h id at Own p few knows).loads;
           known = knows.known;
           loaded = λ l is. subst (λ l. IsLoadedOf s' n.slot l) (same_Some (record { port = p; word = call_word }) l is) here;
         }
 
   pub looks_to_call : (slots id : ℕ) → Allows Holds slots id (of_node n, []) p (λ x. x)
-      (λ found new. (new ≡ cond (is_missing (unpack found)) (did (of_node n, []) (Miss p)) (to_call (of_node n, []) p found)) × WasShown n p found)
+      (λ found new. (new ≡ cond (is_missing (unpack found)) (did (read (of_node n, []) Own p found) (Miss p)) (of_node (looks n p found), [])) × WasShown n p found)
   looks_to_call slots id t h _ at _ =
       let found = slice_index t.words p in
       let few = fitting.port_below (events h.world.moments) (run n t h id at) n (mine n t h id at) p may.own in
       let after = calling t h id at in
-      let it = picks t id after (does n (Miss p)) (λ b. set t.words p found) (is_missing (unpack found)) (miss_moves t h id at)
-      (λ _. subst (With t id (of_node after)) (sym (same_words t.words p)) (learns t h id t.homes n after at refl (loaded_knows t h id at))) in
+      let it = picks t id after (does (reading n t h id at Own p) (Miss p)) (λ b. set t.words p found) (is_missing (unpack found)) (miss_moves t h id at)
+      (λ _. learnt n t h id at after p refl (loaded_knows t h id at)) in
       (it.0, keeps, tt, it.1, (it.2, shown n t h id at p few))
 
   -- the word that was loaded, by which it calls

@@ -1,31 +1,76 @@
 -- What the rule says of runs, and what the change's notes tell of the state.
-use Rattle.std.proofs.Common.{◌≡◌, ℕ, true, List, refl, sym, subst}
+use Rattle.std.proofs.Common.{◌≡◌, ◌∙◌, ℕ, ◌<◌, true, false, List, [], ◌∷◌, ◌++◌, Option, refl, sym, ap, subst, ⊎_elim}
+use Rattle.std.specs.Prelude.{◌==◌}
+use Rattle.std.specs.List.{list_any}
+use Rattle.std.proofs.lemmas.Bool.{eqb-true, false≢true, or_cases}
 use Rattle.atomic_table.specs.Table.{State as Table}
+use Rattle.base.proofs.OptionLaws.{Some-from_is_some}
 use Rattle.commit_laws.specs.Steps.{IsNoted}
-use Rattle.gate_records.specs.Entries.{config_of}
+use Rattle.gate_records.specs.Entries.{config_of, events_in}
 use Rattle.gate_records.specs.Notes.{is_noted}
 use Rattle.gate_records.specs.Records.{IsRecordOf, events, state_at}
+use Rattle.gate_records.specs.declared.entry.Entry.{Entry}
 use Rattle.gate_records.proofs.NoteLaws.{noted_is_drained}
 use Rattle.gate_records.proofs.RecordLaws.{config_is}
+use Rattle.quiesce_core.specs.Runs.{done_by}
 use Rattle.quiesce_core.specs.Settled.{Settled}
 use Rattle.quiesce_core.specs.State.{Configuration}
 use Rattle.quiescence_laws.specs.Drained.{is_drained}
+use Rattle.quiescence_laws.specs.Events.{is_reopen_or_link, removes, reopens}
 use Rattle.quiescence_laws.proofs.DrainingLaws.{settled_if_drained}
-use Rattle.gate_rule.specs.Views.{of_change, of_node}
-use Rattle.gate_rule.specs.Worlds.{Holds, KnowsNode}
+use Rattle.gate_rule.proofs.EarlierNotes.{still_drained, still_settled}
+use Rattle.gate_rule.proofs.MergingLaws.{log_is}
+use Rattle.gate_rule.proofs.WorldLaws.{all_into}
+use Rattle.gate_rule.specs.Views.{is_among, log_in, of_change, of_node}
+use Rattle.gate_rule.specs.Worlds.{Every, FitsNode, HasNode, Holds, IsThere, KnowsNode, World}
 use Rattle.gate_rule.specs.declared.view.ChangeView.{ChangeView}
 use Rattle.gate_rule.specs.declared.view.NodeView.{NodeView}
 use Rattle.gate_rule.specs.declared.view.View.{View}
 use mathlib.Core.Option.{some}
 use lib.ListN.{get_elem?}
 
+-- the seat that has a node of a slot
+owned_by : (w : World) (id n : ℕ) (nodes : List NodeView) → Every (FitsNode w id) nodes → is_among nodes n ≡ true → w.owner n ≡ id
+owned_by w id n [] fits among = absurd (false≢true among)
+owned_by w id n (v ∷ vs) fits among = ⊎_elim
+    (λ (is : (v.slot == n) ≡ true). ap w.owner (sym (eqb-true v.slot n is)) ∙ fits.0.owned)
+    (λ (rest : is_among vs n ≡ true). owned_by w id n vs fits.1 rest)
+    (or_cases (v.slot == n) (is_among vs n) among)
+
+module _ (t : Table (Unit {0}) View) (h : Holds t) where
+  pub seated : (n : ℕ) → n < h.world.seats → (id : ℕ) × IsThere t.views id (λ (v : View). HasNode n v × (done_by n (events h.world.moments) ≡ log_in v.nodes n))
+  seated n few =
+      let there = h.seated.nodes n few in
+      let v = there.0 in
+      let id = h.world.owner n in
+      let es = events h.world.moments in
+      let knows = all_into (FitsNode h.world id) (KnowsNode es) v.nodes (λ u fits. fits.knows) (h.views id v there.1).nodes in
+      (id, (v, there.1, (there.2, log_is es n v.nodes knows there.2)))
+
+  pub one_seat : (n id j : ℕ) (u v : View) → get_elem? t.views id ≡ some u → get_elem? t.views j ≡ some v → HasNode n u → HasNode n v → id ≡ j
+  one_seat n id j u v at there here elsewhere =
+      sym (owned_by h.world id n u.nodes (h.views id u at).nodes here) ∙ owned_by h.world j n v.nodes (h.views j v there).nodes elsewhere
+
+  pub change_seat : (id : ℕ) × (nodes : List NodeView) × (c : ChangeView) × (get_elem? t.views id ≡ some (of_change nodes c))
+  change_seat =
+      let there = h.seated.change in
+      let v = there.0 in
+      let c = Some-from_is_some v.change there.2 in
+      (h.world.change, v.nodes, c.0, there.1 ∙ ap (λ (o : Option ChangeView). some (record { nodes = v.nodes; change = o })) c.1)
+
 module _ (t : Table (Unit {0}) View) (h : Holds t) (id : ℕ) where
   pub node_known : (n : NodeView) → get_elem? t.views id ≡ some (of_node n) → KnowsNode (events h.world.moments) n
   node_known n at = (h.views id (of_node n) at).nodes.0.knows
 
   module _ (nodes : List NodeView) (c : ChangeView) (at : get_elem? t.views id ≡ some (of_change nodes c)) where
-    is_record : IsRecordOf c.entries h.world.moments
+    pub is_record : IsRecordOf c.entries h.world.moments
     is_record = subst (λ r. IsRecordOf r h.world.moments) (sym ((h.views id (of_change nodes c) at).change c refl).entries) h.reached.is_record
+
+    pub given_out : c.seats ≡ h.world.seats
+    given_out = ((h.views id (of_change nodes c) at).change c refl).seats
+
+    pub taken_in_known : Every (KnowsNode (events h.world.moments)) nodes
+    taken_in_known = all_into (FitsNode h.world id) (KnowsNode (events h.world.moments)) nodes (λ n fits. fits.knows) (h.views id (of_change nodes c) at).nodes
 
     pub noted_drained : (p : ℕ) → is_noted c.entries p ≡ true → is_drained (state_at h.world.moments) p ≡ true
     noted_drained p noted = noted_is_drained c.entries h.world.moments p is_record noted
@@ -35,3 +80,10 @@ module _ (t : Table (Unit {0}) View) (h : Holds t) (id : ℕ) where
         let here : IsNoted (is_noted c.entries) (state_at h.world.moments).config n =
         subst (λ (k : Configuration). IsNoted (is_noted c.entries) k n) (config_is c.entries h.world.moments is_record) noted in
         settled_if_drained (events h.world.moments) n h.reached.is_record.runs here.live (λ p own. noted_drained p (here.own p own)) (λ p reach. noted_drained p (here.reaching p reach))
+
+    pub drained_until : (r more_ : List Entry) → c.entries ≡ r ++ more_ → (p : ℕ) → is_noted r p ≡ true → list_any (reopens p) (events_in more_) ≡ false → is_drained (state_at h.world.moments) p ≡ true
+    drained_until r more_ parts = still_drained r more_ h.world.moments (subst (λ xs. IsRecordOf xs h.world.moments) parts is_record)
+
+    pub settled_until : (r more_ : List Entry) → c.entries ≡ r ++ more_ → (n : ℕ) → IsNoted (is_noted r) (config_of r) n → list_any is_reopen_or_link (events_in more_) ≡ false
+        → list_any (removes n) (events_in more_) ≡ false → Settled (state_at h.world.moments) n
+    settled_until r more_ parts = still_settled r more_ h.world.moments (subst (λ xs. IsRecordOf xs h.world.moments) parts is_record)

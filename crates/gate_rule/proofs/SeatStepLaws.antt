@@ -1,21 +1,21 @@
 -- The steps by which seats are given out and taken in keep the rule, and the change learns what all that it has is of.
-use Rattle.std.proofs.Common.{◌≡◌, ◌≢◌, ◌∙◌, ℕ, zero, suc, ◌+◌, ◌<◌, ◌≤◌, cond, List, [], ◌∷◌, ◌++◌, length, set, replicate, Some, refl, sym, ap, subst, ⊎_elim, arith}
+use Rattle.std.proofs.Common.{◌≡◌, ◌≢◌, ◌∙◌, ℕ, zero, suc, ◌+◌, ◌<◌, ◌≤◌, true, ◌||◌, cond, List, [], ◌∷◌, ◌++◌, length, set, replicate, Some, refl, sym, ap, subst, ⊎_elim, arith}
 use Rattle.std.specs.Prelude.{◌==◌, option_map, slice_index}
 use Rattle.std.specs.Option.{option_map_or}
-use Rattle.std.proofs.lemmas.Bool.{eq-eqb, ne_eqb}
+use Rattle.std.proofs.lemmas.Bool.{cases_eq, eq-eqb, false≢true, ne_eqb, or_right}
 use Rattle.std.proofs.lemmas.Option.{same_Some, slice_get_within}
-use Rattle.std.proofs.lemmas.List.{get_or-append-add, get_or-replicate, get_or_append_left, length-append, length-replicate}
+use Rattle.std.proofs.lemmas.List.{get_or-append-add, get_or-replicate, get_or_append_left, length-append, length-replicate, length-set}
 use Rattle.atomic_table.specs.Table.{Allows, Joins, Splits, State as Table, keeps, opening}
-use Rattle.atomic_table.proofs.Lists.{at_set, set_again}
+use Rattle.atomic_table.proofs.Lists.{at_last, at_set, set_again, set_else}
 use Rattle.base.proofs.OptionLaws.{option_map_some}
 use Rattle.base.proofs.PlaceLaws.{slice_get-there}
 use Rattle.config_graph.specs.declared.TheConstants.{MAX_NODES, MAX_PORTS}
 use Rattle.gate_word.specs.declared.operands.TheConstants.{CLOSED}
 use Rattle.gate_word.specs.SlotWords.{unpack_slot}
 use Rattle.gate_records.specs.Entries.{config_of}
-use Rattle.gate_records.specs.Records.{IsRecordOf, entry, events}
+use Rattle.gate_records.specs.Records.{IsRecordOf, Moment, entry, events}
 use Rattle.gate_records.specs.declared.entry.Entry.{Entry}
-use Rattle.gate_records.specs.declared.entry.Entry.TheVariants.{Looked, Sighted}
+use Rattle.gate_records.specs.declared.entry.Entry.TheVariants.{Sighted}
 use Rattle.gate_records.proofs.RecordLaws.{config_is, quiet_events, seen_more}
 use Rattle.quiesce_core.specs.Knowledge.{IsKnown, known_after}
 use Rattle.quiesce_core.specs.Runs.{done_by, state_after}
@@ -26,13 +26,12 @@ use Rattle.quiesce_core.proofs.LoadLaws.{unmade_port}
 use Rattle.quiesce_core.proofs.RunLaws.{runs_are_well_formed}
 use Rattle.quiesce_core.proofs.SoundnessLaws.{well_formed_empty}
 use Rattle.quiesce_core.proofs.WordLaws.{slot_words_of_runs}
-use Rattle.gate_rule.specs.Steps.{AreOfOneRun, noted}
-use Rattle.gate_rule.specs.Views.{given_out, new_seat, newest, nobody, notes, nothing_done, of_change, of_node, seat_again, unknown, with_seat, with_sight, without_seat}
-use Rattle.gate_rule.specs.Worlds.{first_words, Every, Fits, FitsChange, FitsNode, Holds, IsReached, KnowsNode, Shows, World}
+use Rattle.gate_rule.specs.Views.{given_out, is_among, new_seat, newest, nobody, notes, nothing_done, of_change, of_node, seat_again, unknown, with_seat, with_sight, without_seat}
+use Rattle.gate_rule.specs.Worlds.{first_words, AreSeated, Every, Fits, FitsChange, FitsNode, HasChange, HasNode, Holds, IsReached, IsThere, KnowsNode, Shows, World}
 use Rattle.gate_rule.specs.declared.view.ChangeView.{ChangeView}
 use Rattle.gate_rule.specs.declared.view.NodeView.{NodeView}
 use Rattle.gate_rule.specs.declared.view.View.{View}
-use Rattle.gate_rule.proofs.WorldLaws.{all_into, holds_joined, holds_parted, same_words, sees}
+use Rattle.gate_rule.proofs.WorldLaws.{all_into, holds_joined, holds_parted, same_words, set_there, stays_there, there_before}
 use mathlib.Core.Option.{some, some-injective, some-ne-none}
 use lib.ListN.{get_elem?}
 
@@ -61,6 +60,59 @@ every_apart : (P Q : NodeView → Type 0) (R : NodeView → Type 0) (ns : List N
 every_apart P Q R [] f rs ps = tt
 every_apart P Q R (n ∷ ns) f rs ps = (f n rs.0 ps.0, every_apart P Q R ns f rs.1 ps.1)
 
+-- ---- seats that are there
+
+-- a node is among those that are one more, and if it isn't that one, among those that are one less
+among_more : (n : NodeView) (nodes : List NodeView) (m : ℕ) → is_among nodes m ≡ true → is_among (n ∷ nodes) m ≡ true
+among_more n nodes m among = or_right (n.slot == m) (is_among nodes m) among
+
+among_first : (n : NodeView) (nodes : List NodeView) → is_among (n ∷ nodes) n.slot ≡ true
+among_first n nodes = ap (λ b. b || is_among nodes n.slot) (eq-eqb n.slot n.slot refl)
+
+among_rest : (n : NodeView) (nodes : List NodeView) (m : ℕ) → m ≢ n.slot → is_among (n ∷ nodes) m ≡ true → is_among nodes m ≡ true
+among_rest n nodes m apart among = sym (ap (λ b. b || is_among nodes m) (ne_eqb n.slot m (λ is. apart (sym is)))) ∙ among
+
+-- where this seat has the node of this slot now, and all others are where they were
+of_owners : (views : List View) (owner : ℕ → ℕ) (slot_ id m : ℕ) → IsThere views id (HasNode slot_) → (m ≢ slot_ → IsThere views (owner m) (HasNode m)) → IsThere views (own owner slot_ id m) (HasNode m)
+of_owners views owner slot_ id m here others = ⊎_elim
+    (λ (is : m ≡ slot_). subst (λ k. IsThere views (own owner slot_ id k) (HasNode k)) (sym is) (subst (λ k. IsThere views k (HasNode slot_)) (sym (own_here owner slot_ id)) here))
+    (λ (apart : m ≢ slot_). subst (λ k. IsThere views k (HasNode m)) (sym (own_else owner slot_ id m apart)) (others apart))
+    (cases_eq m slot_)
+
+-- a view was cut in two, of which the new one has this node
+parted : (w : World) (seats : ℕ) (views : List View) (id : ℕ) (v left : View) (n : NodeView) → get_elem? views id ≡ some v → AreSeated w views
+    → ((m : ℕ) → m ≢ n.slot → HasNode m v → HasNode m left) → (HasChange v → HasChange left) → ((m : ℕ) → m ≢ n.slot → m < seats → m < w.seats)
+    → AreSeated (record w { owner = own w.owner n.slot (length views); seats = seats }) (set views id left ++ of_node n ∷ [])
+parted w seats views id v left n at seated nodes change few = record {
+  nodes = λ m below. of_owners (set views id left ++ of_node n ∷ []) w.owner n.slot (length views) m
+      (of_node n, at_last (set views id left) (of_node n) (length views) (length-set views id left), among_first n [])
+      (λ apart. still (HasNode m) (w.owner m) (nodes m apart) (seated.nodes m (few m apart below)));
+  change = still HasChange w.change change seated.change;
+}
+  where
+    still : (P : View → Type 0) (j : ℕ) → (P v → P left) → IsThere views j P → IsThere (set views id left ++ of_node n ∷ []) j P
+    still P j also there = there_before (set views id left) (of_node n) P j (stays_there views id v left at P j also there)
+
+-- the change took this node's seat in
+joined : (w : World) (ms : List Moment) (r : List Entry) (views : List View) (id other : ℕ) (nodes : List NodeView) (c c' : ChangeView) (n : NodeView) → ¬ (other ≡ id)
+    → get_elem? views id ≡ some (of_change nodes c) → get_elem? views other ≡ some (of_node n) → AreSeated w views
+    → AreSeated (record w { moments = ms; entries = r; owner = own w.owner n.slot id }) (set (set views id (of_change (n ∷ nodes) c')) other nobody)
+joined w ms r views id other nodes c c' n two at there seated = record {
+  nodes = λ m below. of_owners (set (set views id both) other nobody) w.owner n.slot id m
+      (both, set_else (set views id both) other id nobody (λ is. two (sym is)) ∙ set_there views id (of_change nodes c) both at, among_first n nodes)
+      (λ apart. still (HasNode m) (w.owner m) (among_more n nodes m) (λ among. false≢true (among_rest n [] m apart among)) (seated.nodes m below));
+  change = still HasChange w.change (λ so. so) false≢true seated.change;
+}
+  where
+    both : View
+    both = of_change (n ∷ nodes) c'
+
+    -- what was so, and not of the node's seat
+    still : (P : View → Type 0) (j : ℕ) → (P (of_change nodes c) → P both) → (P (of_node n) → ⊥) → IsThere views j P → IsThere (set (set views id both) other nobody) j P
+    still P j also never has =
+        stays_there (set views id both) other (of_node n) nobody (set_else views id other both two ∙ there) P j (λ so. absurd (never so))
+        (stays_there views id (of_change nodes c) both at P j also has)
+
 -- ---- a new seat
 
 module _ (id : ℕ) (nodes : List NodeView) (c : ChangeView) (more_ : c.seats < length (config_of c.entries).slots) where
@@ -77,6 +129,7 @@ module _ (id : ℕ) (nodes : List NodeView) (c : ChangeView) (more_ : c.seats < 
         made = ap (λ k. option_map slot_fields_of (slot k c.seats)) (sym config) ∙ ap (option_map slot_fields_of) there
             ∙ ap Some (sym (ap (λ o. option_map_or slot_fields_of o unknown.made) there));
         log = sym none_;
+        loads = tt;
         known = subst (λ log. IsKnown (state_after es) c.seats (newest c).made.first_port (known_after (newest c).made.first_port log)) none_
             (nodes_know_by_index es run c.seats (newest c).made.first_port);
         loaded = λ l is. absurd (cc is);
@@ -118,6 +171,8 @@ module _ (id : ℕ) (nodes : List NodeView) (c : ChangeView) (more_ : c.seats < 
         apart = (tt, tt);
         change = λ d is. absurd (cc is);
       })
+      (parted w (w.seats + 1) t.views id (of_change nodes c) (of_change nodes c') (newest c) at h.seated (λ m _ among. among) (λ so. so)
+      (λ m apart below. (let here = mine.seats in omega (arith, apart, below, here))))
 
 -- what the new seat reads of its slot's word
 pub adopts : (slots id : ℕ) (n : NodeView) → Allows Holds slots id (of_node n, []) (MAX_PORTS + n.slot) (λ x. x) (λ found new. (new ≡ (of_node n, [])) × (unpack_slot found ≡ Some n.made))
@@ -140,7 +195,8 @@ adopts slots id n t h _ at _ =
 
 module _ (id : ℕ) (nodes : List NodeView) (c : ChangeView) (other : ℕ) (n : NodeView) (t : Table (Unit {0}) View) (h : Holds t) (at : get_elem? t.views id ≡ some (of_change nodes c))
     (two : ¬ (other ≡ id)) (there : get_elem? t.views other ≡ some (of_node n)) (c' : ChangeView) (w' : World) (owner : w'.owner ≡ own h.world.owner n.slot id) (change : w'.change ≡ h.world.change)
-    (seats : w'.seats ≡ h.world.seats) (same : events w'.moments ≡ events h.world.moments) (reached : IsReached w') (seats' : c'.seats ≡ w'.seats) (entries' : c'.entries ≡ w'.entries) where
+    (seats : w'.seats ≡ h.world.seats) (same : events w'.moments ≡ events h.world.moments) (reached : IsReached w') (seats' : c'.seats ≡ w'.seats) (entries' : c'.entries ≡ w'.entries)
+    (seated : AreSeated w' (set (set t.views id (of_change (n ∷ nodes) c')) other nobody)) where
   abbrev w : World
   w = h.world
 
@@ -190,6 +246,7 @@ module _ (id : ℕ) (nodes : List NodeView) (c : ChangeView) (other : ℕ) (n : 
         apart = (all_not id nodes (λ is. two (sym is)) mine.nodes, mine.apart);
         change = λ d is. subst (λ (d : ChangeView). FitsChange w' id d) (same_Some c' d is) (record { change = change ∙ (mine.change c refl).change; seats = seats'; entries = entries' });
       })
+      seated
 
 -- a place where another was written
 elsewhere : (views : List View) (id other : ℕ) (v u : View) → ¬ (other ≡ id) → get_elem? (set views id v) other ≡ some u → get_elem? views other ≡ some u
@@ -203,6 +260,7 @@ takes_seat id nodes c other n t h at two at' =
     let there = elsewhere t.views id other (with_seat (of_change nodes c) (of_node n)) (of_node n) two at' in
     joins id nodes c other n t h at two there c (record w { owner = own w.owner n.slot id }) refl refl refl refl
     (record { is_record = h.reached.is_record; unseated = h.reached.unseated }) mine.seats mine.entries
+    (joined w w.moments w.entries t.views id other nodes c c n two at there h.seated)
 
 pub takes_sight : (id : ℕ) (nodes : List NodeView) (c : ChangeView) (other : ℕ) (n : NodeView)
     → Joins Holds id (of_change nodes c) other (of_node n) (with_sight (of_change nodes c) (of_node n)) nobody
@@ -219,6 +277,7 @@ takes_sight id nodes c other n t h at two at' =
       unseated = λ m none_. ap (done_by m) same ∙ h.reached.unseated m none_;
     })
     mine.seats (ap (λ r. r ++ x ∷ []) mine.entries)
+    (joined w (w.moments ++ entry x ∷ []) (w.entries ++ x ∷ []) t.views id other nodes c (notes c x) n two at there h.seated)
 
 -- and given out again
 pub gives_back : (id : ℕ) (n : NodeView) (nodes : List NodeView) (c : ChangeView)
@@ -251,31 +310,7 @@ gives_back id n nodes c t h at =
       apart = (tt, tt);
       change = λ d is. absurd (cc is);
     })
-
--- ---- what the change learns by one more look
-
-pub merges : (slots id p : ℕ) (nodes : List NodeView) (c : ChangeView) → p < MAX_PORTS → Allows Holds slots id (of_change nodes c, []) p (λ x. x)
-    (λ found new. (new ≡ noted (of_change nodes c, []) (Looked p found)) × AreOfOneRun (notes c (Looked p found)) nodes)
-merges slots id p nodes c few t h _ at _ =
-    let w = h.world in
-    let found = slice_index t.words p in
-    let x : Entry = Looked p found in
-    let fit = h.views id (of_change nodes c) at in
-    let same = quiet_events w.moments x refl in
-    let so = h.shows.ports p few in (
-      of_change nodes (notes c x),
-      keeps,
-      tt,
-      subst (λ ws. Holds (record { words = ws; homes = t.homes; views = set t.views id (of_change nodes (notes c x)) })) (sym (same_words t.words p)) (sees t h id t.homes nodes c x at refl so),
-      (
-        refl,
-        record {
-          moments = w.moments ++ entry x ∷ [];
-          is_record = subst (λ r. IsRecordOf (r ++ x ∷ []) (w.moments ++ entry x ∷ [])) (sym (fit.change c refl).entries) (seen_more w.entries w.moments x h.reached.is_record refl so);
-          are_known = all_into (FitsNode w id) (KnowsNode (events (w.moments ++ entry x ∷ []))) nodes (λ u f. subst (λ es. KnowsNode es u) (sym same) f.knows) fit.nodes;
-        },
-      ),
-    )
+    (parted w w.seats t.views id (of_change (n ∷ nodes) c) (of_change nodes c) n at h.seated (among_rest n nodes) (λ so. so) (λ m _ below. below))
 
 -- ---- the beginning
 
@@ -303,6 +338,7 @@ begins = record {
   reached = record { is_record = record { record_is = refl; runs = tt; so = tt }; unseated = λ n none_. refl };
   shows = first_shows;
   views = one;
+  seated = record { nodes = λ n few. absurd (omega (arith, few)); change = (of_change [] nothing_done, refl, refl) };
 }
   where
     one : (id : ℕ) (v : View) → get_elem? (of_change [] nothing_done ∷ []) id ≡ some v → Fits (record { moments = []; entries = []; owner = λ n. 0; change = 0; seats = 0 }) id v

@@ -1,12 +1,12 @@
 -- What the words and the views show after a step: of a world with one event, look or sight more, or of the same world.
-use Rattle.std.proofs.Common.{◌≡◌, ◌≢◌, ◌∙◌, ℕ, zero, suc, ◌+◌, ◌<◌, ◌⊎◌, inl, inr, true, false, cond, List, [], ◌∷◌, ◌++◌, length, set, Some, None, refl, sym, ap, subst, ⊎_elim, arith}
-use Rattle.std.specs.Prelude.{slice_index}
+use Rattle.std.proofs.Common.{◌≡◌, ◌≢◌, ◌∙◌, ℕ, zero, suc, ◌+◌, ◌<◌, ◌⊎◌, inl, inr, true, false, ◌||◌, cond, List, [], ◌∷◌, ◌++◌, length, set, Some, None, refl, sym, ap, subst, ⊎_elim, arith}
+use Rattle.std.specs.Prelude.{◌==◌, slice_index}
 use Rattle.std.proofs.lemmas.Bool.{cases_eq}
 use Rattle.std.proofs.lemmas.List.{append-nil, get_or-set_other, get_or-set_same, length-set, set-get_or}
 use Rattle.std.proofs.lemmas.List.Elements.{filter_map-append}
 use Rattle.std.proofs.lemmas.Option.{same_Some}
 use Rattle.atomic_table.specs.Table.{State as Table}
-use Rattle.atomic_table.proofs.Lists.{at_set}
+use Rattle.atomic_table.proofs.Lists.{at_longer, at_set, set_else}
 use Rattle.config_graph.specs.declared.TheConstants.{MAX_NODES, MAX_PORTS}
 use Rattle.gate_word.specs.Words.{pack}
 use Rattle.gate_records.specs.Entries.{event_in}
@@ -25,7 +25,7 @@ use Rattle.quiesce_core.specs.declared.event.Event.{Event}
 use Rattle.quiesce_core.proofs.RunLaws.{changes_are_of_no_node, done_by_more, runs_are_consistent, state_more}
 use Rattle.quiesce_core.proofs.WordLaws.{port_word_stays, slot_word_stays}
 use Rattle.gate_rule.specs.Views.{does, nobody, notes, of_change, of_node}
-use Rattle.gate_rule.specs.Worlds.{Every, Fits, FitsChange, FitsNode, Holds, IsReached, KnowsNode, Shows, World}
+use Rattle.gate_rule.specs.Worlds.{AreSeated, Every, Fits, FitsChange, FitsNode, HasChange, HasNode, Holds, IsReached, IsThere, KnowsNode, Shows, World}
 use Rattle.gate_rule.specs.declared.view.ChangeView.{ChangeView}
 use Rattle.gate_rule.specs.declared.view.NodeView.{NodeView}
 use Rattle.gate_rule.specs.declared.view.View.{View}
@@ -94,8 +94,8 @@ passes_view w w' id j v pass apart fits = record {
 
 -- the rule holds of new words and a new view, where the others' views fit the new world
 pub holds_next : (t : Table (Unit {0}) View) (h : Holds t) (w : World) (words : List ℕ) (homes : List (Maybe (Unit {0}))) (id : ℕ) (v : View) → IsReached w → Shows words (state_at w.moments)
-    → Passes h.world w id → Fits w id v → Holds (record { words = words; homes = homes; views = set t.views id v })
-holds_next t h w words homes id v reached shows pass fits = record {
+    → Passes h.world w id → Fits w id v → AreSeated w (set t.views id v) → Holds (record { words = words; homes = homes; views = set t.views id v })
+holds_next t h w words homes id v reached shows pass fits seated = record {
   world = w;
   reached = reached;
   shows = shows;
@@ -103,13 +103,14 @@ holds_next t h w words homes id v reached shows pass fits = record {
       (λ (x : (j ≡ id) × (v ≡ u)). subst (λ (y : ℕ × View). Fits w y.0 y.1) (λ i. (sym x.0 i, x.1 i)) fits)
       (λ (x : (j ≢ id) × (get_elem? t.views j ≡ some u)). passes_view h.world w id j u pass x.0 (h.views j u x.1))
       (at_set t.views id j v u at);
+  seated = seated;
 }
 
 -- a seat is taken in by another
 pub holds_joined : (t : Table (Unit {0}) View) (w : World) (id other : ℕ) (both : View) (homes : List (Maybe (Unit {0}))) → IsReached w → Shows t.words (state_at w.moments)
     → ((j : ℕ) (u : View) → j ≢ id → j ≢ other → get_elem? t.views j ≡ some u → Fits w j u) → Fits w id both
-    → Holds (record { words = t.words; homes = homes; views = set (set t.views id both) other nobody })
-holds_joined t w id other both homes reached shows others fits = record {
+    → AreSeated w (set (set t.views id both) other nobody) → Holds (record { words = t.words; homes = homes; views = set (set t.views id both) other nobody })
+holds_joined t w id other both homes reached shows others fits seated = record {
   world = w;
   reached = reached;
   shows = shows;
@@ -120,6 +121,7 @@ holds_joined t w id other both homes reached shows others fits = record {
       (λ (y : (j ≢ id) × (get_elem? t.views j ≡ some u)). others j u y.0 x.0 y.1)
       (at_set t.views id j both u x.1))
       (at_set (set t.views id both) other j nobody u at);
+  seated = seated;
 }
 
 -- a place of a list with one more view
@@ -132,8 +134,8 @@ at_more (x ∷ xs) v u (suc n) e = ⊎_elim inl (λ y. inr (ap suc y.0, y.1)) (a
 -- a seat's view is cut in two
 pub holds_parted : (t : Table (Unit {0}) View) (w : World) (id : ℕ) (left right : View) (homes : List (Maybe (Unit {0}))) → IsReached w → Shows t.words (state_at w.moments)
     → ((j : ℕ) (u : View) → j ≢ id → get_elem? t.views j ≡ some u → Fits w j u) → Fits w id left → Fits w (length t.views) right
-    → Holds (record { words = t.words; homes = homes; views = set t.views id left ++ right ∷ [] })
-holds_parted t w id left right homes reached shows others fits new = record {
+    → AreSeated w (set t.views id left ++ right ∷ []) → Holds (record { words = t.words; homes = homes; views = set t.views id left ++ right ∷ [] })
+holds_parted t w id left right homes reached shows others fits new seated = record {
   world = w;
   reached = reached;
   shows = shows;
@@ -145,7 +147,46 @@ holds_parted t w id left right homes reached shows others fits new = record {
       (λ (x : (j ≡ length (set t.views id left)) × (right ≡ u)).
       subst (λ (z : ℕ × View). Fits w z.0 z.1) (λ i. ((sym (length-set t.views id left) ∙ sym x.0) i, x.1 i)) new)
       (at_more (set t.views id left) right u j at);
+  seated = seated;
 }
+
+-- ---- seats that are there
+
+-- a view that is there, once another takes its place
+pub set_there : (views : List View) (id : ℕ) (u v : View) → get_elem? views id ≡ some u → get_elem? (set views id v) id ≡ some v
+set_there [] id u v at = absurd (some-ne-none u (sym at))
+set_there (x ∷ xs) zero u v at = refl
+set_there (x ∷ xs) (suc id) u v at = set_there xs id u v at
+
+-- what is there is so still, where one view becomes another that is so too
+pub stays_there : (views : List View) (id : ℕ) (u v : View) → get_elem? views id ≡ some u → (P : View → Type 0) → (j : ℕ) → (P u → P v) → IsThere views j P → IsThere (set views id v) j P
+stays_there views id u v at P j also there = ⊎_elim
+    (λ (is : j ≡ id). (v, ap (get_elem? (set views id v)) is ∙ set_there views id u v at, also (subst P (some-injective there.0 u (sym there.1 ∙ ap (get_elem? views) is ∙ at)) there.2)))
+    (λ (apart : j ≢ id). (there.0, set_else views id j v apart ∙ there.1, there.2))
+    (cases_eq j id)
+
+-- and where another view is added
+pub there_before : (views : List View) (v : View) (P : View → Type 0) (j : ℕ) → IsThere views j P → IsThere (views ++ v ∷ []) j P
+there_before views v P j there = (there.0, at_longer views (v ∷ []) j there.0 there.1, there.2)
+
+-- whoever has a seat has it still
+pub record Keeps (u v : View) : Type 0 where
+  pub nodes : (n : ℕ) → HasNode n u → HasNode n v
+  pub change : HasChange u → HasChange v
+
+seated_next : (w : World) (ms : List Moment) (r : List Entry) (views : List View) (id : ℕ) (u v : View) → get_elem? views id ≡ some u → Keeps u v → AreSeated w views
+    → AreSeated (record w { moments = ms; entries = r }) (set views id v)
+seated_next w ms r views id u v at keeps seated = record {
+  nodes = λ n few. stays_there views id u v at (HasNode n) (w.owner n) (keeps.nodes n) (seated.nodes n few);
+  change = stays_there views id u v at HasChange w.change keeps.change seated.change;
+}
+
+-- a node's view keeps its slot, and the change's the nodes that it took in
+node_keeps : (n n' : NodeView) → n'.slot ≡ n.slot → Keeps (of_node n) (of_node n')
+node_keeps n n' same = record { nodes = λ m h. subst (λ k. (k == m || false) ≡ true) (sym same) h; change = λ h. h }
+
+change_keeps : (nodes : List NodeView) (c c' : ChangeView) → Keeps (of_change nodes c) (of_change nodes c')
+change_keeps nodes c c' = record { nodes = λ m h. h; change = λ h. h }
 
 -- ---- worlds
 
@@ -170,34 +211,36 @@ module _ (t : Table (Unit {0}) View) (h : Holds t) (id : ℕ) (homes : List (May
   abbrev s : State
   s = state_at w.moments
 
-  -- the node of a seat does an event
-  pub acts : (n : NodeView) (e : Event) (words : List ℕ) → get_elem? t.views id ≡ some (of_node n) → is_of_change e ≡ false → denial s e ≡ None → is_doer s n.slot e ≡ true
-      → Shows words (effect s e) → Holds (record { words = words; homes = homes; views = set t.views id (of_node (does n e)) })
-  acts n e words at by_node_ may mine shows =
-      let fit = (h.views id (of_node n) at).nodes.0 in
+  -- the node of a seat learns something and does an event
+  pub acts : (n n' : NodeView) (e : Event) (words : List ℕ) → get_elem? t.views id ≡ some (of_node n) → n'.slot ≡ n.slot → (KnowsNode es n → KnowsNode es n') → is_of_change e ≡ false → denial s e ≡ None
+      → is_doer s n'.slot e ≡ true → Shows words (effect s e) → Holds (record { words = words; homes = homes; views = set t.views id (of_node (does n' e)) })
+  acts n n' e words at same knows by_node_ may mine shows =
+      let was = (h.views id (of_node n) at).nodes.0 in
+      let fit : FitsNode w id n' = record { owned = ap w.owner same ∙ was.owned; seated = subst (λ i. i < w.seats) (sym same) was.seated; knows = knows was.knows } in
       let more_ = event_more w.moments e in
       let now = node_more w.entries w.moments e h.reached.is_record by_node_ may in
       let run : IsRun (es ++ e ∷ []) = subst IsRun more_ now.runs in
       let w' : World = record w { moments = w.moments ++ by_node e ∷ [] } in
-      holds_next t h w' words homes id (of_node (does n e))
+      holds_next t h w' words homes id (of_node (does n' e))
       (record {
         is_record = now;
-        unseated = λ m none_. ap (done_by m) more_ ∙ done_still m es e (one_doer s n.slot m e mine (λ at. omega (arith, at, none_, fit.seated))) ∙ h.reached.unseated m none_;
+        unseated = λ m none_. ap (done_by m) more_ ∙ done_still m es e (one_doer s n'.slot m e mine (λ at. omega (arith, at, none_, fit.seated))) ∙ h.reached.unseated m none_;
       })
       (subst (Shows words) (sym (ap state_after more_ ∙ state_more es e)) shows)
       (record {
         nodes = λ j u apart f. record {
           owned = f.owned;
           seated = f.seated;
-          knows = subst (λ es. KnowsNode es u) (sym more_) (known_stays es e run u f.knows (one_doer s n.slot u.slot e mine (λ at. apart (sym f.owned ∙ ap w.owner at ∙ fit.owned))));
+          knows = subst (λ es. KnowsNode es u) (sym more_) (known_stays es e run u f.knows (one_doer s n'.slot u.slot e mine (λ at. apart (sym f.owned ∙ ap w.owner at ∙ fit.owned))));
         };
         change = λ j c apart f. record { change = f.change; seats = f.seats; entries = f.entries };
       })
       (record {
-        nodes = (record { owned = fit.owned; seated = fit.seated; knows = subst (λ es. KnowsNode es (does n e)) (sym more_) (known_grows es e run n fit.knows mine) }, tt);
+        nodes = (record { owned = fit.owned; seated = fit.seated; knows = subst (λ es. KnowsNode es (does n' e)) (sym more_) (known_grows es e run n' fit.knows mine) }, tt);
         apart = (tt, tt);
         change = λ c at. absurd (cc at);
       })
+      (seated_next w w'.moments w.entries t.views id (of_node n) (of_node (does n' e)) at (node_keeps n (does n' e) same) h.seated)
 
   -- the change does one
   pub changes : (nodes : List NodeView) (c : ChangeView) (e : Event) (words : List ℕ) → get_elem? t.views id ≡ some (of_change nodes c) → is_of_change e ≡ true → denial s e ≡ None
@@ -225,6 +268,7 @@ module _ (t : Table (Unit {0}) View) (h : Holds t) (id : ℕ) (homes : List (May
         change = λ d at. subst (λ (d : ChangeView). FitsChange w' id d) (same_Some (notes c (Did e)) d at)
             (record { change = mine.change; seats = mine.seats; entries = ap (λ r. r ++ Did e ∷ []) mine.entries });
       })
+      (seated_next w w'.moments w'.entries t.views id (of_change nodes c) (of_change nodes (notes c (Did e))) at (change_keeps nodes c (notes c (Did e))) h.seated)
 
   -- the change sees something
   pub sees : (nodes : List NodeView) (c : ChangeView) (x : Entry) → get_elem? t.views id ≡ some (of_change nodes c) → event_in x ≡ None → IsSo w.moments (entry x)
@@ -249,6 +293,7 @@ module _ (t : Table (Unit {0}) View) (h : Holds t) (id : ℕ) (homes : List (May
         change = λ d at. subst (λ (d : ChangeView). FitsChange w' id d) (same_Some (notes c x) d at)
             (record { change = mine.change; seats = mine.seats; entries = ap (λ r. r ++ x ∷ []) mine.entries });
       })
+      (seated_next w w'.moments w'.entries t.views id (of_change nodes c) (of_change nodes (notes c x)) at (change_keeps nodes c (notes c x)) h.seated)
 
   -- a node learns something of the world as it is
   pub learns : (n n' : NodeView) → get_elem? t.views id ≡ some (of_node n) → n'.slot ≡ n.slot → (KnowsNode es n → KnowsNode es n')
@@ -262,3 +307,4 @@ module _ (t : Table (Unit {0}) View) (h : Holds t) (id : ℕ) (homes : List (May
         apart = (tt, tt);
         change = λ c at. absurd (cc at);
       })
+      (seated_next w w.moments w.entries t.views id (of_node n) (of_node n') at (node_keeps n n' same) h.seated)

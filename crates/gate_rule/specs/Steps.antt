@@ -2,7 +2,6 @@
 use Rattle.std.specs.Prelude.{◌≡◌, ℕ, ◌==◌, List, [], Some, if◌then◌else◌}
 use Rattle.std.specs.Option.{option_map_or}
 use Rattle.atomic_table.specs.Table.{Me, Step}
-use Rattle.gate_records.specs.Records.{IsRecordOf, Moment, events}
 use Rattle.gate_records.specs.declared.entry.Entry.{Entry}
 use Rattle.gate_records.specs.declared.entry.Entry.TheVariants.{Looked}
 use Rattle.gate_word.specs.Phases.{is_answered, is_asked, is_in_more}
@@ -18,9 +17,11 @@ use Rattle.port_gate.specs.Moves.{with_seen}
 use Rattle.port_gate.specs.Seats.{serial_served}
 use Rattle.port_gate.specs.declared.answers.SeeAnswer.{SeeAnswer}
 use Rattle.port_gate.specs.declared.answers.SeeAnswer.TheVariants as see
-use Rattle.gate_rule.specs.Views.{change_of, does, node_at, node_of, notes, of_change, of_node}
-use Rattle.gate_rule.specs.Worlds.{Every, KnowsNode}
-use Rattle.gate_rule.specs.declared.view.ChangeView.{ChangeView}
+use Rattle.gate_rule.specs.Views.{change_of, does, node_at, node_of, notes, of_change, of_node, reads}
+use Rattle.gate_rule.specs.Worlds.{KnowsNode}
+use Rattle.gate_rule.specs.declared.view.LoadKind.{LoadKind}
+use Rattle.gate_rule.specs.declared.view.LoadKind.TheVariants as kinds
+use Rattle.gate_rule.specs.declared.view.LoadKind.TheVariants.{Own, Exchange}
 use Rattle.gate_rule.specs.declared.view.NodeView.{NodeView}
 use Rattle.gate_rule.specs.declared.view.View.{View}
 
@@ -33,6 +34,10 @@ IsNode me = me ≡ (of_node (node_of me.0), [])
 
 abbrev pub IsChange : Seat → Type 0
 IsChange me = me ≡ (of_change me.0.nodes (change_of me.0), [])
+
+-- the seat of a node that loaded one word more
+abbrev pub read : Seat → LoadKind → ℕ → ℕ → Seat
+read me k p w = (of_node (reads (node_of me.0) k p w), [])
 
 -- the seat of a node that did one event more, and of a change that has one entry more
 abbrev pub did : Seat → Event → Seat
@@ -59,39 +64,45 @@ seen_in w =
     else if is_in_more (unpack w).phase then see.More (unpack w).value
     else see.NotYet w
 
--- ---- a node's steps
+-- ---- a node's steps: each loads the word that is found, and what is done by it follows
 
--- a load tells the word, and changes nothing
+-- a load does nothing else
 abbrev pub Loads : Step (Unit {0}) → Seat → ℕ → Seat → Type 0
-Loads st me found new = (new ≡ me) × WasShown (node_of me.0) st.word found
+Loads st me found new = (new ≡ read me Own st.word found) × WasShown (node_of me.0) st.word found
 
 -- an exchange is the event, where it found the word that it expects
 abbrev pub Begins : Event → Step (Unit {0}) → Seat → ℕ → Seat → Type 0
-Begins e st me found new = (new ≡ (if found == st.first then did me e else me)) × WasShown (node_of me.0) st.word found
+Begins e st me found new =
+    (new ≡ (if found == st.first then did (read me Exchange st.word found) e else read me Exchange st.word found)) × WasShown (node_of me.0) st.word found
 
 -- a load takes what is asked of the node
 abbrev pub Takes : Step (Unit {0}) → Seat → ℕ → Seat → Type 0
 Takes st me found new =
-    (new ≡ (if is_message_to (node_of me.0).slot (unpack found) then did me (Take st.word (unpack found).serial (unpack found).value) else me))
+    (new ≡ (if is_message_to (node_of me.0).slot (unpack found) then did (read me kinds.Take st.word found) (Take st.word (unpack found).serial (unpack found).value)
+    else read me kinds.Take st.word found))
     × WasShown (node_of me.0) st.word found
+
+-- a load sees what the word shows
+abbrev pub sees : NodeView → ℕ → ℕ → NodeView
+sees n p w = record (reads n Own p w) { known = with_seen (node_at n) p (seen_in w) n.known }
 
 abbrev pub Sees : Step (Unit {0}) → Seat → ℕ → Seat → Type 0
-Sees st me found new =
-    (new ≡ (of_node (record (node_of me.0) { known = with_seen (node_at (node_of me.0)) st.word (seen_in found) (node_of me.0).known }), []))
-    × WasShown (node_of me.0) st.word found
+Sees st me found new = (new ≡ (of_node (sees (node_of me.0) st.word found), [])) × WasShown (node_of me.0) st.word found
 
 -- a load that goes before a call, or tells that it is missed
-abbrev pub to_call : Seat → ℕ → ℕ → Seat
-to_call me p word = (of_node (record (node_of me.0) { loaded = Some (record { port = p; word = word }) }), [])
+abbrev pub looks : NodeView → ℕ → ℕ → NodeView
+looks n p w = record (reads n Own p w) { loaded = Some (record { port = p; word = w }) }
 
 abbrev pub LooksToCall : Step (Unit {0}) → Seat → ℕ → Seat → Type 0
 LooksToCall st me found new =
-    (new ≡ (if is_missing (unpack found) then did me (Miss st.word) else to_call me st.word found)) × WasShown (node_of me.0) st.word found
+    (new ≡ (if is_missing (unpack found) then did (read me Own st.word found) (Miss st.word) else (of_node (looks (node_of me.0) st.word found), [])))
+    × WasShown (node_of me.0) st.word found
 
 -- a load hears the further message
 abbrev pub Hears : Step (Unit {0}) → Seat → ℕ → Seat → Type 0
 Hears st me found new =
-    (new ≡ (if is_asked (unpack found).phase then did me (Hear st.word (serial_served (node_of me.0).known) (unpack found).value) else me))
+    (new ≡ (if is_asked (unpack found).phase then did (read me kinds.Hear st.word found) (Hear st.word (serial_served (node_of me.0).known) (unpack found).value)
+    else read me kinds.Hear st.word found))
     × WasShown (node_of me.0) st.word found
 
 -- a load of the slot's word by the new node's seat
@@ -102,13 +113,3 @@ Adopts st me found new = (new ≡ me) × (unpack_slot found ≡ Some (node_of me
 
 abbrev pub LooksAt : Step (Unit {0}) → Seat → ℕ → Seat → Type 0
 LooksAt st me found new = new ≡ noted me (Looked st.word found)
-
--- the record, and what is known of nodes, are of one run, in which each look and each sight stands at its place
-pub record AreOfOneRun (c : ChangeView) (nodes : List NodeView) : Type 0 where
-  pub moments : List Moment
-  pub is_record : IsRecordOf c.entries moments
-  pub are_known : Every (KnowsNode (events moments)) nodes
-
--- a look at a port by which the change learns that
-abbrev pub Merges : Step (Unit {0}) → Seat → ℕ → Seat → Type 0
-Merges st me found new = (new ≡ noted me (Looked st.word found)) × AreOfOneRun (notes (change_of me.0) (Looked st.word found)) me.0.nodes

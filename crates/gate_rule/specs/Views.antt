@@ -1,5 +1,6 @@
 -- What seats know, and how it grows.
-use Rattle.std.specs.Prelude.{◌+◌, List, [], ◌∷◌, ◌++◌, Some, None, drop, slice_index_or}
+use Rattle.std.specs.Prelude.{ℕ, ◌+◌, Bool, ◌==◌, List, [], ◌∷◌, ◌++◌, length, Some, None, drop, slice_index_or, if◌then◌else◌}
+use Rattle.std.specs.List.{list_any}
 use Rattle.std.specs.Option.{option_map_or}
 use Rattle.config_graph.specs.declared.kind.Kind.TheVariants as kind
 use Rattle.gate_records.specs.declared.entry.Entry.{Entry}
@@ -10,6 +11,8 @@ use Rattle.quiesce_core.specs.State.{slot}
 use Rattle.quiesce_core.specs.Words.{slot_fields_of}
 use Rattle.quiesce_core.specs.declared.event.Event.{Event}
 use Rattle.port_gate.specs.Seats.{NodeAt}
+use Rattle.gate_rule.specs.declared.view.LoadKind.{LoadKind}
+use Rattle.gate_rule.specs.declared.view.LoadStep.{LoadStep}
 use Rattle.gate_rule.specs.declared.view.NodeView.{NodeView}
 use Rattle.gate_rule.specs.declared.view.ChangeView.{ChangeView}
 use Rattle.gate_rule.specs.declared.view.View.{View}
@@ -36,6 +39,13 @@ node_at n = record { slot = n.slot; kind = n.made.kind; first = n.made.first_por
 abbrev pub does : NodeView → Event → NodeView
 does n e = record n { known = known_next n.made.first_port n.known e; log = n.log ++ e ∷ []; loaded = None }
 
+-- one more word that it loaded
+abbrev pub load_step : NodeView → LoadKind → ℕ → ℕ → LoadStep
+load_step n k p w = record { kind = k; port = p; word = w; done = length n.log }
+
+abbrev pub reads : NodeView → LoadKind → ℕ → ℕ → NodeView
+reads n k p w = record n { loads = n.loads ++ load_step n k p w ∷ [] }
+
 -- one more entry of the change
 abbrev pub notes : ChangeView → Entry → ChangeView
 notes c x = record c { entries = c.entries ++ x ∷ [] }
@@ -47,6 +57,7 @@ unknown = record {
   made = record { kind = kind.Fork; first_port = 0; arg = None; from = None };
   known = nothing_known;
   log = [];
+  loads = [];
   loaded = None;
 }
 
@@ -57,6 +68,14 @@ node_of v = slice_index_or v.nodes 0 unknown
 abbrev pub change_of : View → ChangeView
 change_of v = option_map_or (λ c. c) v.change nothing_done
 
+-- whether a seat has the node of this slot, and the events that it has of it
+abbrev pub is_among : List NodeView → ℕ → Bool
+is_among nodes n = list_any (λ (v : NodeView). v.slot == n) nodes
+
+abbrev pub log_in : List NodeView → ℕ → List Event
+log_in [] n = []
+log_in (v ∷ vs) n = if v.slot == n then v.log else log_in vs n
+
 -- ---- seats that are given out and taken in
 
 -- the node of the first slot whose seat wasn't given out, as the record has it
@@ -66,6 +85,7 @@ newest c = record {
   made = option_map_or slot_fields_of (slot (config_of c.entries) c.seats) unknown.made;
   known = nothing_known;
   log = [];
+  loads = [];
   loaded = None;
 }
 

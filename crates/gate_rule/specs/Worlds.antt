@@ -2,7 +2,7 @@
 -- reached where each event may happen after those before it, each look loaded the word that its port had there, and each sight has
 -- the events that its node had done. The words of ports and slots are those of the state then; what a seat knows of its node are the
 -- node's own events, and what the state has of it; and the change knows the record.
-use Rattle.std.specs.Prelude.{◌≡◌, ◌≢◌, ⊤, ℕ, ◌+◌, ◌<◌, ◌≤◌, true, List, [], ◌∷◌, ◌++◌, replicate, length, slice_index, Some, is_some, option_map}
+use Rattle.std.specs.Prelude.{◌≡◌, ◌≢◌, ⊤, ℕ, ◌+◌, ◌<◌, ◌≤◌, true, List, [], ◌∷◌, ◌++◌, replicate, length, slice_index, Some, is_some, option_map, IsTrue}
 use Rattle.atomic_table.specs.Table.{State as Table}
 use Rattle.config_graph.specs.declared.TheConstants.{MAX_NODES, MAX_PORTS}
 use Rattle.gate_records.specs.Records.{IsRecordOf, Moment, events, state_at}
@@ -18,7 +18,9 @@ use Rattle.quiesce_core.specs.Words.{slot_fields_of, slot_word_of, word_of}
 use Rattle.quiesce_core.specs.declared.event.Event.{Event}
 use Rattle.quiesce_core.specs.declared.state.Exchange.{Exchange}
 use Rattle.quiesce_core.specs.declared.state.Service.{Service}
+use Rattle.gate_rule.specs.Views.{is_among}
 use Rattle.gate_rule.specs.declared.view.ChangeView.{ChangeView}
+use Rattle.gate_rule.specs.declared.view.LoadStep.{LoadStep}
 use Rattle.gate_rule.specs.declared.view.Loaded.{Loaded}
 use Rattle.gate_rule.specs.declared.view.NodeView.{NodeView}
 use Rattle.gate_rule.specs.declared.view.View.{View}
@@ -58,10 +60,22 @@ pub record IsLoadedOf (s : State) (n : ℕ) (l : Loaded) : Type 0 where
   pub shown : ShowsExchange (unpack l.word) (exchange s l.port)
   pub leads : (v : Service) → service s n ≡ Some v → target s.config l.port ≡ (unpack l.word).target
 
+-- a word that node n loaded was its port's after these events, when the node had done as many as it had then
+pub record WasLoaded (n : ℕ) (es : List Event) (l : LoadStep) : Type 0 where
+  pub done : l.done ≡ length (done_by n es)
+  pub word : l.word ≡ word_of (state_after es) l.port
+
+-- Each word of a list was loaded at a place of the run, in that order: the run goes on from the place of the one before it to its own
+-- place, and then by the rest.
+abbrev pub AreLoaded : ℕ → List Event → List Event → List LoadStep → Type 0
+AreLoaded n es rest [] = ⊤
+AreLoaded n es rest (l ∷ ls) = (next : List Event) × (later : List Event) × (rest ≡ next ++ later) × WasLoaded n (es ++ next) l × AreLoaded n (es ++ next) later ls
+
 -- what is known of a node after these events
 pub record KnowsNode (es : List Event) (n : NodeView) : Type 0 where
   pub made : option_map slot_fields_of (slot (state_after es).config n.slot) ≡ Some n.made
   pub log : n.log ≡ done_by n.slot es
+  pub loads : AreLoaded n.slot [] es n.loads
   pub known : IsKnown (state_after es) n.slot n.made.first_port n.known
   pub loaded : (l : Loaded) → n.loaded ≡ Some l → IsLoadedOf (state_after es) n.slot l
 
@@ -92,12 +106,29 @@ pub record Fits (w : World) (id : ℕ) (v : View) : Type 0 where
   pub apart : Apart v.nodes
   pub change : (c : ChangeView) → v.change ≡ Some c → FitsChange w id c
 
+-- a view has the node of this slot; and the change
+abbrev pub HasNode : ℕ → View → Type 0
+HasNode n v = IsTrue (is_among v.nodes n)
+
+abbrev pub HasChange : View → Type 0
+HasChange v = IsTrue (is_some v.change)
+
+-- the seat's view is there, and such
+abbrev pub IsThere : List View → ℕ → (View → Type 0) → Type 0
+IsThere views id P = (v : View) × (get_elem? views id ≡ some v) × P v
+
+-- none is lost: each node whose seat was given out is in the view of the seat that has it, and the change in its own
+pub record AreSeated (w : World) (views : List View) : Type 0 where
+  pub nodes : (n : ℕ) → n < w.seats → IsThere views (w.owner n) (HasNode n)
+  pub change : IsThere views w.change HasChange
+
 -- the rule
 pub record Holds (t : Table (Unit {0}) View) : Type 0 where
   pub world : World
   pub reached : IsReached world
   pub shows : Shows t.words (state_at world.moments)
   pub views : (id : ℕ) (v : View) → get_elem? t.views id ≡ some v → Fits world id v
+  pub seated : AreSeated world t.views
 
 -- the words at the beginning: those of ports and of slots that were never made
 abbrev pub first_words : List ℕ

@@ -7,4 +7,4 @@ mod view;
 
 pub use laws::{gates_show_a_run, notes_tell_of_the_state};
 pub use rule::GateRule;
-pub use view::{ChangeView, Loaded, NodeView, View};
+pub use view::{ChangeView, LoadKind, LoadStep, Loaded, NodeView, View};

@@ -11,6 +11,25 @@ pub struct Loaded {
     pub word: u64,
 }
 
+/// By what a node loads a port's word.
+pub enum LoadKind {
+    /// By `begin`, `call` or `see`, at a port of its own.
+    Own,
+    /// By the exchange of a `begin`, after its load.
+    Exchange,
+    Take,
+    Hear,
+}
+
+/// A word that a node loaded.
+pub struct LoadStep {
+    pub kind: LoadKind,
+    pub port: u32,
+    pub word: u64,
+    /// How many events the node had done then.
+    pub done: u32,
+}
+
 /// What is known of a node by whoever has its seat.
 pub struct NodeView {
     pub slot: u32,
@@ -20,6 +39,8 @@ pub struct NodeView {
     pub known: Known,
     /// Its events, in order.
     pub log: LinkedList<Event>,
+    /// The words that it loaded, in order.
+    pub loads: LinkedList<LoadStep>,
     pub loaded: Option<Loaded>,
 }
 
