@@ -5,9 +5,9 @@ use Rattle.atomic_table.specs.Table.{Allows, Splits, step}
 use Rattle.config_graph.specs.declared.TheConstants.{MAX_PORTS}
 use Rattle.config_graph.specs.declared.node.Node.{Node}
 use Rattle.config_graph.specs.declared.node.Target.{Target}
-use Rattle.gate_word.specs.Operands.{end_difference, message_difference}
+use Rattle.gate_word.specs.Operands.{call_difference, end_difference, message_difference}
 use Rattle.gate_word.specs.SlotWords.{pack_slot}
-use Rattle.gate_word.specs.Words.{pack, unpack}
+use Rattle.gate_word.specs.Words.{FitsWord, is_missing, pack, unpack}
 use Rattle.gate_word.specs.declared.operands.TheConstants.{ALL_BUT_CLOSED, CLOSED}
 use Rattle.gate_word.specs.declared.phase.Phase.TheVariants as phase
 use Rattle.gate_records.specs.Entries.{config_of}
@@ -15,9 +15,9 @@ use Rattle.gate_records.specs.Records.{May}
 use Rattle.gate_records.specs.declared.entry.Entry.TheVariants.{Did}
 use Rattle.quiesce_core.specs.Rules.{last_serial}
 use Rattle.quiesce_core.specs.declared.event.Event.{Event}
-use Rattle.quiesce_core.specs.declared.event.Event.TheVariants.{Begin, Give, End, Close, Reopen, Make}
-use Rattle.port_gate.specs.Seats.{MayBegin, MayEnd, MayGive, MaySee, MayTake, port_known, serial_served, value_seen}
-use Rattle.gate_rule.specs.Steps.{Adopts, Begins, IsChange, IsNode, Loads, LooksAt, Seat, Sees, Takes, did, noted, value_served}
+use Rattle.quiesce_core.specs.declared.event.Event.TheVariants.{Begin, Call, Give, End, More, Ask, Close, Reopen, Make}
+use Rattle.port_gate.specs.Seats.{MayAsk, MayBegin, MayCall, MayEnd, MayGive, MayHear, MaySee, MaySendMore, MayTake, port_known, serial_served, value_seen}
+use Rattle.gate_rule.specs.Steps.{Adopts, Begins, Hears, IsChange, IsNode, Loads, LooksAt, LooksToCall, Seat, Sees, Takes, did, noted, value_served}
 use Rattle.gate_rule.specs.Views.{change_of, new_seat, node_at, node_of, of_change, of_node, without_seat}
 use Rattle.gate_rule.specs.Worlds.{Holds}
 use Rattle.gate_rule.proofs.ChangeStepLaws as change_
@@ -63,6 +63,25 @@ module _ (slots id : ℕ) (me : Seat) (is : IsNode me) where
       → k ≡ end_difference (value_seen (port_known (node_at (node_of me.0)) (node_of me.0).known p) % 2 ^ 24) (port_known (node_at (node_of me.0)) (node_of me.0).known p).consequent
       → MayEnd (node_at (node_of me.0)) (node_of me.0).known p → Allows Holds slots id me p (λ x. bit_xor x k) (λ found new. new ≡ did me e)
   ends p k e event operand may = acts p k _ e _ event operand (node_.ends (node_of me.0) p may slots id)
+
+  pub mores : (p v k : ℕ) (e : Event) → e ≡ More p (serial_served (node_of me.0).known) v → k ≡ message_difference phase.Asked (value_served (node_of me.0).known % 2 ^ 24) phase.More v
+      → MaySendMore (node_at (node_of me.0)) (node_of me.0).known p v → Allows Holds slots id me p (λ x. bit_xor x k) (λ found new. new ≡ did me e)
+  mores p v k e event operand may = acts p k _ e _ event operand (node_.mores slots id p v (node_of me.0) may)
+
+  pub asks : (p v k : ℕ) (e : Event) → e ≡ Ask p (port_known (node_at (node_of me.0)) (node_of me.0).known p).serial v
+      → k ≡ message_difference phase.More (value_seen (port_known (node_at (node_of me.0)) (node_of me.0).known p) % 2 ^ 24) phase.Asked v
+      → MayAsk (node_at (node_of me.0)) (node_of me.0).known p v → Allows Holds slots id me p (λ x. bit_xor x k) (λ found new. new ≡ did me e)
+  asks p v k e event operand may = acts p k _ e _ event operand (node_.asks (node_of me.0) p v may slots id)
+
+  pub hears : (p : ℕ) → MayHear (node_of me.0).known p → Allows Holds slots id me p (λ x. x) (Hears (step slots p 0 0 none) me)
+  hears p may = as_node (λ m. Allows Holds slots id m p (λ x. x) (Hears (step slots p 0 0 none) m)) (node_.hears slots id p (node_of me.0) may)
+
+  pub looks_to_call : (p v : ℕ) → MayCall (node_at (node_of me.0)) (node_of me.0).known p v → Allows Holds slots id me p (λ x. x) (LooksToCall (step slots p 0 0 none) me)
+  looks_to_call p v may = as_node (λ m. Allows Holds slots id m p (λ x. x) (LooksToCall (step slots p 0 0 none) m)) (node_.looks_to_call (node_of me.0) p v may slots id)
+
+  pub calls : (p v word k : ℕ) (e : Event) → e ≡ Call p ((unpack word).serial + 1) v → k ≡ call_difference (unpack word) v → MayCall (node_at (node_of me.0)) (node_of me.0).known p v
+      → (node_of me.0).loaded ≡ Some (record { port = p; word = word }) → FitsWord (unpack word) → is_missing (unpack word) ≡ false → Allows Holds slots id me p (λ x. bit_xor x k) (λ found new. new ≡ did me e)
+  calls p v word k e event operand may was fit found_there = acts p k _ e _ event operand (node_.calls (node_of me.0) p v may word was fit found_there slots id)
 
   pub adopts : (n i : ℕ) → (node_of me.0).slot ≡ n → i ≡ MAX_PORTS + n → Allows Holds slots id me i (λ x. x) (Adopts (step slots i 0 0 none) me)
   adopts n i slot_ place =

@@ -1,3 +1,7 @@
 mod AsSeats
-mod Saws
+mod Saying
 mod Sizes
+mod AsJoined
+mod Sighted
+mod AsLinked
+mod Telling

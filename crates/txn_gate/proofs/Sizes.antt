@@ -1,10 +1,10 @@
 -- How many nodes and ports were made, as a record grows.
-use Rattle.std.proofs.Common.{◌≡◌, ◌∙◌, ℕ, ◌+◌, ◌<◌, ◌≤◌, ◌^◌, Bool, true, false, ◌&&◌, not, cond, List, [], ◌∷◌, ◌++◌, length, Option, Some, None, refl, sym, ap, subst, arith}
-use Rattle.std.specs.Prelude.{◌==◌, IfSome, is_none, is_some, nat_le, nat_lt}
+use Rattle.std.proofs.Common.{◌≡◌, ◌∙◌, ℕ, ◌+◌, ◌<◌, ◌≤◌, ◌^◌, Bool, true, false, ◌&&◌, not, cond, List, [], ◌∷◌, ◌++◌, length, set, Option, Some, None, refl, sym, ap, subst, arith}
+use Rattle.std.specs.Prelude.{IfSome, is_none, is_some}
 use Rattle.std.specs.Option.{option_map_or}
-use Rattle.std.proofs.lemmas.Bool.{and_parts, both_ways, eqb-true, leb-true, ltb-true}
+use Rattle.std.proofs.lemmas.Bool.{and_parts, both_ways, ltb-true}
 use Rattle.std.proofs.lemmas.Option.{slice_get_within}
-use Rattle.std.proofs.lemmas.List.{append-nil, length-append, length-set}
+use Rattle.std.proofs.lemmas.List.{length-append, length-set}
 use Rattle.base.proofs.OptionLaws.{map_or_at}
 use Rattle.base.proofs.PlaceLaws.{slice_get-last}
 use Rattle.config_graph.specs.Kinds.{row}
@@ -12,35 +12,28 @@ use Rattle.config_graph.specs.declared.TheConstants.{MAX_NODES, MAX_PORTS}
 use Rattle.config_graph.specs.declared.kind.Kind.{Kind}
 use Rattle.config_graph.specs.declared.node.Node.{Node}
 use Rattle.gate_word.specs.SlotWords.{FitsSlotWord}
-use Rattle.std.proofs.lemmas.List.Elements.{filter_map-append}
-use Rattle.std.proofs.lemmas.List.Sums.{fold_push}
-use Rattle.commit_laws.specs.Steps.{change_all}
-use Rattle.gate_records.specs.Entries.{config_of, event_in, events_in}
+use Rattle.gate_records.specs.Entries.{config_of}
 use Rattle.gate_records.specs.declared.entry.Entry.{Entry}
 use Rattle.gate_records.specs.declared.entry.Entry.TheVariants.{Did, Looked}
-use Rattle.quiesce_core.specs.Effect.{change_next, with_node}
+use Rattle.quiesce_core.specs.Effect.{with_node}
 use Rattle.quiesce_core.specs.Knowledge.{nothing_known}
 use Rattle.quiesce_core.specs.Legal.{CanMake}
 use Rattle.quiesce_core.specs.Rules.{can_move, has_its_argument, is_kind, is_path_taken, is_value, value_limit, was_moved}
 use Rattle.quiesce_core.specs.Words.{slot_fields_of}
 use Rattle.quiesce_core.specs.declared.state.Slot.{Slot}
 use Rattle.quiesce_core.proofs.TableLaws.{new_gates_length}
-use Rattle.quiesce_core.specs.State.{Configuration, empty, slot}
+use Rattle.quiesce_core.specs.State.{Configuration, slot}
 use Rattle.quiesce_core.specs.declared.event.Event.{Event}
-use Rattle.quiesce_core.specs.declared.event.Event.TheVariants.{Close, Reopen, Make}
+use Rattle.quiesce_core.specs.declared.event.Event.TheVariants.{Close, Reopen, Make, Link, Unlink, Remove}
 use Rattle.gate_rule.specs.Steps.{IsChange, Seat, noted}
 use Rattle.gate_rule.specs.Views.{change_of, new_seat, newest, notes, of_node, unknown, without_seat}
 use Rattle.gate_rule.specs.declared.view.ChangeView.{ChangeView}
+use Rattle.record_tables.specs.Records.{IsTableOf}
+use Rattle.record_tables.specs.Tabled.{Tabled}
+use Rattle.record_tables.proofs.NextLaws.{config_did, config_looked, room_of}
 use Rattle.txn_gate.specs.Calls.{made_node}
 
--- the configuration with one event of the change more, and with a look more
-pub config_did : (r : List Entry) (e : Event) → config_of (r ++ Did e ∷ []) ≡ change_next (config_of r) e
-config_did r e = ap (change_all empty.config) (filter_map-append event_in r (Did e ∷ [])) ∙ fold_push change_next empty.config (events_in r) e
-
-pub config_looked : (r : List Entry) (p w : ℕ) → config_of (r ++ Looked p w ∷ []) ≡ config_of r
-config_looked r p w = ap (change_all empty.config) (filter_map-append event_in r (Looked p w ∷ []) ∙ append-nil (events_in r))
-
--- a gate is turned: as many nodes and ports
+-- an event that makes no node, or a look: as many nodes and ports
 pub closed_nodes : (r : List Entry) (p : ℕ) → length (config_of (r ++ Did (Close p) ∷ [])).slots ≡ length (config_of r).slots
 closed_nodes r p = ap (λ (c : Configuration). length c.slots) (config_did r (Close p))
 
@@ -52,6 +45,28 @@ reopened_nodes r p = ap (λ (c : Configuration). length c.slots) (config_did r (
 
 pub reopened_ports : (r : List Entry) (p : ℕ) → length (config_of (r ++ Did (Reopen p) ∷ [])).gates ≡ length (config_of r).gates
 reopened_ports r p = ap (λ (c : Configuration). length c.gates) (config_did r (Reopen p)) ∙ length-set (config_of r).gates p _
+
+pub linked_nodes : (r : List Entry) (p n x : ℕ) → length (config_of (r ++ Did (Link p n x) ∷ [])).slots ≡ length (config_of r).slots
+linked_nodes r p n x = ap (λ (c : Configuration). length c.slots) (config_did r (Link p n x))
+
+pub linked_ports : (r : List Entry) (p n x : ℕ) → length (config_of (r ++ Did (Link p n x) ∷ [])).gates ≡ length (config_of r).gates
+linked_ports r p n x = ap (λ (c : Configuration). length c.gates) (config_did r (Link p n x)) ∙ length-set (config_of r).gates p _
+
+pub unlinked_nodes : (r : List Entry) (p : ℕ) → length (config_of (r ++ Did (Unlink p) ∷ [])).slots ≡ length (config_of r).slots
+unlinked_nodes r p = ap (λ (c : Configuration). length c.slots) (config_did r (Unlink p))
+
+pub unlinked_ports : (r : List Entry) (p : ℕ) → length (config_of (r ++ Did (Unlink p) ∷ [])).gates ≡ length (config_of r).gates
+unlinked_ports r p = ap (λ (c : Configuration). length c.gates) (config_did r (Unlink p)) ∙ length-set (config_of r).gates p _
+
+pub removed_nodes : (r : List Entry) (n : ℕ) → length (config_of (r ++ Did (Remove n) ∷ [])).slots ≡ length (config_of r).slots
+removed_nodes r n = ap (λ (c : Configuration). length c.slots) (config_did r (Remove n)) ∙ as_many (slot (config_of r) n)
+  where
+    as_many : (o : Option Slot) → length (option_map_or (λ (m : Slot). set (config_of r).slots n (record m { live = false })) o (config_of r).slots) ≡ length (config_of r).slots
+    as_many None = refl
+    as_many (Some m) = length-set (config_of r).slots n _
+
+pub removed_ports : (r : List Entry) (n : ℕ) → length (config_of (r ++ Did (Remove n) ∷ [])).gates ≡ length (config_of r).gates
+removed_ports r n = ap (λ (c : Configuration). length c.gates) (config_did r (Remove n))
 
 pub looked_nodes : (r : List Entry) (p w : ℕ) → length (config_of (r ++ Looked p w ∷ [])).slots ≡ length (config_of r).slots
 looked_nodes r p w = ap (λ (c : Configuration). length c.slots) (config_looked r p w)
@@ -86,20 +101,9 @@ newest_made c k first node from seats nodes ports =
           ∙ ap (λ f. record { kind = node.kind; first_port = f; arg = node.arg; from = from }) ports) i;
       known = nothing_known;
       log = [];
+      loads = [];
       loaded = None;
     }
-
--- what rule 18 says
-pub record HasRoom (c : Configuration) (n : ℕ) (node : Node) : Type 0 where
-  pub next : n ≡ length c.slots
-  pub few : n < MAX_NODES
-  pub ports : length c.gates + length (row node.kind).requires_ ≤ MAX_PORTS
-
-pub room_of : (c : Configuration) (n : ℕ) (node : Node) (from : Option ℕ) → CanMake c n node from → HasRoom c n node
-room_of c n node from may =
-    let both = and_parts (n == length c.slots && nat_lt n MAX_NODES) (nat_le (length c.gates + length (row node.kind).requires_) MAX_PORTS) may.room in
-    let first = and_parts (n == length c.slots) (nat_lt n MAX_NODES) both.0 in
-    record { next = eqb-true n (length c.slots) first.0; few = ltb-true n MAX_NODES first.1; ports = leb-true (length c.gates + length (row node.kind).requires_) MAX_PORTS both.1 }
 
 -- the word of its slot has room for it
 source_there : (o : Option Slot) (kind : Kind) → option_map_or (λ (m : Slot). not m.live && is_kind m.node.kind kind) o false ≡ true → (m : Slot) × (o ≡ Some m)
@@ -138,16 +142,16 @@ module _ (me new : Seat) (x : Entry) (is : new ≡ noted me x) where
   pub still_change : IsChange new
   still_change = subst IsChange (sym is) refl
 
-  pub still_nodes : (k : ℕ) → length (config_of ((change_of me.0).entries ++ x ∷ [])).slots ≡ length (config_of (change_of me.0).entries).slots
-      → length (config_of (change_of me.0).entries).slots ≡ k → length (config_of (change_of new.0).entries).slots ≡ k
-  still_nodes k same was = ap (λ (m : Seat). length (config_of (change_of m.0).entries).slots) is ∙ same ∙ was
+  pub still_tables : (t : Tabled) → IsTableOf t ((change_of me.0).entries ++ x ∷ []) → IsTableOf t (change_of new.0).entries
+  still_tables t h = subst (λ (m : Seat). IsTableOf t (change_of m.0).entries) (sym is) h
 
-  pub still_ports : (k : ℕ) → length (config_of ((change_of me.0).entries ++ x ∷ [])).gates ≡ length (config_of (change_of me.0).entries).gates
-      → length (config_of (change_of me.0).entries).gates ≡ k → length (config_of (change_of new.0).entries).gates ≡ k
-  still_ports k same was = ap (λ (m : Seat). length (config_of (change_of m.0).entries).gates) is ∙ same ∙ was
+  pub still_seats : length (config_of ((change_of me.0).entries ++ x ∷ [])).slots ≡ length (config_of (change_of me.0).entries).slots
+      → (change_of me.0).seats ≡ length (config_of (change_of me.0).entries).slots → (change_of new.0).seats ≡ length (config_of (change_of new.0).entries).slots
+  still_seats same was = ap (λ (m : Seat). (change_of m.0).seats) is ∙ was ∙ sym same ∙ sym (ap (λ (m : Seat). length (config_of (change_of m.0).entries).slots) is)
 
-  pub still_seats : (k : ℕ) → (change_of me.0).seats ≡ k → (change_of new.0).seats ≡ k
-  still_seats k was = ap (λ (m : Seat). (change_of m.0).seats) is ∙ was
+  pub still_within : length (config_of ((change_of me.0).entries ++ x ∷ [])).gates ≡ length (config_of (change_of me.0).entries).gates
+      → length (config_of (change_of me.0).entries).gates ≤ MAX_PORTS → length (config_of (change_of new.0).entries).gates ≤ MAX_PORTS
+  still_within same was = subst (λ k. k ≤ MAX_PORTS) (sym same ∙ sym (ap (λ (m : Seat). length (config_of (change_of m.0).entries).gates) is)) was
 
 -- the change's seat once it made a node, and once it gave that node's seat out
 module _ (me m1 : Seat) (k first : ℕ) (node : Node) (from : Option ℕ) (e : Event) (event : e ≡ Make k node from) (is : m1 ≡ noted me (Did e))
@@ -171,15 +175,21 @@ module _ (me m1 : Seat) (k first : ℕ) (node : Node) (from : Option ℕ) (e : E
     pub given_change : IsChange m2
     given_change = subst IsChange (sym then_) refl
 
-    pub given_nodes : length (config_of (change_of m2.0).entries).slots ≡ k + 1
+    given_nodes : length (config_of (change_of m2.0).entries).slots ≡ k + 1
     given_nodes = ap (λ (m : Seat). length (config_of (change_of m.0).entries).slots) then_ ∙ nodes_then
 
-    pub given_ports : (more_ : ℕ) → more_ ≡ length (row node.kind).requires_ → length (config_of (change_of m2.0).entries).gates ≡ first + more_
-    given_ports more_ count =
+    pub given_tables : (t : Tabled) → IsTableOf t ((change_of me.0).entries ++ Did (Make k node from) ∷ []) → IsTableOf t (change_of m2.0).entries
+    given_tables t h = subst (λ (m : Seat). IsTableOf t (change_of m.0).entries) (sym (then_ ∙ ap (λ (m : Seat). (without_seat m.0, [])) made_is)) h
+
+    given_ports : length (config_of (change_of m2.0).entries).gates ≡ first + length (row node.kind).requires_
+    given_ports =
         ap (λ (m : Seat). length (config_of (change_of m.0).entries).gates) then_
         ∙ ap (λ (m : Seat). length (config_of (change_of m.0).entries).gates) made_is
-        ∙ made_ports (change_of me.0).entries k node from ∙ (λ i. ports i + sym count i)
+        ∙ made_ports (change_of me.0).entries k node from ∙ ap (λ j. j + length (row node.kind).requires_) ports
 
-    pub given_seats : (change_of m2.0).seats ≡ k + 1
+    pub given_within : first + length (row node.kind).requires_ ≤ MAX_PORTS → length (config_of (change_of m2.0).entries).gates ≤ MAX_PORTS
+    given_within room = subst (λ j. j ≤ MAX_PORTS) (sym given_ports) room
+
+    pub given_seats : (change_of m2.0).seats ≡ length (config_of (change_of m2.0).entries).slots
     given_seats =
-        ap (λ (m : Seat). (change_of m.0).seats) then_ ∙ ap (λ (m : Seat). (change_of m.0).seats + 1) made_is ∙ ap (λ j. j + 1) seats
+        ap (λ (m : Seat). (change_of m.0).seats) then_ ∙ ap (λ (m : Seat). (change_of m.0).seats + 1) made_is ∙ ap (λ j. j + 1) seats ∙ sym given_nodes

@@ -1,34 +1,97 @@
--- What a call at the gates says of its node and of the words that it loaded.
-use Rattle.std.specs.Prelude.{◌≡◌, ℕ, Bool, true, List, [], Option, Some, None, fold, if◌then◌else◌}
+-- What the calls of nodes say: of the words that they loaded, of the answers that these give, and of the node.
+use Rattle.std.specs.Prelude.{◌≡◌, ℕ, ◌+◌, Bool, ◌==◌, nat_lt, true, List, [], ◌∷◌, ◌++◌, Option, Some, None, is_none, fold, if◌then◌else◌}
 use Rattle.std.specs.Option.{option_map_or}
+use Rattle.config_graph.specs.declared.TheConstants.{MAX_PORTS}
 use Rattle.config_graph.specs.declared.node.Node.{Node}
 use Rattle.config_graph.specs.declared.node.Target.{Target}
-use Rattle.gate_word.specs.Words.{is_message_to, unpack}
+use Rattle.gate_word.specs.Phases.{is_asked}
+use Rattle.gate_word.specs.Words.{is_message_to, is_missing, is_spent, unpack}
+use Rattle.port_gate.specs.Moves.{events_of_begin}
+use Rattle.port_gate.specs.declared.answers.BeginAnswer.{BeginAnswer}
+use Rattle.port_gate.specs.declared.answers.BeginAnswer.TheVariants.{Again, Begun, Closed, Spent, Unlinked}
+use Rattle.port_gate.specs.declared.answers.CallAnswer.{CallAnswer}
+use Rattle.port_gate.specs.declared.answers.CallAnswer.TheVariants.{Called, Missed}
+use Rattle.port_gate.specs.declared.answers.HearAnswer.{HearAnswer}
+use Rattle.port_gate.specs.declared.answers.HearAnswer.TheVariants as hear
 use Rattle.port_gate.specs.declared.answers.TakeAnswer.{TakeAnswer}
 use Rattle.port_gate.specs.declared.answers.TakeAnswer.TheVariants.{Stale, Taken}
 use Rattle.quiesce_core.specs.Knowledge.{nothing_known}
 use Rattle.quiesce_core.specs.declared.event.Event.{Event}
-use Rattle.port_gate.specs.Loads.{Load}
-use Rattle.gate_rule.specs.Steps.{WasShown}
-use Rattle.gate_rule.specs.Views.{does}
+use Rattle.quiesce_core.specs.declared.known.Known.{Known}
+use Rattle.quiesce_core.specs.declared.known.Served.{Served}
+use Rattle.gate_rule.specs.Views.{does, load_step, reads}
+use Rattle.gate_rule.specs.declared.view.LoadKind.{LoadKind}
+use Rattle.gate_rule.specs.declared.view.LoadKind.TheVariants.{Own, Exchange}
+use Rattle.gate_rule.specs.declared.view.LoadStep.{LoadStep}
 use Rattle.gate_rule.specs.declared.view.NodeView.{NodeView}
 
 -- the node did these events more
 abbrev pub after : NodeView → List Event → NodeView
 after n es = fold does n es
 
--- The call loaded a word at the port, and may have found another there later: each was the port's in a run in which the node had done
--- what it did before the call. By them the answer is what it is.
-pub record Saw (n : NodeView) (p : ℕ) (shows : Load → Bool) : Type 0 where
-  pub load : Load
-  pub shown : WasShown n p load.word
-  pub found : (f : ℕ) → load.found ≡ Some f → WasShown n p f
-  pub says : shows load ≡ true
+-- ---- what words answer
+
+-- the node to which a port leads by its word, and the provision
+abbrev pub leads_in : ℕ → ℕ
+leads_in w = option_map_or (λ (t : Target). t.node) (unpack w).target 0
+
+abbrev pub provision_in : ℕ → ℕ
+provision_in w = option_map_or (λ (t : Target). t.provide) (unpack w).target 0
+
+-- The word that was loaded may refuse a beginning. Else the exchange was tried: the node began where it found that word; and where
+-- it found another, the answer is by this.
+abbrev pub refused_in : ℕ → Option BeginAnswer
+refused_in l =
+    if (unpack l).closed then Some (Closed l)
+    else if is_none (unpack l).target then Some (Unlinked l)
+    else if is_spent (unpack l) then Some (Spent (unpack l).serial)
+    else None
+
+abbrev pub exchanged_in : ℕ → ℕ → BeginAnswer
+exchanged_in l f =
+    if f == l then Begun ((unpack l).serial + 1) (leads_in l)
+    else if (unpack f).closed then Closed f
+    else Again l f
+
+abbrev pub begun_in : ℕ → ℕ → BeginAnswer
+begun_in l f = option_map_or (λ (a : BeginAnswer). a) (refused_in l) (exchanged_in l f)
+
+abbrev pub called_in : ℕ → CallAnswer
+called_in w = if is_missing (unpack w) then Missed w else Called ((unpack w).serial + 1) (leads_in w)
 
 -- what a word tells the node of this slot that would take a request up
 abbrev pub taken_in : ℕ → ℕ → TakeAnswer
-taken_in slot w =
-    if is_message_to slot (unpack w) then Taken (option_map_or (λ (t : Target). t.provide) (unpack w).target 0) (unpack w).serial (unpack w).value else Stale w
+taken_in slot w = if is_message_to slot (unpack w) then Taken (provision_in w) (unpack w).serial (unpack w).value else Stale w
+
+abbrev pub heard_in : ℕ → HearAnswer
+heard_in w = if is_asked (unpack w).phase then hear.Heard (unpack w).value else hear.NotYet w
+
+-- ---- what calls loaded
+
+-- The call loaded this word, and nothing else; by it the answer is what it is, and the node learnt or did what that says.
+pub record ByWord {A : Type 0} (k : LoadKind) (p : ℕ) (says : ℕ → A) (does_ : A → NodeView → NodeView) (answer : A) (old new : NodeView) : Type 0 where
+  pub word : ℕ
+  pub answered : answer ≡ says word
+  pub node : new ≡ does_ answer (reads old k p word)
+
+-- what `begin` loads: a word, and where this doesn't refuse, the one that the exchange finds
+abbrev pub begin_loads : NodeView → ℕ → ℕ → ℕ → List LoadStep
+begin_loads n p l f = load_step n Own p l ∷ (if is_none (refused_in l) then load_step n Exchange p f ∷ [] else [])
+
+abbrev pub begin_reads : NodeView → ℕ → ℕ → ℕ → NodeView
+begin_reads n p l f = record n { loads = n.loads ++ begin_loads n p l f }
+
+pub record ByWords (p v : ℕ) (answer : BeginAnswer) (old new : NodeView) : Type 0 where
+  pub loaded : ℕ
+  pub found : ℕ
+  pub answered : answer ≡ begun_in loaded found
+  pub node : new ≡ after (begin_reads old p loaded found) (events_of_begin p v answer)
+
+-- ---- nodes
+
+-- the port whose transaction is serviced is one of the gates'
+abbrev pub is_served_within : Known → Bool
+is_served_within w = option_map_or (λ (u : Served). nat_lt u.port MAX_PORTS) w.service true
 
 -- the node that was just made in this slot, with this first port
 abbrev pub made_node : ℕ → ℕ → Node → Option ℕ → NodeView
@@ -37,5 +100,6 @@ made_node n first node from = record {
   made = record { kind = node.kind; first_port = first; arg = node.arg; from = from };
   known = nothing_known;
   log = [];
+  loads = [];
   loaded = None;
 }

@@ -1,10 +1,12 @@
 //! The calls of the change at the gates.
 
 ghost use Rattle.std.specs.Prelude.{◌≡◌, ◌+◌, ◌<◌, ◌≤◌, ℕ, [], IfOk, IsTrue, OnOk, length, replicate};
+ghost use Rattle.commit_laws.specs.Steps.{MayLink, MayRemove, MayUnlink};
 ghost use Rattle.config_graph.specs.Kinds.{row};
 ghost use Rattle.config_graph.specs.declared.TheConstants.{MAX_NODES, MAX_PORTS};
 ghost use Rattle.gate_records.specs.Entries.{config_of};
 ghost use Rattle.gate_records.specs.Looks.{look_of};
+ghost use Rattle.gate_records.specs.Notes.{is_noted};
 ghost use Rattle.gate_records.specs.declared.entry.Entry.TheVariants.{Did, Looked};
 ghost use Rattle.quiesce_core.specs.Knowledge.{nothing_known};
 ghost use Rattle.quiesce_core.specs.Legal.{CanMake};
@@ -19,12 +21,13 @@ use crate::change_seat::ChangeSeat;
 use crate::gates::Gates;
 use crate::node_seat::NodeSeat;
 use crate::plays::Names;
-use crate::steps;
 use crate::steps::{AnySeat, Words};
-use config_graph::{MAX_NODES, MAX_PORTS, NoMemory, Node};
+use crate::{change_steps, steps};
+use config_graph::{MAX_NODES, MAX_PORTS, Made, NoMemory, Node, Target};
 use gate_records::Look;
-use gate_word::{CLOSED, SlotWord};
+use gate_word::{CLOSED, SlotWord, link_operand};
 use port_gate::unknown;
+use record_tables::RecordTables;
 use std::alloc::Global;
 use std::marker::Brand;
 
@@ -52,11 +55,11 @@ impl Gates {
         ensures change { IfOk result (λ r. (change_of r.1.seat.me.0 ≡ nothing_done) × (r.1.seat.me.0.nodes ≡ []) × (r.1.spare ≡ 0)) }
     {
         let fresh = fresh_words(alloc)?;
+        let tables = RecordTables::new(alloc)?;
         let (words, seat) = Words::of_words(alloc, fresh.as_slice(), &())?;
         let gates = Gates { words };
         let seat = ChangeSeat {
-            nodes: 0,
-            ports: 0,
+            tables,
             spare: 0,
             seat,
         };
@@ -79,56 +82,50 @@ impl Gates {
     pub fn make_node(&self, seat: &mut ChangeSeat, node: &Node, from: Option<u32>) -> NodeSeat
         requires here { seat.old.seat.table_id ≡ self.now.words.shared.table_id }
         requires spare { 0 < seat.old.spare }
-        requires may { CanMake (config_of (change_of seat.old.seat.me.0).entries) seat.old.nodes node.now from }
+        requires may { CanMake (config_of (change_of seat.old.seat.me.0).entries) (length (config_of (change_of seat.old.seat.me.0).entries).slots) node.now from }
         ensures here { (seat.new.seat.table_id ≡ seat.old.seat.table_id) × (result.seat.table_id ≡ seat.old.seat.table_id) }
         ensures change { change_of seat.new.seat.me.0
-            ≡ record (notes (change_of seat.old.seat.me.0) (Did (event.Make seat.old.nodes node.now from))) { seats = (change_of seat.old.seat.me.0).seats + 1 } }
+            ≡ record (notes (change_of seat.old.seat.me.0) (Did (event.Make (length (config_of (change_of seat.old.seat.me.0).entries).slots) node.now from))) { seats = (change_of seat.old.seat.me.0).seats + 1 } }
         ensures nodes { seat.new.seat.me.0.nodes ≡ seat.old.seat.me.0.nodes }
         ensures spare { seat.new.spare + 1 ≡ seat.old.spare }
-        ensures node { node_of result.seat.me.0 ≡ made_node seat.old.nodes seat.old.ports node.now from }
+        ensures node { node_of result.seat.me.0 ≡ made_node (length (config_of (change_of seat.old.seat.me.0).entries).slots) (length (config_of (change_of seat.old.seat.me.0).entries).gates) node.now from }
     {
-        let slot = seat.nodes;
+        let Made { nodes, ports } = seat.made();
         let made = SlotWord {
             kind: node.kind,
-            first_port: seat.ports,
+            first_port: ports,
             arg: node.arg,
             from,
         };
-        let new = self.make_slot::<Brand>(seat, node, from, made);
-        self.adopt(new, slot)
+        let new = self.make_slot::<Brand>(seat, nodes, made, node, from);
+        self.adopt(new, nodes)
     }
 
     /// The step that makes it, and the one that gives its seat out.
     fn make_slot<E: Names>(
         &self,
         seat: &mut ChangeSeat,
+        slot: u32,
+        made: SlotWord,
         node: &Node,
         from: Option<u32>,
-        made: SlotWord,
     ) -> AnySeat
-        requires event { E.event ≡ event.Make seat.old.nodes node.now from }
+        requires event { E.event ≡ event.Make slot node.now from }
         requires here { seat.old.seat.table_id ≡ self.now.words.shared.table_id }
         requires spare { 0 < seat.old.spare }
-        requires may { CanMake (config_of (change_of seat.old.seat.me.0).entries) seat.old.nodes node.now from }
-        requires made { made ≡ record { kind = node.now.kind; first_port = seat.old.ports; arg = node.now.arg; from = from } }
+        requires slot { slot ≡ length (config_of (change_of seat.old.seat.me.0).entries).slots }
+        requires may { CanMake (config_of (change_of seat.old.seat.me.0).entries) slot node.now from }
+        requires made { made ≡ record { kind = node.now.kind; first_port = length (config_of (change_of seat.old.seat.me.0).entries).gates; arg = node.now.arg; from = from } }
         ensures here { (seat.new.seat.table_id ≡ seat.old.seat.table_id) × (result.table_id ≡ seat.old.seat.table_id) }
         ensures change { change_of seat.new.seat.me.0
-            ≡ record (notes (change_of seat.old.seat.me.0) (Did (event.Make seat.old.nodes node.now from))) { seats = (change_of seat.old.seat.me.0).seats + 1 } }
+            ≡ record (notes (change_of seat.old.seat.me.0) (Did (event.Make slot node.now from))) { seats = (change_of seat.old.seat.me.0).seats + 1 } }
         ensures nodes { seat.new.seat.me.0.nodes ≡ seat.old.seat.me.0.nodes }
         ensures spare { seat.new.spare + 1 ≡ seat.old.spare }
-        ensures node { result.me ≡ (of_node (made_node seat.old.nodes seat.old.ports node.now from), []) }
+        ensures node { result.me ≡ (of_node (made_node slot (length (config_of (change_of seat.old.seat.me.0).entries).gates) node.now from), []) }
     {
-        steps::make::<E>(
-            &self.words,
-            &mut seat.seat,
-            seat.nodes,
-            made.pack(),
-            node,
-            from,
-        );
+        seat.tables.make(node, from);
+        steps::make::<E>(&self.words, &mut seat.seat, slot, made.pack(), node, from);
         let new = steps::new_seat(&self.words, &mut seat.seat);
-        seat.nodes += 1;
-        seat.ports += node.kind.requires_();
         seat.spare -= 1;
         new
     }
@@ -164,6 +161,7 @@ impl Gates {
         ensures nodes { seat.new.seat.me.0.nodes ≡ seat.old.seat.me.0.nodes }
         ensures spare { seat.new.spare ≡ seat.old.spare }
     {
+        seat.tables.close(port);
         steps::close::<Brand>(&self.words, &mut seat.seat, port);
     }
 
@@ -176,6 +174,7 @@ impl Gates {
         ensures nodes { seat.new.seat.me.0.nodes ≡ seat.old.seat.me.0.nodes }
         ensures spare { seat.new.spare ≡ seat.old.spare }
     {
+        seat.tables.reopen(port);
         steps::reopen::<Brand>(&self.words, &mut seat.seat, port);
     }
 
@@ -188,6 +187,48 @@ impl Gates {
         ensures nodes { seat.new.seat.me.0.nodes ≡ seat.old.seat.me.0.nodes }
         ensures spare { seat.new.spare ≡ seat.old.spare }
     {
-        Look::of(steps::look(&self.words, &mut seat.seat, port))
+        let word = steps::look(&self.words, &mut seat.seat, port);
+        seat.tables.look(port, word);
+        Look::of(word)
+    }
+
+    /// The change links a port of a live node that is noted with all that reach it.
+    pub fn link(&self, seat: &mut ChangeSeat, port: u32, node: u32, provide: u32)
+        requires here { seat.old.seat.table_id ≡ self.now.words.shared.table_id }
+        requires may { MayLink (is_noted (change_of seat.old.seat.me.0).entries) (config_of (change_of seat.old.seat.me.0).entries) port node provide }
+        ensures here { seat.new.seat.table_id ≡ seat.old.seat.table_id }
+        ensures change { change_of seat.new.seat.me.0 ≡ notes (change_of seat.old.seat.me.0) (Did (event.Link port node provide)) }
+        ensures nodes { seat.new.seat.me.0.nodes ≡ seat.old.seat.me.0.nodes }
+        ensures spare { seat.new.spare ≡ seat.old.spare }
+    {
+        let to = Target { node, provide };
+        seat.tables.link(port, to);
+        change_steps::link::<Brand>(&self.words, &mut seat.seat, port, to, link_operand(to));
+    }
+
+    /// The change unlinks such a port.
+    pub fn unlink(&self, seat: &mut ChangeSeat, port: u32)
+        requires here { seat.old.seat.table_id ≡ self.now.words.shared.table_id }
+        requires may { MayUnlink (is_noted (change_of seat.old.seat.me.0).entries) (config_of (change_of seat.old.seat.me.0).entries) port }
+        ensures here { seat.new.seat.table_id ≡ seat.old.seat.table_id }
+        ensures change { change_of seat.new.seat.me.0 ≡ notes (change_of seat.old.seat.me.0) (Did (event.Unlink port)) }
+        ensures nodes { seat.new.seat.me.0.nodes ≡ seat.old.seat.me.0.nodes }
+        ensures spare { seat.new.spare ≡ seat.old.spare }
+    {
+        let was = seat.tables.unlink(port);
+        change_steps::unlink::<Brand>(&self.words, &mut seat.seat, port, was, link_operand(was));
+    }
+
+    /// The change removes such a node, which is linked to none and none to it.
+    pub fn remove(&self, seat: &mut ChangeSeat, node: u32)
+        requires here { seat.old.seat.table_id ≡ self.now.words.shared.table_id }
+        requires may { MayRemove (is_noted (change_of seat.old.seat.me.0).entries) (config_of (change_of seat.old.seat.me.0).entries) node }
+        ensures here { seat.new.seat.table_id ≡ seat.old.seat.table_id }
+        ensures change { change_of seat.new.seat.me.0 ≡ notes (change_of seat.old.seat.me.0) (Did (event.Remove node)) }
+        ensures nodes { seat.new.seat.me.0.nodes ≡ seat.old.seat.me.0.nodes }
+        ensures spare { seat.new.spare ≡ seat.old.spare }
+    {
+        seat.tables.remove(node);
+        change_steps::remove::<Brand>(&self.words, &mut seat.seat, node);
     }
 }

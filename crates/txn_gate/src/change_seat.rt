@@ -1,27 +1,31 @@
 //! The seat of the change at the gates.
 
-ghost use Rattle.std.specs.Prelude.{◌≡◌, ◌≤◌, length};
+ghost use Rattle.std.specs.Prelude.{◌≡◌, ◌≤◌, ◌↔◌, IsTrue, length};
+ghost use Rattle.commit_laws.specs.Steps.{IsNoted};
 ghost use Rattle.config_graph.specs.declared.TheConstants.{MAX_PORTS};
 ghost use Rattle.gate_records.specs.Entries.{config_of};
+ghost use Rattle.gate_records.specs.Notes.{is_noted};
 ghost use Rattle.gate_rule.specs.Steps.{IsChange};
 ghost use Rattle.gate_rule.specs.Views.{change_of};
+ghost use Rattle.quiesce_core.specs.Rules.{is_live_port};
+ghost use Rattle.quiesce_core.specs.State.{is_live, target};
+ghost use Rattle.record_tables.specs.Records.{IsTableOf};
 
 use crate::steps::AnySeat;
-use config_graph::Made;
+use config_graph::{Made, Target};
+use record_tables::RecordTables;
 
 /// The change's seat: its steps at the gates are the change's events, looks and sights. Contracts see its record of them
 /// (`change_of`). Each node that was made got its seat.
 #[derive(Drop)]
 pub struct ChangeSeat {
-    pub nodes: u32,
-    pub ports: u32,
+    pub tables: RecordTables,
     pub spare: u32,
     pub seat: AnySeat,
     pub ghost is_change: { IsChange seat.me },
-    pub ghost nodes_are: { length (config_of (change_of seat.me.0).entries).slots ≡ nodes },
-    pub ghost ports_are: { length (config_of (change_of seat.me.0).entries).gates ≡ ports },
-    pub ghost seats_are: { (change_of seat.me.0).seats ≡ nodes },
-    pub ghost ports_within: { ports ≤ MAX_PORTS },
+    pub ghost tables_are: { IsTableOf tables (change_of seat.me.0).entries },
+    pub ghost seats_are: { (change_of seat.me.0).seats ≡ length (config_of (change_of seat.me.0).entries).slots },
+    pub ghost ports_within: { length (config_of (change_of seat.me.0).entries).gates ≤ MAX_PORTS },
 }
 
 impl ChangeSeat {
@@ -30,10 +34,7 @@ impl ChangeSeat {
         ensures nodes { result.nodes ≡ length (config_of (change_of self.now.seat.me.0).entries).slots }
         ensures ports { result.ports ≡ length (config_of (change_of self.now.seat.me.0).entries).gates }
     {
-        Made {
-            nodes: self.nodes,
-            ports: self.ports,
-        }
+        self.tables.made()
     }
 
     /// For how many nodes more there is room.
@@ -41,5 +42,42 @@ impl ChangeSeat {
         ensures { result ≡ self.now.spare }
     {
         self.spare
+    }
+
+    /// Whether the node was made and not removed.
+    pub fn is_live(&self, node: u32) -> bool
+        ensures { result ≡ is_live (config_of (change_of self.now.seat.me.0).entries) node }
+    {
+        self.tables.is_live(node)
+    }
+
+    /// Whether the port was made and its owner is live.
+    pub fn is_live_port(&self, port: u32) -> bool
+        ensures { result ≡ is_live_port (config_of (change_of self.now.seat.me.0).entries) port }
+    {
+        self.tables.is_live_port(port)
+    }
+
+    /// To what the port is linked.
+    pub fn target(&self, port: u32) -> Option<Target>
+        ensures { result ≡ target (config_of (change_of self.now.seat.me.0).entries) port }
+    {
+        self.tables.target(port)
+    }
+
+    /// Whether the port is noted: it was made and never reopened, or a look found it drained after it was last closed, and it wasn't
+    /// reopened since.
+    pub fn is_noted(&self, port: u32) -> bool
+        ensures { result ≡ is_noted (change_of self.now.seat.me.0).entries port }
+    {
+        self.tables.is_noted(port)
+    }
+
+    /// Whether the node is live, and each port of it and each that reaches it is noted: then it is settled, and stays so until a port
+    /// is reopened or linked (`notes_tell_of_the_state` of gate_rule).
+    pub fn settled(&self, node: u32) -> bool
+        ensures { IsTrue result ↔ IsNoted (is_noted (change_of self.now.seat.me.0).entries) (config_of (change_of self.now.seat.me.0).entries) node }
+    {
+        self.tables.settled(node)
     }
 }

@@ -1,14 +1,21 @@
 //! Gates: an atomic word for each port and each slot, at which nodes and a change take their steps, from any number of threads.
 #![tactic(auto)]
 
+mod answering;
 mod change_calls;
 mod change_seat;
+mod change_steps;
 mod gates;
+mod message_calls;
 mod node_calls;
 mod node_seat;
 mod plays;
+mod seat_steps;
+mod sight_calls;
 mod steps;
+mod table_gate;
 
 pub use change_seat::ChangeSeat;
 pub use gates::Gates;
 pub use node_seat::NodeSeat;
+pub use table_gate::TableGate;

@@ -1,12 +1,14 @@
 //! The seat of a node at the gates.
 
-ghost use Rattle.std.specs.Prelude.{◌≡◌, ◌%◌, ◌^◌, ◌<◌, ◌≤◌, ◌+◌, length, slice_index_or, Some, None};
+ghost use Rattle.std.specs.Prelude.{◌≡◌, ◌%◌, ◌^◌, ◌<◌, ◌≤◌, ◌+◌, length, slice_index_or, true, Some, None};
 ghost use Rattle.config_graph.specs.Kinds.{row};
 ghost use Rattle.config_graph.specs.declared.TheConstants.{MAX_NODES, MAX_PORTS};
 ghost use Rattle.quiesce_core.specs.Knowledge as knowledge;
 ghost use Rattle.port_gate.specs.Seats.{serial_served, value_seen};
 ghost use Rattle.gate_rule.specs.Steps.{IsNode, value_served};
 ghost use Rattle.gate_rule.specs.Views.{node_of};
+ghost use Rattle.txn_gate.specs.Calls.{is_served_within};
+ghost use Rattle.txn_gate.specs.Told.{loads_of};
 
 use crate::steps::AnySeat;
 use config_graph::VALUE_LIMIT;
@@ -26,6 +28,7 @@ pub struct NodeSeat {
     pub ghost first_is: { (node_of seat.me.0).made.first_port ≡ first_port },
     pub ghost known_is: { (node_of seat.me.0).known ≡ known },
     pub ghost slot_within: { slot < MAX_NODES },
+    pub ghost served_within: { is_served_within known ≡ true },
     pub ghost ports_within: { first_port + length (row (node_of seat.me.0).made.kind).requires_ ≤ MAX_PORTS },
 }
 
@@ -72,7 +75,7 @@ impl GateSeat for NodeSeat {
 
     ghost tells = { λ s. Some (node_of s.seat.me.0).log };
 
-    ghost loads = { λ s. None };
+    ghost loads = { λ s. Some (loads_of (node_of s.seat.me.0).loads) };
 
     fn slot(&self) -> u32 {
         self.slot

@@ -55,6 +55,24 @@ impl Play<(), View> for Seeing {
     ghost then = { Sees };
 }
 
+/// A load by which a service hears its further message.
+pub struct Hearing;
+
+impl Play<(), View> for Hearing {
+    ghost use Rattle.gate_rule.specs.Steps.{Hears};
+
+    ghost then = { Hears };
+}
+
+/// A load that goes before a call, or by which the call is missed.
+pub struct LookingToCall;
+
+impl Play<(), View> for LookingToCall {
+    ghost use Rattle.gate_rule.specs.Steps.{LooksToCall};
+
+    ghost then = { LooksToCall };
+}
+
 /// The event of a node that `E` names.
 pub struct Acting<E> {
     of: PhantomData<E>,

@@ -3,23 +3,25 @@
 ghost use Rattle.std.specs.Prelude.{[], ◌≡◌, ◌≢◌, ◌%◌, ◌^◌, true, ◌+◌, ◌<◌, ℕ, Some, false, length};
 ghost use Rattle.config_graph.specs.declared.TheConstants.{MAX_NODES, MAX_PORTS};
 ghost use Rattle.config_graph.specs.declared.node.Target.{Target as Linked};
-ghost use Rattle.gate_word.specs.Operands.{end_difference, message_difference};
+ghost use Rattle.gate_word.specs.Operands.{call_difference, end_difference, message_difference};
+ghost use Rattle.gate_word.specs.Phases.{is_asked};
 ghost use Rattle.gate_word.specs.SlotWords.{pack_slot, unpack_slot};
-ghost use Rattle.gate_word.specs.Words.{is_message_to, pack, unpack};
+ghost use Rattle.gate_word.specs.Words.{FitsWord, is_message_to, is_missing, pack, unpack};
 ghost use Rattle.gate_word.specs.declared.phase.Phase.TheVariants as phases;
 ghost use Rattle.gate_records.specs.Entries.{config_of};
 ghost use Rattle.gate_records.specs.Records.{May};
 ghost use Rattle.gate_records.specs.declared.entry.Entry.TheVariants.{Did, Looked};
 ghost use Rattle.quiesce_core.specs.Rules.{last_serial};
 ghost use Rattle.quiesce_core.specs.declared.event.Event.TheVariants as event;
-ghost use Rattle.port_gate.specs.Moves.{with_seen};
-ghost use Rattle.port_gate.specs.Seats.{MayBegin, MayEnd, MayGive, MaySee, MayTake, port_known, serial_served, value_seen};
-ghost use Rattle.gate_rule.specs.Steps.{IsChange, IsNode, WasShown, did, noted, seen_in, value_served};
+ghost use Rattle.port_gate.specs.Seats.{MayAsk, MayBegin, MayCall, MayEnd, MayGive, MayHear, MaySee, MaySendMore, MayTake, port_known, serial_served, value_seen};
+ghost use Rattle.gate_rule.specs.Steps.{IsChange, IsNode, WasShown, did, looks, noted, read, sees, value_served};
 ghost use Rattle.gate_rule.specs.Views.{change_of, does, new_seat, newest, node_at, node_of, of_node, without_seat};
+ghost use Rattle.gate_rule.specs.declared.view.LoadKind.TheVariants as kinds;
 ghost use Rattle.txn_gate.specs.Places.{IsHere};
 
 use crate::plays::{
-    Acting, Adopting, Beginning, Changing, Loading, Looking, Names, NewSeat, Seeing, Taking,
+    Acting, Adopting, Beginning, Changing, Hearing, Loading, Looking, LookingToCall, Names,
+    NewSeat, Seeing, Taking,
 };
 use atomic_table::{Seat, Table};
 use config_graph::{MAX_PORTS, Node};
@@ -40,13 +42,13 @@ fn place_of(slot: u32) -> usize
     MAX_PORTS as usize + slot as usize
 }
 
-/// A node loads a port's word.
+/// A node loads the word of a port of its own.
 pub fn load(words: &Words, seat: &mut AnySeat, port: u32) -> u64
     requires here { IsHere seat.old.table_id words.now.shared.table_id }
     requires node { IsNode seat.old.me }
     requires port { port < MAX_PORTS }
     ensures here { seat.new.table_id ≡ seat.old.table_id }
-    ensures me { seat.new.me ≡ seat.old.me }
+    ensures me { seat.new.me ≡ read seat.old.me kinds.Own port result }
     ensures shown { WasShown (node_of seat.old.me.0) port result }
 {
     words.shared.load::<Loading>(seat, port as usize)
@@ -71,8 +73,8 @@ pub fn begin<E: Names>(
     requires unspent { (unpack loaded).serial < last_serial }
     requires asked { asked ≡ pack (record (unpack loaded) { phase = phases.Asked; serial = (unpack loaded).serial + 1; value = value; consequent = false }) }
     ensures here { seat.new.table_id ≡ seat.old.table_id }
-    ensures begun { result ≡ loaded → seat.new.me ≡ did seat.old.me E.event }
-    ensures kept { result ≢ loaded → seat.new.me ≡ seat.old.me }
+    ensures begun { result ≡ loaded → seat.new.me ≡ did (read seat.old.me kinds.Exchange port result) E.event }
+    ensures kept { result ≢ loaded → seat.new.me ≡ read seat.old.me kinds.Exchange port result }
     ensures shown { WasShown (node_of seat.old.me.0) port result }
 {
     words
@@ -87,8 +89,8 @@ pub fn take(words: &Words, seat: &mut AnySeat, port: u32) -> u64
     requires may { MayTake (node_of seat.old.me.0).known port }
     ensures here { seat.new.table_id ≡ seat.old.table_id }
     ensures taken { is_message_to (node_of seat.old.me.0).slot (unpack result) ≡ true
-        → seat.new.me ≡ did seat.old.me (event.Take port (unpack result).serial (unpack result).value) }
-    ensures kept { is_message_to (node_of seat.old.me.0).slot (unpack result) ≡ false → seat.new.me ≡ seat.old.me }
+        → seat.new.me ≡ did (read seat.old.me kinds.Take port result) (event.Take port (unpack result).serial (unpack result).value) }
+    ensures kept { is_message_to (node_of seat.old.me.0).slot (unpack result) ≡ false → seat.new.me ≡ read seat.old.me kinds.Take port result }
     ensures shown { WasShown (node_of seat.old.me.0) port result }
 {
     words.shared.load::<Taking>(seat, port as usize)
@@ -101,7 +103,7 @@ pub fn see(words: &Words, seat: &mut AnySeat, port: u32) -> u64
     requires may { MaySee (node_at (node_of seat.old.me.0)) (node_of seat.old.me.0).known port }
     requires port { port < MAX_PORTS }
     ensures here { seat.new.table_id ≡ seat.old.table_id }
-    ensures me { seat.new.me ≡ (of_node (record (node_of seat.old.me.0) { known = with_seen (node_at (node_of seat.old.me.0)) port (seen_in result) (node_of seat.old.me.0).known }), []) }
+    ensures me { seat.new.me ≡ (of_node (sees (node_of seat.old.me.0) port result), []) }
     ensures shown { WasShown (node_of seat.old.me.0) port result }
 {
     words.shared.load::<Seeing>(seat, port as usize)
@@ -136,6 +138,95 @@ pub fn end<E: Names>(words: &Words, seat: &mut AnySeat, port: u32, operand: u64)
     ensures here { seat.new.table_id ≡ seat.old.table_id }
     ensures me { seat.new.me ≡ did seat.old.me E.event }
 {
+    words
+        .shared
+        .fetch_xor::<Acting<E>>(seat, port as usize, operand);
+}
+
+/// A node sends an intermediate reply for the request that it services.
+pub fn more<E: Names>(words: &Words, seat: &mut AnySeat, port: u32, value: u32, operand: u64)
+    requires event { E.event ≡ event.More port (serial_served (node_of seat.old.me.0).known) value }
+    requires here { IsHere seat.old.table_id words.now.shared.table_id }
+    requires node { IsNode seat.old.me }
+    requires may { MaySendMore (node_at (node_of seat.old.me.0)) (node_of seat.old.me.0).known port value }
+    requires port { port < MAX_PORTS }
+    requires operand { operand ≡ message_difference phases.Asked (value_served (node_of seat.old.me.0).known % 2 ^ 24) phases.More value }
+    ensures here { seat.new.table_id ≡ seat.old.table_id }
+    ensures me { seat.new.me ≡ did seat.old.me E.event }
+{
+    words
+        .shared
+        .fetch_xor::<Acting<E>>(seat, port as usize, operand);
+}
+
+/// A node replies to an intermediate reply that it saw.
+pub fn ask<E: Names>(words: &Words, seat: &mut AnySeat, port: u32, value: u32, operand: u64)
+    requires event { E.event ≡ event.Ask port (port_known (node_at (node_of seat.old.me.0)) (node_of seat.old.me.0).known port).serial value }
+    requires here { IsHere seat.old.table_id words.now.shared.table_id }
+    requires node { IsNode seat.old.me }
+    requires may { MayAsk (node_at (node_of seat.old.me.0)) (node_of seat.old.me.0).known port value }
+    requires port { port < MAX_PORTS }
+    requires operand { operand ≡ message_difference phases.More (value_seen (port_known (node_at (node_of seat.old.me.0)) (node_of seat.old.me.0).known port) % 2 ^ 24) phases.Asked value }
+    ensures here { seat.new.table_id ≡ seat.old.table_id }
+    ensures me { seat.new.me ≡ did seat.old.me E.event }
+{
+    words
+        .shared
+        .fetch_xor::<Acting<E>>(seat, port as usize, operand);
+}
+
+/// A node listens for the further message for which its service waits.
+pub fn hear(words: &Words, seat: &mut AnySeat, port: u32) -> u64
+    requires here { IsHere seat.old.table_id words.now.shared.table_id }
+    requires node { IsNode seat.old.me }
+    requires may { MayHear (node_of seat.old.me.0).known port }
+    requires port { port < MAX_PORTS }
+    ensures here { seat.new.table_id ≡ seat.old.table_id }
+    ensures heard { is_asked (unpack result).phase ≡ true
+        → seat.new.me ≡ did (read seat.old.me kinds.Hear port result) (event.Hear port (serial_served (node_of seat.old.me.0).known) (unpack result).value) }
+    ensures kept { is_asked (unpack result).phase ≡ false → seat.new.me ≡ read seat.old.me kinds.Hear port result }
+    ensures shown { WasShown (node_of seat.old.me.0) port result }
+{
+    words.shared.load::<Hearing>(seat, port as usize)
+}
+
+/// A node loads the word of an idle port of its own before it calls there, by which the call may be missed.
+pub fn look_to_call(words: &Words, seat: &mut AnySeat, port: u32, value: u32) -> u64
+    requires here { IsHere seat.old.table_id words.now.shared.table_id }
+    requires node { IsNode seat.old.me }
+    requires may { MayCall (node_at (node_of seat.old.me.0)) (node_of seat.old.me.0).known port value }
+    requires port { port < MAX_PORTS }
+    ensures here { seat.new.table_id ≡ seat.old.table_id }
+    ensures missed { is_missing (unpack result) ≡ true → seat.new.me ≡ did (read seat.old.me kinds.Own port result) (event.Miss port) }
+    ensures found { is_missing (unpack result) ≡ false → seat.new.me ≡ (of_node (looks (node_of seat.old.me.0) port result), []) }
+    ensures shown { WasShown (node_of seat.old.me.0) port result }
+{
+    let _ = value;
+    words.shared.load::<LookingToCall>(seat, port as usize)
+}
+
+/// A node calls by the word that it loaded there.
+pub fn call<E: Names>(
+    words: &Words,
+    seat: &mut AnySeat,
+    port: u32,
+    value: u32,
+    loaded: u64,
+    operand: u64,
+)
+    requires event { E.event ≡ event.Call port ((unpack loaded).serial + 1) value }
+    requires here { IsHere seat.old.table_id words.now.shared.table_id }
+    requires node { IsNode seat.old.me }
+    requires may { MayCall (node_at (node_of seat.old.me.0)) (node_of seat.old.me.0).known port value }
+    requires port { port < MAX_PORTS }
+    requires loaded { (node_of seat.old.me.0).loaded ≡ Some (record { port = port; word = loaded }) }
+    requires fits { FitsWord (unpack loaded) }
+    requires found { is_missing (unpack loaded) ≡ false }
+    requires operand { operand ≡ call_difference (unpack loaded) value }
+    ensures here { seat.new.table_id ≡ seat.old.table_id }
+    ensures me { seat.new.me ≡ did seat.old.me E.event }
+{
+    let (_, _) = (value, loaded);
     words
         .shared
         .fetch_xor::<Acting<E>>(seat, port as usize, operand);

@@ -1,19 +1,19 @@
 use Rattle.gate_records.specs.declared.entry.Entry.TheVariants.{Did}
 use Rattle.gate_rule.specs.Views.{change_of}
 use Rattle.quiesce_core.specs.declared.event.Event.TheVariants.{Close}
-use Rattle.txn_gate.proofs.Sizes.{closed_nodes, closed_ports, still_change, still_nodes, still_ports, still_seats}
+use Rattle.txn_gate.proofs.Sizes.{closed_nodes, closed_ports, still_change, still_seats, still_tables, still_within}
 use Rattle.txn_gate.proofs.gates.Gates.close.Goals as goal
 
 pub invariant_of-seat : goal.invariant_of-seat
 invariant_of-seat c =
-    let me = c.args.seat.now.seat.me in
-    let new = c.close.new.seat.me in
-    let is = c.close.ensures.me in
-    let r = (change_of me.0).entries in
+    let s = c.args.seat.now in
+    let new = c.close-2.new.seat.me in
+    let is = c.close-2.ensures.me in
+    let r = (change_of s.seat.me.0).entries in
+    let x = Did (Close c.args.port) in
     record {
-      is_change = still_change me new (Did (Close c.args.port)) is;
-      nodes_are = still_nodes me new (Did (Close c.args.port)) is c.args.seat.now.nodes (closed_nodes r c.args.port) c.args.seat.now.nodes_are;
-      ports_are = still_ports me new (Did (Close c.args.port)) is c.args.seat.now.ports (closed_ports r c.args.port) c.args.seat.now.ports_are;
-      seats_are = still_seats me new (Did (Close c.args.port)) is c.args.seat.now.nodes c.args.seat.now.seats_are;
-      ports_within = c.args.seat.now.ports_within;
+      is_change = still_change s.seat.me new x is;
+      tables_are = still_tables s.seat.me new x is c.close.new.self (c.close.ensures r s.tables_are);
+      seats_are = still_seats s.seat.me new x is (closed_nodes r c.args.port) s.seats_are;
+      ports_within = still_within s.seat.me new x is (closed_ports r c.args.port) s.ports_within;
     }

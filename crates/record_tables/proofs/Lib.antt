@@ -1,0 +1,3 @@
+pub mod BareLaws
+pub mod NotingLaws
+pub mod NextLaws

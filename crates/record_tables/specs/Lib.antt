@@ -1,0 +1,4 @@
+pub mod Notes
+pub mod Tabled
+pub mod Records
+pub mod Inside

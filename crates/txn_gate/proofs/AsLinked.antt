@@ -1,0 +1,40 @@
+-- The steps by which the change links, unlinks and removes, at any seat that is the change's.
+use Rattle.std.proofs.Common.{◌≡◌, ℕ, [], Some, sym, subst}
+use Rattle.std.specs.Prelude.{bit_xor}
+use Rattle.atomic_table.specs.Table.{Allows}
+use Rattle.config_graph.specs.declared.node.Target.{Target}
+use Rattle.gate_records.specs.Entries.{config_of}
+use Rattle.gate_records.specs.Records.{May}
+use Rattle.gate_records.specs.declared.entry.Entry.TheVariants.{Did}
+use Rattle.gate_word.specs.Operands.{link_difference}
+use Rattle.quiesce_core.specs.State.{target}
+use Rattle.quiesce_core.specs.declared.event.Event.{Event}
+use Rattle.quiesce_core.specs.declared.event.Event.TheVariants.{Link, Unlink, Remove}
+use Rattle.gate_rule.specs.Steps.{IsChange, Seat, noted}
+use Rattle.gate_rule.specs.Views.{change_of, of_change}
+use Rattle.gate_rule.specs.Worlds.{Holds}
+use Rattle.gate_rule.proofs.ChangeStepLaws as change_
+
+module _ (slots id : ℕ) (me : Seat) (is : IsChange me) where
+  -- an event that an operand of exclusive or makes
+  turns : (p k k' : ℕ) (e e' : Event) → e ≡ e' → k ≡ k'
+      → Allows Holds slots id (of_change me.0.nodes (change_of me.0), []) p (λ x. bit_xor x k') (λ found new. new ≡ noted (of_change me.0.nodes (change_of me.0), []) (Did e'))
+      → Allows Holds slots id me p (λ x. bit_xor x k) (λ found new. new ≡ noted me (Did e))
+  turns p k k' e e' event operand h =
+      subst (λ m. Allows Holds slots id m p (λ x. bit_xor x k) (λ found new. new ≡ noted m (Did e))) (sym is)
+      (subst (λ (y : ℕ × Event). Allows Holds slots id (of_change me.0.nodes (change_of me.0), []) p (λ x. bit_xor x y.0) (λ found new. new ≡ noted (of_change me.0.nodes (change_of me.0), []) (Did y.1)))
+      (λ j. (sym operand j, sym event j)) h)
+
+  pub links : (p k : ℕ) (to : Target) (e : Event) → e ≡ Link p to.node to.provide → k ≡ link_difference to → May (change_of me.0).entries (Link p to.node to.provide)
+      → Allows Holds slots id me p (λ x. bit_xor x k) (λ found new. new ≡ noted me (Did e))
+  links p k to e event operand may = turns p k _ e _ event operand (change_.links slots id me.0.nodes (change_of me.0) p to.node to.provide may)
+
+  pub unlinks : (p k : ℕ) (was : Target) (e : Event) → e ≡ Unlink p → k ≡ link_difference was → target (config_of (change_of me.0).entries) p ≡ Some was → May (change_of me.0).entries (Unlink p)
+      → Allows Holds slots id me p (λ x. bit_xor x k) (λ found new. new ≡ noted me (Did e))
+  unlinks p k was e event operand leads may = turns p k _ e _ event operand (change_.unlinks slots id me.0.nodes (change_of me.0) p was leads may)
+
+  pub removes : (n i : ℕ) (e : Event) → e ≡ Remove n → May (change_of me.0).entries (Remove n) → Allows Holds slots id me i (λ x. x) (λ found new. new ≡ noted me (Did e))
+  removes n i e event may =
+      subst (λ m. Allows Holds slots id m i (λ x. x) (λ found new. new ≡ noted m (Did e))) (sym is)
+      (subst (λ e. Allows Holds slots id (of_change me.0.nodes (change_of me.0), []) i (λ x. x) (λ found new. new ≡ noted (of_change me.0.nodes (change_of me.0), []) (Did e))) (sym event)
+      (change_.removes slots id me.0.nodes (change_of me.0) n i may))

@@ -1,0 +1,19 @@
+use Rattle.gate_records.specs.declared.entry.Entry.TheVariants.{Did}
+use Rattle.gate_rule.specs.Views.{change_of}
+use Rattle.quiesce_core.specs.declared.event.Event.TheVariants.{Remove}
+use Rattle.txn_gate.proofs.Sizes.{removed_nodes, removed_ports, still_change, still_seats, still_tables, still_within}
+use Rattle.txn_gate.proofs.gates.Gates.remove.Goals as goal
+
+pub invariant_of-seat : goal.invariant_of-seat
+invariant_of-seat c =
+    let s = c.args.seat.now in
+    let new = c.remove-2.new.seat.me in
+    let is = c.remove-2.ensures.me in
+    let r = (change_of s.seat.me.0).entries in
+    let x = Did (Remove c.args.node) in
+    record {
+      is_change = still_change s.seat.me new x is;
+      tables_are = still_tables s.seat.me new x is c.remove.new.self (c.remove.ensures r s.tables_are);
+      seats_are = still_seats s.seat.me new x is (removed_nodes r c.args.node) s.seats_are;
+      ports_within = still_within s.seat.me new x is (removed_ports r c.args.node) s.ports_within;
+    }

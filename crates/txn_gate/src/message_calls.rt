@@ -1,0 +1,183 @@
+//! The calls of nodes at the gates in a service of theirs: calls of other nodes, and further messages.
+
+ghost use Rattle.std.specs.Prelude.{◌≡◌, None, ◌+◌, ◌<◌, ◌^◌, Some, false, true};
+ghost use Rattle.config_graph.specs.declared.TheConstants.{MAX_PORTS};
+ghost use Rattle.gate_word.specs.Phases.{is_asked};
+ghost use Rattle.gate_word.specs.Words as fields;
+ghost use Rattle.gate_word.specs.Words.{FitsWord, unpack};
+ghost use Rattle.quiesce_core.specs.declared.event.Event.TheVariants as event;
+ghost use Rattle.port_gate.specs.Answers.{CallSays, HearSays};
+ghost use Rattle.port_gate.specs.Moves as moves;
+ghost use Rattle.port_gate.specs.Moves.{Does};
+ghost use Rattle.port_gate.specs.Seats.{MayAsk, MayCall, MayHear, MaySendMore, serial_served};
+ghost use Rattle.gate_rule.specs.Steps.{WasShown, looks};
+ghost use Rattle.gate_rule.specs.Views.{does, node_at, node_of, reads};
+ghost use Rattle.gate_rule.specs.declared.view.LoadKind.TheVariants as kinds;
+ghost use Rattle.txn_gate.specs.Calls.{ByWord, after, called_in, heard_in};
+
+use crate::answering::{called, heard, is_missing};
+use crate::gates::Gates;
+use crate::node_seat::{NodeSeat, port_known, seen_or_0};
+use crate::plays::Names;
+use crate::steps;
+use config_graph::VALUE_LIMIT;
+use gate_word::{Word, ask_operand, call_operand, more_operand};
+use port_gate::{CallAnswer, HearAnswer, note};
+use quiesce_core::Event;
+use std::marker::Brand;
+
+impl Gates {
+    /// The node makes a call of the service that it is in, whether the gate is closed or not.
+    pub fn call(&self, seat: &mut NodeSeat, port: u32, value: u32) -> CallAnswer
+        requires here { seat.old.seat.table_id ≡ self.now.words.shared.table_id }
+        requires may { MayCall (node_at (node_of seat.old.seat.me.0)) seat.old.known port value }
+        ensures here { seat.new.seat.table_id ≡ seat.old.seat.table_id }
+        ensures node { node_at (node_of seat.new.seat.me.0) ≡ node_at (node_of seat.old.seat.me.0) }
+        ensures does { Does (node_at (node_of seat.old.seat.me.0)) (moves.events_of_call port value result) seat.old.known seat.new.known (Some (node_of seat.old.seat.me.0).log) (Some (node_of seat.new.seat.me.0).log) None None }
+        ensures words { ByWord kinds.Own port called_in (λ a n. after n (moves.events_of_call port value a)) result (node_of seat.old.seat.me.0) (node_of seat.new.seat.me.0) }
+        ensures says { CallSays None port result }
+    {
+        let loaded = self.call_word(seat, port, value);
+        called(loaded)
+    }
+
+    /// The load, and the call where it isn't missed by that. Returns the word that was loaded.
+    fn call_word(&self, seat: &mut NodeSeat, port: u32, value: u32) -> u64
+        requires here { seat.old.seat.table_id ≡ self.now.words.shared.table_id }
+        requires may { MayCall (node_at (node_of seat.old.seat.me.0)) seat.old.known port value }
+        ensures here { seat.new.seat.table_id ≡ seat.old.seat.table_id }
+        ensures node { node_of seat.new.seat.me.0 ≡ after (reads (node_of seat.old.seat.me.0) kinds.Own port result) (moves.events_of_call port value (called_in result)) }
+    {
+        let loaded = self.look_to_call(seat, port, value);
+        if !is_missing(loaded) {
+            self.call_by::<Brand>(seat, port, value, loaded);
+        }
+        loaded
+    }
+
+    /// The load, and what the node knows by it where it misses the call. Returns the word that was loaded.
+    fn look_to_call(&self, seat: &mut NodeSeat, port: u32, value: u32) -> u64
+        requires here { seat.old.seat.table_id ≡ self.now.words.shared.table_id }
+        requires may { MayCall (node_at (node_of seat.old.seat.me.0)) seat.old.known port value }
+        ensures here { seat.new.seat.table_id ≡ seat.old.seat.table_id }
+        ensures missed { fields.is_missing (unpack result) ≡ true → node_of seat.new.seat.me.0 ≡ does (reads (node_of seat.old.seat.me.0) kinds.Own port result) (event.Miss port) }
+        ensures found { fields.is_missing (unpack result) ≡ false → node_of seat.new.seat.me.0 ≡ looks (node_of seat.old.seat.me.0) port result }
+    {
+        let loaded = steps::look_to_call(&self.words, &mut seat.seat, port, value);
+        if is_missing(loaded) {
+            note(&mut seat.known, seat.first_port, &Event::Miss { port });
+        }
+        loaded
+    }
+
+    /// The call by the word that was loaded.
+    fn call_by<E: Names>(&self, seat: &mut NodeSeat, port: u32, value: u32, loaded: u64)
+        requires event { E.event ≡ event.Call port ((unpack loaded).serial + 1) value }
+        requires here { seat.old.seat.table_id ≡ self.now.words.shared.table_id }
+        requires may { MayCall (node_at (node_of seat.old.seat.me.0)) seat.old.known port value }
+        requires loaded { (node_of seat.old.seat.me.0).loaded ≡ Some (record { port = port; word = loaded }) }
+        requires found { fields.is_missing (unpack loaded) ≡ false }
+        requires unspent { (unpack loaded).serial + 1 < 2 ^ 24 }
+        ensures here { seat.new.seat.table_id ≡ seat.old.seat.table_id }
+        ensures node { node_of seat.new.seat.me.0 ≡ does (node_of seat.old.seat.me.0) E.event }
+    {
+        let word = Word::of(loaded);
+        let operand = call_operand(word, value);
+        let serial = word.serial + 1;
+        steps::call::<E>(&self.words, &mut seat.seat, port, value, loaded, operand);
+        note(
+            &mut seat.known,
+            seat.first_port,
+            &Event::Call {
+                port,
+                serial,
+                value,
+            },
+        );
+    }
+
+    /// The node sends an intermediate reply for the request that it services.
+    pub fn more(&self, seat: &mut NodeSeat, port: u32, value: u32)
+        requires here { seat.old.seat.table_id ≡ self.now.words.shared.table_id }
+        requires may { MaySendMore (node_at (node_of seat.old.seat.me.0)) seat.old.known port value }
+        ensures here { seat.new.seat.table_id ≡ seat.old.seat.table_id }
+        ensures node { node_of seat.new.seat.me.0 ≡ after (node_of seat.old.seat.me.0) (moves.events_of_more port value seat.old.known) }
+    {
+        let operand = more_operand(seat.value_served(), value);
+        let serial = seat.serial_served();
+        steps::more::<Brand>(&self.words, &mut seat.seat, port, value, operand);
+        note(
+            &mut seat.known,
+            seat.first_port,
+            &Event::More {
+                port,
+                serial,
+                value,
+            },
+        );
+    }
+
+    /// The node replies to an intermediate reply that it saw.
+    pub fn ask(&self, seat: &mut NodeSeat, port: u32, value: u32)
+        requires here { seat.old.seat.table_id ≡ self.now.words.shared.table_id }
+        requires may { MayAsk (node_at (node_of seat.old.seat.me.0)) seat.old.known port value }
+        ensures here { seat.new.seat.table_id ≡ seat.old.seat.table_id }
+        ensures node { node_of seat.new.seat.me.0 ≡ after (node_of seat.old.seat.me.0) (moves.events_of_ask (node_at (node_of seat.old.seat.me.0)) port value seat.old.known) }
+    {
+        let known = port_known(seat.known, port - seat.first_port);
+        let serial = known.serial;
+        let operand = ask_operand(seen_or_0(known) % VALUE_LIMIT, value);
+        steps::ask::<Brand>(&self.words, &mut seat.seat, port, value, operand);
+        note(
+            &mut seat.known,
+            seat.first_port,
+            &Event::Ask {
+                port,
+                serial,
+                value,
+            },
+        );
+    }
+
+    /// The node listens for the further message for which its service waits.
+    pub fn hear(&self, seat: &mut NodeSeat, port: u32) -> HearAnswer
+        requires here { seat.old.seat.table_id ≡ self.now.words.shared.table_id }
+        requires may { MayHear seat.old.known port }
+        ensures here { seat.new.seat.table_id ≡ seat.old.seat.table_id }
+        ensures node { node_at (node_of seat.new.seat.me.0) ≡ node_at (node_of seat.old.seat.me.0) }
+        ensures does { Does (node_at (node_of seat.old.seat.me.0)) (moves.events_of_hear port seat.old.known result) seat.old.known seat.new.known (Some (node_of seat.old.seat.me.0).log) (Some (node_of seat.new.seat.me.0).log) None None }
+        ensures words { ByWord kinds.Hear port heard_in (λ a n. after n (moves.events_of_hear port n.known a)) result (node_of seat.old.seat.me.0) (node_of seat.new.seat.me.0) }
+        ensures says { HearSays None port result }
+    {
+        let found = self.hear_word(seat, port);
+        heard(found)
+    }
+
+    /// The load, and what the node knows by it. Returns the word that is found.
+    fn hear_word(&self, seat: &mut NodeSeat, port: u32) -> u64
+        requires here { seat.old.seat.table_id ≡ self.now.words.shared.table_id }
+        requires may { MayHear seat.old.known port }
+        ensures here { seat.new.seat.table_id ≡ seat.old.seat.table_id }
+        ensures heard { is_asked (unpack result).phase ≡ true
+            → node_of seat.new.seat.me.0 ≡ does (reads (node_of seat.old.seat.me.0) kinds.Hear port result) (event.Hear port (serial_served seat.old.known) (unpack result).value) }
+        ensures kept { is_asked (unpack result).phase ≡ false → node_of seat.new.seat.me.0 ≡ reads (node_of seat.old.seat.me.0) kinds.Hear port result }
+        ensures shown { WasShown (node_of seat.old.seat.me.0) port result }
+    {
+        let serial = seat.serial_served();
+        let found = steps::hear(&self.words, &mut seat.seat, port);
+        let word = Word::of(found);
+        if word.phase.is_asked() {
+            let value = word.value;
+            note(
+                &mut seat.known,
+                seat.first_port,
+                &Event::Hear {
+                    port,
+                    serial,
+                    value,
+                },
+            );
+        }
+        found
+    }
+}

@@ -1,0 +1,126 @@
+//! The steps by which the change takes nodes' seats in and gives them out again, and what it learns of them.
+
+ghost use Rattle.std.specs.Prelude.{◌≡◌, [], ◌∷◌, ◌<◌, List};
+ghost use Rattle.config_graph.specs.declared.TheConstants.{MAX_PORTS};
+ghost use Rattle.gate_records.specs.declared.entry.Entry.TheVariants.{Looked};
+ghost use Rattle.gate_rule.specs.Merging.{AreAllAmong, IsOfRecord, MergeIntoRun};
+ghost use Rattle.gate_rule.specs.Steps.{IsChange, IsNode, noted};
+ghost use Rattle.gate_rule.specs.Views.{change_of, given_out, node_of, seat_again, with_seat, with_sight};
+ghost use Rattle.gate_rule.specs.declared.view.NodeView.{NodeView};
+ghost use Rattle.txn_gate.specs.Places.{IsHere};
+
+use crate::steps::{AnySeat, Words};
+use atomic_table::{Join, Play, Split};
+use gate_rule::View;
+
+/// A node's seat is taken in.
+pub struct TakingIn;
+
+impl Join<View> for TakingIn {
+    ghost use Rattle.gate_rule.specs.Views.{nobody, with_seat};
+
+    ghost both = { with_seat };
+
+    ghost spent = { nobody };
+}
+
+/// A node's seat is taken in, and the record has a sight of the node.
+pub struct Sighting;
+
+impl Join<View> for Sighting {
+    ghost use Rattle.gate_rule.specs.Views.{nobody, with_sight};
+
+    ghost both = { with_sight };
+
+    ghost spent = { nobody };
+}
+
+/// The seat that was taken in last is given out again.
+pub struct GivingOut;
+
+impl Split<View> for GivingOut {
+    ghost use Rattle.gate_rule.specs.Views.{given_out, seat_again};
+
+    ghost left = { given_out };
+
+    ghost right = { seat_again };
+}
+
+/// A load by which the change learns of the node whose seat it took in last.
+pub struct Meeting;
+
+impl Play<(), View> for Meeting {
+    ghost use Rattle.gate_rule.specs.Merging.{Meets};
+
+    ghost then = { Meets };
+}
+
+/// A look by which the change learns of all nodes whose seats it took in.
+pub struct Merging;
+
+impl Play<(), View> for Merging {
+    ghost use Rattle.gate_rule.specs.Merging.{Merges};
+
+    ghost then = { Merges };
+}
+
+/// The change takes a node's seat in.
+pub fn take_in(words: &Words, seat: &mut AnySeat, node: AnySeat)
+    requires here { IsHere seat.old.table_id words.now.shared.table_id }
+    requires node_here { IsHere node.table_id words.now.shared.table_id }
+    requires change { IsChange seat.old.me }
+    requires node { IsNode node.me }
+    ensures here { seat.new.table_id ≡ seat.old.table_id }
+    ensures me { seat.new.me ≡ (with_seat seat.old.me.0 node.me.0, []) }
+{
+    words.shared.join_seat::<TakingIn>(seat, node);
+}
+
+/// The change takes a node's seat in, and notes a sight of the node.
+pub fn sight(words: &Words, seat: &mut AnySeat, node: AnySeat)
+    requires here { IsHere seat.old.table_id words.now.shared.table_id }
+    requires node_here { IsHere node.table_id words.now.shared.table_id }
+    requires change { IsChange seat.old.me }
+    requires node { IsNode node.me }
+    ensures here { seat.new.table_id ≡ seat.old.table_id }
+    ensures me { seat.new.me ≡ (with_sight seat.old.me.0 node.me.0, []) }
+{
+    words.shared.join_seat::<Sighting>(seat, node);
+}
+
+/// The change learns of the node whose seat it took in last. A join tells its caller nothing, so this is a load of its own.
+pub fn meet(words: &Words, seat: &mut AnySeat)
+    requires here { IsHere seat.old.table_id words.now.shared.table_id }
+    requires change { IsChange seat.old.me }
+    requires some { (nodes : List NodeView) × (seat.old.me.0.nodes ≡ node_of seat.old.me.0 ∷ nodes) }
+    ensures here { seat.new.table_id ≡ seat.old.table_id }
+    ensures me { seat.new.me ≡ seat.old.me }
+    ensures learned { IsOfRecord (change_of seat.old.me.0).entries (node_of seat.old.me.0) }
+{
+    words.shared.load::<Meeting>(seat, 0);
+}
+
+/// The change gives the seat out again that it took in last.
+pub fn give_out(words: &Words, seat: &mut AnySeat) -> AnySeat
+    requires here { IsHere seat.old.table_id words.now.shared.table_id }
+    requires change { IsChange seat.old.me }
+    requires some { (nodes : List NodeView) × (seat.old.me.0.nodes ≡ node_of seat.old.me.0 ∷ nodes) }
+    ensures here { (seat.new.table_id ≡ seat.old.table_id) × (result.table_id ≡ seat.old.table_id) }
+    ensures me { seat.new.me ≡ (given_out seat.old.me.0, []) }
+    ensures node { result.me ≡ (seat_again seat.old.me.0, []) }
+{
+    words.shared.split_seat::<GivingOut>(seat)
+}
+
+/// The change looks once more at a port, and learns that its record and the nodes that it took in are of one run.
+pub fn merge(words: &Words, seat: &mut AnySeat, port: u32) -> u64
+    requires here { IsHere seat.old.table_id words.now.shared.table_id }
+    requires change { IsChange seat.old.me }
+    requires port { port < MAX_PORTS }
+    requires all { AreAllAmong (change_of seat.old.me.0).seats seat.old.me.0.nodes }
+    ensures here { seat.new.table_id ≡ seat.old.table_id }
+    ensures me { seat.new.me ≡ noted seat.old.me (Looked port result) }
+    ensures merged { MergeIntoRun (change_of seat.new.me.0).entries seat.old.me.0.nodes }
+{
+    words.shared.load::<Merging>(seat, port as usize)
+}
