@@ -1,0 +1,35 @@
+-- What the change may link in the systems of the rows.
+use Rattle.std.proofs.Common.{◌≡◌, ℕ, [], ◌∷◌, ◌++◌, refl, sym, subst}
+use Rattle.config_graph.specs.declared.kind.Kind.TheVariants as kind
+use Rattle.config_graph.specs.declared.node.Node.{Node}
+use Rattle.gate_records.specs.Records.{May}
+use Rattle.gate_records.specs.declared.entry.Entry.TheVariants.{Did}
+use Rattle.quiesce_core.specs.Reach.{has_no_cycle}
+use Rattle.quiesce_core.specs.declared.event.Event.TheVariants.{Link}
+use Rattle.rows_gates.specs.Made.{made_three, made_two}
+
+-- a source, and a sink
+pub two : (n m : ℕ) (a b : Node) → a.kind ≡ kind.Source → b.kind ≡ kind.Sink → May (made_two n m a b) (Link 0 1 0)
+unfolding has_no_cycle
+two n m a b source sink =
+    subst (λ k. May (made_two n m (record a { kind = k }) b) (Link 0 1 0)) (sym source)
+    (subst (λ k. May (made_two n m (record a { kind = kind.Source }) (record b { kind = k })) (Link 0 1 0)) (sym sink)
+    (record { live = refl; unlinked = refl; provision = refl; settled = record { live = refl; own = λ q is. refl; reaching = λ q is. refl }; no_cycle = refl }))
+
+-- A map, a source and a sink: the map's port may be linked, the source's port may be linked, and the source's after the map's.
+abbrev All : ℕ → ℕ → ℕ → Node → Node → Node → Type 0
+All n m k a b c =
+    May (made_three n m k a b c) (Link 0 2 0)
+    × May (made_three n m k a b c) (Link 1 0 0)
+    × May (made_three n m k a b c ++ Did (Link 0 2 0) ∷ []) (Link 1 0 0)
+
+pub three : (n m k : ℕ) (a b c : Node) → a.kind ≡ kind.Map → b.kind ≡ kind.Source → c.kind ≡ kind.Sink → All n m k a b c
+unfolding has_no_cycle
+three n m k a b c map_ source sink =
+    subst (λ x. All n m k (record a { kind = x }) b c) (sym map_)
+    (subst (λ x. All n m k (record a { kind = kind.Map }) (record b { kind = x }) c) (sym source)
+    (subst (λ x. All n m k (record a { kind = kind.Map }) (record b { kind = kind.Source }) (record c { kind = x })) (sym sink) (
+      record { live = refl; unlinked = refl; provision = refl; settled = record { live = refl; own = λ q is. refl; reaching = λ q is. refl }; no_cycle = refl },
+      record { live = refl; unlinked = refl; provision = refl; settled = record { live = refl; own = λ q is. refl; reaching = λ q is. refl }; no_cycle = refl },
+      record { live = refl; unlinked = refl; provision = refl; settled = record { live = refl; own = λ q is. refl; reaching = λ q is. refl }; no_cycle = refl },
+    )))

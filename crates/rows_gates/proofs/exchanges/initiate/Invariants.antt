@@ -1,0 +1,5 @@
+use Rattle.std.proofs.Common.{◌≡◌}
+use Rattle.rows_gates.proofs.exchanges.initiate.Given as goal
+
+abbrev pub invariant-loop-value : goal.invariant-loop-value
+invariant-loop-value g l = l.source.seat.seat.table_id ≡ l.fn.source.seat.seat.table_id

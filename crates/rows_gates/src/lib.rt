@@ -1,0 +1,18 @@
+//! Worked rows of the gates, and the systems and exchanges of which they are made.
+#![tactic(auto)]
+
+#[cfg(test)]
+mod call_rows;
+mod exchanges;
+#[cfg(test)]
+mod gate_rows;
+mod seated;
+mod systems;
+#[cfg(test)]
+mod thread_rows;
+mod unfit;
+
+pub use exchanges::{Tally, alone, initiate, serve};
+pub use seated::Seated;
+pub use systems::{apart, close, finish_two, line, look, pipe, reopen};
+pub use unfit::{Unfit, Unmade};

@@ -1,0 +1,150 @@
+//! A source and a sink in threads of their own, while a third closes and opens the gate between them.
+
+ghost use Rattle.std.specs.Prelude.{◌≡◌};
+
+use crate::exchanges::{Tally, initiate, serve};
+use crate::seated::Seated;
+use crate::systems::{close, finish_two, look, pipe, reopen};
+use crate::unfit::Unfit;
+use gate_records::Look;
+use std::sync::Wait;
+use std::sync::atomic::{AtomicBool, Ordering};
+use std::test::Fail;
+use std::thread;
+use std::thread::Threads;
+use txn_gate::{ChangeSeat, Gates};
+
+const TIMES: u32 = 100_000;
+
+/// Closes the port, looks at it and opens it again until the source has done all. Returns how often that was. It yields, so that all
+/// go on where there is one processor.
+fn turn<R: Wait>(
+    rt: &R,
+    gates: &Gates,
+    change: &mut ChangeSeat,
+    done: &AtomicBool,
+) -> Result<u32, Unfit>
+    requires here { change.old.seat.table_id ≡ gates.now.words.shared.table_id }
+    ensures here { change.new.seat.table_id ≡ change.old.seat.table_id }
+{
+    let mut turns = 0_u32;
+    for _ in rt.forever() {
+        close(gates, change, 0)?;
+        look(gates, change, 0)?;
+        reopen(gates, change, 0)?;
+        turns = turns.wrapping_add(1);
+        if done.load(Ordering::SeqCst) {
+            break;
+        }
+        thread::yield_now();
+    }
+    Ok(turns)
+}
+
+/// The source makes all its transactions, and tells that it did.
+fn initiate_all<R: Wait>(
+    rt: &R,
+    gates: &Gates,
+    source: &mut Seated,
+    done: &AtomicBool,
+) -> Result<Tally, Unfit>
+    requires here { source.old.seat.seat.table_id ≡ gates.now.words.shared.table_id }
+    ensures here { source.new.seat.seat.table_id ≡ source.old.seat.seat.table_id }
+{
+    let tally = initiate(rt, gates, source, TIMES);
+    done.store(true, Ordering::SeqCst);
+    tally
+}
+
+/// All three at once: what the source and the sink got, and how often the gate was closed.
+fn all_at_once<R: Threads + Wait + Sync>(
+    rt: &R,
+    gates: &Gates,
+    mut source: Seated,
+    mut sink: Seated,
+    mut change: ChangeSeat,
+) -> (
+    (Seated, Result<Tally, Unfit>),
+    (Seated, Result<Tally, Unfit>),
+    (ChangeSeat, Result<u32, Unfit>),
+)
+    requires source { source.seat.seat.table_id ≡ gates.now.words.shared.table_id }
+    requires sink { sink.seat.seat.table_id ≡ gates.now.words.shared.table_id }
+    requires change { change.seat.table_id ≡ gates.now.words.shared.table_id }
+    ensures source { result.0.0.seat.seat.table_id ≡ gates.now.words.shared.table_id }
+    ensures sink { result.1.0.seat.seat.table_id ≡ gates.now.words.shared.table_id }
+    ensures change { result.2.0.seat.table_id ≡ gates.now.words.shared.table_id }
+{
+    let done = AtomicBool::new(false);
+    let flag = &done;
+    let (first, (second, third)) = thread::join(
+        rt,
+        move || -> (Seated, Result<Tally, Unfit>)
+            requires { source.seat.seat.table_id ≡ gates.now.words.shared.table_id }
+            ensures { result.0.seat.seat.table_id ≡ gates.entry.now.words.shared.table_id }
+        {
+            let tally = initiate_all(rt, gates, &mut source, flag);
+            (source, tally)
+        },
+        move || -> (
+            (Seated, Result<Tally, Unfit>),
+            (ChangeSeat, Result<u32, Unfit>),
+        )
+            requires { (sink.seat.seat.table_id ≡ gates.now.words.shared.table_id) × (change.seat.table_id ≡ gates.now.words.shared.table_id) }
+            ensures { (result.0.0.seat.seat.table_id ≡ gates.entry.now.words.shared.table_id) × (result.1.0.seat.table_id ≡ gates.entry.now.words.shared.table_id) }
+        {
+            thread::join(
+                rt,
+                move || -> (Seated, Result<Tally, Unfit>)
+                    requires { sink.seat.seat.table_id ≡ gates.now.words.shared.table_id }
+                    ensures { result.0.seat.seat.table_id ≡ gates.entry.now.words.shared.table_id }
+                {
+                    let tally = serve(rt, gates, &mut sink, TIMES);
+                    (sink, tally)
+                },
+                move || -> (ChangeSeat, Result<u32, Unfit>)
+                    requires { change.seat.table_id ≡ gates.now.words.shared.table_id }
+                    ensures { result.0.seat.table_id ≡ gates.entry.now.words.shared.table_id }
+                {
+                    let turns = turn(rt, gates, &mut change, flag);
+                    (change, turns)
+                },
+            )
+        },
+    );
+    (first, second, third)
+}
+
+/// Each of the values 0 to 99,999 was taken up once, and each answered by the next number; all of it and what the change saw is one run.
+#[test]
+fn three_threads(rt: HostRuntime) -> Result<(), Fail> {
+    let (gates, mut change) = Gates::new(rt.alloc())?;
+    gates.reserve(&mut change, 2)?;
+    let (source, sink) = pipe(rt.alloc(), &gates, &mut change)?;
+    let ((source, got), (sink, took), (mut change, turns)) = all_at_once(
+        &rt, &gates, source, sink, change,
+    );
+    assert_eq!(rt;
+        took?,
+        Tally {
+            count: TIMES,
+            sum: 4_999_950_000
+        }
+    );
+    assert_eq!(rt;
+        got?,
+        Tally {
+            count: TIMES,
+            sum: 5_000_050_000
+        }
+    );
+    assert!(rt; turns? > 0);
+    close(&gates, &mut change, 0)?;
+    let drained = Look::Drained {
+        serial: TIMES,
+        idle: true,
+    };
+    assert_eq!(rt; look(&gates, &mut change, 0)?, drained);
+    finish_two(&gates, &mut change, source, sink)?;
+    Ok(())
+}
