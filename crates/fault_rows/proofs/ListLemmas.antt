@@ -1,0 +1,48 @@
+-- Tests of lists.
+use Rattle.std.proofs.Common.{◌≡◌, ◌∙◌, ℕ, ◌+◌, ◌<◌, Bool, true, false, nat_lt, cond, ◌||◌, slice_get, Some, List, [], ◌∷◌, length, refl, sym, ap, subst, ⊎_elim, arith, Contains}
+use Rattle.std.specs.List.{count_by, list_all}
+use Rattle.std.proofs.lemmas.Bool.{and_parts, eqb-true, ltb-true, or_cases}
+use Rattle.std.proofs.lemmas.Option.{same_Some}
+use Rattle.std.specs.Prelude.{◌==◌}
+use Rattle.std.proofs.lemmas.List.Sums.{sum_by-cons}
+use Rattle.base.proofs.ContainsLaws.{Contains-at, Contains-cons_cases, Contains-here, Contains-nil, Contains-there}
+
+-- each of a list passes
+pub all_have : {A : Type 0} (p : A → Bool) (xs : List A) → list_all p xs ≡ true → (x : A) → Contains xs x → p x ≡ true
+all_have p [] h x there = absurd (Contains-nil x there)
+all_have p (y ∷ xs) h x there =
+    let w = and_parts (p y) (list_all p xs) h in
+    ⊎_elim (λ (here : x ≡ y). ap p here ∙ w.0) (λ (later : Contains xs x). all_have p xs w.1 x later) (Contains-cons_cases y xs x there)
+
+count_by-cons : {A : Type 0} (p : A → Bool) (x : A) (xs : List A) → count_by p (x ∷ xs) ≡ cond (p x) 1 0 + count_by p xs
+count_by-cons p x xs = sum_by-cons (λ y. cond (p y) 1 0) x xs
+
+-- what passes at all is there
+pub one_of_two : {A : Type 0} (p : A → Bool) (xs : List A) → 0 < count_by p xs → (x : A) × Contains xs x × (p x ≡ true)
+one_of_two p [] some = absurd (omega (arith, some))
+one_of_two {A = A} p (x ∷ xs) some = by (p x) refl (one_of_two p xs) (subst (λ n. 0 < n) (count_by-cons p x xs) some)
+  where
+    by :
+        (b : Bool) → p x ≡ b → (0 < count_by p xs → (y : A) × Contains xs y × (p y ≡ true)) → 0 < cond b 1 0 + count_by p xs
+        → (y : A) × Contains (x ∷ xs) y × (p y ≡ true)
+    by true passes later more = (x, Contains-here x xs, passes)
+    by false fails later more = let w = later (omega (arith, more)) in (w.0, Contains-there x w.0 xs w.1, w.2)
+
+-- of a list of one at most there are no two
+pub only_one : {A : Type 0} (xs : List A) (x y : A) → nat_lt (length xs) 2 ≡ true → Contains xs x → Contains xs y → x ≡ y
+only_one [] x y few there other = absurd (Contains-nil x there)
+only_one {A = A} (z ∷ []) x y few there other = one x there ∙ sym (one y other)
+  where
+    one : (v : A) → Contains (z ∷ []) v → v ≡ z
+    one v has = ⊎_elim (λ (same : v ≡ z). same) (λ (later : Contains [] v). absurd (Contains-nil v later)) (Contains-cons_cases z [] v has)
+only_one (z ∷ w ∷ xs) x y few there other = absurd (omega (arith, ltb-true (length (z ∷ w ∷ xs)) 2 few))
+
+-- where tests refute every case but one, it is the one that isn't refuted
+pub one_left :
+    {C : Type 0} (cases : List C) (place : C → ℕ) → ((c : C) → slice_get cases (place c) ≡ Some c) → (clear : C → Bool) (c : C)
+    → list_all (λ d. place d == place c || clear d) cases ≡ true → (d : C) → (clear d ≡ true → ⊥) → d ≡ c
+one_left cases place at_place clear c left d refuted =
+    ⊎_elim
+    (λ (same : (place d == place c) ≡ true). same_Some d c (sym (at_place d) ∙ ap (slice_get cases) (eqb-true (place d) (place c) same) ∙ at_place c))
+    (λ (holds : clear d ≡ true). absurd (refuted holds))
+    (or_cases (place d == place c) (clear d) (all_have (λ e. place e == place c || clear e) cases left d (Contains-at cases (place d) d (at_place d))))

@@ -1,0 +1,5 @@
+pub mod Trees
+pub mod Checks
+pub mod Elaborations
+pub mod Texts
+pub mod Plans

@@ -1,0 +1,71 @@
+//! Laws that each case of a definition of faults is needed, each as the contract of a function that does nothing.
+
+ghost use Rattle.std.specs.Prelude.{[], ◌∷◌, codes};
+ghost use Rattle.std.specs.List.{flat_map, range_with_len};
+ghost use Rattle.change_script.specs.EventFiles.{IsFirstFault};
+ghost use Rattle.change_script.specs.ScriptFiles.{IsScriptFault};
+ghost use Rattle.change_script.specs.declared.error.ScriptError.TheVariants.{BadLine, NoEnd, NoStart, NumberTooBig, Order, TooManyLines};
+ghost use Rattle.change_plan.specs.declared.error.PlanError.TheVariants.{KindsDiffer, MovedTwice, NodesFull, NotCreated, NotRemoved, PortsFull};
+ghost use Rattle.darwin_lexer.specs.declared.front.Fault.{Fault};
+ghost use Rattle.darwin_lexer.specs.declared.token.At.{At};
+ghost use Rattle.darwin_lexer.specs.Tokens.{FirstFault};
+ghost use Rattle.darwin_parser.specs.Refusals.{IsTooNested, IsUnexpected};
+ghost use Rattle.fault_rows.specs.Checks as checks;
+ghost use Rattle.fault_rows.specs.Elaborations as elaborations;
+ghost use Rattle.fault_rows.specs.Plans.{IsRefused, empty, fork_b, made, move, one, sink_a, sink_b, source_b};
+ghost use Rattle.fault_rows.specs.Texts.{text_of, too_nested, unexpected};
+
+/// For each fault of a text there is one whose first fault it is. By `darwin_lexer::one_reading` it has no other, and is
+/// no tokens.
+pub fn each_fault_of_a_text_is_needed()
+    ensures { (fault : Fault) → (at : At) × FirstFault (text_of fault) fault at }
+{}
+
+/// There are tokens of which one can't stand where it does, and tokens of which one is too nested. By
+/// `darwin_parser::one_answer` these have no other refusal, and are no unit.
+pub fn each_refusal_of_tokens_is_needed()
+    ensures unexpected { IsUnexpected [] unexpected 0 }
+    ensures too_nested { IsTooNested [] too_nested 51 }
+{}
+
+/// For each case of the faults of `check` there is a description in which a fault stands by it, and none by another.
+pub fn each_case_of_a_check_is_needed()
+    ensures { (case : checks.Case) → checks.StandsAlone (checks.description case) case }
+{}
+
+/// For each case of the faults of an elaboration there is a checked description that has a fault by it, and none by
+/// another.
+pub fn each_case_of_an_elaboration_is_needed()
+    ensures { (case : elaborations.Case) → elaborations.StandsAlone (elaborations.query case) case }
+{}
+
+/// For each refusal of a plan there are two graphs and moves that have it. By `change_plan::a_plan_or_a_refusal` they
+/// have no other, and no plan.
+pub fn each_refusal_of_a_plan_is_needed()
+    ensures not_removed { IsRefused empty empty (move ∷ []) (made 0 0) (NotRemoved (codes "a")) }
+    ensures not_created { IsRefused (one sink_a) empty (move ∷ []) (made 0 0) (NotCreated (codes "b")) }
+    ensures kinds_differ { IsRefused (one sink_a) (one fork_b) (move ∷ []) (made 0 0) (KindsDiffer (codes "a") (codes "b")) }
+    ensures moved_twice { IsRefused (one sink_a) (one sink_b) (move ∷ move ∷ []) (made 0 0) (MovedTwice (codes "a")) }
+    ensures nodes_full { IsRefused empty (one sink_b) [] (made 1023 0) (NodesFull 1023 1) }
+    ensures ports_full { IsRefused empty (one source_b) [] (made 0 4096) (PortsFull 4096 1) }
+{}
+
+/// For each refusal of a script there is a text that has it. By `change_script::one_script_or_one_fault` it has no other,
+/// and is no script.
+pub fn each_refusal_of_a_script_is_needed()
+    ensures bad_line { IsScriptFault (codes "?") (BadLine 1) }
+    ensures too_big { IsScriptFault (codes "run 4294967296") (NumberTooBig 1) }
+    ensures order { IsScriptFault (codes "run 1") (Order 1) }
+    ensures too_many { IsScriptFault (flat_map (λ _. codes "use a\n") (range_with_len 0 257)) (TooManyLines 257) }
+    ensures no_start { IsScriptFault [] NoStart }
+    ensures no_end { IsScriptFault (codes "use a\nstart A") NoEnd }
+{}
+
+/// For each refusal of an event file there is a text that has it. By `change_script::one_file_or_one_fault` it has no
+/// other, and is no event file.
+pub fn each_refusal_of_events_is_needed()
+    ensures bad_line { IsFirstFault (codes "?") (BadLine 1) }
+    ensures too_big { IsFirstFault (codes "start A(2147483648)") (NumberTooBig 1) }
+    ensures order { IsFirstFault (codes "close 1") (Order 1) }
+    ensures no_start { IsFirstFault [] NoStart }
+{}
