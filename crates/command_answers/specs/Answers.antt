@@ -10,6 +10,7 @@ use Rattle.change_script.specs.Reports.{report_text}
 use Rattle.change_script.specs.declared.report.Report.{Report}
 use Rattle.command_answers.specs.declared.status.Status.{Status}
 use Rattle.command_answers.specs.declared.status.Status.TheVariants as status
+use Rattle.command_answers.specs.Summaries.{summary_text}
 use Rattle.command_answers.specs.RefusalLines.{read_fault_line, description_line, script_line, denied_line}
 
 pub data Refusal : Type 0 where
@@ -40,6 +41,8 @@ pub data Answer : Type 0 where
   report : Report → Answer
   -- the report of a run that was made now
   ran : Report → Answer
+  -- the summary of a run that was made now, of so many lanes
+  summary : (lanes : ℕ) → Report → Answer
 
 abbrev pub refusal_status : Refusal → Status
 refusal_status usage = status.Usage
@@ -63,6 +66,7 @@ status_of (denied number rule) = status.Denied
 status_of (replay count s settled) = status.Ok
 status_of (report r) = status.Ok
 status_of (ran r) = run_status r.status
+status_of (summary lanes r) = run_status r.status
 
 abbrev pub usage_line : List ℕ
 usage_line = codes "usage" ++ 10 ∷ []
@@ -79,6 +83,7 @@ help_text =
     ++ codes "darwin_run plan FILE NAME INT* -- NAME INT*\n"
     ++ codes "darwin_run replay FILE EVENTS\n"
     ++ codes "darwin_run step SCRIPT\n"
+    ++ codes "darwin_run big N\n"
     ++ codes "darwin_run upgrade FILE\n"
 
 abbrev pub version_text : List ℕ
@@ -101,6 +106,7 @@ text_of (denied number rule) = denied_line number rule
 text_of (replay count s settled) = replay_text count s settled
 text_of (report r) = report_text r
 text_of (ran r) = report_text r
+text_of (summary lanes r) = summary_text lanes r
 
 -- some answer of a kind has this status and this text
 pub record Shows (Is : Answer → Type 0) (own : Status) (text : List ℕ) : Type 0 where

@@ -1,5 +1,5 @@
 -- The number of each status, with which the program ends.
-use Rattle.std.specs.Prelude.{ℕ}
+use Rattle.std.specs.Prelude.{ℕ, Bool, true, false}
 use Rattle.command_answers.specs.declared.status.Status.{Status}
 use Rattle.command_answers.specs.declared.status.Status.TheVariants as status
 
@@ -15,3 +15,10 @@ status_number status.Pending = 7
 status_number status.Unfinished = 8
 status_number status.Denied = 9
 status_number status.Unlawful = 10
+
+-- whether a run of a script may end with the status, by its report
+abbrev pub is_of_run : Status → Bool
+is_of_run status.Ok = true
+is_of_run status.Pending = true
+is_of_run status.Unfinished = true
+is_of_run _ = false

@@ -5,6 +5,7 @@ mod error;
 mod lines;
 mod rendering;
 mod status;
+mod summary;
 
 pub use error::DescriptionFault;
 pub use lines::{
@@ -12,3 +13,4 @@ pub use lines::{
     script_line, script_too_long_line,
 };
 pub use status::Status;
+pub use summary::summary_text;

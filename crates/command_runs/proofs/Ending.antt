@@ -1,5 +1,5 @@
 -- What each status of a run says of its words and fetches, from the one relation of runs.
-use Rattle.std.proofs.Common.{◌≡◌, ◌≢◌, ◌∙◌, ◌⊎◌, inl, inr, ℕ, List, [], ◌∷◌, ◌++◌, Option, append-nil, refl, ap}
+use Rattle.std.proofs.Common.{◌≡◌, ◌≢◌, ◌∙◌, ◌⊎◌, inl, inr, ℕ, List, [], ◌∷◌, ◌++◌, Option, Some, append-nil, refl, sym, ap}
 use Rattle.std.specs.Prelude.{codes}
 use Rattle.std.specs.List.{AllByRecursion}
 use Rattle.cfg_io.specs.Count.{Rose}
@@ -8,6 +8,9 @@ use Rattle.cfg_io.specs.Sink.{with_bytes}
 use Rattle.command_answers.specs.declared.status.Status.{Status}
 use Rattle.command_answers.specs.declared.status.Status.TheVariants as status
 use Rattle.command_answers.specs.RefusalLines.{read_fault_line}
+use Rattle.command_answers.specs.Summaries.{summary_text}
+use Rattle.big_files.specs.BigFiles.{made_files, script_name}
+use Rattle.change_script.specs.Reports.{report_text}
 use Rattle.command_words.specs.declared.words.Command.{Command}
 use Rattle.command_words.specs.declared.words.Command.TheVariants as commands
 use Rattle.command_words.specs.CommandLine.{Asks, HasNoForm}
@@ -109,7 +112,15 @@ failed_file files (commands.Upgrade file) fetches own text answer told is =
     let fault = report_fault file answer.given own text answer.answer is in
     (file, refl, ap failed_names answer.is ∙ fault.0, fault.1)
 failed_file files (commands.Step name) fetches own text answer told is =
-    scripts.failed_file files name fetches own text (script_ends files name fetches own text answer told) is
+    scripts.failed_file report_text files name fetches own text (script_ends report_text files name fetches own text answer told) is
+failed_file files (commands.Big lanes) fetches own text answer told is =
+    let show = summary_text lanes in
+    let made = Some (made_files lanes) in
+    let found = scripts.failed_file show made script_name answer.within own text (script_ends show made script_name answer.within own text answer.answer answer.told) is in
+    absurd (no_name found.0 (sym answer.none_failed ∙ found.2))
+  where
+    no_name : (name : List ℕ) → [] ≡ name ∷ [] → ⊥
+    no_name name is = cc
 
 any_failed :
     (files : Option Files) (command : Command) (fetches : List Fetch) (own : Status) (text : List ℕ) → Answer command fetches own text
@@ -127,7 +138,8 @@ any_failed files (commands.Replay file name) fetches own text (inr answer) told 
 any_failed files (commands.Upgrade file) fetches own text answer told some =
     report_failed file answer.given own text answer.answer (λ none. some (ap failed_names answer.is ∙ none))
 any_failed files (commands.Step name) fetches own text answer told some =
-    scripts.any_failed files name fetches own text (script_ends files name fetches own text answer told) some
+    scripts.any_failed report_text files name fetches own text (script_ends report_text files name fetches own text answer told) some
+any_failed files (commands.Big lanes) fetches own text answer told some = absurd (some (ap failed_names answer.is))
 
 -- ---- the clauses
 

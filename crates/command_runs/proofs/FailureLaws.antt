@@ -1,5 +1,5 @@
 -- A fetch that fails is the last of its course.
-use Rattle.std.proofs.Common.{◌≡◌, ◌≢◌, ◌∙◌, ◌⊎◌, inl, inr, ℕ, List, [], ◌∷◌, refl, sym, ap, subst}
+use Rattle.std.proofs.Common.{◌≡◌, ◌≢◌, ◌∙◌, ◌⊎◌, inl, inr, ℕ, List, [], ◌∷◌, Some, refl, sym, ap, subst}
 use Rattle.quiesce_core.specs.State.{State}
 use Rattle.quiesce_core.specs.Start.{started}
 use Rattle.quiesce_core.specs.declared.event.Event.{Event}
@@ -7,12 +7,14 @@ use Rattle.change_script.specs.EventFiles.{IsEventFile}
 use Rattle.change_script.specs.ScriptFiles.{IsScript}
 use Rattle.std.specs.Prelude.{Contains}
 use Rattle.base.proofs.ContainsLaws.{Contains-here}
-use Rattle.command_answers.specs.Answers.{Answer, Refusal, refusal, description, script, read_fault, help, version, report}
+use Rattle.big_files.specs.BigFiles.{made_files, script_name}
+use Rattle.command_answers.specs.Answers.{Answer, Refusal, refusal, description, script, read_fault, no_memory, help, version, graph, plan, denied, replay, report, ran, summary, status_of}
+use Rattle.command_answers.specs.Summaries.{summary_text}
 use Rattle.command_words.specs.declared.words.Command.TheVariants as commands
 use Rattle.command_runs.specs.declared.fetched.Fetched.TheVariants.{Held, TooLong, Failed}
 use Rattle.command_runs.specs.declared.query.Query.{Query}
 use Rattle.command_runs.specs.declared.query.Query.TheVariants as queries
-use Rattle.command_runs.specs.Commands.{RefusesEvents, RefusesReport, RefusesStatements, TellsReport, calls_of, course_of_query}
+use Rattle.command_runs.specs.Commands.{RefusesEvents, RefusesReport, RefusesStatements, TellsReport, calls_of, course_of_query, in_summary, OfMadeFiles}
 use Rattle.command_runs.specs.Courses.{Course, Says, AfterFetch, not_fetched, fetched_alone, failed, too_long, leads_on, After, not_judged, refused, gives}
 use Rattle.command_runs.specs.Descriptions.{IsTextRefusal, IsChecked}
 use Rattle.command_runs.specs.Failures.{Uses, FailsLast}
@@ -23,6 +25,8 @@ use Rattle.command_runs.specs.Replays.{IsReplayed, one_denied, all_steps}
 use Rattle.command_runs.specs.Scripts.{lines_of}
 use Rattle.command_runs.specs.Runs.{AnswersWords, asked}
 use Rattle.command_runs.specs.Runs as runs
+use Rattle.command_runs.proofs.Inverting.{OfStep, from_script, shown_text}
+use Rattle.command_runs.proofs.ScriptEnds.{failed_file, script_ends}
 
 -- ---- answers that aren't refusals
 
@@ -132,6 +136,33 @@ module _ (Named : List ℕ → Type 0) where
 held : (name bytes : List ℕ) (fetches later : List Fetch) → fetches ≡ fetch_of name (Held bytes) ∷ later → WasHeld fetches name bytes
 held name bytes fetches later here = subst (λ fs. Contains fs (fetch_of name (Held bytes))) (sym here) (Contains-here (fetch_of name (Held bytes)) later)
 
+-- no fetch of a made file failed
+not_unread : (lanes : ℕ) (answer : Answer) → OfMadeFiles lanes answer → (file : List ℕ) → answer ≢ refusal (read_fault file)
+not_unread lanes answer made file is = by made.made (of_refusal lanes made.made (read_fault file) (sym made.is ∙ is)) (from_script (summary_text lanes) script_name made.own made.made made.course)
+  where
+    of_refusal : (n : ℕ) (a : Answer) (why : Refusal) → in_summary n a ≡ refusal why → a ≡ refusal why
+    of_refusal n (refusal other) why same = same
+    of_refusal n help why same = same
+    of_refusal n version why same = same
+    of_refusal n (graph g) why same = same
+    of_refusal n (plan old new steps) why same = same
+    of_refusal n (denied number rule) why same = same
+    of_refusal n (replay count s settled) why same = same
+    of_refusal n (report r) why same = same
+    of_refusal n (ran r) why same = cc
+    of_refusal n (summary other r) why same = same
+
+    clash : (other : List ℕ) → failed_names made.own ≡ [] → failed_names made.own ≡ other ∷ [] → ⊥
+    clash other none one = cc
+
+    by : (a : Answer) → a ≡ refusal (read_fault file)
+        → OfStep (summary_text lanes) script_name made.own (status_of a) (shown_text (summary_text lanes) a) ⊎ (a ≡ refusal no_memory) → ⊥
+    by a same (inl of) =
+        let unread = failed_file (summary_text lanes) (Some (made_files lanes)) script_name made.own (status_of a) (shown_text (summary_text lanes) a)
+        (script_ends (summary_text lanes) (Some (made_files lanes)) script_name made.own (status_of a) (shown_text (summary_text lanes) a) of made.told) (ap status_of same) in
+        clash unread.0 made.none_failed unread.2
+    by a same (inr short) = cc (same, short)
+
 pub of_words : (words : List (List ℕ)) (fetches : List Fetch) (answer : Answer) → AnswersWords words fetches answer → FailsLast (NamesFile (WasHeld fetches) words) fetches answer
 of_words words _ _ (runs.no_form none) = inl (refl, λ file is. cc)
 of_words words _ _ runs.not_read = inl (refl, λ file is. cc)
@@ -155,6 +186,7 @@ of_words words _ _ (asked (commands.Upgrade file) fetches answer asks course) =
     of_fetch Named file report_limit refuse Then fetches answer (commands.Upgrade file, asks, refl) (other_script Named file)
     (λ bytes fs a here then_. of_step Named (RefusesReport bytes) refuse (TellsReport bytes) (λ r. Says (report r)) fs a (other_script Named file)
     (λ r gs b is says. of_says Named (report r) gs b (λ other same. cc) says) then_) course
+of_words words _ _ (asked (commands.Big lanes) fetches answer asks course) = inl (ap failed_names course.0, not_unread lanes answer course.1)
 of_words words _ _ (asked (commands.Step name) fetches answer asks course) =
     let Named = NamesFile (WasHeld fetches) words in
     let refuse = λ (ws : List (List ℕ)). refusal (script name ws) in

@@ -37,7 +37,10 @@ use Rattle.command_runs.specs.Runs.{Written, whole, stopped}
 use Rattle.command_runs.specs.Outcomes.{Ends, Wants, Flattened, Planned, Replayed, Refused, too_long, at_fault, ScriptRefused, events_too_long, events_at_fault, HoldsFile, MustRefuse, MustRefuseScript, NothingRefuses, EndsAsGiven, Upgraded, ReportRefused, is_longer, has_fault, RefusesScript, RefusesDescription, MustRefuseReport, NothingRefusesReport}
 use Rattle.command_runs.proofs.Inverting.{Answer, of_words, AnswersCommand, no_form, answered_to, no_memory, Ran, OfDescription, OfScript, OfReplay, OfReport}
 use Rattle.change_script.proofs.EventFileLaws as scripts
-use Rattle.command_runs.proofs.ScriptEnds.{script_ends}
+use Rattle.big_files.specs.BigFiles.{made_files, script_name}
+use Rattle.change_script.specs.Reports.{report_text}
+use Rattle.command_answers.specs.Summaries.{summary_text}
+use Rattle.command_runs.proofs.ScriptEnds.{big_ends, script_ends}
 use Rattle.command_runs.proofs.ScriptEnds as ending
 use Rattle.command_runs.proofs.Statuses.{IsGiven, well, with_denial, not_two, memory_not_given, write_fault_not_given, ok_denied, ok_description, ok_script, usage_denied, usage_description, usage_script, memory_denied, memory_description, memory_script, write_fault_denied, write_fault_description, write_fault_script}
 use Rattle.command_runs.proofs.Telling.{held_told, held_within, long_told, longer_told, report_told, report_within, same_content, within_not_long, none_added}
@@ -338,7 +341,9 @@ module _ (words : List (List ℕ)) (files : Option Files) (failures failures' : 
           (file, name, asks, of_replay files taken taken' file name run.fetches run.own run.text status.Denied with_denial r is run.told took)
       of (commands.Upgrade file) asks answer is took = absurd (report_not_denied files taken taken' file answer.given run.own run.text answer.answer is)
       of (commands.Step name) asks answer is took =
-          absurd (ending.not_denied files name run.fetches run.own run.text (script_ends files name run.fetches run.own run.text answer run.told) is)
+          absurd (ending.not_denied report_text files name run.fetches run.own run.text (script_ends report_text files name run.fetches run.own run.text answer run.told) is)
+      of (commands.Big lanes) asks answer is took =
+          absurd (ending.not_denied (summary_text lanes) (Some (made_files lanes)) script_name answer.within run.own run.text (big_ends lanes run.fetches run.own run.text answer) is)
 
       own : (fetches : List Fetch) (s : Status) (text : List ℕ) → AnswersCommand words fetches s text → s ≡ status.Denied
           → ((command : Command) → Asks words command → Answer command fetches s text → s ≡ status.Denied
@@ -380,7 +385,9 @@ module _ (words : List (List ℕ)) (files : Option Files) (failures failures' : 
       of (commands.Upgrade file) fetches own text asks answer is told took =
           absurd (report_not_description files taken taken' file answer.given own text answer.answer is)
       of (commands.Step name) fetches own text asks answer is told took =
-          inr (name, asks, ending.line_refused files name fetches taken taken' own text (script_ends files name fetches own text answer told) is took)
+          inr (inl (name, asks, ending.line_refused report_text files name fetches taken taken' own text (script_ends report_text files name fetches own text answer told) is took))
+      of (commands.Big lanes) fetches own text asks answer is told took =
+          inr (inr (lanes, asks, ending.line_refused (summary_text lanes) (Some (made_files lanes)) script_name answer.within taken taken' own text (big_ends lanes fetches own text answer) is took))
 
       own : (fetches : List Fetch) (s : Status) (text : List ℕ) → AnswersCommand words fetches s text → s ≡ status.Description → AllByRecursion (Gave files) fetches
           → taken' ≡ with_bytes taken text → RefusesDescription words files taken taken'
@@ -412,7 +419,9 @@ module _ (words : List (List ℕ)) (files : Option Files) (failures failures' : 
           let each = subst (AllByRecursion (Gave files)) answer.is told in
           inr (inl (file, asks, of_report_refusal files taken taken' file answer.given own text answer.answer is each.0 took))
       of (commands.Step name) fetches own text asks answer is told took =
-          inr (inr (name, asks, ending.statements_refused files name fetches taken taken' own text (script_ends files name fetches own text answer told) is took))
+          inr (inr (inl (name, asks, ending.statements_refused report_text files name fetches taken taken' own text (script_ends report_text files name fetches own text answer told) is took)))
+      of (commands.Big lanes) fetches own text asks answer is told took =
+          inr (inr (inr (lanes, asks, ending.statements_refused (summary_text lanes) (Some (made_files lanes)) script_name answer.within taken taken' own text (big_ends lanes fetches own text answer) is took)))
 
       own : (fetches : List Fetch) (s : Status) (text : List ℕ) → AnswersCommand words fetches s text → s ≡ status.Script → AllByRecursion (Gave files) fetches
           → taken' ≡ with_bytes taken text → RefusesScript words files taken taken'

@@ -1,5 +1,5 @@
 -- What an answer of words says, by the command that they ask for.
-use Rattle.std.proofs.Common.{◌≡◌, ◌≢◌, ◌∙◌, ◌⊎◌, inl, inr, ℕ, Bool, true, false, if◌then◌else◌, List, [], ◌∷◌, ◌++◌, Option, codes, refl, sym, ap, subst}
+use Rattle.std.proofs.Common.{◌≡◌, ◌≢◌, ◌∙◌, ◌⊎◌, inl, inr, ℕ, Bool, true, false, if◌then◌else◌, List, [], ◌∷◌, ◌++◌, Option, Some, codes, refl, sym, ap, subst}
 use Rattle.std.specs.Prelude.{◌==◌}
 use Rattle.std.specs.List.{AllByRecursion}
 use Rattle.cfg_io.specs.Shelf.{Files}
@@ -19,7 +19,11 @@ use Rattle.command_runs.specs.declared.fetched.Fetched.TheVariants.{Held, TooLon
 use Rattle.command_answers.specs.Answers as values
 use Rattle.command_answers.specs.Answers.{refusal, run_status, status_of, text_of, usage_line, no_memory_line, help_text, version_text}
 use Rattle.command_answers.specs.RefusalLines.{read_fault_line, script_line}
-use Rattle.command_runs.specs.Commands.{course_of}
+use Rattle.big_files.specs.BigFiles.{made_files, script_name}
+use Rattle.change_script.specs.Reports.{report_text}
+use Rattle.change_script.specs.declared.report.Report.{Report}
+use Rattle.command_answers.specs.Summaries.{summary_text}
+use Rattle.command_runs.specs.Commands.{course_of, course_of_script, in_summary, OfMadeFiles}
 use Rattle.command_runs.specs.Courses.{not_fetched, fetched_alone, failed, too_long, leads_on, not_judged}
 use Rattle.command_runs.specs.Courses as courses
 use Rattle.command_runs.specs.Fetches.{Fetch, fetch_of, failed_names, Gave, report_fetch}
@@ -104,14 +108,35 @@ pub record OfReport (name : List ℕ) (fetches : List Fetch) (own : Status) (tex
   pub is : fetches ≡ report_fetch name given ∷ []
   pub answer : ReportAnswers name given own text
 
+-- the text of an answer, where this is shown of the report of a run
+abbrev pub shown_text : (Report → List ℕ) → values.Answer → List ℕ
+shown_text show (values.refusal why) = text_of (values.refusal why)
+shown_text show values.help = help_text
+shown_text show values.version = version_text
+shown_text show (values.graph g) = text_of (values.graph g)
+shown_text show (values.plan old new steps) = text_of (values.plan old new steps)
+shown_text show (values.denied number rule) = text_of (values.denied number rule)
+shown_text show (values.replay count s settled) = text_of (values.replay count s settled)
+shown_text show (values.report r) = text_of (values.report r)
+shown_text show (values.ran r) = show r
+shown_text show (values.summary lanes r) = text_of (values.summary lanes r)
+
 -- an answer of a script: it isn't one, or its lines have an answer that isn't for want of memory
-pub data OfStep (name : List ℕ) : List Fetch → Status → List ℕ → Type 0 where
+pub data OfStep (show : Report → List ℕ) (name : List ℕ) : List Fetch → Status → List ℕ → Type 0 where
   of_statements :
-      (given : Fetched) (own : Status) (text : List ℕ) → StatementsAnswers name given own text → OfStep name (fetch_of name given ∷ []) own text
+      (given : Fetched) (own : Status) (text : List ℕ) → StatementsAnswers name given own text → OfStep show name (fetch_of name given ∷ []) own text
   of_lines :
       (bytes : List ℕ) (parsed : Script) (fetches : List Fetch) (answer : values.Answer) → IsScript bytes parsed
       → Follows running begun (lines_of parsed.lines) fetches answer → Own (status_of answer)
-      → OfStep name (fetch_of name (Held bytes) ∷ fetches) (status_of answer) (text_of answer)
+      → OfStep show name (fetch_of name (Held bytes) ∷ fetches) (status_of answer) (shown_text show answer)
+
+-- an answer of a script that was made, by its own fetches
+pub record OfBig (lanes : ℕ) (fetches : List Fetch) (own : Status) (text : List ℕ) : Type 0 where
+  pub is : fetches ≡ []
+  pub within : List Fetch
+  pub told : AllByRecursion (Gave (Some (made_files lanes))) within
+  pub none_failed : failed_names within ≡ []
+  pub answer : OfStep (summary_text lanes) script_name within own text
 
 -- what is answered to a command
 abbrev pub Answer : Command → List Fetch → Status → List ℕ → Type 0
@@ -121,7 +146,78 @@ Answer (commands.Flat file call) fetches own text = OfDescription file (queries.
 Answer (commands.Plan file call target) fetches own text = OfDescription file (queries.Plan call target) fetches own text
 Answer (commands.Replay file name) fetches own text = OfScript name fetches own text ⊎ OfReplay file name fetches own text
 Answer (commands.Upgrade file) fetches own text = OfReport file fetches own text
-Answer (commands.Step name) fetches own text = OfStep name fetches own text
+Answer (commands.Step name) fetches own text = OfStep report_text name fetches own text
+Answer (commands.Big lanes) fetches own text = OfBig lanes fetches own text
+
+module _ (show : Report → List ℕ) (name : List ℕ) where
+  pub from_script :
+      (fetches : List Fetch) (answer : values.Answer) → course_of_script name fetches answer
+      → OfStep show name fetches (status_of answer) (shown_text show answer) ⊎ (answer ≡ refusal values.no_memory)
+  from_script _ _ not_fetched = inr refl
+  from_script _ _ (fetched_alone what) = inr refl
+  from_script _ _ failed = inl (of_statements Failed status.ReadFault (read_fault_line name) cannot_read_statements)
+  from_script _ _ too_long = inl (of_statements TooLong status.Script (script_line name (codes "TooLong" ∷ [])) statements_too_long)
+  from_script _ _ (leads_on bytes _ _ not_judged) = inr refl
+  from_script _ _ (leads_on bytes _ _ (courses.refused words (fault, first, is))) =
+      inl (of_statements (Held bytes) status.Script (script_line name words)
+      (subst (λ w. StatementsAnswers name (Held bytes) status.Script (script_line name w)) (sym is) (statements_at_fault bytes fault first)))
+  from_script _ _ (leads_on bytes _ _ (courses.gives parsed fetches answer is follows)) =
+      by (follows_status begun (lines_of parsed.lines) fetches answer follows)
+    where
+      by : Own (status_of answer) ⊎ (answer ≡ refusal values.no_memory)
+          → OfStep show name (fetch_of name (Held bytes) ∷ fetches) (status_of answer) (shown_text show answer) ⊎ (answer ≡ refusal values.no_memory)
+      by (inl own) = inl (of_lines bytes parsed fetches answer is follows own)
+      by (inr short) = inr short
+
+shown_as_is : (answer : values.Answer) → shown_text report_text answer ≡ text_of answer
+shown_as_is (values.refusal why) = refl
+shown_as_is values.help = refl
+shown_as_is values.version = refl
+shown_as_is (values.graph g) = refl
+shown_as_is (values.plan old new steps) = refl
+shown_as_is (values.denied number rule) = refl
+shown_as_is (values.replay count s settled) = refl
+shown_as_is (values.report r) = refl
+shown_as_is (values.ran r) = refl
+shown_as_is (values.summary lanes r) = refl
+
+summary_shown :
+    (lanes : ℕ) (answer : values.Answer)
+    → (status_of (in_summary lanes answer) ≡ status_of answer) × (text_of (in_summary lanes answer) ≡ shown_text (summary_text lanes) answer)
+summary_shown lanes (values.refusal why) = (refl, refl)
+summary_shown lanes values.help = (refl, refl)
+summary_shown lanes values.version = (refl, refl)
+summary_shown lanes (values.graph g) = (refl, refl)
+summary_shown lanes (values.plan old new steps) = (refl, refl)
+summary_shown lanes (values.denied number rule) = (refl, refl)
+summary_shown lanes (values.replay count s settled) = (refl, refl)
+summary_shown lanes (values.report r) = (refl, refl)
+summary_shown lanes (values.ran r) = (refl, refl)
+summary_shown lanes (values.summary other r) = (refl, refl)
+
+from_made :
+    (lanes : ℕ) (fetches : List Fetch) (answer : values.Answer) → fetches ≡ [] → OfMadeFiles lanes answer
+    → OfBig lanes fetches (status_of answer) (text_of answer) ⊎ (answer ≡ refusal values.no_memory)
+from_made lanes fetches answer none of_made = by (from_script (summary_text lanes) script_name of_made.own of_made.made of_made.course)
+  where
+    shown : (status_of answer ≡ status_of of_made.made) × (text_of answer ≡ shown_text (summary_text lanes) of_made.made)
+    shown =
+        let s = summary_shown lanes of_made.made in
+        (ap status_of of_made.is ∙ s.0, ap text_of of_made.is ∙ s.1)
+
+    by : OfStep (summary_text lanes) script_name of_made.own (status_of of_made.made) (shown_text (summary_text lanes) of_made.made)
+        ⊎ (of_made.made ≡ refusal values.no_memory)
+        → OfBig lanes fetches (status_of answer) (text_of answer) ⊎ (answer ≡ refusal values.no_memory)
+    by (inl of) = inl (record {
+      is = none;
+      within = of_made.own;
+      told = of_made.told;
+      none_failed = of_made.none_failed;
+      answer =
+          subst (λ s. OfStep (summary_text lanes) script_name of_made.own s (text_of answer)) (sym shown.0)
+          (subst (λ t. OfStep (summary_text lanes) script_name of_made.own (status_of of_made.made) t) (sym shown.1) of);
+    })
+    by (inr short) = inr (of_made.is ∙ ap (in_summary lanes) short)
 
 pub from_command :
     (command : Command) (fetches : List Fetch) (answer : values.Answer) → course_of command fetches answer
@@ -177,22 +273,13 @@ from_command (commands.Upgrade file) _ _ (leads_on bytes _ _ (courses.gives r fe
       is = ap (λ fs. report_fetch file (Held bytes) ∷ fs) says.0;
       answer = subst (λ a. ReportAnswers file (Held bytes) (status_of a) (text_of a)) (sym says.1) (upgraded bytes r is);
     })
-from_command (commands.Step name) _ _ not_fetched = inr refl
-from_command (commands.Step name) _ _ (fetched_alone what) = inr refl
-from_command (commands.Step name) _ _ failed = inl (of_statements Failed status.ReadFault (read_fault_line name) cannot_read_statements)
-from_command (commands.Step name) _ _ too_long =
-    inl (of_statements TooLong status.Script (script_line name (codes "TooLong" ∷ [])) statements_too_long)
-from_command (commands.Step name) _ _ (leads_on bytes _ _ not_judged) = inr refl
-from_command (commands.Step name) _ _ (leads_on bytes _ _ (courses.refused words (fault, first, is))) =
-    inl (of_statements (Held bytes) status.Script (script_line name words)
-    (subst (λ w. StatementsAnswers name (Held bytes) status.Script (script_line name w)) (sym is) (statements_at_fault bytes fault first)))
-from_command (commands.Step name) _ _ (leads_on bytes _ _ (courses.gives parsed fetches answer is follows)) =
-    by (follows_status begun (lines_of parsed.lines) fetches answer follows)
+from_command (commands.Step name) fetches answer course = by (from_script report_text name fetches answer course)
   where
-    by : Own (status_of answer) ⊎ (answer ≡ refusal values.no_memory)
-        → OfStep name (fetch_of name (Held bytes) ∷ fetches) (status_of answer) (text_of answer) ⊎ (answer ≡ refusal values.no_memory)
-    by (inl own) = inl (of_lines bytes parsed fetches answer is follows own)
+    by : OfStep report_text name fetches (status_of answer) (shown_text report_text answer) ⊎ (answer ≡ refusal values.no_memory)
+        → OfStep report_text name fetches (status_of answer) (text_of answer) ⊎ (answer ≡ refusal values.no_memory)
+    by (inl of) = inl (subst (λ t. OfStep report_text name fetches (status_of answer) t) (shown_as_is answer) of)
     by (inr short) = inr short
+from_command (commands.Big lanes) fetches answer course = from_made lanes fetches answer course.0 course.1
 
 -- the status and the text of an answer to words
 pub data AnswersCommand (words : List (List ℕ)) : List Fetch → Status → List ℕ → Type 0 where
@@ -272,9 +359,9 @@ statements_status name _ _ _ cannot_read_statements = read_fault
 statements_status name _ _ _ statements_too_long = script
 statements_status name _ _ _ (statements_at_fault bytes fault first) = script
 
-step_status : (name : List ℕ) (fetches : List Fetch) (own : Status) (text : List ℕ) → OfStep name fetches own text → Own own
-step_status name _ _ _ (of_statements given own text answer) = plain own (statements_status name given own text answer)
-step_status name _ _ _ (of_lines bytes parsed fetches answer is follows own) = own
+step_status : (show : Report → List ℕ) (name : List ℕ) (fetches : List Fetch) (own : Status) (text : List ℕ) → OfStep show name fetches own text → Own own
+step_status show name _ _ _ (of_statements given own text answer) = plain own (statements_status name given own text answer)
+step_status show name _ _ _ (of_lines bytes parsed fetches answer is follows own) = own
 
 pub command_status : (command : Command) (fetches : List Fetch) (own : Status) (text : List ℕ) → Answer command fetches own text → Own own
 command_status commands.Help fetches own text answer = rw answer.0 (plain status.Ok well)
@@ -284,7 +371,8 @@ command_status (commands.Plan file call target) fetches own text answer = plain 
 command_status (commands.Replay file name) fetches own text (inl answer) = plain own (script_status name answer.given own text answer.answer)
 command_status (commands.Replay file name) fetches own text (inr answer) = plain own (description_status file (queries.Replay answer.script) answer.given own text answer.answer)
 command_status (commands.Upgrade file) fetches own text answer = plain own (report_status file answer.given own text answer.answer)
-command_status (commands.Step name) fetches own text answer = step_status name fetches own text answer
+command_status (commands.Step name) fetches own text answer = step_status report_text name fetches own text answer
+command_status (commands.Big lanes) fetches own text answer = step_status (summary_text lanes) script_name answer.within own text answer.answer
 
 pub not_usage : (own : Status) → Own own → own ≢ status.Usage
 not_usage _ (plain _ well) is = cc
@@ -340,10 +428,11 @@ not_run : (own : Status) → Plain own → (own ≡ status.Pending) ⊎ (own ≡
 not_run own is_plain (inl is) = not_pending own is_plain is
 not_run own is_plain (inr is) = not_unfinished own is_plain is
 
--- only the run of a script ends so
+-- only the run of a script ends so, fetched or made
 pub only_scripts :
     (command : Command) (fetches : List Fetch) (own : Status) (text : List ℕ) → Answer command fetches own text
-    → (own ≡ status.Pending) ⊎ (own ≡ status.Unfinished) → (name : List ℕ) × (command ≡ commands.Step name)
+    → (own ≡ status.Pending) ⊎ (own ≡ status.Unfinished)
+    → ((name : List ℕ) × (command ≡ commands.Step name)) ⊎ ((lanes : ℕ) × (command ≡ commands.Big lanes))
 only_scripts commands.Help fetches own text answer is = absurd (not_run own (rw answer.0 well) is)
 only_scripts commands.Version fetches own text answer is = absurd (not_run own (rw answer.0 well) is)
 only_scripts (commands.Flat file call) fetches own text answer is =
@@ -355,4 +444,5 @@ only_scripts (commands.Replay file name) fetches own text (inl answer) is =
 only_scripts (commands.Replay file name) fetches own text (inr answer) is =
     absurd (not_run own (description_status file (queries.Replay answer.script) answer.given own text answer.answer) is)
 only_scripts (commands.Upgrade file) fetches own text answer is = absurd (not_run own (report_status file answer.given own text answer.answer) is)
-only_scripts (commands.Step name) fetches own text answer is = (name, refl)
+only_scripts (commands.Step name) fetches own text answer is = inl (name, refl)
+only_scripts (commands.Big lanes) fetches own text answer is = inr (lanes, refl)

@@ -6,6 +6,7 @@ use Rattle.command_answers.specs.declared.status.Status.TheVariants as status
 use Rattle.command_words.specs.CommandLine.{Asks}
 use Rattle.command_words.specs.declared.words.Command.TheVariants as commands
 use Rattle.command_words.specs.declared.words.TopCall.{TopCall}
+use Rattle.big_files.specs.BigFiles.{made_files, script_name}
 use Rattle.command_runs.specs.Outcomes as outcomes
 use Rattle.command_runs.specs.Outcomes.{Flattened, Planned, Replayed, Upgraded, IsRunStatus, NothingRefuses, EndsAsGiven, NothingRefusesLines, EndsAsRun, Wants}
 use Rattle.command_runs.specs.Runs.{Runs}
@@ -41,6 +42,13 @@ module _ (words : List (List ℕ)) (files : Option Files) (failures failures' : 
   -- what a script was run to
   pub runs : (name : List ℕ) → Asks words (commands.Step name) → IsRunStatus result → outcomes.Ran files name result taken taken'
   runs = stepping.runs words files failures failures' taken taken' faults faults' result (ran words files failures failures' taken taken' faults faults' result run)
+
+  -- the summary of a run that was made
+  pub sums_up : (lanes : ℕ) → Asks words (commands.Big lanes) → IsRunStatus result → outcomes.SummedUp lanes result taken taken'
+  sums_up = stepping.sums_up words files failures failures' taken taken' faults faults' result (ran words files failures failures' taken taken' faults faults' result run)
+
+  pub completes_big : (lanes : ℕ) → Asks words (commands.Big lanes) → NothingRefusesLines (made_files lanes) (made_files lanes script_name) → EndsAsRun result
+  completes_big = stepping.completes_big words files failures failures' taken taken' faults faults' result (ran words files failures failures' taken taken' faults faults' result run)
 
   -- where the shelf tells its files and no fetch failed
   pub completes :

@@ -1,15 +1,16 @@
 -- How the run of a script ends, where the shelf tells its files.
-use Rattle.std.proofs.Common.{◌≡◌, ◌≢◌, inl, inr, ℕ, Bool, true, false, if◌then◌else◌, List, [], ◌∷◌, Option, refl, sym, subst}
+use Rattle.std.proofs.Common.{◌≡◌, ◌≢◌, inl, inr, ℕ, Bool, true, false, if◌then◌else◌, List, [], ◌∷◌, Option, Some, refl, sym, subst}
 use Rattle.std.specs.Prelude.{◌==◌}
 use Rattle.std.specs.List.{AllByRecursion}
 use Rattle.cfg_io.specs.Shelf.{Files}
 use Rattle.cfg_io.specs.Sink.{with_bytes}
-use Rattle.change_script.specs.Reports.{report_text}
 use Rattle.change_script.specs.declared.report.Report.{Report}
 use Rattle.change_script.specs.declared.script.Script.{Script}
 use Rattle.command_answers.specs.Answers as values
-use Rattle.command_answers.specs.Answers.{run_status, status_of, text_of}
+use Rattle.command_answers.specs.Answers.{run_status, status_of}
 use Rattle.command_answers.specs.RefusalLines.{description_line, read_fault_line}
+use Rattle.command_answers.specs.Summaries.{summary_text}
+use Rattle.big_files.specs.BigFiles.{made_files, script_name}
 use Rattle.command_answers.specs.declared.status.Status.{Status}
 use Rattle.command_answers.specs.declared.status.Status.TheVariants as status
 use Rattle.command_words.specs.declared.words.Command.TheVariants as commands
@@ -24,7 +25,7 @@ use Rattle.command_runs.specs.Outcomes.{HoldsFile, TellsTooLong, MentionsFile, I
 use Rattle.command_runs.specs.RunReports.{IsReportOf}
 use Rattle.command_runs.specs.Scripts.{lines_of}
 use Rattle.command_runs.specs.Ways.{LeadTo, AreRefused}
-use Rattle.command_runs.proofs.Inverting.{OfStep, of_statements, of_lines, Own, not_no_memory}
+use Rattle.command_runs.proofs.Inverting.{OfStep, of_statements, of_lines, OfBig, Own, not_no_memory, shown_text}
 use Rattle.command_runs.proofs.LineEnds.{LinesEnd, short, stop, conclude, lines_end}
 use Rattle.command_runs.proofs.LineEnds as lines
 use Rattle.command_runs.proofs.Saying.{say_statements}
@@ -79,45 +80,53 @@ statements_other name _ _ _ (statements_at_fault bytes fault first) = for_statem
 
 -- ---- the ends
 
-pub data ScriptEnds (files : Option Files) (name : List ℕ) (fetches : List Fetch) : Status → List ℕ → Type 0 where
+-- where this is shown of a report
+pub data ScriptEnds (show : Report → List ℕ) (files : Option Files) (name : List ℕ) (fetches : List Fetch) : Status → List ℕ → Type 0 where
   is_none :
       (given : Fetched) (own : Status) (text : List ℕ) → failed_names fetches ≡ failed_names (fetch_of name given ∷ []) → Gave files (fetch_of name given)
-      → StatementsAnswers name given own text → ScriptEnds files name fetches own text
+      → StatementsAnswers name given own text → ScriptEnds show files name fetches own text
   unread :
       (script : Script) (file : List ℕ) → IsScriptOf files name script → Uses (lines_of script.lines) file → failed_names fetches ≡ file ∷ []
-      → ScriptEnds files name fetches status.ReadFault (read_fault_line file)
+      → ScriptEnds show files name fetches status.ReadFault (read_fault_line file)
   refuses :
       (script : Script) (file : List ℕ) (words : List (List ℕ)) → IsScriptOf files name script
       → AreRefused (HoldsFile files) (TellsTooLong files) (lines_of script.lines) begun file words → failed_names fetches ≡ []
-      → ScriptEnds files name fetches status.Description (description_line file words)
+      → ScriptEnds show files name fetches status.Description (description_line file words)
   reports :
       (script : Script) (end : Progress) (report : Report) → IsScriptOf files name script → LeadTo (HoldsFile files) begun (lines_of script.lines) end
       → IsReportOf end.statements report → failed_names fetches ≡ []
-      → ScriptEnds files name fetches (run_status report.status) (report_text report)
+      → ScriptEnds show files name fetches (run_status report.status) (show report)
 
 pub script_ends :
-    (files : Option Files) (name : List ℕ) (fetches : List Fetch) (own : Status) (text : List ℕ) → OfStep name fetches own text
-    → AllByRecursion (Gave files) fetches → ScriptEnds files name fetches own text
-script_ends files name _ _ _ (of_statements given own text answer) told = is_none given own text refl told.0 answer
-script_ends files name _ _ _ (of_lines bytes script fetches answer is follows own) told =
+    (show : Report → List ℕ) (files : Option Files) (name : List ℕ) (fetches : List Fetch) (own : Status) (text : List ℕ) → OfStep show name fetches own text
+    → AllByRecursion (Gave files) fetches → ScriptEnds show files name fetches own text
+script_ends show files name _ _ _ (of_statements given own text answer) told = is_none given own text refl told.0 answer
+script_ends show files name _ _ _ (of_lines bytes script fetches answer is follows own) told =
     by fetches answer (lines_end files running begun (lines_of script.lines) fetches answer follows told.1) own
   where
     script_of : IsScriptOf files name script
     script_of = record { bytes = bytes; told = held_told files name bytes told.0; within = held_within files name bytes told.0; is_script = is }
 
     by : (fs : List Fetch) (a : values.Answer) → LinesEnd files running begun (lines_of script.lines) fs a → Own (status_of a)
-        → ScriptEnds files name (fetch_of name (Held bytes) ∷ fs) (status_of a) (text_of a)
+        → ScriptEnds show files name (fetch_of name (Held bytes) ∷ fs) (status_of a) (shown_text show a)
     by _ _ (short fs) own = absurd (not_no_memory status.NoMemory own refl)
     by _ _ (lines.unread file fs used names) own = unread script file script_of used names
     by _ _ (stop file words fs are none) own = refuses script file words script_of are none
     by _ _ (conclude end fs a lead concludes none) own =
-        subst (λ b. ScriptEnds files name (fetch_of name (Held bytes) ∷ fs) (status_of b) (text_of b)) (sym concludes.2)
+        subst (λ b. ScriptEnds show files name (fetch_of name (Held bytes) ∷ fs) (status_of b) (shown_text show b)) (sym concludes.2)
         (reports script end concludes.0 script_of lead concludes.1 none)
 
-module _ (files : Option Files) (name : List ℕ) (fetches : List Fetch) where
+-- of a script that was made, by its own fetches
+pub big_ends :
+    (lanes : ℕ) (fetches : List Fetch) (own : Status) (text : List ℕ) (answer : OfBig lanes fetches own text)
+    → ScriptEnds (summary_text lanes) (Some (made_files lanes)) script_name answer.within own text
+big_ends lanes fetches own text answer =
+    script_ends (summary_text lanes) (Some (made_files lanes)) script_name answer.within own text answer.answer answer.told
+
+module _ (show : Report → List ℕ) (files : Option Files) (name : List ℕ) (fetches : List Fetch) where
   -- ---- what a status says
 
-  pub not_denied : (own : Status) (text : List ℕ) → ScriptEnds files name fetches own text → own ≢ status.Denied
+  pub not_denied : (own : Status) (text : List ℕ) → ScriptEnds show files name fetches own text → own ≢ status.Denied
   not_denied _ _ (is_none _ _ _ names gave cannot_read_statements) is = cc
   not_denied _ _ (is_none _ _ _ names gave statements_too_long) is = cc
   not_denied _ _ (is_none _ _ _ names gave (statements_at_fault bytes fault first)) is = cc
@@ -126,7 +135,7 @@ module _ (files : Option Files) (name : List ℕ) (fetches : List Fetch) where
   not_denied _ _ (reports script end report script_of lead is_report none) is = not_of_run report.status status.Denied for_event is
 
   pub failed_file :
-      (own : Status) (text : List ℕ) → ScriptEnds files name fetches own text → own ≡ status.ReadFault
+      (own : Status) (text : List ℕ) → ScriptEnds show files name fetches own text → own ≡ status.ReadFault
       → (file : List ℕ) × MentionsFile (HoldsFile files) (commands.Step name) file × (failed_names fetches ≡ file ∷ []) × (text ≡ read_fault_line file)
   failed_file _ _ (is_none _ _ _ names gave cannot_read_statements) is = (name, inl refl, names, refl)
   failed_file _ _ (is_none _ _ _ names gave statements_too_long) is = cc
@@ -136,7 +145,7 @@ module _ (files : Option Files) (name : List ℕ) (fetches : List Fetch) where
   failed_file _ _ (refuses script file words script_of are none) is = cc
   failed_file _ _ (reports script end report script_of lead is_report none) is = absurd (not_of_run report.status status.ReadFault for_fetch is)
 
-  pub any_failed : (own : Status) (text : List ℕ) → ScriptEnds files name fetches own text → failed_names fetches ≢ [] → own ≡ status.ReadFault
+  pub any_failed : (own : Status) (text : List ℕ) → ScriptEnds show files name fetches own text → failed_names fetches ≢ [] → own ≡ status.ReadFault
   any_failed _ _ (is_none _ _ _ names gave cannot_read_statements) some = refl
   any_failed _ _ (is_none _ _ _ names gave statements_too_long) some = absurd (some names)
   any_failed _ _ (is_none _ _ _ names gave (statements_at_fault bytes fault first)) some = absurd (some names)
@@ -146,7 +155,7 @@ module _ (files : Option Files) (name : List ℕ) (fetches : List Fetch) where
 
   module _ (taken taken' : Option (List ℕ)) where
     pub statements_refused :
-        (own : Status) (text : List ℕ) → ScriptEnds files name fetches own text → own ≡ status.Script → taken' ≡ with_bytes taken text
+        (own : Status) (text : List ℕ) → ScriptEnds show files name fetches own text → own ≡ status.Script → taken' ≡ with_bytes taken text
         → StatementsRefused files name taken taken'
     statements_refused _ _ (is_none _ _ _ names gave cannot_read_statements) is took = cc
     statements_refused _ _ (is_none _ _ _ names gave statements_too_long) is took = script_too_long (long_told files name gave) took
@@ -157,7 +166,7 @@ module _ (files : Option Files) (name : List ℕ) (fetches : List Fetch) where
     statements_refused _ _ (reports script end report script_of lead is_report none) is took = absurd (not_of_run report.status status.Script for_statements is)
 
     pub line_refused :
-        (own : Status) (text : List ℕ) → ScriptEnds files name fetches own text → own ≡ status.Description → taken' ≡ with_bytes taken text
+        (own : Status) (text : List ℕ) → ScriptEnds show files name fetches own text → own ≡ status.Description → taken' ≡ with_bytes taken text
         → LineRefused files name taken taken'
     line_refused _ _ (is_none _ _ _ names gave cannot_read_statements) is took = cc
     line_refused _ _ (is_none _ _ _ names gave statements_too_long) is took = cc
@@ -168,8 +177,8 @@ module _ (files : Option Files) (name : List ℕ) (fetches : List Fetch) where
     line_refused _ _ (reports script end report script_of lead is_report none) is took = absurd (not_of_run report.status status.Description for_line is)
 
     pub reported :
-        (own : Status) (text : List ℕ) → ScriptEnds files name fetches own text → IsRunStatus own → taken' ≡ with_bytes taken text
-        → outcomes.Ran files name own taken taken'
+        (own : Status) (text : List ℕ) → ScriptEnds show files name fetches own text → IsRunStatus own → taken' ≡ with_bytes taken text
+        → outcomes.RanShowing show files name own taken taken'
     reported _ _ (is_none given own text names gave answer) is took = absurd (no_run own (statements_other name given own text answer) is)
     reported _ _ (unread script file script_of used names) is took = absurd (no_run status.ReadFault for_fetch is)
     reported _ _ (refuses script file words script_of are none) is took = absurd (no_run status.Description for_line is)

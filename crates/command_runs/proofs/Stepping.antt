@@ -32,7 +32,12 @@ use Rattle.command_runs.specs.Scripts.{lines_of}
 use Rattle.command_runs.specs.Ways.{IsTextIn, AreRefused}
 use Rattle.command_runs.proofs.Inverting.{Answer, of_words, AnswersCommand, no_form, answered_to, no_memory, only_scripts, Ran}
 use Rattle.command_runs.proofs.WayLaws as ways
-use Rattle.command_runs.proofs.ScriptEnds.{ScriptEnds, is_none, unread, refuses, reports, script_ends, reported, run_is, no_run, for_memory, for_sink}
+use Rattle.big_files.specs.BigFiles.{made_files, script_name}
+use Rattle.change_script.specs.Reports.{report_text}
+use Rattle.change_script.specs.declared.report.Report.{Report}
+use Rattle.command_answers.specs.Summaries.{summary_text}
+use Rattle.command_words.specs.declared.words.Command.{Command}
+use Rattle.command_runs.proofs.ScriptEnds.{big_ends, ScriptEnds, is_none, unread, refuses, reports, script_ends, reported, run_is, no_run, for_memory, for_sink}
 use Rattle.command_runs.proofs.Statuses.{usage_pending, usage_unfinished, memory_pending, memory_unfinished, write_fault_pending, write_fault_unfinished}
 use Rattle.command_runs.proofs.Telling.{none_added, same_content, within_not_long}
 
@@ -46,10 +51,11 @@ ends_with own false true is = ((λ same. cc (is, same), λ same. cc (same)), (λ
 ends_with own false false is = ((λ same. cc (is, same), λ same. cc (same)), (λ same. cc (is, same), λ same. cc (same.1)))
 
 pub ends_by_report :
-    (files : Option Files) (name : List ℕ) (own : Status) (taken taken' : Option (List ℕ)) (r : outcomes.Ran files name own taken taken')
+    (show : Report → List ℕ) (files : Option Files) (name : List ℕ) (own : Status) (taken taken' : Option (List ℕ))
+    (r : outcomes.RanShowing show files name own taken taken')
     → ((own ≡ status.Pending) ↔ (list_any is_pending r.report.history ≡ true))
     × ((own ≡ status.Unfinished) ↔ ((list_any is_pending r.report.history ≡ false) × (is_some r.report.unfinished ≡ true)))
-ends_by_report files name own taken taken' r =
+ends_by_report show files name own taken taken' r =
     ends_with own (list_any is_pending r.report.history) (is_some r.report.unfinished) (r.ended ∙ ap run_status r.is_report.lawful.by_them.status)
 
 -- ---- what a file holds
@@ -115,6 +121,70 @@ leading f name nothing = by (f name) refl nothing
 not_long : (f : Files) (file text : List ℕ) → IsTextIn (HoldsFile (Some f)) file text → TellsTooLong (Some f) file → ⊥
 not_long f file text is long = within_not_long (f file) text is.0 is.1 long
 
+-- ---- which status is due, where the files are told and no fetch failed
+
+module _ (show : Report → List ℕ) (f : Files) (name : List ℕ) (fetches : List Fetch) (none_failed : failed_names fetches ≡ []) where
+  failed_none : (file : List ℕ) → failed_names fetches ≡ file ∷ [] → ⊥
+  failed_none file names = let e : [] ≡ file ∷ [] = sym none_failed ∙ names in cc
+
+  pub refused_statements : MustRefuseStatements (f name) → (own : Status) (text : List ℕ) → ScriptEnds show (Some f) name fetches own text → own ≡ status.Script
+  refused_statements must = of_end
+    where
+      not_one : (script : Script) → IsScriptOf (Some f) name script → ⊥
+      not_one script is = need_no_refusal (f name) is.bytes script must is.told is.within is.is_script
+
+      of_end : (own : Status) (text : List ℕ) → ScriptEnds show (Some f) name fetches own text → own ≡ status.Script
+      of_end _ _ (is_none _ _ _ names gave cannot_read_statements) = absurd (failed_none name names)
+      of_end _ _ (is_none _ _ _ names gave statements_too_long) = refl
+      of_end _ _ (is_none _ _ _ names gave (statements_at_fault bytes fault first)) = refl
+      of_end _ _ (unread script file is used names) = absurd (not_one script is)
+      of_end _ _ (refuses script file ws is are none) = absurd (not_one script is)
+      of_end _ _ (reports script end report is lead is_report none) = absurd (not_one script is)
+
+  -- a file that holds one script
+  one_script : (bytes : List ℕ) (script other : Script) → f name ≡ Some bytes → IsScript bytes script → IsScriptOf (Some f) name other → other ≡ script
+  one_script bytes script other holds is also =
+      scripts.one_script bytes other script (subst (λ b. IsScript b other) (same_content (f name) also.bytes bytes also.told holds) also.is_script) is
+
+  -- From a law of the elaborator, as it stands there.
+  pub refused_line :
+      ((tree : Tree) (name : Name) (args : List ℤ) → NoFault tree → ((e : ElabError) × Faults tree name args e)
+      ⊎ ((g : Graph) × HasNoFault tree name args × ElaboratesTo tree name args g × Sound g))
+      → MustRefuseLine f (f name) → (own : Status) (text : List ℕ) → ScriptEnds show (Some f) name fetches own text → own ≡ status.Description
+  refused_line graphs must = of_end
+    where
+      r : Refusing f name
+      r = refusing f name must
+
+      of_end : (own : Status) (text : List ℕ) → ScriptEnds show (Some f) name fetches own text → own ≡ status.Description
+      of_end _ _ (is_none _ _ _ names gave cannot_read_statements) = absurd (failed_none name names)
+      of_end _ _ (is_none _ _ _ names gave statements_too_long) = absurd (within_not_long (f name) r.bytes r.holds r.within gave.1)
+      of_end _ _ (is_none _ _ _ names gave (statements_at_fault bytes fault first)) =
+          absurd (scripts.never_both r.bytes r.script fault r.is_script (subst (λ b. IsScriptFault b fault) (same_content (f name) bytes r.bytes gave.1 r.holds) first))
+      of_end _ _ (unread script file is used names) = absurd (failed_none file names)
+      of_end _ _ (refuses script file ws is are none) = refl
+      of_end _ _ (reports script end report is lead is_report none) =
+          absurd (ways.not_refused graphs (HoldsFile (Some f)) (TellsTooLong (Some f)) (λ file a b x y. same_content (f file) a b x y) (not_long f)
+          (lines_of script.lines) end r.used r.words lead
+          (subst (λ (s : Script). AreRefused (HoldsFile (Some f)) (TellsTooLong (Some f)) (lines_of s.lines) begun r.used r.words)
+          (sym (one_script r.bytes r.script script r.holds r.is_script is)) r.refused))
+
+  pub completed : NothingRefusesLines f (f name) → (own : Status) (text : List ℕ) → ScriptEnds show (Some f) name fetches own text → IsRunStatus own
+  completed nothing = of_end
+    where
+      l : Leading f name
+      l = leading f name nothing
+
+      of_end : (own : Status) (text : List ℕ) → ScriptEnds show (Some f) name fetches own text → IsRunStatus own
+      of_end _ _ (is_none _ _ _ names gave cannot_read_statements) = absurd (failed_none name names)
+      of_end _ _ (is_none _ _ _ names gave statements_too_long) = absurd (within_not_long (f name) l.bytes l.holds l.within gave.1)
+      of_end _ _ (is_none _ _ _ names gave (statements_at_fault bytes fault first)) =
+          absurd (l.right fault (subst (λ b. IsScriptFault b fault) (same_content (f name) bytes l.bytes gave.1 l.holds) first))
+      of_end _ _ (unread script file is used names) = absurd (failed_none file names)
+      of_end _ _ (refuses script file ws is are none) =
+          absurd (l.none script file ws (subst (λ b. IsScript b script) (same_content (f name) is.bytes l.bytes is.told l.holds) is.is_script) are)
+      of_end _ _ (reports script end report is lead is_report none) = run_is report.status
+
 module _ (words : List (List ℕ)) (files : Option Files) (failures failures' : List (List ℕ)) (taken taken' : Option (List ℕ)) (faults faults' : ℕ) (result : Status) (run : Ran words files failures failures' taken taken' faults faults' result) where
   -- ---- what Ok, Pending and Unfinished say
 
@@ -124,114 +194,118 @@ module _ (words : List (List ℕ)) (files : Option Files) (failures failures' : 
       own : Answer (commands.Step name) run.fetches run.own run.text ⊎ (run.own ≡ status.NoMemory) → IsRunStatus run.own → taken' ≡ with_bytes taken run.text
           → outcomes.Ran files name run.own taken taken'
       own (inl answer) is took =
-          reported files name run.fetches taken taken' run.own run.text (script_ends files name run.fetches run.own run.text answer run.told) is took
+          reported report_text files name run.fetches taken taken' run.own run.text (script_ends report_text files name run.fetches run.own run.text answer run.told) is took
       own (inr memory) is took = absurd (no_run status.NoMemory for_memory (subst IsRunStatus memory is))
 
       by : (r : Status) → Written run.own run.text taken taken' faults faults' r → IsRunStatus r → outcomes.Ran files name r taken taken'
       by _ (whole took same) is = own (of_words words (commands.Step name) run.fetches run.own run.text asks run.answers) is took
       by _ (stopped n short took rose) is = absurd (no_run status.WriteFault for_sink is)
 
-  pub asked_to_step : (result ≡ status.Pending) ⊎ (result ≡ status.Unfinished) → (name : List ℕ) × Asks words (commands.Step name)
-  asked_to_step is = by result run.written is
+  pub sums_up : (lanes : ℕ) → Asks words (commands.Big lanes) → IsRunStatus result → outcomes.SummedUp lanes result taken taken'
+  sums_up lanes asks is = by result run.written is
     where
+      own : Answer (commands.Big lanes) run.fetches run.own run.text ⊎ (run.own ≡ status.NoMemory) → IsRunStatus run.own → taken' ≡ with_bytes taken run.text
+          → outcomes.SummedUp lanes run.own taken taken'
+      own (inl answer) is took =
+          reported (summary_text lanes) (Some (made_files lanes)) script_name answer.within taken taken' run.own run.text (big_ends lanes run.fetches run.own run.text answer) is took
+      own (inr memory) is took = absurd (no_run status.NoMemory for_memory (subst IsRunStatus memory is))
+
+      by : (r : Status) → Written run.own run.text taken taken' faults faults' r → IsRunStatus r → outcomes.SummedUp lanes r taken taken'
+      by _ (whole took same) is = own (of_words words (commands.Big lanes) run.fetches run.own run.text asks run.answers) is took
+      by _ (stopped n short took rose) is = absurd (no_run status.WriteFault for_sink is)
+
+  pub asked_to_run :
+      (result ≡ status.Pending) ⊎ (result ≡ status.Unfinished)
+      → ((name : List ℕ) × Asks words (commands.Step name)) ⊎ ((lanes : ℕ) × Asks words (commands.Big lanes))
+  asked_to_run is = by result run.written is
+    where
+      of_script :
+          (command : Command) → Asks words command → ((name : List ℕ) × (command ≡ commands.Step name)) ⊎ ((lanes : ℕ) × (command ≡ commands.Big lanes))
+          → ((name : List ℕ) × Asks words (commands.Step name)) ⊎ ((lanes : ℕ) × Asks words (commands.Big lanes))
+      of_script command asks (inl only) = inl (only.0, subst (λ c. Asks words c) only.1 asks)
+      of_script command asks (inr only) = inr (only.0, subst (λ c. Asks words c) only.1 asks)
+
       own : (fetches : List Fetch) (s : Status) (text : List ℕ) → AnswersCommand words fetches s text → (s ≡ status.Pending) ⊎ (s ≡ status.Unfinished)
-          → (name : List ℕ) × Asks words (commands.Step name)
+          → ((name : List ℕ) × Asks words (commands.Step name)) ⊎ ((lanes : ℕ) × Asks words (commands.Big lanes))
       own _ _ _ (no_form none) (inl is) = absurd (usage_pending is)
       own _ _ _ (no_form none) (inr is) = absurd (usage_unfinished is)
-      own _ _ _ (answered_to command fetches s text asks to) is =
-          let only = only_scripts command fetches s text to is in
-          (only.0, subst (λ c. Asks words c) only.1 asks)
+      own _ _ _ (answered_to command fetches s text asks to) is = of_script command asks (only_scripts command fetches s text to is)
       own _ _ _ (no_memory fetches) (inl is) = absurd (memory_pending is)
       own _ _ _ (no_memory fetches) (inr is) = absurd (memory_unfinished is)
 
       by : (r : Status) → Written run.own run.text taken taken' faults faults' r → (r ≡ status.Pending) ⊎ (r ≡ status.Unfinished)
-          → (name : List ℕ) × Asks words (commands.Step name)
+          → ((name : List ℕ) × Asks words (commands.Step name)) ⊎ ((lanes : ℕ) × Asks words (commands.Big lanes))
       by _ (whole took same) is = own run.fetches run.own run.text run.answers is
       by _ (stopped n short took rose) (inl is) = absurd (write_fault_pending is)
       by _ (stopped n short took rose) (inr is) = absurd (write_fault_unfinished is)
 
+  -- the status of an answer to a command, unless memory ran out or the sink failed
+  finishes :
+      (command : Command) (Due : Status → Type 0) → Asks words command
+      → (Answer command run.fetches run.own run.text → Due run.own)
+      → Due result ⊎ (result ≡ status.NoMemory) ⊎ (result ≡ status.WriteFault)
+  finishes command Due asks of_answer = by result run.written
+    where
+      own : Answer command run.fetches run.own run.text ⊎ (run.own ≡ status.NoMemory)
+          → Due run.own ⊎ (run.own ≡ status.NoMemory) ⊎ (run.own ≡ status.WriteFault)
+      own (inl answer) = inl (of_answer answer)
+      own (inr memory) = inr (inl memory)
+
+      by : (r : Status) → Written run.own run.text taken taken' faults faults' r → Due r ⊎ (r ≡ status.NoMemory) ⊎ (r ≡ status.WriteFault)
+      by _ (whole took same) = own (of_words words command run.fetches run.own run.text asks run.answers)
+      by _ (stopped n short took rose) = inr (inr refl)
+
+  -- ---- which status must come of a made script
+
+  of_big :
+      (lanes : ℕ) (Due : Status → Type 0) → Asks words (commands.Big lanes)
+      → ((within : List Fetch) → failed_names within ≡ [] → (own : Status) (text : List ℕ) → ScriptEnds (summary_text lanes) (Some (made_files lanes)) script_name within own text → Due own)
+      → Due result ⊎ (result ≡ status.NoMemory) ⊎ (result ≡ status.WriteFault)
+  of_big lanes Due asks of_end =
+      finishes (commands.Big lanes) Due asks (λ answer. of_end answer.within answer.none_failed run.own run.text (big_ends lanes run.fetches run.own run.text answer))
+
+  pub must_refuse_made_statements : (lanes : ℕ) → Asks words (commands.Big lanes) → MustRefuseStatements (made_files lanes script_name) → Ends result status.Script
+  must_refuse_made_statements lanes asks must =
+      of_big lanes (λ s. s ≡ status.Script) asks (λ within none own text. refused_statements (summary_text lanes) (made_files lanes) script_name within none must own text)
+
+  -- From a law of the elaborator, as it stands there.
+  pub must_refuse_made_line :
+      ((tree : Tree) (name : Name) (args : List ℤ) → NoFault tree → ((e : ElabError) × Faults tree name args e)
+      ⊎ ((g : Graph) × HasNoFault tree name args × ElaboratesTo tree name args g × Sound g))
+      → (lanes : ℕ) → Asks words (commands.Big lanes) → MustRefuseLine (made_files lanes) (made_files lanes script_name) → Ends result status.Description
+  must_refuse_made_line graphs lanes asks must =
+      of_big lanes (λ s. s ≡ status.Description) asks (λ within none own text. refused_line (summary_text lanes) (made_files lanes) script_name within none graphs must own text)
+
+  pub completes_big : (lanes : ℕ) → Asks words (commands.Big lanes) → NothingRefusesLines (made_files lanes) (made_files lanes script_name) → EndsAsRun result
+  completes_big lanes asks nothing =
+      of_big lanes IsRunStatus asks (λ within none own text. completed (summary_text lanes) (made_files lanes) script_name within none nothing own text)
+
   -- ---- which status must come, where the shelf tells its files and no fetch failed
 
   module _ (f : Files) (telling : files ≡ Some f) (steady : failures' ≡ failures) where
-    none_failed : failed_names run.fetches ≡ []
-    none_failed = none_added failures (failed_names run.fetches) (sym steady ∙ run.noted)
+    none_failed_here : failed_names run.fetches ≡ []
+    none_failed_here = none_added failures (failed_names run.fetches) (sym steady ∙ run.noted)
 
-    failed_none : (file : List ℕ) → failed_names run.fetches ≡ file ∷ [] → ⊥
-    failed_none file names = let e : [] ≡ file ∷ [] = sym none_failed ∙ names in cc
-
-    -- the status of the run of a script, unless memory ran out or the sink failed
-    finishes :
+    of_step :
         (name : List ℕ) (Due : Status → Type 0) → Asks words (commands.Step name)
-        → ((own : Status) (text : List ℕ) → ScriptEnds (Some f) name run.fetches own text → Due own)
+        → ((own : Status) (text : List ℕ) → ScriptEnds report_text (Some f) name run.fetches own text → Due own)
         → Due result ⊎ (result ≡ status.NoMemory) ⊎ (result ≡ status.WriteFault)
-    finishes name Due asks of_end = by result run.written
-      where
-        told : AllByRecursion (Gave (Some f)) run.fetches
-        told = subst (λ fs. AllByRecursion (Gave fs) run.fetches) telling run.told
-
-        own : Answer (commands.Step name) run.fetches run.own run.text ⊎ (run.own ≡ status.NoMemory)
-            → Due run.own ⊎ (run.own ≡ status.NoMemory) ⊎ (run.own ≡ status.WriteFault)
-        own (inl answer) = inl (of_end run.own run.text (script_ends (Some f) name run.fetches run.own run.text answer told))
-        own (inr memory) = inr (inl memory)
-
-        by : (r : Status) → Written run.own run.text taken taken' faults faults' r → Due r ⊎ (r ≡ status.NoMemory) ⊎ (r ≡ status.WriteFault)
-        by _ (whole took same) = own (of_words words (commands.Step name) run.fetches run.own run.text asks run.answers)
-        by _ (stopped n short took rose) = inr (inr refl)
+    of_step name Due asks of_end =
+        finishes (commands.Step name) Due asks
+        (λ answer. of_end run.own run.text
+        (script_ends report_text (Some f) name run.fetches run.own run.text answer (subst (λ fs. AllByRecursion (Gave fs) run.fetches) telling run.told)))
 
     pub must_refuse_statements : (name : List ℕ) → Asks words (commands.Step name) → MustRefuseStatements (f name) → Ends result status.Script
-    must_refuse_statements name asks must = finishes name (λ s. s ≡ status.Script) asks of_end
-      where
-        not_one : (script : Script) → IsScriptOf (Some f) name script → ⊥
-        not_one script is = need_no_refusal (f name) is.bytes script must is.told is.within is.is_script
-
-        of_end : (own : Status) (text : List ℕ) → ScriptEnds (Some f) name run.fetches own text → own ≡ status.Script
-        of_end _ _ (is_none _ _ _ names gave cannot_read_statements) = absurd (failed_none name names)
-        of_end _ _ (is_none _ _ _ names gave statements_too_long) = refl
-        of_end _ _ (is_none _ _ _ names gave (statements_at_fault bytes fault first)) = refl
-        of_end _ _ (unread script file is used names) = absurd (not_one script is)
-        of_end _ _ (refuses script file ws is are none) = absurd (not_one script is)
-        of_end _ _ (reports script end report is lead is_report none) = absurd (not_one script is)
-
-    -- a file that holds one script
-    one_script : (name bytes : List ℕ) (script other : Script) → f name ≡ Some bytes → IsScript bytes script → IsScriptOf (Some f) name other → other ≡ script
-    one_script name bytes script other holds is also =
-        scripts.one_script bytes other script (subst (λ b. IsScript b other) (same_content (f name) also.bytes bytes also.told holds) also.is_script) is
+    must_refuse_statements name asks must =
+        of_step name (λ s. s ≡ status.Script) asks (refused_statements report_text f name run.fetches none_failed_here must)
 
     -- From a law of the elaborator, as it stands there.
     pub must_refuse_line :
         ((tree : Tree) (name : Name) (args : List ℤ) → NoFault tree → ((e : ElabError) × Faults tree name args e)
         ⊎ ((g : Graph) × HasNoFault tree name args × ElaboratesTo tree name args g × Sound g))
         → (name : List ℕ) → Asks words (commands.Step name) → MustRefuseLine f (f name) → Ends result status.Description
-    must_refuse_line graphs name asks must = finishes name (λ s. s ≡ status.Description) asks of_end
-      where
-        r : Refusing f name
-        r = refusing f name must
-
-        of_end : (own : Status) (text : List ℕ) → ScriptEnds (Some f) name run.fetches own text → own ≡ status.Description
-        of_end _ _ (is_none _ _ _ names gave cannot_read_statements) = absurd (failed_none name names)
-        of_end _ _ (is_none _ _ _ names gave statements_too_long) = absurd (within_not_long (f name) r.bytes r.holds r.within gave.1)
-        of_end _ _ (is_none _ _ _ names gave (statements_at_fault bytes fault first)) =
-            absurd (scripts.never_both r.bytes r.script fault r.is_script (subst (λ b. IsScriptFault b fault) (same_content (f name) bytes r.bytes gave.1 r.holds) first))
-        of_end _ _ (unread script file is used names) = absurd (failed_none file names)
-        of_end _ _ (refuses script file ws is are none) = refl
-        of_end _ _ (reports script end report is lead is_report none) =
-            absurd (ways.not_refused graphs (HoldsFile (Some f)) (TellsTooLong (Some f)) (λ file a b x y. same_content (f file) a b x y) (not_long f)
-            (lines_of script.lines) end r.used r.words lead
-            (subst (λ (s : Script). AreRefused (HoldsFile (Some f)) (TellsTooLong (Some f)) (lines_of s.lines) begun r.used r.words)
-            (sym (one_script name r.bytes r.script script r.holds r.is_script is)) r.refused))
+    must_refuse_line graphs name asks must =
+        of_step name (λ s. s ≡ status.Description) asks (refused_line report_text f name run.fetches none_failed_here graphs must)
 
     pub completes : (name : List ℕ) → Asks words (commands.Step name) → NothingRefusesLines f (f name) → EndsAsRun result
-    completes name asks nothing = finishes name IsRunStatus asks of_end
-      where
-        l : Leading f name
-        l = leading f name nothing
-
-        of_end : (own : Status) (text : List ℕ) → ScriptEnds (Some f) name run.fetches own text → IsRunStatus own
-        of_end _ _ (is_none _ _ _ names gave cannot_read_statements) = absurd (failed_none name names)
-        of_end _ _ (is_none _ _ _ names gave statements_too_long) = absurd (within_not_long (f name) l.bytes l.holds l.within gave.1)
-        of_end _ _ (is_none _ _ _ names gave (statements_at_fault bytes fault first)) =
-            absurd (l.right fault (subst (λ b. IsScriptFault b fault) (same_content (f name) bytes l.bytes gave.1 l.holds) first))
-        of_end _ _ (unread script file is used names) = absurd (failed_none file names)
-        of_end _ _ (refuses script file ws is are none) =
-            absurd (l.none script file ws (subst (λ b. IsScript b script) (same_content (f name) is.bytes l.bytes is.told l.holds) is.is_script) are)
-        of_end _ _ (reports script end report is lead is_report none) = run_is report.status
+    completes name asks nothing = of_step name IsRunStatus asks (completed report_text f name run.fetches none_failed_here nothing)

@@ -1,6 +1,8 @@
 -- The course of each command. A command that names components of one description is as the lines that use its file
 -- and then call them.
-use Rattle.std.specs.Prelude.{◌≡◌, ℕ, List, [], ◌∷◌}
+use Rattle.std.specs.Prelude.{◌≡◌, ℕ, List, [], ◌∷◌, Some}
+use Rattle.std.specs.List.{AllByRecursion}
+use Rattle.big_files.specs.BigFiles.{made_files, script_name}
 use Rattle.change_script.specs.EventFiles.{IsEventFile, IsFirstFault}
 use Rattle.change_script.specs.ScriptFiles.{IsScript, IsScriptFault}
 use Rattle.change_script.specs.declared.error.ScriptError.{ScriptError}
@@ -9,14 +11,14 @@ use Rattle.report_parser.specs.ReportTexts.{IsReportText}
 use Rattle.report_parser.specs.Stages.{IsReportFault}
 use Rattle.report_parser.specs.declared.error.ReportFault.{ReportFault}
 use Rattle.report_parser.specs.declared.version.Version.{Version}
-use Rattle.command_answers.specs.Answers.{refusal, script, help, version, report}
+use Rattle.command_answers.specs.Answers.{Answer, refusal, script, help, version, report, ran, summary}
 use Rattle.command_answers.specs.RefusalLines.{report_words, script_words}
 use Rattle.command_words.specs.declared.words.Command.{Command}
 use Rattle.command_words.specs.declared.words.Command.TheVariants as commands
 use Rattle.command_runs.specs.declared.query.Query.{Query}
 use Rattle.command_runs.specs.declared.query.Query.TheVariants as queries
 use Rattle.command_runs.specs.Courses.{Course, Says, AfterFetch, After}
-use Rattle.command_runs.specs.Fetches.{file_limit, report_limit}
+use Rattle.command_runs.specs.Fetches.{Fetch, Gave, failed_names, file_limit, report_limit}
 use Rattle.command_runs.specs.Lines.{Line, uses, calls, draws, starts, changes, Aim, drawing, planning, replaying, running, begun, Follows}
 use Rattle.command_runs.specs.Scripts.{lines_of}
 
@@ -53,6 +55,33 @@ RefusesReport bytes words = (fault : ReportFault) × IsReportFault bytes fault �
 abbrev pub RefusesStatements : List ℕ → List (List ℕ) → Type 0
 RefusesStatements bytes words = (fault : ScriptError) × IsScriptFault bytes fault × (words ≡ script_words fault)
 
+-- what is asked for by the script of a name
+abbrev pub course_of_script : List ℕ → Course
+course_of_script name =
+    let refuse = λ (words : List (List ℕ)). refusal (script name words) in
+    AfterFetch name file_limit refuse
+    (λ bytes. After (RefusesStatements bytes) refuse (IsScript bytes)
+    (λ lines. Follows running begun (lines_of lines.lines)))
+
+-- the answer with the summary of a run in place of its report
+abbrev pub in_summary : ℕ → Answer → Answer
+in_summary lanes (ran r) = summary lanes r
+in_summary lanes answer = answer
+
+-- The answer of `big`: that to the script which it makes, in summary, by fetches that gave what the made files hold and
+-- of which none failed.
+pub record OfMadeFiles (lanes : ℕ) (answer : Answer) : Type 0 where
+  pub own : List Fetch
+  pub told : AllByRecursion (Gave (Some (made_files lanes))) own
+  pub none_failed : failed_names own ≡ []
+  pub made : Answer
+  pub course : course_of_script script_name own made
+  pub is : answer ≡ in_summary lanes made
+
+-- No file of the shelf is fetched.
+abbrev pub SumsUp : ℕ → Course
+SumsUp lanes fetches answer = (fetches ≡ []) × OfMadeFiles lanes answer
+
 abbrev pub course_of : Command → Course
 course_of commands.Help = Says help
 course_of commands.Version = Says version
@@ -67,8 +96,5 @@ course_of (commands.Upgrade file) =
     let refuse = λ (words : List (List ℕ)). refusal (script file words) in
     AfterFetch file report_limit refuse
     (λ bytes. After (RefusesReport bytes) refuse (TellsReport bytes) (λ r. Says (report r)))
-course_of (commands.Step name) =
-    let refuse = λ (words : List (List ℕ)). refusal (script name words) in
-    AfterFetch name file_limit refuse
-    (λ bytes. After (RefusesStatements bytes) refuse (IsScript bytes)
-    (λ script. Follows running begun (lines_of script.lines)))
+course_of (commands.Step name) = course_of_script name
+course_of (commands.Big lanes) = SumsUp lanes

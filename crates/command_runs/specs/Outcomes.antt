@@ -38,6 +38,8 @@ use Rattle.command_runs.specs.Scripts.{lines_of}
 use Rattle.command_runs.specs.Ways.{AreRefused, Elaborates}
 use Rattle.command_runs.specs.Fetches.{Fetch, Gave, failed_names, file_limit, report_limit}
 use Rattle.command_runs.specs.Runs.{AnswersWords}
+use Rattle.big_files.specs.BigFiles.{made_files, script_name}
+use Rattle.command_answers.specs.Summaries.{summary_text}
 
 -- the command names the file, in the words or in a `use` line of a script
 abbrev pub MentionsFile : (List ℕ → List ℕ → Type 0) → Command → List ℕ → Type 0
@@ -49,6 +51,7 @@ MentionsFile Holds (commands.Replay file events) name = (name ≡ file) ⊎ (nam
 MentionsFile Holds (commands.Upgrade file) name = name ≡ file
 MentionsFile Holds (commands.Step script) name =
     (name ≡ script) ⊎ ((bytes : List ℕ) × (lines : Script) × Holds script bytes × IsScript bytes lines × Uses (lines_of lines.lines) name)
+MentionsFile Holds (commands.Big lanes) name = ⊥
 
 -- the words name the file
 abbrev pub NamesFile : (List ℕ → List ℕ → Type 0) → List (List ℕ) → List ℕ → Type 0
@@ -92,9 +95,10 @@ pub record IsScriptOf (files : Option Files) (name : List ℕ) (script : Script)
   pub within : length bytes ≤ file_limit
   pub is_script : IsScript bytes script
 
--- The script was run: its statements have the graphs to which the descriptions elaborate that the files hold, and the text
--- of the report of their run was written. The run ended as the report says.
-pub record Ran (files : Option Files) (name : List ℕ) (own : Status) (taken taken' : Option (List ℕ)) : Type 0 where
+-- The script was run: its statements have the graphs to which the descriptions elaborate that the files hold, and what is
+-- shown of the report of their run was written. The run ended as the report says.
+pub record RanShowing (show : Report → List ℕ) (files : Option Files) (name : List ℕ) (own : Status) (taken taken' : Option (List ℕ))
+    : Type 0 where
   pub script : Script
   pub is_script : IsScriptOf files name script
   pub statements : List Statement
@@ -102,7 +106,15 @@ pub record Ran (files : Option Files) (name : List ℕ) (own : Status) (taken ta
   pub report : Report
   pub is_report : IsReportOf statements report
   pub ended : own ≡ run_status report.status
-  pub written : taken' ≡ with_bytes taken (report_text report)
+  pub written : taken' ≡ with_bytes taken (show report)
+
+-- the same where all of the report is shown
+abbrev pub Ran : Option Files → List ℕ → Status → Option (List ℕ) → Option (List ℕ) → Type 0
+Ran = RanShowing report_text
+
+-- the script of so many lanes was run, with the files that were made, and the summary of its report was written
+abbrev pub SummedUp : ℕ → Status → Option (List ℕ) → Option (List ℕ) → Type 0
+SummedUp lanes = RanShowing (summary_text lanes) (Some (made_files lanes)) script_name
 
 -- A line of the script is refused, the first that leads nowhere, and the line that says so was written.
 pub record LineRefused (files : Option Files) (name : List ℕ) (taken taken' : Option (List ℕ)) : Type 0 where
@@ -244,18 +256,22 @@ pub data ReportRefused (files : Option Files) (name : List ℕ) (taken taken' : 
       (bytes : List ℕ) (fault : ReportFault) → HoldsFile files name bytes → length bytes ≤ report_limit → IsReportFault bytes fault
       → taken' ≡ with_bytes taken (script_line name (report_words fault)) → ReportRefused files name taken taken'
 
--- the words ask for a file of events, or for a report, or for the run of a script, and it was refused
+-- the words ask for a file of events, or for a report, or for the run of a script, their own or a made one, and it was
+-- refused
 abbrev pub RefusesScript : List (List ℕ) → Option Files → Option (List ℕ) → Option (List ℕ) → Type 0
 RefusesScript words files taken taken' =
     ((file events : List ℕ) × Asks words (commands.Replay file events) × ScriptRefused files events taken taken')
     ⊎ ((file : List ℕ) × Asks words (commands.Upgrade file) × ReportRefused files file taken taken')
     ⊎ ((name : List ℕ) × Asks words (commands.Step name) × StatementsRefused files name taken taken')
+    ⊎ ((lanes : ℕ) × Asks words (commands.Big lanes) × StatementsRefused (Some (made_files lanes)) script_name taken taken')
 
--- the words ask for something of a description, or for the run of a script, and a description was refused
+-- the words ask for something of a description, or for the run of a script, their own or a made one, and a description
+-- was refused
 abbrev pub RefusesDescription : List (List ℕ) → Option Files → Option (List ℕ) → Option (List ℕ) → Type 0
 RefusesDescription words files taken taken' =
     ((file : List ℕ) × (query : Query) × Wants files words file query × Refused files file query taken taken')
     ⊎ ((name : List ℕ) × Asks words (commands.Step name) × LineRefused files name taken taken')
+    ⊎ ((lanes : ℕ) × Asks words (commands.Big lanes) × LineRefused (Some (made_files lanes)) script_name taken taken')
 
 -- the file has more bytes than a report may have, or isn't one
 abbrev pub MustRefuseReport : Option (List ℕ) → Type 0

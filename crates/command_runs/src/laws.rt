@@ -44,7 +44,8 @@ ghost use Rattle.command_runs.specs.declared.fetched.Fetched.TheVariants.{Held};
 ghost use Rattle.command_runs.specs.Outcomes.{HoldsFile, NamesFile, Ends, WroteFront, Flattened, Planned, Replayed};
 ghost use Rattle.command_runs.specs.Outcomes.{RefusesDescription, RefusesScript, MustRefuse, MustRefuseScript};
 ghost use Rattle.command_runs.specs.Outcomes.{EndsAsRun, IsRunStatus, MustRefuseLine, MustRefuseStatements};
-ghost use Rattle.command_runs.specs.Outcomes.{NothingRefuses, NothingRefusesLines, Ran};
+ghost use Rattle.command_runs.specs.Outcomes.{NothingRefuses, NothingRefusesLines, Ran, RanShowing, SummedUp};
+ghost use Rattle.big_files.specs.BigFiles.{made_files, script};
 ghost use Rattle.command_runs.specs.Outcomes.{EndsAsGiven, MustRefuseReport, NothingRefusesReport, Upgraded, Wants};
 ghost use Rattle.command_runs.specs.Plans.{RefusesStart, Starts};
 ghost use Rattle.command_runs.specs.Queries.{AnswersQuery, IsRefused};
@@ -101,20 +102,24 @@ pub fn want_of_memory_has_its_line()
         → result ≢ Unlawful }
 {}
 
-/// A law of runs: the run of a script ends with Ok, Pending or Unfinished, and comes with the text of its report: Pending
-/// exactly where the report says that a change was given up, Unfinished exactly where it names a node that wasn't done
-/// and no such change. The two come for no other command.
+/// A law of runs: the run of a script ends with Ok, Pending or Unfinished, and comes with the text of its report, or with
+/// its summary where the script was made: Pending exactly where the report says that a change was given up, Unfinished
+/// exactly where it names a node that wasn't done and no such change. The two come for no other command.
 pub fn runs_end_by_their_reports()
     ensures ran { (words : List (List ℕ)) (files : Option Files) (failures failures' : List (List ℕ))
         (taken taken' : Option (List ℕ)) (faults faults' : ℕ) (result : Status) → Runs words files failures failures' taken taken' faults faults' result
         → (name : List ℕ) → Asks words (commands.Step name) → IsRunStatus result → Ran files name result taken taken' }
+    ensures summed { (words : List (List ℕ)) (files : Option Files) (failures failures' : List (List ℕ))
+        (taken taken' : Option (List ℕ)) (faults faults' : ℕ) (result : Status) → Runs words files failures failures' taken taken' faults faults' result
+        → (lanes : ℕ) → Asks words (commands.Big lanes) → IsRunStatus result → SummedUp lanes result taken taken' }
     ensures only { (words : List (List ℕ)) (files : Option Files) (failures failures' : List (List ℕ))
         (taken taken' : Option (List ℕ)) (faults faults' : ℕ) (result : Status) → Runs words files failures failures' taken taken' faults faults' result
-        → (result ≡ Pending) ⊎ (result ≡ Unfinished) → (name : List ℕ) × Asks words (commands.Step name) }
-    ensures pending { (files : Option Files) (name : List ℕ) (own : Status) (taken taken' : Option (List ℕ))
-        (r : Ran files name own taken taken') → (own ≡ Pending) ↔ (list_any is_pending r.report.history ≡ true) }
-    ensures unfinished { (files : Option Files) (name : List ℕ) (own : Status) (taken taken' : Option (List ℕ))
-        (r : Ran files name own taken taken')
+        → (result ≡ Pending) ⊎ (result ≡ Unfinished)
+        → ((name : List ℕ) × Asks words (commands.Step name)) ⊎ ((lanes : ℕ) × Asks words (commands.Big lanes)) }
+    ensures pending { (show : Report → List ℕ) (files : Option Files) (name : List ℕ) (own : Status) (taken taken' : Option (List ℕ))
+        (r : RanShowing show files name own taken taken') → (own ≡ Pending) ↔ (list_any is_pending r.report.history ≡ true) }
+    ensures unfinished { (show : Report → List ℕ) (files : Option Files) (name : List ℕ) (own : Status) (taken taken' : Option (List ℕ))
+        (r : RanShowing show files name own taken taken')
         → (own ≡ Unfinished)
         ↔ ((list_any is_pending r.report.history ≡ false) × (is_some r.report.unfinished ≡ true)) }
 {}
@@ -193,6 +198,9 @@ pub fn scripts_are_refused_for_their_first_fault()
         (taken taken' : Option (List ℕ)) (faults faults' : ℕ) (result : Status) → Runs words (Some files) failures failures' taken taken' faults faults' result
         → failures' ≡ failures → (name : List ℕ) → Asks words (commands.Step name) → MustRefuseStatements (files name)
         → Ends result Script }
+    ensures always_made { (words : List (List ℕ)) (files : Option Files) (failures failures' : List (List ℕ))
+        (taken taken' : Option (List ℕ)) (faults faults' : ℕ) (result : Status) → Runs words files failures failures' taken taken' faults faults' result
+        → (lanes : ℕ) → Asks words (commands.Big lanes) → MustRefuseStatements (Some (script lanes)) → Ends result Script }
 {
     one_report_or_one_fault();
 }
@@ -211,6 +219,10 @@ pub fn descriptions_are_refused_for_faults_that_hold()
     ensures always_line { (words : List (List ℕ)) (files : Files) (failures failures' : List (List ℕ))
         (taken taken' : Option (List ℕ)) (faults faults' : ℕ) (result : Status) → Runs words (Some files) failures failures' taken taken' faults faults' result
         → failures' ≡ failures → (name : List ℕ) → Asks words (commands.Step name) → MustRefuseLine files (files name)
+        → Ends result Description }
+    ensures always_made_line { (words : List (List ℕ)) (files : Option Files) (failures failures' : List (List ℕ))
+        (taken taken' : Option (List ℕ)) (faults faults' : ℕ) (result : Status) → Runs words files failures failures' taken taken' faults faults' result
+        → (lanes : ℕ) → Asks words (commands.Big lanes) → MustRefuseLine (made_files lanes) (Some (script lanes))
         → Ends result Description }
 {
     a_graph_or_a_fault();
@@ -242,6 +254,10 @@ pub fn what_is_not_refused_is_answered()
     ensures complete_script { (words : List (List ℕ)) (files : Files) (failures failures' : List (List ℕ))
         (taken taken' : Option (List ℕ)) (faults faults' : ℕ) (result : Status) → Runs words (Some files) failures failures' taken taken' faults faults' result
         → failures' ≡ failures → (name : List ℕ) → Asks words (commands.Step name) → NothingRefusesLines files (files name)
+        → EndsAsRun result }
+    ensures complete_big { (words : List (List ℕ)) (files : Option Files) (failures failures' : List (List ℕ))
+        (taken taken' : Option (List ℕ)) (faults faults' : ℕ) (result : Status) → Runs words files failures failures' taken taken' faults faults' result
+        → (lanes : ℕ) → Asks words (commands.Big lanes) → NothingRefusesLines (made_files lanes) (Some (script lanes))
         → EndsAsRun result }
 {}
 

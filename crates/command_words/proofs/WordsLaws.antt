@@ -2,6 +2,7 @@
 -- words behind it what is carried.
 use Rattle.std.proofs.Common.{◌≡◌, ◌∙◌, ℕ, List, [], ◌∷◌, ◌++◌, Option, Some, None, bytes_eq, codes, if◌then◌else◌, refl, sym, ap, subst}
 use Rattle.std.proofs.lemmas.Option.{same_Some}
+use Rattle.std.specs.Str.Parse.{digits_value}
 use Rattle.command_words.specs.declared.words.Command.{Command}
 use Rattle.command_words.specs.declared.words.Command.TheVariants as commands
 use Rattle.command_words.specs.declared.words.TopCall.{TopCall}
@@ -16,6 +17,7 @@ pub data Form : Type 0 where
   replay : Form
   upgrade : Form
   step : Form
+  big : Form
 
 abbrev pub form : Command → Form
 form commands.Help = help
@@ -25,6 +27,7 @@ form (commands.Plan file call target) = plan
 form (commands.Replay file events) = replay
 form (commands.Upgrade file) = upgrade
 form (commands.Step script) = step
+form (commands.Big lanes) = big
 
 abbrev pub Carried : Form → Type 0
 Carried help = Unit {0}
@@ -34,6 +37,7 @@ Carried plan = List ℕ × TopCall × TopCall
 Carried replay = List ℕ × List ℕ
 Carried upgrade = List ℕ
 Carried step = List ℕ
+Carried big = ℕ
 
 abbrev pub command : (f : Form) → Carried f → Command
 command help p = commands.Help
@@ -43,6 +47,7 @@ command plan p = commands.Plan p.0 p.1 p.2
 command replay p = commands.Replay p.0 p.1
 command upgrade p = commands.Upgrade p
 command step p = commands.Step p
+command big p = commands.Big p
 
 abbrev pub carried : (c : Command) → Carried (form c)
 carried commands.Help = tt
@@ -52,6 +57,7 @@ carried (commands.Plan file call target) = (file, call, target)
 carried (commands.Replay file events) = (file, events)
 carried (commands.Upgrade file) = file
 carried (commands.Step script) = script
+carried (commands.Big lanes) = lanes
 
 is_command : (c : Command) → c ≡ command (form c) (carried c)
 is_command commands.Help = refl
@@ -61,6 +67,7 @@ is_command (commands.Plan file call target) = refl
 is_command (commands.Replay file events) = refl
 is_command (commands.Upgrade file) = refl
 is_command (commands.Step script) = refl
+is_command (commands.Big lanes) = refl
 
 -- the form that a first word tells
 pub form_of : List ℕ → Option Form
@@ -71,7 +78,8 @@ form_of word =
     if bytes_eq word (codes "plan") then Some plan else
     if bytes_eq word (codes "replay") then Some replay else
     if bytes_eq word (codes "upgrade") then Some upgrade else
-    if bytes_eq word (codes "step") then Some step else None
+    if bytes_eq word (codes "step") then Some step else
+    if bytes_eq word (codes "big") then Some big else None
 
 pub form_is : (c : Command) → form_of (keyword c) ≡ Some (form c)
 unfolding form_of
@@ -82,6 +90,7 @@ form_is (commands.Plan file call target) = refl
 form_is (commands.Replay file events) = refl
 form_is (commands.Upgrade file) = refl
 form_is (commands.Step script) = refl
+form_is (commands.Big lanes) = refl
 
 pub flat_word : form_of (codes "flat") ≡ Some flat
 unfolding form_of
@@ -130,6 +139,10 @@ one_body step f g body x y = same (head_is f g [] [] (sym x.0 ∙ y.0))
   where
     same : f ≡ g → commands.Step f ≡ commands.Step g
     same script = rw script refl
+one_body big p q body x y = same (x.3 ∙ ap (digits_value 10) (head_is x.0 y.0 [] [] (sym x.1 ∙ y.1)) ∙ sym y.3)
+  where
+    same : p ≡ q → commands.Big p ≡ commands.Big q
+    same lanes = rw lanes refl
 
 -- words ask for one command at most
 pub one_command : (words : List (List ℕ)) (c d : Command) → Asks words c → Asks words d → c ≡ d

@@ -1,8 +1,8 @@
 -- The words of a command line, and which command they ask for: the first word names it, and the others are its body.
-use Rattle.std.specs.Prelude.{◌≡◌, ◌≢◌, ℕ, ℤ, List, [], ◌∷◌, ◌++◌, map, codes, slice_index, FitsSigned, Bool, not, bytes_eq}
+use Rattle.std.specs.Prelude.{◌≡◌, ◌≢◌, ◌≤◌, ℕ, ℤ, List, [], ◌∷◌, ◌++◌, map, codes, slice_index, FitsSigned, Bool, not, bytes_eq}
 use Rattle.std.specs.Int.{w32}
 use Rattle.std.specs.List.{AllByRecursion}
-use Rattle.std.specs.Str.Parse.{IsNumeral, signed_digits_value, without_leading_sign}
+use Rattle.std.specs.Str.Parse.{IsNumeral, digits_value, signed_digits_value, without_leading_sign}
 use Rattle.darwin_lexer.specs.Naming.{IsName}
 use Rattle.command_words.specs.declared.words.TopCall.{TopCall}
 use Rattle.command_words.specs.declared.words.Command.{Command}
@@ -16,6 +16,10 @@ IsInteger word =
 -- the value of such a word
 abbrev pub integer_of : List ℕ → ℤ
 integer_of word = signed_digits_value 10 word
+
+-- one digit or more, and nothing else, with a value from 1 to 40
+abbrev pub IsLaneCount : List ℕ → Type 0
+IsLaneCount word = IsNumeral 10 word × (1 ≤ digits_value 10 word) × (digits_value 10 word ≤ 40)
 
 -- the words of a component and its arguments
 abbrev pub IsCall : List (List ℕ) → TopCall → Type 0
@@ -32,6 +36,7 @@ keyword (commands.Plan file call target) = codes "plan"
 keyword (commands.Replay file events) = codes "replay"
 keyword (commands.Upgrade file) = codes "upgrade"
 keyword (commands.Step script) = codes "step"
+keyword (commands.Big lanes) = codes "big"
 
 -- the words behind it
 abbrev pub IsBody : Command → List (List ℕ) → Type 0
@@ -45,6 +50,7 @@ IsBody (commands.Plan file call target) body =
 IsBody (commands.Replay file events) body = (body ≡ file ∷ events ∷ []) × (file ≢ []) × (events ≢ [])
 IsBody (commands.Upgrade file) body = (body ≡ file ∷ []) × (file ≢ [])
 IsBody (commands.Step script) body = (body ≡ script ∷ []) × (script ≢ [])
+IsBody (commands.Big lanes) body = (count : List ℕ) × (body ≡ count ∷ []) × IsLaneCount count × (lanes ≡ digits_value 10 count)
 
 -- the words ask for the command
 abbrev pub Asks : List (List ℕ) → Command → Type 0

@@ -3,7 +3,8 @@
 ghost use Rattle.std.specs.Prelude.{◌≡◌, ◌≢◌, ◌∷◌, [], ◌<◌, length, codes, map, string_bytes, IfOk, IfSome, IfNone};
 ghost use Rattle.std.specs.List.{AllByRecursion, prefix_len};
 ghost use Rattle.std.specs.Option.{SomeIff};
-ghost use Rattle.command_words.specs.CommandLine.{IsInteger, integer_of, IsCall, Asks, is_part};
+ghost use Rattle.std.specs.Str.Parse.{digits_value};
+ghost use Rattle.command_words.specs.CommandLine.{IsInteger, IsLaneCount, integer_of, IsCall, Asks, is_part};
 ghost use Rattle.command_words.specs.declared.words.Command.{Command};
 ghost use Rattle.command_words.specs.declared.words.TopCall.{TopCall};
 
@@ -76,6 +77,10 @@ pub enum Command<'a> {
     Step {
         script: Word<'a>,
     },
+    /// A summary of the run of a system of so many lanes, from 1 to 40, which the program makes itself.
+    Big {
+        lanes: u32,
+    },
 }
 
 /// What the words ask for, where they have one of the forms.
@@ -91,7 +96,7 @@ pub fn read_words(alloc: Global, words: &[String]) -> Result<Option<Command<'_>>
     }
 }
 
-/// What two or more words ask for, the first of which names a command and the second a file.
+/// What two or more words ask for, the first of which names a command and the second a file, or a number.
 fn read_command<'a>(
     alloc: Global,
     first: &str,
@@ -108,6 +113,7 @@ fn read_command<'a>(
         return Ok(None);
     }
     match first {
+        "big" => Ok(read_big(file, &words[1..])),
         "flat" => read_flat(alloc, file, &words[1..]),
         "plan" => read_plan(alloc, file, &words[1..]),
         "replay" => Ok(read_replay(file, &words[1..])),
@@ -238,6 +244,39 @@ fn read_step<'a>(script: &'a str, words: &[String]) -> Option<Command<'a>>
             script: Word::of(script),
         }),
         [_, ..] => None,
+    }
+}
+
+/// What the word `big` asks for with a number and these words behind it.
+fn read_big<'a>(count: &'a str, words: &[String]) -> Option<Command<'a>>
+    ensures found { IfSome result (λ command. Asks (codes "big" ∷ count.now ∷ map string_bytes words.now) command) }
+    ensures none { IfNone result ((command : Command)
+        → Asks (codes "big" ∷ count.now ∷ map string_bytes words.now) command → ⊥) }
+{
+    match words {
+        [] => read_lanes(count),
+        [_, ..] => None,
+    }
+}
+
+/// What the word `big` asks for with a number.
+fn read_lanes<'a>(count: &'a str) -> Option<Command<'a>>
+    ensures found { IfSome result (λ command. Asks (codes "big" ∷ count.now ∷ []) command) }
+    ensures none { IfNone result ((command : Command) → Asks (codes "big" ∷ count.now ∷ []) command → ⊥) }
+{
+    match lane_count(count) {
+        Some(lanes) => Some(Command::Big { lanes }),
+        None => None,
+    }
+}
+
+/// The value of a word that is digits, where it is from 1 to 40.
+fn lane_count(word: &str) -> Option<u32>
+    ensures { SomeIff result (IsLaneCount word.now) (digits_value 10 word.now) }
+{
+    match word.parse::<u32>() {
+        Ok(lanes) if !word.starts_with('+') && 1 <= lanes && lanes <= 40 => Some(lanes),
+        _ => None,
     }
 }
 

@@ -70,6 +70,15 @@ module _ {E : Type 0} where
         written = written;
       }
 
+  -- a run that fetches nothing
+  pub runs_unfetched :
+      (words : List (List ℕ)) (command : Command) (files : Option Files) (failures : List (List ℕ)) (taken taken' : Option (List ℕ)) (faults faults' : ℕ)
+      (r : Result Answer E) (result : Status) → Asks words command → EndsBy (course_of command) [] r
+      → Written (result_status r) (result_text r) taken taken' faults faults' result → Runs words files failures failures taken taken' faults faults' result
+  runs_unfetched words command files failures taken taken' faults faults' r result asks ends written =
+      runs_by words command files failures failures taken taken' faults faults' r result asks
+      (record { fetches = []; noted = sym (append-nil failures); told = tt; ends = ends }) written
+
   -- a description by one fetch
   pub described_by :
       (files : Option Files) (file : List ℕ) (query : Query) (given : Fetched) (failures failures' : List (List ℕ)) (r : Result Answer E)

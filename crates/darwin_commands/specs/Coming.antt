@@ -2,11 +2,15 @@
 use Rattle.std.specs.Prelude.{◌≡◌, ℕ, List, ◌++◌, Option, Result, Ok, Err}
 use Rattle.std.specs.List.{AllByRecursion}
 use Rattle.cfg_io.specs.Shelf.{Files}
-use Rattle.command_answers.specs.Answers.{Shows, refusal, no_memory, no_memory_line}
+use Rattle.change_law.specs.Statements.{Statement}
+use Rattle.change_script.specs.declared.report.Report.{Report}
+use Rattle.command_answers.specs.Answers as values
+use Rattle.command_answers.specs.Answers.{Shows, refusal, no_memory, no_memory_line, summary}
 use Rattle.command_answers.specs.declared.status.Status.{Status}
 use Rattle.command_answers.specs.declared.status.Status.TheVariants as status
 use Rattle.command_runs.specs.Courses.{Course}
 use Rattle.command_runs.specs.Fetches.{Fetch, failed_names, Gave}
+use Rattle.command_runs.specs.RunReports.{IsReportOf}
 use Rattle.file_answers.specs.declared.answer.Answer.{Answer}
 
 -- the status and the text of an answer, or those for want of memory
@@ -29,3 +33,7 @@ pub record ComesBy {E : Type 0} (files : Option Files) (course : Course) (failur
   pub noted : failures' ≡ failures ++ failed_names fetches
   pub told : AllByRecursion (Gave files) fetches
   pub ends : EndsBy course fetches result
+
+-- the answer by which a run of so many lanes ends
+abbrev pub EndsInSummary : ℕ → List Statement → values.Answer → Type 0
+EndsInSummary lanes statements answer = (r : Report) × IsReportOf statements r × (answer ≡ summary lanes r)

@@ -1,24 +1,29 @@
 //! What is done for words and for commands, by fetches.
 
-ghost use Rattle.std.specs.Prelude.{◌≡◌, ℕ, List, map, string_bytes, IfOk};
+ghost use Rattle.std.specs.Prelude.{◌≡◌, ℕ, List, [], map, string_bytes, IfOk};
+ghost use Rattle.change_script.specs.Reports.{LogsAreMade};
 ghost use Rattle.command_answers.specs.Answers.{Shows};
 ghost use Rattle.command_words.specs.CommandLine.{Asks};
 ghost use Rattle.command_words.specs.declared.words.Command.TheVariants as commands;
-ghost use Rattle.command_runs.specs.Commands.{course_of, course_of_query};
+ghost use Rattle.command_runs.specs.Commands.{SumsUp, course_of, course_of_query};
+ghost use Rattle.command_runs.specs.RunReports.{IsReportOf};
 ghost use Rattle.command_runs.specs.Runs.{Runs};
 ghost use Rattle.script_answers.specs.Preparing.{EndsRun};
 ghost use Rattle.script_steps.specs.Asked.{CanDoAll, CanStart, after_start, statements_of};
-ghost use Rattle.darwin_commands.specs.Coming.{ComesBy};
+ghost use Rattle.darwin_commands.specs.Coming.{ComesBy, EndsBy, EndsInSummary};
 
 use crate::writing::{finish, no_memory, write};
 use crate::{HELP, USAGE, VERSION};
+use big_files::{MadeFiles, SCRIPT_NAME};
 use cfg_io::{Shelf, Sink};
+use change_script::Report;
 use command_answers::Status;
 use command_runs::Query;
 use command_words::{Command, read_words};
 use config_graph::NoMemory;
 use file_answers::{
-    Answer, FILE_LIMIT, REPORT_LIMIT, Read, answer_run, describe, fetch_file, read_script, upgrade,
+    Answer, FILE_LIMIT, REPORT_LIMIT, Read, answer_run, answer_summary, describe, fetch_file,
+    read_script, upgrade,
 };
 use node_table::NodeTable;
 use report_laws::reports_of_rounds_are_lawful;
@@ -77,6 +82,7 @@ fn run_command<H: Shelf, K: Sink>(
         ),
         Command::Upgrade { file } => finish(out, answer_report(alloc, shelf, file.as_str())),
         Command::Step { script } => finish(out, answer_script(alloc, shelf, script.as_str())),
+        Command::Big { lanes } => finish(out, answer_big(alloc, lanes)),
     }
 }
 
@@ -132,14 +138,45 @@ fn answer_script<H: Shelf>(alloc: Global, shelf: &mut H, name: &str) -> Result<A
     }
 }
 
+/// Makes a system of so many lanes and a script, runs it, and answers the summary.
+fn answer_big(alloc: Global, lanes: u32) -> Result<Answer, NoMemory>
+    ensures { EndsBy (SumsUp lanes) [] result }
+{
+    let mut made = MadeFiles::of(alloc, lanes)?;
+    match prepare(alloc, &mut made, SCRIPT_NAME)? {
+        Prepared::Asked { start, steps } => sum_up(alloc, lanes, start, steps),
+        Prepared::Refused(answer) => Ok(answer),
+    }
+}
+
 /// Runs what a script asks for, and answers the report.
 fn run_script(alloc: Global, start: Start, steps: Vec<Step>) -> Result<Answer, NoMemory>
     requires start { CanStart start }
     requires steps { CanDoAll (after_start start) steps.items }
     ensures { IfOk result (λ answer. Shows (EndsRun (statements_of start steps.items)) answer.status answer.text.items) }
 {
+    let report = report_of(alloc, start, steps)?;
+    answer_run(alloc, &report)
+}
+
+/// Runs what the script of so many lanes asks for, and answers the summary.
+fn sum_up(alloc: Global, lanes: u32, start: Start, steps: Vec<Step>) -> Result<Answer, NoMemory>
+    requires start { CanStart start }
+    requires steps { CanDoAll (after_start start) steps.items }
+    ensures { IfOk result (λ answer. Shows (EndsInSummary lanes (statements_of start steps.items)) answer.status answer.text.items) }
+{
+    let report = report_of(alloc, start, steps)?;
+    answer_summary(alloc, lanes, &report)
+}
+
+/// Runs what a script asks for in rounds on one thread.
+fn report_of(alloc: Global, start: Start, steps: Vec<Step>) -> Result<Report, NoMemory>
+    requires start { CanStart start }
+    requires steps { CanDoAll (after_start start) steps.items }
+    ensures report { IfOk result (λ report. IsReportOf (statements_of start steps.items) report) }
+    ensures made { IfOk result (λ report. LogsAreMade report) }
+{
     reports_of_rounds_are_lawful();
     let board = StepBoard::<NodeTable>::new(alloc)?;
-    let report = run_in_rounds(alloc, board, start, steps)?;
-    answer_run(alloc, &report)
+    run_in_rounds(alloc, board, start, steps)
 }

@@ -8,7 +8,8 @@ ghost use Rattle.command_words.specs.CommandLine.{Asks};
 ghost use Rattle.command_words.specs.declared.words.Command.TheVariants as commands;
 ghost use Rattle.command_words.specs.declared.words.TopCall.{TopCall};
 ghost use Rattle.command_runs.specs.Outcomes.{Flattened, Planned, Replayed, Upgraded, NothingRefuses, EndsAsGiven, Wants};
-ghost use Rattle.command_runs.specs.Outcomes.{EndsAsRun, IsRunStatus, NothingRefusesLines, Ran};
+ghost use Rattle.command_runs.specs.Outcomes.{EndsAsRun, IsRunStatus, NothingRefusesLines, Ran, SummedUp};
+ghost use Rattle.big_files.specs.BigFiles.{made_files, script};
 ghost use Rattle.command_runs.specs.Runs.{Runs};
 ghost use Rattle.command_runs.specs.declared.query.Query.{Query};
 
@@ -46,6 +47,9 @@ pub fn still<H: Shelf, K: Sink>(
     // rounds for the statements of the script over the graphs of its descriptions, and it is lawful for them.
     ensures ran { (name : List ℕ) → Asks (map string_bytes words.now) (commands.Step name) → IsRunStatus result
         → Ran (H.files shelf.old) name result (K.taken out.old) (K.taken out.new) }
+    // Of `big` the summary of such a report, of the script and the description that it makes, which it fetches from nowhere.
+    ensures summed { (lanes : ℕ) → Asks (map string_bytes words.now) (commands.Big lanes) → IsRunStatus result
+        → SummedUp lanes result (K.taken out.old) (K.taken out.new) }
     // The first event that is no step is denied, with its first failing rule.
     ensures denied { result ≡ Denied → (file events : List ℕ)
         × Asks (map string_bytes words.now) (commands.Replay file events)
@@ -59,6 +63,9 @@ pub fn still<H: Shelf, K: Sink>(
     ensures complete_script { (name : List ℕ) (files : Files) → Asks (map string_bytes words.now) (commands.Step name)
         → H.files shelf.old ≡ Some files → H.failed shelf.new ≡ H.failed shelf.old → NothingRefusesLines files (files name)
         → EndsAsRun result }
+    // And so is a script that was made.
+    ensures complete_big { (lanes : ℕ) → Asks (map string_bytes words.now) (commands.Big lanes)
+        → NothingRefusesLines (made_files lanes) (Some (script lanes)) → EndsAsRun result }
 {
     run_words(alloc, words, shelf, out)
 }

@@ -5,13 +5,14 @@ ghost use Rattle.report_parser.specs.Stages.{IsReportFault};
 ghost use Rattle.report_parser.specs.declared.error.ReportFault.TheVariants as faults;
 ghost use Rattle.change_script.specs.Reports as of_reports;
 ghost use Rattle.command_answers.specs.Answers.{run_status};
+ghost use Rattle.command_answers.specs.Summaries as of_runs;
 ghost use Rattle.command_runs.specs.Fetches.{FitsFileLimit, report_limit};
 ghost use Rattle.command_runs.specs.OneFile.{ReportAnswers};
 ghost use Rattle.command_runs.specs.declared.fetched.Fetched.TheVariants.{Held};
 
 use crate::answer::Answer;
 use change_script::{Report, report_text};
-use command_answers::{Status, read_fault_line, report_line, script_too_long_line};
+use command_answers::{Status, read_fault_line, report_line, script_too_long_line, summary_text};
 use command_runs::Fetched;
 use config_graph::NoMemory;
 use report_parser::{ReportFault, parse_report};
@@ -59,6 +60,16 @@ pub fn answer_run(alloc: Global, report: &Report) -> Result<Answer, NoMemory>
         status: Status::of_run(report.status),
         text: report_text(alloc, report)?,
     })
+}
+
+/// The summary of a run of so many lanes that was made now, and how the run ends by its report.
+pub fn answer_summary(alloc: Global, lanes: u32, report: &Report) -> Result<Answer, NoMemory>
+    ensures status { IfOk result (λ answer. answer.status ≡ run_status report.now.status) }
+    ensures text { IfOk result (λ answer. answer.text.items ≡ of_runs.summary_text lanes report.now) }
+{
+    let status = Status::of_run(report.status);
+    let text = summary_text(alloc, lanes, report)?;
+    Ok(Answer { status, text })
 }
 
 /// The line that refuses a report.

@@ -1,8 +1,10 @@
-//! Worked rows of `step`: scripts that are run over files in memory, with the reports and statuses that must come.
+//! Worked rows of `step` and `big`: scripts that are run over files in memory, with the texts and statuses that must come.
 #![tactic(auto)]
 
 #[cfg(test)]
 mod bank_rows;
+#[cfg(test)]
+mod big_rows;
 #[cfg(test)]
 mod descriptions;
 #[cfg(test)]

@@ -1,5 +1,7 @@
+pub mod Draining
 pub mod Few
 pub mod Leading
 pub mod OneRun
 pub mod Premises
 pub mod Reports
+pub mod MadeScripts

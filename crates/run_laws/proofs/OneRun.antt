@@ -6,14 +6,13 @@ use Rattle.cfg_io.specs.Sink.{with_bytes}
 use Rattle.change_law.specs.Scripts.{StatementsOf}
 use Rattle.change_law.specs.Serial.{Serial}
 use Rattle.change_law.proofs.SerialLaws.{one_serial}
-use Rattle.change_script.specs.Reports.{report_text}
 use Rattle.change_script.specs.ScriptFiles.{IsScript}
 use Rattle.change_script.specs.declared.report.Report.{Report}
 use Rattle.change_script.proofs.ScriptFileLaws.{one_script}
 use Rattle.report_laws.proofs.StatementLaws.{one_list}
 use Rattle.command_answers.specs.Answers.{run_status}
 use Rattle.command_answers.specs.declared.status.Status.{Status}
-use Rattle.command_runs.specs.Outcomes.{HoldsFile, Ran}
+use Rattle.command_runs.specs.Outcomes.{HoldsFile, RanShowing}
 use Rattle.command_runs.specs.Ways.{Elaborates}
 use Rattle.command_runs.proofs.WayLaws.{one_elaborated}
 
@@ -22,9 +21,9 @@ pub one_text : (f : Files) (file text other : List ℕ) → HoldsFile (Some f) f
 one_text f file text other a b = same_Some text other (sym a ∙ b)
 
 pub one_run :
-    (f : Files) (name : List ℕ) (own other : Status) (taken t also : Option (List ℕ)) → Ran (Some f) name own taken t
-    → Ran (Some f) name other taken also → (own ≡ other) × (t ≡ also)
-one_run f name own other taken t also x y =
+    (show : Report → List ℕ) (f : Files) (name : List ℕ) (own other : Status) (taken t also : Option (List ℕ)) → RanShowing show (Some f) name own taken t
+    → RanShowing show (Some f) name other taken also → (own ≡ other) × (t ≡ also)
+one_run show f name own other taken t also x y =
     let elab = Elaborates (HoldsFile (Some f)) in
     let bytes = one_text f name x.is_script.bytes y.is_script.bytes x.is_script.told y.is_script.told in
     let script = one_script y.is_script.bytes x.script y.script (subst (λ b. IsScript b x.script) bytes x.is_script.is_script) y.is_script.is_script in
@@ -32,5 +31,5 @@ one_run f name own other taken t also x y =
     (subst (λ s. StatementsOf elab s x.statements) script x.have_graphs) y.have_graphs in
     let same = one_serial y.statements x.report y.report (subst (λ ss. Serial ss x.report) said x.is_report.serial) y.is_report.serial in (
       x.ended ∙ ap (λ (r : Report). run_status r.status) same ∙ sym y.ended,
-      x.written ∙ ap (λ (r : Report). with_bytes taken (report_text r)) same ∙ sym y.written,
+      x.written ∙ ap (λ (r : Report). with_bytes taken (show r)) same ∙ sym y.written,
     )

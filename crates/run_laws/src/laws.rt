@@ -1,6 +1,8 @@
 //! Laws of runs of scripts, where the shelf tells its files.
 
-ghost use Rattle.std.specs.Prelude.{◌≡◌, ℕ, List, Option, Some};
+ghost use Rattle.std.specs.Prelude.{◌≡◌, ◌≢◌, ◌≤◌, ℕ, List, Option, Some};
+ghost use Rattle.base.specs.Each.{Each};
+ghost use Rattle.big_files.specs.BigFiles.{script};
 ghost use Rattle.cfg_io.specs.Shelf.{Files};
 ghost use Rattle.change_script.specs.ScriptFiles.{IsScript};
 ghost use Rattle.change_script.specs.declared.script.Script.{Script};
@@ -8,19 +10,26 @@ ghost use Rattle.command_answers.specs.declared.status.Status.{Status};
 ghost use Rattle.command_runs.specs.Failures.{Uses};
 ghost use Rattle.command_runs.specs.Lines.{Line, Progress, begun};
 ghost use Rattle.command_runs.specs.Outcomes.{HoldsFile, MustRefuseLine, MustRefuseStatements};
-ghost use Rattle.command_runs.specs.Outcomes.{NothingRefusesLines, Ran, TellsTooLong};
+ghost use Rattle.command_runs.specs.Outcomes.{NothingRefusesLines, Ran, SummedUp, TellsTooLong};
+ghost use Rattle.command_runs.specs.Runs.{Runs};
 ghost use Rattle.command_runs.specs.Scripts.{lines_of};
 ghost use Rattle.command_runs.specs.RunReports.{IsReportOf};
 ghost use Rattle.command_runs.specs.Ways.{AreRefused, Elaborates, LeadTo};
 ghost use Rattle.change_law.specs.Scripts.{StatementsOf};
 ghost use Rattle.change_law.specs.Statements.{Statement};
 ghost use Rattle.change_script.specs.declared.report.Report.{Report};
+ghost use Rattle.command_words.specs.CommandLine.{Asks};
+ghost use Rattle.command_words.specs.declared.words.Command.TheVariants as commands;
 ghost use Rattle.report_laws.specs.SoundStatements.{AreSound};
+ghost use Rattle.run_laws.specs.MadeScripts.{made_script};
+ghost use Rattle.waiting_laws.specs.Waits.{DrainsInTime};
 
+use command_runs::scripts_are_refused_for_their_first_fault;
 use darwin_types::a_fault_or_none;
 use elaborator::{a_graph_or_a_fault, one_graph};
 use ending_laws::a_sound_script_has_a_report;
 use report_laws::reports_of_rounds_are_lawful;
+use waiting_laws::changes_drain_within_what_is_left;
 
 /// A law: the statements of a script are sound, since its graphs are those of descriptions. So they have a report, by which
 /// a run of them may end.
@@ -36,11 +45,25 @@ pub fn a_script_has_a_report()
     reports_of_rounds_are_lawful();
 }
 
-/// A law: a run of a script is a function of the files. Two runs that end by a report write the same text, and end with
-/// the same status.
+/// A law: in a run of a script, a change that may wait for at least as many rounds as events are left when its ports are
+/// closed finds them all drained, and is committed. So one that is given up could wait for fewer.
+pub fn changes_of_a_run_drain_in_time()
+    ensures fetched { (files : Option Files) (name : List ℕ) (own : Status) (taken t : Option (List ℕ))
+        → (ran : Ran files name own taken t) → Each DrainsInTime ran.is_report.serial.parts }
+    ensures made { (lanes : ℕ) (own : Status) (taken t : Option (List ℕ))
+        → (ran : SummedUp lanes own taken t) → Each DrainsInTime ran.is_report.serial.parts }
+{
+    a_script_has_a_report();
+    changes_drain_within_what_is_left();
+}
+
+/// A law: a run of a script is a function of the files, and that of a made script one of the number of its lanes. Two runs
+/// that end by a report write the same text, and end with the same status.
 pub fn a_script_has_one_run()
-    ensures { (files : Files) (name : List ℕ) (own other : Status) (taken t also : Option (List ℕ))
+    ensures fetched { (files : Files) (name : List ℕ) (own other : Status) (taken t also : Option (List ℕ))
         → Ran (Some files) name own taken t → Ran (Some files) name other taken also → (own ≡ other) × (t ≡ also) }
+    ensures made { (lanes : ℕ) (own other : Status) (taken t also : Option (List ℕ))
+        → SummedUp lanes own taken t → SummedUp lanes other taken also → (own ≡ other) × (t ≡ also) }
 {}
 
 /// A law: the lines of a script lead to one end at most, and none of them is refused then. That they neither lead on nor
@@ -73,3 +96,17 @@ pub fn each_script_is_refused_or_run()
     ensures not_neither { (files : Files) (bytes : List ℕ) → ¬ ((¬ MustRefuseStatements (Some bytes))
         × (¬ MustRefuseLine files (Some bytes)) × (¬ NothingRefusesLines files (Some bytes))) }
 {}
+
+/// A law: the script that is made for so many lanes is one, with the statements that are meant.
+pub fn made_scripts_are_scripts()
+    ensures { (lanes : ℕ) → 1 ≤ lanes → lanes ≤ 40 → IsScript (script lanes) (made_script lanes) }
+{}
+
+/// A law of runs: what is made is never refused as a script.
+pub fn made_scripts_are_not_refused()
+    ensures { (words : List (List ℕ)) (files : Option Files) (failures failures' : List (List ℕ))
+        (taken taken' : Option (List ℕ)) (faults faults' : ℕ) (result : Status) → Runs words files failures failures' taken taken' faults faults' result
+        → (lanes : ℕ) → Asks words (commands.Big lanes) → result ≢ Status.Script }
+{
+    scripts_are_refused_for_their_first_fault();
+}

@@ -31,7 +31,7 @@ module _ {E : Type 0} (files : Option Files) (p : Progress) (file name : List �
   use_short way e = under way (Err e) (λ rest. fetched_alone given)
 
   pub use_refused : (way : Way) (answer : Answer) → Describes file given (described.Refused answer) → Took {E = E} files p (uses name ∷ []) failures failures' way (Ok (Some answer))
-  use_refused way answer told = under way (Ok (Some answer)) (λ rest. told p rest)
+  use_refused way answer told = under way (Ok (Some answer)) (λ rest. told.1 p rest)
 
   pub use_leads : (way next : Way) (d : Checked) → Describes file given (described.Checked d) → HasDescribed way file d next → IsAt way p
       → Took {E = E} files p (uses name ∷ []) failures failures' next (Ok None)

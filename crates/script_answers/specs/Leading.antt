@@ -1,10 +1,11 @@
 -- Where lines lead: on to a further progress, or to an answer that their course has.
-use Rattle.std.specs.Prelude.{◌≡◌, ◌||◌, ℕ, List, [], ◌∷◌, ◌++◌, Option, Some, None, Result, Ok, Err, is_some}
+use Rattle.std.specs.Prelude.{◌≡◌, ◌||◌, ℕ, List, [], ◌∷◌, ◌++◌, Option, Some, None, Result, Ok, Err, is_some, false}
 use Rattle.std.specs.List.{AllByRecursion}
 use Rattle.cfg_io.specs.Shelf.{Files}
 use Rattle.change_script.specs.ScriptFiles.{is_file, is_start}
 use Rattle.change_script.specs.declared.script.Body.{Body}
 use Rattle.command_answers.specs.Answers as values
+use Rattle.command_answers.specs.Statuses.{is_of_run}
 use Rattle.command_answers.specs.Answers.{Shows, refusal, no_memory}
 use Rattle.command_runs.specs.Descriptions.{IsChecked}
 use Rattle.command_runs.specs.Fetches.{Fetch, Gave, failed_names, fetch_of}
@@ -46,9 +47,14 @@ MarksOnward way next body (Ok None) = Marks way next body
 MarksOnward way next body (Ok (Some answer)) = Unit {0}
 MarksOnward way next body (Err _) = Unit {0}
 
+-- the answer has a status with which no run of a script ends
+abbrev pub IsOfNoRun : Answer → Type 0
+IsOfNoRun answer = is_of_run answer.status ≡ false
+
 -- what was read of a file that is used
 abbrev pub Describes : List ℕ → Fetched → Described → Type 0
 Describes file given (described.Checked checked) = (bytes : List ℕ) × (given ≡ Held bytes) × IsChecked bytes (description checked)
 Describes file given (described.Refused answer) =
-    (p : Progress) (rest : List Line)
-    → Shows (Follows running p (uses file ∷ rest) (fetch_of file given ∷ [])) answer.status answer.text.items
+    IsOfNoRun answer
+    × ((p : Progress) (rest : List Line)
+    → Shows (Follows running p (uses file ∷ rest) (fetch_of file given ∷ [])) answer.status answer.text.items)

@@ -11,6 +11,7 @@ use Rattle.command_runs.specs.Courses.{Course}
 use Rattle.command_runs.specs.Fetches.{Fetch, Gave, failed_names}
 use Rattle.command_runs.specs.RunReports.{IsReportOf}
 use Rattle.command_words.specs.declared.words.Command.TheVariants as commands
+use Rattle.script_answers.specs.Leading.{IsOfNoRun}
 use Rattle.script_answers.specs.declared.preparing.Prepared.{Prepared}
 use Rattle.script_answers.specs.declared.preparing.Prepared.TheVariants as prepared
 use Rattle.script_answers.specs.declared.way.Way.{Way}
@@ -43,6 +44,11 @@ Prepares files name failures failures' result = PreparesIn files (course_of (com
 abbrev pub CanRun : Prepared → Type 0
 CanRun (prepared.Asked start steps) = CanStart start × CanDoAll (after_start start) steps.items
 CanRun (prepared.Refused answer) = ⊤
+
+-- what refuses a script is no answer of a run
+abbrev pub RefusesRun : Prepared → Type 0
+RefusesRun (prepared.Asked start steps) = ⊤
+RefusesRun (prepared.Refused answer) = IsOfNoRun answer
 
 -- what a way asked for
 abbrev pub IsAskedBy : Way → Prepared → Type 0

@@ -4,7 +4,7 @@ ghost use Rattle.std.specs.Prelude.{◌≡◌, ℕ, List, IfOk, IsSome};
 ghost use Rattle.change_script.specs.ScriptFiles.{IsScript};
 ghost use Rattle.command_runs.specs.Lines.{Progress, begun, running, Follows};
 ghost use Rattle.command_runs.specs.Scripts.{lines_of};
-ghost use Rattle.script_answers.specs.Preparing.{CanRun, IsAskedBy, Prepares, PreparesIn};
+ghost use Rattle.script_answers.specs.Preparing.{CanRun, IsAskedBy, Prepares, PreparesIn, RefusesRun};
 
 use crate::taking::take_lines;
 use crate::way::Way;
@@ -28,6 +28,7 @@ pub fn prepare<H: Shelf>(alloc: Global, shelf: &mut H, name: &str) -> Result<Pre
     ensures prepares { Prepares (H.files shelf.old) name.now (H.failed shelf.old) (H.failed shelf.new) result }
     ensures kept { H.files shelf.new ≡ H.files shelf.old }
     ensures can_run { IfOk result CanRun }
+    ensures refuses { IfOk result RefusesRun }
 {
     let fetched = fetch_file(shelf, name, FILE_LIMIT)?;
     let read = read_statements(alloc, name, fetched)?;
@@ -48,6 +49,7 @@ fn prepare_lines<H: Shelf>(
         (H.failed shelf.old) (H.failed shelf.new) result }
     ensures kept { H.files shelf.new ≡ H.files shelf.old }
     ensures can_run { IfOk result CanRun }
+    ensures refuses { IfOk result RefusesRun }
 {
     let mut way = Way::new(alloc);
     let refusal = take_lines(alloc, shelf, &mut way, script.lines.into_vec())?;

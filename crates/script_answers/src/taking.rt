@@ -1,6 +1,6 @@
 //! The lines of a script, one after the other.
 
-ghost use Rattle.std.specs.Prelude.{◌≡◌, ◌∷◌, ℕ, ℤ, List as Items, [], false, IfOk, IsSome, None, is_some};
+ghost use Rattle.std.specs.Prelude.{◌≡◌, ◌∷◌, ℕ, ℤ, List as Items, [], false, IfOk, IfSome, IsSome, None, is_some};
 ghost use Rattle.std.specs.Str.{IsUtf8};
 ghost use Rattle.command_answers.specs.DescriptionFaults.{MayRefuse};
 ghost use Rattle.change_script.specs.ScriptFiles.{is_file, is_start};
@@ -8,7 +8,7 @@ ghost use Rattle.change_script.specs.declared.script.Body.{Body as Statement};
 ghost use Rattle.command_runs.specs.Lines.{Deed, IsCallRefusal, Progress, calls, changes, does, starts, uses};
 ghost use Rattle.command_runs.specs.Scripts.{line_of, lines_of};
 ghost use Rattle.script_answers.specs.Fitting.{FitAll, Fits};
-ghost use Rattle.script_answers.specs.Leading.{LeadOn, MarksOnward, Took};
+ghost use Rattle.script_answers.specs.Leading.{IsOfNoRun, LeadOn, MarksOnward, Took};
 ghost use Rattle.script_answers.specs.Ways.{IsAt, IsNoChange};
 ghost use Rattle.script_steps.specs.Asked.{statement_of};
 
@@ -35,6 +35,7 @@ pub fn take_lines<H: Shelf>(
     ensures took { (p : Progress) → IsAt way.old p
         → Took (H.files shelf.old) p (lines_of lines.items) (H.failed shelf.old) (H.failed shelf.new) way.new result }
     ensures begun { IfOk result (λ found. found ≡ None → IsSome way.new.start) }
+    ensures refuses { IfOk result (λ found. IfSome found IsOfNoRun) }
     ensures kept { H.files shelf.new ≡ H.files shelf.old }
 {
     for line in lines {
@@ -58,6 +59,7 @@ fn take_line<H: Shelf>(
     ensures took { (p : Progress) → IsAt way.old p
         → Took (H.files shelf.old) p (line_of body) (H.failed shelf.old) (H.failed shelf.new) way.new result }
     ensures marks { MarksOnward way.old way.new body result }
+    ensures refuses { IfOk result (λ found. IfSome found IsOfNoRun) }
     ensures kept { H.files shelf.new ≡ H.files shelf.old }
 {
     match body {
@@ -87,6 +89,7 @@ fn use_file<H: Shelf>(
     ensures took { (p : Progress) → IsAt way.old p
         → Took (H.files shelf.old) p (uses name ∷ []) (H.failed shelf.old) (H.failed shelf.new) way.new result }
     ensures marks { MarksOnward way.old way.new (Body.File name) result }
+    ensures refuses { IfOk result (λ found. IfSome found IsOfNoRun) }
     ensures kept { H.files shelf.new ≡ H.files shelf.old }
 {
     let file = str_of(&name);
@@ -111,6 +114,7 @@ fn start(
     requires unbegun { way.old.start ≡ None }
     ensures lead { (p : Progress) → IsAt way.old p → LeadOn p (calls starts name args ∷ []) [] way.new result }
     ensures marks { MarksOnward way.old way.new (Body.Start name args) result }
+    ensures refuses { IfOk result (λ found. IfSome found IsOfNoRun) }
 {
     match start_with(alloc, way, name, args) {
         Ok(start) => {
@@ -135,6 +139,7 @@ fn change(
     ensures lead { (p : Progress) → IsAt way.old p
         → LeadOn p (calls (changes within moves) name args ∷ []) [] way.new result }
     ensures marks { MarksOnward way.old way.new (Body.Change name args within moves) result }
+    ensures refuses { IfOk result (λ found. IfSome found IsOfNoRun) }
 {
     match change_to(alloc, way, name, args, within, moves) {
         Ok(change) => {
@@ -151,6 +156,7 @@ fn do_step(way: &mut Way, step: Step) -> Result<Option<Answer>, NoMemory>
     requires not_change { IsNoChange step }
     ensures lead { (p : Progress) → IsAt way.old p → LeadOn p (does (statement_of step) ∷ []) [] way.new result }
     ensures marks { (body : Statement) → is_file body ≡ false → is_start body ≡ false → MarksOnward way.old way.new body result }
+    ensures refuses { IfOk result (λ found. IfSome found IsOfNoRun) }
 {
     way.add_step(step)?;
     Ok(None)
@@ -159,6 +165,7 @@ fn do_step(way: &mut Way, step: Step) -> Result<Option<Answer>, NoMemory>
 /// The line that refuses a start or a change.
 fn refuse(alloc: Global, way: &Way, fault: &DescriptionFault) -> Result<Option<Answer>, NoMemory>
     ensures found { IfOk result IsSome }
+    ensures refuses { IfOk result (λ found. IfSome found IsOfNoRun) }
     ensures lead { (p : Progress) (deed : Deed) (name : Items ℕ) (args : Items ℤ) → IsAt way.now p
         → MayRefuse (IsCallRefusal p deed name args) fault.now → LeadOn p (calls deed name args ∷ []) [] way.now result }
 {

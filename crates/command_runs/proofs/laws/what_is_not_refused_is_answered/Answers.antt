@@ -13,6 +13,7 @@ returns c = record {
   complete_report = λ words files failures failures' taken taken' faults faults' result run steady. flattening.completes_report words (Some files) failures failures' taken taken' faults faults' result
       (ran words (Some files) failures failures' taken taken' faults faults' result run) files refl steady;
   complete_script = λ words files failures failures' taken taken' faults faults' result run steady. stepping.completes words (Some files) failures failures' taken taken' faults faults' result (ran words (Some files) failures failures' taken taken' faults faults' result run) files refl steady;
+  complete_big = λ words files failures failures' taken taken' faults faults' result run. stepping.completes_big words files failures failures' taken taken' faults faults' result (ran words files failures failures' taken taken' faults faults' result run);
   every_graph = λ words files failures failures' taken taken' faults faults' result run steady file call text graph. flattening.every_graph words (Some files) failures failures' taken taken' faults faults' result
       (ran words (Some files) failures failures' taken taken' faults faults' result run) files refl steady file call text graph;
 }

@@ -3,7 +3,7 @@ use Rattle.std.proofs.Common.{[], refl}
 use Rattle.command_answers.specs.Answers.{help, version}
 use Rattle.command_words.specs.declared.words.Command.TheVariants as commands
 use Rattle.command_runs.specs.Runs.{asked}
-use Rattle.darwin_commands.proofs.Running.{runs_alone, runs_by}
+use Rattle.darwin_commands.proofs.Running.{runs_alone, runs_by, runs_unfetched}
 use Rattle.darwin_commands.proofs.answering.run_command.Goals as goal
 
 pub returns-in-Help-clause-runs : goal.returns-in-Help-clause-runs
@@ -45,3 +45,8 @@ returns-in-Step-clause-runs g c words asks =
     runs_by words (commands.Step c.in-Step.script) _ _ _ _ _ _ _
     c.answer_script.result c.finish-in-Step.result (rw c.in-Step.is at asks)
     (rw c.as_str-in-Step.ensures at c.answer_script.ensures.answers) c.finish-in-Step.ensures
+
+pub returns-in-Big-clause-runs : goal.returns-in-Big-clause-runs
+returns-in-Big-clause-runs g c words asks =
+    runs_unfetched words (commands.Big c.in-Big.lanes) _ _ _ _ _ _ c.answer_big.result c.finish-in-Big.result (rw c.in-Big.is at asks)
+    c.answer_big.ensures c.finish-in-Big.ensures

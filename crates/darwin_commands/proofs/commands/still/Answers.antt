@@ -13,7 +13,9 @@ returns g c =
       replayed = laws.replays _ _ _ _ _ _ _ _ _ run;
       upgraded = laws.upgrades _ _ _ _ _ _ _ _ _ run;
       ran = laws.runs _ _ _ _ _ _ _ _ _ run;
+      summed = laws.sums_up _ _ _ _ _ _ _ _ _ run;
       denied = laws.denies _ _ _ _ _ _ _ _ _ run;
       complete = λ file query files wants telling steady. laws.completes _ _ _ _ _ _ _ _ _ run files telling steady file query wants;
+      complete_big = laws.completes_big _ _ _ _ _ _ _ _ _ run;
       complete_script = λ name files asks telling steady. laws.completes_script _ _ _ _ _ _ _ _ _ run files telling steady name asks;
     }

@@ -1,5 +1,6 @@
 -- A text gives its description, or is refused.
-use Rattle.std.proofs.Common.{refl}
+use Rattle.std.proofs.Common.{ap, refl}
+use Rattle.command_answers.specs.Statuses.{is_of_run}
 use Rattle.script_answers.proofs.Lines.{text_refused}
 use Rattle.script_answers.proofs.describing.read_text.Goals as goal
 
@@ -7,5 +8,8 @@ pub returns-in-Ok : goal.returns-in-Ok
 returns-in-Ok c = (c.args.text.now, refl, c.in-Ok.ensures.checked)
 
 pub returns-in_ok-refuse_description-in-Err : goal.returns-in_ok-refuse_description-in-Err
-returns-in_ok-refuse_description-in-Err c = λ p rest.
-    text_refused c.args.file.now c.args.text.now c.in-Err.fault c.in_ok-refuse_description-in-Err.field-0 c.in-Err.ensures.refused c.in_ok-refuse_description-in-Err.ensures p rest
+returns-in_ok-refuse_description-in-Err c = (
+  ap is_of_run c.in_ok-refuse_description-in-Err.ensures.status_is,
+  λ p rest.
+      text_refused c.args.file.now c.args.text.now c.in-Err.fault c.in_ok-refuse_description-in-Err.field-0 c.in-Err.ensures.refused c.in_ok-refuse_description-in-Err.ensures p rest,
+)
