@@ -1,0 +1,7 @@
+mod ListLemmas
+mod CheckTests
+mod TextLemmas
+mod ElaborationTests
+mod Few
+mod LaneLemmas
+mod LineLemmas

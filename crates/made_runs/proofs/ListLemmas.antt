@@ -1,0 +1,27 @@
+-- Tests of lists.
+use Rattle.std.proofs.Common.{◌≡◌, ◌∙◌, ◌+◌, ◌<◌, Bool, true, false, cond, List, [], ◌∷◌, refl, ap, subst, ⊎_elim, arith, Contains}
+use Rattle.std.specs.List.{count_by, list_all}
+use Rattle.std.proofs.lemmas.Bool.{and_parts}
+use Rattle.std.proofs.lemmas.List.Sums.{sum_by-cons}
+use Rattle.base.proofs.ContainsLaws.{Contains-cons_cases, Contains-here, Contains-nil, Contains-there}
+
+-- each of a list passes
+pub all_have : {A : Type 0} (p : A → Bool) (xs : List A) → list_all p xs ≡ true → (x : A) → Contains xs x → p x ≡ true
+all_have p [] h x there = absurd (Contains-nil x there)
+all_have p (y ∷ xs) h x there =
+    let w = and_parts (p y) (list_all p xs) h in
+    ⊎_elim (λ (here : x ≡ y). ap p here ∙ w.0) (λ (later : Contains xs x). all_have p xs w.1 x later) (Contains-cons_cases y xs x there)
+
+count_by-cons : {A : Type 0} (p : A → Bool) (x : A) (xs : List A) → count_by p (x ∷ xs) ≡ cond (p x) 1 0 + count_by p xs
+count_by-cons p x xs = sum_by-cons (λ y. cond (p y) 1 0) x xs
+
+-- what passes at all is there
+pub one_of_two : {A : Type 0} (p : A → Bool) (xs : List A) → 0 < count_by p xs → (x : A) × Contains xs x × (p x ≡ true)
+one_of_two p [] some = absurd (omega (arith, some))
+one_of_two {A = A} p (x ∷ xs) some = by (p x) refl (one_of_two p xs) (subst (λ n. 0 < n) (count_by-cons p x xs) some)
+  where
+    by :
+        (b : Bool) → p x ≡ b → (0 < count_by p xs → (y : A) × Contains xs y × (p y ≡ true)) → 0 < cond b 1 0 + count_by p xs
+        → (y : A) × Contains (x ∷ xs) y × (p y ≡ true)
+    by true passes later more = (x, Contains-here x xs, passes)
+    by false fails later more = let w = later (omega (arith, more)) in (w.0, Contains-there x w.0 xs w.1, w.2)
