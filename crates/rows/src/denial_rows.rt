@@ -3,6 +3,8 @@
 use crate::descriptions::{ASKING, BRANCHES, LINE, PAIR, SMALL};
 use crate::replay_rows::{Replay, replay_all};
 use crate::running::{AMPLE, Row, run};
+use std::alloc::Global;
+use std::process::Abort;
 use std::test::Fail;
 
 /// Events of which the last is denied.
@@ -175,20 +177,39 @@ fn changes_are_denied(rt: HostRuntime) -> Result<(), Fail> {
     replay_all(&rt, rt.alloc(), &CHANGES)
 }
 
-/// A thousand events over one component, all of them steps.
-#[test]
-fn a_thousand_events_happen(rt: HostRuntime) -> Result<(), Fail> {
-    let alloc = rt.alloc();
+/// Runs a thousand events over one component, all of them steps, and then these.
+fn run_behind_a_thousand(
+    rt: &impl Abort,
+    alloc: Global,
+    last: &str,
+    (status, written): (u8, &str),
+) -> Result<(), Fail> {
     let mut events = String::from_str(alloc, "start L()\n")?;
     for _ in 0..500 {
         events.push_str("close 0\nreopen 0\n")?;
     }
+    events.push_str(last)?;
     let row = Row {
         words: &["replay", "f.dar", "e.txt"],
         files: &[("f.dar", SMALL), ("e.txt", events.as_str())],
         room: AMPLE,
-        status: 0,
-        written: "events 1000\nrest 0\n",
+        status,
+        written,
     };
-    run(&rt, alloc, &row)
+    run(rt, alloc, &row)
+}
+
+#[test]
+fn a_thousand_events_happen(rt: HostRuntime) -> Result<(), Fail> {
+    run_behind_a_thousand(&rt, rt.alloc(), "", (0, "events 1000\nrest 0\n"))
+}
+
+#[test]
+fn a_late_event_is_denied(rt: HostRuntime) -> Result<(), Fail> {
+    run_behind_a_thousand(
+        &rt,
+        rt.alloc(),
+        "close 1\nbegin 1 1 1\n",
+        (9, "denied 1002 2\n"),
+    )
 }

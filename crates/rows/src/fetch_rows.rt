@@ -2,8 +2,9 @@
 
 use crate::descriptions::LINE;
 use crate::running::AMPLE;
-use cfg_io::{MemShelf, MemSink};
+use cfg_io::{FileShelf, MemShelf, MemSink, Shelf};
 use darwin_commands::still;
+use std::fs;
 use std::test::Fail;
 
 /// Words, the number of the fetch that fails, counted from 0, and what they come to.
@@ -86,5 +87,17 @@ fn each_file_is_fetched_once(rt: HostRuntime) -> Result<(), Fail> {
         assert_eq!(rt; sink.bytes(), written.as_bytes(), "{written}");
         assert_eq!(rt; status.number(), row.status, "{written}");
     }
+    Ok(())
+}
+
+/// The system is asked for the name that was given, however long it is.
+#[test]
+fn a_file_of_a_long_name_is_read(rt: HostRuntime) -> Result<(), Fail> {
+    let name = "rows_reads_a_file_whose_name_is_longer_than_the_longest_name_of_a_description.txt";
+    fs::write(&rt, name, "long")?;
+    let mut shelf = FileShelf::new(&rt, rt.alloc());
+    let fetched = shelf.fetch(name, 4);
+    fs::remove_file(&rt, name)?;
+    assert_eq!(rt; fetched?.as_slice(), b"long".as_slice());
     Ok(())
 }

@@ -22,7 +22,7 @@ static HELP: [Words; 7] = [
     Words {
         words: &["--help"],
         status: 0,
-        written: "darwin_run --help\ndarwin_run --version\ndarwin_run flat FILE NAME INT*\ndarwin_run plan FILE NAME INT* -- NAME INT*\ndarwin_run replay FILE EVENTS\ndarwin_run step SCRIPT\ndarwin_run upgrade FILE\n",
+        written: "darwin_run --help\ndarwin_run --version\ndarwin_run flat FILE NAME INT*\ndarwin_run plan FILE NAME INT* -- NAME INT*\ndarwin_run replay FILE EVENTS\ndarwin_run step SCRIPT\ndarwin_run big N\ndarwin_run upgrade FILE\n",
     },
     Words {
         words: &["--version"],

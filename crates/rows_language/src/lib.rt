@@ -16,6 +16,8 @@ mod graph_rows;
 #[cfg(test)]
 mod lex_rows;
 #[cfg(test)]
+mod limit_rows;
+#[cfg(test)]
 mod parse_rows;
 #[cfg(test)]
 mod tree_rows;
