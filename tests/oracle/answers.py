@@ -159,7 +159,41 @@ def step(words, files):
     return runs.report(statements_of(said, files))
 
 
-COMMANDS = {b"flat": flat, b"plan": plan, b"replay": replay, b"step": step}
+LANES = b"""component source(int n) { require out; }
+component map(int k) { provide in; require next; }
+component buffer(int cap) { provide in; require next; }
+component sink { provide in; }
+component Lanes(int n, int k) {
+  array s[n]:source(20); m[n]:map(k); b[n]:buffer(2); w[n]:map(3); t[n]:sink;
+  forall i:0..n-1 {
+    inst s[i]; m[i]; b[i]; w[i]; t[i];
+    bind s[i].out -- m[i].in; m[i].next -- b[i].in; b[i].next -- w[i].in; w[i].next -- t[i].in;
+  }
+}
+"""
+
+
+def big(words, files):
+    """`big N`, from the lines of a report"""
+    usage(len(words) == 2 and words[1].isdigit() and 1 <= int(words[1]) <= 40)
+    lanes = int(words[1])
+    changes = b"run %d\nchange to Lanes(%d,2) within 100000\n" % (20 * lanes, lanes)
+    script = b"use big.dar\nstart Lanes(%d,1)\n" % lanes + changes + b"finish within 100000\nend\n"
+    status, text = step([b"step", b"big"], {"big": script, "big.dar": LANES})
+    sinks, items, nodes, commits, slot = set(), 0, 0, 0, None
+    for line in (line.split() for line in text.splitlines()):
+        nodes += line[0] == b"make"
+        commits += line[0] == b"commit"
+        if line[0] == b"make" and line[3] == b"sink()":
+            sinks.add(line[1])
+        elif line[0] == b"log":
+            slot = line[1]
+        elif line[0] == b"state" and slot in sinks:
+            items += len(line) - 1
+    return status, b"big %d\nnodes %d\ncommits %d\nitems %d\nstatus %d\n" % (lanes, nodes, commits, items, status)
+
+
+COMMANDS = {b"flat": flat, b"plan": plan, b"replay": replay, b"step": step, b"big": big}
 
 
 def wrong(words, files, status, written):

@@ -56,6 +56,7 @@ EVENTS = {
 # The rules of the change machine by their numbers.
 RULES = range(1, 31)
 
+SUMMARY = re.compile(rb"big %s\nnodes %s\ncommits %s\nitems %s\nstatus 0\n" % (NUMBER, NUMBER, NUMBER, NUMBER))
 NODE = re.compile(rb"node (%s) ([a-z]+)\((\d*)\)" % PATH)
 PORT = re.compile(rb"port (%s)\.([a-z]+) (?:-|(%s)\.([a-z]+))" % (PATH, PATH))
 REFUSAL = re.compile(rb"description (.*): ([A-Za-z]+)( .*)?\n", re.S)
@@ -146,6 +147,8 @@ def judge(words, files, status, written):
         want(status in (0, 2, 3, 4, 7, 8), "a status that shouldn't come here")
     elif status == 0 and command == "flat":
         graph(written)
+    elif status == 0 and command == "big":
+        want(SUMMARY.fullmatch(written), "no summary")
     elif status == 0 and command == "plan":
         want(FREEZE.fullmatch(written), "no text of a plan")
     elif status == 0 and command == "replay":
