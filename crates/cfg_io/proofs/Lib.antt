@@ -1,4 +1,3 @@
 pub mod Bytes
 pub mod FilesLemmas
 mod Known
-mod ReadLemmas

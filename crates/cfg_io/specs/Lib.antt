@@ -1,4 +1,5 @@
 pub mod Count
+pub mod Reading
 pub mod Shelf
 pub mod Sink
 pub mod Store

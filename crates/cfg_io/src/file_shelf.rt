@@ -1,8 +1,9 @@
 //! The files of the system as a shelf.
 
-ghost use Rattle.std.specs.Prelude.{◌≡◌, ◌≢◌, ◌≤◌, ◌⊎◌, Err, IfErr, IfOk, IfSome, Some, [], vec_len};
+ghost use Rattle.std.specs.Prelude.{◌≡◌, ◌≤◌, ◌+◌, Err, IfErr, IfOk, IfSome, Some, [], take, vec_len};
 ghost use Rattle.std.specs.IoError.{error_kind};
 ghost use Rattle.cfg_io.specs.Shelf.{CarriesLimit, MayAnswer};
+ghost use Rattle.cfg_io.specs.Reading.{IsFaultOf, IsReadOf};
 
 use crate::shelf::{Shelf, ShelfError};
 use std::alloc::Global;
@@ -67,43 +68,40 @@ fn read_opened<R: Read + Drop>(
     opened: io::Result<R>,
     limit: u32,
 ) -> Result<Vec<u8>, ShelfError>
+    ensures told { IfOk opened (λ reader. IfSome (R.remaining reader) (λ left. MayAnswer (Some left) limit result)) }
     ensures within { IfOk result (λ bytes. vec_len bytes ≤ limit) }
     ensures carries { CarriesLimit result limit }
-    ensures told { IfOk opened (λ reader. IfSome (R.remaining reader) (λ left. MayAnswer (Some left) limit result)) }
-    ensures refused { IfErr opened (λ error.
-        ((error_kind error ≡ ErrorKind.OutOfMemory) × (result ≡ Err ShelfError.NoMemory))
-        ⊎ ((error_kind error ≢ ErrorKind.OutOfMemory) × (result ≡ Err ShelfError.Failed))) }
+    ensures refused { IfErr opened (λ error. IsFaultOf (error_kind error ≡ ErrorKind.OutOfMemory) result) }
 {
-    match opened {
-        Ok(reader) => read_within(alloc, reader, limit),
-        Err(error) => Err(refusal(&error)),
+    answer_of(read_front(alloc, opened, limit), limit)
+}
+
+/// What a fetch answers of a file, by what reading it gave: its bytes up to one past the limit, or a fault of opening
+/// or of reading it. Only a fault that says that memory ran out is told as that.
+pub fn answer_of(read: io::Result<Vec<u8>>, limit: u32) -> Result<Vec<u8>, ShelfError>
+    ensures read { IfOk read (λ bytes. IsReadOf bytes.items limit result) }
+    ensures faulted { IfErr read (λ error. IsFaultOf (error_kind error ≡ ErrorKind.OutOfMemory) result) }
+{
+    match read {
+        Ok(bytes) if bytes.len() > limit as usize => Err(ShelfError::TooLong { limit }),
+        Ok(bytes) => Ok(bytes),
+        Err(error) if error.kind() == ErrorKind::OutOfMemory => Err(ShelfError::NoMemory),
+        Err(_) => Err(ShelfError::Failed),
     }
 }
 
-// All that a reader has left, where it keeps the limit. One byte past the limit is read to tell more. Bytes
-// are read in pieces, so that the memory goes with those that are there.
-fn read_within<R: Read + Drop>(alloc: Global, reader: R, limit: u32) -> Result<Vec<u8>, ShelfError>
-    ensures within { IfOk result (λ bytes. vec_len bytes ≤ limit) }
-    ensures carries { CarriesLimit result limit }
-    ensures told { IfSome (R.remaining reader) (λ left. MayAnswer (Some left) limit result) }
+/// All that a file has, up to one byte past the limit, or the fault of opening or of reading it. Bytes are read in
+/// pieces, so that the memory goes with those that are there.
+fn read_front<R: Read + Drop>(
+    alloc: Global,
+    opened: io::Result<R>,
+    limit: u32,
+) -> io::Result<Vec<u8>>
+    ensures told { IfOk opened (λ reader. IfOk result (λ bytes.
+        IfSome (R.remaining reader) (λ left. bytes.items ≡ take (limit + 1) left))) }
+    ensures unopened { IfErr opened (λ error. result ≡ Err error) }
 {
     let mut bytes = Vec::new(alloc);
-    let read = reader.take(u64::from(limit) + 1).read_to_end(&mut bytes);
-    match read {
-        Ok(_) if bytes.len() > limit as usize => Err(ShelfError::TooLong { limit }),
-        Ok(_) => Ok(bytes),
-        Err(error) => Err(refusal(&error)),
-    }
-}
-
-// Why a file isn't read.
-fn refusal(error: &io::Error) -> ShelfError
-    ensures { ((error_kind error.now ≡ ErrorKind.OutOfMemory) × (result ≡ ShelfError.NoMemory))
-        ⊎ ((error_kind error.now ≢ ErrorKind.OutOfMemory) × (result ≡ ShelfError.Failed)) }
-{
-    if error.kind() == ErrorKind::OutOfMemory {
-        ShelfError::NoMemory
-    } else {
-        ShelfError::Failed
-    }
+    opened?.take(u64::from(limit) + 1).read_to_end(&mut bytes)?;
+    Ok(bytes)
 }

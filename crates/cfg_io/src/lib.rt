@@ -26,7 +26,7 @@ mod shelf;
 mod sink;
 
 pub use base::NoMemory;
-pub use file_shelf::FileShelf;
+pub use file_shelf::{FileShelf, answer_of};
 pub use mem_shelf::MemShelf;
 pub use mem_sink::MemSink;
 pub use out_sink::OutSink;
