@@ -2,8 +2,10 @@
 //! changes them once.
 #![tactic(auto)]
 
+mod laws;
 mod shelf;
 mod texts;
 
+pub use laws::limit_of_lanes;
 pub use shelf::MadeFiles;
-pub use texts::SCRIPT_NAME;
+pub use texts::{MAX_LANES, SCRIPT_NAME};

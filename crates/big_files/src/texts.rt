@@ -7,6 +7,9 @@ use cfg_io::NoMemory;
 use itoa::Buffer;
 use std::alloc::Global;
 
+/// The most lanes of a system that is made.
+pub const MAX_LANES: u32 = 40;
+
 /// The name of the script.
 pub const SCRIPT_NAME: &str = "big";
 

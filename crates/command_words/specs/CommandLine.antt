@@ -3,6 +3,7 @@ use Rattle.std.specs.Prelude.{◌≡◌, ◌≢◌, ◌≤◌, ℕ, ℤ, List, [
 use Rattle.std.specs.Int.{w32}
 use Rattle.std.specs.List.{AllByRecursion}
 use Rattle.std.specs.Str.Parse.{IsNumeral, digits_value, signed_digits_value, without_leading_sign}
+use Rattle.big_files.specs.declared.texts.TheConstants.{MAX_LANES}
 use Rattle.darwin_lexer.specs.Naming.{IsName}
 use Rattle.command_words.specs.declared.words.TopCall.{TopCall}
 use Rattle.command_words.specs.declared.words.Command.{Command}
@@ -17,9 +18,9 @@ IsInteger word =
 abbrev pub integer_of : List ℕ → ℤ
 integer_of word = signed_digits_value 10 word
 
--- one digit or more, and nothing else, with a value from 1 to 40
+-- one digit or more, and nothing else, with a value from 1 to the most lanes
 abbrev pub IsLaneCount : List ℕ → Type 0
-IsLaneCount word = IsNumeral 10 word × (1 ≤ digits_value 10 word) × (digits_value 10 word ≤ 40)
+IsLaneCount word = IsNumeral 10 word × (1 ≤ digits_value 10 word) × (digits_value 10 word ≤ MAX_LANES)
 
 -- the words of a component and its arguments
 abbrev pub IsCall : List (List ℕ) → TopCall → Type 0

@@ -8,6 +8,7 @@ ghost use Rattle.command_words.specs.CommandLine.{IsInteger, IsLaneCount, intege
 ghost use Rattle.command_words.specs.declared.words.Command.{Command};
 ghost use Rattle.command_words.specs.declared.words.TopCall.{TopCall};
 
+use big_files::MAX_LANES;
 use config_graph::{List, NoMemory};
 use darwin_lexer::is_name;
 use std::alloc::Global;
@@ -77,7 +78,7 @@ pub enum Command<'a> {
     Step {
         script: Word<'a>,
     },
-    /// A summary of the run of a system of so many lanes, from 1 to 40, which the program makes itself.
+    /// A summary of the run of a system of so many lanes, from 1 to [`MAX_LANES`], which the program makes itself.
     Big {
         lanes: u32,
     },
@@ -270,12 +271,12 @@ fn read_lanes<'a>(count: &'a str) -> Option<Command<'a>>
     }
 }
 
-/// The value of a word that is digits, where it is from 1 to 40.
+/// The value of a word that is digits, where it is from 1 to [`MAX_LANES`].
 fn lane_count(word: &str) -> Option<u32>
     ensures { SomeIff result (IsLaneCount word.now) (digits_value 10 word.now) }
 {
     match word.parse::<u32>() {
-        Ok(lanes) if !word.starts_with('+') && 1 <= lanes && lanes <= 40 => Some(lanes),
+        Ok(lanes) if !word.starts_with('+') && 1 <= lanes && lanes <= MAX_LANES => Some(lanes),
         _ => None,
     }
 }
