@@ -1,71 +1,88 @@
 //! Rows of a source, a map that calls, and a sink at the gates.
 
-use crate::systems::{close, line, look};
+ghost use Rattle.std.specs.Prelude.{◌≡◌};
+
+use crate::row_systems::{close, line, look};
+use crate::seated::Seated;
+use crate::unfit::Unfit;
 use gate_records::Look;
 use port_gate::{BeginAnswer, CallAnswer, SeeAnswer, TakeAnswer};
+use std::process::Abort;
 use std::test::Fail;
 use txn_gate::Gates;
+
+/// The source begins, and the map takes the request up and calls the sink in its service.
+fn call_on(rt: &impl Abort, gates: &Gates, m: &mut Seated, s: &mut Seated) -> Result<(), Unfit>
+    requires map { m.old.seat.seat.table_id ≡ gates.now.words.shared.table_id }
+    requires source { s.old.seat.seat.table_id ≡ gates.now.words.shared.table_id }
+    ensures map { m.new.seat.seat.table_id ≡ m.old.seat.seat.table_id }
+    ensures source { s.new.seat.seat.table_id ≡ s.old.seat.seat.table_id }
+{
+    let begun = BeginAnswer::Begun {
+        serial: 1,
+        target: 0,
+    };
+    assert_eq!(rt; s.begin(gates, 1, 1)?, begun);
+    let taken = TakeAnswer::Taken {
+        provide: 0,
+        serial: 1,
+        value: 1,
+    };
+    assert_eq!(rt; m.take(gates, 1)?, taken);
+    let called = CallAnswer::Called {
+        serial: 1,
+        target: 2,
+    };
+    assert_eq!(rt; m.call(gates, 0, 11)?, called);
+    Ok(())
+}
+
+/// The sink answers the map, and the map the source.
+fn answer_back(
+    rt: &impl Abort,
+    gates: &Gates,
+    m: &mut Seated,
+    s: &mut Seated,
+    t: &mut Seated,
+) -> Result<(), Unfit>
+    requires map { m.old.seat.seat.table_id ≡ gates.now.words.shared.table_id }
+    requires source { s.old.seat.seat.table_id ≡ gates.now.words.shared.table_id }
+    requires sink { t.old.seat.seat.table_id ≡ gates.now.words.shared.table_id }
+{
+    let taken = TakeAnswer::Taken {
+        provide: 0,
+        serial: 1,
+        value: 11,
+    };
+    assert_eq!(rt; t.take(gates, 0)?, taken);
+    t.give(gates, 0, 7)?;
+    let answer = SeeAnswer::Answer { value: 7 };
+    assert_eq!(rt; m.see(gates, 0)?, answer);
+    m.end(gates, 0)?;
+    m.give(gates, 1, 7)?;
+    assert_eq!(rt; s.see(gates, 1)?, answer);
+    s.end(gates, 1)
+}
+
+/// What is seen of a port that is drained, with or without a transaction of its own.
+fn drained(idle: bool) -> Look {
+    Look::Drained { serial: 1, idle }
+}
 
 #[test]
 fn consequent_drained(rt: HostRuntime) -> Result<(), Fail> {
     let (gates, mut change) = Gates::new(rt.alloc())?;
     gates.reserve(&mut change, 3)?;
     let (mut m, mut s, mut t) = line(rt.alloc(), &gates, &mut change, true)?;
-    let begun = s.begin(&gates, 1, 1)?;
-    assert_eq!(rt;
-        begun,
-        BeginAnswer::Begun {
-            serial: 1,
-            target: 0
-        }
-    );
-    let taken = m.take(&gates, 1)?;
-    assert_eq!(rt;
-        taken,
-        TakeAnswer::Taken {
-            provide: 0,
-            serial: 1,
-            value: 1
-        }
-    );
-    let called = m.call(&gates, 0, 11)?;
-    assert_eq!(rt;
-        called,
-        CallAnswer::Called {
-            serial: 1,
-            target: 2
-        }
-    );
+    call_on(&rt, &gates, &mut m, &mut s)?;
     close(&gates, &mut change, 0)?;
     close(&gates, &mut change, 1)?;
-    let drained = Look::Drained {
-        serial: 1,
-        idle: false,
-    };
-    assert_eq!(rt; look(&gates, &mut change, 0)?, drained);
+    assert_eq!(rt; look(&gates, &mut change, 0)?, drained(false));
     let open = look(&gates, &mut change, 1)?;
     assert!(rt; matches!(open, Look::Busy { .. }));
     assert!(rt; !change.settled(0));
-    let taken = t.take(&gates, 0)?;
-    assert_eq!(rt;
-        taken,
-        TakeAnswer::Taken {
-            provide: 0,
-            serial: 1,
-            value: 11
-        }
-    );
-    t.give(&gates, 0, 7)?;
-    assert_eq!(rt; m.see(&gates, 0)?, SeeAnswer::Answer { value: 7 });
-    m.end(&gates, 0)?;
-    m.give(&gates, 1, 7)?;
-    assert_eq!(rt; s.see(&gates, 1)?, SeeAnswer::Answer { value: 7 });
-    s.end(&gates, 1)?;
-    let drained = Look::Drained {
-        serial: 1,
-        idle: true,
-    };
-    assert_eq!(rt; look(&gates, &mut change, 1)?, drained);
+    answer_back(&rt, &gates, &mut m, &mut s, &mut t)?;
+    assert_eq!(rt; look(&gates, &mut change, 1)?, drained(true));
     assert!(rt; change.settled(0) && change.settled(1) && change.settled(2));
     Ok(())
 }

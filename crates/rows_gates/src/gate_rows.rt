@@ -2,8 +2,9 @@
 
 ghost use Rattle.std.specs.Prelude.{◌≡◌};
 
+use crate::row_systems::{apart, close, look, make_later};
 use crate::seated::Seated;
-use crate::systems::{apart, close, look, make_later, node, open_two, pipe, reopen};
+use crate::systems::{node, open_two, pipe, reopen};
 use crate::unfit::Unfit;
 use config_graph::Kind;
 use gate_records::Look;

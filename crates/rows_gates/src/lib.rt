@@ -6,6 +6,8 @@ mod call_rows;
 mod exchanges;
 #[cfg(test)]
 mod gate_rows;
+#[cfg(test)]
+mod row_systems;
 mod seated;
 mod systems;
 #[cfg(test)]
@@ -14,5 +16,5 @@ mod unfit;
 
 pub use exchanges::{Tally, alone, initiate, serve};
 pub use seated::Seated;
-pub use systems::{apart, close, finish_two, line, look, pipe, reopen};
+pub use systems::pipe;
 pub use unfit::{Unfit, Unmade};

@@ -1,23 +1,20 @@
-//! Systems of a few nodes at the gates, and calls of the change that test what they ask. Where it
+//! A source that leads to a sink at the gates, and calls of the change that test what they ask. Where it
 //! doesn't hold, they answer `Unfit`.
 
-ghost use Rattle.std.specs.Prelude.{◌≡◌, ℕ, false, [], ◌∷◌, ◌++◌, ◌<◌, ◌≤◌, ◌↔◌, length, None, IfOk, IfErr, IsTrue};
+ghost use Rattle.std.specs.Prelude.{◌≡◌, ℕ, false, [], ◌∷◌, ◌++◌, ◌<◌, length, None, IfOk, IfErr};
 ghost use Rattle.config_graph.specs.declared.kind.Kind.TheVariants as kind;
 ghost use Rattle.gate_records.specs.Entries.{config_of};
 ghost use Rattle.gate_records.specs.declared.entry.Entry.TheVariants.{Did};
-ghost use Rattle.gate_records.specs.Records.{AreAllNoted};
-ghost use Rattle.gate_rule.specs.Merging.{MergeIntoRun};
-ghost use Rattle.gate_rule.specs.Views.{change_of, node_of};
+ghost use Rattle.gate_rule.specs.Views.{change_of};
 ghost use Rattle.quiesce_core.specs.Legal.{CanMake};
 ghost use Rattle.quiesce_core.specs.Rules.{is_live_port, is_path_taken};
 ghost use Rattle.quiesce_core.specs.declared.event.Event.TheVariants as event;
-ghost use Rattle.rows_gates.specs.Made.{made_three, made_two, opened_two};
+ghost use Rattle.rows_gates.specs.Made.{made_two, opened_two};
 
 use crate::seated::Seated;
 use crate::unfit::{Unfit, Unmade};
 use base::Text;
 use config_graph::{Kind, MAX_NODES, MAX_PORTS, NoMemory, Node, VALUE_LIMIT};
-use gate_records::Look;
 use std::alloc::Global;
 use txn_gate::{ChangeSeat, Gates};
 
@@ -35,7 +32,7 @@ pub(crate) fn node(
 }
 
 /// Makes a node whose path no live node has.
-fn make(gates: &Gates, change: &mut ChangeSeat, node: &Node) -> Result<Seated, Unfit>
+pub(crate) fn make(gates: &Gates, change: &mut ChangeSeat, node: &Node) -> Result<Seated, Unfit>
     requires here { change.old.seat.table_id ≡ gates.now.words.shared.table_id }
     requires new_path { is_path_taken (config_of (change_of change.old.seat.me.0).entries) node.now.path ≡ false }
     ensures here { change.new.seat.table_id ≡ change.old.seat.table_id }
@@ -64,7 +61,7 @@ fn make(gates: &Gates, change: &mut ChangeSeat, node: &Node) -> Result<Seated, U
 }
 
 /// Makes the first two nodes.
-fn make_two(
+pub(crate) fn make_two(
     gates: &Gates,
     change: &mut ChangeSeat,
     first: &Node,
@@ -84,29 +81,6 @@ fn make_two(
     Ok((one, two))
 }
 
-/// Makes the first three nodes.
-fn make_three(
-    gates: &Gates,
-    change: &mut ChangeSeat,
-    first: &Node,
-    second: &Node,
-    third: &Node,
-) -> Result<(Seated, Seated, Seated), Unfit>
-    requires here { change.old.seat.table_id ≡ gates.now.words.shared.table_id }
-    requires fresh { (change_of change.old.seat.me.0).entries ≡ [] }
-    ensures here { change.new.seat.table_id ≡ change.old.seat.table_id }
-    ensures seats { IfOk result (λ r. (r.0.seat.seat.table_id ≡ change.old.seat.table_id) × (r.1.seat.seat.table_id ≡ change.old.seat.table_id)
-        × (r.2.seat.seat.table_id ≡ change.old.seat.table_id)) }
-    ensures made { IfOk result (λ _. (n : ℕ) × (m : ℕ) × (k : ℕ) × ((change_of change.new.seat.me.0).entries ≡ made_three n m k first.now second.now third.now)) }
-{
-    if first.path == third.path || second.path == third.path {
-        return Err(Unfit);
-    }
-    let (one, two) = make_two(gates, change, first, second)?;
-    let three = make(gates, change, third)?;
-    Ok((one, two, three))
-}
-
 /// The change opens a live port.
 pub fn reopen(gates: &Gates, change: &mut ChangeSeat, port: u32) -> Result<(), Unfit>
     requires here { change.old.seat.table_id ≡ gates.now.words.shared.table_id }
@@ -119,31 +93,6 @@ pub fn reopen(gates: &Gates, change: &mut ChangeSeat, port: u32) -> Result<(), U
     }
     gates.reopen(change, port);
     Ok(())
-}
-
-/// The change closes a live port.
-pub fn close(gates: &Gates, change: &mut ChangeSeat, port: u32) -> Result<(), Unfit>
-    requires here { change.old.seat.table_id ≡ gates.now.words.shared.table_id }
-    ensures here { change.new.seat.table_id ≡ change.old.seat.table_id }
-    ensures unfit { IfErr result (λ _. (is_live_port (config_of (change_of change.old.seat.me.0).entries) port ≡ false) × (change.new ≡ change.old)) }
-{
-    if !change.is_live_port(port) {
-        return Err(Unfit);
-    }
-    gates.close(change, port);
-    Ok(())
-}
-
-/// The change looks at a port that was made.
-pub fn look(gates: &Gates, change: &mut ChangeSeat, port: u32) -> Result<Look, Unfit>
-    requires here { change.old.seat.table_id ≡ gates.now.words.shared.table_id }
-    ensures here { change.new.seat.table_id ≡ change.old.seat.table_id }
-    ensures unfit { IfErr result (λ _. (length (config_of (change_of change.old.seat.me.0).entries).gates ≤ port) × (change.new ≡ change.old)) }
-{
-    if port >= change.made().ports {
-        return Err(Unfit);
-    }
-    Ok(gates.look(change, port))
 }
 
 /// The source in slot 0 leads to the sink in slot 1.
@@ -178,42 +127,6 @@ pub(crate) fn open_two(
     Ok(made)
 }
 
-/// Makes a third node then.
-pub(crate) fn make_later(
-    gates: &Gates,
-    change: &mut ChangeSeat,
-    first: &Node,
-    second: &Node,
-    later: &Node,
-) -> Result<Seated, Unfit>
-    requires here { change.old.seat.table_id ≡ gates.now.words.shared.table_id }
-    requires opened { (n : ℕ) × (m : ℕ) × ((change_of change.old.seat.me.0).entries ≡ opened_two n m first.now second.now) }
-    ensures here { change.new.seat.table_id ≡ change.old.seat.table_id }
-    ensures seat { IfOk result (λ r. r.seat.seat.table_id ≡ change.old.seat.table_id) }
-{
-    if first.path == later.path || second.path == later.path {
-        return Err(Unfit);
-    }
-    make(gates, change, later)
-}
-
-/// The source in slot 0 with port 0, which is closed and leads nowhere, and the sink in slot 1.
-pub fn apart(
-    alloc: Global,
-    gates: &Gates,
-    change: &mut ChangeSeat,
-) -> Result<(Seated, Seated), Unmade>
-    requires here { change.old.seat.table_id ≡ gates.now.words.shared.table_id }
-    requires fresh { (change_of change.old.seat.me.0).entries ≡ [] }
-    ensures here { change.new.seat.table_id ≡ change.old.seat.table_id }
-    ensures seats { IfOk result (λ r. (r.0.seat.seat.table_id ≡ change.old.seat.table_id) × (r.1.seat.seat.table_id ≡ change.old.seat.table_id)) }
-{
-    let source = node(alloc, b"s", Kind::Source, Some(9))?;
-    let sink = node(alloc, b"t", Kind::Sink, None)?;
-    let made = make_two(gates, change, &source, &sink)?;
-    Ok(made)
-}
-
 /// The source in slot 0, whose port 0 is open and leads to the sink in slot 1.
 pub fn pipe(
     alloc: Global,
@@ -229,90 +142,4 @@ pub fn pipe(
     let sink = node(alloc, b"t", Kind::Sink, None)?;
     let made = open_two(gates, change, &source, &sink)?;
     Ok(made)
-}
-
-/// A map in slot 0 with port 0, a source in slot 1 with port 1, and a sink in slot 2. The source leads to the map, and the map to the
-/// sink where `whole`; the ports that lead somewhere are open.
-pub fn line(
-    alloc: Global,
-    gates: &Gates,
-    change: &mut ChangeSeat,
-    whole: bool,
-) -> Result<(Seated, Seated, Seated), Unmade>
-    requires here { change.old.seat.table_id ≡ gates.now.words.shared.table_id }
-    requires fresh { (change_of change.old.seat.me.0).entries ≡ [] }
-    ensures here { change.new.seat.table_id ≡ change.old.seat.table_id }
-    ensures seats { IfOk result (λ r. (r.0.seat.seat.table_id ≡ change.old.seat.table_id) × (r.1.seat.seat.table_id ≡ change.old.seat.table_id)
-        × (r.2.seat.seat.table_id ≡ change.old.seat.table_id)) }
-{
-    let map = node(alloc, b"m", Kind::Map, Some(10))?;
-    let source = node(alloc, b"s", Kind::Source, Some(3))?;
-    let sink = node(alloc, b"t", Kind::Sink, None)?;
-    let made = make_three(gates, change, &map, &source, &sink)?;
-    link_three(gates, change, &map, &source, &sink, whole);
-    reopen(gates, change, 1)?;
-    if whole {
-        reopen(gates, change, 0)?;
-    }
-    Ok(made)
-}
-
-/// The links of a line.
-fn link_three(
-    gates: &Gates,
-    change: &mut ChangeSeat,
-    first: &Node,
-    second: &Node,
-    third: &Node,
-    whole: bool,
-)
-    requires here { change.old.seat.table_id ≡ gates.now.words.shared.table_id }
-    requires kinds { (first.now.kind ≡ kind.Map) × (second.now.kind ≡ kind.Source) × (third.now.kind ≡ kind.Sink) }
-    requires made { (n : ℕ) × (m : ℕ) × (k : ℕ) × ((change_of change.old.seat.me.0).entries ≡ made_three n m k first.now second.now third.now) }
-    ensures here { change.new.seat.table_id ≡ change.old.seat.table_id }
-{
-    let (_, _, _) = (first, second, third);
-    if whole {
-        gates.link(change, 0, 2, 0);
-        gates.link(change, 1, 0, 0);
-    } else {
-        gates.link(change, 1, 0, 0);
-    }
-}
-
-/// Whether each port of a live node is noted as drained.
-fn are_all_noted(change: &ChangeSeat) -> bool
-    ensures { IsTrue result ↔ AreAllNoted (change_of change.now.seat.me.0).entries }
-{
-    for port in 0..change.made().ports {
-        if change.is_live_port(port) && !change.is_noted(port) {
-            return false;
-        }
-    }
-    true
-}
-
-/// The seats of the only two nodes are collected, once all ports are drained, and all that was done and seen is merged into one run.
-pub fn finish_two(
-    gates: &Gates,
-    change: &mut ChangeSeat,
-    first: Seated,
-    second: Seated,
-) -> Result<(), Unfit>
-    requires here { change.old.seat.table_id ≡ gates.now.words.shared.table_id }
-    requires seats { (first.seat.seat.table_id ≡ gates.now.words.shared.table_id) × (second.seat.seat.table_id ≡ gates.now.words.shared.table_id) }
-    ensures merged { IfOk result (λ _. MergeIntoRun (change_of change.new.seat.me.0).entries change.new.seat.me.0.nodes) }
-    ensures unfit { IfErr result (λ _. (length (config_of (change_of change.old.seat.me.0).entries).slots ≡ 2 → (node_of first.seat.seat.me.0).slot ≡ 0
-        → (node_of second.seat.seat.me.0).slot ≡ 1 → AreAllNoted (change_of change.old.seat.me.0).entries → ⊥) × (change.new ≡ change.old)) }
-{
-    if change.made().nodes != 2 || first.seat.slot() != 0 || second.seat.slot() != 1 {
-        return Err(Unfit);
-    }
-    if !are_all_noted(change) {
-        return Err(Unfit);
-    }
-    gates.collect(change, first.seat);
-    gates.collect(change, second.seat);
-    gates.finish(change);
-    Ok(())
 }

@@ -3,8 +3,9 @@
 ghost use Rattle.std.specs.Prelude.{◌≡◌};
 
 use crate::exchanges::{Tally, initiate, serve};
+use crate::row_systems::{close, finish_two, look};
 use crate::seated::Seated;
-use crate::systems::{close, finish_two, look, pipe, reopen};
+use crate::systems::{pipe, reopen};
 use crate::unfit::Unfit;
 use gate_records::Look;
 use std::sync::Wait;

@@ -3,7 +3,7 @@ use Rattle.gate_records.specs.Records.{May}
 use Rattle.gate_records.specs.declared.entry.Entry.TheVariants.{Did}
 use Rattle.quiesce_core.specs.declared.event.Event.TheVariants.{Link}
 use Rattle.rows_gates.proofs.Linking.{three}
-use Rattle.rows_gates.proofs.systems.link_three.Goals as goal
+use Rattle.rows_gates.proofs.row_systems.link_three.Goals as goal
 
 pub link-requires-clause-may : goal.link-requires-clause-may
 link-requires-clause-may c =
