@@ -81,7 +81,7 @@ pub record HasPlace (history : Vec HistoryLine) (change : Change) : Type 0 where
   pub abandon_lines : vec_len history + 2 * vec_len change.closed + 1 + vec_len change.reopen_lines ≤ vec_capacity history
   pub waiting : HasPlaceFor change.waiting (vec_len change.closed)
 
--- it was prepared, and nothing was done since: all its memory is taken
+-- a change is open, and there is place for all that it adds, so that its memory is taken: as it is behind `prepare`
 pub record IsPrepared {B : Type 0} (S : B → List Entry → Type 0) (R : B → Room) (e : Engine B) (t : List Item)
     (moves : List Move) (plan : Plan) (new : Graph) : Type 0 where
   pub is_open : IsOpen S R e t moves plan new

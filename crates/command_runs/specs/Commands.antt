@@ -78,7 +78,7 @@ pub record OfMadeFiles (lanes : ℕ) (answer : Answer) : Type 0 where
   pub course : course_of_script script_name own made
   pub is : answer ≡ in_summary lanes made
 
--- No file of the shelf is fetched.
+-- By no fetch of the shelf.
 abbrev pub SumsUp : ℕ → Course
 SumsUp lanes fetches answer = (fetches ≡ []) × OfMadeFiles lanes answer
 

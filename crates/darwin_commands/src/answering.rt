@@ -11,6 +11,7 @@ ghost use Rattle.command_runs.specs.Runs.{Runs};
 ghost use Rattle.script_answers.specs.Preparing.{EndsRun};
 ghost use Rattle.script_steps.specs.Asked.{CanDoAll, CanStart, after_start, statements_of};
 ghost use Rattle.darwin_commands.specs.Coming.{ComesBy, EndsBy, EndsInSummary};
+ghost use Rattle.darwin_commands.specs.Naming.{NameNoFile, NamesNoFile};
 
 use crate::writing::{finish, no_memory, write};
 use crate::{HELP, USAGE, VERSION};
@@ -45,6 +46,7 @@ pub fn run_words<H: Shelf, K: Sink>(
         (H.failed shelf.old) (H.failed shelf.new)
         (K.taken out.old) (K.taken out.new) (K.faults out.old) (K.faults out.new) result }
     ensures kept { H.files shelf.new ≡ H.files shelf.old }
+    ensures untouched { NameNoFile (map string_bytes words.now) → shelf.new ≡ shelf.old }
 {
     match read_words(alloc, words) {
         Ok(None) => write(out, Status::Usage, USAGE.as_bytes()),
@@ -64,6 +66,7 @@ fn run_command<H: Shelf, K: Sink>(
         → Runs words (H.files shelf.old) (H.failed shelf.old) (H.failed shelf.new)
         (K.taken out.old) (K.taken out.new) (K.faults out.old) (K.faults out.new) result }
     ensures kept { H.files shelf.new ≡ H.files shelf.old }
+    ensures untouched { NamesNoFile command.entry → shelf.new ≡ shelf.old }
 {
     match command {
         Command::Help => write(out, Status::Ok, HELP.as_bytes()),

@@ -9,13 +9,14 @@ ghost use Rattle.command_words.specs.declared.words.Command.TheVariants as comma
 ghost use Rattle.command_words.specs.declared.words.TopCall.{TopCall};
 ghost use Rattle.command_runs.specs.Outcomes.{Flattened, Planned, Replayed, Upgraded, NothingRefuses, EndsAsGiven, Wants};
 ghost use Rattle.command_runs.specs.Outcomes.{EndsAsRun, IsRunStatus, NothingRefusesLines, Ran, SummedUp};
-ghost use Rattle.big_files.specs.BigFiles.{made_files, script};
 ghost use Rattle.command_runs.specs.Runs.{Runs};
 ghost use Rattle.command_runs.specs.declared.query.Query.{Query};
+ghost use Rattle.darwin_commands.specs.Naming.{NameNoFile};
 
 use crate::answering::run_words;
 use cfg_io::{Shelf, Sink};
 use command_answers::Status;
+use made_runs::made_runs_are_not_refused;
 use std::alloc::Global;
 
 /// Does what the words ask for, with files from the shelf, and writes to the sink: the text that they ask for, or one
@@ -63,9 +64,11 @@ pub fn still<H: Shelf, K: Sink>(
     ensures complete_script { (name : List ℕ) (files : Files) → Asks (map string_bytes words.now) (commands.Step name)
         → H.files shelf.old ≡ Some files → H.failed shelf.new ≡ H.failed shelf.old → NothingRefusesLines files (files name)
         → EndsAsRun result }
-    // And so is a script that was made.
-    ensures complete_big { (lanes : ℕ) → Asks (map string_bytes words.now) (commands.Big lanes)
-        → NothingRefusesLines (made_files lanes) (Some (script lanes)) → EndsAsRun result }
+    // And so is the script that is made, of which nothing is refused.
+    ensures complete_big { (lanes : ℕ) → Asks (map string_bytes words.now) (commands.Big lanes) → EndsAsRun result }
+    // Words that name no file, as those of `big`, fetch none: the shelf is as it was.
+    ensures untouched { NameNoFile (map string_bytes words.now) → shelf.new ≡ shelf.old }
 {
+    made_runs_are_not_refused();
     run_words(alloc, words, shelf, out)
 }

@@ -1,6 +1,6 @@
 //! The whole program over any shelf and any sink: from the words of a command line to the code with which it exits.
 
-ghost use Rattle.std.specs.Prelude.{◌≡◌, [], drop, map, string_bytes, IfOk, IfErr};
+ghost use Rattle.std.specs.Prelude.{◌≡◌, [], drop, map, string_bytes, IfOk, IfErr, OnErr};
 ghost use Rattle.std.specs.IoError.{error_kind};
 ghost use Rattle.std.specs.Process.{exit_status};
 ghost use Rattle.std.specs.Vec.Iter.{into_iter_items};
@@ -8,6 +8,7 @@ ghost use Rattle.command_answers.specs.Answers.{no_memory_line};
 ghost use Rattle.command_answers.specs.Statuses.{status_number};
 ghost use Rattle.command_runs.specs.Runs.{Runs, Written};
 ghost use Rattle.darwin_commands.specs.Exits.{Exits};
+ghost use Rattle.darwin_commands.specs.Naming.{NameNoFile};
 
 use crate::answering::run_words;
 use crate::writing::no_memory;
@@ -41,8 +42,10 @@ pub fn run_program<H: Shelf, K: Sink>(
         → Exits (λ own. Written Status.NoMemory no_memory_line
         (K.taken out.old) (K.taken out.new) (K.faults out.old) (K.faults out.new) own) result
         × (H.failed shelf.new ≡ H.failed shelf.old)) }
-    // No fetch changes the files.
+    // No fetch changes the files. Words that name no file fetch none: the shelf is as it was.
     ensures kept { H.files shelf.new ≡ H.files shelf.old }
+    ensures untouched { IfOk args (λ args. NameNoFile (map string_bytes (drop 1 (into_iter_items args))) → shelf.new ≡ shelf.old) }
+    ensures unread { OnErr args (shelf.new ≡ shelf.old) }
 {
     exit_code(run_args(alloc, args, shelf, out))
 }
@@ -65,6 +68,8 @@ fn run_args<H: Shelf, K: Sink>(
         (K.taken out.old) (K.taken out.new) (K.faults out.old) (K.faults out.new) result
         × (H.failed shelf.new ≡ H.failed shelf.old)) }
     ensures kept { H.files shelf.new ≡ H.files shelf.old }
+    ensures untouched { IfOk args (λ args. NameNoFile (map string_bytes (drop 1 (into_iter_items args))) → shelf.new ≡ shelf.old) }
+    ensures unread { OnErr args (shelf.new ≡ shelf.old) }
 {
     match args {
         Ok(args) => run_given(alloc, args, shelf, out),
@@ -79,6 +84,7 @@ fn run_given<H: Shelf, K: Sink>(alloc: Global, args: Args, shelf: &mut H, out: &
         (H.files shelf.old) (H.failed shelf.old) (H.failed shelf.new)
         (K.taken out.old) (K.taken out.new) (K.faults out.old) (K.faults out.new) result }
     ensures kept { H.files shelf.new ≡ H.files shelf.old }
+    ensures untouched { NameNoFile (map string_bytes (drop 1 (into_iter_items args))) → shelf.new ≡ shelf.old }
 {
     match words_behind_name(alloc, args) {
         Ok(words) => run_words(alloc, words.as_slice(), shelf, out),

@@ -2,6 +2,7 @@
 
 ghost use Rattle.std.specs.Prelude.{[], ◌∷◌, ◌≤◌, ℕ, List, Option, Some, codes, pos};
 ghost use Rattle.big_files.specs.BigFiles.{description, made_files, script};
+ghost use Rattle.big_files.specs.declared.texts.TheConstants.{MAX_LANES};
 ghost use Rattle.cfg_io.specs.Shelf.{Files};
 ghost use Rattle.command_answers.specs.declared.status.Status.{Status};
 ghost use Rattle.command_runs.specs.Descriptions.{IsChecked};
@@ -23,13 +24,13 @@ pub fn made_descriptions_are_checked()
 
 /// A law: no fault of its elaboration holds, for each number of lanes, before the change and after it.
 pub fn made_descriptions_have_no_fault()
-    ensures { (lanes : ℕ) → 1 ≤ lanes → lanes ≤ 40 → HasNoFault made_tree (codes "Lanes") (pos lanes ∷ pos 1 ∷ [])
+    ensures { (lanes : ℕ) → 1 ≤ lanes → lanes ≤ MAX_LANES → HasNoFault made_tree (codes "Lanes") (pos lanes ∷ pos 1 ∷ [])
         × HasNoFault made_tree (codes "Lanes") (pos lanes ∷ pos 2 ∷ []) }
 {}
 
 /// A law: nothing of what is made is refused, neither the script nor a line of it.
 pub fn made_lines_are_not_refused()
-    ensures { (lanes : ℕ) → 1 ≤ lanes → lanes ≤ 40 → NothingRefusesLines (made_files lanes) (Some (script lanes)) }
+    ensures { (lanes : ℕ) → 1 ≤ lanes → lanes ≤ MAX_LANES → NothingRefusesLines (made_files lanes) (Some (script lanes)) }
 {
     a_graph_or_a_fault();
     lines_lead_or_are_refused();

@@ -15,3 +15,7 @@ returns-in-Ok-Some-clause-runs g c =
 
 pub returns-in-Err-clause-runs : goal.returns-in-Err-clause-runs
 returns-in-Err-clause-runs g c = runs_alone _ _ _ _ _ _ _ (refusal no_memory) _ not_read c.no_memory.ensures
+
+pub returns-in-Ok-Some-clause-untouched : goal.returns-in-Ok-Some-clause-untouched
+returns-in-Ok-Some-clause-untouched g c none =
+    c.run_command.ensures.untouched (none c.in-Ok-Some.field-0.command (rw c.in-Ok-Some.field-0-is at c.in-Ok-Some.ensures.found))
