@@ -10,8 +10,10 @@ use Rattle.change_script.specs.declared.report.HistoryLine.TheVariants as to
 use Rattle.quiesce_core.specs.declared.event.Event.{Event}
 use Rattle.quiesce_core.specs.declared.event.Event.TheVariants.{Begin, Call, Take, Give, End, More, Ask, Hear, Miss, Close, Reopen, Make, Link, Unlink, Remove}
 use Rattle.change_board.specs.Bearing.{Bears, IsBorne}
-use Rattle.change_board.specs.Entries.{Entry, did, looked, sighted, scanned, event_in, events_in}
-use Rattle.change_board.specs.Looks.{is_drained_word, serial_of}
+use Rattle.gate_records.specs.Entries.{event_in, events_in}
+use Rattle.gate_records.specs.declared.entry.Entry.{Entry}
+use Rattle.gate_records.specs.declared.entry.Entry.TheVariants.{Did, Looked, Sighted, Scanned}
+use Rattle.gate_records.specs.Looks.{is_drained_word, serial_of}
 use Rattle.change_board.specs.Transcripts.{Item, silent, told, said, entries, lines, tells}
 
 no_line : (l : HistoryLine) (e : Event) → None ≡ Some l → Some e ≡ event_of l
@@ -36,14 +38,14 @@ told_event (Hear p k v) l h = no_line l (Hear p k v) h
 told_event (End p k v) l h = no_line l (End p k v) h
 
 told_entry : (x : Entry) (l : HistoryLine) → tells x ≡ Some l → event_in x ≡ event_of l
-told_entry (did e) l h = told_event e l h
-told_entry (looked p w) l h = by_test (is_drained_word w) h
+told_entry (Did e) l h = told_event e l h
+told_entry (Looked p w) l h = by_test (is_drained_word w) h
   where
     by_test : (b : Bool) → cond b (Some (to.Drained p (serial_of w))) None ≡ Some l → None ≡ event_of l
     by_test true h = ap (option_and_then event_of) h
     by_test false h = absurd (both_ways false refl (ap is_some h))
-told_entry (sighted n es) l h = absurd (both_ways false refl (ap is_some h))
-told_entry (scanned b m) l h = absurd (both_ways false refl (ap is_some h))
+told_entry (Sighted n es) l h = absurd (both_ways false refl (ap is_some h))
+told_entry (Scanned b m) l h = absurd (both_ways false refl (ap is_some h))
 
 -- what is said beside is no event
 said_line : (before : List Item) (l : HistoryLine) → IsBorne before (said l) → event_of l ≡ None

@@ -9,9 +9,11 @@ use Rattle.config_graph.specs.declared.TheConstants.{MAX_NODES, MAX_PORTS}
 use Rattle.config_graph.specs.declared.node.Node.{Node}
 use Rattle.quiesce_core.specs.declared.event.Event.{Event}
 use Rattle.quiesce_core.specs.declared.event.Event.TheVariants.{Make}
-use Rattle.change_board.specs.Entries.{Entry, did, config_of}
+use Rattle.gate_records.specs.Entries.{config_of}
+use Rattle.gate_records.specs.declared.entry.Entry.{Entry}
+use Rattle.gate_records.specs.declared.entry.Entry.TheVariants.{Did}
 use Rattle.change_board.specs.Making.{Makes}
-use Rattle.change_board.specs.Records.{Adds, May}
+use Rattle.gate_records.specs.Records.{Adds, May}
 use Rattle.change_board.specs.Sights.{sight_entry}
 use Rattle.change_board.specs.Steps.{Deed, Does, MayDoAll, deed_entries, entries_of}
 use Rattle.base.proofs.PlaceLaws.{heads_are}
@@ -34,7 +36,7 @@ module _ {B : Type 0} (S : B → List Entry → Type 0) where
   pub does_none : (a : B) → Does S a a []
   does_none a = record { deeds = []; events_are = refl; adds = adds_none a }
 
-  pub does_one : (a b : B) (e : Event) → Adds S a b (did e ∷ []) → Does S a b (e ∷ [])
+  pub does_one : (a b : B) (e : Event) → Adds S a b (Did e ∷ []) → Does S a b (e ∷ [])
   does_one a b e x = record { deeds = record { event = e; sights = [] } ∷ []; events_are = refl; adds = x }
 
   pub does_make : (a b : B) (n : ℕ) (node : Node) (from : Option ℕ) → ((r : List Entry) → S a r → n ≡ length (config_of r).slots) → Makes S a b node from → Does S a b (Make n node from ∷ [])
@@ -44,7 +46,7 @@ module _ {B : Type 0} (S : B → List Entry → Type 0) where
         deeds = d ∷ [];
         events_are = refl;
         adds = λ r s. subst (λ es. S b (r ++ es)) (sym (append-nil (deed_entries d)))
-            (subst (λ k. S b (r ++ did (Make k node from) ∷ map sight_entry x.sights)) (sym (next r s)) (x.adds r s));
+            (subst (λ k. S b (r ++ Did (Make k node from) ∷ map sight_entry x.sights)) (sym (next r s)) (x.adds r s));
       }
 
   pub does_both : (a b c : B) (es fs : List Event) → Does S a b es → Does S b c fs → Does S a c (es ++ fs)
@@ -55,12 +57,12 @@ module _ {B : Type 0} (S : B → List Entry → Type 0) where
   }
 
   -- what may be done next once the first event is done
-  by_deeds : (r : List Entry) (e : Event) (es : List Event) (ds : List Deed) → map (λ (d : Deed). d.event) ds ≡ e ∷ [] → MayDoAll (r ++ did e ∷ []) es → MayDoAll (r ++ entries_of ds) es
+  by_deeds : (r : List Entry) (e : Event) (es : List Event) (ds : List Deed) → map (λ (d : Deed). d.event) ds ≡ e ∷ [] → MayDoAll (r ++ Did e ∷ []) es → MayDoAll (r ++ entries_of ds) es
   by_deeds r e es [] is h = absurd (omega (arith, ap length is))
   by_deeds r e es (d ∷ []) is h =
       subst (λ zs. MayDoAll (r ++ zs) es) (sym (append-nil (deed_entries d)))
-      (may_all_alike (r ++ deed_entries d) (r ++ did d.event ∷ []) es (alike_deed r d)
-      (subst (λ f. MayDoAll (r ++ did f ∷ []) es) (sym (heads_are d.event e [] [] is)) h))
+      (may_all_alike (r ++ deed_entries d) (r ++ Did d.event ∷ []) es (alike_deed r d)
+      (subst (λ f. MayDoAll (r ++ Did f ∷ []) es) (sym (heads_are d.event e [] [] is)) h))
   by_deeds r e es (d ∷ f ∷ ds) is h = absurd (omega (arith, ap length is))
 
   pub here_next : (a b : B) (e : Event) (es : List Event) → Does S a b (e ∷ []) → (here : (r : List Entry) × S a r × MayDoAll r (e ∷ es)) → (r : List Entry) × S b r × MayDoAll r es

@@ -1,5 +1,3 @@
-pub mod RecordLaws
-pub mod NoteLaws
 pub mod StepLaws
 pub mod SightLaws
 pub mod BearingLaws

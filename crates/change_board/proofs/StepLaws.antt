@@ -15,18 +15,20 @@ use Rattle.quiesce_core.specs.declared.event.Event.TheVariants.{Begin, Call, Tak
 use Rattle.quiesce_core.specs.Effect.{change_next}
 use Rattle.quiesce_core.specs.State.{Configuration, empty, owner}
 use Rattle.quiescence_laws.specs.Events.{reopens}
-use Rattle.change_board.specs.Entries.{Entry, did, config_of, event_in, events_in}
-use Rattle.change_board.specs.Notes.{found_next, is_found_drained, is_never_reopened, is_noted}
-use Rattle.change_board.specs.Records.{May}
+use Rattle.gate_records.specs.Entries.{config_of, event_in, events_in}
+use Rattle.gate_records.specs.declared.entry.Entry.{Entry}
+use Rattle.gate_records.specs.declared.entry.Entry.TheVariants.{Did}
+use Rattle.gate_records.specs.Notes.{found_next, is_found_drained, is_never_reopened, is_noted}
+use Rattle.gate_records.specs.Records.{May}
 use Rattle.change_board.specs.Sights.{Sight, sight_entry}
 use Rattle.change_board.specs.Steps.{Deed, MayDoAll, deed_entries, gates_come_last, is_turning}
 
 -- a record with one event of the change more
-pub config_more : (r : List Entry) (e : Event) → config_of (r ++ did e ∷ []) ≡ change_next (config_of r) e
-config_more r e = ap (change_all empty.config) (filter_map-append event_in r (did e ∷ [])) ∙ fold_push change_next empty.config (events_in r) e
+pub config_more : (r : List Entry) (e : Event) → config_of (r ++ Did e ∷ []) ≡ change_next (config_of r) e
+config_more r e = ap (change_all empty.config) (filter_map-append event_in r (Did e ∷ [])) ∙ fold_push change_next empty.config (events_in r) e
 
 -- what neither closes nor reopens a gate leaves the notes
-found_stays : (p : ℕ) (b : Bool) (e : Event) → is_turning e ≡ false → found_next p b (did e) ≡ b
+found_stays : (p : ℕ) (b : Bool) (e : Event) → is_turning e ≡ false → found_next p b (Did e) ≡ b
 found_stays p b (Close q) h = absurd (both_ways true h refl)
 found_stays p b (Reopen q) h = absurd (both_ways true h refl)
 found_stays p b (Begin q k v) h = refl
@@ -60,17 +62,17 @@ none_reopens p (Link q n x) h = refl
 none_reopens p (Unlink q) h = refl
 none_reopens p (Remove n) h = refl
 
-never_stays : (r : List Entry) (e : Event) (p : ℕ) → is_turning e ≡ false → is_never_reopened (r ++ did e ∷ []) p ≡ is_never_reopened r p
+never_stays : (r : List Entry) (e : Event) (p : ℕ) → is_turning e ≡ false → is_never_reopened (r ++ Did e ∷ []) p ≡ is_never_reopened r p
 never_stays r e p h =
-    ap (λ es. not (list_any (reopens p) es)) (filter_map-append event_in r (did e ∷ []))
+    ap (λ es. not (list_any (reopens p) es)) (filter_map-append event_in r (Did e ∷ []))
     ∙ ap not (list_any-append (reopens p) (events_in r) (e ∷ []))
     ∙ ap (λ b. not (list_any (reopens p) (events_in r) || (b || false))) (none_reopens p e h)
     ∙ ap not (or-false (list_any (reopens p) (events_in r)))
 
-pub notes_stay : (r : List Entry) (e : Event) (p : ℕ) → is_turning e ≡ false → is_noted (r ++ did e ∷ []) p ≡ is_noted r p
+pub notes_stay : (r : List Entry) (e : Event) (p : ℕ) → is_turning e ≡ false → is_noted (r ++ Did e ∷ []) p ≡ is_noted r p
 notes_stay r e p h =
-    ap (λ b. b || is_found_drained (r ++ did e ∷ []) p) (never_stays r e p h)
-    ∙ ap (λ b. is_never_reopened r p || b) (fold_push (found_next p) false r (did e) ∙ found_stays p (is_found_drained r p) e h)
+    ap (λ b. b || is_found_drained (r ++ Did e ∷ []) p) (never_stays r e p h)
+    ∙ ap (λ b. is_never_reopened r p || b) (fold_push (found_next p) false r (Did e) ∙ found_stays p (is_found_drained r p) e h)
 
 -- where more ports are noted a change may do as much
 noted_more : (a b : ℕ → Bool) (c : Configuration) (n : ℕ) → ((p : ℕ) → a p ≡ true → b p ≡ true) → IsNoted a c n → IsNoted b c n
@@ -112,22 +114,22 @@ may_turn a b c (Hear p k v) t h = absurd h
 may_turn a b c (Miss p) t h = absurd h
 
 module _ (noted : ℕ → Bool) where
-  next : (r : List Entry) (e : Event) (es : List Event) → MayStepAll noted (change_next (config_of r) e) es → MayStepAll noted (config_of (r ++ did e ∷ [])) es
+  next : (r : List Entry) (e : Event) (es : List Event) → MayStepAll noted (change_next (config_of r) e) es → MayStepAll noted (config_of (r ++ Did e ∷ [])) es
   next r e es h = subst (λ c. MayStepAll noted c es) (sym (config_more r e)) h
 
   all_turn : (r : List Entry) (es : List Event) → list_all is_turning es ≡ true → MayStepAll noted (config_of r) es → MayDoAll r es
   all_turn r [] t h = tt
   all_turn r (e ∷ es) t h =
       let parts = and_parts (is_turning e) (list_all is_turning es) t in
-      (may_turn noted (is_noted r) (config_of r) e parts.0 h.0, all_turn (r ++ did e ∷ []) es parts.1 (next r e es h.1))
+      (may_turn noted (is_noted r) (config_of r) e parts.0 h.0, all_turn (r ++ Did e ∷ []) es parts.1 (next r e es h.1))
 
   pub may_do_all : (r : List Entry) (es : List Event) → gates_come_last es ≡ true → ((p : ℕ) → noted p ≡ true → is_noted r p ≡ true) → MayStepAll noted (config_of r) es → MayDoAll r es
   may_do_all r [] t f h = tt
   may_do_all r (e ∷ es) t f h = (
     may_more noted (is_noted r) (config_of r) e f h.0,
     ⊎_elim
-        (λ (turn : is_turning e ≡ true). all_turn (r ++ did e ∷ []) es (sym (ap (λ b. cond b (list_all is_turning es) (gates_come_last es)) turn) ∙ t) (next r e es h.1))
-        (λ (other : is_turning e ≡ false). may_do_all (r ++ did e ∷ []) es (sym (ap (λ b. cond b (list_all is_turning es) (gates_come_last es)) other) ∙ t)
+        (λ (turn : is_turning e ≡ true). all_turn (r ++ Did e ∷ []) es (sym (ap (λ b. cond b (list_all is_turning es) (gates_come_last es)) turn) ∙ t) (next r e es h.1))
+        (λ (other : is_turning e ≡ false). may_do_all (r ++ Did e ∷ []) es (sym (ap (λ b. cond b (list_all is_turning es) (gates_come_last es)) other) ∙ t)
         (λ p n. notes_stay r e p other ∙ f p n) (next r e es h.1))
         (cases_Bool (is_turning e)),
   )
@@ -156,10 +158,10 @@ alike_sights r q (s ∷ ss) h =
     subst (λ zs. Alike zs q) (append_assoc r (sight_entry s ∷ []) (map sight_entry ss))
     (alike_sights (r ++ sight_entry s ∷ []) q ss (alike_sight r q s h))
 
-pub alike_deed : (r : List Entry) (d : Deed) → Alike (r ++ deed_entries d) (r ++ did d.event ∷ [])
+pub alike_deed : (r : List Entry) (d : Deed) → Alike (r ++ deed_entries d) (r ++ Did d.event ∷ [])
 alike_deed r d =
-    subst (λ zs. Alike zs (r ++ did d.event ∷ [])) (append_assoc r (did d.event ∷ []) (map sight_entry d.sights))
-    (alike_sights (r ++ did d.event ∷ []) (r ++ did d.event ∷ []) d.sights (record { events = refl; found = λ p. refl }))
+    subst (λ zs. Alike zs (r ++ Did d.event ∷ [])) (append_assoc r (Did d.event ∷ []) (map sight_entry d.sights))
+    (alike_sights (r ++ Did d.event ∷ []) (r ++ Did d.event ∷ []) d.sights (record { events = refl; found = λ p. refl }))
 
 notes_alike : (r q : List Entry) → Alike r q → is_noted r ≡ is_noted q
 notes_alike r q h = fun_ext (λ p.
@@ -173,4 +175,4 @@ may_alike r q e h may_ =
 pub may_all_alike : (r q : List Entry) (es : List Event) → Alike r q → MayDoAll q es → MayDoAll r es
 may_all_alike r q [] h may_ = tt
 may_all_alike r q (e ∷ es) h may_ =
-    (may_alike r q e h may_.0, may_all_alike (r ++ did e ∷ []) (q ++ did e ∷ []) es (alike_more r q (did e) h) may_.1)
+    (may_alike r q e h may_.0, may_all_alike (r ++ Did e ∷ []) (q ++ Did e ∷ []) es (alike_more r q (Did e) h) may_.1)

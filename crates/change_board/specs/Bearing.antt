@@ -7,17 +7,19 @@ use Rattle.change_script.specs.declared.report.HistoryLine.{HistoryLine}
 use Rattle.change_script.specs.declared.report.HistoryLine.TheVariants as to
 use Rattle.gate_word.specs.Words.{has_root, unpack}
 use Rattle.quiesce_core.specs.Rules.{is_live_port}
-use Rattle.change_board.specs.Entries.{Entry, looked, config_of, event_in}
-use Rattle.change_board.specs.Looks.{serial_of}
+use Rattle.gate_records.specs.Entries.{config_of, event_in}
+use Rattle.gate_records.specs.declared.entry.Entry.{Entry}
+use Rattle.gate_records.specs.declared.entry.Entry.TheVariants.{Looked}
+use Rattle.gate_records.specs.Looks.{serial_of}
 use Rattle.change_board.specs.Transcripts.{Item, silent, told, said, entries, lines, tells}
 
 -- whether an entry is a look at this port, and one that loaded a root of this serial
 abbrev pub looks_at : ℕ → Entry → Bool
-looks_at p (looked q w) = q == p
+looks_at p (Looked q w) = q == p
 looks_at p _ = false
 
 abbrev pub loads_root : ℕ → ℕ → Entry → Bool
-loads_root p k (looked q w) = q == p && (has_root (unpack w) && serial_of w == k)
+loads_root p k (Looked q w) = q == p && (has_root (unpack w) && serial_of w == k)
 loads_root p k _ = false
 
 -- Behind the last close and before the line on how many rounds were made, at least one look more than these rounds

@@ -8,8 +8,9 @@ use Rattle.quiesce_core.specs.State.{Configuration}
 use Rattle.quiesce_core.specs.declared.event.Event.{Event}
 use Rattle.quiesce_core.specs.declared.state.Slot.{Slot}
 use Rattle.change_board.specs.declared.board.Collected.{Collected}
-use Rattle.change_board.specs.Entries.{Entry, config_of}
-use Rattle.change_board.specs.Records.{Adds}
+use Rattle.gate_records.specs.Entries.{config_of}
+use Rattle.gate_records.specs.declared.entry.Entry.{Entry}
+use Rattle.gate_records.specs.Records.{Adds}
 use Rattle.change_board.specs.Scans.{live_nodes}
 use Rattle.change_board.specs.Sights.{Sight, fold_seen, is_seen_done, sight_entry}
 

@@ -1,7 +1,3 @@
-pub mod Looks
-pub mod Entries
-pub mod Notes
-pub mod Records
 pub mod Sights
 pub mod Steps
 pub mod Looking

@@ -4,9 +4,11 @@ use Rattle.std.specs.List.{list_all, range_with_len, sum_by}
 use Rattle.quiesce_core.specs.Rules.{is_live_port}
 use Rattle.quiesce_core.specs.State.{Configuration, is_live}
 use Rattle.change_board.specs.declared.board.Scan.{Scan}
-use Rattle.change_board.specs.Entries.{Entry, looked, scanned, config_of}
-use Rattle.change_board.specs.Looks.{ended_in_word, is_idle_word}
-use Rattle.change_board.specs.Records.{Adds}
+use Rattle.gate_records.specs.Entries.{config_of}
+use Rattle.gate_records.specs.declared.entry.Entry.{Entry}
+use Rattle.gate_records.specs.declared.entry.Entry.TheVariants.{Looked, Scanned}
+use Rattle.gate_records.specs.Looks.{ended_in_word, is_idle_word}
+use Rattle.gate_records.specs.Records.{Adds}
 use Rattle.change_board.specs.Sights.{Sight, is_seen_done, seen_in, sight_entry}
 
 -- a port with the word that a look at it loaded
@@ -15,7 +17,7 @@ pub record Found : Type 0 where
   pub word : ℕ
 
 abbrev pub look_entry : Found → Entry
-look_entry f = looked f.port f.word
+look_entry f = Looked f.port f.word
 
 abbrev pub ports_of : List Found → List ℕ
 ports_of found = map (λ (f : Found). f.port) found
@@ -40,7 +42,7 @@ ended_in found = sum_by (λ (f : Found). ended_in_word f.word) found
 
 -- the mark of a scan, its sights, and its looks
 abbrev pub scan_entries : Bool → Bool → List Sight → List Found → List Entry
-scan_entries begins moved sights found = scanned begins moved ∷ (map sight_entry sights ++ map look_entry found)
+scan_entries begins moved sights found = Scanned begins moved ∷ (map sight_entry sights ++ map look_entry found)
 
 -- each node made was sighted, in the order of slots
 abbrev pub SightsAll : Configuration → List Sight → Type 0
@@ -48,7 +50,7 @@ SightsAll c sights = map (λ (s : Sight). s.slot) sights ≡ range_with_len 0 (l
 
 -- What a scan adds to the records of a board, and what it answers. A board that is alone, which gets every node, sights
 -- each one.
-pub record Scanned {B : Type 0} (S : B → List Entry → Type 0) (alone : Bool) (old new : B) (begins : Bool) (s : Scan)
+pub record AddsScan {B : Type 0} (S : B → List Entry → Type 0) (alone : Bool) (old new : B) (begins : Bool) (s : Scan)
     : Type 0 where
   pub sights : List Sight
   pub found : List Found

@@ -8,7 +8,8 @@ use Rattle.component_trait.specs.Tables.{opening}
 use Rattle.quiesce_core.specs.State.{Configuration, slot}
 use Rattle.quiesce_core.specs.declared.event.Event.{Event}
 use Rattle.quiesce_core.specs.declared.state.Slot.{Slot}
-use Rattle.change_board.specs.Entries.{Entry, sighted}
+use Rattle.gate_records.specs.declared.entry.Entry.{Entry}
+use Rattle.gate_records.specs.declared.entry.Entry.TheVariants.{Sighted}
 
 -- a sight of a node, with all that it did so far
 pub record Sight : Type 0 where
@@ -16,7 +17,7 @@ pub record Sight : Type 0 where
   pub events : List Event
 
 abbrev pub sight_entry : Sight → Entry
-sight_entry s = sighted s.slot s.events
+sight_entry s = Sighted s.slot s.events
 
 -- the events that were seen of the node in slot n, where it was sighted
 abbrev pub seen_in : List Sight → ℕ → Option (List Event)

@@ -4,14 +4,15 @@ use Rattle.std.specs.List.{list_all}
 use Rattle.std.specs.Option.{option_map_or}
 use Rattle.quiesce_core.specs.declared.event.Event.{Event}
 use Rattle.quiesce_core.specs.declared.event.Event.TheVariants.{Close, Reopen, Make}
-use Rattle.change_board.specs.Entries.{Entry, did}
-use Rattle.change_board.specs.Records.{Adds, May}
+use Rattle.gate_records.specs.declared.entry.Entry.{Entry}
+use Rattle.gate_records.specs.declared.entry.Entry.TheVariants.{Did}
+use Rattle.gate_records.specs.Records.{Adds, May}
 use Rattle.change_board.specs.Sights.{Sight, sight_entry}
 
 -- by the record that those before it have added to
 abbrev pub MayDoAll : List Entry → List Event → Type 0
 MayDoAll r [] = ⊤
-MayDoAll r (e ∷ es) = May r e × MayDoAll (r ++ did e ∷ []) es
+MayDoAll r (e ∷ es) = May r e × MayDoAll (r ++ Did e ∷ []) es
 
 -- whether gates are closed and reopened after all else
 abbrev pub is_turning : Event → Bool
@@ -41,14 +42,14 @@ abbrev pub room_after : Room → Event → Room
 room_after room (Make n node from) = less_one room
 room_after room _ = room
 
-abbrev pub IsWithin : Room → Event → Type 0
-IsWithin room (Make n node from) = HasRoom room from
-IsWithin room _ = ⊤
+abbrev pub HasRoomFor : Room → Event → Type 0
+HasRoomFor room (Make n node from) = HasRoom room from
+HasRoomFor room _ = ⊤
 
 -- there is memory for each node that these events make
-abbrev pub AreWithin : Room → List Event → Type 0
-AreWithin room [] = ⊤
-AreWithin room (e ∷ es) = IsWithin room e × AreWithin (room_after room e) es
+abbrev pub HasRoomForAll : Room → List Event → Type 0
+HasRoomForAll room [] = ⊤
+HasRoomForAll room (e ∷ es) = HasRoomFor room e × HasRoomForAll (room_after room e) es
 
 -- an event of the change that was done on a board, and the sights that came with it
 pub record Deed : Type 0 where
@@ -56,7 +57,7 @@ pub record Deed : Type 0 where
   pub sights : List Sight
 
 abbrev pub deed_entries : Deed → List Entry
-deed_entries d = did d.event ∷ map sight_entry d.sights
+deed_entries d = Did d.event ∷ map sight_entry d.sights
 
 abbrev pub entries_of : List Deed → List Entry
 entries_of deeds = flat_map deed_entries deeds

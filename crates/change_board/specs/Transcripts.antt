@@ -3,8 +3,9 @@ use Rattle.std.specs.Prelude.{List, filter_map, Option, Some, None, if◌then◌
 use Rattle.change_law.specs.Members.{line_of}
 use Rattle.change_script.specs.declared.report.HistoryLine.{HistoryLine}
 use Rattle.change_script.specs.declared.report.HistoryLine.TheVariants as to
-use Rattle.change_board.specs.Entries.{Entry, did, looked, sighted, scanned}
-use Rattle.change_board.specs.Looks.{is_drained_word, serial_of}
+use Rattle.gate_records.specs.declared.entry.Entry.{Entry}
+use Rattle.gate_records.specs.declared.entry.Entry.TheVariants.{Did, Looked, Sighted, Scanned}
+use Rattle.gate_records.specs.Looks.{is_drained_word, serial_of}
 
 -- an entry of which the history says nothing, one that it tells, and a line that is no entry
 pub data Item : Type 0 where
@@ -30,7 +31,7 @@ lines t = filter_map line_in t
 
 -- the line that tells an entry: an event of the change, or a look that found a port drained
 abbrev pub tells : Entry → Option HistoryLine
-tells (did e) = line_of e
-tells (looked p w) = if is_drained_word w then Some (to.Drained p (serial_of w)) else None
-tells (sighted n es) = None
-tells (scanned b m) = None
+tells (Did e) = line_of e
+tells (Looked p w) = if is_drained_word w then Some (to.Drained p (serial_of w)) else None
+tells (Sighted n es) = None
+tells (Scanned b m) = None

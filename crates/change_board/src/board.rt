@@ -5,16 +5,18 @@ ghost use Rattle.config_graph.specs.declared.TheConstants.{MAX_NODES};
 ghost use Rattle.quiesce_core.specs.declared.event.Event.{Event};
 ghost use Rattle.quiesce_core.specs.declared.event.Event.TheVariants as event;
 ghost use Rattle.change_board.specs.Collecting.{Collects};
-ghost use Rattle.change_board.specs.Entries.{Entry, did, config_of};
-ghost use Rattle.change_board.specs.Looking.{Looked};
+ghost use Rattle.gate_records.specs.Entries.{config_of};
+ghost use Rattle.gate_records.specs.declared.entry.Entry.{Entry};
+ghost use Rattle.gate_records.specs.declared.entry.Entry.TheVariants.{Did};
+ghost use Rattle.change_board.specs.Looking.{AddsLook};
 ghost use Rattle.change_board.specs.Making.{Makes};
-ghost use Rattle.change_board.specs.Records.{Adds, AreAllNoted, IsRecord, IsRecordCut, May};
-ghost use Rattle.change_board.specs.Scans.{Scanned};
+ghost use Rattle.gate_records.specs.Records.{Adds, AreAllNoted, IsRecord, IsRecordCut, May};
+ghost use Rattle.change_board.specs.Scans.{AddsScan};
 ghost use Rattle.change_board.specs.Steps.{HasRoom, Room, less_one};
 
-use crate::looking::Look;
 use change_script::NodeLog;
 use config_graph::{List, NoMemory, Node};
+use gate_records::Look;
 
 /// What a scan found.
 #[derive(Clone, Copy, Debug, PartialEq, Eq)]
@@ -63,33 +65,33 @@ pub trait Board {
     /// Lets no node begin a transaction at the port any more.
     fn close(&mut self, port: u32)
         requires may { (r : List Entry) × stands_for self.old r × May r (event.Close port) }
-        ensures board { Adds stands_for self.old self.new (did (event.Close port) ∷ []) }
+        ensures board { Adds stands_for self.old self.new (Did (event.Close port) ∷ []) }
         ensures room { room self.new ≡ room self.old };
 
     fn reopen(&mut self, port: u32)
         requires may { (r : List Entry) × stands_for self.old r × May r (event.Reopen port) }
-        ensures board { Adds stands_for self.old self.new (did (event.Reopen port) ∷ []) }
+        ensures board { Adds stands_for self.old self.new (Did (event.Reopen port) ∷ []) }
         ensures room { room self.new ≡ room self.old };
 
     /// Looks at the port's word.
     fn look(&mut self, port: u32) -> Look
         requires made { (r : List Entry) × stands_for self.old r × (port < length (config_of r).gates) }
-        ensures board { Looked stands_for self.old self.new port result }
+        ensures board { AddsLook stands_for self.old self.new port result }
         ensures room { room self.new ≡ room self.old };
 
     fn unlink(&mut self, port: u32)
         requires may { (r : List Entry) × stands_for self.old r × May r (event.Unlink port) }
-        ensures board { Adds stands_for self.old self.new (did (event.Unlink port) ∷ []) }
+        ensures board { Adds stands_for self.old self.new (Did (event.Unlink port) ∷ []) }
         ensures room { room self.new ≡ room self.old };
 
     fn link(&mut self, port: u32, node: u32, provide: u32)
         requires may { (r : List Entry) × stands_for self.old r × May r (event.Link port node provide) }
-        ensures board { Adds stands_for self.old self.new (did (event.Link port node provide) ∷ []) }
+        ensures board { Adds stands_for self.old self.new (Did (event.Link port node provide) ∷ []) }
         ensures room { room self.new ≡ room self.old };
 
     fn remove(&mut self, slot: u32)
         requires may { (r : List Entry) × stands_for self.old r × May r (event.Remove slot) }
-        ensures board { Adds stands_for self.old self.new (did (event.Remove slot) ∷ []) }
+        ensures board { Adds stands_for self.old self.new (Did (event.Remove slot) ∷ []) }
         ensures room { room self.new ≡ room self.old };
 
     /// Takes the memory for so many nodes more, each of which may take over the state of one that was made so far.
@@ -116,7 +118,7 @@ pub trait Board {
     /// or not. Then it looks at all nodes that it gets, and sights those that are done, with those whose state they
     /// took over, or all where nodes take turns in its scans alone; and it looks once at each port made.
     fn scan(&mut self, begins: bool) -> Result<Scan, NoMemory>
-        ensures ok { IfOk result (Scanned stands_for alone self.old self.new begins) }
+        ensures ok { IfOk result (AddsScan stands_for alone self.old self.new begins) }
         ensures room { OnOk result (room self.new ≡ room self.old) }
         ensures err { OnErr result ((r : List Entry) → stands_for self.old r → broke_off self.new r) };
 

@@ -3,13 +3,8 @@
 
 mod board;
 mod laws;
-mod looking;
 mod stepping;
 
 pub use board::{Board, Collected, Scan};
-pub use laws::{
-    borne_histories_have_the_events, records_grow, records_tell_what_is_allowed, steps_may_be_done,
-    what_is_seen_is_what_was_done,
-};
-pub use looking::Look;
+pub use laws::{borne_histories_have_the_events, steps_may_be_done, what_is_seen_is_what_was_done};
 pub use stepping::do_steps;

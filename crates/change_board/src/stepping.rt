@@ -3,9 +3,9 @@
 ghost use Rattle.std.specs.Prelude.{◌≡◌, List, [], ◌∷◌, Option};
 ghost use Rattle.quiesce_core.specs.declared.event.Event.{Event};
 ghost use Rattle.quiesce_core.specs.declared.event.Event.TheVariants as event;
-ghost use Rattle.change_board.specs.Entries.{Entry};
-ghost use Rattle.change_board.specs.Records.{May};
-ghost use Rattle.change_board.specs.Steps.{AreWithin, Does, HasRoom, IsWithin, MayDoAll, less_one, room_after};
+ghost use Rattle.gate_records.specs.declared.entry.Entry.{Entry};
+ghost use Rattle.gate_records.specs.Records.{May};
+ghost use Rattle.change_board.specs.Steps.{HasRoomForAll, Does, HasRoom, HasRoomFor, MayDoAll, less_one, room_after};
 
 use crate::board::Board;
 use config_graph::Node;
@@ -25,7 +25,7 @@ fn make_in<B: Board>(board: &mut B, slot: u32, node: Node, from: Option<u32>)
 /// Does one event of the change.
 fn do_step<B: Board>(board: &mut B, event: Event)
     requires may { (r : List Entry) × B.stands_for board.old r × May r event }
-    requires room { IsWithin (B.room board.old) event }
+    requires room { HasRoomFor (B.room board.old) event }
     ensures board { Does B.stands_for board.old board.new (event ∷ []) }
     ensures room { B.room board.new ≡ room_after (B.room board.old) event }
 {
@@ -47,7 +47,7 @@ fn do_step<B: Board>(board: &mut B, event: Event)
 /// Does these events, in order. It can't fail, and takes no memory.
 pub fn do_steps<B: Board>(board: &mut B, events: Vec<Event>)
     requires may { (r : List Entry) × B.stands_for board.old r × MayDoAll r events.items }
-    requires room { AreWithin (B.room board.old) events.items }
+    requires room { HasRoomForAll (B.room board.old) events.items }
     ensures { Does B.stands_for board.old board.new events.items }
 {
     for event in events {

@@ -2,7 +2,7 @@
 use Rattle.std.proofs.Common.{◌≡◌, ℕ, ◌<◌, List, [], ◌++◌, length, ◌∙◌, inr, arith, Result, Ok, Err}
 use Rattle.std.specs.Prelude.{OnErr}
 use Rattle.change_script.specs.declared.report.HistoryLine.{HistoryLine}
-use Rattle.change_board.specs.Entries.{Entry}
+use Rattle.gate_records.specs.declared.entry.Entry.{Entry}
 use Rattle.change_board.specs.Transcripts.{entries}
 use Rattle.change_engine.specs.Breaking.{BrokeInRound, BrokeInScan}
 use Rattle.change_engine.specs.Growing.{BrokeOff, Grew}

@@ -31,16 +31,18 @@ use Rattle.quiesce_core.specs.State.{Configuration, fresh_gate, gate, is_live, o
 use Rattle.quiesce_core.specs.WellFormed.{IsSound}
 use Rattle.quiesce_core.specs.declared.event.Event.TheVariants as event
 use Rattle.quiesce_core.specs.declared.state.Slot.{Slot}
-use Rattle.change_board.specs.Entries.{Entry, config_of, did, events_in}
-use Rattle.change_board.specs.Notes.{is_noted}
-use Rattle.change_board.specs.Records.{IsRecord}
-use Rattle.change_board.specs.Steps.{AreWithin, Deed, MayDoAll, Room}
+use Rattle.gate_records.specs.Entries.{config_of, events_in}
+use Rattle.gate_records.specs.declared.entry.Entry.{Entry}
+use Rattle.gate_records.specs.declared.entry.Entry.TheVariants.{Did}
+use Rattle.gate_records.specs.Notes.{is_noted}
+use Rattle.gate_records.specs.Records.{IsRecord}
+use Rattle.change_board.specs.Steps.{HasRoomForAll, Deed, MayDoAll, Room}
 use Rattle.change_board.specs.Transcripts.{Item, entries, lines, said}
 use Rattle.change_board.proofs.StepLaws.{config_more}
 use Rattle.change_engine.specs.Carrying.{CarriesOut, deed_items}
 use Rattle.change_engine.specs.Breaking.{BrokeInRound, IsClosedStill}
 use Rattle.change_engine.specs.Calls.{HasAbandoned, HasBrokenOff, HasCommitted, HasLeft, HasPassivated}
-use Rattle.change_engine.specs.Draining.{Waits, WhereNoMemory, WherePending, pending_items, pending_lines}
+use Rattle.change_engine.specs.Draining.{Waits, WhereNoMemory, WherePending, left_lines, pending_items, root_item, root_line}
 use Rattle.change_engine.specs.declared.draining.PassError.{PassError}
 use Rattle.change_engine.specs.declared.draining.PassError.TheVariants.{NoMemory, Pending}
 use Rattle.change_engine.specs.Engines.{HasPlace, IsFor, IsOpen, IsPrepared, IsTold, MayCommit, Tells}
@@ -54,15 +56,29 @@ use Rattle.change_engine.specs.declared.engine.Engine.{Engine}
 use Rattle.change_engine.specs.declared.layout.Layout.{Layout}
 use Rattle.change_engine.specs.declared.passivating.LeftRoot.{LeftRoot}
 use Rattle.change_engine.specs.declared.passivating.Waiting.{Waiting}
-use Rattle.change_engine.proofs.CarryingLemmas.{carried_entries}
 use Rattle.change_engine.proofs.EngineLemmas.{record_sound, said_alone}
-use Rattle.change_engine.proofs.Growing.{entries_both, grew_both, lines_both}
+use Rattle.change_engine.proofs.Growing.{grew_both}
 use Rattle.change_engine.proofs.LeavingLemmas.{root_left}
 use Rattle.change_engine.proofs.Noting.{passivated_noted}
-use Rattle.change_engine.proofs.Passing.{closed_links, config_over, live_same, same_here}
+use Rattle.change_engine.proofs.Passing.{config_over, live_same}
 use Rattle.change_engine.proofs.Quieting.{passivation_events}
 use Rattle.change_engine.proofs.StartLemmas.{deeds_events}
 use Rattle.change_engine.proofs.StayingLemmas.{stays_closed}
+use Rattle.change_engine.proofs.ItemLaws.{entries_both, lines_both, carried_entries}
+use Rattle.change_engine.proofs.PassivationLaws.{same_here, closed_links}
+
+-- The roots that are left, as they are told: they are no entries.
+said_roots : (xs : List LeftRoot) → map said (map root_line xs) ≡ map root_item xs
+said_roots [] = refl
+said_roots (x ∷ xs) = ap (λ t. root_item x ∷ t) (said_roots xs)
+
+same_pending : (within : ℕ) (left : List LeftRoot) → 0 < length left → map said (left_lines within left) ≡ pending_items within left
+same_pending within [] h = absurd (omega (arith, h))
+same_pending within (x ∷ left) h = ap (λ t. said (to.Pending within) ∷ root_item x ∷ t) (said_roots left)
+
+no_entries : (xs : List LeftRoot) → entries (map root_item xs) ≡ []
+no_entries [] = refl
+no_entries (x ∷ xs) = no_entries xs
 
 -- Ports of frozen nodes are live.
 stands_live : (g : Graph) (i : ℕ) (c : Configuration) (n : ℕ) → stands_in g i c n ≡ true → is_live c n ≡ true
@@ -131,11 +147,11 @@ opens_may c (p ∷ ps) r h same =
     let here = All-head (λ q. is_live_port c q ≡ true) p ps h in
     let d = config_of r in (
       live_same c d p same ∙ here,
-      opens_may c ps (r ++ did (event.Reopen p) ∷ []) (All-tail (λ q. is_live_port c q ≡ true) p ps h)
+      opens_may c ps (r ++ Did (event.Reopen p) ∷ []) (All-tail (λ q. is_live_port c q ≡ true) p ps h)
           (subst (SameLinks c) (sym (config_more r (event.Reopen p))) (same_turned c d p false (subst (λ n. p < n) (sym same.long) (live_port c p here).made) same)),
     )
 
-opens_fit : (ps : List ℕ) (room : Room) → AreWithin room (map event.Reopen ps)
+opens_fit : (ps : List ℕ) (room : Room) → HasRoomForAll room (map event.Reopen ps)
 opens_fit [] room = tt
 opens_fit (p ∷ ps) room = (tt, opens_fit ps room)
 
@@ -216,8 +232,8 @@ module _ {B : Type 0} (S : B → List Entry → Type 0) (R : B → Room) (runs :
       subst (MayDoAll (entries t)) (sym (is_for t moves plan new change h open_).reopens)
       (opens_may (config_of (entries t)) change.closed.items (entries t) (all_live t moves plan new change h open_) (same_here (config_of (entries t))))
 
-  pub abandon_fits : (t : List Item) (moves : List Move) (plan : Plan) (new : Graph) (change : Change) (room : Room) (h : IsOpen S R e t moves plan new) → e.change ≡ Some change → AreWithin room change.reopens.items
-  abandon_fits t moves plan new change room h open_ = subst (AreWithin room) (sym (is_for t moves plan new change h open_).reopens) (opens_fit change.closed.items room)
+  pub abandon_fits : (t : List Item) (moves : List Move) (plan : Plan) (new : Graph) (change : Change) (room : Room) (h : IsOpen S R e t moves plan new) → e.change ≡ Some change → HasRoomForAll room change.reopens.items
+  abandon_fits t moves plan new change room h open_ = subst (HasRoomForAll room) (sym (is_for t moves plan new change h open_).reopens) (opens_fit change.closed.items room)
 
   pub abandoned : (b : B) (v : Vec HistoryLine) (o : Option Change) (change : Change) (plan : Plan) → e.change ≡ Some change → o ≡ None
       → CarriesOut S e.board b e.history.items v.items [] change.reopens.items (to.Abandon ∷ [])
@@ -251,12 +267,8 @@ module _ {B : Type 0} (S : B → List Entry → Type 0) (R : B → Room) (runs :
   -- a passivation leaves a change open
   waited_events : (ports : List ℕ) (how : Passivation) (within : ℕ) (left : List LeftRoot) → events_in (entries (passivation_items ports how ++ pending_items within left)) ≡ map event.Close ports
   waited_events ports how within left =
-      ap events_in (entries_both (passivation_items ports how) (pending_items within left) ∙ ap (λ es. entries (passivation_items ports how) ++ es) (none_ (pending_lines within left))
+      ap events_in (entries_both (passivation_items ports how) (pending_items within left) ∙ ap (λ es. entries (passivation_items ports how) ++ es) (no_entries left)
       ∙ append-nil (entries (passivation_items ports how))) ∙ passivation_events ports how
-    where
-      none_ : (ls : List HistoryLine) → entries (map said ls) ≡ []
-      none_ [] = refl
-      none_ (l ∷ ls) = none_ ls
 
   same_closed : (t items : List Item) (moves : List Move) (plan : Plan) (new : Graph) (change : Change) (h : IsOpen S R e t moves plan new) → e.change ≡ Some change
       → events_in (entries items) ≡ map event.Close change.closed.items → SameLinks (config_of (entries t)) (config_of (entries (t ++ items)))
@@ -307,7 +319,7 @@ module _ {B : Type 0} (S : B → List Entry → Type 0) (R : B → Room) (runs :
         change = waiting_in change w;
         open_ = refl;
         is_for = for_waiting plan new change w (is_for t moves plan new change h open_);
-        room = subst (λ x. AreWithin x change.events.items) (sym room) (subst (λ (x : Change). AreWithin (R e.board) x.events.items) (one_change t moves plan new change h open_) h.room);
+        room = subst (λ x. HasRoomForAll x change.events.items) (sym room) (subst (λ (x : Change). HasRoomForAll (R e.board) x.events.items) (one_change t moves plan new change h open_) h.room);
       }
 
   pub has_passivated : (b : B) (v : Vec HistoryLine) (w : Waiting) (change : Change) (plan : Plan) (within : ℕ) (left : List LeftRoot) → e.change ≡ Some change
@@ -350,7 +362,7 @@ module _ {B : Type 0} (S : B → List Entry → Type 0) (R : B → Room) (runs :
 
       grew : Grew S e.board b e.history.items v.items (passivation_items change.closed.items x.how)
       grew = subst (Grew S e.board b e.history.items v.items)
-          (ap (λ l. passivation_items change.closed.items x.how ++ pending_items within l) none_ ∙ append-nil (passivation_items change.closed.items x.how)) x.grew
+          (ap (λ l. passivation_items change.closed.items x.how ++ map said (left_lines within l)) none_ ∙ append-nil (passivation_items change.closed.items x.how)) x.grew
 
       noted : (t : List Item) (moves : List Move) (new : Graph) (h : IsOpen S R e t moves plan new) (p : ℕ) → p < length (config_of (entries t)).gates
           → is_one_of e.graph plan.freeze (config_of (entries t)) (owner (config_of (entries t)) p) ≡ true
@@ -376,13 +388,13 @@ module _ {B : Type 0} (S : B → List Entry → Type 0) (R : B → Room) (runs :
     some_left = some_;
     graph_is = refl;
     opens = λ t moves new h. record {
-      is_open = still_open b v w t items moves plan new change h open_ x.grew (waited_events change.closed.items x.how within left) room;
+      is_open = still_open b v w t items moves plan new change h open_ grew (waited_events change.closed.items x.how within left) room;
       place = place;
     };
     are_roots = λ t moves new h y i.
         subst (λ r. IsRootLeft change.closed.items (last_look x.how.first x.how.rounds) r y) (sym (whole t))
         (root_left (entries t) change.closed.items within x.how
-        (subst IsRecord (whole t) (runs b (entries (t ++ items)) (subst (S b) (sym (entries_both t items)) (x.grew.adds (entries t) h.tells.board))))
+        (subst IsRecord (whole t) (runs b (entries (t ++ items)) (subst (S b) (sym (entries_both t items)) (grew.adds (entries t) h.tells.board))))
         (all_live t moves plan new change h open_)
         (subst (λ ps. Apart Differ ps) (sym (closed_are t moves plan new change h open_))
         (select_apart (λ p. is_one_of e.graph plan.freeze (config_of (entries t)) (owner (config_of (entries t)) p)) 0 (length (config_of (entries t)).gates)))
@@ -392,15 +404,14 @@ module _ {B : Type 0} (S : B → List Entry → Type 0) (R : B → Room) (runs :
       items : List Item
       items = passivation_items change.closed.items x.how ++ pending_items within left
 
-      said_alone_ : (ls : List HistoryLine) → entries (map said ls) ≡ []
-      said_alone_ [] = refl
-      said_alone_ (l ∷ ls) = said_alone_ ls
+      grew : Grew S e.board b e.history.items v.items items
+      grew = subst (λ u. Grew S e.board b e.history.items v.items (passivation_items change.closed.items x.how ++ u)) (same_pending within left some_) x.grew
 
       whole : (t : List Item) → entries (t ++ items) ≡ entries t ++ entries (passivation_items change.closed.items x.how)
       whole t =
           entries_both t items ∙ ap (λ es. entries t ++ es)
           (entries_both (passivation_items change.closed.items x.how) (pending_items within left)
-          ∙ ap (λ es. entries (passivation_items change.closed.items x.how) ++ es) (said_alone_ (pending_lines within left)) ∙ append-nil (entries (passivation_items change.closed.items x.how)))
+          ∙ ap (λ es. entries (passivation_items change.closed.items x.how) ++ es) (no_entries left) ∙ append-nil (entries (passivation_items change.closed.items x.how)))
 
   -- a passivation that broke off leaves all closed
   pub has_broken_off : (Broke : B → List Entry → Type 0) (b : B) (v : Vec HistoryLine) (w : Waiting) (change : Change) (plan : Plan) (within : ℕ) → e.change ≡ Some change
@@ -423,14 +434,14 @@ module _ {B : Type 0} (S : B → List Entry → Type 0) (R : B → Room) (runs :
       items = passivation_items change.closed.items x.how
 
 -- a passivation with the lines behind it
-pub waited : {B : Type 0} (S : B → List Entry → Type 0) (a b : B) (h i j : List HistoryLine) (ports : List ℕ) (within : ℕ) (left : List LeftRoot) → Passivated S a b h i ports within left → j ≡ i ++ pending_lines within left
+pub waited : {B : Type 0} (S : B → List Entry → Type 0) (a b : B) (h i j : List HistoryLine) (ports : List ℕ) (within : ℕ) (left : List LeftRoot) → Passivated S a b h i ports within left → j ≡ i ++ left_lines within left
     → Waits S a b h j ports within left
 waited S a b h i j ports within left x grown = record {
   how = x.how;
   is_passivation = x.is_passivation;
   left_is = x.left_is;
   ends = x.ends;
-  grew = grew_both S a b b h i j (passivation_items ports x.how) (pending_items within left) x.grew (said_alone S b i j (pending_lines within left) grown);
+  grew = grew_both S a b b h i j (passivation_items ports x.how) (map said (left_lines within left)) x.grew (said_alone S b i j (left_lines within left) grown);
 }
 
 -- what an answer says of the roots that are left

@@ -19,7 +19,7 @@ use Rattle.quiesce_core.specs.State.{Configuration}
 use Rattle.quiesce_core.specs.declared.event.Event.{Event}
 use Rattle.quiesce_core.specs.declared.event.Event.TheVariants.{Remove, Reopen, Unlink}
 use Rattle.quiesce_core.specs.declared.state.Slot.{Slot}
-use Rattle.change_board.specs.Steps.{AreWithin, Room, less_one}
+use Rattle.change_board.specs.Steps.{HasRoomForAll, Room, less_one}
 use Rattle.change_engine.specs.Engines.{IsPlanned}
 
 -- a plan makes no more nodes than a run may have
@@ -32,12 +32,12 @@ nodes_fit old new moves plan c h =
     omega (arith, many, can.room.nodes_fit)
 
 -- events that make nothing need no room
-module _ {A : Type 0} (f : A → Event) (free : (room : Room) (rest : List Event) (x : A) → AreWithin room rest → AreWithin room (f x ∷ rest)) where
-  free_fit : (room : Room) (xs : List A) (rest : List Event) → AreWithin room rest → AreWithin room (map f xs ++ rest)
+module _ {A : Type 0} (f : A → Event) (free : (room : Room) (rest : List Event) (x : A) → HasRoomForAll room rest → HasRoomForAll room (f x ∷ rest)) where
+  free_fit : (room : Room) (xs : List A) (rest : List Event) → HasRoomForAll room rest → HasRoomForAll room (map f xs ++ rest)
   free_fit room [] rest h = h
   free_fit room (x ∷ xs) rest h = free room (map f xs ++ rest) x (free_fit room xs rest h)
 
-opens_fit : (ps : List ℕ) (room : Room) → AreWithin room (map Reopen ps)
+opens_fit : (ps : List ℕ) (room : Room) → HasRoomForAll room (map Reopen ps)
 opens_fit [] room = tt
 opens_fit (p ∷ ps) room = (tt, opens_fit ps room)
 
@@ -59,13 +59,13 @@ module _ (old new : Graph) (plan : Plan) (c : Configuration) where
       by None = refl
       by (Some s) = at (node_path old s.old) (slot_at c (node_path old s.old)) refl
 
-  makes_fit : (rest : List Event) → ((room : Room) → AreWithin room rest) → (k : ℕ) (js : List ℕ) (room : Room) → length js ≤ room.nodes → length c.slots ≤ room.sources
-      → AreWithin room (map make_of (makes_from old new plan c k js) ++ rest)
+  makes_fit : (rest : List Event) → ((room : Room) → HasRoomForAll room rest) → (k : ℕ) (js : List ℕ) (room : Room) → length js ≤ room.nodes → length c.slots ≤ room.sources
+      → HasRoomForAll room (map make_of (makes_from old new plan c k js) ++ rest)
   makes_fit rest fits k [] room few low = fits room
   makes_fit rest fits k (j ∷ js) room few low =
       (record { node = omega (arith, few); source = source_low j room.sources low }, makes_fit rest fits (k + 1) js (less_one room) (omega (arith, few)) low)
 
-  pub commit_fits : (room : Room) → length plan.create ≤ room.nodes → length c.slots ≤ room.sources → AreWithin room (commit_events old new plan c)
+  pub commit_fits : (room : Room) → length plan.create ≤ room.nodes → length c.slots ≤ room.sources → HasRoomForAll room (commit_events old new plan c)
   commit_fits room nodes sources =
       let w = work old new plan c in
       let unlinks = map Unlink w.unlinks in
@@ -73,9 +73,9 @@ module _ (old new : Graph) (plan : Plan) (c : Configuration) where
       let makes = map make_of w.makes in
       let links = map link_of (new_links new plan (change_all c (work_of w))) in
       let opens = map Reopen (reopened_ports old new plan c) in
-      let fits : (r : Room) → AreWithin r (links ++ opens) =
+      let fits : (r : Room) → HasRoomForAll r (links ++ opens) =
       λ r. free_fit link_of (λ room rest x h. (tt, h)) r (new_links new plan (change_all c (work_of w))) opens (opens_fit (reopened_ports old new plan c) r) in
-      subst (AreWithin room)
+      subst (HasRoomForAll room)
       (sym (append_assoc (unlinks ++ (removes ++ makes)) links opens ∙ append_assoc unlinks (removes ++ makes) (links ++ opens)
       ∙ ap (λ es. unlinks ++ es) (append_assoc removes makes (links ++ opens))))
       (free_fit Unlink (λ room rest x h. (tt, h)) room w.unlinks (removes ++ (makes ++ (links ++ opens)))

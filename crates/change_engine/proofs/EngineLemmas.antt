@@ -17,16 +17,17 @@ use Rattle.quiesce_core.specs.Live.{IsGraphOf}
 use Rattle.quiesce_core.specs.State.{Configuration}
 use Rattle.quiesce_core.specs.WellFormed.{IsSound}
 use Rattle.quiesce_core.proofs.RunLaws.{runs_are_well_formed}
-use Rattle.change_board.specs.Entries.{Entry, config_of, event_in, events_in}
-use Rattle.change_board.specs.Records.{Adds, IsRecord, events}
+use Rattle.gate_records.specs.Entries.{config_of, event_in, events_in}
+use Rattle.gate_records.specs.declared.entry.Entry.{Entry}
+use Rattle.gate_records.specs.Records.{Adds, IsRecord, events}
 use Rattle.change_board.specs.Scans.{Found, look_entry}
 use Rattle.change_board.specs.Transcripts.{Item, entries, lines, said}
-use Rattle.change_board.proofs.RecordLaws.{config_is}
+use Rattle.gate_records.proofs.RecordLaws.{config_is}
 use Rattle.change_board.specs.declared.board.Collected.{Collected}
 use Rattle.quiesce_core.specs.declared.event.Event.{Event}
 use Rattle.change_engine.specs.Calls.{Continues, HasFinished, HasRun, HasStopped, stop_items}
-use Rattle.change_engine.specs.Ending.{unfinished_in}
-use Rattle.change_engine.specs.Running.{Counts, RunsOn, ScansUntil, ended_since, run_ends}
+use Rattle.change_engine.specs.Ending.{unfinished_after}
+use Rattle.change_engine.specs.Running.{Counts, RunsOn, ScansUntil, ended_since, are_enough}
 use Rattle.change_engine.specs.Stopping.{Stops}
 use Rattle.change_engine.specs.Engines.{IsIdle, Tells}
 use Rattle.change_engine.specs.Finishing.{Finished, IsScanIn, Seen, all_entries}
@@ -35,10 +36,11 @@ use Rattle.change_engine.specs.Layouts.{IsLayoutOf, live_at, port_of}
 use Rattle.change_engine.specs.Passivating.{silent_items}
 use Rattle.change_engine.specs.declared.engine.Engine.{Engine}
 use Rattle.change_engine.specs.declared.layout.Layout.{Layout}
-use Rattle.change_engine.proofs.Growing.{adds_both, entries_both, lines_both}
+use Rattle.change_engine.proofs.Growing.{adds_both}
 use Rattle.change_engine.proofs.LayoutLemmas.{live_ports_are}
-use Rattle.change_engine.proofs.Passing.{config_quiet, looks_quiet, silent_entries, silent_lines}
+use Rattle.change_engine.proofs.Passing.{config_quiet, looks_quiet}
 use Rattle.change_engine.proofs.Scanning.{all_quiet}
+use Rattle.change_engine.proofs.ItemLaws.{entries_both, lines_both, silent_entries, silent_lines, said_entries, said_lines}
 
 -- the configuration that a record makes is a sound one
 pub record_sound : (r : List Entry) → IsRecord r → IsSound (config_of r)
@@ -79,17 +81,9 @@ module _ {B : Type 0} (S : B → List Entry → Type 0) where
   -- lines alone
   pub said_alone : (b : B) (h i : List HistoryLine) (ls : List HistoryLine) → i ≡ h ++ ls → Grew S b b h i (map said ls)
   said_alone b h i ls grown = record {
-    adds = λ r s. subst (S b) (sym (ap (λ es. r ++ es) (none_ ls) ∙ append-nil r)) s;
-    adds_lines = grown ∙ ap (λ zs. h ++ zs) (sym (all_ ls));
+    adds = λ r s. subst (S b) (sym (ap (λ es. r ++ es) (said_entries ls) ∙ append-nil r)) s;
+    adds_lines = grown ∙ ap (λ zs. h ++ zs) (sym (said_lines ls));
   }
-    where
-      none_ : (ls : List HistoryLine) → entries (map said ls) ≡ []
-      none_ [] = refl
-      none_ (l ∷ ls) = none_ ls
-
-      all_ : (ls : List HistoryLine) → lines (map said ls) ≡ ls
-      all_ [] = refl
-      all_ (l ∷ ls) = ap (λ zs. l ∷ zs) (all_ ls)
 
   -- entries that no line tells, and then a line
   pub grew_silently : (a b : B) (h i : List HistoryLine) (es : List Entry) (l : HistoryLine) → Adds S a b es → i ≡ h ++ l ∷ [] → Grew S a b h i (silent_items es ++ said l ∷ [])
@@ -135,7 +129,7 @@ module _ {B : Type 0} (S : B → List Entry → Type 0) (alone : Bool) where
         are_scans = λ t h. subst (λ c. AllByRecursion (IsScanIn alone c) y.scans) (config_quiet (entries t) looks (looks_quiet x.looks))
             (y.are_scans (entries t ++ looks) (x.adds (entries t) h.tells.board));
         go_on = subst (λ n. Each (RunsOn alone k n) y.scans) x.ended_is y.go_on;
-        ends = subst (λ n. run_ends alone k n y.scans ≡ true) x.ended_is y.ends;
+        ends = subst (λ n. are_enough alone k n y.scans ≡ true) x.ended_is y.ends;
         ended_is = subst (λ n. ended ≡ ended_since n y.scans) x.ended_is y.ended_is;
         goes = continues S e f (silent_items (looks ++ all_entries y.scans) ++ said (to.Run k ended) ∷ [])
             (grew_silently S e.board f.board e.history.items f.history.items (looks ++ all_entries y.scans) (to.Run k ended)
@@ -149,7 +143,7 @@ all_are_live S e t h = live_ports_are (config_of (entries t)) e.graph h.tells.gr
 
 pub has_stopped : {B : Type 0} (S : B → List Entry → Type 0) (taken : B → List (List Event)) (e : Engine B) (b : B) (h : List HistoryLine) (given : Collected) (report : Report)
     → Stops S e.board b (taken b) e.history.items h (live_at e.layout.places.items e.layout.ports.items) (2 ^ 64 - 1) given
-    → report.history ≡ h → report.logs ≡ given.logs → report.unfinished ≡ unfinished_in h given.undone → report.status ≡ status_of report.history report.unfinished
+    → report.history ≡ h → report.logs ≡ given.logs → report.unfinished ≡ unfinished_after h given.undone → report.status ≡ status_of report.history report.unfinished
     → HasStopped S taken e report b
 has_stopped S taken e b h given report x history logs unfinished status =
     let closed = live_at e.layout.places.items e.layout.ports.items in
@@ -166,6 +160,6 @@ has_stopped S taken e b h given report x history logs unfinished status =
       collected = x.collected;
       history_is = λ t i. history ∙ x.grew.adds_lines ∙ ap (λ ls. ls ++ lines items) i.tells.history ∙ sym (lines_both t items);
       logs_are = logs;
-      unfinished_is = unfinished ∙ ap (λ ls. unfinished_in ls given.undone) (sym history);
+      unfinished_is = unfinished ∙ ap (λ ls. unfinished_after ls given.undone) (sym history);
       status_is = status;
     }

@@ -1,19 +1,13 @@
 -- How records and histories grow.
-use Rattle.std.proofs.Common.{◌≡◌, List, ◌++◌, append_assoc, [], sym, ap, ◌∙◌, subst, inl, inr}
+use Rattle.std.proofs.Common.{List, ◌++◌, append_assoc, [], sym, ap, ◌∙◌, subst, inl, inr}
 use Rattle.std.specs.Prelude.{◌⊎◌, OnErr, Result, Ok, Err}
 use Rattle.std.proofs.lemmas.List.{append-nil}
-use Rattle.std.proofs.lemmas.List.Elements.{filter_map-append}
 use Rattle.change_script.specs.declared.report.HistoryLine.{HistoryLine}
-use Rattle.change_board.specs.Entries.{Entry}
-use Rattle.change_board.specs.Records.{Adds}
-use Rattle.change_board.specs.Transcripts.{Item, entries, entry_in, line_in, lines}
+use Rattle.gate_records.specs.declared.entry.Entry.{Entry}
+use Rattle.gate_records.specs.Records.{Adds}
+use Rattle.change_board.specs.Transcripts.{Item, entries, lines}
 use Rattle.change_engine.specs.Growing.{BrokeOff, Grew}
-
-pub entries_both : (t u : List Item) → entries (t ++ u) ≡ entries t ++ entries u
-entries_both t u = filter_map-append entry_in t u
-
-pub lines_both : (t u : List Item) → lines (t ++ u) ≡ lines t ++ lines u
-lines_both t u = filter_map-append line_in t u
+use Rattle.change_engine.proofs.ItemLaws.{entries_both, lines_both}
 
 module _ {B : Type 0} (S : B → List Entry → Type 0) where
   pub adds_both : (a b c : B) (es fs : List Entry) → Adds S a b es → Adds S b c fs → Adds S a c (es ++ fs)

@@ -11,18 +11,20 @@ use Rattle.base.specs.Each.{EachAfter}
 use Rattle.commit_laws.specs.Commits.{Differ}
 use Rattle.commit_laws.specs.Lists.{Apart, In}
 use Rattle.quiescence_laws.specs.Events.{reopens}
-use Rattle.change_board.specs.Entries.{Entry, config_of, looked, event_in, events_in}
-use Rattle.change_board.specs.Looks.{is_drained_word}
-use Rattle.change_board.specs.Notes.{found_next, is_found_drained, is_never_reopened, is_noted}
-use Rattle.change_board.specs.Records.{IsRecord}
+use Rattle.gate_records.specs.Entries.{config_of, event_in, events_in}
+use Rattle.gate_records.specs.declared.entry.Entry.{Entry}
+use Rattle.gate_records.specs.declared.entry.Entry.TheVariants.{Looked}
+use Rattle.gate_records.specs.Looks.{is_drained_word}
+use Rattle.gate_records.specs.Notes.{found_next, is_found_drained, is_never_reopened, is_noted}
+use Rattle.gate_records.specs.Records.{IsRecord}
 use Rattle.change_board.specs.Scans.{Found, look_entry, ports_of, scan_entries}
 use Rattle.change_board.specs.Transcripts.{entries}
 use Rattle.change_engine.specs.Leaving.{IsRootLeft}
 use Rattle.change_engine.specs.Passivating.{AreLivePorts, IsPassivation, IsRound, Passivation, Round, is_busy, last_look, left_after, passivation_items, root_of, root_ports, roots_of, round_items}
 use Rattle.change_engine.specs.declared.passivating.LeftRoot.{LeftRoot}
-use Rattle.change_engine.proofs.Growing.{entries_both}
 use Rattle.change_engine.proofs.Passing.{closes, looks_quiet, roots_cons, round_entries}
 use Rattle.change_engine.proofs.Rooting.{behind, busy_not_noted, in_map, in_right, look_root, roots_there, split, whole}
+use Rattle.change_engine.proofs.ItemLaws.{entries_both}
 
 -- what is left are the roots that the last look saw
 left_is_last : (first : List Found) (rounds : List Round) → left_after first rounds ≡ roots_of (last_look first rounds)
@@ -108,15 +110,15 @@ busy_and false w h = refl
 busy_and true w h = h
 
 not_noted_on : (r : List Entry) (p w : ℕ) (found : List Found) → is_noted r p ≡ false → is_drained_word w ≡ false → ((q : ℕ) → In (ports_of found) q → Differ p q)
-    → is_noted (r ++ looked p w ∷ map look_entry found) p ≡ false
+    → is_noted (r ++ Looked p w ∷ map look_entry found) p ≡ false
 not_noted_on r p w found none_ busy apart =
-    let all = r ++ looked p w ∷ map look_entry found in
+    let all = r ++ Looked p w ∷ map look_entry found in
     let parts = never_and_found (is_never_reopened r p) (is_found_drained r p) none_ in
     let quiet : events_in all ≡ events_in r =
-    filter_map-append event_in r (looked p w ∷ map look_entry found) ∙ ap (λ es. events_in r ++ es) (looks_quiet found) ∙ append-nil (events_in r) in
+    filter_map-append event_in r (Looked p w ∷ map look_entry found) ∙ ap (λ es. events_in r ++ es) (looks_quiet found) ∙ append-nil (events_in r) in
     let found_ : is_found_drained all p ≡ false =
-    fold-append (found_next p) false r (looked p w ∷ map look_entry found)
-    ∙ ap (λ b. fold (found_next p) (found_next p b (looked p w)) (map look_entry found)) parts.1
+    fold-append (found_next p) false r (Looked p w ∷ map look_entry found)
+    ∙ ap (λ b. fold (found_next p) (found_next p b (Looked p w)) (map look_entry found)) parts.1
     ∙ ap (λ b. fold (found_next p) b (map look_entry found)) (busy_and (p == p) (is_drained_word w) busy)
     ∙ others_miss p found apart in
     ap (λ b. b || is_found_drained all p) (ap (λ es. not (list_any (reopens p) es)) quiet ∙ parts.0) ∙ found_
@@ -141,7 +143,7 @@ module _ (r : List Entry) (ports : List ℕ) (within : ℕ) (how : Passivation) 
   not_noted f i busy =
       let at = split last f i in
       let before = ((r ++ closes ports) ++ ends.before) ++ map look_entry at.front in
-      let parts : r ++ entries (passivation_items ports how) ≡ before ++ looked f.port f.word ∷ map look_entry at.back =
+      let parts : r ++ entries (passivation_items ports how) ≡ before ++ Looked f.port f.word ∷ map look_entry at.back =
       whole r ports within how rec live is ∙ ap (λ es. (r ++ closes ports) ++ es) (ends.parts ∙ ap (λ found. ends.before ++ map look_entry found) at.parts
       ∙ ap (λ es. ends.before ++ es) (map-append look_entry at.front (f ∷ at.back)))
       ∙ sym (append_assoc (r ++ closes ports) ends.before (map look_entry at.front ++ look_entry f ∷ map look_entry at.back))

@@ -1,3 +1,5 @@
+pub mod ItemLaws
+pub mod PassivationLaws
 mod Growing
 mod CarryingLemmas
 mod Passing

@@ -7,16 +7,17 @@ use Rattle.std.proofs.lemmas.List.Concat.{flat_map-cons}
 use Rattle.std.proofs.lemmas.List.Sums.{fold-append}
 use Rattle.base.specs.Each.{EachAfter}
 use Rattle.commit_laws.specs.Lists.{In}
-use Rattle.change_board.specs.Entries.{Entry}
-use Rattle.change_board.specs.Looks.{is_drained_word}
-use Rattle.change_board.specs.Notes.{found_next, is_found_drained, is_never_reopened, is_noted}
+use Rattle.gate_records.specs.declared.entry.Entry.{Entry}
+use Rattle.gate_records.specs.Looks.{is_drained_word}
+use Rattle.gate_records.specs.Notes.{found_next, is_found_drained, is_never_reopened, is_noted}
 use Rattle.change_board.specs.Scans.{Found, look_entry, ports_of, scan_entries}
 use Rattle.change_board.specs.Sights.{Sight, sight_entry}
 use Rattle.change_board.specs.Transcripts.{entries}
 use Rattle.change_engine.specs.Passivating.{IsPassivation, IsRound, Passivation, Round, close_item, is_busy, left_after, look_item, passivation_items, root_of, root_ports, roots_of, round_items}
 use Rattle.change_engine.specs.declared.passivating.LeftRoot.{LeftRoot}
-use Rattle.change_engine.proofs.Growing.{entries_both}
-use Rattle.change_engine.proofs.Passing.{left_more, look_entries, roots_cons, round_entries}
+use Rattle.change_engine.proofs.Passing.{look_entries, roots_cons, round_entries}
+use Rattle.change_engine.proofs.ItemLaws.{entries_both}
+use Rattle.change_engine.proofs.PassivationLaws.{left_more}
 
 module _ (p : ℕ) where
   -- whether the port counts as found drained behind entries

@@ -5,31 +5,35 @@ use Rattle.std.specs.List.{cons_option}
 use Rattle.std.proofs.lemmas.Grind.{flat_map-append}
 use Rattle.std.proofs.lemmas.List.{append-nil, map-append, length-append, take_more}
 use Rattle.std.proofs.lemmas.List.Elements.{All-cons, All-head, All-tail, filter_map-append}
-use Rattle.std.proofs.lemmas.List.Sums.{fold-append, fold_push}
+use Rattle.std.proofs.lemmas.List.Sums.{fold-append}
 use Rattle.base.proofs.EachLaws.{each_pushed}
 use Rattle.commit_laws.specs.Steps.{change_all}
-use Rattle.commit_laws.proofs.TurningLaws.{SameLinks, live_port, live_still, same_turned}
+use Rattle.commit_laws.proofs.TurningLaws.{SameLinks, live_port, live_still}
 use Rattle.quiesce_core.specs.declared.event.Event.TheVariants as event
-use Rattle.quiesce_core.specs.Effect.{change_next, with_closed}
+use Rattle.quiesce_core.specs.Effect.{change_next}
 use Rattle.quiesce_core.specs.Rules.{is_live_port}
 use Rattle.quiesce_core.specs.State.{Configuration, empty, is_live, owner}
 use Rattle.change_script.specs.declared.report.HistoryLine.{HistoryLine}
 use Rattle.change_script.specs.declared.report.HistoryLine.TheVariants as to
 use Rattle.change_board.specs.declared.board.Scan.{Scan}
-use Rattle.change_board.specs.declared.looking.Look.TheVariants.{Drained, Busy}
-use Rattle.change_board.specs.Entries.{Entry, did, looked, config_of, event_in, events_in}
-use Rattle.change_board.specs.Looks.{is_drained_word, is_idle_word, look_of, serial_of}
-use Rattle.change_board.specs.Records.{Adds}
-use Rattle.change_board.specs.Scans.{Found, Scanned, look_entry, ports_of, scan_entries}
+use Rattle.gate_records.specs.declared.looking.Look.TheVariants.{Drained, Busy}
+use Rattle.gate_records.specs.Entries.{config_of, event_in, events_in}
+use Rattle.gate_records.specs.declared.entry.Entry.{Entry}
+use Rattle.gate_records.specs.declared.entry.Entry.TheVariants.{Did, Looked}
+use Rattle.gate_records.specs.Looks.{is_drained_word, is_idle_word, look_of, serial_of}
+use Rattle.gate_records.specs.Records.{Adds}
+use Rattle.change_board.specs.Scans.{AddsScan, Found, look_entry, ports_of, scan_entries}
 use Rattle.change_board.specs.Sights.{Sight, sight_entry}
 use Rattle.change_board.specs.Transcripts.{silent, told, entries, entry_in, lines}
 use Rattle.change_engine.specs.Growing.{Grew}
 use Rattle.change_engine.specs.Passivating.{AreLivePorts, AreMadePorts, IsPassivation, IsRound, Passed, Round, Rounded, close_item, is_busy, item_at, left_after, lines_by, look_item, passivation_items, root_of, root_ports, roots_by, roots_of, round_items, silent_items}
 use Rattle.change_engine.specs.declared.passivating.LeftRoot.{LeftRoot}
-use Rattle.change_engine.proofs.Growing.{entries_both, grew_both}
+use Rattle.change_engine.proofs.Growing.{grew_both}
+use Rattle.change_engine.proofs.ItemLaws.{entries_both, silent_entries, silent_lines, close_lines}
+use Rattle.change_engine.proofs.PassivationLaws.{same_here, closed_links}
 
 abbrev pub closes : List ℕ → List Entry
-closes ps = map (λ p. did (event.Close p)) ps
+closes ps = map (λ p. Did (event.Close p)) ps
 
 -- the configuration behind entries that are no events, and behind closes
 pub config_over : (r es : List Entry) → config_of (r ++ es) ≡ change_all (config_of r) (events_in es)
@@ -42,16 +46,6 @@ config_quiet r es h = config_over r es ∙ ap (change_all (config_of r)) h
 pub closes_events : (ps : List ℕ) → events_in (closes ps) ≡ map event.Close ps
 closes_events [] = refl
 closes_events (p ∷ ps) = ap (λ es. event.Close p ∷ es) (closes_events ps)
-
-pub closed_links : (c d : Configuration) (ps : List ℕ) → AreLivePorts c ps → SameLinks c d → SameLinks c (change_all d (map event.Close ps))
-closed_links c d [] h same = same
-closed_links c d (p ∷ ps) h same =
-    let here = All-head (λ q. is_live_port c q ≡ true) p ps h in
-    closed_links c (with_closed d p true) ps (All-tail (λ q. is_live_port c q ≡ true) p ps h)
-    (same_turned c d p true (subst (λ n. p < n) (sym same.long) (live_port c p here).made) same)
-
-pub same_here : (c : Configuration) → SameLinks c c
-same_here c = record { slots = refl; long = refl; owners = λ q. refl; requirements = λ q. refl; targets = λ q. refl }
 
 pub live_same : (c d : Configuration) (p : ℕ) → SameLinks c d → is_live_port d p ≡ is_live_port c p
 live_same c d p same =
@@ -121,15 +115,15 @@ roots_told p w = by (is_drained_word w)
 pub lines_told : (p w : ℕ) → lines_by p (look_of w) ≡ lines (item_at p w ∷ [])
 lines_told p w = by (is_drained_word w)
   where
-    by : (b : Bool) → lines_by p (cond b (Drained (serial_of w) (is_idle_word w)) (Busy w)) ≡ lines (cond b (told (looked p w) (to.Drained p (serial_of w))) (silent (looked p w)) ∷ [])
+    by : (b : Bool) → lines_by p (cond b (Drained (serial_of w) (is_idle_word w)) (Busy w)) ≡ lines (cond b (told (Looked p w) (to.Drained p (serial_of w))) (silent (Looked p w)) ∷ [])
     by true = refl
     by false = refl
 
 -- the transcripts of looks, closes and scans
-item_entry : (p w : ℕ) → entry_in (item_at p w) ≡ Some (looked p w)
+item_entry : (p w : ℕ) → entry_in (item_at p w) ≡ Some (Looked p w)
 item_entry p w = by (is_drained_word w)
   where
-    by : (b : Bool) → entry_in (cond b (told (looked p w) (to.Drained p (serial_of w))) (silent (looked p w))) ≡ Some (looked p w)
+    by : (b : Bool) → entry_in (cond b (told (Looked p w) (to.Drained p (serial_of w))) (silent (Looked p w))) ≡ Some (Looked p w)
     by true = refl
     by false = refl
 
@@ -140,23 +134,11 @@ look_entries (f ∷ found) =
 
 pub close_entries : (ps : List ℕ) → entries (map close_item ps) ≡ closes ps
 close_entries [] = refl
-close_entries (p ∷ ps) = ap (λ es. did (event.Close p) ∷ es) (close_entries ps)
-
-close_lines : (ps : List ℕ) → lines (map close_item ps) ≡ map to.Close ps
-close_lines [] = refl
-close_lines (p ∷ ps) = ap (λ ls. to.Close p ∷ ls) (close_lines ps)
-
-pub silent_entries : (es : List Entry) → entries (silent_items es) ≡ es
-silent_entries [] = refl
-silent_entries (e ∷ es) = ap (λ xs. e ∷ xs) (silent_entries es)
-
-pub silent_lines : (es : List Entry) → lines (silent_items es) ≡ []
-silent_lines [] = refl
-silent_lines (e ∷ es) = silent_lines es
+close_entries (p ∷ ps) = ap (λ es. Did (event.Close p) ∷ es) (close_entries ps)
 
 -- one port more
-pub closes_more : (ps : List ℕ) (i : ℕ) → i < length ps → closes (take (i + 1) ps) ≡ closes (take i ps) ++ did (event.Close (get_or ps i 0)) ∷ []
-closes_more ps i h = ap closes (take_more ps i 0 h) ∙ map-append (λ p. did (event.Close p)) (take i ps) (get_or ps i 0 ∷ [])
+pub closes_more : (ps : List ℕ) (i : ℕ) → i < length ps → closes (take (i + 1) ps) ≡ closes (take i ps) ++ Did (event.Close (get_or ps i 0)) ∷ []
+closes_more ps i h = ap closes (take_more ps i 0 h) ∙ map-append (λ p. Did (event.Close p)) (take i ps) (get_or ps i 0 ∷ [])
 
 pub close_lines_more : (ps : List ℕ) (i : ℕ) → i < length ps → map to.Close (take (i + 1) ps) ≡ map to.Close (take i ps) ++ to.Close (get_or ps i 0) ∷ []
 close_lines_more ps i h = ap (map to.Close) (take_more ps i 0 h) ∙ map-append to.Close (take i ps) (get_or ps i 0 ∷ [])
@@ -212,7 +194,7 @@ module _ {B : Type 0} (S : B → List Entry → Type 0) where
       subst (λ t. Grew S a c h j t) (sym (append-nil (map close_item ps ++ map look_item w.found)))
       (grew_both S a b c h i j (map close_item ps) (map look_item w.found) (grew_closes a b h i ps x e) w.grew)
 
-  pub rounded : (alone : Bool) (b c d : B) (i j : List HistoryLine) (left next : List LeftRoot) (s : Scan) → Scanned S alone b c false s → Passed S c d i j (root_ports left) next → Rounded S b d i j left next
+  pub rounded : (alone : Bool) (b c d : B) (i j : List HistoryLine) (left next : List LeftRoot) (s : Scan) → AddsScan S alone b c false s → Passed S c d i j (root_ports left) next → Rounded S b d i j left next
   rounded alone b c d i j left next s x y =
       let scan = scan_entries false s.moved x.sights x.found in
       record {
@@ -239,7 +221,7 @@ module _ {B : Type 0} (S : B → List Entry → Type 0) where
         (subst (λ zs. AreMadePorts (config_of r) (root_ports zs)) (sym w.left_is) (roots_made (config_of r) w.found (subst (AreMadePorts (config_of r)) (sym w.at_ports) m))),
   )
 
-  pub made_scanned : (alone : Bool) (a b : B) (ps : List ℕ) (s : Scan) (r : List Entry) → S a r → AreMadePorts (config_of r) ps → Scanned S alone a b false s → (q : List Entry) × S b q × AreMadePorts (config_of q) ps
+  pub made_scanned : (alone : Bool) (a b : B) (ps : List ℕ) (s : Scan) (r : List Entry) → S a r → AreMadePorts (config_of r) ps → AddsScan S alone a b false s → (q : List Entry) × S b q × AreMadePorts (config_of q) ps
   made_scanned alone a b ps s r x m w =
       let es = scan_entries false s.moved w.sights w.found in
       (r ++ es, w.adds r x, subst (λ c. AreMadePorts c ps) (sym (config_quiet r es (scan_quiet false s.moved w.sights w.found))) m)
@@ -262,6 +244,3 @@ passivation_more ps left k first rounds w p all e some at_ = record {
   each_round = (each_pushed (IsRound first) rounds w).1 (p.each_round, record { some_left = λ none_. some (e ∙ none_); at_left = at_ ∙ ap root_ports e });
   few = simp length-append (omega arith);
 }
-
-pub left_more : (first : List Found) (rounds : List Round) (w : Round) → left_after first (rounds ++ w ∷ []) ≡ roots_of w.found
-left_more first rounds w = fold_push (λ left (w : Round). roots_of w.found) (roots_of first) rounds w

@@ -26,12 +26,13 @@ use Rattle.quiesce_core.proofs.LegalLaws.{legal}
 use Rattle.quiesce_core.proofs.RunLaws.{fronts_are_runs, last_step}
 use Rattle.quiescence_laws.specs.Events.{reopens}
 use Rattle.quiescence_laws.proofs.ExtensionLaws.{extends_further}
-use Rattle.change_board.specs.Entries.{Entry, config_of, events_in}
-use Rattle.change_board.specs.Notes.{is_found_drained, is_never_reopened, is_noted}
-use Rattle.change_board.specs.Records.{IsRecordOf, Moment, events}
+use Rattle.gate_records.specs.Entries.{config_of, events_in}
+use Rattle.gate_records.specs.declared.entry.Entry.{Entry}
+use Rattle.gate_records.specs.Notes.{is_found_drained, is_never_reopened, is_noted}
+use Rattle.gate_records.specs.Records.{IsRecordOf, Moment, events}
 use Rattle.change_board.specs.Steps.{MayDoAll, gates_come_last, is_turning}
-use Rattle.change_board.proofs.NoteLaws.{noted_is_drained}
-use Rattle.change_board.proofs.RecordLaws.{changes_of, config_is}
+use Rattle.gate_records.proofs.NoteLaws.{noted_is_drained}
+use Rattle.gate_records.proofs.RecordLaws.{changes_of, config_is}
 use Rattle.change_board.proofs.StepLaws.{may_do_all}
 use Rattle.change_engine.specs.Planning.{MayCarryOut}
 

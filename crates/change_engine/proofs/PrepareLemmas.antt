@@ -18,9 +18,10 @@ use Rattle.config_graph.specs.declared.kind.Kind.TheVariants.{Fork}
 use Rattle.config_graph.specs.declared.node.Node.{Node}
 use Rattle.plan_laws.specs.Commit.{commit_events, node_at}
 use Rattle.quiesce_core.specs.State.{Configuration}
-use Rattle.change_board.specs.Entries.{Entry, config_of}
-use Rattle.change_board.specs.Records.{Adds, IsRecord}
-use Rattle.change_board.specs.Steps.{AreWithin, Room}
+use Rattle.gate_records.specs.Entries.{config_of}
+use Rattle.gate_records.specs.declared.entry.Entry.{Entry}
+use Rattle.gate_records.specs.Records.{Adds, IsRecord}
+use Rattle.change_board.specs.Steps.{HasRoomForAll, Room}
 use Rattle.change_board.specs.Transcripts.{Item, entries, said}
 use Rattle.change_engine.specs.Calls.{Continues, HasPrepared}
 use Rattle.change_engine.specs.Engines.{HasPlace, IsFor, IsIdle, IsPlanned, IsPrepared, IsTold}
@@ -67,7 +68,7 @@ module _ {B : Type 0} (S : B → List Entry → Type 0) where
     pub prepared : (e f : Engine B) (name : List ℕ) (args : List _) (plan : Plan) (new : Graph) (change : Change)
         → Adds S e.board f.board [] → f.history.items ≡ e.history.items ++ to.Change name args ∷ [] → f.graph ≡ e.graph → f.layout ≡ e.layout → f.change ≡ Some change
         → IsFor e.layout e.graph new plan change
-        → ((t : List Item) → IsIdle S e t → AreWithin (R f.board) (commit_events e.graph new plan (config_of (entries t))))
+        → ((t : List Item) → IsIdle S e t → HasRoomForAll (R f.board) (commit_events e.graph new plan (config_of (entries t))))
         → HasPlace f.history change
         → (t : List Item) (moves : List Move) → IsIdle S e t → IsPlanned e.graph new moves plan (config_of (entries t)) → IsPrepared S R f (t ++ said (to.Change name args) ∷ []) moves plan new
     prepared e f name args plan new change adds history graph layout open_ for_ room place t moves x planned =
@@ -83,7 +84,7 @@ module _ {B : Type 0} (S : B → List Entry → Type 0) where
             change = change;
             open_ = open_;
             is_for = subst (λ l. IsFor l f.graph new plan change) (sym layout) (subst (λ g. IsFor e.layout g new plan change) (sym graph) for_);
-            room = subst (AreWithin (R f.board)) (sym (for_.events c told)) (room t x);
+            room = subst (HasRoomForAll (R f.board)) (sym (for_.events c told)) (room t x);
           };
           place = place;
         }
@@ -91,7 +92,7 @@ module _ {B : Type 0} (S : B → List Entry → Type 0) where
     pub has_prepared : (e f : Engine B) (name : List ℕ) (args : List _) (plan : Plan) (new : Graph) (change : Change)
         → Adds S e.board f.board [] → f.history.items ≡ e.history.items ++ to.Change name args ∷ [] → f.graph ≡ e.graph → f.layout ≡ e.layout → f.change ≡ Some change
         → IsFor e.layout e.graph new plan change
-        → ((t : List Item) → IsIdle S e t → AreWithin (R f.board) (commit_events e.graph new plan (config_of (entries t))))
+        → ((t : List Item) → IsIdle S e t → HasRoomForAll (R f.board) (commit_events e.graph new plan (config_of (entries t))))
         → HasPlace f.history change
         → HasPrepared S R e f name args plan new
     has_prepared e f name args plan new change adds history graph layout open_ for_ room place =

@@ -15,14 +15,16 @@ use Rattle.commit_laws.proofs.TurningLaws.{SameLinks, live_port}
 use Rattle.quiesce_core.specs.declared.event.Event.TheVariants as event
 use Rattle.quiesce_core.specs.Rules.{is_live_port}
 use Rattle.quiesce_core.specs.State.{Configuration}
-use Rattle.change_board.specs.Entries.{Entry, config_of, event_in, events_in}
-use Rattle.change_board.specs.Records.{AreAllNoted}
+use Rattle.gate_records.specs.Entries.{config_of, event_in, events_in}
+use Rattle.gate_records.specs.declared.entry.Entry.{Entry}
+use Rattle.gate_records.specs.Records.{AreAllNoted}
 use Rattle.change_board.specs.Transcripts.{said, entries, lines}
 use Rattle.change_engine.specs.Growing.{Grew}
 use Rattle.change_engine.specs.Passivating.{AreLivePorts, IsPassivation, Passivation, Round, close_item, left_after, look_item, passivation_items, round_items}
-use Rattle.change_engine.proofs.Growing.{entries_both}
 use Rattle.change_engine.proofs.Noting.{passivated_noted}
-use Rattle.change_engine.proofs.Passing.{close_entries, closed_links, closes_events, config_over, live_same, look_entries, looks_quiet, round_quiet, same_here}
+use Rattle.change_engine.proofs.Passing.{close_entries, closes_events, config_over, live_same, look_entries, looks_quiet, round_quiet}
+use Rattle.change_engine.proofs.ItemLaws.{entries_both}
+use Rattle.change_engine.proofs.PassivationLaws.{same_here, closed_links}
 
 -- the events of a passivation are its closes
 pub rounds_quiet : (rounds : List Round) → events_in (entries (flat_map round_items rounds)) ≡ []

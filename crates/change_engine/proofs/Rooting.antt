@@ -21,19 +21,22 @@ use Rattle.quiesce_core.specs.Words.{word_of}
 use Rattle.quiesce_core.specs.declared.event.Event.TheVariants as event
 use Rattle.quiesce_core.proofs.RunLaws.{fronts_are_runs, runs_are_well_formed}
 use Rattle.quiesce_core.proofs.WordLaws.{port_words_decode, words_tell_drained}
-use Rattle.change_board.specs.Entries.{Entry, looked, config_of, event_in, events_in}
-use Rattle.change_board.specs.Looks.{is_drained_word}
-use Rattle.change_board.specs.Notes.{is_noted}
-use Rattle.change_board.specs.Records.{IsRecord, IsRecordOf, IsSo, Moment, by_node, entry, entry_at, event_at, events, state_at}
-use Rattle.change_board.specs.Records as records
+use Rattle.gate_records.specs.Entries.{config_of, event_in, events_in}
+use Rattle.gate_records.specs.declared.entry.Entry.{Entry}
+use Rattle.gate_records.specs.declared.entry.Entry.TheVariants.{Looked}
+use Rattle.gate_records.specs.Looks.{is_drained_word}
+use Rattle.gate_records.specs.Notes.{is_noted}
+use Rattle.gate_records.specs.Records.{IsRecord, IsRecordOf, IsSo, Moment, by_node, entry, entry_at, event_at, events, state_at}
+use Rattle.gate_records.specs.Records as records
 use Rattle.change_board.specs.Scans.{Found, look_entry, ports_of, scan_entries}
 use Rattle.change_board.specs.Transcripts.{entries}
-use Rattle.change_board.proofs.NoteLaws.{noted_is_drained}
-use Rattle.change_board.proofs.RecordLaws.{config_is}
+use Rattle.gate_records.proofs.NoteLaws.{noted_is_drained}
+use Rattle.gate_records.proofs.RecordLaws.{config_is}
 use Rattle.change_engine.specs.Passivating.{AreLivePorts, IsPassivation, IsRound, Passivation, Round, close_item, is_busy, left_after, look_item, passivation_items, root_of, root_ports, roots_of, round_items}
-use Rattle.change_engine.proofs.Growing.{entries_both}
-use Rattle.change_engine.proofs.Passing.{close_entries, closes, closes_events, config_over, config_quiet, left_more, look_entries, looks_quiet, roots_cons, round_entries}
+use Rattle.change_engine.proofs.Passing.{close_entries, closes, closes_events, config_over, config_quiet, look_entries, looks_quiet, roots_cons, round_entries}
 use Rattle.change_engine.proofs.Quieting.{rounds_quiet}
+use Rattle.change_engine.proofs.ItemLaws.{entries_both}
+use Rattle.change_engine.proofs.PassivationLaws.{left_more}
 
 -- the moments in front of an entry
 record Before (m : List Moment) (xs : List Entry) (x : Entry) : Type 0 where
@@ -70,20 +73,20 @@ record LookedAt (before : List Entry) (p w : ℕ) : Type 0 where
   is_of : IsRecordOf before front
   word : w ≡ word_of (state_at front) p
 
-looked_at : (before after : List Entry) (p w : ℕ) → IsRecord (before ++ looked p w ∷ after) → LookedAt before p w
+looked_at : (before after : List Entry) (p w : ℕ) → IsRecord (before ++ Looked p w ∷ after) → LookedAt before p w
 looked_at before after p w r =
-    let at = before_entry r.moments before after (looked p w) r.is_of.record_is in
-    let so : Each IsSo (at.front ++ entry (looked p w) ∷ at.behind) = subst (Each IsSo) at.parts r.is_of.so in
+    let at = before_entry r.moments before after (Looked p w) r.is_of.record_is in
+    let so : Each IsSo (at.front ++ entry (Looked p w) ∷ at.behind) = subst (Each IsSo) at.parts r.is_of.so in
     let runs : IsRun (events at.front) =
-    fronts_are_runs (events at.front) (events (entry (looked p w) ∷ at.behind)) (subst IsRun (ap events at.parts ∙ filter_map-append event_at at.front (entry (looked p w) ∷ at.behind)) r.is_of.runs) in
+    fronts_are_runs (events at.front) (events (entry (Looked p w) ∷ at.behind)) (subst IsRun (ap events at.parts ∙ filter_map-append event_at at.front (entry (Looked p w) ∷ at.behind)) r.is_of.runs) in
     record {
       front = at.front;
-      is_of = record { record_is = at.entries_are; runs = runs; so = (each_parts IsSo [] at.front (entry (looked p w) ∷ at.behind) so).0 };
-      word = each_at IsSo at.front at.behind (entry (looked p w)) so;
+      is_of = record { record_is = at.entries_are; runs = runs; so = (each_parts IsSo [] at.front (entry (Looked p w) ∷ at.behind) so).0 };
+      word = each_at IsSo at.front at.behind (entry (Looked p w)) so;
     }
 
 -- a look at a port that is closed
-pub busy_has_root : (before after : List Entry) (p w : ℕ) → IsRecord (before ++ looked p w ∷ after) → (gate (config_of before) p).closed ≡ true → is_drained_word w ≡ false → has_root (unpack w) ≡ true
+pub busy_has_root : (before after : List Entry) (p w : ℕ) → IsRecord (before ++ Looked p w ∷ after) → (gate (config_of before) p).closed ≡ true → is_drained_word w ≡ false → has_root (unpack w) ≡ true
 busy_has_root before after p w r shut busy =
     let at = looked_at before after p w r in
     let fields : unpack w ≡ fields_of (state_at at.front) p = ap unpack at.word ∙ port_words_decode (state_at at.front) (runs_are_well_formed (events at.front) at.is_of.runs) p in
@@ -92,7 +95,7 @@ busy_has_root before after p w r shut busy =
     ∙ root_by (fields_of (state_at at.front) p).closed (is_idle (fields_of (state_at at.front) p).phase) (fields_of (state_at at.front) p).consequent closed (sym (ap is_drained fields) ∙ busy)
 
 -- a port at which a look loads a word that isn't drained was not noted
-pub busy_not_noted : (before after : List Entry) (p w : ℕ) → IsRecord (before ++ looked p w ∷ after) → is_drained_word w ≡ false → is_noted before p ≡ false
+pub busy_not_noted : (before after : List Entry) (p w : ℕ) → IsRecord (before ++ Looked p w ∷ after) → is_drained_word w ≡ false → is_noted before p ≡ false
 busy_not_noted before after p w r busy =
     let at = looked_at before after p w r in
     let s = state_at at.front in
@@ -150,11 +153,11 @@ none_in_front [] ys h = refl
 none_in_front (x ∷ xs) ys h = cc
 
 -- a look among entries that are no events
-quiet_root : (r es : List Entry) (p w : ℕ) → IsRecord (r ++ es) → events_in es ≡ [] → (gate (config_of r) p).closed ≡ true → In es (looked p w) → is_drained_word w ≡ false → has_root (unpack w) ≡ true
+quiet_root : (r es : List Entry) (p w : ℕ) → IsRecord (r ++ es) → events_in es ≡ [] → (gate (config_of r) p).closed ≡ true → In es (Looked p w) → is_drained_word w ≡ false → has_root (unpack w) ≡ true
 quiet_root r es p w rec quiet shut i busy =
-    let at = split es (looked p w) i in
-    let whole : r ++ es ≡ (r ++ at.front) ++ looked p w ∷ at.back = ap (λ zs. r ++ zs) at.parts ∙ sym (append_assoc r at.front (looked p w ∷ at.back)) in
-    let still : events_in at.front ≡ [] = none_in_front (events_in at.front) (events_in (looked p w ∷ at.back)) (sym (ap events_in at.parts ∙ filter_map-append event_in at.front (looked p w ∷ at.back)) ∙ quiet) in
+    let at = split es (Looked p w) i in
+    let whole : r ++ es ≡ (r ++ at.front) ++ Looked p w ∷ at.back = ap (λ zs. r ++ zs) at.parts ∙ sym (append_assoc r at.front (Looked p w ∷ at.back)) in
+    let still : events_in at.front ≡ [] = none_in_front (events_in at.front) (events_in (Looked p w ∷ at.back)) (sym (ap events_in at.parts ∙ filter_map-append event_in at.front (Looked p w ∷ at.back)) ∙ quiet) in
     busy_has_root (r ++ at.front) at.back p w (subst IsRecord whole rec) (ap (λ c. (gate c p).closed) (config_quiet r at.front still) ∙ shut) busy
 
 -- ---- a passivation's looks are at ports that it closed

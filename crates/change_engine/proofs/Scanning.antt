@@ -9,14 +9,16 @@ use Rattle.std.proofs.lemmas.List.Sums.{sum_by-append}
 use Rattle.change_script.specs.declared.report.HistoryLine.{HistoryLine}
 use Rattle.change_script.specs.declared.report.HistoryLine.TheVariants as to
 use Rattle.change_board.specs.declared.board.Scan.{Scan}
-use Rattle.change_board.specs.Entries.{Entry, config_of, event_in, events_in}
-use Rattle.change_board.specs.Records.{Adds}
-use Rattle.change_board.specs.Scans.{Scanned}
+use Rattle.gate_records.specs.Entries.{config_of, event_in, events_in}
+use Rattle.gate_records.specs.declared.entry.Entry.{Entry}
+use Rattle.gate_records.specs.Records.{Adds}
+use Rattle.change_board.specs.Scans.{AddsScan}
 use Rattle.change_board.specs.Transcripts.{Item, said, lines}
 use Rattle.change_engine.specs.Finishing.{Finished, IsScanIn, Scans, Seen, all_entries, count_of, rounds_in, seen_entries}
 use Rattle.change_engine.specs.Passivating.{silent_items}
-use Rattle.change_engine.proofs.Growing.{adds_both, entries_both, lines_both}
-use Rattle.change_engine.proofs.Passing.{config_quiet, scan_quiet, silent_entries, silent_lines}
+use Rattle.change_engine.proofs.Growing.{adds_both}
+use Rattle.change_engine.proofs.Passing.{config_quiet, scan_quiet}
+use Rattle.change_engine.proofs.ItemLaws.{entries_both, lines_both, silent_entries, silent_lines}
 
 pub all_push : {A : Type 0} (P : A → Type 0) (xs : List A) (x : A) → AllByRecursion P xs → P x → AllByRecursion P (xs ++ x ∷ [])
 all_push P [] x h p = (p, tt)
@@ -35,15 +37,15 @@ pub rounds_pushed : (scans : List Seen) (w : Seen) → rounds_in (scans ++ w ∷
 rounds_pushed scans w = sum_by-append (λ (w : Seen). count_of w.answer) scans (w ∷ []) ∙ omega arith
 
 module _ {B : Type 0} (S : B → List Entry → Type 0) where
-  abbrev pub seen_by : (alone : Bool) (b c : B) (s : Scan) → Scanned S alone b c true s → Seen
+  abbrev pub seen_by : (alone : Bool) (b c : B) (s : Scan) → AddsScan S alone b c true s → Seen
   seen_by alone b c s x = record { answer = s; sights = x.sights; found = x.found }
 
-  pub scans_add : (alone : Bool) (a b c : B) (scans : List Seen) (s : Scan) (x : Scanned S alone b c true s) → Adds S a b (all_entries scans) → Adds S a c (all_entries (scans ++ seen_by alone b c s x ∷ []))
+  pub scans_add : (alone : Bool) (a b c : B) (scans : List Seen) (s : Scan) (x : AddsScan S alone b c true s) → Adds S a b (all_entries scans) → Adds S a c (all_entries (scans ++ seen_by alone b c s x ∷ []))
   scans_add alone a b c scans s x adds =
       let w = seen_by alone b c s x in
       subst (λ es. Adds S a c es) (sym (entries_pushed scans w)) (adds_both S a b c (all_entries scans) (seen_entries w) adds x.adds)
 
-  pub scans_are : (alone : Bool) (a b c : B) (scans : List Seen) (s : Scan) (x : Scanned S alone b c true s) → Adds S a b (all_entries scans)
+  pub scans_are : (alone : Bool) (a b c : B) (scans : List Seen) (s : Scan) (x : AddsScan S alone b c true s) → Adds S a b (all_entries scans)
       → ((r : List Entry) → S a r → AllByRecursion (IsScanIn alone (config_of r)) scans)
       → (r : List Entry) → S a r → AllByRecursion (IsScanIn alone (config_of r)) (scans ++ seen_by alone b c s x ∷ [])
   scans_are alone a b c scans s x adds are r h =

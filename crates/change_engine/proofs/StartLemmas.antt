@@ -25,10 +25,11 @@ use Rattle.quiesce_core.specs.declared.event.Event.{Event}
 use Rattle.quiesce_core.specs.declared.event.Event.TheVariants.{Link}
 use Rattle.quiesce_core.proofs.GraphLaws.{graph_started}
 use Rattle.quiescence_laws.specs.Starts.{link_of, make_of, reopen_of, start_of}
-use Rattle.change_board.specs.Entries.{Entry, config_of, event_in, events_in}
-use Rattle.change_board.specs.Records.{Adds}
+use Rattle.gate_records.specs.Entries.{config_of, event_in, events_in}
+use Rattle.gate_records.specs.declared.entry.Entry.{Entry}
+use Rattle.gate_records.specs.Records.{Adds}
 use Rattle.change_board.specs.Sights.{Sight, sight_entry}
-use Rattle.change_board.specs.Steps.{AreWithin, Deed, Room, deed_entries, entries_of, less_one}
+use Rattle.change_board.specs.Steps.{HasRoomForAll, Deed, Room, deed_entries, entries_of, less_one}
 use Rattle.change_board.specs.Transcripts.{entries, lines, said}
 use Rattle.change_engine.specs.Beginning.{Begins, start_items}
 use Rattle.change_engine.specs.Calls.{HasStarted}
@@ -36,8 +37,7 @@ use Rattle.change_engine.specs.Carrying.{CarriesOut, deed_items}
 use Rattle.change_engine.specs.Layouts.{IsLayoutOf}
 use Rattle.change_engine.specs.declared.engine.Engine.{Engine}
 use Rattle.change_engine.proofs.Beginning.{start_is_of_change}
-use Rattle.change_engine.proofs.CarryingLemmas.{carried_entries}
-use Rattle.change_engine.proofs.Growing.{entries_both}
+use Rattle.change_engine.proofs.ItemLaws.{entries_both, carried_entries}
 
 -- the events of deeds are those that were done
 deed_events : (d : Deed) → events_in (deed_entries d) ≡ d.event ∷ []
@@ -54,30 +54,30 @@ deeds_events (d ∷ ds) =
     ∙ ap (λ es. es ++ events_in (entries_of ds)) (deed_events d) ∙ ap (λ es. d.event ∷ es) (deeds_events ds)
 
 -- there is room for each node that a start makes
-module _ (rest : List Event) (fits : (room : Room) → AreWithin room rest) where
-  makes_fit : (k : ℕ) (ms : List Node) (room : Room) → length ms ≤ room.nodes → AreWithin room (map make_of (enumerate_from k ms) ++ rest)
+module _ (rest : List Event) (fits : (room : Room) → HasRoomForAll room rest) where
+  makes_fit : (k : ℕ) (ms : List Node) (room : Room) → length ms ≤ room.nodes → HasRoomForAll room (map make_of (enumerate_from k ms) ++ rest)
   makes_fit k [] room few = fits room
   makes_fit k (m ∷ ms) room few = (record { node = omega (arith, few); source = refl }, makes_fit (k + 1) ms (less_one room) (omega (arith, few)))
 
-links_fit : (g : Graph) (rest : List Event) → ((room : Room) → AreWithin room rest) → (ps : List (ℕ × Port)) (room : Room) → AreWithin room (filter_map (link_of g) ps ++ rest)
+links_fit : (g : Graph) (rest : List Event) → ((room : Room) → HasRoomForAll room rest) → (ps : List (ℕ × Port)) (room : Room) → HasRoomForAll room (filter_map (link_of g) ps ++ rest)
 links_fit g rest fits [] room = fits room
 links_fit g rest fits (p ∷ ps) room = by (target_of g.links p.1.node p.1.require) (links_fit g rest fits ps room)
   where
-    by : (o : Option Target) → AreWithin room (filter_map (link_of g) ps ++ rest)
-        → AreWithin room (cons_option (option_map (λ (t : Target). Link p.0 t.node t.provide) o) (filter_map (link_of g) ps) ++ rest)
+    by : (o : Option Target) → HasRoomForAll room (filter_map (link_of g) ps ++ rest)
+        → HasRoomForAll room (cons_option (option_map (λ (t : Target). Link p.0 t.node t.provide) o) (filter_map (link_of g) ps) ++ rest)
     by None h = h
     by (Some t) h = (tt, h)
 
-opens_fit : (ps : List (ℕ × Port)) (room : Room) → AreWithin room (map reopen_of ps)
+opens_fit : (ps : List (ℕ × Port)) (room : Room) → HasRoomForAll room (map reopen_of ps)
 opens_fit [] room = tt
 opens_fit (p ∷ ps) room = (tt, opens_fit ps room)
 
-pub start_fits : (g : Graph) (room : Room) → length g.nodes ≤ room.nodes → AreWithin room (start_of g)
+pub start_fits : (g : Graph) (room : Room) → length g.nodes ≤ room.nodes → HasRoomForAll room (start_of g)
 start_fits g room few =
     let makes = map make_of (enumerate_from 0 g.nodes) in
     let links = filter_map (link_of g) (enumerate_from 0 (ports g.nodes)) in
     let opens = map reopen_of (enumerate_from 0 (ports g.nodes)) in
-    subst (AreWithin room) (sym (append_assoc makes links opens))
+    subst (HasRoomForAll room) (sym (append_assoc makes links opens))
     (makes_fit (links ++ opens) (links_fit g opens (opens_fit (enumerate_from 0 (ports g.nodes))) (enumerate_from 0 (ports g.nodes))) 0 g.nodes room few)
 
 -- the configuration that a start's events make is that of the started system

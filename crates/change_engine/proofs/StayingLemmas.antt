@@ -17,14 +17,16 @@ use Rattle.quiesce_core.specs.Rules.{is_live_port}
 use Rattle.quiesce_core.specs.Runs.{state_after}
 use Rattle.quiesce_core.specs.State.{Configuration, empty, gate}
 use Rattle.quiesce_core.proofs.SoundnessLaws.{put_elsewhere, put_here}
-use Rattle.change_board.specs.Entries.{Entry, config_of, events_in}
-use Rattle.change_board.specs.Records.{IsRecordCut}
-use Rattle.change_board.specs.Records as records
-use Rattle.change_board.proofs.RecordLaws.{changes_of}
+use Rattle.gate_records.specs.Entries.{config_of, events_in}
+use Rattle.gate_records.specs.declared.entry.Entry.{Entry}
+use Rattle.gate_records.specs.Records.{IsRecordCut}
+use Rattle.gate_records.specs.Records as records
+use Rattle.gate_records.proofs.RecordLaws.{changes_of}
 use Rattle.change_engine.specs.Breaking.{IsClosedOr, IsClosedStill}
 use Rattle.change_engine.specs.Passivating.{AreLivePorts}
-use Rattle.change_engine.proofs.Passing.{closes, closes_events, config_over, same_here}
+use Rattle.change_engine.proofs.Passing.{closes, closes_events, config_over}
 use Rattle.change_engine.proofs.Rooting.{shut_behind}
+use Rattle.change_engine.proofs.PassivationLaws.{same_here}
 
 none_of_change : (es : List Event) → All (λ e. is_of_change e ≡ false) es → filter is_of_change es ≡ []
 none_of_change [] h = refl

@@ -5,9 +5,9 @@ use Rattle.commit_laws.specs.Lists.{In}
 use Rattle.change_script.specs.declared.report.HistoryLine.{HistoryLine}
 use Rattle.quiesce_core.specs.Runs.{state_after}
 use Rattle.quiesce_core.specs.State.{Configuration, gate}
-use Rattle.change_board.specs.Entries.{Entry}
-use Rattle.change_board.specs.Records.{IsRecordCut}
-use Rattle.change_board.specs.Records as records
+use Rattle.gate_records.specs.declared.entry.Entry.{Entry}
+use Rattle.gate_records.specs.Records.{IsRecordCut}
+use Rattle.gate_records.specs.Records as records
 use Rattle.change_board.specs.Transcripts.{entries, lines}
 use Rattle.change_engine.specs.Passivating.{IsPassivation, Passivation, left_after, passivation_items}
 

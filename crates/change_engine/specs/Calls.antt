@@ -16,7 +16,8 @@ use Rattle.quiescence_laws.specs.Starts.{start_of}
 use Rattle.change_law.specs.Endings.{status_of}
 use Rattle.change_board.specs.declared.board.Collected.{Collected}
 use Rattle.change_board.specs.Collecting.{Collects}
-use Rattle.change_board.specs.Entries.{Entry, config_of}
+use Rattle.gate_records.specs.Entries.{config_of}
+use Rattle.gate_records.specs.declared.entry.Entry.{Entry}
 use Rattle.change_board.specs.Scans.{Found, all_ports, ended_in, look_entry, ports_of}
 use Rattle.change_board.specs.Steps.{Deed, Room}
 use Rattle.change_board.specs.Transcripts.{Item, entries, lines, said}
@@ -24,12 +25,12 @@ use Rattle.change_engine.specs.Beginning.{start_items}
 use Rattle.change_engine.specs.Breaking.{IsClosedOr, IsClosedStill}
 use Rattle.change_engine.specs.Carrying.{deed_items}
 use Rattle.change_engine.specs.Draining.{pending_items}
-use Rattle.change_engine.specs.Ending.{unfinished_in}
+use Rattle.change_engine.specs.Ending.{unfinished_after}
 use Rattle.change_engine.specs.Engines.{IsIdle, IsOpen, IsPlanned, IsPrepared, MayAbandon, MayCommit}
 use Rattle.change_engine.specs.Finishing.{EndsAfter, IsScanIn, Seen, all_entries, rounds_in}
 use Rattle.change_engine.specs.Leaving.{IsRootLeft}
 use Rattle.change_engine.specs.Passivating.{IsPassivation, Passivation, last_look, left_after, passivation_items, silent_items}
-use Rattle.change_engine.specs.Running.{RunsOn, ended_since, run_ends}
+use Rattle.change_engine.specs.Running.{RunsOn, ended_since, are_enough}
 use Rattle.change_engine.specs.declared.engine.Engine.{Engine}
 use Rattle.change_engine.specs.declared.passivating.LeftRoot.{LeftRoot}
 
@@ -60,7 +61,7 @@ pub record HasRun {B : Type 0} (S : B → List Entry → Type 0) (alone : Bool) 
   pub at_ports : (t : List Item) → IsIdle S old t → ports_of looks ≡ all_ports (config_of (entries t))
   pub are_scans : (t : List Item) → IsIdle S old t → AllByRecursion (IsScanIn alone (config_of (entries t))) scans
   pub go_on : Each (RunsOn alone k (ended_in looks)) scans
-  pub ends : run_ends alone k (ended_in looks) scans ≡ true
+  pub ends : are_enough alone k (ended_in looks) scans ≡ true
   pub ended_is : ended ≡ ended_since (ended_in looks) scans
   pub goes : Continues S old new
       (silent_items (map look_entry looks ++ all_entries scans) ++ said (to.Run k ended) ∷ [])
@@ -177,5 +178,5 @@ pub record HasStopped {B : Type 0} (S : B → List Entry → Type 0) (taken : B 
   pub collected : Collects S quiet board (taken board) given
   pub history_is : (t : List Item) → IsIdle S old t → report.history ≡ lines (t ++ stop_items closed how)
   pub logs_are : report.logs ≡ given.logs
-  pub unfinished_is : report.unfinished ≡ unfinished_in report.history given.undone
+  pub unfinished_is : report.unfinished ≡ unfinished_after report.history given.undone
   pub status_is : report.status ≡ status_of report.history report.unfinished

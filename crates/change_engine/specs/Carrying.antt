@@ -4,7 +4,8 @@ use Rattle.std.specs.Option.{option_map_or}
 use Rattle.change_law.specs.Members.{line_of}
 use Rattle.change_script.specs.declared.report.HistoryLine.{HistoryLine}
 use Rattle.quiesce_core.specs.declared.event.Event.{Event}
-use Rattle.change_board.specs.Entries.{Entry, did}
+use Rattle.gate_records.specs.declared.entry.Entry.{Entry}
+use Rattle.gate_records.specs.declared.entry.Entry.TheVariants.{Did}
 use Rattle.change_board.specs.Sights.{Sight, sight_entry}
 use Rattle.change_board.specs.Steps.{Deed}
 use Rattle.change_board.specs.Transcripts.{Item, silent, told, said}
@@ -12,7 +13,7 @@ use Rattle.change_engine.specs.Growing.{Grew}
 
 -- an event with its line, if it has one
 abbrev pub event_item : Event → Item
-event_item e = option_map_or (told (did e)) (line_of e) (silent (did e))
+event_item e = option_map_or (told (Did e)) (line_of e) (silent (Did e))
 
 abbrev pub sight_item : Sight → Item
 sight_item s = silent (sight_entry s)

@@ -2,7 +2,7 @@
 use Rattle.std.specs.Prelude.{◌≡◌, ◌⊎◌, ⊤, ℕ, List, [], ◌∷◌, ◌++◌, map, length}
 use Rattle.change_script.specs.declared.report.HistoryLine.{HistoryLine}
 use Rattle.change_script.specs.declared.report.HistoryLine.TheVariants as to
-use Rattle.change_board.specs.Entries.{Entry}
+use Rattle.gate_records.specs.declared.entry.Entry.{Entry}
 use Rattle.change_board.specs.Transcripts.{Item, said}
 use Rattle.change_engine.specs.Growing.{Grew}
 use Rattle.change_engine.specs.Passivating.{IsPassivation, Passivation, left_after, passivation_items}
@@ -13,13 +13,17 @@ use Rattle.change_engine.specs.declared.passivating.LeftRoot.{LeftRoot}
 abbrev pub root_line : LeftRoot → HistoryLine
 root_line x = to.Root x.port x.serial
 
--- where roots are left, the rounds that were made and the roots
-abbrev pub pending_lines : ℕ → List LeftRoot → List HistoryLine
-pending_lines within [] = []
-pending_lines within (x ∷ left) = to.Pending within ∷ map root_line (x ∷ left)
+abbrev pub root_item : LeftRoot → Item
+root_item x = said (root_line x)
 
+-- the rounds that were made and the roots that are left
 abbrev pub pending_items : ℕ → List LeftRoot → List Item
-pending_items within left = map said (pending_lines within left)
+pending_items within left = said (to.Pending within) ∷ map root_item left
+
+-- they are told where some are left
+abbrev pub left_lines : ℕ → List LeftRoot → List HistoryLine
+left_lines within [] = []
+left_lines within (x ∷ left) = to.Pending within ∷ map root_line (x ∷ left)
 
 -- a passivation, and what was told of the roots that it left
 pub record Waits {B : Type 0} (S : B → List Entry → Type 0) (old new : B) (before after : List HistoryLine)
@@ -28,7 +32,7 @@ pub record Waits {B : Type 0} (S : B → List Entry → Type 0) (old new : B) (b
   pub is_passivation : IsPassivation ports within how
   pub left_is : left ≡ left_after how.first how.rounds
   pub ends : (left ≡ []) ⊎ (length how.rounds ≡ within)
-  pub grew : Grew S old new before after (passivation_items ports how ++ pending_items within left)
+  pub grew : Grew S old new before after (passivation_items ports how ++ map said (left_lines within left))
 
 -- what holds after a refusal, by what it says
 abbrev pub WherePending : (ℕ → List LeftRoot → Type 0) → PassError → Type 0

@@ -9,5 +9,5 @@ is_finish_line (to.Finish n rounds) = true
 is_finish_line _ = false
 
 -- a live node that isn't done is named where the history has a finish
-abbrev pub unfinished_in : List HistoryLine → Option ℕ → Option ℕ
-unfinished_in history undone = if list_any is_finish_line history then undone else None
+abbrev pub unfinished_after : List HistoryLine → Option ℕ → Option ℕ
+unfinished_after history undone = if list_any is_finish_line history then undone else None

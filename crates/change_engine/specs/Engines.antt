@@ -17,8 +17,9 @@ use Rattle.quiesce_core.specs.State.{Configuration}
 use Rattle.quiesce_core.specs.WellFormed.{IsSound}
 use Rattle.quiesce_core.specs.declared.event.Event.TheVariants as event
 use Rattle.change_law.specs.Members.{lines_of_events}
-use Rattle.change_board.specs.Entries.{Entry, config_of}
-use Rattle.change_board.specs.Steps.{AreWithin, Room}
+use Rattle.gate_records.specs.Entries.{config_of}
+use Rattle.gate_records.specs.declared.entry.Entry.{Entry}
+use Rattle.change_board.specs.Steps.{HasRoomForAll, Room}
 use Rattle.change_board.specs.Transcripts.{Item, entries, lines}
 use Rattle.change_engine.specs.Layouts.{IsLayoutOf}
 use Rattle.change_engine.specs.Passivating.{HasPlaceFor}
@@ -73,7 +74,7 @@ pub record IsOpen {B : Type 0} (S : B → List Entry → Type 0) (R : B → Room
   pub change : Change
   pub open_ : e.change ≡ Some change
   pub is_for : IsFor e.layout e.graph new plan change
-  pub room : AreWithin (R e.board) change.events.items
+  pub room : HasRoomForAll (R e.board) change.events.items
 
 -- There is place for the lines of a change, of the wait and of either end, and to wait in.
 pub record HasPlace (history : Vec HistoryLine) (change : Change) : Type 0 where

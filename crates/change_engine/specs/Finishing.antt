@@ -5,8 +5,9 @@ use Rattle.change_script.specs.declared.report.HistoryLine.{HistoryLine}
 use Rattle.change_script.specs.declared.report.HistoryLine.TheVariants as to
 use Rattle.quiesce_core.specs.State.{Configuration}
 use Rattle.change_board.specs.declared.board.Scan.{Scan}
-use Rattle.change_board.specs.Entries.{Entry, config_of}
-use Rattle.change_board.specs.Records.{Adds}
+use Rattle.gate_records.specs.Entries.{config_of}
+use Rattle.gate_records.specs.declared.entry.Entry.{Entry}
+use Rattle.gate_records.specs.Records.{Adds}
 use Rattle.change_board.specs.Scans.{Found, SightsAll, all_ports, ended_in, is_seen_at_rest, ports_of, scan_entries}
 use Rattle.change_board.specs.Sights.{Sight}
 use Rattle.change_board.specs.Transcripts.{said}

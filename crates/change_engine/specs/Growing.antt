@@ -1,8 +1,8 @@
 -- How the records of a board and the history grow together: by a transcript.
 use Rattle.std.specs.Prelude.{◌≡◌, ◌⊎◌, List, ◌++◌}
 use Rattle.change_script.specs.declared.report.HistoryLine.{HistoryLine}
-use Rattle.change_board.specs.Entries.{Entry}
-use Rattle.change_board.specs.Records.{Adds}
+use Rattle.gate_records.specs.declared.entry.Entry.{Entry}
+use Rattle.gate_records.specs.Records.{Adds}
 use Rattle.change_board.specs.Transcripts.{Item, entries, lines}
 
 pub record Grew {B : Type 0} (S : B → List Entry → Type 0) (old new : B) (before after : List HistoryLine)

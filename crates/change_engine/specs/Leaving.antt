@@ -2,9 +2,9 @@
 use Rattle.std.specs.Prelude.{◌≡◌, ℕ, false, List, IsTrue}
 use Rattle.commit_laws.specs.Lists.{In}
 use Rattle.gate_word.specs.Words.{has_root, unpack}
-use Rattle.change_board.specs.Entries.{Entry}
-use Rattle.change_board.specs.Looks.{serial_of}
-use Rattle.change_board.specs.Notes.{is_noted}
+use Rattle.gate_records.specs.declared.entry.Entry.{Entry}
+use Rattle.gate_records.specs.Looks.{serial_of}
+use Rattle.gate_records.specs.Notes.{is_noted}
 use Rattle.change_board.specs.Scans.{Found}
 use Rattle.change_engine.specs.declared.passivating.LeftRoot.{LeftRoot}
 

@@ -7,10 +7,11 @@ use Rattle.change_script.specs.declared.report.HistoryLine.TheVariants as to
 use Rattle.quiesce_core.specs.declared.event.Event.TheVariants as event
 use Rattle.quiesce_core.specs.Rules.{is_live_port}
 use Rattle.quiesce_core.specs.State.{Configuration}
-use Rattle.change_board.specs.declared.looking.Look.{Look}
-use Rattle.change_board.specs.declared.looking.Look.TheVariants.{Drained, Busy}
-use Rattle.change_board.specs.Entries.{Entry, did, looked}
-use Rattle.change_board.specs.Looks.{is_drained_word, serial_of}
+use Rattle.gate_records.specs.declared.looking.Look.{Look}
+use Rattle.gate_records.specs.declared.looking.Look.TheVariants.{Drained, Busy}
+use Rattle.gate_records.specs.declared.entry.Entry.{Entry}
+use Rattle.gate_records.specs.declared.entry.Entry.TheVariants.{Did, Looked}
+use Rattle.gate_records.specs.Looks.{is_drained_word, serial_of}
 use Rattle.change_board.specs.Scans.{Found, ports_of, scan_entries}
 use Rattle.change_board.specs.Sights.{Sight}
 use Rattle.change_board.specs.Transcripts.{Item, silent, told}
@@ -25,7 +26,7 @@ pub record HasPlaceFor (waiting : Waiting) (count : ℕ) : Type 0 where
 
 -- a look that isn't a scan's; the history tells it where it found the port drained
 abbrev pub item_at : ℕ → ℕ → Item
-item_at p w = if is_drained_word w then told (looked p w) (to.Drained p (serial_of w)) else silent (looked p w)
+item_at p w = if is_drained_word w then told (Looked p w) (to.Drained p (serial_of w)) else silent (Looked p w)
 
 abbrev pub look_item : Found → Item
 look_item f = item_at f.port f.word
@@ -101,7 +102,7 @@ pub record IsRound (first : List Found) (before : List Round) (w : Round) : Type
   pub at_left : ports_of w.found ≡ root_ports (left_after first before)
 
 abbrev pub close_item : ℕ → Item
-close_item p = told (did (event.Close p)) (to.Close p)
+close_item p = told (Did (event.Close p)) (to.Close p)
 
 pub record Passivation : Type 0 where
   pub first : List Found

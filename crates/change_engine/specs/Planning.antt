@@ -10,8 +10,9 @@ use Rattle.plan_laws.specs.Commit.{is_one_of}
 use Rattle.plan_laws.specs.Committing.{made_in}
 use Rattle.quiesce_core.specs.Live.{IsGraphOf}
 use Rattle.quiesce_core.specs.State.{owner}
-use Rattle.change_board.specs.Entries.{Entry, config_of}
-use Rattle.change_board.specs.Notes.{is_noted}
+use Rattle.gate_records.specs.Entries.{config_of}
+use Rattle.gate_records.specs.declared.entry.Entry.{Entry}
+use Rattle.gate_records.specs.Notes.{is_noted}
 
 -- The graph is the old one, the plan leads from there to a sound graph, and each port of each frozen node is noted as
 -- drained.

@@ -4,11 +4,12 @@ use Rattle.std.specs.Prelude.{◌≡◌, ◌-◌, ℕ, Bool, true, false, not, �
 use Rattle.std.specs.List.{AllByRecursion, range_with_len}
 use Rattle.base.specs.Each.{Each}
 use Rattle.change_board.specs.declared.board.Scan.{Scan}
-use Rattle.change_board.specs.declared.looking.Look.{Look}
-use Rattle.change_board.specs.declared.looking.Look.TheVariants.{Drained, Busy}
-use Rattle.change_board.specs.Entries.{Entry, config_of}
-use Rattle.change_board.specs.Looks.{ended_in_word}
-use Rattle.change_board.specs.Records.{Adds}
+use Rattle.gate_records.specs.declared.looking.Look.{Look}
+use Rattle.gate_records.specs.declared.looking.Look.TheVariants.{Drained, Busy}
+use Rattle.gate_records.specs.Entries.{config_of}
+use Rattle.gate_records.specs.declared.entry.Entry.{Entry}
+use Rattle.gate_records.specs.Looks.{ended_in_word}
+use Rattle.gate_records.specs.Records.{Adds}
 use Rattle.change_board.specs.Scans.{Found, ended_in, look_entry, ports_of}
 use Rattle.change_engine.specs.Finishing.{IsScanIn, Seen, all_entries}
 
@@ -28,12 +29,12 @@ ended_since shown scans = fold (λ n (w : Seen). w.answer.ended - shown) 0 scans
 abbrev pub is_out_after : Bool → List Seen → Bool
 is_out_after alone scans = fold (λ b (w : Seen). is_run_out alone w.answer) false scans
 
-abbrev pub run_ends : Bool → ℕ → ℕ → List Seen → Bool
-run_ends alone k shown scans = nat_le k (ended_since shown scans) || is_out_after alone scans
+abbrev pub are_enough : Bool → ℕ → ℕ → List Seen → Bool
+are_enough alone k shown scans = nat_le k (ended_since shown scans) || is_out_after alone scans
 
 -- each scan is made where the run doesn't end before it
 abbrev pub RunsOn : Bool → ℕ → ℕ → List Seen → Seen → Type 0
-RunsOn alone k shown before w = run_ends alone k shown before ≡ false
+RunsOn alone k shown before w = are_enough alone k shown before ≡ false
 
 -- a look at each of the first so many ports, and how many transactions they show as ended
 pub record Counts {B : Type 0} (S : B → List Entry → Type 0) (old new : B) (ports ended : ℕ) : Type 0 where
@@ -48,6 +49,6 @@ pub record ScansUntil {B : Type 0} (S : B → List Entry → Type 0) (alone : Bo
   pub scans : List Seen
   pub are_scans : (r : List Entry) → S old r → AllByRecursion (IsScanIn alone (config_of r)) scans
   pub go_on : Each (RunsOn alone k shown) scans
-  pub ends : run_ends alone k shown scans ≡ true
+  pub ends : are_enough alone k shown scans ≡ true
   pub ended_is : ended ≡ ended_since shown scans
   pub adds : Adds S old new (all_entries scans)

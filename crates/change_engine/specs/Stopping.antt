@@ -6,7 +6,8 @@ use Rattle.commit_laws.specs.Steps.{live_ports}
 use Rattle.quiesce_core.specs.declared.event.Event.{Event}
 use Rattle.change_board.specs.declared.board.Collected.{Collected}
 use Rattle.change_board.specs.Collecting.{Collects}
-use Rattle.change_board.specs.Entries.{Entry, config_of}
+use Rattle.gate_records.specs.Entries.{config_of}
+use Rattle.gate_records.specs.declared.entry.Entry.{Entry}
 use Rattle.change_board.specs.Transcripts.{said}
 use Rattle.change_engine.specs.Growing.{Grew}
 use Rattle.change_engine.specs.Passivating.{IsPassivation, Passivation, left_after, passivation_items}

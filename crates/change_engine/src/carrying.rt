@@ -1,8 +1,8 @@
 //! Events of a change that are done on a board and told in the history.
 
 ghost use Rattle.std.specs.Prelude.{◌≡◌, ◌+◌, ◌≤◌, ◌++◌, List, vec_capacity, vec_len};
-ghost use Rattle.change_board.specs.Entries.{Entry};
-ghost use Rattle.change_board.specs.Steps.{AreWithin, MayDoAll};
+ghost use Rattle.gate_records.specs.declared.entry.Entry.{Entry};
+ghost use Rattle.change_board.specs.Steps.{HasRoomForAll, MayDoAll};
 ghost use Rattle.change_engine.specs.Carrying.{CarriesOut};
 ghost use Rattle.change_law.specs.Members.{lines_of_events};
 ghost use Rattle.change_script.specs.declared.report.HistoryLine.{HistoryLine};
@@ -20,7 +20,7 @@ pub fn carry_out<B: Board>(
     lines: &mut Vec<HistoryLine>,
 )
     requires may { (r : List Entry) × B.stands_for board.old r × MayDoAll r events.items }
-    requires room { AreWithin (B.room board.old) events.items }
+    requires room { HasRoomForAll (B.room board.old) events.items }
     requires place { vec_len history.old + vec_len lines.old ≤ vec_capacity history.old }
     ensures { (head tail : List HistoryLine) → lines.old.items ≡ head ++ lines_of_events events.items ++ tail
         → CarriesOut B.stands_for board.old board.new history.old.items history.new.items head events.items tail }

@@ -1,9 +1,10 @@
 //! Waiting for the ports that a change closed to drain.
 
 ghost use Rattle.std.specs.Prelude.{◌≡◌, ◌≤◌, ◌<◌, ◌+◌, ◌*◌, ◌++◌, [], List, map, length, IfErr, OnErr, OnOk, vec_capacity, vec_len};
-ghost use Rattle.change_board.specs.Entries.{Entry, config_of};
+ghost use Rattle.gate_records.specs.Entries.{config_of};
+ghost use Rattle.gate_records.specs.declared.entry.Entry.{Entry};
 ghost use Rattle.change_engine.specs.Breaking.{BrokeInRound};
-ghost use Rattle.change_engine.specs.Draining.{Waits, WhereNoMemory, WherePending, pending_lines, root_line};
+ghost use Rattle.change_engine.specs.Draining.{Waits, WhereNoMemory, WherePending, left_lines, root_line};
 ghost use Rattle.change_engine.specs.Passivating.{AreLivePorts, HasPlaceFor};
 
 use crate::passivating::{LeftRoot, Waiting, passivate, put};
@@ -53,7 +54,7 @@ fn push_roots(history: &mut Vec<HistoryLine>, left: &[LeftRoot])
 /// Tells how many rounds were made, and which roots they left, if they left some.
 fn push_pending(history: &mut Vec<HistoryLine>, rounds: u32, left: &[LeftRoot])
     requires place { vec_len history.old + length left.now + 1 ≤ vec_capacity history.old }
-    ensures lines { history.new.items ≡ history.old.items ++ pending_lines rounds left.now }
+    ensures lines { history.new.items ≡ history.old.items ++ left_lines rounds left.now }
     ensures len { vec_len history.new ≤ vec_len history.old + length left.now + 1 }
     ensures capacity { vec_capacity history.old ≤ vec_capacity history.new }
 {

@@ -4,8 +4,8 @@ ghost use Rattle.std.specs.Prelude.{◌≡◌, ◌<◌, ◌^◌, ◌-◌, length
 ghost use Rattle.std.specs.List.{list_any};
 ghost use Rattle.change_law.specs.Endings as endings;
 ghost use Rattle.change_law.specs.Members as members;
-ghost use Rattle.change_board.specs.Entries.{Entry};
-ghost use Rattle.change_engine.specs.Ending.{is_finish_line, unfinished_in};
+ghost use Rattle.gate_records.specs.declared.entry.Entry.{Entry};
+ghost use Rattle.change_engine.specs.Ending.{is_finish_line, unfinished_after};
 ghost use Rattle.change_engine.specs.Growing.{BrokeOff};
 ghost use Rattle.change_engine.specs.Layouts.{live_at};
 ghost use Rattle.change_engine.specs.Stopping.{AreAllLive, Stops};
@@ -74,7 +74,7 @@ fn status_of(history: &[HistoryLine], unfinished: Option<u32>) -> u8
 
 /// The node that isn't done, where the history has a finish.
 fn unfinished_of(history: &[HistoryLine], undone: Option<u32>) -> Option<u32>
-    ensures { result ≡ unfinished_in history.now undone }
+    ensures { result ≡ unfinished_after history.now undone }
 {
     if has_finish(history) { undone } else { None }
 }
@@ -83,7 +83,7 @@ fn unfinished_of(history: &[HistoryLine], undone: Option<u32>) -> Option<u32>
 pub(crate) fn report_of(history: Vec<HistoryLine>, given: Collected) -> Report
     ensures history { result.history ≡ history.items }
     ensures logs { result.logs ≡ given.logs }
-    ensures unfinished { result.unfinished ≡ unfinished_in history.items given.undone }
+    ensures unfinished { result.unfinished ≡ unfinished_after history.items given.undone }
     ensures status { result.status ≡ endings.status_of result.history result.unfinished }
 {
     let unfinished = unfinished_of(&history, given.undone);

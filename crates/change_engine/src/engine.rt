@@ -5,7 +5,7 @@ ghost use Rattle.change_plan.specs.declared.plan_data.Move.{Move};
 ghost use Rattle.config_graph.specs.Graph.{Graph, ports};
 ghost use Rattle.config_graph.specs.Sound.{Sound};
 ghost use Rattle.config_graph.specs.declared.TheConstants.{MAX_NODES, MAX_PORTS};
-ghost use Rattle.change_board.specs.Entries.{config_of};
+ghost use Rattle.gate_records.specs.Entries.{config_of};
 ghost use Rattle.change_board.specs.Transcripts.{Item, entries};
 ghost use Rattle.change_engine.specs.Calls.{Continues, HasAbandoned, HasBrokenOff, HasCommitted, HasFinished, HasLeft, HasPassivated, HasPrepared, HasRun, HasShown, HasSkipped, HasStarted, HasStopped};
 ghost use Rattle.change_engine.specs.Draining.{WhereNoMemory, WherePending};

@@ -14,12 +14,14 @@ ghost use Rattle.plan_laws.specs.Commit.{commit_events, ports_to_close};
 ghost use Rattle.quiesce_core.specs.Live.{IsGraphOf};
 ghost use Rattle.quiesce_core.specs.State.{Configuration, gate};
 ghost use Rattle.gate_word.specs.Words.{has_root, unpack};
-ghost use Rattle.change_board.specs.Entries.{Entry, config_of, looked};
-ghost use Rattle.change_board.specs.Looks.{is_drained_word};
+ghost use Rattle.gate_records.specs.Entries.{config_of};
+ghost use Rattle.gate_records.specs.declared.entry.Entry.{Entry};
+ghost use Rattle.gate_records.specs.declared.entry.Entry.TheVariants.{Looked};
+ghost use Rattle.gate_records.specs.Looks.{is_drained_word};
 ghost use Rattle.change_board.specs.Scans.{Found};
-ghost use Rattle.change_board.specs.Notes.{is_noted};
-ghost use Rattle.change_board.specs.Records.{IsRecord};
-ghost use Rattle.change_board.specs.Steps.{AreWithin, MayDoAll, Room};
+ghost use Rattle.gate_records.specs.Notes.{is_noted};
+ghost use Rattle.gate_records.specs.Records.{IsRecord};
+ghost use Rattle.change_board.specs.Steps.{HasRoomForAll, MayDoAll, Room};
 ghost use Rattle.change_engine.specs.Engines.{IsPlanned};
 ghost use Rattle.change_engine.specs.Layouts.{IsLayoutOf};
 ghost use Rattle.change_engine.specs.Lists.{closed_by, commit_by, places_after, ports_after};
@@ -42,7 +44,7 @@ pub fn passivated_ports_are_noted()
 /// A look at a port that is closed loads a word with a root, where it doesn't show the port drained; so do a passivation's
 /// looks. So what is left of a passivation are roots, of the serials that its last looks loaded.
 pub fn looks_behind_closes_find_roots()
-    ensures closed { (before after : List Entry) (p w : ℕ) → IsRecord (before ++ looked p w ∷ after)
+    ensures closed { (before after : List Entry) (p w : ℕ) → IsRecord (before ++ Looked p w ∷ after)
         → (gate (config_of before) p).closed ≡ true → is_drained_word w ≡ false → IsTrue (has_root (unpack w)) }
     ensures first { (r : List Entry) (ports : List ℕ) (within : ℕ) (how : Passivation) (f : Found)
         → IsRecord (r ++ entries (passivation_items ports how)) → AreLivePorts (config_of r) ports
@@ -96,7 +98,7 @@ pub fn layouts_tell_commits()
 /// room for the plan's commit; and a plan creates no more than a run may make.
 pub fn commits_have_room()
     ensures room { (old new : Graph) (plan : Plan) (c : Configuration) (room : Room) → length plan.create ≤ room.nodes
-        → length c.slots ≤ room.sources → AreWithin room (commit_events old new plan c) }
+        → length c.slots ≤ room.sources → HasRoomForAll room (commit_events old new plan c) }
     ensures few { (old new : Graph) (moves : List Move) (plan : Plan) (c : Configuration)
         → IsPlanned old new moves plan c → length c.slots + length plan.create ≤ MAX_NODES }
 {}

@@ -4,14 +4,17 @@ ghost use Rattle.std.specs.Prelude.{◌≡◌, ◌<◌, ◌≤◌, ◌+◌, ◌*
 ghost use Rattle.quiesce_core.specs.declared.event.Event.TheVariants as event;
 ghost use Rattle.change_script.specs.declared.report.HistoryLine.{HistoryLine};
 ghost use Rattle.change_script.specs.declared.report.HistoryLine.TheVariants as to;
-ghost use Rattle.change_board.specs.Entries.{Entry, did, config_of};
-ghost use Rattle.change_board.specs.Records.{Adds};
+ghost use Rattle.gate_records.specs.Entries.{config_of};
+ghost use Rattle.gate_records.specs.declared.entry.Entry.{Entry};
+ghost use Rattle.gate_records.specs.declared.entry.Entry.TheVariants.{Did};
+ghost use Rattle.gate_records.specs.Records.{Adds};
 ghost use Rattle.change_engine.specs.Breaking.{BrokeInRound, BrokeInScan};
 ghost use Rattle.change_engine.specs.Passivating.{AreLivePorts, AreMadePorts, HasPlaceFor, Passed, Passivated, Rounded, lines_by, root_ports, roots_by};
 
-use change_board::{Board, Look};
+use change_board::Board;
 use change_script::HistoryLine;
 use config_graph::NoMemory;
+use gate_records::Look;
 use gate_word::Word;
 use std::alloc::Global;
 
@@ -55,7 +58,7 @@ pub(crate) fn put<T: Drop>(list: &mut Vec<T>, item: T)
 fn close_all<B: Board>(board: &mut B, history: &mut Vec<HistoryLine>, ports: &[u32])
     requires live { (r : List Entry) × B.stands_for board.old r × AreLivePorts (config_of r) ports.now }
     requires place { vec_len history.old + length ports.now ≤ vec_capacity history.old }
-    ensures board { Adds B.stands_for board.old board.new (map (λ p. did (event.Close p)) ports.now) }
+    ensures board { Adds B.stands_for board.old board.new (map (λ p. Did (event.Close p)) ports.now) }
     ensures lines { history.new.items ≡ history.old.items ++ map to.Close ports.now }
     ensures room { B.room board.new ≡ B.room board.old }
     ensures len { vec_len history.new ≡ vec_len history.old + length ports.now }

@@ -1,7 +1,7 @@
 //! Stopping a system.
 
 ghost use Rattle.std.specs.Prelude.{◌≡◌, ◌+◌, ◌*◌, ◌-◌, ◌^◌, ◌<◌, length, List, IfOk, OnErr};
-ghost use Rattle.change_board.specs.Entries.{Entry};
+ghost use Rattle.gate_records.specs.declared.entry.Entry.{Entry};
 ghost use Rattle.change_engine.specs.Growing.{BrokeOff};
 ghost use Rattle.change_engine.specs.Stopping.{AreAllLive, Stops};
 

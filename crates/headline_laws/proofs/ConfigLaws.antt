@@ -11,7 +11,9 @@ use Rattle.quiesce_core.specs.declared.event.Event.{Event}
 use Rattle.change_script.specs.declared.report.HistoryLine.{HistoryLine}
 use Rattle.change_script.specs.declared.report.HistoryLine.TheVariants as to
 use Rattle.change_law.specs.Members.{event_of, line_of}
-use Rattle.change_board.specs.Entries.{Entry, did, event_in, events_in}
+use Rattle.gate_records.specs.Entries.{event_in, events_in}
+use Rattle.gate_records.specs.declared.entry.Entry.{Entry}
+use Rattle.gate_records.specs.declared.entry.Entry.TheVariants.{Did}
 use Rattle.change_board.specs.Scans.{Found, look_entry}
 use Rattle.change_board.specs.Sights.{Sight, sight_entry}
 use Rattle.change_board.specs.Steps.{Deed}
@@ -20,19 +22,16 @@ use Rattle.change_engine.specs.Carrying.{deed_items, sight_item}
 use Rattle.change_engine.specs.Finishing.{Seen, all_entries}
 use Rattle.change_engine.specs.Passivating.{silent_items}
 use Rattle.headline_laws.specs.Pieces.{config_at, events_of}
-use Rattle.headline_laws.proofs.ItemLemmas.{config_over, entries_both, fair_events, fair_run, fair_scans, lines_both, sight_lines, silent_entries, silent_lines}
+use Rattle.headline_laws.proofs.ItemLemmas.{config_over, fair_events, fair_run, fair_scans}
+use Rattle.change_engine.proofs.ItemLaws.{entries_both, lines_both, silent_entries, silent_lines, sight_entries, sight_lines}
 
 -- ---- what a change does
-
-pub sight_entries : (ss : List Sight) → entries (map sight_item ss) ≡ map sight_entry ss
-sight_entries [] = refl
-sight_entries (s ∷ ss) = ap (λ es. sight_entry s ∷ es) (sight_entries ss)
 
 no_sights : (ss : List Sight) → events_in (entries (map sight_item ss)) ≡ []
 no_sights [] = refl
 no_sights (s ∷ ss) = no_sights ss
 
-one_entry : (e : Event) (o : Option HistoryLine) → entry_in (option_map_or (told (did e)) o (silent (did e))) ≡ Some (did e)
+one_entry : (e : Event) (o : Option HistoryLine) → entry_in (option_map_or (told (Did e)) o (silent (Did e))) ≡ Some (Did e)
 one_entry e None = refl
 one_entry e (Some l) = refl
 

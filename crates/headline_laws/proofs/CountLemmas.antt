@@ -18,8 +18,9 @@ use Rattle.quiesce_core.proofs.RunLaws.{runs_are_well_formed}
 use Rattle.quiesce_core.proofs.WordLaws.{port_words_decode}
 use Rattle.quiescence_laws.proofs.SerialLaws.{tallied}
 use Rattle.turns.specs.Round.{is_end}
-use Rattle.change_board.specs.Entries.{Entry, looked}
-use Rattle.change_board.specs.Looks.{ended_in_word}
+use Rattle.gate_records.specs.declared.entry.Entry.{Entry}
+use Rattle.gate_records.specs.declared.entry.Entry.TheVariants.{Looked}
+use Rattle.gate_records.specs.Looks.{ended_in_word}
 use Rattle.change_board.specs.Scans.{Found, all_ports, ended_in, look_entry, ports_of}
 use Rattle.change_board.specs.Sights.{sight_entry}
 use Rattle.change_engine.specs.Finishing.{IsScanIn, Seen, all_entries, seen_entries}
@@ -90,7 +91,7 @@ ends_of_ports (e ∷ es) a n =
 module _ (low high : ℕ → ℕ) where
   -- what a look shows of its port stands between what was there at the two places
   abbrev pub IsBetween : Entry → Type 0
-  IsBetween (looked p w) = (low p ≤ ended_in_word w) × (ended_in_word w ≤ high p)
+  IsBetween (Looked p w) = (low p ≤ ended_in_word w) × (ended_in_word w ≤ high p)
   IsBetween _ = ⊤
 
   both_parts : (es fs : List Entry) → AllByRecursion IsBetween (es ++ fs) → AllByRecursion IsBetween es × AllByRecursion IsBetween fs

@@ -14,7 +14,7 @@ use Rattle.change_law.specs.Members as members
 use Rattle.change_law.specs.Members.{Member, is_pending}
 use Rattle.change_law.specs.Statements.{Statement, start, change, run, finish, show, is_finish}
 use Rattle.change_board.specs.Collecting.{first_undone}
-use Rattle.change_board.specs.Records.{IsRecordOf, Moment}
+use Rattle.gate_records.specs.Records.{IsRecordOf, Moment}
 use Rattle.change_board.specs.Scans.{look_entry}
 use Rattle.change_board.specs.Transcripts.{Item, said, entries, lines}
 use Rattle.change_engine.specs.Carrying.{deed_items, sight_item}
@@ -22,12 +22,14 @@ use Rattle.change_engine.specs.Finishing.{all_entries, rounds_in}
 use Rattle.change_engine.specs.Passivating.{left_after, passivation_items}
 use Rattle.change_engine.specs.Ending.{is_finish_line}
 use Rattle.headline_laws.specs.Joining.{AreJoined}
-use Rattle.headline_laws.specs.Pieces.{IsCommitted, IsDone, IsGivenUp, IsTranscript, IsTried, Piece, config_at, items_of, opening_items, pending_items}
+use Rattle.change_engine.specs.Draining.{pending_items}
+use Rattle.headline_laws.specs.Pieces.{AreCommitItems, IsDone, AreAbandonItems, IsTranscript, AreChangeItems, Piece, config_at, items_of, opening_items}
 use Rattle.headline_laws.specs.Reports.{IsReport, taken_in}
 use Rattle.headline_laws.proofs.FoldLaws.{undone}
 use Rattle.headline_laws.proofs.FollowLaws.{fair_transcript}
-use Rattle.headline_laws.proofs.ItemLemmas.{is_aside, sight_lines}
+use Rattle.headline_laws.proofs.ItemLemmas.{is_aside}
 use Rattle.headline_laws.proofs.LineLemmas.{any_line, both_lines, none_both, none_deeds, none_passivation, none_roots, silent_line}
+use Rattle.change_engine.proofs.ItemLaws.{sight_lines}
 
 none_aside : (l : HistoryLine) → is_aside l ≡ false → is_finish_line l ≡ false
 none_aside (to.Finish n r) h = absurd (both_ways true h refl)
@@ -36,15 +38,15 @@ none_aside _ h = refl
 abbrev ends : List Item → Bool
 ends t = any_line is_finish_line t
 
-tried_none : (before : List Item) (name : List ℕ) (args : List ℤ) (new : Graph) (within : ℕ) (moves : List Move) (t : List Item) → IsTried before name args new within moves t → ends t ≡ false
+tried_none : (before : List Item) (name : List ℕ) (args : List ℤ) (new : Graph) (within : ℕ) (moves : List Move) (t : List Item) → AreChangeItems before name args new within moves t → ends t ≡ false
 tried_none before name args new within moves t x =
     let opened = opening_items name args x.closed x.how in
     let left = left_after x.how.first x.how.rounds in
     let rest : ends x.rest ≡ false =
     ⊎_elim
-    (λ (y : IsCommitted (before ++ opened) x.old new x.plan left x.rest).
+    (λ (y : AreCommitItems (before ++ opened) x.old new x.plan left x.rest).
     ap ends y.are ∙ none_both is_finish_line (flat_map deed_items y.deeds) (said to.Commit ∷ []) (none_deeds is_finish_line none_aside y.deeds) refl)
-    (λ (y : (length x.how.rounds ≡ within) × IsGivenUp x.closed within left x.rest).
+    (λ (y : (length x.how.rounds ≡ within) × AreAbandonItems x.closed within left x.rest).
     ap ends y.1.are
     ∙ none_both is_finish_line (pending_items within left ++ flat_map deed_items y.1.deeds) (said to.Abandon ∷ [])
     (none_both is_finish_line (pending_items within left) (flat_map deed_items y.1.deeds) (none_roots is_finish_line (λ p k. refl) left) (none_deeds is_finish_line none_aside y.1.deeds)) refl)

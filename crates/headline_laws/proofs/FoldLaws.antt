@@ -21,11 +21,11 @@ use Rattle.change_law.specs.Members as members
 use Rattle.change_law.specs.Members.{Member, event_of, made_slot}
 use Rattle.change_law.specs.Opening.{fold_of_node}
 use Rattle.change_board.specs.Collecting.{IsEndOf, first_undone, heir_of, is_undone}
-use Rattle.change_board.specs.Records as records
-use Rattle.change_board.specs.Records.{IsRecordOf, Moment}
+use Rattle.gate_records.specs.Records as records
+use Rattle.gate_records.specs.Records.{IsRecordOf, Moment}
 use Rattle.change_board.specs.Sights.{fold_seen}
 use Rattle.change_board.specs.Transcripts.{Item, entries, lines}
-use Rattle.change_board.proofs.RecordLaws.{changes_of, config_is}
+use Rattle.gate_records.proofs.RecordLaws.{changes_of, config_is}
 use Rattle.change_board.proofs.SightLaws.{seen_fold}
 use Rattle.headline_laws.specs.Joining.{AreJoined}
 use Rattle.headline_laws.specs.Pieces.{config_at}

@@ -32,7 +32,7 @@ use Rattle.change_law.specs.Follows.{Follows, IsRight, IsStop, Part, lines_of, s
 use Rattle.change_law.specs.Members.{event_of, is_pending, lines_of_events}
 use Rattle.change_law.specs.Scene.{AreSeen, Seen, config_after, drained_line, live_ports, root_line}
 use Rattle.change_law.specs.Statements.{Statement, start, change, run, finish, show}
-use Rattle.change_board.specs.Entries.{Entry}
+use Rattle.gate_records.specs.declared.entry.Entry.{Entry}
 use Rattle.change_board.specs.Steps.{Deed}
 use Rattle.change_board.specs.Transcripts.{Item, said, lines}
 use Rattle.change_board.specs.Scans.{look_entry}
@@ -40,10 +40,13 @@ use Rattle.change_engine.specs.Carrying.{deed_items, sight_item}
 use Rattle.change_engine.specs.Finishing.{all_entries, rounds_in}
 use Rattle.change_engine.specs.Passivating.{left_after, passivation_items, silent_items}
 use Rattle.change_engine.specs.declared.passivating.LeftRoot.{LeftRoot}
-use Rattle.headline_laws.specs.Pieces.{IsCommitted, IsDone, IsGivenUp, IsStarted, IsStopped, IsTranscript, IsTried, Piece, config_at, events_of, items_of, opening_items, pending_items, root_item}
-use Rattle.headline_laws.proofs.ItemLemmas.{AreFair, deed_lines, fair_both, fair_config, fair_deeds, fair_passivation, fair_run, fair_scans, fair_sights, lines_both, looks_of, passivation_lines, sight_lines, silent_lines}
-use Rattle.headline_laws.proofs.LookLemmas.{all_are_seen, looks_are, none_left_seen, seen_root}
-use Rattle.headline_laws.proofs.PortLemmas.{closing_rise, config_more, live_ports_are, still_to_close}
+use Rattle.change_engine.specs.Draining.{pending_items, root_item}
+use Rattle.headline_laws.specs.Pieces.{AreCommitItems, IsDone, AreAbandonItems, AreStartItems, AreStopItems, IsTranscript, AreChangeItems, Piece, config_at, events_of, items_of, opening_items}
+use Rattle.headline_laws.proofs.ItemLemmas.{AreFair, fair_both, fair_config, fair_deeds, fair_passivation, fair_run, fair_scans, fair_sights}
+use Rattle.headline_laws.proofs.LookLemmas.{all_are_seen, looks_are, none_left_seen}
+use Rattle.headline_laws.proofs.PortLaws.{closing_rise, config_more, live_ports_are, still_to_close}
+use Rattle.change_engine.proofs.ItemLaws.{lines_both, silent_lines, sight_lines, carried_lines}
+use Rattle.change_engine.proofs.PassivationLaws.{closed_events, no_events_drained, looks_of, all_seen, passivation_lines, seen_root, root_lines, reopen_lines}
 
 -- ---- the events of starts and commits are all the change's
 
@@ -90,30 +93,22 @@ fair_done deeds es are h = fair_deeds deeds (ap (list_all is_of_change) are ∙ 
 
 -- ---- starts
 
-fair_start : (before : List Item) (name : List ℕ) (args : List ℤ) (g : Graph) (t : List Item) → IsStarted before name args g t → AreFair t
+fair_start : (before : List Item) (name : List ℕ) (args : List ℤ) (g : Graph) (t : List Item) → AreStartItems before name args g t → AreFair t
 fair_start before name args g t x =
     let did = flat_map deed_items x.deeds in
     subst AreFair (sym x.are) (fair_both (said (to.Start name args) ∷ did) (said to.Commit ∷ []) (refl, fair_done x.deeds (start_of g) x.events_are (start_is_change g)) (refl, tt))
 
-start_right : (before : List Item) (name : List ℕ) (args : List ℤ) (g : Graph) (t : List Item) → IsStarted before name args g t → lines t ≡ start_lines name args g
+start_right : (before : List Item) (name : List ℕ) (args : List ℤ) (g : Graph) (t : List Item) → AreStartItems before name args g t → lines t ≡ start_lines name args g
 start_right before name args g t x =
     let did = flat_map deed_items x.deeds in
     ap lines x.are ∙ lines_both (said (to.Start name args) ∷ did) (said to.Commit ∷ [])
-    ∙ ap (λ ls. to.Start name args ∷ ls ++ to.Commit ∷ []) (deed_lines x.deeds ∙ ap lines_of_events x.events_are)
+    ∙ ap (λ ls. to.Start name args ∷ ls ++ to.Commit ∷ []) (carried_lines x.deeds ∙ ap lines_of_events x.events_are)
 
 -- ---- changes
 
 -- the configuration behind the closes, by lines, and by items
-closed_events : (ps : List ℕ) → filter_map event_of (map to.Close ps) ≡ map Close ps
-closed_events [] = refl
-closed_events (p ∷ ps) = ap (λ es. Close p ∷ es) (closed_events ps)
-
-no_events : (ds : List Seen) → filter_map event_of (map drained_line ds) ≡ []
-no_events [] = refl
-no_events (d ∷ ds) = no_events ds
-
 module _ (before : List Item) (fair : AreFair before) (name : List ℕ) (args : List ℤ) (new : Graph) (within : ℕ) (moves : List Move) (t : List Item)
-    (x : IsTried before name args new within moves t) where
+    (x : AreChangeItems before name args new within moves t) where
   abbrev c : Configuration
   c = config_at before
 
@@ -148,7 +143,7 @@ module _ (before : List Item) (fair : AreFair before) (name : List ℕ) (args : 
 
   events_opened : filter_map event_of (opening ++ drained_lines looks) ≡ filter_map event_of opening
   events_opened =
-      filter_map-append event_of opening (drained_lines looks) ∙ ap (λ es. filter_map event_of opening ++ es) (no_events (seen_in_all looks))
+      filter_map-append event_of opening (drained_lines looks) ∙ ap (λ es. filter_map event_of opening ++ es) (no_events_drained (seen_in_all looks))
       ∙ append-nil (filter_map event_of opening)
 
   -- when all is closed
@@ -165,7 +160,7 @@ module _ (before : List Item) (fair : AreFair before) (name : List ℕ) (args : 
       ∙ ap (change_all (config_after (lines before))) (closed_events (ports_to_close x.old x.plan (config_after (lines before)))))
       ∙ still_to_close x.old x.plan (config_after (lines before)) ∙ sym closed_same
 
-  fair_committed : IsCommitted (before ++ opened) x.old new x.plan left x.rest → AreFair x.rest
+  fair_committed : AreCommitItems (before ++ opened) x.old new x.plan left x.rest → AreFair x.rest
   fair_committed y = subst AreFair (sym y.are) (fair_both (flat_map deed_items y.deeds) (said to.Commit ∷ [])
       (fair_done y.deeds _ y.events_are (commit_is_change x.old new x.plan (config_at (before ++ opened)))) (refl, tt))
 
@@ -173,7 +168,7 @@ module _ (before : List Item) (fair : AreFair before) (name : List ℕ) (args : 
   fair_roots [] = tt
   fair_roots (r ∷ xs) = (refl, fair_roots xs)
 
-  fair_given_up : IsGivenUp x.closed within left x.rest → AreFair x.rest
+  fair_given_up : AreAbandonItems x.closed within left x.rest → AreFair x.rest
   fair_given_up y =
       let did = flat_map deed_items y.deeds in
       let roots = pending_items within left in
@@ -182,29 +177,21 @@ module _ (before : List Item) (fair : AreFair before) (name : List ℕ) (args : 
 
   pub fair_change : AreFair t
   fair_change = subst AreFair (sym x.are) (fair_both opened x.rest fair_opening
-      (⊎_elim (λ (y : IsCommitted (before ++ opened) x.old new x.plan left x.rest). fair_committed y)
-      (λ (y : (length x.how.rounds ≡ within) × IsGivenUp x.closed within left x.rest). fair_given_up y.1) x.ends))
+      (⊎_elim (λ (y : AreCommitItems (before ++ opened) x.old new x.plan left x.rest). fair_committed y)
+      (λ (y : (length x.how.rounds ≡ within) × AreAbandonItems x.closed within left x.rest). fair_given_up y.1) x.ends))
 
   -- its end
-  committed : (y : IsCommitted (before ++ opened) x.old new x.plan left x.rest)
+  committed : (y : AreCommitItems (before ++ opened) x.old new x.plan left x.rest)
       → law.IsCommitted x.old new x.plan within (config_after (lines before ++ opening)) (drained_lines looks ++ lines x.rest)
   committed y = record {
     looks = looks;
     are_looks = looks_are x.closed within x.how x.is_passivation closed_rise;
     all_seen = subst (λ ps. AreSeen ps (seen_in_all looks)) (sym still_closed) (none_left_seen x.closed within x.how x.is_passivation y.none_left);
     are = ap (λ ls. drained_lines looks ++ ls) (ap lines y.are ∙ lines_both (flat_map deed_items y.deeds) (said to.Commit ∷ [])
-        ∙ ap (λ ls. ls ++ to.Commit ∷ []) (deed_lines y.deeds ∙ ap lines_of_events y.events_are ∙ ap (λ k. lines_of_events (commit_events x.old new x.plan k)) config_closed));
+        ∙ ap (λ ls. ls ++ to.Commit ∷ []) (carried_lines y.deeds ∙ ap lines_of_events y.events_are ∙ ap (λ k. lines_of_events (commit_events x.old new x.plan k)) config_closed));
   }
 
-  root_lines : (xs : List LeftRoot) → lines (map root_item xs) ≡ map root_line (map seen_root xs)
-  root_lines [] = refl
-  root_lines (r ∷ xs) = ap (λ ls. to.Root r.port r.serial ∷ ls) (root_lines xs)
-
-  reopen_lines : (ps : List ℕ) → lines_of_events (map Reopen ps) ≡ map to.Reopen ps
-  reopen_lines [] = refl
-  reopen_lines (p ∷ ps) = ap (λ ls. to.Reopen p ∷ ls) (reopen_lines ps)
-
-  given_up : IsGivenUp x.closed within left x.rest → law.IsGivenUp x.closed within (drained_lines looks ++ lines x.rest)
+  given_up : AreAbandonItems x.closed within left x.rest → law.IsGivenUp x.closed within (drained_lines looks ++ lines x.rest)
   given_up y =
       let did = flat_map deed_items y.deeds in
       let roots = pending_items within left in
@@ -217,7 +204,7 @@ module _ (before : List Item) (fair : AreFair before) (name : List ℕ) (args : 
         are = ap (λ ls. drained_lines looks ++ ls) (ap lines y.are ∙ lines_both (roots ++ did) (said to.Abandon ∷ [])
             ∙ ap (λ ls. ls ++ to.Abandon ∷ []) (lines_both roots did
             ∙ ap (λ ls. to.Pending within ∷ ls ++ lines did) (root_lines left)
-            ∙ ap (λ ls. to.Pending within ∷ map root_line (map seen_root left) ++ ls) (deed_lines y.deeds ∙ ap lines_of_events y.events_are ∙ reopen_lines x.closed)));
+            ∙ ap (λ ls. to.Pending within ∷ map root_line (map seen_root left) ++ ls) (carried_lines y.deeds ∙ ap lines_of_events y.events_are ∙ reopen_lines x.closed)));
       }
 
   pub change_right : IsChange (lines before) name args new within moves (lines t)
@@ -230,8 +217,8 @@ module _ (before : List Item) (fair : AreFair before) (name : List ℕ) (args : 
     rest = drained_lines looks ++ lines x.rest;
     are = ap lines x.are ∙ lines_both opened x.rest ∙ ap (λ ls. ls ++ lines x.rest) opening_here ∙ append_assoc opening (drained_lines looks) (lines x.rest);
     ends = ⊎_elim
-        (λ (y : IsCommitted (before ++ opened) x.old new x.plan left x.rest). inl (committed y))
-        (λ (y : (length x.how.rounds ≡ within) × IsGivenUp x.closed within left x.rest).
+        (λ (y : AreCommitItems (before ++ opened) x.old new x.plan left x.rest). inl (committed y))
+        (λ (y : (length x.how.rounds ≡ within) × AreAbandonItems x.closed within left x.rest).
         inr (subst (λ ps. law.IsGivenUp ps within (drained_lines looks ++ lines x.rest)) closed_same (given_up y.1)))
         x.ends;
   }
@@ -282,7 +269,7 @@ statements_of : (ps : List Piece) → map (λ (p : Part). p.statement) (map part
 statements_of [] = refl
 statements_of (p ∷ ps) = ap (λ ss. p.statement ∷ ss) (statements_of ps)
 
-items_pushed : (before : List Piece) (p : Piece) → items_of (before ++ p ∷ []) ≡ items_of before ++ p.items
+pub items_pushed : (before : List Piece) (p : Piece) → items_of (before ++ p ∷ []) ≡ items_of before ++ p.items
 items_pushed before p = flat_map-append (λ (q : Piece). q.items) before (p ∷ []) ∙ ap (λ t. items_of before ++ t) (append-nil p.items)
 
 module _ (alone : Bool) where
@@ -307,7 +294,7 @@ module _ (alone : Bool) where
 
 -- ---- the stop
 
-stop_right : (before t : List Item) → AreFair before → IsStopped before t → IsStop (lines before) (lines t)
+stop_right : (before t : List Item) → AreFair before → AreStopItems before t → IsStop (lines before) (lines t)
 stop_right before t fair x =
     let seen = seen_in_all (looks_of x.how) in
     let closed_same : x.closed ≡ live_ports (config_after (lines before)) = x.closed_are ∙ live_ports_are (config_at before) ∙ ap live_ports (fair_config before fair) in
@@ -319,7 +306,7 @@ stop_right before t fair x =
       all_seen = subst (λ qs. AreSeen qs seen) closed_same (none_left_seen x.closed x.within x.how x.is_passivation x.none_left);
     }
 
-pub fair_stop : (before t : List Item) → IsStopped before t → AreFair t
+pub fair_stop : (before t : List Item) → AreStopItems before t → AreFair t
 fair_stop before t x =
     subst AreFair (sym x.are) (fair_both (said to.Stop ∷ passivation_items x.closed x.how) (map sight_item x.sights) (refl, fair_passivation x.closed x.how) (fair_sights x.sights))
 

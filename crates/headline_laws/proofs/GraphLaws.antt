@@ -4,8 +4,7 @@ use Rattle.std.specs.Prelude.{⊤, ℤ, ◌||◌, filter_map, flat_map, slice_ge
 use Rattle.std.specs.List.{cons_option, count_by, list_any}
 use Rattle.std.specs.Option.{option_map_or}
 use Rattle.std.proofs.lemmas.Bool.{both_ways, cases_Bool, or_parts}
-use Rattle.std.proofs.lemmas.Grind.{flat_map-append}
-use Rattle.std.proofs.lemmas.List.{append-nil, map-append}
+use Rattle.std.proofs.lemmas.List.{map-append}
 use Rattle.std.proofs.lemmas.List.Elements.{filter_map-append}
 use Rattle.std.proofs.lemmas.List.Folds.{list_any-append}
 use Rattle.std.proofs.lemmas.List.Sums.{sum_by-cons}
@@ -28,24 +27,28 @@ use Rattle.change_law.specs.Members as members
 use Rattle.change_law.specs.Members.{Member, by_node, of_history, is_pending, is_root, line_of, lines_of_events, without_roots}
 use Rattle.change_law.specs.Scene.{drained_line}
 use Rattle.change_law.specs.Statements.{Statement, start, change, run, finish, show, graph_of}
-use Rattle.change_board.specs.Entries.{Entry, did, looked, sighted, scanned}
-use Rattle.change_board.specs.Looks.{is_drained_word, serial_of}
-use Rattle.change_board.specs.Records.{IsRecordOf, Moment}
+use Rattle.gate_records.specs.declared.entry.Entry.{Entry}
+use Rattle.gate_records.specs.declared.entry.Entry.TheVariants.{Did, Looked, Sighted, Scanned}
+use Rattle.gate_records.specs.Looks.{is_drained_word, serial_of}
+use Rattle.gate_records.specs.Records.{IsRecordOf, Moment}
 use Rattle.change_board.specs.Sights.{Sight}
 use Rattle.change_board.specs.Steps.{Deed}
 use Rattle.change_board.specs.Transcripts.{Item, silent, told, said, entries, lines, tells}
-use Rattle.change_board.proofs.RecordLaws.{config_is}
+use Rattle.gate_records.proofs.RecordLaws.{config_is}
 use Rattle.change_engine.specs.Carrying.{deed_items, sight_item}
 use Rattle.change_engine.specs.Finishing.{all_entries, rounds_in}
 use Rattle.change_board.specs.Scans.{Found, look_entry, scan_entries}
 use Rattle.change_engine.specs.Passivating.{Passivation, Round, close_item, left_after, look_item, passivation_items, round_items, silent_items}
 use Rattle.change_engine.specs.declared.passivating.LeftRoot.{LeftRoot}
 use Rattle.headline_laws.specs.Joining.{AreJoined, Joint, of_node, of_line, of_entry, item_of, items_in, member_of, members_in, moments_in}
-use Rattle.headline_laws.specs.Pieces.{IsCommitted, IsDone, IsGivenUp, IsStarted, IsTranscript, IsTried, Piece, config_at, events_of, items_of, opening_items, pending_items, root_item}
-use Rattle.headline_laws.proofs.FollowLaws.{fair_transcript}
-use Rattle.headline_laws.proofs.ItemLemmas.{config_over, deed_lines, lines_both, looks_of, passivation_lines, silent_lines}
+use Rattle.change_engine.specs.Draining.{pending_items, root_item}
+use Rattle.headline_laws.specs.Pieces.{AreCommitItems, IsDone, AreAbandonItems, AreStartItems, IsTranscript, AreChangeItems, Piece, config_at, events_of, items_of, opening_items}
+use Rattle.headline_laws.proofs.FollowLaws.{fair_transcript, items_pushed}
+use Rattle.headline_laws.proofs.ItemLemmas.{config_over}
 use Rattle.headline_laws.proofs.JoiningLemmas.{IsKnown, Lifted, each_both, lifted, member_events, member_lines}
 use Rattle.headline_laws.proofs.LawfulLaws.{all_known, line_there}
+use Rattle.change_engine.proofs.ItemLaws.{lines_both, silent_lines, carried_lines}
+use Rattle.change_engine.proofs.PassivationLaws.{looks_of, passivation_lines}
 
 -- ---- how many statements with a graph begin
 
@@ -76,7 +79,7 @@ no_heads_of_events [] = refl
 no_heads_of_events (e ∷ es) = no_head e (lines_of_events es) ∙ no_heads_of_events es
 
 no_heads_of_deeds : (deeds : List Deed) → heads_in (flat_map deed_items deeds) ≡ 0
-no_heads_of_deeds deeds = ap (count_by is_head) (deed_lines deeds) ∙ no_heads_of_events (events_of deeds)
+no_heads_of_deeds deeds = ap (count_by is_head) (carried_lines deeds) ∙ no_heads_of_events (events_of deeds)
 
 no_heads_of_passivation : (ports : List ℕ) (how : Passivation) → heads_in (passivation_items ports how) ≡ 0
 no_heads_of_passivation ports how = omega (
@@ -103,7 +106,7 @@ heads_of_quiet es l h =
     let here = ap {B = ℕ} (λ b. cond b 1 0) h in
     omega (arith, heads_both (silent_items es) (said l ∷ []), ap (count_by is_head) (silent_lines es), one_line l [], here)
 
-start_heads : (before : List Item) (name : List ℕ) (args : List ℤ) (g : Graph) (t : List Item) → IsStarted before name args g t → heads_in t ≡ 1
+start_heads : (before : List Item) (name : List ℕ) (args : List ℤ) (g : Graph) (t : List Item) → AreStartItems before name args g t → heads_in t ≡ 1
 start_heads before name args g t x =
     let did = flat_map deed_items x.deeds in
     omega (
@@ -118,15 +121,15 @@ start_heads before name args g t x =
 opening_heads : (name : List ℕ) (args : List ℤ) (closed : List ℕ) (how : Passivation) → heads_in (opening_items name args closed how) ≡ 1
 opening_heads name args closed how = omega (arith, one_line (to.Change name args) (passivation_items closed how), no_heads_of_passivation closed how)
 
-rest_heads : (before : List Item) (name : List ℕ) (args : List ℤ) (new : Graph) (within : ℕ) (moves : List Move) (t : List Item) (x : IsTried before name args new within moves t) → heads_in x.rest ≡ 0
+rest_heads : (before : List Item) (name : List ℕ) (args : List ℤ) (new : Graph) (within : ℕ) (moves : List Move) (t : List Item) (x : AreChangeItems before name args new within moves t) → heads_in x.rest ≡ 0
 rest_heads before name args new within moves t x = ⊎_elim
-    (λ (y : IsCommitted (before ++ opening_items name args x.closed x.how) x.old new x.plan (left_after x.how.first x.how.rounds) x.rest).
+    (λ (y : AreCommitItems (before ++ opening_items name args x.closed x.how) x.old new x.plan (left_after x.how.first x.how.rounds) x.rest).
     omega (arith, ap heads_in y.are, heads_both (flat_map deed_items y.deeds) (said to.Commit ∷ []), no_heads_of_deeds y.deeds, one_line to.Commit []))
-    (λ (y : (length x.how.rounds ≡ within) × IsGivenUp x.closed within (left_after x.how.first x.how.rounds) x.rest).
+    (λ (y : (length x.how.rounds ≡ within) × AreAbandonItems x.closed within (left_after x.how.first x.how.rounds) x.rest).
     given_up y.1)
     x.ends
   where
-    given_up : IsGivenUp x.closed within (left_after x.how.first x.how.rounds) x.rest → heads_in x.rest ≡ 0
+    given_up : AreAbandonItems x.closed within (left_after x.how.first x.how.rounds) x.rest → heads_in x.rest ≡ 0
     given_up y =
         let did = flat_map deed_items y.deeds in
         let left = left_after x.how.first x.how.rounds in
@@ -199,7 +202,7 @@ none_sights : (ss : List Sight) → list_any is_graph_item (map sight_item ss) �
 none_sights [] = refl
 none_sights (s ∷ ss) = none_sights ss
 
-none_event : (e : Event) (o : Option HistoryLine) → is_graph_item (option_map_or (told (did e)) o (silent (did e))) ≡ false
+none_event : (e : Event) (o : Option HistoryLine) → is_graph_item (option_map_or (told (Did e)) o (silent (Did e))) ≡ false
 none_event e None = refl
 none_event e (Some l) = refl
 
@@ -209,7 +212,7 @@ none_deeds (d ∷ deeds) =
     none_both (deed_items d) (flat_map deed_items deeds) (ap (λ b. b || list_any is_graph_item (map sight_item d.sights)) (none_event d.event (line_of d.event)) ∙ none_sights d.sights)
     (none_deeds deeds)
 
-none_look : (p w : ℕ) (b : Bool) → is_graph_item (cond b (told (looked p w) (to.Drained p (serial_of w))) (silent (looked p w))) ≡ false
+none_look : (p w : ℕ) (b : Bool) → is_graph_item (cond b (told (Looked p w) (to.Drained p (serial_of w))) (silent (Looked p w))) ≡ false
 none_look p w true = refl
 none_look p w false = refl
 
@@ -262,17 +265,17 @@ module _ (statements : List Statement) (before : List Item) (g : Graph) (there :
     stands = subst (λ c. IsGraphOf c g) (ap config_at (sym (append_assoc before front (said to.Commit ∷ []))) ∙ same_behind (before ++ front) to.Commit) stands;
   }
 
-  start_told : (name : List ℕ) (args : List ℤ) (t : List Item) → IsStarted before name args g t → EachAfter (IsGraphTold statements) before t
+  start_told : (name : List ℕ) (args : List ℤ) (t : List Item) → AreStartItems before name args g t → EachAfter (IsGraphTold statements) before t
   start_told name args t x =
       let front = said (to.Start name args) ∷ flat_map deed_items x.deeds in
       subst (EachAfter (IsGraphTold statements) before) (sym x.are)
       (last_told statements before front (said to.Commit) (none_deeds x.deeds)
       (told_at front (omega (arith, one_line (to.Start name args) (flat_map deed_items x.deeds), no_heads_of_deeds x.deeds)) (subst (λ u. IsGraphOf (config_at (before ++ u)) g) x.are x.stands)))
 
-  change_told : (name : List ℕ) (args : List ℤ) (within : ℕ) (moves : List Move) (t : List Item) → IsTried before name args g within moves t → EachAfter (IsGraphTold statements) before t
+  change_told : (name : List ℕ) (args : List ℤ) (within : ℕ) (moves : List Move) (t : List Item) → AreChangeItems before name args g within moves t → EachAfter (IsGraphTold statements) before t
   change_told name args within moves t x = ⊎_elim
-      (λ (y : IsCommitted (before ++ opened) x.old g x.plan left x.rest). committed y)
-      (λ (y : (length x.how.rounds ≡ within) × IsGivenUp x.closed within left x.rest). given_up y.1)
+      (λ (y : AreCommitItems (before ++ opened) x.old g x.plan left x.rest). committed y)
+      (λ (y : (length x.how.rounds ≡ within) × AreAbandonItems x.closed within left x.rest). given_up y.1)
       x.ends
     where
       opened : List Item
@@ -281,7 +284,7 @@ module _ (statements : List Statement) (before : List Item) (g : Graph) (there :
       left : List LeftRoot
       left = left_after x.how.first x.how.rounds
 
-      committed : IsCommitted (before ++ opened) x.old g x.plan left x.rest → EachAfter (IsGraphTold statements) before t
+      committed : AreCommitItems (before ++ opened) x.old g x.plan left x.rest → EachAfter (IsGraphTold statements) before t
       committed y =
           let did = flat_map deed_items y.deeds in
           let front = opened ++ did in
@@ -292,7 +295,7 @@ module _ (statements : List Statement) (before : List Item) (g : Graph) (there :
           (last_told statements before front (said to.Commit) (none_both opened did (none_passivation x.closed x.how) (none_deeds y.deeds))
           (told_at front (omega (arith, heads_both opened did, opening_heads name args x.closed x.how, no_heads_of_deeds y.deeds)) (subst (λ c. IsGraphOf c g) here y.stands)))
 
-      given_up : IsGivenUp x.closed within left x.rest → EachAfter (IsGraphTold statements) before t
+      given_up : AreAbandonItems x.closed within left x.rest → EachAfter (IsGraphTold statements) before t
       given_up y =
           let did = flat_map deed_items y.deeds in
           let none = none_both (pending_items within left ++ did) (said to.Abandon ∷ []) (none_both (pending_items within left) did (none_roots left) (none_deeds y.deeds)) refl in
@@ -324,9 +327,6 @@ piece_told alone statements before show t placed d = subst (EachAfter (IsGraphTo
 
 abbrev statements_in : List Piece → List Statement
 statements_in ps = map (λ (p : Piece). p.statement) ps
-
-items_pushed : (before : List Piece) (p : Piece) → items_of (before ++ p ∷ []) ≡ items_of before ++ p.items
-items_pushed before p = flat_map-append (λ (q : Piece). q.items) before (p ∷ []) ∙ ap (λ t. items_of before ++ t) (append-nil p.items)
 
 module _ (alone : Bool) where
   abbrev IsDonePiece : List Piece → Piece → Type 0
@@ -409,10 +409,10 @@ no_graph_look p w l true h = sym (ap is_graph_line (same_Some (to.Drained p (ser
 no_graph_look p w l false h = absurd (none-some l h)
 
 no_graph_entry : (x : Entry) (l : HistoryLine) → tells x ≡ Some l → is_graph_line l ≡ false
-no_graph_entry (did e) l h = no_graph_event e l h
-no_graph_entry (looked p w) l h = no_graph_look p w l (is_drained_word w) h
-no_graph_entry (sighted n es) l h = absurd (none-some l h)
-no_graph_entry (scanned b m) l h = absurd (none-some l h)
+no_graph_entry (Did e) l h = no_graph_event e l h
+no_graph_entry (Looked p w) l h = no_graph_look p w l (is_drained_word w) h
+no_graph_entry (Sighted n es) l h = absurd (none-some l h)
+no_graph_entry (Scanned b m) l h = absurd (none-some l h)
 
 no_graph_member : (statements : List Statement) (before : List Member) (l : HistoryLine) → is_graph_line l ≡ false → IsGraphAt statements before (of_history l)
 no_graph_member statements before to.Commit h = absurd (both_ways true h refl)

@@ -15,7 +15,7 @@ use Rattle.quiesce_core.specs.State.{Configuration, State, slot}
 use Rattle.quiesce_core.specs.declared.event.Event.{Event}
 use Rattle.quiesce_core.specs.declared.event.Event.TheVariants.{Begin, Call, Take, Give, End, More, Ask, Hear, Miss, Close, Reopen, Make, Link, Unlink, Remove}
 use Rattle.quiesce_core.specs.declared.state.Slot.{Slot}
-use Rattle.quiesce_core.proofs.InductionLaws.{IsNext, along, unbarred}
+use Rattle.quiesce_core.proofs.InductionLaws.{IsNext, along, unbarred, none_barred}
 use Rattle.quiesce_core.proofs.RunLaws.{effect_config}
 use Rattle.change_board.specs.Collecting.{took_over}
 
@@ -134,12 +134,8 @@ module _ (n : ℕ) where
   next_from es (Link p m x) here free h = stays_from es (Link p m x) here (λ j. refl) (λ j. refl) h
   next_from es (Unlink p) here free h = stays_from es (Unlink p) here (λ j. refl) (λ j. refl) h
 
-  none_bars : (es : List Event) → list_any unbarred es ≡ false
-  none_bars [] = refl
-  none_bars (e ∷ es) = none_bars es
-
   pub from_events : (es : List Event) → IsRun es → AreFrom es
-  from_events es run = along AreFrom unbarred next_from [] es run (none_bars es) (λ j. refl)
+  from_events es run = along AreFrom unbarred next_from [] es run (none_barred es) (λ j. refl)
 
   -- the first of the slots that was made from it
   pub heir_by_events : (es : List Event) → IsRun es

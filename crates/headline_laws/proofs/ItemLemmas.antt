@@ -1,8 +1,7 @@
 -- The lines and the events of items: of what a change does, of looks, of scans and of passivations.
-use Rattle.std.proofs.Common.{◌≡◌, ◌∙◌, Bool, true, false, cond, List, [], ◌∷◌, ◌++◌, append_assoc, map, Option, Some, None, refl, sym, ap, subst}
-use Rattle.std.specs.Prelude.{⊤, ℕ, filter, filter_map, flat_map}
+use Rattle.std.proofs.Common.{◌≡◌, ◌∙◌, Bool, true, false, cond, List, [], ◌∷◌, ◌++◌, map, Some, None, refl, sym, ap, subst}
+use Rattle.std.specs.Prelude.{⊤, ℕ, filter_map, flat_map}
 use Rattle.std.specs.List.{cons_option, list_all}
-use Rattle.std.specs.Option.{option_map_or}
 use Rattle.std.proofs.lemmas.Bool.{and_parts, both_ways}
 use Rattle.std.proofs.lemmas.List.Elements.{filter_map-append}
 use Rattle.std.proofs.lemmas.List.Sums.{fold-append}
@@ -14,26 +13,21 @@ use Rattle.quiesce_core.specs.declared.event.Event.{Event}
 use Rattle.quiesce_core.specs.declared.event.Event.TheVariants.{Begin, Call, Take, Give, End, More, Ask, Hear, Miss, Close, Reopen, Make, Link, Unlink, Remove}
 use Rattle.change_script.specs.declared.report.HistoryLine.{HistoryLine}
 use Rattle.change_script.specs.declared.report.HistoryLine.TheVariants as to
-use Rattle.change_law.specs.Changes.{drained_lines, seen_in_all}
-use Rattle.change_law.specs.Members.{event_of, line_of, lines_of_events}
-use Rattle.change_law.specs.Scene as scene
-use Rattle.change_law.specs.Scene.{config_after, drained_line}
-use Rattle.change_board.specs.Entries.{Entry, did, looked, config_of, event_in, events_in}
-use Rattle.change_board.specs.Looks.{is_drained_word, serial_of}
+use Rattle.change_law.specs.Members.{event_of}
+use Rattle.change_law.specs.Scene.{config_after}
+use Rattle.gate_records.specs.Entries.{config_of, event_in, events_in}
+use Rattle.gate_records.specs.declared.entry.Entry.{Entry}
+use Rattle.gate_records.specs.declared.entry.Entry.TheVariants.{Did, Looked}
+use Rattle.gate_records.specs.Looks.{is_drained_word, serial_of}
 use Rattle.change_board.specs.Scans.{Found, look_entry, scan_entries}
 use Rattle.change_board.specs.Sights.{Sight, sight_entry}
 use Rattle.change_board.specs.Steps.{Deed}
-use Rattle.change_board.specs.Transcripts.{Item, silent, told, said, entries, entry_in, line_in, lines, tells}
+use Rattle.change_board.specs.Transcripts.{Item, silent, told, said, entries, lines, tells}
 use Rattle.change_engine.specs.Carrying.{deed_items, event_item, sight_item}
 use Rattle.change_engine.specs.Finishing.{Seen, all_entries, seen_entries}
 use Rattle.change_engine.specs.Passivating.{Passivation, Round, close_item, look_item, passivation_items, round_items, silent_items}
 use Rattle.headline_laws.specs.Pieces.{config_at, events_of}
-
-pub lines_both : (t u : List Item) → lines (t ++ u) ≡ lines t ++ lines u
-lines_both t u = filter_map-append line_in t u
-
-pub entries_both : (t u : List Item) → entries (t ++ u) ≡ entries t ++ entries u
-entries_both t u = filter_map-append entry_in t u
+use Rattle.change_engine.proofs.ItemLaws.{entries_both}
 
 -- ---- items whose lines tell what their entries say
 
@@ -82,35 +76,6 @@ fair_config t f = ap (change_all empty.config) (fair_events t f)
 
 -- ---- what a change does
 
-pub silent_entries : (es : List Entry) → entries (silent_items es) ≡ es
-silent_entries [] = refl
-silent_entries (e ∷ es) = ap (λ xs. e ∷ xs) (silent_entries es)
-
-pub silent_lines : (es : List Entry) → lines (silent_items es) ≡ []
-silent_lines [] = refl
-silent_lines (e ∷ es) = silent_lines es
-
-pub sight_lines : (ss : List Sight) → lines (map sight_item ss) ≡ []
-sight_lines [] = refl
-sight_lines (s ∷ ss) = sight_lines ss
-
-one_line : (e : Event) (o : Option HistoryLine) (ls : List HistoryLine) → cons_option (line_in (option_map_or (told (did e)) o (silent (did e)))) ls ≡ cons_option o ls
-one_line e None ls = refl
-one_line e (Some l) ls = refl
-
-joined_option : {A : Type 0} (o : Option A) (xs : List A) → cons_option o [] ++ xs ≡ cons_option o xs
-joined_option None xs = refl
-joined_option (Some x) xs = refl
-
-deed_line : (d : Deed) → lines (deed_items d) ≡ cons_option (line_of d.event) []
-deed_line d = one_line d.event (line_of d.event) (lines (map sight_item d.sights)) ∙ ap (cons_option (line_of d.event)) (sight_lines d.sights)
-
-pub deed_lines : (deeds : List Deed) → lines (flat_map deed_items deeds) ≡ lines_of_events (events_of deeds)
-deed_lines [] = refl
-deed_lines (d ∷ deeds) =
-    lines_both (deed_items d) (flat_map deed_items deeds) ∙ ap (λ ls. ls ++ lines (flat_map deed_items deeds)) (deed_line d)
-    ∙ joined_option (line_of d.event) (lines (flat_map deed_items deeds)) ∙ ap (cons_option (line_of d.event)) (deed_lines deeds)
-
 fair_event : (e : Event) → is_of_change e ≡ true → IsFair (event_item e)
 fair_event (Make n node from) h = (refl, refl)
 fair_event (Link p n x) h = (refl, refl)
@@ -140,27 +105,7 @@ fair_deeds (d ∷ deeds) h =
 
 -- ---- looks
 
-abbrev pub is_found : Found → Bool
-is_found f = is_drained_word f.word
-
-abbrev pub seen_at : Found → scene.Seen
-seen_at f = record { port = f.port; serial = serial_of f.word }
-
--- what a look found drained
-abbrev pub drained_in : List Found → List scene.Seen
-drained_in found = map seen_at (filter is_found found)
-
-look_line : (f : Found) (fs : List Found) (b : Bool)
-    → cons_option (line_in (cond b (told (looked f.port f.word) (to.Drained f.port (serial_of f.word))) (silent (looked f.port f.word)))) (map drained_line (map seen_at fs))
-    ≡ map drained_line (map seen_at (cond b (f ∷ fs) fs))
-look_line f fs true = refl
-look_line f fs false = refl
-
-pub look_lines : (found : List Found) → lines (map look_item found) ≡ map drained_line (drained_in found)
-look_lines [] = refl
-look_lines (f ∷ found) = ap (cons_option (line_in (look_item f))) (look_lines found) ∙ look_line f (filter is_found found) (is_found f)
-
-fair_look : (p w : ℕ) (b : Bool) → is_drained_word w ≡ b → IsFair (cond b (told (looked p w) (to.Drained p (serial_of w))) (silent (looked p w)))
+fair_look : (p w : ℕ) (b : Bool) → is_drained_word w ≡ b → IsFair (cond b (told (Looked p w) (to.Drained p (serial_of w))) (silent (Looked p w)))
 fair_look p w true e = (refl, ap (λ b. cond b (Some (to.Drained p (serial_of w))) None) e)
 fair_look p w false e = refl
 
@@ -198,67 +143,17 @@ fair_run looks scans =
 
 -- ---- passivations
 
-close_lines : (ps : List ℕ) → lines (map close_item ps) ≡ map to.Close ps
-close_lines [] = refl
-close_lines (p ∷ ps) = ap (λ ls. to.Close p ∷ ls) (close_lines ps)
-
 fair_closes : (ps : List ℕ) → AreFair (map close_item ps)
 fair_closes [] = tt
 fair_closes (p ∷ ps) = ((refl, refl), fair_closes ps)
 
-abbrev scan_of : Round → List Item
-scan_of w = silent_items (scan_entries false w.moved w.sights w.scan)
-
-round_lines : (w : Round) → lines (round_items w) ≡ map drained_line (drained_in w.found)
-round_lines w =
-    lines_both (scan_of w) (map look_item w.found) ∙ ap (λ ls. ls ++ lines (map look_item w.found)) (silent_lines (scan_entries false w.moved w.sights w.scan))
-    ∙ look_lines w.found
-
 fair_round : (w : Round) → AreFair (round_items w)
-fair_round w = fair_both (scan_of w) (map look_item w.found) (fair_scan false w.moved w.sights w.scan) (fair_looks w.found)
-
-abbrev pub drained_by : Round → List scene.Seen
-drained_by w = drained_in w.found
-
-map_both : {A B : Type 0} (f : A → B) (xs ys : List A) → map f (xs ++ ys) ≡ map f xs ++ map f ys
-map_both f [] ys = refl
-map_both f (x ∷ xs) ys = ap (λ zs. f x ∷ zs) (map_both f xs ys)
-
-rounds_lines : (rounds : List Round) → lines (flat_map round_items rounds) ≡ map drained_line (flat_map drained_by rounds)
-rounds_lines [] = refl
-rounds_lines (w ∷ rounds) =
-    lines_both (round_items w) (flat_map round_items rounds) ∙ ap (λ ls. ls ++ lines (flat_map round_items rounds)) (round_lines w)
-    ∙ ap (λ ls. map drained_line (drained_by w) ++ ls) (rounds_lines rounds) ∙ sym (map_both drained_line (drained_by w) (flat_map drained_by rounds))
+fair_round w =
+    fair_both (silent_items (scan_entries false w.moved w.sights w.scan)) (map look_item w.found) (fair_scan false w.moved w.sights w.scan) (fair_looks w.found)
 
 fair_rounds : (rounds : List Round) → AreFair (flat_map round_items rounds)
 fair_rounds [] = tt
 fair_rounds (w ∷ rounds) = fair_both (round_items w) (flat_map round_items rounds) (fair_round w) (fair_rounds rounds)
-
--- the looks of a passivation: what each found drained
-abbrev pub looks_of : Passivation → List (List scene.Seen)
-looks_of how = drained_in how.first ∷ map drained_by how.rounds
-
-seen_rounds : (rounds : List Round) → seen_in_all (map drained_by rounds) ≡ flat_map drained_by rounds
-seen_rounds [] = refl
-seen_rounds (w ∷ rounds) = ap (λ xs. drained_by w ++ xs) (seen_rounds rounds)
-
-pub all_seen : (how : Passivation) → seen_in_all (looks_of how) ≡ drained_in how.first ++ flat_map drained_by how.rounds
-all_seen how = ap (λ xs. drained_in how.first ++ xs) (seen_rounds how.rounds)
-
-pub passivation_lines : (ports : List ℕ) (how : Passivation) → lines (passivation_items ports how) ≡ map to.Close ports ++ drained_lines (looks_of how)
-passivation_lines ports how =
-    let shut = map close_item ports in
-    let first = map look_item how.first in
-    let rest = flat_map round_items how.rounds in
-    let drained = map drained_line (drained_in how.first) in
-    let later = map drained_line (flat_map drained_by how.rounds) in
-    let whole : drained ++ later ≡ drained_lines (looks_of how) =
-    sym (map_both drained_line (drained_in how.first) (flat_map drained_by how.rounds)) ∙ sym (ap (map drained_line) (all_seen how)) in
-    lines_both (shut ++ first) rest ∙ ap (λ ls. ls ++ lines rest) (lines_both shut first)
-    ∙ ap (λ ls. (ls ++ lines first) ++ lines rest) (close_lines ports)
-    ∙ ap (λ ls. (map to.Close ports ++ ls) ++ lines rest) (look_lines how.first)
-    ∙ ap (λ ls. (map to.Close ports ++ drained) ++ ls) (rounds_lines how.rounds)
-    ∙ append_assoc (map to.Close ports) drained later ∙ ap (λ ls. map to.Close ports ++ ls) whole
 
 pub fair_passivation : (ports : List ℕ) (how : Passivation) → AreFair (passivation_items ports how)
 fair_passivation ports how =

@@ -22,10 +22,11 @@ use Rattle.change_script.specs.declared.report.HistoryLine.TheVariants as to
 use Rattle.change_law.specs.Lawful.{IsDrainedAt, IsOfItsKind}
 use Rattle.change_law.specs.Members.{Member, by_node, of_history, event_of, is_root, line_of, without_roots}
 use Rattle.change_law.specs.Members as members
-use Rattle.change_board.specs.Entries.{Entry, did, looked, sighted, scanned}
-use Rattle.change_board.specs.Looks.{is_drained_word, serial_of}
-use Rattle.change_board.specs.Records.{IsRecordOf, IsSo, Moment}
-use Rattle.change_board.specs.Records as records
+use Rattle.gate_records.specs.declared.entry.Entry.{Entry}
+use Rattle.gate_records.specs.declared.entry.Entry.TheVariants.{Did, Looked, Sighted, Scanned}
+use Rattle.gate_records.specs.Looks.{is_drained_word, serial_of}
+use Rattle.gate_records.specs.Records.{IsRecordOf, IsSo, Moment}
+use Rattle.gate_records.specs.Records as records
 use Rattle.change_board.specs.Transcripts.{Item, entries, lines, tells}
 use Rattle.headline_laws.proofs.ItemLemmas.{AreFair, is_aside}
 use Rattle.headline_laws.specs.Joining.{AreJoined, Joint, of_node, of_line, of_entry, items_in, line_member, member_of, members_in, moments_in}
@@ -72,7 +73,7 @@ all_of_their_kind js each = all_from IsOfItsKind [] (members_in js) (by_known (�
 -- of a look that found its port drained
 record IsLookOf (y : Entry) (p k : ℕ) : Type 0 where
   word : ℕ
-  look : y ≡ looked p word
+  look : y ≡ Looked p word
   drained : is_drained_word word ≡ true
   serial : serial_of word ≡ k
 
@@ -104,16 +105,16 @@ no_look e p k h = by e h
     by _ h = none-some (to.Drained p k) h
 
 look_of_line : (y : Entry) (p k : ℕ) → tells y ≡ Some (to.Drained p k) → IsLookOf y p k
-look_of_line (did e) p k h = absurd (no_look e p k h)
-look_of_line (looked q w) p k h = by (is_drained_word w) refl h
+look_of_line (Did e) p k h = absurd (no_look e p k h)
+look_of_line (Looked q w) p k h = by (is_drained_word w) refl h
   where
-    by : (b : Bool) → is_drained_word w ≡ b → cond b (Some (to.Drained q (serial_of w))) None ≡ Some (to.Drained p k) → IsLookOf (looked q w) p k
+    by : (b : Bool) → is_drained_word w ≡ b → cond b (Some (to.Drained q (serial_of w))) None ≡ Some (to.Drained p k) → IsLookOf (Looked q w) p k
     by true e h =
         let same = same_Some (to.Drained q (serial_of w)) (to.Drained p k) h in
-        record { word = w; look = ap (λ i. looked i w) (ap port_of same); drained = e; serial = ap told_serial same }
+        record { word = w; look = ap (λ i. Looked i w) (ap port_of same); drained = e; serial = ap told_serial same }
     by false e h = absurd (none-some (to.Drained p k) h)
-look_of_line (sighted n es) p k h = absurd (none-some (to.Drained p k) h)
-look_of_line (scanned b m) p k h = absurd (none-some (to.Drained p k) h)
+look_of_line (Sighted n es) p k h = absurd (none-some (to.Drained p k) h)
+look_of_line (Scanned b m) p k h = absurd (none-some (to.Drained p k) h)
 
 -- the word of a look tells it
 by_word : (es : List Event) (p k w : ℕ) → IsRun es → w ≡ word_of (state_after es) p → is_drained_word w ≡ true → serial_of w ≡ k

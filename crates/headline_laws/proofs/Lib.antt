@@ -15,6 +15,6 @@ pub mod MergeLaws
 pub mod NumberLaws
 pub mod OpenLaws
 pub mod PendingLaws
-mod PortLemmas
+pub mod PortLaws
 pub mod RootLaws
 pub mod RoomLaws

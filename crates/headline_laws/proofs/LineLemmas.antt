@@ -10,14 +10,17 @@ use Rattle.change_script.specs.declared.report.HistoryLine.TheVariants as to
 use Rattle.change_law.specs.Changes.{drained_lines, seen_in_all}
 use Rattle.change_law.specs.Members.{line_of, lines_of_events}
 use Rattle.change_law.specs.Scene.{drained_line}
-use Rattle.change_board.specs.Entries.{Entry}
+use Rattle.gate_records.specs.declared.entry.Entry.{Entry}
 use Rattle.change_board.specs.Steps.{Deed}
 use Rattle.change_board.specs.Transcripts.{Item, said, lines}
 use Rattle.change_engine.specs.Carrying.{deed_items}
 use Rattle.change_engine.specs.Passivating.{Passivation, passivation_items, silent_items}
 use Rattle.change_engine.specs.declared.passivating.LeftRoot.{LeftRoot}
-use Rattle.headline_laws.specs.Pieces.{events_of, root_item}
-use Rattle.headline_laws.proofs.ItemLemmas.{deed_lines, is_aside, lines_both, looks_of, passivation_lines, silent_lines}
+use Rattle.change_engine.specs.Draining.{root_item}
+use Rattle.headline_laws.specs.Pieces.{events_of}
+use Rattle.headline_laws.proofs.ItemLemmas.{is_aside}
+use Rattle.change_engine.proofs.ItemLaws.{lines_both, silent_lines, carried_lines}
+use Rattle.change_engine.proofs.PassivationLaws.{looks_of, passivation_lines}
 
 module _ (test : HistoryLine → Bool) where
   -- whether a line of these items passes
@@ -62,7 +65,7 @@ module _ (test : HistoryLine → Bool) where
     none_of_events (e ∷ es) = none_of_event e (lines_of_events es) ∙ none_of_events es
 
     pub none_deeds : (deeds : List Deed) → any_line (flat_map deed_items deeds) ≡ false
-    none_deeds deeds = ap (list_any test) (deed_lines deeds) ∙ none_of_events (events_of deeds)
+    none_deeds deeds = ap (list_any test) (carried_lines deeds) ∙ none_of_events (events_of deeds)
 
     pub none_passivation : (ports : List ℕ) (how : Passivation) → any_line (passivation_items ports how) ≡ false
     none_passivation ports how =

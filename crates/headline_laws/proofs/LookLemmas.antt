@@ -6,7 +6,7 @@ use Rattle.std.specs.List.Sorted.{IsStrictlyIncreasing}
 use Rattle.std.proofs.lemmas.List.{append-nil, get_or-map, length-map}
 use Rattle.std.proofs.lemmas.List.Elements.{All-cons, All-nil}
 use Rattle.std.proofs.lemmas.List.Kept.{AllPairs-filter, AllPairs-from_increasing}
-use Rattle.std.proofs.lemmas.List.Sums.{fold_push, sum_by-cons}
+use Rattle.std.proofs.lemmas.List.Sums.{sum_by-cons}
 use Rattle.base.specs.Each.{EachAfter}
 use Rattle.base.proofs.MapLaws.{count_by-append}
 use Rattle.change_law.specs.Changes.{AreLooks, PortsRise, seen_in_all}
@@ -14,15 +14,9 @@ use Rattle.change_law.specs.Scene.{AreSeen, Seen}
 use Rattle.change_board.specs.Scans.{Found, ports_of}
 use Rattle.change_engine.specs.Passivating.{IsPassivation, IsRound, Passivation, Round, is_busy, left_after, root_of, root_ports, roots_of}
 use Rattle.change_engine.specs.declared.passivating.LeftRoot.{LeftRoot}
-use Rattle.headline_laws.proofs.ItemLemmas.{all_seen, drained_by, drained_in, is_found, looks_of, seen_at}
-
-left_more : (first : List Found) (rounds : List Round) (w : Round) → left_after first (rounds ++ w ∷ []) ≡ roots_of w.found
-left_more first rounds w = fold_push (λ left (v : Round). roots_of v.found) (roots_of first) rounds w
+use Rattle.change_engine.proofs.PassivationLaws.{is_found, found_seen, drained_in, left_more, drained_by, looks_of, all_seen, seen_root}
 
 -- ---- counts
-
-abbrev pub seen_root : LeftRoot → Seen
-seen_root x = record { port = x.port; serial = x.serial }
 
 module _ (p : ℕ) where
   abbrev at_port : Seen → Bool
@@ -45,9 +39,9 @@ module _ (p : ℕ) where
 
   -- a look parts its ports into drained ones and roots
   parted_here : (f : Found) (drained busy : List Found) (b : Bool)
-      → seen_so_often (map seen_at (cond b (f ∷ drained) drained)) + listed_so_often (root_ports (map root_of (cond (not b) (f ∷ busy) busy)))
-      ≡ cond (is_port f.port) 1 0 + (seen_so_often (map seen_at drained) + listed_so_often (root_ports (map root_of busy)))
-  parted_here f drained busy true = omega (arith, one_seen (seen_at f) (map seen_at drained))
+      → seen_so_often (map found_seen (cond b (f ∷ drained) drained)) + listed_so_often (root_ports (map root_of (cond (not b) (f ∷ busy) busy)))
+      ≡ cond (is_port f.port) 1 0 + (seen_so_often (map found_seen drained) + listed_so_often (root_ports (map root_of busy)))
+  parted_here f drained busy true = omega (arith, one_seen (found_seen f) (map found_seen drained))
   parted_here f drained busy false = omega (arith, one_more f.port (root_ports (map root_of busy)))
 
   parted : (found : List Found) → seen_so_often (drained_in found) + listed_so_often (root_ports (roots_of found)) ≡ listed_so_often (ports_of found)
@@ -124,7 +118,7 @@ rises_by f (x ∷ xs) h = λ k low.
     let there = get_or-map f (x ∷ xs) (k + 1) x 0 within in
     omega (arith, here, there, h k (k + 1) x (omega arith) within)
 
-ports_seen : (found : List Found) → map (λ (d : Seen). d.port) (map seen_at found) ≡ ports_of found
+ports_seen : (found : List Found) → map (λ (d : Seen). d.port) (map found_seen found) ≡ ports_of found
 ports_seen [] = refl
 ports_seen (f ∷ found) = ap (λ ps. f.port ∷ ps) (ports_seen found)
 

@@ -1,7 +1,7 @@
 -- How many nodes and ports events make, and in which slots.
 use Rattle.std.proofs.Common.{◌≡◌, ◌∙◌, ℕ, ◌+◌, Bool, true, false, cond, List, [], ◌∷◌, ◌++◌, length, length-append, length-set, set, Option, Some, None, refl, sym, ap, arith}
 use Rattle.std.specs.Prelude.{filter, filter_map, option_and_then}
-use Rattle.std.specs.List.{cons_option, list_any, range_with_len, sum_by}
+use Rattle.std.specs.List.{cons_option, range_with_len, sum_by}
 use Rattle.std.specs.Option.{option_map_or}
 use Rattle.std.proofs.lemmas.Bool.{and_parts, both_ways, eqb-true}
 use Rattle.std.proofs.lemmas.List.{append-nil, length-map}
@@ -20,7 +20,7 @@ use Rattle.quiesce_core.specs.declared.event.Event.{Event}
 use Rattle.quiesce_core.specs.declared.event.Event.TheVariants.{Begin, Call, Take, Give, End, More, Ask, Hear, Miss, Close, Reopen, Make, Link, Unlink, Remove}
 use Rattle.quiesce_core.specs.declared.state.Gate.{Gate}
 use Rattle.quiesce_core.specs.declared.state.Slot.{Slot}
-use Rattle.quiesce_core.proofs.InductionLaws.{IsNext, along, unbarred}
+use Rattle.quiesce_core.proofs.InductionLaws.{IsNext, along, unbarred, none_barred}
 use Rattle.quiesce_core.proofs.RunLaws.{effect_config}
 use Rattle.change_script.specs.declared.report.HistoryLine.{HistoryLine}
 use Rattle.change_script.specs.declared.report.HistoryLine.TheVariants as to
@@ -115,12 +115,8 @@ next_numbered es (Link p n x) here free h = none_more es (Link p n x) here refl 
 next_numbered es (Unlink p) here free h = none_more es (Unlink p) here refl refl h
 next_numbered es (Remove n) here free h = none_more es (Remove n) here refl refl h
 
-none_bars : (es : List Event) → list_any unbarred es ≡ false
-none_bars [] = refl
-none_bars (e ∷ es) = none_bars es
-
 pub slots_are_numbered : (es : List Event) → IsRun es → filter_map slot_made es ≡ range_with_len 0 (length (state_after es).config.slots)
-slots_are_numbered es run = along AreNumbered unbarred next_numbered [] es run (none_bars es) refl
+slots_are_numbered es run = along AreNumbered unbarred next_numbered [] es run (none_barred es) refl
 
 -- ---- the same by lines
 

@@ -11,10 +11,10 @@ use Rattle.change_script.specs.declared.report.NodeLog.{NodeLog}
 use Rattle.change_script.specs.declared.report.Report.{Report}
 use Rattle.change_law.specs.Lawful.{Merge}
 use Rattle.change_law.specs.Members.{Member, made_slot, without_roots}
-use Rattle.change_board.specs.Records as records
-use Rattle.change_board.specs.Records.{IsRecordOf, Moment}
+use Rattle.gate_records.specs.Records as records
+use Rattle.gate_records.specs.Records.{IsRecordOf, Moment}
 use Rattle.change_board.specs.Transcripts.{Item, entries, lines}
-use Rattle.change_board.proofs.RecordLaws.{changes_of, config_is}
+use Rattle.gate_records.proofs.RecordLaws.{changes_of, config_is}
 use Rattle.headline_laws.specs.Joining.{AreJoined}
 use Rattle.headline_laws.specs.Pieces.{config_at}
 use Rattle.headline_laws.specs.Reports.{IsReport}

@@ -4,8 +4,6 @@ use Rattle.std.specs.Prelude.{⊤, ◌||◌, ℤ, flat_map}
 use Rattle.std.specs.List.{AllByRecursion, cons_option, count_by, list_any, range_with_len, sum_by}
 use Rattle.std.specs.Option.{option_map_or}
 use Rattle.std.proofs.lemmas.Bool.{both_ways, cases_Bool, or_parts}
-use Rattle.std.proofs.lemmas.Grind.{flat_map-append}
-use Rattle.std.proofs.lemmas.List.{append-nil}
 use Rattle.std.proofs.lemmas.List.Elements.{filter_map-append}
 use Rattle.std.proofs.lemmas.List.Sums.{sum_by-cons}
 use Rattle.std.proofs.lemmas.Option.{none-some, same_Some}
@@ -26,10 +24,11 @@ use Rattle.change_script.specs.declared.report.HistoryLine.TheVariants as to
 use Rattle.change_law.specs.Lawful.{EndedSince}
 use Rattle.change_law.specs.Members.{Member, by_node, of_history, is_pending, line_of}
 use Rattle.change_law.specs.Statements.{Statement, start, change, run, finish, show}
-use Rattle.change_board.specs.Entries.{Entry, did, looked, sighted, scanned}
-use Rattle.change_board.specs.Looks.{ended_in_word, is_drained_word, serial_of}
-use Rattle.change_board.specs.Records as records
-use Rattle.change_board.specs.Records.{IsRecordOf, IsSo, Moment}
+use Rattle.gate_records.specs.declared.entry.Entry.{Entry}
+use Rattle.gate_records.specs.declared.entry.Entry.TheVariants.{Did, Looked, Sighted, Scanned}
+use Rattle.gate_records.specs.Looks.{ended_in_word, is_drained_word, serial_of}
+use Rattle.gate_records.specs.Records as records
+use Rattle.gate_records.specs.Records.{IsRecordOf, IsSo, Moment}
 use Rattle.change_board.specs.Scans.{Found, all_ports, ended_in, look_entry, ports_of}
 use Rattle.change_board.specs.Transcripts.{Item, silent, told, said, entries, line_in, lines, tells}
 use Rattle.change_engine.specs.Carrying.{deed_items, sight_item}
@@ -38,13 +37,15 @@ use Rattle.change_engine.specs.Passivating.{left_after, passivation_items, silen
 use Rattle.change_engine.specs.Running.{ended_since}
 use Rattle.headline_laws.specs.Joining.{AreJoined, Joint, of_node, of_line, of_entry, item_of, items_in, member_of, members_in, moment_of, moments_in}
 use Rattle.headline_laws.specs.Numbers.{IsEndedAt}
-use Rattle.headline_laws.specs.Pieces.{IsCommitted, IsDone, IsGivenUp, IsTranscript, IsTried, Piece, config_at, items_of, opening_items, pending_items}
+use Rattle.change_engine.specs.Draining.{pending_items}
+use Rattle.headline_laws.specs.Pieces.{AreCommitItems, IsDone, AreAbandonItems, IsTranscript, AreChangeItems, Piece, config_at, items_of, opening_items}
 use Rattle.headline_laws.proofs.CountLemmas.{IsBetween, ended_at, ends_of_ports, run_shows}
-use Rattle.headline_laws.proofs.FollowLaws.{fair_transcript}
-use Rattle.headline_laws.proofs.ItemLemmas.{AreFair, is_aside, sight_lines}
+use Rattle.headline_laws.proofs.FollowLaws.{fair_transcript, items_pushed}
+use Rattle.headline_laws.proofs.ItemLemmas.{AreFair, is_aside}
 use Rattle.headline_laws.proofs.JoiningLemmas.{IsKnown, Lifted, each_both, fair_back, lifted}
 use Rattle.headline_laws.proofs.LawfulLaws.{all_known, line_there}
 use Rattle.headline_laws.proofs.LineLemmas.{any_line, none_both, none_deeds, none_passivation, none_roots, none_silent, silent_line}
+use Rattle.change_engine.proofs.ItemLaws.{sight_lines}
 
 -- ---- joints by their items
 
@@ -97,13 +98,13 @@ module _ (front back : List Joint) (es : List Entry) (are : items_in back ≡ si
   events_both : (a b : List Joint) → records.events (moments_in (a ++ b)) ≡ records.events (moments_in a) ++ records.events (moments_in b)
   events_both a b = ap records.events (filter_map-append moment_of a b) ∙ filter_map-append records.event_at (moments_in a) (moments_in b)
 
-  look_between : (x rest : List Joint) (p w : ℕ) → back ≡ x ++ of_entry (looked p w) None ∷ rest → (low p ≤ ended_in_word w) × (ended_in_word w ≤ high p)
+  look_between : (x rest : List Joint) (p w : ℕ) → back ≡ x ++ of_entry (Looked p w) None ∷ rest → (low p ≤ ended_in_word w) × (ended_in_word w ≤ high p)
   look_between x rest p w parts =
       let place = front ++ x in
-      let whole : front ++ back ≡ place ++ of_entry (looked p w) None ∷ rest = ap (λ k. front ++ k) parts ∙ sym (append_assoc front x (of_entry (looked p w) None ∷ rest)) in
-      let ms : moments_in (front ++ back) ≡ moments_in place ++ records.entry (looked p w) ∷ moments_in rest = ap moments_in whole ∙ filter_map-append moment_of place (of_entry (looked p w) None ∷ rest) in
-      let here : w ≡ _ = each_at IsSo (moments_in place) (moments_in rest) (records.entry (looked p w)) (subst (λ k. Each IsSo k) ms so) in
-      let tail_ = of_entry (looked p w) None ∷ rest in
+      let whole : front ++ back ≡ place ++ of_entry (Looked p w) None ∷ rest = ap (λ k. front ++ k) parts ∙ sym (append_assoc front x (of_entry (Looked p w) None ∷ rest)) in
+      let ms : moments_in (front ++ back) ≡ moments_in place ++ records.entry (Looked p w) ∷ moments_in rest = ap moments_in whole ∙ filter_map-append moment_of place (of_entry (Looked p w) None ∷ rest) in
+      let here : w ≡ _ = each_at IsSo (moments_in place) (moments_in rest) (records.entry (Looked p w)) (subst (λ k. Each IsSo k) ms so) in
+      let tail_ = of_entry (Looked p w) None ∷ rest in
       let split = ap (λ k. records.events (moments_in k)) whole ∙ events_both place tail_ in
       let run_here = fronts_are_runs (records.events (moments_in place)) (records.events (moments_in tail_)) (subst IsRun split runs) in
       let shown = ended_at (records.events (moments_in place)) p w run_here here in
@@ -127,10 +128,10 @@ module _ (front back : List Joint) (es : List Entry) (are : items_in back ≡ si
       )
     where
       here : (f : Entry) → back ≡ x ++ of_entry f None ∷ rest → IsBetween low high f
-      here (looked p w) parts = look_between x rest p w parts
-      here (did e) parts = tt
-      here (sighted n es) parts = tt
-      here (scanned b m) parts = tt
+      here (Looked p w) parts = look_between x rest p w parts
+      here (Did e) parts = tt
+      here (Sighted n es) parts = tt
+      here (Scanned b m) parts = tt
 
   -- the members there are events of nodes
   nodes_alone : (rest : List Joint) (fs : List Entry) → items_in rest ≡ silent_items fs → AreFair (items_in rest) → members_in rest ≡ map by_node (records.events (moments_in rest))
@@ -214,15 +215,15 @@ all_none before [] h = tt
 all_none before (x ∷ u) h =
     let w = or_parts (line_test x) (any_line is_run_line u) (sym (first_line x u) ∙ h) in (none_here before x w.0, all_none (before ++ x ∷ []) u w.1)
 
-tried_none : (before : List Item) (name : List ℕ) (args : List ℤ) (new : Graph) (within : ℕ) (moves : List Move) (u : List Item) → IsTried before name args new within moves u → any_line is_run_line u ≡ false
+tried_none : (before : List Item) (name : List ℕ) (args : List ℤ) (new : Graph) (within : ℕ) (moves : List Move) (u : List Item) → AreChangeItems before name args new within moves u → any_line is_run_line u ≡ false
 tried_none before name args new within moves u x =
     let opened = opening_items name args x.closed x.how in
     let left = left_after x.how.first x.how.rounds in
     let rest : any_line is_run_line x.rest ≡ false =
     ⊎_elim
-    (λ (y : IsCommitted (before ++ opened) x.old new x.plan left x.rest).
+    (λ (y : AreCommitItems (before ++ opened) x.old new x.plan left x.rest).
     ap (any_line is_run_line) y.are ∙ none_both is_run_line (flat_map deed_items y.deeds) (said to.Commit ∷ []) (none_deeds is_run_line none_aside y.deeds) refl)
-    (λ (y : (length x.how.rounds ≡ within) × IsGivenUp x.closed within left x.rest).
+    (λ (y : (length x.how.rounds ≡ within) × AreAbandonItems x.closed within left x.rest).
     ap (any_line is_run_line) y.1.are
     ∙ none_both is_run_line (pending_items within left ++ flat_map deed_items y.1.deeds) (said to.Abandon ∷ [])
     (none_both is_run_line (pending_items within left) (flat_map deed_items y.1.deeds) (none_roots is_run_line (λ p k. refl) left) (none_deeds is_run_line none_aside y.1.deeds)) refl)
@@ -246,9 +247,6 @@ piece_told alone before (finish n) u d =
     let es = all_entries d.scans in
     subst (EachAfter IsRunTold before) (sym d.are) (all_none before (silent_items es ++ said (to.Finish n (rounds_in d.scans)) ∷ []) (silent_line is_run_line es (to.Finish n (rounds_in d.scans))))
 piece_told alone before show u d = subst (EachAfter IsRunTold before) (sym d.are) (tt, tt)
-
-items_pushed : (before : List Piece) (p : Piece) → items_of (before ++ p ∷ []) ≡ items_of before ++ p.items
-items_pushed before p = flat_map-append (λ (q : Piece). q.items) before (p ∷ []) ∙ ap (λ v. items_of before ++ v) (append-nil p.items)
 
 pieces_told : (alone : Bool) (before ps : List Piece) → EachAfter (λ qs (p : Piece). IsDone alone (items_of qs) p.statement p.items) before ps → EachAfter IsRunTold (items_of before) (items_of ps)
 pieces_told alone before [] each = tt
@@ -280,10 +278,10 @@ no_run_look p w l true h = sym (ap is_run_line (same_Some (to.Drained p (serial_
 no_run_look p w l false h = absurd (none-some l h)
 
 no_run_entry : (y : Entry) (l : HistoryLine) → tells y ≡ Some l → is_run_line l ≡ false
-no_run_entry (did e) l h = no_run_event e l h
-no_run_entry (looked p w) l h = no_run_look p w l (is_drained_word w) h
-no_run_entry (sighted n es) l h = absurd (none-some l h)
-no_run_entry (scanned b v) l h = absurd (none-some l h)
+no_run_entry (Did e) l h = no_run_event e l h
+no_run_entry (Looked p w) l h = no_run_look p w l (is_drained_word w) h
+no_run_entry (Sighted n es) l h = absurd (none-some l h)
+no_run_entry (Scanned b v) l h = absurd (none-some l h)
 
 no_run_member : (before : List Member) (l : HistoryLine) → is_run_line l ≡ false → IsEndedAt before (of_history l)
 no_run_member before (to.Run k n) h = absurd (both_ways true h refl)

@@ -33,16 +33,18 @@ use Rattle.change_law.specs.Lawful.{IsOfItsKind, StoodOpen}
 use Rattle.change_law.specs.Members as members
 use Rattle.change_law.specs.Members.{Member, of_history, event_of, is_close, is_root, without_roots}
 use Rattle.change_law.proofs.MemberLaws.{all_parts, events_parts, events_without_roots, none_happens}
-use Rattle.change_board.specs.Entries.{Entry, did, looked}
-use Rattle.change_board.specs.Looks.{is_drained_word, serial_of}
-use Rattle.change_board.specs.Records as records
-use Rattle.change_board.specs.Records.{IsRecordOf, IsSo, Moment}
+use Rattle.gate_records.specs.declared.entry.Entry.{Entry}
+use Rattle.gate_records.specs.declared.entry.Entry.TheVariants.{Did, Looked}
+use Rattle.gate_records.specs.Looks.{is_drained_word, serial_of}
+use Rattle.gate_records.specs.Records as records
+use Rattle.gate_records.specs.Records.{IsRecordOf, IsSo, Moment}
 use Rattle.change_board.specs.Transcripts as transcripts
 use Rattle.change_board.specs.Transcripts.{Item, silent, told, said, entries, lines}
 use Rattle.headline_laws.specs.Joining.{AreJoined, Joint, of_node, of_line, of_entry, item_of, items_in, member_of, members_in}
-use Rattle.headline_laws.proofs.ItemLemmas.{AreFair, lines_both}
+use Rattle.headline_laws.proofs.ItemLemmas.{AreFair}
 use Rattle.headline_laws.proofs.JoiningLemmas.{IsKnown, member_events, member_lines}
 use Rattle.headline_laws.proofs.LawfulLaws.{all_known, by_nodes, runs}
+use Rattle.change_engine.proofs.ItemLaws.{lines_both}
 
 -- ---- the place of an item in the joint list
 
@@ -170,15 +172,15 @@ each_front P xs x ys each = (each_parts P [] xs (x ∷ ys) each).1.0
 
 module _ (t : List Item) (m : List Moment) (ms : List Member) (fair : AreFair t) (j : AreJoined t m ms) (is_of : IsRecordOf (entries t) m) where
   abbrev close_at : ℕ → Item
-  close_at p = told (did (event.Close p)) (to.Close p)
+  close_at p = told (Did (event.Close p)) (to.Close p)
 
-  module _ (p w : ℕ) (xs ys zs us : List Item) (parts : t ≡ xs ++ close_at p ∷ (ys ++ silent (looked p w) ∷ (zs ++ us))) (busy : is_drained_word w ≡ false)
+  module _ (p w : ℕ) (xs ys zs us : List Item) (parts : t ≡ xs ++ close_at p ∷ (ys ++ silent (Looked p w) ∷ (zs ++ us))) (busy : is_drained_word w ≡ false)
       (none_reopened : list_any (reopens p) (filter_map event_of (lines ys)) ≡ false) (behind : list_any is_close (lines zs) ≡ false) where
-    abbrev first : AtItem j.joint xs (close_at p) (ys ++ silent (looked p w) ∷ (zs ++ us))
-    first = at_item j.joint xs (close_at p) (ys ++ silent (looked p w) ∷ (zs ++ us)) (j.items_are ∙ parts)
+    abbrev first : AtItem j.joint xs (close_at p) (ys ++ silent (Looked p w) ∷ (zs ++ us))
+    first = at_item j.joint xs (close_at p) (ys ++ silent (Looked p w) ∷ (zs ++ us)) (j.items_are ∙ parts)
 
-    abbrev second : AtItem first.after ys (silent (looked p w)) (zs ++ us)
-    second = at_item first.after ys (silent (looked p w)) (zs ++ us) first.after_items
+    abbrev second : AtItem first.after ys (silent (Looked p w)) (zs ++ us)
+    second = at_item first.after ys (silent (Looked p w)) (zs ++ us) first.after_items
 
     abbrev front : List Joint
     front = first.before
@@ -187,15 +189,15 @@ module _ (t : List Item) (m : List Moment) (ms : List Member) (fair : AreFair t)
     between = second.before
 
     abbrev closing : Joint
-    closing = of_entry (did (event.Close p)) (Some (to.Close p))
+    closing = of_entry (Did (event.Close p)) (Some (to.Close p))
 
     abbrev looking : Joint
-    looking = of_entry (looked p w) None
+    looking = of_entry (Looked p w) None
 
     whole : j.joint ≡ front ++ closing ∷ (between ++ looking ∷ second.after)
     whole =
-        first.parts ∙ ap (λ y. front ++ y ∷ first.after) (of_told first.here (did (event.Close p)) (to.Close p) first.here_item)
-        ∙ ap (λ k. front ++ closing ∷ k) (second.parts ∙ ap (λ y. between ++ y ∷ second.after) (of_silent second.here (looked p w) second.here_item))
+        first.parts ∙ ap (λ y. front ++ y ∷ first.after) (of_told first.here (Did (event.Close p)) (to.Close p) first.here_item)
+        ∙ ap (λ k. front ++ closing ∷ k) (second.parts ∙ ap (λ y. between ++ y ∷ second.after) (of_silent second.here (Looked p w) second.here_item))
 
     abbrev up_to : List Joint
     up_to = front ++ closing ∷ between
@@ -257,7 +259,7 @@ module _ (t : List Item) (m : List Moment) (ms : List Member) (fair : AreFair t)
 
     word_there : w ≡ word_of (state_after (before_close ++ event.Close p ∷ members.events since)) p
     word_there =
-        known_there.so (records.entry (looked p w)) refl
+        known_there.so (records.entry (Looked p w)) refl
         ∙ ap (λ es. word_of (state_after es) p) (sym (member_events up_to known_there.fair) ∙ ap members.events up_to_members ∙ events_there)
 
     root_there : has_root (state_after (before_close ++ event.Close p ∷ members.events since)) p (serial_of w) ≡ true
@@ -276,7 +278,7 @@ module _ (t : List Item) (m : List Moment) (ms : List Member) (fair : AreFair t)
 
     -- the lines up to the look are those of the items up to it
     abbrev told_lines : List HistoryLine
-    told_lines = lines (xs ++ close_at p ∷ (ys ++ silent (looked p w) ∷ zs))
+    told_lines = lines (xs ++ close_at p ∷ (ys ++ silent (Looked p w) ∷ zs))
 
     placed : members.lines (front_members ++ of_history (to.Close p) ∷ since) ++ without_roots (lines zs) ≡ without_roots told_lines
     placed =
@@ -286,7 +288,7 @@ module _ (t : List Item) (m : List Moment) (ms : List Member) (fair : AreFair t)
         ap members.lines (sym up_to_members) ∙ member_lines up_to ∙ ap (λ k. without_roots (lines k)) items in
         ap (λ ls. ls ++ without_roots (lines zs)) these
         ∙ sym (filter-append (λ l. not (is_root l)) (lines (xs ++ close_at p ∷ ys)) (lines zs))
-        ∙ ap without_roots (sym (lines_both (xs ++ close_at p ∷ ys) (silent (looked p w) ∷ zs)) ∙ ap lines (append_assoc xs (close_at p ∷ ys) (silent (looked p w) ∷ zs)))
+        ∙ ap without_roots (sym (lines_both (xs ++ close_at p ∷ ys) (silent (Looked p w) ∷ zs)) ∙ ap lines (append_assoc xs (close_at p ∷ ys) (silent (Looked p w) ∷ zs)))
 
     pub stood : StoodOpen ms told_lines p (serial_of w)
     stood = record {

@@ -14,17 +14,19 @@ use Rattle.change_script.specs.declared.report.HistoryLine.{HistoryLine}
 use Rattle.change_script.specs.declared.report.HistoryLine.TheVariants as to
 use Rattle.change_law.specs.Changes.{drained_lines, seen_in_all}
 use Rattle.change_law.specs.Members.{event_of, is_pending}
-use Rattle.change_law.specs.Scene.{Seen, drained_line}
-use Rattle.change_board.specs.Entries.{Entry, events_in}
+use Rattle.gate_records.specs.Entries.{events_in}
+use Rattle.gate_records.specs.declared.entry.Entry.{Entry}
 use Rattle.change_board.specs.Steps.{Deed}
 use Rattle.change_board.specs.Transcripts.{Item, said, entries, lines}
 use Rattle.change_engine.specs.Carrying.{deed_items}
 use Rattle.change_engine.specs.Passivating.{Passivation, silent_items}
 use Rattle.change_engine.specs.declared.passivating.LeftRoot.{LeftRoot}
-use Rattle.headline_laws.specs.Pieces.{config_at, opening_items, pending_items, root_item}
-use Rattle.headline_laws.proofs.ItemLemmas.{AreFair, config_over, is_aside, fair_events, fair_passivation, looks_of, passivation_lines}
+use Rattle.change_engine.specs.Draining.{pending_items, root_item}
+use Rattle.headline_laws.specs.Pieces.{config_at, opening_items}
+use Rattle.headline_laws.proofs.ItemLemmas.{AreFair, config_over, is_aside, fair_events, fair_passivation}
 use Rattle.headline_laws.proofs.LineLemmas.{both_lines, none_both, none_deeds, none_passivation, silent_line}
-use Rattle.headline_laws.proofs.PortLemmas.{still_to_close}
+use Rattle.headline_laws.proofs.PortLaws.{still_to_close}
+use Rattle.change_engine.proofs.PassivationLaws.{closed_events, no_events_drained, looks_of, passivation_lines}
 
 abbrev pub is_one_given_up : List Item → Bool
 is_one_given_up t = list_any is_pending (lines t)
@@ -55,10 +57,6 @@ quiet_none es l h = silent_line is_pending es l ∙ ap (λ b. b || false) h
 
 -- ---- what is closed for a change
 
-closing_events : (ps : List ℕ) → filter_map event_of (map to.Close ps) ≡ map Close ps
-closing_events [] = refl
-closing_events (p ∷ ps) = ap (λ es. Close p ∷ es) (closing_events ps)
-
 fair_left : (xs : List LeftRoot) → AreFair (map root_item xs)
 fair_left [] = tt
 fair_left (x ∷ xs) = (refl, fair_left xs)
@@ -67,10 +65,6 @@ no_events : (xs : List LeftRoot) → filter_map event_of (lines (map root_item x
 no_events [] = refl
 no_events (x ∷ xs) = no_events xs
 
-no_drained : (ds : List Seen) → filter_map event_of (map drained_line ds) ≡ []
-no_drained [] = refl
-no_drained (d ∷ ds) = no_drained ds
-
 module _ (t : List Item) (name : List ℕ) (args : List ℤ) (closed : List ℕ) (how : Passivation) where
   abbrev opening : List Item
   opening = opening_items name args closed how
@@ -78,8 +72,8 @@ module _ (t : List Item) (name : List ℕ) (args : List ℤ) (closed : List ℕ)
   opening_events : events_in (entries opening) ≡ map Close closed
   opening_events =
       fair_events opening (refl, fair_passivation closed how) ∙ ap (filter_map event_of) (passivation_lines closed how)
-      ∙ filter_map-append event_of (map to.Close closed) (drained_lines (looks_of how)) ∙ ap (λ es. filter_map event_of (map to.Close closed) ++ es) (no_drained (seen_in_all (looks_of how)))
-      ∙ append-nil (filter_map event_of (map to.Close closed)) ∙ closing_events closed
+      ∙ filter_map-append event_of (map to.Close closed) (drained_lines (looks_of how)) ∙ ap (λ es. filter_map event_of (map to.Close closed) ++ es) (no_events_drained (seen_in_all (looks_of how)))
+      ∙ append-nil (filter_map event_of (map to.Close closed)) ∙ closed_events closed
 
   pub config_opened : config_at (t ++ opening) ≡ change_all (config_at t) (map Close closed)
   config_opened = config_over t opening ∙ ap (change_all (config_at t)) opening_events

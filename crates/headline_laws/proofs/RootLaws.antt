@@ -7,7 +7,6 @@ use Rattle.std.proofs.lemmas.Bool.{both_ways, cases_Bool, eq-eqb, eqb-true, not-
 use Rattle.std.proofs.lemmas.Grind.{flat_map-append}
 use Rattle.std.proofs.lemmas.List.{append-nil, map-append}
 use Rattle.std.proofs.lemmas.List.Folds.{list_any-append}
-use Rattle.std.proofs.lemmas.List.Sums.{fold_push}
 use Rattle.std.proofs.lemmas.Option.{none-some, same_Some}
 use Rattle.base.specs.Each.{Each, EachAfter}
 use Rattle.base.proofs.EachLaws.{each_carried, each_joined}
@@ -25,9 +24,10 @@ use Rattle.change_law.specs.Members.{Member, event_of, is_close, is_pending, is_
 use Rattle.change_law.specs.Scene.{Seen}
 use Rattle.change_law.specs.Statements.{Statement, start, change, run, finish, show}
 use Rattle.change_law.proofs.TestLaws.{counted_some, some_counted}
-use Rattle.change_board.specs.Entries.{Entry, did, looked, sighted, scanned}
-use Rattle.change_board.specs.Looks.{is_drained_word, serial_of}
-use Rattle.change_board.specs.Records.{IsRecordOf, Moment}
+use Rattle.gate_records.specs.declared.entry.Entry.{Entry}
+use Rattle.gate_records.specs.declared.entry.Entry.TheVariants.{Did, Looked, Sighted, Scanned}
+use Rattle.gate_records.specs.Looks.{is_drained_word, serial_of}
+use Rattle.gate_records.specs.Records.{IsRecordOf, Moment}
 use Rattle.change_board.specs.Scans.{Found, look_entry, scan_entries}
 use Rattle.change_board.specs.Transcripts.{Item, silent, told, said, entries, line_in, lines, tells}
 use Rattle.change_engine.specs.Carrying.{deed_items, sight_item}
@@ -35,11 +35,15 @@ use Rattle.change_engine.specs.Finishing.{all_entries, rounds_in}
 use Rattle.change_engine.specs.Passivating.{IsPassivation, Passivation, Round, close_item, is_busy, left_after, look_item, passivation_items, root_of, roots_of, round_items, silent_items}
 use Rattle.change_engine.specs.declared.passivating.LeftRoot.{LeftRoot}
 use Rattle.headline_laws.specs.Joining.{AreJoined}
-use Rattle.headline_laws.specs.Pieces.{IsCommitted, IsDone, IsGivenUp, IsTranscript, IsTried, Piece, items_of, opening_items, root_item}
-use Rattle.headline_laws.proofs.ItemLemmas.{AreFair, IsFair, is_aside, looks_of, sight_lines}
+use Rattle.change_engine.specs.Draining.{root_item}
+use Rattle.headline_laws.specs.Pieces.{AreCommitItems, IsDone, AreAbandonItems, IsTranscript, AreChangeItems, Piece, items_of, opening_items}
+use Rattle.headline_laws.proofs.ItemLemmas.{AreFair, IsFair, is_aside}
 use Rattle.headline_laws.proofs.LineLemmas.{any_line, both_lines, none_both, none_deeds, none_passivation, none_roots, none_silent, silent_line}
-use Rattle.headline_laws.proofs.LookLemmas.{all_are_seen, seen_root}
+use Rattle.headline_laws.proofs.LookLemmas.{all_are_seen}
 use Rattle.headline_laws.proofs.OpenLaws.{stood}
+use Rattle.change_engine.proofs.ItemLaws.{sight_lines}
+use Rattle.change_engine.proofs.PassivationLaws.{left_more, looks_of, seen_root}
+use Rattle.headline_laws.proofs.FollowLaws.{items_pushed}
 
 -- ---- parts of lists
 
@@ -93,9 +97,6 @@ last_of : (w : Round) (rounds : List Round) → LastOf (w ∷ rounds)
 last_of w [] = record { front = []; round = w; are = refl }
 last_of w (v ∷ rounds) = let x = last_of v rounds in record { front = w ∷ x.front; round = x.round; are = ap (λ ws. w ∷ ws) x.are }
 
-left_more : (first : List Found) (rounds : List Round) (w : Round) → left_after first (rounds ++ w ∷ []) ≡ roots_of w.found
-left_more first rounds w = fold_push (λ left (v : Round). roots_of v.found) (roots_of first) rounds w
-
 -- ---- the last look at a port at which a root is left
 
 abbrev looks_region : Passivation → List Item
@@ -105,25 +106,25 @@ record SeenAt (items : List Item) (p k : ℕ) : Type 0 where
   word : ℕ
   front : List Item
   back : List Item
-  are : items ≡ front ++ silent (looked p word) ∷ back
+  are : items ≡ front ++ silent (Looked p word) ∷ back
   busy : is_drained_word word ≡ false
   serial : serial_of word ≡ k
 
-busy_look : (p w : ℕ) (b : Bool) → b ≡ false → cond b (told (looked p w) (to.Drained p (serial_of w))) (silent (looked p w)) ≡ silent (looked p w)
-busy_look p w b e = ap (λ c. cond c (told (looked p w) (to.Drained p (serial_of w))) (silent (looked p w))) e
+busy_look : (p w : ℕ) (b : Bool) → b ≡ false → cond b (told (Looked p w) (to.Drained p (serial_of w))) (silent (Looked p w)) ≡ silent (Looked p w)
+busy_look p w b e = ap (λ c. cond c (told (Looked p w) (to.Drained p (serial_of w))) (silent (Looked p w))) e
 
 seen_in_pass : (found : List Found) (xs : List LeftRoot) (x : LeftRoot) (ys : List LeftRoot) → roots_of found ≡ xs ++ x ∷ ys → SeenAt (map look_item found) x.port x.serial
 seen_in_pass found xs x ys h =
     let w = found_root found xs x ys h in
     let busy : is_drained_word w.here.word ≡ false = not-true (is_drained_word w.here.word) w.busy in
-    let same : look_item w.here ≡ silent (looked w.here.port w.here.word) = busy_look w.here.port w.here.word (is_drained_word w.here.word) busy in
+    let same : look_item w.here ≡ silent (Looked w.here.port w.here.word) = busy_look w.here.port w.here.word (is_drained_word w.here.word) busy in
     let port : w.here.port ≡ x.port = ap (λ (r : LeftRoot). r.port) w.is_root in
     record {
       word = w.here.word;
       front = map look_item w.front;
       back = map look_item w.back;
       are = ap (map look_item) w.are ∙ map-append look_item w.front (w.here ∷ w.back)
-          ∙ ap (λ y. map look_item w.front ++ y ∷ map look_item w.back) (same ∙ ap (λ q. silent (looked q w.here.word)) port);
+          ∙ ap (λ y. map look_item w.front ++ y ∷ map look_item w.back) (same ∙ ap (λ q. silent (Looked q w.here.word)) port);
       busy = busy;
       serial = ap (λ (r : LeftRoot). r.serial) w.is_root;
     }
@@ -133,7 +134,7 @@ behind more_ items p k w = record {
   word = w.word;
   front = more_ ++ w.front;
   back = w.back;
-  are = ap (λ t. more_ ++ t) w.are ∙ sym (append_assoc more_ w.front (silent (looked p w.word) ∷ w.back));
+  are = ap (λ t. more_ ++ t) w.are ∙ sym (append_assoc more_ w.front (silent (Looked p w.word) ∷ w.back));
   busy = w.busy;
   serial = w.serial;
 }
@@ -159,7 +160,7 @@ record ClosedAt (ports : List ℕ) (how : Passivation) (p k : ℕ) : Type 0 wher
   xs : List Item
   ys : List Item
   zs : List Item
-  are : passivation_items ports how ≡ xs ++ close_item p ∷ (ys ++ silent (looked p word) ∷ zs)
+  are : passivation_items ports how ≡ xs ++ close_item p ∷ (ys ++ silent (Looked p word) ∷ zs)
   busy : is_drained_word word ≡ false
   serial : serial_of word ≡ k
   none_reopened : list_any (reopens p) (filter_map event_of (lines ys)) ≡ false
@@ -189,7 +190,7 @@ none_looks test h [] = refl
 none_looks test h (f ∷ found) = by (is_drained_word f.word) (none_looks test h found)
   where
     by : (b : Bool) → any_line test (map look_item found) ≡ false
-        → any_line test (cond b (told (looked f.port f.word) (to.Drained f.port (serial_of f.word))) (silent (looked f.port f.word)) ∷ map look_item found) ≡ false
+        → any_line test (cond b (told (Looked f.port f.word) (to.Drained f.port (serial_of f.word))) (silent (Looked f.port f.word)) ∷ map look_item found) ≡ false
     by true rest = ap (λ b. b || any_line test (map look_item found)) (h f.port (serial_of f.word)) ∙ rest
     by false rest = rest
 
@@ -237,10 +238,10 @@ closed_at ports within how xs x ys is h =
     let more_ = map close_item c.back in
     let closes : map close_item ports ≡ shut ++ close_item p ∷ more_ =
     ap (map close_item) c.are ∙ map-append close_item c.front (c.here ∷ c.back) ∙ ap (λ q. shut ++ close_item q ∷ more_) same in
-    let region : map close_item ports ++ looks_region how ≡ shut ++ close_item p ∷ ((more_ ++ s.front) ++ silent (looked p s.word) ∷ s.back) =
+    let region : map close_item ports ++ looks_region how ≡ shut ++ close_item p ∷ ((more_ ++ s.front) ++ silent (Looked p s.word) ∷ s.back) =
     ap (λ t. t ++ looks_region how) closes ∙ append_assoc shut (close_item p ∷ more_) (looks_region how)
-    ∙ ap (λ t. shut ++ close_item p ∷ t) (ap (λ t. more_ ++ t) s.are ∙ sym (append_assoc more_ s.front (silent (looked p s.word) ∷ s.back))) in
-    let looks = λ (test : HistoryLine → Bool) (f : (q k : ℕ) → test (to.Drained q k) ≡ false). none_parts test s.front (silent (looked p s.word) ∷ s.back) (sym (ap (any_line test) s.are) ∙ none_region test f how) in
+    ∙ ap (λ t. shut ++ close_item p ∷ t) (ap (λ t. more_ ++ t) s.are ∙ sym (append_assoc more_ s.front (silent (Looked p s.word) ∷ s.back))) in
+    let looks = λ (test : HistoryLine → Bool) (f : (q k : ℕ) → test (to.Drained q k) ≡ false). none_parts test s.front (silent (Looked p s.word) ∷ s.back) (sym (ap (any_line test) s.are) ∙ none_region test f how) in
     record {
       word = s.word;
       xs = shut;
@@ -289,9 +290,9 @@ module _ (t : List Item) (m : List Moment) (ms : List Member) (fair : AreFair t)
     left = left_after how.first how.rounds
 
     regroup : (p k : ℕ) (c : ClosedAt ports how p k) (v : List Item)
-        → before ++ (opened ++ v) ≡ (before ++ said (to.Change name args) ∷ c.xs) ++ close_item p ∷ (c.ys ++ silent (looked p c.word) ∷ (c.zs ++ v))
+        → before ++ (opened ++ v) ≡ (before ++ said (to.Change name args) ∷ c.xs) ++ close_item p ∷ (c.ys ++ silent (Looked p c.word) ∷ (c.zs ++ v))
     regroup p k c v =
-        let look = silent (looked p c.word) in
+        let look = silent (Looked p c.word) in
         let inner : passivation_items ports how ++ v ≡ c.xs ++ close_item p ∷ (c.ys ++ look ∷ (c.zs ++ v)) =
         ap (λ u. u ++ v) c.are ∙ append_assoc c.xs (close_item p ∷ (c.ys ++ look ∷ c.zs)) v
         ∙ ap (λ u. c.xs ++ close_item p ∷ u) (append_assoc c.ys (look ∷ c.zs) v) in
@@ -306,7 +307,7 @@ module _ (t : List Item) (m : List Moment) (ms : List Member) (fair : AreFair t)
         let k = x.serial in
         let c = closed_at ports within how front x us is h in
         let v = said (to.Pending within) ∷ map root_item front in
-        let look = silent (looked p c.word) in
+        let look = silent (Looked p c.word) in
         let xs = before ++ said (to.Change name args) ∷ c.xs in
         let parts : t ≡ xs ++ close_item p ∷ (c.ys ++ look ∷ ((c.zs ++ v) ++ after)) =
         whole ∙ regroup p k c (v ++ after) ∙ ap (λ u. xs ++ close_item p ∷ (c.ys ++ look ∷ u)) (sym (append_assoc c.zs v after)) in
@@ -341,14 +342,14 @@ module _ (t : List Item) (m : List Moment) (ms : List Member) (fair : AreFair t)
           subst (λ u. EachAfter IsStoodAt u (map root_item back)) place (roots_stand (front ++ x ∷ []) back after (h ∙ sym (append_assoc front (x ∷ []) back)) more_),
         )
 
-  tried_stands : (before : List Item) (name : List ℕ) (args : List ℤ) (new : Graph) (within : ℕ) (moves : List Move) (u after : List Item) → IsTried before name args new within moves u
+  tried_stands : (before : List Item) (name : List ℕ) (args : List ℤ) (new : Graph) (within : ℕ) (moves : List Move) (u after : List Item) → AreChangeItems before name args new within moves u
       → t ≡ before ++ (u ++ after) → EachAfter IsStoodAt before u
   tried_stands before name args new within moves u after x whole = ⊎_elim
-      (λ (y : IsCommitted (before ++ opened_) x.old new x.plan left_ x.rest).
+      (λ (y : AreCommitItems (before ++ opened_) x.old new x.plan left_ x.rest).
       subst (EachAfter IsStoodAt before) (sym x.are)
       (all_none before (opened_ ++ x.rest) (none_both is_root opened_ x.rest none_opened
       (ap (any_line is_root) y.are ∙ none_both is_root (flat_map deed_items y.deeds) (said to.Commit ∷ []) (none_deeds is_root none_aside y.deeds) refl))))
-      (λ (y : (length x.how.rounds ≡ within) × IsGivenUp x.closed within left_ x.rest). given_up y.1)
+      (λ (y : (length x.how.rounds ≡ within) × AreAbandonItems x.closed within left_ x.rest). given_up y.1)
       x.ends
     where
       opened_ : List Item
@@ -360,7 +361,7 @@ module _ (t : List Item) (m : List Moment) (ms : List Member) (fair : AreFair t)
       none_opened : any_line is_root opened_ ≡ false
       none_opened = none_passivation is_root none_aside x.closed x.how
 
-      given_up : IsGivenUp x.closed within left_ x.rest → EachAfter IsStoodAt before u
+      given_up : AreAbandonItems x.closed within left_ x.rest → EachAfter IsStoodAt before u
       given_up y =
           let did_ = flat_map deed_items y.deeds in
           let pend = said (to.Pending within) ∷ [] in
@@ -397,9 +398,6 @@ module _ (t : List Item) (m : List Moment) (ms : List Member) (fair : AreFair t)
       subst (EachAfter IsStoodAt before) (sym d.are) (all_none before (silent_items es ++ said (to.Finish n (rounds_in d.scans)) ∷ []) (silent_line is_root es (to.Finish n (rounds_in d.scans))))
   piece_stands alone before show u after d whole = subst (EachAfter IsStoodAt before) (sym d.are) (all_none before (said (to.Show d.graph) ∷ []) refl)
 
-  items_pushed : (before : List Piece) (p : Piece) → items_of (before ++ p ∷ []) ≡ items_of before ++ p.items
-  items_pushed before p = flat_map-append (λ (q : Piece). q.items) before (p ∷ []) ∙ ap (λ v. items_of before ++ v) (append-nil p.items)
-
   pieces_stand : (alone : Bool) (before ps : List Piece) (stop : List Item) → EachAfter (λ qs (p : Piece). IsDone alone (items_of qs) p.statement p.items) before ps
       → t ≡ items_of before ++ (items_of ps ++ stop) → EachAfter IsStoodAt (items_of before) (items_of ps)
   pieces_stand alone before [] stop each whole = tt
@@ -435,10 +433,10 @@ module _ (t : List Item) (m : List Moment) (ms : List Member) (fair : AreFair t)
   no_root_look p w l false h = absurd (none-some l h)
 
   no_root_entry : (y : Entry) (l : HistoryLine) → tells y ≡ Some l → is_root l ≡ false
-  no_root_entry (did e) l h = no_root_event e l h
-  no_root_entry (looked p w) l h = no_root_look p w l (is_drained_word w) h
-  no_root_entry (sighted n es) l h = absurd (none-some l h)
-  no_root_entry (scanned b v) l h = absurd (none-some l h)
+  no_root_entry (Did e) l h = no_root_event e l h
+  no_root_entry (Looked p w) l h = no_root_look p w l (is_drained_word w) h
+  no_root_entry (Sighted n es) l h = absurd (none-some l h)
+  no_root_entry (Scanned b v) l h = absurd (none-some l h)
 
   both_so : (before u : List Item) → AreFair u → EachAfter IsStoodAt before u → EachAfter (λ ys y. IsFair y × IsStoodAt ys y) before u
   both_so before [] f each = tt

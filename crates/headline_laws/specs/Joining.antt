@@ -5,9 +5,9 @@ use Rattle.quiesce_core.specs.declared.event.Event.{Event}
 use Rattle.change_script.specs.declared.report.HistoryLine.{HistoryLine}
 use Rattle.change_law.specs.Members as members
 use Rattle.change_law.specs.Members.{Member, is_root}
-use Rattle.change_board.specs.Entries.{Entry}
-use Rattle.change_board.specs.Records as records
-use Rattle.change_board.specs.Records.{Moment}
+use Rattle.gate_records.specs.declared.entry.Entry.{Entry}
+use Rattle.gate_records.specs.Records as records
+use Rattle.gate_records.specs.Records.{Moment}
 use Rattle.change_board.specs.Transcripts as transcripts
 use Rattle.change_board.specs.Transcripts.{Item}
 

@@ -18,15 +18,16 @@ use Rattle.quiesce_core.specs.declared.event.Event.{Event}
 use Rattle.quiesce_core.specs.declared.event.Event.TheVariants as event
 use Rattle.change_law.specs.Members.{is_pending}
 use Rattle.change_law.specs.Statements.{Statement, start, change, run, finish, show}
-use Rattle.change_board.specs.Entries.{config_of}
+use Rattle.gate_records.specs.Entries.{config_of}
 use Rattle.change_board.specs.Scans.{Found, all_ports, ended_in, look_entry, ports_of}
 use Rattle.change_board.specs.Sights.{Sight}
 use Rattle.change_board.specs.Steps.{Deed}
 use Rattle.change_board.specs.Transcripts.{Item, said, entries, lines}
 use Rattle.change_engine.specs.Carrying.{deed_items, sight_item}
+use Rattle.change_engine.specs.Draining.{pending_items}
 use Rattle.change_engine.specs.Finishing.{EndsAfter, IsScanIn, Seen, all_entries, rounds_in}
 use Rattle.change_engine.specs.Passivating.{IsPassivation, Passivation, left_after, passivation_items, silent_items}
-use Rattle.change_engine.specs.Running.{RunsOn, ended_since, run_ends}
+use Rattle.change_engine.specs.Running.{RunsOn, ended_since, are_enough}
 use Rattle.change_engine.specs.declared.passivating.LeftRoot.{LeftRoot}
 
 -- the configuration behind items
@@ -37,14 +38,14 @@ abbrev pub events_of : List Deed → List Event
 events_of deeds = map (λ (d : Deed). d.event) deeds
 
 -- A start: all is made, linked and reopened, and committed; the graph stands then.
-pub record IsStarted (before : List Item) (name : List ℕ) (args : List ℤ) (g : Graph) (t : List Item) : Type 0 where
+pub record AreStartItems (before : List Item) (name : List ℕ) (args : List ℤ) (g : Graph) (t : List Item) : Type 0 where
   pub deeds : List Deed
   pub events_are : events_of deeds ≡ start_of g
   pub are : t ≡ said (to.Start name args) ∷ flat_map deed_items deeds ++ said to.Commit ∷ []
   pub stands : IsGraphOf (config_at (before ++ t)) g
 
 -- A change that found all ports drained, and took its steps; the new graph stands then.
-pub record IsCommitted (before : List Item) (old new : Graph) (plan : Plan) (left : List LeftRoot) (t : List Item)
+pub record AreCommitItems (before : List Item) (old new : Graph) (plan : Plan) (left : List LeftRoot) (t : List Item)
     : Type 0 where
   pub none_left : left ≡ []
   pub deeds : List Deed
@@ -53,13 +54,7 @@ pub record IsCommitted (before : List Item) (old new : Graph) (plan : Plan) (lef
   pub stands : IsGraphOf (config_at (before ++ t)) new
 
 -- One that found some not drained in the end, and reopened what it had closed.
-abbrev pub root_item : LeftRoot → Item
-root_item x = said (to.Root x.port x.serial)
-
-abbrev pub pending_items : ℕ → List LeftRoot → List Item
-pending_items within left = said (to.Pending within) ∷ map root_item left
-
-pub record IsGivenUp (closed : List ℕ) (within : ℕ) (left : List LeftRoot) (t : List Item) : Type 0 where
+pub record AreAbandonItems (closed : List ℕ) (within : ℕ) (left : List LeftRoot) (t : List Item) : Type 0 where
   pub some_left : 0 < length left
   pub deeds : List Deed
   pub events_are : events_of deeds ≡ map event.Reopen closed
@@ -69,7 +64,7 @@ pub record IsGivenUp (closed : List ℕ) (within : ℕ) (left : List LeftRoot) (
 abbrev pub opening_items : List ℕ → List ℤ → List ℕ → Passivation → List Item
 opening_items name args closed how = said (to.Change name args) ∷ passivation_items closed how
 
-pub record IsTried (before : List Item) (name : List ℕ) (args : List ℤ) (new : Graph) (within : ℕ) (moves : List Move)
+pub record AreChangeItems (before : List Item) (name : List ℕ) (args : List ℤ) (new : Graph) (within : ℕ) (moves : List Move)
     (t : List Item) : Type 0 where
   pub old : Graph
   pub is_old : IsGraphOf (config_at before) old
@@ -82,50 +77,50 @@ pub record IsTried (before : List Item) (name : List ℕ) (args : List ℤ) (new
   pub is_passivation : IsPassivation closed within how
   pub rest : List Item
   pub are : t ≡ opening_items name args closed how ++ rest
-  pub ends : IsCommitted (before ++ opening_items name args closed how) old new plan (left_after how.first how.rounds) rest
-      ⊎ ((length how.rounds ≡ within) × IsGivenUp closed within (left_after how.first how.rounds) rest)
+  pub ends : AreCommitItems (before ++ opening_items name args closed how) old new plan (left_after how.first how.rounds) rest
+      ⊎ ((length how.rounds ≡ within) × AreAbandonItems closed within (left_after how.first how.rounds) rest)
 
 abbrev pub skip_items : List ℕ → List ℤ → List Item
 skip_items name args = said (to.Change name args) ∷ said to.Skipped ∷ []
 
 -- A run: looks at all ports, and scans in which nodes may begin transactions, until the ports show so many more as ended, or a scan
 -- was the last; and the line that tells how many ended.
-pub record IsRunOn (alone : Bool) (c : Configuration) (k : ℕ) (t : List Item) : Type 0 where
+pub record AreRunItems (alone : Bool) (c : Configuration) (k : ℕ) (t : List Item) : Type 0 where
   pub looks : List Found
   pub at_ports : ports_of looks ≡ all_ports c
   pub scans : List Seen
   pub are_scans : AllByRecursion (IsScanIn alone c) scans
   pub go_on : Each (RunsOn alone k (ended_in looks)) scans
-  pub ends : run_ends alone k (ended_in looks) scans ≡ true
+  pub ends : are_enough alone k (ended_in looks) scans ≡ true
   pub ended : ℕ
   pub ended_is : ended ≡ ended_since (ended_in looks) scans
   pub are : t ≡ silent_items (map look_entry looks ++ all_entries scans) ++ said (to.Run k ended) ∷ []
 
 -- A finish: scans alone.
-pub record IsRunOut (alone : Bool) (c : Configuration) (n : ℕ) (t : List Item) : Type 0 where
+pub record AreFinishItems (alone : Bool) (c : Configuration) (n : ℕ) (t : List Item) : Type 0 where
   pub scans : List Seen
   pub few : length scans ≤ n
   pub are_scans : AllByRecursion (IsScanIn alone c) scans
   pub ends : EndsAfter alone n scans
   pub are : t ≡ silent_items (all_entries scans) ++ said (to.Finish n (rounds_in scans)) ∷ []
 
-pub record IsShown (c : Configuration) (t : List Item) : Type 0 where
+pub record AreShowItems (c : Configuration) (t : List Item) : Type 0 where
   pub graph : Graph
   pub stands : IsGraphOf c graph
   pub are : t ≡ said (to.Show graph) ∷ []
 
 -- The items of a statement, behind these items; a change is skipped exactly where one before it was given up.
 abbrev pub IsDone : Bool → List Item → Statement → List Item → Type 0
-IsDone alone before (start name args g) t = IsStarted before name args g t
+IsDone alone before (start name args g) t = AreStartItems before name args g t
 IsDone alone before (change name args g within moves) t =
     (list_any is_pending (lines before) ≡ true → t ≡ skip_items name args)
-    × (list_any is_pending (lines before) ≡ false → IsTried before name args g within moves t)
-IsDone alone before (run k) t = IsRunOn alone (config_at before) k t
-IsDone alone before (finish n) t = IsRunOut alone (config_at before) n t
-IsDone alone before show t = IsShown (config_at before) t
+    × (list_any is_pending (lines before) ≡ false → AreChangeItems before name args g within moves t)
+IsDone alone before (run k) t = AreRunItems alone (config_at before) k t
+IsDone alone before (finish n) t = AreFinishItems alone (config_at before) n t
+IsDone alone before show t = AreShowItems (config_at before) t
 
 -- A stop: the ports of all live nodes are closed, and all are found drained; and then all nodes may be sighted.
-pub record IsStopped (before t : List Item) : Type 0 where
+pub record AreStopItems (before t : List Item) : Type 0 where
   pub closed : List ℕ
   pub closed_are : closed ≡ live_ports (config_at before)
   pub within : ℕ
@@ -152,5 +147,5 @@ pub record IsTranscript (alone : Bool) (statements : List Statement) (t : List I
   pub stop : List Item
   pub statements_are : map (λ (p : Piece). p.statement) pieces ≡ statements
   pub done : AreDone alone pieces
-  pub stops : IsStopped (items_of pieces) stop
+  pub stops : AreStopItems (items_of pieces) stop
   pub are : items_of pieces ++ stop ≡ t

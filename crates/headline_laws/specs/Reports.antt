@@ -7,9 +7,9 @@ use Rattle.change_law.specs.Endings.{status_of}
 use Rattle.change_script.specs.declared.report.NodeLog.{NodeLog}
 use Rattle.change_script.specs.declared.report.Report.{Report}
 use Rattle.change_board.specs.Collecting.{IsEndOf, first_undone}
-use Rattle.change_board.specs.Records.{Moment, events}
+use Rattle.gate_records.specs.Records.{Moment, events}
 use Rattle.change_board.specs.Transcripts.{Item, lines}
-use Rattle.change_engine.specs.Ending.{unfinished_in}
+use Rattle.change_engine.specs.Ending.{unfinished_after}
 use Rattle.headline_laws.specs.Pieces.{config_at}
 
 -- what each node did in a run, by slot
@@ -27,5 +27,5 @@ pub record IsReport (t : List Item) (m : List Moment) (report : Report) : Type 0
   pub slots : map (λ (l : NodeLog). l.slot) report.logs ≡ range_with_len 0 (length (config_at t).slots)
   pub events_are : taken_in report ≡ logs_in m (length (config_at t).slots)
   pub ends : All (IsEndOf (config_at t) (taken_in report)) report.logs
-  pub unfinished_is : report.unfinished ≡ unfinished_in report.history (first_undone (config_at t) (taken_in report))
+  pub unfinished_is : report.unfinished ≡ unfinished_after report.history (first_undone (config_at t) (taken_in report))
   pub status_is : report.status ≡ status_of report.history report.unfinished

@@ -2,7 +2,7 @@
 
 ghost use Rattle.std.specs.Prelude.{◌≡◌, ℕ, Bool, List, All};
 ghost use Rattle.base.specs.Each.{Each};
-ghost use Rattle.change_board.specs.Records.{IsRecordOf, Moment};
+ghost use Rattle.gate_records.specs.Records.{IsRecordOf, Moment};
 ghost use Rattle.change_board.specs.Transcripts.{Item, entries, lines};
 ghost use Rattle.change_law.specs.Endings.{status_of};
 ghost use Rattle.change_law.specs.Follows.{Follows};

@@ -1,5 +1,5 @@
 -- What a change adds, once it is prepared, and carried out or given up.
-use Rattle.std.proofs.Common.{◌≡◌, ◌∙◌, ℕ, ◌<◌, Bool, true, false, List, [], ◌∷◌, ◌++◌, append_assoc, length, map, refl, sym, ap, subst, inl, inr, arith}
+use Rattle.std.proofs.Common.{◌≡◌, ◌∙◌, ℕ, ◌<◌, Bool, true, false, List, [], ◌∷◌, ◌++◌, append_assoc, length, map, refl, sym, ap, subst, inl, inr}
 use Rattle.std.specs.Prelude.{◌||◌, flat_map}
 use Rattle.std.specs.List.{sum_by}
 use Rattle.std.proofs.lemmas.Bool.{both_ways}
@@ -11,17 +11,17 @@ use Rattle.quiesce_core.specs.Live.{IsGraphOf}
 use Rattle.quiesce_core.specs.declared.event.Event.TheVariants as event
 use Rattle.change_script.specs.declared.report.HistoryLine.TheVariants as to
 use Rattle.change_law.specs.Scripts.{more_made}
-use Rattle.change_board.specs.Entries.{Entry}
+use Rattle.gate_records.specs.declared.entry.Entry.{Entry}
 use Rattle.change_board.specs.Steps.{Deed, Room}
 use Rattle.change_board.specs.Transcripts.{Item, said}
 use Rattle.change_engine.specs.Calls.{HasAbandoned, HasCommitted, HasLeft, HasPassivated, HasPrepared}
 use Rattle.change_engine.specs.Carrying.{deed_items}
-use Rattle.change_engine.specs.Draining as draining
 use Rattle.change_engine.specs.Engines.{IsIdle, IsOpen, IsPlanned, MayAbandon, MayCommit}
 use Rattle.change_engine.specs.Passivating.{passivation_items}
 use Rattle.change_engine.specs.declared.engine.Engine.{Engine}
 use Rattle.change_engine.specs.declared.passivating.LeftRoot.{LeftRoot}
-use Rattle.headline_laws.specs.Pieces.{config_at, opening_items, pending_items, root_item}
+use Rattle.change_engine.specs.Draining.{pending_items}
+use Rattle.headline_laws.specs.Pieces.{config_at, opening_items}
 use Rattle.headline_laws.proofs.ConfigLaws.{deeds_config, said_config}
 use Rattle.headline_laws.proofs.PendingLaws.{commit_none, config_opened, none_in_both, opening_none, pending_both, still_closed}
 use Rattle.headline_laws.proofs.RoomLaws.{closes_make, commit_makes}
@@ -29,15 +29,6 @@ use Rattle.script_runner.specs.Doing.{Carried, WentThrough, is_given_up}
 use Rattle.script_steps.specs.declared.steps.Replacement.{Replacement}
 use Rattle.script_steps.specs.declared.steps.Step.TheVariants as steps
 use Rattle.script_runner.proofs.DoingLemmas.{kept}
-
--- the roots that are left, as they are told
-said_roots : (xs : List LeftRoot) → map said (map draining.root_line xs) ≡ map root_item xs
-said_roots [] = refl
-said_roots (x ∷ xs) = ap (λ t. root_item x ∷ t) (said_roots xs)
-
-same_pending : (within : ℕ) (left : List LeftRoot) → 0 < length left → draining.pending_items within left ≡ pending_items within left
-same_pending within [] h = absurd (omega (arith, h))
-same_pending within (x ∷ left) h = ap (λ t. said (to.Pending within) ∷ root_item x ∷ t) (said_roots left)
 
 module _ {B : Type 0} (S : B → List Entry → Type 0) (R : B → Room) (alone : Bool) (e e1 f : Engine B) (c : Replacement) (prepared : HasPrepared S R e e1 c.name c.args c.plan c.graph)
     (t : List Item) (idle : IsIdle S e t) (none : is_given_up t ≡ false) (planned : IsPlanned e.graph c.graph c.moves c.plan (config_at t)) where
@@ -105,20 +96,18 @@ module _ {B : Type 0} (S : B → List Entry → Type 0) (R : B → Room) (alone 
   given_up mid left x y =
       let opened = opening_items c.name c.args x.closed x.how in
       let p = passivation_items x.closed x.how in
-      let told_ = draining.pending_items c.within left in
       let pend = pending_items c.within left in
       let did = flat_map deed_items y.deeds in
       let last = did ++ said to.Abandon ∷ [] in
-      let same_told : told_ ≡ pend = same_pending c.within left x.some_left in
-      let place : begun ++ (p ++ told_) ≡ (t ++ opened) ++ pend =
-      ap (λ u. begun ++ (p ++ u)) same_told ∙ append_assoc t (said (to.Change c.name c.args) ∷ []) (p ++ pend) ∙ sym (append_assoc t opened pend) in
-      let may_ : MayAbandon S R mid (begun ++ (p ++ told_)) c.moves c.plan c.graph = x.opens begun c.moves c.graph open_ in
-      let done_ : IsIdle S f ((begun ++ (p ++ told_)) ++ last) = y.goes (begun ++ (p ++ told_)) c.moves c.graph may_ in
+      let place : begun ++ (p ++ pend) ≡ (t ++ opened) ++ pend =
+      append_assoc t (said (to.Change c.name c.args) ∷ []) (p ++ pend) ∙ sym (append_assoc t opened pend) in
+      let may_ : MayAbandon S R mid (begun ++ (p ++ pend)) c.moves c.plan c.graph = x.opens begun c.moves c.graph open_ in
+      let done_ : IsIdle S f ((begun ++ (p ++ pend)) ++ last) = y.goes (begun ++ (p ++ pend)) c.moves c.graph may_ in
       let same_graph : mid.graph ≡ e.graph = x.graph_is ∙ prepared.graph_is in
       let are = same_closed x.closed (x.closed_are begun c.moves c.graph open_) in
       let events : map (λ (d : Deed). d.event) y.deeds ≡ map event.Reopen x.closed =
-      y.events_are (begun ++ (p ++ told_)) c.moves c.graph may_
-      ∙ ap (map event.Reopen) (ap (λ g. ports_to_close g c.plan (config_at (begun ++ (p ++ told_)))) same_graph
+      y.events_are (begun ++ (p ++ pend)) c.moves c.graph may_
+      ∙ ap (map event.Reopen) (ap (λ g. ports_to_close g c.plan (config_at (begun ++ (p ++ pend)))) same_graph
       ∙ ap (λ u. ports_to_close e.graph c.plan (config_at u)) place
       ∙ still_closed t c.name c.args x.closed x.how e.graph c.plan c.within left are) in
       let rest = pend ++ did ++ said to.Abandon ∷ [] in

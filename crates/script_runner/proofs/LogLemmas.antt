@@ -13,8 +13,8 @@ use Rattle.change_script.specs.declared.report.NodeLog.{NodeLog}
 use Rattle.change_script.specs.declared.report.Report.{Report}
 use Rattle.change_law.specs.Members.{made_slot}
 use Rattle.change_law.specs.Statements.{Statement}
-use Rattle.change_board.specs.Entries.{Entry}
-use Rattle.change_board.specs.Records.{IsRecord}
+use Rattle.gate_records.specs.declared.entry.Entry.{Entry}
+use Rattle.gate_records.specs.Records.{IsRecord}
 use Rattle.change_board.specs.Transcripts.{entries}
 use Rattle.headline_laws.specs.Pieces.{config_at}
 use Rattle.headline_laws.proofs.FollowLaws.{fair_transcript}

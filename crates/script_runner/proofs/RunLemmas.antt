@@ -3,7 +3,6 @@ use Rattle.std.proofs.Common.{◌≡◌, ◌∙◌, ◌-◌, ◌^◌, Bool, fals
 use Rattle.std.specs.Prelude.{All}
 use Rattle.std.specs.List.{range_with_len}
 use Rattle.std.proofs.lemmas.Bool.{or_parts}
-use Rattle.std.proofs.lemmas.Grind.{flat_map-append}
 use Rattle.std.proofs.lemmas.List.{append-nil, map-append}
 use Rattle.base.proofs.EachLaws.{each_pushed}
 use Rattle.commit_laws.specs.Steps.{change_all}
@@ -17,12 +16,13 @@ use Rattle.change_script.specs.declared.report.NodeLog.{NodeLog}
 use Rattle.change_script.specs.declared.report.Report.{Report}
 use Rattle.change_law.specs.Statements as statements
 use Rattle.change_board.specs.Collecting.{IsEndOf, first_undone}
-use Rattle.change_board.specs.Entries.{Entry, config_of}
+use Rattle.gate_records.specs.Entries.{config_of}
+use Rattle.gate_records.specs.declared.entry.Entry.{Entry}
 use Rattle.change_board.specs.Transcripts.{Item, entries, lines}
 use Rattle.change_engine.specs.Beginning.{start_items}
 use Rattle.change_engine.specs.Calls.{HasStarted, HasStopped, stop_items}
 use Rattle.change_engine.specs.Carrying.{sight_item}
-use Rattle.change_engine.specs.Ending.{unfinished_in}
+use Rattle.change_engine.specs.Ending.{unfinished_after}
 use Rattle.change_engine.specs.Engines.{IsIdle}
 use Rattle.change_engine.specs.declared.engine.Engine.{Engine}
 use Rattle.headline_laws.specs.Pieces.{AreDone, IsDone, Piece, config_at, items_of}
@@ -35,6 +35,7 @@ use Rattle.script_runner.specs.Ran.{HasCarriedOut}
 use Rattle.script_steps.specs.declared.steps.Start.{Start}
 use Rattle.script_steps.specs.declared.steps.Step.{Step}
 use Rattle.script_steps.specs.declared.steps.Step.TheVariants as steps
+use Rattle.headline_laws.proofs.FollowLaws.{items_pushed}
 
 -- where these steps were done, and the others are left
 pub record Progress {B : Type 0} (S : B → List Entry → Type 0) (alone : Bool) (start : Start) (done_ rest : List Step) (e : Engine B) (given_up : Bool) : Type 0 where
@@ -47,9 +48,6 @@ pub record Progress {B : Type 0} (S : B → List Entry → Type 0) (alone : Bool
   pub can : CanDoAll above rest
   pub graph : given_up ≡ false → e.graph ≡ above.graph
   pub made : given_up ≡ false → made_in (config_at (items_of pieces)) ≡ above.made
-
-items_pushed : (before : List Piece) (p : Piece) → items_of (before ++ p ∷ []) ≡ items_of before ++ p.items
-items_pushed before p = flat_map-append (λ (q : Piece). q.items) before (p ∷ []) ∙ ap (λ t. items_of before ++ t) (append-nil p.items)
 
 -- what stands above the next step
 record Forward {B : Type 0} (f : Engine B) (t : List Item) (rest : List Step) (given_up : Bool) : Type 0 where
@@ -165,6 +163,6 @@ module _ {B : Type 0} (S : B → List Entry → Type 0) (alone : Bool) (start : 
         logs_are = ap (map (λ (l : NodeLog). l.events)) x.logs_are ∙ x.collected.events;
         slots = ap (map (λ (l : NodeLog). l.slot)) x.logs_are ∙ x.collected.slots r here ∙ ap (λ (c : Configuration). range_with_len 0 (length c.slots)) same;
         ends = subst (λ ls. All (IsEndOf (config_at whole) (taken board)) ls) (sym x.logs_are) (subst (λ c. All (IsEndOf c (taken board)) x.given.logs) same (x.collected.ends r here));
-        unfinished_is = x.unfinished_is ∙ ap (unfinished_in report.history) (x.collected.undone r here ∙ ap (λ c. first_undone c (taken board)) same);
+        unfinished_is = x.unfinished_is ∙ ap (unfinished_after report.history) (x.collected.undone r here ∙ ap (λ c. first_undone c (taken board)) same);
         status_is = x.status_is;
       }

@@ -7,7 +7,7 @@ use Rattle.change_plan.specs.declared.plan_data.Plan.{Plan}
 use Rattle.plan_laws.specs.Committing.{made_in}
 use Rattle.change_law.specs.Members.{is_pending}
 use Rattle.change_law.specs.Scripts.{more_made}
-use Rattle.change_board.specs.Entries.{Entry}
+use Rattle.gate_records.specs.declared.entry.Entry.{Entry}
 use Rattle.change_board.specs.Steps.{Room}
 use Rattle.change_board.specs.Transcripts.{Item, lines}
 use Rattle.change_engine.specs.Calls.{HasAbandoned, HasCommitted, HasLeft, HasPassivated}

@@ -7,9 +7,9 @@ use Rattle.change_law.specs.Statements.{Statement}
 use Rattle.change_script.specs.declared.report.NodeLog.{NodeLog}
 use Rattle.change_script.specs.declared.report.Report.{Report}
 use Rattle.change_board.specs.Collecting.{IsEndOf, first_undone}
-use Rattle.change_board.specs.Entries.{Entry}
+use Rattle.gate_records.specs.declared.entry.Entry.{Entry}
 use Rattle.change_board.specs.Transcripts.{Item, entries, lines}
-use Rattle.change_engine.specs.Ending.{unfinished_in}
+use Rattle.change_engine.specs.Ending.{unfinished_after}
 use Rattle.headline_laws.specs.Pieces.{IsTranscript, config_at}
 use Rattle.headline_laws.specs.Reports.{taken_in}
 
@@ -24,5 +24,5 @@ pub record HasCarriedOut {B : Type 0} (S : B → List Entry → Type 0) (alone :
   pub logs_are : taken_in report ≡ taken board
   pub slots : map (λ (l : NodeLog). l.slot) report.logs ≡ range_with_len 0 (length (config_at transcript).slots)
   pub ends : All (IsEndOf (config_at transcript) (taken board)) report.logs
-  pub unfinished_is : report.unfinished ≡ unfinished_in report.history (first_undone (config_at transcript) (taken board))
+  pub unfinished_is : report.unfinished ≡ unfinished_after report.history (first_undone (config_at transcript) (taken board))
   pub status_is : report.status ≡ status_of report.history report.unfinished

@@ -5,7 +5,7 @@ use Rattle.std.specs.List.{cons_option, count_by, range_with_len}
 use Rattle.std.proofs.lemmas.Bool.{cases_Bool}
 use Rattle.std.proofs.lemmas.List.Sums.{sum_by-cons}
 use Rattle.base.proofs.SumLaws.{sum_le, sum_plus}
-use Rattle.change_board.specs.Looks.{ended_in_word}
+use Rattle.gate_records.specs.Looks.{ended_in_word}
 use Rattle.change_board.specs.Scans.{Found, all_ports, ended_in, ports_of}
 use Rattle.gate_word.specs.Phases.{is_idle}
 use Rattle.gate_word.specs.declared.phase.Phase.{Phase}

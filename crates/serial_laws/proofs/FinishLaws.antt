@@ -9,7 +9,7 @@ use Rattle.std.proofs.lemmas.List.Concat.{flat_map-append}
 use Rattle.std.proofs.lemmas.List.Elements.{filter_map-append}
 use Rattle.std.proofs.lemmas.List.Sums.{fold-append, sum_by-append, sum_by-cons}
 use Rattle.base.proofs.OptionLaws.{true_from_not}
-use Rattle.change_board.specs.Entries.{Entry}
+use Rattle.gate_records.specs.declared.entry.Entry.{Entry}
 use Rattle.change_board.specs.Scans.{look_entry}
 use Rattle.change_board.specs.Sights.{sight_entry}
 use Rattle.change_board.specs.Transcripts.{Item, said, entries, entry_in, lines}
@@ -19,7 +19,7 @@ use Rattle.change_law.specs.Opening.{fold_of_node}
 use Rattle.change_law.specs.Serial.{FinishesAt, finish_ends}
 use Rattle.change_law.specs.Statements.{finish}
 use Rattle.change_script.specs.declared.report.HistoryLine.TheVariants as to
-use Rattle.headline_laws.specs.Pieces.{IsRunOut, config_at}
+use Rattle.headline_laws.specs.Pieces.{AreFinishItems, config_at}
 use Rattle.quiesce_core.specs.State.{Configuration}
 use Rattle.step_board.specs.Playing.{play}
 use Rattle.step_board.specs.RunFacts.{round_goes_on}
@@ -29,10 +29,10 @@ use Rattle.turns.specs.Hints.{without_hints}
 use Rattle.turns.specs.Round.{FirstAt, Round, after_rounds, is_at_rest, round, stands_still}
 use Rattle.turns.specs.World.{World, state_of}
 use Rattle.serial_laws.specs.Behind.{AreByRounds, IsPlayedBehind, world_behind}
-use Rattle.serial_laws.proofs.LineLemmas.{lines_both, silent_lines}
 use Rattle.serial_laws.proofs.RestedLaws.{seen_at_rest}
 use Rattle.serial_laws.proofs.RunLaws.{scan_leads, true_scan}
-use Rattle.serial_laws.proofs.WorldLaws.{AreSo, behind_both, config_behind, front_of_rounds, reached_behind, sights_leave, silent_entries, so_behind, so_parts}
+use Rattle.serial_laws.proofs.WorldLaws.{AreSo, behind_both, config_behind, front_of_rounds, reached_behind, sights_leave, so_behind, so_parts}
+use Rattle.change_engine.proofs.ItemLaws.{lines_both, silent_entries, silent_lines}
 
 -- what hint_laws says of worlds at rest, and report_laws of what nodes have come to
 abbrev pub RestStays : Type 0
@@ -251,7 +251,7 @@ module _ (stays : RestStays) (folds : AreFolds) (w : World) (n : ℕ) (c : Confi
 
 -- ---- a finish
 
-module _ (stays : RestStays) (folds : AreFolds) (before t : List Item) (n : ℕ) (rounds : AreByRounds (before ++ t)) (x : IsRunOut true (config_at before) n t) where
+module _ (stays : RestStays) (folds : AreFolds) (before t : List Item) (n : ℕ) (rounds : AreByRounds (before ++ t)) (x : AreFinishItems true (config_at before) n t) where
   abbrev from : World
   from = world_behind before
 
@@ -277,5 +277,5 @@ module _ (stays : RestStays) (folds : AreFolds) (before t : List Item) (n : ℕ)
         ∙ ap (λ k. to.Finish n k ∷ []) over.told;
   }
 
-pub finish_played : RestStays → AreFolds → (before t : List Item) (n : ℕ) → AreByRounds (before ++ t) → IsRunOut true (config_at before) n t → IsPlayedBehind before (finish n) t
+pub finish_played : RestStays → AreFolds → (before t : List Item) (n : ℕ) → AreByRounds (before ++ t) → AreFinishItems true (config_at before) n t → IsPlayedBehind before (finish n) t
 finish_played stays folds before t n rounds x = played stays folds before t n rounds x

@@ -1,6 +1,5 @@
 pub mod WorldLaws
 pub mod WaitLaws
-mod LineLemmas
 pub mod PieceLaws
 pub mod CountLaws
 pub mod RunLaws

@@ -1,7 +1,6 @@
 -- Starts, changes, shows and stops on a board of one thread are those that rounds make.
-use Rattle.std.proofs.Common.{◌≡◌, ◌∙◌, ℕ, suc, zero, ◌+◌, ◌<◌, ◌≤◌, Bool, true, false, cond, List, [], ◌∷◌, ◌++◌, append_assoc, length, map, refl, sym, ap, subst, ⊎_elim, arith, lt-ltb}
-use Rattle.std.specs.Prelude.{ℤ, ◌||◌, ◌&&◌, ◌==◌, filter, flat_map}
-use Rattle.std.specs.List.{range_with_len}
+use Rattle.std.proofs.Common.{◌≡◌, ◌∙◌, ℕ, ◌+◌, ◌<◌, ◌≤◌, Bool, true, false, cond, List, [], ◌∷◌, ◌++◌, append_assoc, length, map, refl, sym, ap, subst, ⊎_elim, arith}
+use Rattle.std.specs.Prelude.{ℤ, ◌||◌, ◌==◌, flat_map}
 use Rattle.std.proofs.lemmas.Bool.{eq-eqb, ne_eqb}
 use Rattle.std.proofs.lemmas.List.{append-nil}
 use Rattle.change_board.specs.Transcripts.{Item, said, entries, lines}
@@ -16,30 +15,30 @@ use Rattle.change_law.specs.Statements.{change, show, start}
 use Rattle.change_plan.specs.declared.plan_data.Move.{Move}
 use Rattle.change_script.specs.declared.report.HistoryLine.{HistoryLine}
 use Rattle.change_script.specs.declared.report.HistoryLine.TheVariants as to
-use Rattle.commit_laws.specs.Steps as steps
 use Rattle.config_graph.specs.Graph.{Graph}
-use Rattle.headline_laws.specs.Pieces.{IsCommitted, IsDone, IsGivenUp, IsShown, IsStarted, IsStopped, IsTried, config_at, events_of, opening_items, pending_items, root_item}
+use Rattle.change_engine.specs.Draining.{pending_items, root_item}
+use Rattle.headline_laws.specs.Pieces.{AreCommitItems, IsDone, AreAbandonItems, AreShowItems, AreStartItems, AreStopItems, AreChangeItems, config_at, events_of, opening_items}
 use Rattle.plan_laws.specs.Commit.{commit_events, ports_to_close}
 use Rattle.quiesce_core.specs.Live.{IsGraphOf}
-use Rattle.quiesce_core.specs.Rules.{is_live_port}
-use Rattle.quiesce_core.specs.State.{Configuration, is_live, owner}
 use Rattle.quiesce_core.specs.declared.event.Event.{Event}
 use Rattle.quiesce_core.specs.declared.event.Event.TheVariants as event
 use Rattle.turns.specs.Round.{FirstAt, after_rounds}
 use Rattle.turns.specs.World.{World}
 use Rattle.serial_laws.specs.Behind.{AreByRounds, IsPlayedBehind, StopsBehind, world_behind}
-use Rattle.serial_laws.proofs.LineLemmas.{deed_lines, lines_both, passivation_lines, reopen_lines, root_lines, sight_lines}
-use Rattle.serial_laws.proofs.WaitLaws.{Passed, left_ports, looks_of, passes, seen_root, some_there}
+use Rattle.serial_laws.proofs.WaitLaws.{Passed, left_ports, passes, some_there}
 use Rattle.serial_laws.proofs.WorldLaws.{AreSo, behind_both, config_behind, front_of_rounds, play_both, play_deeds, play_items, play_sights, reached_behind, so_behind, so_items}
+use Rattle.change_engine.proofs.ItemLaws.{lines_both, sight_lines, carried_lines}
+use Rattle.change_engine.proofs.PassivationLaws.{looks_of, passivation_lines, seen_root, root_lines, reopen_lines}
+use Rattle.headline_laws.proofs.PortLaws.{live_ports_are}
 
 -- ---- starts and shows
 
-started : (before t : List Item) (name : List ℕ) (args : List ℤ) (g : Graph) → IsStarted before name args g t → IsPlayedBehind before (start name args g) t
+started : (before t : List Item) (name : List ℕ) (args : List ℤ) (g : Graph) → AreStartItems before name args g t → IsPlayedBehind before (start name args g) t
 started before t name args g x =
     let w = world_behind before in
     let did = flat_map deed_items x.deeds in (
       ap lines x.are ∙ lines_both (said (to.Start name args) ∷ did) (said to.Commit ∷ [])
-          ∙ ap (λ ls. to.Start name args ∷ ls ++ to.Commit ∷ []) (deed_lines x.deeds ∙ ap lines_of_events x.events_are),
+          ∙ ap (λ ls. to.Start name args ∷ ls ++ to.Commit ∷ []) (carried_lines x.deeds ∙ ap lines_of_events x.events_are),
       behind_both before t ∙ ap (play_items w) x.are ∙ play_both w (said (to.Start name args) ∷ did) (said to.Commit ∷ [])
           ∙ play_deeds w x.deeds ∙ ap (after_changes w) x.events_are,
     )
@@ -48,7 +47,7 @@ pub start_played : (alone : Bool) (before t : List Item) (name : List ℕ) (args
     → IsPlayedBehind before (start name args g) t
 start_played alone before t name args g d = started before t name args g d
 
-shown : (before t : List Item) → AreByRounds (before ++ t) → IsShown (config_at before) t → IsPlayedBehind before show t
+shown : (before t : List Item) → AreByRounds (before ++ t) → AreShowItems (config_at before) t → IsPlayedBehind before show t
 shown before t rounds x = (
   record {
     graph = x.graph;
@@ -71,7 +70,7 @@ not_none : (xs : List LeftRoot) → 0 < length xs → xs ≡ [] → ⊥
 not_none xs some e = let long = ap length e in omega (arith, some, long)
 
 module _ (before t : List Item) (rounds : AreByRounds (before ++ t)) (name : List ℕ) (args : List ℤ) (new : Graph) (within : ℕ) (moves : List Move)
-    (x : IsTried before name args new within moves t) where
+    (x : AreChangeItems before name args new within moves t) where
   abbrev w : World
   w = world_behind before
 
@@ -167,17 +166,17 @@ module _ (before t : List Item) (rounds : AreByRounds (before ++ t)) (name : Lis
     world = world ∙ sym (ap (λ c. after_changes v (cond c committed_events (map event.Reopen closed))) is);
   }
 
-  committed : IsCommitted (before ++ opened) x.old new x.plan left x.rest → ChangesTo w name args new within moves (lines t) (world_behind (before ++ t))
+  committed : AreCommitItems (before ++ opened) x.old new x.plan left x.rest → ChangesTo w name args new within moves (lines t) (world_behind (before ++ t))
   committed y =
       let did = flat_map deed_items y.deeds in
       let events : events_of y.deeds ≡ committed_events = y.events_are ∙ ap (commit_events x.old new x.plan) config_opened in
       let none : (length l.left == 0) ≡ true = ap (λ (ps : List ℕ). length ps == 0) (sym ports_left ∙ ap root_ports y.none_left) in
       ended true none (ap (λ b. b || n == within) none)
       (lines_here ∙ ap (λ ls. opening ++ (drained_lines l.seen ++ ls))
-      (ap lines y.are ∙ lines_both did (said to.Commit ∷ []) ∙ ap (λ ls. ls ++ to.Commit ∷ []) (deed_lines y.deeds ∙ ap lines_of_events events)))
+      (ap lines y.are ∙ lines_both did (said to.Commit ∷ []) ∙ ap (λ ls. ls ++ to.Commit ∷ []) (carried_lines y.deeds ∙ ap lines_of_events events)))
       (behind ∙ ap (play_items v) y.are ∙ play_both v did (said to.Commit ∷ []) ∙ play_deeds v y.deeds ∙ ap (after_changes v) events)
 
-  given_up : length x.how.rounds ≡ within → IsGivenUp closed within left x.rest → ChangesTo w name args new within moves (lines t) (world_behind (before ++ t))
+  given_up : length x.how.rounds ≡ within → AreAbandonItems closed within left x.rest → ChangesTo w name args new within moves (lines t) (world_behind (before ++ t))
   given_up all y =
       let did = flat_map deed_items y.deeds in
       let roots = pending_items within left in
@@ -186,7 +185,7 @@ module _ (before t : List Item) (rounds : AreByRounds (before ++ t)) (name : Lis
       ap lines y.are ∙ lines_both (roots ++ did) (said to.Abandon ∷ [])
       ∙ ap (λ ls. ls ++ to.Abandon ∷ []) (lines_both roots did
       ∙ ap (λ ls. to.Pending within ∷ ls ++ lines did) (root_lines left)
-      ∙ ap (λ ls. to.Pending within ∷ map root_line (map seen_root left) ++ ls) (deed_lines y.deeds ∙ ap lines_of_events y.events_are ∙ reopen_lines closed))
+      ∙ ap (λ ls. to.Pending within ∷ map root_line (map seen_root left) ++ ls) (carried_lines y.deeds ∙ ap lines_of_events y.events_are ∙ reopen_lines closed))
       ∙ ap (λ ds. pending_lines within ds closed) passed.waits.left in
       ended false some (ap (λ b. b || n == within) some ∙ eq-eqb n within (sym passed.waits.long ∙ all))
       (lines_here ∙ ap (λ ls. opening ++ (drained_lines l.seen ++ ls)) pending)
@@ -195,8 +194,8 @@ module _ (before t : List Item) (rounds : AreByRounds (before ++ t)) (name : Lis
 
   pub tried : ChangesTo w name args new within moves (lines t) (world_behind (before ++ t))
   tried = ⊎_elim
-      (λ (y : IsCommitted (before ++ opened) x.old new x.plan left x.rest). committed y)
-      (λ (y : (length x.how.rounds ≡ within) × IsGivenUp closed within left x.rest). given_up y.0 y.1)
+      (λ (y : AreCommitItems (before ++ opened) x.old new x.plan left x.rest). committed y)
+      (λ (y : (length x.how.rounds ≡ within) × AreAbandonItems closed within left x.rest). given_up y.0 y.1)
       x.ends
 
 pub change_played : (alone : Bool) (before t : List Item) (name : List ℕ) (args : List ℤ) (g : Graph) (within : ℕ) (moves : List Move) → AreByRounds (before ++ t)
@@ -208,18 +207,6 @@ change_played alone before t name args g within moves rounds d = (
 
 -- ---- the stop
 
--- the same ports, whether it is asked that a port was made or taken from those made
-filter_range : (p q : ℕ → Bool) (a n : ℕ) → ((i : ℕ) → a ≤ i → i < a + n → p i ≡ q i) → filter p (range_with_len a n) ≡ filter q (range_with_len a n)
-filter_range p q a zero h = refl
-filter_range p q a (suc n) h =
-    let here : p a ≡ q a = h a (omega arith) (omega arith) in
-    let later : filter p (range_with_len (a + 1) n) ≡ filter q (range_with_len (a + 1) n) = filter_range p q (a + 1) n (λ i l u. h i (omega arith) (omega arith)) in
-    ap (λ b. cond b (a ∷ filter p (range_with_len (a + 1) n)) (filter p (range_with_len (a + 1) n))) here
-    ∙ ap (λ xs. cond (q a) (a ∷ xs) xs) later
-
-live_ports_are : (c : Configuration) → steps.live_ports c ≡ live_ports c
-live_ports_are c = filter_range (is_live_port c) (λ p. is_live c (owner c p)) 0 (length c.gates) (λ i l u. ap (λ b. b && is_live c (owner c i)) (lt-ltb i (length c.gates) (omega (arith, u))))
-
 -- a stop that closes these ports
 record StopsWith (w : World) (ports : List ℕ) (lines : List HistoryLine) (v : World) : Type 0 where
   rounds : ℕ
@@ -227,7 +214,7 @@ record StopsWith (w : World) (ports : List ℕ) (lines : List HistoryLine) (v : 
   world : v ≡ after_rounds false (after_changes w (map event.Close ports)) rounds
   are : lines ≡ to.Stop ∷ map to.Close ports ++ drained_lines (looks_after (after_changes w (map event.Close ports)) ports rounds).seen
 
-module _ (before t : List Item) (rounds : AreByRounds (before ++ t)) (x : IsStopped before t) where
+module _ (before t : List Item) (rounds : AreByRounds (before ++ t)) (x : AreStopItems before t) where
   abbrev from : World
   from = world_behind before
 
@@ -277,5 +264,5 @@ module _ (before t : List Item) (rounds : AreByRounds (before ++ t)) (x : IsStop
     are = with_live.are;
   }
 
-pub stop_played : (before t : List Item) → AreByRounds (before ++ t) → IsStopped before t → StopsBehind before t
+pub stop_played : (before t : List Item) → AreByRounds (before ++ t) → AreStopItems before t → StopsBehind before t
 stop_played before t rounds x = stopped before t rounds x

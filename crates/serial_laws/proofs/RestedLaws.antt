@@ -4,7 +4,7 @@ use Rattle.std.specs.Prelude.{◌==◌, ◌&&◌, ◌||◌, find, option_map}
 use Rattle.std.specs.List.{list_all, range_with_len}
 use Rattle.std.proofs.lemmas.Bool.{both_ways, cases_Bool, false_from_ne_true}
 use Rattle.base.proofs.FindLaws.{find-map}
-use Rattle.change_board.specs.Looks.{is_idle_word}
+use Rattle.gate_records.specs.Looks.{is_idle_word}
 use Rattle.change_board.specs.Scans.{Found, SightsAll, all_ports, is_idle_if_live, is_seen_at_rest, live_nodes, ports_of}
 use Rattle.change_board.specs.Sights.{Sight, is_seen_done, seen_in, sight_entry}
 use Rattle.change_law.specs.Opening.{fold_of_node}

@@ -7,7 +7,7 @@ use Rattle.std.proofs.lemmas.List.{append-nil, length-append}
 use Rattle.std.proofs.lemmas.List.Elements.{filter_map-append}
 use Rattle.std.proofs.lemmas.List.Sums.{fold-append, fold_push}
 use Rattle.base.specs.Each.{EachAfter}
-use Rattle.change_board.specs.Entries.{Entry}
+use Rattle.gate_records.specs.declared.entry.Entry.{Entry}
 use Rattle.change_board.specs.Scans.{ended_in, look_entry}
 use Rattle.change_board.specs.Sights.{sight_entry}
 use Rattle.change_board.specs.Transcripts.{Item, said, entries, entry_in, lines}
@@ -17,7 +17,7 @@ use Rattle.change_engine.specs.Running as engine
 use Rattle.change_law.specs.Serial.{run_ends}
 use Rattle.change_law.specs.Statements.{run}
 use Rattle.change_script.specs.declared.report.HistoryLine.TheVariants as to
-use Rattle.headline_laws.specs.Pieces.{IsRunOn, config_at}
+use Rattle.headline_laws.specs.Pieces.{AreRunItems, config_at}
 use Rattle.quiesce_core.specs.State.{Configuration}
 use Rattle.step_board.specs.Playing.{play}
 use Rattle.step_board.specs.RunFacts.{round_goes_on}
@@ -26,9 +26,9 @@ use Rattle.turns.specs.Round.{after_rounds, ended, round, stands_still}
 use Rattle.turns.specs.World.{World}
 use Rattle.serial_laws.specs.Behind.{AreByRounds, IsPlayedBehind, world_behind}
 use Rattle.serial_laws.proofs.CountLaws.{all_ended}
-use Rattle.serial_laws.proofs.LineLemmas.{lines_both, silent_lines}
 use Rattle.serial_laws.proofs.WaitLaws.{AreTrue, true_entries}
-use Rattle.serial_laws.proofs.WorldLaws.{AreSo, behind_both, config_behind, front_of_rounds, looks_leave, reached_behind, sights_leave, silent_entries, so_behind, so_parts}
+use Rattle.serial_laws.proofs.WorldLaws.{AreSo, behind_both, config_behind, front_of_rounds, looks_leave, reached_behind, sights_leave, so_behind, so_parts}
+use Rattle.change_engine.proofs.ItemLaws.{lines_both, silent_entries, silent_lines}
 
 -- ---- a scan
 
@@ -60,7 +60,7 @@ module _ (w : World) (k : ℕ) (c : Configuration) (same : c ≡ w.machine.confi
     pub out : engine.is_out_after true b ≡ stands_still true w j
     pub before : (i : ℕ) → i < j → run_ends w k i ≡ false
 
-  ends_so : (b : List Seen) (j : ℕ) → Ran b j → engine.run_ends true k (ended w) b ≡ run_ends w k j
+  ends_so : (b : List Seen) (j : ℕ) → Ran b j → engine.are_enough true k (ended w) b ≡ run_ends w k j
   ends_so b j h = λ i. nat_le k (h.since i) || h.out i
 
   ran_next : (b : List Seen) (j : ℕ) (s : Seen) → Ran b j → engine.RunsOn true k (ended w) b s → IsScanIn true c s → AreSo (world j) (scan s) → Ran (b ++ s ∷ []) (suc j)
@@ -105,7 +105,7 @@ module _ (w : World) (k : ℕ) (c : Configuration) (same : c ≡ w.machine.confi
 nothing_since : (n : ℕ) → ◌≡◌ {A = ℕ} 0 (n - n)
 nothing_since n = omega arith
 
-module _ (before t : List Item) (k : ℕ) (rounds : AreByRounds (before ++ t)) (x : IsRunOn true (config_at before) k t) where
+module _ (before t : List Item) (k : ℕ) (rounds : AreByRounds (before ++ t)) (x : AreRunItems true (config_at before) k t) where
   abbrev from : World
   from = world_behind before
 
@@ -157,7 +157,7 @@ module _ (before t : List Item) (k : ℕ) (rounds : AreByRounds (before ++ t)) (
   ran = record {
     rounds = all.number;
     number = record {
-      holds = sym (ends_so from k c same_config x.scans all.number all.ran) ∙ subst (λ n. engine.run_ends true k n x.scans ≡ true) shown x.ends;
+      holds = sym (ends_so from k c same_config x.scans all.number all.ran) ∙ subst (λ n. engine.are_enough true k n x.scans ≡ true) shown x.ends;
       before = all.ran.before;
     };
     world = leads;
@@ -166,5 +166,5 @@ module _ (before t : List Item) (k : ℕ) (rounds : AreByRounds (before ++ t)) (
         (x.ended_is ∙ ap (λ n. engine.ended_since n x.scans) shown ∙ all.ran.since ∙ ap (λ (u : World). ended u - ended from) (sym leads));
   }
 
-pub run_played : (before t : List Item) (k : ℕ) → AreByRounds (before ++ t) → IsRunOn true (config_at before) k t → IsPlayedBehind before (run k) t
+pub run_played : (before t : List Item) (k : ℕ) → AreByRounds (before ++ t) → AreRunItems true (config_at before) k t → IsPlayedBehind before (run k) t
 run_played before t k rounds x = ran before t k rounds x

@@ -9,7 +9,7 @@ use Rattle.std.proofs.lemmas.List.{append-nil}
 use Rattle.std.proofs.lemmas.List.Elements.{All-cons, All-head, All-nil, All-tail}
 use Rattle.std.proofs.lemmas.List.Sums.{fold_push}
 use Rattle.base.specs.Each.{EachAfter}
-use Rattle.change_board.specs.Records.{IsRecordOf, Moment}
+use Rattle.gate_records.specs.Records.{IsRecordOf, Moment}
 use Rattle.change_board.specs.Transcripts.{Item, entries, lines}
 use Rattle.change_law.specs.Endings.{moved_to, status_of}
 use Rattle.change_law.specs.Lawful.{EndsAs, IsFolded, IsLawfulBy, is_unfinished, unfinished_of}
@@ -28,7 +28,7 @@ use Rattle.component_trait.specs.States.{NodeState}
 use Rattle.headline_laws.specs.Joining.{AreJoined}
 use Rattle.headline_laws.specs.Pieces.{IsDone, IsTranscript, Piece, config_at, items_of}
 use Rattle.headline_laws.specs.Reports.{IsReport, taken_in}
-use Rattle.headline_laws.proofs.FollowLaws.{fair_transcript}
+use Rattle.headline_laws.proofs.FollowLaws.{fair_transcript, items_pushed}
 use Rattle.headline_laws.proofs.LawfulLaws.{events_are}
 use Rattle.quiesce_core.specs.Runs.{done_by, state_after}
 use Rattle.quiesce_core.specs.State.{Configuration, State, is_live}
@@ -38,12 +38,13 @@ use Rattle.step_board.specs.Standing.{AreOfRounds}
 use Rattle.turn_laws.specs.Reached.{IsReached}
 use Rattle.turns.specs.Round.{is_done}
 use Rattle.turns.specs.World.{World, nowhere, state_of}
+use Rattle.step_board.proofs.SeeingLaws.{find_agree}
 use Rattle.serial_laws.specs.Behind.{AreByRounds, IsPlayedBehind, world_behind}
 use Rattle.serial_laws.proofs.FinishLaws.{AreFolds, RestStays, finish_played}
-use Rattle.serial_laws.proofs.LineLemmas.{lines_both}
 use Rattle.serial_laws.proofs.PieceLaws.{change_played, show_played, start_played, stop_played}
 use Rattle.serial_laws.proofs.RunLaws.{run_played}
 use Rattle.serial_laws.proofs.WorldLaws.{config_behind, front_of_rounds}
+use Rattle.change_engine.proofs.ItemLaws.{lines_both}
 
 -- ---- each statement
 
@@ -53,9 +54,6 @@ piece_played stays folds before t (change name args g within moves_) rounds d = 
 piece_played stays folds before t (run k) rounds d = run_played before t k rounds d
 piece_played stays folds before t (finish n) rounds d = finish_played stays folds before t n rounds d
 piece_played stays folds before t show rounds d = show_played true before t rounds d
-
-items_pushed : (before : List Piece) (p : Piece) → items_of (before ++ p ∷ []) ≡ items_of before ++ p.items
-items_pushed before p = flat_map-append (λ (q : Piece). q.items) before (p ∷ []) ∙ ap (λ t. items_of before ++ t) (append-nil p.items)
 
 -- ---- all of them
 
@@ -158,10 +156,6 @@ all_by : {A : Type 0} (P Q : A → Type 0) (xs : List A) → ((x : A) → P x �
 all_by P Q [] f h = All-nil Q
 all_by P Q (x ∷ xs) f h = All-cons Q x xs (f x (All-head P x xs h)) (all_by P Q xs f (All-tail P x xs h))
 
-find_agree : (f g : ℕ → Bool) (xs : List ℕ) → ((n : ℕ) → f n ≡ g n) → find f xs ≡ find g xs
-find_agree f g [] h = refl
-find_agree f g (x ∷ xs) h = ap (λ b. cond b (Some x) (find f xs)) (h x) ∙ ap (cond (g x) (Some x)) (find_agree f g xs h)
-
 both_or_none : (a b : Bool) → cond a b false ≡ (a && b)
 both_or_none true b = refl
 both_or_none false b = refl
@@ -196,7 +190,7 @@ module _ (join : JoinsMembers) (lawful : IsLawfulWhereJoined) (stays : RestStays
   abbrev w : World
   w = world_behind t
 
-  plays : facts.Plays (entries t) w
+  plays : facts.EndsIn (entries t) w
   plays = facts.rounds_play (entries t) of_rounds.rounds
 
   config : config_at t ≡ w.machine.config

@@ -3,9 +3,7 @@ use Rattle.std.proofs.Common.{◌≡◌, ◌∙◌, ℕ, ◌<◌, suc, Bool, tru
 use Rattle.std.specs.Prelude.{⊤, ◌==◌, filter, flat_map}
 use Rattle.std.proofs.lemmas.Bool.{cases_eq, ne_eqb}
 use Rattle.std.proofs.lemmas.List.{append-nil, length-append, map-append}
-use Rattle.std.proofs.lemmas.List.Sums.{fold_push}
 use Rattle.base.specs.Each.{EachAfter}
-use Rattle.change_board.specs.Looks.{is_drained_word, serial_of}
 use Rattle.change_board.specs.Scans.{Found, look_entry, ports_of, scan_entries}
 use Rattle.change_board.specs.Transcripts.{entries}
 use Rattle.change_engine.specs.Passivating.{IsPassivation, IsRound, Passivation, Round, close_item, is_busy, left_after, look_item, passivation_items, root_of, root_ports, roots_of, round_items, silent_items}
@@ -26,23 +24,12 @@ use Rattle.turn_laws.specs.Reached.{IsReached}
 use Rattle.turns.specs.Round.{after_rounds}
 use Rattle.turns.specs.World.{World}
 use Rattle.serial_laws.proofs.WorldLaws.{AreSo, look_entries, play_both, play_closes, play_items, play_looks, play_scan, reach_all, so_items}
+use Rattle.change_engine.proofs.PassivationLaws.{is_found, found_seen, drained_in, left_more, seen_root, drained_by}
 
 -- ---- what looks find
 
-abbrev pub is_found : Found → Bool
-is_found f = is_drained_word f.word
-
 abbrev pub seen_with : ℕ → ℕ → Seen
 seen_with p k = record { port = p; serial = k }
-
-abbrev pub found_seen : Found → Seen
-found_seen f = seen_with f.port (serial_of f.word)
-
-abbrev pub drained_in : List Found → List Seen
-drained_in found = map found_seen (filter is_found found)
-
-abbrev pub seen_root : LeftRoot → Seen
-seen_root x = seen_with x.port x.serial
 
 -- the looks loaded the words that ports have in a world
 abbrev pub AreTrue : World → List Found → Type 0
@@ -95,9 +82,6 @@ module _ (w : World) (r : IsReached w) where
 
 -- ---- round after round
 
-left_more : (first : List Found) (rounds : List Round) (w : Round) → left_after first (rounds ++ w ∷ []) ≡ roots_of w.found
-left_more first rounds w = fold_push (λ left (v : Round). roots_of v.found) (roots_of first) rounds w
-
 ports_of_roots : (xs : List LeftRoot) → root_ports xs ≡ map (λ (d : Seen). d.port) (map seen_root xs)
 ports_of_roots [] = refl
 ports_of_roots (x ∷ xs) = ap (λ ps. x.port ∷ ps) (ports_of_roots xs)
@@ -112,13 +96,6 @@ not_zero n = ne_eqb (suc n) 0 (λ e. omega (arith, e))
 pub some_there : (xs : List LeftRoot) → (xs ≡ [] → ⊥) → (length (root_ports xs) == 0) ≡ false
 some_there [] h = absurd (h refl)
 some_there (x ∷ xs) h = not_zero (length (root_ports xs))
-
-abbrev pub drained_by : Round → List Seen
-drained_by w = drained_in w.found
-
--- the looks of a passivation: what each found drained
-abbrev pub looks_of : Passivation → List (List Seen)
-looks_of how = drained_in how.first ∷ map drained_by how.rounds
 
 -- so many rounds after this world
 pub record Waits (v : World) (ports : List ℕ) (first : List Found) (b : List Round) (j : ℕ) : Type 0 where

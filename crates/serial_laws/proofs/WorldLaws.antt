@@ -3,13 +3,13 @@ use Rattle.std.proofs.Common.{◌≡◌, ◌∙◌, Bool, true, false, cond, Lis
 use Rattle.std.specs.Prelude.{⊤, ℕ, flat_map, fold}
 use Rattle.std.specs.List.{cons_option}
 use Rattle.std.specs.Option.{option_map_or}
-use Rattle.std.proofs.lemmas.List.Elements.{filter_map-append}
 use Rattle.std.proofs.lemmas.List.Sums.{fold-append}
 use Rattle.base.proofs.EachLaws.{each_parts}
 use Rattle.base.specs.Each.{EachAfter}
-use Rattle.change_board.specs.Entries.{Entry, did, looked, sighted, scanned}
+use Rattle.gate_records.specs.declared.entry.Entry.{Entry}
+use Rattle.gate_records.specs.declared.entry.Entry.TheVariants.{Did, Looked, Sighted, Scanned}
 use Rattle.change_board.specs.Scans.{Found, look_entry, scan_entries}
-use Rattle.change_board.specs.Looks.{is_drained_word, serial_of}
+use Rattle.gate_records.specs.Looks.{is_drained_word, serial_of}
 use Rattle.change_board.specs.Sights.{Sight, sight_entry}
 use Rattle.change_board.specs.Steps.{Deed}
 use Rattle.change_board.specs.Transcripts.{Item, silent, told, entries, entry_in}
@@ -22,19 +22,17 @@ use Rattle.change_script.specs.declared.report.HistoryLine.TheVariants as to
 use Rattle.headline_laws.specs.Pieces.{config_at, events_of}
 use Rattle.quiesce_core.specs.declared.event.Event.{Event}
 use Rattle.quiesce_core.specs.declared.event.Event.TheVariants.{Close}
-use Rattle.step_board.specs.Playing.{IsOfRounds, IsSoAt, IsSoIn, play, played}
+use Rattle.step_board.specs.Playing.{HasWholeRounds, IsSoAt, IsSoIn, play, played}
 use Rattle.step_board.specs.RunFacts.{config_here, played_more, round_goes_on, rounds_play}
 use Rattle.turn_laws.specs.Reached.{IsReached}
 use Rattle.turns.specs.Round.{round}
 use Rattle.turns.specs.World.{World, nowhere, with_event}
 use Rattle.serial_laws.specs.Behind.{AreByRounds, world_behind}
+use Rattle.change_engine.proofs.ItemLaws.{entries_both, silent_entries}
 
 -- the world behind items that begin in this one
 abbrev pub play_items : World → List Item → World
 play_items w t = fold play w (entries t)
-
-entries_both : (t u : List Item) → entries (t ++ u) ≡ entries t ++ entries u
-entries_both t u = filter_map-append entry_in t u
 
 pub play_both : (w : World) (t u : List Item) → play_items w (t ++ u) ≡ play_items (play_items w t) u
 play_both w t u = ap (fold play w) (entries_both t u) ∙ fold-append play w (entries t) (entries u)
@@ -59,8 +57,8 @@ so_parts w (x ∷ xs) ys h = let p = so_parts (play w x) xs ys h.1 in ((h.0, p.0
 pub so_items : (w : World) (t u : List Item) → AreSo w (entries (t ++ u)) → AreSo w (entries t) × AreSo (play_items w t) (entries u)
 so_items w t u h = so_parts w (entries t) (entries u) (subst (AreSo w) (entries_both t u) h)
 
-rounds_parts : (t u : List Item) → AreByRounds (t ++ u) → IsOfRounds (entries t) × EachAfter IsSoAt (entries t) (entries u)
-rounds_parts t u h = each_parts IsSoAt [] (entries t) (entries u) (subst IsOfRounds (entries_both t u) h)
+rounds_parts : (t u : List Item) → AreByRounds (t ++ u) → HasWholeRounds (entries t) × EachAfter IsSoAt (entries t) (entries u)
+rounds_parts t u h = each_parts IsSoAt [] (entries t) (entries u) (subst HasWholeRounds (entries_both t u) h)
 
 pub front_of_rounds : (t u : List Item) → AreByRounds (t ++ u) → AreByRounds t
 front_of_rounds t u h = (rounds_parts t u h).0
@@ -71,10 +69,10 @@ so_behind t u h = so_after (entries t) (entries u) (rounds_parts t u h).1
 -- ---- the worlds are reached, and have the configurations that the items make
 
 reach_one : (w : World) (x : Entry) → IsReached w → IsSoIn w x → IsReached (play w x)
-reach_one w (did e) r so = IsReached.by_change w e r so.0 so.1
-reach_one w (looked p v) r so = r
-reach_one w (sighted n es) r so = r
-reach_one w (scanned b m) r so = (round_goes_on w b r).reached
+reach_one w (Did e) r so = IsReached.by_change w e r so.0 so.1
+reach_one w (Looked p v) r so = r
+reach_one w (Sighted n es) r so = r
+reach_one w (Scanned b m) r so = (round_goes_on w b r).reached
 
 pub reach_all : (w : World) (xs : List Entry) → IsReached w → AreSo w xs → IsReached (fold play w xs)
 reach_all w [] r so = r
@@ -88,7 +86,7 @@ config_behind t h = config_here (entries t) (played (entries t)) (rounds_play (e
 
 -- ---- what a change does
 
-one_event : (e : Event) (o : Option HistoryLine) (xs : List Entry) → cons_option (entry_in (option_map_or (told (did e)) o (silent (did e)))) xs ≡ did e ∷ xs
+one_event : (e : Event) (o : Option HistoryLine) (xs : List Entry) → cons_option (entry_in (option_map_or (told (Did e)) o (silent (Did e)))) xs ≡ Did e ∷ xs
 one_event e None xs = refl
 one_event e (Some l) xs = refl
 
@@ -112,7 +110,7 @@ play_closes w (p ∷ ps) = play_closes (with_event w (Close p)) ps
 -- ---- looks and scans
 
 one_look : (p v : ℕ) (l : HistoryLine) (b : Bool) (xs : List Entry)
-    → cons_option (entry_in (cond b (told (looked p v) l) (silent (looked p v)))) xs ≡ looked p v ∷ xs
+    → cons_option (entry_in (cond b (told (Looked p v) l) (silent (Looked p v)))) xs ≡ Looked p v ∷ xs
 one_look p v l true xs = refl
 one_look p v l false xs = refl
 
@@ -120,7 +118,7 @@ pub look_entries : (fs : List Found) → entries (map look_item fs) ≡ map look
 look_entries [] = refl
 look_entries (f ∷ fs) =
     one_look f.port f.word (to.Drained f.port (serial_of f.word)) (is_drained_word f.word) (entries (map look_item fs))
-    ∙ ap (λ xs. looked f.port f.word ∷ xs) (look_entries fs)
+    ∙ ap (λ xs. Looked f.port f.word ∷ xs) (look_entries fs)
 
 pub looks_leave : (w : World) (fs : List Found) → fold play w (map look_entry fs) ≡ w
 looks_leave w [] = refl
@@ -132,10 +130,6 @@ play_looks w fs = ap (fold play w) (look_entries fs) ∙ looks_leave w fs
 pub sights_leave : (w : World) (ss : List Sight) → fold play w (map sight_entry ss) ≡ w
 sights_leave w [] = refl
 sights_leave w (s ∷ ss) = sights_leave w ss
-
-pub silent_entries : (es : List Entry) → entries (silent_items es) ≡ es
-silent_entries [] = refl
-silent_entries (e ∷ es) = ap (λ xs. e ∷ xs) (silent_entries es)
 
 pub play_scan : (w : World) (begins moved : Bool) (ss : List Sight) (fs : List Found)
     → play_items w (silent_items (scan_entries begins moved ss fs)) ≡ (round begins w).world

@@ -3,7 +3,7 @@ use Rattle.std.specs.Prelude.{List, ◌++◌}
 use Rattle.change_board.specs.Transcripts.{Item, entries, lines}
 use Rattle.change_law.specs.Serial.{Plays, StopsAt}
 use Rattle.change_law.specs.Statements.{Statement}
-use Rattle.step_board.specs.Playing.{IsOfRounds, played}
+use Rattle.step_board.specs.Playing.{HasWholeRounds, played}
 use Rattle.turns.specs.World.{World}
 
 -- the world behind these items
@@ -12,7 +12,7 @@ world_behind t = played (entries t)
 
 -- nodes took turns in whole rounds alone
 abbrev pub AreByRounds : List Item → Type 0
-AreByRounds t = IsOfRounds (entries t)
+AreByRounds t = HasWholeRounds (entries t)
 
 -- rounds make these items of the statement, behind these
 abbrev pub IsPlayedBehind : List Item → Statement → List Item → Type 0

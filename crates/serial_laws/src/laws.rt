@@ -1,14 +1,14 @@
 //! Laws of transcripts whose records are of rounds.
 
 ghost use Rattle.std.specs.Prelude.{ℕ, ℤ, Bool, true, List, ◌++◌};
-ghost use Rattle.change_board.specs.Records.{Moment};
+ghost use Rattle.gate_records.specs.Records.{Moment};
 ghost use Rattle.change_board.specs.Transcripts.{Item, entries};
 ghost use Rattle.change_law.specs.Serial.{Serial};
 ghost use Rattle.change_law.specs.Statements.{Statement, change, finish, run, show, start};
 ghost use Rattle.change_plan.specs.declared.plan_data.Move.{Move};
 ghost use Rattle.change_script.specs.declared.report.Report.{Report};
 ghost use Rattle.config_graph.specs.Graph.{Graph};
-ghost use Rattle.headline_laws.specs.Pieces.{IsDone, IsStopped, IsTranscript};
+ghost use Rattle.headline_laws.specs.Pieces.{IsDone, AreStopItems, IsTranscript};
 ghost use Rattle.headline_laws.specs.Reports.{IsReport, taken_in};
 ghost use Rattle.serial_laws.specs.Behind.{AreByRounds, IsPlayedBehind, StopsBehind};
 ghost use Rattle.step_board.specs.Standing.{AreOfRounds};
@@ -54,7 +54,7 @@ pub fn finishes_are_played()
 
 /// And those of the stop: it waits for as many rounds, until each port that it closed is drained.
 pub fn stops_are_played()
-    ensures stop { (before t : List Item) → AreByRounds (before ++ t) → IsStopped before t → StopsBehind before t }
+    ensures stop { (before t : List Item) → AreByRounds (before ++ t) → AreStopItems before t → StopsBehind before t }
 {}
 
 /// The report is the one that rounds have, where the logs are what the rounds of the record come to.

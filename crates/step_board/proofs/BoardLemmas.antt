@@ -7,8 +7,9 @@ use Rattle.std.proofs.lemmas.List.Elements.{All-weaker}
 use Rattle.std.proofs.lemmas.List.FromFn.{length-map-range_with_len}
 use Rattle.std.proofs.lemmas.Option.{slice_get-get_or}
 use Rattle.change_board.specs.Collecting.{IsEndOf, first_undone, heir_of}
-use Rattle.change_board.specs.Entries.{Entry, config_of}
-use Rattle.change_board.specs.Records.{Adds}
+use Rattle.gate_records.specs.Entries.{config_of}
+use Rattle.gate_records.specs.declared.entry.Entry.{Entry}
+use Rattle.gate_records.specs.Records.{Adds}
 use Rattle.change_board.specs.Scans.{SightsAll, all_ports, is_idle_if_live, is_seen_at_rest, live_nodes, look_entry, ports_of, scan_entries}
 use Rattle.change_board.specs.Sights.{Sight, is_seen_done, seen_in, sight_entry}
 use Rattle.change_law.specs.Lawful.{EndsAs}

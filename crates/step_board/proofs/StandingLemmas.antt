@@ -5,9 +5,11 @@ use Rattle.std.specs.List.{range_with_len}
 use Rattle.std.proofs.lemmas.List.{append-nil}
 use Rattle.base.proofs.EachLaws.{each_joined}
 use Rattle.base.specs.Each.{EachAfter}
-use Rattle.change_board.proofs.NoteLaws.{may_is_allowed}
-use Rattle.change_board.specs.Entries.{Entry, did, looked, scanned, config_of}
-use Rattle.change_board.specs.Records.{Adds, May, events}
+use Rattle.gate_records.proofs.NoteLaws.{may_is_allowed}
+use Rattle.gate_records.specs.Entries.{config_of}
+use Rattle.gate_records.specs.declared.entry.Entry.{Entry}
+use Rattle.gate_records.specs.declared.entry.Entry.TheVariants.{Did, Looked, Scanned}
+use Rattle.gate_records.specs.Records.{Adds, May, events}
 use Rattle.config_graph.specs.declared.node.Node.{Node}
 use Rattle.quiesce_core.specs.Doers.{is_of_change}
 use Rattle.quiesce_core.specs.Rules.{denial}
@@ -19,13 +21,13 @@ use Rattle.quiesce_core.specs.declared.event.Event.TheVariants.{Make}
 use Rattle.turns.specs.Round.{round}
 use Rattle.turns.specs.World.{World, with_event}
 use Rattle.step_board.specs.Going.{GaveTurns}
-use Rattle.step_board.specs.Playing.{IsOfRounds, IsSoAt, IsSoIn, play, played}
+use Rattle.step_board.specs.Playing.{HasWholeRounds, IsSoAt, IsSoIn, play, played}
 use Rattle.step_board.specs.Standing.{AreParts, StandsFor}
 use Rattle.step_board.specs.Agreeing.{config_at}
 use Rattle.step_board.specs.RunFacts.{config_here, played_more, rounds_more, rounds_play, state_here}
 
 -- what a change may do by the record no rule denies
-may_here : (r : List Entry) (e : Event) → IsOfRounds r → May r e → denial (played r).machine e ≡ None
+may_here : (r : List Entry) (e : Event) → HasWholeRounds r → May r e → denial (played r).machine e ≡ None
 may_here r e so may_ =
     let p = rounds_play r so in ap (λ s. denial s e) (sym (state_here r (played r) p)) ∙ may_is_allowed r p.moments e p.is_of may_
 
@@ -74,14 +76,14 @@ module _ {B : Type 0} (S : B → World → Type 0) where
     allowed_there b e w here s =
         ap (λ m. denial m e) (machine_is b w s ∙ sym (machine_is b (played here.0) here.1.shows)) ∙ may_here here.0 e here.1.rounds here.2
 
-    stands_more : (a b : B) (r : List Entry) (e : Event) → StandsFor S a r → is_of_change e ≡ true → denial (played r).machine e ≡ None → S b (with_event (played r) e) → StandsFor S b (r ++ did e ∷ [])
+    stands_more : (a b : B) (r : List Entry) (e : Event) → StandsFor S a r → is_of_change e ≡ true → denial (played r).machine e ≡ None → S b (with_event (played r) e) → StandsFor S b (r ++ Did e ∷ [])
     stands_more a b r e h change allowed shows = record {
-      rounds = rounds_more r (did e) h.rounds (change, allowed);
-      shows = subst (S b) (sym (played_more r (did e))) shows;
+      rounds = rounds_more r (Did e) h.rounds (change, allowed);
+      shows = subst (S b) (sym (played_more r (Did e))) shows;
     }
 
     pub did_adds : (a b : B) (e : Event) → is_of_change e ≡ true → ((r : List Entry) × StandsFor S a r × May r e) → ((w : World) → S a w → S b (with_event w e))
-        → Adds (StandsFor S) a b (did e ∷ [])
+        → Adds (StandsFor S) a b (Did e ∷ [])
     did_adds a b e change here then_ r h = stands_more a b r e h change (allowed_there a e (played r) here h.shows) (then_ (played r) h.shows)
 
     abbrev next_make : Configuration → Node → Option ℕ → Event
@@ -89,13 +91,13 @@ module _ {B : Type 0} (S : B → World → Type 0) where
 
     pub made_adds : (a b : B) (node : Node) (from : Option ℕ) → ((r : List Entry) × StandsFor S a r × May r (Make (length (config_of r).slots) node from))
         → ((w : World) → S a w → S b (with_event w (Make (length w.machine.config.slots) node from)))
-        → (r : List Entry) → StandsFor S a r → StandsFor S b (r ++ did (Make (length (config_of r).slots) node from) ∷ [])
+        → (r : List Entry) → StandsFor S a r → StandsFor S b (r ++ Did (Make (length (config_of r).slots) node from) ∷ [])
     made_adds a b node from here then_ r h =
         let here_config = config_at S machine machine_is a here.0 here.1 in
         let e = next_make (machine a).config node from in
         let may_ : May here.0 e = subst (λ c. May here.0 (next_make c node from)) here_config here.2 in
         let at_world = ap (λ (s : State). s.config) (machine_is a (played r) h.shows) in
-        subst (λ c. StandsFor S b (r ++ did (next_make c node from) ∷ [])) (sym (config_at S machine machine_is a r h))
+        subst (λ c. StandsFor S b (r ++ Did (next_make c node from) ∷ [])) (sym (config_at S machine machine_is a r h))
         (stands_more a b r e h refl (allowed_there a e (played r) (here.0, here.1, may_) h.shows)
         (subst (λ c. S b (with_event (played r) (next_make c node from))) at_world (then_ (played r) h.shows)))
 
@@ -109,23 +111,23 @@ module _ {B : Type 0} (S : B → World → Type 0) where
               (subst (λ c. May here.0 (next_make c node from)) (config_here here.0 w (rounds_play here.0 here.1.rounds)) here.2),
         )
 
-    pub look_adds : (a : B) (p : ℕ) → Adds (StandsFor S) a a (looked p (word_of (machine a) p) ∷ [])
+    pub look_adds : (a : B) (p : ℕ) → Adds (StandsFor S) a a (Looked p (word_of (machine a) p) ∷ [])
     look_adds a p r h = record {
-      rounds = rounds_more r (looked p (word_of (machine a) p)) h.rounds (ap (λ s. word_of s p) (sym (machine_is a (played r) h.shows)));
-      shows = subst (S a) (sym (played_more r (looked p (word_of (machine a) p)))) h.shows;
+      rounds = rounds_more r (Looked p (word_of (machine a) p)) h.rounds (ap (λ s. word_of s p) (sym (machine_is a (played r) h.shows)));
+      shows = subst (S a) (sym (played_more r (Looked p (word_of (machine a) p)))) h.shows;
     }
 
     -- the mark of a scan, and what was seen then
     pub scan_adds : (a b : B) (begins moved : Bool) (xs : List Entry) → GaveTurns S a b begins moved → ((w : World) → S b w → AreSeen w xs)
-        → Adds (StandsFor S) a b (scanned begins moved ∷ xs)
+        → Adds (StandsFor S) a b (Scanned begins moved ∷ xs)
     scan_adds a b begins moved xs gave_ seen r h =
         let gave = gave_ (played r) h.shows in
         let v = (round begins (played r)).world in
-        let marked = r ++ scanned begins moved ∷ [] in
-        let at = played_more r (scanned begins moved) in
+        let marked = r ++ Scanned begins moved ∷ [] in
+        let at = played_more r (Scanned begins moved) in
         let rest = seen_after marked xs v at (seen v gave.shows) in
-        subst (StandsFor S b) (append_assoc r (scanned begins moved ∷ []) xs)
+        subst (StandsFor S b) (append_assoc r (Scanned begins moved ∷ []) xs)
         (record {
-          rounds = each_joined IsSoAt [] marked xs (rounds_more r (scanned begins moved) h.rounds gave.moved_is) rest.0;
+          rounds = each_joined IsSoAt [] marked xs (rounds_more r (Scanned begins moved) h.rounds gave.moved_is) rest.0;
           shows = subst (S b) (sym rest.1) gave.shows;
         })

@@ -1,7 +1,8 @@
 -- A board's records are those of runs, and all of them tell one configuration.
 use Rattle.std.proofs.Common.{◌≡◌, ◌∙◌, List, sym, ap}
-use Rattle.change_board.specs.Entries.{Entry, config_of}
-use Rattle.change_board.specs.Records.{IsRecord, IsRecordCut}
+use Rattle.gate_records.specs.Entries.{config_of}
+use Rattle.gate_records.specs.declared.entry.Entry.{Entry}
+use Rattle.gate_records.specs.Records.{IsRecord, IsRecordCut}
 use Rattle.quiesce_core.specs.State.{State}
 use Rattle.turns.specs.World.{World}
 use Rattle.step_board.specs.Playing.{played}

@@ -7,9 +7,11 @@ use Rattle.std.proofs.lemmas.List.Elements.{All-head, All-tail, filter_map-appen
 use Rattle.std.proofs.lemmas.List.Sums.{fold_push}
 use Rattle.base.proofs.EachLaws.{each_pushed}
 use Rattle.base.specs.Each.{EachAfter}
-use Rattle.change_board.proofs.RecordLaws.{config_is, did_more, node_more, quiet_events, seen_more}
-use Rattle.change_board.specs.Entries.{Entry, did, looked, sighted, scanned, config_of, event_in}
-use Rattle.change_board.specs.Records.{IsRecordCut, IsRecordOf, IsSo, Moment, by_node, entry, event_at, events, state_at}
+use Rattle.gate_records.proofs.RecordLaws.{config_is, did_more, node_more, quiet_events, seen_more}
+use Rattle.gate_records.specs.Entries.{config_of, event_in}
+use Rattle.gate_records.specs.declared.entry.Entry.{Entry}
+use Rattle.gate_records.specs.declared.entry.Entry.TheVariants.{Did, Looked, Sighted, Scanned}
+use Rattle.gate_records.specs.Records.{IsRecordCut, IsRecordOf, IsSo, Moment, by_node, entry, event_at, events, state_at}
 use Rattle.quiesce_core.proofs.RunLaws.{fronts_are_runs, runs_grow}
 use Rattle.quiesce_core.specs.Doers.{is_of_change}
 use Rattle.quiesce_core.specs.Rules.{denial}
@@ -23,7 +25,7 @@ use Rattle.turn_laws.specs.Reached.{IsReached}
 use Rattle.turns.specs.Round.{round}
 use Rattle.turns.specs.World.{World, nowhere, with_event}
 use Rattle.step_board.specs.Going.{WentOn}
-use Rattle.step_board.specs.Playing.{IsOfRounds, IsSoAt, IsSoIn, play, played}
+use Rattle.step_board.specs.Playing.{HasWholeRounds, IsSoAt, IsSoIn, play, played}
 use Rattle.step_board.specs.TurnFacts.{went_live, went_none}
 
 pub machine_is : (w : World) → IsReached w → w.machine ≡ state_after w.events
@@ -34,19 +36,19 @@ reached_runs w r = (holds_where_reached w r).1.run
 
 -- ---- moments of a record
 
-pub record Plays (r : List Entry) (w : World) : Type 0 where
+pub record EndsIn (r : List Entry) (w : World) : Type 0 where
   pub reached : IsReached w
   pub moments : List Moment
   pub is_of : IsRecordOf r moments
   pub events_are : events moments ≡ w.events
 
-pub state_here : (r : List Entry) (w : World) → (h : Plays r w) → state_at h.moments ≡ w.machine
+pub state_here : (r : List Entry) (w : World) → (h : EndsIn r w) → state_at h.moments ≡ w.machine
 state_here r w h = ap state_after h.events_are ∙ sym (machine_is w h.reached)
 
-pub config_here : (r : List Entry) (w : World) → Plays r w → config_of r ≡ w.machine.config
+pub config_here : (r : List Entry) (w : World) → EndsIn r w → config_of r ≡ w.machine.config
 config_here r w h = config_is r h.moments h.is_of ∙ ap (λ (s : State). s.config) (state_here r w h)
 
-pub plays_nothing : Plays [] nowhere
+pub plays_nothing : EndsIn [] nowhere
 plays_nothing = record {
   reached = IsReached.at_start;
   moments = [];
@@ -72,16 +74,16 @@ with_event_events w (Unlink p) = refl
 with_event_events w (Remove n) = refl
 
 -- an event of the change
-pub plays_did : (r : List Entry) (w : World) (e : Event) → Plays r w → is_of_change e ≡ true → denial w.machine e ≡ None → Plays (r ++ did e ∷ []) (with_event w e)
+pub plays_did : (r : List Entry) (w : World) (e : Event) → EndsIn r w → is_of_change e ≡ true → denial w.machine e ≡ None → EndsIn (r ++ Did e ∷ []) (with_event w e)
 plays_did r w e h change allowed = record {
   reached = IsReached.by_change w e h.reached change allowed;
-  moments = h.moments ++ entry (did e) ∷ [];
+  moments = h.moments ++ entry (Did e) ∷ [];
   is_of = did_more r h.moments e h.is_of change (ap (λ s. denial s e) (state_here r w h) ∙ allowed);
-  events_are = filter_map-append event_at h.moments (entry (did e) ∷ []) ∙ ap (λ es. es ++ e ∷ []) h.events_are ∙ sym (with_event_events w e);
+  events_are = filter_map-append event_at h.moments (entry (Did e) ∷ []) ∙ ap (λ es. es ++ e ∷ []) h.events_are ∙ sym (with_event_events w e);
 }
 
 -- an entry that is no event, and leaves the world
-pub plays_seen : (r : List Entry) (w : World) (x : Entry) → (h : Plays r w) → event_in x ≡ None → IsSo h.moments (entry x) → Plays (r ++ x ∷ []) w
+pub plays_seen : (r : List Entry) (w : World) (x : Entry) → (h : EndsIn r w) → event_in x ≡ None → IsSo h.moments (entry x) → EndsIn (r ++ x ∷ []) w
 plays_seen r w x h quiet so = record {
   reached = h.reached;
   moments = h.moments ++ entry x ∷ [];
@@ -107,15 +109,15 @@ between r m (e ∷ later) h by_nodes run =
     (subst (λ es. IsRun (es ++ later)) (sym more_) grown) in
     record { moments = rest.moments; is_of = rest.is_of; events_are = rest.events_are ∙ ap (λ es. es ++ later) more_ ∙ parts }
 
-run_on : (r : List Entry) (w v : World) (h : Plays r w) (g : WentOn w v) → IsRun (events h.moments ++ g.later)
+run_on : (r : List Entry) (w v : World) (h : EndsIn r w) (g : WentOn w v) → IsRun (events h.moments ++ g.later)
 run_on r w v h g = subst IsRun (g.events_are ∙ ap (λ es. es ++ g.later) (sym h.events_are)) (reached_runs v g.reached)
 
-pub plays_on : (r : List Entry) (w v : World) → Plays r w → WentOn w v → Plays r v
+pub plays_on : (r : List Entry) (w v : World) → EndsIn r w → WentOn w v → EndsIn r v
 plays_on r w v h g =
     let b = between r h.moments g.later h.is_of g.by_nodes (run_on r w v h g) in
     record { reached = g.reached; moments = b.moments; is_of = b.is_of; events_are = b.events_are ∙ ap (λ es. es ++ g.later) h.events_are ∙ sym g.events_are }
 
-pub cut_here : (r : List Entry) (w v : World) → Plays r w → WentOn w v → IsRecordCut r
+pub cut_here : (r : List Entry) (w v : World) → EndsIn r w → WentOn w v → IsRecordCut r
 cut_here r w v h g = record { moments = h.moments; later = g.later; is_of = h.is_of; by_nodes = g.by_nodes; runs_on = run_on r w v h g }
 
 pub round_goes_on : (w : World) (begins : Bool) → IsReached w → WentOn w (round begins w).world
@@ -126,23 +128,23 @@ round_goes_on w begins r = went_live w begins (range_with_len 0 _) (record { wor
 pub played_more : (r : List Entry) (x : Entry) → played (r ++ x ∷ []) ≡ play (played r) x
 played_more r x = fold_push play nowhere r x
 
-pub plays_next : (r : List Entry) (w : World) (x : Entry) → Plays r w → IsSoIn w x → Plays (r ++ x ∷ []) (play w x)
-plays_next r w (did e) h so = plays_did r w e h so.0 so.1
-plays_next r w (looked p v) h so = plays_seen r w (looked p v) h refl (so ∙ sym (ap (λ s. word_of s p) (state_here r w h)))
-plays_next r w (sighted n es) h so = plays_seen r w (sighted n es) h refl (so ∙ sym (ap (done_by n) h.events_are))
-plays_next r w (scanned begins moved) h so =
+pub plays_next : (r : List Entry) (w : World) (x : Entry) → EndsIn r w → IsSoIn w x → EndsIn (r ++ x ∷ []) (play w x)
+plays_next r w (Did e) h so = plays_did r w e h so.0 so.1
+plays_next r w (Looked p v) h so = plays_seen r w (Looked p v) h refl (so ∙ sym (ap (λ s. word_of s p) (state_here r w h)))
+plays_next r w (Sighted n es) h so = plays_seen r w (Sighted n es) h refl (so ∙ sym (ap (done_by n) h.events_are))
+plays_next r w (Scanned begins moved) h so =
     let v = (round begins w).world in
-    plays_seen r v (scanned begins moved) (plays_on r w v h (round_goes_on w begins h.reached)) refl tt
+    plays_seen r v (Scanned begins moved) (plays_on r w v h (round_goes_on w begins h.reached)) refl tt
 
-plays_all : (r xs : List Entry) → Plays r (played r) → EachAfter IsSoAt r xs → Plays (r ++ xs) (played (r ++ xs))
-plays_all r [] h so = subst (λ q. Plays q (played q)) (sym (append-nil r)) h
+plays_all : (r xs : List Entry) → EndsIn r (played r) → EachAfter IsSoAt r xs → EndsIn (r ++ xs) (played (r ++ xs))
+plays_all r [] h so = subst (λ q. EndsIn q (played q)) (sym (append-nil r)) h
 plays_all r (x ∷ xs) h so =
-    subst (λ q. Plays q (played q)) (append_assoc r (x ∷ []) xs)
-    (plays_all (r ++ x ∷ []) xs (subst (Plays (r ++ x ∷ [])) (sym (played_more r x)) (plays_next r (played r) x h so.0)) so.1)
+    subst (λ q. EndsIn q (played q)) (append_assoc r (x ∷ []) xs)
+    (plays_all (r ++ x ∷ []) xs (subst (EndsIn (r ++ x ∷ [])) (sym (played_more r x)) (plays_next r (played r) x h so.0)) so.1)
 
-pub rounds_play : (r : List Entry) → IsOfRounds r → Plays r (played r)
+pub rounds_play : (r : List Entry) → HasWholeRounds r → EndsIn r (played r)
 rounds_play r so = plays_all [] r plays_nothing so
 
 -- one entry more
-pub rounds_more : (r : List Entry) (x : Entry) → IsOfRounds r → IsSoIn (played r) x → IsOfRounds (r ++ x ∷ [])
+pub rounds_more : (r : List Entry) (x : Entry) → HasWholeRounds r → IsSoIn (played r) x → HasWholeRounds (r ++ x ∷ [])
 rounds_more r x h so = (each_pushed IsSoAt r x).1 (h, so)

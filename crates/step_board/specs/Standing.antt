@@ -2,25 +2,26 @@
 use Rattle.std.specs.Prelude.{◌≡◌, List, map, length, All}
 use Rattle.std.specs.List.{range_with_len}
 use Rattle.change_board.specs.Collecting.{heir_of}
-use Rattle.change_board.specs.Entries.{Entry, config_of}
-use Rattle.change_board.specs.Records.{IsRecordOf, Moment, events}
+use Rattle.gate_records.specs.Entries.{config_of}
+use Rattle.gate_records.specs.declared.entry.Entry.{Entry}
+use Rattle.gate_records.specs.Records.{IsRecordOf, Moment, events}
 use Rattle.change_law.specs.Lawful.{EndsAs}
 use Rattle.change_script.specs.declared.report.NodeLog.{NodeLog}
 use Rattle.quiesce_core.specs.Runs.{done_by}
 use Rattle.quiesce_core.specs.State.{State}
 use Rattle.quiesce_core.specs.declared.event.Event.{Event}
 use Rattle.step_board.specs.Going.{WentOn}
-use Rattle.step_board.specs.Playing.{IsOfRounds, played}
+use Rattle.step_board.specs.Playing.{HasWholeRounds, played}
 use Rattle.turns.specs.World.{World, state_of}
 
 -- the record is of rounds, and the nodes are as in the world behind it
 pub record StandsFor {B : Type 0} (S : B → World → Type 0) (b : B) (r : List Entry) : Type 0 where
-  pub rounds : IsOfRounds r
+  pub rounds : HasWholeRounds r
   pub shows : S b (played r)
 
 -- they are as in a world to which nodes went on behind it
 pub record StandsBehind {B : Type 0} (S : B → World → Type 0) (b : B) (r : List Entry) : Type 0 where
-  pub rounds : IsOfRounds r
+  pub rounds : HasWholeRounds r
   pub world : World
   pub went_on : WentOn (played r) world
   pub shows : S b world
@@ -33,7 +34,7 @@ pub record AreParts (r : List Entry) (logs : List (List Event)) : Type 0 where
 
 -- nodes took turns in whole rounds alone, and the logs, one a slot, are what these came to
 pub record AreOfRounds (r : List Entry) (logs : List (List Event)) : Type 0 where
-  pub rounds : IsOfRounds r
+  pub rounds : HasWholeRounds r
   pub logs_are : logs ≡ map (λ n. done_by n (played r).events) (range_with_len 0 (length (played r).machine.config.slots))
 
 -- one log a node, by slot, which ends with the numbers of the node's state, or tells to which node that went

@@ -3,7 +3,7 @@
 ghost use Rattle.std.specs.Prelude.{◌≡◌, ◌+◌, ◌-◌, ◌*◌, ◌<◌, ◌≤◌, ◌^◌, ◌&&◌, IfOk, OnErr, length, if◌then◌else◌};
 ghost use Rattle.gate_word.specs.Phases.{is_idle};
 ghost use Rattle.std.specs.List.{list_all};
-ghost use Rattle.change_board.specs.Looks.{ended_in_word};
+ghost use Rattle.gate_records.specs.Looks.{ended_in_word};
 ghost use Rattle.change_board.specs.Scans.{ended_in, is_idle_if_live};
 ghost use Rattle.quiesce_core.specs.Words.{word_of};
 ghost use Rattle.step_board.specs.Going.{BrokeOff, GaveTurnIfLive, GaveTurns, ShowsSome};

@@ -1,7 +1,7 @@
 //! The board that stands on nodes of one thread.
 
 ghost use Rattle.std.specs.Prelude.{◌≡◌, true, List, []};
-ghost use Rattle.change_board.specs.Entries.{Entry};
+ghost use Rattle.gate_records.specs.declared.entry.Entry.{Entry};
 ghost use Rattle.step_board.specs.Going.{ShowsSome};
 ghost use Rattle.step_board.specs.Standing.{AreOfRounds, AreParts, StandsBehind, StandsFor};
 ghost use Rattle.step_board.specs.Agreeing as agreeing;
@@ -10,8 +10,9 @@ ghost use Rattle.turns.specs.World.{nowhere};
 use crate::collecting::collect_logs;
 use crate::nodes::Nodes;
 use crate::scanning::{first_undone, give_turns, look_at_ports};
-use change_board::{Board, Collected, Look, Scan};
+use change_board::{Board, Collected, Scan};
 use config_graph::{List, NoMemory, Node};
+use gate_records::Look;
 use report_laws::states_are_folds_of_own_events;
 use std::alloc::Global;
 

@@ -9,10 +9,10 @@ use Rattle.change_law.specs.Members.{Member}
 use Rattle.change_law.specs.Serial.{Serial}
 use Rattle.change_law.specs.Statements.{Statement}
 use Rattle.change_board.specs.Collecting.{IsEndOf, first_undone}
-use Rattle.change_board.specs.Entries.{Entry}
-use Rattle.change_board.specs.Records.{IsRecordOf, Moment}
+use Rattle.gate_records.specs.declared.entry.Entry.{Entry}
+use Rattle.gate_records.specs.Records.{IsRecordOf, Moment}
 use Rattle.change_board.specs.Transcripts.{Item, entries}
-use Rattle.change_engine.specs.Ending.{unfinished_in}
+use Rattle.change_engine.specs.Ending.{unfinished_after}
 use Rattle.headline_laws.specs.Joining.{AreJoined}
 use Rattle.headline_laws.specs.Pieces.{IsTranscript, config_at}
 use Rattle.headline_laws.specs.Reports.{IsReport, taken_in}
@@ -28,7 +28,7 @@ module _ {B : Type 0} (S : B → List Entry → Type 0) (alone : Bool) (taken : 
     slots = x.slots;
     events_are = x.logs_are ∙ parts.logs_are;
     ends = subst (λ ls. All (IsEndOf (config_at x.transcript) ls) report.logs) (sym x.logs_are) x.ends;
-    unfinished_is = x.unfinished_is ∙ ap (λ ls. unfinished_in report.history (first_undone (config_at x.transcript) ls)) (sym x.logs_are);
+    unfinished_is = x.unfinished_is ∙ ap (λ ls. unfinished_after report.history (first_undone (config_at x.transcript) ls)) (sym x.logs_are);
     status_is = x.status_is;
   }
 

@@ -1,7 +1,7 @@
 use Rattle.std.proofs.Common.{◌≡◌, ◌++◌, ◌∷◌, [], append_assoc, sym, ap, ◌∙◌, subst, arith}
 use Rattle.std.proofs.lemmas.List.{append-nil}
 use Rattle.base.proofs.MapLaws.{no_length}
-use Rattle.change_board.specs.Steps.{AreWithin, Does, MayDoAll}
+use Rattle.change_board.specs.Steps.{HasRoomForAll, Does, MayDoAll}
 use Rattle.change_board.proofs.DeedLemmas.{does_both, does_none, here_next}
 use Rattle.change_board.proofs.stepping.do_steps.Goals as goal
 
@@ -13,7 +13,7 @@ loop-event-init g c =
       does_none g.B.Board.stands_for c.args.board.now,
       (c.requires.may.0, c.requires.may.1, subst (MayDoAll c.requires.may.0) (sym e) c.requires.may.2),
       e,
-      subst (AreWithin (g.B.Board.room c.args.board.now)) (sym e) c.requires.room,
+      subst (HasRoomForAll (g.B.Board.room c.args.board.now)) (sym e) c.requires.room,
     )
 
 pub do_step-requires-clause-may : goal.do_step-requires-clause-may
@@ -24,7 +24,7 @@ do_step-requires-clause-may g c =
 
 pub do_step-requires-clause-room : goal.do_step-requires-clause-room
 do_step-requires-clause-room g c =
-    (subst (AreWithin (g.B.Board.room c.loop-event.board)) c.in-Some.ensures.steps.0 c.loop-event.invariant.5).0
+    (subst (HasRoomForAll (g.B.Board.room c.loop-event.board)) c.in-Some.ensures.steps.0 c.loop-event.invariant.5).0
 
 pub loop-event-preserved : goal.loop-event-preserved
 loop-event-preserved g c =
@@ -39,7 +39,7 @@ loop-event-preserved g c =
       does_both S c.args.board.now c.loop-event.board c.do_step.new.board c.loop-event.yielded (e ∷ []) inv.2 c.do_step.ensures.board,
       here_next S c.loop-event.board c.do_step.new.board e rest c.do_step.ensures.board (here.0, here.1, subst (MayDoAll here.0) step here.2),
       append_assoc c.loop-event.yielded (e ∷ []) rest ∙ ap (λ es. c.loop-event.yielded ++ es) (sym step) ∙ inv.4,
-      subst (λ room. AreWithin room rest) (sym c.do_step.ensures.room) (subst (AreWithin (g.B.Board.room c.loop-event.board)) step inv.5).1,
+      subst (λ room. HasRoomForAll room rest) (sym c.do_step.ensures.room) (subst (HasRoomForAll (g.B.Board.room c.loop-event.board)) step inv.5).1,
     )
 
 pub returns : goal.returns

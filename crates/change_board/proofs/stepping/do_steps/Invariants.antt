@@ -1,6 +1,6 @@
 use Rattle.std.proofs.Common.{◌≡◌, ◌++◌, List}
-use Rattle.change_board.specs.Entries.{Entry}
-use Rattle.change_board.specs.Steps.{AreWithin, Does, MayDoAll}
+use Rattle.gate_records.specs.declared.entry.Entry.{Entry}
+use Rattle.change_board.specs.Steps.{HasRoomForAll, Does, MayDoAll}
 use Rattle.change_board.proofs.stepping.do_steps.Given as goal
 
 abbrev pub invariant-loop-event : goal.invariant-loop-event
@@ -10,4 +10,4 @@ invariant-loop-event g l =
     Does g.B.Board.stands_for l.fn.board l.board l.yielded ×
     ((r : List Entry) × g.B.Board.stands_for l.board r × MayDoAll r l.event-iterator.rest.items) ×
     (l.yielded ++ l.event-iterator.rest.items ≡ l.fn.events.items) ×
-    AreWithin (g.B.Board.room l.board) l.event-iterator.rest.items
+    HasRoomForAll (g.B.Board.room l.board) l.event-iterator.rest.items

@@ -1,6 +1,6 @@
 use Rattle.std.proofs.Common.{◌++◌, ap, ◌∙◌, subst, arith, length}
 use Rattle.change_engine.specs.Breaking.{BrokeInRound}
-use Rattle.change_engine.specs.Draining.{pending_lines}
+use Rattle.change_engine.specs.Draining.{left_lines}
 use Rattle.change_engine.specs.Passivating.{Passivated}
 use Rattle.change_engine.proofs.ChangeLemmas.{waited}
 use Rattle.change_engine.proofs.Growing.{if_err}
@@ -26,7 +26,7 @@ returns-clause-ok g c =
     let ports = c.args.ports.now in
     waited S a b h i c.push_pending.new.history.items ports c.args.rounds left
     (subst (λ n. Passivated S a b h i ports n left) c.from.ensures c.in_ok-passivate.ensures.ok)
-    (c.push_pending.ensures.lines ∙ ap (λ l. i ++ pending_lines c.args.rounds l) c.deref.ensures.value)
+    (c.push_pending.ensures.lines ∙ ap (λ l. i ++ left_lines c.args.rounds l) c.deref.ensures.value)
 
 pub returns-clause-len : goal.returns-clause-len
 returns-clause-len g c =

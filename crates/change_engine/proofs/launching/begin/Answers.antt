@@ -1,5 +1,5 @@
 use Rattle.std.proofs.Common.{◌∷◌, ◌++◌, [], sym, ap, ◌∙◌, subst, arith}
-use Rattle.change_board.specs.Steps.{AreWithin}
+use Rattle.change_board.specs.Steps.{HasRoomForAll}
 use Rattle.change_law.specs.Members.{lines_of_events}
 use Rattle.change_script.specs.declared.report.HistoryLine.TheVariants as to
 use Rattle.change_engine.proofs.StartLemmas.{began, start_fits}
@@ -8,7 +8,7 @@ use Rattle.change_engine.proofs.launching.begin.Goals as goal
 pub carry_out-requires-clause-room : goal.carry_out-requires-clause-room
 carry_out-requires-clause-room g c =
     let room = g.B.Board.room c.reserve.new.self in
-    subst (AreWithin room) (sym c.in_ok-events.ensures) (start_fits c.args.graph.now room (omega (arith, c.in_ok-reserve.ensures.nodes, c.node_count.ensures.count)))
+    subst (HasRoomForAll room) (sym c.in_ok-events.ensures) (start_fits c.args.graph.now room (omega (arith, c.in_ok-reserve.ensures.nodes, c.node_count.ensures.count)))
 
 pub returns-clause-begins : goal.returns-clause-begins
 returns-clause-begins g c =

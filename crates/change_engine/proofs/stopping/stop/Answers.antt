@@ -3,7 +3,7 @@ use Rattle.std.specs.Prelude.{◌==◌, IfOk}
 use Rattle.std.proofs.lemmas.Bool.{eqb-true}
 use Rattle.base.proofs.MapLaws.{no_length}
 use Rattle.change_board.specs.Collecting.{Collects}
-use Rattle.change_board.specs.Entries.{config_of}
+use Rattle.gate_records.specs.Entries.{config_of}
 use Rattle.change_board.specs.Transcripts.{entries}
 use Rattle.change_script.specs.declared.report.HistoryLine.TheVariants as to
 use Rattle.change_engine.specs.Passivating.{AreLivePorts, passivation_items}

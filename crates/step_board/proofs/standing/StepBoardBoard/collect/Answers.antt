@@ -2,7 +2,7 @@ use Rattle.std.proofs.Common.{◌∙◌, [], length, map, ap, sym, subst}
 use Rattle.std.specs.Prelude.{All}
 use Rattle.std.specs.List.{range_with_len}
 use Rattle.change_board.specs.Collecting.{IsEndOf}
-use Rattle.change_board.specs.Entries.{config_of}
+use Rattle.gate_records.specs.Entries.{config_of}
 use Rattle.change_script.specs.declared.report.NodeLog.{NodeLog}
 use Rattle.step_board.specs.Agreeing.{config_at}
 use Rattle.step_board.proofs.BoardLemmas.{ends_so, undone_so}

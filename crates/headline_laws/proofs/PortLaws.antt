@@ -1,31 +1,32 @@
 -- The ports that a change and a stop close: they are those of live nodes, they rise, and closing them leaves which they are.
-use Rattle.std.proofs.Common.{◌≡◌, ◌∙◌, ℕ, suc, zero, ◌+◌, ◌<◌, ◌≤◌, Bool, true, false, cond, List, [], ◌∷◌, ◌++◌, length, map, Option, Some, None, refl, sym, ap, subst, ⊎_elim, arith, lt-ltb}
+use Rattle.std.proofs.Common.{◌≡◌, ◌∙◌, ℕ, suc, zero, ◌+◌, ◌<◌, ◌≤◌, Bool, true, false, cond, List, [], ◌∷◌, ◌++◌, length, map, Option, Some, None, refl, ap, ⊎_elim, arith, lt-ltb}
 use Rattle.std.specs.Prelude.{◌&&◌, filter, filter_map, nat_lt, All}
 use Rattle.std.specs.List.{range_with_len}
 use Rattle.std.specs.List.Sorted.{IsStrictlyIncreasing}
 use Rattle.std.specs.Option.{option_map_or}
 use Rattle.std.proofs.lemmas.Bool.{and_from, and_parts, both_ways, or_cases}
-use Rattle.std.proofs.lemmas.List.Elements.{All-cons, All-head, All-nil, All-tail, filter_agree, filter_map-append}
+use Rattle.std.proofs.lemmas.List.Elements.{All-cons, All-nil, filter_agree, filter_map-append}
 use Rattle.std.proofs.lemmas.List.Kept.{IsStrictlyIncreasing-filter}
 use Rattle.std.proofs.lemmas.List.Sums.{fold-append}
 use Rattle.commit_laws.specs.Steps as steps
 use Rattle.commit_laws.specs.Steps.{change_all}
-use Rattle.commit_laws.proofs.TurningLaws.{SameLinks, live_port, same_turned}
+use Rattle.commit_laws.proofs.TurningLaws.{SameLinks}
 use Rattle.config_graph.specs.Graph.{Graph}
 use Rattle.change_plan.specs.declared.plan_data.Plan.{Plan}
 use Rattle.plan_laws.specs.Commit.{is_at, is_one_of, node_path, ports_to_close, stands_in}
 use Rattle.quiesce_core.specs.declared.event.Event.TheVariants as event
 use Rattle.quiesce_core.specs.declared.state.Slot.{Slot}
-use Rattle.quiesce_core.specs.Effect.{change_next, with_closed}
+use Rattle.quiesce_core.specs.Effect.{change_next}
 use Rattle.quiesce_core.specs.Rules.{is_live_port}
 use Rattle.quiesce_core.specs.State.{Configuration, empty, is_live, owner, slot}
 use Rattle.change_law.specs.Scene.{config_after, live_ports}
 use Rattle.change_law.specs.Members.{event_of}
 use Rattle.change_script.specs.declared.report.HistoryLine.{HistoryLine}
 use Rattle.change_law.proofs.TestLaws.{range_rises}
+use Rattle.change_engine.proofs.PassivationLaws.{same_here, closed_links}
 
 -- two tests that agree on a range keep the same of it
-filter_range : (p q : ℕ → Bool) (a n : ℕ) → ((i : ℕ) → a ≤ i → i < a + n → p i ≡ q i) → filter p (range_with_len a n) ≡ filter q (range_with_len a n)
+pub filter_range : (p q : ℕ → Bool) (a n : ℕ) → ((i : ℕ) → a ≤ i → i < a + n → p i ≡ q i) → filter p (range_with_len a n) ≡ filter q (range_with_len a n)
 filter_range p q a zero h = refl
 filter_range p q a (suc n) h =
     let here : p a ≡ q a = h a (omega arith) (omega arith) in
@@ -73,16 +74,6 @@ closing_live old plan c = all_in_range (λ p. is_live_port c p ≡ true) (λ p. 
 
 pub closing_rise : (old : Graph) (plan : Plan) (c : Configuration) → IsStrictlyIncreasing (ports_to_close old plan c)
 closing_rise old plan c = IsStrictlyIncreasing-filter (λ p. is_one_of old plan.freeze c (owner c p)) (range_with_len 0 (length c.gates)) (range_rises 0 (length c.gates))
-
-same_here : (c : Configuration) → SameLinks c c
-same_here c = record { slots = refl; long = refl; owners = λ q. refl; requirements = λ q. refl; targets = λ q. refl }
-
-closed_links : (c d : Configuration) (ps : List ℕ) → AreLive c ps → SameLinks c d → SameLinks c (change_all d (map event.Close ps))
-closed_links c d [] h same = same
-closed_links c d (p ∷ ps) h same =
-    let here = All-head (λ q. is_live_port c q ≡ true) p ps h in
-    closed_links c (with_closed d p true) ps (All-tail (λ q. is_live_port c q ≡ true) p ps h)
-    (same_turned c d p true (subst (λ n. p < n) (sym same.long) (live_port c p here).made) same)
 
 same_ports : (old : Graph) (plan : Plan) (c d : Configuration) → SameLinks c d → ports_to_close old plan d ≡ ports_to_close old plan c
 same_ports old plan c d same =
