@@ -1,4 +1,4 @@
--- The steps of the change keep the rule: each is shown by the world with its event, look or sight.
+-- The steps of the change keep the rule: each is shown by the trace with its event, look or sight.
 use Rattle.std.proofs.Common.{◌≡◌, ◌∙◌, ℕ, ◌+◌, ◌<◌, true, ◌&&◌, List, [], length, set, Option, Some, None, refl, sym, ap, subst, arith}
 use Rattle.std.specs.Prelude.{◌==◌, bit_and, bit_or, bit_xor, nat_le, nat_lt, slice_index}
 use Rattle.std.proofs.lemmas.Bool.{and_parts, ltb-true}
@@ -30,11 +30,11 @@ use Rattle.quiesce_core.proofs.OperationLaws.{close_by, link_by, make_by, reopen
 use Rattle.quiesce_core.proofs.RunLaws.{runs_are_well_formed}
 use Rattle.gate_rule.specs.Steps.{noted}
 use Rattle.gate_rule.specs.Views.{notes, of_change}
-use Rattle.gate_rule.specs.Worlds.{Holds}
+use Rattle.gate_rule.specs.Traces.{Holds}
 use Rattle.gate_rule.specs.declared.view.ChangeView.{ChangeView}
 use Rattle.gate_rule.specs.declared.view.NodeView.{NodeView}
 use Rattle.gate_rule.specs.declared.view.View.{View}
-use Rattle.gate_rule.proofs.WorldLaws.{changes, same_words, sees, shows_none, shows_port, shows_slot}
+use Rattle.gate_rule.proofs.TraceLaws.{changes, same_words, sees, shows_none, shows_port, shows_slot}
 use mathlib.Core.Option.{some}
 use lib.ListN.{get_elem?}
 
@@ -47,20 +47,20 @@ With t id v words = Holds (record { words = words; homes = t.homes; views = set 
 
 module _ (nodes : List NodeView) (c : ChangeView) (t : Gates) (h : Holds t) (id : ℕ) (at : get_elem? t.views id ≡ some (of_change nodes c)) where
   abbrev s : State
-  s = state_at h.world.moments
+  s = state_at h.trace.moments
 
   w : IsWellFormed s
-  w = runs_are_well_formed (events h.world.moments) h.reached.is_record.runs
+  w = runs_are_well_formed (events h.trace.moments) h.reached.is_record.runs
 
-  -- its record is that of the world
-  is_record : IsRecordOf c.entries h.world.moments
-  is_record = subst (λ r. IsRecordOf r h.world.moments) (sym ((h.views id (of_change nodes c) at).change c refl).entries) h.reached.is_record
+  -- its record is that of the trace
+  is_record : IsRecordOf c.entries h.trace.moments
+  is_record = subst (λ r. IsRecordOf r h.trace.moments) (sym ((h.views id (of_change nodes c) at).change c refl).entries) h.reached.is_record
 
   config : config_of c.entries ≡ s.config
-  config = config_is c.entries h.world.moments is_record
+  config = config_is c.entries h.trace.moments is_record
 
   allowed : (e : Event) → May c.entries e → denial s e ≡ None
-  allowed e may = may_is_allowed c.entries h.world.moments e is_record may
+  allowed e may = may_is_allowed c.entries h.trace.moments e is_record may
 
   then_ : (e : Event) → May c.entries e → Step s e (effect s e)
   then_ e may = record { allowed = allowed e may; changed = refl }
@@ -92,8 +92,8 @@ module _ (slots id : ℕ) (nodes : List NodeView) (c : ChangeView) where
 
   pub closes : (p : ℕ) → May c.entries (Close p) → Allows Holds slots id (of_change nodes c, []) p (λ x. bit_or x CLOSED) (λ found new. new ≡ noted (of_change nodes c, []) (Did (Close p)))
   closes p may t h _ at _ =
-      let few = port_few nodes c t h id at p (legal (state_at h.world.moments) (Close p) (allowed nodes c t h id at (Close p) may)).live in
-      let s' = state_at h.world.moments in (
+      let few = port_few nodes c t h id at p (legal (state_at h.trace.moments) (Close p) (allowed nodes c t h id at (Close p) may)).live in
+      let s' = state_at h.trace.moments in (
         of_change nodes (notes c (Did (Close p))),
         keeps,
         tt,
@@ -104,8 +104,8 @@ module _ (slots id : ℕ) (nodes : List NodeView) (c : ChangeView) where
 
   pub reopens : (p : ℕ) → May c.entries (Reopen p) → Allows Holds slots id (of_change nodes c, []) p (λ x. bit_and x ALL_BUT_CLOSED) (λ found new. new ≡ noted (of_change nodes c, []) (Did (Reopen p)))
   reopens p may t h _ at _ =
-      let few = port_few nodes c t h id at p (legal (state_at h.world.moments) (Reopen p) (allowed nodes c t h id at (Reopen p) may)).live in
-      let s' = state_at h.world.moments in (
+      let few = port_few nodes c t h id at p (legal (state_at h.trace.moments) (Reopen p) (allowed nodes c t h id at (Reopen p) may)).live in
+      let s' = state_at h.trace.moments in (
         of_change nodes (notes c (Did (Reopen p))),
         keeps,
         tt,
@@ -131,8 +131,8 @@ module _ (slots id : ℕ) (nodes : List NodeView) (c : ChangeView) where
   pub links : (p n x : ℕ) → May c.entries (Link p n x)
       → Allows Holds slots id (of_change nodes c, []) p (λ k. bit_xor k (link_difference (record { node = n; provide = x }))) (λ found new. new ≡ noted (of_change nodes c, []) (Did (Link p n x)))
   links p n x may t h _ at _ =
-      let few = port_few nodes c t h id at p (legal (state_at h.world.moments) (Link p n x) (allowed nodes c t h id at (Link p n x) may)).live in
-      let s' = state_at h.world.moments in
+      let few = port_few nodes c t h id at p (legal (state_at h.trace.moments) (Link p n x) (allowed nodes c t h id at (Link p n x) may)).live in
+      let s' = state_at h.trace.moments in
       let d = link_difference (record { node = n; provide = x }) in (
         of_change nodes (notes c (Did (Link p n x))),
         keeps,
@@ -145,8 +145,8 @@ module _ (slots id : ℕ) (nodes : List NodeView) (c : ChangeView) where
   pub unlinks : (p : ℕ) (to : Target) → target (config_of c.entries) p ≡ Some to → May c.entries (Unlink p)
       → Allows Holds slots id (of_change nodes c, []) p (λ k. bit_xor k (link_difference to)) (λ found new. new ≡ noted (of_change nodes c, []) (Did (Unlink p)))
   unlinks p to leads may t h _ at _ =
-      let few = port_few nodes c t h id at p (legal (state_at h.world.moments) (Unlink p) (allowed nodes c t h id at (Unlink p) may)).live in
-      let s' = state_at h.world.moments in
+      let few = port_few nodes c t h id at p (legal (state_at h.trace.moments) (Unlink p) (allowed nodes c t h id at (Unlink p) may)).live in
+      let s' = state_at h.trace.moments in
       let there : target s'.config p ≡ Some to = subst (λ k. target k p ≡ Some to) (config nodes c t h id at) leads in (
         of_change nodes (notes c (Did (Unlink p))),
         keeps,
@@ -170,7 +170,7 @@ module _ (slots id : ℕ) (nodes : List NodeView) (c : ChangeView) where
   pub makes : (n : ℕ) (node : Node) (from : Option ℕ) → May c.entries (Make n node from)
       → Allows Holds slots id (of_change nodes c, []) (MAX_PORTS + n) (λ x. bit_or x (pack_slot (new_slot node from))) (λ found new. new ≡ noted (of_change nodes c, []) (Did (Make n node from)))
   makes n node from may t h _ at _ =
-      let s' = state_at h.world.moments in
+      let s' = state_at h.trace.moments in
       let e : Event = Make n node from in
       let l = legal s' e (allowed nodes c t h id at e may) in
       let room = (and_parts (n == length s'.config.slots && nat_lt n MAX_NODES) (nat_le (length s'.config.gates + length (row node.kind).requires_) MAX_PORTS) l.room).0 in

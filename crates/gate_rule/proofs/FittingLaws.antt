@@ -35,7 +35,7 @@ use Rattle.port_gate.specs.Core.{FitsCore, node_in}
 use Rattle.port_gate.specs.Seats.{IsOwn, IsWithinLimits, NodeAt, has_heard, port_known, serves, value_seen}
 use Rattle.gate_rule.specs.Steps.{value_served}
 use Rattle.gate_rule.specs.Views.{node_at}
-use Rattle.gate_rule.specs.Worlds.{KnowsNode}
+use Rattle.gate_rule.specs.Traces.{KnowsNode}
 use Rattle.gate_rule.specs.declared.view.NodeView.{NodeView}
 
 -- a value is what its 24 bits spell

@@ -35,7 +35,7 @@ use Rattle.quiesce_core.proofs.StabilityLaws.{serving_nodes_stay}
 use Rattle.quiesce_core.proofs.StateLaws.{taken_busy}
 use Rattle.quiesce_core.proofs.WordLaws.{slot_word_stays, slot_words_of_runs}
 use Rattle.gate_rule.specs.Views.{does, load_step, reads}
-use Rattle.gate_rule.specs.Worlds.{AreLoaded, IsLoadedOf, KnowsNode, ShowsExchange, WasLoaded}
+use Rattle.gate_rule.specs.Traces.{AreLoaded, IsLoadedOf, KnowsNode, ShowsExchange, WasLoaded}
 use Rattle.gate_rule.specs.declared.view.LoadKind.{LoadKind}
 use Rattle.gate_rule.specs.declared.view.LoadStep.{LoadStep}
 use Rattle.gate_rule.specs.declared.view.Loaded.{Loaded}

@@ -1,5 +1,5 @@
 pub mod KnowingLaws
-pub mod WorldLaws
+pub mod TraceLaws
 pub mod FittingLaws
 pub mod NodeStepLaws
 pub mod ChangeStepLaws

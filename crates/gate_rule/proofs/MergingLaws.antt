@@ -1,5 +1,6 @@
 -- What the change learns of the nodes whose seats it took in.
 use Rattle.std.proofs.Common.{◌≡◌, ◌∙◌, ℕ, ◌<◌, ◌≤◌, true, false, ◌||◌, cond, List, [], ◌∷◌, ◌++◌, set, Option, Some, None, refl, sym, ap, subst, ⊎_elim}
+use Rattle.std.specs.List.{AllByRecursion}
 use Rattle.std.specs.Prelude.{◌==◌, slice_index}
 use Rattle.std.specs.Option.{option_map}
 use Rattle.std.proofs.lemmas.Bool.{both_ways, cases_Bool, cases_lt, eqb-true}
@@ -25,11 +26,11 @@ use Rattle.quiesce_core.proofs.RunLaws.{runs_are_consistent, runs_are_well_forme
 use Rattle.gate_rule.specs.Merging.{AreAllAmong, IsOfRecord, MergeIntoRun}
 use Rattle.gate_rule.specs.Steps.{noted}
 use Rattle.gate_rule.specs.Views.{is_among, log_in, notes, of_change}
-use Rattle.gate_rule.specs.Worlds.{Every, FitsNode, Holds, KnowsNode}
+use Rattle.gate_rule.specs.Traces.{FitsNode, Holds, KnowsNode}
 use Rattle.gate_rule.specs.declared.view.ChangeView.{ChangeView}
 use Rattle.gate_rule.specs.declared.view.NodeView.{NodeView}
 use Rattle.gate_rule.specs.declared.view.View.{View}
-use Rattle.gate_rule.proofs.WorldLaws.{all_into, same_words, sees}
+use Rattle.gate_rule.proofs.TraceLaws.{all_into, same_words, sees}
 use mathlib.Core.Option.{some}
 use lib.ListN.{get_elem?}
 
@@ -64,21 +65,21 @@ pub meets : (slots id i : ℕ) (n : NodeView) (nodes : List NodeView) (c : Chang
     (λ found new. (new ≡ (of_change (n ∷ nodes) c, [])) × IsOfRecord c.entries n)
 meets slots id i n nodes c t h _ at _ =
     let fit = h.views id (of_change (n ∷ nodes) c) at in
-    let es = events h.world.moments in
+    let es = events h.trace.moments in
     let run = h.reached.is_record.runs in
-    let mine = subst (λ r. IsRecordOf r h.world.moments) (sym (fit.change c refl).entries) h.reached.is_record in (
+    let mine = subst (λ r. IsRecordOf r h.trace.moments) (sym (fit.change c refl).entries) h.reached.is_record in (
       of_change (n ∷ nodes) c,
       keeps,
       tt,
       stays t h id i (of_change (n ∷ nodes) c) at,
-      (refl, of_record es c.entries n (config_is c.entries h.world.moments mine) (runs_are_well_formed es run) (runs_are_consistent es run) fit.nodes.0.knows),
+      (refl, of_record es c.entries n (config_is c.entries h.trace.moments mine) (runs_are_well_formed es run) (runs_are_consistent es run) fit.nodes.0.knows),
     )
 
 -- ---- the events of the nodes that were taken in
 
 module _ (es : List Event) (n : ℕ) where
   -- of one that is among them
-  pub log_is : (nodes : List NodeView) → Every (KnowsNode es) nodes → is_among nodes n ≡ true → done_by n es ≡ log_in nodes n
+  pub log_is : (nodes : List NodeView) → AllByRecursion (KnowsNode es) nodes → is_among nodes n ≡ true → done_by n es ≡ log_in nodes n
   log_is [] all among = absurd (both_ways false refl among)
   log_is (v ∷ vs) all among = ⊎_elim
       (λ (is : (v.slot == n) ≡ true). ap (λ m. done_by m es) (sym (eqb-true v.slot n is)) ∙ sym all.0.log ∙ sym (ap (λ b. cond b v.log (log_in vs n)) is))
@@ -94,7 +95,7 @@ module _ (es : List Event) (n : ℕ) where
       (cases_Bool (v.slot == n))
 
   -- of each, where all seats that were given out are among them and no other node has done anything
-  logs_are : (seats : ℕ) (nodes : List NodeView) → AreAllAmong seats nodes → ((m : ℕ) → seats ≤ m → done_by m es ≡ []) → Every (KnowsNode es) nodes → done_by n es ≡ log_in nodes n
+  logs_are : (seats : ℕ) (nodes : List NodeView) → AreAllAmong seats nodes → ((m : ℕ) → seats ≤ m → done_by m es ≡ []) → AllByRecursion (KnowsNode es) nodes → done_by n es ≡ log_in nodes n
   logs_are seats nodes all unseated knows = ⊎_elim
       (λ (among : is_among nodes n ≡ true). log_is nodes knows among)
       (λ (apart : is_among nodes n ≡ false).
@@ -105,7 +106,7 @@ module _ (es : List Event) (n : ℕ) where
 pub merges : (slots id p : ℕ) (nodes : List NodeView) (c : ChangeView) → p < MAX_PORTS → AreAllAmong c.seats nodes → Allows Holds slots id (of_change nodes c, []) p (λ x. x)
     (λ found new. (new ≡ noted (of_change nodes c, []) (Looked p found)) × MergeIntoRun (notes c (Looked p found)).entries nodes)
 merges slots id p nodes c few all t h _ at _ =
-    let w = h.world in
+    let w = h.trace in
     let found = slice_index t.words p in
     let x : Entry = Looked p found in
     let fit = h.views id (of_change nodes c) at in

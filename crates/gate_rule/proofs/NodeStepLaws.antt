@@ -1,4 +1,4 @@
--- The steps of nodes keep the rule: each is shown by the world with its event, or by the same world.
+-- The steps of nodes keep the rule: each is shown by the trace with its event, or by the same trace.
 use Rattle.std.proofs.Common.{◌≡◌, ◌∙◌, ℕ, ◌+◌, ◌<◌, ◌^◌, ◌%◌, Bool, true, false, ◌||◌, cond, List, [], set, Option, Some, None, refl, sym, ap, subst, arith}
 use Rattle.std.specs.Prelude.{◌==◌, bit_xor, is_none, slice_index}
 use Rattle.std.proofs.lemmas.Bool.{both_ways, eqb-false, eqb-true}
@@ -36,7 +36,7 @@ use Rattle.port_gate.proofs.AllowedLaws.{ask_allowed, ask_doer, begin_by_word, b
 use Rattle.gate_rule.specs.Steps.{Seat, WasShown, did, looks, read, seen_in, value_served}
 use Rattle.gate_rule.specs.Steps.{sees as sees'}
 use Rattle.gate_rule.specs.Views.{does, node_at, of_node, reads}
-use Rattle.gate_rule.specs.Worlds.{Holds, IsLoadedOf, KnowsNode, ShowsExchange}
+use Rattle.gate_rule.specs.Traces.{Holds, IsLoadedOf, KnowsNode, ShowsExchange}
 use Rattle.gate_rule.specs.declared.view.LoadKind.{LoadKind}
 use Rattle.gate_rule.specs.declared.view.LoadKind.TheVariants as kinds
 use Rattle.gate_rule.specs.declared.view.LoadKind.TheVariants.{Own, Exchange}
@@ -44,7 +44,7 @@ use Rattle.gate_rule.specs.declared.view.NodeView.{NodeView}
 use Rattle.gate_rule.specs.declared.view.View.{View}
 use Rattle.gate_rule.proofs.FittingLaws as fitting
 use Rattle.gate_rule.proofs.KnowingLaws.{read_known}
-use Rattle.gate_rule.proofs.WorldLaws.{acts, learns, same_words, shows_none, shows_port}
+use Rattle.gate_rule.proofs.TraceLaws.{acts, learns, same_words, shows_none, shows_port}
 use mathlib.Core.Option.{some}
 use lib.ListN.{get_elem?}
 use prog.Atomic.{either}
@@ -58,10 +58,10 @@ With t id v words = Holds (record { words = words; homes = t.homes; views = set 
 
 module _ (n : NodeView) (t : Gates) (h : Holds t) (id : ℕ) (at : get_elem? t.views id ≡ some (of_node n)) where
   abbrev es : List Event
-  es = events h.world.moments
+  es = events h.trace.moments
 
   abbrev s : State
-  s = state_at h.world.moments
+  s = state_at h.trace.moments
 
   run : IsRun es
   run = h.reached.is_record.runs
@@ -144,8 +144,8 @@ module _ (n : NodeView) (p : ℕ) (may : MayTake n.known p) (t : Gates) (h : Hol
 
   take_moves : is_message_to n.slot (unpack asked_at) ≡ true → With t id (of_node (does (reads n kinds.Take p asked_at) take_event)) (set t.words p asked_at)
   take_moves asked =
-      let es' = events h.world.moments in
-      let s' = state_at h.world.moments in
+      let es' = events h.trace.moments in
+      let s' = state_at h.trace.moments in
       let runs = run n t h id at in
       let knows = mine n t h id at in
       let is = h.shows.ports p may.made in
@@ -180,8 +180,8 @@ module _ (n : NodeView) (p v old : ℕ) (may : MayBegin (node_at n) n.known p v)
 
     begin_moves : slice_index t.words p ≡ old → With t id (of_node (does (reading n t h id at Exchange p) event)) (set t.words p (pack new_word))
     begin_moves is =
-        let es' = events h.world.moments in
-        let s' = state_at h.world.moments in
+        let es' = events h.trace.moments in
+        let s' = state_at h.trace.moments in
         let runs = run n t h id at in
         let knows = mine n t h id at in
         let few = fitting.port_below es' runs n knows p may.own in
@@ -201,7 +201,7 @@ module _ (n : NodeView) (p v old : ℕ) (may : MayBegin (node_at n) n.known p v)
       (new ≡ cond (found == old) (did (read (of_node n, []) Exchange p found) (Begin p ((unpack old).serial + 1) v)) (read (of_node n, []) Exchange p found)) × WasShown n p found)
   begins slots id t h _ at _ =
       let found = slice_index t.words p in
-      let few = fitting.port_below (events h.world.moments) (run n t h id at) n (mine n t h id at) p may.own in
+      let few = fitting.port_below (events h.trace.moments) (run n t h id at) n (mine n t h id at) p may.own in
       let after = reading n t h id at Exchange p in
       let it = picks t id after (does after (Begin p ((unpack old).serial + 1) v)) (λ b. set t.words p (either b (pack new_word) found)) (found == old)
       (λ same. begin_moves t h id at (eqb-true found old same)) (λ _. rests n t h id at Exchange p few) in
@@ -213,8 +213,8 @@ module _ (n : NodeView) (p v : ℕ) (may : MayGive n.known p v) (t : Gates) (h :
   give_moves : p < MAX_PORTS
       → With t id (of_node (does n (Give p (serial_served n.known) v))) (set t.words p (bit_xor (slice_index t.words p) (message_difference phase.Asked (value_served n.known % 2 ^ 24) phase.Answered v)))
   give_moves few =
-      let es' = events h.world.moments in
-      let s' = state_at h.world.moments in
+      let es' = events h.trace.moments in
+      let s' = state_at h.trace.moments in
       let runs = run n t h id at in
       let knows = mine n t h id at in
       let w = fitting.w es' runs n knows in
@@ -231,7 +231,7 @@ pub gives : (slots id p v : ℕ) (n : NodeView) → MayGive n.known p v
     → Allows Holds slots id (of_node n, []) p (λ x. bit_xor x (message_difference phase.Asked (value_served n.known % 2 ^ 24) phase.Answered v))
     (λ found new. new ≡ did (of_node n, []) (Give p (serial_served n.known) v))
 gives slots id p v n may t h _ at _ =
-    (of_node (does n (Give p (serial_served n.known) v)), keeps, tt, give_moves n p v may t h id at (fitting.serving_below (events h.world.moments) (run n t h id at) n (mine n t h id at) p may.serving), refl)
+    (of_node (does n (Give p (serial_served n.known) v)), keeps, tt, give_moves n p v may t h id at (fitting.serving_below (events h.trace.moments) (run n t h id at) n (mine n t h id at) p may.serving), refl)
 
 -- ---- end
 
@@ -245,8 +245,8 @@ module _ (n : NodeView) (p : ℕ) (may : MayEnd (node_at n) n.known p) where
   end_moves : (t : Gates) (h : Holds t) (id : ℕ) → get_elem? t.views id ≡ some (of_node n)
       → With t id (of_node (does n end_event)) (set t.words p (bit_xor (slice_index t.words p) (end_difference (value_seen port % 2 ^ 24) port.consequent)))
   end_moves t h id at =
-      let es' = events h.world.moments in
-      let s' = state_at h.world.moments in
+      let es' = events h.trace.moments in
+      let s' = state_at h.trace.moments in
       let runs = run n t h id at in
       let knows = mine n t h id at in
       let w = fitting.w es' runs n knows in
@@ -280,10 +280,10 @@ module _ (n : NodeView) (p : ℕ) (may : MaySee (node_at n) n.known p) (t : Gate
   abbrev seeing : NodeView
   seeing = sees' n p seen_word
 
-  see_knows : KnowsNode (events h.world.moments) n → KnowsNode (events h.world.moments) seeing
+  see_knows : KnowsNode (events h.trace.moments) n → KnowsNode (events h.trace.moments) seeing
   see_knows knows =
-      let es' = events h.world.moments in
-      let s' = state_at h.world.moments in
+      let es' = events h.trace.moments in
+      let s' = state_at h.trace.moments in
       let runs = run n t h id at in
       let w = fitting.w es' runs n knows in
       let c = fitting.c es' runs n knows in
@@ -307,7 +307,7 @@ module _ (n : NodeView) (p : ℕ) (may : MaySee (node_at n) n.known p) (t : Gate
 pub sees : (slots id p : ℕ) (n : NodeView) → MaySee (node_at n) n.known p → Allows Holds slots id (of_node n, []) p (λ x. x)
     (λ found new. (new ≡ (of_node (sees' n p found), [])) × WasShown n p found)
 sees slots id p n may t h _ at _ =
-    let few = fitting.port_below (events h.world.moments) (run n t h id at) n (mine n t h id at) p may.own in
+    let few = fitting.port_below (events h.trace.moments) (run n t h id at) n (mine n t h id at) p may.own in
     let after = seeing n p may t h id at in (
       of_node after,
       keeps,
@@ -322,8 +322,8 @@ module _ (n : NodeView) (p v : ℕ) (may : MaySendMore (node_at n) n.known p v) 
   more_moves : p < MAX_PORTS
       → With t id (of_node (does n (More p (serial_served n.known) v))) (set t.words p (bit_xor (slice_index t.words p) (message_difference phase.Asked (value_served n.known % 2 ^ 24) phase.More v)))
   more_moves few =
-      let es' = events h.world.moments in
-      let s' = state_at h.world.moments in
+      let es' = events h.trace.moments in
+      let s' = state_at h.trace.moments in
       let runs = run n t h id at in
       let knows = mine n t h id at in
       let w = fitting.w es' runs n knows in
@@ -341,7 +341,7 @@ pub mores : (slots id p v : ℕ) (n : NodeView) → MaySendMore (node_at n) n.kn
     → Allows Holds slots id (of_node n, []) p (λ x. bit_xor x (message_difference phase.Asked (value_served n.known % 2 ^ 24) phase.More v))
     (λ found new. new ≡ did (of_node n, []) (More p (serial_served n.known) v))
 mores slots id p v n may t h _ at _ =
-    (of_node (does n (More p (serial_served n.known) v)), keeps, tt, more_moves n p v may t h id at (fitting.serving_below (events h.world.moments) (run n t h id at) n (mine n t h id at) p may.give.serving), refl)
+    (of_node (does n (More p (serial_served n.known) v)), keeps, tt, more_moves n p v may t h id at (fitting.serving_below (events h.trace.moments) (run n t h id at) n (mine n t h id at) p may.give.serving), refl)
 
 -- ---- ask
 
@@ -355,8 +355,8 @@ module _ (n : NodeView) (p v : ℕ) (may : MayAsk (node_at n) n.known p v) where
   ask_moves : (t : Gates) (h : Holds t) (id : ℕ) → get_elem? t.views id ≡ some (of_node n)
       → With t id (of_node (does n ask_event)) (set t.words p (bit_xor (slice_index t.words p) (message_difference phase.More (value_seen asking % 2 ^ 24) phase.Asked v)))
   ask_moves t h id at =
-      let es' = events h.world.moments in
-      let s' = state_at h.world.moments in
+      let es' = events h.trace.moments in
+      let s' = state_at h.trace.moments in
       let runs = run n t h id at in
       let knows = mine n t h id at in
       let w = fitting.w es' runs n knows in
@@ -385,8 +385,8 @@ module _ (n : NodeView) (p : ℕ) (may : MayHear n.known p) (t : Gates) (h : Hol
 
   hear_moves : p < MAX_PORTS → is_asked (unpack heard_word).phase ≡ true → With t id (of_node (does (reads n kinds.Hear p heard_word) hear_event)) (set t.words p heard_word)
   hear_moves few asked =
-      let es' = events h.world.moments in
-      let s' = state_at h.world.moments in
+      let es' = events h.trace.moments in
+      let s' = state_at h.trace.moments in
       let runs = run n t h id at in
       let knows = mine n t h id at in
       let w = fitting.w es' runs n knows in
@@ -404,7 +404,7 @@ pub hears : (slots id p : ℕ) (n : NodeView) → MayHear n.known p
     × WasShown n p found)
 hears slots id p n may t h _ at _ =
     let found = slice_index t.words p in
-    let few = fitting.serving_below (events h.world.moments) (run n t h id at) n (mine n t h id at) p may.serving in
+    let few = fitting.serving_below (events h.trace.moments) (run n t h id at) n (mine n t h id at) p may.serving in
     let after = reading n t h id at kinds.Hear p in
     let it = picks t id after (does after (hear_event n p may t h id at)) (λ b. set t.words p found) (is_asked (unpack found).phase) (hear_moves n p may t h id at few)
     (λ _. rests n t h id at kinds.Hear p few) in
@@ -422,8 +422,8 @@ module _ (n : NodeView) (p v : ℕ) (may : MayCall (node_at n) n.known p v) wher
 
     miss_moves : is_missing (unpack call_word) ≡ true → With t id (of_node (does (reads n Own p call_word) (Miss p))) (set t.words p call_word)
     miss_moves missing =
-        let es' = events h.world.moments in
-        let s' = state_at h.world.moments in
+        let es' = events h.trace.moments in
+        let s' = state_at h.trace.moments in
         let runs = run n t h id at in
         let knows = mine n t h id at in
         let w = fitting.w es' runs n knows in
@@ -436,10 +436,10 @@ module _ (n : NodeView) (p v : ℕ) (may : MayCall (node_at n) n.known p v) wher
         (miss_doer s' w c n.slot n.known fits p may'.own) refl refl
 
     -- what is loaded there is so
-    loaded_knows : KnowsNode (events h.world.moments) n → KnowsNode (events h.world.moments) calling
+    loaded_knows : KnowsNode (events h.trace.moments) n → KnowsNode (events h.trace.moments) calling
     loaded_knows knows =
-        let es' = events h.world.moments in
-        let s' = state_at h.world.moments in
+        let es' = events h.trace.moments in
+        let s' = state_at h.trace.moments in
         let runs = run n t h id at in
         let w = fitting.w es' runs n knows in
         let few = fitting.port_below es' runs n knows p may.own in
@@ -464,7 +464,7 @@ module _ (n : NodeView) (p v : ℕ) (may : MayCall (node_at n) n.known p v) wher
       (λ found new. (new ≡ cond (is_missing (unpack found)) (did (read (of_node n, []) Own p found) (Miss p)) (of_node (looks n p found), [])) × WasShown n p found)
   looks_to_call slots id t h _ at _ =
       let found = slice_index t.words p in
-      let few = fitting.port_below (events h.world.moments) (run n t h id at) n (mine n t h id at) p may.own in
+      let few = fitting.port_below (events h.trace.moments) (run n t h id at) n (mine n t h id at) p may.own in
       let after = calling t h id at in
       let it = picks t id after (does (reading n t h id at Own p) (Miss p)) (λ b. set t.words p found) (is_missing (unpack found)) (miss_moves t h id at)
       (λ _. learnt n t h id at after p refl (loaded_knows t h id at)) in
@@ -484,8 +484,8 @@ module _ (n : NodeView) (p v : ℕ) (may : MayCall (node_at n) n.known p v) wher
     call_moves : (t : Gates) (h : Holds t) (id : ℕ) → get_elem? t.views id ≡ some (of_node n)
         → With t id (of_node (does n call_event)) (set t.words p (bit_xor (slice_index t.words p) (call_difference (unpack word) v)))
     call_moves t h id at =
-        let es' = events h.world.moments in
-        let s' = state_at h.world.moments in
+        let es' = events h.trace.moments in
+        let s' = state_at h.trace.moments in
         let runs = run n t h id at in
         let knows = mine n t h id at in
         let w = fitting.w es' runs n knows in

@@ -1,7 +1,7 @@
 -- What the rule says of runs, and what the change's notes tell of the state.
 use Rattle.std.proofs.Common.{◌≡◌, ◌∙◌, ℕ, ◌<◌, true, false, List, [], ◌∷◌, ◌++◌, Option, refl, sym, ap, subst, ⊎_elim}
 use Rattle.std.specs.Prelude.{◌==◌}
-use Rattle.std.specs.List.{list_any}
+use Rattle.std.specs.List.{AllByRecursion, list_any}
 use Rattle.std.proofs.lemmas.Bool.{eqb-true, false≢true, or_cases}
 use Rattle.atomic_table.specs.Table.{State as Table}
 use Rattle.base.proofs.OptionLaws.{Some-from_is_some}
@@ -20,9 +20,9 @@ use Rattle.quiescence_laws.specs.Events.{is_reopen_or_link, removes, reopens}
 use Rattle.quiescence_laws.proofs.DrainingLaws.{settled_if_drained}
 use Rattle.gate_rule.proofs.EarlierNotes.{still_drained, still_settled}
 use Rattle.gate_rule.proofs.MergingLaws.{log_is}
-use Rattle.gate_rule.proofs.WorldLaws.{all_into}
+use Rattle.gate_rule.proofs.TraceLaws.{all_into}
 use Rattle.gate_rule.specs.Views.{is_among, log_in, of_change, of_node}
-use Rattle.gate_rule.specs.Worlds.{Every, FitsNode, HasNode, Holds, IsThere, KnowsNode, World}
+use Rattle.gate_rule.specs.Traces.{FitsNode, HasSlot, Holds, IsThere, KnowsNode, Trace}
 use Rattle.gate_rule.specs.declared.view.ChangeView.{ChangeView}
 use Rattle.gate_rule.specs.declared.view.NodeView.{NodeView}
 use Rattle.gate_rule.specs.declared.view.View.{View}
@@ -30,7 +30,7 @@ use mathlib.Core.Option.{some}
 use lib.ListN.{get_elem?}
 
 -- the seat that has a node of a slot
-owned_by : (w : World) (id n : ℕ) (nodes : List NodeView) → Every (FitsNode w id) nodes → is_among nodes n ≡ true → w.owner n ≡ id
+owned_by : (w : Trace) (id n : ℕ) (nodes : List NodeView) → AllByRecursion (FitsNode w id) nodes → is_among nodes n ≡ true → w.owner n ≡ id
 owned_by w id n [] fits among = absurd (false≢true among)
 owned_by w id n (v ∷ vs) fits among = ⊎_elim
     (λ (is : (v.slot == n) ≡ true). ap w.owner (sym (eqb-true v.slot n is)) ∙ fits.0.owned)
@@ -38,52 +38,52 @@ owned_by w id n (v ∷ vs) fits among = ⊎_elim
     (or_cases (v.slot == n) (is_among vs n) among)
 
 module _ (t : Table (Unit {0}) View) (h : Holds t) where
-  pub seated : (n : ℕ) → n < h.world.seats → (id : ℕ) × IsThere t.views id (λ (v : View). HasNode n v × (done_by n (events h.world.moments) ≡ log_in v.nodes n))
+  pub seated : (n : ℕ) → n < h.trace.seats → (id : ℕ) × IsThere t.views id (λ (v : View). HasSlot n v × (done_by n (events h.trace.moments) ≡ log_in v.nodes n))
   seated n few =
       let there = h.seated.nodes n few in
       let v = there.0 in
-      let id = h.world.owner n in
-      let es = events h.world.moments in
-      let knows = all_into (FitsNode h.world id) (KnowsNode es) v.nodes (λ u fits. fits.knows) (h.views id v there.1).nodes in
+      let id = h.trace.owner n in
+      let es = events h.trace.moments in
+      let knows = all_into (FitsNode h.trace id) (KnowsNode es) v.nodes (λ u fits. fits.knows) (h.views id v there.1).nodes in
       (id, (v, there.1, (there.2, log_is es n v.nodes knows there.2)))
 
-  pub one_seat : (n id j : ℕ) (u v : View) → get_elem? t.views id ≡ some u → get_elem? t.views j ≡ some v → HasNode n u → HasNode n v → id ≡ j
+  pub one_seat : (n id j : ℕ) (u v : View) → get_elem? t.views id ≡ some u → get_elem? t.views j ≡ some v → HasSlot n u → HasSlot n v → id ≡ j
   one_seat n id j u v at there here elsewhere =
-      sym (owned_by h.world id n u.nodes (h.views id u at).nodes here) ∙ owned_by h.world j n v.nodes (h.views j v there).nodes elsewhere
+      sym (owned_by h.trace id n u.nodes (h.views id u at).nodes here) ∙ owned_by h.trace j n v.nodes (h.views j v there).nodes elsewhere
 
   pub change_seat : (id : ℕ) × (nodes : List NodeView) × (c : ChangeView) × (get_elem? t.views id ≡ some (of_change nodes c))
   change_seat =
       let there = h.seated.change in
       let v = there.0 in
       let c = Some-from_is_some v.change there.2 in
-      (h.world.change, v.nodes, c.0, there.1 ∙ ap (λ (o : Option ChangeView). some (record { nodes = v.nodes; change = o })) c.1)
+      (h.trace.change, v.nodes, c.0, there.1 ∙ ap (λ (o : Option ChangeView). some (record { nodes = v.nodes; change = o })) c.1)
 
 module _ (t : Table (Unit {0}) View) (h : Holds t) (id : ℕ) where
-  pub node_known : (n : NodeView) → get_elem? t.views id ≡ some (of_node n) → KnowsNode (events h.world.moments) n
+  pub node_known : (n : NodeView) → get_elem? t.views id ≡ some (of_node n) → KnowsNode (events h.trace.moments) n
   node_known n at = (h.views id (of_node n) at).nodes.0.knows
 
   module _ (nodes : List NodeView) (c : ChangeView) (at : get_elem? t.views id ≡ some (of_change nodes c)) where
-    pub is_record : IsRecordOf c.entries h.world.moments
-    is_record = subst (λ r. IsRecordOf r h.world.moments) (sym ((h.views id (of_change nodes c) at).change c refl).entries) h.reached.is_record
+    pub is_record : IsRecordOf c.entries h.trace.moments
+    is_record = subst (λ r. IsRecordOf r h.trace.moments) (sym ((h.views id (of_change nodes c) at).change c refl).entries) h.reached.is_record
 
-    pub given_out : c.seats ≡ h.world.seats
+    pub given_out : c.seats ≡ h.trace.seats
     given_out = ((h.views id (of_change nodes c) at).change c refl).seats
 
-    pub taken_in_known : Every (KnowsNode (events h.world.moments)) nodes
-    taken_in_known = all_into (FitsNode h.world id) (KnowsNode (events h.world.moments)) nodes (λ n fits. fits.knows) (h.views id (of_change nodes c) at).nodes
+    pub taken_in_known : AllByRecursion (KnowsNode (events h.trace.moments)) nodes
+    taken_in_known = all_into (FitsNode h.trace id) (KnowsNode (events h.trace.moments)) nodes (λ n fits. fits.knows) (h.views id (of_change nodes c) at).nodes
 
-    pub noted_drained : (p : ℕ) → is_noted c.entries p ≡ true → is_drained (state_at h.world.moments) p ≡ true
-    noted_drained p noted = noted_is_drained c.entries h.world.moments p is_record noted
+    pub noted_drained : (p : ℕ) → is_noted c.entries p ≡ true → is_drained (state_at h.trace.moments) p ≡ true
+    noted_drained p noted = noted_is_drained c.entries h.trace.moments p is_record noted
 
-    pub noted_settled : (n : ℕ) → IsNoted (is_noted c.entries) (config_of c.entries) n → Settled (state_at h.world.moments) n
+    pub noted_settled : (n : ℕ) → IsNoted (is_noted c.entries) (config_of c.entries) n → Settled (state_at h.trace.moments) n
     noted_settled n noted =
-        let here : IsNoted (is_noted c.entries) (state_at h.world.moments).config n =
-        subst (λ (k : Configuration). IsNoted (is_noted c.entries) k n) (config_is c.entries h.world.moments is_record) noted in
-        settled_if_drained (events h.world.moments) n h.reached.is_record.runs here.live (λ p own. noted_drained p (here.own p own)) (λ p reach. noted_drained p (here.reaching p reach))
+        let here : IsNoted (is_noted c.entries) (state_at h.trace.moments).config n =
+        subst (λ (k : Configuration). IsNoted (is_noted c.entries) k n) (config_is c.entries h.trace.moments is_record) noted in
+        settled_if_drained (events h.trace.moments) n h.reached.is_record.runs here.live (λ p own. noted_drained p (here.own p own)) (λ p reach. noted_drained p (here.reaching p reach))
 
-    pub drained_until : (r more_ : List Entry) → c.entries ≡ r ++ more_ → (p : ℕ) → is_noted r p ≡ true → list_any (reopens p) (events_in more_) ≡ false → is_drained (state_at h.world.moments) p ≡ true
-    drained_until r more_ parts = still_drained r more_ h.world.moments (subst (λ xs. IsRecordOf xs h.world.moments) parts is_record)
+    pub drained_until : (r more_ : List Entry) → c.entries ≡ r ++ more_ → (p : ℕ) → is_noted r p ≡ true → list_any (reopens p) (events_in more_) ≡ false → is_drained (state_at h.trace.moments) p ≡ true
+    drained_until r more_ parts = still_drained r more_ h.trace.moments (subst (λ xs. IsRecordOf xs h.trace.moments) parts is_record)
 
     pub settled_until : (r more_ : List Entry) → c.entries ≡ r ++ more_ → (n : ℕ) → IsNoted (is_noted r) (config_of r) n → list_any is_reopen_or_link (events_in more_) ≡ false
-        → list_any (removes n) (events_in more_) ≡ false → Settled (state_at h.world.moments) n
-    settled_until r more_ parts = still_settled r more_ h.world.moments (subst (λ xs. IsRecordOf xs h.world.moments) parts is_record)
+        → list_any (removes n) (events_in more_) ≡ false → Settled (state_at h.trace.moments) n
+    settled_until r more_ parts = still_settled r more_ h.trace.moments (subst (λ xs. IsRecordOf xs h.trace.moments) parts is_record)

@@ -1,5 +1,6 @@
 -- The steps by which seats are given out and taken in keep the rule, and the change learns what all that it has is of.
 use Rattle.std.proofs.Common.{◌≡◌, ◌≢◌, ◌∙◌, ℕ, zero, suc, ◌+◌, ◌<◌, ◌≤◌, true, ◌||◌, cond, List, [], ◌∷◌, ◌++◌, length, set, replicate, Some, refl, sym, ap, subst, ⊎_elim, arith}
+use Rattle.std.specs.List.{AllByRecursion}
 use Rattle.std.specs.Prelude.{◌==◌, option_map, slice_index}
 use Rattle.std.specs.Option.{option_map_or}
 use Rattle.std.proofs.lemmas.Bool.{cases_eq, eq-eqb, false≢true, ne_eqb, or_right}
@@ -27,11 +28,11 @@ use Rattle.quiesce_core.proofs.RunLaws.{runs_are_well_formed}
 use Rattle.quiesce_core.proofs.SoundnessLaws.{well_formed_empty}
 use Rattle.quiesce_core.proofs.WordLaws.{slot_words_of_runs}
 use Rattle.gate_rule.specs.Views.{given_out, is_among, new_seat, newest, nobody, notes, nothing_done, of_change, of_node, seat_again, unknown, with_seat, with_sight, without_seat}
-use Rattle.gate_rule.specs.Worlds.{first_words, AreSeated, Every, Fits, FitsChange, FitsNode, HasChange, HasNode, Holds, IsReached, IsThere, KnowsNode, Shows, World}
+use Rattle.gate_rule.specs.Traces.{first_words, AreSeated, FitsView, FitsChange, FitsNode, HasChange, HasSlot, Holds, IsTrace, IsThere, KnowsNode, Shows, Trace}
 use Rattle.gate_rule.specs.declared.view.ChangeView.{ChangeView}
 use Rattle.gate_rule.specs.declared.view.NodeView.{NodeView}
 use Rattle.gate_rule.specs.declared.view.View.{View}
-use Rattle.gate_rule.proofs.WorldLaws.{all_into, holds_joined, holds_parted, same_words, set_there, stays_there, there_before}
+use Rattle.gate_rule.proofs.TraceLaws.{all_into, holds_joined, holds_parted, same_words, set_there, stays_there, there_before}
 use mathlib.Core.Option.{some, some-injective, some-ne-none}
 use lib.ListN.{get_elem?}
 
@@ -48,7 +49,7 @@ own_else : (owner : ℕ → ℕ) (slot_ id n : ℕ) → n ≢ slot_ → own owne
 own_else owner slot_ id n apart = ap (λ b. cond b id (owner n)) (ne_eqb n slot_ apart)
 
 -- another node's seat
-other_owner : (w : World) (slot_ id seats j : ℕ) (n : NodeView) → w.seats ≤ seats → n.slot ≢ slot_ → FitsNode w j n → FitsNode (record w { owner = own w.owner slot_ id; seats = seats }) j n
+other_owner : (w : Trace) (slot_ id seats j : ℕ) (n : NodeView) → w.seats ≤ seats → n.slot ≢ slot_ → FitsNode w j n → FitsNode (record w { owner = own w.owner slot_ id; seats = seats }) j n
 other_owner w slot_ id seats j n more_ apart f = record {
   owned = own_else w.owner slot_ id n.slot apart ∙ f.owned;
   seated = (let below = f.seated in omega (arith, below, more_));
@@ -56,7 +57,7 @@ other_owner w slot_ id seats j n more_ apart f = record {
 }
 
 -- the nodes of a list that are apart from the one
-every_apart : (P Q : NodeView → Type 0) (R : NodeView → Type 0) (ns : List NodeView) → ((n : NodeView) → R n → P n → Q n) → Every R ns → Every P ns → Every Q ns
+every_apart : (P Q : NodeView → Type 0) (R : NodeView → Type 0) (ns : List NodeView) → ((n : NodeView) → R n → P n → Q n) → AllByRecursion R ns → AllByRecursion P ns → AllByRecursion Q ns
 every_apart P Q R [] f rs ps = tt
 every_apart P Q R (n ∷ ns) f rs ps = (f n rs.0 ps.0, every_apart P Q R ns f rs.1 ps.1)
 
@@ -73,20 +74,20 @@ among_rest : (n : NodeView) (nodes : List NodeView) (m : ℕ) → m ≢ n.slot �
 among_rest n nodes m apart among = sym (ap (λ b. b || is_among nodes m) (ne_eqb n.slot m (λ is. apart (sym is)))) ∙ among
 
 -- where this seat has the node of this slot now, and all others are where they were
-of_owners : (views : List View) (owner : ℕ → ℕ) (slot_ id m : ℕ) → IsThere views id (HasNode slot_) → (m ≢ slot_ → IsThere views (owner m) (HasNode m)) → IsThere views (own owner slot_ id m) (HasNode m)
+of_owners : (views : List View) (owner : ℕ → ℕ) (slot_ id m : ℕ) → IsThere views id (HasSlot slot_) → (m ≢ slot_ → IsThere views (owner m) (HasSlot m)) → IsThere views (own owner slot_ id m) (HasSlot m)
 of_owners views owner slot_ id m here others = ⊎_elim
-    (λ (is : m ≡ slot_). subst (λ k. IsThere views (own owner slot_ id k) (HasNode k)) (sym is) (subst (λ k. IsThere views k (HasNode slot_)) (sym (own_here owner slot_ id)) here))
-    (λ (apart : m ≢ slot_). subst (λ k. IsThere views k (HasNode m)) (sym (own_else owner slot_ id m apart)) (others apart))
+    (λ (is : m ≡ slot_). subst (λ k. IsThere views (own owner slot_ id k) (HasSlot k)) (sym is) (subst (λ k. IsThere views k (HasSlot slot_)) (sym (own_here owner slot_ id)) here))
+    (λ (apart : m ≢ slot_). subst (λ k. IsThere views k (HasSlot m)) (sym (own_else owner slot_ id m apart)) (others apart))
     (cases_eq m slot_)
 
 -- a view was cut in two, of which the new one has this node
-parted : (w : World) (seats : ℕ) (views : List View) (id : ℕ) (v left : View) (n : NodeView) → get_elem? views id ≡ some v → AreSeated w views
-    → ((m : ℕ) → m ≢ n.slot → HasNode m v → HasNode m left) → (HasChange v → HasChange left) → ((m : ℕ) → m ≢ n.slot → m < seats → m < w.seats)
+parted : (w : Trace) (seats : ℕ) (views : List View) (id : ℕ) (v left : View) (n : NodeView) → get_elem? views id ≡ some v → AreSeated w views
+    → ((m : ℕ) → m ≢ n.slot → HasSlot m v → HasSlot m left) → (HasChange v → HasChange left) → ((m : ℕ) → m ≢ n.slot → m < seats → m < w.seats)
     → AreSeated (record w { owner = own w.owner n.slot (length views); seats = seats }) (set views id left ++ of_node n ∷ [])
 parted w seats views id v left n at seated nodes change few = record {
   nodes = λ m below. of_owners (set views id left ++ of_node n ∷ []) w.owner n.slot (length views) m
       (of_node n, at_last (set views id left) (of_node n) (length views) (length-set views id left), among_first n [])
-      (λ apart. still (HasNode m) (w.owner m) (nodes m apart) (seated.nodes m (few m apart below)));
+      (λ apart. still (HasSlot m) (w.owner m) (nodes m apart) (seated.nodes m (few m apart below)));
   change = still HasChange w.change change seated.change;
 }
   where
@@ -94,13 +95,13 @@ parted w seats views id v left n at seated nodes change few = record {
     still P j also there = there_before (set views id left) (of_node n) P j (stays_there views id v left at P j also there)
 
 -- the change took this node's seat in
-joined : (w : World) (ms : List Moment) (r : List Entry) (views : List View) (id other : ℕ) (nodes : List NodeView) (c c' : ChangeView) (n : NodeView) → ¬ (other ≡ id)
+joined : (w : Trace) (ms : List Moment) (r : List Entry) (views : List View) (id other : ℕ) (nodes : List NodeView) (c c' : ChangeView) (n : NodeView) → ¬ (other ≡ id)
     → get_elem? views id ≡ some (of_change nodes c) → get_elem? views other ≡ some (of_node n) → AreSeated w views
     → AreSeated (record w { moments = ms; entries = r; owner = own w.owner n.slot id }) (set (set views id (of_change (n ∷ nodes) c')) other nobody)
 joined w ms r views id other nodes c c' n two at there seated = record {
   nodes = λ m below. of_owners (set (set views id both) other nobody) w.owner n.slot id m
       (both, set_else (set views id both) other id nobody (λ is. two (sym is)) ∙ set_there views id (of_change nodes c) both at, among_first n nodes)
-      (λ apart. still (HasNode m) (w.owner m) (among_more n nodes m) (λ among. false≢true (among_rest n [] m apart among)) (seated.nodes m below));
+      (λ apart. still (HasSlot m) (w.owner m) (among_more n nodes m) (λ among. false≢true (among_rest n [] m apart among)) (seated.nodes m below));
   change = still HasChange w.change (λ so. so) false≢true seated.change;
 }
   where
@@ -117,7 +118,7 @@ joined w ms r views id other nodes c c' n two at there seated = record {
 
 module _ (id : ℕ) (nodes : List NodeView) (c : ChangeView) (more_ : c.seats < length (config_of c.entries).slots) where
   -- a node whose seat wasn't given out is known as the record has it
-  newest_known : (w : World) → IsReached w → c.seats ≡ w.seats → c.entries ≡ w.entries → KnowsNode (events w.moments) (newest c)
+  newest_known : (w : Trace) → IsTrace w → c.seats ≡ w.seats → c.entries ≡ w.entries → KnowsNode (events w.moments) (newest c)
   newest_known w reached seats entries =
       let es = events w.moments in
       let run = reached.is_record.runs in
@@ -137,10 +138,10 @@ module _ (id : ℕ) (nodes : List NodeView) (c : ChangeView) (more_ : c.seats < 
 
   pub gives_seat : Splits Holds id (of_change nodes c) (without_seat (of_change nodes c)) (new_seat (of_change nodes c))
   gives_seat t h at =
-      let w = h.world in
+      let w = h.trace in
       let fit = h.views id (of_change nodes c) at in
       let mine = fit.change c refl in
-      let w' : World = record w { owner = own w.owner c.seats (length t.views); seats = w.seats + 1 } in
+      let w' : Trace = record w { owner = own w.owner c.seats (length t.views); seats = w.seats + 1 } in
       let node : (j : ℕ) (u : NodeView) → FitsNode w j u → FitsNode w' j u =
       λ j u f. other_owner w c.seats (length t.views) (w.seats + 1) j u (omega arith) (λ is. omega (arith, is, f.seated, mine.seats)) f in
       let c' : ChangeView = record c { seats = c.seats + 1 } in
@@ -178,7 +179,7 @@ module _ (id : ℕ) (nodes : List NodeView) (c : ChangeView) (more_ : c.seats < 
 pub adopts : (slots id : ℕ) (n : NodeView) → Allows Holds slots id (of_node n, []) (MAX_PORTS + n.slot) (λ x. x) (λ found new. (new ≡ (of_node n, [])) × (unpack_slot found ≡ Some n.made))
 adopts slots id n t h _ at _ =
     let fit = (h.views id (of_node n) at).nodes.0 in
-    let es = events h.world.moments in
+    let es = events h.trace.moments in
     let s = state_after es in
     let run = h.reached.is_record.runs in
     let m = option_map_some slot_fields_of (slot s.config n.slot) n.made fit.knows.made in
@@ -194,16 +195,16 @@ adopts slots id n t h _ at _ =
 -- ---- a seat that is taken in, for good or for a sight
 
 module _ (id : ℕ) (nodes : List NodeView) (c : ChangeView) (other : ℕ) (n : NodeView) (t : Table (Unit {0}) View) (h : Holds t) (at : get_elem? t.views id ≡ some (of_change nodes c))
-    (two : ¬ (other ≡ id)) (there : get_elem? t.views other ≡ some (of_node n)) (c' : ChangeView) (w' : World) (owner : w'.owner ≡ own h.world.owner n.slot id) (change : w'.change ≡ h.world.change)
-    (seats : w'.seats ≡ h.world.seats) (same : events w'.moments ≡ events h.world.moments) (reached : IsReached w') (seats' : c'.seats ≡ w'.seats) (entries' : c'.entries ≡ w'.entries)
+    (two : ¬ (other ≡ id)) (there : get_elem? t.views other ≡ some (of_node n)) (c' : ChangeView) (w' : Trace) (owner : w'.owner ≡ own h.trace.owner n.slot id) (change : w'.change ≡ h.trace.change)
+    (seats : w'.seats ≡ h.trace.seats) (same : events w'.moments ≡ events h.trace.moments) (reached : IsTrace w') (seats' : c'.seats ≡ w'.seats) (entries' : c'.entries ≡ w'.entries)
     (seated : AreSeated w' (set (set t.views id (of_change (n ∷ nodes) c')) other nobody)) where
-  abbrev w : World
-  w = h.world
+  abbrev w : Trace
+  w = h.trace
 
   theirs : FitsNode w other n
   theirs = (h.views other (of_node n) there).nodes.0
 
-  mine : Fits w id (of_change nodes c)
+  mine : FitsView w id (of_change nodes c)
   mine = h.views id (of_change nodes c) at
 
   moved : (j : ℕ) (u : NodeView) → u.slot ≢ n.slot → FitsNode w j u → FitsNode w' j u
@@ -217,10 +218,10 @@ module _ (id : ℕ) (nodes : List NodeView) (c : ChangeView) (other : ℕ) (n : 
   not_it : (j : ℕ) (u : NodeView) → j ≢ other → FitsNode w j u → u.slot ≢ n.slot
   not_it j u apart f is = apart (sym f.owned ∙ ap w.owner is ∙ theirs.owned)
 
-  all_not : (j : ℕ) (us : List NodeView) → j ≢ other → Every (FitsNode w j) us → Every (λ (u : NodeView). u.slot ≢ n.slot) us
+  all_not : (j : ℕ) (us : List NodeView) → j ≢ other → AllByRecursion (FitsNode w j) us → AllByRecursion (λ (u : NodeView). u.slot ≢ n.slot) us
   all_not j us apart fits = all_into (FitsNode w j) (λ (u : NodeView). u.slot ≢ n.slot) us (λ u f. not_it j u apart f) fits
 
-  all_moved : (j : ℕ) (us : List NodeView) → j ≢ other → Every (FitsNode w j) us → Every (FitsNode w' j) us
+  all_moved : (j : ℕ) (us : List NodeView) → j ≢ other → AllByRecursion (FitsNode w j) us → AllByRecursion (FitsNode w' j) us
   all_moved j us apart fits = all_into (FitsNode w j) (FitsNode w' j) us (λ u f. moved j u (not_it j u apart f) f) fits
 
   pub joins : Holds (record { words = t.words; homes = t.homes; views = set (set t.views id (of_change (n ∷ nodes) c')) other nobody })
@@ -255,7 +256,7 @@ elsewhere views id other v u two at = ⊎_elim (λ (x : (other ≡ id) × (v ≡
 pub takes_seat : (id : ℕ) (nodes : List NodeView) (c : ChangeView) (other : ℕ) (n : NodeView)
     → Joins Holds id (of_change nodes c) other (of_node n) (with_seat (of_change nodes c) (of_node n)) nobody
 takes_seat id nodes c other n t h at two at' =
-    let w = h.world in
+    let w = h.trace in
     let mine = (h.views id (of_change nodes c) at).change c refl in
     let there = elsewhere t.views id other (with_seat (of_change nodes c) (of_node n)) (of_node n) two at' in
     joins id nodes c other n t h at two there c (record w { owner = own w.owner n.slot id }) refl refl refl refl
@@ -265,7 +266,7 @@ takes_seat id nodes c other n t h at two at' =
 pub takes_sight : (id : ℕ) (nodes : List NodeView) (c : ChangeView) (other : ℕ) (n : NodeView)
     → Joins Holds id (of_change nodes c) other (of_node n) (with_sight (of_change nodes c) (of_node n)) nobody
 takes_sight id nodes c other n t h at two at' =
-    let w = h.world in
+    let w = h.trace in
     let x : Entry = Sighted n.slot n.log in
     let mine = (h.views id (of_change nodes c) at).change c refl in
     let there = elsewhere t.views id other (with_sight (of_change nodes c) (of_node n)) (of_node n) two at' in
@@ -283,11 +284,11 @@ takes_sight id nodes c other n t h at two at' =
 pub gives_back : (id : ℕ) (n : NodeView) (nodes : List NodeView) (c : ChangeView)
     → Splits Holds id (of_change (n ∷ nodes) c) (given_out (of_change (n ∷ nodes) c)) (seat_again (of_change (n ∷ nodes) c))
 gives_back id n nodes c t h at =
-    let w = h.world in
+    let w = h.trace in
     let fit = h.views id (of_change (n ∷ nodes) c) at in
     let mine = fit.change c refl in
     let new = length t.views in
-    let w' : World = record w { owner = own w.owner n.slot new } in
+    let w' : Trace = record w { owner = own w.owner n.slot new } in
     let node : (j : ℕ) (u : NodeView) → u.slot ≢ n.slot → FitsNode w j u → FitsNode w' j u =
     λ j u apart f. other_owner w n.slot new w.seats j u (omega arith) apart f in
     holds_parted t w' id (of_change nodes c) (of_node n) t.homes
@@ -334,14 +335,14 @@ first_shows = record {
 
 pub begins : Holds (opening first_words [] (of_change [] nothing_done))
 begins = record {
-  world = record { moments = []; entries = []; owner = λ n. 0; change = 0; seats = 0 };
+  trace = record { moments = []; entries = []; owner = λ n. 0; change = 0; seats = 0 };
   reached = record { is_record = record { record_is = refl; runs = tt; so = tt }; unseated = λ n none_. refl };
   shows = first_shows;
   views = one;
   seated = record { nodes = λ n few. absurd (omega (arith, few)); change = (of_change [] nothing_done, refl, refl) };
 }
   where
-    one : (id : ℕ) (v : View) → get_elem? (of_change [] nothing_done ∷ []) id ≡ some v → Fits (record { moments = []; entries = []; owner = λ n. 0; change = 0; seats = 0 }) id v
-    one zero v e = subst (Fits (record { moments = []; entries = []; owner = λ n. 0; change = 0; seats = 0 }) 0) (some-injective (of_change [] nothing_done) v e)
+    one : (id : ℕ) (v : View) → get_elem? (of_change [] nothing_done ∷ []) id ≡ some v → FitsView (record { moments = []; entries = []; owner = λ n. 0; change = 0; seats = 0 }) id v
+    one zero v e = subst (FitsView (record { moments = []; entries = []; owner = λ n. 0; change = 0; seats = 0 }) 0) (some-injective (of_change [] nothing_done) v e)
         (record { nodes = tt; apart = tt; change = λ c is. subst (λ (c : ChangeView). FitsChange (record { moments = []; entries = []; owner = λ n. 0; change = 0; seats = 0 }) 0 c) (same_Some nothing_done c is) (record { change = refl; seats = refl; entries = refl }) })
     one (suc n) v e = absurd (some-ne-none v (sym e))

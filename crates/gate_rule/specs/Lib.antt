@@ -1,4 +1,4 @@
 pub mod Views
-pub mod Worlds
+pub mod Traces
 pub mod Steps
 pub mod Merging

@@ -18,7 +18,7 @@ use Rattle.port_gate.specs.Seats.{serial_served}
 use Rattle.port_gate.specs.declared.answers.SeeAnswer.{SeeAnswer}
 use Rattle.port_gate.specs.declared.answers.SeeAnswer.TheVariants as see
 use Rattle.gate_rule.specs.Views.{change_of, does, node_at, node_of, notes, of_change, of_node, reads}
-use Rattle.gate_rule.specs.Worlds.{KnowsNode}
+use Rattle.gate_rule.specs.Traces.{KnowsNode}
 use Rattle.gate_rule.specs.declared.view.LoadKind.{LoadKind}
 use Rattle.gate_rule.specs.declared.view.LoadKind.TheVariants as kinds
 use Rattle.gate_rule.specs.declared.view.LoadKind.TheVariants.{Own, Exchange}

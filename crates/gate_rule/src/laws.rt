@@ -1,7 +1,7 @@
 //! Laws of the rule: what holds between any two steps on the gates.
 
 ghost use Rattle.std.specs.Prelude.{◌≡◌, ℕ, ◌<◌, ◌≤◌, false, List, [], ◌++◌, IsTrue};
-ghost use Rattle.std.specs.List.{list_any};
+ghost use Rattle.std.specs.List.{AllByRecursion, list_any};
 ghost use Rattle.atomic_table.specs.Table.{State as Table};
 ghost use Rattle.commit_laws.specs.Steps.{IsNoted};
 ghost use Rattle.gate_records.specs.Entries.{config_of, events_in};
@@ -13,7 +13,7 @@ ghost use Rattle.quiesce_core.specs.Settled.{Settled};
 ghost use Rattle.quiescence_laws.specs.Drained.{is_drained};
 ghost use Rattle.quiescence_laws.specs.Events.{is_reopen_or_link, removes, reopens};
 ghost use Rattle.gate_rule.specs.Views.{log_in, of_change, of_node};
-ghost use Rattle.gate_rule.specs.Worlds.{Apart, Every, HasNode, Holds, IsThere, KnowsNode, Shows};
+ghost use Rattle.gate_rule.specs.Traces.{HaveOwnSlots, HasSlot, Holds, IsThere, KnowsNode, Shows};
 ghost use Rattle.gate_rule.specs.declared.view.ChangeView.{ChangeView};
 ghost use Rattle.gate_rule.specs.declared.view.NodeView.{NodeView};
 ghost use Rattle.gate_rule.specs.declared.view.View.{View};
@@ -28,22 +28,22 @@ ghost use lib.ListN.{get_elem?};
 /// node whose seat wasn't, there is none; and the change's seat, which counts those given out, is there. Each word that a node loaded
 /// was its port's at a place of that run (`KnowsNode`).
 pub fn gates_show_a_run()
-    ensures run { (t : Table (Unit {0}) View) (h : Holds t) → IsRun (events h.world.moments) }
-    ensures words { (t : Table (Unit {0}) View) (h : Holds t) → Shows t.words (state_at h.world.moments) }
+    ensures run { (t : Table (Unit {0}) View) (h : Holds t) → IsRun (events h.trace.moments) }
+    ensures words { (t : Table (Unit {0}) View) (h : Holds t) → Shows t.words (state_at h.trace.moments) }
     ensures nodes { (t : Table (Unit {0}) View) (h : Holds t) (id : ℕ) (n : NodeView) → get_elem? t.views id ≡ some (of_node n)
-        → KnowsNode (events h.world.moments) n }
+        → KnowsNode (events h.trace.moments) n }
     ensures change { (t : Table (Unit {0}) View) (h : Holds t) (id : ℕ) (nodes : List NodeView) (c : ChangeView)
-        → get_elem? t.views id ≡ some (of_change nodes c) → IsRecordOf c.entries h.world.moments }
+        → get_elem? t.views id ≡ some (of_change nodes c) → IsRecordOf c.entries h.trace.moments }
     ensures taken_in { (t : Table (Unit {0}) View) (h : Holds t) (id : ℕ) (nodes : List NodeView) (c : ChangeView)
-        → get_elem? t.views id ≡ some (of_change nodes c) → Every (KnowsNode (events h.world.moments)) nodes }
-    ensures seated { (t : Table (Unit {0}) View) (h : Holds t) (n : ℕ) → n < h.world.seats
-        → (id : ℕ) × IsThere t.views id (λ (v : View). HasNode n v × (done_by n (events h.world.moments) ≡ log_in v.nodes n)) }
+        → get_elem? t.views id ≡ some (of_change nodes c) → AllByRecursion (KnowsNode (events h.trace.moments)) nodes }
+    ensures seated { (t : Table (Unit {0}) View) (h : Holds t) (n : ℕ) → n < h.trace.seats
+        → (id : ℕ) × IsThere t.views id (λ (v : View). HasSlot n v × (done_by n (events h.trace.moments) ≡ log_in v.nodes n)) }
     ensures one_seat { (t : Table (Unit {0}) View) (h : Holds t) (n id j : ℕ) (u v : View) → get_elem? t.views id ≡ some u → get_elem? t.views j ≡ some v
-        → HasNode n u → HasNode n v → id ≡ j }
-    ensures once { (t : Table (Unit {0}) View) (h : Holds t) (id : ℕ) (v : View) → get_elem? t.views id ≡ some v → Apart v.nodes }
-    ensures unseated { (t : Table (Unit {0}) View) (h : Holds t) (n : ℕ) → h.world.seats ≤ n → done_by n (events h.world.moments) ≡ [] }
+        → HasSlot n u → HasSlot n v → id ≡ j }
+    ensures once { (t : Table (Unit {0}) View) (h : Holds t) (id : ℕ) (v : View) → get_elem? t.views id ≡ some v → HaveOwnSlots v.nodes }
+    ensures unseated { (t : Table (Unit {0}) View) (h : Holds t) (n : ℕ) → h.trace.seats ≤ n → done_by n (events h.trace.moments) ≡ [] }
     ensures given_out { (t : Table (Unit {0}) View) (h : Holds t) (id : ℕ) (nodes : List NodeView) (c : ChangeView)
-        → get_elem? t.views id ≡ some (of_change nodes c) → c.seats ≡ h.world.seats }
+        → get_elem? t.views id ≡ some (of_change nodes c) → c.seats ≡ h.trace.seats }
     ensures change_seat { (t : Table (Unit {0}) View) (h : Holds t)
         → (id : ℕ) × (nodes : List NodeView) × (c : ChangeView) × (get_elem? t.views id ≡ some (of_change nodes c)) }
 {}
@@ -54,15 +54,15 @@ pub fn gates_show_a_run()
 pub fn notes_tell_of_the_state()
     ensures drained { (t : Table (Unit {0}) View) (h : Holds t) (id : ℕ) (nodes : List NodeView) (c : ChangeView)
         → get_elem? t.views id ≡ some (of_change nodes c)
-        → (p : ℕ) → IsTrue (is_noted c.entries p) → IsTrue (is_drained (state_at h.world.moments) p) }
+        → (p : ℕ) → IsTrue (is_noted c.entries p) → IsTrue (is_drained (state_at h.trace.moments) p) }
     ensures settled { (t : Table (Unit {0}) View) (h : Holds t) (id : ℕ) (nodes : List NodeView) (c : ChangeView)
         → get_elem? t.views id ≡ some (of_change nodes c)
-        → (n : ℕ) → IsNoted (is_noted c.entries) (config_of c.entries) n → Settled (state_at h.world.moments) n }
+        → (n : ℕ) → IsNoted (is_noted c.entries) (config_of c.entries) n → Settled (state_at h.trace.moments) n }
     ensures drained_until { (t : Table (Unit {0}) View) (h : Holds t) (id : ℕ) (nodes : List NodeView) (c : ChangeView)
         → get_elem? t.views id ≡ some (of_change nodes c) → (r more_ : List Entry) → c.entries ≡ r ++ more_
-        → (p : ℕ) → IsTrue (is_noted r p) → list_any (reopens p) (events_in more_) ≡ false → IsTrue (is_drained (state_at h.world.moments) p) }
+        → (p : ℕ) → IsTrue (is_noted r p) → list_any (reopens p) (events_in more_) ≡ false → IsTrue (is_drained (state_at h.trace.moments) p) }
     ensures settled_until { (t : Table (Unit {0}) View) (h : Holds t) (id : ℕ) (nodes : List NodeView) (c : ChangeView)
         → get_elem? t.views id ≡ some (of_change nodes c) → (r more_ : List Entry) → c.entries ≡ r ++ more_
         → (n : ℕ) → IsNoted (is_noted r) (config_of r) n → list_any is_reopen_or_link (events_in more_) ≡ false
-        → list_any (removes n) (events_in more_) ≡ false → Settled (state_at h.world.moments) n }
+        → list_any (removes n) (events_in more_) ≡ false → Settled (state_at h.trace.moments) n }
 {}

@@ -3,13 +3,13 @@
 use crate::view::View;
 use atomic_table::TableRule;
 
-/// Between any two steps there is a world that the words and all views show.
+/// Between any two steps there is a trace that the words and all views show.
 pub struct GateRule;
 
 impl TableRule<(), View, ()> for GateRule {
     ghost use Rattle.std.specs.Prelude.{[]};
     ghost use Rattle.gate_rule.specs.Views.{of_change, nothing_done};
-    ghost use Rattle.gate_rule.specs.Worlds.{Holds};
+    ghost use Rattle.gate_rule.specs.Traces.{Holds};
 
     ghost holds = { λ _. Holds };
 

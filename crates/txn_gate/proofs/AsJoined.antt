@@ -5,7 +5,7 @@ use Rattle.config_graph.specs.declared.TheConstants.{MAX_PORTS}
 use Rattle.gate_rule.specs.Merging.{AreAllAmong, Meets, Merges}
 use Rattle.gate_rule.specs.Steps.{IsChange, IsNode, Seat}
 use Rattle.gate_rule.specs.Views.{change_of, given_out, node_of, nobody, of_change, of_node, seat_again, with_seat, with_sight}
-use Rattle.gate_rule.specs.Worlds.{Holds}
+use Rattle.gate_rule.specs.Traces.{Holds}
 use Rattle.gate_rule.specs.declared.view.NodeView.{NodeView}
 use Rattle.gate_rule.proofs.MergingLaws as merging
 use Rattle.gate_rule.proofs.SeatStepLaws as seat_

@@ -12,7 +12,7 @@ use Rattle.quiesce_core.specs.declared.event.Event.{Event}
 use Rattle.quiesce_core.specs.declared.event.Event.TheVariants.{Link, Unlink, Remove}
 use Rattle.gate_rule.specs.Steps.{IsChange, Seat, noted}
 use Rattle.gate_rule.specs.Views.{change_of, of_change}
-use Rattle.gate_rule.specs.Worlds.{Holds}
+use Rattle.gate_rule.specs.Traces.{Holds}
 use Rattle.gate_rule.proofs.ChangeStepLaws as change_
 
 module _ (slots id : ℕ) (me : Seat) (is : IsChange me) where

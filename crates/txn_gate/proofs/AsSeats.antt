@@ -19,7 +19,7 @@ use Rattle.quiesce_core.specs.declared.event.Event.TheVariants.{Begin, Call, Giv
 use Rattle.port_gate.specs.Seats.{MayAsk, MayBegin, MayCall, MayEnd, MayGive, MayHear, MaySee, MaySendMore, MayTake, port_known, serial_served, value_seen}
 use Rattle.gate_rule.specs.Steps.{Adopts, Begins, Hears, IsChange, IsNode, Loads, LooksAt, LooksToCall, Seat, Sees, Takes, did, noted, value_served}
 use Rattle.gate_rule.specs.Views.{change_of, new_seat, node_at, node_of, of_change, of_node, without_seat}
-use Rattle.gate_rule.specs.Worlds.{Holds}
+use Rattle.gate_rule.specs.Traces.{Holds}
 use Rattle.gate_rule.proofs.ChangeStepLaws as change_
 use Rattle.gate_rule.proofs.NodeStepLaws as node_
 use Rattle.gate_rule.proofs.SeatStepLaws as seat_

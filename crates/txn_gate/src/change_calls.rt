@@ -15,7 +15,7 @@ ghost use Rattle.quiesce_core.specs.declared.event.Event.TheVariants as event;
 ghost use Rattle.gate_rule.specs.Views.{change_of, node_of, notes, nothing_done, of_node};
 ghost use Rattle.gate_rule.specs.declared.view.NodeView.{NodeView as NodeFields};
 ghost use Rattle.txn_gate.specs.Calls.{made_node};
-ghost use Rattle.gate_rule.specs.Worlds.{first_words};
+ghost use Rattle.gate_rule.specs.Traces.{first_words};
 
 use crate::change_seat::ChangeSeat;
 use crate::gates::Gates;

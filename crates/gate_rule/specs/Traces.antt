@@ -1,8 +1,9 @@
--- Worlds, and what of them words and seats show. A world is what was done and seen so far, in one order, and who has which seat. It is
--- reached where each event may happen after those before it, each look loaded the word that its port had there, and each sight has
+-- Traces, and what of them words and seats show. A trace is what was done and seen so far, in one order, and who has which seat. It is
+-- that of a run where each event may happen after those before it, each look loaded the word that its port had there, and each sight has
 -- the events that its node had done. The words of ports and slots are those of the state then; what a seat knows of its node are the
 -- node's own events, and what the state has of it; and the change knows the record.
 use Rattle.std.specs.Prelude.{◌≡◌, ◌≢◌, ⊤, ℕ, ◌+◌, ◌<◌, ◌≤◌, true, List, [], ◌∷◌, ◌++◌, replicate, length, slice_index, Some, is_some, option_map, IsTrue}
+use Rattle.std.specs.List.{AllByRecursion}
 use Rattle.atomic_table.specs.Table.{State as Table}
 use Rattle.config_graph.specs.declared.TheConstants.{MAX_NODES, MAX_PORTS}
 use Rattle.gate_records.specs.Records.{IsRecordOf, Moment, events, state_at}
@@ -29,15 +30,15 @@ use lib.ListN.{get_elem?}
 
 -- what was done and seen, and what of it the change has in its record; which seat has the node of each slot, which is the change's, and
 -- for how many slots seats were given out
-pub record World : Type 0 where
+pub record Trace : Type 0 where
   pub moments : List Moment
   pub entries : List Entry
   pub owner : ℕ → ℕ
   pub change : ℕ
   pub seats : ℕ
 
--- a node whose seat wasn't given out has done nothing
-pub record IsReached (w : World) : Type 0 where
+-- it is that of a run, and a node whose seat wasn't given out has done nothing
+pub record IsTrace (w : Trace) : Type 0 where
   pub is_record : IsRecordOf w.entries w.moments
   pub unseated : (n : ℕ) → w.seats ≤ n → done_by n (events w.moments) ≡ []
 
@@ -80,35 +81,30 @@ pub record KnowsNode (es : List Event) (n : NodeView) : Type 0 where
   pub loaded : (l : Loaded) → n.loaded ≡ Some l → IsLoadedOf (state_after es) n.slot l
 
 -- seat `id` has the node
-pub record FitsNode (w : World) (id : ℕ) (n : NodeView) : Type 0 where
+pub record FitsNode (w : Trace) (id : ℕ) (n : NodeView) : Type 0 where
   pub owned : w.owner n.slot ≡ id
   pub seated : n.slot < w.seats
   pub knows : KnowsNode (events w.moments) n
 
 -- seat `id` is the change's
-pub record FitsChange (w : World) (id : ℕ) (c : ChangeView) : Type 0 where
+pub record FitsChange (w : Trace) (id : ℕ) (c : ChangeView) : Type 0 where
   pub change : w.change ≡ id
   pub seats : c.seats ≡ w.seats
   pub entries : c.entries ≡ w.entries
 
--- each of a list
-abbrev pub Every : {A : Type 0} → (A → Type 0) → List A → Type 0
-Every P [] = ⊤
-Every P (x ∷ xs) = P x × Every P xs
-
 -- no two of them are of one slot
-abbrev pub Apart : List NodeView → Type 0
-Apart [] = ⊤
-Apart (n ∷ ns) = Every (λ (m : NodeView). m.slot ≢ n.slot) ns × Apart ns
+abbrev pub HaveOwnSlots : List NodeView → Type 0
+HaveOwnSlots [] = ⊤
+HaveOwnSlots (n ∷ ns) = AllByRecursion (λ (m : NodeView). m.slot ≢ n.slot) ns × HaveOwnSlots ns
 
-pub record Fits (w : World) (id : ℕ) (v : View) : Type 0 where
-  pub nodes : Every (FitsNode w id) v.nodes
-  pub apart : Apart v.nodes
+pub record FitsView (w : Trace) (id : ℕ) (v : View) : Type 0 where
+  pub nodes : AllByRecursion (FitsNode w id) v.nodes
+  pub apart : HaveOwnSlots v.nodes
   pub change : (c : ChangeView) → v.change ≡ Some c → FitsChange w id c
 
 -- a view has the node of this slot; and the change
-abbrev pub HasNode : ℕ → View → Type 0
-HasNode n v = IsTrue (is_among v.nodes n)
+abbrev pub HasSlot : ℕ → View → Type 0
+HasSlot n v = IsTrue (is_among v.nodes n)
 
 abbrev pub HasChange : View → Type 0
 HasChange v = IsTrue (is_some v.change)
@@ -118,17 +114,17 @@ abbrev pub IsThere : List View → ℕ → (View → Type 0) → Type 0
 IsThere views id P = (v : View) × (get_elem? views id ≡ some v) × P v
 
 -- none is lost: each node whose seat was given out is in the view of the seat that has it, and the change in its own
-pub record AreSeated (w : World) (views : List View) : Type 0 where
-  pub nodes : (n : ℕ) → n < w.seats → IsThere views (w.owner n) (HasNode n)
+pub record AreSeated (w : Trace) (views : List View) : Type 0 where
+  pub nodes : (n : ℕ) → n < w.seats → IsThere views (w.owner n) (HasSlot n)
   pub change : IsThere views w.change HasChange
 
 -- the rule
 pub record Holds (t : Table (Unit {0}) View) : Type 0 where
-  pub world : World
-  pub reached : IsReached world
-  pub shows : Shows t.words (state_at world.moments)
-  pub views : (id : ℕ) (v : View) → get_elem? t.views id ≡ some v → Fits world id v
-  pub seated : AreSeated world t.views
+  pub trace : Trace
+  pub reached : IsTrace trace
+  pub shows : Shows t.words (state_at trace.moments)
+  pub views : (id : ℕ) (v : View) → get_elem? t.views id ≡ some v → FitsView trace id v
+  pub seated : AreSeated trace t.views
 
 -- the words at the beginning: those of ports and of slots that were never made
 abbrev pub first_words : List ℕ

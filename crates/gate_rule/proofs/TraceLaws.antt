@@ -1,5 +1,6 @@
--- What the words and the views show after a step: of a world with one event, look or sight more, or of the same world.
+-- What the words and the views show after a step: of a trace with one event, look or sight more, or of the same trace.
 use Rattle.std.proofs.Common.{◌≡◌, ◌≢◌, ◌∙◌, ℕ, zero, suc, ◌+◌, ◌<◌, ◌⊎◌, inl, inr, true, false, ◌||◌, cond, List, [], ◌∷◌, ◌++◌, length, set, Some, None, refl, sym, ap, subst, ⊎_elim, arith}
+use Rattle.std.specs.List.{AllByRecursion}
 use Rattle.std.specs.Prelude.{◌==◌, slice_index}
 use Rattle.std.proofs.lemmas.Bool.{cases_eq}
 use Rattle.std.proofs.lemmas.List.{append-nil, get_or-set_other, get_or-set_same, length-set, set-get_or}
@@ -25,7 +26,7 @@ use Rattle.quiesce_core.specs.declared.event.Event.{Event}
 use Rattle.quiesce_core.proofs.RunLaws.{changes_are_of_no_node, done_by_more, runs_are_consistent, state_more}
 use Rattle.quiesce_core.proofs.WordLaws.{port_word_stays, slot_word_stays}
 use Rattle.gate_rule.specs.Views.{does, nobody, notes, of_change, of_node}
-use Rattle.gate_rule.specs.Worlds.{AreSeated, Every, Fits, FitsChange, FitsNode, HasChange, HasNode, Holds, IsReached, IsThere, KnowsNode, Shows, World}
+use Rattle.gate_rule.specs.Traces.{AreSeated, FitsView, FitsChange, FitsNode, HasChange, HasSlot, Holds, IsTrace, IsThere, KnowsNode, Shows, Trace}
 use Rattle.gate_rule.specs.declared.view.ChangeView.{ChangeView}
 use Rattle.gate_rule.specs.declared.view.NodeView.{NodeView}
 use Rattle.gate_rule.specs.declared.view.View.{View}
@@ -76,48 +77,48 @@ same_words words i = set-get_or words i 0
 
 -- ---- views
 
-pub all_into : {A : Type 0} (P Q : A → Type 0) (xs : List A) → ((x : A) → P x → Q x) → Every P xs → Every Q xs
+pub all_into : {A : Type 0} (P Q : A → Type 0) (xs : List A) → ((x : A) → P x → Q x) → AllByRecursion P xs → AllByRecursion Q xs
 all_into P Q [] f all = tt
 all_into P Q (x ∷ xs) f all = (f x all.0, all_into P Q xs f all.1)
 
 -- what becomes of a view that fits, where that of all seats but one does
-pub record Passes (w w' : World) (id : ℕ) : Type 0 where
+pub record Passes (w w' : Trace) (id : ℕ) : Type 0 where
   pub nodes : (j : ℕ) (n : NodeView) → j ≢ id → FitsNode w j n → FitsNode w' j n
   pub change : (j : ℕ) (c : ChangeView) → j ≢ id → FitsChange w j c → FitsChange w' j c
 
-pub passes_view : (w w' : World) (id j : ℕ) (v : View) → Passes w w' id → j ≢ id → Fits w j v → Fits w' j v
+pub passes_view : (w w' : Trace) (id j : ℕ) (v : View) → Passes w w' id → j ≢ id → FitsView w j v → FitsView w' j v
 passes_view w w' id j v pass apart fits = record {
   nodes = all_into (FitsNode w j) (FitsNode w' j) v.nodes (λ n. pass.nodes j n apart) fits.nodes;
   apart = fits.apart;
   change = λ c at. pass.change j c apart (fits.change c at);
 }
 
--- the rule holds of new words and a new view, where the others' views fit the new world
-pub holds_next : (t : Table (Unit {0}) View) (h : Holds t) (w : World) (words : List ℕ) (homes : List (Maybe (Unit {0}))) (id : ℕ) (v : View) → IsReached w → Shows words (state_at w.moments)
-    → Passes h.world w id → Fits w id v → AreSeated w (set t.views id v) → Holds (record { words = words; homes = homes; views = set t.views id v })
+-- the rule holds of new words and a new view, where the others' views fit the new trace
+pub holds_next : (t : Table (Unit {0}) View) (h : Holds t) (w : Trace) (words : List ℕ) (homes : List (Maybe (Unit {0}))) (id : ℕ) (v : View) → IsTrace w → Shows words (state_at w.moments)
+    → Passes h.trace w id → FitsView w id v → AreSeated w (set t.views id v) → Holds (record { words = words; homes = homes; views = set t.views id v })
 holds_next t h w words homes id v reached shows pass fits seated = record {
-  world = w;
+  trace = w;
   reached = reached;
   shows = shows;
   views = λ j u at. ⊎_elim
-      (λ (x : (j ≡ id) × (v ≡ u)). subst (λ (y : ℕ × View). Fits w y.0 y.1) (λ i. (sym x.0 i, x.1 i)) fits)
-      (λ (x : (j ≢ id) × (get_elem? t.views j ≡ some u)). passes_view h.world w id j u pass x.0 (h.views j u x.1))
+      (λ (x : (j ≡ id) × (v ≡ u)). subst (λ (y : ℕ × View). FitsView w y.0 y.1) (λ i. (sym x.0 i, x.1 i)) fits)
+      (λ (x : (j ≢ id) × (get_elem? t.views j ≡ some u)). passes_view h.trace w id j u pass x.0 (h.views j u x.1))
       (at_set t.views id j v u at);
   seated = seated;
 }
 
 -- a seat is taken in by another
-pub holds_joined : (t : Table (Unit {0}) View) (w : World) (id other : ℕ) (both : View) (homes : List (Maybe (Unit {0}))) → IsReached w → Shows t.words (state_at w.moments)
-    → ((j : ℕ) (u : View) → j ≢ id → j ≢ other → get_elem? t.views j ≡ some u → Fits w j u) → Fits w id both
+pub holds_joined : (t : Table (Unit {0}) View) (w : Trace) (id other : ℕ) (both : View) (homes : List (Maybe (Unit {0}))) → IsTrace w → Shows t.words (state_at w.moments)
+    → ((j : ℕ) (u : View) → j ≢ id → j ≢ other → get_elem? t.views j ≡ some u → FitsView w j u) → FitsView w id both
     → AreSeated w (set (set t.views id both) other nobody) → Holds (record { words = t.words; homes = homes; views = set (set t.views id both) other nobody })
 holds_joined t w id other both homes reached shows others fits seated = record {
-  world = w;
+  trace = w;
   reached = reached;
   shows = shows;
   views = λ j u at. ⊎_elim
-      (λ (x : (j ≡ other) × (nobody ≡ u)). subst (Fits w j) x.1 (record { nodes = tt; apart = tt; change = λ c is. absurd (cc is) }))
+      (λ (x : (j ≡ other) × (nobody ≡ u)). subst (FitsView w j) x.1 (record { nodes = tt; apart = tt; change = λ c is. absurd (cc is) }))
       (λ (x : (j ≢ other) × (get_elem? (set t.views id both) j ≡ some u)). ⊎_elim
-      (λ (y : (j ≡ id) × (both ≡ u)). subst (λ (z : ℕ × View). Fits w z.0 z.1) (λ i. (sym y.0 i, y.1 i)) fits)
+      (λ (y : (j ≡ id) × (both ≡ u)). subst (λ (z : ℕ × View). FitsView w z.0 z.1) (λ i. (sym y.0 i, y.1 i)) fits)
       (λ (y : (j ≢ id) × (get_elem? t.views j ≡ some u)). others j u y.0 x.0 y.1)
       (at_set t.views id j both u x.1))
       (at_set (set t.views id both) other j nobody u at);
@@ -132,20 +133,20 @@ at_more (x ∷ xs) v u zero e = inl e
 at_more (x ∷ xs) v u (suc n) e = ⊎_elim inl (λ y. inr (ap suc y.0, y.1)) (at_more xs v u n e)
 
 -- a seat's view is cut in two
-pub holds_parted : (t : Table (Unit {0}) View) (w : World) (id : ℕ) (left right : View) (homes : List (Maybe (Unit {0}))) → IsReached w → Shows t.words (state_at w.moments)
-    → ((j : ℕ) (u : View) → j ≢ id → get_elem? t.views j ≡ some u → Fits w j u) → Fits w id left → Fits w (length t.views) right
+pub holds_parted : (t : Table (Unit {0}) View) (w : Trace) (id : ℕ) (left right : View) (homes : List (Maybe (Unit {0}))) → IsTrace w → Shows t.words (state_at w.moments)
+    → ((j : ℕ) (u : View) → j ≢ id → get_elem? t.views j ≡ some u → FitsView w j u) → FitsView w id left → FitsView w (length t.views) right
     → AreSeated w (set t.views id left ++ right ∷ []) → Holds (record { words = t.words; homes = homes; views = set t.views id left ++ right ∷ [] })
 holds_parted t w id left right homes reached shows others fits new seated = record {
-  world = w;
+  trace = w;
   reached = reached;
   shows = shows;
   views = λ j u at. ⊎_elim
       (λ (x : get_elem? (set t.views id left) j ≡ some u). ⊎_elim
-      (λ (y : (j ≡ id) × (left ≡ u)). subst (λ (z : ℕ × View). Fits w z.0 z.1) (λ i. (sym y.0 i, y.1 i)) fits)
+      (λ (y : (j ≡ id) × (left ≡ u)). subst (λ (z : ℕ × View). FitsView w z.0 z.1) (λ i. (sym y.0 i, y.1 i)) fits)
       (λ (y : (j ≢ id) × (get_elem? t.views j ≡ some u)). others j u y.0 y.1)
       (at_set t.views id j left u x))
       (λ (x : (j ≡ length (set t.views id left)) × (right ≡ u)).
-      subst (λ (z : ℕ × View). Fits w z.0 z.1) (λ i. ((sym (length-set t.views id left) ∙ sym x.0) i, x.1 i)) new)
+      subst (λ (z : ℕ × View). FitsView w z.0 z.1) (λ i. ((sym (length-set t.views id left) ∙ sym x.0) i, x.1 i)) new)
       (at_more (set t.views id left) right u j at);
   seated = seated;
 }
@@ -171,13 +172,13 @@ there_before views v P j there = (there.0, at_longer views (v ∷ []) j there.0 
 
 -- whoever has a seat has it still
 pub record Keeps (u v : View) : Type 0 where
-  pub nodes : (n : ℕ) → HasNode n u → HasNode n v
+  pub nodes : (n : ℕ) → HasSlot n u → HasSlot n v
   pub change : HasChange u → HasChange v
 
-seated_next : (w : World) (ms : List Moment) (r : List Entry) (views : List View) (id : ℕ) (u v : View) → get_elem? views id ≡ some u → Keeps u v → AreSeated w views
+seated_next : (w : Trace) (ms : List Moment) (r : List Entry) (views : List View) (id : ℕ) (u v : View) → get_elem? views id ≡ some u → Keeps u v → AreSeated w views
     → AreSeated (record w { moments = ms; entries = r }) (set views id v)
 seated_next w ms r views id u v at keeps seated = record {
-  nodes = λ n few. stays_there views id u v at (HasNode n) (w.owner n) (keeps.nodes n) (seated.nodes n few);
+  nodes = λ n few. stays_there views id u v at (HasSlot n) (w.owner n) (keeps.nodes n) (seated.nodes n few);
   change = stays_there views id u v at HasChange w.change keeps.change seated.change;
 }
 
@@ -188,7 +189,7 @@ node_keeps n n' same = record { nodes = λ m h. subst (λ k. (k == m || false) �
 change_keeps : (nodes : List NodeView) (c c' : ChangeView) → Keeps (of_change nodes c) (of_change nodes c')
 change_keeps nodes c c' = record { nodes = λ m h. h; change = λ h. h }
 
--- ---- worlds
+-- ---- traces
 
 -- the events, with one more
 event_more : (ms : List Moment) (e : Event) → events (ms ++ by_node e ∷ []) ≡ events ms ++ e ∷ []
@@ -202,8 +203,8 @@ done_still : (n : ℕ) (es : List Event) (e : Event) → is_doer (state_after es
 done_still n es e other = done_by_more n es e ∙ ap (λ b. done_by n es ++ cond b (e ∷ []) []) other ∙ append-nil (done_by n es)
 
 module _ (t : Table (Unit {0}) View) (h : Holds t) (id : ℕ) (homes : List (Maybe (Unit {0}))) where
-  abbrev w : World
-  w = h.world
+  abbrev w : Trace
+  w = h.trace
 
   abbrev es : List Event
   es = events w.moments
@@ -220,7 +221,7 @@ module _ (t : Table (Unit {0}) View) (h : Holds t) (id : ℕ) (homes : List (May
       let more_ = event_more w.moments e in
       let now = node_more w.entries w.moments e h.reached.is_record by_node_ may in
       let run : IsRun (es ++ e ∷ []) = subst IsRun more_ now.runs in
-      let w' : World = record w { moments = w.moments ++ by_node e ∷ [] } in
+      let w' : Trace = record w { moments = w.moments ++ by_node e ∷ [] } in
       holds_next t h w' words homes id (of_node (does n' e))
       (record {
         is_record = now;
@@ -252,7 +253,7 @@ module _ (t : Table (Unit {0}) View) (h : Holds t) (id : ℕ) (homes : List (May
       let now = did_more w.entries w.moments e h.reached.is_record change may in
       let run : IsRun (es ++ e ∷ []) = subst IsRun more_ now.runs in
       let nobody_ : doer s e ≡ None = (changes_are_of_no_node s e (runs_are_consistent es h.reached.is_record.runs) may).0 change in
-      let w' : World = record w { moments = w.moments ++ entry (Did e) ∷ []; entries = w.entries ++ Did e ∷ [] } in
+      let w' : Trace = record w { moments = w.moments ++ entry (Did e) ∷ []; entries = w.entries ++ Did e ∷ [] } in
       let node : (j : ℕ) (u : NodeView) → FitsNode w j u → FitsNode w' j u =
       λ j u f. record { owned = f.owned; seated = f.seated; knows = subst (λ es. KnowsNode es u) (sym more_) (known_stays es e run u f.knows (no_doer s u.slot e nobody_)) } in
       holds_next t h w' words homes id (of_change nodes (notes c (Did e)))
@@ -277,7 +278,7 @@ module _ (t : Table (Unit {0}) View) (h : Holds t) (id : ℕ) (homes : List (May
       let fit = h.views id (of_change nodes c) at in
       let mine = fit.change c refl in
       let more_ = quiet_events w.moments x quiet in
-      let w' : World = record w { moments = w.moments ++ entry x ∷ []; entries = w.entries ++ x ∷ [] } in
+      let w' : Trace = record w { moments = w.moments ++ entry x ∷ []; entries = w.entries ++ x ∷ [] } in
       let node : (j : ℕ) (u : NodeView) → FitsNode w j u → FitsNode w' j u =
       λ j u f. record { owned = f.owned; seated = f.seated; knows = subst (λ es. KnowsNode es u) (sym more_) f.knows } in
       holds_next t h w' t.words homes id (of_change nodes (notes c x))
@@ -295,7 +296,7 @@ module _ (t : Table (Unit {0}) View) (h : Holds t) (id : ℕ) (homes : List (May
       })
       (seated_next w w'.moments w'.entries t.views id (of_change nodes c) (of_change nodes (notes c x)) at (change_keeps nodes c (notes c x)) h.seated)
 
-  -- a node learns something of the world as it is
+  -- a node learns something of the trace as it is
   pub learns : (n n' : NodeView) → get_elem? t.views id ≡ some (of_node n) → n'.slot ≡ n.slot → (KnowsNode es n → KnowsNode es n')
       → Holds (record { words = t.words; homes = homes; views = set t.views id (of_node n') })
   learns n n' at same knows =
