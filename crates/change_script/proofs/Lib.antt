@@ -7,6 +7,7 @@ pub mod WritingLemmas
 pub mod ReportTextLemmas
 pub mod ScriptLineLemmas
 pub mod ScriptFileLaws
+pub mod ScriptOrderLaws
 pub mod MoveLemmas
 pub mod ScriptWordLemmas
 pub mod ScriptFormLaws

@@ -1,9 +1,8 @@
 -- The first of the parts of a text, and the parts behind it.
 use Rattle.std.proofs.Common.{◌≡◌, ℕ, suc, ◌+◌, ◌-◌, ◌<◌, ◌≤◌, Bool, true, not, inl, inr, List, [], ◌∷◌, take, drop, length, arith, refl, sym, ap, ◌∙◌}
 use Rattle.std.specs.List.{prefix_len, slice_split, onto_first}
-use Rattle.std.proofs.lemmas.Bool.{cond-true, cond-false}
+use Rattle.std.proofs.lemmas.Bool.{cond-true, cond-false, cases_Bool}
 use Rattle.change_script.specs.Lines.{Line, is_statement, statements_of, trimmed}
-use Rattle.change_script.proofs.TokenLemmas.{either}
 use Rattle.base.proofs.PlaceLaws.{rest_is}
 
 -- A byte that passes ends the first part.
@@ -12,7 +11,7 @@ pub cut_here : (p : ℕ → Bool) (bytes : List ℕ) → prefix_len (λ b. not (
 cut_here p [] within = absurd (omega arith)
 cut_here p (b ∷ bs) within =
     let n : ℕ = prefix_len (λ b. not (p b)) bs in
-    elim (either (p b)) [
+    elim (cases_Bool (p b)) [
       | inl holds ↦
           let none : prefix_len (λ b. not (p b)) (b ∷ bs) ≡ 0 = cond-false _ _ _ (ap not holds) in
           cond-true _ _ _ holds ∙ sym (ap (λ k. take k (b ∷ bs) ∷ slice_split p (drop (k + 1) (b ∷ bs))) none)
@@ -26,7 +25,7 @@ cut_here p (b ∷ bs) within =
 pub cut_none : (p : ℕ → Bool) (bytes : List ℕ) → length bytes ≤ prefix_len (λ b. not (p b)) bytes → slice_split p bytes ≡ bytes ∷ []
 cut_none p [] all = refl
 cut_none p (b ∷ bs) all =
-    elim (either (p b)) [
+    elim (cases_Bool (p b)) [
       | inl holds ↦ let none : prefix_len (λ b. not (p b)) (b ∷ bs) ≡ 0 = cond-false _ _ _ (ap not holds) in absurd (omega arith)
       | inr fails ↦
           let more : prefix_len (λ b. not (p b)) (b ∷ bs) ≡ 1 + prefix_len (λ b. not (p b)) bs = cond-true _ _ _ (ap not fails) in

@@ -2,7 +2,7 @@
 use Rattle.std.proofs.Common.{◌≡◌, ℕ, inl, inr, Bool, true, false, not, ◌&&◌, ◌||◌, nat_eq, List, [], ◌∷◌, ◌++◌, drop, Option, Some, None, Ok, Err, codes, refl, sym, ap, subst, ◌∙◌}
 use Rattle.std.specs.Prelude.{◌↔◌}
 use Rattle.std.specs.List.{list_all, prefix_len, starts_with}
-use Rattle.std.proofs.lemmas.Bool.{cond-true, cond-false, and_parts}
+use Rattle.std.proofs.lemmas.Bool.{cond-true, cond-false, and_parts, cases_Bool}
 use Rattle.std.proofs.lemmas.Bool.Decides.{Decides-eqb}
 use Rattle.std.proofs.lemmas.Slice.Eq.{starts_is}
 use Rattle.change_script.specs.declared.script.Body.{Body}
@@ -11,7 +11,7 @@ use Rattle.change_script.specs.Tokens.{word, is_blank, is_sign, is_arrow, begins
 use Rattle.change_script.specs.ScriptWords.{Words, file, start, run, change, finish, show, stop, is_blankless, without_blanks, name_behind, file_in, words_or_file, words_in_tokens, words_in}
 use Rattle.change_script.specs.ScriptForms.{UsesFile, IsSpelledBy, IsSpelled, are_right, HasForm}
 use Rattle.change_script.specs.ScriptLines.{keep_limits, body_of, meaning_of, meaning, Means, IsTooBig}
-use Rattle.change_script.proofs.TokenLemmas.{either, drop_one_more, word_front}
+use Rattle.change_script.proofs.TokenLemmas.{drop_one_more, word_front}
 use Rattle.change_script.proofs.ScriptWordLemmas.{tested, tokens_found, tokens_read}
 
 -- Blanks in front of a name are passed over.
@@ -53,7 +53,7 @@ further_blank b bs holds more = record {
 blanks_of : (text : List ℕ) → begins_blank text ≡ true → Blanks text
 blanks_of [] holds = cc
 blanks_of (b ∷ bs) holds =
-    elim (either (begins_blank bs)) [
+    elim (cases_Bool (begins_blank bs)) [
       | inl more ↦ further_blank b bs holds (blanks_of bs more)
       | inr last ↦ record { blank = b; blanks = []; all = ap (λ x. x && true) holds; is = ap (λ xs. b ∷ xs) (sym (blank_skipped b bs holds ∙ none_skipped bs last)) }
     ]

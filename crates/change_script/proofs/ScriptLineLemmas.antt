@@ -2,13 +2,12 @@
 use Rattle.std.proofs.Common.{◌≡◌, ℕ, true, false, List, IsTrue, ◌&&◌, Result, Ok, Err, sym, rules}
 use Rattle.std.specs.List.{list_all}
 use Rattle.std.specs.Str.{IsUtf8, is_utf8}
-use Rattle.std.proofs.lemmas.Bool.{and_parts}
+use Rattle.std.proofs.lemmas.Bool.{and_parts, cases_Bool}
 use Rattle.std.proofs.lemmas.Str.{is_utf8-from_IsUtf8, IsUtf8-from_is_utf8}
 use Rattle.change_script.specs.Numbers.{is_integer, is_number}
 use Rattle.change_script.specs.Paths.{is_name}
 use Rattle.change_script.specs.ScriptWords.{Ends, change}
 use Rattle.change_script.specs.ScriptForms.{are_paths, are_right}
-use Rattle.change_script.proofs.TokenLemmas.{either}
 use Rattle.std.specs.Prelude.{MatchResult, is_ok}
 use Rattle.std.proofs.Common.{inl, inr}
 
@@ -20,7 +19,7 @@ within_right name args within moves right =
     search rules
 
 not_utf8 : (bytes : List ℕ) → (IsUtf8 bytes → ⊥) → is_utf8 bytes ≡ false
-not_utf8 bytes never = elim (either (is_utf8 bytes)) [ inl holds ↦ absurd (never (IsUtf8-from_is_utf8 bytes holds)) | inr fails ↦ fails ]
+not_utf8 bytes never = elim (cases_Bool (is_utf8 bytes)) [ inl holds ↦ absurd (never (IsUtf8-from_is_utf8 bytes holds)) | inr fails ↦ fails ]
 
 -- Bytes are UTF-8 exactly where they are read as such.
 pub utf8_is : {T E : Type 0} (bytes : List ℕ) (P : T → Type 0) (Q : E → Type 0) (r : Result T E) → MatchResult r (λ s. P s × IsUtf8 bytes) (λ e. (IsUtf8 bytes → ⊥) × Q e) → is_ok r ≡ is_utf8 bytes

@@ -6,7 +6,7 @@ use Rattle.change_script.specs.declared.script_words.ScriptVerb.{ScriptVerb}
 use Rattle.change_script.specs.declared.script_words.ScriptVerb.TheVariants as verbs
 use Rattle.change_script.specs.Tokens.{Token, word, opened, closed, comma, arrow}
 use Rattle.change_script.specs.Arguments.{more_arguments, arguments, at_end}
-use Rattle.change_script.specs.ScriptWords.{Ends, Words, file, start, run, change, finish, show, stop, verb_bytes, verb_named, all_verbs, optional_arguments, within_at, more_moves, moves_in, start_with, start_words, one_word, within_and_moves, change_within, change_with, change_head, change_of, where_empty, words_behind, words_behind_named, words_in_tokens}
+use Rattle.change_script.specs.ScriptWords.{Ends, Words, file, start, run, change, finish, show, stop, script_verb_bytes, script_verb_named, script_verbs, optional_arguments, within_at, more_moves, moves_in, start_with, start_words, one_word, within_and_moves, change_within, change_with, change_head, change_of, where_empty, words_behind, words_behind_named, words_in_tokens}
 use Rattle.change_script.specs.ScriptForms.{argument_tokens, AreArguments, move_tokens, moving_tokens, IsSpelledBy}
 
 abbrev Found : Type 0
@@ -165,8 +165,8 @@ empty_found : (words found : Words) (ts : List Token) → where_empty words ts �
 empty_found words found [] e = let is : words ≡ found = cc in (refl, sym is)
 empty_found words found (t ∷ ts) e = cc
 
-verb_found : (name : List ℕ) (verb : ScriptVerb) → verb_named name ≡ Some verb → name ≡ verb_bytes verb
-verb_found name verb e = sym (same_bytes (verb_bytes verb) name (find_passes (λ v. bytes_eq (verb_bytes v) name) all_verbs verb e))
+verb_found : (name : List ℕ) (verb : ScriptVerb) → script_verb_named name ≡ Some verb → name ≡ script_verb_bytes verb
+verb_found name verb e = sym (same_bytes (script_verb_bytes verb) name (find_passes (λ v. bytes_eq (script_verb_bytes v) name) script_verbs verb e))
 
 -- Statements: the words found behind a verb spell the line.
 start_found : (ts : List Token) (words : Words) → start_words ts ≡ Some words → IsSpelledBy (word (codes "start") ∷ ts) words
@@ -213,7 +213,7 @@ finish_found ts words e =
     let count = mapped (λ count. finish count) (at_end (within_at ts)) words e in
     subst (IsSpelledBy (word (codes "finish") ∷ ts)) (sym count.2) (ap (λ ts. word (codes "finish") ∷ ts) (within_found ts (count.0, []) (ended (within_at ts) count.0 count.1)))
 
-behind_found : (verb : ScriptVerb) (ts : List Token) (words : Words) → words_behind verb ts ≡ Some words → IsSpelledBy (word (verb_bytes verb) ∷ ts) words
+behind_found : (verb : ScriptVerb) (ts : List Token) (words : Words) → words_behind verb ts ≡ Some words → IsSpelledBy (word (script_verb_bytes verb) ∷ ts) words
 behind_found verbs.Start ts words e = start_found ts words e
 behind_found verbs.Run ts words e = run_found ts words e
 behind_found verbs.Change ts words e = change_at ts (change_head ts) words refl e
@@ -221,13 +221,13 @@ behind_found verbs.Finish ts words e = finish_found ts words e
 behind_found verbs.Show ts words e = let both = empty_found show words ts e in subst (IsSpelledBy (word (codes "show") ∷ ts)) (sym both.1) (ap (λ ts. word (codes "show") ∷ ts) both.0)
 behind_found verbs.Stop ts words e = let both = empty_found stop words ts e in subst (IsSpelledBy (word (codes "end") ∷ ts)) (sym both.1) (ap (λ ts. word (codes "end") ∷ ts) both.0)
 
-named_found : (name : List ℕ) (rest : List Token) (o : Option ScriptVerb) (words : Words) → verb_named name ≡ o → words_behind_named o rest ≡ Some words → IsSpelledBy (word name ∷ rest) words
+named_found : (name : List ℕ) (rest : List Token) (o : Option ScriptVerb) (words : Words) → script_verb_named name ≡ o → words_behind_named o rest ≡ Some words → IsSpelledBy (word name ∷ rest) words
 named_found name rest None words is e = cc
 named_found name rest (Some verb) words is e = subst (λ n. IsSpelledBy (word n ∷ rest) words) (sym (verb_found name verb is)) (behind_found verb rest words e)
 
 -- The words that are found spell the tokens.
 pub tokens_found : (ts : List Token) (words : Words) → words_in_tokens ts ≡ Some words → IsSpelledBy ts words
-tokens_found (word name ∷ rest) words e = named_found name rest (verb_named name) words refl e
+tokens_found (word name ∷ rest) words e = named_found name rest (script_verb_named name) words refl e
 tokens_found _ words e = cc
 
 start_read : (name : List ℕ) (args : List (List ℕ)) (given : List Token) → AreArguments args given → words_in_tokens (word (codes "start") ∷ word name ∷ given) ≡ Some (start name args)

@@ -1,10 +1,10 @@
 -- The line that writes a statement means it.
-use Rattle.std.proofs.Common.{◌≡◌, ◌<◌, ◌^◌, ℕ, suc, ℤ, pos, negsuc, neg_ℤ, not, ◌&&◌, ◌==◌, Bool, true, false, inr, List, [], ◌∷◌, ◌++◌, map, Ok, codes, decimal, refl, sym, ap, ◌∙◌, arith, append_assoc, append-nil}
+use Rattle.std.proofs.Common.{◌≡◌, ◌<◌, ◌^◌, ℕ, suc, ℤ, pos, negsuc, neg_ℤ, not, ◌&&◌, ◌==◌, true, false, inr, List, [], ◌∷◌, ◌++◌, map, Ok, codes, decimal, refl, sym, ap, ◌∙◌, arith, append_assoc, append-nil}
 use Rattle.std.specs.List.{AllByRecursion, flat_map, list_all}
 use Rattle.std.specs.Fmt.{signed_decimal}
 use Rattle.std.specs.Char.{digit_value}
 use Rattle.std.specs.Str.Parse.{IsNumeral}
-use Rattle.std.proofs.lemmas.Bool.{cond-false}
+use Rattle.std.proofs.lemmas.Bool.{cond-false, and_from}
 use Rattle.std.proofs.lemmas.Bool.Decides.{nat_tests}
 use Rattle.std.proofs.lemmas.Fmt.{decimal_is_IsNumeral}
 use Rattle.change_plan.specs.declared.plan_data.Move.{Move}
@@ -182,9 +182,6 @@ moves_value : (moves : List Move) → map move_of (map ends moves) ≡ moves
 moves_value [] = refl
 moves_value (first ∷ more) = ap (λ xs. first ∷ xs) (moves_value more)
 
-all_of : (a b : Bool) → a ≡ true → b ≡ true → a && b ≡ true
-all_of a b p q = ap (λ x. x && b) p ∙ q
-
 start_means : (name : List ℕ) (args : List ℤ) → IsWrittenName name → AllByRecursion IsInteger args → Means (statement_text (bodies.Start name args)) (bodies.Start name args)
 start_means name args is all =
     let words = map signed_decimal args in
@@ -193,7 +190,7 @@ start_means name args is all =
     ap tokens (sym (append-nil text) ∙ system_before (codes "start") name args []) ∙ front_word (codes "start") (in_parentheses name args []) refl refl
     ∙ ap (λ ts. word (codes "start") ∷ ts) (system_tokens name args [] is all) ∙ ap (λ ts. word (codes "start") ∷ word name ∷ opened ∷ ts) (append-nil (argument_tokens words)) in (
       start name words,
-      ((opened ∷ argument_tokens words, inr refl, spelled), all_of (is_name name) (list_all is_integer words) is.1 (integers_right args all)),
+      ((opened ∷ argument_tokens words, inr refl, spelled), and_from (is_name name) (list_all is_integer words) is.1 (integers_right args all)),
       integers_small args all,
       ap (bodies.Start name) (sym (integers_value args all)),
     )
@@ -212,10 +209,10 @@ change_means name args within moves is all small moved =
     ∙ ap (λ ts. word (codes "change") ∷ word (codes "to") ∷ ts) (system_tokens name args behind is all)
     ∙ ap (λ ts. word (codes "change") ∷ word (codes "to") ∷ word name ∷ opened ∷ (argument_tokens words ++ ts)) (within_tokens within (moving_text moves) small (moving_ends moves))
     ∙ ap (λ ts. word (codes "change") ∷ word (codes "to") ∷ word name ∷ opened ∷ (argument_tokens words ++ (word (codes "within") ∷ word (decimal within) ∷ ts))) (moving_are moves moved) in
-    let right = all_of (is_name name && list_all is_integer words && is_number (decimal within)) (list_all are_paths (map ends moves))
-    (all_of (is_name name && list_all is_integer words) (is_number (decimal within)) (all_of (is_name name) (list_all is_integer words) is.1 (integers_right args all)) d.is_one) (moves_right moves moved) in
-    let fits = all_of (list_all integer_fits words && number_fits (decimal within)) (list_all paths_fit (map ends moves))
-    (all_of (list_all integer_fits words) (number_fits (decimal within)) (integers_small args all) d.fits) (moves_small moves moved) in (
+    let right = and_from (is_name name && list_all is_integer words && is_number (decimal within)) (list_all are_paths (map ends moves))
+    (and_from (is_name name && list_all is_integer words) (is_number (decimal within)) (and_from (is_name name) (list_all is_integer words) is.1 (integers_right args all)) d.is_one) (moves_right moves moved) in
+    let fits = and_from (list_all integer_fits words && number_fits (decimal within)) (list_all paths_fit (map ends moves))
+    (and_from (list_all integer_fits words) (number_fits (decimal within)) (integers_small args all) d.fits) (moves_small moves moved) in (
       change name words (decimal within) (map ends moves),
       ((opened ∷ argument_tokens words, inr refl, spelled), right),
       fits,

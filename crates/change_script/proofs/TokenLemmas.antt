@@ -1,14 +1,10 @@
 -- What the tokens of a line are by its first byte, and by its first word.
-use Rattle.std.proofs.Common.{◌≡◌, ℕ, zero, suc, ◌+◌, Bool, true, false, not, ◌||◌, ◌&&◌, ◌==◌, ◌-◌, ◌≤◌, length, ◌⊎◌, inl, inr, List, [], ◌∷◌, ◌++◌, take, drop, refl, sym, ap, ◌∙◌, arith}
+use Rattle.std.proofs.Common.{◌≡◌, ℕ, zero, suc, ◌+◌, Bool, true, false, not, ◌||◌, ◌&&◌, ◌==◌, ◌-◌, ◌≤◌, length, inl, inr, List, [], ◌∷◌, ◌++◌, take, drop, refl, sym, ap, ◌∙◌, arith}
 use Rattle.std.specs.List.{prefix_len, list_all}
-use Rattle.std.proofs.lemmas.Bool.{cond-true, cond-false, and_parts}
+use Rattle.std.proofs.lemmas.Bool.{cond-true, cond-false, and_parts, cases_Bool}
 use Rattle.std.proofs.lemmas.Bool.Decides.{nat_tests}
 use Rattle.std.proofs.lemmas.Grind.{common_steps}
 use Rattle.change_script.specs.Tokens.{Token, word, opened, closed, comma, arrow, is_blank, begins_blank, is_sign, sign, is_word_byte, is_arrow, begins_word, is_word, word_len, onto_word, tokens, tokens_behind}
-
-pub either : (b : Bool) → (b ≡ true) ⊎ (b ≡ false)
-either true = inl refl
-either false = inr refl
 
 pub drop_one_more : {A : Type 0} (k : ℕ) (x : A) (xs : List A) → drop (1 + k) (x ∷ xs) ≡ drop k xs
 drop_one_more k x xs = let e : 1 + k ≡ suc k = omega arith in ap (λ n. drop n (x ∷ xs)) e
@@ -35,7 +31,7 @@ skip_no b bs fails = ap (λ n. tokens (drop n (b ∷ bs))) (cond-false _ _ _ fai
 -- Blanks before a line's first token change nothing.
 pub blanks_skipped : (line : List ℕ) → tokens (drop (prefix_len is_blank line) line) ≡ tokens line
 blanks_skipped [] = refl
-blanks_skipped (b ∷ bs) = elim (either (is_blank b)) [ inl holds ↦ skip_yes b bs holds (blanks_skipped bs) | inr fails ↦ skip_no b bs fails ]
+blanks_skipped (b ∷ bs) = elim (cases_Bool (is_blank b)) [ inl holds ↦ skip_yes b bs holds (blanks_skipped bs) | inr fails ↦ skip_no b bs fails ]
 
 -- A byte of a word is none of the others.
 pub record Apart (b : ℕ) (bs : List ℕ) : Type 0 where
@@ -77,7 +73,7 @@ word_first (b ∷ bs) holds =
     let here = at_word b bs a.no_blank a.no_sign a.no_arrow in
     let front : word (take (word_len (b ∷ bs)) (b ∷ bs)) ∷ tokens (drop (word_len (b ∷ bs)) (b ∷ bs)) ≡ word (b ∷ take n bs) ∷ tokens (drop n bs) =
     ap (λ k. word (take k (b ∷ bs)) ∷ tokens (drop k (b ∷ bs))) (cond-true _ _ _ holds) in
-    elim (either (begins_word bs)) [
+    elim (cases_Bool (begins_word bs)) [
       | inl more ↦ here ∙ ap (λ g. onto_word b g (tokens bs)) more ∙ ap (onto_word b true) (word_first bs more) ∙ sym front
       | inr last ↦ here ∙ ap (λ g. onto_word b g (tokens bs)) last ∙ sym (front ∙ ap (λ k. word (b ∷ take k bs) ∷ tokens (drop k bs)) (no_len bs last))
     ]
@@ -118,9 +114,9 @@ pub data First : List ℕ → Type 0 where
 pub first_of_line : (line : List ℕ) → begins_blank line ≡ false → First line
 first_of_line [] fails = at_end
 first_of_line (b ∷ bs) fails =
-    elim (either (is_sign b)) [
+    elim (cases_Bool (is_sign b)) [
       | inl holds ↦ a_sign b bs holds (at_sign b bs fails holds)
-      | inr none ↦ elim (either (is_arrow b bs)) [
+      | inr none ↦ elim (cases_Bool (is_arrow b bs)) [
         | inl holds ↦ an_arrow b bs holds (at_arrow b bs fails none holds)
         | inr no_arrow ↦
             let found = onto_word_is b (begins_word bs) (tokens bs) in
@@ -176,7 +172,7 @@ blank_ends (b ∷ bs) all = let both = and_parts (is_blank b) (list_all is_blank
 pub ends_blank : (line : List ℕ) → tokens line ≡ [] → list_all is_blank line ≡ true
 ends_blank [] e = refl
 ends_blank (b ∷ bs) e =
-    elim (either (is_blank b)) [
+    elim (cases_Bool (is_blank b)) [
       | inl holds ↦ ap (λ blank. blank && list_all is_blank bs) holds ∙ ends_blank bs (sym (at_blank b bs holds) ∙ e)
       | inr fails ↦ absurd (something_at (b ∷ bs) (first_of_line (b ∷ bs) fails) (λ none. cc) e)
     ]
@@ -188,7 +184,7 @@ not_blank b bs fails = ap (λ n. begins_blank (drop n (b ∷ bs))) (cond-false _
 pub no_blank_left : (line : List ℕ) → begins_blank (drop (prefix_len is_blank line) line) ≡ false
 no_blank_left [] = refl
 no_blank_left (b ∷ bs) =
-    elim (either (is_blank b)) [
+    elim (cases_Bool (is_blank b)) [
       | inl holds ↦ ap (λ n. begins_blank (drop n (b ∷ bs))) (cond-true _ _ _ holds) ∙ ap begins_blank (drop_one_more (prefix_len is_blank bs) b bs) ∙ no_blank_left bs
       | inr fails ↦ not_blank b bs fails
     ]
@@ -197,7 +193,7 @@ no_blank_left (b ∷ bs) =
 pub word_at : (line : List ℕ) (n : ℕ) → n ≡ word_len line → n ≤ length line → (n ≡ 0 → ⊥) → tokens line ≡ word (take n line) ∷ tokens (take (length line - n) (drop n line))
 word_at line n is within some =
     let rest : take (length line - n) (drop n line) ≡ drop n line = grind (arith, common_steps) in
-    elim (either (begins_word line)) [
+    elim (cases_Bool (begins_word line)) [
       | inl holds ↦ let first = word_first line holds in rw (rest, is) first
       | inr fails ↦ absurd (some (is ∙ no_len line fails))
     ]
@@ -250,7 +246,7 @@ and_no false y h = refl
 -- No arrow goes past the end of a word.
 no_arrow_over : (b : ℕ) (rest : List ℕ) → begins_word rest ≡ false → is_arrow b rest ≡ false
 no_arrow_over b [] ends = refl
-no_arrow_over b (next ∷ rest) ends = elim (either (next == 62)) [ inl holds ↦ absurd (head_word next rest holds ends) | inr fails ↦ and_no (b == 45) (next == 62) fails ]
+no_arrow_over b (next ∷ rest) ends = elim (cases_Bool (next == 62)) [ inl holds ↦ absurd (head_word next rest holds ends) | inr fails ↦ and_no (b == 45) (next == 62) fails ]
 
 -- The bytes of a word stay those of one before what begins no word.
 last_apart : (b : ℕ) (rest : List ℕ) → begins_word (b ∷ []) ≡ true → begins_word rest ≡ false → Apart b rest

@@ -11,8 +11,8 @@ use Rattle.change_script.specs.declared.verbs.TargetStep.{TargetStep}
 use Rattle.change_script.specs.declared.verbs.TargetStep.TheVariants as target
 use Rattle.change_script.specs.declared.verbs.Single.{Single}
 use Rattle.change_script.specs.declared.verbs.Single.TheVariants as singles
-use Rattle.change_script.specs.declared.verbs.Verb.{Verb}
-use Rattle.change_script.specs.declared.verbs.Verb.TheVariants as verbs
+use Rattle.change_script.specs.declared.verbs.EventVerb.{EventVerb}
+use Rattle.change_script.specs.declared.verbs.EventVerb.TheVariants as verbs
 use Rattle.change_script.specs.declared.error.LineFault.{LineFault}
 use Rattle.change_script.specs.declared.error.LineFault.TheVariants.{Bad, Big}
 use Rattle.change_script.specs.declared.event_lines.Statement.{Statement}
@@ -45,29 +45,29 @@ single_bytes singles.Reopen = codes "reopen"
 single_bytes singles.Unlink = codes "unlink"
 single_bytes singles.Remove = codes "remove"
 
-abbrev pub verb_bytes : Verb → List ℕ
-verb_bytes verbs.Start = codes "start"
-verb_bytes (verbs.Owner step) = owner_bytes step
-verb_bytes (verbs.Target step) = target_bytes step
-verb_bytes (verbs.Single single) = single_bytes single
-verb_bytes verbs.Link = codes "link"
-verb_bytes verbs.Make = codes "make"
+abbrev pub event_verb_bytes : EventVerb → List ℕ
+event_verb_bytes verbs.Start = codes "start"
+event_verb_bytes (verbs.Owner step) = owner_bytes step
+event_verb_bytes (verbs.Target step) = target_bytes step
+event_verb_bytes (verbs.Single single) = single_bytes single
+event_verb_bytes verbs.Link = codes "link"
+event_verb_bytes verbs.Make = codes "make"
 
-abbrev pub owner_verbs : List Verb
+abbrev pub owner_verbs : List EventVerb
 owner_verbs = verbs.Owner owner.Begin ∷ verbs.Owner owner.Call ∷ verbs.Owner owner.Ask ∷ verbs.Owner owner.End ∷ []
 
-abbrev pub target_verbs : List Verb
+abbrev pub target_verbs : List EventVerb
 target_verbs = verbs.Target target.Take ∷ verbs.Target target.More ∷ verbs.Target target.Hear ∷ verbs.Target target.Give ∷ []
 
-abbrev pub single_verbs : List Verb
+abbrev pub single_verbs : List EventVerb
 single_verbs = verbs.Single singles.Miss ∷ verbs.Single singles.Close ∷ verbs.Single singles.Reopen ∷ verbs.Single singles.Unlink ∷ verbs.Single singles.Remove ∷ []
 
-abbrev pub all_verbs : List Verb
-all_verbs = verbs.Start ∷ (owner_verbs ++ (target_verbs ++ (single_verbs ++ (verbs.Link ∷ verbs.Make ∷ []))))
+abbrev pub event_verbs : List EventVerb
+event_verbs = verbs.Start ∷ (owner_verbs ++ (target_verbs ++ (single_verbs ++ (verbs.Link ∷ verbs.Make ∷ []))))
 
 -- the verb of a line that begins with this word
-abbrev pub verb_named : List ℕ → Option Verb
-verb_named name = find (λ verb. bytes_eq (verb_bytes verb) name) all_verbs
+abbrev pub event_verb_named : List ℕ → Option EventVerb
+event_verb_named name = find (λ verb. bytes_eq (event_verb_bytes verb) name) event_verbs
 
 -- NUM
 abbrev pub single_in : List Token → Result ℕ LineFault
@@ -181,7 +181,7 @@ abbrev pub event_line : {A : Type 0} → (A → Event) → Result A LineFault �
 event_line event read = with_value (λ value. statements.Event (event value)) read
 
 -- what stands behind a verb
-abbrev pub meaning_of : Verb → List Token → Result Statement LineFault
+abbrev pub meaning_of : EventVerb → List Token → Result Statement LineFault
 meaning_of verbs.Start rest = start rest
 meaning_of (verbs.Owner step) rest = event_line (owner_event step) (triple_in rest)
 meaning_of (verbs.Target step) rest = event_line (target_event step) (triple_in rest)
@@ -189,11 +189,11 @@ meaning_of (verbs.Single kind) rest = event_line (single_event kind) (single_in 
 meaning_of verbs.Link rest = event_line link_event (triple_in rest)
 meaning_of verbs.Make rest = event_line (λ event. event) (make rest)
 
-abbrev pub meaning_of_named : Option Verb → List Token → Result Statement LineFault
+abbrev pub meaning_of_named : Option EventVerb → List Token → Result Statement LineFault
 meaning_of_named None rest = Err Bad
 meaning_of_named (Some verb) rest = meaning_of verb rest
 
 -- a start, an event, or what is wrong; a line of a form, whose words are what the form asks for, has no number above its limit
 abbrev pub meaning : List Token → Result Statement LineFault
-meaning (word name ∷ rest) = meaning_of_named (verb_named name) rest
+meaning (word name ∷ rest) = meaning_of_named (event_verb_named name) rest
 meaning _ = Err Bad

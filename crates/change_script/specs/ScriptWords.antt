@@ -38,19 +38,19 @@ words_of code.Show = show
 words_of code.Stop = stop
 
 -- the first word of each line but `use`
-abbrev pub verb_bytes : ScriptVerb → List ℕ
-verb_bytes verbs.Start = codes "start"
-verb_bytes verbs.Run = codes "run"
-verb_bytes verbs.Change = codes "change"
-verb_bytes verbs.Finish = codes "finish"
-verb_bytes verbs.Show = codes "show"
-verb_bytes verbs.Stop = codes "end"
+abbrev pub script_verb_bytes : ScriptVerb → List ℕ
+script_verb_bytes verbs.Start = codes "start"
+script_verb_bytes verbs.Run = codes "run"
+script_verb_bytes verbs.Change = codes "change"
+script_verb_bytes verbs.Finish = codes "finish"
+script_verb_bytes verbs.Show = codes "show"
+script_verb_bytes verbs.Stop = codes "end"
 
-abbrev pub all_verbs : List ScriptVerb
-all_verbs = verbs.Start ∷ verbs.Run ∷ verbs.Change ∷ verbs.Finish ∷ verbs.Show ∷ verbs.Stop ∷ []
+abbrev pub script_verbs : List ScriptVerb
+script_verbs = verbs.Start ∷ verbs.Run ∷ verbs.Change ∷ verbs.Finish ∷ verbs.Show ∷ verbs.Stop ∷ []
 
-abbrev pub verb_named : List ℕ → Option ScriptVerb
-verb_named name = find (λ verb. bytes_eq (verb_bytes verb) name) all_verbs
+abbrev pub script_verb_named : List ℕ → Option ScriptVerb
+script_verb_named name = find (λ verb. bytes_eq (script_verb_bytes verb) name) script_verbs
 
 -- no parentheses, or the arguments in them, and what stands behind
 abbrev pub optional_arguments : List Token → Option (List (List ℕ) × List Token)
@@ -135,7 +135,7 @@ words_behind_named None tokens = None
 words_behind_named (Some verb) tokens = words_behind verb tokens
 
 abbrev pub words_in_tokens : List Token → Option Words
-words_in_tokens (word name ∷ rest) = words_behind_named (verb_named name) rest
+words_in_tokens (word name ∷ rest) = words_behind_named (script_verb_named name) rest
 words_in_tokens _ = None
 
 -- one byte or more, and no blank

@@ -11,7 +11,7 @@ use crate::error::{LineError, LineFault, both};
 use crate::numbers::number;
 use crate::paths::{is_name, path};
 use crate::tokens::{after_sign, first_word, is_end};
-use crate::verbs::{Verb, verb_named};
+use crate::verbs::{EventVerb, event_verb_named};
 use config_graph::{Kind, List, NoMemory, Node, Text, kind_of};
 use quiesce_core::Event;
 use std::alloc::Global;
@@ -48,23 +48,23 @@ pub fn meaning(alloc: Global, line: &[u8]) -> Result<Statement, LineError>
     let Some((name, rest)) = first_word(line) else {
         return Err(LineError::Fault(LineFault::Bad));
     };
-    let Some(verb) = verb_named(name) else {
+    let Some(verb) = event_verb_named(name) else {
         return Err(LineError::Fault(LineFault::Bad));
     };
     meaning_of(alloc, verb, rest)
 }
 
 /// What a line says by what stands behind its verb.
-fn meaning_of(alloc: Global, verb: Verb, line: &[u8]) -> Result<Statement, LineError>
+fn meaning_of(alloc: Global, verb: EventVerb, line: &[u8]) -> Result<Statement, LineError>
     ensures { MeansLine result (meaning_of verb (tokens line.now)) }
 {
     match verb {
-        Verb::Start => start(alloc, line),
-        Verb::Owner(step) => Ok(Statement::Event(step.event(triple_in(line)?))),
-        Verb::Target(step) => Ok(Statement::Event(step.event(triple_in(line)?))),
-        Verb::Single(kind) => Ok(Statement::Event(kind.event(single_in(line)?))),
-        Verb::Link => Ok(Statement::Event(link(triple_in(line)?))),
-        Verb::Make => Ok(Statement::Event(make(alloc, line)?)),
+        EventVerb::Start => start(alloc, line),
+        EventVerb::Owner(step) => Ok(Statement::Event(step.event(triple_in(line)?))),
+        EventVerb::Target(step) => Ok(Statement::Event(step.event(triple_in(line)?))),
+        EventVerb::Single(kind) => Ok(Statement::Event(kind.event(single_in(line)?))),
+        EventVerb::Link => Ok(Statement::Event(link(triple_in(line)?))),
+        EventVerb::Make => Ok(Statement::Event(make(alloc, line)?)),
     }
 }
 

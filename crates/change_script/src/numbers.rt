@@ -30,7 +30,8 @@ pub fn is_number(word: &[u8]) -> bool
     !word.is_empty() && has_only_digits(word)
 }
 
-fn has_only_digits(word: &[u8]) -> bool
+/// Whether each byte of a word is a digit.
+pub fn has_only_digits(word: &[u8]) -> bool
     ensures { result ≡ list_all is_ascii_digit word.now }
 {
     word.iter().all(|byte| byte.is_ascii_digit())
@@ -58,13 +59,21 @@ fn value_of(digits: &[u8]) -> Option<u32>
     requires { AllPass is_ascii_digit digits.now }
     ensures { SomeIff result (digits_value 10 digits.now ≤ 4294967295) (digits_value 10 digits.now) }
 {
-    let mut value = 0u32;
+    Some(value_within(digits, u64::from(u32::MAX))? as u32)
+}
+
+/// The number that decimal digits write, if it is at most `most`.
+pub fn value_within(digits: &[u8], most: u64) -> Option<u64>
+    requires { AllPass is_ascii_digit digits.now }
+    ensures { SomeIff result (digits_value 10 digits.now ≤ most) (digits_value 10 digits.now) }
+{
+    let mut value = 0u64;
     for digit in digits {
-        let more = u64::from(value) * 10 + u64::from(*digit - b'0');
-        if more > u64::from(u32::MAX) {
+        let more = u128::from(value) * 10 + u128::from(*digit - b'0');
+        if more > u128::from(most) {
             return None;
         }
-        value = more as u32;
+        value = more as u64;
     }
     Some(value)
 }

@@ -4,7 +4,7 @@ ghost use Rattle.std.specs.Prelude.{◌≡◌, ◌<◌, List, ℕ, not, nat_eq, 
 ghost use Rattle.std.specs.List.{list_all, starts_with};
 ghost use Rattle.change_script.specs.Tokens as of_tokens;
 ghost use Rattle.change_script.specs.Arguments.{at_end};
-ghost use Rattle.change_script.specs.ScriptWords.{change_head, change_within, change_words, ends_of, file_in, first_move, is_blankless, more_moves, moves_in, name_behind, one_word, optional_arguments, start_words, verb_bytes, verb_named, where_empty, within_and_moves, within_at, without_blanks, words_behind, words_in, words_in_tokens, words_of};
+ghost use Rattle.change_script.specs.ScriptWords.{change_head, change_within, change_words, ends_of, file_in, first_move, is_blankless, more_moves, moves_in, name_behind, one_word, optional_arguments, start_words, script_verb_bytes, script_verb_named, where_empty, within_and_moves, within_at, without_blanks, words_behind, words_in, words_in_tokens, words_of};
 
 use crate::arguments::arguments;
 use crate::tokens::{after_arrow, after_sign, blanks_len, first_word, is_blank, is_end};
@@ -60,7 +60,7 @@ const VERBS: [ScriptVerb; 6] = [
 
 impl ScriptVerb {
     fn bytes(self) -> &'static [u8]
-        ensures { result.now ≡ verb_bytes self }
+        ensures { result.now ≡ script_verb_bytes self }
     {
         match self {
             ScriptVerb::Start => b"start",
@@ -74,8 +74,8 @@ impl ScriptVerb {
 }
 
 /// The verb of a line that begins with this word.
-fn verb_named(name: &[u8]) -> Option<ScriptVerb>
-    ensures { result ≡ verb_named name.now }
+fn script_verb_named(name: &[u8]) -> Option<ScriptVerb>
+    ensures { result ≡ script_verb_named name.now }
 {
     VERBS.iter().copied().find(|verb| verb.bytes() == name)
 }
@@ -123,7 +123,7 @@ fn words_in_tokens(alloc: Global, line: &[u8]) -> Result<Option<StatementWords<'
     let Some((name, rest)) = first_word(line) else {
         return Ok(None);
     };
-    match verb_named(name) {
+    match script_verb_named(name) {
         Some(verb) => words_behind(alloc, verb, rest),
         None => Ok(None),
     }

@@ -1,7 +1,7 @@
 //! The first words of the lines of an event file.
 
 ghost use Rattle.std.specs.Prelude.{◌≡◌};
-ghost use Rattle.change_script.specs.EventLines.{owner_bytes, owner_event, single_bytes, single_event, target_bytes, target_event, verb_bytes, verb_named};
+ghost use Rattle.change_script.specs.EventLines.{owner_bytes, owner_event, single_bytes, single_event, target_bytes, target_event, event_verb_bytes, event_verb_named};
 
 use crate::event_lines::Triple;
 use quiesce_core::Event;
@@ -35,7 +35,7 @@ pub enum Single {
 }
 
 #[derive(Clone, Copy, Debug, PartialEq, Eq)]
-pub enum Verb {
+pub enum EventVerb {
     Start,
     Owner(OwnerStep),
     Target(TargetStep),
@@ -44,43 +44,46 @@ pub enum Verb {
     Make,
 }
 
-const VERBS: [Verb; 16] = [
-    Verb::Start,
-    Verb::Owner(OwnerStep::Begin),
-    Verb::Owner(OwnerStep::Call),
-    Verb::Owner(OwnerStep::Ask),
-    Verb::Owner(OwnerStep::End),
-    Verb::Target(TargetStep::Take),
-    Verb::Target(TargetStep::More),
-    Verb::Target(TargetStep::Hear),
-    Verb::Target(TargetStep::Give),
-    Verb::Single(Single::Miss),
-    Verb::Single(Single::Close),
-    Verb::Single(Single::Reopen),
-    Verb::Single(Single::Unlink),
-    Verb::Single(Single::Remove),
-    Verb::Link,
-    Verb::Make,
+const EVENT_VERBS: [EventVerb; 16] = [
+    EventVerb::Start,
+    EventVerb::Owner(OwnerStep::Begin),
+    EventVerb::Owner(OwnerStep::Call),
+    EventVerb::Owner(OwnerStep::Ask),
+    EventVerb::Owner(OwnerStep::End),
+    EventVerb::Target(TargetStep::Take),
+    EventVerb::Target(TargetStep::More),
+    EventVerb::Target(TargetStep::Hear),
+    EventVerb::Target(TargetStep::Give),
+    EventVerb::Single(Single::Miss),
+    EventVerb::Single(Single::Close),
+    EventVerb::Single(Single::Reopen),
+    EventVerb::Single(Single::Unlink),
+    EventVerb::Single(Single::Remove),
+    EventVerb::Link,
+    EventVerb::Make,
 ];
 
 /// The verb of a line that begins with this word.
-pub fn verb_named(name: &[u8]) -> Option<Verb>
-    ensures { result ≡ verb_named name.now }
+pub fn event_verb_named(name: &[u8]) -> Option<EventVerb>
+    ensures { result ≡ event_verb_named name.now }
 {
-    VERBS.iter().copied().find(|verb| verb.bytes() == name)
+    EVENT_VERBS
+        .iter()
+        .copied()
+        .find(|verb| verb.bytes() == name)
 }
 
-impl Verb {
+impl EventVerb {
     fn bytes(self) -> &'static [u8]
-        ensures { result.now ≡ verb_bytes self }
+        ensures { result.now ≡ event_verb_bytes self }
     {
         match self {
-            Verb::Start => b"start",
-            Verb::Owner(step) => step.bytes(),
-            Verb::Target(step) => step.bytes(),
-            Verb::Single(single) => single.bytes(),
-            Verb::Link => b"link",
-            Verb::Make => b"make",
+            EventVerb::Start => b"start",
+            EventVerb::Owner(step) => step.bytes(),
+            EventVerb::Target(step) => step.bytes(),
+            EventVerb::Single(single) => single.bytes(),
+            EventVerb::Link => b"link",
+            EventVerb::Make => b"make",
         }
     }
 }

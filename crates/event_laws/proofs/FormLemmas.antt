@@ -13,22 +13,22 @@ use Rattle.quiesce_core.specs.declared.event.Event.TheVariants as events
 use Rattle.change_script.specs.declared.verbs.OwnerStep.TheVariants as owner
 use Rattle.change_script.specs.declared.verbs.TargetStep.TheVariants as target
 use Rattle.change_script.specs.declared.verbs.Single.TheVariants as singles
-use Rattle.change_script.specs.declared.verbs.Verb.{Verb}
-use Rattle.change_script.specs.declared.verbs.Verb.TheVariants as verbs
+use Rattle.change_script.specs.declared.verbs.EventVerb.{EventVerb}
+use Rattle.change_script.specs.declared.verbs.EventVerb.TheVariants as verbs
 use Rattle.change_script.specs.declared.error.LineFault.{LineFault}
 use Rattle.change_script.specs.declared.error.LineFault.TheVariants.{Bad, Big}
 use Rattle.change_script.specs.declared.event_lines.Statement.{Statement}
 use Rattle.change_script.specs.declared.event_lines.Statement.TheVariants as statements
 use Rattle.change_script.specs.declared.event_lines.Triple.{Triple}
 use Rattle.change_script.specs.Arguments.{more_arguments, arguments, at_end}
-use Rattle.change_script.specs.EventLines.{verb_bytes, verb_named, all_verbs, three_numbers, triple_in, single_in, owner_event, target_event, single_event, link_event, event_line, source, optional_number, MakeWords, make_from, make_words, make, make_of_words, make_of_kind, start, start_of_words, start_with, meaning_of, meaning_of_named, meaning}
+use Rattle.change_script.specs.EventLines.{event_verb_bytes, event_verb_named, event_verbs, three_numbers, triple_in, single_in, owner_event, target_event, single_event, link_event, event_line, source, optional_number, MakeWords, make_from, make_words, make, make_of_words, make_of_kind, start, start_of_words, start_with, meaning_of, meaning_of_named, meaning}
 use Rattle.change_script.specs.Faults.{both, with_value}
 use Rattle.change_script.specs.Numbers.{integer, integer_fits, is_integer, is_number, number, number_fits, number_in}
 use Rattle.change_script.specs.Paths.{is_name, is_path, path_fits, path_in}
 use Rattle.change_script.specs.ScriptForms.{argument_tokens}
 use Rattle.change_script.specs.Tokens.{Token, word, opened, closed, comma, tokens}
 use Rattle.event_laws.specs.EventForms as forms
-use Rattle.event_laws.specs.EventForms.{Form, form_tokens, source_tokens, kind_tokens, optional, is_right, keeps_limits, statement_of, HasForm, Means, IsTooBig}
+use Rattle.event_laws.specs.EventForms.{Form, form_tokens, source_tokens, kind_tokens, optional, is_right, keeps_limits, statement_of, HasEventForm, MeansEvent, IsTooBigEvent}
 
 -- ---- a value whose words are right or not, and keep their limits or not
 
@@ -208,7 +208,7 @@ single_found (word a ∷ []) = inr (a, refl)
 single_found _ = inl refl
 
 -- lines of three numbers, and of one, by what a form of them is
-triple_formed : (verb : List ℕ) (event : Triple → Event) (form : List ℕ → List ℕ → List ℕ → Form) → ((a b c : List ℕ) → forms.with_three verb a b c ≡ form_tokens (form a b c))
+triple_formed : (verb : List ℕ) (event : Triple → Event) (form : List ℕ → List ℕ → List ℕ → Form) → ((a b c : List ℕ) → forms.with_three_words verb a b c ≡ form_tokens (form a b c))
     → (rest : List Token) → (event_line event (triple_in rest) ≡ Err Bad) ⊎ Formed (word verb ∷ rest)
 triple_formed verb event form is rest =
     elim (triple_found rest) [
@@ -216,7 +216,7 @@ triple_formed verb event form is rest =
       | inr t ↦ inr (form t.0 t.1 t.2, ap (λ ts. word verb ∷ ts) t.3 ∙ is t.0 t.1 t.2)
     ]
 
-single_formed : (verb : List ℕ) (event : ℕ → Event) (form : List ℕ → Form) → ((a : List ℕ) → forms.with_one verb a ≡ form_tokens (form a))
+single_formed : (verb : List ℕ) (event : ℕ → Event) (form : List ℕ → Form) → ((a : List ℕ) → forms.with_one_word verb a ≡ form_tokens (form a))
     → (rest : List Token) → (event_line event (single_in rest) ≡ Err Bad) ⊎ Formed (word verb ∷ rest)
 single_formed verb event form is rest =
     elim (single_found rest) [
@@ -314,7 +314,7 @@ start_formed (word name ∷ opened ∷ rest) =
     ]
 start_formed _ = inl refl
 
-verb_formed : (verb : Verb) (rest : List Token) → (meaning_of verb rest ≡ Err Bad) ⊎ Formed (word (verb_bytes verb) ∷ rest)
+verb_formed : (verb : EventVerb) (rest : List Token) → (meaning_of verb rest ≡ Err Bad) ⊎ Formed (word (event_verb_bytes verb) ∷ rest)
 verb_formed verbs.Start rest = start_formed rest
 verb_formed (verbs.Owner owner.Begin) rest = triple_formed (codes "begin") (owner_event owner.Begin) (λ a b c. forms.begin a b c) (λ a b c. refl) rest
 verb_formed (verbs.Owner owner.Call) rest = triple_formed (codes "call") (owner_event owner.Call) (λ a b c. forms.call a b c) (λ a b c. refl) rest
@@ -333,12 +333,12 @@ verb_formed verbs.Link rest = triple_formed (codes "link") link_event (λ a b c.
 verb_formed verbs.Make rest = make_formed rest
 
 line_formed : (ts : List Token) → (meaning ts ≡ Err Bad) ⊎ Formed ts
-line_formed (word name ∷ rest) = by (verb_named name) refl
+line_formed (word name ∷ rest) = by (event_verb_named name) refl
   where
-    by : (o : Option Verb) → verb_named name ≡ o → (meaning_of_named (verb_named name) rest ≡ Err Bad) ⊎ Formed (word name ∷ rest)
+    by : (o : Option EventVerb) → event_verb_named name ≡ o → (meaning_of_named (event_verb_named name) rest ≡ Err Bad) ⊎ Formed (word name ∷ rest)
     by None is = inl (ap (λ o. meaning_of_named o rest) is)
     by (Some verb) is =
-        let named : name ≡ verb_bytes verb = sym (same_bytes (verb_bytes verb) name (find_passes (λ v. bytes_eq (verb_bytes v) name) all_verbs verb is)) in
+        let named : name ≡ event_verb_bytes verb = sym (same_bytes (event_verb_bytes verb) name (find_passes (λ v. bytes_eq (event_verb_bytes v) name) event_verbs verb is)) in
         elim (verb_formed verb rest) [
           | inl bad ↦ inl (ap (λ o. meaning_of_named o rest) is ∙ bad)
           | inr f ↦ inr (f.0, ap (λ n. word n ∷ rest) named ∙ f.1)
@@ -362,7 +362,7 @@ abbrev single_form : (List ℕ → Form) → List Token → Option Form
 single_form form (word a ∷ []) = Some (form a)
 single_form form _ = None
 
-abbrev form_behind : Option Verb → List Token → Option Form
+abbrev form_behind : Option EventVerb → List Token → Option Form
 form_behind None rest = None
 form_behind (Some verbs.Start) (word name ∷ opened ∷ rest) = start_form name (at_end (arguments rest))
 form_behind (Some verbs.Start) rest = None
@@ -383,7 +383,7 @@ form_behind (Some verbs.Link) rest = triple_form (λ a b c. forms.link a b c) re
 form_behind (Some verbs.Make) rest = make_form (make_words rest)
 
 abbrev form_in : List Token → Option Form
-form_in (word name ∷ rest) = form_behind (verb_named name) rest
+form_in (word name ∷ rest) = form_behind (event_verb_named name) rest
 form_in _ = None
 
 form_found : (form : Form) → form_in (form_tokens form) ≡ Some form
@@ -405,7 +405,7 @@ form_found (forms.link a b c) = refl
 form_found (forms.unlink a) = refl
 form_found (forms.remove a) = refl
 
-pub one_form : (line : List ℕ) (form other : Form) → HasForm line form → HasForm line other → form ≡ other
+pub one_form : (line : List ℕ) (form other : Form) → HasEventForm line form → HasEventForm line other → form ≡ other
 one_form line form other has have =
     let e : Some form ≡ Some other = sym (form_found form) ∙ ap form_in (sym has.0 ∙ have.0) ∙ form_found other in
     cc
@@ -441,10 +441,10 @@ big_is r f a right big = ap (λ x. checked x f a) right ∙ ap (λ x. checked tr
 formed : (ts : List Token) (form : Form) → ts ≡ form_tokens form → meaning ts ≡ judged form
 formed ts form is = ap meaning is ∙ form_read form
 
-pub means : (line : List ℕ) (statement : Statement) → (meaning (tokens line) ≡ Ok statement) ↔ Means line statement
+pub means : (line : List ℕ) (statement : Statement) → (meaning (tokens line) ≡ Ok statement) ↔ MeansEvent line statement
 means line statement = (only, always)
   where
-    only : meaning (tokens line) ≡ Ok statement → Means line statement
+    only : meaning (tokens line) ≡ Ok statement → MeansEvent line statement
     only is =
         elim (line_formed (tokens line)) [
           | inl bad ↦ let e : Err Bad ≡ Ok statement = sym bad ∙ is in cc
@@ -453,13 +453,13 @@ means line statement = (only, always)
               (f.0, (f.1, has.0), has.1, has.2)
         ]
 
-    always : Means line statement → meaning (tokens line) ≡ Ok statement
+    always : MeansEvent line statement → meaning (tokens line) ≡ Ok statement
     always m = formed (tokens line) m.0 m.1.0 ∙ right_is (is_right m.0) (keeps_limits m.0) (statement_of m.0) m.1.1 m.2 ∙ ap Ok (sym m.3)
 
-pub too_big : (line : List ℕ) → (meaning (tokens line) ≡ Err Big) ↔ IsTooBig line
+pub too_big : (line : List ℕ) → (meaning (tokens line) ≡ Err Big) ↔ IsTooBigEvent line
 too_big line = (only, always)
   where
-    only : meaning (tokens line) ≡ Err Big → IsTooBig line
+    only : meaning (tokens line) ≡ Err Big → IsTooBigEvent line
     only is =
         elim (line_formed (tokens line)) [
           | inl bad ↦ let e : Err Bad ≡ Err Big = sym bad ∙ is in cc
@@ -468,16 +468,16 @@ too_big line = (only, always)
               (f.0, (f.1, has.0), has.1)
         ]
 
-    always : IsTooBig line → meaning (tokens line) ≡ Err Big
+    always : IsTooBigEvent line → meaning (tokens line) ≡ Err Big
     always m = formed (tokens line) m.0 m.1.0 ∙ big_is (is_right m.0) (keeps_limits m.0) (statement_of m.0) m.1.1 m.2
 
-pub bad : (line : List ℕ) → (meaning (tokens line) ≡ Err Bad) ↔ ((form : Form) → HasForm line form → ⊥)
+pub bad : (line : List ℕ) → (meaning (tokens line) ≡ Err Bad) ↔ ((form : Form) → HasEventForm line form → ⊥)
 bad line = (only, always)
   where
-    only : meaning (tokens line) ≡ Err Bad → (form : Form) → HasForm line form → ⊥
+    only : meaning (tokens line) ≡ Err Bad → (form : Form) → HasEventForm line form → ⊥
     only is form has = checked_bad (is_right form) (keeps_limits form) (statement_of form) (sym (formed (tokens line) form has.0) ∙ is) has.1
 
-    always : ((form : Form) → HasForm line form → ⊥) → meaning (tokens line) ≡ Err Bad
+    always : ((form : Form) → HasEventForm line form → ⊥) → meaning (tokens line) ≡ Err Bad
     always never =
         elim (line_formed (tokens line)) [
           | inl is ↦ is

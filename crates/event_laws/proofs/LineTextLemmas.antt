@@ -5,7 +5,7 @@ use Rattle.std.specs.Option.{option_map_or}
 use Rattle.std.specs.Char.{is_ascii_digit, digit_value}
 use Rattle.std.specs.Fmt.{signed_decimal}
 use Rattle.std.specs.Str.Parse.{AllDigits, IsNumeral}
-use Rattle.std.proofs.lemmas.Bool.{and_parts, cond-true, cond-false}
+use Rattle.std.proofs.lemmas.Bool.{and_parts, cond-true, cond-false, cases_Bool, and_from}
 use Rattle.std.proofs.lemmas.Bool.Decides.{nat_tests}
 use Rattle.std.proofs.lemmas.Fmt.{decimal_is_IsNumeral}
 use Rattle.std.proofs.lemmas.Grind.{common_steps}
@@ -32,7 +32,7 @@ use Rattle.change_script.specs.Reports.{args_text, with_system}
 use Rattle.change_script.specs.StatementTexts.{IsInteger}
 use Rattle.change_script.specs.Writing.{spaced, with_three, with_one, from_words, written, IsNumber, AreNumbers, CanBeWritten}
 use Rattle.event_laws.specs.FileTexts.{is_one_line}
-use Rattle.event_laws.proofs.MarginLemmas.{drop_one_more, either}
+use Rattle.event_laws.proofs.MarginLemmas.{drop_one_more}
 
 -- neither a margin nor `#` is in front, and no margin at the end
 abbrev pub begins_well : List ℕ → Bool
@@ -124,18 +124,15 @@ neat_of verb words one begins all last = record {
   ends = ends_on verb (spaced words) (spaced_ends words last);
 }
 
-pub and_both : (a b : Bool) → a ≡ true → b ≡ true → a && b ≡ true
-and_both a b p q = ap (λ x. x && b) p ∙ q
-
 neat_three : (verb : List ℕ) (a b c : ℕ) → is_one_line verb ≡ true → begins_well verb ≡ true → AreNumbers a b c → Neat (with_three verb a b c)
 neat_three verb a b c one begins small =
     neat_of verb (decimal a ∷ decimal b ∷ decimal c ∷ []) one begins
-    (and_both (is_one_line (decimal a)) (all_one (decimal b ∷ decimal c ∷ [])) (decimal_one a small.0)
-    (and_both (is_one_line (decimal b)) (all_one (decimal c ∷ [])) (decimal_one b small.1) (and_both (is_one_line (decimal c)) true (decimal_one c small.2) refl)))
+    (and_from (is_one_line (decimal a)) (all_one (decimal b ∷ decimal c ∷ [])) (decimal_one a small.0)
+    (and_from (is_one_line (decimal b)) (all_one (decimal c ∷ [])) (decimal_one b small.1) (and_from (is_one_line (decimal c)) true (decimal_one c small.2) refl)))
     (decimal_ends c small.2)
 
 neat_one : (verb : List ℕ) (a : ℕ) → is_one_line verb ≡ true → begins_well verb ≡ true → IsNumber a → Neat (with_one verb a)
-neat_one verb a one begins small = neat_of verb (decimal a ∷ []) one begins (and_both (is_one_line (decimal a)) true (decimal_one a small) refl) (decimal_ends a small)
+neat_one verb a one begins small = neat_of verb (decimal a ∷ []) one begins (and_from (is_one_line (decimal a)) true (decimal_one a small) refl) (decimal_ends a small)
 
 -- ---- kinds
 
@@ -172,26 +169,26 @@ all_of : (p q : List ℕ → Bool) → ((x : List ℕ) → p x ≡ true → q x 
 all_of p q each [] all = refl
 all_of p q each (x ∷ xs) all =
     let both = and_parts (p x) (list_all p xs) all in
-    and_both (q x) (list_all q xs) (each x both.0) (all_of p q each xs both.1)
+    and_from (q x) (list_all q xs) (each x both.0) (all_of p q each xs both.1)
 
 onto_all : (q : ℕ → Bool) (b : ℕ) (parts : List (List ℕ)) → list_all (λ part. list_all q part) (onto_first b parts) ≡ true → (q b ≡ true) × (list_all (λ part. list_all q part) parts ≡ true)
 onto_all q b [] all = ((and_parts (q b) true (and_parts (q b && true) true all).0).0, refl)
 onto_all q b (part ∷ parts) all =
     let both = and_parts (q b && list_all q part) (list_all (λ part. list_all q part) parts) all in
     let here = and_parts (q b) (list_all q part) both.0 in
-    (here.0, and_both (list_all q part) (list_all (λ part. list_all q part) parts) here.1 both.1)
+    (here.0, and_from (list_all q part) (list_all (λ part. list_all q part) parts) here.1 both.1)
 
 -- what passes in each part, and of the bytes between them, passes in the whole
 parts_all : (q p : ℕ → Bool) → ((b : ℕ) → p b ≡ true → q b ≡ true) → (bytes : List ℕ) → list_all (λ part. list_all q part) (slice_split p bytes) ≡ true → list_all q bytes ≡ true
 parts_all q p between [] all = refl
 parts_all q p between (b ∷ bytes) all =
-    elim (either (p b)) [
+    elim (cases_Bool (p b)) [
       | inl holds ↦
           let rest : list_all (λ part. list_all q part) ([] ∷ slice_split p bytes) ≡ true = ap (list_all (λ part. list_all q part)) (sym (slice_split-cons_yes p b bytes holds)) ∙ all in
-          and_both (q b) (list_all q bytes) (between b holds) (parts_all q p between bytes rest)
+          and_from (q b) (list_all q bytes) (between b holds) (parts_all q p between bytes rest)
       | inr fails ↦
           let both = onto_all q b (slice_split p bytes) (ap (list_all (λ part. list_all q part)) (sym (slice_split-cons_no p b bytes fails)) ∙ all) in
-          and_both (q b) (list_all q bytes) both.0 (parts_all q p between bytes both.1)
+          and_from (q b) (list_all q bytes) both.0 (parts_all q p between bytes both.1)
     ]
 
 full_stop : (b : ℕ) → (b == 46) ≡ true → not (b == 10) ≡ true
@@ -207,7 +204,7 @@ bracket b h = grind (arith, nat_tests)
 index_head : (segment : List ℕ) (x : ℕ) (rest : List ℕ) → index_part segment ≡ x ∷ rest → x ≡ 91
 index_head [] x rest is = cc
 index_head (b ∷ bs) x rest is =
-    elim (either (not (b == 91))) [
+    elim (cases_Bool (not (b == 91))) [
       | inl more ↦
           let step : index_part (b ∷ bs) ≡ index_part bs = ap (λ n. drop n (b ∷ bs)) (cond-true _ _ _ more) ∙ drop_one_more (name_len bs) b bs in
           index_head bs x rest (sym step ∙ is)
@@ -225,7 +222,7 @@ ascii_all : (bytes : List ℕ) → list_all is_ascii_digit bytes ≡ true → is
 ascii_all [] all = refl
 ascii_all (b ∷ bytes) all =
     let both = and_parts (is_ascii_digit b) (list_all is_ascii_digit bytes) all in
-    and_both (not (b == 10)) (is_one_line bytes) (ascii_one b both.0) (ascii_all bytes both.1)
+    and_from (not (b == 10)) (is_one_line bytes) (ascii_one b both.0) (ascii_all bytes both.1)
 
 number_is : (bytes : List ℕ) → is_number bytes ≡ true → (0 < length bytes) × (is_one_line bytes ≡ true)
 number_is [] is = cc
@@ -252,8 +249,8 @@ index_one (x ∷ rest) head is =
     let ends = closing (slice_index rest (length rest - 1)) (ap (λ b. b == 93) (sym last) ∙ both.0) in
     let behind : is_one_line rest ≡ true =
     ap is_one_line (front_and_last rest some)
-    ∙ joined mid (slice_index rest (length rest - 1) ∷ []) (ap is_one_line (sym same) ∙ digits.1) (and_both (not (slice_index rest (length rest - 1) == 10)) true ends refl) in
-    and_both (not (x == 10)) (is_one_line rest) (ap (λ b. not (b == 10)) (head x rest refl)) behind
+    ∙ joined mid (slice_index rest (length rest - 1) ∷ []) (ap is_one_line (sym same) ∙ digits.1) (and_from (not (slice_index rest (length rest - 1) == 10)) true ends refl) in
+    and_from (not (x == 10)) (is_one_line rest) (ap (λ b. not (b == 10)) (head x rest refl)) behind
 
 -- ---- what can be written
 
@@ -267,7 +264,7 @@ args_one (first ∷ more) all = joined (signed_decimal first) (flat_map (λ arg.
 
 from_one : (from : Option ℕ) → IfSome from IsNumber → all_one (from_words from) ≡ true
 from_one None small = refl
-from_one (Some slot) small = and_both (is_one_line (decimal slot)) true (decimal_one slot small) refl
+from_one (Some slot) small = and_from (is_one_line (decimal slot)) true (decimal_one slot small) refl
 
 made_ends : (kind : Kind) (arg from : Option ℕ) → IfSome from IsNumber → last_ends (kind_text kind arg ∷ from_words from) ≡ true
 made_ends kind arg None small = kind_text_ends kind arg
@@ -278,8 +275,8 @@ neat_make slot node from can path =
     let kind = kind_text node.kind node.arg in
     let words = from_words from in
     neat_of (codes "make") (decimal slot ∷ node.path ∷ kind ∷ words) refl refl
-    (and_both (is_one_line (decimal slot)) (all_one (node.path ∷ kind ∷ words)) (decimal_one slot can.0)
-    (and_both (is_one_line node.path) (all_one (kind ∷ words)) path (and_both (is_one_line kind) (all_one words) (kind_text_one node.kind node.arg can.4) (from_one from can.5))))
+    (and_from (is_one_line (decimal slot)) (all_one (node.path ∷ kind ∷ words)) (decimal_one slot can.0)
+    (and_from (is_one_line node.path) (all_one (kind ∷ words)) path (and_from (is_one_line kind) (all_one words) (kind_text_one node.kind node.arg can.4) (from_one from can.5))))
     (made_ends node.kind node.arg from can.5)
 
 -- ---- names and paths

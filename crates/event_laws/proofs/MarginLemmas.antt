@@ -1,7 +1,7 @@
 -- Lines of a text one by one: what a line says, whatever stands at its ends.
-use Rattle.std.proofs.Common.{◌≡◌, ◌≢◌, ◌⊎◌, reverse, ℕ, suc, ◌+◌, ◌-◌, ◌≤◌, ◌==◌, ◌&&◌, Bool, true, false, not, if◌then◌else◌, inl, inr, List, [], ◌∷◌, ◌++◌, take, drop, length, arith, refl, sym, ap, ◌∙◌, append-nil}
+use Rattle.std.proofs.Common.{◌≡◌, ◌≢◌, reverse, ℕ, suc, ◌+◌, ◌-◌, ◌≤◌, ◌==◌, ◌&&◌, Bool, true, false, not, if◌then◌else◌, inl, inr, List, [], ◌∷◌, ◌++◌, take, drop, length, arith, refl, sym, ap, ◌∙◌, append-nil}
 use Rattle.std.specs.List.{list_all, prefix_len, suffix_len}
-use Rattle.std.proofs.lemmas.Bool.{cond-true, cond-false, and_parts}
+use Rattle.std.proofs.lemmas.Bool.{cond-true, cond-false, and_parts, cases_Bool}
 use Rattle.std.proofs.lemmas.Bool.Decides.{nat_tests}
 use Rattle.std.proofs.lemmas.Grind.{common_steps}
 use Rattle.std.proofs.lemmas.List.{length-append, length-reverse, reverse-append}
@@ -41,10 +41,6 @@ last_said number line one = ap (statements_of number) (line_last line one)
 
 -- ---- what stands at the ends
 
-pub either : (b : Bool) → (b ≡ true) ⊎ (b ≡ false)
-either true = inl refl
-either false = inr refl
-
 pub all_front : (p : ℕ → Bool) (xs ys : List ℕ) → list_all p xs ≡ true → prefix_len p (xs ++ ys) ≡ length xs + prefix_len p ys
 all_front p [] ys all = let e : prefix_len p ys ≡ 0 + prefix_len p ys = omega arith in e
 all_front p (x ∷ xs) ys all =
@@ -62,7 +58,7 @@ stops : (p : ℕ → Bool) (xs : List ℕ) (b : ℕ) → p b ≡ false → prefi
 stops p [] b fails = let e : prefix_len p (b ∷ []) ≡ 0 = cond-false _ _ _ fails in omega arith
 stops p (x ∷ xs) b fails =
     let rest = stops p xs b fails in
-    elim (either (p x)) [
+    elim (cases_Bool (p x)) [
       | inl holds ↦ let e : prefix_len p (x ∷ (xs ++ (b ∷ []))) ≡ 1 + prefix_len p (xs ++ (b ∷ [])) = cond-true _ _ _ holds in omega arith
       | inr none ↦ let e : prefix_len p (x ∷ (xs ++ (b ∷ []))) ≡ 0 = cond-false _ _ _ none in omega arith
     ]
@@ -97,7 +93,7 @@ blank_trimmed blanks all = ap trimmed (sym (append-nil blanks)) ∙ ap without_r
 ends_trimmed : (xs right : List ℕ) → are_margins right ≡ true → trimmed (xs ++ right) ≡ trimmed xs
 ends_trimmed [] right all = blank_trimmed right all
 ends_trimmed (x ∷ xs) right all =
-    elim (either (is_margin x)) [
+    elim (cases_Bool (is_margin x)) [
       | inl holds ↦ ap without_right_margin (left_step x (xs ++ right) holds) ∙ ends_trimmed xs right all ∙ sym (ap without_right_margin (left_step x xs holds))
       | inr fails ↦ ap without_right_margin (left_kept x (xs ++ right) fails) ∙ right_passed (x ∷ xs) right all ∙ sym (ap without_right_margin (left_kept x xs fails))
     ]

@@ -1,10 +1,9 @@
 -- A path whose segments are names of the language, with an index in brackets or without one, is a path of scripts.
-use Rattle.std.proofs.Common.{◌≡◌, ◌⊎◌, ◌<◌, ◌^◌, ◌-◌, ◌+◌, ◌≤◌, ◌==◌, ◌&&◌, ◌||◌, ℕ, suc, ℤ, pos, Bool, true, false, not, nat_le, inl, inr, List, [], ◌∷◌, ◌++◌, Option, Some, None, take, drop, length, codes, decimal, refl, sym, ap, subst, ◌∙◌, arith}
-use Rattle.std.specs.List.{AllPass, list_all, prefix_len, slice_split, onto_first, slice_index}
-use Rattle.std.specs.Char.{is_ascii_digit, digit_value}
-use Rattle.std.specs.Fmt.{signed_decimal}
+use Rattle.std.proofs.Common.{◌≡◌, ◌⊎◌, ◌<◌, ◌^◌, ◌-◌, ◌+◌, ◌==◌, ◌&&◌, ◌||◌, ℕ, suc, ℤ, pos, Bool, true, false, not, nat_le, inl, inr, List, [], ◌∷◌, ◌++◌, Option, Some, None, take, drop, length, codes, decimal, refl, sym, ap, subst, ◌∙◌, arith}
+use Rattle.std.specs.List.{list_all, onto_first, slice_index}
+use Rattle.std.specs.Char.{is_ascii_digit}
 use Rattle.std.specs.Str.Parse.{AllDigits, IsNumeral}
-use Rattle.std.proofs.lemmas.Bool.{and_parts, cond-true, cond-false}
+use Rattle.std.proofs.lemmas.Bool.{and_parts, cases_Bool, and_from}
 use Rattle.std.proofs.lemmas.Bool.Decides.{nat_tests}
 use Rattle.std.proofs.lemmas.Fmt.{decimal_is_IsNumeral}
 use Rattle.std.proofs.Math.Seq.{drop-append_seam, get_or-append_seam, take-append_seam}
@@ -16,11 +15,11 @@ use Rattle.darwin_lexer.specs.Keywords.{continues_name}
 use Rattle.darwin_walk.specs.Instance.{Segment}
 use Rattle.elaborator.specs.PathBytes.{is_path_byte}
 use Rattle.elaborator.specs.Paths.{Path, index_bytes, segment_bytes, within}
-use Rattle.change_script.specs.Numbers.{is_number, number, number_fits}
+use Rattle.change_script.specs.Numbers.{is_number, number_fits}
 use Rattle.change_script.specs.Paths.{segments, name_len, name_part, index_part, index_number, ends_index, is_name, is_index, index_fits, is_segment, segment_fits, is_path, path_fits}
 use Rattle.change_script.specs.Tokens.{begins_word, is_arrow, is_word, is_word_byte}
-use Rattle.event_laws.proofs.LineTextLemmas.{and_both, digit_ascii}
-use Rattle.event_laws.proofs.MarginLemmas.{all_front, either}
+use Rattle.event_laws.proofs.LineTextLemmas.{digit_ascii}
+use Rattle.event_laws.proofs.MarginLemmas.{all_front}
 
 -- ---- bytes of a word
 
@@ -42,7 +41,7 @@ path_bytes_word [] all = refl
 path_bytes_word (b ∷ bytes) all =
     let both = and_parts (is_path_byte b) (list_all is_path_byte bytes) all in
     let begins : begins_word (b ∷ bytes) ≡ true = ap (λ x. x && not (is_arrow b bytes)) (path_byte_is_inner b both.0).0 ∙ ap not (no_head b bytes both.1) in
-    and_both (begins_word (b ∷ bytes)) (is_word bytes) begins (path_bytes_word bytes both.1)
+    and_from (begins_word (b ∷ bytes)) (is_word bytes) begins (path_bytes_word bytes both.1)
 
 -- ---- the parts of a path
 
@@ -65,7 +64,7 @@ parts_joined : (xs ys : List ℕ) → segments (xs ++ (46 ∷ ys)) ≡ segments 
 parts_joined [] ys = refl
 parts_joined (x ∷ xs) ys =
     let p : ℕ → Bool = λ b. b == 46 in
-    elim (either (x == 46)) [
+    elim (cases_Bool (x == 46)) [
       | inl holds ↦ slice_split-cons_yes p x (xs ++ (46 ∷ ys)) holds ∙ ap (λ parts. [] ∷ parts) (parts_joined xs ys) ∙ sym (ap (λ parts. parts ++ segments ys) (slice_split-cons_yes p x xs holds))
       | inr fails ↦
           let some : 0 < length (segments xs) = omega (arith, length-slice_split p xs) in
@@ -88,7 +87,7 @@ digits_ascii [] all = (refl, refl)
 digits_ascii (b ∷ bytes) all =
     let here = digit_ascii b all.0 in
     let rest = digits_ascii bytes all.1 in
-    (and_both (is_ascii_digit b) (list_all is_ascii_digit bytes) here.0 rest.0, and_both (not (b == 46)) (list_all (λ b. not (b == 46)) bytes) here.1 rest.1)
+    (and_from (is_ascii_digit b) (list_all is_ascii_digit bytes) here.0 rest.0, and_from (not (b == 46)) (list_all (λ b. not (b == 46)) bytes) here.1 rest.1)
 
 numeral_number : (bytes : List ℕ) → IsNumeral 10 bytes → is_number bytes ≡ true
 numeral_number [] h = let none : ⊥ = omega (arith, h.0) in absurd none
@@ -111,7 +110,7 @@ index_of n small =
     let place : length all - 1 ≡ suc (length d) = omega arith in
     ap (slice_index all) place ∙ get_or-append_seam d 93 [] 0 in
     record {
-      is = and_both (ends_index all) (is_number (index_number all)) (ap (λ b. b == 93) last) (ap is_number inner ∙ numeral_number d numeral.0);
+      is = and_from (ends_index all) (is_number (index_number all)) (ap (λ b. b == 93) last) (ap is_number inner ∙ numeral_number d numeral.0);
       fits = or_second (not (is_number (index_number all))) (number_fits (index_number all)) (ap number_fits inner ∙ ap (λ v. nat_le v 4294967295) numeral.1 ∙ (let low : nat_le n 4294967295 ≡ true = grind (arith, nat_tests) in low));
       no_stops = list_all-append (λ b. not (b == 46)) d (93 ∷ []) ∙ ap (λ x. x && true) (digits_ascii d numeral.0.1).1;
     }
@@ -133,13 +132,13 @@ plain_named : (bytes : List ℕ) → is_plain bytes ≡ true → list_all (λ b.
 plain_named [] all = refl
 plain_named (b ∷ bytes) all =
     let both = and_parts (not (b == 46) && not (b == 91)) (is_plain bytes) all in
-    and_both (not (b == 91)) (list_all (λ b. not (b == 91)) bytes) (and_parts (not (b == 46)) (not (b == 91)) both.0).1 (plain_named bytes both.1)
+    and_from (not (b == 91)) (list_all (λ b. not (b == 91)) bytes) (and_parts (not (b == 46)) (not (b == 91)) both.0).1 (plain_named bytes both.1)
 
 plain_stops : (bytes : List ℕ) → is_plain bytes ≡ true → list_all (λ b. not (b == 46)) bytes ≡ true
 plain_stops [] all = refl
 plain_stops (b ∷ bytes) all =
     let both = and_parts (not (b == 46) && not (b == 91)) (is_plain bytes) all in
-    and_both (not (b == 46)) (list_all (λ b. not (b == 46)) bytes) (and_parts (not (b == 46)) (not (b == 91)) both.0).0 (plain_stops bytes both.1)
+    and_from (not (b == 46)) (list_all (λ b. not (b == 46)) bytes) (and_parts (not (b == 46)) (not (b == 91)) both.0).0 (plain_stops bytes both.1)
 
 name_ends : (name index : List ℕ) → is_plain name ≡ true → Behind index → name_len (name ++ index) ≡ length name
 name_ends name _ plain nothing = all_front (λ b. not (b == 91)) name [] (plain_named name plain) ∙ (let e : length name + 0 ≡ length name = omega arith in e)
@@ -157,9 +156,9 @@ parted name index named plain behind is fits stops =
     let first : name_part (name ++ index) ≡ name = ap (λ k. take k (name ++ index)) len ∙ take-append_seam name index in
     let second : index_part (name ++ index) ≡ index = ap (λ k. drop k (name ++ index)) len ∙ drop-append_seam name index in
     record {
-      is = and_both (is_name (name_part (name ++ index))) (is_index (index_part (name ++ index))) (ap is_name first ∙ named) (ap is_index second ∙ is);
+      is = and_from (is_name (name_part (name ++ index))) (is_index (index_part (name ++ index))) (ap is_name first ∙ named) (ap is_index second ∙ is);
       fits = ap index_fits second ∙ fits;
-      no_stops = list_all-append (λ b. not (b == 46)) name index ∙ and_both (list_all (λ b. not (b == 46)) name) (list_all (λ b. not (b == 46)) index) (plain_stops name plain) stops;
+      no_stops = list_all-append (λ b. not (b == 46)) name index ∙ and_from (list_all (λ b. not (b == 46)) name) (list_all (λ b. not (b == 46)) index) (plain_stops name plain) stops;
     }
 
 segment_parted : (s : Segment) → is_name s.name ≡ true → is_plain s.name ≡ true → IsIndex s.index → Parted (segment_bytes s)
@@ -187,8 +186,8 @@ one_more path bytes before p =
     let last = one_segment bytes p in
     let parts = parts_joined path bytes in
     record {
-      is = ap (list_all is_segment) parts ∙ list_all-append is_segment (segments path) (segments bytes) ∙ and_both (is_path path) (is_path bytes) before.is last.is;
-      fits = ap (list_all segment_fits) parts ∙ list_all-append segment_fits (segments path) (segments bytes) ∙ and_both (path_fits path) (path_fits bytes) before.fits last.fits;
+      is = ap (list_all is_segment) parts ∙ list_all-append is_segment (segments path) (segments bytes) ∙ and_from (is_path path) (is_path bytes) before.is last.is;
+      fits = ap (list_all segment_fits) parts ∙ list_all-append segment_fits (segments path) (segments bytes) ∙ and_from (path_fits path) (path_fits bytes) before.fits last.fits;
     }
 
 pub within_good : (path : Path) (s : Segment) → ((path ≡ []) ⊎ IsGood path) → is_name s.name ≡ true → is_plain s.name ≡ true → IsIndex s.index → IsGood (within path s)
@@ -204,4 +203,4 @@ pub name_plain : (bytes : List ℕ) → list_all continues_name bytes ≡ true �
 name_plain [] all = refl
 name_plain (b ∷ bytes) all =
     let both = and_parts (continues_name b) (list_all continues_name bytes) all in
-    and_both (not (b == 46) && not (b == 91)) (is_plain bytes) (continues_plain b both.0) (name_plain bytes both.1)
+    and_from (not (b == 46) && not (b == 91)) (is_plain bytes) (continues_plain b both.0) (name_plain bytes both.1)

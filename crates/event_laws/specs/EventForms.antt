@@ -31,11 +31,11 @@ pub data Form : Type 0 where
   remove : (slot : List ℕ) → Form
 
 -- VERB NUM, and VERB NUM NUM NUM
-abbrev pub with_one : List ℕ → List ℕ → List Token
-with_one verb number = word verb ∷ word number ∷ []
+abbrev pub with_one_word : List ℕ → List ℕ → List Token
+with_one_word verb number = word verb ∷ word number ∷ []
 
-abbrev pub with_three : List ℕ → List ℕ → List ℕ → List ℕ → List Token
-with_three verb first second third = word verb ∷ word first ∷ word second ∷ word third ∷ []
+abbrev pub with_three_words : List ℕ → List ℕ → List ℕ → List ℕ → List Token
+with_three_words verb first second third = word verb ∷ word first ∷ word second ∷ word third ∷ []
 
 -- KIND's parentheses, empty or round NUM, and then `from` SLOT or nothing
 abbrev pub source_tokens : Option (List ℕ) → List Token
@@ -49,22 +49,22 @@ kind_tokens (Some arg) rest = opened ∷ word arg ∷ closed ∷ rest
 -- the tokens of a line of the form with these words
 abbrev pub form_tokens : Form → List Token
 form_tokens (start name args) = word (codes "start") ∷ word name ∷ opened ∷ argument_tokens args
-form_tokens (begin port serial value) = with_three (codes "begin") port serial value
-form_tokens (call port serial value) = with_three (codes "call") port serial value
-form_tokens (take port serial value) = with_three (codes "take") port serial value
-form_tokens (more port serial value) = with_three (codes "more") port serial value
-form_tokens (ask port serial value) = with_three (codes "ask") port serial value
-form_tokens (hear port serial value) = with_three (codes "hear") port serial value
-form_tokens (give port serial value) = with_three (codes "give") port serial value
-form_tokens (end port serial value) = with_three (codes "end") port serial value
-form_tokens (miss port) = with_one (codes "miss") port
-form_tokens (close port) = with_one (codes "close") port
-form_tokens (reopen port) = with_one (codes "reopen") port
+form_tokens (begin port serial value) = with_three_words (codes "begin") port serial value
+form_tokens (call port serial value) = with_three_words (codes "call") port serial value
+form_tokens (take port serial value) = with_three_words (codes "take") port serial value
+form_tokens (more port serial value) = with_three_words (codes "more") port serial value
+form_tokens (ask port serial value) = with_three_words (codes "ask") port serial value
+form_tokens (hear port serial value) = with_three_words (codes "hear") port serial value
+form_tokens (give port serial value) = with_three_words (codes "give") port serial value
+form_tokens (end port serial value) = with_three_words (codes "end") port serial value
+form_tokens (miss port) = with_one_word (codes "miss") port
+form_tokens (close port) = with_one_word (codes "close") port
+form_tokens (reopen port) = with_one_word (codes "reopen") port
 form_tokens (make slot path kind arg from) =
     word (codes "make") ∷ word slot ∷ word path ∷ word (row kind).name ∷ kind_tokens arg (source_tokens from)
-form_tokens (link port slot provide) = with_three (codes "link") port slot provide
-form_tokens (unlink port) = with_one (codes "unlink") port
-form_tokens (remove slot) = with_one (codes "remove") slot
+form_tokens (link port slot provide) = with_three_words (codes "link") port slot provide
+form_tokens (unlink port) = with_one_word (codes "unlink") port
+form_tokens (remove slot) = with_one_word (codes "remove") slot
 
 abbrev pub optional : Option (List ℕ) → List (List ℕ)
 optional None = []
@@ -128,12 +128,12 @@ statement_of (unlink port) = statements.Event (events.Unlink (number port))
 statement_of (remove slot) = statements.Event (events.Remove (number slot))
 
 -- The line has the form: its tokens are those of the form, and each word is what stands at its place.
-abbrev pub HasForm : List ℕ → Form → Type 0
-HasForm line form = (tokens line ≡ form_tokens form) × (is_right form ≡ true)
+abbrev pub HasEventForm : List ℕ → Form → Type 0
+HasEventForm line form = (tokens line ≡ form_tokens form) × (is_right form ≡ true)
 
 -- The line has a form whose numbers keep their limits, and this is what the form says; or one of its numbers doesn't.
-abbrev pub Means : List ℕ → Statement → Type 0
-Means line statement = (form : Form) × HasForm line form × (keeps_limits form ≡ true) × (statement ≡ statement_of form)
+abbrev pub MeansEvent : List ℕ → Statement → Type 0
+MeansEvent line statement = (form : Form) × HasEventForm line form × (keeps_limits form ≡ true) × (statement ≡ statement_of form)
 
-abbrev pub IsTooBig : List ℕ → Type 0
-IsTooBig line = (form : Form) × HasForm line form × (keeps_limits form ≡ false)
+abbrev pub IsTooBigEvent : List ℕ → Type 0
+IsTooBigEvent line = (form : Form) × HasEventForm line form × (keeps_limits form ≡ false)

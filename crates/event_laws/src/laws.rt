@@ -17,7 +17,7 @@ ghost use Rattle.change_script.specs.EventLines.{meaning};
 ghost use Rattle.change_script.specs.Lines.{is_margin, statements as lines_of, statements_from};
 ghost use Rattle.change_script.specs.StatementTexts.{IsInteger, IsWrittenName, IsWrittenPath};
 ghost use Rattle.change_script.specs.Tokens.{tokens};
-ghost use Rattle.event_laws.specs.EventForms.{Form, HasForm, IsTooBig, Means};
+ghost use Rattle.event_laws.specs.EventForms.{Form, HasEventForm, IsTooBigEvent, MeansEvent};
 ghost use Rattle.event_laws.specs.FileTexts.{CanBeFile, are_margins, file_text, is_one_line, said, start_text};
 
 use change_script::{
@@ -31,10 +31,10 @@ use elaborator::paths_are_words;
 /// A line has one form at most, and what it means is said by its form alone: a line without one is bad, and one with a
 /// number outside its limit is too big.
 pub fn only_forms_mean()
-    ensures one_form { (line : List ℕ) (form other : Form) → HasForm line form → HasForm line other → form ≡ other }
-    ensures means { (line : List ℕ) (statement : Statement) → (meaning (tokens line) ≡ Ok statement) ↔ Means line statement }
-    ensures too_big { (line : List ℕ) → (meaning (tokens line) ≡ Err Big) ↔ IsTooBig line }
-    ensures bad { (line : List ℕ) → (meaning (tokens line) ≡ Err Bad) ↔ ((form : Form) → HasForm line form → ⊥) }
+    ensures one_form { (line : List ℕ) (form other : Form) → HasEventForm line form → HasEventForm line other → form ≡ other }
+    ensures means { (line : List ℕ) (statement : Statement) → (meaning (tokens line) ≡ Ok statement) ↔ MeansEvent line statement }
+    ensures too_big { (line : List ℕ) → (meaning (tokens line) ≡ Err Big) ↔ IsTooBigEvent line }
+    ensures bad { (line : List ℕ) → (meaning (tokens line) ≡ Err Bad) ↔ ((form : Form) → HasEventForm line form → ⊥) }
 {}
 
 /// The line that writes a start means this start.

@@ -32,7 +32,7 @@ use Rattle.change_script.specs.Reports.{ended}
 use Rattle.report_reader.specs.GraphLines.{node_in, target_in}
 use Rattle.report_reader.specs.Parts.{words}
 use Rattle.report_reader.specs.ReportLines.{lacks}
-use Rattle.report_parser.specs.GraphTexts.{comes_before, drawn, fits_kind, graph_in, has_no_cycle, is_sound_node, is_word, link_from, links_by, nodes_in, path_of, paths_rise, provision_of, shows, target_named, targets_in}
+use Rattle.report_parser.specs.GraphTexts.{comes_before, drawn, fits_kind, graph_in, has_no_cycle, is_sound_node, is_one_piece, link_from, links_by, nodes_in, path_of, paths_rise, provision_of, shows, target_named, targets_in}
 use Rattle.report_parser.specs.ReportTexts.{CanBeShown, IsWord}
 use Rattle.report_parser.specs.TextLines.{lines, onto_line}
 use Rattle.report_parser.proofs.CycleLemmas.{acyclic}
@@ -207,7 +207,7 @@ no_byte at test says (b ∷ bs) is =
     let parts = and_parts (test b) (list_all test bs) is in
     and_from (not (b == at)) (lacks at bs) (says b parts.0) (no_byte at test says bs parts.1)
 
-pub word_is : (text : List ℕ) → is_word text ≡ true → IsWord text
+pub word_is : (text : List ℕ) → is_one_piece text ≡ true → IsWord text
 word_is text is =
     let parts = and_parts (nat_lt 0 (length text)) (list_all (λ byte. not (byte == 32) && not (byte == 10)) text) is in (
       low_test (length text) parts.0,
@@ -228,7 +228,7 @@ argument_is has (Some a) is = let parts = and_parts has (nat_lt a VALUE_LIMIT) i
 
 sound_node : (n : Node) → is_sound_node n ≡ true → HasItsArgument n × IsWord n.path
 sound_node n is =
-    let parts = and_parts (is_word n.path) (fits_kind (is_some (row n.kind).arg) n.arg) is in
+    let parts = and_parts (is_one_piece n.path) (fits_kind (is_some (row n.kind).arg) n.arg) is in
     let arg = argument_is (is_some (row n.kind).arg) n.arg parts.1 in
     (record { present = arg.0; below = arg.1 }, word_is n.path parts.0)
 
@@ -307,5 +307,5 @@ not_zero : (n : ℕ) → (n == 0) ≡ false → nat_lt 0 n ≡ true
 not_zero n some = grind (arith, nat_tests)
 
 -- a word, where there is a byte
-pub word_by : (text : List ℕ) → (length text == 0) ≡ false → is_word text ≡ list_all (λ byte. not (byte == 32) && not (byte == 10)) text
+pub word_by : (text : List ℕ) → (length text == 0) ≡ false → is_one_piece text ≡ list_all (λ byte. not (byte == 32) && not (byte == 10)) text
 word_by text some = ap (λ b. b && list_all (λ byte. not (byte == 32) && not (byte == 10)) text) (not_zero (length text) some)

@@ -12,13 +12,13 @@ use Rattle.change_script.specs.Reports.{Made, ended, history_text, made_by, make
 use Rattle.change_script.specs.declared.report.HistoryLine.{HistoryLine}
 use Rattle.change_script.specs.declared.report.HistoryLine.TheVariants as history
 use Rattle.report_reader.specs.declared.verbs.Bare.TheVariants as bares
-use Rattle.report_reader.specs.declared.verbs.Double.TheVariants as doubles
-use Rattle.report_reader.specs.declared.verbs.Single.TheVariants as singles
-use Rattle.report_reader.specs.declared.verbs.Verb.{Verb}
-use Rattle.report_reader.specs.declared.verbs.Verb.TheVariants as verbs
+use Rattle.report_reader.specs.declared.verbs.TwoNumbers.TheVariants as doubles
+use Rattle.report_reader.specs.declared.verbs.OneNumber.TheVariants as singles
+use Rattle.report_reader.specs.declared.verbs.HistoryVerb.{HistoryVerb}
+use Rattle.report_reader.specs.declared.verbs.HistoryVerb.TheVariants as verbs
 use Rattle.report_reader.specs.GraphLines.{is_graph_line}
 use Rattle.report_reader.specs.Parts.{is_end as no_parts, words}
-use Rattle.report_reader.specs.Readings.{all_verbs, line_in, line_named, verb_bytes, verb_named}
+use Rattle.report_reader.specs.Readings.{history_verbs, line_in, line_named, history_verb_bytes, history_verb_named}
 use Rattle.report_reader.specs.ReportLines.{IsLine, lacks}
 use Rattle.report_reader.proofs.ReadingLaws.{line_of, line_says}
 use Rattle.report_parser.specs.declared.history.Behind.{Behind}
@@ -26,14 +26,14 @@ use Rattle.report_parser.specs.declared.history.Behind.TheVariants as behinds
 use Rattle.report_parser.specs.declared.version.Version.{Version}
 use Rattle.report_parser.specs.GraphTexts.{behind_graph, graph_in, graph_lines}
 use Rattle.report_parser.specs.Limits.{line_keeps}
-use Rattle.report_parser.specs.ReportTexts.{CanBeShown, CanStand, IsOneLine, StandsBehind, ends_pending, is_pending, is_root}
+use Rattle.report_parser.specs.ReportTexts.{CanBeShown, CanStand, IsOneLine, StandsBehind, ends_pending, is_pending_or_root, is_root}
 use Rattle.report_parser.specs.Stages.{Front, Past, behind_line, front, goes_on, history_from, is_after_pending, is_after_show, keeping, past_with, shown_in, stands, with_line}
 use Rattle.report_parser.specs.TextLines.{lines, tail}
 use Rattle.report_parser.proofs.LineLemmas.{AllLack, joined, line_at}
 
 -- ---- lines that are no graph's
 
-graph_verb : (verb : Verb) (rest : List (List ℕ)) → is_graph_line (verb_bytes verb ∷ rest) ≡ false
+graph_verb : (verb : HistoryVerb) (rest : List (List ℕ)) → is_graph_line (history_verb_bytes verb ∷ rest) ≡ false
 graph_verb verbs.Start rest = refl
 graph_verb verbs.Change rest = refl
 graph_verb verbs.Make rest = refl
@@ -43,24 +43,24 @@ graph_verb (verbs.Bare bares.Commit) rest = refl
 graph_verb (verbs.Bare bares.Abandon) rest = refl
 graph_verb (verbs.Bare bares.Skipped) rest = refl
 graph_verb (verbs.Bare bares.Stop) rest = refl
-graph_verb (verbs.Single singles.Unlink) rest = refl
-graph_verb (verbs.Single singles.Remove) rest = refl
-graph_verb (verbs.Single singles.Close) rest = refl
-graph_verb (verbs.Single singles.Reopen) rest = refl
-graph_verb (verbs.Single singles.Pending) rest = refl
-graph_verb (verbs.Double doubles.Drained) rest = refl
-graph_verb (verbs.Double doubles.Root) rest = refl
-graph_verb (verbs.Double doubles.Finish) rest = refl
+graph_verb (verbs.OneNumber singles.Unlink) rest = refl
+graph_verb (verbs.OneNumber singles.Remove) rest = refl
+graph_verb (verbs.OneNumber singles.Close) rest = refl
+graph_verb (verbs.OneNumber singles.Reopen) rest = refl
+graph_verb (verbs.OneNumber singles.Pending) rest = refl
+graph_verb (verbs.TwoNumbers doubles.Drained) rest = refl
+graph_verb (verbs.TwoNumbers doubles.Root) rest = refl
+graph_verb (verbs.TwoNumbers doubles.Finish) rest = refl
 
 -- a line that says something of a history is no line of a graph
 no_graph : (ws : List (List ℕ)) (says : HistoryLine) → line_in ws ≡ Some says → is_graph_line ws ≡ false
 no_graph [] says e = refl
-no_graph (verb ∷ rest) says e = by (verb_named verb) refl e
+no_graph (verb ∷ rest) says e = by (history_verb_named verb) refl e
   where
-    by : (o : Option Verb) → verb_named verb ≡ o → line_named o rest ≡ Some says → is_graph_line (verb ∷ rest) ≡ false
+    by : (o : Option HistoryVerb) → history_verb_named verb ≡ o → line_named o rest ≡ Some says → is_graph_line (verb ∷ rest) ≡ false
     by None is f = let never : ⊥ = cc in absurd never
     by (Some v) is f =
-        let name : verb_bytes v ≡ verb = same_bytes (verb_bytes v) verb (find_passes (λ w. bytes_eq (verb_bytes w) verb) all_verbs v is) in
+        let name : history_verb_bytes v ≡ verb = same_bytes (history_verb_bytes v) verb (find_passes (λ w. bytes_eq (history_verb_bytes w) verb) history_verbs v is) in
         ap (λ w. is_graph_line (w ∷ rest)) (sym name) ∙ graph_verb v rest
 
 nothing_shown : line_in (words (codes "show")) ≡ None
@@ -173,7 +173,7 @@ placed made behind (history.Finish n rounds) is = record { slot = tt; opens = λ
 placed made behind history.Stop is = record { slot = tt; opens = λ e. no_root _ e }
 
 -- what the last line of a history is
-pub ends_so : (past : List HistoryLine) (says : HistoryLine) → ends_pending (past ++ says ∷ []) ≡ is_pending says
+pub ends_so : (past : List HistoryLine) (says : HistoryLine) → ends_pending (past ++ says ∷ []) ≡ is_pending_or_root says
 ends_so [] says = refl
 ends_so (first ∷ []) says = refl
 ends_so (first ∷ next ∷ more) says = ends_so (next ∷ more) says
@@ -183,7 +183,7 @@ after_so true = refl
 after_so false = refl
 
 line_after : (past : List HistoryLine) (says : HistoryLine) → is_after_pending (behind_line says) ≡ ends_pending (past ++ says ∷ [])
-line_after past says = after_so (is_pending says) ∙ sym (ends_so past says)
+line_after past says = after_so (is_pending_or_root says) ∙ sym (ends_so past says)
 
 -- ---- what is written is read
 
@@ -317,7 +317,7 @@ module _ (version : Version) (rest line : List ℕ) (more : List (List ℕ)) (re
             let with_graph : past_with version past behind (codes "show") (lines (graph_text shown.0) ++ next.line ∷ next.more) ≡ Some (past ++ says ∷ [], behinds.Show)
             = past_shows version past behind shown.0 (lines (graph_text shown.0)) next.line next.more told.all told.told next.other ∙ ap (λ s. Some (past ++ s ∷ [], behinds.Show)) (sym shown.1) in
             let passed = pass_graph version (past ++ says ∷ []) (number + 1) (lines (graph_text shown.0)) (next.line ∷ next.more) told.all in
-            let none : false ≡ ends_pending (past ++ says ∷ []) = sym (ends_so past says ∙ ap is_pending shown.1) in
+            let none : false ≡ ends_pending (past ++ says ∷ []) = sym (ends_so past says ∙ ap is_pending_or_root shown.1) in
             let on = history_written later (past ++ says ∷ []) behinds.Show passed.0 none each.1 in
             record {
               last = on.last;
@@ -503,7 +503,7 @@ module _ (version : Version) (reads : Reads) (all : List HistoryLine) (last : �
       let rest = on (past ++ s ∷ []) (behind_line s) (number + 1) (line_after past s) e in
       let line_is = line_says line s said in
       let place = placed (length (makes past)) behind s there in
-      let same : unsaid (behind_line s) more ≡ more = after_line (is_pending s) more in
+      let same : unsaid (behind_line s) more ≡ more = after_line (is_pending_or_root s) more in
       record {
         more = s ∷ rest.more;
         is = rest.is ∙ append_assoc past (s ∷ []) rest.more;

@@ -10,13 +10,14 @@ use Rattle.base.proofs.BytesLaws.{bytes_eq_self, same_bytes}
 use Rattle.quiesce_core.specs.declared.event.Event.{Event}
 use Rattle.quiesce_core.specs.declared.event.Event.TheVariants as events
 use Rattle.change_script.specs.Reports.{Made, ended, event_text, last_text, log_head, log_text, path_in}
-use Rattle.change_script.specs.Writing.{spaced, with_one, with_three, written}
+use Rattle.change_script.specs.Writing.{spaced, with_one, with_three, written, AreNumbers}
 use Rattle.change_script.specs.declared.report.Last.{Last}
 use Rattle.change_script.specs.declared.report.Last.TheVariants as lasts
 use Rattle.change_script.specs.declared.report.NodeLog.{NodeLog}
+use Rattle.report_reader.proofs.TextLaws.{lacks_append}
 use Rattle.report_reader.specs.Parts.{words}
 use Rattle.report_reader.specs.Readings.{event_in, last_in}
-use Rattle.report_reader.specs.ReportLines.{Are64, AreThree, IsLast, IsNodeEvent, lacks}
+use Rattle.report_reader.specs.ReportLines.{Are64, IsLast, IsNodeEvent, lacks}
 use Rattle.report_reader.proofs.ReadingLaws.{event_of as read_event, event_says, last_of as read_last, last_says}
 use Rattle.report_parser.specs.declared.error.ReportFault.{ReportFault}
 use Rattle.report_parser.specs.declared.version.Version.{Version}
@@ -28,12 +29,6 @@ use Rattle.report_parser.proofs.LineLemmas.{AllLack, line_at}
 use Rattle.report_parser.proofs.HistoryLemmas.{keep_true, none_some, some_is}
 
 -- ---- lines have no line feed
-
-pub lacks_append : (at : ℕ) (text more : List ℕ) → lacks at text ≡ true → lacks at more ≡ true → lacks at (text ++ more) ≡ true
-lacks_append at [] more first second = second
-lacks_append at (byte ∷ bytes) more first second =
-    let parts = and_parts (not (byte == at)) (lacks at bytes) first in
-    and_from (not (byte == at)) (lacks at (bytes ++ more)) parts.0 (lacks_append at bytes more parts.1 second)
 
 pub lacks_parts : (at : ℕ) (text more : List ℕ) → lacks at (text ++ more) ≡ true → (lacks at text ≡ true) × (lacks at more ≡ true)
 lacks_parts at [] more is = (refl, is)
@@ -53,7 +48,7 @@ decimal_lacks =
 pub one_lacks : (verb : List ℕ) (n : ℕ) → lacks 10 verb ≡ true → n < 2 ^ 64 → lacks 10 (with_one verb n) ≡ true
 one_lacks verb n is low = lacks_append 10 verb (32 ∷ (decimal n ++ [])) is (lacks_append 10 (decimal n) [] (decimal_lacks n low) refl)
 
-three_lack : (verb : List ℕ) (a b c : ℕ) → lacks 10 verb ≡ true → AreThree a b c → lacks 10 (with_three verb a b c) ≡ true
+three_lack : (verb : List ℕ) (a b c : ℕ) → lacks 10 verb ≡ true → AreNumbers a b c → lacks 10 (with_three verb a b c) ≡ true
 three_lack verb a b c is low =
     lacks_append 10 verb (spaced (decimal a ∷ decimal b ∷ decimal c ∷ [])) is
     (lacks_append 10 (decimal a) (spaced (decimal b ∷ decimal c ∷ [])) (decimal_lacks a (omega (arith, low.0)))

@@ -37,18 +37,19 @@ use Rattle.config_graph.proofs.OrderLaws.{links_in-targets}
 use Rattle.config_graph.proofs.PathLaws.{found_path}
 use Rattle.config_graph.proofs.TextLaws.{Free, provide_name_dot, provide_name_line, require_name_line, require_name_space}
 use Rattle.change_script.specs.Reports.{ended}
-use Rattle.change_script.specs.Writing.{spaced}
+use Rattle.change_script.specs.Writing.{spaced, IsNumber}
+use Rattle.report_reader.proofs.TextLaws.{lacks_append}
 use Rattle.report_reader.specs.GraphLines.{is_graph_line, node_in, target_in}
 use Rattle.report_reader.specs.Parts.{words}
-use Rattle.report_reader.specs.ReportLines.{Is32, lacks}
+use Rattle.report_reader.specs.ReportLines.{lacks}
 use Rattle.report_reader.proofs.GraphLineLaws.{node_said, node_words, port_words}
-use Rattle.report_parser.specs.GraphTexts.{behind_dot, comes_before, drawn, fits_kind, has_no_cycle, is_sound_node, is_word, link_from, links_by, nodes_in, path_of, paths_rise, provision_of, shows, target_named, targets_in}
+use Rattle.report_parser.specs.GraphTexts.{behind_dot, comes_before, drawn, fits_kind, has_no_cycle, is_sound_node, is_one_piece, link_from, links_by, nodes_in, path_of, paths_rise, provision_of, shows, target_named, targets_in}
 use Rattle.report_parser.specs.ReportTexts.{CanBeShown, IsWord}
 use Rattle.report_parser.specs.TextLines.{lines, tail}
 use Rattle.report_parser.proofs.CycleLemmas.{has_none}
 use Rattle.report_parser.proofs.HistoryLemmas.{AllGraph, IsTold}
 use Rattle.report_parser.proofs.LineLemmas.{all_lines, joined, one_line}
-use Rattle.report_parser.proofs.LogLemmas.{decimal_lacks, lacks_append}
+use Rattle.report_parser.proofs.LogLemmas.{decimal_lacks}
 
 -- ---- texts of nodes and ports, side by side
 
@@ -124,11 +125,11 @@ kind_name_lacks Account = refl
 kind_name_lacks Asker = refl
 kind_name_lacks Adder = refl
 
-arg_lacks : (arg : Option ℕ) → IfSome arg Is32 → lacks 10 (option_map_or decimal arg []) ≡ true
+arg_lacks : (arg : Option ℕ) → IfSome arg IsNumber → lacks 10 (option_map_or decimal arg []) ≡ true
 arg_lacks None small = refl
 arg_lacks (Some a) small = decimal_lacks a (omega (arith, small))
 
-kind_text_lacks : (kind : Kind) (arg : Option ℕ) → IfSome arg Is32 → lacks 10 (kind_text kind arg) ≡ true
+kind_text_lacks : (kind : Kind) (arg : Option ℕ) → IfSome arg IsNumber → lacks 10 (kind_text kind arg) ≡ true
 kind_text_lacks kind arg small =
     lacks_append 10 (((row kind).name ++ codes "(") ++ option_map_or decimal arg []) (codes ")")
     (lacks_append 10 ((row kind).name ++ codes "(") (option_map_or decimal arg []) (lacks_append 10 (row kind).name (codes "(") (kind_name_lacks kind) refl) (arg_lacks arg small)) refl
@@ -173,7 +174,7 @@ two_lack : (verb a b : List ℕ) → lacks 10 verb ≡ true → lacks 10 a ≡ t
 two_lack verb a b v p q =
     lacks_append 10 verb (spaced (a ∷ b ∷ [])) v (lacks_append 10 (32 ∷ a) (spaced (b ∷ [])) p (lacks_append 10 (32 ∷ b) [] q refl))
 
-node_is_shown : (n : Node) → IsWord n.path → IfSome n.arg Is32 → Shown (node_line n) (n ∷ []) []
+node_is_shown : (n : Node) → IsWord n.path → IfSome n.arg IsNumber → Shown (node_line n) (n ∷ []) []
 node_is_shown n word small =
     let kind : List ℕ = kind_text n.kind n.arg in
     let line : List ℕ = codes "node" ++ spaced (n.path ∷ kind ∷ []) in
@@ -226,7 +227,7 @@ module _ (g : Graph) (paths : All (λ (n : Node). IsWord n.path) g.nodes) where
   abbrev name_at : Port → List ℕ
   name_at p = name_of p.node p.require
 
-  nodes_are_shown : (i : ℕ) (ns : List Node) → All (λ (n : Node). IsWord n.path) ns → All (λ (n : Node). IfSome n.arg Is32) ns
+  nodes_are_shown : (i : ℕ) (ns : List Node) → All (λ (n : Node). IsWord n.path) ns → All (λ (n : Node). IfSome n.arg IsNumber) ns
       → Shown (flat_map (λ p. node_lines g p.0 p.1) (enumerate_from i ns)) ns (map name_at (flat_map (λ p. ports_of p.0 (requires_of p.1)) (enumerate_from i ns)))
   nodes_are_shown i [] ns_words ns_small = shown_none
   nodes_are_shown i (n ∷ ns) ns_words ns_small =
@@ -348,7 +349,7 @@ word_bytes (b ∷ bs) p q =
     let feed = and_parts (not (b == 10)) (lacks 10 bs) q in
     and_from (not (b == 32) && not (b == 10)) (list_all (λ byte. not (byte == 32) && not (byte == 10)) bs) (and_from (not (b == 32)) (not (b == 10)) space.0 feed.0) (word_bytes bs space.1 feed.1)
 
-word_test : (text : List ℕ) → IsWord text → is_word text ≡ true
+word_test : (text : List ℕ) → IsWord text → is_one_piece text ≡ true
 word_test text word = and_from (nat_lt 0 (length text)) (list_all (λ byte. not (byte == 32) && not (byte == 10)) text) (high_test (length text) word.0) (word_bytes text word.1 word.2)
 
 limit_test : (a : ℕ) → a < VALUE_LIMIT → nat_lt a VALUE_LIMIT ≡ true
@@ -360,7 +361,7 @@ argument_test has (Some a) same low = and_from has (nat_lt a VALUE_LIMIT) (sym s
 
 node_test : (n : Node) → HasItsArgument n → IsWord n.path → is_sound_node n ≡ true
 node_test n has word =
-    and_from (is_word n.path) (fits_kind (is_some (row n.kind).arg) n.arg) (word_test n.path word) (argument_test (is_some (row n.kind).arg) n.arg has.present has.below)
+    and_from (is_one_piece n.path) (fits_kind (is_some (row n.kind).arg) n.arg) (word_test n.path word) (argument_test (is_some (row n.kind).arg) n.arg has.present has.below)
 
 nodes_test : (nodes : List Node) → All HasItsArgument nodes → All (λ (n : Node). IsWord n.path) nodes → list_all is_sound_node nodes ≡ true
 nodes_test [] has words = refl
@@ -368,7 +369,7 @@ nodes_test (n ∷ nodes) has words =
     and_from (is_sound_node n) (list_all is_sound_node nodes) (node_test n (has 0 n (omega arith)) (words 0 n (omega arith)))
     (nodes_test nodes (λ k d low. has (suc k) d (omega arith)) (λ k d low. words (suc k) d (omega arith)))
 
-small_arg : (arg : Option ℕ) → IfSome arg (λ a. a < VALUE_LIMIT) → IfSome arg Is32
+small_arg : (arg : Option ℕ) → IfSome arg (λ a. a < VALUE_LIMIT) → IfSome arg IsNumber
 small_arg None low = tt
 small_arg (Some a) low = omega (arith, low)
 

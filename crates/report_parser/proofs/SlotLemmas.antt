@@ -15,13 +15,14 @@ use Rattle.change_script.specs.declared.report.HistoryLine.{HistoryLine}
 use Rattle.change_script.specs.declared.report.HistoryLine.TheVariants as history
 use Rattle.change_script.specs.declared.report.NodeLog.{NodeLog}
 use Rattle.config_graph.specs.GraphText.{kind_text}
+use Rattle.report_reader.proofs.TextLaws.{lacks_append, line_is}
 use Rattle.report_reader.specs.Numbers.{max32}
 use Rattle.report_reader.specs.ReportLines.{lacks}
 use Rattle.report_parser.specs.declared.version.Version.{Version}
 use Rattle.report_parser.specs.declared.version.Version.TheVariants as versions
 use Rattle.report_parser.specs.ReportTexts.{CanStand, IsLog, StandsBehind, written_by}
 use Rattle.report_parser.proofs.HistoryLemmas.{none_some, some_is}
-use Rattle.report_parser.proofs.LogLemmas.{AllOf, AllRead, lacks_append, lacks_parts, one_lacks, texts_of}
+use Rattle.report_parser.proofs.LogLemmas.{AllOf, AllRead, lacks_parts, one_lacks, texts_of}
 
 abbrev pub slots : List Made → List ℕ
 slots made = map (λ (m : Made). m.slot) made
@@ -114,14 +115,6 @@ pub record CanHead (version : Version) (made : Made) : Type 0 where
   pub low : made.slot ≤ max32
   pub word : lacks 32 made.path ≡ true
   pub lack : lacks 10 (log_head (written_by version) made.path made.slot) ≡ true
-
--- lines with the same text are the same
-line_is : (line other : List ℕ) → ended line ≡ ended other → line ≡ other
-line_is [] [] e = refl
-line_is [] (byte ∷ bytes) e = let long : length (ended []) ≡ length (ended (byte ∷ bytes)) = ap length e in absurd (omega (arith, length-append bytes (codes "\n")))
-line_is (byte ∷ bytes) [] e = let long : length (ended (byte ∷ bytes)) ≡ length (ended []) = ap length e in absurd (omega (arith, length-append bytes (codes "\n")))
-line_is (byte ∷ bytes) (first ∷ more) e =
-    ap (λ b. b ∷ bytes) (heads_are byte first (ended bytes) (ended more) e) ∙ ap (λ l. first ∷ l) (line_is bytes more (tails_are byte first (ended bytes) (ended more) e))
 
 head_lacks : (version : Version) (slot : ℕ) (path : List ℕ) → slot < 2 ^ 32 → lacks 10 (decimal slot) ≡ true → lacks 10 path ≡ true → lacks 10 (log_head (written_by version) path slot) ≡ true
 head_lacks versions.First slot path low number word = one_lacks (codes "log") slot refl (omega (arith, low))

@@ -8,7 +8,7 @@ use Rattle.base.proofs.BytesLaws.{bytes_eq_self, same_bytes}
 use Rattle.base.proofs.PlaceLaws.{heads_are}
 use Rattle.change_script.specs.Reports as reports
 use Rattle.change_script.specs.Reports.{LogsAreMade, Made, ended, history_text, log_head, log_text, makes, text_by, unfinished_text, version_number}
-use Rattle.change_script.specs.Writing.{spaced, with_one}
+use Rattle.change_script.specs.Writing.{spaced, with_one, IsNumber}
 use Rattle.change_script.specs.declared.report.HistoryLine.{HistoryLine}
 use Rattle.change_script.specs.declared.report.NodeLog.{NodeLog}
 use Rattle.change_script.specs.declared.report.Report.{Report}
@@ -17,7 +17,7 @@ use Rattle.report_reader.specs.GraphLines.{is_graph_line}
 use Rattle.report_reader.specs.Numbers.{max32}
 use Rattle.report_reader.specs.Parts.{words}
 use Rattle.report_reader.specs.Readings.{line_in}
-use Rattle.report_reader.specs.ReportLines.{Is32, lacks}
+use Rattle.report_reader.specs.ReportLines.{lacks}
 use Rattle.report_reader.proofs.EndLaws.{head_with_path_words, head_words, status_of, status_says, status_words, unfinished_of as read_unfinished, unfinished_says, unfinished_words}
 use Rattle.report_parser.specs.declared.error.ReportFault.{ReportFault}
 use Rattle.report_parser.specs.declared.history.Behind.TheVariants as behinds
@@ -113,7 +113,7 @@ unfinished_line_lacks n low = one_lacks (codes "unfinished") n refl (omega (arit
 -- ---- the lines behind the logs
 
 abbrev CanEnd : Version → Option ℕ → Type 0
-CanEnd version unfinished = IfSome unfinished (λ slot. Is32 slot × (is_slot version slot ≡ true))
+CanEnd version unfinished = IfSome unfinished (λ slot. IsNumber slot × (is_slot version slot ≡ true))
 
 begins_ends : (version : Version) (unfinished : Option ℕ) (status : ℕ) → CanEnd version unfinished → status ≤ 255 → Begins (unfinished_text unfinished ++ ended (with_one (codes "status") status))
 begins_ends version None status can low =

@@ -77,15 +77,15 @@ fits_kind has None = not has
 fits_kind has (Some arg) = has && nat_lt arg VALUE_LIMIT
 
 -- a byte that is no space and no line feed, and a word of such bytes
-abbrev pub is_word_byte : ℕ → Bool
-is_word_byte byte = not (byte == 32) && not (byte == 10)
+abbrev pub is_path_byte : ℕ → Bool
+is_path_byte byte = not (byte == 32) && not (byte == 10)
 
-abbrev pub is_word : List ℕ → Bool
-is_word text = nat_lt 0 (length text) && list_all is_word_byte text
+abbrev pub is_one_piece : List ℕ → Bool
+is_one_piece text = nat_lt 0 (length text) && list_all is_path_byte text
 
 -- whether a node's path is one word, and its argument fits its kind
 abbrev pub is_sound_node : Node → Bool
-is_sound_node node = is_word node.path && fits_kind (is_some (row node.kind).arg) node.arg
+is_sound_node node = is_one_piece node.path && fits_kind (is_some (row node.kind).arg) node.arg
 
 -- all nodes to which ways lead from those that were seen: so many more of them have their successors seen
 abbrev pub search : Graph → ℕ → ℕ → Seen → Seen

@@ -12,7 +12,8 @@ use Rattle.change_script.specs.declared.report.HistoryLine.{HistoryLine}
 use Rattle.change_script.specs.declared.report.HistoryLine.TheVariants as history
 use Rattle.change_script.specs.declared.report.NodeLog.{NodeLog}
 use Rattle.change_script.specs.declared.report.Report.{Report}
-use Rattle.report_reader.specs.ReportLines.{Is32, IsLast, IsLine, IsNodeEvent, lacks}
+use Rattle.change_script.specs.Writing.{IsNumber}
+use Rattle.report_reader.specs.ReportLines.{IsLast, IsLine, IsNodeEvent, lacks}
 use Rattle.report_parser.specs.declared.version.Version.{Version}
 use Rattle.report_parser.specs.declared.version.Version.TheVariants as versions
 use Rattle.report_parser.specs.Limits.{event_keeps, is_slot, last_keeps, line_keeps}
@@ -44,14 +45,14 @@ is_root (history.Root port serial) = true
 is_root says = false
 
 -- `pending`, or an `open` line
-abbrev pub is_pending : HistoryLine → Bool
-is_pending (history.Pending rounds) = true
-is_pending (history.Root port serial) = true
-is_pending says = false
+abbrev pub is_pending_or_root : HistoryLine → Bool
+is_pending_or_root (history.Pending rounds) = true
+is_pending_or_root (history.Root port serial) = true
+is_pending_or_root says = false
 
 abbrev pub ends_pending : List HistoryLine → Bool
 ends_pending [] = false
-ends_pending (last ∷ []) = is_pending last
+ends_pending (last ∷ []) = is_pending_or_root last
 ends_pending (first ∷ next ∷ more) = ends_pending (next ∷ more)
 
 -- A line can stand behind these: nodes are made in the slots 0, 1 and on, and `open` lines stand behind `pending`, with nothing but such lines between.
@@ -71,7 +72,7 @@ pub record IsReport (version : Version) (report : Report) : Type 0 where
   pub history : Each (StandsBehind version) report.history
   pub logs : map (λ (log : NodeLog). log.slot) report.logs ≡ map (λ (made : Made). made.slot) (makes report.history)
   pub each_log : All (IsLog version) report.logs
-  pub unfinished : IfSome report.unfinished (λ slot. Is32 slot × (is_slot version slot ≡ true))
+  pub unfinished : IfSome report.unfinished (λ slot. IsNumber slot × (is_slot version slot ≡ true))
   pub status : report.status < 256
 
 -- the version by which a text is written

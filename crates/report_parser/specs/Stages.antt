@@ -18,7 +18,7 @@ use Rattle.report_parser.specs.declared.history.Behind.TheVariants as behinds
 use Rattle.report_parser.specs.declared.version.Version.{Version}
 use Rattle.report_parser.specs.declared.version.Version.TheVariants as versions
 use Rattle.report_parser.specs.Limits.{event_keeps, is_slot, last_keeps, line_keeps}
-use Rattle.report_parser.specs.ReportTexts.{is_pending, written_by}
+use Rattle.report_parser.specs.ReportTexts.{is_pending_or_root, written_by}
 use Rattle.report_parser.specs.GraphTexts.{behind_graph, graph_in, graph_lines}
 use Rattle.report_parser.specs.TextLines.{lines, tail}
 
@@ -73,7 +73,7 @@ is_after_show behinds.Show = true
 is_after_show behind = false
 
 abbrev pub behind_line : HistoryLine → Behind
-behind_line says = if is_pending says then behinds.Pending else behinds.Other
+behind_line says = if is_pending_or_root says then behinds.Pending else behinds.Other
 
 -- whether a line can stand there, where so many nodes were made: nodes are made in the slots 0, 1 and on
 abbrev pub stands : ℕ → Behind → HistoryLine → Bool

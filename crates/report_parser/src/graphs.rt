@@ -6,7 +6,7 @@ ghost use Rattle.change_script.specs.Reports.{ended};
 ghost use Rattle.config_graph.specs.Graph.{IsLinkWithin, ports as ports_of};
 ghost use Rattle.config_graph.specs.GraphText.{graph_text as drawn_text};
 ghost use Rattle.config_graph.specs.Kinds.{row};
-ghost use Rattle.report_parser.specs.GraphTexts.{behind_dot, behind_graph, comes_before, drawn, graph_in, graph_lines, fits_kind, has_no_cycle, is_sound_node, is_word, is_word_byte, link_from, links_by, nodes_in, path_of, paths_rise, target_named, targets_in};
+ghost use Rattle.report_parser.specs.GraphTexts.{behind_dot, behind_graph, comes_before, drawn, graph_in, graph_lines, fits_kind, has_no_cycle, is_sound_node, is_one_piece, is_path_byte, link_from, links_by, nodes_in, path_of, paths_rise, target_named, targets_in};
 ghost use Rattle.report_parser.specs.TextLines.{lines, tail};
 
 use crate::rest::first_line;
@@ -199,23 +199,23 @@ fn are_sound(nodes: &[Node]) -> bool
 fn is_sound_node(node: &Node) -> bool
     ensures { result ≡ is_sound_node node.now }
 {
-    is_word(node.path.as_bytes()) && fits_kind(node.kind, node.arg)
+    is_one_piece(node.path.as_bytes()) && fits_kind(node.kind, node.arg)
 }
 
-fn is_word(text: &[u8]) -> bool
-    ensures { result ≡ is_word text.now }
+fn is_one_piece(text: &[u8]) -> bool
+    ensures { result ≡ is_one_piece text.now }
 {
     !text.is_empty() && has_word_bytes(text)
 }
 
 fn has_word_bytes(text: &[u8]) -> bool
-    ensures { result ≡ list_all is_word_byte text.now }
+    ensures { result ≡ list_all is_path_byte text.now }
 {
-    text.iter().all(|byte| is_word_byte(*byte))
+    text.iter().all(|byte| is_path_byte(*byte))
 }
 
-fn is_word_byte(byte: u8) -> bool
-    ensures { result ≡ is_word_byte byte }
+fn is_path_byte(byte: u8) -> bool
+    ensures { result ≡ is_path_byte byte }
 {
     byte != b' ' && byte != b'\n'
 }

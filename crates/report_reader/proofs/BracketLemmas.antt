@@ -1,15 +1,15 @@
 -- Names with parentheses behind them, and what stands inside.
-use Rattle.std.proofs.Common.{◌≡◌, ◌==◌, ◌<◌, not, zero, suc, ℕ, true, false, List, [], ◌∷◌, ◌++◌, length, get_or, Option, Some, None, refl, sym, ap, subst, ◌∙◌, arith, inl, inr}
+use Rattle.std.proofs.Common.{◌≡◌, ◌==◌, ◌<◌, not, ℕ, true, List, [], ◌∷◌, ◌++◌, Option, Some, None, refl, sym, ap, subst, ◌∙◌, arith, inl, inr}
 use Rattle.std.specs.List.{join_with_byte, onto_first, slice_split}
 use Rattle.std.specs.Char.{digit_value}
 use Rattle.std.specs.Str.Parse.{AllDigits}
-use Rattle.std.proofs.lemmas.Bool.{and_from, and_parts, cond-true, cond-false}
+use Rattle.std.proofs.lemmas.Bool.{and_from, cond-true, cond-false, cases_Bool}
 use Rattle.std.proofs.lemmas.Bool.Decides.{nat_tests}
 use Rattle.std.proofs.lemmas.List.Splits.{join_with_byte-slice_split, slice_split_none, slice_split_at}
 use Rattle.report_reader.specs.Parts.{bracketed, closed, is_empty, is_end, opened, two_of}
 use Rattle.report_reader.specs.ReportLines.{lacks}
+use Rattle.report_reader.proofs.TextLaws.{lacks_append, lacks_at}
 use Rattle.report_reader.proofs.NumberLemmas.{ended_is, some_is, when_some}
-use Rattle.report_reader.proofs.EventLemmas.{either}
 
 abbrev pub PartsLack : ℕ → List (List ℕ) → Type 0
 PartsLack at [] = Unit {0}
@@ -24,7 +24,7 @@ pub split_lack : (at : ℕ) (text : List ℕ) → PartsLack at (slice_split (λ 
 split_lack at [] = (refl, tt)
 split_lack at (byte ∷ bytes) =
     let more : List (List ℕ) = slice_split (λ b. b == at) bytes in
-    elim (either (byte == at)) [
+    elim (cases_Bool (byte == at)) [
       | inl same ↦
           let is : slice_split (λ b. b == at) (byte ∷ bytes) ≡ [] ∷ more = cond-true _ _ _ same in
           subst (PartsLack at) (sym is) (refl, split_lack at bytes)
@@ -32,20 +32,6 @@ split_lack at (byte ∷ bytes) =
           let is : slice_split (λ b. b == at) (byte ∷ bytes) ≡ onto_first byte more = cond-false _ _ _ other in
           subst (PartsLack at) (sym is) (onto_lack at byte more (ap not other) (split_lack at bytes))
     ]
-
-not_byte : (byte at : ℕ) → not (byte == at) ≡ true → (byte == at) ≡ false
-not_byte byte at is = grind (arith, nat_tests)
-
-pub lacks_at : (at : ℕ) (text : List ℕ) → lacks at text ≡ true → (k d : ℕ) → k < length text → (get_or text k d == at) ≡ false
-lacks_at at [] is k d low = absurd (omega arith)
-lacks_at at (byte ∷ bytes) is zero d low = not_byte byte at (and_parts (not (byte == at)) (lacks at bytes) is).0
-lacks_at at (byte ∷ bytes) is (suc k) d low = lacks_at at bytes (and_parts (not (byte == at)) (lacks at bytes) is).1 k d (omega arith)
-
-pub lacks_append : (at : ℕ) (text more : List ℕ) → lacks at text ≡ true → lacks at more ≡ true → lacks at (text ++ more) ≡ true
-lacks_append at [] more first second = second
-lacks_append at (byte ∷ bytes) more first second =
-    let parts = and_parts (not (byte == at)) (lacks at bytes) first in
-    and_from (not (byte == at)) (lacks at (bytes ++ more)) parts.0 (lacks_append at bytes more parts.1 second)
 
 other_byte : (byte at : ℕ) → digit_value byte < 10 → at < 48 → not (byte == at) ≡ true
 other_byte byte at digit low = grind (arith, nat_tests)

@@ -2,12 +2,12 @@
 use Rattle.std.proofs.Common.{◌≡◌, ◌<◌, ◌≤◌, ◌^◌, ℕ, true, List, [], ◌∷◌, ◌++◌, Some, None, codes, bytes_eq, decimal, refl, ap, ◌∙◌, arith, cond}
 use Rattle.base.proofs.BytesLaws.{same_bytes}
 use Rattle.change_script.specs.Writing.{spaced, with_one}
+use Rattle.report_reader.proofs.TextLaws.{lacks_at}
 use Rattle.report_reader.specs.Ends.{status_in, unfinished_in}
 use Rattle.report_reader.specs.Numbers.{max32, one_in}
 use Rattle.report_reader.specs.Parts.{words}
 use Rattle.report_reader.specs.ReportLines.{lacks}
-use Rattle.report_reader.proofs.BracketLemmas.{lacks_at}
-use Rattle.report_reader.proofs.EventLemmas.{unspaced, words_are, words_of}
+use Rattle.report_reader.proofs.EventLemmas.{words_are, words_of}
 use Rattle.report_reader.proofs.NumberLemmas.{decimal_unspaced, one_is, one_of, when_some}
 
 says_one : (verb line first : List ℕ) (rest : List (List ℕ)) (most n : ℕ) → most < 2 ^ 64 → words line ≡ first ∷ rest → cond (bytes_eq first verb) (one_in most rest) None ≡ Some n
@@ -33,17 +33,17 @@ unfinished_says line n e = by (words line) refl e
 
 -- the words of these lines
 pub status_words : (n : ℕ) → n ≤ 255 → words (with_one (codes "status") n) ≡ codes "status" ∷ decimal n ∷ []
-status_words n low = words_of (codes "status") (decimal n ∷ []) (unspaced (codes "status") refl) (decimal_unspaced n (omega (arith, low)), tt)
+status_words n low = words_of (codes "status") (decimal n ∷ []) (lacks_at 32 (codes "status") refl) (decimal_unspaced n (omega (arith, low)), tt)
 
 pub unfinished_words : (n : ℕ) → n ≤ max32 → words (with_one (codes "unfinished") n) ≡ codes "unfinished" ∷ decimal n ∷ []
-unfinished_words n low = words_of (codes "unfinished") (decimal n ∷ []) (unspaced (codes "unfinished") refl) (decimal_unspaced n (omega (arith, low)), tt)
+unfinished_words n low = words_of (codes "unfinished") (decimal n ∷ []) (lacks_at 32 (codes "unfinished") refl) (decimal_unspaced n (omega (arith, low)), tt)
 
 pub head_words : (slot : ℕ) → slot ≤ max32 → words (with_one (codes "log") slot) ≡ codes "log" ∷ decimal slot ∷ []
-head_words slot low = words_of (codes "log") (decimal slot ∷ []) (unspaced (codes "log") refl) (decimal_unspaced slot (omega (arith, low)), tt)
+head_words slot low = words_of (codes "log") (decimal slot ∷ []) (lacks_at 32 (codes "log") refl) (decimal_unspaced slot (omega (arith, low)), tt)
 
 pub head_with_path_words : (slot : ℕ) (path : List ℕ) → slot ≤ max32 → lacks 32 path ≡ true → words (codes "log" ++ spaced (decimal slot ∷ path ∷ [])) ≡ codes "log" ∷ decimal slot ∷ path ∷ []
 head_with_path_words slot path low word =
-    words_of (codes "log") (decimal slot ∷ path ∷ []) (unspaced (codes "log") refl) (decimal_unspaced slot (omega (arith, low)), (lacks_at 32 path word, tt))
+    words_of (codes "log") (decimal slot ∷ path ∷ []) (lacks_at 32 (codes "log") refl) (decimal_unspaced slot (omega (arith, low)), (lacks_at 32 path word, tt))
 
 pub status_of : (n : ℕ) → n ≤ 255 → status_in (words (with_one (codes "status") n)) ≡ Some n
 status_of n low = ap status_in (status_words n low) ∙ one_of 255 n (omega arith) low

@@ -1,4 +1,5 @@
 -- The lines of a history, but for those of a graph that is shown.
+use Rattle.std.specs.List.{AllByRecursion}
 use Rattle.std.specs.Prelude.{IfOk, Result, Ok, Err}
 use Rattle.std.proofs.Common.{◌≡◌, ◌<◌, ◌^◌, ℕ, ℤ, true, List, [], ◌∷◌, ◌++◌, Option, Some, None, IfSome, option_map, codes, bytes_eq, decimal, refl, sym, ap, subst, ◌∙◌, arith}
 use Rattle.base.proofs.BytesLaws.{same_bytes}
@@ -7,23 +8,24 @@ use Rattle.config_graph.specs.GraphText.{kind_text}
 use Rattle.change_script.specs.declared.report.HistoryLine.{HistoryLine}
 use Rattle.change_script.specs.declared.report.HistoryLine.TheVariants as history
 use Rattle.change_script.specs.Reports.{args_text, ended, history_text}
-use Rattle.change_script.specs.Writing.{from_words, spaced}
+use Rattle.change_script.specs.Writing.{from_words, spaced, IsNumber}
+use Rattle.change_script.specs.StatementTexts.{IsInteger}
+use Rattle.report_reader.proofs.TextLaws.{lacks_at, line_is}
 use Rattle.report_reader.specs.declared.verbs.Bare.{Bare}
 use Rattle.report_reader.specs.declared.verbs.Bare.TheVariants as bares
-use Rattle.report_reader.specs.declared.verbs.Single.{Single}
-use Rattle.report_reader.specs.declared.verbs.Single.TheVariants as singles
-use Rattle.report_reader.specs.declared.verbs.Double.{Double}
-use Rattle.report_reader.specs.declared.verbs.Double.TheVariants as doubles
-use Rattle.report_reader.specs.declared.verbs.Verb.{Verb}
-use Rattle.report_reader.specs.declared.verbs.Verb.TheVariants as verbs
+use Rattle.report_reader.specs.declared.verbs.OneNumber.{OneNumber}
+use Rattle.report_reader.specs.declared.verbs.OneNumber.TheVariants as singles
+use Rattle.report_reader.specs.declared.verbs.TwoNumbers.{TwoNumbers}
+use Rattle.report_reader.specs.declared.verbs.TwoNumbers.TheVariants as doubles
+use Rattle.report_reader.specs.declared.verbs.HistoryVerb.{HistoryVerb}
+use Rattle.report_reader.specs.declared.verbs.HistoryVerb.TheVariants as verbs
 use Rattle.report_reader.specs.Parts.{is_end, words}
 use Rattle.report_reader.specs.Numbers.{max32, max64, one_in, three_in, two_in}
-use Rattle.report_reader.specs.Readings.{all_verbs, bare_bytes, bare_line, double_bytes, double_line, line_by, line_in, line_named, single_bytes, single_line, system_in, verb_bytes, verb_named}
-use Rattle.report_reader.specs.ReportLines.{Is32, IsLine, IsName, AreIntegers}
+use Rattle.report_reader.specs.Readings.{history_verbs, bare_bytes, bare_line, two_numbers_bytes, two_numbers_line, line_by, line_in, line_named, one_number_bytes, one_number_line, system_in, history_verb_bytes, history_verb_named}
+use Rattle.report_reader.specs.ReportLines.{IsLine, IsName, lacks}
 use Rattle.report_reader.proofs.NumberLemmas.{Unspaced, decimal_unspaced, ended_is, mapped, one_is, one_of, some_is, three_are, three_of, two_are, two_numbers_of, when_some}
-use Rattle.report_reader.proofs.EventLemmas.{AllUnspaced, no_space, unspaced, words_are, words_of}
-use Rattle.report_reader.proofs.LastLemmas.{line_is}
-use Rattle.report_reader.proofs.BracketLemmas.{PartsLack, lacks_at, split_lack}
+use Rattle.report_reader.proofs.EventLemmas.{AllUnspaced, words_are, words_of}
+use Rattle.report_reader.proofs.BracketLemmas.{PartsLack, split_lack}
 use Rattle.report_reader.proofs.IntegerLemmas.{args_lack}
 use Rattle.report_reader.proofs.MakeLemmas.{are_system, bracket_lacks, bracket_text, kind_text_lacks, make_of_written, says_make, system_of_written, system_text}
 
@@ -45,36 +47,36 @@ bare_alone bares.Abandon = refl
 bare_alone bares.Skipped = refl
 bare_alone bares.Stop = refl
 
-single_written : (single : Single) (n : ℕ) → ended (single_bytes single ++ spaced (decimal n ∷ [])) ≡ history_text (single_line single n)
+single_written : (single : OneNumber) (n : ℕ) → ended (one_number_bytes single ++ spaced (decimal n ∷ [])) ≡ history_text (one_number_line single n)
 single_written singles.Unlink n = refl
 single_written singles.Remove n = refl
 single_written singles.Close n = refl
 single_written singles.Reopen n = refl
 single_written singles.Pending n = refl
 
-single_has : (single : Single) (n : ℕ) → Is32 n → IsLine (single_line single n)
+single_has : (single : OneNumber) (n : ℕ) → IsNumber n → IsLine (one_number_line single n)
 single_has singles.Unlink n is = is
 single_has singles.Remove n is = is
 single_has singles.Close n is = is
 single_has singles.Reopen n is = is
 single_has singles.Pending n is = is
 
-double_written : (double : Double) (a b : ℕ) → ended (double_bytes double ++ spaced (decimal a ∷ decimal b ∷ [])) ≡ history_text (double_line double a b)
+double_written : (double : TwoNumbers) (a b : ℕ) → ended (two_numbers_bytes double ++ spaced (decimal a ∷ decimal b ∷ [])) ≡ history_text (two_numbers_line double a b)
 double_written doubles.Drained a b = refl
 double_written doubles.Root a b = refl
 double_written doubles.Finish a b = refl
 
-double_has : (double : Double) (a b : ℕ) → Is32 a × Is32 b → IsLine (double_line double a b)
+double_has : (double : TwoNumbers) (a b : ℕ) → IsNumber a × IsNumber b → IsLine (two_numbers_line double a b)
 double_has doubles.Drained a b are = are
 double_has doubles.Root a b are = are
 double_has doubles.Finish a b are = are
 
 -- what a verb and its words say
-record SaysBy (verb : Verb) (rest : List (List ℕ)) (says : HistoryLine) : Type 0 where
-  text : ended (verb_bytes verb ++ spaced rest) ≡ history_text says
+record SaysBy (verb : HistoryVerb) (rest : List (List ℕ)) (says : HistoryLine) : Type 0 where
+  text : ended (history_verb_bytes verb ++ spaced rest) ≡ history_text says
   has : IsLine says
 
-says_by : (verb : Verb) (rest : List (List ℕ)) (says : HistoryLine) → PartsLack 32 rest → line_by verb rest ≡ Some says → SaysBy verb rest says
+says_by : (verb : HistoryVerb) (rest : List (List ℕ)) (says : HistoryLine) → PartsLack 32 rest → line_by verb rest ≡ Some says → SaysBy verb rest says
 says_by verbs.Start rest says lack e =
     let m = mapped (λ s. history.Start s.0 s.1) (system_in rest) says e in
     let system = are_system rest m.value lack m.found in
@@ -116,18 +118,18 @@ says_by (verbs.Bare bare) rest says lack e =
       text = ap (λ ws. ended (bare_bytes bare ++ spaced ws)) (ended_is rest alone.0) ∙ bare_alone bare ∙ bare_written bare ∙ ap history_text is;
       has = subst IsLine is (bare_has bare);
     }
-says_by (verbs.Single single) rest says lack e =
-    let m = mapped (single_line single) (one_in max32 rest) says e in
+says_by (verbs.OneNumber single) rest says lack e =
+    let m = mapped (one_number_line single) (one_in max32 rest) says e in
     let n = one_is max32 rest m.value (omega arith) m.found in
     record {
-      text = ap (λ ws. ended (single_bytes single ++ spaced ws)) n.texts ∙ single_written single m.value ∙ ap history_text m.gives;
+      text = ap (λ ws. ended (one_number_bytes single ++ spaced ws)) n.texts ∙ single_written single m.value ∙ ap history_text m.gives;
       has = subst IsLine m.gives (single_has single m.value (omega (arith, n.low)));
     }
-says_by (verbs.Double double) rest says lack e =
-    let m = mapped (λ n. double_line double n.0 n.1) (two_in max32 rest) says e in
+says_by (verbs.TwoNumbers double) rest says lack e =
+    let m = mapped (λ n. two_numbers_line double n.0 n.1) (two_in max32 rest) says e in
     let n = two_are max32 rest m.value (omega arith) m.found in
     record {
-      text = ap (λ ws. ended (double_bytes double ++ spaced ws)) n.texts ∙ double_written double m.value.0 m.value.1 ∙ ap history_text m.gives;
+      text = ap (λ ws. ended (two_numbers_bytes double ++ spaced ws)) n.texts ∙ double_written double m.value.0 m.value.1 ∙ ap history_text m.gives;
       has = subst IsLine m.gives (double_has double m.value.0 m.value.1 (omega (arith, n.first), omega (arith, n.second)));
     }
 
@@ -135,25 +137,25 @@ record Says (line : List ℕ) (says : HistoryLine) : Type 0 where
   text : ended line ≡ history_text says
   has : IsLine says
 
-says_named : (line verb : List ℕ) (rest : List (List ℕ)) (found : Option Verb) (says : HistoryLine) → line ≡ verb ++ spaced rest → PartsLack 32 rest → found ≡ verb_named verb
+says_named : (line verb : List ℕ) (rest : List (List ℕ)) (found : Option HistoryVerb) (says : HistoryLine) → line ≡ verb ++ spaced rest → PartsLack 32 rest → found ≡ history_verb_named verb
     → line_named found rest ≡ Some says → Says line says
 says_named line verb rest None says at lack is e = let never : ⊥ = cc in absurd never
 says_named line verb rest (Some named) says at lack is e =
     let by = says_by named rest says lack e in
-    let name : verb_bytes named ≡ verb = same_bytes (verb_bytes named) verb (find_passes (λ v. bytes_eq (verb_bytes v) verb) all_verbs named (sym is)) in
+    let name : history_verb_bytes named ≡ verb = same_bytes (history_verb_bytes named) verb (find_passes (λ v. bytes_eq (history_verb_bytes v) verb) history_verbs named (sym is)) in
     record { text = ap ended (at ∙ ap (λ w. w ++ spaced rest) (sym name)) ∙ by.text; has = by.has }
 
 says_words : (line : List ℕ) (parts : List (List ℕ)) (says : HistoryLine) → words line ≡ parts → line_in parts ≡ Some says → Says line says
 says_words line [] says is e = let never : ⊥ = cc in absurd never
 says_words line (verb ∷ rest) says is e =
     let lack = subst (PartsLack 32) is (split_lack 32 line) in
-    says_named line verb rest (verb_named verb) says (words_are line verb rest is) lack.1 refl e
+    says_named line verb rest (history_verb_named verb) says (words_are line verb rest is) lack.1 refl e
 
 -- A line says something of the history only as this is written.
 pub line_says : (line : List ℕ) (says : HistoryLine) → line_in (words line) ≡ Some says → (ended line ≡ history_text says) × IsLine says
 line_says line says e = let all = says_words line (words line) says refl e in (all.text, all.has)
 
-verb_unspaced : (verb : Verb) → no_space (verb_bytes verb) ≡ true
+verb_unspaced : (verb : HistoryVerb) → lacks 32 (history_verb_bytes verb) ≡ true
 verb_unspaced verbs.Start = refl
 verb_unspaced verbs.Change = refl
 verb_unspaced verbs.Make = refl
@@ -163,16 +165,16 @@ verb_unspaced (verbs.Bare bares.Commit) = refl
 verb_unspaced (verbs.Bare bares.Abandon) = refl
 verb_unspaced (verbs.Bare bares.Skipped) = refl
 verb_unspaced (verbs.Bare bares.Stop) = refl
-verb_unspaced (verbs.Single singles.Unlink) = refl
-verb_unspaced (verbs.Single singles.Remove) = refl
-verb_unspaced (verbs.Single singles.Close) = refl
-verb_unspaced (verbs.Single singles.Reopen) = refl
-verb_unspaced (verbs.Single singles.Pending) = refl
-verb_unspaced (verbs.Double doubles.Drained) = refl
-verb_unspaced (verbs.Double doubles.Root) = refl
-verb_unspaced (verbs.Double doubles.Finish) = refl
+verb_unspaced (verbs.OneNumber singles.Unlink) = refl
+verb_unspaced (verbs.OneNumber singles.Remove) = refl
+verb_unspaced (verbs.OneNumber singles.Close) = refl
+verb_unspaced (verbs.OneNumber singles.Reopen) = refl
+verb_unspaced (verbs.OneNumber singles.Pending) = refl
+verb_unspaced (verbs.TwoNumbers doubles.Drained) = refl
+verb_unspaced (verbs.TwoNumbers doubles.Root) = refl
+verb_unspaced (verbs.TwoNumbers doubles.Finish) = refl
 
-known : (verb : Verb) (rest : List (List ℕ)) → line_in (verb_bytes verb ∷ rest) ≡ line_by verb rest
+known : (verb : HistoryVerb) (rest : List (List ℕ)) → line_in (history_verb_bytes verb ∷ rest) ≡ line_by verb rest
 known verbs.Start rest = refl
 known verbs.Change rest = refl
 known verbs.Make rest = refl
@@ -182,44 +184,44 @@ known (verbs.Bare bares.Commit) rest = refl
 known (verbs.Bare bares.Abandon) rest = refl
 known (verbs.Bare bares.Skipped) rest = refl
 known (verbs.Bare bares.Stop) rest = refl
-known (verbs.Single singles.Unlink) rest = refl
-known (verbs.Single singles.Remove) rest = refl
-known (verbs.Single singles.Close) rest = refl
-known (verbs.Single singles.Reopen) rest = refl
-known (verbs.Single singles.Pending) rest = refl
-known (verbs.Double doubles.Drained) rest = refl
-known (verbs.Double doubles.Root) rest = refl
-known (verbs.Double doubles.Finish) rest = refl
+known (verbs.OneNumber singles.Unlink) rest = refl
+known (verbs.OneNumber singles.Remove) rest = refl
+known (verbs.OneNumber singles.Close) rest = refl
+known (verbs.OneNumber singles.Reopen) rest = refl
+known (verbs.OneNumber singles.Pending) rest = refl
+known (verbs.TwoNumbers doubles.Drained) rest = refl
+known (verbs.TwoNumbers doubles.Root) rest = refl
+known (verbs.TwoNumbers doubles.Finish) rest = refl
 
-read_of : (verb : Verb) (rest : List (List ℕ)) (line : List ℕ) (says : HistoryLine) → AllUnspaced rest → ended line ≡ ended (verb_bytes verb ++ spaced rest)
+read_of : (verb : HistoryVerb) (rest : List (List ℕ)) (line : List ℕ) (says : HistoryLine) → AllUnspaced rest → ended line ≡ ended (history_verb_bytes verb ++ spaced rest)
     → line_by verb rest ≡ Some says → line_in (words line) ≡ Some says
 read_of verb rest line says all is by =
-    ap (λ l. line_in (words l)) (line_is line (verb_bytes verb ++ spaced rest) is)
-    ∙ ap line_in (words_of (verb_bytes verb) rest (unspaced (verb_bytes verb) (verb_unspaced verb)) all) ∙ known verb rest ∙ by
+    ap (λ l. line_in (words l)) (line_is line (history_verb_bytes verb ++ spaced rest) is)
+    ∙ ap line_in (words_of (history_verb_bytes verb) rest (lacks_at 32 (history_verb_bytes verb) (verb_unspaced verb)) all) ∙ known verb rest ∙ by
 
-single_of : (single : Single) (n : ℕ) (line : List ℕ) → Is32 n → ended line ≡ history_text (single_line single n) → line_in (words line) ≡ Some (single_line single n)
+single_of : (single : OneNumber) (n : ℕ) (line : List ℕ) → IsNumber n → ended line ≡ history_text (one_number_line single n) → line_in (words line) ≡ Some (one_number_line single n)
 single_of single n line small is =
-    read_of (verbs.Single single) (decimal n ∷ []) line (single_line single n) (decimal_unspaced n (omega (arith, small)), tt) (is ∙ sym (single_written single n))
-    (ap (option_map (single_line single)) (one_of max32 n (omega arith) (omega (arith, small))))
+    read_of (verbs.OneNumber single) (decimal n ∷ []) line (one_number_line single n) (decimal_unspaced n (omega (arith, small)), tt) (is ∙ sym (single_written single n))
+    (ap (option_map (one_number_line single)) (one_of max32 n (omega arith) (omega (arith, small))))
 
 two_unspaced : (a b : ℕ) → a < 2 ^ 64 → b < 2 ^ 64 → AllUnspaced (decimal a ∷ decimal b ∷ [])
 two_unspaced a b p q = (decimal_unspaced a p, (decimal_unspaced b q, tt))
 
-double_of : (double : Double) (a b : ℕ) (line : List ℕ) → Is32 a × Is32 b → ended line ≡ history_text (double_line double a b) → line_in (words line) ≡ Some (double_line double a b)
+double_of : (double : TwoNumbers) (a b : ℕ) (line : List ℕ) → IsNumber a × IsNumber b → ended line ≡ history_text (two_numbers_line double a b) → line_in (words line) ≡ Some (two_numbers_line double a b)
 double_of double a b line small is =
-    read_of (verbs.Double double) (decimal a ∷ decimal b ∷ []) line (double_line double a b) (two_unspaced a b (omega (arith, small.0)) (omega (arith, small.1)))
+    read_of (verbs.TwoNumbers double) (decimal a ∷ decimal b ∷ []) line (two_numbers_line double a b) (two_unspaced a b (omega (arith, small.0)) (omega (arith, small.1)))
     (is ∙ sym (double_written double a b))
-    (ap (option_map (λ (n : ℕ × ℕ). double_line double n.0 n.1)) (two_numbers_of max32 a b (omega arith) (omega (arith, small.0)) (omega (arith, small.1))))
+    (ap (option_map (λ (n : ℕ × ℕ). two_numbers_line double n.0 n.1)) (two_numbers_of max32 a b (omega arith) (omega (arith, small.0)) (omega (arith, small.1))))
 
 bare_of : (bare : Bare) (line : List ℕ) → ended line ≡ history_text (bare_line bare) → line_in (words line) ≡ Some (bare_line bare)
 bare_of bare line is = read_of (verbs.Bare bare) [] line (bare_line bare) tt (is ∙ sym (bare_alone bare ∙ bare_written bare)) refl
 
-system_unspaced : (name : List ℕ) (args : List ℤ) → IsName name → AreIntegers args → Unspaced (bracket_text name (args_text args))
+system_unspaced : (name : List ℕ) (args : List ℤ) → IsName name → AllByRecursion IsInteger args → Unspaced (bracket_text name (args_text args))
 system_unspaced name args is small = lacks_at 32 (bracket_text name (args_text args)) (bracket_lacks name (args_text args) is.1 (args_lack 32 args (omega arith) small))
 
-from_unspaced : (from : Option ℕ) → IfSome from Is32 → AllUnspaced (from_words from)
+from_unspaced : (from : Option ℕ) → IfSome from IsNumber → AllUnspaced (from_words from)
 from_unspaced None small = tt
-from_unspaced (Some slot) small = (unspaced (codes "from") refl, (decimal_unspaced slot (omega (arith, small)), tt))
+from_unspaced (Some slot) small = (lacks_at 32 (codes "from") refl, (decimal_unspaced slot (omega (arith, small)), tt))
 
 -- What is written of a line says it.
 pub line_of : (line : List ℕ) (says : HistoryLine) → IsLine says → ended line ≡ history_text says → line_in (words line) ≡ Some says

@@ -1,10 +1,8 @@
 -- The lines that end a log.
 use Rattle.std.specs.Prelude.{IfOk, IfSome, Result, Ok, Err}
-use Rattle.std.proofs.Common.{◌≡◌, ℕ, List, [], ◌∷◌, ◌++◌, length, map, flat_map, Option, Some, None, option_map, codes, bytes_eq, decimal, refl, sym, ap, subst, ◌∙◌, arith, inl, inr}
-use Rattle.std.proofs.lemmas.Bool.{cond-true, cond-false}
-use Rattle.std.proofs.lemmas.List.{length-append}
+use Rattle.std.proofs.Common.{◌≡◌, ℕ, List, [], ◌∷◌, ◌++◌, map, flat_map, Option, Some, None, option_map, codes, bytes_eq, decimal, refl, sym, ap, subst, ◌∙◌, arith, inl, inr}
+use Rattle.std.proofs.lemmas.Bool.{cond-true, cond-false, cases_Bool}
 use Rattle.base.proofs.BytesLaws.{same_bytes}
-use Rattle.base.proofs.PlaceLaws.{heads_are, tails_are}
 use Rattle.change_script.specs.declared.report.Last.{Last}
 use Rattle.change_script.specs.declared.report.Last.TheVariants as lasts
 use Rattle.change_script.specs.Reports.{ended, last_text}
@@ -13,8 +11,9 @@ use Rattle.report_reader.specs.Parts.{all_of, follow, words}
 use Rattle.report_reader.specs.Numbers.{max32, max64, one_in, plain}
 use Rattle.report_reader.specs.Readings.{last_in}
 use Rattle.report_reader.specs.ReportLines.{Are64, IsLast}
+use Rattle.report_reader.proofs.TextLaws.{line_is, lacks_at}
 use Rattle.report_reader.proofs.NumberLemmas.{mapped, one_is, one_of, plain_is, plain_of, some_is, when_some, decimal_unspaced}
-use Rattle.report_reader.proofs.EventLemmas.{AllUnspaced, either, unspaced, words_are, words_of}
+use Rattle.report_reader.proofs.EventLemmas.{AllUnspaced, words_are, words_of}
 
 pub record Follows {A : Type 0} (o : Option A) (p : Option (List A)) (all : List A) : Type 0 where
   pub first : A
@@ -63,7 +62,7 @@ says_words : (line : List ℕ) (parts : List (List ℕ)) (last : Last) → words
 says_words line [] last is e = let never : ⊥ = cc in absurd never
 says_words line (verb ∷ rest) last is e =
     let at = words_are line verb rest is in
-    elim (either (bytes_eq verb (codes "state"))) [
+    elim (cases_Bool (bytes_eq verb (codes "state"))) [
       | inl same ↦
           let m = mapped lasts.State (all_of (plain max64) rest) last (sym (cond-true _ _ _ same) ∙ e) in
           let n = numbers_are rest m.value m.found in
@@ -86,24 +85,16 @@ says_words line (verb ∷ rest) last is e =
 pub last_says : (line : List ℕ) (last : Last) → last_in (words line) ≡ Some last → (ended line ≡ last_text last) × IsLast last
 last_says line last e = let says = says_words line (words line) last refl e in (says.text, says.is_last)
 
--- Lines with the same text are the same.
-pub line_is : (line other : List ℕ) → ended line ≡ ended other → line ≡ other
-line_is [] [] e = refl
-line_is [] (byte ∷ bytes) e = let long : length (ended []) ≡ length (ended (byte ∷ bytes)) = ap length e in absurd (omega (arith, length-append bytes (codes "\n")))
-line_is (byte ∷ bytes) [] e = let long : length (ended (byte ∷ bytes)) ≡ length (ended []) = ap length e in absurd (omega (arith, length-append bytes (codes "\n")))
-line_is (byte ∷ bytes) (first ∷ more) e =
-    ap (λ b. b ∷ bytes) (heads_are byte first (ended bytes) (ended more) e) ∙ ap (λ l. first ∷ l) (line_is bytes more (tails_are byte first (ended bytes) (ended more) e))
-
 -- What is written of the end of a log says it.
 pub last_of : (line : List ℕ) (last : Last) → IsLast last → ended line ≡ last_text last → last_in (words line) ≡ Some last
 last_of line (lasts.State numbers) all is =
     let text : line ≡ codes "state" ++ spaced (map decimal numbers) = line_is line _ is ∙ ap (λ text. codes "state" ++ text) (sym (numbers_spaced numbers)) in
-    ap (λ l. last_in (words l)) text ∙ ap last_in (words_of (codes "state") (map decimal numbers) (unspaced (codes "state") refl) (numbers_unspaced numbers all))
+    ap (λ l. last_in (words l)) text ∙ ap last_in (words_of (codes "state") (map decimal numbers) (lacks_at 32 (codes "state") refl) (numbers_unspaced numbers all))
     ∙ ap (option_map lasts.State) (numbers_of numbers all)
 last_of line (lasts.Moved slot) small is =
     let text : line ≡ codes "moved" ++ spaced (decimal slot ∷ []) = line_is line _ is in
     ap (λ l. last_in (words l)) text
-    ∙ ap last_in (words_of (codes "moved") (decimal slot ∷ []) (unspaced (codes "moved") refl) (decimal_unspaced slot (omega (arith, small)), tt))
+    ∙ ap last_in (words_of (codes "moved") (decimal slot ∷ []) (lacks_at 32 (codes "moved") refl) (decimal_unspaced slot (omega (arith, small)), tt))
     ∙ ap (option_map lasts.Moved) (one_of max32 slot (omega arith) (omega (arith, small)))
 
 -- what is found, where it is what the words of the line say

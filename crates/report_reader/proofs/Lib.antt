@@ -1,9 +1,9 @@
-mod CutLemmas
+pub mod TextLaws
 pub mod PartLemmas
 pub mod NumberLemmas
+pub mod BracketLemmas
 pub mod EventLemmas
 pub mod LastLemmas
-pub mod BracketLemmas
 pub mod IntegerLemmas
 pub mod MakeLemmas
 pub mod HistoryLemmas

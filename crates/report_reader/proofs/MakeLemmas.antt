@@ -1,6 +1,7 @@
 -- The lines that start, change and make.
+use Rattle.std.specs.List.{AllByRecursion}
 use Rattle.std.proofs.Common.{◌≡◌, ◌==◌, ◌<◌, not, cond, ℕ, ℤ, Bool, true, false, List, [], ◌∷◌, ◌++◌, length, Option, Some, None, IfSome, option_map, codes, bytes_eq, decimal, refl, sym, ap, subst, ◌∙◌, arith}
-use Rattle.std.specs.Option.{option_map_or}
+use Rattle.std.specs.Option.{option_map_or, option_zip}
 use Rattle.std.proofs.lemmas.Bool.{and_from, and_parts, cond-false}
 use Rattle.std.proofs.lemmas.Bool.Decides.{nat_tests}
 use Rattle.std.proofs.lemmas.Fmt.{decimal_is_IsNumeral}
@@ -14,13 +15,15 @@ use Rattle.config_graph.specs.GraphText.{kind_text}
 use Rattle.config_graph.proofs.KindLaws.{kind_named-name}
 use Rattle.change_script.specs.declared.report.HistoryLine.{HistoryLine}
 use Rattle.change_script.specs.Reports.{args_text, with_system}
-use Rattle.change_script.specs.Writing.{from_words, spaced}
-use Rattle.report_reader.specs.Parts.{both, bracketed, is_end}
+use Rattle.change_script.specs.Writing.{from_words, spaced, IsNumber}
+use Rattle.change_script.specs.StatementTexts.{IsInteger}
+use Rattle.report_reader.proofs.TextLaws.{lacks_append}
+use Rattle.report_reader.specs.Parts.{bracketed, is_end}
 use Rattle.report_reader.specs.Numbers.{max32, one_in, plain}
 use Rattle.report_reader.specs.Readings.{arg_in, arguments_in, kind_in, kind_of_parts, made_in, make_in, make_line, make_of, source_in, system_in, system_of, typed_in}
-use Rattle.report_reader.specs.ReportLines.{AreIntegers, Is32, IsName, IsPath, lacks}
+use Rattle.report_reader.specs.ReportLines.{IsName, IsPath, lacks}
 use Rattle.report_reader.proofs.NumberLemmas.{both_are, ended_is, mapped, one_is, one_of, plain_is, plain_of, some_is, when_some}
-use Rattle.report_reader.proofs.BracketLemmas.{PartsLack, bracket_is, bracket_of, digits_lack, lacks_append}
+use Rattle.report_reader.proofs.BracketLemmas.{PartsLack, bracket_is, bracket_of, digits_lack}
 use Rattle.report_reader.proofs.IntegerLemmas.{args_lack, arguments_are, arguments_of}
 
 unless_some : {A : Type 0} (b : Bool) (o : Option A) (y : A) → cond b None o ≡ Some y → (b ≡ false) × (o ≡ Some y)
@@ -47,7 +50,7 @@ record IsSystem (word : List ℕ) (system : List ℕ × List ℤ) : Type 0 where
   text : word ≡ bracket_text system.0 (args_text system.1)
   long : 0 < length system.0
   name : lacks 40 system.0 ≡ true
-  small : AreIntegers system.1
+  small : AllByRecursion IsInteger system.1
 
 system_of_is : (word : List ℕ) (parts : Option (List ℕ × List ℕ)) (system : List ℕ × List ℤ) → bracketed word ≡ parts → system_of parts ≡ Some system → IsSystem word system
 system_of_is word None system is e = let never : ⊥ = cc in absurd never
@@ -66,7 +69,7 @@ system_of_is word (Some p) system is e =
 pub record AreSystem (words : List (List ℕ)) (system : List ℕ × List ℤ) : Type 0 where
   pub texts : words ≡ bracket_text system.0 (args_text system.1) ∷ []
   pub name : IsName system.0
-  pub small : AreIntegers system.1
+  pub small : AllByRecursion IsInteger system.1
 
 pub are_system : (words : List (List ℕ)) (system : List ℕ × List ℤ) → PartsLack 32 words → system_in words ≡ Some system → AreSystem words system
 are_system [] system lack e = let never : ⊥ = cc in absurd never
@@ -95,7 +98,7 @@ kind_bracket kind arg =
 
 record IsArg (inside : List ℕ) (arg : Option ℕ) : Type 0 where
   text : inside ≡ option_map_or decimal arg []
-  small : IfSome arg Is32
+  small : IfSome arg IsNumber
 
 arg_is : (inside : List ℕ) (arg : Option ℕ) → arg_in inside ≡ Some arg → IsArg inside arg
 arg_is [] arg e = subst (λ a. IsArg [] a) (some_is None arg e) (record { text = refl; small = tt })
@@ -106,7 +109,7 @@ arg_is (byte ∷ bytes) arg e =
 
 record IsTyped (word : List ℕ) (typed : Kind × Option ℕ) : Type 0 where
   text : word ≡ kind_text typed.0 typed.1
-  small : IfSome typed.1 Is32
+  small : IfSome typed.1 IsNumber
 
 kind_of_is : (word : List ℕ) (parts : Option (List ℕ × List ℕ)) (typed : Kind × Option ℕ) → bracketed word ≡ parts → kind_of_parts parts ≡ Some typed → IsTyped word typed
 kind_of_is word None typed is e = let never : ⊥ = cc in absurd never
@@ -121,7 +124,7 @@ kind_of_is word (Some p) typed is e =
 
 record AreFrom (words : List (List ℕ)) (from : Option ℕ) : Type 0 where
   texts : words ≡ from_words from
-  small : IfSome from Is32
+  small : IfSome from IsNumber
 
 are_from : (words : List (List ℕ)) (from : Option ℕ) → source_in words ≡ Some from → AreFrom words from
 are_from [] from e = subst (λ f. AreFrom [] f) (some_is None from e) (record { texts = refl; small = tt })
@@ -136,8 +139,8 @@ are_from (word ∷ rest) from e =
 
 record AreTyped (words : List (List ℕ)) (typed : (Kind × Option ℕ) × Option ℕ) : Type 0 where
   texts : words ≡ kind_text typed.0.0 typed.0.1 ∷ from_words typed.1
-  arg : IfSome typed.0.1 Is32
-  from : IfSome typed.1 Is32
+  arg : IfSome typed.0.1 IsNumber
+  from : IfSome typed.1 IsNumber
 
 are_typed : (words : List (List ℕ)) (typed : (Kind × Option ℕ) × Option ℕ) → typed_in words ≡ Some typed → AreTyped words typed
 are_typed [] typed e = let never : ⊥ = cc in absurd never
@@ -150,8 +153,8 @@ are_typed (word ∷ rest) typed e =
 record AreMade (words : List (List ℕ)) (made : List ℕ × (Kind × Option ℕ) × Option ℕ) : Type 0 where
   texts : words ≡ made.0 ∷ kind_text made.1.0 made.1.1 ∷ from_words made.2
   path : IsPath made.0
-  arg : IfSome made.1.1 Is32
-  from : IfSome made.2 Is32
+  arg : IfSome made.1.1 IsNumber
+  from : IfSome made.2 IsNumber
 
 are_made : (words : List (List ℕ)) (made : List ℕ × (Kind × Option ℕ) × Option ℕ) → PartsLack 32 words → made_in words ≡ Some made → AreMade words made
 are_made [] made lack e = let never : ⊥ = cc in absurd never
@@ -169,10 +172,10 @@ are_made (path ∷ rest) made lack e =
 -- what a line that makes a node says
 pub record SaysMake (words : List (List ℕ)) (slot : ℕ) (made : List ℕ × (Kind × Option ℕ) × Option ℕ) (says : HistoryLine) : Type 0 where
   pub texts : words ≡ decimal slot ∷ made.0 ∷ kind_text made.1.0 made.1.1 ∷ from_words made.2
-  pub small : Is32 slot
+  pub small : IsNumber slot
   pub path : IsPath made.0
-  pub arg : IfSome made.1.1 Is32
-  pub from : IfSome made.2 Is32
+  pub arg : IfSome made.1.1 IsNumber
+  pub from : IfSome made.2 IsNumber
   pub gives : make_line slot made.0 made.1 made.2 ≡ says
 
 says_made : (word : List ℕ) (rest : List (List ℕ)) (slot : Option ℕ) (made : Option (List ℕ × (Kind × Option ℕ) × Option ℕ)) (says : HistoryLine) → PartsLack 32 rest
@@ -200,7 +203,7 @@ pub says_make : (words : List (List ℕ)) (says : HistoryLine) → PartsLack 32 
 says_make [] says lack e = let never : ⊥ = cc in absurd never
 says_make (word ∷ rest) says lack e = says_made word rest (plain max32 word) (made_in rest) says lack.1 refl refl e
 
-pub system_of_written : (name : List ℕ) (args : List ℤ) → IsName name → AreIntegers args → system_in (bracket_text name (args_text args) ∷ []) ≡ Some (name, args)
+pub system_of_written : (name : List ℕ) (args : List ℤ) → IsName name → AllByRecursion IsInteger args → system_in (bracket_text name (args_text args) ∷ []) ≡ Some (name, args)
 system_of_written name args is small =
     ap system_of (bracket_of name (args_text args) is.2 (args_lack 40 args (omega arith) small) (args_lack 41 args (omega arith) small))
     ∙ cond-false _ _ _ (not_none (length name) is.0) ∙ ap (option_map (λ found. (name, found))) (arguments_of args small)
@@ -213,12 +216,12 @@ some_arg : (text : List ℕ) → 0 < length text → arg_in text ≡ option_map 
 some_arg [] some = absurd (omega arith)
 some_arg (byte ∷ bytes) some = refl
 
-arg_of : (arg : Option ℕ) → IfSome arg Is32 → arg_in (option_map_or decimal arg []) ≡ Some arg
+arg_of : (arg : Option ℕ) → IfSome arg IsNumber → arg_in (option_map_or decimal arg []) ≡ Some arg
 arg_of None small = refl
 arg_of (Some n) small =
     some_arg (decimal n) (decimal_is_IsNumeral n (omega (arith, small))).0.0 ∙ ap (option_map Some) (plain_of max32 n (omega arith) (omega (arith, small)))
 
-pub inside_lacks : (at : ℕ) (arg : Option ℕ) → at < 48 → IfSome arg Is32 → lacks at (option_map_or decimal arg []) ≡ true
+pub inside_lacks : (at : ℕ) (arg : Option ℕ) → at < 48 → IfSome arg IsNumber → lacks at (option_map_or decimal arg []) ≡ true
 inside_lacks at None low small = refl
 inside_lacks at (Some n) low small = digits_lack at (decimal n) low (decimal_is_IsNumeral n (omega (arith, small))).0.1
 
@@ -236,27 +239,27 @@ kind_lacks Account = (refl, refl)
 kind_lacks Asker = (refl, refl)
 kind_lacks Adder = (refl, refl)
 
-pub kind_of_written : (kind : Kind) (arg : Option ℕ) → IfSome arg Is32 → kind_in (kind_text kind arg) ≡ Some (kind, arg)
+pub kind_of_written : (kind : Kind) (arg : Option ℕ) → IfSome arg IsNumber → kind_in (kind_text kind arg) ≡ Some (kind, arg)
 kind_of_written kind arg small =
     let inside = option_map_or decimal arg [] in
     ap kind_in (kind_bracket kind arg)
     ∙ ap kind_of_parts (bracket_of (row kind).name inside (kind_lacks kind).0 (inside_lacks 40 arg (omega arith) small) (inside_lacks 41 arg (omega arith) small))
-    ∙ ap (λ k. both k (arg_in inside)) (kind_named-name kind) ∙ ap (λ a. both (Some kind) a) (arg_of arg small)
+    ∙ ap (λ k. option_zip k (arg_in inside)) (kind_named-name kind) ∙ ap (λ a. option_zip (Some kind) a) (arg_of arg small)
 
-source_of_written : (from : Option ℕ) → IfSome from Is32 → source_in (from_words from) ≡ Some from
+source_of_written : (from : Option ℕ) → IfSome from IsNumber → source_in (from_words from) ≡ Some from
 source_of_written None small = refl
 source_of_written (Some n) small = ap (option_map Some) (one_of max32 n (omega arith) (omega (arith, small)))
 
-pub make_of_written : (slot : ℕ) (path : List ℕ) (kind : Kind) (arg from : Option ℕ) → Is32 slot → IsPath path → IfSome arg Is32 → IfSome from Is32
+pub make_of_written : (slot : ℕ) (path : List ℕ) (kind : Kind) (arg from : Option ℕ) → IsNumber slot → IsPath path → IfSome arg IsNumber → IfSome from IsNumber
     → make_in (decimal slot ∷ path ∷ kind_text kind arg ∷ from_words from) ≡ Some (make_line slot path (kind, arg) from)
 make_of_written slot path kind arg from small is arg_small from_small =
     let typed : typed_in (kind_text kind arg ∷ from_words from) ≡ Some ((kind, arg), from) =
-    ap (λ k. both k (source_in (from_words from))) (kind_of_written kind arg arg_small) ∙ ap (λ s. both (Some (kind, arg)) s) (source_of_written from from_small) in
+    ap (λ k. option_zip k (source_in (from_words from))) (kind_of_written kind arg arg_small) ∙ ap (λ s. option_zip (Some (kind, arg)) s) (source_of_written from from_small) in
     let made : made_in (path ∷ kind_text kind arg ∷ from_words from) ≡ Some (path, (kind, arg), from) =
     cond-false _ _ _ (not_none (length path) is.0) ∙ ap (option_map (λ (t : (Kind × Option ℕ) × Option ℕ). (path, t.0, t.1))) typed in
     ap (λ s. make_of s (made_in (path ∷ kind_text kind arg ∷ from_words from))) (plain_of max32 slot (omega arith) (omega (arith, small)))
     ∙ ap (λ m. make_of (Some slot) m) made
 
-pub kind_text_lacks : (kind : Kind) (arg : Option ℕ) → IfSome arg Is32 → lacks 32 (kind_text kind arg) ≡ true
+pub kind_text_lacks : (kind : Kind) (arg : Option ℕ) → IfSome arg IsNumber → lacks 32 (kind_text kind arg) ≡ true
 kind_text_lacks kind arg small =
     subst (λ text. lacks 32 text ≡ true) (sym (kind_bracket kind arg)) (bracket_lacks (row kind).name (option_map_or decimal arg []) (kind_lacks kind).1 (inside_lacks 32 arg (omega arith) small))

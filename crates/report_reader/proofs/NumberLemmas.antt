@@ -1,5 +1,6 @@
 -- Which words write which numbers.
 use Rattle.std.proofs.Common.{◌≡◌, ◌==◌, ◌<◌, ◌≤◌, ◌^◌, ◌&&◌, ◌||◌, not, cond, nat_le, ℕ, zero, suc, Bool, true, false, List, [], ◌∷◌, length, get_or, Option, Some, None, option_map, decimal, refl, sym, ap, ◌∙◌, arith}
+use Rattle.std.specs.Option.{option_zip}
 use Rattle.std.specs.List.{All, list_all}
 use Rattle.std.specs.Char.{is_ascii_digit, digit_value}
 use Rattle.std.specs.Str.{all_ascii_digits}
@@ -8,7 +9,7 @@ use Rattle.std.proofs.lemmas.Bool.{and_from, and_parts, cond-true}
 use Rattle.std.proofs.lemmas.Bool.Decides.{nat_tests}
 use Rattle.std.proofs.lemmas.Fmt.{decimal_is_IsNumeral, decimal-digits_value, decimal_digit, first_decimal}
 use Rattle.std.proofs.lemmas.Str.Parse.{numerals_by_value, tells_all_ascii_digits}
-use Rattle.report_reader.specs.Parts.{before, both, is_end}
+use Rattle.report_reader.specs.Parts.{before, is_end}
 use Rattle.report_reader.specs.Numbers.{is_plain, max32, one_in, plain, three_in, two_in, within}
 
 pub when_some : {A : Type 0} (b : Bool) (o : Option A) (y : A) → cond b o None ≡ Some y → (b ≡ true) × (o ≡ Some y)
@@ -119,7 +120,7 @@ pub record Both {A B : Type 0} (o : Option A) (p : Option B) (r : A × B) : Type
   pub first : o ≡ Some r.0
   pub second : p ≡ Some r.1
 
-pub both_are : {A B : Type 0} (o : Option A) (p : Option B) (r : A × B) → both o p ≡ Some r → Both o p r
+pub both_are : {A B : Type 0} (o : Option A) (p : Option B) (r : A × B) → option_zip o p ≡ Some r → Both o p r
 both_are None p r e = let never : ⊥ = cc in absurd never
 both_are (Some a) None r e = let never : ⊥ = cc in absurd never
 both_are (Some a) (Some b) r e =

@@ -1,9 +1,10 @@
 -- Numbers and integers as words write them: in decimal, without leading zeros.
 use Rattle.std.specs.Prelude.{ℕ, ℤ, pos, neg_ℤ, Bool, false, not, ◌&&◌, ◌||◌, ◌==◌, nat_le, if◌then◌else◌, List, [], ◌∷◌, length, drop, slice_index, Option, Some, None, option_map}
+use Rattle.std.specs.Option.{option_zip}
 use Rattle.std.specs.List.{list_all}
 use Rattle.std.specs.Char.{is_ascii_digit}
 use Rattle.std.specs.Str.Parse.{digits_value}
-use Rattle.report_reader.specs.Parts.{before, both, is_end}
+use Rattle.report_reader.specs.Parts.{before, is_end}
 
 -- one digit or more, the first of which is 0 only where it is the one digit
 abbrev pub is_plain : List ℕ → Bool
@@ -28,8 +29,8 @@ below_zero None = None
 below_zero (Some value) = if value == 0 then None else Some (neg_ℤ (pos value))
 
 -- the integer that a word writes, behind a `-` where it is below 0
-abbrev pub integer : List ℕ → Option ℤ
-integer word = if slice_index word 0 == 45 then below_zero (plain 2147483648 (drop 1 word)) else option_map pos (plain 2147483647 word)
+abbrev pub plain_integer : List ℕ → Option ℤ
+plain_integer word = if slice_index word 0 == 45 then below_zero (plain 2147483648 (drop 1 word)) else option_map pos (plain 2147483647 word)
 
 -- the one, two or three numbers that words are
 abbrev pub one_in : ℕ → List (List ℕ) → Option ℕ
@@ -38,7 +39,7 @@ one_in most (first ∷ rest) = if is_end rest then plain most first else None
 
 abbrev pub two_in : ℕ → List (List ℕ) → Option (ℕ × ℕ)
 two_in most [] = None
-two_in most (first ∷ rest) = both (plain max32 first) (one_in most rest)
+two_in most (first ∷ rest) = option_zip (plain max32 first) (one_in most rest)
 
 abbrev pub three_in : List (List ℕ) → Option (ℕ × ℕ × ℕ)
 three_in [] = None

@@ -15,12 +15,6 @@ abbrev pub is_end : List (List ℕ) → Bool
 is_end [] = true
 is_end (part ∷ more) = false
 
--- both values, where both are there
-abbrev pub both : {A B : Type 0} → Option A → Option B → Option (A × B)
-both None second = None
-both (Some a) None = None
-both (Some a) (Some b) = Some (a, b)
-
 -- a value before two others, where all are there
 abbrev pub before : {A B C : Type 0} → Option A → Option (B × C) → Option (A × B × C)
 before None more = None

@@ -1,29 +1,26 @@
 -- What the values of a report's lines can be.
-use Rattle.std.specs.Prelude.{◌≡◌, ◌<◌, ◌^◌, ◌==◌, ◌&&◌, ⊤, ℕ, ℤ, pos, negsuc, Bool, true, not, List, [], ◌∷◌, length, IfSome}
+use Rattle.std.specs.Prelude.{◌≡◌, ◌<◌, ◌^◌, ◌==◌, ◌&&◌, ⊤, ℕ, Bool, true, not, List, [], ◌∷◌, length, IfSome}
+use Rattle.std.specs.List.{AllByRecursion}
 use Rattle.quiesce_core.specs.declared.event.Event.{Event}
 use Rattle.quiesce_core.specs.declared.event.Event.TheVariants as events
 use Rattle.change_script.specs.declared.report.HistoryLine.{HistoryLine}
 use Rattle.change_script.specs.declared.report.HistoryLine.TheVariants as history
 use Rattle.change_script.specs.declared.report.Last.{Last}
 use Rattle.change_script.specs.declared.report.Last.TheVariants as lasts
-
-abbrev pub Is32 : ℕ → Type 0
-Is32 n = n < 2 ^ 32
-
-abbrev pub AreThree : ℕ → ℕ → ℕ → Type 0
-AreThree first second third = Is32 first × Is32 second × Is32 third
+use Rattle.change_script.specs.StatementTexts.{IsInteger}
+use Rattle.change_script.specs.Writing.{AreNumbers, IsNumber}
 
 -- the numbers of an event of a node; the change's events are lines of the history
 abbrev pub IsNodeEvent : Event → Type 0
-IsNodeEvent (events.Begin p k v) = AreThree p k v
-IsNodeEvent (events.Call p k v) = AreThree p k v
-IsNodeEvent (events.Take p k v) = AreThree p k v
-IsNodeEvent (events.More p k v) = AreThree p k v
-IsNodeEvent (events.Ask p k v) = AreThree p k v
-IsNodeEvent (events.Hear p k v) = AreThree p k v
-IsNodeEvent (events.Give p k v) = AreThree p k v
-IsNodeEvent (events.End p k v) = AreThree p k v
-IsNodeEvent (events.Miss p) = Is32 p
+IsNodeEvent (events.Begin p k v) = AreNumbers p k v
+IsNodeEvent (events.Call p k v) = AreNumbers p k v
+IsNodeEvent (events.Take p k v) = AreNumbers p k v
+IsNodeEvent (events.More p k v) = AreNumbers p k v
+IsNodeEvent (events.Ask p k v) = AreNumbers p k v
+IsNodeEvent (events.Hear p k v) = AreNumbers p k v
+IsNodeEvent (events.Give p k v) = AreNumbers p k v
+IsNodeEvent (events.End p k v) = AreNumbers p k v
+IsNodeEvent (events.Miss p) = IsNumber p
 IsNodeEvent (events.Close p) = ⊥
 IsNodeEvent (events.Reopen p) = ⊥
 IsNodeEvent (events.Make slot node from) = ⊥
@@ -39,7 +36,7 @@ Are64 (number ∷ more) = (number < 2 ^ 64) × Are64 more
 -- the numbers of the end of a log
 abbrev pub IsLast : Last → Type 0
 IsLast (lasts.State numbers) = Are64 numbers
-IsLast (lasts.Moved slot) = Is32 slot
+IsLast (lasts.Moved slot) = IsNumber slot
 
 -- no byte of a text is this one
 abbrev pub lacks : ℕ → List ℕ → Bool
@@ -53,32 +50,23 @@ IsPath path = (0 < length path) × (lacks 32 path ≡ true)
 abbrev pub IsName : List ℕ → Type 0
 IsName name = (0 < length name) × (lacks 32 name ≡ true) × (lacks 40 name ≡ true)
 
--- integers from -2^31 to 2^31 - 1
-abbrev pub IsInteger : ℤ → Type 0
-IsInteger (pos n) = n < 2 ^ 31
-IsInteger (negsuc n) = n < 2 ^ 31
-
-abbrev pub AreIntegers : List ℤ → Type 0
-AreIntegers [] = ⊤
-AreIntegers (first ∷ more) = IsInteger first × AreIntegers more
-
 -- what the values of a line of the history can be, but for those of a graph that is shown
 abbrev pub IsLine : HistoryLine → Type 0
-IsLine (history.Start name args) = IsName name × AreIntegers args
-IsLine (history.Change name args) = IsName name × AreIntegers args
-IsLine (history.Make slot node from) = Is32 slot × IsPath node.path × IfSome node.arg Is32 × IfSome from Is32
-IsLine (history.Link port node provide) = AreThree port node provide
-IsLine (history.Unlink port) = Is32 port
-IsLine (history.Remove node) = Is32 node
-IsLine (history.Close port) = Is32 port
-IsLine (history.Reopen port) = Is32 port
-IsLine (history.Drained port serial) = Is32 port × Is32 serial
+IsLine (history.Start name args) = IsName name × AllByRecursion IsInteger args
+IsLine (history.Change name args) = IsName name × AllByRecursion IsInteger args
+IsLine (history.Make slot node from) = IsNumber slot × IsPath node.path × IfSome node.arg IsNumber × IfSome from IsNumber
+IsLine (history.Link port node provide) = AreNumbers port node provide
+IsLine (history.Unlink port) = IsNumber port
+IsLine (history.Remove node) = IsNumber node
+IsLine (history.Close port) = IsNumber port
+IsLine (history.Reopen port) = IsNumber port
+IsLine (history.Drained port serial) = IsNumber port × IsNumber serial
 IsLine history.Commit = ⊤
 IsLine history.Abandon = ⊤
 IsLine history.Skipped = ⊤
-IsLine (history.Pending rounds) = Is32 rounds
-IsLine (history.Root port serial) = Is32 port × Is32 serial
-IsLine (history.Run k done) = Is32 k × (done < 2 ^ 64)
-IsLine (history.Finish n rounds) = Is32 n × Is32 rounds
+IsLine (history.Pending rounds) = IsNumber rounds
+IsLine (history.Root port serial) = IsNumber port × IsNumber serial
+IsLine (history.Run k done) = IsNumber k × (done < 2 ^ 64)
+IsLine (history.Finish n rounds) = IsNumber n × IsNumber rounds
 IsLine (history.Show graph) = ⊥
 IsLine history.Stop = ⊤

@@ -4,8 +4,8 @@ ghost use Rattle.std.specs.Prelude.{◌≡◌};
 ghost use Rattle.report_reader.specs.Parts.{words};
 ghost use Rattle.report_reader.specs.Ends.{status_in, unfinished_in};
 
-use crate::cuts::cut;
 use crate::numbers::{one_index, single};
+use change_script::cut;
 
 /// The slot that an `unfinished` line names, or `None` where the line is none.
 pub fn unfinished_line(line: &[u8]) -> Option<u32>

@@ -4,9 +4,9 @@ ghost use Rattle.std.specs.Prelude.{◌≡◌, Some, None, IfOk, MatchOption, op
 ghost use Rattle.report_reader.specs.Parts.{parts_left, words};
 ghost use Rattle.report_reader.specs.GraphLines.{is_graph_line, named_node_in, node_in, node_of, second_word, target_in};
 
-use crate::cuts::cut;
 use crate::history::kind_in;
 use crate::parts::{Words, first_word, is_end};
+use change_script::cut;
 use config_graph::{Kind, NoMemory, Node, Text};
 use std::alloc::Global;
 

@@ -5,14 +5,13 @@ ghost use Rattle.change_script.specs.declared.report.HistoryLine.{HistoryLine};
 ghost use Rattle.change_script.specs.Reports.{ended, history_text};
 ghost use Rattle.report_reader.specs.ReportLines.{IsLine};
 ghost use Rattle.report_reader.specs.Parts.{parts_left, words};
-ghost use Rattle.report_reader.specs.declared.verbs.Verb.TheVariants as verbs;
+ghost use Rattle.report_reader.specs.declared.verbs.HistoryVerb.TheVariants as verbs;
 ghost use Rattle.report_reader.specs.Readings.{arg_in, arguments_in, kind_in, line_by, line_in, make_in, make_line, source_in, system_in, typed_in};
 
-use crate::cuts::cut;
-use crate::numbers::{index, integer, one_index, pair, triple};
+use crate::numbers::{index, one_index, pair, plain_integer, triple};
 use crate::parts::{Words, bracketed, first_word, is_end};
-use crate::verbs::{Bare, Double, Single, Verb, verb_named};
-use change_script::HistoryLine;
+use crate::verbs::{Bare, HistoryVerb, OneNumber, TwoNumbers, history_verb_named};
+use change_script::{HistoryLine, cut};
 use config_graph::{Kind, List, NoMemory, Node, Text, kind_of};
 use std::alloc::Global;
 
@@ -29,24 +28,28 @@ fn read_line(alloc: Global, line: &[u8]) -> Result<Option<HistoryLine>, NoMemory
     ensures { IfOk result (λ says. says ≡ line_in (words line.now)) }
 {
     let (verb, rest) = cut(line, b' ');
-    match verb_named(verb) {
+    match history_verb_named(verb) {
         Some(verb) => told_by(alloc, verb, rest),
         None => Ok(None),
     }
 }
 
-fn told_by(alloc: Global, verb: Verb, rest: Words<'_>) -> Result<Option<HistoryLine>, NoMemory>
+fn told_by(
+    alloc: Global,
+    verb: HistoryVerb,
+    rest: Words<'_>,
+) -> Result<Option<HistoryLine>, NoMemory>
     ensures { IfOk result (λ says. says ≡ line_by verb (parts_left 32 (option_copied rest.entry))) }
 {
     match verb {
-        Verb::Start => start(alloc, rest),
-        Verb::Change => change(alloc, rest),
-        Verb::Make => make(alloc, rest),
-        Verb::Link => Ok(link(rest)),
-        Verb::Run => Ok(run(rest)),
-        Verb::Bare(bare) => Ok(alone(bare, rest)),
-        Verb::Single(single) => Ok(with_one(single, rest)),
-        Verb::Double(double) => Ok(with_two(double, rest)),
+        HistoryVerb::Start => start(alloc, rest),
+        HistoryVerb::Change => change(alloc, rest),
+        HistoryVerb::Make => make(alloc, rest),
+        HistoryVerb::Link => Ok(link(rest)),
+        HistoryVerb::Run => Ok(run(rest)),
+        HistoryVerb::Bare(bare) => Ok(alone(bare, rest)),
+        HistoryVerb::OneNumber(single) => Ok(with_one(single, rest)),
+        HistoryVerb::TwoNumbers(double) => Ok(with_two(double, rest)),
     }
 }
 
@@ -60,14 +63,14 @@ fn alone(bare: Bare, rest: Words<'_>) -> Option<HistoryLine>
     }
 }
 
-fn with_one(single: Single, rest: Words<'_>) -> Option<HistoryLine>
-    ensures { result ≡ line_by (verbs.Single single) (parts_left 32 (option_copied rest.entry)) }
+fn with_one(single: OneNumber, rest: Words<'_>) -> Option<HistoryLine>
+    ensures { result ≡ line_by (verbs.OneNumber single) (parts_left 32 (option_copied rest.entry)) }
 {
     Some(single.line(one_index(rest)?))
 }
 
-fn with_two(double: Double, rest: Words<'_>) -> Option<HistoryLine>
-    ensures { result ≡ line_by (verbs.Double double) (parts_left 32 (option_copied rest.entry)) }
+fn with_two(double: TwoNumbers, rest: Words<'_>) -> Option<HistoryLine>
+    ensures { result ≡ line_by (verbs.TwoNumbers double) (parts_left 32 (option_copied rest.entry)) }
 {
     let (first, second) = pair(rest, u64::from(u32::MAX))?;
     Some(double.line(first, second as u32))
@@ -150,7 +153,7 @@ fn arguments(alloc: Global, list: &[u8]) -> Result<Option<Vec<i32>>, NoMemory>
     let mut rest = Some(list);
     'parts: while let Some(left) = rest {
         let (word, behind) = cut(left, b',');
-        let Some(arg) = integer(word) else {
+        let Some(arg) = plain_integer(word) else {
             return Ok(None);
         };
         args.push(arg)?;

@@ -1,7 +1,6 @@
 //! The lines of a report, from their texts.
 #![tactic(auto)]
 
-mod cuts;
 mod ends;
 mod graph_lines;
 mod history;

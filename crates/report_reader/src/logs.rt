@@ -7,15 +7,14 @@ ghost use Rattle.change_script.specs.Reports.{ended, last_text};
 ghost use Rattle.change_script.specs.Writing.{written};
 ghost use Rattle.report_reader.specs.ReportLines.{IsLast, IsNodeEvent};
 ghost use Rattle.change_script.specs.declared.report.Last.TheVariants as lasts;
+ghost use Rattle.change_script.specs.declared.verbs.EventVerb.TheVariants as verbs;
 ghost use Rattle.report_reader.specs.Parts.{all_of, parts_left, words};
 ghost use Rattle.report_reader.specs.Numbers.{max32, max64, one_in, plain};
-ghost use Rattle.report_reader.specs.Readings.{event_in, last_in};
+ghost use Rattle.report_reader.specs.Readings.{event_by, event_in, last_in, step_numbers};
 
-use crate::cuts::cut;
 use crate::numbers::{one_index, plain, triple};
 use crate::parts::{Words, first_word};
-use crate::verbs::step_named;
-use change_script::Last;
+use change_script::{EventVerb, Last, Single, Triple, cut, event_verb_named};
 use config_graph::{List, NoMemory};
 use quiesce_core::Event;
 use std::alloc::Global;
@@ -32,14 +31,43 @@ fn read_event(line: &[u8]) -> Option<Event>
     ensures { result ≡ event_in (words line.now) }
 {
     let (verb, rest) = cut(line, b' ');
-    if verb == b"miss".as_slice() {
-        return Some(Event::Miss {
-            port: one_index(rest)?,
-        });
+    event_by(event_verb_named(verb)?, rest)
+}
+
+/// What stands behind a verb, where the event is one of a node.
+fn event_by(verb: EventVerb, rest: Words<'_>) -> Option<Event>
+    ensures { result ≡ event_by verb (parts_left 32 (option_copied rest.entry)) }
+{
+    match verb {
+        EventVerb::Owner(step) => Some(step.event(step_numbers(rest)?)),
+        EventVerb::Target(step) => Some(step.event(step_numbers(rest)?)),
+        EventVerb::Single(single) => miss(single, rest),
+        EventVerb::Start | EventVerb::Link | EventVerb::Make => None,
     }
-    let step = step_named(verb)?;
-    let (port, serial, value) = triple(rest)?;
-    Some(step.event(port, serial, value))
+}
+
+/// PORT SERIAL VALUE
+fn step_numbers(rest: Words<'_>) -> Option<Triple>
+    ensures { result ≡ step_numbers (parts_left 32 (option_copied rest.entry)) }
+{
+    let (first, second, third) = triple(rest)?;
+    Some(Triple {
+        first,
+        second,
+        third,
+    })
+}
+
+/// A miss is an event of a node; the other events with one number are those of a change.
+fn miss(single: Single, rest: Words<'_>) -> Option<Event>
+    ensures { result ≡ event_by (verbs.Single single) (parts_left 32 (option_copied rest.entry)) }
+{
+    match single {
+        Single::Miss => Some(Event::Miss {
+            port: one_index(rest)?,
+        }),
+        Single::Close | Single::Reopen | Single::Unlink | Single::Remove => None,
+    }
 }
 
 /// How a log ends by its last line, or `None` where the line is none.

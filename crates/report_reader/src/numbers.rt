@@ -1,14 +1,11 @@
 //! The numbers and integers that words write.
 
 ghost use Rattle.std.specs.Prelude.{◌≡◌, ◌≤◌, IfSome, option_copied};
-ghost use Rattle.std.specs.Char.{is_ascii_digit};
-ghost use Rattle.std.specs.List.{AllPass, list_all};
-ghost use Rattle.std.specs.Option.{SomeIff};
-ghost use Rattle.std.specs.Str.Parse.{digits_value};
 ghost use Rattle.report_reader.specs.Parts.{parts_left};
-ghost use Rattle.report_reader.specs.Numbers.{integer, is_plain, max32, one_in, plain, three_in, two_in};
+ghost use Rattle.report_reader.specs.Numbers.{is_plain, max32, one_in, plain, plain_integer, three_in, two_in};
 
 use crate::parts::{Words, first_word, is_end};
+use change_script::{has_only_digits, value_within};
 
 /// The number that a word writes in decimal, without leading zeros, if it is at most `most`.
 pub fn plain(word: &[u8], most: u64) -> Option<u64>
@@ -30,28 +27,6 @@ fn is_plain(word: &[u8]) -> bool
         Some(first) => has_only_digits(word) && (*first != b'0' || word.len() == 1),
         None => false,
     }
-}
-
-fn has_only_digits(word: &[u8]) -> bool
-    ensures { result ≡ list_all is_ascii_digit word.now }
-{
-    word.iter().all(|byte| byte.is_ascii_digit())
-}
-
-/// The number that digits write, if it is at most `most`.
-fn value_within(digits: &[u8], most: u64) -> Option<u64>
-    requires { AllPass is_ascii_digit digits.now }
-    ensures { SomeIff result (digits_value 10 digits.now ≤ most) (digits_value 10 digits.now) }
-{
-    let mut value = 0u64;
-    for digit in digits {
-        let more = u128::from(value) * 10 + u128::from(*digit - b'0');
-        if more > u128::from(most) {
-            return None;
-        }
-        value = more as u64;
-    }
-    Some(value)
 }
 
 /// The one number of a line, at most `most`.
@@ -102,8 +77,8 @@ pub fn triple(words: Words<'_>) -> Option<(u32, u32, u32)>
 }
 
 /// The integer that a word writes in decimal, without leading zeros, and behind a `-` where it is below 0.
-pub fn integer(word: &[u8]) -> Option<i32>
-    ensures { result ≡ integer word.now }
+pub fn plain_integer(word: &[u8]) -> Option<i32>
+    ensures { result ≡ plain_integer word.now }
 {
     if word.first() == Some(&b'-') {
         let value = plain(&word[1..], 2_147_483_648)?;

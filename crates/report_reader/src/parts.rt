@@ -4,7 +4,7 @@ ghost use Rattle.std.specs.Prelude.{◌≡◌, ◌==◌, ◌<◌, [], ◌∷◌,
 ghost use Rattle.std.specs.List.{slice_split};
 ghost use Rattle.report_reader.specs.Parts.{bracketed, is_end, length_left, parts_left, two_of};
 
-use crate::cuts::cut;
+use change_script::cut;
 
 /// The words of a line from one on; `None` behind the last.
 pub type Words<'a> = Option<&'a [u8]>;

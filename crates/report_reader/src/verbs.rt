@@ -1,10 +1,9 @@
-//! The first words of the lines of a history, and of those of a log.
+//! The first words of the lines of a history.
 
 ghost use Rattle.std.specs.Prelude.{◌≡◌};
-ghost use Rattle.report_reader.specs.Readings.{bare_bytes, bare_line, double_bytes, double_line, single_bytes, single_line, step_bytes, step_event, step_named, verb_bytes, verb_named};
+ghost use Rattle.report_reader.specs.Readings.{bare_bytes, bare_line, two_numbers_bytes, two_numbers_line, one_number_bytes, one_number_line, history_verb_bytes, history_verb_named};
 
 use change_script::HistoryLine;
-use quiesce_core::Event;
 
 /// A line of one word.
 #[derive(Clone, Copy)]
@@ -17,7 +16,7 @@ pub enum Bare {
 
 /// A line with one number.
 #[derive(Clone, Copy)]
-pub enum Single {
+pub enum OneNumber {
     Unlink,
     Remove,
     Close,
@@ -27,7 +26,7 @@ pub enum Single {
 
 /// A line with two numbers below 2^32.
 #[derive(Clone, Copy)]
-pub enum Double {
+pub enum TwoNumbers {
     Drained,
     Root,
     Finish,
@@ -35,88 +34,60 @@ pub enum Double {
 
 /// What a line of a history begins with.
 #[derive(Clone, Copy)]
-pub enum Verb {
+pub enum HistoryVerb {
     Start,
     Change,
     Make,
     Link,
     Run,
     Bare(Bare),
-    Single(Single),
-    Double(Double),
+    OneNumber(OneNumber),
+    TwoNumbers(TwoNumbers),
 }
 
-/// A step of a transaction: PORT SERIAL VALUE follow.
-#[derive(Clone, Copy)]
-pub enum Step {
-    Begin,
-    Call,
-    Take,
-    More,
-    Ask,
-    Hear,
-    Give,
-    End,
-}
-
-const VERBS: [Verb; 17] = [
-    Verb::Start,
-    Verb::Change,
-    Verb::Make,
-    Verb::Link,
-    Verb::Run,
-    Verb::Bare(Bare::Commit),
-    Verb::Bare(Bare::Abandon),
-    Verb::Bare(Bare::Skipped),
-    Verb::Bare(Bare::Stop),
-    Verb::Single(Single::Unlink),
-    Verb::Single(Single::Remove),
-    Verb::Single(Single::Close),
-    Verb::Single(Single::Reopen),
-    Verb::Single(Single::Pending),
-    Verb::Double(Double::Drained),
-    Verb::Double(Double::Root),
-    Verb::Double(Double::Finish),
-];
-
-const STEPS: [Step; 8] = [
-    Step::Begin,
-    Step::Call,
-    Step::Take,
-    Step::More,
-    Step::Ask,
-    Step::Hear,
-    Step::Give,
-    Step::End,
+const HISTORY_VERBS: [HistoryVerb; 17] = [
+    HistoryVerb::Start,
+    HistoryVerb::Change,
+    HistoryVerb::Make,
+    HistoryVerb::Link,
+    HistoryVerb::Run,
+    HistoryVerb::Bare(Bare::Commit),
+    HistoryVerb::Bare(Bare::Abandon),
+    HistoryVerb::Bare(Bare::Skipped),
+    HistoryVerb::Bare(Bare::Stop),
+    HistoryVerb::OneNumber(OneNumber::Unlink),
+    HistoryVerb::OneNumber(OneNumber::Remove),
+    HistoryVerb::OneNumber(OneNumber::Close),
+    HistoryVerb::OneNumber(OneNumber::Reopen),
+    HistoryVerb::OneNumber(OneNumber::Pending),
+    HistoryVerb::TwoNumbers(TwoNumbers::Drained),
+    HistoryVerb::TwoNumbers(TwoNumbers::Root),
+    HistoryVerb::TwoNumbers(TwoNumbers::Finish),
 ];
 
 /// The verb of a line that begins with this word.
-pub fn verb_named(name: &[u8]) -> Option<Verb>
-    ensures { result ≡ verb_named name.now }
+pub fn history_verb_named(name: &[u8]) -> Option<HistoryVerb>
+    ensures { result ≡ history_verb_named name.now }
 {
-    VERBS.iter().copied().find(|verb| verb.bytes() == name)
+    HISTORY_VERBS
+        .iter()
+        .copied()
+        .find(|verb| verb.bytes() == name)
 }
 
-/// The step of a line that begins with this word.
-pub fn step_named(name: &[u8]) -> Option<Step>
-    ensures { result ≡ step_named name.now }
-{
-    STEPS.iter().copied().find(|step| step.bytes() == name)
-}
-
-impl Verb {
+impl HistoryVerb {
     fn bytes(self) -> &'static [u8]
-        ensures { result.now ≡ verb_bytes self }
+        ensures { result.now ≡ history_verb_bytes self }
     {
         match self {
-            Verb::Start => b"start",
-            Verb::Change => b"change",
-            Verb::Make => b"make",
-            Verb::Link => b"link",
-            Verb::Run => b"run",
-            Verb::Bare(bare) => bare.bytes(),
-            Verb::Single(single) => single.bytes(),
-            Verb::Double(double) => double.bytes(),
+            HistoryVerb::Start => b"start",
+            HistoryVerb::Change => b"change",
+            HistoryVerb::Make => b"make",
+            HistoryVerb::Link => b"link",
+            HistoryVerb::Run => b"run",
+            HistoryVerb::Bare(bare) => bare.bytes(),
+            HistoryVerb::OneNumber(single) => single.bytes(),
+            HistoryVerb::TwoNumbers(double) => double.bytes(),
         }
     }
 }
@@ -145,122 +116,58 @@ impl Bare {
     }
 }
 
-impl Single {
+impl OneNumber {
     fn bytes(self) -> &'static [u8]
-        ensures { result.now ≡ single_bytes self }
+        ensures { result.now ≡ one_number_bytes self }
     {
         match self {
-            Single::Unlink => b"unlink",
-            Single::Remove => b"remove",
-            Single::Close => b"close",
-            Single::Reopen => b"reopen",
-            Single::Pending => b"pending",
+            OneNumber::Unlink => b"unlink",
+            OneNumber::Remove => b"remove",
+            OneNumber::Close => b"close",
+            OneNumber::Reopen => b"reopen",
+            OneNumber::Pending => b"pending",
         }
     }
 
     pub fn line(self, number: u32) -> HistoryLine
-        ensures { result ≡ single_line self number }
+        ensures { result ≡ one_number_line self number }
     {
         match self {
-            Single::Unlink => HistoryLine::Unlink { port: number },
-            Single::Remove => HistoryLine::Remove { node: number },
-            Single::Close => HistoryLine::Close { port: number },
-            Single::Reopen => HistoryLine::Reopen { port: number },
-            Single::Pending => HistoryLine::Pending { rounds: number },
+            OneNumber::Unlink => HistoryLine::Unlink { port: number },
+            OneNumber::Remove => HistoryLine::Remove { node: number },
+            OneNumber::Close => HistoryLine::Close { port: number },
+            OneNumber::Reopen => HistoryLine::Reopen { port: number },
+            OneNumber::Pending => HistoryLine::Pending { rounds: number },
         }
     }
 }
 
-impl Double {
+impl TwoNumbers {
     fn bytes(self) -> &'static [u8]
-        ensures { result.now ≡ double_bytes self }
+        ensures { result.now ≡ two_numbers_bytes self }
     {
         match self {
-            Double::Drained => b"drained",
-            Double::Root => b"open",
-            Double::Finish => b"finish",
+            TwoNumbers::Drained => b"drained",
+            TwoNumbers::Root => b"open",
+            TwoNumbers::Finish => b"finish",
         }
     }
 
     pub fn line(self, first: u32, second: u32) -> HistoryLine
-        ensures { result ≡ double_line self first second }
+        ensures { result ≡ two_numbers_line self first second }
     {
         match self {
-            Double::Drained => HistoryLine::Drained {
+            TwoNumbers::Drained => HistoryLine::Drained {
                 port: first,
                 serial: second,
             },
-            Double::Root => HistoryLine::Root {
+            TwoNumbers::Root => HistoryLine::Root {
                 port: first,
                 serial: second,
             },
-            Double::Finish => HistoryLine::Finish {
+            TwoNumbers::Finish => HistoryLine::Finish {
                 n: first,
                 rounds: second,
-            },
-        }
-    }
-}
-
-impl Step {
-    fn bytes(self) -> &'static [u8]
-        ensures { result.now ≡ step_bytes self }
-    {
-        match self {
-            Step::Begin => b"begin",
-            Step::Call => b"call",
-            Step::Take => b"take",
-            Step::More => b"more",
-            Step::Ask => b"ask",
-            Step::Hear => b"hear",
-            Step::Give => b"give",
-            Step::End => b"end",
-        }
-    }
-
-    pub fn event(self, port: u32, serial: u32, value: u32) -> Event
-        ensures { result ≡ step_event self port serial value }
-    {
-        match self {
-            Step::Begin => Event::Begin {
-                port,
-                serial,
-                value,
-            },
-            Step::Call => Event::Call {
-                port,
-                serial,
-                value,
-            },
-            Step::Take => Event::Take {
-                port,
-                serial,
-                value,
-            },
-            Step::More => Event::More {
-                port,
-                serial,
-                value,
-            },
-            Step::Ask => Event::Ask {
-                port,
-                serial,
-                value,
-            },
-            Step::Hear => Event::Hear {
-                port,
-                serial,
-                value,
-            },
-            Step::Give => Event::Give {
-                port,
-                serial,
-                value,
-            },
-            Step::End => Event::End {
-                port,
-                serial,
-                value,
             },
         }
     }

@@ -1,5 +1,5 @@
 use Rattle.std.proofs.Common.{arith}
-use Rattle.change_script.proofs.numbers.value_of.Goals as goal
+use Rattle.change_script.proofs.numbers.value_within.Goals as goal
 use Rattle.base.proofs.DecimalLaws.{digits_value_next}
 
 pub returns-then-more-from : goal.returns-then-more-from

@@ -1,6 +1,6 @@
 use Rattle.std.proofs.Common.{◌≡◌, ◌==◌, false, length, rules}
 use Rattle.report_parser.proofs.DrawingLemmas.{word_by}
-use Rattle.report_parser.proofs.graphs.is_word.Goals as goal
+use Rattle.report_parser.proofs.graphs.is_one_piece.Goals as goal
 
 pub returns-then-not-is_empty : goal.returns-then-not-is_empty
 returns-then-not-is_empty c =

@@ -1,9 +1,0 @@
-use Rattle.std.proofs.Common.{◌==◌, arith}
-use Rattle.report_reader.proofs.CutLemmas.{cut_at, cut_none}
-use Rattle.report_reader.proofs.cuts.cut.Goals as goal
-
-pub returns-then-len-bytes-clause-cut : goal.returns-then-len-bytes-clause-cut
-returns-then-len-bytes-clause-cut c = cut_at (λ b. b == c.args.at) c.args.bytes.now _ c.len_before-len.ensures.len (omega arith)
-
-pub returns-else-len-bytes-clause-cut : goal.returns-else-len-bytes-clause-cut
-returns-else-len-bytes-clause-cut c = cut_none (λ b. b == c.args.at) c.args.bytes.now (omega arith)
