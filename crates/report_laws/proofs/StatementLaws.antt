@@ -1,24 +1,18 @@
 -- A script has one list of statements, and in a script whose graphs are sound the statements are so.
-use Rattle.std.proofs.Common.{◌≡◌, ◌∙◌, ℕ, ℤ, Bool, true, false, List, [], ◌∷◌, ◌++◌, length, Option, Some, None, Result, Ok, Err, refl, sym, ap, subst}
-use Rattle.std.specs.Prelude.{◌||◌, ◌&&◌, not, ⊤, if◌then◌else◌}
-use Rattle.std.specs.Option.{option_or}
-use Rattle.std.proofs.lemmas.Bool.{both_ways, or_left, or_parts}
-use Rattle.std.proofs.lemmas.List.Folds.{list_any-append}
+use Rattle.std.proofs.Common.{◌≡◌, ◌∙◌, ℕ, ℤ, true, false, List, [], ◌∷◌, ◌++◌, length, refl, sym, ap, subst}
+use Rattle.std.specs.Prelude.{◌||◌}
+use Rattle.std.proofs.lemmas.Bool.{both_ways, or_left}
+use Rattle.base.specs.Each.{EachAfter}
 use Rattle.config_graph.specs.Graph.{Graph, ports}
 use Rattle.change_plan.specs.Refusals.{CreatesSoMany}
 use Rattle.change_plan.specs.declared.plan_data.Move.{Move}
 use Rattle.change_plan.proofs.RoomLaws.{one_wanted}
-use Rattle.change_script.specs.EventFiles.{first_fault}
-use Rattle.change_script.specs.Lines.{Line, statements}
-use Rattle.change_script.specs.ScriptFiles.{IsScript, fault_in_lines, fault_of, has, is_full, is_out_of_order, is_start, lack, line_faults, needs_start, said, said_by, said_with}
-use Rattle.change_script.specs.ScriptLines.{meaning}
-use Rattle.change_script.specs.declared.error.LineFault.{LineFault}
-use Rattle.change_script.specs.declared.error.ScriptError.{ScriptError}
-use Rattle.change_script.specs.declared.error.ScriptError.TheVariants as errors
+use Rattle.change_script.specs.ScriptFiles.{IsScript, has, is_out_of_order, is_start}
 use Rattle.change_script.specs.declared.script.Body.{Body}
 use Rattle.change_script.specs.declared.script.Body.TheVariants as bodies
 use Rattle.change_script.specs.declared.script.Script.{Script}
 use Rattle.change_script.specs.declared.script.ScriptLine.{ScriptLine}
+use Rattle.change_script.proofs.ScriptOrderLaws.{StandsInOrder, has_with_one, no_start_above, script_stands, script_starts, start_above}
 use Rattle.change_law.specs.Scripts.{Above, SayAll, Says, SaysChange, SaysStart, StatementsOf, more_made, nothing_above}
 use Rattle.change_law.specs.Statements.{Statement, start, change}
 use Rattle.report_laws.specs.SoundStatements.{AreSound, GoOnSoundly, IsSoundGraph}
@@ -67,49 +61,20 @@ module _ (elab : List ℕ → List ℕ → List ℤ → Graph → Type 0) where
     pub one_list : (script : Script) (a b : List Statement) → StatementsOf elab script a → StatementsOf elab script b → a ≡ b
     one_list script a b x y = one_list_below script.lines nothing_above a b x y
 
--- each line is in order below those above it
-abbrev pub AreInOrder : List ScriptLine → List ScriptLine → Type 0
-AreInOrder above [] = ⊤
-AreInOrder above (line ∷ lines) = (is_out_of_order above line.body ≡ false) × AreInOrder (above ++ line ∷ []) lines
-
-right_line : (n : ℕ) (full out : Bool) (rest : List (Option ScriptError)) → first_fault ((if full then Some (errors.TooManyLines n) else (if out then Some (errors.Order n) else None)) ∷ rest) ≡ None
-    → (out ≡ false) × (first_fault rest ≡ None)
-right_line n true out rest h = absurd (cc h)
-right_line n false true rest h = absurd (cc h)
-right_line n false false rest h = (refl, h)
-
-in_order : (above : List ScriptLine) (ls : List Line) → first_fault (line_faults above ls) ≡ None → AreInOrder above (said ls)
-in_order above [] h = tt
-in_order above (line ∷ ls) h = by (meaning line.bytes) refl (in_order (above ++ said_by line) ls)
-  where
-    by : (m : Result Body LineFault) → meaning line.bytes ≡ m → (first_fault (line_faults (above ++ said_by line) ls) ≡ None → AreInOrder (above ++ said_by line) (said ls)) → AreInOrder above (said (line ∷ ls))
-    by (Err fault) means rest = absurd (cc (ap (λ m. first_fault (Rattle.change_script.specs.ScriptFiles.fault_in above line.number m ∷ line_faults (above ++ said_by line) ls)) (sym means) ∙ h))
-    by (Ok body) means rest =
-        let one : said_by line ≡ record { number = line.number; body = body } ∷ [] = ap (said_with line.number) means in
-        let right = right_line line.number (is_full above) (is_out_of_order above body) (line_faults (above ++ said_by line) ls)
-        (ap (λ m. first_fault (Rattle.change_script.specs.ScriptFiles.fault_in above line.number m ∷ line_faults (above ++ said_by line) ls)) (sym means) ∙ h) in
-        subst (λ xs. AreInOrder above (xs ++ said ls)) (sym one)
-        (right.0, subst (λ xs. AreInOrder (above ++ xs) (said ls)) one (rest right.1))
-
 module _ (elab : List ℕ → List ℕ → List ℤ → Graph → Type 0) (sound : (file name : List ℕ) (args : List ℤ) (g : Graph) → elab file name args g → IsSoundGraph g) where
-  second_start : (above : List ScriptLine) (body : Body) → is_start body ≡ true → has is_start above ≡ true → is_out_of_order above body ≡ false → ⊥
-  second_start above body starts has_one right =
-      let at = or_parts _ _ (or_parts _ _ (or_parts _ _ (or_parts _ _ right).0).0).0 in
-      both_ways (is_start body && has is_start above) at.1 (rw starts has_one)
-
-  goes_on : (above : List ScriptLine) (lines : List ScriptLine) (a : Above) (ss : List Statement) → has is_start above ≡ true → AreInOrder above lines → SayAll elab lines a ss → GoOnSoundly ss a.graph a.made
+  goes_on : (above : List ScriptLine) (lines : List ScriptLine) (a : Above) (ss : List Statement) → has is_start above ≡ true → EachAfter StandsInOrder above lines → SayAll elab lines a ss → GoOnSoundly ss a.graph a.made
   goes_on above [] a ss started order says = subst (λ xs. GoOnSoundly xs a.graph a.made) (sym says) tt
   goes_on above (line ∷ lines) a ss started order says =
       subst (λ xs. GoOnSoundly xs a.graph a.made) (sym says.are)
-      (by line.body order.0 says.own says.next says.says (goes_on (above ++ line ∷ []) lines says.next says.rest still order.1 says.below))
+      (by line.body order.0.right says.own says.next says.says (goes_on (above ++ line ∷ []) lines says.next says.rest still order.1 says.below))
     where
       still : has is_start (above ++ line ∷ []) ≡ true
-      still = list_any-append (λ (l : ScriptLine). is_start l.body) above (line ∷ []) ∙ or_left (has is_start above) (has is_start (line ∷ [])) started
+      still = has_with_one is_start above line ∙ or_left (has is_start above) (is_start line.body) started
 
       by : (body : Body) → is_out_of_order above body ≡ false → (own : List Statement) (next : Above) → Says elab a body own next → GoOnSoundly says.rest next.graph next.made → GoOnSoundly (own ++ says.rest) a.graph a.made
       by (bodies.File name) right own next w rest =
           subst (λ xs. GoOnSoundly (xs ++ says.rest) a.graph a.made) (sym w.0) (subst (λ (n : Above). GoOnSoundly says.rest n.graph n.made) w.1 rest)
-      by (bodies.Start name args) right own next w rest = absurd (second_start above (bodies.Start name args) refl started right)
+      by (bodies.Start name args) right own next w rest = absurd (both_ways (has is_start above) (no_start_above above (bodies.Start name args) right refl) started)
       by (bodies.Run k) right own next w rest =
           subst (λ xs. GoOnSoundly (xs ++ says.rest) a.graph a.made) (sym w.0) (subst (λ (n : Above). GoOnSoundly says.rest n.graph n.made) w.1 rest)
       by (bodies.Change name args within moves) right own next w rest =
@@ -122,20 +87,15 @@ module _ (elab : List ℕ → List ℕ → List ℤ → Graph → Type 0) (sound
       by bodies.Stop right own next w rest =
           subst (λ xs. GoOnSoundly (xs ++ says.rest) a.graph a.made) (sym w.0) (subst (λ (n : Above). GoOnSoundly says.rest n.graph n.made) w.1 rest)
 
-  needs_one : (above : List ScriptLine) (body : Body) → needs_start body ≡ true → has is_start above ≡ false → is_out_of_order above body ≡ false → ⊥
-  needs_one above body needs none right =
-      let at = or_parts _ _ (or_parts _ _ (or_parts _ _ right).0).0 in
-      both_ways (needs_start body && not (has is_start above)) at.1 (rw needs (ap not none))
-
-  begins : (above : List ScriptLine) (lines : List ScriptLine) (a : Above) (ss : List Statement) → a.made ≡ nothing_above.made → has is_start above ≡ false → has is_start lines ≡ true → AreInOrder above lines
+  begins : (above : List ScriptLine) (lines : List ScriptLine) (a : Above) (ss : List Statement) → a.made ≡ nothing_above.made → has is_start above ≡ false → has is_start lines ≡ true → EachAfter StandsInOrder above lines
       → SayAll elab lines a ss → AreSound ss
   begins above [] a ss made none some order says = absurd (both_ways false refl some)
   begins above (line ∷ lines) a ss made none some order says =
-      subst AreSound (sym says.are) (by line.body refl order.0 says.own says.next says.says (λ still fresh left. begins (above ++ line ∷ []) lines says.next says.rest still fresh left order.1 says.below))
+      subst AreSound (sym says.are) (by line.body refl order.0.right says.own says.next says.says (λ still fresh left. begins (above ++ line ∷ []) lines says.next says.rest still fresh left order.1 says.below))
     where
       later : (says.next.made ≡ nothing_above.made → has is_start (above ++ line ∷ []) ≡ false → has is_start lines ≡ true → AreSound says.rest) → is_start line.body ≡ false → (next : Above) → next.made ≡ nothing_above.made → says.next ≡ next → AreSound says.rest
       later go other next still is =
-          go (ap (λ (n : Above). n.made) is ∙ still) (list_any-append (λ (l : ScriptLine). is_start l.body) above (line ∷ []) ∙ rw none (rw other refl)) (sym (ap (λ b. b || has is_start lines) other) ∙ some)
+          go (ap (λ (n : Above). n.made) is ∙ still) (has_with_one is_start above line ∙ rw none other) (sym (ap (λ b. b || has is_start lines) other) ∙ some)
 
       by : (body : Body) → line.body ≡ body → is_out_of_order above body ≡ false → (own : List Statement) (next : Above) → Says elab a body own says.next → (says.next.made ≡ nothing_above.made → has is_start (above ++ line ∷ []) ≡ false → has is_start lines ≡ true → AreSound says.rest) → AreSound (own ++ says.rest)
       by (bodies.File name) is right own next w go =
@@ -148,27 +108,13 @@ module _ (elab : List ℕ → List ℕ → List ℤ → Graph → Type 0) (sound
             below = subst (λ m. GoOnSoundly says.rest w.graph (more_made m (length w.graph.nodes) (length (ports w.graph.nodes)))) made
                 (subst (λ (n : Above). GoOnSoundly says.rest n.graph n.made) w.next_is
                 (goes_on (above ++ line ∷ []) lines says.next says.rest
-                (list_any-append (λ (l : ScriptLine). is_start l.body) above (line ∷ []) ∙ rw none (rw is refl)) order.1 says.below));
+                (has_with_one is_start above line ∙ rw none (ap is_start is)) order.1 says.below));
           })
-      by (bodies.Run k) is right own next w go = absurd (needs_one above (bodies.Run k) refl none right)
-      by (bodies.Change name args within moves) is right own next w go = absurd (needs_one above (bodies.Change name args within moves) refl none right)
-      by (bodies.Finish n) is right own next w go = absurd (needs_one above (bodies.Finish n) refl none right)
-      by bodies.Show is right own next w go = absurd (needs_one above bodies.Show refl none right)
+      by (bodies.Run k) is right own next w go = absurd (both_ways (has is_start above) none (start_above above (bodies.Run k) right refl))
+      by (bodies.Change name args within moves) is right own next w go = absurd (both_ways (has is_start above) none (start_above above (bodies.Change name args within moves) right refl))
+      by (bodies.Finish n) is right own next w go = absurd (both_ways (has is_start above) none (start_above above (bodies.Finish n) right refl))
+      by bodies.Show is right own next w go = absurd (both_ways (has is_start above) none (start_above above bodies.Show right refl))
       by bodies.Stop is right own next w go = subst (λ xs. AreSound (xs ++ says.rest)) (sym w.0) (later go (ap is_start is) a made w.1)
 
-  has_start : (lines : List ScriptLine) → lack lines ≡ None → has is_start lines ≡ true
-  has_start lines h = by (has is_start lines) refl
-    where
-      by : (b : Bool) → has is_start lines ≡ b → has is_start lines ≡ true
-      by true is = is
-      by false is = absurd (cc (ap (λ b. if b then (if Rattle.change_script.specs.ScriptFiles.ends_with_end lines then None else Some errors.NoEnd) else Some errors.NoStart) (sym is) ∙ h))
-
   pub sound_list : (text : List ℕ) (script : Script) → IsScript text script → (ss : List Statement) → StatementsOf elab script ss → AreSound ss
-  sound_list text script is ss says =
-      let parts = none_first (first_fault (line_faults [] (statements text))) (lack (said (statements text))) is.0 in
-      begins [] (said (statements text)) nothing_above ss refl refl (has_start (said (statements text)) parts.1) (in_order [] (statements text) parts.0)
-      (subst (λ ls. SayAll elab ls nothing_above ss) is.1 says)
-    where
-      none_first : (a b : Option ScriptError) → option_or a b ≡ None → (a ≡ None) × (b ≡ None)
-      none_first None b h = (refl, h)
-      none_first (Some x) b h = absurd (cc h)
+  sound_list text script is ss says = begins [] script.lines nothing_above ss refl refl (script_starts text script is) (script_stands text script is) says

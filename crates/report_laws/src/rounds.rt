@@ -6,7 +6,6 @@ ghost use Rattle.change_law.specs.Lawful.{Lawful, in_rounds};
 ghost use Rattle.change_law.specs.Serial.{Serial, run_ends};
 ghost use Rattle.change_law.specs.Statements.{Statement};
 ghost use Rattle.change_script.specs.declared.report.Report.{Report};
-ghost use Rattle.report_laws.specs.Existing.{HavePlans, StopsEnd};
 ghost use Rattle.report_laws.specs.Rounds.{IsInOrderOfRounds};
 ghost use Rattle.report_laws.specs.SoundStatements.{AreSound};
 ghost use Rattle.turn_laws.specs.Reached.{IsReached};
@@ -41,17 +40,5 @@ pub fn reports_of_rounds_are_lawful()
 pub fn runs_come_to_an_end()
     ensures ends { (w : World) (k : ℕ) → IsReached w → (j : ℕ) × IsTrue (run_ends w k j) }
 {
-    rest_falls_by_steps();
-}
-
-/// A report of rounds exists for the statements of a sound script, where each change has a plan, and where each stop
-/// comes to an end in rounds.
-pub fn a_report_exists_where_stops_end()
-    ensures exists { StopsEnd → (statements : List Statement) → AreSound statements → HavePlans statements
-        → (report : Report) × Serial statements report }
-{
-    each_plan_may_commit();
-    commits_can_not_fail();
-    commits_leave_the_new_graph();
     rest_falls_by_steps();
 }

@@ -1,10 +1,9 @@
 -- Where the shelf tells each file that a script uses, its lines lead on or one of them is refused: that neither is so can't be.
-use Rattle.std.proofs.Common.{◌≡◌, ◌∙◌, ◌≤◌, ◌<◌, ◌⊎◌, inl, inr, ℕ, zero, suc, ℤ, Bool, true, false, List, [], ◌∷◌, ◌++◌, Option, Some, None, IsSomeAnd, Result, Ok, Err, codes, length, take, slice_get, refl, sym, ap, subst, arith}
-use Rattle.std.specs.Prelude.{◌||◌, ◌&&◌, not, ⊤, if◌then◌else◌}
-use Rattle.std.specs.Option.{option_or}
-use Rattle.std.proofs.lemmas.Bool.{cases_lt, or_parts}
-use Rattle.std.proofs.lemmas.List.Folds.{list_any-append}
+use Rattle.std.proofs.Common.{◌≡◌, ◌∙◌, ◌≤◌, ◌<◌, ◌⊎◌, inl, inr, ℕ, zero, suc, ℤ, Bool, true, false, List, [], ◌∷◌, ◌++◌, Option, Some, None, IsSomeAnd, codes, length, take, slice_get, refl, sym, ap, subst, arith}
+use Rattle.std.specs.Prelude.{◌||◌}
+use Rattle.std.proofs.lemmas.Bool.{cases_lt}
 use Rattle.std.proofs.lemmas.Option.{same_Some, none-some}
+use Rattle.base.specs.Each.{EachAfter}
 use Rattle.cfg_io.specs.Shelf.{Files}
 use Rattle.config_graph.specs.Graph.{Graph, ports}
 use Rattle.config_graph.specs.Sound.{Sound}
@@ -16,18 +15,12 @@ use Rattle.change_plan.specs.declared.error.PlanError.{PlanError}
 use Rattle.change_plan.specs.declared.error.PlanError.TheVariants.{NotRemoved, NotCreated, KindsDiffer, MovedTwice}
 use Rattle.change_plan.specs.declared.plan_data.Move.{Move}
 use Rattle.change_plan.proofs.RoomLaws.{room_or_fault}
-use Rattle.change_script.specs.EventFiles.{first_fault}
-use Rattle.change_script.specs.Lines.{statements}
-use Rattle.change_script.specs.Lines as texts
-use Rattle.change_script.specs.ScriptFiles.{IsScript, fault_in, has, is_file, is_full, is_out_of_order, is_start, lack, line_faults, needs_file, needs_start, said, said_by, said_with}
-use Rattle.change_script.specs.ScriptLines.{meaning}
-use Rattle.change_script.specs.declared.error.LineFault.{LineFault}
-use Rattle.change_script.specs.declared.error.ScriptError.{ScriptError}
-use Rattle.change_script.specs.declared.error.ScriptError.TheVariants as errors
+use Rattle.change_script.specs.ScriptFiles.{IsScript, has, is_file, is_out_of_order, is_start}
 use Rattle.change_script.specs.declared.script.Body.{Body}
 use Rattle.change_script.specs.declared.script.Body.TheVariants as bodies
 use Rattle.change_script.specs.declared.script.Script.{Script}
 use Rattle.change_script.specs.declared.script.ScriptLine.{ScriptLine}
+use Rattle.change_script.proofs.ScriptOrderLaws.{StandsInOrder, file_above, has_with_one, script_stands, start_above}
 use Rattle.change_law.specs.Statements.{Statement, run, finish, show}
 use Rattle.darwin_parser.specs.Tree.{Name, Tree}
 use Rattle.darwin_types.specs.Faults.{Fault as NameFault, NoFault}
@@ -137,65 +130,12 @@ module _ (old new : Graph) where
         by (inl may) = wanted old new (λ w. room may w.0 w.1 w.2 (room_or_fault made w.0 w.1))
         by (inr (e, fault)) = none (inr (e, inl fault))
 
--- ---- the order of a script
-
--- each line is in order below those above it
-abbrev AreInOrder : List ScriptLine → List ScriptLine → Type 0
-AreInOrder above [] = ⊤
-AreInOrder above (line ∷ lines) = (is_out_of_order above line.body ≡ false) × AreInOrder (above ++ line ∷ []) lines
-
-right_line :
-    (n : ℕ) (full out : Bool) (rest : List (Option ScriptError))
-    → first_fault ((if full then Some (errors.TooManyLines n) else (if out then Some (errors.Order n) else None)) ∷ rest) ≡ None
-    → (out ≡ false) × (first_fault rest ≡ None)
-right_line n true out rest h = absurd (cc h)
-right_line n false true rest h = absurd (cc h)
-right_line n false false rest h = (refl, h)
-
-in_order : (above : List ScriptLine) (ls : List texts.Line) → first_fault (line_faults above ls) ≡ None → AreInOrder above (said ls)
-in_order above [] h = tt
-in_order above (line ∷ ls) h = by (meaning line.bytes) refl (in_order (above ++ said_by line) ls)
-  where
-    by : (m : Result Body LineFault) → meaning line.bytes ≡ m
-        → (first_fault (line_faults (above ++ said_by line) ls) ≡ None → AreInOrder (above ++ said_by line) (said ls)) → AreInOrder above (said (line ∷ ls))
-    by (Err fault) means rest = absurd (cc (ap (λ m. first_fault (fault_in above line.number m ∷ line_faults (above ++ said_by line) ls)) (sym means) ∙ h))
-    by (Ok body) means rest =
-        let one : said_by line ≡ record { number = line.number; body = body } ∷ [] = ap (said_with line.number) means in
-        let right = right_line line.number (is_full above) (is_out_of_order above body) (line_faults (above ++ said_by line) ls)
-        (ap (λ m. first_fault (fault_in above line.number m ∷ line_faults (above ++ said_by line) ls)) (sym means) ∙ h) in
-        subst (λ xs. AreInOrder above (xs ++ said ls)) (sym one)
-        (right.0, subst (λ xs. AreInOrder (above ++ xs) (said ls)) one (rest right.1))
-
-script_in_order : (bytes : List ℕ) (script : Script) → IsScript bytes script → AreInOrder [] script.lines
-script_in_order bytes script is =
-    subst (AreInOrder []) (sym is.1)
-    (in_order [] (statements bytes) (first_none (first_fault (line_faults [] (statements bytes))) (lack (said (statements bytes))) is.0))
-  where
-    first_none : (a b : Option ScriptError) → option_or a b ≡ None → a ≡ None
-    first_none None b h = refl
-    first_none (Some x) b h = absurd (cc h)
-
-not_lacking : (needs there : Bool) → needs ≡ true → (needs && not there) ≡ false → there ≡ true
-not_lacking true true is right = refl
-not_lacking true false is right = cc
-not_lacking false there is right = cc
-
-file_above : (above : List ScriptLine) (body : Body) → needs_file body ≡ true → is_out_of_order above body ≡ false → has is_file above ≡ true
-file_above above body needs right =
-    let parts = or_parts _ _ (or_parts _ _ (or_parts _ _ (or_parts _ _ right).0).0).0 in
-    not_lacking (needs_file body) (has is_file above) needs parts.0
-
-start_above : (above : List ScriptLine) (body : Body) → needs_start body ≡ true → is_out_of_order above body ≡ false → has is_start above ≡ true
-start_above above body needs right =
-    let parts = or_parts _ _ (or_parts _ _ (or_parts _ _ right).0).0 in
-    not_lacking (needs_start body) (has is_start above) needs parts.1
-
 -- what was there below a line that isn't such was there above it
 had_before : (test : Body → Bool) (above : List ScriptLine) (line : ScriptLine) → test line.body ≡ false → has test (above ++ line ∷ []) ≡ true → has test above ≡ true
 had_before test above line other some =
-    by (has test above) (test line.body) other (sym (list_any-append (λ (l : ScriptLine). test l.body) above (line ∷ [])) ∙ some)
+    by (has test above) (test line.body) other (sym (has_with_one test above line) ∙ some)
   where
-    by : (a b : Bool) → b ≡ false → (a || (b || false)) ≡ true → a ≡ true
+    by : (a b : Bool) → b ≡ false → (a || b) ≡ true → a ≡ true
     by true b other some = refl
     by false true other some = cc
     by false false other some = cc
@@ -354,23 +294,23 @@ module _ (names : (t : Tree) → NoFault t ⊎ ((e : TypeError) × NameFault t e
     line_goes (bodies.File file) is right held =
         let at = held file (inl refl) in
         use_goes file at.0 (ap is_start is) at.1
-    line_goes (bodies.Start name args) is right held = start_goes name args (ap is_file is) (file_above above (bodies.Start name args) refl right)
+    line_goes (bodies.Start name args) is right held = start_goes name args (ap is_file is) (file_above above (bodies.Start name args) right refl)
     line_goes (bodies.Run k) is right held = deed_goes (run k) (ap is_file is) (ap is_start is)
     line_goes (bodies.Change name args within moves) is right held =
-        change_goes name args within moves (ap is_file is) (file_above above (bodies.Change name args within moves) refl right)
-        (start_above above (bodies.Change name args within moves) refl right)
+        change_goes name args within moves (ap is_file is) (file_above above (bodies.Change name args within moves) right refl)
+        (start_above above (bodies.Change name args within moves) right refl)
     line_goes (bodies.Finish n) is right held = deed_goes (finish n) (ap is_file is) (ap is_start is)
     line_goes bodies.Show is right held = deed_goes show (ap is_file is) (ap is_start is)
     line_goes bodies.Stop is right held =
         rest p (record { used = λ any. used_still (ap is_file is) any; named = λ any. named_still (ap is_start is) any })
 
   all_go :
-      (lines above : List ScriptLine) (p : Progress) → Fits above p → AreInOrder above lines → HasAll f (lines_of lines) → ¬ ¬ LeadOrStop f (lines_of lines) p
+      (lines above : List ScriptLine) (p : Progress) → Fits above p → EachAfter StandsInOrder above lines → HasAll f (lines_of lines) → ¬ ¬ LeadOrStop f (lines_of lines) p
   all_go [] above p fits order held = λ none. none (inl (p, refl))
   all_go (line ∷ lines) above p fits order held =
       line_goes above line (lines_of lines) p fits
       (λ q below. all_go lines (above ++ line ∷ []) q below order.1 (λ file used. held file (used_below line.body (lines_of lines) file used)))
-      line.body refl order.0 held
+      line.body refl order.0.right held
     where
       used_below : (body : Body) (below : List Line) (file : List ℕ) → Uses below file → Uses (line_of body ++ below) file
       used_below (bodies.File name) below file used = inr used
@@ -387,7 +327,7 @@ module _ (names : (t : Tree) → NoFault t ⊎ ((e : TypeError) × NameFault t e
       × ((file : List ℕ) (words : List (List ℕ)) → ¬ AreRefused (HoldsFile (Some f)) (TellsTooLong (Some f)) (lines_of script.lines) begun file words))
   lead_or_stop bytes script is held (leads, stops) =
       let at_first : Fits [] begun = record { used = λ any. cc; named = λ any. cc } in
-      all_go script.lines [] begun at_first (script_in_order bytes script is) held by
+      all_go script.lines [] begun at_first (script_stands bytes script is) held by
     where
       by : LeadOrStop f (lines_of script.lines) begun → ⊥
       by (inl (end, lead)) = leads end lead
