@@ -1,4 +1,5 @@
 pub mod CauseLaws
+pub mod ChildCountLaws
 pub mod IntegerLemmas
 pub mod NamedLemmas
 pub mod ReachedLemmas

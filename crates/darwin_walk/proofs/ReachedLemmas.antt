@@ -1,18 +1,17 @@
 -- What is reached in an instance, part by part: the sizes of ports and arrays, and then the body.
-use Rattle.std.proofs.Common.{◌≡◌, ◌≤◌, ◌∙◌, ℕ, List, [], ◌∷◌, ◌++◌, map, length, length-append, sum_by, Option, Some, None, refl, sym, ap, append-nil, subst, Contains, arith}
+use Rattle.std.proofs.Common.{◌≡◌, ◌∙◌, ℕ, List, [], ◌∷◌, ◌++◌, map, length, sum_by, Option, Some, None, refl, sym, ap, append-nil, subst, Contains, arith}
 use Rattle.std.proofs.lemmas.List.Elements.{Contains-append_left, Contains-append_right}
 use Rattle.std.specs.List.{flat_map}
 use Rattle.std.specs.Option.{option_map_or}
 use Rattle.std.proofs.lemmas.Grind.{flat_map-append}
 use Rattle.std.proofs.lemmas.List.Sums.{sum_by-append, sum_by-cons}
 use Rattle.std.proofs.lemmas.List.{length-map}
-use Rattle.std.proofs.Math.Nat.{le_refl}
-use Rattle.darwin_types.specs.Scope.{array_named}
 use Rattle.darwin_lexer.specs.declared.token.At.{At}
-use Rattle.darwin_parser.specs.Tree.{Expr, single, element, PortDecl, ArrayDecl, Stmts, Component}
-use Rattle.darwin_walk.specs.Value.{Env, Value, integer, out_of_range, zero_divisor, value}
-use Rattle.darwin_walk.specs.Reached.{Reached, valued, turn, made, bound, weight, port_size, array_size, reached_in_component, reached_in, count}
-use Rattle.darwin_walk.specs.Instance.{element_child, children_of, bindings_of, faults_of, instance_faults, children, bindings, port_sizes}
+use Rattle.darwin_parser.specs.Tree.{Expr, PortDecl, ArrayDecl, Stmts, Component}
+use Rattle.darwin_walk.specs.Value.{Env}
+use Rattle.darwin_walk.specs.Reached.{Reached, valued, weight, port_size, array_size, reached_in_component, reached_in, count}
+use Rattle.darwin_walk.specs.Instance.{children_of, bindings_of, faults_of, instance_faults, children, bindings, port_sizes}
+use Rattle.darwin_walk.proofs.ChildCountLaws.{children_few}
 use Rattle.darwin_walk.specs.Scope.{port_faults, array_faults}
 use Rattle.darwin_walk.specs.Walked.{Adds, IsWalked, child_of, binding_of}
 use Rattle.darwin_walk.specs.declared.fault.Fault.{Fault}
@@ -109,26 +108,6 @@ count-body c p =
       ports_weight p c.ports,
       arrays_weight p c.arrays,
     )
-
--- each instance is of an entry that is counted
-element_one : (a : Option ArrayDecl) (i : Value) (arguments : ArrayDecl → List Value) (at : At) → length (element_child a i arguments at) ≤ 1
-element_one (Some a) (integer i) arguments at = le_refl 1
-element_one (Some a) out_of_range arguments at = omega arith
-element_one (Some a) zero_divisor arguments at = omega arith
-element_one None i arguments at = omega arith
-
-child_one : (c : Component) (p : Env) (r : Reached) → length (children_of c p r) ≤ weight r
-child_one c p (valued e env at) = omega arith
-child_one c p turn = omega arith
-child_one c p (made (single name component args at) env) = le_refl 1
-child_one c p (made (element name index args at) env) = element_one (array_named c name) (value index env) _ at
-child_one c p (bound b env) = omega arith
-
-children_few : (c : Component) (p : Env) (xs : List Reached) → length (flat_map (children_of c p) xs) ≤ sum_by weight xs
-children_few c p [] = le_refl 0
-children_few c p (x ∷ xs) =
-    omega
-    (arith, length-append (children_of c p x) (flat_map (children_of c p) xs), sum_by-cons weight x xs, child_one c p x, children_few c p xs)
 
 -- a walk of the body, from nothing but the sizes of the ports
 pub IsWalked-body :

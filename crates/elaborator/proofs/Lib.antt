@@ -9,6 +9,7 @@ pub mod CountLaws
 pub mod ElaborationLemmas
 pub mod ExistenceLemmas
 pub mod ExpandLemmas
+pub mod FewLaws
 pub mod FollowLemmas
 pub mod GrowthLemmas
 pub mod IndexLemmas
