@@ -5,13 +5,13 @@ use Rattle.darwin_parser.specs.Tree.{Name, Tree, Component, num, var, single}
 use Rattle.darwin_types.specs.NameUses.{name_uses}
 use Rattle.darwin_types.specs.Scope.{singles_of, instances_of, entries_of}
 use Rattle.darwin_types.specs.declared.error.TypeError.{TypeError}
-use Rattle.darwin_types.specs.Faults.{Fault, FaultIn}
+use Rattle.darwin_types.specs.Faults.{FaultIn}
 use Rattle.darwin_types.specs.Faults as fault
 use Rattle.config_graph.specs.declared.kind.Kind.TheVariants.{Sink}
 use Rattle.fault_rows.specs.Trees.{here, idle, inner, outer}
-use Rattle.fault_rows.specs.Checks.{Case, StandsAlone, case_in, case_of, description}
+use Rattle.fault_rows.specs.Checks.{Case, StandsAlone, case_in, description}
 use Rattle.fault_rows.specs.Checks as case
-use Rattle.fault_rows.proofs.CheckLemmas.{alone, leaves_alone}
+use Rattle.fault_rows.proofs.CheckTestLaws.{alone, leaves_alone}
 
 abbrev first : Tree → Component
 first [] = idle [] []

@@ -1,5 +1,5 @@
 -- The rows of elaborations: each description, its fault, and that no other case has one.
-use Rattle.std.proofs.Common.{◌≡◌, ℕ, true, List, [], ◌∷◌, Some, None, codes, sum_by, get_or, slice_get, refl, ap, sym, subst, arith}
+use Rattle.std.proofs.Common.{◌≡◌, ℕ, true, List, [], ◌∷◌, length, Some, None, codes, sum_by, get_or, slice_get, refl, ap, sym, subst, arith}
 use Rattle.std.specs.List.{list_all}
 use Rattle.base.proofs.ContainsLaws.{Contains-at, Contains-one}
 use Rattle.darwin_parser.specs.Tree.{Name, Tree, Component}
@@ -7,7 +7,7 @@ use Rattle.darwin_walk.specs.Instance.{Binding, End}
 use Rattle.elaborator.specs.Bindings.{Port, bindings_in, pairs_in}
 use Rattle.elaborator.specs.Instances.{Inst, Instance, count_in, instances, levels, paths_in}
 use Rattle.elaborator.specs.Instances.Inst.{at_top}
-use Rattle.elaborator.specs.Faults.{CountsMore, Faults, Twice, faults_in}
+use Rattle.elaborator.specs.Faults.{CountsMore, Twice, faults_in}
 use Rattle.elaborator.specs.Faults as fault
 use Rattle.elaborator.specs.Faults.NotesDiffer.{differ}
 use Rattle.elaborator.specs.Faults.Twice.{twice}
@@ -17,22 +17,22 @@ use Rattle.elaborator.proofs.TwiceLaws.{twice_places}
 use Rattle.std.proofs.lemmas.Option.{slice_get_within}
 use Rattle.fault_rows.proofs.CycleLemmas.{the_graph, is_graph, is_first, map_node}
 use Rattle.fault_rows.specs.Trees.{here, idle, component, instance, row}
-use Rattle.fault_rows.specs.Elaborations.{Case, FaultOf, Query, StandsAlone, case_of, query}
+use Rattle.fault_rows.specs.Elaborations.{Case, FaultOf, StandsAlone, case_of, query}
 use Rattle.fault_rows.specs.Elaborations as case
-use Rattle.fault_rows.proofs.CheckLemmas as checks
-use Rattle.fault_rows.proofs.ElaborationLemmas.{alone, leaves_alone}
+use Rattle.fault_rows.proofs.CheckTestLaws as checks
+use Rattle.fault_rows.proofs.ElaborationTestLaws.{alone, leaves_alone}
 
 -- a fault of a checked description, alone by its case
 standing :
     (c : Case) (e : ElabError) (f : FaultOf (query c) e) → list_all (checks.is_clear (query c).tree) checks.cases ≡ true → case_of f ≡ c
-    → leaves_alone (query c) c ≡ true → StandsAlone (query c) c
+    → leaves_alone length (query c) c ≡ true → StandsAlone (query c) c
 standing c e f clear by_case left =
     record {
       checked = checks.none_at_all (query c).tree clear;
       error = e;
       stands = f;
       by_case = by_case;
-      alone = alone (query c) c left;
+      alone = alone length (query c) c left;
     }
 
 no_top : StandsAlone (query case.no_top) case.no_top

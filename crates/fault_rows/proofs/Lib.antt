@@ -1,7 +1,7 @@
-mod ListLemmas
-mod CheckLemmas
+pub mod ListLaws
+pub mod CheckTestLaws
 mod CheckRows
-mod ElaborationLemmas
+pub mod ElaborationTestLaws
 mod CycleLemmas
 mod ElaborationRows
 mod TextRows

@@ -31,9 +31,9 @@ use Rattle.command_runs.specs.Scripts.{lines_of}
 use Rattle.command_runs.specs.Ways.{AreRefused, LeadTo, LeadsIn}
 use Rattle.command_runs.proofs.TotalityLaws.{wanted}
 use Rattle.run_laws.specs.MadeScripts.{made_script}
-use Rattle.made_runs.proofs.ElaborationTests.{cases, is_clear, none_at_all}
+use Rattle.fault_rows.proofs.ElaborationTestLaws.{cases, is_clear, none_at_all}
 use Rattle.made_runs.proofs.Few.{few_nodes, few_ports, few_selected, nodes_below}
-use Rattle.made_runs.proofs.LaneLemmas.{arguments, both_may_run, may_run, query, script_is_short}
+use Rattle.made_runs.proofs.LaneLemmas.{arguments, both_may_run, may_run, query, rank, script_is_short}
 use Rattle.made_runs.proofs.TextLemmas.{checked, sound}
 use Rattle.made_runs.specs.MadeTrees.{made_tree}
 
@@ -60,14 +60,14 @@ few_created old new nodes wanted_ports so_many few_new =
 
 module _ (lanes k : ℕ) (may : may_run lanes k ≡ true) where
   parts :
-      (list_all (is_clear (query lanes k)) cases ≡ true)
+      (list_all (is_clear rank (query lanes k)) cases ≡ true)
       × (nat_le (nodes_below made_tree (codes "Lanes") (arguments lanes k)) 200 ≡ true)
   parts =
-      and_parts (list_all (is_clear (query lanes k)) cases)
+      and_parts (list_all (is_clear rank (query lanes k)) cases)
       (nat_le (nodes_below made_tree (codes "Lanes") (arguments lanes k)) 200) may
 
   no_fault : HasNoFault made_tree (codes "Lanes") (arguments lanes k)
-  no_fault = none_at_all (query lanes k) parts.0
+  no_fault = none_at_all rank (query lanes k) parts.0
 
   few_of : (g : Graph) → ElaboratesTo made_tree (codes "Lanes") (arguments lanes k) g → length g.nodes ≤ 200
   few_of g elaborates =

@@ -1,37 +1,23 @@
 -- The tree of the description that `big` makes.
-use Rattle.std.specs.Prelude.{ℕ, List, [], ◌∷◌, Some, None, codes}
-use Rattle.darwin_lexer.specs.declared.token.At.{At}
+use Rattle.std.specs.Prelude.{ℕ, List, [], ◌∷◌, Option, Some, None, codes}
 use Rattle.darwin_parser.specs.declared.tree.Op.TheVariants.{Sub}
-use Rattle.darwin_parser.specs.declared.tree.Side.{Side}
 use Rattle.darwin_parser.specs.declared.tree.Side.TheVariants.{Provide, Require}
-use Rattle.darwin_parser.specs.Tree.{Name, Tree, Expr, num, var, op, element, inst, bind, forall, end, then, Component, Stmt, Stmts, ArrayDecl, PortDecl, PortRef}
-
-abbrev at : ℕ → ℕ → At
-at line column = record { line = line; column = column }
-
-abbrev port : Side → Name → ℕ → ℕ → PortDecl
-port side name line column = record { side = side; name = name; size = None; note = None; at = at line column }
+use Rattle.darwin_parser.specs.Tree.{Name, Tree, Expr, num, var, op, forall, end, Component, Stmt, Stmts, ArrayDecl, PortDecl}
+use Rattle.fault_rows.specs.Trees.{array_at, at, binding_at, component_at, element_at, port_at, port_of, row}
 
 abbrev primitive : Name → ℕ → List Name → List PortDecl → Component
-primitive name line params ports = record { name = name; at = at line 1; params = params; ports = ports; arrays = []; body = end }
+primitive name line params ports = component_at (at line 1) name params ports [] end
 
-abbrev array : Name → Name → List Expr → ℕ → ArrayDecl
-array name component args column =
-    record { name = name; size = var (codes "n"); component = component; args = Some args; at = at 7 column }
+-- one element for each lane
+abbrev of_lanes : Name → Name → Option (List Expr) → ℕ → ArrayDecl
+of_lanes name component args column = array_at (at 7 column) name (var (codes "n")) component args
 
 abbrev made : Name → ℕ → Stmt
-made name column = inst (element name (var (codes "i")) None (at 9 column))
-
-abbrev inner : Name → Name → PortRef
-inner name port = record { inst = Some name; inst_index = Some (var (codes "i")); port = port; port_index = None }
+made name column = element_at (at 9 column) name (var (codes "i"))
 
 abbrev joined : Name → Name → Name → Name → ℕ → ℕ → Stmt
 joined from require to provide line column =
-    bind (record { left = inner from require; right = inner to provide; at = at line column })
-
-abbrev row : List Stmt → Stmts
-row [] = end
-row (s ∷ rest) = then s (row rest)
+    binding_at (at line column) (port_of from (Some (var (codes "i"))) require) (port_of to (Some (var (codes "i"))) provide)
 
 -- what is reached for each lane
 abbrev pub lane : Stmts
@@ -45,30 +31,29 @@ lane =
     ∷ [])
 
 abbrev pub source : Component
-source = primitive (codes "source") 1 (codes "n" ∷ []) (port Require (codes "out") 1 27 ∷ [])
+source = primitive (codes "source") 1 (codes "n" ∷ []) (port_at (at 1 27) Require (codes "out") None ∷ [])
+
+-- a component that takes at one column and gives at another
+abbrev between : Name → ℕ → Name → ℕ → ℕ → Component
+between name line param takes gives =
+    primitive name line (param ∷ []) (port_at (at line takes) Provide (codes "in") None ∷ port_at (at line gives) Require (codes "next") None ∷ [])
 
 abbrev pub mapping : Component
-mapping = primitive (codes "map") 2 (codes "k" ∷ []) (port Provide (codes "in") 2 24 ∷ port Require (codes "next") 2 36 ∷ [])
+mapping = between (codes "map") 2 (codes "k") 24 36
 
 abbrev pub buffer : Component
-buffer = primitive (codes "buffer") 3 (codes "cap" ∷ []) (port Provide (codes "in") 3 29 ∷ port Require (codes "next") 3 41 ∷ [])
+buffer = between (codes "buffer") 3 (codes "cap") 29 41
 
 abbrev pub sink : Component
-sink = primitive (codes "sink") 4 [] (port Provide (codes "in") 4 18 ∷ [])
+sink = primitive (codes "sink") 4 [] (port_at (at 4 18) Provide (codes "in") None ∷ [])
 
 abbrev pub lanes : Component
 lanes =
-    record {
-      name = codes "Lanes";
-      at = at 6 1;
-      params = codes "n" ∷ codes "k" ∷ [];
-      ports = [];
-      arrays =
-          array (codes "s") (codes "source") (num 20 ∷ []) 9 ∷ array (codes "m") (codes "map") (var (codes "k") ∷ []) 26
-          ∷ array (codes "b") (codes "buffer") (num 2 ∷ []) 39 ∷ array (codes "w") (codes "map") (num 3 ∷ []) 55
-          ∷ record { name = codes "t"; size = var (codes "n"); component = codes "sink"; args = None; at = at 7 68 } ∷ [];
-      body = row (forall (codes "i") (num 0) (op Sub (var (codes "n")) (num 1)) lane (at 8 3) ∷ []);
-    }
+    component_at (at 6 1) (codes "Lanes") (codes "n" ∷ codes "k" ∷ []) [] (
+    of_lanes (codes "s") (codes "source") (Some (num 20 ∷ [])) 9 ∷ of_lanes (codes "m") (codes "map") (Some (var (codes "k") ∷ [])) 26
+    ∷ of_lanes (codes "b") (codes "buffer") (Some (num 2 ∷ [])) 39 ∷ of_lanes (codes "w") (codes "map") (Some (num 3 ∷ [])) 55
+    ∷ of_lanes (codes "t") (codes "sink") None 68 ∷ []
+    ) (row (forall (codes "i") (num 0) (op Sub (var (codes "n")) (num 1)) lane (at 8 3) ∷ []))
 
 abbrev pub made_tree : Tree
 made_tree = source ∷ mapping ∷ buffer ∷ sink ∷ lanes ∷ []

@@ -1,4 +1,5 @@
--- Which cases of the faults of `check` are refuted by a test of the description, and that in each row one alone isn't.
+-- Tests of a description, one for each case of the faults of `check`: what passes them all has no fault, and where they refute
+-- all cases but one, it is by this one.
 use Rattle.std.proofs.Common.{◌≡◌, ◌∙◌, ℕ, Bool, true, false, not, ◌&&◌, ◌||◌, bytes_eq, List, [], ◌∷◌, length, map, slice_get, Option, Some, None, is_some, is_none, refl, sym, ap, subst, arith}
 use Rattle.std.specs.Prelude.{◌==◌}
 use Rattle.std.specs.List.{count_by, list_all}
@@ -15,7 +16,7 @@ use Rattle.darwin_types.specs.NameUses.{NameUse, value, variable, binding_end, n
 use Rattle.darwin_types.specs.declared.error.TypeError.{TypeError}
 use Rattle.darwin_types.specs.Faults.{is_repeated, FaultIn, Fault, NoFault}
 use Rattle.darwin_types.specs.Faults as fault
-use Rattle.fault_rows.proofs.ListLemmas.{all_have, one_left, one_of_two}
+use Rattle.fault_rows.proofs.ListLaws.{all_have, one_left, one_of_two}
 use Rattle.fault_rows.specs.Checks.{Case, case_in, case_of}
 use Rattle.fault_rows.specs.Checks as case
 

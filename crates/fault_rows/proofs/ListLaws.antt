@@ -1,9 +1,11 @@
 -- Tests of lists.
-use Rattle.std.proofs.Common.{◌≡◌, ◌∙◌, ◌+◌, ◌<◌, Bool, true, false, cond, List, [], ◌∷◌, refl, ap, subst, ⊎_elim, arith, Contains}
+use Rattle.std.proofs.Common.{◌≡◌, ◌∙◌, ℕ, ◌+◌, ◌<◌, Bool, true, false, nat_lt, cond, ◌||◌, slice_get, Some, List, [], ◌∷◌, length, refl, sym, ap, subst, ⊎_elim, arith, Contains}
 use Rattle.std.specs.List.{count_by, list_all}
-use Rattle.std.proofs.lemmas.Bool.{and_parts}
+use Rattle.std.proofs.lemmas.Bool.{and_parts, eqb-true, ltb-true, or_cases}
+use Rattle.std.proofs.lemmas.Option.{same_Some}
+use Rattle.std.specs.Prelude.{◌==◌}
 use Rattle.std.proofs.lemmas.List.Sums.{sum_by-cons}
-use Rattle.base.proofs.ContainsLaws.{Contains-cons_cases, Contains-here, Contains-nil, Contains-there}
+use Rattle.base.proofs.ContainsLaws.{Contains-at, Contains-cons_cases, Contains-here, Contains-nil, Contains-there}
 
 -- each of a list passes
 pub all_have : {A : Type 0} (p : A → Bool) (xs : List A) → list_all p xs ≡ true → (x : A) → Contains xs x → p x ≡ true
@@ -25,3 +27,13 @@ one_of_two {A = A} p (x ∷ xs) some = by (p x) refl (one_of_two p xs) (subst (�
         → (y : A) × Contains (x ∷ xs) y × (p y ≡ true)
     by true passes later more = (x, Contains-here x xs, passes)
     by false fails later more = let w = later (omega (arith, more)) in (w.0, Contains-there x w.0 xs w.1, w.2)
+
+-- where tests refute every case but one, it is the one that isn't refuted
+pub one_left :
+    {C : Type 0} (cases : List C) (place : C → ℕ) → ((c : C) → slice_get cases (place c) ≡ Some c) → (clear : C → Bool) (c : C)
+    → list_all (λ d. place d == place c || clear d) cases ≡ true → (d : C) → (clear d ≡ true → ⊥) → d ≡ c
+one_left cases place at_place clear c left d refuted =
+    ⊎_elim
+    (λ (same : (place d == place c) ≡ true). same_Some d c (sym (at_place d) ∙ ap (slice_get cases) (eqb-true (place d) (place c) same) ∙ at_place c))
+    (λ (holds : clear d ≡ true). absurd (refuted holds))
+    (or_cases (place d == place c) (clear d) (all_have (λ e. place e == place c || clear e) cases left d (Contains-at cases (place d) d (at_place d))))
