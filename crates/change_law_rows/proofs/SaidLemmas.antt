@@ -6,7 +6,7 @@ use Rattle.change_law.specs.Scripts.{Above, StatementsOf, more_made, nothing_abo
 use Rattle.change_law.specs.Statements.{change, finish, run, start}
 use Rattle.change_law.proofs.PlanningLaws.{moves_lead_so, planned_so}
 use Rattle.change_law_rows.specs.Said.{elaborates, script}
-use Rattle.change_law_rows.specs.Systems.{line}
+use Rattle.plan_laws.specs.Systems.{line}
 use Rattle.change_law_rows.specs.Waited as waited
 
 abbrev used : Above

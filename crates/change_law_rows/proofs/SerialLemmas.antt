@@ -19,7 +19,7 @@ use Rattle.change_law_rows.specs.GivenUp as given_up
 use Rattle.change_law_rows.specs.Ran as ran_line
 use Rattle.change_law_rows.specs.Shown as shown_sink
 use Rattle.change_law_rows.specs.Summed as summed_up
-use Rattle.change_law_rows.specs.Systems.{line, lone, one, sums}
+use Rattle.plan_laws.specs.Systems.{line, lone, one, sums}
 use Rattle.change_law_rows.specs.Waited as waited
 
 no_test : (b : Bool) → not b ≡ true → b ≡ false

@@ -36,7 +36,7 @@ use Rattle.change_law.proofs.TestLaws.{counted_some}
 use Rattle.change_law_rows.specs.Alone.{log_0, report, report_of, script, start_lines as lone_starts, stop_lines as lone_stops}
 use Rattle.change_law_rows.specs.Ran as ran
 use Rattle.change_law_rows.specs.Shown as shown
-use Rattle.change_law_rows.specs.Systems.{line, lone, one, sink_t, source_at}
+use Rattle.plan_laws.specs.Systems.{line, lone, one, sink_t, source_at}
 use Rattle.change_law_rows.specs.WrongLines.{finishing_two, never_reopened, outrun, shown_wrongly, starting, two_sinks, unseen}
 use Rattle.change_law_rows.specs.WrongLogs.{hurried}
 use Rattle.change_law_rows.proofs.SerialLemmas.{alone_is_serial}

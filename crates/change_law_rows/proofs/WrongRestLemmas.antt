@@ -34,7 +34,7 @@ use Rattle.change_law.specs.Scene.{config_after}
 use Rattle.change_law.proofs.MemberLaws.{AtLine, all_parts, at_line, config_of_lines, events_parts, lines_parts, parted_at}
 use Rattle.change_law.proofs.TestLaws.{some_counted}
 use Rattle.change_law_rows.specs.Filled.{log_0, log_1}
-use Rattle.change_law_rows.specs.Systems.{buffer_at}
+use Rattle.plan_laws.specs.Systems.{buffer_at}
 use Rattle.change_law_rows.specs.WrongRuns.{rested_before, resting_small}
 use Rattle.change_law_rows.proofs.PlaceLemmas.{DoneAt, done_at, passes_there}
 use Rattle.change_law_rows.proofs.WrongLineLemmas.{lines_of_nodes}

@@ -26,7 +26,7 @@ use Rattle.change_law.proofs.FoundLaws.{events_of_nodes}
 use Rattle.change_law.proofs.MemberLaws.{at_line, events_parts, parted_at}
 use Rattle.change_law.proofs.SerialLaws.{one_serial}
 use Rattle.change_law_rows.specs.RunOut.{history, report, script}
-use Rattle.change_law_rows.specs.Systems.{source_at}
+use Rattle.plan_laws.specs.Systems.{source_at}
 use Rattle.change_law_rows.specs.WrongRuns.{counted_twice, ended_idly, logged_twice, misleading, misled, unlogged}
 use Rattle.change_law_rows.proofs.LaterSerialLemmas.{run_out_is_serial}
 use Rattle.change_law_rows.proofs.PlaceLemmas.{passes_there}

@@ -16,7 +16,7 @@ use Rattle.change_law.specs.Members.{Member, events, state_at}
 use Rattle.change_law.specs.Opening.{argument_of, fold_at, fold_of_node, fold_within}
 use Rattle.change_law.specs.Scene.{config_after}
 use Rattle.change_law.proofs.MemberLaws.{config_of_lines}
-use Rattle.change_law_rows.specs.Systems.{account_at}
+use Rattle.plan_laws.specs.Systems.{account_at}
 use Rattle.change_law_rows.specs.WrongLogs.{forgetting, forgotten, keeping_back, kept_back}
 use Rattle.change_law_rows.proofs.WrongLogLemmas.{some_log}
 

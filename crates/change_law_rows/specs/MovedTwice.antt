@@ -10,7 +10,8 @@ use Rattle.change_law.specs.Members.{Member, by_node, of_history}
 use Rattle.change_law.specs.Scene.{Seen}
 use Rattle.change_law.specs.Statements.{Statement, start, change, run, finish}
 use Rattle.change_law.specs.Told.{Told, no_more, counted, looked}
-use Rattle.change_law_rows.specs.Systems.{account_at, bank, branch_r, found, teller_w}
+use Rattle.plan_laws.specs.Systems.{account_at, bank, branch_r, teller_w}
+use Rattle.change_law_rows.specs.Looks.{found}
 
 abbrev pub script : List Statement
 script =

@@ -5,7 +5,7 @@ use Rattle.change_script.specs.declared.script.Body.{Body}
 use Rattle.change_script.specs.declared.script.Body.TheVariants as bodies
 use Rattle.change_script.specs.declared.script.Script.{Script}
 use Rattle.change_script.specs.declared.script.ScriptLine.{ScriptLine}
-use Rattle.change_law_rows.specs.Systems.{line}
+use Rattle.plan_laws.specs.Systems.{line}
 
 -- `Line(3, K)` of the file, and nothing else
 abbrev pub elaborates : List ℕ → List ℕ → List ℤ → Graph → Type 0

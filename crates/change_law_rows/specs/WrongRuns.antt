@@ -9,7 +9,7 @@ use Rattle.change_law_rows.specs.Filled as filled
 use Rattle.change_law_rows.specs.Moved as moved
 use Rattle.change_law_rows.specs.RunOut as run_out
 use Rattle.change_law_rows.specs.Shown as shown
-use Rattle.change_law_rows.specs.Systems.{small}
+use Rattle.plan_laws.specs.Systems.{small}
 
 -- the first run ends with nothing, though nothing is at rest: no node does anything
 abbrev pub ended_idly : Report

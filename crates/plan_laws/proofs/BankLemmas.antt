@@ -39,31 +39,32 @@ use Rattle.commit_laws.proofs.EndingLaws.{graph_stays}
 use Rattle.plan_laws.proofs.PlannedLemmas.{link_if}
 use Rattle.plan_laws.specs.Commit.{is_one_of}
 use Rattle.plan_laws.specs.Committing.{MayCommit, made_in}
-use Rattle.plan_laws.specs.Rows.{a_goes_on, account, bank, bank_closed, branch, by_w, from_a, other_account, replacing, teller, to_b}
+use Rattle.plan_laws.specs.Rows.{a_goes_on, bank_closed, by_w, from_a, replacing, to_b}
+use Rattle.plan_laws.specs.Systems.{account_at, bank, branch_r, teller_w}
 
 module _ (b : ℕ) where
-  rise : PathsRise (bank b).nodes
+  rise : PathsRise (bank 3 b).nodes
   rise =
       let R = λ (m n : Node). slice_cmp nat_cmp m.path n.path ≡ Less in
-      AllPairs-cons R (account b) (other_account ∷ branch ∷ teller ∷ []) (All-from_recursion (R (account b)) (other_account ∷ branch ∷ teller ∷ []) (refl, (refl, (refl, tt))))
-      (AllPairs-cons R other_account (branch ∷ teller ∷ []) (All-from_recursion (R other_account) (branch ∷ teller ∷ []) (refl, (refl, tt)))
-      (AllPairs-cons R branch (teller ∷ []) (All-from_recursion (R branch) (teller ∷ []) (refl, tt))
-      (AllPairs-cons R teller [] (λ k d l. absurd (omega arith)) (λ i j d k l. absurd (omega arith)))))
+      AllPairs-cons R (account_at (codes "a") b) ((account_at (codes "b") 0) ∷ branch_r ∷ (teller_w 3) ∷ []) (All-from_recursion (R (account_at (codes "a") b)) ((account_at (codes "b") 0) ∷ branch_r ∷ (teller_w 3) ∷ []) (refl, (refl, (refl, tt))))
+      (AllPairs-cons R (account_at (codes "b") 0) (branch_r ∷ (teller_w 3) ∷ []) (All-from_recursion (R (account_at (codes "b") 0)) (branch_r ∷ (teller_w 3) ∷ []) (refl, (refl, tt)))
+      (AllPairs-cons R branch_r ((teller_w 3) ∷ []) (All-from_recursion (R branch_r) ((teller_w 3) ∷ []) (refl, tt))
+      (AllPairs-cons R (teller_w 3) [] (λ k d l. absurd (omega arith)) (λ i j d k l. absurd (omega arith)))))
 
-  within : All (IsLinkWithin (bank b).nodes) (bank b).links
-  within = All-from_recursion (IsLinkWithin (bank b).nodes) (bank b).links
+  within : All (IsLinkWithin (bank 3 b).nodes) (bank 3 b).links
+  within = All-from_recursion (IsLinkWithin (bank 3 b).nodes) (bank 3 b).links
       (record { begins = omega arith; ends = omega arith }, (record { begins = omega arith; ends = omega arith }, (record { begins = omega arith; ends = omega arith }, tt)))
 
-  link_cases : (k : Link) → Contains (bank b).links k → (from_a ≡ k) ⊎ ((to_b ≡ k) ⊎ (by_w ≡ k))
+  link_cases : (k : Link) → Contains (bank 3 b).links k → (from_a ≡ k) ⊎ ((to_b ≡ k) ⊎ (by_w ≡ k))
   link_cases k (zero, low, same) = inl same
   link_cases k (suc zero, low, same) = inr (inl same)
   link_cases k (suc (suc zero), low, same) = inr (inr same)
   link_cases k (suc (suc (suc n)), low, same) = absurd (omega (arith, low))
 
   -- links begin at the branch and at the teller
-  pub begins : (i r j x : ℕ) → IsLinked (bank b) i r j x → (2 ≡ i) ⊎ (3 ≡ i)
+  pub begins : (i r j x : ℕ) → IsLinked (bank 3 b) i r j x → (2 ≡ i) ⊎ (3 ≡ i)
   begins i r j x l =
-      let w = link_if (bank b) i r j x l in
+      let w = link_if (bank 3 b) i r j x l in
       ⊎_elim
       (λ (e : from_a ≡ w.link). inl (ap (λ (k : Link). k.from) e ∙ w.from))
       (λ (later : (to_b ≡ w.link) ⊎ (by_w ≡ w.link)). ⊎_elim
@@ -78,13 +79,13 @@ module _ (b : ℕ) where
   rank (suc (suc zero)) = 1
   rank (suc (suc (suc i))) = 0
 
-  falls_from : (i j : ℕ) (serves provide require : ℕ) → (graph_wiring (bank b)).Depends i serves (record { node = i; require = require }) → (graph_wiring (bank b)).Linked (record { node = i; require = require }) j provide → rank j < rank i
+  falls_from : (i j : ℕ) (serves provide require : ℕ) → (graph_wiring (bank 3 b)).Depends i serves (record { node = i; require = require }) → (graph_wiring (bank 3 b)).Linked (record { node = i; require = require }) j provide → rank j < rank i
   falls_from zero j zero x r d l = absurd (both_ways false refl d.1)
   falls_from zero j (suc s) x r d l = absurd (both_ways false refl d.1)
   falls_from (suc zero) j zero x r d l = absurd (both_ways false refl d.1)
   falls_from (suc zero) j (suc s) x r d l = absurd (both_ways false refl d.1)
   falls_from (suc (suc zero)) j s x r d l =
-      let w = link_if (bank b) 2 r j x l in
+      let w = link_if (bank 3 b) 2 r j x l in
       ⊎_elim
       (λ (e : from_a ≡ w.link). let one : 0 ≡ j = ap (λ (k : Link). k.to) e ∙ w.to in subst (λ k. rank k < 1) one (omega arith))
       (λ (later : (to_b ≡ w.link) ⊎ (by_w ≡ w.link)). ⊎_elim
@@ -95,32 +96,32 @@ module _ (b : ℕ) where
   falls_from (suc (suc (suc zero))) j (suc s) x r d l = absurd (both_ways false refl d.1)
   falls_from (suc (suc (suc (suc i)))) j s x r d l = absurd (both_ways false refl d.1)
 
-  ranks : Ranks (MayCall (graph_wiring (bank b)))
+  ranks : Ranks (MayCall (graph_wiring (bank 3 b)))
   ranks = record {
     rank = rank;
     falls = λ i j c.
         let at : c.port.node ≡ i = c.depends.0 in
         falls_from i j c.serves c.provide c.port.require
-        (refl, subst (λ k. IsTrue (depends_at (bank b).nodes i c.serves c.port.require)) at c.depends.1)
-        (subst (λ k. (graph_wiring (bank b)).Linked (record { node = k; require = c.port.require }) j c.provide) at c.linked);
+        (refl, subst (λ k. IsTrue (depends_at (bank 3 b).nodes i c.serves c.port.require)) at c.depends.1)
+        (subst (λ k. (graph_wiring (bank 3 b)).Linked (record { node = k; require = c.port.require }) j c.provide) at c.linked);
   }
 
-  pub bank_graph : IsGraph (bank b)
+  pub bank_graph : IsGraph (bank 3 b)
   bank_graph = record { paths_rise = rise; within = within; in_order = refl; few_nodes = omega arith; few_ports = omega arith }
 
-  pub bank_sound : b < 2 ^ 24 → Sound (bank b)
+  pub bank_sound : b < 2 ^ 24 → Sound (bank 3 b)
   bank_sound small = record {
     paths_rise = rise;
-    arguments = All-from_recursion HasItsArgument (bank b).nodes
+    arguments = All-from_recursion HasItsArgument (bank 3 b).nodes
         (record { present = refl; below = small }, (record { present = refl; below = omega arith }, (record { present = refl; below = tt }, (record { present = refl; below = omega arith }, tt))));
     within = within;
     in_order = refl;
-    no_cycle = acyclic_if_ranked (MayCall (graph_wiring (bank b))) ranks;
+    no_cycle = acyclic_if_ranked (MayCall (graph_wiring (bank 3 b))) ranks;
   }
 
 -- the two accounts differ, and all else is the same
 
-apart : (m n : ℕ) → (m ≡ n → ⊥) → ¬ Contains (bank n).nodes (account m)
+apart : (m n : ℕ) → (m ≡ n → ⊥) → ¬ Contains (bank 3 n).nodes (account_at (codes "a") m)
 apart m n other (zero, low, same) = other (arg_is (ap (λ (x : Node). x.arg) (sym same)))
   where
     arg_is : Some m ≡ Some n → m ≡ n
@@ -140,72 +141,72 @@ apart m n other (suc (suc (suc zero)), low, same) = path_is (ap (λ (x : Node). 
 apart m n other (suc (suc (suc (suc k))), low, same) = absurd (omega (arith, low))
 
 module _ (m n : ℕ) (other : m ≡ n → ⊥) where
-  gone : IsGone (bank m) (bank n) 0
-  gone = record { node = account m; here = refl; gone = apart m n other }
+  gone : IsGone (bank 3 m) (bank 3 n) 0
+  gone = record { node = account_at (codes "a") m; here = refl; gone = apart m n other }
 
-  gone_is : (i : ℕ) → IsGone (bank m) (bank n) i → 0 ≡ i
+  gone_is : (i : ℕ) → IsGone (bank 3 m) (bank 3 n) i → 0 ≡ i
   gone_is zero g = refl
-  gone_is (suc i) g = absurd (g.gone (Contains-at (bank n).nodes (suc i) g.node g.here))
+  gone_is (suc i) g = absurd (g.gone (Contains-at (bank 3 n).nodes (suc i) g.node g.here))
 
-  nodes_gone : GoneNodes (bank m) (bank n) (0 ∷ [])
+  nodes_gone : GoneNodes (bank 3 m) (bank 3 n) (0 ∷ [])
   nodes_gone = takes gone (skips (λ g. omega (arith, gone_is 1 g)) (skips (λ g. omega (arith, gone_is 2 g)) (skips (λ g. omega (arith, gone_is 3 g)) ends)))
 
-  link_gone : ¬ IsKeptLink (bank m) (bank n) from_a
+  link_gone : ¬ IsKeptLink (bank 3 m) (bank 3 n) from_a
   link_gone (l, there, same) =
-      let one : same.to.node ≡ account m = sym (node_is same.to.node same.to.here) in
-      apart m n other (subst (Contains (bank n).nodes) one (Contains-at (bank n).nodes l.to same.to.node same.to.there))
+      let one : same.to.node ≡ account_at (codes "a") m = sym (node_is same.to.node same.to.here) in
+      apart m n other (subst (Contains (bank 3 n).nodes) one (Contains-at (bank 3 n).nodes l.to same.to.node same.to.there))
     where
-      node_is : (x : Node) → slice_get (bank m).nodes 0 ≡ Some x → account m ≡ x
+      node_is : (x : Node) → slice_get (bank 3 m).nodes 0 ≡ Some x → account_at (codes "a") m ≡ x
       node_is x e = cc
 
-  stays : (k : Link) → Contains (bank n).links k → IsTwin (bank m) (bank n) k.from k.from → IsTwin (bank m) (bank n) k.to k.to → IsKeptLink (bank m) (bank n) k
+  stays : (k : Link) → Contains (bank 3 n).links k → IsTwin (bank 3 m) (bank 3 n) k.from k.from → IsTwin (bank 3 m) (bank 3 n) k.to k.to → IsKeptLink (bank 3 m) (bank 3 n) k
   stays k there from to = (k, there, record { from = from; require = refl; to = to; provide = refl })
 
-  links_gone : GoneLinks (bank m) (bank n) (from_a ∷ [])
+  links_gone : GoneLinks (bank 3 m) (bank 3 n) (from_a ∷ [])
   links_gone =
-      let b_twin : IsTwin (bank m) (bank n) 1 1 = record { node = other_account; here = refl; there = refl } in
-      let r_twin : IsTwin (bank m) (bank n) 2 2 = record { node = branch; here = refl; there = refl } in
-      let w_twin : IsTwin (bank m) (bank n) 3 3 = record { node = teller; here = refl; there = refl } in
+      let b_twin : IsTwin (bank 3 m) (bank 3 n) 1 1 = record { node = (account_at (codes "b") 0); here = refl; there = refl } in
+      let r_twin : IsTwin (bank 3 m) (bank 3 n) 2 2 = record { node = branch_r; here = refl; there = refl } in
+      let w_twin : IsTwin (bank 3 m) (bank 3 n) 3 3 = record { node = (teller_w 3); here = refl; there = refl } in
       takes link_gone (skips (λ lost. lost (stays to_b (1, omega arith, refl) r_twin b_twin)) (skips (λ lost. lost (stays by_w (2, omega arith, refl) w_twin r_twin)) ends))
 
-branch_touched : IsTouched (bank 100) (bank 7) 2
+branch_touched : IsTouched (bank 3 100) (bank 3 7) 2
 branch_touched = inr (record {
   twin = 2;
   require = 0;
-  stays = record { node = branch; here = refl; there = refl };
+  stays = record { node = branch_r; here = refl; there = refl };
   within = omega arith;
-  differs = λ same. apart 100 7 (λ e. omega (arith, e)) (subst (Contains (bank 7).nodes) (sym (node_is same.0.node same.0.here)) (Contains-at (bank 7).nodes 0 same.0.node same.0.there));
+  differs = λ same. apart 100 7 (λ e. omega (arith, e)) (subst (Contains (bank 3 7).nodes) (sym (node_is same.0.node same.0.here)) (Contains-at (bank 3 7).nodes 0 same.0.node same.0.there));
 })
   where
-    node_is : (x : Node) → slice_get (bank 100).nodes 0 ≡ Some x → account 100 ≡ x
+    node_is : (x : Node) → slice_get (bank 3 100).nodes 0 ≡ Some x → account_at (codes "a") 100 ≡ x
     node_is x e = cc
 
-frozen_if : (i : ℕ) → Frozen (bank 100) (bank 7) i → Contains (0 ∷ 2 ∷ 3 ∷ []) i
+frozen_if : (i : ℕ) → Frozen (bank 3 100) (bank 3 7) i → Contains (0 ∷ 2 ∷ 3 ∷ []) i
 frozen_if zero f = (0, omega arith, refl)
 frozen_if (suc zero) f = ⊎_elim
-    (λ (t : IsTouched (bank 100) (bank 7) 1). ⊎_elim
-    (λ (g : IsGone (bank 100) (bank 7) 1). absurd (omega (arith, gone_is 100 7 (λ e. omega (arith, e)) 1 g)))
-    (λ (h : HasNewTarget (bank 100) (bank 7) 1). let low = h.within in absurd (omega (arith, low))) t)
-    (λ (r : (n : ℕ) × (q : ℕ) × IsTouched (bank 100) (bank 7) n × Reach (graph_wiring (bank 100)) n (record { node = 1; require = q })).
-    let l = reach_linked (graph_wiring (bank 100)) r.0 (record { node = 1; require = r.1 }) r.3 in
+    (λ (t : IsTouched (bank 3 100) (bank 3 7) 1). ⊎_elim
+    (λ (g : IsGone (bank 3 100) (bank 3 7) 1). absurd (omega (arith, gone_is 100 7 (λ e. omega (arith, e)) 1 g)))
+    (λ (h : HasNewTarget (bank 3 100) (bank 3 7) 1). let low = h.within in absurd (omega (arith, low))) t)
+    (λ (r : (n : ℕ) × (q : ℕ) × IsTouched (bank 3 100) (bank 3 7) n × Reach (graph_wiring (bank 3 100)) n (record { node = 1; require = q })).
+    let l = reach_linked (graph_wiring (bank 3 100)) r.0 (record { node = 1; require = r.1 }) r.3 in
     ⊎_elim (λ (e : 2 ≡ 1). absurd (omega (arith, e))) (λ (e : 3 ≡ 1). absurd (omega (arith, e))) (begins 100 1 r.1 l.0 l.1 l.2)) f
 frozen_if (suc (suc zero)) f = (1, omega arith, refl)
 frozen_if (suc (suc (suc zero))) f = (2, omega arith, refl)
 frozen_if (suc (suc (suc (suc i)))) f = ⊎_elim
-    (λ (t : IsTouched (bank 100) (bank 7) (suc (suc (suc (suc i))))). ⊎_elim
-    (λ (g : IsGone (bank 100) (bank 7) (suc (suc (suc (suc i))))). absurd (cc (g.here)))
-    (λ (h : HasNewTarget (bank 100) (bank 7) (suc (suc (suc (suc i))))). let low = h.within in absurd (omega (arith, low))) t)
-    (λ (r : (n : ℕ) × (q : ℕ) × IsTouched (bank 100) (bank 7) n × Reach (graph_wiring (bank 100)) n (record { node = suc (suc (suc (suc i))); require = q })).
-    let l = reach_linked (graph_wiring (bank 100)) r.0 (record { node = suc (suc (suc (suc i))); require = r.1 }) r.3 in
+    (λ (t : IsTouched (bank 3 100) (bank 3 7) (suc (suc (suc (suc i))))). ⊎_elim
+    (λ (g : IsGone (bank 3 100) (bank 3 7) (suc (suc (suc (suc i))))). absurd (cc (g.here)))
+    (λ (h : HasNewTarget (bank 3 100) (bank 3 7) (suc (suc (suc (suc i))))). let low = h.within in absurd (omega (arith, low))) t)
+    (λ (r : (n : ℕ) × (q : ℕ) × IsTouched (bank 3 100) (bank 3 7) n × Reach (graph_wiring (bank 3 100)) n (record { node = suc (suc (suc (suc i))); require = q })).
+    let l = reach_linked (graph_wiring (bank 3 100)) r.0 (record { node = suc (suc (suc (suc i))); require = r.1 }) r.3 in
     ⊎_elim (λ (e : 2 ≡ suc (suc (suc (suc i)))). absurd (omega (arith, e))) (λ (e : 3 ≡ suc (suc (suc (suc i)))). absurd (omega (arith, e))) (begins 100 (suc (suc (suc (suc i)))) r.1 l.0 l.1 l.2)) f
 
-if_frozen : (i : ℕ) → Contains (0 ∷ 2 ∷ 3 ∷ []) i → Frozen (bank 100) (bank 7) i
-if_frozen i (zero, low, same) = subst (Frozen (bank 100) (bank 7)) same (inl (inl (gone 100 7 (λ e. omega (arith, e)))))
-if_frozen i (suc zero, low, same) = subst (Frozen (bank 100) (bank 7)) same (inl branch_touched)
-if_frozen i (suc (suc zero), low, same) = subst (Frozen (bank 100) (bank 7)) same (inr (2, 0, branch_touched, direct {x = 0} refl))
+if_frozen : (i : ℕ) → Contains (0 ∷ 2 ∷ 3 ∷ []) i → Frozen (bank 3 100) (bank 3 7) i
+if_frozen i (zero, low, same) = subst (Frozen (bank 3 100) (bank 3 7)) same (inl (inl (gone 100 7 (λ e. omega (arith, e)))))
+if_frozen i (suc zero, low, same) = subst (Frozen (bank 3 100) (bank 3 7)) same (inl branch_touched)
+if_frozen i (suc (suc zero), low, same) = subst (Frozen (bank 3 100) (bank 3 7)) same (inr (2, 0, branch_touched, direct {x = 0} refl))
 if_frozen i (suc (suc (suc k)), low, same) = absurd (omega (arith, low))
 
-steps : HasStepsBetween (bank 100) (bank 7) replacing
+steps : HasStepsBetween (bank 3 100) (bank 3 7) replacing
 steps = record {
   unlink = (from_a ∷ [], links_gone 100 7 (λ e. omega (arith, e)), refl);
   remove = nodes_gone 100 7 (λ e. omega (arith, e));
@@ -214,19 +215,19 @@ steps = record {
   freeze = λ i. (if_frozen i, frozen_if i);
 }
 
-shift_of : IsShift (bank 100) (bank 7) (a_goes_on ∷ []) (record { old = 0; new = 0 })
+shift_of : IsShift (bank 3 100) (bank 3 7) (a_goes_on ∷ []) (record { old = 0; new = 0 })
 shift_of = record {
   move = a_goes_on;
   there = (0, omega arith, refl);
   leads = record {
-    removed = record { node = account 100; here = refl; named = refl; gone = apart 100 7 (λ e. omega (arith, e)) };
-    created = record { node = account 7; here = refl; named = refl; gone = apart 7 100 (λ e. omega (arith, e)) };
+    removed = record { node = account_at (codes "a") 100; here = refl; named = refl; gone = apart 100 7 (λ e. omega (arith, e)) };
+    created = record { node = account_at (codes "a") 7; here = refl; named = refl; gone = apart 7 100 (λ e. omega (arith, e)) };
   };
 }
 
-shifts : IsShifts (bank 100) (bank 7) (a_goes_on ∷ []) (record { old = 0; new = 0 } ∷ [])
+shifts : IsShifts (bank 3 100) (bank 3 7) (a_goes_on ∷ []) (record { old = 0; new = 0 } ∷ [])
 shifts = record {
-  sound = λ s there. subst (IsShift (bank 100) (bank 7) (a_goes_on ∷ [])) (one s there) shift_of;
+  sound = λ s there. subst (IsShift (bank 3 100) (bank 3 7) (a_goes_on ∷ [])) (one s there) shift_of;
   complete = λ s is.
       let r = is.leads.removed in
       let c = is.leads.created in
@@ -245,12 +246,12 @@ rises zero low = omega arith
 rises (suc zero) low = omega arith
 rises (suc (suc k)) low = absurd (omega (arith, low))
 
-pub is_plan : IsPlanOf (bank 100) (bank 7) (a_goes_on ∷ []) replacing
+pub is_plan : IsPlanOf (bank 3 100) (bank 3 7) (a_goes_on ∷ []) replacing
 is_plan = record { steps = steps; moves = shifts; freeze_rises = rises }
 
-may_move : MayMoveAll (bank 100) (bank 7) (a_goes_on ∷ []) 1
+may_move : MayMoveAll (bank 3 100) (bank 3 7) (a_goes_on ∷ []) 1
 unfolding shift_of
-may_move zero m low at = subst (MayMove (bank 100) (bank 7) []) (move_is at) (record {
+may_move zero m low at = subst (MayMove (bank 3 100) (bank 3 7) []) (move_is at) (record {
   fit = record { source = 0; target = 0; leads = shift_of.leads; same_kind = refl };
   other_source = λ h. absurd (omega (arith, h.1));
   other_target = λ h. absurd (omega (arith, h.1));
@@ -260,7 +261,7 @@ may_move zero m low at = subst (MayMove (bank 100) (bank 7) []) (move_is at) (re
     move_is e = cc
 may_move (suc k) m low at = absurd (omega (arith, low))
 
-can_plan : CanPlan (bank 100) (bank 7) (a_goes_on ∷ []) (made_in (state_after bank_closed).config)
+can_plan : CanPlan (bank 3 100) (bank 3 7) (a_goes_on ∷ []) (made_in (state_after bank_closed).config)
 can_plan = record {
   may_move = may_move;
   nodes = 1;
@@ -273,13 +274,13 @@ runs : IsRun bank_closed
 unfolding has_no_cycle reaches
 runs = run_if bank_closed refl
 
-drained_at : (p : ℕ) → p < length (state_after bank_closed).config.gates → is_one_of (bank 100) replacing.freeze (state_after bank_closed).config (owner (state_after bank_closed).config p) ≡ true → is_drained (state_after bank_closed) p ≡ true
+drained_at : (p : ℕ) → p < length (state_after bank_closed).config.gates → is_one_of (bank 3 100) replacing.freeze (state_after bank_closed).config (owner (state_after bank_closed).config p) ≡ true → is_drained (state_after bank_closed) p ≡ true
 drained_at zero low h = refl
 drained_at (suc zero) low h = refl
 drained_at (suc (suc zero)) low h = refl
 drained_at (suc (suc (suc p))) low h = absurd (omega (arith, low))
 
-pub may_commit : MayCommit (bank 100) (bank 7) (a_goes_on ∷ []) replacing bank_closed
+pub may_commit : MayCommit (bank 3 100) (bank 3 7) (a_goes_on ∷ []) replacing bank_closed
 may_commit = record {
   old_graph = bank_graph 100;
   new_graph = bank_graph 7;
@@ -287,11 +288,11 @@ may_commit = record {
   is_plan = is_plan;
   can_plan = can_plan;
   run = runs;
-  graph = graph_stays (bank 100) (start_of (bank 100)) (Close 0 ∷ Close 1 ∷ Close 2 ∷ []) runs refl (graph_started (bank 100) (bank_sound 100 (omega arith)) (omega arith) (omega arith));
+  graph = graph_stays (bank 3 100) (start_of (bank 3 100)) (Close 0 ∷ Close 1 ∷ Close 2 ∷ []) runs refl (graph_started (bank 3 100) (bank_sound 100 (omega arith)) (omega arith) (omega arith));
   drained = drained_at;
 }
 
 -- the account that goes stands before, and isn't in the new graph
-pub no_part : ¬ IsPart (state_after bank_closed).config (bank 7)
+pub no_part : ¬ IsPart (state_after bank_closed).config (bank 3 7)
 no_part part = apart 100 7 (λ e. omega (arith, e))
-    (part.nodes 0 (account 100) (record { made = record { node = account 100; first_port = 0; from = None; live = true }; there = refl; live = refl; is_node = refl }))
+    (part.nodes 0 (account_at (codes "a") 100) (record { made = record { node = account_at (codes "a") 100; first_port = 0; from = None; live = true }; there = refl; live = refl; is_node = refl }))

@@ -24,7 +24,8 @@ use Rattle.quiescence_laws.specs.Drained.{is_drained}
 use Rattle.quiesce_core.proofs.RunLaws.{run_if}
 use Rattle.base.proofs.ContainsLaws.{Contains-at}
 use Rattle.plan_laws.specs.Commit.{commit_steps}
-use Rattle.plan_laws.specs.Rows.{all_closed, chain, direct_closed, first_map, linking, m_to_n, n_to_t, s_to_m, second_map, sink, source}
+use Rattle.plan_laws.specs.Rows.{all_closed, chain, direct_closed, linking, m_to_n, n_to_t, s_to_m, second_map, source}
+use Rattle.plan_laws.specs.Systems.{map_m, sink_t}
 use Rattle.plan_laws.proofs.PlannedLemmas.{link_if}
 
 -- the nodes are the same
@@ -53,7 +54,7 @@ new_link (l, there, same) =
     let here : second_map ≡ same.from.node = same_Some second_map same.from.node same.from.here in
     ⊎_elim
     (λ (e : m_to_n ≡ l).
-    let first : first_map ≡ same.from.node = same_Some first_map same.from.node (ap (λ (k : Link). slice_get (chain []).nodes k.from) e ∙ same.from.there) in
+    let first : (map_m 1) ≡ same.from.node = same_Some (map_m 1) same.from.node (ap (λ (k : Link). slice_get (chain []).nodes k.from) e ∙ same.from.there) in
     let args : 1 ≡ 2 = same_Some 1 2 (ap (λ (n : Node). n.arg) (first ∙ sym here)) in absurd (omega (arith, args)))
     (λ (e : s_to_m ≡ l).
     let third : source ≡ same.from.node = same_Some source same.from.node (ap (λ (k : Link). slice_get (chain []).nodes k.from) e ∙ same.from.there) in
@@ -88,10 +89,10 @@ frozen_if (suc (suc (suc i))) f = ⊎_elim
 
 steps : HasStepsBetween (chain []) (chain (n_to_t ∷ [])) linking
 steps =
-    let m_twin : IsTwin (chain []) (chain (n_to_t ∷ [])) 0 0 = record { node = first_map; here = refl; there = refl } in
+    let m_twin : IsTwin (chain []) (chain (n_to_t ∷ [])) 0 0 = record { node = (map_m 1); here = refl; there = refl } in
     let n_twin : IsTwin (chain []) (chain (n_to_t ∷ [])) 1 1 = record { node = second_map; here = refl; there = refl } in
     let s_twin : IsTwin (chain []) (chain (n_to_t ∷ [])) 2 2 = record { node = source; here = refl; there = refl } in
-    let m_back : IsTwin (chain (n_to_t ∷ [])) (chain []) 0 0 = record { node = first_map; here = refl; there = refl } in
+    let m_back : IsTwin (chain (n_to_t ∷ [])) (chain []) 0 0 = record { node = (map_m 1); here = refl; there = refl } in
     let n_back : IsTwin (chain (n_to_t ∷ [])) (chain []) 1 1 = record { node = second_map; here = refl; there = refl } in
     let s_back : IsTwin (chain (n_to_t ∷ [])) (chain []) 2 2 = record { node = source; here = refl; there = refl } in
     record {
@@ -145,27 +146,27 @@ m_stays : (twin require : ℕ) → IsTwin (chain []) (chain (n_to_t ∷ [])) 0 t
 m_stays zero zero is low differs = differs (record { node = second_map; here = refl; there = refl }, refl)
 m_stays zero (suc r) is low differs = omega (arith, low)
 m_stays (suc zero) r is low differs =
-    let args : Some 1 ≡ Some 2 = ap (λ (n : Node). n.arg) (same_Some first_map is.node is.here ∙ sym (same_Some second_map is.node is.there)) in
+    let args : Some 1 ≡ Some 2 = ap (λ (n : Node). n.arg) (same_Some (map_m 1) is.node is.here ∙ sym (same_Some second_map is.node is.there)) in
     let one : 1 ≡ 2 = same_Some 1 2 args in omega (arith, one)
 m_stays (suc (suc zero)) r is low differs =
-    let args : Some 1 ≡ Some 3 = ap (λ (n : Node). n.arg) (same_Some first_map is.node is.here ∙ sym (same_Some source is.node is.there)) in
+    let args : Some 1 ≡ Some 3 = ap (λ (n : Node). n.arg) (same_Some (map_m 1) is.node is.here ∙ sym (same_Some source is.node is.there)) in
     let one : 1 ≡ 3 = same_Some 1 3 args in omega (arith, one)
 m_stays (suc (suc (suc zero))) r is low differs =
-    let args : Some 1 ≡ None = ap (λ (n : Node). n.arg) (same_Some first_map is.node is.here ∙ sym (same_Some sink is.node is.there)) in absurd (cc args)
+    let args : Some 1 ≡ None = ap (λ (n : Node). n.arg) (same_Some (map_m 1) is.node is.here ∙ sym (same_Some sink_t is.node is.there)) in absurd (cc args)
 m_stays (suc (suc (suc (suc k)))) r is low differs = absurd (cc (is.there))
 
 s_stays : (twin require : ℕ) → IsTwin (chain []) (chain (n_to_t ∷ [])) 2 twin → require < 1
     → ¬ SameTarget (chain []) (chain (n_to_t ∷ [])) (target_of (chain []).links 2 require) (target_of (chain (n_to_t ∷ [])).links twin require) → ⊥
-s_stays (suc (suc zero)) zero is low differs = differs (record { node = first_map; here = refl; there = refl }, refl)
+s_stays (suc (suc zero)) zero is low differs = differs (record { node = (map_m 1); here = refl; there = refl }, refl)
 s_stays (suc (suc zero)) (suc r) is low differs = omega (arith, low)
 s_stays zero r is low differs =
-    let args : Some 3 ≡ Some 1 = ap (λ (n : Node). n.arg) (same_Some source is.node is.here ∙ sym (same_Some first_map is.node is.there)) in
+    let args : Some 3 ≡ Some 1 = ap (λ (n : Node). n.arg) (same_Some source is.node is.here ∙ sym (same_Some (map_m 1) is.node is.there)) in
     let one : 3 ≡ 1 = same_Some 3 1 args in omega (arith, one)
 s_stays (suc zero) r is low differs =
     let args : Some 3 ≡ Some 2 = ap (λ (n : Node). n.arg) (same_Some source is.node is.here ∙ sym (same_Some second_map is.node is.there)) in
     let one : 3 ≡ 2 = same_Some 3 2 args in omega (arith, one)
 s_stays (suc (suc (suc zero))) r is low differs =
-    let args : Some 3 ≡ None = ap (λ (n : Node). n.arg) (same_Some source is.node is.here ∙ sym (same_Some sink is.node is.there)) in absurd (cc args)
+    let args : Some 3 ≡ None = ap (λ (n : Node). n.arg) (same_Some source is.node is.here ∙ sym (same_Some sink_t is.node is.there)) in absurd (cc args)
 s_stays (suc (suc (suc (suc k)))) r is low differs = absurd (cc (is.there))
 
 touched_is : (n : ℕ) → IsTouched (chain []) (chain (n_to_t ∷ [])) n → 1 ≡ n

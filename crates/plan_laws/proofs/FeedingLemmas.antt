@@ -31,7 +31,8 @@ use Rattle.quiesce_core.proofs.RunLaws.{run_if}
 use Rattle.quiescence_laws.specs.Starts.{start_of}
 use Rattle.commit_laws.proofs.EndingLaws.{graph_stays}
 use Rattle.plan_laws.specs.Committing.{MayCommit, made_in}
-use Rattle.plan_laws.specs.Rows.{adding, feeding, feeding_busy, s_to_t, sink, source, spare}
+use Rattle.plan_laws.specs.Rows.{adding, feeding, feeding_busy, s_to_t, source}
+use Rattle.plan_laws.specs.Systems.{sink_t, sink_u}
 use Rattle.plan_laws.proofs.PlannedLemmas.{link_if}
 
 abbrev Below : Node → Node → Type 0
@@ -39,14 +40,14 @@ Below m n = slice_cmp nat_cmp m.path n.path ≡ Less
 
 two_rise : PathsRise (feeding []).nodes
 two_rise =
-    AllPairs-cons Below source (sink ∷ []) (All-from_recursion (Below source) (sink ∷ []) (refl, tt))
-    (AllPairs-cons Below sink [] (λ k d l. absurd (omega arith)) (λ i j d k l. absurd (omega arith)))
+    AllPairs-cons Below source (sink_t ∷ []) (All-from_recursion (Below source) (sink_t ∷ []) (refl, tt))
+    (AllPairs-cons Below sink_t [] (λ k d l. absurd (omega arith)) (λ i j d k l. absurd (omega arith)))
 
-three_rise : PathsRise (feeding (spare ∷ [])).nodes
+three_rise : PathsRise (feeding (sink_u ∷ [])).nodes
 three_rise =
-    AllPairs-cons Below source (sink ∷ spare ∷ []) (All-from_recursion (Below source) (sink ∷ spare ∷ []) (refl, (refl, tt)))
-    (AllPairs-cons Below sink (spare ∷ []) (All-from_recursion (Below sink) (spare ∷ []) (refl, tt))
-    (AllPairs-cons Below spare [] (λ k d l. absurd (omega arith)) (λ i j d k l. absurd (omega arith))))
+    AllPairs-cons Below source (sink_t ∷ sink_u ∷ []) (All-from_recursion (Below source) (sink_t ∷ sink_u ∷ []) (refl, (refl, tt)))
+    (AllPairs-cons Below sink_t (sink_u ∷ []) (All-from_recursion (Below sink_t) (sink_u ∷ []) (refl, tt))
+    (AllPairs-cons Below sink_u [] (λ k d l. absurd (omega arith)) (λ i j d k l. absurd (omega arith))))
 
 module _ (more_ : List Node) where
   within : All (IsLinkWithin (feeding more_).nodes) (feeding more_).links
@@ -88,17 +89,17 @@ module _ (more_ : List Node) where
 two_sound : Sound (feeding [])
 two_sound = sound_if [] two_rise (All-from_recursion HasItsArgument (feeding []).nodes (record { present = refl; below = omega arith }, (record { present = refl; below = tt }, tt))) refl
 
-three_sound : Sound (feeding (spare ∷ []))
-three_sound = sound_if (spare ∷ []) three_rise
-    (All-from_recursion HasItsArgument (feeding (spare ∷ [])).nodes (record { present = refl; below = omega arith }, (record { present = refl; below = tt }, (record { present = refl; below = tt }, tt)))) refl
+three_sound : Sound (feeding (sink_u ∷ []))
+three_sound = sound_if (sink_u ∷ []) three_rise
+    (All-from_recursion HasItsArgument (feeding (sink_u ∷ [])).nodes (record { present = refl; below = omega arith }, (record { present = refl; below = tt }, (record { present = refl; below = tt }, tt)))) refl
 
 two_graph : IsGraph (feeding [])
 two_graph = record { paths_rise = two_rise; within = within []; in_order = refl; few_nodes = omega arith; few_ports = omega arith }
 
-three_graph : IsGraph (feeding (spare ∷ []))
-three_graph = record { paths_rise = three_rise; within = within (spare ∷ []); in_order = refl; few_nodes = omega arith; few_ports = omega arith }
+three_graph : IsGraph (feeding (sink_u ∷ []))
+three_graph = record { paths_rise = three_rise; within = within (sink_u ∷ []); in_order = refl; few_nodes = omega arith; few_ports = omega arith }
 
-spare_is_new : ¬ Contains (feeding []).nodes spare
+spare_is_new : ¬ Contains (feeding []).nodes sink_u
 spare_is_new (zero, low, same) = let args : Some 3 ≡ None = ap (λ (n : Node). n.arg) same in absurd (cc args)
 spare_is_new (suc zero, low, same) = path_is (ap (λ (n : Node). n.path) same)
   where
@@ -106,49 +107,49 @@ spare_is_new (suc zero, low, same) = path_is (ap (λ (n : Node). n.path) same)
     path_is e = both_ways (bytes_eq (codes "t") (codes "u")) refl ((bytes_eq-Decides (codes "t") (codes "u")).1 e)
 spare_is_new (suc (suc k), low, same) = absurd (omega (arith, low))
 
-none_gone : (i : ℕ) → IsGone (feeding []) (feeding (spare ∷ [])) i → ⊥
-none_gone zero g = g.gone (Contains-at (feeding (spare ∷ [])).nodes 0 g.node g.here)
-none_gone (suc zero) g = g.gone (Contains-at (feeding (spare ∷ [])).nodes 1 g.node g.here)
+none_gone : (i : ℕ) → IsGone (feeding []) (feeding (sink_u ∷ [])) i → ⊥
+none_gone zero g = g.gone (Contains-at (feeding (sink_u ∷ [])).nodes 0 g.node g.here)
+none_gone (suc zero) g = g.gone (Contains-at (feeding (sink_u ∷ [])).nodes 1 g.node g.here)
 none_gone (suc (suc i)) g = absurd (cc (g.here))
 
 -- the source keeps its target
-s_keeps : (twin require : ℕ) → IsTwin (feeding []) (feeding (spare ∷ [])) 0 twin → require < 1
-    → ¬ SameTarget (feeding []) (feeding (spare ∷ [])) (target_of (feeding []).links 0 require) (target_of (feeding (spare ∷ [])).links twin require) → ⊥
-s_keeps zero zero is low differs = differs (record { node = sink; here = refl; there = refl }, refl)
+s_keeps : (twin require : ℕ) → IsTwin (feeding []) (feeding (sink_u ∷ [])) 0 twin → require < 1
+    → ¬ SameTarget (feeding []) (feeding (sink_u ∷ [])) (target_of (feeding []).links 0 require) (target_of (feeding (sink_u ∷ [])).links twin require) → ⊥
+s_keeps zero zero is low differs = differs (record { node = sink_t; here = refl; there = refl }, refl)
 s_keeps zero (suc r) is low differs = omega (arith, low)
 s_keeps (suc zero) r is low differs =
-    let args : Some 3 ≡ None = ap (λ (n : Node). n.arg) (same_Some source is.node is.here ∙ sym (same_Some sink is.node is.there)) in absurd (cc args)
+    let args : Some 3 ≡ None = ap (λ (n : Node). n.arg) (same_Some source is.node is.here ∙ sym (same_Some sink_t is.node is.there)) in absurd (cc args)
 s_keeps (suc (suc zero)) r is low differs =
-    let args : Some 3 ≡ None = ap (λ (n : Node). n.arg) (same_Some source is.node is.here ∙ sym (same_Some spare is.node is.there)) in absurd (cc args)
+    let args : Some 3 ≡ None = ap (λ (n : Node). n.arg) (same_Some source is.node is.here ∙ sym (same_Some sink_u is.node is.there)) in absurd (cc args)
 s_keeps (suc (suc (suc k))) r is low differs = absurd (cc (is.there))
 
-none_touched : (n : ℕ) → IsTouched (feeding []) (feeding (spare ∷ [])) n → ⊥
-none_touched n t = ⊎_elim (λ (g : IsGone (feeding []) (feeding (spare ∷ [])) n). none_gone n g) (λ (h : HasNewTarget (feeding []) (feeding (spare ∷ [])) n). new_target n h) t
+none_touched : (n : ℕ) → IsTouched (feeding []) (feeding (sink_u ∷ [])) n → ⊥
+none_touched n t = ⊎_elim (λ (g : IsGone (feeding []) (feeding (sink_u ∷ [])) n). none_gone n g) (λ (h : HasNewTarget (feeding []) (feeding (sink_u ∷ [])) n). new_target n h) t
   where
-    new_target : (n : ℕ) → HasNewTarget (feeding []) (feeding (spare ∷ [])) n → ⊥
+    new_target : (n : ℕ) → HasNewTarget (feeding []) (feeding (sink_u ∷ [])) n → ⊥
     new_target zero h = s_keeps h.twin h.require h.stays h.within h.differs
     new_target (suc zero) h = let low = h.within in omega (arith, low)
     new_target (suc (suc k)) h = let low = h.within in omega (arith, low)
 
-none_frozen : (i : ℕ) → Frozen (feeding []) (feeding (spare ∷ [])) i → ⊥
+none_frozen : (i : ℕ) → Frozen (feeding []) (feeding (sink_u ∷ [])) i → ⊥
 none_frozen i f = ⊎_elim
-    (λ (t : IsTouched (feeding []) (feeding (spare ∷ [])) i). none_touched i t)
-    (λ (r : (n : ℕ) × (q : ℕ) × IsTouched (feeding []) (feeding (spare ∷ [])) n × Reach (graph_wiring (feeding [])) n (record { node = i; require = q })). none_touched r.0 r.2) f
+    (λ (t : IsTouched (feeding []) (feeding (sink_u ∷ [])) i). none_touched i t)
+    (λ (r : (n : ℕ) × (q : ℕ) × IsTouched (feeding []) (feeding (sink_u ∷ [])) n × Reach (graph_wiring (feeding [])) n (record { node = i; require = q })). none_touched r.0 r.2) f
 
-steps : HasStepsBetween (feeding []) (feeding (spare ∷ [])) adding
+steps : HasStepsBetween (feeding []) (feeding (sink_u ∷ [])) adding
 steps = record {
   unlink = (
     [],
-    skips (λ lost. lost (s_to_t, (0, omega arith, refl), record { from = record { node = source; here = refl; there = refl }; require = refl; to = record { node = sink; here = refl; there = refl }; provide = refl })) ends,
+    skips (λ lost. lost (s_to_t, (0, omega arith, refl), record { from = record { node = source; here = refl; there = refl }; require = refl; to = record { node = sink_t; here = refl; there = refl }; provide = refl })) ends,
     refl,
   );
   remove = skips (none_gone 0) (skips (none_gone 1) ends);
-  create = skips (λ g. g.gone (Contains-at (feeding []).nodes 0 g.node g.here)) (skips (λ g. g.gone (Contains-at (feeding []).nodes 1 g.node g.here)) (takes (record { node = spare; here = refl; gone = spare_is_new }) ends));
-  link = skips (λ lost. lost (s_to_t, (0, omega arith, refl), record { from = record { node = source; here = refl; there = refl }; require = refl; to = record { node = sink; here = refl; there = refl }; provide = refl })) ends;
+  create = skips (λ g. g.gone (Contains-at (feeding []).nodes 0 g.node g.here)) (skips (λ g. g.gone (Contains-at (feeding []).nodes 1 g.node g.here)) (takes (record { node = sink_u; here = refl; gone = spare_is_new }) ends));
+  link = skips (λ lost. lost (s_to_t, (0, omega arith, refl), record { from = record { node = source; here = refl; there = refl }; require = refl; to = record { node = sink_t; here = refl; there = refl }; provide = refl })) ends;
   freeze = λ i. (λ there. absurd (omega (arith, there.1)), λ f. absurd (none_frozen i f));
 }
 
-is_plan : IsPlanOf (feeding []) (feeding (spare ∷ [])) [] adding
+is_plan : IsPlanOf (feeding []) (feeding (sink_u ∷ [])) [] adding
 is_plan = record {
   steps = steps;
   moves = record {
@@ -159,7 +160,7 @@ is_plan = record {
   freeze_rises = λ k low. absurd (omega (arith, low));
 }
 
-can_plan : CanPlan (feeding []) (feeding (spare ∷ [])) [] (made_in (state_after feeding_busy).config)
+can_plan : CanPlan (feeding []) (feeding (sink_u ∷ [])) [] (made_in (state_after feeding_busy).config)
 can_plan = record {
   may_move = λ k m low at. absurd (omega (arith, low));
   nodes = 1;
@@ -172,7 +173,7 @@ runs : IsRun feeding_busy
 unfolding has_no_cycle reaches
 runs = run_if feeding_busy refl
 
-pub busy_may_commit : MayCommit (feeding []) (feeding (spare ∷ [])) [] adding feeding_busy
+pub busy_may_commit : MayCommit (feeding []) (feeding (sink_u ∷ [])) [] adding feeding_busy
 busy_may_commit = record {
   old_graph = two_graph;
   new_graph = three_graph;

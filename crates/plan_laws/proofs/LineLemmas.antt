@@ -15,7 +15,8 @@ use Rattle.config_graph.specs.declared.node.Link.{Link}
 use Rattle.config_graph.specs.declared.node.Node.{Node}
 use Rattle.config_graph.proofs.WiringLaws.{reach_linked}
 use Rattle.base.proofs.ContainsLaws.{Contains-at}
-use Rattle.plan_laws.specs.Rows.{another_map, line, m_to_t, map_m, s_to_map, source}
+use Rattle.plan_laws.specs.Rows.{another_map, m_to_t, s_to_map, source}
+use Rattle.plan_laws.specs.Systems.{line, map_m}
 use Rattle.plan_laws.proofs.PlannedLemmas.{link_if}
 
 apart : (m n : ℕ) → (m ≡ n → ⊥) → ¬ Contains (line n).nodes (map_m m)

@@ -1,3 +1,4 @@
+pub mod Systems
 pub mod Commit
 pub mod Committing
 pub mod Rows

@@ -14,21 +14,22 @@ ghost use Rattle.quiescence_laws.specs.Starts.{start_of};
 ghost use Rattle.commit_laws.specs.Fitting.{IsPart};
 ghost use Rattle.plan_laws.specs.Commit.{commit_events, commit_steps};
 ghost use Rattle.plan_laws.specs.Committing.{MayCommit};
-ghost use Rattle.plan_laws.specs.Rows.{a_goes_on, account, account_at, all_closed, another_map, adding, bank, bank_closed, chain, crosswise, direct_closed, feeding, feeding_busy, first_accounts, line, line_closed, linking, map_m, n_to_t, next_accounts, replacing, spare};
+ghost use Rattle.plan_laws.specs.Rows.{a_goes_on, all_closed, another_map, adding, bank_closed, chain, crosswise, direct_closed, feeding, feeding_busy, first_accounts, line_closed, linking, n_to_t, next_accounts, replacing};
+ghost use Rattle.plan_laws.specs.Systems.{account_at, bank, line, map_m, sink_u};
 
 /// A change that may commit: a node is removed, one of its kind is made and takes its state over, and a port is
 /// unlinked and linked to it. What stands before is no part of the new graph.
 pub fn a_change_may_commit()
-    ensures may { MayCommit (bank 100) (bank 7) (a_goes_on ∷ []) replacing bank_closed }
-    ensures no_part { ¬ IsPart (state_after bank_closed).config (bank 7) }
-    ensures events { commit_events (bank 100) (bank 7) replacing (state_after bank_closed).config
-        ≡ Unlink 0 ∷ Remove 0 ∷ Make 4 (account 7) (Some 0) ∷ Link 0 4 0 ∷ Reopen 0 ∷ Reopen 1 ∷ Reopen 2 ∷ [] }
+    ensures may { MayCommit (bank 3 100) (bank 3 7) (a_goes_on ∷ []) replacing bank_closed }
+    ensures no_part { ¬ IsPart (state_after bank_closed).config (bank 3 7) }
+    ensures events { commit_events (bank 3 100) (bank 3 7) replacing (state_after bank_closed).config
+        ≡ Unlink 0 ∷ Remove 0 ∷ Make 4 (account_at (codes "a") 7) (Some 0) ∷ Link 0 4 0 ∷ Reopen 0 ∷ Reopen 1 ∷ Reopen 2 ∷ [] }
 {}
 
 /// A change may commit while nodes that it doesn't freeze work: a node is added, and the port of a source is open and
 /// has a transaction under way.
 pub fn others_may_work_meanwhile()
-    ensures may { MayCommit (feeding []) (feeding (spare ∷ [])) [] adding feeding_busy }
+    ensures may { MayCommit (feeding []) (feeding (sink_u ∷ [])) [] adding feeding_busy }
     ensures is_open { (gate (state_after feeding_busy).config 0).closed ≡ false }
     ensures is_busy { is_idle (exchange (state_after feeding_busy) 0).phase ≡ false }
 {}

@@ -1,14 +1,9 @@
--- The systems of the worked reports.
+-- The systems of worked changes and reports.
 use Rattle.std.specs.Prelude.{ℕ, zero, suc, List, [], ◌∷◌, codes, Some, None}
 use Rattle.config_graph.specs.Graph.{Graph}
 use Rattle.config_graph.specs.declared.kind.Kind.TheVariants as kind
 use Rattle.config_graph.specs.declared.node.Link.{Link}
 use Rattle.config_graph.specs.declared.node.Node.{Node}
-use Rattle.change_law.specs.Scene.{Seen}
-
--- a port that a look saw, with its serial
-abbrev pub found : ℕ → ℕ → Seen
-found p k = record { port = p; serial = k }
 
 -- the link of node i's requirement r to the one provision of node j
 abbrev pub leads : ℕ → ℕ → ℕ → Link
