@@ -3,6 +3,7 @@
 use Rattle.std.specs.Prelude.{ℕ, zero, suc, List, Option, Some, None, option_map, option_and_then}
 use Rattle.std.specs.Option.{option_map_or}
 use Rattle.component_trait.specs.Fold.{fold_from}
+use Rattle.component_trait.specs.Making.{argument_or_0}
 use Rattle.component_trait.specs.States.{Kept, NodeState, at_rest}
 use Rattle.component_trait.specs.Tables.{opening}
 use Rattle.quiesce_core.specs.Runs.{done_by, state_after}
@@ -11,7 +12,7 @@ use Rattle.quiesce_core.specs.declared.event.Event.{Event}
 use Rattle.quiesce_core.specs.declared.state.Slot.{Slot}
 
 abbrev pub argument_of : Slot → ℕ
-argument_of m = option_map_or (λ a. a) m.node.arg 0
+argument_of m = argument_or_0 m.node.arg
 
 -- the fold of these events of a node that opens so
 abbrev pub fold_at : Slot → List Event → Kept → Option NodeState

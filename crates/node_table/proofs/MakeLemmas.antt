@@ -15,11 +15,12 @@ use Rattle.quiesce_core.specs.declared.event.Event.TheVariants.{Make}
 use Rattle.quiesce_core.specs.declared.known.Known.{Known}
 use Rattle.quiesce_core.specs.declared.state.Slot.{Slot}
 use Rattle.quiesce_core.proofs.InductionLaws.{IsNext}
+use Rattle.component_trait.specs.Making.{argument_or_0}
 use Rattle.port_gate.specs.Core.{FitsCore}
 use Rattle.port_gate.proofs.SeatLaws.{new_seats_fit}
 use Rattle.node_table.specs.Entries.{Entry, Member, NodeSeen, gone, here, line_of}
 use Rattle.node_table.specs.Holding.{HoldsIn, IsGone, IsHere}
-use Rattle.node_table.specs.Lines.{IsPast, argument, behind, first_of_line, member}
+use Rattle.node_table.specs.Lines.{IsPast, behind, first_of_line, member}
 use Rattle.node_table.specs.declared.handed.Handed.{Handed}
 use Rattle.node_table.proofs.ChangeLemmas.{gone_then, here_same, run_then, step_there}
 use Rattle.node_table.proofs.Keeping.{config_then, here_then, next_of, state_then}
@@ -244,7 +245,7 @@ holds_made_from s t nodes ends es node k h st old x at_k f past_is g heir_is lin
     member_is =
         ap (λ i. record { slot = k; first = i; arg = old.state.arg; log = old.log }) still_k.first
         ∙ ap (λ a. record { slot = k; first = still_k.made.first_port; arg = a; log = old.log }) still_k.arg
-        ∙ ap (λ o. record { slot = k; first = still_k.made.first_port; arg = argument still_k.made; log = o }) still_k.log
+        ∙ ap (λ o. record { slot = k; first = still_k.made.first_port; arg = argument_or_0 still_k.made.node.arg; log = o }) still_k.log
 
     past_then_ : IsPast (es ++ Make n' node (Some k) ∷ []) n' x.past
     past_then_ =

@@ -12,7 +12,7 @@ use Rattle.config_graph.specs.declared.TheConstants.{MAX_NODES, MAX_PORTS}
 use Rattle.config_graph.specs.declared.kind.Kind.{Kind}
 use Rattle.config_graph.specs.declared.kind.Kind.TheVariants as kind
 use Rattle.config_graph.specs.declared.node.Node.{Node}
-use Rattle.component_trait.specs.Making.{handed_over, new_node}
+use Rattle.component_trait.specs.Making.{handed_over, new_node, argument_or_0}
 use Rattle.component_trait.specs.States.{NodeState, at_rest}
 use Rattle.quiesce_core.specs.Legal.{CanMake}
 use Rattle.quiesce_core.specs.Rules.{denial, has_its_argument, is_kind, is_path_taken, is_value, was_moved}
@@ -24,7 +24,7 @@ use Rattle.quiesce_core.proofs.LegalLaws.{legal}
 use Rattle.port_gate.specs.Seats.{IsWithinLimits}
 use Rattle.state_handover.specs.Making.{FitsKind}
 use Rattle.state_handover.specs.declared.any_node.AnyNode.{AnyNode}
-use Rattle.turns.specs.World.{World, argument, with_event}
+use Rattle.turns.specs.World.{World, with_event}
 use Rattle.node_table.specs.Entries.{Entry, Member, NodeSeen, gone, here, line_of}
 use Rattle.node_table.specs.Holding.{IsHere}
 use Rattle.node_table.specs.Seen.{is_node, seen}
@@ -160,8 +160,8 @@ module _ (S : AnyNode → NodeState) (s t : State) (xs xs' : List Held) (ends en
       let all =
       shows_made s t nodes (mid ++ here x ∷ []) ends (set (ends ++ n ∷ []) (line_of y) n) tells w n node (Some k) h step' held_ x h.holds.made (length-append mid (here x ∷ []) ∙ ap (λ i. i + 1) (length-set nodes k (gone g)))
       (λ j z is. ⊎_elim (λ (there : slice_get mid j ≡ Some (here z)). inl (was_there k g within j z there)) (λ (last : (j ≡ n) × (x ≡ z)). inr last) (there_or_last mid x n count j z is))
-      (ap (option_map (λ (a : NodeState). at_rest node.kind (argument node) a.kept)) (h.nodes_shown k y at_entry).state
-      ∙ ap Some (ap (λ j. at_rest j (argument node) y.state.kept) (sym kind_is) ∙ sym state_is))
+      (ap (option_map (λ (a : NodeState). at_rest node.kind (argument_or_0 node.arg) a.kept)) (h.nodes_shown k y at_entry).state
+      ∙ ap Some (ap (λ j. at_rest j (argument_or_0 node.arg) y.state.kept) (sym kind_is) ∙ sym state_is))
       (ap (λ (a : NodeState). a.kind) state_is ∙ kind_is) waiting in
       shows_same t t' (mid ++ here x ∷ []) (map (seen S) xs') (set (ends ++ n ∷ []) (line_of y) n) ends' tells tells' (with_event w (Make (length w.machine.config.slots) node (Some k)))
       (subst (λ i. ShowsIn t (mid ++ here x ∷ []) (set (ends ++ n ∷ []) (line_of y) n) tells (with_event w (Make i node (Some k)))) event_at all) t_is

@@ -5,8 +5,9 @@ use Rattle.quiesce_core.specs.Runs.{IsRun, done_by, state_after}
 use Rattle.quiesce_core.specs.State.{State, slot}
 use Rattle.quiesce_core.specs.declared.event.Event.{Event}
 use Rattle.quiesce_core.specs.declared.state.Slot.{Slot}
+use Rattle.component_trait.specs.Making.{argument_or_0}
 use Rattle.node_table.specs.Entries.{Entry, Member, NodeSeen, gone, here, line_of}
-use Rattle.node_table.specs.Lines.{IsPast, argument}
+use Rattle.node_table.specs.Lines.{IsPast}
 use Rattle.node_table.specs.declared.handed.Handed.{Handed}
 
 -- The node is the one that was made in slot n, and its log is all that it did in the run; before it stand the nodes from which its state
@@ -17,7 +18,7 @@ pub record IsHere (es : List Event) (n : ℕ) (x : NodeSeen) : Type 0 where
   pub place : x.slot ≡ n
   pub first : x.first ≡ made.first_port
   pub kind : x.state.kind ≡ made.node.kind
-  pub arg : x.state.arg ≡ argument made
+  pub arg : x.state.arg ≡ argument_or_0 made.node.arg
   pub log : x.log ≡ done_by n es
   pub past : IsPast es n x.past
   pub fits : made.live ≡ true → FitsCore (state_after es) n x.known

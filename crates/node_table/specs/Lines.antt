@@ -1,19 +1,15 @@
 -- The line of a node: the earlier nodes from which its state was handed on, the earliest first, by the configuration of a run.
 use Rattle.std.specs.Prelude.{◌≡◌, ℕ, ◌<◌, List, [], ◌∷◌, ◌++◌, Some, None}
-use Rattle.std.specs.Option.{option_map_or}
+use Rattle.component_trait.specs.Making.{argument_or_0}
 use Rattle.quiesce_core.specs.Runs.{done_by, state_after}
 use Rattle.quiesce_core.specs.State.{slot}
 use Rattle.quiesce_core.specs.declared.event.Event.{Event}
 use Rattle.quiesce_core.specs.declared.state.Slot.{Slot}
 use Rattle.node_table.specs.Entries.{Member}
 
--- the argument of a node, and 0 where its kind has none
-abbrev pub argument : Slot → ℕ
-argument m = option_map_or (λ a. a) m.node.arg 0
-
 -- a node that was made as this slot says, as a member of a line
 abbrev pub member : List Event → ℕ → Slot → Member
-member es n m = record { slot = n; first = m.first_port; arg = argument m; log = done_by n es }
+member es n m = record { slot = n; first = m.first_port; arg = argument_or_0 m.node.arg; log = done_by n es }
 
 -- the nodes before node n in its line
 pub data IsPast (es : List Event) : ℕ → List Member → Type 0 where

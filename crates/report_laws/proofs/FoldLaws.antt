@@ -30,10 +30,11 @@ use Rattle.quiesce_core.proofs.SourceLaws.{sources_are_gone}
 use Rattle.turns.proofs.TurnLaws.{turns_do}
 use Rattle.turns.specs.Hints.{after_move, without_hints}
 use Rattle.turns.specs.Turn.{turn}
-use Rattle.turns.specs.World.{World, argument, first_port, opened, state_of, with_event, with_event_of}
+use Rattle.turns.specs.World.{World, first_port, opened, state_of, with_event, with_event_of}
 use Rattle.turn_laws.specs.Reached.{IsReached}
 use Rattle.turn_laws.proofs.ReachedLaws.{HoldsIn, TurnGoesOn, holds_where_reached, turn_goes_on}
 use Rattle.change_law.specs.Opening.{argument_of, fold_at, fold_of_node, fold_within}
+use Rattle.component_trait.specs.Making.{argument_or_0}
 
 -- a slot as it was before an event that makes none
 record WasSlot (c : Configuration) (n : ℕ) (m : Slot) : Type 0 where
@@ -178,7 +179,7 @@ fresh_come : (node : Node) (first : ℕ) (f : ℕ → Option NodeState) (w : Wor
 fresh_come node first f w None same = refl
 fresh_come node first f w (Some k) same = by (state_of w k) ∙ ap (λ o. option_and_then (fold_at (record { node = node; first_port = first; from = Some k; live = true }) []) (option_map (λ (s : NodeState). s.kept) o)) (sym (same k refl))
   where
-    by : (o : Option NodeState) → option_map (λ (s : NodeState). at_rest node.kind (argument node) s.kept) o
+    by : (o : Option NodeState) → option_map (λ (s : NodeState). at_rest node.kind (argument_or_0 node.arg) s.kept) o
         ≡ option_and_then (fold_at (record { node = node; first_port = first; from = Some k; live = true }) []) (option_map (λ (s : NodeState). s.kept) o)
     by None = refl
     by (Some s) = refl

@@ -32,10 +32,11 @@ use Rattle.base.proofs.OptionLaws.{map_or_at, map_or_true}
 use Rattle.quiesce_core.proofs.KnownLaws.{nodes_know_by_index}
 use Rattle.quiesce_core.proofs.LegalLaws.{allowed, legal}
 use Rattle.quiesce_core.proofs.RunLaws.{changes_are_of_no_node, done_by_more, node_events_keep_the_configuration, nodes_know, runs_are_consistent, runs_are_well_formed, runs_grow, state_more}
+use Rattle.component_trait.specs.Making.{argument_or_0}
 use Rattle.turns.proofs.TurnLaws.{posts_keep, turns_do}
 use Rattle.turns.specs.Hints.{after_move, without_hints}
 use Rattle.turns.specs.Turn.{move_of, post_waiting, turn, turn_in}
-use Rattle.turns.specs.World.{World, argument, first_port, inbox, opened, state_of, waiting_of, with_event, with_event_of}
+use Rattle.turns.specs.World.{World, first_port, inbox, opened, state_of, waiting_of, with_event, with_event_of}
 use Rattle.turn_laws.specs.Agreement.{Agrees, IsSmall, ports_next}
 use Rattle.turn_laws.specs.Placed.{GoesOn, IsPlaced}
 use Rattle.turn_laws.specs.Reached.{IsReached}
@@ -189,14 +190,14 @@ fresh_holds first k a kept small items =
 opened_holds : (w : World) (n first : ℕ) (node : Node) (from : Option ℕ) → Holds w.folds w.events → Legal (state_after w.events) (Make n node from) → NodeHolds first node.kind (opened w node from) []
 opened_holds w n first node None h l =
     let its = (and_parts (not (is_path_taken (state_after w.events).config node.path)) (has_its_argument node) l.new_path).1 in
-    fresh_holds first node.kind (argument node) (opening node.kind (argument node)) (argument_small (is_some (row node.kind).arg) node.arg its) (opening_small node.kind (argument node))
+    fresh_holds first node.kind (argument_or_0 node.arg) (opening node.kind (argument_or_0 node.arg)) (argument_small (is_some (row node.kind).arg) node.arg its) (opening_small node.kind (argument_or_0 node.arg))
 opened_holds w n first node (Some k) h l =
     let its = (and_parts (not (is_path_taken (state_after w.events).config node.path)) (has_its_argument node) l.new_path).1 in
     let can = (and_parts (option_map_or (λ (m : Slot). not m.live && is_kind m.node.kind node.kind) (slot (state_after w.events).config k) false) (not (was_moved (state_after w.events).config k)) l.moves).0 in
     let m = map_or_true (λ (m : Slot). not m.live && is_kind m.node.kind node.kind) (slot (state_after w.events).config k) can in
     let old = h.nodes k m.0 m.1 in
-    subst (λ o. NodeHolds first node.kind o []) (sym (ap (option_map (λ (s : NodeState). at_rest node.kind (argument node) s.kept)) old.is))
-    (fresh_holds first node.kind (argument node) old.state.kept (argument_small (is_some (row node.kind).arg) node.arg its) old.small.items)
+    subst (λ o. NodeHolds first node.kind o []) (sym (ap (option_map (λ (s : NodeState). at_rest node.kind (argument_or_0 node.arg) s.kept)) old.is))
+    (fresh_holds first node.kind (argument_or_0 node.arg) old.state.kept (argument_small (is_some (row node.kind).arg) node.arg its) old.small.items)
 
 holds_after_make : (w : World) (n : ℕ) (node : Node) (from : Option ℕ) → Holds w.folds w.events → denial (state_after w.events) (Make n node from) ≡ None
     → Holds (w.folds ++ opened w node from ∷ []) (w.events ++ Make n node from ∷ [])

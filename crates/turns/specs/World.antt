@@ -6,8 +6,8 @@ use Rattle.std.specs.Option.{option_map_or}
 use Rattle.config_graph.specs.Kinds.{row}
 use Rattle.config_graph.specs.declared.node.Node.{Node}
 use Rattle.component_trait.specs.Fold.{fold_next}
-use Rattle.component_trait.specs.States.{NodeState, at_rest}
-use Rattle.component_trait.specs.Tables.{opening}
+use Rattle.component_trait.specs.Making.{handed_over, new_node}
+use Rattle.component_trait.specs.States.{NodeState}
 use Rattle.quiesce_core.specs.Effect.{effect}
 use Rattle.quiesce_core.specs.State.{State, empty, slot}
 use Rattle.quiesce_core.specs.declared.event.Event.{Event}
@@ -48,13 +48,10 @@ with_event_of w n e =
       events = w.events ++ e ∷ [];
     }
 
-abbrev pub argument : Node → ℕ
-argument node = option_map_or (λ a. a) node.arg 0
-
 -- what a node opens with: the state of its kind and argument, or what the node in slot k keeps, with the new argument
 abbrev pub opened : World → Node → Option ℕ → Option NodeState
-opened w node None = Some (at_rest node.kind (argument node) (opening node.kind (argument node)))
-opened w node (Some k) = option_map (λ (s : NodeState). at_rest node.kind (argument node) s.kept) (state_of w k)
+opened w node None = Some (new_node node.kind node.arg)
+opened w node (Some k) = option_map (λ (s : NodeState). handed_over node.kind node.arg s.kept) (state_of w k)
 
 -- the change did this event: a node that it makes has an empty inbox, and no hint of it waits
 abbrev pub with_event : World → Event → World
