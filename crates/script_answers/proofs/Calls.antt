@@ -10,12 +10,12 @@ use Rattle.change_law.specs.Statements.{Statement, start, change}
 use Rattle.change_plan.specs.Refusals.{CreatesSoMany}
 use Rattle.change_plan.specs.Room.{HasRoomFor}
 use Rattle.change_plan.proofs.RoomLaws.{one_wanted}
-use Rattle.script_steps.specs.Asked.{Above, CanChange, CanDoAll, after_change, after_start, statement_of, statements_of}
+use Rattle.script_steps.specs.Asked.{Above, CanChange, CanDoAll, after_change, after_start, statement_of, statements_of, graph_behind, made_with_change}
 use Rattle.script_steps.specs.declared.steps.Replacement.{Replacement}
 use Rattle.script_steps.specs.declared.steps.Start.{Start}
 use Rattle.script_steps.specs.declared.steps.Step.{Step}
 use Rattle.script_steps.specs.declared.steps.Step.TheVariants as steps
-use Rattle.script_answers.specs.Ways.{CanFollow, IsAsked, IsNoChange, Stands, graph_behind, last_graph, made_with_change, made_with_graph}
+use Rattle.script_answers.specs.Ways.{CanFollow, HasAsked, IsNoChange, IsAskedSoFar, last_graph, made_with_graph}
 
 -- the graph behind one step more
 graph_behind_change : (g : Graph) (xs : List Step) (c : Replacement) → last_graph g (xs ++ steps.Change c ∷ []) ≡ c.graph
@@ -43,11 +43,11 @@ said_behind s xs step said are =
     ap (λ ys. ys ++ statement_of step ∷ []) are ∙ ap (λ ys. start s.name s.args s.graph ∷ ys) (sym (map-append statement_of xs (step ∷ [])))
 
 -- a start
-pub begins : (s : Start) (xs : List Step) (made : Made) (said : List Statement) (graphs : List Graph) → Sound s.graph → HasRoomFor made s.graph → Stands None xs made said graphs
-    → Stands (Some s) xs (made_with_graph made s.graph) (said ++ start s.name s.args s.graph ∷ []) (s.graph ∷ graphs)
+pub begins : (s : Start) (xs : List Step) (made : Made) (said : List Statement) (graphs : List Graph) → Sound s.graph → HasRoomFor made s.graph → IsAskedSoFar None xs made said graphs
+    → IsAskedSoFar (Some s) xs (made_with_graph made s.graph) (said ++ start s.name s.args s.graph ∷ []) (s.graph ∷ graphs)
 begins s xs made said graphs sound room before =
-    subst (λ ys. IsAsked s ys (made_with_graph made s.graph) (said ++ start s.name s.args s.graph ∷ []) (s.graph ∷ graphs)) (sym before.0)
-    (subst (λ m. IsAsked s [] (made_with_graph m s.graph) (said ++ start s.name s.args s.graph ∷ []) (s.graph ∷ graphs)) (sym before.1)
+    subst (λ ys. HasAsked s ys (made_with_graph made s.graph) (said ++ start s.name s.args s.graph ∷ []) (s.graph ∷ graphs)) (sym before.0)
+    (subst (λ m. HasAsked s [] (made_with_graph m s.graph) (said ++ start s.name s.args s.graph ∷ []) (s.graph ∷ graphs)) (sym before.1)
     (record {
       may = record { can_start = record { sound = sound; room = subst (λ m. HasRoomFor m s.graph) before.1 room }; can_do = λ more_ can. can };
       said_are = ap (λ ys. ys ++ start s.name s.args s.graph ∷ []) before.2;
@@ -73,8 +73,8 @@ module _ (s : Start) (xs : List Step) (made : Made) (c : Replacement) where
       (can_do (steps.Change c ∷ more_) (w, subst (λ a. CanDoAll a more_) same can))
 
 pub goes_on : (o : Option Start) (xs : List Step) (made : Made) (said : List Statement) (graphs : List Graph) (c : Replacement) → IsSome o
-    → IfSome o (λ s. CanFollow (last_graph s.graph xs) made c) → IsGraph c.graph → Stands o xs made said graphs
-    → Stands o (xs ++ steps.Change c ∷ []) (made_with_change made c) (said ++ change c.name c.args c.graph c.within c.moves ∷ []) (c.graph ∷ graphs)
+    → IfSome o (λ s. CanFollow (last_graph s.graph xs) made c) → IsGraph c.graph → IsAskedSoFar o xs made said graphs
+    → IsAskedSoFar o (xs ++ steps.Change c ∷ []) (made_with_change made c) (said ++ change c.name c.args c.graph c.within c.moves ∷ []) (c.graph ∷ graphs)
 goes_on None xs made said graphs c some f is_graph a = absurd (cc some)
 goes_on (Some s) xs made said graphs c some f is_graph a = record {
   may = record { can_start = a.may.can_start; can_do = change_may s xs made c f is_graph a.may.can_do };
@@ -84,8 +84,8 @@ goes_on (Some s) xs made said graphs c some f is_graph a = record {
 }
 
 -- what the run does of itself
-pub does_more : (o : Option Start) (xs : List Step) (made : Made) (said : List Statement) (graphs : List Graph) (step : Step) → IsSome o → IsNoChange step → Stands o xs made said graphs
-    → Stands o (xs ++ step ∷ []) made (said ++ statement_of step ∷ []) graphs
+pub does_more : (o : Option Start) (xs : List Step) (made : Made) (said : List Statement) (graphs : List Graph) (step : Step) → IsSome o → IsNoChange step → IsAskedSoFar o xs made said graphs
+    → IsAskedSoFar o (xs ++ step ∷ []) made (said ++ statement_of step ∷ []) graphs
 does_more None xs made said graphs step some none a = absurd (cc some)
 does_more (Some s) xs made said graphs step some none a = record {
   may = record {

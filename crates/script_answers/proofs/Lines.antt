@@ -28,11 +28,11 @@ use Rattle.file_answers.specs.Refusals.{IsRefusalFor}
 use Rattle.file_answers.specs.declared.answer.Answer.{Answer}
 use Rattle.script_answers.specs.Calls.{LeadsToChange, LeadsToStart}
 use Rattle.script_answers.specs.Leading.{LeadOn, Marks, MarksOnward}
-use Rattle.script_answers.specs.Ways.{CanFollow, HasAdded, HasDescribed, IsAt, IsNoChange, Stands, last_graph, made_with_change, made_with_graph, with_start}
+use Rattle.script_answers.specs.Ways.{CanFollow, HasAdded, HasDescribed, IsAt, IsNoChange, IsAskedSoFar, last_graph, made_with_graph, with_start}
 use Rattle.script_answers.specs.declared.way.Way.{Way}
 use Rattle.script_answers.proofs.Calls.{begins, does_more, goes_on}
 use Rattle.script_answers.proofs.Planning.{room_to_create}
-use Rattle.script_steps.specs.Asked.{statement_of}
+use Rattle.script_steps.specs.Asked.{statement_of, made_with_change}
 use Rattle.script_steps.specs.declared.steps.Replacement.{Replacement}
 use Rattle.script_steps.specs.declared.steps.Start.{Start}
 use Rattle.script_steps.specs.declared.steps.Step.{Step}
@@ -54,9 +54,9 @@ used_at way next p file d at has = record {
   used_is = ap (option_map of_checked.description) (sym has.used_is);
   made_is = at.made_is ∙ sym has.made_is;
   stands =
-      subst (λ o. Stands o next.steps.items next.made p.statements p.graphs) (sym has.start_is)
-      (subst (λ (v : Vec Step). Stands way.start v.items next.made p.statements p.graphs) (sym has.steps_are)
-      (subst (λ m. Stands way.start way.steps.items m p.statements p.graphs) (sym has.made_is) at.stands));
+      subst (λ o. IsAskedSoFar o next.steps.items next.made p.statements p.graphs) (sym has.start_is)
+      (subst (λ (v : Vec Step). IsAskedSoFar way.start v.items next.made p.statements p.graphs) (sym has.steps_are)
+      (subst (λ m. IsAskedSoFar way.start way.steps.items m p.statements p.graphs) (sym has.made_is) at.stands));
 }
 
 pub used_leads : (way next : Way) (p : Progress) (file bytes : List ℕ) (d : Checked) → IsAt way p → HasDescribed way file d next
@@ -82,9 +82,9 @@ started way p s name args none_ sound room leads at =
         used_is = at.used_is;
         made_is = ap (λ m. made_with_graph m s.graph) at.made_is;
         stands =
-            subst (λ n. Stands (Some s) way.steps.items (made_with_graph way.made s.graph) (p.statements ++ start n args s.graph ∷ []) (s.graph ∷ p.graphs)) leads.name_is
-            (subst (λ xs. Stands (Some s) way.steps.items (made_with_graph way.made s.graph) (p.statements ++ start s.name xs s.graph ∷ []) (s.graph ∷ p.graphs)) leads.args_are
-            (begins s way.steps.items way.made p.statements p.graphs sound room (subst (λ o. Stands o way.steps.items way.made p.statements p.graphs) none_ at.stands)));
+            subst (λ n. IsAskedSoFar (Some s) way.steps.items (made_with_graph way.made s.graph) (p.statements ++ start n args s.graph ∷ []) (s.graph ∷ p.graphs)) leads.name_is
+            (subst (λ xs. IsAskedSoFar (Some s) way.steps.items (made_with_graph way.made s.graph) (p.statements ++ start s.name xs s.graph ∷ []) (s.graph ∷ p.graphs)) leads.args_are
+            (begins s way.steps.items way.made p.statements p.graphs sound room (subst (λ o. IsAskedSoFar o way.steps.items way.made p.statements p.graphs) none_ at.stands)));
       },
       λ rest more_ answer follows. gives q more_ answer leads.leads follows,
     )
@@ -94,14 +94,14 @@ start_marks way s name args = record { described = or_false (is_some way.used); 
 
 -- a step was added
 added_at : (way next : Way) (step : Step) (p q : Progress) → HasAdded way step next.made next → q.file ≡ p.file → q.used ≡ p.used → IsAt way p → q.made ≡ next.made
-    → Stands way.start (way.steps.items ++ step ∷ []) next.made q.statements q.graphs → IsAt next q
+    → IsAskedSoFar way.start (way.steps.items ++ step ∷ []) next.made q.statements q.graphs → IsAt next q
 added_at way next step p q has file_same used_same at made_is stands = record {
   file_is = file_same ∙ at.file_is ∙ ap string_bytes (sym has.file_is);
   used_is = used_same ∙ at.used_is ∙ ap (option_map of_checked.description) (sym has.used_is);
   made_is = made_is;
   stands =
-      subst (λ o. Stands o next.steps.items next.made q.statements q.graphs) (sym has.start_is)
-      (subst (λ xs. Stands way.start xs next.made q.statements q.graphs) (sym has.steps_are) stands);
+      subst (λ o. IsAskedSoFar o next.steps.items next.made q.statements q.graphs) (sym has.start_is)
+      (subst (λ xs. IsAskedSoFar way.start xs next.made q.statements q.graphs) (sym has.steps_are) stands);
 }
 
 pub step_marks : (way next : Way) (step : Step) (m : Made) (body : Body) → HasAdded way step m next → is_file body ≡ false → is_start body ≡ false → Marks way next body
@@ -119,11 +119,11 @@ changed way next p c name args within moves some follows_ is_graph leads has at 
     let told = goes_on way.start way.steps.items way.made p.statements p.graphs c some follows_ is_graph at.stands in
     let said_so : p.statements ++ change c.name c.args c.graph c.within c.moves ∷ [] ≡ p.statements ++ change name args c.graph within moves ∷ [] =
     λ i. p.statements ++ change (leads.name_is i) (leads.args_are i) c.graph (leads.within_is i) (leads.moves_are i) ∷ [] in
-    let stands = subst (λ ss. Stands way.start (way.steps.items ++ steps.Change c ∷ []) (made_with_change way.made c) ss (c.graph ∷ p.graphs)) said_so told in (
+    let stands = subst (λ ss. IsAskedSoFar way.start (way.steps.items ++ steps.Change c ∷ []) (made_with_change way.made c) ss (c.graph ∷ p.graphs)) said_so told in (
       q,
       added_at way next (steps.Change c) p q (subst (λ m. HasAdded way (steps.Change c) m next) (sym has.made_is) has) refl refl at
           (ap (λ m. made_with_change m c) at.made_is ∙ sym has.made_is)
-          (subst (λ m. Stands way.start (way.steps.items ++ steps.Change c ∷ []) m q.statements q.graphs) (sym has.made_is) stands),
+          (subst (λ m. IsAskedSoFar way.start (way.steps.items ++ steps.Change c ∷ []) m q.statements q.graphs) (sym has.made_is) stands),
       λ rest more_ answer follows. gives q more_ answer leads.leads follows,
     )
 
@@ -135,7 +135,7 @@ did way next p step some none_ has at =
     let told = does_more way.start way.steps.items way.made p.statements p.graphs step some none_ at.stands in (
       q,
       added_at way next step p q (subst (λ m. HasAdded way step m next) (sym has.made_is) has) refl refl at (at.made_is ∙ sym has.made_is)
-          (subst (λ m. Stands way.start (way.steps.items ++ step ∷ []) m q.statements q.graphs) (sym has.made_is) told),
+          (subst (λ m. IsAskedSoFar way.start (way.steps.items ++ step ∷ []) m q.statements q.graphs) (sym has.made_is) told),
       λ rest more_ answer follows. follows,
     )
 

@@ -11,7 +11,7 @@ use Rattle.command_runs.specs.Fetches.{Fetch}
 use Rattle.command_runs.specs.Lines.{Line, Follows, Progress, running}
 use Rattle.command_runs.specs.Scripts.{line_of, lines_of}
 use Rattle.file_answers.specs.declared.answer.Answer.{Answer}
-use Rattle.script_answers.specs.Fitting.{FitAll}
+use Rattle.script_answers.specs.Fitting.{MayAllStand}
 use Rattle.script_answers.specs.Leading.{LeadOn, Marks, Took}
 use Rattle.script_answers.specs.Ways.{IsAt}
 use Rattle.script_answers.specs.declared.way.Way.{Way}
@@ -20,10 +20,10 @@ use Rattle.script_answers.proofs.Courses.{joined, none_took}
 -- how far a list of lines was passed
 pub record IsPassed (files files' : Option Files) (way way' : Way) (passed left : List ScriptLine) (failures failures' : List (List ℕ)) : Type 0 where
   pub kept : files' ≡ files
-  pub fit : FitAll (is_some way'.used) (is_some way'.start) left
+  pub fit : MayAllStand (is_some way'.used) (is_some way'.start) left
   pub took : (p : Progress) → IsAt way p → Took {E = ℕ} files p (lines_of passed) failures failures' way' (Ok None)
 
-pub none_passed : (files : Option Files) (way : Way) (lines : List ScriptLine) (failures : List (List ℕ)) → FitAll (is_some way.used) (is_some way.start) lines
+pub none_passed : (files : Option Files) (way : Way) (lines : List ScriptLine) (failures : List (List ℕ)) → MayAllStand (is_some way.used) (is_some way.start) lines
     → IsPassed files files way way [] lines failures failures
 none_passed files way lines failures fit = record { kept = refl; fit = fit; took = λ p at. none_took files p failures way at }
 
@@ -70,8 +70,8 @@ module _ {E : Type 0} (files files' : Option Files) (way mid next : Way) (ys res
   passed_on files'' r none_ same took marks = record {
     kept = same ∙ before.kept;
     fit =
-        subst (λ b. FitAll b (is_some next.start) rest) (sym marks.described)
-        (subst (λ b. FitAll (is_some mid.used || is_file line.body) b rest) (sym marks.begun) before.fit.1);
+        subst (λ b. MayAllStand b (is_some next.start) rest) (sym marks.described)
+        (subst (λ b. MayAllStand (is_some mid.used || is_file line.body) b rest) (sym marks.begun) before.fit.1);
     took = λ p at.
         let t = subst (Took files p (lines_of (ys ++ line ∷ [])) failures failures' next) none_ (taken r took p at) in
         record { fetches = t.fetches; noted = t.noted; told = t.told; lead = t.lead };
@@ -114,4 +114,4 @@ all_passed {E} files files' way way' ys left lines failures failures' none_ all 
 
 pub begun_at_end : (files files' : Option Files) (way way' : Way) (ys left : List ScriptLine) (failures failures' : List (List ℕ)) → left ≡ []
     → IsPassed files files' way way' ys left failures failures' → is_some way'.start ≡ true
-begun_at_end files files' way way' ys left failures failures' none_ passed = subst (FitAll (is_some way'.used) (is_some way'.start)) none_ passed.fit
+begun_at_end files files' way way' ys left failures failures' none_ passed = subst (MayAllStand (is_some way'.used) (is_some way'.start)) none_ passed.fit

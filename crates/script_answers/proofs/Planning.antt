@@ -19,7 +19,7 @@ use Rattle.command_answers.specs.declared.error.DescriptionFault.TheVariants as 
 use Rattle.command_runs.specs.Lines.{Deed, changes, starts, IsCallRefusal, by_deed, by_elaboration, Leads, Progress, with_call}
 use Rattle.darwin_parser.specs.Tree.{Tree}
 use Rattle.script_answers.specs.Calls.{HasUsedFault, HasUsedGraph}
-use Rattle.script_answers.specs.Ways.{IsAt, Stands, last_graph, made_with_graph}
+use Rattle.script_answers.specs.Ways.{IsAt, IsAskedSoFar, last_graph, made_with_graph}
 use Rattle.script_answers.specs.declared.way.Way.{Way}
 use Rattle.script_steps.specs.declared.steps.Start.{Start}
 use Rattle.script_steps.specs.declared.steps.Step.{Step}
@@ -51,7 +51,7 @@ module _ (p : Progress) (used : Option Tree) (name : List ℕ) (args : List ℤ)
 
 -- the graph that a change begins with is that of the progress
 stands_on : (o : Option Start) (xs : List Step) (made : Made) (said : List Statement) (graphs : List Graph) (old : Graph) → IsSome o
-    → IfSome o (λ s. old ≡ last_graph s.graph xs) → Stands o xs made said graphs → (earlier : List Graph) × (graphs ≡ old ∷ earlier)
+    → IfSome o (λ s. old ≡ last_graph s.graph xs) → IsAskedSoFar o xs made said graphs → (earlier : List Graph) × (graphs ≡ old ∷ earlier)
 stands_on None xs made said graphs old some is a = absurd (cc some)
 stands_on (Some s) xs made said graphs old some is a = (a.earlier, a.graphs_are ∙ ap (λ g. g ∷ a.earlier) (sym is))
 

@@ -25,7 +25,7 @@ use Rattle.file_answers.specs.declared.answer.Answer.{Answer}
 use Rattle.file_answers.specs.declared.scripts.ReadScript.TheVariants as scripts
 use Rattle.script_answers.specs.Leading.{Took}
 use Rattle.script_answers.specs.Preparing.{CanRun, EndsRun, IsAskedBy, LeadsIn, Prepares, PreparesIn}
-use Rattle.script_answers.specs.Ways.{IsAsked, IsAt, Stands}
+use Rattle.script_answers.specs.Ways.{HasAsked, IsAt, IsAskedSoFar}
 use Rattle.script_answers.specs.declared.preparing.Prepared.{Prepared}
 use Rattle.script_answers.specs.declared.preparing.Prepared.TheVariants as prepared
 use Rattle.script_answers.specs.declared.way.Way.{Way}
@@ -39,14 +39,14 @@ at_begin way file_is used_is start_is steps_are made_is = record {
   file_is = sym file_is;
   used_is = ap (option_map description) (sym used_is);
   made_is = sym made_is;
-  stands = subst (λ o. Stands o way.steps.items way.made [] []) (sym start_is) (steps_are, made_is, refl);
+  stands = subst (λ o. IsAskedSoFar o way.steps.items way.made [] []) (sym start_is) (steps_are, made_is, refl);
 }
 
 -- what was asked for, at the end of the lines
-asked_so : (way : Way) (q : Progress) (start : Start) (xs : Vec Step) → way.start ≡ Some start → way.steps ≡ xs → IsAt way q → IsAsked start xs.items way.made q.statements q.graphs
+asked_so : (way : Way) (q : Progress) (start : Start) (xs : Vec Step) → way.start ≡ Some start → way.steps ≡ xs → IsAt way q → HasAsked start xs.items way.made q.statements q.graphs
 asked_so way q start xs start_is steps_are at =
-    subst (λ (v : Vec Step). IsAsked start v.items way.made q.statements q.graphs) steps_are
-    (subst (λ o. Stands o way.steps.items way.made q.statements q.graphs) start_is at.stands)
+    subst (λ (v : Vec Step). HasAsked start v.items way.made q.statements q.graphs) steps_are
+    (subst (λ o. IsAskedSoFar o way.steps.items way.made q.statements q.graphs) start_is at.stands)
 
 -- the end of a run is the end of its lines
 ending : (q : Progress) (said : List Statement) (answer : values.Answer) → q.statements ≡ said → EndsRun said answer → Follows running q [] [] answer

@@ -6,7 +6,8 @@ use Rattle.command_runs.specs.Lines.{changes, starts, Leads, Progress, with_call
 use Rattle.config_graph.specs.Graph.{Graph}
 use Rattle.darwin_parser.specs.Tree.{Name, Tree}
 use Rattle.file_answers.specs.Refusals.{NamesFault}
-use Rattle.script_answers.specs.Ways.{made_with_change, made_with_graph}
+use Rattle.script_steps.specs.Asked.{made_with_change}
+use Rattle.script_answers.specs.Ways.{made_with_graph}
 use Rattle.script_steps.specs.declared.steps.Replacement.{Replacement}
 use Rattle.script_steps.specs.declared.steps.Start.{Start}
 

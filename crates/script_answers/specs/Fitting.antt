@@ -7,17 +7,17 @@ use Rattle.change_script.specs.declared.script.Body.TheVariants as bodies
 use Rattle.change_script.specs.declared.script.ScriptLine.{ScriptLine}
 
 -- where a description is used above, or not, and a start stands above, or not
-abbrev pub Fits : Bool → Bool → Body → Type 0
-Fits described begun (bodies.File name) = IsUtf8 name
-Fits described begun (bodies.Start name args) = (described ≡ true) × (begun ≡ false)
-Fits described begun (bodies.Run k) = begun ≡ true
-Fits described begun (bodies.Change name args within moves) = (described ≡ true) × (begun ≡ true)
-Fits described begun (bodies.Finish n) = begun ≡ true
-Fits described begun bodies.Show = begun ≡ true
-Fits described begun bodies.Stop = ⊤
+abbrev pub MayStand : Bool → Bool → Body → Type 0
+MayStand described begun (bodies.File name) = IsUtf8 name
+MayStand described begun (bodies.Start name args) = (described ≡ true) × (begun ≡ false)
+MayStand described begun (bodies.Run k) = begun ≡ true
+MayStand described begun (bodies.Change name args within moves) = (described ≡ true) × (begun ≡ true)
+MayStand described begun (bodies.Finish n) = begun ≡ true
+MayStand described begun bodies.Show = begun ≡ true
+MayStand described begun bodies.Stop = ⊤
 
 -- each line fits behind those above it, and at the end there is a start
-abbrev pub FitAll : Bool → Bool → List ScriptLine → Type 0
-FitAll described begun [] = begun ≡ true
-FitAll described begun (line ∷ more) =
-    Fits described begun line.body × FitAll (described || is_file line.body) (begun || is_start line.body) more
+abbrev pub MayAllStand : Bool → Bool → List ScriptLine → Type 0
+MayAllStand described begun [] = begun ≡ true
+MayAllStand described begun (line ∷ more) =
+    MayStand described begun line.body × MayAllStand (described || is_file line.body) (begun || is_start line.body) more

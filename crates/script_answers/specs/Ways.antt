@@ -1,7 +1,7 @@
 -- How far the lines of a script came, beside the progress that the course of its lines has.
-use Rattle.std.specs.Prelude.{◌≡◌, ℕ, List, [], ◌∷◌, ◌++◌, Option, Some, None, length, string_bytes, sum_by}
+use Rattle.std.specs.Prelude.{◌≡◌, ℕ, List, [], ◌∷◌, ◌++◌, Option, Some, None, length, string_bytes}
 use Rattle.std.specs.Option.{option_map}
-use Rattle.config_graph.specs.Graph.{Graph, ports, requires_at}
+use Rattle.config_graph.specs.Graph.{Graph, ports}
 use Rattle.config_graph.specs.Sound.{Sound}
 use Rattle.config_graph.specs.declared.node.Made.{Made}
 use Rattle.change_plan.specs.Plans.{IsPlanOf}
@@ -11,18 +11,14 @@ use Rattle.darwin_types.specs.declared.checked.Checked.{Checked}
 use Rattle.change_law.specs.Scripts.{more_made}
 use Rattle.change_law.specs.Statements.{Statement}
 use Rattle.command_runs.specs.Lines.{Progress}
-use Rattle.script_steps.specs.Asked.{CanDoAll, CanStart, after_start, nothing_made, statements_of}
+use Rattle.script_steps.specs.Asked.{CanDoAll, CanStart, after_start, graph_behind, nothing_made, statements_of}
 use Rattle.script_steps.specs.declared.steps.Replacement.{Replacement}
 use Rattle.script_steps.specs.declared.steps.Start.{Start}
 use Rattle.script_steps.specs.declared.steps.Step.{Step}
 use Rattle.script_steps.specs.declared.steps.Step.TheVariants as steps
 use Rattle.script_answers.specs.declared.way.Way.{Way}
 
--- the graph that was named last, by a step or else before it, and before all steps
-abbrev pub graph_behind : Graph → Step → Graph
-graph_behind g (steps.Change c) = c.graph
-graph_behind g _ = g
-
+-- the graph that was named last, by one of these steps or else before them
 abbrev pub last_graph : Graph → List Step → Graph
 last_graph g [] = g
 last_graph g (step ∷ more) = last_graph (graph_behind g step) more
@@ -31,12 +27,9 @@ abbrev pub IsNoChange : Step → Type 0
 IsNoChange (steps.Change c) = ⊥
 IsNoChange _ = Unit {0}
 
--- How much is made with all of a graph, and with the nodes that a change creates.
+-- how much is made with all of a graph
 abbrev pub made_with_graph : Made → Graph → Made
 made_with_graph made g = more_made made (length g.nodes) (length (ports g.nodes))
-
-abbrev pub made_with_change : Made → Replacement → Made
-made_with_change made c = more_made made (length c.plan.create) (sum_by (requires_at c.graph.nodes) c.plan.create)
 
 -- what the way becomes by a start
 abbrev pub with_start : Way → Start → Way
@@ -72,19 +65,19 @@ pub record MayGoOn (s : Start) (steps : List Step) (made : Made) : Type 0 where
       → CanDoAll (after_start s) (steps ++ more)
 
 -- what was asked for up to here, as the statements and the graphs of a progress have it
-pub record IsAsked (s : Start) (steps : List Step) (made : Made) (said : List Statement) (graphs : List Graph) : Type 0 where
+pub record HasAsked (s : Start) (steps : List Step) (made : Made) (said : List Statement) (graphs : List Graph) : Type 0 where
   pub may : MayGoOn s steps made
   pub said_are : said ≡ statements_of s steps
   pub earlier : List Graph
   pub graphs_are : graphs ≡ last_graph s.graph steps ∷ earlier
 
-abbrev pub Stands : Option Start → List Step → Made → List Statement → List Graph → Type 0
-Stands None steps made said graphs = (steps ≡ []) × (made ≡ nothing_made) × (said ≡ [])
-Stands (Some s) steps made said graphs = IsAsked s steps made said graphs
+abbrev pub IsAskedSoFar : Option Start → List Step → Made → List Statement → List Graph → Type 0
+IsAskedSoFar None steps made said graphs = (steps ≡ []) × (made ≡ nothing_made) × (said ≡ [])
+IsAskedSoFar (Some s) steps made said graphs = HasAsked s steps made said graphs
 
 -- the way leads as far as the progress
 pub record IsAt (way : Way) (p : Progress) : Type 0 where
   pub file_is : p.file ≡ string_bytes way.file
   pub used_is : p.used ≡ option_map description way.used
   pub made_is : p.made ≡ way.made
-  pub stands : Stands way.start way.steps.items way.made p.statements p.graphs
+  pub stands : IsAskedSoFar way.start way.steps.items way.made p.statements p.graphs

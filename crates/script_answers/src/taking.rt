@@ -7,7 +7,7 @@ ghost use Rattle.change_script.specs.ScriptFiles.{is_file, is_start};
 ghost use Rattle.change_script.specs.declared.script.Body.{Body as Statement};
 ghost use Rattle.command_runs.specs.Lines.{Deed, IsCallRefusal, Progress, calls, changes, does, starts, uses};
 ghost use Rattle.command_runs.specs.Scripts.{line_of, lines_of};
-ghost use Rattle.script_answers.specs.Fitting.{FitAll, Fits};
+ghost use Rattle.script_answers.specs.Fitting.{MayAllStand, MayStand};
 ghost use Rattle.script_answers.specs.Leading.{IsOfNoRun, LeadOn, MarksOnward, Took};
 ghost use Rattle.script_answers.specs.Ways.{IsAt, IsNoChange};
 ghost use Rattle.script_steps.specs.Asked.{statement_of};
@@ -31,7 +31,7 @@ pub fn take_lines<H: Shelf>(
     way: &mut Way,
     lines: Vec<ScriptLine>,
 ) -> Result<Option<Answer>, NoMemory>
-    requires { FitAll (is_some way.old.used) (is_some way.old.start) lines.items }
+    requires { MayAllStand (is_some way.old.used) (is_some way.old.start) lines.items }
     ensures took { (p : Progress) → IsAt way.old p
         → Took (H.files shelf.old) p (lines_of lines.items) (H.failed shelf.old) (H.failed shelf.new) way.new result }
     ensures begun { IfOk result (λ found. found ≡ None → IsSome way.new.start) }
@@ -55,7 +55,7 @@ fn take_line<H: Shelf>(
     way: &mut Way,
     body: Body,
 ) -> Result<Option<Answer>, NoMemory>
-    requires { Fits (is_some way.old.used) (is_some way.old.start) body }
+    requires { MayStand (is_some way.old.used) (is_some way.old.start) body }
     ensures took { (p : Progress) → IsAt way.old p
         → Took (H.files shelf.old) p (line_of body) (H.failed shelf.old) (H.failed shelf.new) way.new result }
     ensures marks { MarksOnward way.old way.new body result }

@@ -4,8 +4,8 @@ ghost use Rattle.std.specs.Prelude.{◌≡◌, ◌^◌, ◌<◌, [], IfSome, IsS
 ghost use Rattle.config_graph.specs.Graph.{IsGraph, requires_at};
 ghost use Rattle.change_law.specs.Scripts.{more_made};
 ghost use Rattle.change_plan.specs.Room.{HasRoom, HasRoomFor};
-ghost use Rattle.script_answers.specs.Ways.{HasAdded, HasDescribed, graph_behind, last_graph, made_with_change, made_with_graph, with_start};
-ghost use Rattle.script_steps.specs.Asked.{nothing_made};
+ghost use Rattle.script_answers.specs.Ways.{HasAdded, HasDescribed, last_graph, made_with_graph, with_start};
+ghost use Rattle.script_steps.specs.Asked.{nothing_made, graph_behind, made_with_change};
 ghost use Rattle.script_steps.specs.declared.steps.Step.TheVariants as to_do;
 
 use config_graph::{Graph, Made, NoMemory, Node};

@@ -1,7 +1,7 @@
 -- What a step adds to the transcript of an engine.
-use Rattle.std.specs.Prelude.{◌≡◌, ⊤, ℕ, true, false, Bool, List, ◌++◌, length}
-use Rattle.std.specs.List.{list_any, sum_by}
-use Rattle.config_graph.specs.Graph.{Graph, requires_at}
+use Rattle.std.specs.Prelude.{◌≡◌, ⊤, ℕ, true, false, Bool, List, ◌++◌}
+use Rattle.std.specs.List.{list_any}
+use Rattle.config_graph.specs.Graph.{Graph}
 use Rattle.config_graph.specs.declared.node.Made.{Made}
 use Rattle.change_plan.specs.declared.plan_data.Plan.{Plan}
 use Rattle.plan_laws.specs.Committing.{made_in}
@@ -15,7 +15,7 @@ use Rattle.change_engine.specs.Engines.{IsIdle, IsPlanned}
 use Rattle.change_engine.specs.declared.engine.Engine.{Engine}
 use Rattle.change_engine.specs.declared.passivating.LeftRoot.{LeftRoot}
 use Rattle.headline_laws.specs.Pieces.{IsDone, config_at}
-use Rattle.script_steps.specs.Asked.{statement_of}
+use Rattle.script_steps.specs.Asked.{graph_behind, made_with_change, statement_of}
 use Rattle.script_steps.specs.declared.steps.Step.{Step}
 use Rattle.script_steps.specs.declared.steps.Step.TheVariants as steps
 
@@ -28,13 +28,9 @@ abbrev pub IsReady : Graph → List Item → Step → Type 0
 IsReady graph t (steps.Change c) = is_given_up t ≡ false → IsPlanned graph c.graph c.moves c.plan (config_at t)
 IsReady graph t _ = ⊤
 
--- the graph that stands behind a step, and how much was made then, where no change was given up
-abbrev pub graph_behind : Graph → Step → Graph
-graph_behind graph (steps.Change c) = c.graph
-graph_behind graph _ = graph
-
+-- how much was made behind a step, where no change was given up
 abbrev pub made_behind : Made → Step → Made
-made_behind made (steps.Change c) = more_made made (length c.plan.create) (sum_by (requires_at c.graph.nodes) c.plan.create)
+made_behind made (steps.Change c) = made_with_change made c
 made_behind made _ = made
 
 pub record Carried {B : Type 0} (S : B → List Entry → Type 0) (alone : Bool) (old new : Engine B) (t : List Item) (step : Step)

@@ -1,7 +1,7 @@
 -- What is asked of a run, and when it may be asked: each change has a plan from the graph that was named before it, and there is room
 -- for all that it makes.
-use Rattle.std.specs.Prelude.{◌≡◌, ⊤, false, ◌≤◌, Bool, List, [], ◌∷◌, length, map}
-use Rattle.config_graph.specs.Graph.{Graph, IsGraph, ports}
+use Rattle.std.specs.Prelude.{⊤, List, [], ◌∷◌, length, map, sum_by}
+use Rattle.config_graph.specs.Graph.{Graph, IsGraph, ports, requires_at}
 use Rattle.config_graph.specs.Sound.{Sound}
 use Rattle.config_graph.specs.declared.node.Made.{Made}
 use Rattle.change_plan.specs.Plans.{IsPlanOf}
@@ -32,6 +32,15 @@ pub record Above : Type 0 where
 
 abbrev pub nothing_made : Made
 nothing_made = record { nodes = 0; ports = 0 }
+
+-- the graph that was named last, by a step or else before it
+abbrev pub graph_behind : Graph → Step → Graph
+graph_behind g (steps.Change c) = c.graph
+graph_behind g _ = g
+
+-- how much is made with the nodes that a change creates
+abbrev pub made_with_change : Made → Replacement → Made
+made_with_change made c = more_made made (length c.plan.create) (sum_by (requires_at c.graph.nodes) c.plan.create)
 
 -- a sound graph, for all of which there is room
 pub record CanStart (s : Start) : Type 0 where

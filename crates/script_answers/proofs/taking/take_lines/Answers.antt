@@ -3,7 +3,7 @@ use Rattle.std.proofs.Common.{◌≡◌, ◌∙◌, ◌++◌, ◌∷◌, [], Ok,
 use Rattle.std.specs.Prelude.{is_some}
 use Rattle.std.proofs.lemmas.Result.{err_from_is_err_and}
 use Rattle.base.proofs.MapLaws.{no_length}
-use Rattle.script_answers.specs.Fitting.{FitAll}
+use Rattle.script_answers.specs.Fitting.{MayAllStand}
 use Rattle.script_answers.specs.Leading.{MarksOnward}
 use Rattle.script_answers.proofs.Passing.{IsPassed, all_passed, begun_at_end, none_passed, passed_on, refused_at, short_at}
 use Rattle.script_answers.proofs.taking.take_lines.Goals as goal
@@ -15,7 +15,7 @@ loop-line-init g c =
       tt,
       tt,
       none_passed (g.H.Shelf.files c.args.shelf.now) way c.into_iter-line-iterator.result.rest.items (g.H.Shelf.failed c.args.shelf.now)
-          (subst (FitAll (is_some way.used) (is_some way.start)) (sym e) c.requires),
+          (subst (MayAllStand (is_some way.used) (is_some way.start)) (sym e) c.requires),
       e,
     )
 
