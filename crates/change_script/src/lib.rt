@@ -6,6 +6,7 @@ mod cuts;
 mod error;
 mod event_files;
 mod event_lines;
+mod event_writing;
 mod laws;
 mod line_end;
 mod lines;

@@ -1,6 +1,7 @@
 //! How much room the text of a report takes, so that its memory is taken once.
 //!
-//! Room is an upper bound, by the lengths of names, paths and numbers. Nothing rests on it but how often memory is taken.
+//! Room is a bound by the lengths of names, paths and numbers, where lines of a log grow longer. Nothing rests on it but how
+//! often memory is taken.
 
 ghost use Rattle.std.specs.Prelude.{◌≤◌};
 
@@ -78,10 +79,7 @@ fn graph_room(graph: &Graph) -> usize {
 }
 
 fn log_room(log: &NodeLog) -> usize {
-    let mut room = 2 * LINE;
-    for event in log.events.items() {
-        room = event_room(event).saturating_add(room);
-    }
+    let mut room = events_room(log.events.items()).saturating_add(2 * LINE);
     if let Last::State(numbers) = &log.last {
         room = numbers
             .items()
@@ -90,6 +88,14 @@ fn log_room(log: &NodeLog) -> usize {
             .saturating_add(room);
     }
     room
+}
+
+/// Serials grow, so that hardly a line of a log is longer than the last.
+fn events_room(events: &[Event]) -> usize {
+    match events.last() {
+        Some(event) => event_room(event).saturating_mul(events.len()),
+        None => 0,
+    }
 }
 
 fn event_room(event: &Event) -> usize {

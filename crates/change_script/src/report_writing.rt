@@ -1,14 +1,16 @@
 //! The text of a report.
 
-ghost use Rattle.std.specs.Prelude.{◌≡◌, ◌==◌, ◌++◌, ◌∷◌, All, IfSome, Some, find, option_copied, option_to_list, slice_get, length, filter, flat_map, map, codes, decimal, IfOk, OnOk};
+ghost use Rattle.std.specs.Prelude.{◌≡◌, ◌==◌, ◌≤◌, ◌*◌, ◌++◌, ◌∷◌, false, All, IfSome, Some, find, option_copied, option_to_list, slice_get, length, filter, flat_map, map, codes, decimal, IfOk, OnOk};
 ghost use Rattle.std.specs.Fmt.{signed_decimal};
 ghost use Rattle.config_graph.specs.GraphText.{graph_text as drawn_text, kind_text};
+ghost use Rattle.quiesce_core.specs.Doers.{is_of_change};
 ghost use Rattle.quiesce_core.specs.declared.event.Event.TheVariants as events;
 ghost use Rattle.change_script.specs.Writing.{from_words, spaced, with_one, with_three};
 ghost use Rattle.change_script.specs.Reports.{HasOneMake, LogsAreMade, Version, args_text, ended, event_text, history_text, last_text, log_head, log_text, made_by, makes, path_in, report_text, second, unfinished_text, with_system, with_two};
 ghost use Rattle.change_script.specs.MadeNodes.{made_of};
 
-use crate::line_end::{LINE_END, put_number};
+use crate::event_writing::{LINES, PIECE, put_event, put_events};
+use crate::line_end::{LINE, LINE_END, put_number, put_three};
 use crate::report::{HistoryLine, Last, NodeLog, Report};
 use crate::report_room::text_room;
 use config_graph::{Graph, Kind, NoMemory, Node, graph_text, kind_text};
@@ -128,7 +130,7 @@ fn push_line(text: &mut Vec<u8>, line: &HistoryLine) -> Result<(), NoMemory>
             port,
             node,
             provide,
-        } => push_three(text, b"link", *port, *node, *provide),
+        } => push_link(text, *port, *node, *provide),
         HistoryLine::Unlink { port } => push_one(text, b"unlink", u64::from(*port)),
         HistoryLine::Remove { node } => push_one(text, b"remove", u64::from(*node)),
         HistoryLine::Close { port } => push_one(text, b"close", u64::from(*port)),
@@ -238,7 +240,33 @@ fn push_head(text: &mut Vec<u8>, slot: u32, path: &[u8]) -> Result<(), NoMemory>
     text.extend_from_slice(b"\n")
 }
 
+/// The lines of what a node did, many of them at once.
 fn push_events(text: &mut Vec<u8>, events: &[Event]) -> Result<(), NoMemory>
+    ensures { OnOk result (text.new.items ≡ text.old.items ++ flat_map event_text events.now) }
+{
+    let mut piece = [b'\n'; PIECE];
+    let mut left = events;
+    while !left.is_empty() {
+        let (front, more) = left.split_at(left.len().min(LINES));
+        push_piece(text, &mut piece, front)?;
+        left = more;
+    }
+    Ok(())
+}
+
+/// The lines of these events, as one piece where all are of nodes.
+fn push_piece(text: &mut Vec<u8>, piece: &mut [u8], events: &[Event]) -> Result<(), NoMemory>
+    requires { length events.now * 72 ≤ length piece.old }
+    ensures text { OnOk result (text.new.items ≡ text.old.items ++ flat_map event_text events.now) }
+    ensures length { length piece.new ≡ length piece.old }
+{
+    match put_events(piece, events) {
+        Some(start) => text.extend_from_slice(&piece[start..]),
+        None => push_each(text, events),
+    }
+}
+
+fn push_each(text: &mut Vec<u8>, events: &[Event]) -> Result<(), NoMemory>
     ensures { OnOk result (text.new.items ≡ text.old.items ++ flat_map event_text events.now) }
 {
     for event in events {
@@ -252,47 +280,15 @@ fn push_event(text: &mut Vec<u8>, event: &Event) -> Result<(), NoMemory>
     ensures { OnOk result (text.new.items ≡ text.old.items ++ event_text event.now) }
 {
     match event {
-        Event::Begin {
-            port,
-            serial,
-            value,
-        } => push_three(text, b"begin", *port, *serial, *value),
-        Event::Call {
-            port,
-            serial,
-            value,
-        } => push_three(text, b"call", *port, *serial, *value),
-        Event::Take {
-            port,
-            serial,
-            value,
-        } => push_three(text, b"take", *port, *serial, *value),
-        Event::Give {
-            port,
-            serial,
-            value,
-        } => push_three(text, b"give", *port, *serial, *value),
-        Event::End {
-            port,
-            serial,
-            value,
-        } => push_three(text, b"end", *port, *serial, *value),
-        Event::More {
-            port,
-            serial,
-            value,
-        } => push_three(text, b"more", *port, *serial, *value),
-        Event::Ask {
-            port,
-            serial,
-            value,
-        } => push_three(text, b"ask", *port, *serial, *value),
-        Event::Hear {
-            port,
-            serial,
-            value,
-        } => push_three(text, b"hear", *port, *serial, *value),
-        Event::Miss { port } => push_one(text, b"miss", u64::from(*port)),
+        Event::Begin { .. }
+        | Event::Call { .. }
+        | Event::Take { .. }
+        | Event::Give { .. }
+        | Event::End { .. }
+        | Event::More { .. }
+        | Event::Ask { .. }
+        | Event::Hear { .. }
+        | Event::Miss { .. } => push_deed(text, event),
         Event::Close { port } => push_one(text, b"close", u64::from(*port)),
         Event::Reopen { port } => push_one(text, b"reopen", u64::from(*port)),
         Event::Make { slot, node, from } => push_make(text, *slot, node, *from),
@@ -300,9 +296,21 @@ fn push_event(text: &mut Vec<u8>, event: &Event) -> Result<(), NoMemory>
             port,
             node,
             provide,
-        } => push_three(text, b"link", *port, *node, *provide),
+        } => push_link(text, *port, *node, *provide),
         Event::Unlink { port } => push_one(text, b"unlink", u64::from(*port)),
         Event::Remove { node } => push_one(text, b"remove", u64::from(*node)),
+    }
+}
+
+/// The line of an event of a node.
+fn push_deed(text: &mut Vec<u8>, event: &Event) -> Result<(), NoMemory>
+    requires { is_of_change event.now ≡ false }
+    ensures { OnOk result (text.new.items ≡ text.old.items ++ event_text event.now) }
+{
+    let mut line = [b'\n'; LINE];
+    match put_event(&mut line, LINE, event) {
+        Some(start) => text.extend_from_slice(&line[start..]),
+        None => Ok(()),
     }
 }
 
@@ -408,21 +416,12 @@ fn push_two(text: &mut Vec<u8>, verb: &[u8], first: u64, second: u64) -> Result<
     text.extend_from_slice(&line[start..])
 }
 
-/// A verb and three numbers.
-fn push_three(
-    text: &mut Vec<u8>,
-    verb: &[u8],
-    first: u32,
-    second: u32,
-    third: u32,
-) -> Result<(), NoMemory>
-    ensures { OnOk result (text.new.items ≡ text.old.items ++ ended (with_three verb.now first second third)) }
+/// `link PORT SLOT PROVIDE`
+fn push_link(text: &mut Vec<u8>, port: u32, node: u32, provide: u32) -> Result<(), NoMemory>
+    ensures { OnOk result (text.new.items ≡ text.old.items ++ ended (with_three (codes "link") port node provide)) }
 {
-    let mut line = [b'\n'; LINE_END];
-    let start = put_number(&mut line, LINE_END - 1, u64::from(third));
-    let start = put_number(&mut line, start, u64::from(second));
-    let start = put_number(&mut line, start, u64::from(first));
-    text.extend_from_slice(verb)?;
+    let mut line = [b'\n'; LINE];
+    let start = put_three(&mut line, LINE, b"link", port, node, provide);
     text.extend_from_slice(&line[start..])
 }
 

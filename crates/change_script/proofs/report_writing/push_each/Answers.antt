@@ -1,6 +1,6 @@
 use Rattle.change_script.specs.Reports.{event_text}
 use Rattle.change_script.proofs.ReportTextLemmas.{line_more}
-use Rattle.change_script.proofs.report_writing.push_events.Goals as goal
+use Rattle.change_script.proofs.report_writing.push_each.Goals as goal
 use Rattle.base.proofs.LinesLaws.{lines_all}
 
 pub loop-event-preserved : goal.loop-event-preserved
