@@ -1,89 +1,111 @@
 //! Copies of logs.
 
-ghost use Rattle.std.specs.Prelude.{◌≡◌, IfOk};
+ghost use Rattle.std.specs.Prelude.{◌≡◌, ◌||◌, true, IfOk, IfSome, is_some, not};
+ghost use Rattle.quiesce_core.specs.Doers.{is_of_change, is_of_owner};
 
 use config_graph::NoMemory;
 use quiesce_core::Event;
 use std::alloc::Global;
 
-/// Another event like this one.
-fn copy_event(event: &Event) -> Result<Event, NoMemory>
-    ensures { IfOk result (λ e. e ≡ event.now) }
+/// Another event of a port's owner like this one. None of another event.
+fn copy_of_owner(event: &Event) -> Option<Event>
+    ensures some { is_some result ≡ is_of_owner event.now }
+    ensures like { IfSome result (λ e. e ≡ event.now) }
 {
-    Ok(match *event {
+    match *event {
         Event::Begin {
             port,
             serial,
             value,
-        } => Event::Begin {
+        } => Some(Event::Begin {
             port,
             serial,
             value,
-        },
+        }),
         Event::Call {
             port,
             serial,
             value,
-        } => Event::Call {
+        } => Some(Event::Call {
             port,
             serial,
             value,
-        },
-        Event::Take {
-            port,
-            serial,
-            value,
-        } => Event::Take {
-            port,
-            serial,
-            value,
-        },
-        Event::Give {
-            port,
-            serial,
-            value,
-        } => Event::Give {
-            port,
-            serial,
-            value,
-        },
-        Event::End {
-            port,
-            serial,
-            value,
-        } => Event::End {
-            port,
-            serial,
-            value,
-        },
-        Event::More {
-            port,
-            serial,
-            value,
-        } => Event::More {
-            port,
-            serial,
-            value,
-        },
+        }),
         Event::Ask {
             port,
             serial,
             value,
-        } => Event::Ask {
+        } => Some(Event::Ask {
             port,
             serial,
             value,
-        },
+        }),
+        Event::End {
+            port,
+            serial,
+            value,
+        } => Some(Event::End {
+            port,
+            serial,
+            value,
+        }),
+        Event::Miss { port } => Some(Event::Miss { port }),
+        _ => None,
+    }
+}
+
+/// Another event of a target like this one. None of another event.
+fn copy_of_target(event: &Event) -> Option<Event>
+    ensures some { is_some result ≡ not (is_of_change event.now || is_of_owner event.now) }
+    ensures like { IfSome result (λ e. e ≡ event.now) }
+{
+    match *event {
+        Event::Take {
+            port,
+            serial,
+            value,
+        } => Some(Event::Take {
+            port,
+            serial,
+            value,
+        }),
+        Event::Give {
+            port,
+            serial,
+            value,
+        } => Some(Event::Give {
+            port,
+            serial,
+            value,
+        }),
+        Event::More {
+            port,
+            serial,
+            value,
+        } => Some(Event::More {
+            port,
+            serial,
+            value,
+        }),
         Event::Hear {
             port,
             serial,
             value,
-        } => Event::Hear {
+        } => Some(Event::Hear {
             port,
             serial,
             value,
-        },
-        Event::Miss { port } => Event::Miss { port },
+        }),
+        _ => None,
+    }
+}
+
+/// Another event of the change like this one.
+fn copy_of_change(event: &Event) -> Result<Event, NoMemory>
+    requires { is_of_change event.now ≡ true }
+    ensures { IfOk result (λ e. e ≡ event.now) }
+{
+    Ok(match *event {
         Event::Close { port } => Event::Close { port },
         Event::Reopen { port } => Event::Reopen { port },
         Event::Link {
@@ -106,7 +128,21 @@ fn copy_event(event: &Event) -> Result<Event, NoMemory>
             node: node.try_clone()?,
             from,
         },
+        _ => unreachable!(),
     })
+}
+
+/// Another event like this one.
+fn copy_event(event: &Event) -> Result<Event, NoMemory>
+    ensures { IfOk result (λ e. e ≡ event.now) }
+{
+    if let Some(copy) = copy_of_owner(event) {
+        return Ok(copy);
+    }
+    match copy_of_target(event) {
+        Some(copy) => Ok(copy),
+        None => copy_of_change(event),
+    }
 }
 
 /// The same events again.
