@@ -125,6 +125,7 @@ impl<C: Component + Drop, S: GateSeat + Drop> HostNode<C, S> {
     }
 
     /// Ends or replies at the port of one requirement, where a reply stands there.
+    #[inline(always)]
     fn reply_at<G: PortGate<Seat = S>>(&mut self, gate: &mut G, require: u32) -> Option<Event>
         requires fits { G.fits gate.old self.old.seat }
         requires node { G.node gate.old self.old.seat ≡ node_of self.old.slot self.old.first_port (C.state self.old.inner) }

@@ -18,7 +18,7 @@ pub fn keep(log: &mut Vec<Event>, known: &mut Known, first_port: u32, event: Eve
     ensures known { known.new ≡ known_next first_port known.old event }
 {
     note(known, first_port, &event);
-    let _ = log.push(event);
+    log.push_reserved(event);
 }
 
 /// A seat that fits is one of a slot and of ports as one run has them.

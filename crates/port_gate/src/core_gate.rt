@@ -23,7 +23,7 @@ ghost use Rattle.port_gate.specs.Seats.{MayCall, serial_served, value_seen};
 
 use crate::answers::{BeginAnswer, CallAnswer, HearAnswer, SeeAnswer, TakeAnswer};
 use crate::gate::{GateSeat, PortGate};
-use crate::noting::{note, note_seen, unknown};
+use crate::noting::{note, note_look, unknown};
 use gate_word::{LAST_SERIAL, Phase, Word};
 use quiesce_core::{Core, Event, Known, PortKnown};
 
@@ -296,8 +296,7 @@ impl PortGate for CoreGate {
         let word = self.fields(port);
         let answer = look(word);
         let require = port - self.first_port(seat.slot);
-        let known = seat.port_known(require);
-        seat.known.ports[require as usize] = note_seen(known, answer);
+        note_look(&mut seat.known.ports[require as usize], answer);
         answer
     }
 

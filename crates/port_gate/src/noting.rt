@@ -128,21 +128,29 @@ pub fn note(known: &mut Known, first_port: u32, event: &Event)
     }
 }
 
+/// A reply was looked for at a port: what is known of it then. Where there is none the port isn't written.
+#[inline(always)]
+pub fn note_look(port: &mut PortKnown, answer: SeeAnswer)
+    ensures { port.new ≡ seen_by answer port.old }
+{
+    match answer {
+        SeeAnswer::Answer { value } => {
+            port.seen = Some(value);
+            port.more = false;
+        }
+        SeeAnswer::More { value } => {
+            port.seen = Some(value);
+            port.more = true;
+        }
+        SeeAnswer::NotYet { .. } => {}
+    }
+}
+
 /// What it knows of a port once a reply was looked for there.
 pub fn note_seen(port: PortKnown, answer: SeeAnswer) -> PortKnown
     ensures { result ≡ seen_by answer port }
 {
-    match answer {
-        SeeAnswer::Answer { value } => PortKnown {
-            seen: Some(value),
-            more: false,
-            ..port
-        },
-        SeeAnswer::More { value } => PortKnown {
-            seen: Some(value),
-            more: true,
-            ..port
-        },
-        SeeAnswer::NotYet { .. } => port,
-    }
+    let mut seen = port;
+    note_look(&mut seen, answer);
+    seen
 }
