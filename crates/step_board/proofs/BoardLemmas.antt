@@ -1,6 +1,6 @@
 -- What a scan and the taking in of logs come to on a board.
-use Rattle.std.proofs.Common.{◌≡◌, ◌∙◌, ◌<◌, ℕ, Bool, true, false, List, [], ◌∷◌, ◌++◌, Option, Some, None, Result, Ok, Err, map, length, refl, sym, ap, subst, arith}
-use Rattle.std.specs.Prelude.{◌&&◌, All, IfOk, OnErr, find, is_none, is_some, not, slice_get, slice_index_or}
+use Rattle.std.proofs.Common.{◌≡◌, ◌∙◌, ◌<◌, ℕ, Bool, List, [], ◌∷◌, ◌++◌, Option, Some, Result, Ok, Err, map, length, refl, sym, ap, subst, arith}
+use Rattle.std.specs.Prelude.{◌&&◌, All, IfOk, OnErr, find, is_none, not, slice_get, slice_index_or}
 use Rattle.std.specs.List.{list_all, range_with_len}
 use Rattle.std.proofs.Math.Logic.{∥∥₁_map}
 use Rattle.std.proofs.lemmas.List.Elements.{All-weaker}
@@ -29,12 +29,6 @@ use Rattle.step_board.specs.Seeing.{first_undone_in, found_all, sight_of, sights
 use Rattle.step_board.specs.Standing.{AreLogs, StandsBehind, StandsFor}
 use Rattle.step_board.proofs.SeeingLaws.{all_agree, find_agree, log_there, looks_at_all, looks_seen, none_left, seen_done, seen_state, sighted_at, sights_seen}
 use Rattle.step_board.proofs.StandingLemmas.{AreSeen, scan_adds, seen_both}
-
-is_none_by : (o : Option ℕ) (b : Bool) → is_some o ≡ not b → b ≡ is_none o
-is_none_by None true h = refl
-is_none_by None false h = h
-is_none_by (Some n) true h = h
-is_none_by (Some n) false h = refl
 
 slots_sighted : (logs : List (List Event)) (ns : List ℕ) → map (λ (x : Sight). x.slot) (map (sight_of logs) ns) ≡ ns
 slots_sighted logs [] = refl
@@ -94,22 +88,22 @@ module _ {B : Type 0} (S : B → World → Type 0) where
     sight_is b w s k below =
         sighted_at (logs b) k (omega (arith, below, log_length b w s)) ∙ ap (λ es. Some es) (log_at_slot b w s k below)
 
-    pub seen_at_rest : (a b : B) (begins moved idle none_ : Bool) (undone : Option ℕ) → GaveTurns S a b begins moved
-        → is_some undone ≡ not none_ → ((w : World) → S b w → undone ≡ first_undone_in w) → idle ≡ list_all (is_idle_if_live (machine b).config) (found_all (machine b))
-        → (r : List Entry) → StandsFor S a r → (none_ && idle) ≡ is_seen_at_rest (config_of r) (sights_of (logs b)) (found_all (machine b))
-    seen_at_rest a b begins moved idle none_ undone gave none_is undone_is idle_is r h =
+    pub seen_at_rest : (a b : B) (begins moved idle rests : Bool) → GaveTurns S a b begins moved
+        → ((w : World) → S b w → rests ≡ (is_none (first_undone_in w) && idle)) → idle ≡ list_all (is_idle_if_live (machine b).config) (found_all (machine b))
+        → (r : List Entry) → StandsFor S a r → rests ≡ is_seen_at_rest (config_of r) (sights_of (logs b)) (found_all (machine b))
+    seen_at_rest a b begins moved idle rests gave rests_is idle_is r h =
         let v = (round begins (played r)).world in
         let s = (gave (played r) h.shows).shows in
         let same = config_behind a b begins moved gave r h in
         let here = sym (ap (λ (t : State). t.config) (machine_is b v s)) in
         let c = config_of r in
         let found = found_all (machine b) in
-        let done : none_ ≡ list_all (is_seen_done c (seen_in (sights_of (logs b)))) (live_nodes c) =
-        is_none_by undone none_ none_is ∙ ap is_none (undone_is v s) ∙ sym (none_left (is_done v) (live_nodes v.machine.config))
+        let done : is_none (first_undone_in v) ≡ list_all (is_seen_done c (seen_in (sights_of (logs b)))) (live_nodes c) =
+        sym (none_left (is_done v) (live_nodes v.machine.config))
         ∙ ap (λ d. list_all (is_done v) (live_nodes d)) (sym (same ∙ here))
         ∙ sym (all_agree (is_seen_done c (seen_in (sights_of (logs b)))) (is_done v) (live_nodes c)
         (seen_done v (are_reached b v s) (folds v (are_reached b v s)) c (same ∙ here) (seen_in (sights_of (logs b))) (sight_is b v s))) in
-        ap (λ x. x && idle) done ∙ ap (λ x. list_all (is_seen_done c (seen_in (sights_of (logs b)))) (live_nodes c) && x)
+        rests_is v s ∙ ap (λ x. x && idle) done ∙ ap (λ x. list_all (is_seen_done c (seen_in (sights_of (logs b)))) (live_nodes c) && x)
         (idle_is ∙ ap (λ d. list_all (is_idle_if_live d) found) (sym same))
 
     -- ---- logs

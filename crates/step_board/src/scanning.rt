@@ -1,6 +1,6 @@
 //! What a scan does: turns of the live nodes, and looks at all nodes and ports.
 
-ghost use Rattle.std.specs.Prelude.{◌≡◌, ◌+◌, ◌-◌, ◌*◌, ◌<◌, ◌≤◌, ◌^◌, ◌&&◌, IfOk, OnErr, length, if◌then◌else◌};
+ghost use Rattle.std.specs.Prelude.{◌≡◌, ◌+◌, ◌-◌, ◌*◌, ◌<◌, ◌≤◌, ◌^◌, ◌&&◌, IfOk, OnErr, is_none, length, if◌then◌else◌};
 ghost use Rattle.gate_word.specs.Phases.{is_idle};
 ghost use Rattle.std.specs.List.{list_all};
 ghost use Rattle.gate_records.specs.Looks.{ended_in_word};
@@ -65,6 +65,14 @@ pub fn first_undone<N: Nodes>(nodes: &N) -> Option<u32>
         undone = undone_up_to(nodes, undone, slot);
     }
     undone
+}
+
+/// Whether all is at rest, where it is told whether the ports are idle. Nodes are looked at only then.
+pub fn rests<N: Nodes>(nodes: &N, idle: bool) -> bool
+    requires some { ShowsSome N.shows nodes.now }
+    ensures { (w : World) → N.shows nodes.now w → result ≡ (is_none (first_undone_in w) && idle) }
+{
+    idle && first_undone(nodes).is_none()
 }
 
 /// What looks at ports found.

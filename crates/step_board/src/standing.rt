@@ -93,12 +93,12 @@ impl<N: Nodes + Drop> Board for StepBoard<N> {
 
     fn scan(&mut self, begins: bool) -> Result<Scan, NoMemory> {
         let moved = give_turns(&mut self.nodes, begins)?;
-        let undone = first_undone(&self.nodes);
         let ports = look_at_ports(&self.nodes);
+        let done = rests(&self.nodes, ports.idle);
         states_are_folds_of_own_events();
         Ok(Scan {
             moved,
-            done: undone.is_none() & ports.idle,
+            done,
             ended: ports.ended,
         })
     }

@@ -26,7 +26,6 @@ returns-clause-ok g c =
       adds = scan_entries_added S machine is reached folds logs logs_are old new c.args.begins moved gave;
       all_sighted = λ alone. sighted_all S machine is reached folds logs logs_are old new c.args.begins moved gave;
       at_ports = looked_at_all S machine is reached folds logs logs_are old new c.args.begins moved gave;
-      done = seen_at_rest S machine is reached folds logs logs_are old new c.args.begins moved ports.result.idle c.is_none.result c.first_undone-undone.result gave c.is_none.ensures
-          c.first_undone-undone.ensures ports.ensures.idle;
+      done = seen_at_rest S machine is reached folds logs logs_are old new c.args.begins moved ports.result.idle c.rests-done.result gave c.rests-done.ensures ports.ensures.idle;
       ended = ports.ensures.ended;
     }
