@@ -17,7 +17,7 @@ ghost use Rattle.turns.specs.Turn.{ends};
 ghost use Rattle.node_host.specs.Tried.{HasNoReply, HaveNoReplies, LoadsPort, Steps, is_move, is_reply_at};
 ghost use Rattle.port_gate.specs.Loads.{TellsLoads};
 
-use crate::keeping::{keep, place};
+use crate::keeping::{keep_ask, keep_end, place};
 use crate::node::HostNode;
 use component_trait::Component;
 use port_gate::{GateSeat, PortGate, SeeAnswer};
@@ -33,13 +33,13 @@ pub fn port_known(known: &Known, require: u32) -> PortKnown
 
 /// Hands an answer in: to the service that called, or as that of a transaction that the component wanted.
 #[tactic(auto, using(crate::proofs::Asking::asked_is, crate::proofs::Asking::wanted_is, turn_laws::proofs::AgreementLaws::who_wants_asks_nothing))]
-fn hand_in<C: Component>(inner: &mut C, first_port: u32, require: u32, consequent: bool, value: u32)
-    requires expected { expects consequent first_port (C.state inner.old) (first_port + require) ≡ true }
+fn hand_in<C: Component>(inner: &mut C, first_port: u32, require: u32, known: PortKnown, value: u32)
+    requires expected { expects known.consequent first_port (C.state inner.old) (first_port + require) ≡ true }
     requires small { value < VALUE_LIMIT }
     ensures folds { (serial : ℕ) → after_event first_port (C.state inner.old) (event.End (first_port + require) serial value) ≡ Some (C.state inner.new) }
     ensures room { C.has_room inner.old → C.has_room inner.new }
 {
-    if consequent {
+    if known.consequent {
         inner.answered(require, value);
     } else {
         inner.ended(require, value);
@@ -73,29 +73,15 @@ impl<C: Component + Drop, S: GateSeat + Drop> HostNode<C, S> {
     {
         place(gate, &self.seat);
         let known = port_known(&self.known, require);
-        let port = self.first_port + require;
+        let first = self.first_port;
+        let port = first + require;
         let serial = known.serial;
         match gate.see(&mut self.seat, port) {
             SeeAnswer::NotYet { .. } => None,
             SeeAnswer::Answer { value } => {
                 gate.end(&mut self.seat, port);
-                hand_in(
-                    &mut self.inner,
-                    self.first_port,
-                    require,
-                    known.consequent,
-                    value,
-                );
-                keep(
-                    &mut self.log,
-                    &mut self.known,
-                    self.first_port,
-                    Event::End {
-                        port,
-                        serial,
-                        value,
-                    },
-                );
+                hand_in(&mut self.inner, first, require, known, value);
+                keep_end(&mut self.log, &mut self.known, first, port, serial, value);
                 Some(Event::End {
                     port,
                     serial,
@@ -105,16 +91,7 @@ impl<C: Component + Drop, S: GateSeat + Drop> HostNode<C, S> {
             SeeAnswer::More { .. } => {
                 let value = self.inner.replies(require);
                 gate.ask(&mut self.seat, port, value);
-                keep(
-                    &mut self.log,
-                    &mut self.known,
-                    self.first_port,
-                    Event::Ask {
-                        port,
-                        serial,
-                        value,
-                    },
-                );
+                keep_ask(&mut self.log, &mut self.known, first, port, serial, value);
                 Some(Event::Ask {
                     port,
                     serial,

@@ -4,6 +4,7 @@ ghost use Rattle.std.specs.Prelude.{◌≡◌, ◌++◌, ◌∷◌, [], ◌<◌,
 ghost use Rattle.port_gate.specs.Noting.{CanCount};
 ghost use Rattle.port_gate.specs.Seats.{IsWithinLimits};
 ghost use Rattle.quiesce_core.specs.Knowledge.{known_next};
+ghost use Rattle.quiesce_core.specs.declared.event.Event.TheVariants as event;
 
 use port_gate::{PortGate, note};
 use quiesce_core::{Event, Known};
@@ -19,6 +20,54 @@ pub fn keep(log: &mut Vec<Event>, known: &mut Known, first_port: u32, event: Eve
 {
     note(known, first_port, &event);
     log.push_reserved(event);
+}
+
+/// Keeps the end of a transaction of its own.
+#[inline(always)]
+pub fn keep_end(
+    log: &mut Vec<Event>,
+    known: &mut Known,
+    first_port: u32,
+    port: u32,
+    serial: u32,
+    value: u32,
+)
+    requires room { length log.old.items < vec_capacity log.old }
+    requires small { first_port < 2 ^ 31 }
+    requires count { CanCount known.old.service (event.End port serial value) }
+    ensures logged { log.new.items ≡ log.old.items ++ event.End port serial value ∷ [] }
+    ensures known { known.new ≡ known_next first_port known.old (event.End port serial value) }
+{
+    let event = Event::End {
+        port,
+        serial,
+        value,
+    };
+    keep(log, known, first_port, event);
+}
+
+/// Keeps a further message in one.
+#[inline(always)]
+pub fn keep_ask(
+    log: &mut Vec<Event>,
+    known: &mut Known,
+    first_port: u32,
+    port: u32,
+    serial: u32,
+    value: u32,
+)
+    requires room { length log.old.items < vec_capacity log.old }
+    requires small { first_port < 2 ^ 31 }
+    requires count { CanCount known.old.service (event.Ask port serial value) }
+    ensures logged { log.new.items ≡ log.old.items ++ event.Ask port serial value ∷ [] }
+    ensures known { known.new ≡ known_next first_port known.old (event.Ask port serial value) }
+{
+    let event = Event::Ask {
+        port,
+        serial,
+        value,
+    };
+    keep(log, known, first_port, event);
 }
 
 /// A seat that fits is one of a slot and of ports as one run has them.

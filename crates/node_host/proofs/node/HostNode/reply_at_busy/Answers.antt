@@ -35,7 +35,7 @@ invariant_of-self-in-Answer-clause-hosted g c =
     let seat' : SeatSeen = record { slot = g.S.GateSeat.slot_of c.end.new.seat; known = g.S.GateSeat.known c.end.new.seat; told = g.S.GateSeat.tells c.end.new.seat } in
     let two : c.args.require < 2 = omega (arith, c.requires.require, two_requires t.kind) in
     let e : Event = event.End (h.first_port + c.args.require) c.port_known-known.result.serial c.in-Answer.value in
-    hosted_after h.slot h.first_port t h.log.items line h.known h.waiting seat h.hosted e (g.C.Component.state c.hand_in.new.inner) c.keep.new.log.items c.keep.new.known seat'
+    hosted_after h.slot h.first_port t h.log.items line h.known h.waiting seat h.hosted e (g.C.Component.state c.hand_in.new.inner) c.keep_end.new.log.items c.keep_end.new.known seat'
     (g.G.PortGate.node c.end.new.self c.end.new.seat) (g.G.PortGate.state c.args.gate.now) (g.G.PortGate.state c.end.new.self)
     (c.end.ensures.node ∙ c.see.ensures.node ∙ c.requires.node) (g.met.G.PortGate.within c.end.new.self c.end.new.seat c.end.ensures.fits).1
     (ended (node_of h.slot h.first_port t) (g.G.PortGate.node c.see.new.self c.see.new.seat) c.args.require (see.Answer c.in-Answer.value) seat.known (g.S.GateSeat.known c.see.new.seat) seat'.known
@@ -43,7 +43,7 @@ invariant_of-self-in-Answer-clause-hosted g c =
     (c.see.ensures.node ∙ c.requires.node) (c.in-Answer.ensures.known ∙ ap (λ m. with_seen m (h.first_port + c.args.require) (see.Answer c.in-Answer.value) seat.known) c.requires.node)
     c.see.ensures.events c.see.ensures.state (omega (arith, two, seat_two h.slot h.first_port t h.log.items line h.known h.waiting seat h.hosted))
     c.port_known-known.result c.in-Answer.value (c.port_known-known.ensures ∙ ap (λ w. slice_index_or w.ports c.args.require port_at_start) h.hosted.kept) refl c.end.ensures.does)
-    (busy_at h.slot h.first_port t h.log.items line h.known h.waiting seat h.hosted c.args.require c.port_known-known.result two c.port_known-known.ensures (ap (λ (k : PortKnown). k.idle) c.port_known-known.ensures ∙ c.requires.busy)) (c.hand_in.ensures.folds c.port_known-known.result.serial) c.keep.ensures.logged c.keep.ensures.known
+    (busy_at h.slot h.first_port t h.log.items line h.known h.waiting seat h.hosted c.args.require c.port_known-known.result two c.port_known-known.ensures (ap (λ (k : PortKnown). k.idle) c.port_known-known.ensures ∙ c.requires.busy)) (c.hand_in.ensures.folds c.port_known-known.result.serial) c.keep_end.ensures.logged c.keep_end.ensures.known
 
 pub invariant_of-self-in-More-clause-hosted : goal.invariant_of-self-in-More-clause-hosted
 invariant_of-self-in-More-clause-hosted g c =
@@ -54,7 +54,7 @@ invariant_of-self-in-More-clause-hosted g c =
     let seat' : SeatSeen = record { slot = g.S.GateSeat.slot_of c.ask.new.seat; known = g.S.GateSeat.known c.ask.new.seat; told = g.S.GateSeat.tells c.ask.new.seat } in
     let two : c.args.require < 2 = omega (arith, c.requires.require, two_requires t.kind) in
     let e : Event = event.Ask (h.first_port + c.args.require) c.port_known-known.result.serial c.replies-value.result in
-    hosted_after h.slot h.first_port t h.log.items line h.known h.waiting seat h.hosted e (t) c.keep-in-More.new.log.items c.keep-in-More.new.known seat'
+    hosted_after h.slot h.first_port t h.log.items line h.known h.waiting seat h.hosted e (t) c.keep_ask.new.log.items c.keep_ask.new.known seat'
     (g.G.PortGate.node c.ask.new.self c.ask.new.seat) (g.G.PortGate.state c.args.gate.now) (g.G.PortGate.state c.ask.new.self)
     (c.ask.ensures.node ∙ c.see.ensures.node ∙ c.requires.node) (g.met.G.PortGate.within c.ask.new.self c.ask.new.seat c.ask.ensures.fits).1
     (asked (node_of h.slot h.first_port t) (g.G.PortGate.node c.see.new.self c.see.new.seat) c.args.require (see.More c.in-More.value) seat.known (g.S.GateSeat.known c.see.new.seat) seat'.known
@@ -62,7 +62,7 @@ invariant_of-self-in-More-clause-hosted g c =
     (c.see.ensures.node ∙ c.requires.node) (c.in-More.ensures.known ∙ ap (λ m. with_seen m (h.first_port + c.args.require) (see.More c.in-More.value) seat.known) c.requires.node)
     c.see.ensures.events c.see.ensures.state (omega (arith, two, seat_two h.slot h.first_port t h.log.items line h.known h.waiting seat h.hosted))
     c.port_known-known.result c.in-More.value c.replies-value.result (c.port_known-known.ensures ∙ ap (λ w. slice_index_or w.ports c.args.require port_at_start) h.hosted.kept) refl c.ask.ensures.does)
-    (tt) (ask_folds h.first_port (h.first_port + c.args.require) c.port_known-known.result.serial c.replies-value.result t c.port_known-known.result.consequent (expected_at h.slot h.first_port t h.log.items line h.known h.waiting seat h.hosted c.args.require c.port_known-known.result two c.port_known-known.ensures (ap (λ (k : PortKnown). k.idle) c.port_known-known.ensures ∙ c.requires.busy)) c.replies-value.ensures.reply) c.keep-in-More.ensures.logged c.keep-in-More.ensures.known
+    (tt) (ask_folds h.first_port (h.first_port + c.args.require) c.port_known-known.result.serial c.replies-value.result t c.port_known-known.result.consequent (expected_at h.slot h.first_port t h.log.items line h.known h.waiting seat h.hosted c.args.require c.port_known-known.result two c.port_known-known.ensures (ap (λ (k : PortKnown). k.idle) c.port_known-known.ensures ∙ c.requires.busy)) c.replies-value.ensures.reply) c.keep_ask.ensures.logged c.keep_ask.ensures.known
 
 pub returns-in-Answer-clause-node : goal.returns-in-Answer-clause-node
 returns-in-Answer-clause-node g c =
@@ -73,7 +73,7 @@ returns-in-Answer-clause-node g c =
     let seat' : SeatSeen = record { slot = g.S.GateSeat.slot_of c.end.new.seat; known = g.S.GateSeat.known c.end.new.seat; told = g.S.GateSeat.tells c.end.new.seat } in
     let two : c.args.require < 2 = omega (arith, c.requires.require, two_requires t.kind) in
     let e : Event = event.End (h.first_port + c.args.require) c.port_known-known.result.serial c.in-Answer.value in
-    node_after h.slot h.first_port t h.log.items line h.known h.waiting seat h.hosted e (g.C.Component.state c.hand_in.new.inner) c.keep.new.log.items c.keep.new.known seat'
+    node_after h.slot h.first_port t h.log.items line h.known h.waiting seat h.hosted e (g.C.Component.state c.hand_in.new.inner) c.keep_end.new.log.items c.keep_end.new.known seat'
     (g.G.PortGate.node c.end.new.self c.end.new.seat) (g.G.PortGate.state c.args.gate.now) (g.G.PortGate.state c.end.new.self)
     (c.end.ensures.node ∙ c.see.ensures.node ∙ c.requires.node) (g.met.G.PortGate.within c.end.new.self c.end.new.seat c.end.ensures.fits).1
     (ended (node_of h.slot h.first_port t) (g.G.PortGate.node c.see.new.self c.see.new.seat) c.args.require (see.Answer c.in-Answer.value) seat.known (g.S.GateSeat.known c.see.new.seat) seat'.known
@@ -81,7 +81,7 @@ returns-in-Answer-clause-node g c =
     (c.see.ensures.node ∙ c.requires.node) (c.in-Answer.ensures.known ∙ ap (λ m. with_seen m (h.first_port + c.args.require) (see.Answer c.in-Answer.value) seat.known) c.requires.node)
     c.see.ensures.events c.see.ensures.state (omega (arith, two, seat_two h.slot h.first_port t h.log.items line h.known h.waiting seat h.hosted))
     c.port_known-known.result c.in-Answer.value (c.port_known-known.ensures ∙ ap (λ w. slice_index_or w.ports c.args.require port_at_start) h.hosted.kept) refl c.end.ensures.does)
-    (busy_at h.slot h.first_port t h.log.items line h.known h.waiting seat h.hosted c.args.require c.port_known-known.result two c.port_known-known.ensures (ap (λ (k : PortKnown). k.idle) c.port_known-known.ensures ∙ c.requires.busy)) (c.hand_in.ensures.folds c.port_known-known.result.serial) c.keep.ensures.logged c.keep.ensures.known
+    (busy_at h.slot h.first_port t h.log.items line h.known h.waiting seat h.hosted c.args.require c.port_known-known.result two c.port_known-known.ensures (ap (λ (k : PortKnown). k.idle) c.port_known-known.ensures ∙ c.requires.busy)) (c.hand_in.ensures.folds c.port_known-known.result.serial) c.keep_end.ensures.logged c.keep_end.ensures.known
 
 pub returns-in-Answer-clause-moved : goal.returns-in-Answer-clause-moved
 returns-in-Answer-clause-moved g c =
@@ -92,7 +92,7 @@ returns-in-Answer-clause-moved g c =
     let seat' : SeatSeen = record { slot = g.S.GateSeat.slot_of c.end.new.seat; known = g.S.GateSeat.known c.end.new.seat; told = g.S.GateSeat.tells c.end.new.seat } in
     let two : c.args.require < 2 = omega (arith, c.requires.require, two_requires t.kind) in
     let e : Event = event.End (h.first_port + c.args.require) c.port_known-known.result.serial c.in-Answer.value in
-    moved_after h.slot h.first_port t h.log.items line h.known h.waiting seat h.hosted e (g.C.Component.state c.hand_in.new.inner) c.keep.new.log.items c.keep.new.known seat'
+    moved_after h.slot h.first_port t h.log.items line h.known h.waiting seat h.hosted e (g.C.Component.state c.hand_in.new.inner) c.keep_end.new.log.items c.keep_end.new.known seat'
     (g.G.PortGate.node c.end.new.self c.end.new.seat) (g.G.PortGate.state c.args.gate.now) (g.G.PortGate.state c.end.new.self)
     (c.end.ensures.node ∙ c.see.ensures.node ∙ c.requires.node) (g.met.G.PortGate.within c.end.new.self c.end.new.seat c.end.ensures.fits).1
     (ended (node_of h.slot h.first_port t) (g.G.PortGate.node c.see.new.self c.see.new.seat) c.args.require (see.Answer c.in-Answer.value) seat.known (g.S.GateSeat.known c.see.new.seat) seat'.known
@@ -100,7 +100,7 @@ returns-in-Answer-clause-moved g c =
     (c.see.ensures.node ∙ c.requires.node) (c.in-Answer.ensures.known ∙ ap (λ m. with_seen m (h.first_port + c.args.require) (see.Answer c.in-Answer.value) seat.known) c.requires.node)
     c.see.ensures.events c.see.ensures.state (omega (arith, two, seat_two h.slot h.first_port t h.log.items line h.known h.waiting seat h.hosted))
     c.port_known-known.result c.in-Answer.value (c.port_known-known.ensures ∙ ap (λ w. slice_index_or w.ports c.args.require port_at_start) h.hosted.kept) refl c.end.ensures.does)
-    (busy_at h.slot h.first_port t h.log.items line h.known h.waiting seat h.hosted c.args.require c.port_known-known.result two c.port_known-known.ensures (ap (λ (k : PortKnown). k.idle) c.port_known-known.ensures ∙ c.requires.busy)) (c.hand_in.ensures.folds c.port_known-known.result.serial) c.keep.ensures.logged c.keep.ensures.known
+    (busy_at h.slot h.first_port t h.log.items line h.known h.waiting seat h.hosted c.args.require c.port_known-known.result two c.port_known-known.ensures (ap (λ (k : PortKnown). k.idle) c.port_known-known.ensures ∙ c.requires.busy)) (c.hand_in.ensures.folds c.port_known-known.result.serial) c.keep_end.ensures.logged c.keep_end.ensures.known
 
 pub returns-in-More-clause-moved : goal.returns-in-More-clause-moved
 returns-in-More-clause-moved g c =
@@ -111,7 +111,7 @@ returns-in-More-clause-moved g c =
     let seat' : SeatSeen = record { slot = g.S.GateSeat.slot_of c.ask.new.seat; known = g.S.GateSeat.known c.ask.new.seat; told = g.S.GateSeat.tells c.ask.new.seat } in
     let two : c.args.require < 2 = omega (arith, c.requires.require, two_requires t.kind) in
     let e : Event = event.Ask (h.first_port + c.args.require) c.port_known-known.result.serial c.replies-value.result in
-    moved_after h.slot h.first_port t h.log.items line h.known h.waiting seat h.hosted e (t) c.keep-in-More.new.log.items c.keep-in-More.new.known seat'
+    moved_after h.slot h.first_port t h.log.items line h.known h.waiting seat h.hosted e (t) c.keep_ask.new.log.items c.keep_ask.new.known seat'
     (g.G.PortGate.node c.ask.new.self c.ask.new.seat) (g.G.PortGate.state c.args.gate.now) (g.G.PortGate.state c.ask.new.self)
     (c.ask.ensures.node ∙ c.see.ensures.node ∙ c.requires.node) (g.met.G.PortGate.within c.ask.new.self c.ask.new.seat c.ask.ensures.fits).1
     (asked (node_of h.slot h.first_port t) (g.G.PortGate.node c.see.new.self c.see.new.seat) c.args.require (see.More c.in-More.value) seat.known (g.S.GateSeat.known c.see.new.seat) seat'.known
@@ -119,4 +119,4 @@ returns-in-More-clause-moved g c =
     (c.see.ensures.node ∙ c.requires.node) (c.in-More.ensures.known ∙ ap (λ m. with_seen m (h.first_port + c.args.require) (see.More c.in-More.value) seat.known) c.requires.node)
     c.see.ensures.events c.see.ensures.state (omega (arith, two, seat_two h.slot h.first_port t h.log.items line h.known h.waiting seat h.hosted))
     c.port_known-known.result c.in-More.value c.replies-value.result (c.port_known-known.ensures ∙ ap (λ w. slice_index_or w.ports c.args.require port_at_start) h.hosted.kept) refl c.ask.ensures.does)
-    (tt) (ask_folds h.first_port (h.first_port + c.args.require) c.port_known-known.result.serial c.replies-value.result t c.port_known-known.result.consequent (expected_at h.slot h.first_port t h.log.items line h.known h.waiting seat h.hosted c.args.require c.port_known-known.result two c.port_known-known.ensures (ap (λ (k : PortKnown). k.idle) c.port_known-known.ensures ∙ c.requires.busy)) c.replies-value.ensures.reply) c.keep-in-More.ensures.logged c.keep-in-More.ensures.known
+    (tt) (ask_folds h.first_port (h.first_port + c.args.require) c.port_known-known.result.serial c.replies-value.result t c.port_known-known.result.consequent (expected_at h.slot h.first_port t h.log.items line h.known h.waiting seat h.hosted c.args.require c.port_known-known.result two c.port_known-known.ensures (ap (λ (k : PortKnown). k.idle) c.port_known-known.ensures ∙ c.requires.busy)) c.replies-value.ensures.reply) c.keep_ask.ensures.logged c.keep_ask.ensures.known
