@@ -1,5 +1,5 @@
 -- What the inboxes of one thread hold and count.
-use Rattle.std.specs.Prelude.{◌≡◌, ℕ, ◌<◌, ◌≤◌, List, [], length, slice_get, slice_index_or, Some}
+use Rattle.std.specs.Prelude.{◌≡◌, ℕ, ◌<◌, ◌≤◌, List, [], slice_get, slice_index_or, Some}
 use Rattle.config_graph.specs.declared.TheConstants.{MAX_PORTS}
 use Rattle.port_queue.specs.declared.TheConstants.{MAX_HINTS}
 use Rattle.port_queue.specs.Inboxes.{Counts, no_counts}

@@ -12,11 +12,11 @@ use std::alloc::Global;
 use std::collections::VecDeque;
 use std::marker::Model;
 
-/// Hints in order, the number of None and Full answers, the number of hints given, and the last one given. The counts stand still at
+/// Hints in order, each the number of a port in the fewest bytes, since the memory of all is taken at the start; the number of None and Full answers, the number of hints given, and the last one given. The counts stand still at
 /// their last value.
 #[derive(Debug, Drop)]
 pub struct Inbox {
-    ports: VecDeque<u32>,
+    ports: VecDeque<u16>,
     refused: u64,
     given: u64,
     last: Option<u32>,
@@ -57,7 +57,7 @@ impl Inbox {
             self.refused = self.refused.saturating_add(1);
             return Err(Full);
         }
-        self.ports.push_back_reserved(port);
+        self.ports.push_back_reserved(port as u16);
         Ok(())
     }
 
@@ -72,6 +72,7 @@ impl Inbox {
             return None;
         };
         self.given = self.given.saturating_add(1);
+        let port = port as u32;
         self.last = Some(port);
         Some(port)
     }

@@ -18,7 +18,7 @@ pub struct PlainHints {
 }
 
 impl PlainHints {
-    /// Empty inboxes. It takes the memory of all hints that they may hold, some four million bytes.
+    /// Empty inboxes. It takes the memory of all hints that they may hold, some two million bytes.
     #[tactic(auto, using(crate::proofs::Boxes::number_of_boxes))]
     pub fn new(alloc: Global) -> Result<PlainHints, NoMemory>
         ensures empty { IfOk result (λ h. (node : ℕ) → ⟦<PlainHints as Hints>⟧.tells h node ≡ Some []) }
