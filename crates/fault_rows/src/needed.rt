@@ -13,6 +13,8 @@ ghost use Rattle.darwin_parser.specs.Refusals.{IsTooNested, IsUnexpected};
 ghost use Rattle.fault_rows.specs.Checks as checks;
 ghost use Rattle.fault_rows.specs.Elaborations as elaborations;
 ghost use Rattle.fault_rows.specs.Plans.{IsRefused, empty, fork_b, made, move, one, sink_a, sink_b, source_b};
+ghost use Rattle.report_parser.specs.Stages.{IsReportFault};
+ghost use Rattle.report_parser.specs.declared.error.ReportFault.TheVariants as faults;
 ghost use Rattle.fault_rows.specs.Texts.{text_of, too_nested, unexpected};
 
 /// For each fault of a text there is one whose first fault it is. By `darwin_lexer::one_reading` it has no other, and is
@@ -59,6 +61,17 @@ pub fn each_refusal_of_a_script_is_needed()
     ensures too_many { IsScriptFault (flat_map (λ _. codes "use a\n") (range_with_len 0 257)) (TooManyLines 257) }
     ensures no_start { IsScriptFault [] NoStart }
     ensures no_end { IsScriptFault (codes "use a\nstart A") NoEnd }
+{}
+
+/// For each refusal of a report there is a text that has it: of its first line, of one within, of what stands
+/// behind the last, and of a text that ends too soon. By `report_parser::one_report_or_one_fault` these have no other, and are no reports.
+pub fn each_refusal_of_a_report_is_needed()
+    ensures bad_line { IsReportFault (codes "?\n") (faults.BadLine 1) }
+    ensures bad_version { IsReportFault (codes "report 3\n") (faults.BadLine 1) }
+    ensures bad_history { IsReportFault (codes "report 2\nopen 0 1\n") (faults.BadLine 2) }
+    ensures bad_end { IsReportFault (codes "report 2\nstatus 0\n?") (faults.BadLine 3) }
+    ensures short { IsReportFault [] faults.Short }
+    ensures short_history { IsReportFault (codes "report 2\n") faults.Short }
 {}
 
 /// For each refusal of an event file there is a text that has it. By `change_script::one_file_or_one_fault` it has no
