@@ -14,5 +14,5 @@ mod walking;
 pub use fault::{Fault, WalkError};
 pub use instance::{parameters_of, walk};
 pub use laws::{ranges_have_their_integers, what_is_reached};
-pub use valuing::{ValueError, Variable, value};
+pub use valuing::Variable;
 pub use walked::{Binding, Child, End, Segment, Walked};

@@ -5,10 +5,9 @@ ghost use Rattle.std.specs.Int.{w32};
 ghost use Rattle.darwin_parser.specs.Tree.{expr_of};
 ghost use Rattle.darwin_walk.specs.Value.{value as value_of, operation, integer_operation, is_decided, exact, integer, is_true as truly, truth as truth_of};
 ghost use Rattle.darwin_walk.specs.Environment.{env_at};
-ghost use Rattle.darwin_walk.specs.Spine.{Says, env_of, IsOperand, IsSpine};
+ghost use Rattle.darwin_walk.specs.Spine.{Says, IsOperand, IsSpine};
 
 use crate::environment::Environment;
-use crate::keyed::by_name;
 use base::Text;
 use darwin_parser::{Expr, Op};
 use std::alloc::{AllocError, AllocFailed, Global};
@@ -62,22 +61,6 @@ struct Pending<'a> {
 struct Spine<'a> {
     first: &'a Expr,
     pending: Vec<Pending<'a>>,
-}
-
-/// What the expression is worth where the variables have these values; a name that none of them has is 0.
-/// Each name is looked for among all of them.
-pub fn value(alloc: Global, expr: &Expr, env: &[Variable]) -> Result<i32, ValueError>
-    ensures says { Says result (value_of (expr_of expr.now) (env_of env.now)) }
-    ensures fits { IfOk result (λ z. FitsSigned w32 z) }
-{
-    let parameters: &[Variable] = &[];
-    let none = by_name(alloc, parameters)?;
-    let env = Environment {
-        parameters,
-        by_name: &none,
-        variables: env,
-    };
-    worth(alloc, expr, &env)
 }
 
 /// What the expression is worth in an environment. A chain of operations is gone through in a loop, so

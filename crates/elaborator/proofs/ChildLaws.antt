@@ -1,18 +1,18 @@
 -- The instances made in an instance, and how they are found by their paths.
-use Rattle.std.proofs.Common.{◌≡◌, ◌∙◌, ℕ, suc, true, Option, Some, None, refl, ap, sym, subst, eqb}
+use Rattle.std.proofs.Common.{◌≡◌, ◌∙◌, ℕ, zero, suc, ◌<◌, true, Option, Some, None, refl, ap, sym, subst, eqb, arith}
 use Rattle.std.specs.List.{Contains, find, slice_get}
-use Rattle.std.specs.Option.{IsSome, option_eq, option_map}
+use Rattle.std.specs.Option.{option_eq, option_map}
 use Rattle.std.specs.Str.{bytes_eq}
 use Rattle.std.proofs.lemmas.Bool.{false_from_ne_true, eqb-true, eq-eqb}
 use Rattle.std.proofs.lemmas.Slice.Eq.{bytes_eq-Decides}
-use Rattle.std.proofs.lemmas.Option.{slice_get-map}
+use Rattle.std.proofs.lemmas.Option.{slice_get-map, none-some}
 use Rattle.darwin_parser.specs.Tree.{Tree}
 use Rattle.darwin_types.specs.Scope.{component_named}
 use Rattle.darwin_walk.specs.Value.{parameters}
 use Rattle.elaborator.specs.Paths.{Path}
 use Rattle.elaborator.specs.Instances.{Instance, children_in, child_path, instance_of, made_in}
 use Rattle.elaborator.specs.Numbering.{Expanded, NumberedInstance, Numbered, NumberedIn, IsExpanded}
-use Rattle.elaborator.specs.Expansion.{expanded_of, made_of, instance_in, number_at, IsNumbering}
+use Rattle.elaborator.specs.Expansion.{expanded_of, made_of, instance_in, IsNumbering}
 use Rattle.elaborator.specs.declared.instance.Instance as code_instance
 use Rattle.elaborator.specs.declared.instance.Expansion.{Expansion}
 use Rattle.base.proofs.ContainsLaws.{Contains-from_filter_map}
@@ -63,14 +63,18 @@ find-child e kept m n path i x at is_at is_made is_path =
     bytes_same : (p q : Path) → bytes_eq p q ≡ true → p ≡ q
     bytes_same p q = (bytes_eq-Decides p q).0
 
--- where no number of the path is that of an instance made there, none is found
+-- where no instance of the path is made there, none is found
 pub find-no_child :
     (e : Expansion) → IsNumbering e → (m : ℕ) (path : Path) (i : Instance) → Numbered (expanded_of e) m i
-    → ((n : ℕ) (x : code_instance.Instance) → number_at e path ≡ Some n → slice_get e.instances.items n ≡ Some x → x.maker ≡ Some m → ⊥)
+    → ((n : ℕ) (x : code_instance.Instance) → 0 < n → slice_get e.instances.items n ≡ Some x → x.path ≡ path → x.maker ≡ Some m → ⊥)
     → find (λ j. bytes_eq path j.path) (made_in (expanded_of e).tree i) ≡ None
 find-no_child e kept m path i at not_there =
     find-none (λ j. bytes_eq path j.path) (made_in (expanded_of e).tree i) (λ j cj. false_from_ne_true (bytes_eq path j.path) (λ same. refuted j cj ((bytes_eq-Decides path j.path).0 same)))
   where
+    below_top : (n : ℕ) (x : code_instance.Instance) → slice_get e.instances.items n ≡ Some x → x.maker ≡ Some m → 0 < n
+    below_top zero x at_n maker = absurd (none-some m (sym (kept.top x at_n) ∙ maker))
+    below_top (suc n) x at_n maker = omega arith
+
     refuted : (j : Instance) → Contains (made_in (expanded_of e).tree i) j → path ≡ j.path → ⊥
     refuted j cj same =
         let below = kept.is_expanded.below_made m i j at cj in
@@ -79,7 +83,7 @@ find-no_child e kept m path i at not_there =
         let x = from.0 in
         let maker : x.maker ≡ Some m = ap (λ (y : NumberedInstance). y.maker) from.2 in
         let its_path : x.path ≡ path = ap (λ (y : NumberedInstance). y.instance.path) from.2 ∙ sym same in
-        not_there n x (subst (λ p. number_at e p ≡ Some n) its_path (kept.found n x from.1 (subst IsSome (sym maker) refl))) from.1 maker
+        not_there n x (below_top n x from.1 maker) from.1 its_path maker
 
 -- two optional numbers that are equal as the code tells it
 pub same_option : (a b : Option ℕ) → option_eq eqb a b ≡ true → a ≡ b

@@ -1,10 +1,8 @@
 -- What an expansion tells: the faults that it finds, and the whole where there are none.
-use Rattle.std.proofs.Common.{◌≡◌, ◌∙◌, inl, inr, ℕ, zero, suc, ◌+◌, ◌<◌, ◌≤◌, false, List, [], ◌∷◌, ◌++◌, length, length-append, length-set, set, map, sum_by, All, Option, Some, None, Result, refl, sym, ap, subst, arith}
+use Rattle.std.proofs.Common.{◌≡◌, ◌∙◌, inl, inr, ℕ, zero, suc, ◌+◌, ◌<◌, ◌≤◌, true, false, List, [], ◌∷◌, ◌++◌, length, length-append, length-set, set, map, sum_by, All, Option, Some, None, Result, refl, sym, ap, subst, arith}
 use Rattle.std.specs.List.{Contains, slice_get}
-use Rattle.std.specs.Option.{IsSome}
-use Rattle.std.specs.Map.{lookup}
-use Rattle.std.specs.Str.{bytes_eq}
 use Rattle.std.proofs.Math.Seq.{map-set_same}
+use Rattle.std.proofs.lemmas.Bool.{false≢true}
 use Rattle.std.proofs.lemmas.Option.{none-some, same_Some, get_or_from_slice_get}
 use Rattle.std.proofs.lemmas.List.{length-map, map-append}
 use Rattle.std.proofs.lemmas.List.Elements.{All-head, All-tail, Contains-append_left}
@@ -22,17 +20,19 @@ use Rattle.elaborator.specs.Paths.{Path}
 use Rattle.elaborator.specs.Instances.{Instance, made_in, paths_in, Inst, count_in}
 use Rattle.elaborator.specs.Faults.{own_faults, Twice, CountsMore}
 use Rattle.elaborator.specs.Numbering.{NumberedInstance, Numbered, NumberedIn, IsExpanded, IsOf}
-use Rattle.elaborator.specs.Expansion.{made_of, instance_in, expanded_of, number_at, IsNumbering, IsShown}
+use Rattle.elaborator.specs.Expansion.{made_of, instance_in, expanded_of, paths_of, AreSizes, IsNumbering, IsMapped, IsShown}
 use Rattle.elaborator.specs.Opening.{cause_at, error_at, Judges, IsNoted, IsFound}
 use Rattle.elaborator.specs.declared.opening.Found.{Found}
 use Rattle.elaborator.specs.ExpansionFaults.{IsTop, GrowthFault, IsClear, IsWhole}
 use Rattle.elaborator.specs.ExpansionFaults.GrowthFault.{out_of_range, zero_divisor, bad_index, two_instances, two_apart, too_deep, too_many}
-use Rattle.elaborator.specs.Growth.{made_by, IsWalkedClean, IsGrown, IsMapped, IsGrowth, IsSpread, IsClash, IsTold}
+use Rattle.elaborator.specs.Growth.{made_by, IsWalkedClean, IsGrown, IsGrowth, IsSpread, IsClash, IsTold}
 use Rattle.elaborator.specs.declared.instance.Instance as code
 use Rattle.elaborator.specs.declared.growing.Growth.{Growth}
 use Rattle.elaborator.specs.declared.instance.Expansion.{Expansion}
 use Rattle.elaborator.specs.declared.error.ElabError.{ElabError}
 use Rattle.elaborator.specs.declared.error.ElabError.TheVariants as error
+use Rattle.elaborator.proofs.HashLemmas.{hashed-top}
+use Rattle.elaborator.proofs.PlainLemmas.{plain-sizes}
 use Rattle.elaborator.proofs.NamingLemmas.{made_named}
 use Rattle.elaborator.proofs.TwiceLaws.{twice_at, twice_before, twice_places}
 use Rattle.elaborator.proofs.GrowthLemmas.{AreApart, earlier_or_same, grown-top, grown-open, grown-sound, grown-complete, grown-distinct, once-made}
@@ -111,7 +111,8 @@ apart-mapped e mapped m n x y positive positive' at at' same =
     let v = slice_get-map_some made_of e.instances.items m x at in
     let w = slice_get-map_some made_of e.instances.items n y at' in
     let paths : v.0.path ≡ w.0.path = ap (λ (z : NumberedInstance). z.instance.path) v.2 ∙ same ∙ ap (λ (z : NumberedInstance). z.instance.path) (sym w.2) in
-    same_Some m n (sym (mapped.found m v.0 positive v.1) ∙ ap (number_at e) paths ∙ mapped.found n w.0 positive' w.1)
+    mapped.distinct m n w.0.path positive positive' (slice_get-map_at (λ (i : code.Instance). i.path) e.instances.items m v.0 v.1 ∙ ap Some paths)
+    (slice_get-map_at (λ (i : code.Instance). i.path) e.instances.items n w.0 w.1)
 
 pub whole-expanded :
     (top : Instance) (g : Growth) → IsGrowth top g → top.depth ≡ 0 → component_named (tree_of g.expansion.directory.unit.now) top.component.name ≡ Some top.component
@@ -227,23 +228,9 @@ whole-kept top g growth shallow named composite all =
       primitive = λ n i at. growth.told n i at;
       bindings = λ n i at. (growth.shown n i (omega (arith, all, slice_get-below _ n i at)) at).bindings;
       sizes = λ n i at. (growth.shown n i (omega (arith, all, slice_get-below _ n i at)) at).sizes;
-      found = found;
-      told = λ n path i is at.
-          let w = growth.mapped.told n path is in
-          ap (λ (x : code.Instance). x.path) (same_Some i w.0 (sym at ∙ w.1)) ∙ w.2;
-      within = λ n path is.
-          let w = growth.mapped.told n path is in
-          slice_get-below g.expansion.instances.items n w.0 w.1;
+      mapped = growth.mapped;
+      top = λ i at. ap (λ (z : NumberedInstance). z.maker) (sym (one_at _ 0 _ _ growth.grown.first (slice_get-map_at made_of g.expansion.instances.items 0 i at)));
     }
-  where
-    found : (n : ℕ) (i : code.Instance) → slice_get g.expansion.instances.items n ≡ Some i → IsSome i.maker → number_at g.expansion i.path ≡ Some n
-    found zero i at made =
-        let none : i.maker ≡ None = ap (λ (z : NumberedInstance). z.maker) (sym (one_at _ 0 _ _ growth.grown.first (slice_get-map_at made_of g.expansion.instances.items 0 i at))) in
-        absurd (not_none i.maker none made)
-      where
-        not_none : (o : Option ℕ) → o ≡ None → IsSome o → ⊥
-        not_none o none some = cc
-    found (suc n) i at made = growth.mapped.found (suc n) i (omega arith) at
 
 pub whole-of : (top : Instance) (g : Growth) → IsGrowth top g → g.opened ≡ length g.expansion.instances.items → IsOf (expanded_of g.expansion) top
 whole-of top g growth all =
@@ -268,11 +255,12 @@ whole unit top g is_top same growth all_opened =
 
 -- the top alone
 pub growth-top :
-    (t : Tree) (top : code.Instance) (g : Growth) → IsTop t top → g.expansion.instances.items ≡ top ∷ [] → g.opened ≡ 0 → g.room ≡ 65536 → g.expansion.numbers.entries ≡ []
-    → IsGrowth (instance_in top) g
-growth-top t top g is_top alone none_opened all_room empty =
+    (t : Tree) (top : code.Instance) (g : Growth) → IsTop t top → g.expansion.instances.items ≡ top ∷ [] → g.opened ≡ 0 → g.room ≡ 65536 → g.expansion.numbers.before.items ≡ None ∷ []
+    → g.expansion.numbers.last.entries ≡ [] → IsGrowth (instance_in top) g
+growth-top t top g is_top alone none_opened all_room unled empty =
     record {
       at_top = is_top.depth;
+      composite_top = is_top.composite;
       grown =
           subst (λ is. IsGrown tree (instance_in top) (map made_of is) g.opened) (sym alone)
           (subst (IsGrown tree (instance_in top) (made_of top ∷ [])) (sym none_opened)
@@ -283,9 +271,12 @@ growth-top t top g is_top alone none_opened all_room empty =
           (subst (IsSpread tree (instance_in top) (instance_in top ∷ []) 0) (sym all_room) (spread-top tree (instance_in top) is_top.depth)));
       mapped =
           record {
-            counted = omega (arith, ap length empty, ap length alone);
-            found = λ n i positive at. absurd (alone_at n i positive (ap (λ is. slice_get is n) (sym alone) ∙ at));
-            told = λ n path is. absurd (none-some n (ap (λ es. lookup (λ p. bytes_eq path p.items) es) (sym empty) ∙ is));
+            hashed =
+                hashed-top (paths_of g.expansion) g.expansion.numbers
+                (omega (arith, length-map g.expansion.instances.items (λ (i : code.Instance). i.path), ap length alone)) unled empty;
+            distinct = λ m n path positive positive' at at'.
+                let w = slice_get-map_some (λ (i : code.Instance). i.path) g.expansion.instances.items m path at in
+                absurd (alone_at m w.0 positive (ap (λ is. slice_get is m) (sym alone) ∙ w.1));
           };
       told = λ n i at. told n i (ap (λ is. slice_get is n) (sym alone) ∙ at);
       shown = λ n i lt at. absurd (omega (arith, lt, none_opened));
@@ -316,6 +307,21 @@ next_inst :
     (top : Instance) (g : Growth) (next : code.Instance) → IsGrowth top g → slice_get g.expansion.instances.items g.opened ≡ Some next
     → Inst (tree_of g.expansion.directory.unit.now) top (instance_in next)
 next_inst top g next growth at = grown-sound (tree_of g.expansion.directory.unit.now) top _ g.opened growth.grown g.opened (made_of next) (made_next g next at)
+
+-- the ports of a node have no sizes
+pub plain-next :
+    (top : Instance) (g : Growth) (next : code.Instance) → IsGrowth top g → slice_get g.expansion.instances.items g.opened ≡ Some next
+    → is_primitive (component_of next.component.now) ≡ true → AreSizes (instance_in next) []
+plain-next top g next growth at primitive = by g.opened (made_next g next at)
+  where
+    by : (n : ℕ) → slice_get (map made_of g.expansion.instances.items) n ≡ Some (made_of next) → AreSizes (instance_in next) []
+    by zero there =
+        let one = ap (λ (z : NumberedInstance). is_primitive z.instance.component) (one_at _ 0 _ _ growth.grown.first there) in
+        absurd (false≢true (sym growth.composite_top ∙ one ∙ primitive))
+    by (suc n) there =
+        let w = growth.grown.maker n _ there in
+        plain-sizes (tree_of g.expansion.directory.unit.now) (instance_in next) _ g.expansion.directory.no_fault
+        (made_named (tree_of g.expansion.directory.unit.now) w.1.instance (instance_in next) w.6) primitive
 
 -- it is too deep
 pub deep-fault :
@@ -504,6 +510,7 @@ module _ (top : Instance) (g new : Growth) (x y : code.Instance) (f : Found) (s 
   growth-next =
       record {
         at_top = s.growth.at_top;
+        composite_top = s.growth.composite_top;
         grown = subst (λ u. IsGrown (tree_of u) top (map made_of new.expansion.instances.items) new.opened) (sym (ap (λ r. r.now) s.same_unit)) grown_next;
         spread = subst (λ u. IsSpread (tree_of u) top (map instance_in new.expansion.instances.items) new.opened new.room) (sym (ap (λ r. r.now) s.same_unit)) spread_next;
         mapped = s.mapped;

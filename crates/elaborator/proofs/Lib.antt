@@ -12,6 +12,7 @@ pub mod ExpandLemmas
 pub mod FewLaws
 pub mod FollowLemmas
 pub mod GrowthLemmas
+pub mod HashLemmas
 pub mod IndexLemmas
 pub mod InstanceLemmas
 pub mod InstanceLaws
@@ -28,6 +29,7 @@ pub mod OrderLemmas
 pub mod PairLaws
 pub mod PathLemmas
 pub mod TwiceLaws
+pub mod PlainLemmas
 pub mod PortLemmas
 pub mod RankLemmas
 mod Rows

@@ -1,8 +1,7 @@
 -- What is found in an instance that is expanded.
 use Rattle.std.proofs.Common.{◌≡◌, ◌∙◌, ◌<◌, ℕ, ℤ, Vec, Option, Some, [], map, length, ap, true, false, nat_lt, List, ◌++◌, Contains, sym, subst, arith}
 use Rattle.std.specs.List.{flat_map, filter_map, slice_get}
-use Rattle.std.specs.Option.{option_map}
-use Rattle.std.proofs.lemmas.Option.{same_Some, slice_get-map}
+use Rattle.std.specs.Option.{option_flatten}
 use Rattle.std.specs.Global.{Global}
 use Rattle.std.proofs.lemmas.List.{length-map}
 use Rattle.std.proofs.lemmas.Bool.Decides.{nat_tests}
@@ -23,6 +22,7 @@ use Rattle.darwin_walk.specs.declared.walked.Walked.{Walked}
 use Rattle.elaborator.proofs.MakingLemmas.{made_paths}
 use Rattle.elaborator.specs.declared.instance.Instance as code
 use Rattle.base.proofs.MapLaws.{length-filter_map}
+use Rattle.base.proofs.PlaceLaws.{slice_get-map_at, slice_get-map_some}
 
 below : (n m : ℕ) → n < m → nat_lt n m ≡ true
 below n m lt = grind (arith, nat_tests)
@@ -44,10 +44,13 @@ count-own room i is many = rw is many
 
 -- the sizes that a walk gives are those of the ports
 sizes_walked :
-    (c : Component) (env : Env) (sizes : List (Option ℤ)) → map (λ s. Some s) sizes ≡ port_sizes c env → (k : ℕ) (z : ℤ) (d : PortDecl)
-    → slice_get sizes k ≡ Some (Some z) → slice_get c.ports k ≡ Some d → index_value d.size env ≡ Some (Some z)
-sizes_walked c env sizes is k z d at declared =
-    same_Some _ _ (sym (slice_get-map (λ p. index_value p.size env) c.ports k ∙ ap (option_map (λ p. index_value p.size env)) declared) ∙ ap (λ xs. slice_get xs k) (sym is) ∙ slice_get-map (λ s. Some s) sizes k ∙ ap (option_map (λ s. Some s)) at)
+    (c : Component) (env : Env) (sizes : List (Option ℤ)) → map (λ s. Some s) sizes ≡ port_sizes c env → (k : ℕ) (d : PortDecl)
+    → slice_get c.ports k ≡ Some d → index_value d.size env ≡ Some (option_flatten (slice_get sizes k))
+sizes_walked c env sizes is k d declared =
+    let w =
+    slice_get-map_some (λ (s : Option ℤ). Some s) sizes k (index_value d.size env)
+    (ap (λ xs. slice_get xs k) is ∙ slice_get-map_at (λ p. index_value p.size env) c.ports k d declared) in
+    sym w.2 ∙ ap (λ o. Some (option_flatten o)) (sym w.1)
 
 -- what is found in an instance that is expanded
 pub found-opened :

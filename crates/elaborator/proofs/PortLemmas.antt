@@ -102,19 +102,14 @@ named_found e n m k i j x end d inner at stands is place stands_at is_inner =
       },
     )
 
--- a size that is kept
-pub kept_size : (o : Option (Option ℤ)) (size : Option ℤ) → size ≡ option_flatten o → IfSome size (λ z. o ≡ Some (Some z))
-kept_size None size is = rw is tt
-kept_size (Some None) size is = rw is tt
-kept_size (Some (Some z)) size is = rw is refl
-
--- the fault of an index where the size of the port is kept
-pub bad-kept :
+-- the fault of an index, by the size that is kept of the port
+pub bad-sized :
     (i : Instance) (sizes : List (Option ℤ)) (n : Named) (port : ℕ) (size : Option ℤ) → AreSizes i sizes → n.instance ≡ i → slice_get n.instance.component.ports port ≡ Some n.decl
-    → IfSome size (λ z. slice_get sizes port ≡ Some (Some z)) → is_some size ≡ true → (at : At) → bad_index at n ≡ sized_fault at size n.index
-bad-kept i sizes n port None all same declared kept is at = absurd (false≢true is)
-bad-kept i sizes n port (Some z) all same declared kept is at =
-    by n.decl.size n.index (subst (λ (j : Instance). index_value n.decl.size j.env ≡ Some (Some z)) (sym same) (all port z n.decl kept (ap (λ (j : Instance). slice_get j.component.ports port) (sym same) ∙ declared)))
+    → size ≡ option_flatten (slice_get sizes port) → (at : At) → bad_index at n ≡ sized_fault at size n.index
+bad-sized i sizes n port size all same declared kept at =
+    by n.decl.size size n.index
+    (subst (λ (j : Instance). index_value n.decl.size j.env ≡ Some (option_flatten (slice_get sizes port))) (sym same)
+    (all port n.decl (ap (λ (j : Instance). slice_get j.component.ports port) (sym same) ∙ declared)) ∙ ap Some (sym kept))
   where
     indexed : Option Expr → Option ℤ → List Fault
     indexed (Some size) (Some index) = index_fault at (value size n.instance.env) (integer index)
@@ -124,12 +119,19 @@ bad-kept i sizes n port (Some z) all same declared kept is at =
     some_integer (integer w) = Some (Some w)
     some_integer _ = None
 
-    from : (v : Value) → some_integer v ≡ Some (Some z) → v ≡ integer z
-    from (integer w) e = ap integer (same_Some w z (same_Some (Some w) (Some z) e))
-    from out_of_range e = absurd (none-some (Some z) e)
-    from zero_divisor e = absurd (none-some (Some z) e)
+    from : (v : Value) (z : ℤ) → some_integer v ≡ Some (Some z) → v ≡ integer z
+    from (integer w) z e = ap integer (same_Some w z (same_Some (Some w) (Some z) e))
+    from out_of_range z e = absurd (none-some (Some z) e)
+    from zero_divisor z e = absurd (none-some (Some z) e)
 
-    by : (s : Option Expr) (index : Option ℤ) → index_value s n.instance.env ≡ Some (Some z) → indexed s index ≡ sized_fault at (Some z) index
-    by None index e = absurd (none-some z (same_Some None (Some z) e))
-    by (Some s) None e = refl
-    by (Some s) (Some index) e = ap (λ v. index_fault at v (integer index)) (from (value s n.instance.env) e)
+    nowhere : (v : Value) → some_integer v ≡ Some None → ⊥
+    nowhere (integer w) e = none-some w (sym (same_Some (Some w) None e))
+    nowhere out_of_range e = none-some None e
+    nowhere zero_divisor e = none-some None e
+
+    by : (s : Option Expr) (size index : Option ℤ) → index_value s n.instance.env ≡ Some size → indexed s index ≡ sized_fault at size index
+    by None None index e = refl
+    by None (Some z) index e = absurd (none-some z (same_Some None (Some z) e))
+    by (Some s) None index e = absurd (nowhere (value s n.instance.env) e)
+    by (Some s) (Some z) None e = refl
+    by (Some s) (Some z) (Some index) e = ap (λ v. index_fault at v (integer index)) (from (value s n.instance.env) z e)

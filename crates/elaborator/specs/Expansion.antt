@@ -1,6 +1,6 @@
 -- What holds of an expansion as the code keeps it.
-use Rattle.std.specs.Prelude.{◌≡◌, ℕ, ℤ, ◌<◌, ◌≤◌, List, Option, Some, length, map, slice_get, IsSome, bytes_eq}
-use Rattle.std.specs.Map.{lookup}
+use Rattle.std.specs.Prelude.{◌≡◌, ℕ, ℤ, ◌≤◌, List, Option, Some, None, length, map, slice_get}
+use Rattle.std.specs.Option.{option_flatten}
 use Rattle.elaborator.specs.Paths.{Path}
 use Rattle.elaborator.specs.Bindings.{bindings_in}
 use Rattle.darwin_types.specs.Scope.{is_primitive}
@@ -10,6 +10,7 @@ use Rattle.darwin_walk.specs.Instance.{index_value}
 use Rattle.darwin_walk.specs.Spine.{env_of}
 use Rattle.darwin_walk.specs.Walked.{binding_of}
 use Rattle.elaborator.specs.Instances as pure
+use Rattle.elaborator.specs.PathNumbers.{IsHashed, AreDistinct}
 use Rattle.elaborator.specs.Numbering.{NumberedInstance, Expanded, IsExpanded}
 use Rattle.elaborator.specs.declared.instance.Instance.{Instance}
 use Rattle.elaborator.specs.declared.instance.Expansion.{Expansion}
@@ -28,14 +29,18 @@ made_of i = record { instance = instance_in i; maker = i.maker }
 abbrev pub expanded_of : Expansion → Expanded
 expanded_of e = record { tree = tree_of e.directory.unit.now; made = map made_of e.instances.items }
 
--- the number that stands under a path
-abbrev pub number_at : Expansion → Path → Option ℕ
-number_at e path = lookup (λ p. bytes_eq path p.items) e.numbers.entries
+-- the paths of the instances, that of the top first
+abbrev pub paths_of : Expansion → List Path
+paths_of e = map (λ (i : Instance). i.path) e.instances.items
 
--- each size that is listed is that of the port at its place
+-- each instance but the top is found by its path, which no other of them has
+pub record IsMapped (e : Expansion) : Type 0 where
+  pub hashed : IsHashed (paths_of e) e.numbers
+  pub distinct : AreDistinct (paths_of e)
+
+-- the sizes are those of the ports at their places: none of one that has none
 abbrev pub AreSizes : pure.Instance → List (Option ℤ) → Type 0
-AreSizes i sizes =
-    (k : ℕ) (z : ℤ) (d : PortDecl) → slice_get sizes k ≡ Some (Some z) → slice_get i.component.ports k ≡ Some d → index_value d.size i.env ≡ Some (Some z)
+AreSizes i sizes = (k : ℕ) (d : PortDecl) → slice_get i.component.ports k ≡ Some d → index_value d.size i.env ≡ Some (option_flatten (slice_get sizes k))
 
 -- an instance that is opened has its bindings, and sizes of its ports
 pub record IsShown (i : Instance) : Type 0 where
@@ -49,6 +54,5 @@ pub record IsNumbering (e : Expansion) : Type 0 where
   pub primitive : (n : ℕ) (i : Instance) → slice_get e.instances.items n ≡ Some i → i.is_primitive ≡ is_primitive (component_of i.component.now)
   pub bindings : (n : ℕ) (i : Instance) → slice_get e.instances.items n ≡ Some i → map binding_of i.bindings.items ≡ bindings_in (instance_in i)
   pub sizes : (n : ℕ) (i : Instance) → slice_get e.instances.items n ≡ Some i → AreSizes (instance_in i) i.port_sizes.items
-  pub found : (n : ℕ) (i : Instance) → slice_get e.instances.items n ≡ Some i → IsSome i.maker → number_at e i.path ≡ Some n
-  pub told : (n : ℕ) (path : Path) (i : Instance) → number_at e path ≡ Some n → slice_get e.instances.items n ≡ Some i → i.path ≡ path
-  pub within : (n : ℕ) (path : Path) → number_at e path ≡ Some n → n < length e.instances.items
+  pub mapped : IsMapped e
+  pub top : (i : Instance) → slice_get e.instances.items 0 ≡ Some i → i.maker ≡ None

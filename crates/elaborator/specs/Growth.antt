@@ -1,5 +1,5 @@
 -- The instances of an expansion as they are made and opened one after another: what holds of those that are there.
-use Rattle.std.specs.Prelude.{◌≡◌, ℕ, suc, ◌+◌, ◌<◌, ◌≤◌, List, [], ◌++◌, map, length, sum_by, Some, None, slice_get, Contains}
+use Rattle.std.specs.Prelude.{◌≡◌, ℕ, suc, false, ◌+◌, ◌<◌, ◌≤◌, List, [], ◌++◌, map, length, sum_by, Some, None, slice_get, Contains}
 use Rattle.std.specs.List.{flat_map}
 use Rattle.darwin_parser.specs.Tree.{Tree, component_of, tree_of}
 use Rattle.darwin_types.specs.Scope.{is_primitive}
@@ -7,7 +7,7 @@ use Rattle.elaborator.specs.Paths.{Path}
 use Rattle.elaborator.specs.Instances.{Instance, made_in, paths_in, levels, instances, count_in}
 use Rattle.elaborator.specs.Faults.{own_faults, Twice}
 use Rattle.elaborator.specs.Numbering.{NumberedInstance}
-use Rattle.elaborator.specs.Expansion.{instance_in, made_of, number_at, IsShown}
+use Rattle.elaborator.specs.Expansion.{instance_in, made_of, IsMapped, IsShown}
 use Rattle.elaborator.specs.declared.instance.Instance as code
 use Rattle.elaborator.specs.declared.instance.Expansion.{Expansion}
 use Rattle.elaborator.specs.declared.growing.Growth.{Growth}
@@ -48,12 +48,6 @@ pub record IsSpread (tree : Tree) (top : Instance) (made : List Instance) (opene
   pub depth : (i : Instance) → Contains (done ++ left) i → i.depth + deeper ≡ 33
   pub counted : sum_by count_in (before ++ done) + room ≡ 65536
 
--- each instance but the top is found by its path
-pub record IsMapped (e : Expansion) : Type 0 where
-  pub counted : length e.numbers.entries + 1 ≡ length e.instances.items
-  pub found : (n : ℕ) (i : code.Instance) → 0 < n → slice_get e.instances.items n ≡ Some i → number_at e i.path ≡ Some n
-  pub told : (n : ℕ) (path : Path) → number_at e path ≡ Some n → (i : code.Instance) × (slice_get e.instances.items n ≡ Some i) × (i.path ≡ path) × (0 < n)
-
 -- the code's instance tells whether its component is primitive
 abbrev pub IsTold : code.Instance → Type 0
 IsTold i = i.is_primitive ≡ is_primitive (component_of i.component.now)
@@ -61,6 +55,7 @@ IsTold i = i.is_primitive ≡ is_primitive (component_of i.component.now)
 -- what holds while instances are opened
 pub record IsGrowth (top : Instance) (g : Growth) : Type 0 where
   pub at_top : top.depth ≡ 0
+  pub composite_top : is_primitive top.component ≡ false
   pub grown : IsGrown (tree_of g.expansion.directory.unit.now) top (map made_of g.expansion.instances.items) g.opened
   pub spread : IsSpread (tree_of g.expansion.directory.unit.now) top (map instance_in g.expansion.instances.items) g.opened g.room
   pub mapped : IsMapped g.expansion

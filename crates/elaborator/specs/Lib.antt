@@ -13,6 +13,7 @@ pub mod NodeOrder
 pub mod Numbering
 pub mod Opening
 pub mod PathBytes
+pub mod PathNumbers
 pub mod Paths
 pub mod PortIndex
 pub mod Ports

@@ -16,6 +16,7 @@ use darwin_types::Checked;
 pub struct Directory<'a> {
     pub unit: &'a Unit,
     checked: &'a Checked,
+    ghost no_fault: { NoFault (tree_of unit.now) },
     ghost same_names: { map (λ c. c.name) (description checked.now) ≡ map (λ c. c.name) (tree_of unit.now) },
     ghost same_kinds: { map is_primitive (description checked.now) ≡ map is_primitive (tree_of unit.now) },
     ghost same_ports: { map port_names (description checked.now) ≡ map port_names (tree_of unit.now) },

@@ -6,9 +6,9 @@ ghost use Rattle.darwin_parser.specs.Tree.{tree_of};
 ghost use Rattle.elaborator.specs.Paths.{Path};
 ghost use Rattle.elaborator.specs.Instances.{Instance as PureInstance};
 ghost use Rattle.elaborator.specs.Faults.{own_faults};
-ghost use Rattle.elaborator.specs.Expansion.{instance_in};
+ghost use Rattle.elaborator.specs.Expansion.{instance_in, IsMapped};
 ghost use Rattle.elaborator.specs.ExpansionFaults.{IsTop, IsWhole, GrowthFault};
-ghost use Rattle.elaborator.specs.Growth.{IsGrowth, IsMapped, IsExtended, IsClash};
+ghost use Rattle.elaborator.specs.Growth.{IsGrowth, IsExtended, IsClash};
 ghost use Rattle.elaborator.specs.Opening.{IsFound};
 ghost use Rattle.elaborator.specs.declared.instance.Instance as shown;
 ghost use Rattle.elaborator.specs.declared.error.ElabError.TheVariants.{NoMemory, TwoInstances};
@@ -17,7 +17,7 @@ use crate::ElabError;
 use crate::directory::Directory;
 use crate::instance::{Expansion, Instance};
 use crate::opening::{Found, open_instance};
-use indexmap::IndexMap;
+use crate::path_index::PathIndex;
 use std::alloc::{AllocError, Global};
 
 /// How many turns and entries may be counted in all.
@@ -64,7 +64,7 @@ fn top_alone<'a>(
     let expansion = Expansion {
         directory,
         instances,
-        numbers: IndexMap::new(alloc),
+        numbers: PathIndex::new(alloc)?,
     };
     Ok(Growth {
         expansion,
@@ -86,7 +86,7 @@ impl<'a> Growth<'a> {
         let next = &mut self.expansion.instances[self.opened as usize];
         next.bindings = found.bindings;
         next.port_sizes = found.port_sizes;
-        self.expansion.add_all(alloc, found.made)?;
+        self.expansion.add_all(found.made)?;
         self.room -= found.count;
         self.opened += 1;
         Ok(())
@@ -118,28 +118,31 @@ impl<'a> Growth<'a> {
 
 impl<'a> Expansion<'a> {
     /// Adds instances, in order.
-    fn add_all(&mut self, alloc: Global, made: Vec<Instance<'a>>) -> Result<(), ElabError>
+    fn add_all(&mut self, made: Vec<Instance<'a>>) -> Result<(), ElabError>
         requires mapped { IsMapped self.old }
         requires few { length self.old.instances.items + length made.items ≤ 65537 }
         ensures { Answers NoMemory (λ _. IsExtended self.old made.entry.items self.new)
             (λ f. (path : Path) × (f ≡ TwoInstances path) × IsClash (self.old.instances.items ++ made.entry.items) (length self.old.instances.items) path) result }
     {
         for instance in made {
-            self.add(alloc, instance)?;
+            self.add(instance)?;
         }
         Ok(())
     }
 
     /// Adds an instance. No other may have its path.
-    fn add(&mut self, alloc: Global, instance: Instance<'a>) -> Result<(), ElabError>
+    fn add(&mut self, instance: Instance<'a>) -> Result<(), ElabError>
         requires mapped { IsMapped self.old }
         requires few { length self.old.instances.items < 65537 }
         ensures { Answers NoMemory (λ _. IsExtended self.old (instance.entry ∷ []) self.new)
             (λ f. (f ≡ TwoInstances instance.entry.path) × IsClash (self.old.instances.items ++ instance.entry ∷ []) (length self.old.instances.items) instance.entry.path) result }
     {
-        let number = self.instances.len() as u32;
-        let key = Vec::from_slice(alloc, instance.path.as_bytes())?;
-        if self.numbers.insert(key, number)?.is_some() {
+        let path = instance.path.as_bytes();
+        let before = self.numbers.enter(path)?;
+        let same = self
+            .numbers
+            .find_from(before, self.instances.as_slice(), path);
+        if same.is_some() {
             return Err(ElabError::TwoInstances(instance.path));
         }
         self.instances.push(instance)?;

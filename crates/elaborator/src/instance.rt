@@ -5,10 +5,10 @@ ghost use Rattle.std.specs.Option.{option_flatten};
 ghost use Rattle.elaborator.specs.Numbering.{IsChild};
 
 use crate::directory::Directory;
+use crate::path_index::PathIndex;
 use config_graph::Text;
 use darwin_parser::Component;
 use darwin_walk::{Binding, Variable};
-use indexmap::IndexMap;
 
 /// An instance of the elaboration.
 #[derive(Drop)]
@@ -46,8 +46,8 @@ impl Instance<'_> {
 pub struct Expansion<'a> {
     pub directory: Directory<'a>,
     pub instances: Vec<Instance<'a>>,
-    /// The number of each instance but the top, by its path.
-    pub numbers: IndexMap<Vec<u8>, u32>,
+    /// The numbers of all but the top, by the paths that stand there.
+    pub numbers: PathIndex,
 }
 
 impl<'a> Expansion<'a> {
@@ -82,9 +82,10 @@ impl<'a> Expansion<'a> {
         requires { IsNumbering self.now }
         ensures { IsChild (expanded_of self.now) maker path.now result }
     {
-        let Some(number) = self.numbers.get(path).copied() else {
-            return None;
-        };
+        let last = self.numbers.last_like(path);
+        let number = self
+            .numbers
+            .find_from(last, self.instances.as_slice(), path)?;
         if self.instances[number as usize].maker == Some(maker) {
             Some(number)
         } else {

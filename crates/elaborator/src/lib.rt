@@ -14,6 +14,7 @@ mod making;
 mod nodes;
 mod opening;
 mod pairs;
+mod path_index;
 mod paths;
 mod ports;
 

@@ -1,6 +1,6 @@
 //! What is found in an instance when its statements are walked.
 
-ghost use Rattle.std.specs.Prelude.{◌≡◌, ◌<◌, ◌⊎◌};
+ghost use Rattle.std.specs.Prelude.{◌≡◌, ◌<◌, ◌⊎◌, true, []};
 ghost use Rattle.darwin_parser.specs.Tree.{component_of, tree_of};
 ghost use Rattle.darwin_walk.specs.Reached.{count};
 ghost use Rattle.darwin_walk.specs.Instance.{instance_faults};
@@ -9,7 +9,7 @@ ghost use Rattle.elaborator.specs.Instances.{count_in};
 ghost use Rattle.elaborator.specs.Faults.{own_faults};
 ghost use Rattle.darwin_types.specs.Scope.{is_primitive};
 ghost use Rattle.darwin_walk.specs.Spine.{env_of};
-ghost use Rattle.elaborator.specs.Expansion.{instance_in};
+ghost use Rattle.elaborator.specs.Expansion.{instance_in, AreSizes};
 ghost use Rattle.elaborator.specs.Opening.{error_at, IsFound, Judges};
 
 use crate::ElabError;
@@ -39,6 +39,7 @@ pub(crate) fn open_instance<'a>(
     room: u64,
 ) -> Result<Found<'a>, ElabError>
     requires depth { instance.now.depth < 33 }
+    requires plain { instance.now.is_primitive ≡ true → AreSizes (instance_in instance.now) [] }
     requires primitive { instance.now.is_primitive ≡ is_primitive (component_of instance.now.component.now) }
     ensures { Judges instance.now.path (own_faults (tree_of directory.now.unit.now) (instance_in instance.now)) (room < count_in (instance_in instance.now)) (IsFound (tree_of directory.now.unit.now) (instance_in instance.now) number room) result }
 {

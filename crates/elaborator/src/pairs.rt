@@ -112,8 +112,8 @@ fn pair_of_binding<'a>(
     let Some(pair) = pair_of_ports(binding, &left, &right) else {
         return bad_binding(expansion, number, binding);
     };
-    check_index(alloc, expansion, number, binding, &left)?;
-    check_index(alloc, expansion, number, binding, &right)?;
+    check_index(expansion, number, binding, &left)?;
+    check_index(expansion, number, binding, &right)?;
     check_notes(expansion, number, binding, &left, &right)?;
     Ok(pair)
 }
@@ -156,7 +156,6 @@ fn bad_binding<T>(expansion: &Expansion, number: u32, binding: &Binding) -> Resu
 
 /// The index of a port is one of its array's.
 fn check_index(
-    alloc: Global,
     expansion: &Expansion,
     number: u32,
     binding: &Binding,
@@ -170,7 +169,7 @@ fn check_index(
         → Answers NoMemory (λ _. bad_index binding.now.at (named_of j port.now) ≡ [])
         (λ f. (bad_index binding.now.at (named_of j port.now) ≡ shown.BadIndex binding.now.at ∷ []) × (f ≡ BadIndex i.path binding.now.at)) result }
 {
-    if port.has_bad_index(alloc, expansion)? {
+    if port.has_bad_index(expansion) {
         let path = expansion.instance(number).path.try_clone()?;
         return Err(ElabError::BadIndex(path, binding.at));
     }

@@ -17,7 +17,7 @@ use crate::directory::Directory;
 use crate::instance::Expansion;
 use crate::paths::path_within;
 use darwin_parser::{Component, PortDecl, Side};
-use darwin_walk::{End, Segment, ValueError, value};
+use darwin_walk::{End, Segment};
 use std::alloc::{AllocError, Global};
 
 /// So many ports are looked through one after another, which takes less time than two hashes.
@@ -129,41 +129,29 @@ impl Named<'_> {
     }
 
     /// Whether the index isn't from 0 to the size less 1.
-    pub fn has_bad_index(&self, alloc: Global, expansion: &Expansion) -> Result<bool, AllocError>
+    pub fn has_bad_index(&self, expansion: &Expansion) -> bool
         requires within { self.now.id.instance < length (expanded_of expansion.now).made }
         requires kept { IsNumbering expansion.now }
         ensures { (i : Instance) → Numbered (expanded_of expansion.now) self.now.id.instance i → slice_get i.component.ports self.now.id.port ≡ Some (port_of self.now.decl.now)
-            → IfOk result (λ bad. (at : Place) → bad_index at (named_of i self.now) ≡ (if bad then BadIndex at ∷ [] else [])) }
+            → (at : Place) → bad_index at (named_of i self.now) ≡ (if result then BadIndex at ∷ [] else []) }
     {
         let Some(index) = self.id.index else {
-            return Ok(false);
+            return false;
         };
-        match self.size(alloc, expansion)? {
-            Some(size) => Ok(!(0 <= index && index < size)),
-            None => Ok(false),
+        match self.size(expansion) {
+            Some(size) => !(0 <= index && index < size),
+            None => false,
         }
     }
 
-    /// The size of the port, where it has one with a value: that of the walk, or else valued here.
-    fn size(&self, alloc: Global, expansion: &Expansion) -> Result<Option<i32>, AllocError>
+    /// The size of the port, where it has one.
+    fn size(&self, expansion: &Expansion) -> Option<i32>
         requires within { self.now.id.instance < length (expanded_of expansion.now).made }
         requires kept { IsNumbering expansion.now }
         ensures { (i : Instance) → Numbered (expanded_of expansion.now) self.now.id.instance i → slice_get i.component.ports self.now.id.port ≡ Some (port_of self.now.decl.now)
-            → IfOk result (λ size. (at : Place) → bad_index at (named_of i self.now) ≡ sized_fault at size self.now.id.index) }
+            → (at : Place) → bad_index at (named_of i self.now) ≡ sized_fault at result self.now.id.index }
     {
-        let instance = expansion.instance(self.id.instance);
-        let kept = instance.port_size(self.id.port);
-        if kept.is_some() {
-            return Ok(kept);
-        }
-        let Some(size) = &self.decl.size else {
-            return Ok(None);
-        };
-        match value(alloc, size, instance.env.as_slice()) {
-            Ok(size) => Ok(Some(size)),
-            Err(ValueError::NoMemory) => Err(AllocError),
-            Err(_) => Ok(None),
-        }
+        expansion.instance(self.id.instance).port_size(self.id.port)
     }
 
     /// Whether both ports have a note and the notes differ.

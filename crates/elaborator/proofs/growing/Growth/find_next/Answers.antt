@@ -1,4 +1,4 @@
-use Rattle.std.proofs.Common.{◌≡◌, ◌∙◌, ◌<◌, ◌≤◌, refl, ap, subst}
+use Rattle.std.proofs.Common.{◌≡◌, ◌∙◌, ◌<◌, ◌≤◌, refl, ap, sym, subst}
 use Rattle.std.proofs.lemmas.Option.{slice_get_read, get_or_from_slice_get}
 use Rattle.darwin_parser.specs.Tree.{tree_of}
 use Rattle.elaborator.specs.Expansion.{instance_in}
@@ -6,7 +6,7 @@ use Rattle.elaborator.specs.Faults.{own_faults}
 use Rattle.elaborator.specs.Instances.{count_in}
 use Rattle.elaborator.specs.Opening.{Judges, IsFound}
 use Rattle.elaborator.specs.declared.instance.Instance as code
-use Rattle.elaborator.proofs.ExpandLemmas.{deep-fault, judged-next}
+use Rattle.elaborator.proofs.ExpandLemmas.{deep-fault, judged-next, plain-next}
 use Rattle.elaborator.proofs.growing.Growth.find_next.Goals as goal
 
 pub returns-then-next-ge-TOO_DEEP : goal.returns-then-next-ge-TOO_DEEP
@@ -19,6 +19,13 @@ pub open_instance-requires-clause-primitive : goal.open_instance-requires-clause
 open_instance-requires-clause-primitive c =
     let g = c.args.self.now in
     c.requires.growth.1.told g.opened c.index-next.result.now (slice_get_read g.expansion.instances.items _ g.opened c.index-next.result.now refl c.requires.within c.index-next.ensures)
+
+pub open_instance-requires-clause-plain : goal.open_instance-requires-clause-plain
+open_instance-requires-clause-plain c = λ primitive.
+    let g = c.args.self.now in
+    let x = c.index-next.result.now in
+    let at = slice_get_read g.expansion.instances.items _ g.opened x refl c.requires.within c.index-next.ensures in
+    plain-next c.requires.growth.0 g x c.requires.growth.1 at (sym (c.requires.growth.1.told g.opened x at) ∙ primitive)
 
 pub returns : goal.returns
 returns c = λ top next growth at.
