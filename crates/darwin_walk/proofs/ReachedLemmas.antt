@@ -12,7 +12,7 @@ use Rattle.darwin_walk.specs.Value.{Env}
 use Rattle.darwin_walk.specs.Reached.{Reached, valued, weight, port_size, array_size, reached_in_component, reached_in, count}
 use Rattle.darwin_walk.specs.Instance.{children_of, bindings_of, faults_of, instance_faults, children, bindings, port_sizes}
 use Rattle.darwin_walk.proofs.ChildCountLaws.{children_few}
-use Rattle.darwin_walk.specs.Scope.{port_faults, array_faults}
+use Rattle.darwin_walk.specs.Scope.{port_size_faults, array_size_faults}
 use Rattle.darwin_walk.specs.Walked.{Adds, IsWalked, child_of, binding_of}
 use Rattle.darwin_walk.specs.declared.fault.Fault.{Fault}
 use Rattle.darwin_walk.specs.declared.walked.Walked.{Walked}
@@ -78,12 +78,12 @@ parts f c p =
 
 pub faults-parts :
     (c : Component) (p : Env)
-    → instance_faults c p ≡ (port_faults p c.ports ++ array_faults p c.arrays) ++ flat_map (faults_of c p) (reached_in c.body p)
+    → instance_faults c p ≡ (port_size_faults p c.ports ++ array_size_faults p c.arrays) ++ flat_map (faults_of c p) (reached_in c.body p)
 faults-parts c p =
     parts (faults_of c p) c p
     ∙ ap (λ ys. (ys ++ flat_map (faults_of c p) (map (array_size p) c.arrays)) ++ flat_map (faults_of c p) (reached_in c.body p))
     (ports_each (faults_of c p) p c.ports)
-    ∙ ap (λ ys. (port_faults p c.ports ++ ys) ++ flat_map (faults_of c p) (reached_in c.body p)) (arrays_each (faults_of c p) p c.arrays)
+    ∙ ap (λ ys. (port_size_faults p c.ports ++ ys) ++ flat_map (faults_of c p) (reached_in c.body p)) (arrays_each (faults_of c p) p c.arrays)
 
 children-body : (c : Component) (p : Env) → children c p ≡ flat_map (children_of c p) (reached_in c.body p)
 children-body c p =
@@ -136,18 +136,18 @@ IsWalked-body c p room old new sizes no_children no_bindings no_count adds =
 
 pub faults-none :
     (c : Component) (p : Env)
-    → port_faults p c.ports ≡ [] → array_faults p c.arrays ≡ [] → flat_map (faults_of c p) (reached_in c.body p) ≡ [] → instance_faults c p ≡ []
+    → port_size_faults p c.ports ≡ [] → array_size_faults p c.arrays ≡ [] → flat_map (faults_of c p) (reached_in c.body p) ≡ [] → instance_faults c p ≡ []
 faults-none c p no_ports no_arrays no_body = rw (faults-parts c p, no_ports, no_arrays, no_body)
 
 -- a fault of a part is one of the instance
-pub faults-ports : (c : Component) (p : Env) (ports : List PortDecl) (f : Fault) → ports ≡ c.ports → Contains (port_faults p ports) f → Contains (instance_faults c p) f
+pub faults-ports : (c : Component) (p : Env) (ports : List PortDecl) (f : Fault) → ports ≡ c.ports → Contains (port_size_faults p ports) f → Contains (instance_faults c p) f
 faults-ports c p ports f is has =
-    rw (faults-parts c p) (Contains-append_left _ _ f (Contains-append_left _ _ f (subst (λ xs. Contains (port_faults p xs) f) is has)))
+    rw (faults-parts c p) (Contains-append_left _ _ f (Contains-append_left _ _ f (subst (λ xs. Contains (port_size_faults p xs) f) is has)))
 
-pub faults-arrays : (c : Component) (p : Env) (arrays : List ArrayDecl) (f : Fault) → arrays ≡ c.arrays → Contains (array_faults p arrays) f → Contains (instance_faults c p) f
+pub faults-arrays : (c : Component) (p : Env) (arrays : List ArrayDecl) (f : Fault) → arrays ≡ c.arrays → Contains (array_size_faults p arrays) f → Contains (instance_faults c p) f
 faults-arrays c p arrays f is has =
     rw (faults-parts c p)
-    (Contains-append_left (port_faults p c.ports ++ array_faults p c.arrays) _ f (Contains-append_right (port_faults p c.ports) _ f (subst (λ xs. Contains (array_faults p xs) f) is has)))
+    (Contains-append_left (port_size_faults p c.ports ++ array_size_faults p c.arrays) _ f (Contains-append_right (port_size_faults p c.ports) _ f (subst (λ xs. Contains (array_size_faults p xs) f) is has)))
 
 pub faults-body :
     (c : Component) (p : Env) (body : Stmts) (f : Fault)

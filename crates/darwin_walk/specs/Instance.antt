@@ -129,26 +129,26 @@ index_fault at (integer size) (integer i) = if int_le (pos 0) i && int_lt i size
 index_fault at _ _ = []
 
 -- the faults of an index of an instance: that it has no value, or that it isn't one of the array of the name
-abbrev pub element_faults : Component → Env → Name → At → Value → List Fault
-element_faults c parameters name at i =
+abbrev pub element_index_faults : Component → Env → Name → At → Value → List Fault
+element_index_faults c parameters name at i =
     value_fault at i ++ option_map_or (λ array. index_fault at (value array.size parameters) i) (array_named c name) []
 
-abbrev pub inner_faults : Component → Env → At → Option Name → Option Expr → Env → List Fault
-inner_faults c parameters at (Some name) (Some i) env = element_faults c parameters name at (value i env)
-inner_faults c parameters at _ _ env = []
+abbrev pub inner_index_faults : Component → Env → At → Option Name → Option Expr → Env → List Fault
+inner_index_faults c parameters at (Some name) (Some i) env = element_index_faults c parameters name at (value i env)
+inner_index_faults c parameters at _ _ env = []
 
-abbrev pub end_faults : Component → Env → At → PortRef → Env → List Fault
-end_faults c parameters at e env =
-    inner_faults c parameters at e.inst e.inst_index env ++ option_map_or (λ i. value_fault at (value i env)) e.port_index []
+abbrev pub end_index_faults : Component → Env → At → PortRef → Env → List Fault
+end_index_faults c parameters at e env =
+    inner_index_faults c parameters at e.inst e.inst_index env ++ option_map_or (λ i. value_fault at (value i env)) e.port_index []
 
 abbrev pub faults_of : Component → Env → Reached → List Fault
 faults_of c parameters (valued e env at) = value_fault at (value e env)
 faults_of c parameters turn = []
 faults_of c parameters (made (single name component args at) env) = flat_map (value_fault at) (values args env)
 faults_of c parameters (made (element name index args at) env) =
-    element_faults c parameters name at (value index env)
+    element_index_faults c parameters name at (value index env)
     ++ option_map_or (λ array. flat_map (value_fault at) (element_arguments parameters array args env)) (array_named c name) []
-faults_of c parameters (bound b env) = end_faults c parameters b.at b.left env ++ end_faults c parameters b.at b.right env
+faults_of c parameters (bound b env) = end_index_faults c parameters b.at b.left env ++ end_index_faults c parameters b.at b.right env
 
 -- the faults of an instance, as far as it shows them by itself
 abbrev pub instance_faults : Component → Env → List Fault

@@ -11,7 +11,7 @@ use Rattle.darwin_walk.specs.Value.{Value, Env, value, integer}
 use Rattle.darwin_walk.specs.Environment.{env_at}
 use Rattle.darwin_walk.specs.Reached.{Reached, weight}
 use Rattle.darwin_walk.specs.Instance.{children_of, bindings_of, value_fault, faults_of}
-use Rattle.darwin_walk.specs.Walked.{Tells, Adds, child_of, binding_of}
+use Rattle.darwin_walk.specs.Walked.{JudgesPart, Adds, child_of, binding_of}
 use Rattle.darwin_walk.specs.declared.fault.Fault.{Fault}
 use Rattle.darwin_walk.specs.declared.fault.WalkError.{WalkError}
 use Rattle.darwin_walk.specs.declared.walked.Child as code_child
@@ -36,11 +36,11 @@ abbrev pub HasSize : Env → Array → Type 0
 HasSize parameters a = value (expr_of a.decl.now.size) parameters ≡ integer a.size
 
 -- the faults of the sizes of ports and of arrays
-abbrev pub port_faults : Env → List PortDecl → List Fault
-port_faults parameters = flat_map (λ p. option_map_or (λ e. value_fault p.at (value e parameters)) p.size [])
+abbrev pub port_size_faults : Env → List PortDecl → List Fault
+port_size_faults parameters = flat_map (λ p. option_map_or (λ e. value_fault p.at (value e parameters)) p.size [])
 
-abbrev pub array_faults : Env → List ArrayDecl → List Fault
-array_faults parameters = flat_map (λ a. value_fault a.at (value a.size parameters))
+abbrev pub array_size_faults : Env → List ArrayDecl → List Fault
+array_size_faults parameters = flat_map (λ a. value_fault a.at (value a.size parameters))
 
 -- the array of a name
 pub record IsArray (s : Scope) (name : Name) (a : Array) : Type 0 where
@@ -64,16 +64,16 @@ pub record IsElementIndex (s : Scope) (name : Name) (v : Value) (p : ElementInde
 -- an answer gives the instance that an entry makes, if it makes one
 abbrev pub Makes : Scope → Reached → Result (Option code_child.Child) WalkError → Type 0
 Makes s entry =
-    Tells (faults_of (component_at s) (parameters_at s) entry) ⊥
+    JudgesPart (faults_of (component_at s) (parameters_at s) entry) ⊥
     (λ child. children_of (component_at s) (parameters_at s) entry ≡ option_to_list (option_map child_of child))
 
 -- an answer gives the binding of an entry
 abbrev pub Binds : Scope → Reached → Result code_binding.Binding WalkError → Type 0
 Binds s entry =
-    Tells (faults_of (component_at s) (parameters_at s) entry) ⊥ (λ b. bindings_of entry ≡ binding_of b ∷ [])
+    JudgesPart (faults_of (component_at s) (parameters_at s) entry) ⊥ (λ b. bindings_of entry ≡ binding_of b ∷ [])
 
 -- an answer tells of all this that is reached, and has added it where it has no fault
 abbrev pub Walks : Scope → List Reached → Walked → Walked → Result (Unit {0}) WalkError → Type 0
 Walks s more old new =
-    Tells (flat_map (faults_of (component_at s) (parameters_at s)) more) (s.room < old.count + sum_by weight more)
+    JudgesPart (flat_map (faults_of (component_at s) (parameters_at s)) more) (s.room < old.count + sum_by weight more)
     (λ _. Adds (component_at s) (parameters_at s) s.room more old new)

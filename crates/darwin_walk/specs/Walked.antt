@@ -37,8 +37,8 @@ cause_of faults too_many error.TooMany = too_many
 cause_of faults too_many error.NoMemory = ⊥
 
 -- what an answer tells of such a part: that it has no fault, and this of its value, or an error that has its cause
-abbrev pub Tells : {T : Type 0} → List Fault → Type 0 → (T → Type 0) → Result T WalkError → Type 0
-Tells faults too_many P = Answers error.NoMemory (λ x. (faults ≡ []) × P x) (cause_of faults too_many)
+abbrev pub JudgesPart : {T : Type 0} → List Fault → Type 0 → (T → Type 0) → Result T WalkError → Type 0
+JudgesPart faults too_many P = Answers error.NoMemory (λ x. (faults ≡ []) × P x) (cause_of faults too_many)
 
 -- what was walked so far, and this more
 pub record Adds (c : Component) (parameters : Env) (room : ℕ) (more : List Reached) (old new : Walked) : Type 0 where

@@ -8,8 +8,8 @@ ghost use Rattle.darwin_walk.specs.Spine.{env_of};
 ghost use Rattle.darwin_walk.specs.Environment.{env_at};
 ghost use Rattle.darwin_walk.specs.Reached.{count};
 ghost use Rattle.darwin_walk.specs.Instance.{index_value, port_sizes, children, bindings, instance_faults};
-ghost use Rattle.darwin_walk.specs.Walked.{Tells, IsWalked, child_of, binding_of};
-ghost use Rattle.darwin_walk.specs.Scope.{HasSize, array_faults, port_faults};
+ghost use Rattle.darwin_walk.specs.Walked.{JudgesPart, IsWalked, child_of, binding_of};
+ghost use Rattle.darwin_walk.specs.Scope.{HasSize, array_size_faults, port_size_faults};
 ghost use Rattle.darwin_walk.specs.declared.fault.Fault.{Fault as ShownFault};
 
 use crate::environment::Environment;
@@ -48,7 +48,7 @@ fn walk_with<'a>(
     parameters: &[Variable<'a>],
     room: u64,
 ) -> Result<Walked<'a>, WalkError>
-    ensures { Tells (instance_faults (component_of component.now) (env_of parameters.now)) (room < count (component_of component.now) (env_of parameters.now)) (IsWalked (component_of component.now) (env_of parameters.now) room) result }
+    ensures { JudgesPart (instance_faults (component_of component.now) (env_of parameters.now)) (room < count (component_of component.now) (env_of parameters.now)) (IsWalked (component_of component.now) (env_of parameters.now) room) result }
 {
     let index = by_name(alloc, parameters)?;
     let env = Environment {
@@ -66,7 +66,7 @@ fn walk_within<'a>(
     env: &Environment<'a, '_>,
     room: u64,
 ) -> Result<Walked<'a>, WalkError>
-    ensures { Tells (instance_faults (component_of component.now) (env_at env.now)) (room < count (component_of component.now) (env_at env.now)) (IsWalked (component_of component.now) (env_at env.now) room) result }
+    ensures { JudgesPart (instance_faults (component_of component.now) (env_at env.now)) (room < count (component_of component.now) (env_at env.now)) (IsWalked (component_of component.now) (env_at env.now) room) result }
 {
     let port_sizes = port_sizes_of(alloc, &component.ports, env)?;
     let arrays = arrays_with_sizes(alloc, &component.arrays, env)?;
@@ -125,7 +125,7 @@ fn port_sizes_of(
     ports: &[PortDecl],
     env: &Environment,
 ) -> Result<Vec<Option<i32>>, WalkError>
-    ensures { Tells (port_faults (env_at env.now) (map port_of ports.now)) ⊥ (λ sizes. map Some sizes.items ≡ map (λ p. index_value p.size (env_at env.now)) (map port_of ports.now)) result }
+    ensures { JudgesPart (port_size_faults (env_at env.now) (map port_of ports.now)) ⊥ (λ sizes. map Some sizes.items ≡ map (λ p. index_value p.size (env_at env.now)) (map port_of ports.now)) result }
 {
     let mut sizes = Vec::with_capacity(alloc, ports.len())?;
     for port in ports {
@@ -140,7 +140,7 @@ fn arrays_with_sizes<'a>(
     arrays: &'a [ArrayDecl],
     env: &Environment,
 ) -> Result<Vec<Array<'a>>, WalkError>
-    ensures { Tells (array_faults (env_at env.now) (map array_of arrays.now)) ⊥ (λ xs. (map (λ a. array_of a.decl.now) xs.items ≡ map array_of arrays.now) × All (HasSize (env_at env.now)) xs.items) result }
+    ensures { JudgesPart (array_size_faults (env_at env.now) (map array_of arrays.now)) ⊥ (λ xs. (map (λ a. array_of a.decl.now) xs.items ≡ map array_of arrays.now) × All (HasSize (env_at env.now)) xs.items) result }
 {
     let mut with_sizes = Vec::new(alloc);
     for decl in arrays {

@@ -8,7 +8,7 @@ ghost use Rattle.darwin_walk.specs.Value.{value as value_of};
 ghost use Rattle.darwin_walk.specs.Environment.{env_at};
 ghost use Rattle.darwin_walk.specs.Reached.{made, bound, turns, range, integers_to, holds as test_holds, reached_by, reached_in};
 ghost use Rattle.darwin_walk.specs.Instance.{element_arguments, value_fault, integers};
-ghost use Rattle.darwin_walk.specs.Walked.{Tells};
+ghost use Rattle.darwin_walk.specs.Walked.{JudgesPart};
 ghost use Rattle.darwin_walk.specs.Scope.{IsScope, Makes, Binds, Walks, parameters_at, exprs_of};
 
 use crate::WalkError;
@@ -23,7 +23,7 @@ use std::alloc::Global;
 
 /// Counts a turn or an entry.
 fn count_one(walked: &mut Walked, room: u64) -> Result<(), WalkError>
-    ensures { Tells [] (room < walked.old.count + 1) (λ _. (walked.old.count < room) × (walked.new ≡ record walked.old { count = walked.old.count + 1 })) result }
+    ensures { JudgesPart [] (room < walked.old.count + 1) (λ _. (walked.old.count < room) × (walked.new ≡ record walked.old { count = walked.old.count + 1 })) result }
 {
     if walked.count >= room {
         return Err(WalkError::TooMany);
@@ -40,7 +40,7 @@ fn element_arguments_at<'a>(
     env: &Environment<'a, '_>,
     at: At,
 ) -> Result<Vec<i32>, WalkError>
-    ensures { Tells (flat_map (value_fault at) (element_arguments (parameters_at scope.now) (array_of array.now.decl.now) (option_map (λ l. exprs_of l.items) args.now) (env_at env.now))) ⊥ (λ zs. integers (element_arguments (parameters_at scope.now) (array_of array.now.decl.now) (option_map (λ l. exprs_of l.items) args.now) (env_at env.now)) ≡ Some zs.items) result }
+    ensures { JudgesPart (flat_map (value_fault at) (element_arguments (parameters_at scope.now) (array_of array.now.decl.now) (option_map (λ l. exprs_of l.items) args.now) (env_at env.now))) ⊥ (λ zs. integers (element_arguments (parameters_at scope.now) (array_of array.now.decl.now) (option_map (λ l. exprs_of l.items) args.now) (env_at env.now)) ≡ Some zs.items) result }
 {
     match (args, &array.decl.args) {
         (Some(own), _) => values_at(scope.alloc, own, env, at),
@@ -198,7 +198,7 @@ impl Integers {
 
 /// Refuses as many turns as there is no room for: each counts, whatever it reaches.
 fn check_room(left: &Integers, walked: &Walked, room: u64) -> Result<(), WalkError>
-    ensures { Tells [] (room < walked.now.count + length (integers_to left.now.low left.now.high)) (λ _. length (integers_to left.now.low left.now.high) ≤ room - walked.now.count) result }
+    ensures { JudgesPart [] (room < walked.now.count + length (integers_to left.now.low left.now.high)) (λ _. length (integers_to left.now.low left.now.high) ≤ room - walked.now.count) result }
 {
     if left.count() > room.saturating_sub(walked.count) {
         return Err(WalkError::TooMany);
@@ -214,7 +214,7 @@ fn integers_at(
     env: &Environment,
     at: At,
 ) -> Result<Integers, WalkError>
-    ensures { Tells (value_fault at (value_of (expr_of low.now) (env_at env.now)) ++ value_fault at (value_of (expr_of high.now) (env_at env.now))) ⊥ (λ e. range (value_of (expr_of low.now) (env_at env.now)) (value_of (expr_of high.now) (env_at env.now)) ≡ integers_to e.low e.high) result }
+    ensures { JudgesPart (value_fault at (value_of (expr_of low.now) (env_at env.now)) ++ value_fault at (value_of (expr_of high.now) (env_at env.now))) ⊥ (λ e. range (value_of (expr_of low.now) (env_at env.now)) (value_of (expr_of high.now) (env_at env.now)) ≡ integers_to e.low e.high) result }
 {
     let low = value_at(alloc, low, env, at)?;
     let high = value_at(alloc, high, env, at)?;
@@ -226,7 +226,7 @@ fn integers_at(
 
 /// Whether a test is true.
 fn test_at(alloc: Global, test: &Expr, env: &Environment, at: At) -> Result<bool, WalkError>
-    ensures { Tells (value_fault at (value_of (expr_of test.now) (env_at env.now))) ⊥ (λ b. test_holds (value_of (expr_of test.now) (env_at env.now)) ≡ b) result }
+    ensures { JudgesPart (value_fault at (value_of (expr_of test.now) (env_at env.now))) ⊥ (λ b. test_holds (value_of (expr_of test.now) (env_at env.now)) ≡ b) result }
 {
     Ok(value_at(alloc, test, env, at)? != 0)
 }
