@@ -1,18 +1,17 @@
 //! Rows of `check`: each fault with descriptions that have it and no other, and the nearest ones that have none.
 
+use crate::reading::unit_of;
 use base::Text;
-use darwin_lexer::{MAX_TEXT, lex};
-use darwin_parser::parse;
-use darwin_types::{TypeError, check};
+use darwin_types::{Checked, TypeError, check};
 use std::alloc::{AllocError, Global};
 use std::process::Abort;
 use std::str;
 use std::test::Fail;
 
 /// A text behind the kinds, and what a check answers.
-type Checked = (&'static str, &'static str);
+type Row = (&'static str, &'static str);
 
-static NAMES: [Checked; 11] = [
+static NAMES: [Row; 11] = [
     ("", "3"),
     ("component Fork { inst s:sink; }", "4"),
     (
@@ -47,7 +46,7 @@ static NAMES: [Checked; 11] = [
     ),
 ];
 
-static UNKNOWN: [Checked; 12] = [
+static UNKNOWN: [Row; 12] = [
     ("component X { when n inst s:sink; }", "UnknownName X n"),
     (
         "component X { forall i:0..i inst s:sink; }",
@@ -92,7 +91,7 @@ static UNKNOWN: [Checked; 12] = [
     ),
 ];
 
-static ARGUMENTS: [Checked; 7] = [
+static ARGUMENTS: [Row; 7] = [
     (
         "component X { array a[0]:Sink; inst s:sink; }",
         "UnknownComponent X Sink",
@@ -114,7 +113,7 @@ static ARGUMENTS: [Checked; 7] = [
     ("component X { array a[1]:source; inst s:sink; }", "4"),
 ];
 
-static PRIMITIVE: [Checked; 10] = [
+static PRIMITIVE: [Row; 10] = [
     ("component X { when 1 { } }", "UnknownKind X"),
     (
         "component place(int first) { require right, left<x>; provide dine<int>; }",
@@ -181,47 +180,49 @@ fn fault(alloc: Global, error: &TypeError) -> Result<String, AllocError> {
 const KINDS: &str = "component sink { provide in; } component fork { provide hold; }
 component source(int n) { require out; } ";
 
-/// What a check answers of the kinds and this text: the fault, or else the number of components.
-fn outcome(rt: &impl Abort, alloc: Global, text: &str) -> Result<String, Fail> {
-    let mut whole = String::from_str(alloc, KINDS)?;
-    whole.push_str(text)?;
-    let bytes = whole.as_str().as_bytes();
-    assert!(rt; bytes.len() <= MAX_TEXT);
-    let tokens = lex(alloc, bytes)?;
-    let unit = parse(alloc, bytes, tokens.as_slice())?;
-    match check(alloc, unit) {
+/// The number of components, or the fault.
+fn said(alloc: Global, checked: &Result<Checked, TypeError>) -> Result<String, AllocError> {
+    match checked {
         Ok(checked) => {
             let count = checked.unit().components.len();
-            Ok(format!(in alloc; "{count}")?)
+            format!(in alloc; "{count}")
         }
-        Err(error) => Ok(fault(alloc, &error)?),
+        Err(error) => fault(alloc, error),
     }
 }
 
-fn assert_outcomes(rt: &impl Abort, alloc: Global, rows: &[Checked]) -> Result<(), Fail> {
+/// Checks the kinds with a text, and stops the test where another answer comes.
+fn assert_answer(rt: &impl Abort, alloc: Global, text: &str, wanted: &str) -> Result<(), Fail> {
+    let whole = format!(in alloc; "{KINDS}{text}")?;
+    let unit = unit_of(rt, alloc, whole.as_bytes())?;
+    let found = said(alloc, &check(alloc, unit))?;
+    assert_eq!(rt; found.as_str(), wanted, "{text}");
+    Ok(())
+}
+
+fn assert_answers(rt: &impl Abort, alloc: Global, rows: &[Row]) -> Result<(), Fail> {
     for (text, wanted) in rows {
-        let found = outcome(rt, alloc, text)?;
-        assert_eq!(rt; found.as_str(), *wanted, "{text}");
+        assert_answer(rt, alloc, text, wanted)?;
     }
     Ok(())
 }
 
 #[test]
 fn two_of_one_name(rt: HostRuntime) -> Result<(), Fail> {
-    assert_outcomes(&rt, rt.alloc(), &NAMES)
+    assert_answers(&rt, rt.alloc(), &NAMES)
 }
 
 #[test]
 fn names_that_stand_for_nothing(rt: HostRuntime) -> Result<(), Fail> {
-    assert_outcomes(&rt, rt.alloc(), &UNKNOWN)
+    assert_answers(&rt, rt.alloc(), &UNKNOWN)
 }
 
 #[test]
 fn components_and_numbers_of_arguments(rt: HostRuntime) -> Result<(), Fail> {
-    assert_outcomes(&rt, rt.alloc(), &ARGUMENTS)
+    assert_answers(&rt, rt.alloc(), &ARGUMENTS)
 }
 
 #[test]
 fn primitive_components(rt: HostRuntime) -> Result<(), Fail> {
-    assert_outcomes(&rt, rt.alloc(), &PRIMITIVE)
+    assert_answers(&rt, rt.alloc(), &PRIMITIVE)
 }

@@ -1,9 +1,9 @@
 //! How a description is elaborated: a text, its top with arguments, and the text of its graph or the fault.
 
+use crate::reading::unit_of;
 use base::Text;
-use config_graph::graph_text;
-use darwin_lexer::{At, MAX_TEXT, lex};
-use darwin_parser::parse;
+use config_graph::{Graph, graph_text};
+use darwin_lexer::At;
 use darwin_types::check;
 use elaborator::{ElabError, elaborate};
 use std::alloc::{AllocError, Global};
@@ -65,37 +65,45 @@ fn fault(alloc: Global, error: &ElabError) -> Result<String, AllocError> {
     }
 }
 
-/// What an elaboration answers: the text of the graph, or the fault.
-fn outcome(
-    rt: &impl Abort,
-    alloc: Global,
-    text: &[u8],
-    top: &str,
-    args: &[i32],
-) -> Result<String, Fail> {
-    assert!(rt; text.len() <= MAX_TEXT);
-    let tokens = lex(alloc, text)?;
-    let unit = parse(alloc, text, tokens.as_slice())?;
-    let checked = check(alloc, unit)?;
-    match elaborate(alloc, &checked, top.as_bytes(), args) {
+/// The text of the graph, or the fault in words.
+fn said(alloc: Global, answer: &Result<Graph, ElabError>) -> Result<String, Fail> {
+    match answer {
         Ok(graph) => {
-            let written = graph_text(alloc, &graph)?;
+            let written = graph_text(alloc, graph)?;
             let written = str::from_utf8(written.as_slice()).unwrap_or("?");
             Ok(String::from_str(alloc, written)?)
         }
-        Err(error) => Ok(fault(alloc, &error)?),
+        Err(error) => Ok(fault(alloc, error)?),
     }
 }
 
-/// Elaborates the rows, and stops the test where another answer comes.
+fn joined(alloc: Global, pieces: &[&str]) -> Result<String, AllocError> {
+    let mut text = String::new(alloc);
+    for piece in pieces {
+        text.push_str(piece)?;
+    }
+    Ok(text)
+}
+
+/// Elaborates a row, and stops the test where another answer comes.
+fn assert_outcome(
+    rt: &impl Abort,
+    alloc: Global,
+    (pieces, top, args, wanted): &Elaborated,
+) -> Result<(), Fail> {
+    let text = joined(alloc, pieces)?;
+    let unit = unit_of(rt, alloc, text.as_bytes())?;
+    let checked = check(alloc, unit)?;
+    let answer = elaborate(alloc, &checked, top.as_bytes(), args);
+    let found = said(alloc, &answer)?;
+    assert_eq!(rt; found.as_str(), *wanted, "{}", text.as_str());
+    Ok(())
+}
+
+/// Elaborates the rows.
 pub fn assert_outcomes(rt: &impl Abort, alloc: Global, rows: &[Elaborated]) -> Result<(), Fail> {
-    for (pieces, top, args, wanted) in rows {
-        let mut text = String::new(alloc);
-        for piece in *pieces {
-            text.push_str(piece)?;
-        }
-        let answer = outcome(rt, alloc, text.as_str().as_bytes(), top, args)?;
-        assert_eq!(rt; answer.as_str(), *wanted, "{}", text.as_str());
+    for row in rows {
+        assert_outcome(rt, alloc, row)?;
     }
     Ok(())
 }

@@ -106,6 +106,15 @@ static LONGEST: [Lexed; 11] = [
     (NAME_64, &[TokenKind::Name]),
 ];
 
+/// Whether these are the kinds of the tokens.
+fn are_kinds_of(tokens: &[Token], kinds: &[TokenKind]) -> bool {
+    tokens.len() == kinds.len()
+        && tokens
+            .iter()
+            .zip(kinds)
+            .all(|(token, kind)| token.kind == *kind)
+}
+
 fn assert_kinds(
     rt: &impl Abort,
     alloc: Global,
@@ -114,10 +123,7 @@ fn assert_kinds(
 ) -> Result<(), Fail> {
     assert!(rt; text.len() <= MAX_TEXT);
     let tokens = lex(alloc, text)?;
-    assert_eq!(rt; tokens.len(), wanted.len());
-    for (token, kind) in tokens.iter().zip(wanted) {
-        assert_eq!(rt; token.kind, *kind);
-    }
+    assert!(rt; are_kinds_of(tokens.as_slice(), wanted));
     Ok(())
 }
 
@@ -137,37 +143,31 @@ fn the_longest_token_is_taken(rt: HostRuntime) -> Result<(), Fail> {
     Ok(())
 }
 
+static PLACED: [Token; 3] = [
+    Token {
+        kind: TokenKind::Name,
+        start: 1,
+        end: 2,
+        at: At { line: 1, column: 2 },
+    },
+    Token {
+        kind: TokenKind::Sign(Sign::DotDot),
+        start: 15,
+        end: 17,
+        at: At { line: 4, column: 5 },
+    },
+    Token {
+        kind: TokenKind::Number(17),
+        start: 18,
+        end: 20,
+        at: At { line: 4, column: 8 },
+    },
+];
+
 #[test]
 fn spans_and_places(rt: HostRuntime) -> Result<(), Fail> {
     let tokens = lex(rt.alloc(), b"\tX\r\n\n  /* \n */ .. 17")?;
-    assert_eq!(rt; tokens.len(), 3);
-    assert_eq!(rt;
-        tokens[0],
-        Token {
-            kind: TokenKind::Name,
-            start: 1,
-            end: 2,
-            at: At { line: 1, column: 2 }
-        }
-    );
-    assert_eq!(rt;
-        tokens[1],
-        Token {
-            kind: TokenKind::Sign(Sign::DotDot),
-            start: 15,
-            end: 17,
-            at: At { line: 4, column: 5 }
-        }
-    );
-    assert_eq!(rt;
-        tokens[2],
-        Token {
-            kind: TokenKind::Number(17),
-            start: 18,
-            end: 20,
-            at: At { line: 4, column: 8 }
-        }
-    );
+    assert_eq!(rt; tokens.as_slice(), PLACED.as_slice());
     Ok(())
 }
 
@@ -185,23 +185,45 @@ fn fault(alloc: Global, text: &[u8]) -> (&'static str, u32, u32)
     }
 }
 
-#[test]
-fn the_first_fault_with_its_place(rt: HostRuntime) {
-    let alloc = rt.alloc();
-    assert_eq!(rt; fault(alloc, b"a !b"), ("BadByte", 1, 3));
-    assert_eq!(rt; fault(alloc, b"a\r\xc3"), ("BadByte", 1, 3));
-    assert_eq!(rt; fault(alloc, b"x\n$ /*"), ("BadByte", 2, 1));
-    assert_eq!(rt; fault(alloc, b"// a\n x /*/"), ("OpenComment", 2, 4));
-    assert_eq!(rt; fault(alloc, b"/* * / /"), ("OpenComment", 1, 1));
-    assert_eq!(rt; fault(alloc, NAME_65_ON_LINE_2), ("LongName", 2, 2));
-    assert_eq!(rt; fault(alloc, b"/*\n*/2147483648"), ("BigNumber", 2, 3));
+/// A text, the name of its first fault, and the fault's line and column.
+type Faulty = (&'static [u8], &'static str, u32, u32);
+
+static FAULTS: [Faulty; 7] = [
+    (b"a !b", "BadByte", 1, 3),
+    (b"a\r\xc3", "BadByte", 1, 3),
+    (b"x\n$ /*", "BadByte", 2, 1),
+    (b"// a\n x /*/", "OpenComment", 2, 4),
+    (b"/* * / /", "OpenComment", 1, 1),
+    (NAME_65_ON_LINE_2, "LongName", 2, 2),
+    (b"/*\n*/2147483648", "BigNumber", 2, 3),
+];
+
+fn assert_fault(rt: &impl Abort, alloc: Global, (text, name, line, column): &Faulty) {
+    assert!(rt; text.len() <= MAX_TEXT);
+    let found = fault(alloc, text);
+    assert_eq!(rt; found.0, *name);
+    assert_eq!(rt; found.1, *line);
+    assert_eq!(rt; found.2, *column);
 }
 
 #[test]
+fn the_first_fault_with_its_place(rt: HostRuntime) {
+    for row in &FAULTS {
+        assert_fault(&rt, rt.alloc(), row);
+    }
+}
+
+static NAMES: [(&[u8], bool); 5] = [
+    (b"fork_1", true),
+    (NAME_64, true),
+    (b"when", false),
+    (b"fork 1", false),
+    (b"", false),
+];
+
+#[test]
 fn a_name_stands_by_itself(rt: HostRuntime) {
-    assert!(rt; is_name(b"fork_1"));
-    assert!(rt; is_name(NAME_64));
-    assert!(rt; !is_name(b"when"));
-    assert!(rt; !is_name(b"fork 1"));
-    assert!(rt; !is_name(b""));
+    for (text, is_one) in &NAMES {
+        assert_eq!(rt; is_name(text), *is_one);
+    }
 }

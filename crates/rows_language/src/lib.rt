@@ -20,6 +20,8 @@ mod limit_rows;
 #[cfg(test)]
 mod parse_rows;
 #[cfg(test)]
+mod reading;
+#[cfg(test)]
 mod tree_rows;
 #[cfg(test)]
 mod tree_text;

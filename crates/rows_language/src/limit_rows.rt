@@ -1,8 +1,7 @@
 //! Rows of descriptions as large as they may be: what the limits allow is answered with ample memory.
 
+use crate::reading::unit_of;
 use config_graph::Graph;
-use darwin_lexer::{MAX_TEXT, lex};
-use darwin_parser::parse;
 use darwin_types::check;
 use elaborator::{ElabError, elaborate};
 use std::alloc::Global;
@@ -30,9 +29,7 @@ fn elaborated(
     top: &str,
     args: &[i32],
 ) -> Result<Result<Graph, ElabError>, Fail> {
-    assert!(rt; text.len() <= MAX_TEXT);
-    let tokens = lex(alloc, text)?;
-    let unit = parse(alloc, text, tokens.as_slice())?;
+    let unit = unit_of(rt, alloc, text)?;
     let checked = check(alloc, unit)?;
     Ok(elaborate(alloc, &checked, top.as_bytes(), args))
 }

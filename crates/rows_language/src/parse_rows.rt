@@ -204,22 +204,33 @@ fn repeated(
     Ok(text)
 }
 
+fn assert_nested(
+    rt: &impl Abort,
+    alloc: Global,
+    (front, piece, times, end, wanted): &Nested,
+) -> Result<(), Fail> {
+    let text = repeated(alloc, front, piece, *times, end)?;
+    let found = answer_to(rt, alloc, text.as_str())?;
+    assert_eq!(rt; found, *wanted, "{}", text.as_str());
+    Ok(())
+}
+
 #[test]
 fn nesting_has_limits(rt: HostRuntime) -> Result<(), Fail> {
-    for (front, piece, times, end, wanted) in &NESTED {
-        let text = repeated(rt.alloc(), front, piece, *times, end)?;
-        let found = answer_to(&rt, rt.alloc(), text.as_str())?;
-        assert_eq!(rt; found, *wanted, "{}", text.as_str());
+    for row in &NESTED {
+        assert_nested(&rt, rt.alloc(), row)?;
     }
     Ok(())
 }
 
 #[test]
 fn long_chains_take_no_stack(rt: HostRuntime) -> Result<(), Fail> {
-    let text = repeated(rt.alloc(), "component X { inst a[1", "+1", 100_000, "]; }")?;
-    assert_eq!(rt;
-        answer_to(&rt, rt.alloc(), text.as_str())?,
-        Answer::Parsed(1)
+    let row = (
+        "component X { inst a[1",
+        "+1",
+        100_000,
+        "]; }",
+        Answer::Parsed(1),
     );
-    Ok(())
+    assert_nested(&rt, rt.alloc(), &row)
 }

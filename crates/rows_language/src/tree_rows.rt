@@ -1,8 +1,9 @@
 //! Rows of `parse`: each production with its tree.
 
+use crate::reading::unit_of;
 use crate::tree_text::printed;
-use darwin_lexer::{MAX_TEXT, lex};
-use darwin_parser::parse;
+use std::alloc::Global;
+use std::process::Abort;
 use std::test::Fail;
 
 /// Texts, and their trees with all parentheses, and places as `@line:column`.
@@ -39,15 +40,17 @@ static TREES: [(&str, &str); 9] = [
     ),
 ];
 
+fn assert_tree(rt: &impl Abort, alloc: Global, text: &str, wanted: &str) -> Result<(), Fail> {
+    let unit = unit_of(rt, alloc, text.as_bytes())?;
+    let found = printed(alloc, &unit)?;
+    assert_eq!(rt; found.as_str(), wanted, "{text}");
+    Ok(())
+}
+
 #[test]
 fn trees_of_each_production(rt: HostRuntime) -> Result<(), Fail> {
     for (text, wanted) in &TREES {
-        let bytes = text.as_bytes();
-        assert!(rt; bytes.len() <= MAX_TEXT);
-        let tokens = lex(rt.alloc(), bytes)?;
-        let unit = parse(rt.alloc(), bytes, tokens.as_slice())?;
-        let found = printed(rt.alloc(), &unit)?;
-        assert_eq!(rt; found.as_str(), *wanted, "{text}");
+        assert_tree(&rt, rt.alloc(), text, wanted)?;
     }
     Ok(())
 }
