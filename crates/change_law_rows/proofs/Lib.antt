@@ -31,3 +31,4 @@ mod WrongRunLemmas
 mod WrongRestLemmas
 mod WrongDrainLemmas
 mod WrongStateLemmas
+mod WrongTellingLemmas

@@ -28,10 +28,10 @@ use Rattle.plan_laws.specs.Systems.{line, one, pair}
 use Rattle.change_law_rows.specs.WrongChanges.{closed_for_nothing, keeping_line, keeping_sink, looked_again, looking_once, m_to_m, moving_nowhere, skipped_for_nothing}
 use Rattle.change_law_rows.proofs.StatementLemmas.{after_start, known}
 
-any_left : (t : HistoryLine → Bool) (xs ys : List HistoryLine) → list_any t xs ≡ true → list_any t (xs ++ ys) ≡ true
+pub any_left : (t : HistoryLine → Bool) (xs ys : List HistoryLine) → list_any t xs ≡ true → list_any t (xs ++ ys) ≡ true
 any_left t xs ys h = list_any-append t xs ys ∙ or_left (list_any t xs) (list_any t ys) h
 
-any_right : (t : HistoryLine → Bool) (xs ys : List HistoryLine) → list_any t ys ≡ true → list_any t (xs ++ ys) ≡ true
+pub any_right : (t : HistoryLine → Bool) (xs ys : List HistoryLine) → list_any t ys ≡ true → list_any t (xs ++ ys) ≡ true
 any_right t xs ys h = list_any-append t xs ys ∙ or_right (list_any t xs) (list_any t ys) h
 
 -- a change that isn't skipped ends with a commit, or is given up

@@ -44,11 +44,11 @@ use Rattle.change_law_rows.proofs.StatementLemmas.{after_start}
 use Rattle.change_law_rows.proofs.WrongStateLemmas.{folds_so}
 
 -- the lines of a script's first statement begin the history
-record FirstLines (s : Statement) (history : List HistoryLine) : Type 0 where
-  lines : List HistoryLine
-  right : IsRight [] s lines
-  rest : List HistoryLine
-  are : lines ++ rest ≡ history
+pub record FirstLines (s : Statement) (history : List HistoryLine) : Type 0 where
+  pub lines : List HistoryLine
+  pub right : IsRight [] s lines
+  pub rest : List HistoryLine
+  pub are : lines ++ rest ≡ history
 
 first_of : (s : Statement) (ss : List Statement) (history : List HistoryLine) (parts : List Part) (stop : List HistoryLine) → map (λ (p : Part). p.statement) parts ≡ s ∷ ss → AreRight parts
     → lines_of parts ++ stop ≡ history → FirstLines s history
@@ -61,7 +61,7 @@ first_of s ss history (p ∷ parts) stop same right is =
       are = sym (append_assoc p.lines (lines_of parts) stop) ∙ is;
     }
 
-first_lines : (s : Statement) (ss : List Statement) (history : List HistoryLine) → Follows (s ∷ ss) history → FirstLines s history
+pub first_lines : (s : Statement) (ss : List Statement) (history : List HistoryLine) → Follows (s ∷ ss) history → FirstLines s history
 first_lines s ss history f = first_of s ss history f.parts f.stop f.statements_are f.right f.history_is
 
 abbrev is_commit_third : List HistoryLine → Bool

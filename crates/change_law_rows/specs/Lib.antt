@@ -25,3 +25,4 @@ pub mod WrongLines
 pub mod WrongSights
 pub mod WrongRuns
 pub mod WrongLooks
+pub mod WrongTellings

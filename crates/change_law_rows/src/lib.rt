@@ -18,5 +18,5 @@ pub use reports::{
 pub use wrong::{
     wrong_changes_are_refuted, wrong_lines_are_refuted, wrong_logs_are_refuted,
     wrong_looks_are_refuted, wrong_runs_are_refuted, wrong_sights_are_refuted,
-    wrong_states_are_refuted,
+    wrong_states_are_refuted, wrong_tellings_are_refuted,
 };

@@ -17,6 +17,7 @@ ghost use Rattle.change_law_rows.specs.WrongLogs as logs;
 ghost use Rattle.change_law_rows.specs.WrongLooks as looks;
 ghost use Rattle.change_law_rows.specs.WrongRuns as runs;
 ghost use Rattle.change_law_rows.specs.WrongSights as sights;
+ghost use Rattle.change_law_rows.specs.WrongTellings as tellings;
 
 use quiescence_laws::open_roots_are_seen;
 
@@ -58,6 +59,18 @@ pub fn wrong_sights_are_refuted()
     ensures stopped { Follows alone.script sights.stopped_twice → ⊥ }
 {}
 
+/// A line says what its statement asks for: a start with its component and arguments, a change too, a run with its
+/// number and a finish with its rounds. A change behind one that was given up isn't tried, and no state moves twice.
+pub fn wrong_tellings_are_refuted()
+    ensures renamed { Follows alone.script tellings.renamed → ⊥ }
+    ensures argument { Follows alone.script tellings.of_three → ⊥ }
+    ensures run { Follows logs.running_two tellings.run_of_two → ⊥ }
+    ensures finish { Follows alone.script tellings.finished_within_six → ⊥ }
+    ensures change { Follows sights.replacing tellings.change_to_four → ⊥ }
+    ensures again { Follows tellings.trying_again tellings.tried_again → ⊥ }
+    ensures moved_twice { (history : List HistoryLine) → Follows tellings.moving_twice history → ⊥ }
+{}
+
 /// A `run` that ends with nothing though nothing came to rest, and neither the rounds end so; one that counts what
 /// ended before the line before it; and a finish that ends early, for a rest that was before that line.
 pub fn wrong_runs_are_refuted()
@@ -82,12 +95,17 @@ pub fn wrong_logs_are_refuted()
 {}
 
 /// An account that was replaced has moved its state: the one that replaces it doesn't begin with 100 again, and it
-/// tells no state itself, nor that its state went to another node.
+/// tells no state itself, nor that its state went to another node. A source sends no value that its kind doesn't,
+/// and its log tells what it did in order.
 pub fn wrong_states_are_refuted()
     ensures forgotten { (m : List Member) → Merge m logs.forgetting
         → All (IsFolded m logs.forgetting.history) logs.forgetting.logs → ⊥ }
     ensures kept_back { (m : List Member) → All (IsFolded m logs.keeping_back.history) logs.keeping_back.logs → ⊥ }
     ensures misled { (m : List Member) → All (IsFolded m runs.misleading.history) runs.misleading.logs → ⊥ }
+    ensures invented { (m : List Member) → Merge m tellings.invented
+        → All (IsFolded m tellings.invented.history) tellings.invented.logs → ⊥ }
+    ensures turned { (m : List Member) → Merge m tellings.turned
+        → All (IsFolded m tellings.turned.history) tellings.turned.logs → ⊥ }
 {}
 
 /// A port isn't drained with the serial before its last, nor while its root is open, and a root that ended before the
