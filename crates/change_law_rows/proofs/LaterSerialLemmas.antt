@@ -75,6 +75,33 @@ run_out_is_serial = record {
   report_is = refl;
 }
 
+-- the second run ends with the sixth round
+
+abbrev two_again : World
+two_again = after_rounds true two_ended 3
+
+abbrev two_stopping : World
+two_stopping = after_changes two_again (map Close (0 ∷ 1 ∷ []))
+
+pub twice_is_serial : Serial run_out.twice_script run_out.twice_report
+twice_is_serial = record {
+  parts = record { statement = start (codes "Two") (pos 2 ∷ []) (two_of 2); lines = take 10 run_out.history; world = two_started }
+      ∷ record { statement = run 1; lines = take 1 (drop 10 run_out.history); world = two_ended }
+      ∷ record { statement = run 1; lines = take 1 (drop 10 run_out.history); world = two_again } ∷ [];
+  statements_are = refl;
+  played = (
+    (refl, refl),
+    (
+      record { rounds = 3; number = first_at (run_ends two_started 1) 3 refl refl; world = refl; are = refl },
+      (record { rounds = 3; number = first_at (run_ends two_ended 1) 3 refl refl; world = refl; are = refl }, tt),
+    ),
+  );
+  stop = drop 12 run_out.history;
+  world = two_stopping;
+  stops = record { waiting = two_stopping; waits = refl; rounds = 0; number = first_at (is_none_left two_stopping (0 ∷ 1 ∷ [])) 0 refl refl; world = refl; are = refl };
+  report_is = refl;
+}
+
 -- a change that makes three rounds, and is given up
 
 abbrev three_started : World

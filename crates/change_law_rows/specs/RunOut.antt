@@ -1,6 +1,6 @@
 -- Two sources of two items end one transaction each in one round, where one was asked for. Then they end what is left, and all is at rest
 -- before nine have ended.
-use Rattle.std.specs.Prelude.{List, [], ◌∷◌, ◌++◌, codes, map, pos, None}
+use Rattle.std.specs.Prelude.{List, [], ◌∷◌, ◌++◌, codes, drop, map, pos, take, None}
 use Rattle.quiesce_core.specs.declared.event.Event.TheVariants as event
 use Rattle.change_script.specs.declared.report.HistoryLine.{HistoryLine}
 use Rattle.change_script.specs.declared.report.HistoryLine.TheVariants as to
@@ -101,3 +101,11 @@ tells =
 abbrev pub stopped : List Seen
 stopped =
     found 0 2 ∷ found 1 2 ∷ []
+
+-- a second run counts what ends behind its own line, and doesn't wait for a round that moves nothing
+abbrev pub twice_script : List Statement
+twice_script =
+    start (codes "Two") (pos 2 ∷ []) (two_of 2) ∷ run 1 ∷ run 1 ∷ []
+
+abbrev pub twice_report : Report
+twice_report = record report { history = take 11 history ++ to.Run 1 2 ∷ drop 12 history }

@@ -59,6 +59,12 @@ pub fn a_run_may_end_with_more_or_fewer()
     ensures serial { Serial run_out.script run_out.report }
 {}
 
+/// In rounds a run counts what ends behind its own line: a second run of one transaction makes rounds until one more
+/// has ended.
+pub fn a_second_run_counts_anew()
+    ensures serial { Serial run_out.twice_script run_out.twice_report }
+{}
+
 /// A change to the same graph closes nothing, and commits at once.
 pub fn a_change_that_changes_nothing_is_lawful()
     ensures lawful { Lawful kept.script on_threads kept.report }
