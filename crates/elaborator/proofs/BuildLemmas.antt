@@ -15,7 +15,7 @@ use Rattle.base.specs.Answers.{Answers}
 use Rattle.base.proofs.AnswerLaws.{Answers-weaker}
 use Rattle.elaborator.specs.Built.{CycleFault, BuildFault, IsBuilt}
 use Rattle.elaborator.specs.Built.BuildFault.{in_graph}
-use Rattle.elaborator.specs.NodeOrder.{AreNodes}
+use Rattle.elaborator.specs.NodeOrder.{AreNodesOf}
 use Rattle.elaborator.specs.Links.{AreLinks}
 use Rattle.elaborator.specs.declared.nodes.Nodes.{Nodes}
 use Rattle.elaborator.specs.declared.error.ElabError.{ElabError}
@@ -31,29 +31,29 @@ few_ports nodes few = omega (arith, ports_from 0 nodes)
 -- ---- the graph
 
 pub elab_of :
-    (e : Expanded) (top : Instance) → IsOf e top → (n : Nodes) (links : List Link) (g : Graph) → AreNodes e n → AreLinks e.tree top n.nodes.items links
-    → g ≡ graph_of n.nodes.items links → ((l : Link) → (Contains g.links l → Contains links l) × (Contains links l → Contains g.links l))
+    (e : Expanded) (top : Instance) → IsOf e top → (ns : List Node) (n : Nodes) (links : List Link) (g : Graph) → AreNodesOf e ns n → AreLinks e.tree top ns links
+    → g ≡ graph_of ns links → ((l : Link) → (Contains g.links l → Contains links l) × (Contains links l → Contains g.links l))
     → IsElab e.tree top g
-elab_of e top is_of n links g nodes all is same =
+elab_of e top is_of ns n links g nodes all is same =
     elab_by_list e.tree top g (subst PathsRise (sym nodes_same) nodes.paths_rise)
     (λ node. (λ there. made node (subst (λ ns. Contains ns node) nodes_same there), λ is_node. subst (λ ns. Contains ns node) (sym nodes_same) (there node is_node)))
     (λ l. (λ there. subst (λ ns. IsLink e.tree top ns l) (sym nodes_same) ((all.links_are l).0 ((same l).0 there)), λ is_link. (same l).1 ((all.links_are l).1 (subst (λ ns. IsLink e.tree top ns l) nodes_same is_link))))
-    (kept_in_order n.nodes.items links g all.one_a_port is same)
+    (kept_in_order ns links g all.one_a_port is same)
   where
-    nodes_same : g.nodes ≡ n.nodes.items
+    nodes_same : g.nodes ≡ ns
     nodes_same = ap (λ (h : Graph). h.nodes) is
 
-    made : (node : Node) → Contains n.nodes.items node → IsNode e.tree top node
+    made : (node : Node) → Contains ns node → IsNode e.tree top node
     made node there =
-        let place = at_some_place n.nodes.items node there in
+        let place = at_some_place ns node there in
         let w = nodes.node_at place.0 node place.1 in
         record { instance = w.1; is_instance = is_of.sound w.0 w.1 w.3; is_node = w.4 }
 
-    there : (node : Node) → IsNode e.tree top node → Contains n.nodes.items node
+    there : (node : Node) → IsNode e.tree top node → Contains ns node
     there node is_node =
         let at = is_of.complete is_node.instance is_node.is_instance in
         let w = nodes.place_at at.0 is_node.instance node at.1 is_node.is_node in
-        Contains-at n.nodes.items w.0 node w.1
+        Contains-at ns w.0 node w.1
 
 -- ---- cycles
 

@@ -6,7 +6,6 @@ use Rattle.std.proofs.lemmas.Bool.{false≢true}
 use Rattle.std.proofs.lemmas.Option.{none-some, same_Some, get_or_from_slice_get}
 use Rattle.std.proofs.lemmas.List.{length-map, map-append}
 use Rattle.std.proofs.lemmas.List.Elements.{All-head, All-tail, Contains-append_left}
-use Rattle.indexmap.specs.IndexMap.{keys}
 use Rattle.base.specs.Answers.{Answers}
 use Rattle.base.proofs.AnswerLaws.{Answers-weaker}
 use Rattle.darwin_parser.specs.Tree.{Tree, tree_of, component_of}

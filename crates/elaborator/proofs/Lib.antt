@@ -36,6 +36,7 @@ mod Rows
 pub mod SingleLemmas
 pub mod SoundLemmas
 pub mod SpreadLemmas
+pub mod TakenLemmas
 pub mod TargetLemmas
 pub mod UniqueLaws
 pub mod VerdictLemmas

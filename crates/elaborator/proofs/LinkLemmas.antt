@@ -25,12 +25,12 @@ use Rattle.elaborator.specs.Ports.{place_of, IsPort}
 use Rattle.elaborator.specs.declared.instance.Instance as code_instance
 use Rattle.elaborator.specs.declared.instance.Expansion.{Expansion}
 use Rattle.elaborator.proofs.PortLemmas.{same_instance, numbered_within}
-use Rattle.elaborator.specs.NodeOrder.{AreNodes}
+use Rattle.elaborator.specs.NodeOrder.{AreNodesOf}
 use Rattle.elaborator.specs.Links.{IsProvisionNamed, Provides, IsProvided}
 use Rattle.elaborator.specs.declared.chains.PortId.{PortId}
 use Rattle.elaborator.specs.declared.nodes.Nodes.{Nodes}
 use Rattle.elaborator.proofs.IndexLemmas.{same_numbered}
-use Rattle.base.proofs.OptionLaws.{None-from_is_some}
+use Rattle.base.proofs.OptionLaws.{None-from_is_some, option_map_some}
 
 -- no kind has a second provision
 pub one_provision : (k : Kind) (n : ℕ) (p : Provision) → slice_get (row k).provides n ≡ Some p → n ≡ 0
@@ -111,49 +111,49 @@ value_read xs k v within read = slice_get_read xs _ k v refl within read
 -- ---- the provision of a node that a port is
 
 -- a provision of a node is one at the place of its instance
-provided_place : (e : Expanded) (n : Nodes) (id : PortId) (t : Target) → AreNodes e n → Provides e n.nodes.items id t → (a : ℕ) × (slice_get n.places.items id.instance ≡ Some (Some a))
-provided_place e n id t are p = let w = are.place_at id.instance p.instance p.node p.numbered p.is_node in (w.0, w.2)
+provided_place : (e : Expanded) (ns : List Node) (n : Nodes) (id : PortId) (t : Target) → AreNodesOf e ns n → Provides e ns id t → (a : ℕ) × (slice_get n.places.items id.instance ≡ Some (Some a))
+provided_place e ns n id t are p = let w = are.place_at id.instance p.instance p.node p.numbered p.is_node in (w.0, w.2)
 
-pub not_provided-composite : (e : Expanded) (n : Nodes) (id : PortId) → AreNodes e n → slice_get n.places.items id.instance ≡ Some None → (t : Target) → ¬ Provides e n.nodes.items id t
-not_provided-composite e n id are none t p = let w = provided_place e n id t are p in none-some w.0 (same_Some _ _ (sym none ∙ w.1))
+pub not_provided-composite : (e : Expanded) (ns : List Node) (n : Nodes) (id : PortId) → AreNodesOf e ns n → slice_get n.places.items id.instance ≡ Some None → (t : Target) → ¬ Provides e ns id t
+not_provided-composite e ns n id are none t p = let w = provided_place e ns n id t are p in none-some w.0 (same_Some _ _ (sym none ∙ w.1))
 
-provided_plain : (e : Expanded) → IsExpanded e → (n : Nodes) (id : PortId) (t : Target) (p : Provides e n.nodes.items id t) → Plain e id p.instance Provide p.provision.name
-provided_plain e expanded n id t p = plain e expanded id id.instance p.instance Provide p.provision.name p.numbered p.is_port
+provided_plain : (e : Expanded) → IsExpanded e → (ns : List Node) (id : PortId) (t : Target) (p : Provides e ns id t) → Plain e id p.instance Provide p.provision.name
+provided_plain e expanded ns id t p = plain e expanded id id.instance p.instance Provide p.provision.name p.numbered p.is_port
 
 pub both_sides : Require ≡ Provide → ⊥
 both_sides same = cc
 
 provided_decl :
-    (e : Expanded) → IsExpanded e → (n : Nodes) (id : PortId) (i : Instance) (d : PortDecl) → Numbered e id.instance i → slice_get i.component.ports id.port ≡ Some d
-    → (t : Target) (p : Provides e n.nodes.items id t) → (d.side ≡ Provide) × (d.name ≡ p.provision.name)
-provided_decl e expanded n id i d at declared t p =
-    let is = provided_plain e expanded n id t p in
+    (e : Expanded) → IsExpanded e → (ns : List Node) (id : PortId) (i : Instance) (d : PortDecl) → Numbered e id.instance i → slice_get i.component.ports id.port ≡ Some d
+    → (t : Target) (p : Provides e ns id t) → (d.side ≡ Provide) × (d.name ≡ p.provision.name)
+provided_decl e expanded ns id i d at declared t p =
+    let is = provided_plain e expanded ns id t p in
     let one = same_numbered e id.instance i p.instance at p.numbered in
     let same : d ≡ is.decl = same_Some d is.decl (sym declared ∙ ap (λ (j : Instance). slice_get j.component.ports id.port) one ∙ is.declared) in
     (ap (λ (x : PortDecl). x.side) same ∙ is.has_side, ap (λ (x : PortDecl). x.name) same ∙ is.has_name)
 
 pub not_provided-requirement :
-    (e : Expanded) → IsExpanded e → (n : Nodes) (id : PortId) (i : Instance) (d : PortDecl) → Numbered e id.instance i → slice_get i.component.ports id.port ≡ Some d
-    → d.side ≡ Require → (t : Target) → ¬ Provides e n.nodes.items id t
-not_provided-requirement e expanded n id i d at declared requires_ t p =
-    both_sides (sym requires_ ∙ (provided_decl e expanded n id i d at declared t p).0)
+    (e : Expanded) → IsExpanded e → (ns : List Node) (id : PortId) (i : Instance) (d : PortDecl) → Numbered e id.instance i → slice_get i.component.ports id.port ≡ Some d
+    → d.side ≡ Require → (t : Target) → ¬ Provides e ns id t
+not_provided-requirement e expanded ns id i d at declared requires_ t p =
+    both_sides (sym requires_ ∙ (provided_decl e expanded ns id i d at declared t p).0)
 
 -- which provision a port of a node is, by its name
 pub provided_by_name :
-    (e : Expanded) → IsExpanded e → (n : Nodes) (id : PortId) (i : Instance) (d : PortDecl) (a : ℕ) (node : Node) (r : Option ℕ) → AreNodes e n → Numbered e id.instance i
+    (e : Expanded) → IsExpanded e → (ns : List Node) (n : Nodes) (id : PortId) (i : Instance) (d : PortDecl) (a : ℕ) (node : Node) (r : Option ℕ) → AreNodesOf e ns n → Numbered e id.instance i
     → slice_get i.component.ports id.port ≡ Some d → place_of d.name i.component.ports ≡ Some id.port → d.side ≡ Provide → id.index ≡ None
-    → slice_get n.places.items id.instance ≡ Some (Some a) → slice_get n.nodes.items a ≡ Some node → IsProvisionNamed node.kind d.name r
-    → IsProvided e n.nodes.items id (option_map (λ p. record { node = a; provide = p }) r)
-provided_by_name e expanded n id i d a node None are at declared place provides no_index placed stands none = λ t p.
+    → slice_get n.places.items id.instance ≡ Some (Some a) → slice_get ns a ≡ Some node → IsProvisionNamed node.kind d.name r
+    → IsProvided e ns id (option_map (λ p. record { node = a; provide = p }) r)
+provided_by_name e expanded ns n id i d a node None are at declared place provides no_index placed stands none = λ t p.
     let w = are.place_at id.instance p.instance p.node p.numbered p.is_node in
     let same_place : w.0 ≡ a = same_Some w.0 a (same_Some _ _ (sym w.2 ∙ placed)) in
-    let one : p.node ≡ node = same_Some p.node node (sym w.1 ∙ ap (slice_get n.nodes.items) same_place ∙ stands) in
+    let one : p.node ≡ node = same_Some p.node node (sym w.1 ∙ ap (slice_get ns) same_place ∙ stands) in
     none t.provide (record {
       provision = p.provision;
       is_at = subst (λ (x : Node). slice_get (row x.kind).provides t.provide ≡ Some p.provision) one p.provided;
-      is_named = sym (provided_decl e expanded n id i d at declared t p).1;
+      is_named = sym (provided_decl e expanded ns id i d at declared t p).1;
     })
-provided_by_name e expanded n id i d a node (Some number) are at declared place provides no_index placed stands is =
+provided_by_name e expanded ns n id i d a node (Some number) are at declared place provides no_index placed stands is =
     let w = are.placed id.instance a placed in
     let one : node ≡ w.0 = same_Some node w.0 (sym stands ∙ w.2) in
     let instance = same_numbered e id.instance w.1 i w.3 at in
@@ -169,38 +169,53 @@ provided_by_name e expanded n id i d a node (Some number) are at declared place 
     }
 
 -- what the code read of a port of a node: its declaration, and the node
-pub record ReadPort (e : Expanded) (n : Nodes) (id : PortId) (d : PortDecl) (a : ℕ) (node : Node) : Type 0 where
+pub record ReadPort (e : Expanded) (ns : List Node) (n : Nodes) (id : PortId) (d : PortDecl) (a : ℕ) (node : Node) : Type 0 where
   pub instance : Instance
   pub numbered : Numbered e id.instance instance
   pub declared : slice_get instance.component.ports id.port ≡ Some d
   pub place : place_of d.name instance.component.ports ≡ Some id.port
   pub placed : slice_get n.places.items id.instance ≡ Some (Some a)
-  pub stands : slice_get n.nodes.items a ≡ Some node
+  pub stands : slice_get ns a ≡ Some node
 
-pub place_within : (e : Expanded) (n : Nodes) (id : PortId) (x : Port) → AreNodes e n → IsPort e id x → id.instance < length n.places.items
-place_within e n id x are port = omega (arith, are.all_placed, numbered_within e id.instance port.instance port.numbered)
+pub place_within : (e : Expanded) (ns : List Node) (n : Nodes) (id : PortId) (x : Port) → AreNodesOf e ns n → IsPort e id x → id.instance < length n.places.items
+place_within e ns n id x are port = omega (arith, are.all_placed, numbered_within e id.instance port.instance port.numbered)
 
-pub node_within : (e : Expanded) (n : Nodes) (k a : ℕ) → AreNodes e n → slice_get n.places.items k ≡ Some (Some a) → a < length n.nodes.items
-node_within e n k a are placed = let w = are.placed k a placed in slice_get_within n.nodes.items a w.0 w.2
+pub node_within : (e : Expanded) (ns : List Node) (n : Nodes) (k a : ℕ) → AreNodesOf e ns n → slice_get n.places.items k ≡ Some (Some a) → a < length ns
+node_within e ns n k a are placed = let w = are.placed k a placed in slice_get_within ns a w.0 w.2
+
+-- the node of a kind that the code read
+pub kind_read :
+    (e : Expanded) (ns : List Node) (n : Nodes) (a : ℕ) (kind : Kind) → AreNodesOf e ns n → a < length ns → kind ≡ get_or n.kinds.items a kind
+    → (node : Node) × (slice_get ns a ≡ Some node) × (node.kind ≡ kind)
+kind_read e ns n a kind are within read =
+    let inside : a < length n.kinds.items = omega (arith, within, ap length are.kinds, length-map ns kind_of) in
+    option_map_some kind_of (slice_get ns a) kind (sym (slice_get-map kind_of ns a) ∙ ap (λ ks. slice_get ks a) (sym are.kinds) ∙ value_read n.kinds.items a kind inside read)
+  where
+    kind_of : Node → Kind
+    kind_of x = x.kind
 
 pub port_read :
-    (e : Expansion) (n : Nodes) (id : PortId) (x : Port) (i : code_instance.Instance) (d : code_port.PortDecl) (a : ℕ) (node : Node) → AreNodes (expanded_of e) n → IsPort (expanded_of e) id x
+    (e : Expansion) (ns : List Node) (n : Nodes) (id : PortId) (x : Port) (i : code_instance.Instance) (d : code_port.PortDecl) (a : ℕ) (kind : Kind) → AreNodesOf (expanded_of e) ns n → IsPort (expanded_of e) id x
     → slice_get (expanded_of e).made id.instance ≡ Some (made_of i) → d ≡ get_or i.component.now.ports.items id.port d → slice_get n.places.items id.instance ≡ Some (Some a)
-    → node ≡ get_or n.nodes.items a node → ReadPort (expanded_of e) n id (port_of d) a node
-port_read e n id x i d a node are port made read placed node_is =
+    → kind ≡ get_or n.kinds.items a kind → (node : Node) × (node.kind ≡ kind) × ReadPort (expanded_of e) ns n id (port_of d) a node
+port_read e ns n id x i d a kind are port made read placed kind_is =
     let declared = decl_read e id.instance id.port i port.instance d made port.numbered (slice_get_within port.instance.component.ports id.port port.decl port.declared) read in
     let same : port.decl ≡ port_of d = same_Some port.decl (port_of d) (sym port.declared ∙ declared) in
-    record {
-      instance = port.instance;
-      numbered = port.numbered;
-      declared = declared;
-      place = subst (λ (y : PortDecl). place_of y.name port.instance.component.ports ≡ Some id.port) same port.first;
-      placed = placed;
-      stands = value_read n.nodes.items a node (node_within (expanded_of e) n id.instance a are placed) node_is;
-    }
+    let stands = kind_read (expanded_of e) ns n a kind are (node_within (expanded_of e) ns n id.instance a are placed) kind_is in (
+      stands.0,
+      stands.2,
+      record {
+        instance = port.instance;
+        numbered = port.numbered;
+        declared = declared;
+        place = subst (λ (y : PortDecl). place_of y.name port.instance.component.ports ≡ Some id.port) same port.first;
+        placed = placed;
+        stands = stands.1;
+      },
+    )
 
 pub provided_of_read :
-    (e : Expanded) → IsExpanded e → (n : Nodes) (id : PortId) (d : PortDecl) (a : ℕ) (node : Node) (r : Option ℕ) → AreNodes e n → ReadPort e n id d a node → d.side ≡ Provide
-    → is_some id.index ≡ false → IsProvisionNamed node.kind d.name r → IsProvided e n.nodes.items id (option_map (λ p. record { node = a; provide = p }) r)
-provided_of_read e expanded n id d a node r are read side index named =
-    provided_by_name e expanded n id read.instance d a node r are read.numbered read.declared read.place side (None-from_is_some id.index index) read.placed read.stands named
+    (e : Expanded) → IsExpanded e → (ns : List Node) (n : Nodes) (id : PortId) (d : PortDecl) (a : ℕ) (node : Node) (r : Option ℕ) → AreNodesOf e ns n → ReadPort e ns n id d a node → d.side ≡ Provide
+    → is_some id.index ≡ false → IsProvisionNamed node.kind d.name r → IsProvided e ns id (option_map (λ p. record { node = a; provide = p }) r)
+provided_of_read e expanded ns n id d a node r are read side index named =
+    provided_by_name e expanded ns n id read.instance d a node r are read.numbered read.declared read.place side (None-from_is_some id.index index) read.placed read.stands named

@@ -1,5 +1,5 @@
 -- The ports that ends of bindings name.
-use Rattle.std.proofs.Common.{◌≡◌, ◌∙◌, ℕ, ℤ, zero, suc, ◌<◌, Bool, true, false, not, List, [], ◌∷◌, Option, Some, None, Bor, length, map, position, refl, ap, sym, subst, IsTrue, IfSome, ◌↔◌, arith}
+use Rattle.std.proofs.Common.{◌≡◌, ◌∙◌, ℕ, ℤ, zero, suc, ◌<◌, Bool, true, false, not, List, [], ◌∷◌, Option, Some, None, Bor, length, map, position, refl, ap, sym, subst, IsTrue, ◌↔◌, arith}
 use Rattle.std.specs.List.{slice_get}
 use Rattle.std.specs.Option.{is_some, option_map, option_flatten}
 use Rattle.std.specs.Str.{bytes_eq}

@@ -4,6 +4,7 @@ use Rattle.std.specs.List.{slice_get}
 use Rattle.std.specs.Option.{option_map_or}
 use Rattle.std.proofs.lemmas.Bool.{false≢true}
 use Rattle.std.proofs.lemmas.Option.{same_Some, none-some}
+use Rattle.config_graph.specs.declared.kind.Kind.{Kind}
 use Rattle.config_graph.specs.declared.node.Node.{Node}
 use Rattle.config_graph.specs.declared.node.Target.{Target}
 use Rattle.config_graph.specs.Kinds.{row}
@@ -18,7 +19,7 @@ use Rattle.elaborator.specs.Numbering.{Expanded, Numbered, NumberedIn, IsExpande
 use Rattle.elaborator.specs.Expansion.{expanded_of, made_of, instance_in}
 use Rattle.elaborator.specs.PortIndex.{chain_target, chain_end, IsIndex, all_pairs}
 use Rattle.elaborator.specs.Ports.{place_of, IsPort}
-use Rattle.elaborator.specs.NodeOrder.{AreNodes}
+use Rattle.elaborator.specs.NodeOrder.{AreNodesOf}
 use Rattle.elaborator.specs.Links.{Provides, IsProvided, link_to, IsTargeted}
 use Rattle.elaborator.specs.declared.chains.PortId.{PortId}
 use Rattle.elaborator.specs.declared.instance.Instance as code_instance
@@ -30,7 +31,7 @@ use Rattle.elaborator.proofs.IndexLemmas.{same_numbered, port_functional}
 use Rattle.elaborator.proofs.WholeLemmas.{instances_of, instance_stands, numbered_at}
 use Rattle.elaborator.proofs.FollowLemmas.{Indexed, end_reached, end_found}
 use Rattle.elaborator.proofs.NodeLemmas.{node_parts, node_path}
-use Rattle.elaborator.proofs.LinkLemmas.{both_sides, one_provision, Plain, plain, plain_port, value_read}
+use Rattle.elaborator.proofs.LinkLemmas.{both_sides, one_provision, Plain, plain, plain_port, value_read, kind_read}
 use Rattle.elaborator.proofs.PortLemmas.{same_instance}
 use Rattle.base.proofs.ContainsLaws.{Contains-at, Contains-flat_map, Contains-from_flat_map, at_some_place}
 use Rattle.config_graph.proofs.PathLaws.{one_place}
@@ -110,23 +111,23 @@ node_no_source e top targets indexed id k i n name at is port = by_target (chain
         absurd (refuted place.0 from.0 w.0.source (expanded_composite from.0 b.0 b.1) at_j (port_functional e id w.0.source (port_at i Provide name) w.2 port) (owner e indexed.expanded place.0 from.0 w.0 at_j from.2))
 
 -- a port is one provision at most
-one_provided : (e : Expanded) (n : Nodes) → AreNodes e n → (id : PortId) (t u : Target) → Provides e n.nodes.items id t → Provides e n.nodes.items id u → t ≡ u
-one_provided e n are id t u p q =
+one_provided : (e : Expanded) (ns : List Node) (n : Nodes) → AreNodesOf e ns n → (id : PortId) (t u : Target) → Provides e ns id t → Provides e ns id u → t ≡ u
+one_provided e ns n are id t u p q =
     let instance = same_numbered e id.instance p.instance q.instance p.numbered q.numbered in
     let node : p.node ≡ q.node = same_Some p.node q.node (sym p.is_node ∙ ap node_of instance ∙ q.is_node) in
-    let place = one_place n.nodes.items are.paths_rise t.node u.node q.node (p.stands ∙ ap Some node) q.stands in
+    let place = one_place ns are.paths_rise t.node u.node q.node (p.stands ∙ ap Some node) q.stands in
     let number : t.provide ≡ u.provide = one_provision p.node.kind t.provide p.provision p.provided ∙ sym (one_provision q.node.kind u.provide q.provision q.provided) in
     ap (λ x. record { node = x; provide = t.provide }) place ∙ ap (λ x. record { node = u.node; provide = x }) number
 
 -- ---- the target of a requirement
 
 -- the requirement of a node, as a port: where its chain begins
-pub record Requirement (e : Expanded) (n : Nodes) (a require : ℕ) (start : PortId) : Type 0 where
+pub record Requirement (e : Expanded) (ns : List Node) (a require : ℕ) (start : PortId) : Type 0 where
   pub node : Node
   pub name : Name
   pub number : ℕ
   pub instance : Instance
-  pub stands : slice_get n.nodes.items a ≡ Some node
+  pub stands : slice_get ns a ≡ Some node
   pub required : slice_get (row node.kind).requires_ require ≡ Some name
   pub numbered : Numbered e number instance
   pub is_node : node_of instance ≡ Some node
@@ -134,9 +135,9 @@ pub record Requirement (e : Expanded) (n : Nodes) (a require : ℕ) (start : Por
 
 -- a provision at the end of the chain is linked
 provided_linked :
-    (e : Expanded) (top : Instance) (targets : List (PortId × PortId)) → Indexed e top targets → (n : Nodes) (a require : ℕ) (start : PortId) (r : Requirement e n a require start)
-    → (t : Target) → Provides e n.nodes.items (chain_end 68 targets start) t → IsLink e.tree top n.nodes.items (link_to a require t)
-provided_linked e top targets indexed n a require start r t p =
+    (e : Expanded) (top : Instance) (targets : List (PortId × PortId)) → Indexed e top targets → (ns : List Node) (a require : ℕ) (start : PortId) (r : Requirement e ns a require start)
+    → (t : Target) → Provides e ns (chain_end 68 targets start) t → IsLink e.tree top ns (link_to a require t)
+provided_linked e top targets indexed ns a require start r t p =
     let end = end_reached e top targets indexed 68 start (port_at r.instance Require r.name) r.is_port in
     let same = port_functional e (chain_end 68 targets start) end.port (port_at p.instance Provide p.provision.name) end.is_port p.is_port in
     let leads : BoundThrough e.tree top (port_at r.instance Require r.name) (port_at p.instance Provide p.provision.name) = elim end.leads [
@@ -161,9 +162,9 @@ provided_linked e top targets indexed n a require start r t p =
 
 -- what a requirement is linked to is at the end of its chain
 linked_provided :
-    (e : Expanded) (top : Instance) (targets : List (PortId × PortId)) → Indexed e top targets → (n : Nodes) (a require : ℕ) (start : PortId) (r : Requirement e n a require start)
-    → (t : Target) → IsLink e.tree top n.nodes.items (link_to a require t) → Provides e n.nodes.items (chain_end 68 targets start) t
-linked_provided e top targets indexed n a require start r t l =
+    (e : Expanded) (top : Instance) (targets : List (PortId × PortId)) → Indexed e top targets → (ns : List Node) (a require : ℕ) (start : PortId) (r : Requirement e ns a require start)
+    → (t : Target) → IsLink e.tree top ns (link_to a require t) → Provides e ns (chain_end 68 targets start) t
+linked_provided e top targets indexed ns a require start r t l =
     let k = l.linked in
     let from_node : l.from ≡ r.node = same_Some l.from r.node (sym l.from_there ∙ r.stands) in
     let from_at = indexed.is_of.complete k.from.instance k.from.is_instance in
@@ -178,7 +179,7 @@ linked_provided e top targets indexed n a require start r t l =
     let few = rank_of_requirement (port_at r.instance Require r.name) refl (indexed.expanded.shallow r.number r.instance r.numbered) in
     let found = end_found e top targets indexed 68 start id.0 (port_at r.instance Require r.name) target leads r.is_port id.1 last (omega (arith, few)) in
     let plain_target = plain e indexed.expanded id.0 to_at.0 k.to.instance Provide k.provided.name to_at.1 id.1 in
-    subst (λ x. Provides e n.nodes.items x t) (sym found) (record {
+    subst (λ x. Provides e ns x t) (sym found) (record {
       instance = k.to.instance;
       node = l.to;
       provision = k.provided;
@@ -191,20 +192,20 @@ linked_provided e top targets indexed n a require start r t l =
 
 -- the answer at the end of the chain is the answer for the requirement
 pub targeted :
-    (e : Expanded) (top : Instance) (targets : List (PortId × PortId)) → Indexed e top targets → (n : Nodes) → AreNodes e n → (a require : ℕ) (start : PortId)
-    → Requirement e n a require start → (r : Option Target) → IsProvided e n.nodes.items (chain_end 68 targets start) r → IsTargeted e.tree top n.nodes.items a require r
-targeted e top targets indexed n are a require start req None none = λ t l. none t (linked_provided e top targets indexed n a require start req t l)
-targeted e top targets indexed n are a require start req (Some t) p = record {
-  is_link = provided_linked e top targets indexed n a require start req t p;
-  only = λ u l. one_provided e n are (chain_end 68 targets start) u t (linked_provided e top targets indexed n a require start req u l) p;
+    (e : Expanded) (top : Instance) (targets : List (PortId × PortId)) → Indexed e top targets → (ns : List Node) (n : Nodes) → AreNodesOf e ns n → (a require : ℕ) (start : PortId)
+    → Requirement e ns a require start → (r : Option Target) → IsProvided e ns (chain_end 68 targets start) r → IsTargeted e.tree top ns a require r
+targeted e top targets indexed ns n are a require start req None none = λ t l. none t (linked_provided e top targets indexed ns a require start req t l)
+targeted e top targets indexed ns n are a require start req (Some t) p = record {
+  is_link = provided_linked e top targets indexed ns a require start req t p;
+  only = λ u l. one_provided e ns n are (chain_end 68 targets start) u t (linked_provided e top targets indexed ns a require start req u l) p;
 }
 
 -- a requirement that is no port of the instance is linked to nothing
 pub untargeted :
-    (e : Expanded) (top : Instance) (targets : List (PortId × PortId)) → Indexed e top targets → (n : Nodes) (a require : ℕ) (node : Node) (name : Name) (number : ℕ) (i : Instance)
-    → slice_get n.nodes.items a ≡ Some node → slice_get (row node.kind).requires_ require ≡ Some name → Numbered e number i → node_of i ≡ Some node
-    → ((k : PortId) → ¬ Plain e k i Require name) → (t : Target) → ¬ IsLink e.tree top n.nodes.items (link_to a require t)
-untargeted e top targets indexed n a require node name number i stands required numbered is_node no_port t l =
+    (e : Expanded) (top : Instance) (targets : List (PortId × PortId)) → Indexed e top targets → (ns : List Node) (a require : ℕ) (node : Node) (name : Name) (number : ℕ) (i : Instance)
+    → slice_get ns a ≡ Some node → slice_get (row node.kind).requires_ require ≡ Some name → Numbered e number i → node_of i ≡ Some node
+    → ((k : PortId) → ¬ Plain e k i Require name) → (t : Target) → ¬ IsLink e.tree top ns (link_to a require t)
+untargeted e top targets indexed ns a require node name number i stands required numbered is_node no_port t l =
     let k = l.linked in
     let from_node : l.from ≡ node = same_Some l.from node (sym l.from_there ∙ stands) in
     let from_at = indexed.is_of.complete k.from.instance k.from.is_instance in
@@ -217,29 +218,30 @@ untargeted e top targets indexed n a require node name number i stands required 
 -- ---- what the code read of a requirement
 
 -- a node, and its instance
-pub record ReadNode (e : Expansion) (n : Nodes) (a number : ℕ) (node : Node) (x : code_instance.Instance) : Type 0 where
-  pub stands : slice_get n.nodes.items a ≡ Some node
+pub record ReadNode (e : Expansion) (ns : List Node) (a number : ℕ) (node : Node) (x : code_instance.Instance) : Type 0 where
+  pub stands : slice_get ns a ≡ Some node
   pub numbered : Numbered (expanded_of e) number (instance_in x)
   pub is_node : node_of (instance_in x) ≡ Some node
 
 pub node_read :
-    (e : Expansion) (n : Nodes) (a number : ℕ) (node : Node) (x : code_instance.Instance) → AreNodes (expanded_of e) n → a < length n.nodes.items → node ≡ get_or n.nodes.items a node
-    → number ≡ get_or n.instances.items a number → slice_get (expanded_of e).made number ≡ Some (made_of x) → ReadNode e n a number node x
-node_read e n a number node x are within read_node read_number made =
-    let stands = value_read n.nodes.items a node within read_node in
-    let w = are.node_at a node stands in
-    let same : w.0 ≡ number = same_Some w.0 number (sym w.2 ∙ value_read n.instances.items a number (omega (arith, within, are.same_length)) read_number) in
+    (e : Expansion) (ns : List Node) (n : Nodes) (a number : ℕ) (kind : Kind) (x : code_instance.Instance) → AreNodesOf (expanded_of e) ns n → a < length n.instances.items
+    → kind ≡ get_or n.kinds.items a kind → number ≡ get_or n.instances.items a number → slice_get (expanded_of e).made number ≡ Some (made_of x)
+    → (node : Node) × (node.kind ≡ kind) × ReadNode e ns a number node x
+node_read e ns n a number kind x are within read_kind read_number made =
+    let stands = kind_read (expanded_of e) ns n a kind are (omega (arith, within, are.same_length)) read_kind in
+    let w = are.node_at a stands.0 stands.1 in
+    let same : w.0 ≡ number = same_Some w.0 number (sym w.2 ∙ value_read n.instances.items a number within read_number) in
     let numbered : Numbered (expanded_of e) number w.1 = subst (λ k. Numbered (expanded_of e) k w.1) same w.3 in
     let one = same_instance e number x w.1 made numbered in
-    record { stands = stands; numbered = subst (Numbered (expanded_of e) number) one numbered; is_node = ap node_of (sym one) ∙ w.4 }
+    (stands.0, stands.2, record { stands = stands.1; numbered = subst (Numbered (expanded_of e) number) one numbered; is_node = ap node_of (sym one) ∙ w.4 })
 
 -- its requirement, as a port
 pub start_read :
-    (e : Expansion) (n : Nodes) (a require number port : ℕ) (node : Node) (name : Name) (x : code_instance.Instance) (d : code_port.PortDecl) → ReadNode e n a number node x
+    (e : Expansion) (ns : List Node) (a require number port : ℕ) (node : Node) (name : Name) (x : code_instance.Instance) (d : code_port.PortDecl) → ReadNode e ns a number node x
     → slice_get (row node.kind).requires_ require ≡ Some name → place_of name (instance_in x).component.ports ≡ Some port
     → slice_get (instance_in x).component.ports port ≡ Some (port_of d) → d.side ≡ Require
-    → Requirement (expanded_of e) n a require (record { instance = number; port = port; index = None })
-start_read e n a require number port node name x d read required place declared side = record {
+    → Requirement (expanded_of e) ns a require (record { instance = number; port = port; index = None })
+start_read e ns a require number port node name x d read required place declared side = record {
   node = node;
   name = name;
   number = number;

@@ -19,12 +19,13 @@ abbrev pub natural : ℤ → ℕ
 natural (pos n) = n
 natural (negsuc n) = 0
 
+-- the node of a kind that an instance is
+abbrev pub node_with : Instance → Kind → Node
+node_with i kind = record { path = i.path; kind = kind; arg = option_map (λ v. natural v.value) (slice_get i.env 0) }
+
 -- the node that an instance of a primitive component is
 abbrev pub node_of : Instance → Option Node
-node_of i = if is_primitive i.component then option_map node (kind_named i.component.name) else None
-  where
-    node : Kind → Node
-    node kind = record { path = i.path; kind = kind; arg = option_map (λ v. natural v.value) (slice_get i.env 0) }
+node_of i = if is_primitive i.component then option_map (node_with i) (kind_named i.component.name) else None
 
 -- the instance of a node
 pub record IsNode (tree : Tree) (top : Instance) (n : Node) : Type 0 where

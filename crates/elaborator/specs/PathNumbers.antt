@@ -1,5 +1,5 @@
 -- How an instance is found by its path: from the last whose path has its hash, back from each to the one before it.
-use Rattle.std.specs.Prelude.{◌≡◌, ℕ, ◌<◌, ◌≤◌, ◌==◌, List, ◌∷◌, [], ◌++◌, Option, Some, length, map, slice_get, IfSome, if◌then◌else◌, nat_eq}
+use Rattle.std.specs.Prelude.{◌≡◌, ℕ, ◌<◌, ◌≤◌, ◌==◌, List, ◌∷◌, [], ◌++◌, Option, Some, length, slice_get, IfSome, if◌then◌else◌, nat_eq}
 use Rattle.std.specs.Hash.FoldHasher.{initial, write, finish}
 use Rattle.indexmap.specs.IndexMap.{get}
 use Rattle.elaborator.specs.Paths.{Path}

@@ -16,17 +16,17 @@ use crate::ElabError;
 use crate::chains::Targets;
 use crate::instance::Expansion;
 use crate::links::links_of;
-use crate::nodes::{Nodes, nodes_of};
+use crate::nodes::{nodes_of, take_nodes};
 use crate::pairs::index_bindings;
 use config_graph::{Graph, first_on_cycle};
 use std::alloc::{AllocError, Global};
 
-/// The graph of an expansion.
-pub fn build_graph(alloc: Global, expansion: &Expansion) -> Result<Graph, ElabError>
-    requires kept { IsNumbering expansion.now }
-    requires of_top { (top : Instance) × IsOf (expanded_of expansion.now) top }
-    ensures { (top : Instance) → IsOf (expanded_of expansion.now) top
-        → Answers NoMemory (IsBuilt (expanded_of expansion.now) top) (BuildFault (expanded_of expansion.now) top) result }
+/// The graph of an expansion, of which the nodes take their paths.
+pub fn build_graph(alloc: Global, expansion: &mut Expansion) -> Result<Graph, ElabError>
+    requires kept { IsNumbering expansion.old }
+    requires of_top { (top : Instance) × IsOf (expanded_of expansion.old) top }
+    ensures { (top : Instance) → IsOf (expanded_of expansion.old) top
+        → Answers NoMemory (IsBuilt (expanded_of expansion.old) top) (BuildFault (expanded_of expansion.old) top) result }
 {
     let targets = index_bindings(alloc, expansion)?;
     let graph = join(alloc, expansion, &targets)?;
@@ -34,17 +34,17 @@ pub fn build_graph(alloc: Global, expansion: &Expansion) -> Result<Graph, ElabEr
 }
 
 /// The nodes of an expansion, linked by its bindings.
-fn join(alloc: Global, expansion: &Expansion, targets: &Targets) -> Result<Graph, AllocError>
-    requires kept { IsNumbering expansion.now }
-    requires of_top { (top : Instance) × IsOf (expanded_of expansion.now) top }
-    requires indexed { IsIndexed (expanded_of expansion.now) targets.now }
-    ensures { (top : Instance) → IsOf (expanded_of expansion.now) top
-        → IfOk result (IsElab (expanded_of expansion.now).tree top) }
+fn join(alloc: Global, expansion: &mut Expansion, targets: &Targets) -> Result<Graph, AllocError>
+    requires kept { IsNumbering expansion.old }
+    requires of_top { (top : Instance) × IsOf (expanded_of expansion.old) top }
+    requires indexed { IsIndexed (expanded_of expansion.old) targets.now }
+    ensures { (top : Instance) → IsOf (expanded_of expansion.old) top
+        → IfOk result (IsElab (expanded_of expansion.old).tree top) }
 {
     let nodes = nodes_of(alloc, expansion)?;
     let links = links_of(alloc, expansion, &nodes, targets)?;
-    let Nodes { nodes, .. } = nodes;
-    let graph = Graph::build(alloc, nodes, links)?;
+    let taken = take_nodes(alloc, expansion, &nodes)?;
+    let graph = Graph::build(alloc, taken, links)?;
     Ok(graph)
 }
 

@@ -65,8 +65,8 @@ fn graph_or_fault(
 {
     let directory = Directory::of(checked);
     let instance = top_of(alloc, &directory, top, args)?;
-    let expansion = expand(alloc, directory, instance)?;
-    build_graph(alloc, &expansion)
+    let mut expansion = expand(alloc, directory, instance)?;
+    build_graph(alloc, &mut expansion)
 }
 
 /// The instance at the top.

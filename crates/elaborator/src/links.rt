@@ -8,7 +8,7 @@ ghost use Rattle.elaborator.specs.Numbering.{IsOf};
 ghost use Rattle.elaborator.specs.Expansion.{expanded_of, IsNumbering};
 ghost use Rattle.elaborator.specs.Ports.{IsPort};
 ghost use Rattle.elaborator.specs.PortIndex.{IsIndexed};
-ghost use Rattle.elaborator.specs.NodeOrder.{AreNodes};
+ghost use Rattle.elaborator.specs.NodeOrder.{nodes_in, AreNodes};
 ghost use Rattle.elaborator.specs.Links.{IsProvisionNamed, IsProvided, IsTargeted, AreFirstLinks, AreLinks};
 
 use crate::chains::{PortId, Targets};
@@ -30,10 +30,10 @@ pub fn links_of(
     requires nodes { AreNodes (expanded_of expansion.now) nodes.now }
     requires indexed { IsIndexed (expanded_of expansion.now) targets.now }
     ensures { (top : Instance) → IsOf (expanded_of expansion.now) top
-        → IfOk result (λ links. AreLinks (expanded_of expansion.now).tree top nodes.now.nodes.items links.items) }
+        → IfOk result (λ links. AreLinks (expanded_of expansion.now).tree top (nodes_in (expanded_of expansion.now) nodes.now.instances.items) links.items) }
 {
     let mut links = Vec::new(alloc);
-    for from in 0..nodes.nodes.len() {
+    for from in 0..nodes.instances.len() {
         add_links(expansion, nodes, targets, from as u32, &mut links)?;
     }
     Ok(links)
@@ -47,15 +47,15 @@ fn add_links(
     from: u32,
     links: &mut Vec<Link>,
 ) -> Result<(), AllocError>
-    requires within { from < length nodes.now.nodes.items }
+    requires within { from < length nodes.now.instances.items }
     requires kept { IsNumbering expansion.now }
     requires nodes { AreNodes (expanded_of expansion.now) nodes.now }
     requires indexed { IsIndexed (expanded_of expansion.now) targets.now }
     ensures { (top : Instance) → IsOf (expanded_of expansion.now) top
-        → AreFirstLinks (expanded_of expansion.now).tree top nodes.now.nodes.items from 0 links.old.items
-        → OnOk result (AreFirstLinks (expanded_of expansion.now).tree top nodes.now.nodes.items (from + 1) 0 links.new.items) }
+        → AreFirstLinks (expanded_of expansion.now).tree top (nodes_in (expanded_of expansion.now) nodes.now.instances.items) from 0 links.old.items
+        → OnOk result (AreFirstLinks (expanded_of expansion.now).tree top (nodes_in (expanded_of expansion.now) nodes.now.instances.items) (from + 1) 0 links.new.items) }
 {
-    for require in 0..nodes.nodes[from as usize].kind.requires_() {
+    for require in 0..nodes.kinds[from as usize].requires_() {
         if let Some(target) = target_of(expansion, nodes, targets, from, require) {
             links.push(Link {
                 from,
@@ -76,16 +76,16 @@ fn target_of(
     from: u32,
     require: u32,
 ) -> Option<Target>
-    requires within { from < length nodes.now.nodes.items }
-    requires required { require < requires_at nodes.now.nodes.items from }
+    requires within { from < length nodes.now.instances.items }
+    requires required { require < requires_at (nodes_in (expanded_of expansion.now) nodes.now.instances.items) from }
     requires kept { IsNumbering expansion.now }
     requires nodes { AreNodes (expanded_of expansion.now) nodes.now }
     requires indexed { IsIndexed (expanded_of expansion.now) targets.now }
     ensures { (top : Instance) → IsOf (expanded_of expansion.now) top
-        → IsTargeted (expanded_of expansion.now).tree top nodes.now.nodes.items from require result }
+        → IsTargeted (expanded_of expansion.now).tree top (nodes_in (expanded_of expansion.now) nodes.now.instances.items) from require result }
 {
     let instance = nodes.instances[from as usize];
-    let name = nodes.nodes[from as usize].kind.require_name(require);
+    let name = nodes.kinds[from as usize].require_name(require);
     let ports = expansion.instance(instance).component.ports.as_slice();
     let port = port_place(ports, name.as_bytes())?;
     let decl = &ports[port];
@@ -107,7 +107,7 @@ fn provision_at(expansion: &Expansion, nodes: &Nodes, id: PortId) -> Option<Targ
     requires port { (x : Port) × IsPort (expanded_of expansion.now) id x }
     requires kept { IsNumbering expansion.now }
     requires nodes { AreNodes (expanded_of expansion.now) nodes.now }
-    ensures { IsProvided (expanded_of expansion.now) nodes.now.nodes.items id result }
+    ensures { IsProvided (expanded_of expansion.now) (nodes_in (expanded_of expansion.now) nodes.now.instances.items) id result }
 {
     let node = nodes.places[id.instance as usize]?;
     if id.index.is_some() {
@@ -117,7 +117,7 @@ fn provision_at(expansion: &Expansion, nodes: &Nodes, id: PortId) -> Option<Targ
     match port.side {
         Side::Require => None,
         Side::Provide => {
-            let kind = nodes.nodes[node as usize].kind;
+            let kind = nodes.kinds[node as usize];
             let provide = provision_named(kind, port.name.as_bytes())?;
             Some(Target { node, provide })
         }

@@ -1,22 +1,24 @@
 //! The nodes of an elaboration: its instances of primitive components.
 
-ghost use Rattle.std.specs.Prelude.{◌≡◌, ◌<◌, ◌≤◌, [], ◌∷◌, ◌++◌, length, map, slice_set, IfOk, OnOk, Some};
+ghost use Rattle.std.specs.Prelude.{◌≡◌, ◌<◌, ◌≤◌, [], ◌∷◌, ◌++◌, length, map, option_map, slice_set, IfOk, OnOk, Some};
 ghost use Rattle.darwin_parser.specs.Tree.{component_of};
 ghost use Rattle.darwin_types.specs.Scope.{is_primitive};
-ghost use Rattle.elaborator.specs.Graph.{node_of, natural};
+ghost use Rattle.config_graph.specs.declared.node.Node.{Node as NodeValue};
+ghost use Rattle.elaborator.specs.Graph.{node_of, node_with, natural};
 ghost use Rattle.elaborator.specs.Numbering.{Numbered};
 ghost use Rattle.elaborator.specs.Expansion.{expanded_of, instance_in, IsNumbering};
-ghost use Rattle.elaborator.specs.NodeOrder.{AreNodes, AreListed, IsInOrder};
+ghost use Rattle.elaborator.specs.NodeOrder.{nodes_in, AreNodes, AreListed, IsInOrder};
 ghost use Rattle.elaborator.specs.declared.nodes.Listed as shown;
 
 use crate::instance::{Expansion, Instance};
-use config_graph::{Node, kind_of};
+use config_graph::{Kind, Node, Text, kind_of};
 use std::alloc::{AllocError, Global};
+use std::mem;
 
-/// Nodes in the order of their paths, and which instance each of them is.
+/// Nodes in the order of their paths, by their kinds, and which instance each of them is.
 #[derive(Drop)]
 pub struct Nodes {
-    pub nodes: Vec<Node>,
+    pub kinds: Vec<Kind>,
     /// The number of the instance that each node is.
     pub instances: Vec<u32>,
     /// The place of the node that each instance is; a composite one is none.
@@ -37,13 +39,13 @@ pub fn nodes_of(alloc: Global, expansion: &Expansion) -> Result<Nodes, AllocErro
 {
     let order = in_path_order(alloc, expansion)?;
     let mut nodes = Nodes {
-        nodes: Vec::new(alloc),
+        kinds: Vec::new(alloc),
         instances: Vec::new(alloc),
         places: vec![in alloc; None; expansion.instances.len()]?,
     };
     for number in &order {
-        if let Some(node) = node_of(expansion.instance(*number))? {
-            nodes.add(node, *number)?;
+        if let Some(kind) = node_kind(expansion.instance(*number)) {
+            nodes.add(kind, *number)?;
         }
     }
     Ok(nodes)
@@ -85,38 +87,61 @@ fn numbers_of(alloc: Global, listed: &[Listed]) -> Result<Vec<u32>, AllocError>
 
 impl Nodes {
     /// Adds the node that an instance is.
-    fn add(&mut self, node: Node, number: u32) -> Result<(), AllocError>
-        requires few { length self.old.nodes.items < 65537 }
+    fn add(&mut self, kind: Kind, number: u32) -> Result<(), AllocError>
+        requires few { length self.old.instances.items < 65537 }
         requires within { number < length self.old.places.items }
-        ensures nodes { OnOk result (self.new.nodes.items ≡ self.old.nodes.items ++ node ∷ []) }
+        ensures kinds { OnOk result (self.new.kinds.items ≡ self.old.kinds.items ++ kind ∷ []) }
         ensures instances { OnOk result (self.new.instances.items ≡ self.old.instances.items ++ number ∷ []) }
-        ensures places { OnOk result (self.new.places.items ≡ slice_set self.old.places.items number (Some (length self.old.nodes.items))) }
+        ensures places { OnOk result (self.new.places.items ≡ slice_set self.old.places.items number (Some (length self.old.instances.items))) }
     {
-        let place = self.nodes.len() as u32;
-        self.nodes.push(node)?;
+        let place = self.instances.len() as u32;
+        self.kinds.push(kind)?;
         self.instances.push(number)?;
         self.places[number as usize] = Some(place);
         Ok(())
     }
 }
 
-/// The node that an instance is; one of a composite component is none.
-fn node_of(instance: &Instance) -> Result<Option<Node>, AllocError>
-    requires { instance.now.is_primitive ≡ is_primitive (component_of instance.now.component.now) }
-    ensures { IfOk result (λ node. node ≡ node_of (instance_in instance.now)) }
+/// The nodes of an expansion. Each takes the path of its instance, which is none after that.
+pub fn take_nodes(
+    alloc: Global,
+    expansion: &mut Expansion,
+    nodes: &Nodes,
+) -> Result<Vec<Node>, AllocError>
+    requires { AreNodes (expanded_of expansion.old) nodes.now }
+    ensures { IfOk result (λ taken. taken.items ≡ nodes_in (expanded_of expansion.old) nodes.now.instances.items) }
 {
-    if !instance.is_primitive {
-        return Ok(None);
+    let mut taken = Vec::with_capacity(alloc, nodes.instances.len())?;
+    for place in 0..nodes.instances.len() {
+        let number = nodes.instances[place];
+        let instance = &mut expansion.instances[number as usize];
+        taken.push(take_node(alloc, instance, nodes.kinds[place]))?;
     }
-    let Some(kind) = kind_of(instance.component.name.as_bytes()) else {
-        return Ok(None);
-    };
-    let path = instance.path.try_clone()?;
+    Ok(taken)
+}
+
+/// The node of a kind that an instance is, with the path of the instance.
+fn take_node(alloc: Global, instance: &mut Instance, kind: Kind) -> Node
+    ensures { result ≡ node_with (instance_in instance.old) kind }
+{
+    let path = mem::replace(&mut instance.path, Text::of(Vec::new(alloc)));
     let arg = match instance.env.first() {
         None => None,
         Some(variable) => Some(natural(variable.value)),
     };
-    Ok(Some(Node { path, kind, arg }))
+    Node { path, kind, arg }
+}
+
+/// The kind of the node that an instance is; one of a composite component is none.
+fn node_kind(instance: &Instance) -> Option<Kind>
+    requires { instance.now.is_primitive ≡ is_primitive (component_of instance.now.component.now) }
+    ensures { result ≡ option_map (λ (n : NodeValue). n.kind) (node_of (instance_in instance.now)) }
+{
+    if instance.is_primitive {
+        kind_of(instance.component.name.as_bytes())
+    } else {
+        None
+    }
 }
 
 /// An argument of a kind, which is 0 or more.

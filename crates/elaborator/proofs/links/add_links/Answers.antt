@@ -1,9 +1,11 @@
-use Rattle.std.proofs.Common.{◌+◌, ◌≤◌, sym, ap, subst, arith}
+use Rattle.std.proofs.Common.{length, ◌<◌, ◌+◌, ◌≤◌, sym, ap, subst, arith}
 use Rattle.std.specs.Option.{option_map_or}
+use Rattle.config_graph.specs.Kinds.{row}
 use Rattle.config_graph.specs.Graph.{requires_of, requires_at}
 use Rattle.elaborator.specs.Expansion.{expanded_of}
+use Rattle.elaborator.specs.NodeOrder.{nodes_in}
 use Rattle.elaborator.specs.Links.{AreFirstLinks}
-use Rattle.elaborator.proofs.LinkLemmas.{value_read}
+use Rattle.elaborator.proofs.LinkLemmas.{kind_read}
 use Rattle.elaborator.proofs.AllLinksLemmas.{first_links-skip, first_links-push, first_links-node}
 use Rattle.elaborator.proofs.links.add_links.Goals as goal
 use Rattle.elaborator.proofs.links.add_links.Goals.{in-Some+in_ok-push, in_default}
@@ -11,7 +13,7 @@ use Rattle.elaborator.proofs.links.add_links.Goals.{in-Some+in_ok-push, in_defau
 pub loop-require-preserved : goal.loop-require-preserved
 loop-require-preserved c = λ top is_of first.
     let tree = (expanded_of c.args.expansion.now).tree in
-    let nodes = c.args.nodes.now.nodes.items in
+    let nodes = nodes_in (expanded_of c.args.expansion.now) c.args.nodes.now.instances.items in
     let from = c.args.from in
     let require = c.loop-require.require in
     let so_far = c.loop-require.invariant top is_of first in
@@ -26,8 +28,10 @@ loop-require-preserved c = λ top is_of first.
 
 pub returns : goal.returns
 returns c = λ top is_of first.
-    let nodes = c.args.nodes.now.nodes.items in
-    let node = c.index.result.now in
-    let stands = value_read nodes c.args.from node c.requires.within c.index.ensures in
-    let all : requires_at nodes c.args.from ≤ c.loop-require.require = omega (arith, ap (λ o. option_map_or requires_of o 0) stands, c.requires_-require-end.ensures, c.loop-require-test.false) in
+    let nodes = nodes_in (expanded_of c.args.expansion.now) c.args.nodes.now.instances.items in
+    let are = c.requires.nodes in
+    let within : c.args.from < length nodes = omega (arith, c.requires.within, are.same_length) in
+    let node = kind_read (expanded_of c.args.expansion.now) nodes c.args.nodes.now c.args.from c.index.result.now are within c.index.ensures in
+    let count = ap (λ kind. length (row kind).requires_) node.2 in
+    let all : requires_at nodes c.args.from ≤ c.loop-require.require = omega (arith, ap (λ o. option_map_or requires_of o 0) node.1, count, c.requires_-require-end.ensures, c.loop-require-test.false) in
     first_links-node (expanded_of c.args.expansion.now).tree top nodes c.args.from c.loop-require.require c.loop-require.links.items all (c.loop-require.invariant top is_of first)

@@ -1,9 +1,9 @@
-use Rattle.std.proofs.Common.{◌≡◌, ◌∙◌, ◌<◌, Some, refl, sym, ap, arith}
+use Rattle.std.proofs.Common.{◌≡◌, ◌∙◌, Some, refl, sym, ap, arith}
 use Rattle.std.specs.List.{slice_get}
 use Rattle.std.proofs.lemmas.Bool.{false≢true}
 use Rattle.std.proofs.lemmas.Option.{slice_get_read, same_Some}
 use Rattle.base.proofs.PlaceLaws.{slice_get-below, slice_get-map_at, slice_get-map_some}
-use Rattle.elaborator.specs.PathNumbers.{path_hash, LeadsTo, last_of}
+use Rattle.elaborator.specs.PathNumbers.{path_hash}
 use Rattle.elaborator.specs.Expansion.{paths_of, instance_in}
 use Rattle.elaborator.specs.declared.instance.Instance as code_instance
 use Rattle.elaborator.proofs.ChildLaws.{find-child, find-no_child, same_option, same_option_back}
