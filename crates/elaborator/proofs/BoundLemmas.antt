@@ -12,7 +12,7 @@ use Rattle.darwin_types.specs.Scope.{port_named}
 use Rattle.darwin_walk.specs.Instance.{Segment, End, Binding}
 use Rattle.elaborator.specs.Paths.{within}
 use Rattle.elaborator.specs.Instances.{Instance, made_in}
-use Rattle.elaborator.specs.Bindings.{Port, Named, Pair, instance_at, resolve, named_port, is_indexed, is_form, may_lead, pair_of, bindings_in, pairs_in}
+use Rattle.elaborator.specs.Bindings.{Port, NamedPort, Pair, instance_at, resolve, named_port, is_indexed, is_form, may_lead, pair_of, bindings_in, pairs_in}
 use Rattle.elaborator.specs.Numbering.{Expanded, NumberedInstance, Numbered, NumberedIn, IsExpanded}
 use Rattle.elaborator.proofs.PairLaws.{pair-forward, pair-backward, pair-of_no_form, pair-no_left, pair-no_right}
 use Rattle.base.proofs.ContainsLaws.{Contains-from_flat_map, Contains-nil, Contains-one}
@@ -25,8 +25,8 @@ use Rattle.base.proofs.OptionLaws.{made_of_found}
 pub record Parts (tree : Tree) (i : Instance) (p : Pair) : Type 0 where
   pub source_end : End
   pub target_end : End
-  pub source : Named
-  pub target : Named
+  pub source : NamedPort
+  pub target : NamedPort
   pub is_source : resolve tree i source_end ≡ Some source
   pub is_target : resolve tree i target_end ≡ Some target
   pub leads : may_lead source target ≡ true
@@ -36,7 +36,7 @@ pub record Parts (tree : Tree) (i : Instance) (p : Pair) : Type 0 where
 pub parts : (tree : Tree) (i : Instance) (b : Binding) (p : Pair) → Contains (pair_of tree i b) p → Parts tree i p
 parts tree i b p there = by_ends (resolve tree i b.left) (resolve tree i b.right) refl refl
   where
-    forward : (x y : Named) → resolve tree i b.left ≡ Some x → resolve tree i b.right ≡ Some y → may_lead x y ≡ true → Parts tree i p
+    forward : (x y : NamedPort) → resolve tree i b.left ≡ Some x → resolve tree i b.right ≡ Some y → may_lead x y ≡ true → Parts tree i p
     forward x y left right leads =
         let is = Contains-one _ p (subst (λ ps. Contains ps p) (pair-forward tree i b x y left right leads) there) in
         record {
@@ -51,7 +51,7 @@ parts tree i b p there = by_ends (resolve tree i b.left) (resolve tree i b.right
           target_port = ap (λ (q : Pair). q.target) is;
         }
 
-    backward : (x y : Named) → resolve tree i b.left ≡ Some x → resolve tree i b.right ≡ Some y → may_lead x y ≡ false → may_lead y x ≡ true → Parts tree i p
+    backward : (x y : NamedPort) → resolve tree i b.left ≡ Some x → resolve tree i b.right ≡ Some y → may_lead x y ≡ false → may_lead y x ≡ true → Parts tree i p
     backward x y left right not_forward leads =
         let is = Contains-one _ p (subst (λ ps. Contains ps p) (pair-backward tree i b x y left right not_forward leads) there) in
         record {
@@ -66,13 +66,13 @@ parts tree i b p there = by_ends (resolve tree i b.left) (resolve tree i b.right
           target_port = ap (λ (q : Pair). q.target) is;
         }
 
-    by_forms : (x y : Named) → resolve tree i b.left ≡ Some x → resolve tree i b.right ≡ Some y → (f g : Bool) → may_lead x y ≡ f → may_lead y x ≡ g → Parts tree i p
+    by_forms : (x y : NamedPort) → resolve tree i b.left ≡ Some x → resolve tree i b.right ≡ Some y → (f g : Bool) → may_lead x y ≡ f → may_lead y x ≡ g → Parts tree i p
     by_forms x y left right true g is_f is_g = forward x y left right is_f
     by_forms x y left right false true is_f is_g = backward x y left right is_f is_g
     by_forms x y left right false false is_f is_g =
         absurd (Contains-nil p (subst (λ ps. Contains ps p) (pair-of_no_form tree i b x y left right is_f is_g) there))
 
-    by_ends : (l r : Option Named) → resolve tree i b.left ≡ l → resolve tree i b.right ≡ r → Parts tree i p
+    by_ends : (l r : Option NamedPort) → resolve tree i b.left ≡ l → resolve tree i b.right ≡ r → Parts tree i p
     by_ends None r left right = absurd (Contains-nil p (subst (λ ps. Contains ps p) (pair-no_left tree i b left) there))
     by_ends (Some x) None left right = absurd (Contains-nil p (subst (λ ps. Contains ps p) (pair-no_right tree i b x left right) there))
     by_ends (Some x) (Some y) left right = by_forms x y left right (may_lead x y) (may_lead y x) refl refl
@@ -88,10 +88,10 @@ where_at : (tree : Tree) (i : Instance) (s : Option Segment) (j : Instance) → 
 where_at tree i None j is = subst (Where tree i false) (same_Some i j is) outer
 where_at tree i (Some s) j is = inner j (find-some (λ k. bytes_eq (within i.path s) k.path) (made_in tree i) j is).0
 
-pub stands_where : (tree : Tree) (i : Instance) (e : End) (x : Named) → resolve tree i e ≡ Some x → Where tree i x.is_inner x.instance
+pub stands_where : (tree : Tree) (i : Instance) (e : End) (x : NamedPort) → resolve tree i e ≡ Some x → Where tree i x.is_inner x.instance
 stands_where tree i e x is =
     let w = made_of_found (λ j decl. record { is_inner = is_some e.inner; instance = j; decl = decl; index = e.index }) (λ j. port_named j.component e.port) (instance_at tree i e.inner) x is in
-    subst (λ (y : Named). Where tree i y.is_inner y.instance) w.4 (where_at tree i e.inner w.0 w.2)
+    subst (λ (y : NamedPort). Where tree i y.is_inner y.instance) w.4 (where_at tree i e.inner w.0 w.2)
 
 -- the forms of a pair
 pub data Form : Bool → Side → Bool → Side → Type 0 where
@@ -115,7 +115,7 @@ last_of_three true true c is = is
 last_of_three true false c is = absurd (false≢true is)
 last_of_three false b c is = absurd (false≢true is)
 
-pub form : (x y : Named) → may_lead x y ≡ true → Form x.is_inner x.decl.side y.is_inner y.decl.side
+pub form : (x y : NamedPort) → may_lead x y ≡ true → Form x.is_inner x.decl.side y.is_inner y.decl.side
 form x y leads = form_of x.is_inner x.decl.side y.is_inner y.decl.side (last_of_three (is_indexed x) (is_indexed y) _ leads)
 
 -- ---- the instance in which a source is bound

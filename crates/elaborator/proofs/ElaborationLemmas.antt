@@ -16,9 +16,9 @@ use Rattle.darwin_walk.specs.declared.fault.Fault.{Fault}
 use Rattle.darwin_walk.specs.declared.fault.Fault.TheVariants as shown
 use Rattle.elaborator.specs.Paths.{Path, end_bytes}
 use Rattle.elaborator.specs.Instances.{Instance, top_instance, Inst}
-use Rattle.elaborator.specs.Bindings.{Named, resolve, bindings_in}
+use Rattle.elaborator.specs.Bindings.{NamedPort, resolve, bindings_in}
 use Rattle.elaborator.specs.Graph.{IsElab}
-use Rattle.elaborator.specs.Faults.{own_faults, port_faults, faults_in, CountsMore, Faults, Faults as fault}
+use Rattle.elaborator.specs.Faults.{own_faults, port_index_faults, faults_in, CountsMore, Faults, Faults as fault}
 use Rattle.elaborator.specs.Numbering.{Expanded, IsOf}
 use Rattle.base.specs.Answers.{Answers, Refuses}
 use Rattle.elaborator.specs.PortIndex.{FaultOf, FaultOf as of, BindingFault, BindingFault as binding}
@@ -26,7 +26,7 @@ use Rattle.elaborator.specs.ExpansionFaults.{GrowthFault, GrowthFault as growth,
 use Rattle.elaborator.specs.Built.{BuildFault, IsBuilt}
 use Rattle.elaborator.specs.Built.CycleFault.{first_on_cycle}
 use Rattle.elaborator.specs.Built.BuildFault.{in_bindings, in_graph}
-use Rattle.elaborator.specs.Elaboration.{HasNoFault, ElaboratesTo, Gives}
+use Rattle.elaborator.specs.Elaboration.{HasNoFault, ElaboratesTo, IsAnswerOf}
 use Rattle.elaborator.specs.declared.error.ElabError.{ElabError}
 use Rattle.elaborator.specs.declared.error.ElabError.TheVariants as error
 use Rattle.elaborator.proofs.CountLaws.{counted-within}
@@ -79,7 +79,7 @@ only_bad_index at size i f there = by size i there
     by out_of_range i there = absurd (Contains-nil f there)
     by zero_divisor i there = absurd (Contains-nil f there)
 
-port_fault : (tree : Tree) (i : Instance) (at : At) (e : End) (f : Fault) → Contains (port_faults tree i at e) f → f ≡ shown.BadIndex at
+port_fault : (tree : Tree) (i : Instance) (at : At) (e : End) (f : Fault) → Contains (port_index_faults tree i at e) f → f ≡ shown.BadIndex at
 port_fault tree i at e f there = by (resolve tree i e) there
   where
     indexed : Instance → Option Expr → Option ℤ → List Fault
@@ -91,16 +91,16 @@ port_fault tree i at e f there = by (resolve tree i e) there
     by_size j (Some size) None there = absurd (Contains-nil f there)
     by_size j None index there = absurd (Contains-nil f there)
 
-    by : (o : Option Named) → Contains (option_map_or (λ x. indexed x.instance x.decl.size x.index) o []) f → f ≡ shown.BadIndex at
+    by : (o : Option NamedPort) → Contains (option_map_or (λ x. indexed x.instance x.decl.size x.index) o []) f → f ≡ shown.BadIndex at
     by None there = absurd (Contains-nil f there)
     by (Some x) there = by_size x.instance x.decl.size x.index there
 
 abbrev binding_port_faults : Tree → Instance → Binding → List Fault
-binding_port_faults tree i b = port_faults tree i b.at b.left ++ port_faults tree i b.at b.right
+binding_port_faults tree i b = port_index_faults tree i b.at b.left ++ port_index_faults tree i b.at b.right
 
 binding_port_fault : (tree : Tree) (i : Instance) (b : Binding) (f : Fault) → Contains (binding_port_faults tree i b) f → f ≡ shown.BadIndex b.at
 binding_port_fault tree i b f there =
-    elim (Contains-append_cases (port_faults tree i b.at b.left) (port_faults tree i b.at b.right) f there) [
+    elim (Contains-append_cases (port_index_faults tree i b.at b.left) (port_index_faults tree i b.at b.right) f there) [
       | inl left ↦ port_fault tree i b.at b.left f left
       | inr right ↦ port_fault tree i b.at b.right f right
     ]
@@ -243,6 +243,6 @@ bound_once tree name arguments top is_top made_once none = record {
 -- where no fault holds, what is given is the graph
 pub answer-every_graph :
     (tree : Tree) (name : Name) (arguments : List ℤ) (r : Result Graph ElabError) (g : Graph) → IfOk r (ElaboratesTo tree name arguments)
-    → IfErr r (Refuses error.NoMemory (Faults tree name arguments)) → HasNoFault tree name arguments → ElaboratesTo tree name arguments g → Gives r g
+    → IfErr r (Refuses error.NoMemory (Faults tree name arguments)) → HasNoFault tree name arguments → ElaboratesTo tree name arguments g → IsAnswerOf r g
 answer-every_graph tree name arguments (Ok h) g graph fault none is = one_graph_of tree name arguments h g graph is
 answer-every_graph tree name arguments (Err f) g graph fault none is = λ other. none f (fault other)

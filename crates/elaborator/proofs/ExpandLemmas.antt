@@ -20,7 +20,7 @@ use Rattle.elaborator.specs.Instances.{Instance, made_in, paths_in, Inst, count_
 use Rattle.elaborator.specs.Faults.{own_faults, Twice, CountsMore}
 use Rattle.elaborator.specs.Numbering.{NumberedInstance, Numbered, NumberedIn, IsExpanded, IsOf}
 use Rattle.elaborator.specs.Expansion.{made_of, instance_in, expanded_of, paths_of, AreSizes, IsNumbering, IsMapped, IsShown}
-use Rattle.elaborator.specs.Opening.{cause_at, error_at, Judges, IsNoted, IsFound}
+use Rattle.elaborator.specs.Opening.{cause_at, error_at, JudgesAt, IsNoted, IsFound}
 use Rattle.elaborator.specs.declared.opening.Found.{Found}
 use Rattle.elaborator.specs.ExpansionFaults.{IsTop, GrowthFault, IsClear, IsWhole}
 use Rattle.elaborator.specs.ExpansionFaults.GrowthFault.{out_of_range, zero_divisor, bad_index, two_instances, two_apart, too_deep, too_many}
@@ -372,7 +372,7 @@ counted-next top g next growth at many =
 -- it is opened
 pub judged-next :
     (top : Instance) (g : Growth) (next : code.Instance) (P : Found → Type 0) (r : Result Found ElabError) → IsGrowth top g → slice_get g.expansion.instances.items g.opened ≡ Some next
-    → next.depth < 33 → Judges next.path (own_faults (tree_of g.expansion.directory.unit.now) (instance_in next)) (g.room < count_in (instance_in next)) P r
+    → next.depth < 33 → JudgesAt next.path (own_faults (tree_of g.expansion.directory.unit.now) (instance_in next)) (g.room < count_in (instance_in next)) P r
     → Answers error.NoMemory (λ f. (next.depth < 33) × (own_faults (tree_of g.expansion.directory.unit.now) (instance_in next) ≡ []) × P f) (GrowthFault (tree_of g.expansion.directory.unit.now) top) r
 judged-next top g next P r growth at shallow =
     Answers-weaker _ r (λ f told. (shallow, told.0, told.1))

@@ -13,7 +13,7 @@ use Rattle.darwin_walk.specs.Instance.{Child, instance_faults, children, index_v
 use Rattle.darwin_walk.specs.Value.{Env}
 use Rattle.darwin_walk.specs.declared.fault.Fault.{Fault}
 use Rattle.elaborator.specs.Instances.{Instance, is_expanded, children_in, instance_of, path_of, count_in}
-use Rattle.elaborator.specs.Faults.{own_faults, kind_faults}
+use Rattle.elaborator.specs.Faults.{own_faults, kind_argument_faults}
 use Rattle.elaborator.specs.Expansion.{instance_in}
 use Rattle.elaborator.specs.Opening.{AreMade, IsFound}
 use Rattle.darwin_walk.specs.Spine.{env_of}
@@ -35,9 +35,9 @@ faults-own tree i f is has = rw is (Contains-append_left _ _ f has)
 
 pub kinds-own :
     (tree : Tree) (i : Instance) (cs : List Child) (f : Fault)
-    → is_expanded i ≡ true → cs ≡ children i.component i.env → Contains (flat_map (kind_faults tree) cs) f → Contains (own_faults tree i) f
+    → is_expanded i ≡ true → cs ≡ children i.component i.env → Contains (flat_map (kind_argument_faults tree) cs) f → Contains (own_faults tree i) f
 kinds-own tree i cs f is all has =
-    rw is (Contains-append_right (instance_faults i.component i.env) _ f (subst (λ xs. Contains (flat_map (kind_faults tree) xs) f) all has))
+    rw is (Contains-append_right (instance_faults i.component i.env) _ f (subst (λ xs. Contains (flat_map (kind_argument_faults tree) xs) f) all has))
 
 pub count-own : (room : ℕ) (i : Instance) → is_expanded i ≡ true → room < count i.component i.env → room < count_in i
 count-own room i is many = rw is many
@@ -56,12 +56,12 @@ sizes_walked c env sizes is k d declared =
 pub found-opened :
     (tree : Tree) (x : code.Instance) (number room : ℕ) (w : Walked) (made : Vec code.Instance Global) → is_expanded (instance_in x) ≡ true
     → instance_faults (component_of x.component.now) (env_of x.env.items) ≡ [] → IsWalked (component_of x.component.now) (env_of x.env.items) room w
-    → flat_map (kind_faults tree) (map child_of w.children.items) ≡ [] → AreMade tree (instance_in x) number (map child_of w.children.items) made
+    → flat_map (kind_argument_faults tree) (map child_of w.children.items) ≡ [] → AreMade tree (instance_in x) number (map child_of w.children.items) made
     → (own_faults tree (instance_in x) ≡ []) × IsFound tree (instance_in x) number room (record { bindings = w.bindings; port_sizes = w.port_sizes; made = made; count = w.count })
 found-opened tree x number room w made is no_fault walked no_kind all =
     let i = instance_in x in
     let listed : children_in i ≡ map child_of w.children.items = rw is (sym walked.children) in (
-      rw is (ap (λ fs. fs ++ flat_map (kind_faults tree) (children i.component i.env)) no_fault ∙ ap (flat_map (kind_faults tree)) (sym walked.children) ∙ no_kind),
+      rw is (ap (λ fs. fs ++ flat_map (kind_argument_faults tree) (children i.component i.env)) no_fault ∙ ap (flat_map (kind_argument_faults tree)) (sym walked.children) ∙ no_kind),
       record {
         bindings = rw is walked.bindings;
         sizes = sizes_walked (component_of x.component.now) (env_of x.env.items) w.port_sizes.items walked.sizes;

@@ -17,7 +17,7 @@ use Rattle.darwin_walk.specs.declared.fault.Fault.{Fault}
 use Rattle.darwin_walk.specs.Walked.{segment_of, walked_end}
 use Rattle.darwin_walk.specs.declared.walked.End as code_end
 use Rattle.elaborator.specs.Instances.{Instance}
-use Rattle.elaborator.specs.Bindings.{Named, instance_at, resolve}
+use Rattle.elaborator.specs.Bindings.{NamedPort, instance_at, resolve}
 use Rattle.elaborator.specs.Numbering.{Expanded, NumberedInstance, Numbered}
 use Rattle.elaborator.specs.Expansion.{expanded_of, made_of, instance_in, AreSizes}
 use Rattle.elaborator.specs.Ports.{place_of, Stands, ResolvesTo, bad_index, sized_fault, NotesDifferIn}
@@ -104,7 +104,7 @@ named_found e n m k i j x end d inner at stands is place stands_at is_inner =
 
 -- the fault of an index, by the size that is kept of the port
 pub bad-sized :
-    (i : Instance) (sizes : List (Option ℤ)) (n : Named) (port : ℕ) (size : Option ℤ) → AreSizes i sizes → n.instance ≡ i → slice_get n.instance.component.ports port ≡ Some n.decl
+    (i : Instance) (sizes : List (Option ℤ)) (n : NamedPort) (port : ℕ) (size : Option ℤ) → AreSizes i sizes → n.instance ≡ i → slice_get n.instance.component.ports port ≡ Some n.decl
     → size ≡ option_flatten (slice_get sizes port) → (at : At) → bad_index at n ≡ sized_fault at size n.index
 bad-sized i sizes n port size all same declared kept at =
     by n.decl.size size n.index

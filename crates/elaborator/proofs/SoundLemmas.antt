@@ -25,7 +25,7 @@ use Rattle.darwin_walk.specs.declared.fault.Fault.TheVariants as shown
 use Rattle.base.specs.Answers.{Answers}
 use Rattle.elaborator.specs.Instances.{Instance, top_instance, is_expanded, child_path, children_in, instance_of, made_in, Inst, at_top, below}
 use Rattle.elaborator.specs.Graph.{natural, node_of, IsElab}
-use Rattle.elaborator.specs.Faults.{is_kind_argument, kind_faults, own_faults}
+use Rattle.elaborator.specs.Faults.{is_kind_argument, kind_argument_faults, own_faults}
 use Rattle.elaborator.specs.Numbering.{Expanded}
 use Rattle.elaborator.specs.ExpansionFaults.{IsClear}
 use Rattle.elaborator.specs.Built.{BuildFault, IsBuilt}
@@ -147,20 +147,20 @@ kind_arguments tree i j child m none primitive = by (list_all is_kind_argument m
     at_component : Component → List walk.Fault
     at_component c = option_map_or (λ zs. cond (is_primitive c && not (list_all is_kind_argument zs)) (out ∷ []) []) child.arguments []
 
-    shows : list_all is_kind_argument m.arguments ≡ false → kind_faults tree child ≡ out ∷ []
+    shows : list_all is_kind_argument m.arguments ≡ false → kind_argument_faults tree child ≡ out ∷ []
     shows unlike =
         ap (λ o. option_map_or at_component o []) m.named
         ∙ ap (λ o. option_map_or (λ zs. cond (is_primitive m.component && not (list_all is_kind_argument zs)) (out ∷ []) []) o []) m.valued
         ∙ ap (λ b. cond (b && not (list_all is_kind_argument m.arguments)) (out ∷ []) []) primitive
         ∙ ap (λ b. cond (not b) (out ∷ []) []) unlike
 
-    own : own_faults tree i ≡ instance_faults i.component i.env ++ flat_map (kind_faults tree) (children i.component i.env)
-    own = ap (λ b. cond b (instance_faults i.component i.env ++ flat_map (kind_faults tree) (children i.component i.env)) []) m.expanded
+    own : own_faults tree i ≡ instance_faults i.component i.env ++ flat_map (kind_argument_faults tree) (children i.component i.env)
+    own = ap (λ b. cond b (instance_faults i.component i.env ++ flat_map (kind_argument_faults tree) (children i.component i.env)) []) m.expanded
 
     by : (b : Bool) → list_all is_kind_argument m.arguments ≡ b → list_all is_kind_argument m.arguments ≡ true
     by true is = is
     by false is =
-        let there = Contains-flat_map (kind_faults tree) (children i.component i.env) child out m.there (subst (λ fs. Contains fs out) (sym (shows is)) (Contains-here out [])) in
+        let there = Contains-flat_map (kind_argument_faults tree) (children i.component i.env) child out m.there (subst (λ fs. Contains fs out) (sym (shows is)) (Contains-here out [])) in
         absurd (Contains-nil out (subst (λ fs. Contains fs out) (sym own ∙ none) (Contains-append_right (instance_faults i.component i.env) _ out there)))
 
 -- the argument of an instance, by how many parameters there are

@@ -18,7 +18,7 @@ use Rattle.darwin_walk.specs.declared.fault.Fault as walk
 use Rattle.darwin_walk.specs.declared.fault.Fault.TheVariants as shown
 use Rattle.elaborator.specs.Paths.{Path, end_bytes}
 use Rattle.elaborator.specs.Instances.{Instance, top_instance, instances, Inst, at_top, below, total, paths_in}
-use Rattle.elaborator.specs.Bindings.{Named, resolve, Pair, pair_of, bindings_in, pairs_in}
+use Rattle.elaborator.specs.Bindings.{NamedPort, resolve, Pair, pair_of, bindings_in, pairs_in}
 use Rattle.elaborator.specs.Graph.{IsElab}
 use Rattle.elaborator.specs.Faults.{faults_in, CountsMore, Faults, Faults as fault, NotesDiffer, differ, Twice}
 use Rattle.elaborator.specs.Elaboration.{HasNoFault, ElaboratesTo}
@@ -115,10 +115,10 @@ twice_or_not (y ∷ xs) = by (all_or ((x : Path) × Twice (y ∷ xs) x) (λ x. x
         at x zero (suc b) low one two = other x (Contains-at xs b x two) (sym (same_Some y x one))
         at x (suc a) (suc b) low one two = none x (twice_at xs a b x (omega (arith, low)) one two)
 
-notes_or_not : (x y : Option Named) → NotesDiffer x y ⊎ (NotesDiffer x y → ⊥)
+notes_or_not : (x y : Option NamedPort) → NotesDiffer x y ⊎ (NotesDiffer x y → ⊥)
 notes_or_not None y = inr (λ d. parts None y d)
   where
-    parts : (x y : Option Named) → NotesDiffer None y → ⊥
+    parts : (x y : Option NamedPort) → NotesDiffer None y → ⊥
     parts x y (differ m n a b is is' na nb apart) = none-some m is
 notes_or_not (Some m) None = inr (λ d. parts d)
   where
@@ -126,24 +126,24 @@ notes_or_not (Some m) None = inr (λ d. parts d)
     parts (differ p q a b is is' na nb apart) = none-some q is'
 notes_or_not (Some m) (Some n) = by m.decl.note refl n.decl.note refl
   where
-    same_named : (p q : Named) → Some p ≡ Some q → p ≡ q
+    same_named : (p q : NamedPort) → Some p ≡ Some q → p ≡ q
     same_named p q e = same_Some p q e
 
     by : (a : Option (List Name)) → m.decl.note ≡ a → (b : Option (List Name)) → n.decl.note ≡ b → NotesDiffer (Some m) (Some n) ⊎ (NotesDiffer (Some m) (Some n) → ⊥)
     by None none b at = inr parts
       where
         parts : NotesDiffer (Some m) (Some n) → ⊥
-        parts (differ p q c d is is' nc nd apart) = none-some c (sym none ∙ ap (λ (z : Named). z.decl.note) (same_named m p is) ∙ nc)
+        parts (differ p q c d is is' nc nd apart) = none-some c (sym none ∙ ap (λ (z : NamedPort). z.decl.note) (same_named m p is) ∙ nc)
     by (Some a) at None none = inr parts
       where
         parts : NotesDiffer (Some m) (Some n) → ⊥
-        parts (differ p q c d is is' nc nd apart) = none-some d (sym none ∙ ap (λ (z : Named). z.decl.note) (same_named n q is') ∙ nd)
+        parts (differ p q c d is is' nc nd apart) = none-some d (sym none ∙ ap (λ (z : NamedPort). z.decl.note) (same_named n q is') ∙ nd)
     by (Some a) at (Some b) at' =
         elim (one_list one_bytes a b) [ inr apart ↦ inl (differ m n a b refl refl at at' apart) | inl same ↦ inr (parts same) ]
       where
         parts : a ≡ b → NotesDiffer (Some m) (Some n) → ⊥
         parts same (differ p q c d is is' nc nd apart) =
-            apart (same_Some c a (sym nc ∙ ap (λ (z : Named). z.decl.note) (sym (same_named m p is)) ∙ at) ∙ same ∙ sym (same_Some d b (sym nd ∙ ap (λ (z : Named). z.decl.note) (sym (same_named n q is')) ∙ at')))
+            apart (same_Some c a (sym nc ∙ ap (λ (z : NamedPort). z.decl.note) (sym (same_named m p is)) ∙ at) ∙ same ∙ sym (same_Some d b (sym nd ∙ ap (λ (z : NamedPort). z.decl.note) (sym (same_named n q is')) ∙ at')))
 
 -- ---- the faults of an instance
 

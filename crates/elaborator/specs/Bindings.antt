@@ -25,27 +25,27 @@ instance_at tree i None = Some i
 instance_at tree i (Some segment) = find (λ j. bytes_eq (within i.path segment) j.path) (made_in tree i)
 
 -- what an end names: the instance, and the declaration of the port there
-pub record Named : Type 0 where
+pub record NamedPort : Type 0 where
   pub is_inner : Bool
   pub instance : Instance
   pub decl : PortDecl
   pub index : Option ℤ
 
-abbrev pub resolve : Tree → Instance → End → Option Named
+abbrev pub resolve : Tree → Instance → End → Option NamedPort
 resolve tree i e = option_and_then named_in (instance_at tree i e.inner)
   where
-    named_in : Instance → Option Named
+    named_in : Instance → Option NamedPort
     named_in j =
         option_map
         (λ decl. record { is_inner = is_some e.inner; instance = j; decl = decl; index = e.index })
         (port_named j.component e.port)
 
-abbrev pub named_port : Named → Port
+abbrev pub named_port : NamedPort → Port
 named_port x =
     record { path = x.instance.path; depth = x.instance.depth; side = x.decl.side; name = x.decl.name; index = x.index }
 
 -- an index stands exactly where the port has a size
-abbrev pub is_indexed : Named → Bool
+abbrev pub is_indexed : NamedPort → Bool
 is_indexed x = both x.decl.size x.index
   where
     both : Option Expr → Option ℤ → Bool
@@ -60,7 +60,7 @@ is_form true Require false Require = true
 is_form false Provide true Provide = true
 is_form _ _ _ _ = false
 
-abbrev pub may_lead : Named → Named → Bool
+abbrev pub may_lead : NamedPort → NamedPort → Bool
 may_lead x y = is_indexed x && is_indexed y && is_form x.is_inner x.decl.side y.is_inner y.decl.side
 
 -- a pair of ends that are bound in an instance, the source first, with the source as it was written
@@ -73,7 +73,7 @@ pub record Pair : Type 0 where
 abbrev pub pair_of : Tree → Instance → Binding → List Pair
 pair_of tree i b = pair (resolve tree i b.left) (resolve tree i b.right)
   where
-    pair : Option Named → Option Named → List Pair
+    pair : Option NamedPort → Option NamedPort → List Pair
     pair (Some x) (Some y) =
         if may_lead x y
         then record { end = b.left; source = named_port x; target = named_port y } ∷ []

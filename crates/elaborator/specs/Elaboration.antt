@@ -20,5 +20,5 @@ abbrev pub HasNoFault : Tree → Name → List ℤ → Type 0
 HasNoFault tree name arguments = (f : ElabError) → ¬ Faults tree name arguments f
 
 -- the answer is this graph, unless memory ran out
-abbrev pub Gives : Result Graph ElabError → Graph → Type 0
-Gives answer g = Answers NoMemory (λ h. h ≡ g) (λ _. ⊥) answer
+abbrev pub IsAnswerOf : Result Graph ElabError → Graph → Type 0
+IsAnswerOf answer g = Answers NoMemory (λ h. h ≡ g) (λ _. ⊥) answer

@@ -12,7 +12,7 @@ use Rattle.darwin_walk.specs.declared.fault.Fault.{Fault}
 use Rattle.darwin_walk.specs.declared.fault.Fault.TheVariants as shown
 use Rattle.elaborator.specs.Paths.{Path, end_bytes}
 use Rattle.elaborator.specs.Instances.{Instance, top_instance, Inst, is_expanded, count_in, paths_in}
-use Rattle.elaborator.specs.Bindings.{Named, resolve, Pair, pair_of, pairs_in, bindings_in}
+use Rattle.elaborator.specs.Bindings.{NamedPort, resolve, Pair, pair_of, pairs_in, bindings_in}
 use Rattle.config_graph.specs.Graph.{Graph}
 use Rattle.config_graph.specs.Cycles.{FirstOnCycle}
 use Rattle.elaborator.specs.Graph.{IsElab}
@@ -24,8 +24,8 @@ use Rattle.darwin_types.specs.Faults.{carried}
 abbrev pub is_kind_argument : ℤ → Bool
 is_kind_argument z = int_le (pos 0) z && int_lt z (pos 16777216)
 
-abbrev pub kind_faults : Tree → Child → List Fault
-kind_faults tree child =
+abbrev pub kind_argument_faults : Tree → Child → List Fault
+kind_argument_faults tree child =
     option_map_or
     (λ c. option_map_or
     (λ zs. if is_primitive c && not (list_all is_kind_argument zs) then shown.OutOfRange child.at ∷ [] else [])
@@ -33,29 +33,29 @@ kind_faults tree child =
     (component_named tree child.component) []
 
 -- an index of a port isn't from 0 to the size less 1
-abbrev pub port_faults : Tree → Instance → At → End → List Fault
-port_faults tree i at e = option_map_or faults_at (resolve tree i e) []
+abbrev pub port_index_faults : Tree → Instance → At → End → List Fault
+port_index_faults tree i at e = option_map_or faults_at (resolve tree i e) []
   where
     indexed : Instance → Option Expr → Option ℤ → List Fault
     indexed j (Some size) (Some index) = index_fault at (value size j.env) (integer index)
     indexed j _ _ = []
 
-    faults_at : Named → List Fault
+    faults_at : NamedPort → List Fault
     faults_at x = indexed x.instance x.decl.size x.index
 
 -- the faults of values and of indexes of instances, in an instance
 abbrev pub own_faults : Tree → Instance → List Fault
-own_faults tree i = if is_expanded i then instance_faults i.component i.env ++ flat_map (kind_faults tree) (children i.component i.env) else []
+own_faults tree i = if is_expanded i then instance_faults i.component i.env ++ flat_map (kind_argument_faults tree) (children i.component i.env) else []
 
 -- those, and the faults of indexes of ports
 abbrev pub faults_in : Tree → Instance → List Fault
 faults_in tree i =
-    own_faults tree i ++ flat_map (λ b. port_faults tree i b.at b.left ++ port_faults tree i b.at b.right) (bindings_in i)
+    own_faults tree i ++ flat_map (λ b. port_index_faults tree i b.at b.left ++ port_index_faults tree i b.at b.right) (bindings_in i)
 
 -- the notes of two ports differ, where both have one
-pub data NotesDiffer (x y : Option Named) : Type 0 where
+pub data NotesDiffer (x y : Option NamedPort) : Type 0 where
   differ :
-      (m n : Named) (note note' : List Name) → x ≡ Some m → y ≡ Some n → m.decl.note ≡ Some note → n.decl.note ≡ Some note' → note ≢ note'
+      (m n : NamedPort) (note note' : List Name) → x ≡ Some m → y ≡ Some n → m.decl.note ≡ Some note → n.decl.note ≡ Some note' → note ≢ note'
       → NotesDiffer x y
 
 -- an element stands at two places of a list

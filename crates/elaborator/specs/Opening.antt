@@ -33,8 +33,8 @@ abbrev pub cause_at : Path → List Fault → Type 0 → ElabError → Type 0
 cause_at path faults too_many refusal = (e : WalkError) × (refusal ≡ error_at path e) × cause_of faults too_many e
 
 -- what an answer tells of such an instance: that it has no fault, and this of its value, or an error that has its cause
-abbrev pub Judges : {T : Type 0} → Path → List Fault → Type 0 → (T → Type 0) → Result T ElabError → Type 0
-Judges path faults too_many P = Answers error.NoMemory (λ x. (faults ≡ []) × P x) (cause_at path faults too_many)
+abbrev pub JudgesAt : {T : Type 0} → Path → List Fault → Type 0 → (T → Type 0) → Result T ElabError → Type 0
+JudgesAt path faults too_many P = Answers error.NoMemory (λ x. (faults ≡ []) × P x) (cause_at path faults too_many)
 
 -- the instance is noted as made in the one of the number, and as primitive where its component is
 pub record IsNoted (maker : Option ℕ) (i : code.Instance) : Type 0 where

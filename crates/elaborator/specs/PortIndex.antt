@@ -13,7 +13,7 @@ use Rattle.darwin_walk.specs.declared.fault.Fault.TheVariants as shown
 use Rattle.elaborator.specs.Paths.{end_bytes}
 use Rattle.elaborator.specs.Instances.{Instance}
 use Rattle.elaborator.specs.Bindings.{Pair, resolve, pair_of, bindings_in, pairs_in}
-use Rattle.elaborator.specs.Faults.{port_faults, NotesDiffer}
+use Rattle.elaborator.specs.Faults.{port_index_faults, NotesDiffer}
 use Rattle.elaborator.specs.Numbering.{Expanded, Numbered}
 use Rattle.elaborator.specs.Ports.{IsPort}
 use Rattle.elaborator.specs.declared.pairs.Pair as code
@@ -47,14 +47,14 @@ pub record IsPair (e : Expanded) (x : code.Pair) (p : Pair) : Type 0 where
 pub data FaultOf (tree : Tree) (i : Instance) (b : Binding) : ElabError → Type 0 where
   bad_binding : pair_of tree i b ≡ [] → FaultOf tree i b (error.BadBinding i.path b.at)
   bad_index :
-      (at : At) → Contains (port_faults tree i b.at b.left ++ port_faults tree i b.at b.right) (shown.BadIndex at)
+      (at : At) → Contains (port_index_faults tree i b.at b.left ++ port_index_faults tree i b.at b.right) (shown.BadIndex at)
       → FaultOf tree i b (error.BadIndex i.path at)
   annotation : NotesDiffer (resolve tree i b.left) (resolve tree i b.right) → FaultOf tree i b (error.Annotation i.path b.at)
 
 -- the pair of a binding that has none of them
 pub record IsLawful (tree : Tree) (i : Instance) (b : Binding) (p : Pair) : Type 0 where
   pub is_pair : pair_of tree i b ≡ p ∷ []
-  pub indexes : port_faults tree i b.at b.left ++ port_faults tree i b.at b.right ≡ []
+  pub indexes : port_index_faults tree i b.at b.left ++ port_index_faults tree i b.at b.right ≡ []
   pub notes : ¬ NotesDiffer (resolve tree i b.left) (resolve tree i b.right)
 
 -- the bindings of a list have none of them

@@ -6,7 +6,7 @@ use Rattle.darwin_walk.specs.Value.{integer, value}
 use Rattle.darwin_walk.specs.Instance.{Segment, index_fault}
 use Rattle.darwin_walk.specs.declared.fault.Fault.{Fault}
 use Rattle.elaborator.specs.Instances.{Instance}
-use Rattle.elaborator.specs.Bindings.{Named, Port, instance_at}
+use Rattle.elaborator.specs.Bindings.{NamedPort, Port, instance_at}
 use Rattle.elaborator.specs.Numbering.{Expanded, Numbered, NumberedIn}
 use Rattle.elaborator.specs.declared.chains.PortId.{PortId}
 use Rattle.elaborator.specs.declared.ports.Named as code
@@ -34,7 +34,7 @@ abbrev pub Standing : Expanded → ℕ → Instance → Option Segment → Optio
 Standing e n i inner r = MatchOption r (instance_at e.tree i inner ≡ None) (λ m. (j : Instance) × (instance_at e.tree i inner ≡ Some j) × Stands e n (is_some inner) m j)
 
 -- what the code's answer names, where the port is one of this instance
-abbrev pub named_of : Instance → code.Named → Named
+abbrev pub named_of : Instance → code.Named → NamedPort
 named_of i x = record { is_inner = x.is_inner; instance = i; decl = port_of x.decl.now; index = x.id.index }
 
 pub record IsNamed (e : Expanded) (n : ℕ) (x : code.Named) (i : Instance) : Type 0 where
@@ -43,11 +43,11 @@ pub record IsNamed (e : Expanded) (n : ℕ) (x : code.Named) (i : Instance) : Ty
   pub first : place_of x.decl.now.name i.component.ports ≡ Some x.id.port
 
 -- the answer to what an end names
-abbrev pub ResolvesTo : Expanded → ℕ → Option Named → Option code.Named → Type 0
+abbrev pub ResolvesTo : Expanded → ℕ → Option NamedPort → Option code.Named → Type 0
 ResolvesTo e n named r = MatchOption r (named ≡ None) (λ x. (i : Instance) × (named ≡ Some (named_of i x)) × IsNamed e n x i)
 
 -- the fault of the index of what an end names
-abbrev pub bad_index : At → Named → List Fault
+abbrev pub bad_index : At → NamedPort → List Fault
 bad_index at x = indexed x.decl.size x.index
   where
     indexed : Option Expr → Option ℤ → List Fault

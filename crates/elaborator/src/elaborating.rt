@@ -11,7 +11,7 @@ ghost use Rattle.elaborator.specs.Expansion.{instance_in};
 ghost use Rattle.elaborator.specs.ExpansionFaults.{IsTop};
 ghost use Rattle.elaborator.specs.Faults.{Faults};
 ghost use Rattle.darwin_types.specs.Faults.{carried};
-ghost use Rattle.elaborator.specs.Elaboration.{HasNoFault, ElaboratesTo, Gives};
+ghost use Rattle.elaborator.specs.Elaboration.{HasNoFault, ElaboratesTo, IsAnswerOf};
 ghost use Rattle.elaborator.specs.declared.error.ElabError.TheVariants.{NoMemory};
 
 use crate::ElabError;
@@ -42,7 +42,7 @@ pub fn elaborate(
     ensures no_fault { IfOk result (λ _. HasNoFault (description checked.now) top.now args.now) }
     ensures graph { IfOk result (λ g. ElaboratesTo (description checked.now) top.now args.now g) }
     ensures every_graph { (g : GraphValue) → HasNoFault (description checked.now) top.now args.now
-        → ElaboratesTo (description checked.now) top.now args.now g → Gives result g }
+        → ElaboratesTo (description checked.now) top.now args.now g → IsAnswerOf result g }
     // It may be run.
     ensures sound { IfOk result (λ g. Sound g) }
     // A fault that is named holds.

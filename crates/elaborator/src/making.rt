@@ -4,9 +4,9 @@ ghost use Rattle.std.specs.Prelude.{◌≡◌, ◌<◌, map};
 ghost use Rattle.std.specs.List.{flat_map, list_all};
 ghost use Rattle.darwin_parser.specs.Tree.{tree_of};
 ghost use Rattle.darwin_walk.specs.Walked.{child_of};
-ghost use Rattle.elaborator.specs.Faults.{kind_faults, is_kind_argument};
+ghost use Rattle.elaborator.specs.Faults.{kind_argument_faults, is_kind_argument};
 ghost use Rattle.elaborator.specs.Expansion.{instance_in};
-ghost use Rattle.elaborator.specs.Opening.{IsMade, AreMade, Judges};
+ghost use Rattle.elaborator.specs.Opening.{IsMade, AreMade, JudgesAt};
 
 use crate::ElabError;
 use crate::directory::Directory;
@@ -35,7 +35,7 @@ fn make<'a>(
     child: &Child<'a>,
 ) -> Result<Option<Instance<'a>>, ElabError>
     requires { within.now.depth < 33 }
-    ensures { Judges within.now.path (kind_faults (tree_of directory.now.unit.now) (child_of child.now)) ⊥ (IsMade (tree_of directory.now.unit.now) (instance_in within.now) number (child_of child.now)) result }
+    ensures { JudgesAt within.now.path (kind_argument_faults (tree_of directory.now.unit.now) (child_of child.now)) ⊥ (IsMade (tree_of directory.now.unit.now) (instance_in within.now) number (child_of child.now)) result }
 {
     let Some(entry) = directory.find(child.component.as_bytes()) else {
         return Ok(None);
@@ -65,7 +65,7 @@ pub(crate) fn make_all<'a>(
     children: &[Child<'a>],
 ) -> Result<Vec<Instance<'a>>, ElabError>
     requires { within.now.depth < 33 }
-    ensures { Judges within.now.path (flat_map (kind_faults (tree_of directory.now.unit.now)) (map child_of children.now)) ⊥ (AreMade (tree_of directory.now.unit.now) (instance_in within.now) number (map child_of children.now)) result }
+    ensures { JudgesAt within.now.path (flat_map (kind_argument_faults (tree_of directory.now.unit.now)) (map child_of children.now)) ⊥ (AreMade (tree_of directory.now.unit.now) (instance_in within.now) number (map child_of children.now)) result }
 {
     let mut made = Vec::with_capacity(alloc, children.len())?;
     for child in children {

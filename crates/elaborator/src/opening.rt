@@ -10,7 +10,7 @@ ghost use Rattle.elaborator.specs.Faults.{own_faults};
 ghost use Rattle.darwin_types.specs.Scope.{is_primitive};
 ghost use Rattle.darwin_walk.specs.Spine.{env_of};
 ghost use Rattle.elaborator.specs.Expansion.{instance_in, AreSizes};
-ghost use Rattle.elaborator.specs.Opening.{error_at, IsFound, Judges};
+ghost use Rattle.elaborator.specs.Opening.{error_at, IsFound, JudgesAt};
 
 use crate::ElabError;
 use crate::directory::Directory;
@@ -41,7 +41,7 @@ pub(crate) fn open_instance<'a>(
     requires depth { instance.now.depth < 33 }
     requires plain { instance.now.is_primitive ≡ true → AreSizes (instance_in instance.now) [] }
     requires primitive { instance.now.is_primitive ≡ is_primitive (component_of instance.now.component.now) }
-    ensures { Judges instance.now.path (own_faults (tree_of directory.now.unit.now) (instance_in instance.now)) (room < count_in (instance_in instance.now)) (IsFound (tree_of directory.now.unit.now) (instance_in instance.now) number room) result }
+    ensures { JudgesAt instance.now.path (own_faults (tree_of directory.now.unit.now) (instance_in instance.now)) (room < count_in (instance_in instance.now)) (IsFound (tree_of directory.now.unit.now) (instance_in instance.now) number room) result }
 {
     if instance.is_primitive {
         return Ok(Found {
@@ -69,7 +69,7 @@ pub(crate) fn open_instance<'a>(
 
 /// Walks the statements of an instance.
 fn walk_in<'a>(alloc: Global, instance: &Instance<'a>, room: u64) -> Result<Walked<'a>, ElabError>
-    ensures { Judges instance.now.path (instance_faults (component_of instance.now.component.now) (env_of instance.now.env.items)) (room < count (component_of instance.now.component.now) (env_of instance.now.env.items)) (IsWalked (component_of instance.now.component.now) (env_of instance.now.env.items) room) result }
+    ensures { JudgesAt instance.now.path (instance_faults (component_of instance.now.component.now) (env_of instance.now.env.items)) (room < count (component_of instance.now.component.now) (env_of instance.now.env.items)) (IsWalked (component_of instance.now.component.now) (env_of instance.now.env.items) room) result }
 {
     match walk(alloc, instance.component, instance.env.as_slice(), room) {
         Ok(walked) => Ok(walked),

@@ -21,7 +21,7 @@ use Rattle.darwin_types.specs.Scope.{component_named, has, is_primitive}
 use Rattle.darwin_walk.specs.Instance.{Binding}
 use Rattle.darwin_walk.specs.declared.fault.Fault.{Fault}
 use Rattle.darwin_walk.specs.declared.fault.Fault.TheVariants as shown
-use Rattle.elaborator.specs.Bindings.{Bound, BoundThrough, Named, Pair, Port, bindings_in, pair_of, pairs_in, resolve}
+use Rattle.elaborator.specs.Bindings.{Bound, BoundThrough, NamedPort, Pair, Port, bindings_in, pair_of, pairs_in, resolve}
 use Rattle.elaborator.specs.Bindings.Bound.{bound}
 use Rattle.elaborator.specs.Bindings.BoundThrough.{at_once, through}
 use Rattle.elaborator.specs.Graph.{IsElab, natural, node_of}
@@ -64,7 +64,7 @@ abbrev is_empty : {A : Type 0} → List A → Bool
 is_empty [] = true
 is_empty (x ∷ xs) = false
 
-abbrev has_note : Option Named → Bool
+abbrev has_note : Option NamedPort → Bool
 has_note o = option_map_or (λ m. is_some m.decl.note) o false
 
 abbrev has_notes : Tree → Instance → Binding → Bool

@@ -10,12 +10,12 @@ use Rattle.darwin_parser.specs.Tree.{Name, Tree, Expr, ArrayDecl, PortRef, InstE
 use Rattle.darwin_types.specs.Scope.{component_named, array_named, is_primitive}
 use Rattle.darwin_walk.specs.Value.{Env, Value, integer, out_of_range, zero_divisor, value}
 use Rattle.darwin_walk.specs.Reached.{Reached, made, reached_in_component}
-use Rattle.darwin_walk.specs.Instance.{Child, children, End, Binding, values, element_arguments, value_fault, index_fault, element_faults, inner_faults, end_faults, faults_of, instance_faults}
+use Rattle.darwin_walk.specs.Instance.{Child, children, End, Binding, values, element_arguments, value_fault, index_fault, element_index_faults, inner_index_faults, end_index_faults, faults_of, instance_faults}
 use Rattle.darwin_walk.specs.declared.fault.Fault.{Fault}
 use Rattle.darwin_walk.specs.declared.fault.Fault.TheVariants.{OutOfRange, ZeroDivisor, BadIndex}
 use Rattle.elaborator.specs.Instances.{Instance, is_expanded, Inst}
-use Rattle.elaborator.specs.Bindings.{Named, resolve, bindings_in}
-use Rattle.elaborator.specs.Faults.{is_kind_argument, kind_faults, port_faults, own_faults, faults_in}
+use Rattle.elaborator.specs.Bindings.{NamedPort, resolve, bindings_in}
+use Rattle.elaborator.specs.Faults.{is_kind_argument, kind_argument_faults, port_index_faults, own_faults, faults_in}
 use Rattle.order_laws.specs.Reordering.{SameArray, SameEntry, same_single, same_element}
 use Rattle.order_laws.proofs.Finding.{Both, neither, both_there}
 use Rattle.order_laws.proofs.Reorders.{comes_of}
@@ -68,14 +68,14 @@ array_index-same o at at' par i _ _ (both_there x y same) =
     subst (λ e. SameFaults o (index_fault at (value x.size par) i) (index_fault at' (value e par) i)) same.size (index_fault-same o at at' (value x.size par) i)
 
 element_faults-same :
-    (o : At) (c d : Component) → Alike c d → (par : Env) (name : Name) (at at' : At) (i : Value) → SameFaults o (element_faults c par name at i) (element_faults d par name at' i)
+    (o : At) (c d : Component) → Alike c d → (par : Env) (name : Name) (at at' : At) (i : Value) → SameFaults o (element_index_faults c par name at i) (element_index_faults d par name at' i)
 element_faults-same o c d same par name at at' i =
     joined o (value_fault at i) (value_fault at' i) _ _ (value_fault-same o at at' i)
     (array_index-same o at at' par i (array_named c name) (array_named d name) (same.array name))
 
 inner_faults-same :
     (o : At) (c d : Component) → Alike c d → (par : Env) (at at' : At) (name : Option Name) (i : Option Expr) (env : Env)
-    → SameFaults o (inner_faults c par at name i env) (inner_faults d par at' name i env)
+    → SameFaults o (inner_index_faults c par at name i env) (inner_index_faults d par at' name i env)
 inner_faults-same o c d same par at at' (Some name) (Some i) env = element_faults-same o c d same par name at at' (value i env)
 inner_faults-same o c d same par at at' (Some name) None env = refl
 inner_faults-same o c d same par at at' None i env = refl
@@ -86,9 +86,9 @@ port_index-same o at at' env None = refl
 port_index-same o at at' env (Some i) = value_fault-same o at at' (value i env)
 
 end_faults-same :
-    (o : At) (c d : Component) → Alike c d → (par : Env) (at at' : At) (e : PortRef) (env : Env) → SameFaults o (end_faults c par at e env) (end_faults d par at' e env)
+    (o : At) (c d : Component) → Alike c d → (par : Env) (at at' : At) (e : PortRef) (env : Env) → SameFaults o (end_index_faults c par at e env) (end_index_faults d par at' e env)
 end_faults-same o c d same par at at' e env =
-    joined o (inner_faults c par at e.inst e.inst_index env) (inner_faults d par at' e.inst e.inst_index env) _ _
+    joined o (inner_index_faults c par at e.inst e.inst_index env) (inner_index_faults d par at' e.inst e.inst_index env) _ _
     (inner_faults-same o c d same par at at' e.inst e.inst_index env) (port_index-same o at at' env e.port_index)
 
 element_values-same :
@@ -104,7 +104,7 @@ entry_faults-same :
     (o : At) (c d : Component) → Alike c d → (par env : Env) (e e' : InstEntry) → SameEntry e e' → SameFaults o (faults_of c par (made e env)) (faults_of d par (made e' env))
 entry_faults-same o c d same par env _ _ (same_single name component args at at') = values-same o at at' (values args env)
 entry_faults-same o c d same par env _ _ (same_element array index args at at') =
-    joined o (element_faults c par array at (value index env)) (element_faults d par array at' (value index env)) _ _
+    joined o (element_index_faults c par array at (value index env)) (element_index_faults d par array at' (value index env)) _ _
     (element_faults-same o c d same par array at at' (value index env))
     (element_values-same o at at' par env args (array_named c array) (array_named d array) (same.array array))
 
@@ -114,9 +114,9 @@ faults_of-same o c d same par _ _ (same_valued e env at at') = value_fault-same 
 faults_of-same o c d same par _ _ same_turn = refl
 faults_of-same o c d same par _ _ (same_made e e' env entries) = entry_faults-same o c d same par env e e' entries
 faults_of-same o c d same par _ _ (same_bound b b' env ends) =
-    joined o (end_faults c par b.at b.left env) (end_faults d par b'.at b'.left env) (end_faults c par b.at b.right env) (end_faults d par b'.at b'.right env)
-    (subst (λ e. SameFaults o (end_faults c par b.at b.left env) (end_faults d par b'.at e env)) ends.left (end_faults-same o c d same par b.at b'.at b.left env))
-    (subst (λ e. SameFaults o (end_faults c par b.at b.right env) (end_faults d par b'.at e env)) ends.right (end_faults-same o c d same par b.at b'.at b.right env))
+    joined o (end_index_faults c par b.at b.left env) (end_index_faults d par b'.at b'.left env) (end_index_faults c par b.at b.right env) (end_index_faults d par b'.at b'.right env)
+    (subst (λ e. SameFaults o (end_index_faults c par b.at b.left env) (end_index_faults d par b'.at e env)) ends.left (end_faults-same o c d same par b.at b'.at b.left env))
+    (subst (λ e. SameFaults o (end_index_faults c par b.at b.right env) (end_index_faults d par b'.at e env)) ends.right (end_faults-same o c d same par b.at b'.at b.right env))
 
 -- ---- arguments of kinds
 
@@ -136,9 +136,9 @@ kind_fault-same o at at' (Some zs) _ _ (both_there c d same) =
     subst (λ p. SameFaults o (if is_primitive c && not (list_all is_kind_argument zs) then OutOfRange at ∷ [] else []) (if p && not (list_all is_kind_argument zs) then OutOfRange at' ∷ [] else []))
     (is_primitive-same c d same) (out_tested o at at' _)
 
-kind_faults-same : (o : At) (t u : Tree) → AlikeTrees t u → (k l : Child) → SameChild k l → SameFaults o (kind_faults t k) (kind_faults u l)
+kind_faults-same : (o : At) (t u : Tree) → AlikeTrees t u → (k l : Child) → SameChild k l → SameFaults o (kind_argument_faults t k) (kind_argument_faults u l)
 kind_faults-same o t u trees k l same =
-    subst (λ args. SameFaults o (kind_faults t k) (option_map_or (kind_fault_at l.at args) (component_named u l.component) [])) same.arguments
+    subst (λ args. SameFaults o (kind_argument_faults t k) (option_map_or (kind_fault_at l.at args) (component_named u l.component) [])) same.arguments
     (kind_fault-same o k.at l.at k.arguments (component_named t k.component) (component_named u l.component)
     (subst (λ x. Both Alike (component_named t k.component) (component_named u x)) same.component (trees.component k.component)))
 
@@ -148,15 +148,15 @@ abbrev indexed_fault : At → Env → Option Expr → Option ℤ → List Fault
 indexed_fault at env (Some size) (Some index) = index_fault at (value size env) (integer index)
 indexed_fault at env _ _ = []
 
-port_fault-there : (t : Tree) (i : Instance) (at : At) (e : End) (x : Named) → resolve t i e ≡ Some x → port_faults t i at e ≡ indexed_fault at x.instance.env x.decl.size x.index
+port_fault-there : (t : Tree) (i : Instance) (at : At) (e : End) (x : NamedPort) → resolve t i e ≡ Some x → port_index_faults t i at e ≡ indexed_fault at x.instance.env x.decl.size x.index
 port_fault-there t i at e x is = by x.decl.size x.index refl refl
   where
-    by : (o : Option Expr) (q : Option ℤ) → x.decl.size ≡ o → x.index ≡ q → port_faults t i at e ≡ indexed_fault at x.instance.env x.decl.size x.index
+    by : (o : Option Expr) (q : Option ℤ) → x.decl.size ≡ o → x.index ≡ q → port_index_faults t i at e ≡ indexed_fault at x.instance.env x.decl.size x.index
     by (Some size) (Some index) size_is index_is = rw (is, size_is, index_is) refl
     by (Some size) None size_is index_is = rw (is, size_is, index_is) refl
     by None q size_is index_is = rw (is, size_is) refl
 
-port_fault-nowhere : (t : Tree) (i : Instance) (at : At) (e : End) → resolve t i e ≡ None → port_faults t i at e ≡ []
+port_fault-nowhere : (t : Tree) (i : Instance) (at : At) (e : End) → resolve t i e ≡ None → port_index_faults t i at e ≡ []
 port_fault-nowhere t i at e is = rw is refl
 
 indexed_fault-same : (o at at' : At) (env : Env) (size : Option Expr) (index : Option ℤ) → SameFaults o (indexed_fault at env size index) (indexed_fault at' env size index)
@@ -165,8 +165,8 @@ indexed_fault-same o at at' env (Some size) None = refl
 indexed_fault-same o at at' env None index = refl
 
 port_faults-by :
-    (o : At) (t u : Tree) (i i' : Instance) (at at' : At) (e : End) (x y : Option Named) → resolve t i e ≡ x → resolve u i' e ≡ y → Both SameNamed x y
-    → SameFaults o (port_faults t i at e) (port_faults u i' at' e)
+    (o : At) (t u : Tree) (i i' : Instance) (at at' : At) (e : End) (x y : Option NamedPort) → resolve t i e ≡ x → resolve u i' e ≡ y → Both SameNamed x y
+    → SameFaults o (port_index_faults t i at e) (port_index_faults u i' at' e)
 port_faults-by o t u i i' at at' e _ _ is is' neither = ap (map (moved o)) (port_fault-nowhere t i at e is ∙ sym (port_fault-nowhere u i' at' e is'))
 port_faults-by o t u i i' at at' e _ _ is is' (both_there x y same) =
     ap (map (moved o)) (port_fault-there t i at e x is)
@@ -177,17 +177,17 @@ port_faults-by o t u i i' at at' e _ _ is is' (both_there x y same) =
     declared = rw (same.instance.env, same.decl.size, same.index) refl
 
 abbrev binding_faults : Tree → Instance → Binding → List Fault
-binding_faults t i b = port_faults t i b.at b.left ++ port_faults t i b.at b.right
+binding_faults t i b = port_index_faults t i b.at b.left ++ port_index_faults t i b.at b.right
 
 binding_faults-same :
     (o : At) (t u : Tree) (top top' : Instance) → Setting t u top top' → (i i' : Instance) → Inst t top i → SameInstance i i' → (b b' : Binding) → SameBound b b'
     → SameFaults o (binding_faults t i b) (binding_faults u i' b')
 binding_faults-same o t u top top' setting i i' inst same b b' ends =
-    joined o (port_faults t i b.at b.left) (port_faults u i' b'.at b'.left) (port_faults t i b.at b.right) (port_faults u i' b'.at b'.right)
-    (subst (λ e. SameFaults o (port_faults t i b.at b.left) (port_faults u i' b'.at e)) ends.left (at b.left))
-    (subst (λ e. SameFaults o (port_faults t i b.at b.right) (port_faults u i' b'.at e)) ends.right (at b.right))
+    joined o (port_index_faults t i b.at b.left) (port_index_faults u i' b'.at b'.left) (port_index_faults t i b.at b.right) (port_index_faults u i' b'.at b'.right)
+    (subst (λ e. SameFaults o (port_index_faults t i b.at b.left) (port_index_faults u i' b'.at e)) ends.left (at b.left))
+    (subst (λ e. SameFaults o (port_index_faults t i b.at b.right) (port_index_faults u i' b'.at e)) ends.right (at b.right))
   where
-    at : (e : End) → SameFaults o (port_faults t i b.at e) (port_faults u i' b'.at e)
+    at : (e : End) → SameFaults o (port_index_faults t i b.at e) (port_index_faults u i' b'.at e)
     at e = port_faults-by o t u i i' b.at b'.at e (resolve t i e) (resolve u i' e) refl refl (resolve-same t u top top' setting i i' inst same e)
 
 -- ---- all of them
@@ -196,23 +196,23 @@ binding_faults-same o t u top top' setting i i' inst same b b' ends =
 abbrev pub LikeFault : At → List Fault → Fault → Type 0
 LikeFault o fs f = (f' : Fault) × Contains fs f' × (moved o f ≡ moved o f')
 
-own_faults-expanded : (t : Tree) (i : Instance) → is_expanded i ≡ true → own_faults t i ≡ instance_faults i.component i.env ++ flat_map (kind_faults t) (children i.component i.env)
+own_faults-expanded : (t : Tree) (i : Instance) → is_expanded i ≡ true → own_faults t i ≡ instance_faults i.component i.env ++ flat_map (kind_argument_faults t) (children i.component i.env)
 own_faults-expanded t i is = rw is refl
 
 own_faults-closed : (t : Tree) (i : Instance) → is_expanded i ≡ false → own_faults t i ≡ []
 own_faults-closed t i is = rw is refl
 
 shown-like :
-    (o : At) (t u : Tree) → AlikeTrees t u → (c d : Component) → Alike c d → (env : Env) (f : Fault) → Contains (instance_faults c env ++ flat_map (kind_faults t) (children c env)) f
-    → LikeFault o (instance_faults d env ++ flat_map (kind_faults u) (children d env)) f
+    (o : At) (t u : Tree) → AlikeTrees t u → (c d : Component) → Alike c d → (env : Env) (f : Fault) → Contains (instance_faults c env ++ flat_map (kind_argument_faults t) (children c env)) f
+    → LikeFault o (instance_faults d env ++ flat_map (kind_argument_faults u) (children d env)) f
 shown-like o t u trees c d same env f there =
-    elim (Contains-append_cases (instance_faults c env) (flat_map (kind_faults t) (children c env)) f there) [
+    elim (Contains-append_cases (instance_faults c env) (flat_map (kind_argument_faults t) (children c env)) f there) [
       | inl of_values ↦
           let w = comes_of SameReached same_reached-trans (moved o) (faults_of c env) (faults_of d env) (faults_of-same o c d same env) (reached_in_component c env) (reached_in_component d env) f (reached-alike c d same env) of_values in
-          (w.0, Contains-append_left (instance_faults d env) (flat_map (kind_faults u) (children d env)) w.0 w.1, w.2)
+          (w.0, Contains-append_left (instance_faults d env) (flat_map (kind_argument_faults u) (children d env)) w.0 w.1, w.2)
       | inr of_kinds ↦
-          let w = comes_of SameChild same_child-trans (moved o) (kind_faults t) (kind_faults u) (kind_faults-same o t u trees) (children c env) (children d env) f (children-same c d same env) of_kinds in
-          (w.0, Contains-append_right (instance_faults d env) (flat_map (kind_faults u) (children d env)) w.0 w.1, w.2)
+          let w = comes_of SameChild same_child-trans (moved o) (kind_argument_faults t) (kind_argument_faults u) (kind_faults-same o t u trees) (children c env) (children d env) f (children-same c d same env) of_kinds in
+          (w.0, Contains-append_right (instance_faults d env) (flat_map (kind_argument_faults u) (children d env)) w.0 w.1, w.2)
     ]
 
 own-like : (o : At) (t u : Tree) → AlikeTrees t u → (i j : Instance) → SameInstance i j → (f : Fault) → Contains (own_faults t i) f → LikeFault o (own_faults u j) f
@@ -220,7 +220,7 @@ own-like o t u trees i j same f there = by (is_expanded i) refl
   where
     by : (b : Bool) → is_expanded i ≡ b → LikeFault o (own_faults u j) f
     by true is =
-        let here = subst (λ fs. Contains fs f) (own_faults-expanded t i is ∙ ap (λ env. instance_faults i.component env ++ flat_map (kind_faults t) (children i.component env)) same.env) there in
+        let here = subst (λ fs. Contains fs f) (own_faults-expanded t i is ∙ ap (λ env. instance_faults i.component env ++ flat_map (kind_argument_faults t) (children i.component env)) same.env) there in
         let w = shown-like o t u trees i.component j.component same.component j.env f here in
         (w.0, subst (λ fs. Contains fs w.0) (sym (own_faults-expanded u j (sym (is_expanded-same i j same) ∙ is))) w.1, w.2)
     by false is = absurd (Contains-nil f (subst (λ fs. Contains fs f) (own_faults-closed t i is) there))

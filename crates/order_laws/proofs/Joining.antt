@@ -14,7 +14,7 @@ use Rattle.darwin_types.specs.Scope.{port_named}
 use Rattle.darwin_walk.specs.Instance.{Segment, End, Binding, bindings}
 use Rattle.elaborator.specs.Paths.{within}
 use Rattle.elaborator.specs.Instances.{Instance, made_in, is_expanded, Inst, below}
-use Rattle.elaborator.specs.Bindings.{Port, instance_at, Named, resolve, named_port, may_lead, Pair, pair_of, bindings_in, Bound, bound, BoundThrough, at_once, through}
+use Rattle.elaborator.specs.Bindings.{Port, instance_at, NamedPort, resolve, named_port, may_lead, Pair, pair_of, bindings_in, Bound, bound, BoundThrough, at_once, through}
 use Rattle.elaborator.specs.Graph.{IsNode, port_at, Linked, IsElab}
 use Rattle.elaborator.proofs.ChildLaws.{depth-made}
 use Rattle.elaborator.proofs.PairLaws.{pair-forward, pair-backward, pair-of_no_form, pair-no_left, pair-no_right}
@@ -45,13 +45,13 @@ instance_at-same t u top top' setting i i' inst same (Some s) =
     (sym ((bytes_eq-Decides (within i.path s) x.path).0 is) ∙ (bytes_eq-Decides (within i.path s) x'.path).0 is'))
 
 -- the same end, named in instances that are the same
-pub record SameNamed (x y : Named) : Type 0 where
+pub record SameNamed (x y : NamedPort) : Type 0 where
   pub is_inner : x.is_inner ≡ y.is_inner
   pub instance : SameInstance x.instance y.instance
   pub decl : SamePort x.decl y.decl
   pub index : x.index ≡ y.index
 
-abbrev named_as : End → Instance → PortDecl → Named
+abbrev named_as : End → Instance → PortDecl → NamedPort
 named_as e j decl = record { is_inner = is_some e.inner; instance = j; decl = decl; index = e.index }
 
 resolve-nowhere : (t : Tree) (i : Instance) (e : End) → instance_at t i e.inner ≡ None → resolve t i e ≡ None
@@ -84,10 +84,10 @@ pub resolve-same :
 resolve-same t u top top' setting i i' inst same e =
     named-with_instance t u i i' e (instance_at t i e.inner) (instance_at u i' e.inner) refl refl (instance_at-same t u top top' setting i i' inst same e.inner)
 
-port_of-same : (x y : Named) → SameNamed x y → named_port x ≡ named_port y
+port_of-same : (x y : NamedPort) → SameNamed x y → named_port x ≡ named_port y
 port_of-same x y same = rw (same.instance.path, same.instance.depth, same.decl.side, same.decl.name, same.index) refl
 
-pub may_lead-same : (x x' y y' : Named) → SameNamed x x' → SameNamed y y' → may_lead x y ≡ may_lead x' y'
+pub may_lead-same : (x x' y y' : NamedPort) → SameNamed x x' → SameNamed y y' → may_lead x y ≡ may_lead x' y'
 may_lead-same x x' y y' same same' =
     rw (same.decl.size, same.index, same.is_inner, same.decl.side, same'.decl.size, same'.index, same'.is_inner, same'.decl.side) refl
 
@@ -101,7 +101,7 @@ abbrev one_pair : Port → Port → List (Port × Port)
 one_pair x y = (x, y) ∷ []
 
 pairs-both :
-    (t u : Tree) (i i' : Instance) (b b' : Binding) (x x' y y' : Named) → resolve t i b.left ≡ Some x → resolve u i' b'.left ≡ Some x' → resolve t i b.right ≡ Some y
+    (t u : Tree) (i i' : Instance) (b b' : Binding) (x x' y y' : NamedPort) → resolve t i b.left ≡ Some x → resolve u i' b'.left ≡ Some x' → resolve t i b.right ≡ Some y
     → resolve u i' b'.right ≡ Some y' → SameNamed x x' → SameNamed y y' → map ports_of (pair_of t i b) ≡ map ports_of (pair_of u i' b')
 pairs-both t u i i' b b' x x' y y' left left' right right' same same' = by (may_lead x y) (may_lead y x) refl refl
   where
@@ -127,14 +127,14 @@ pairs-both t u i i' b b' x x' y y' left left' right right' same same' = by (may_
         ap (map ports_of) (pair-of_no_form t i b x y left right is is' ∙ sym (pair-of_no_form u i' b' x' y' left' right' (sym forward' ∙ is) (sym backward' ∙ is')))
 
 pairs-right :
-    (t u : Tree) (i i' : Instance) (b b' : Binding) (x x' : Named) → resolve t i b.left ≡ Some x → resolve u i' b'.left ≡ Some x' → SameNamed x x'
-    → (c d : Option Named) → resolve t i b.right ≡ c → resolve u i' b'.right ≡ d → Both SameNamed c d → map ports_of (pair_of t i b) ≡ map ports_of (pair_of u i' b')
+    (t u : Tree) (i i' : Instance) (b b' : Binding) (x x' : NamedPort) → resolve t i b.left ≡ Some x → resolve u i' b'.left ≡ Some x' → SameNamed x x'
+    → (c d : Option NamedPort) → resolve t i b.right ≡ c → resolve u i' b'.right ≡ d → Both SameNamed c d → map ports_of (pair_of t i b) ≡ map ports_of (pair_of u i' b')
 pairs-right t u i i' b b' x x' left left' same _ _ right right' neither =
     ap (map ports_of) (pair-no_right t i b x left right ∙ sym (pair-no_right u i' b' x' left' right'))
 pairs-right t u i i' b b' x x' left left' same _ _ right right' (both_there y y' same') = pairs-both t u i i' b b' x x' y y' left left' right right' same same'
 
 pairs-left :
-    (t u : Tree) (i i' : Instance) (b b' : Binding) → (a c : Option Named) → resolve t i b.left ≡ a → resolve u i' b'.left ≡ c → Both SameNamed a c
+    (t u : Tree) (i i' : Instance) (b b' : Binding) → (a c : Option NamedPort) → resolve t i b.left ≡ a → resolve u i' b'.left ≡ c → Both SameNamed a c
     → Both SameNamed (resolve t i b.right) (resolve u i' b'.right) → map ports_of (pair_of t i b) ≡ map ports_of (pair_of u i' b')
 pairs-left t u i i' b b' _ _ left left' neither rights = ap (map ports_of) (pair-no_left t i b left ∙ sym (pair-no_left u i' b' left'))
 pairs-left t u i i' b b' _ _ left left' (both_there x x' same) rights =

@@ -4,7 +4,7 @@ use Rattle.std.specs.Option.{option_map}
 use Rattle.darwin_parser.specs.Tree.{tree_of}
 use Rattle.darwin_walk.specs.Walked.{child_of}
 use Rattle.elaborator.specs.Instances.{instance_of}
-use Rattle.elaborator.specs.Faults.{kind_faults}
+use Rattle.elaborator.specs.Faults.{kind_argument_faults}
 use Rattle.elaborator.specs.Expansion.{instance_in}
 use Rattle.elaborator.specs.Opening.{IsNoted}
 use Rattle.base.proofs.AnswerLaws.{Answers-exit}
@@ -18,7 +18,7 @@ pub returns-in_err-instance : goal.returns-in_err-instance
 returns-in_err-instance c =
     let tree = tree_of c.args.directory.now.unit.now in
     Answers-exit _ _ c.from_residual-in_err-instance.ensures.1
-    (fault-grow _ _ _ _ (Contains-from (kind_faults tree) child_of _ _ _ _ c.loop-child-test.true c.child-item.is c.loop-child.invariant.no_faults))
+    (fault-grow _ _ _ _ (Contains-from (kind_argument_faults tree) child_of _ _ _ _ c.loop-child-test.true c.child-item.is c.loop-child.invariant.no_faults))
     c.in_err-instance.ensures
 
 pub loop-child-preserved : goal.loop-child-preserved
@@ -33,7 +33,7 @@ loop-child-preserved c =
     let rest = map child_of (drop (k + 1) children) in
     let left = next child_of children k x c.loop-child-test.true c.child-item.is in
     let made = so_far.instances ∙ ap (λ cs. map instance_in c.loop-child.made.items ++ filter_map make_one cs) left in
-    let faultless = so_far.no_faults ∙ faults-next (kind_faults tree) children k x c.loop-child-test.true c.child-item.is told.0 in
+    let faultless = so_far.no_faults ∙ faults-next (kind_argument_faults tree) children k x c.loop-child-test.true c.child-item.is told.0 in
     elim c.match-branch-3.branch [
       | in-Some+in_ok-push w ↦
           let pushed = ap (λ v. v.items) w.made-is ∙ w.in_ok-push.ensures.items in

@@ -2,7 +2,7 @@ use Rattle.darwin_parser.specs.Tree.{tree_of}
 use Rattle.darwin_walk.specs.Walked.{child_of}
 use Rattle.std.proofs.Common.{◌≡◌, ◌∙◌, [], map, ap, subst}
 use Rattle.std.specs.List.{flat_map}
-use Rattle.elaborator.specs.Faults.{kind_faults}
+use Rattle.elaborator.specs.Faults.{kind_argument_faults}
 use Rattle.elaborator.specs.Opening.{AreMade}
 use Rattle.elaborator.specs.Expansion.{instance_in}
 use Rattle.base.proofs.AnswerLaws.{Answers-exit}
@@ -33,5 +33,5 @@ returns c =
     let is = expanded c.args.instance.now c.requires.primitive c.requires.depth c.if-instance.false in
     let made = c.in_ok-made.ensures in
     found-opened tree c.args.instance.now c.args.number c.args.room c.in_ok-walked.walked c.in_ok-made.made is c.in_ok-walked.ensures.0 c.in_ok-walked.ensures.1
-    (subst (λ cs. flat_map (kind_faults tree) (map child_of cs) ≡ []) c.as_slice.ensures.value made.0)
+    (subst (λ cs. flat_map (kind_argument_faults tree) (map child_of cs) ≡ []) c.as_slice.ensures.value made.0)
     (subst (λ cs. AreMade tree i c.args.number (map child_of cs) c.in_ok-made.made) c.as_slice.ensures.value made.1)

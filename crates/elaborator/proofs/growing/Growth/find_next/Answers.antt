@@ -4,7 +4,7 @@ use Rattle.darwin_parser.specs.Tree.{tree_of}
 use Rattle.elaborator.specs.Expansion.{instance_in}
 use Rattle.elaborator.specs.Faults.{own_faults}
 use Rattle.elaborator.specs.Instances.{count_in}
-use Rattle.elaborator.specs.Opening.{Judges, IsFound}
+use Rattle.elaborator.specs.Opening.{JudgesAt, IsFound}
 use Rattle.elaborator.specs.declared.instance.Instance as code
 use Rattle.elaborator.proofs.ExpandLemmas.{deep-fault, judged-next, plain-next}
 use Rattle.elaborator.proofs.growing.Growth.find_next.Goals as goal
@@ -32,4 +32,4 @@ returns c = λ top next growth at.
     let g = c.args.self.now in
     let is : c.index-next.result.now ≡ next = c.index-next.ensures ∙ get_or_from_slice_get c.args.self.now.expansion.instances.items c.args.self.now.opened next c.index-next.result.now at in
     judged-next top g next (IsFound (tree_of g.expansion.directory.unit.now) (instance_in next) g.opened g.room) c.open_instance.result growth at (subst (λ (x : code.Instance). x.depth < 33) is c.if-next-ge-TOO_DEEP.false)
-    (subst (λ (x : code.Instance). Judges x.path (own_faults (tree_of g.expansion.directory.unit.now) (instance_in x)) (g.room < count_in (instance_in x)) (IsFound (tree_of g.expansion.directory.unit.now) (instance_in x) g.opened g.room) c.open_instance.result) is c.open_instance.ensures)
+    (subst (λ (x : code.Instance). JudgesAt x.path (own_faults (tree_of g.expansion.directory.unit.now) (instance_in x)) (g.room < count_in (instance_in x)) (IsFound (tree_of g.expansion.directory.unit.now) (instance_in x) g.opened g.room) c.open_instance.result) is c.open_instance.ensures)
