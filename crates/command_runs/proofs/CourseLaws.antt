@@ -19,22 +19,22 @@ use Rattle.command_runs.specs.declared.query.Query.{Query}
 use Rattle.command_runs.specs.declared.query.Query.TheVariants as queries
 use Rattle.command_runs.specs.Commands.{aim_of, calls_of, course_of_query, course_of}
 use Rattle.command_runs.specs.Courses.{not_fetched, fetched_alone, failed, too_long, leads_on, refused, gives}
-use Rattle.command_runs.specs.Descriptions.{IsChecked, IsGraphOf, HasGraph, IsDescriptionRefusal, by_text}
+use Rattle.command_runs.specs.Descriptions.{IsChecked, IsGraphOfCall, HasGraph, IsDescriptionRefusal, by_text}
 use Rattle.command_runs.specs.Descriptions as descriptions
 use Rattle.command_runs.specs.Fetches.{Fetch, fetch_of, report_fetch}
-use Rattle.command_runs.specs.Lines.{Line, calls, Deed, draws, starts, changes, Progress, begun, with_description, with_call, Allows, by_elaboration, by_deed, Leads, Aim, drawing, planning, replaying, running, Concludes, Follows, uses}
+use Rattle.command_runs.specs.Lines.{RunLine, calls, Deed, draws, starts, changes, Progress, begun, with_description, with_called_graph, Allows, by_elaboration, by_deed, CallLeads, Aim, drawing, planning, replaying, running, Concludes, FollowsLines, uses}
 use Rattle.command_runs.specs.Plans.{Starts, RefusesStart, has_no_graph, is_full, HasPlan, RefusesPlan, starts_not, leads_nowhere, gets_full, made_of}
 use Rattle.command_runs.specs.Queries.{IsRefused, AnswersQuery}
 use Rattle.command_runs.specs.OneFile.{DescriptionAnswers, cannot_read, is_too_long, answered, ScriptAnswers, cannot_read_script, script_too_long, script_at_fault, StatementsAnswers, cannot_read_statements, statements_too_long, statements_at_fault, ReportAnswers, cannot_read_report, report_too_long, report_at_fault, upgraded}
 use Rattle.command_runs.specs.OneFile as files
-use Rattle.command_runs.specs.Scripts.{lines_of}
+use Rattle.command_runs.specs.Scripts.{lines_of_script}
 use Rattle.command_runs.proofs.Courses.{first_made}
 use Rattle.command_runs.proofs.Readings as readings
 
 -- a call that leads on
 leads_to :
     (p : Progress) (tree : Tree) (deed : Deed) (name : List ℕ) (args : List ℤ) (g : Graph) (made : Made) → p.used ≡ Some tree
-    → IsGraphOf tree name args g → Allows p deed g made → Leads p deed name args (with_call p deed name args g made)
+    → IsGraphOfCall tree name args g → Allows p deed g made → CallLeads p deed name args (with_called_graph p deed name args g made)
 leads_to p tree deed name args g made used is allowed = record {
   tree = tree;
   is_used = used;
@@ -46,20 +46,20 @@ leads_to p tree deed name args g made used is allowed = record {
 }
 
 -- the end of lines
-concluded : (aim : Aim) (p : Progress) (answer : Answer) → Concludes aim p answer → Follows aim p [] [] answer
+concluded : (aim : Aim) (p : Progress) (answer : Answer) → Concludes aim p answer → FollowsLines aim p [] [] answer
 concluded aim p answer is = gives answer [] answer is (refl, refl)
 
 module _ (file text : List ℕ) where
   -- what the lines behind a file give
   read :
-      (query : Query) (tree : Tree) (answer : Answer) → IsChecked text tree → Follows (aim_of query) (with_description begun file tree) (calls_of query) [] answer
+      (query : Query) (tree : Tree) (answer : Answer) → IsChecked text tree → FollowsLines (aim_of query) (with_description begun file tree) (calls_of query) [] answer
       → course_of_query file query (fetch_of file (Held text) ∷ []) answer
   read query tree answer checked follows = leads_on text [] answer (gives tree [] answer checked follows)
 
   -- a first call that has no graph
   call_refused :
-      (aim : Aim) (deed : Deed) (name : List ℕ) (args : List ℤ) (lines : List Line) (words : List (List ℕ)) → IsDescriptionRefusal text name args words
-      → Follows aim begun (uses file ∷ calls deed name args ∷ lines) (fetch_of file (Held text) ∷ []) (refusal (description file words))
+      (aim : Aim) (deed : Deed) (name : List ℕ) (args : List ℤ) (lines : List RunLine) (words : List (List ℕ)) → IsDescriptionRefusal text name args words
+      → FollowsLines aim begun (uses file ∷ calls deed name args ∷ lines) (fetch_of file (Held text) ∷ []) (refusal (description file words))
   call_refused aim deed name args lines _ (by_text words is) = leads_on text [] (refusal (description file words)) (refused words is)
   call_refused aim deed name args lines _ (descriptions.by_elaboration tree e checked faults) =
       let words = elaborate_words e in
@@ -68,8 +68,8 @@ module _ (file text : List ℕ) where
 
   -- a first start for which there is no graph, or no room
   start_refused :
-      (aim : Aim) (name : List ℕ) (args : List ℤ) (lines : List Line) (words : List (List ℕ)) → RefusesStart text name args words
-      → Follows aim begun (uses file ∷ calls starts name args ∷ lines) (fetch_of file (Held text) ∷ []) (refusal (description file words))
+      (aim : Aim) (name : List ℕ) (args : List ℤ) (lines : List RunLine) (words : List (List ℕ)) → RefusesStart text name args words
+      → FollowsLines aim begun (uses file ∷ calls starts name args ∷ lines) (fetch_of file (Held text) ∷ []) (refusal (description file words))
   start_refused aim name args lines _ (has_no_graph words is) = call_refused aim starts name args lines words is
   start_refused aim name args lines _ (is_full g e has lacks) =
       let words = plan_words e in
@@ -79,10 +79,10 @@ module _ (file text : List ℕ) where
   -- a start that goes on
   start_leads :
       (tree : Tree) (name : List ℕ) (args : List ℤ) (old : Graph) (start : Starts text name args old) → IsChecked text tree
-      → Leads (with_description begun file tree) starts name args (with_call (with_description begun file tree) starts name args old (made_of old))
+      → CallLeads (with_description begun file tree) starts name args (with_called_graph (with_description begun file tree) starts name args old (made_of old))
   start_leads tree name args old start checked =
       leads_to (with_description begun file tree) tree starts name args old (made_of old) refl
-      (subst (λ t. IsGraphOf t name args old) (readings.one_tree text start.has_graph.tree tree start.has_graph.checked.is_tree checked.is_tree) start.has_graph.is)
+      (subst (λ t. IsGraphOfCall t name args old) (readings.one_tree text start.has_graph.tree tree start.has_graph.checked.is_tree checked.is_tree) start.has_graph.is)
       (start.has_room, sym (first_made old))
 
   plan_refused :
@@ -96,13 +96,13 @@ module _ (file text : List ℕ) where
       let what = refusal (description file words) in
       let p = with_description begun file tree in
       read (queries.Plan call target) tree what checked
-      (gives (with_call p starts call.top call.args old (made_of old)) [] what (start_leads tree call.top call.args old start checked) (refused words (by_elaboration tree e refl faults)))
+      (gives (with_called_graph p starts call.top call.args old (made_of old)) [] what (start_leads tree call.top call.args old start checked) (refused words (by_elaboration tree e refl faults)))
   plan_refused call target _ (gets_full old new e start has full) =
       let words = plan_words e in
       let what = refusal (description file words) in
       let p = with_description begun file has.tree in
       read (queries.Plan call target) has.tree what has.checked
-      (gives (with_call p starts call.top call.args old (made_of old)) [] what (start_leads has.tree call.top call.args old start has.checked)
+      (gives (with_called_graph p starts call.top call.args old (made_of old)) [] what (start_leads has.tree call.top call.args old start has.checked)
       (refused words (by_deed has.tree new words refl has.is (old, [], refl, (e, full, refl)))))
 
   pub query_refused :
@@ -121,12 +121,12 @@ module _ (file text : List ℕ) where
       let steps = has.has_steps.steps in
       let can = has.has_steps.has_room in
       let what = plan has.old has.new steps in
-      let p = with_call (with_description begun file tree) starts call.top call.args has.old (made_of has.old) in
-      let made = Rattle.command_runs.specs.Lines.and_made (made_of has.old) can.nodes can.ports in
+      let p = with_called_graph (with_description begun file tree) starts call.top call.args has.old (made_of has.old) in
+      let made = Rattle.change_law.specs.Scripts.more_made (made_of has.old) can.nodes can.ports in
       read (queries.Plan call target) tree what checked
       (gives p [] what (start_leads tree call.top call.args has.old has.starts checked)
-      (gives (with_call p (changes 0 []) target.top target.args has.new made) [] what (leads_to p tree (changes 0 []) target.top target.args has.new made refl has.has_graph.is (has.old, [], refl, (can, refl)))
-      (concluded planning (with_call p (changes 0 []) target.top target.args has.new made) what (has.old, has.new, [], refl, (steps, has.has_steps.is_plan, refl)))))
+      (gives (with_called_graph p (changes 0 []) target.top target.args has.new made) [] what (leads_to p tree (changes 0 []) target.top target.args has.new made refl has.has_graph.is (has.old, [], refl, (can, refl)))
+      (concluded planning (with_called_graph p (changes 0 []) target.top target.args has.new made) what (has.old, has.new, [], refl, (steps, has.has_steps.is_plan, refl)))))
 
   pub query_given :
       (query : Query) (own : Status) (written : List ℕ) → AnswersQuery query text own written
@@ -138,8 +138,8 @@ module _ (file text : List ℕ) where
       record {
         answer = graph g;
         is = read (queries.Graph call) has.tree (graph g) has.checked
-            (gives (with_call p draws call.top call.args g p.made) [] (graph g) (leads_to p has.tree draws call.top call.args g p.made refl has.is refl)
-            (concluded drawing (with_call p draws call.top call.args g p.made) (graph g) (g, [], refl, refl)));
+            (gives (with_called_graph p draws call.top call.args g p.made) [] (graph g) (leads_to p has.tree draws call.top call.args g p.made refl has.is refl)
+            (concluded drawing (with_called_graph p draws call.top call.args g p.made) (graph g) (g, [], refl, refl)));
         has_status = is.0;
         has_text = is.1.2;
       }
@@ -152,7 +152,7 @@ module _ (file text : List ℕ) where
   query_given (queries.Replay events) own written is =
       let tree = is.starts.has_graph.tree in
       let checked = is.starts.has_graph.checked in
-      let p = with_call (with_description begun file tree) starts events.name events.args is.graph (made_of is.graph) in
+      let p = with_called_graph (with_description begun file tree) starts events.name events.args is.graph (made_of is.graph) in
       record {
         answer = is.replays.answer;
         is = read (queries.Replay events) tree is.replays.answer checked
@@ -220,7 +220,7 @@ statements_refused name _ _ _ (statements_at_fault bytes fault first) =
 -- what a script leads to
 pub statements_read :
     (name bytes : List ℕ) (parsed : Script) (fetches : List Fetch) (answer : Answer) → IsScript bytes parsed
-    → Follows running begun (lines_of parsed.lines) fetches answer
+    → FollowsLines running begun (lines_of_script parsed.lines) fetches answer
     → course_of (commands.Step name) (fetch_of name (Held bytes) ∷ fetches) answer
 statements_read name bytes parsed fetches answer is follows = leads_on bytes fetches answer (gives parsed fetches answer is follows)
 

@@ -11,16 +11,17 @@ use Rattle.change_plan.specs.Refusals.{CanPlan, IsRefusal}
 use Rattle.change_script.specs.declared.event_files.EventFile.{EventFile}
 use Rattle.command_answers.specs.Answers.{Answer, refusal, description, read_fault, no_memory, graph, plan, status_of, text_of}
 use Rattle.command_words.specs.declared.words.TopCall.{TopCall}
+use Rattle.change_law.specs.Scripts.{more_made}
 use Rattle.command_runs.specs.declared.fetched.Fetched.{Fetched}
 use Rattle.command_runs.specs.declared.fetched.Fetched.TheVariants.{Held, TooLong, Failed}
 use Rattle.command_runs.specs.declared.query.Query.{Query}
 use Rattle.command_runs.specs.declared.query.Query.TheVariants as queries
 use Rattle.command_runs.specs.Commands.{aim_of, calls_of, course_of_query}
 use Rattle.command_runs.specs.Courses.{not_fetched, fetched_alone, failed, too_long, leads_on, not_judged, refused, gives}
-use Rattle.command_runs.specs.Descriptions.{IsChecked, IsGraphOf, HasGraph, IsTextRefusal, IsDescriptionRefusal, by_text}
+use Rattle.command_runs.specs.Descriptions.{IsChecked, IsGraphOfCall, HasGraph, IsTextRefusal, IsDescriptionRefusal, by_text}
 use Rattle.command_runs.specs.Descriptions as descriptions
 use Rattle.command_runs.specs.Fetches.{Fetch, fetch_of}
-use Rattle.command_runs.specs.Lines.{Deed, draws, starts, changes, Progress, begun, with_description, with_call, and_made, Allows, Forbids, IsCallRefusal, by_elaboration, by_deed, Leads, Aim, drawing, planning, replaying, Concludes, Follows}
+use Rattle.command_runs.specs.Lines.{Deed, draws, starts, changes, Progress, begun, with_description, with_called_graph, Allows, Forbids, IsCallRefusal, by_elaboration, by_deed, CallLeads, Aim, drawing, planning, replaying, Concludes, FollowsLines}
 use Rattle.command_runs.specs.Plans.{Starts, RefusesStart, has_no_graph, is_full, RefusesPlan, starts_not, leads_nowhere, gets_full, nothing_made, made_of}
 use Rattle.command_runs.specs.Queries.{IsRefused, AnswersQuery}
 use Rattle.command_runs.specs.Replays.{IsReplayed}
@@ -46,7 +47,7 @@ text_refuses (queries.Replay events) text words is = has_no_graph words (by_text
 
 -- the end of lines: memory ran out, or the answer is to what is wanted
 end_of :
-    (aim : Aim) (p : Progress) (fetches : List Fetch) (answer : Answer) → Follows aim p [] fetches answer
+    (aim : Aim) (p : Progress) (fetches : List Fetch) (answer : Answer) → FollowsLines aim p [] fetches answer
     → (fetches ≡ []) × ((answer ≡ refusal no_memory) ⊎ Concludes aim p answer)
 end_of aim p _ _ not_judged = (refl, inl refl)
 end_of aim p _ _ (refused words never) = absurd never
@@ -60,14 +61,14 @@ module _ (text : List ℕ) (p : Progress) (tree : Tree) (used : p.used ≡ Some 
   refusal_of _ (by_elaboration other e is faults) =
       inl (descriptions.by_elaboration tree e checked (subst (λ t. Faults t name args e) (same_Some other tree (sym is ∙ used)) faults))
   refusal_of _ (by_deed other g words is is_graph forbids) =
-      inr (g, record { tree = tree; checked = checked; is = subst (λ t. IsGraphOf t name args g) (same_Some other tree (sym is ∙ used)) is_graph }, forbids)
+      inr (g, record { tree = tree; checked = checked; is = subst (λ t. IsGraphOfCall t name args g) (same_Some other tree (sym is ∙ used)) is_graph }, forbids)
 
   -- the graph to which it leads
-  graph_of : (next : Progress) (leads : Leads p deed name args next) → HasGraph text name args leads.graph
+  graph_of : (next : Progress) (leads : CallLeads p deed name args next) → HasGraph text name args leads.graph
   graph_of next leads = record {
     tree = tree;
     checked = checked;
-    is = subst (λ t. IsGraphOf t name args leads.graph) (same_Some leads.tree tree (sym leads.is_used ∙ used)) leads.is_graph;
+    is = subst (λ t. IsGraphOfCall t name args leads.graph) (same_Some leads.tree tree (sym leads.is_used ∙ used)) leads.is_graph;
   }
 
 head_is : (g h : Graph) (gs hs : List Graph) → g ∷ gs ≡ h ∷ hs → g ≡ h
@@ -80,7 +81,7 @@ tail_is g h gs hs is = cc
 zero_and : (n : ℕ) → 0 + n ≡ n
 zero_and n = omega arith
 
-pub first_made : (g : Graph) → and_made nothing_made (length g.nodes) (length (ports g.nodes)) ≡ made_of g
+pub first_made : (g : Graph) → more_made nothing_made (length g.nodes) (length (ports g.nodes)) ≡ made_of g
 first_made g =
     let of : ℕ → ℕ → Made = λ n p. record { nodes = n; ports = p } in
     ap (λ n. of n (0 + length (ports g.nodes))) (zero_and (length g.nodes)) ∙ ap (of (length g.nodes)) (zero_and (length (ports g.nodes)))
@@ -91,7 +92,7 @@ module _ (file text : List ℕ) (tree : Tree) (checked : IsChecked text tree) wh
 
   from_graph :
       (call : TopCall) (fetches : List Fetch) (answer : Answer)
-      → Follows drawing used (calls_of (queries.Graph call)) fetches answer → Ended file (queries.Graph call) text fetches answer
+      → FollowsLines drawing used (calls_of (queries.Graph call)) fetches answer → Ended file (queries.Graph call) text fetches answer
   unfolding used
   from_graph call _ _ not_judged = (refl, short)
   from_graph call _ _ (refused words why) = (refl, refuses words (by (refusal_of text used tree refl checked draws call.top call.args words why)))
@@ -101,17 +102,17 @@ module _ (file text : List ℕ) (tree : Tree) (checked : IsChecked text tree) wh
       by (inl is) = is
       by (inr never) = absurd never.2
   from_graph call _ _ (gives next fetches answer leads then_) =
-      let end = end_of drawing (with_call used draws call.top call.args leads.graph leads.made) fetches answer (subst (λ n. Follows drawing n [] fetches answer) leads.is_next then_) in
+      let end = end_of drawing (with_called_graph used draws call.top call.args leads.graph leads.made) fetches answer (subst (λ n. FollowsLines drawing n [] fetches answer) leads.is_next then_) in
       (end.0, by end.1)
     where
-      by : (answer ≡ refusal no_memory) ⊎ Concludes drawing (with_call used draws call.top call.args leads.graph leads.made) answer → EndsAs file (queries.Graph call) text answer
+      by : (answer ≡ refusal no_memory) ⊎ Concludes drawing (with_called_graph used draws call.top call.args leads.graph leads.made) answer → EndsAs file (queries.Graph call) text answer
       by (inl is) = subst (EndsAs file (queries.Graph call) text) (sym is) short
       by (inr (g, earlier, is, what)) =
           let same = what ∙ ap graph (sym (head_is leads.graph g [] earlier is)) in
           subst (EndsAs file (queries.Graph call) text) (sym same) (given (graph leads.graph) (refl, (leads.graph, graph_of text used tree refl checked draws call.top call.args next leads, refl)))
 
   -- a start that goes on
-  start_of : (name : List ℕ) (args : List ℤ) (next : Progress) (leads : Leads used starts name args next) → Starts text name args leads.graph
+  start_of : (name : List ℕ) (args : List ℤ) (next : Progress) (leads : CallLeads used starts name args next) → Starts text name args leads.graph
   unfolding used
   start_of name args next leads = record {
     has_graph = graph_of text used tree refl checked starts name args next leads;
@@ -128,16 +129,16 @@ module _ (file text : List ℕ) (tree : Tree) (checked : IsChecked text tree) wh
 
   from_replay :
       (events : EventFile) (fetches : List Fetch) (answer : Answer)
-      → Follows (replaying events.events) used (calls_of (queries.Replay events)) fetches answer → Ended file (queries.Replay events) text fetches answer
+      → FollowsLines (replaying events.events) used (calls_of (queries.Replay events)) fetches answer → Ended file (queries.Replay events) text fetches answer
   unfolding used
   from_replay events _ _ not_judged = (refl, short)
   from_replay events _ _ (refused words why) = (refl, refuses words (start_refused events.name events.args words why))
   from_replay events _ _ (gives next fetches answer leads then_) =
-      let end = end_of (replaying events.events) (with_call used starts events.name events.args leads.graph leads.made) fetches answer
-      (subst (λ n. Follows (replaying events.events) n [] fetches answer) leads.is_next then_) in
+      let end = end_of (replaying events.events) (with_called_graph used starts events.name events.args leads.graph leads.made) fetches answer
+      (subst (λ n. FollowsLines (replaying events.events) n [] fetches answer) leads.is_next then_) in
       (end.0, by end.1)
     where
-      by : (answer ≡ refusal no_memory) ⊎ Concludes (replaying events.events) (with_call used starts events.name events.args leads.graph leads.made) answer → EndsAs file (queries.Replay events) text answer
+      by : (answer ≡ refusal no_memory) ⊎ Concludes (replaying events.events) (with_called_graph used starts events.name events.args leads.graph leads.made) answer → EndsAs file (queries.Replay events) text answer
       by (inl is) = subst (EndsAs file (queries.Replay events) text) (sym is) short
       by (inr (g, earlier, is, what)) =
           given answer (record {
@@ -154,7 +155,7 @@ module _ (file text : List ℕ) (tree : Tree) (checked : IsChecked text tree) wh
   -- the second call of a plan
   module _ (call target : TopCall) (old : Graph) (made : Made) (start : Starts text call.top call.args old) (made_is : made ≡ made_of old) where
     started_ : Progress
-    started_ = with_call used starts call.top call.args old made
+    started_ = with_called_graph used starts call.top call.args old made
 
     change_refused : (words : List (List ℕ)) → IsCallRefusal started_ (changes 0 []) target.top target.args words → RefusesPlan text call target words
     unfolding used started_
@@ -169,13 +170,13 @@ module _ (file text : List ℕ) (tree : Tree) (checked : IsChecked text tree) wh
             (subst (λ m. IsRefusal old new [] m e) made_is (subst (λ g. IsRefusal g new [] made e) (sym (head_is old other [] earlier graphs)) full)))
 
     from_change :
-        (fetches : List Fetch) (answer : Answer) → Follows planning started_ (Rattle.command_runs.specs.Lines.calls (changes 0 []) target.top target.args ∷ []) fetches answer
+        (fetches : List Fetch) (answer : Answer) → FollowsLines planning started_ (Rattle.command_runs.specs.Lines.calls (changes 0 []) target.top target.args ∷ []) fetches answer
         → Ended file (queries.Plan call target) text fetches answer
     unfolding used started_
     from_change _ _ not_judged = (refl, short)
     from_change _ _ (refused words why) = (refl, refuses words (change_refused words why))
     from_change _ _ (gives next fetches answer leads then_) =
-        let end = end_of planning (with_call started_ (changes 0 []) target.top target.args leads.graph leads.made) fetches answer (subst (λ n. Follows planning n [] fetches answer) leads.is_next then_) in
+        let end = end_of planning (with_called_graph started_ (changes 0 []) target.top target.args leads.graph leads.made) fetches answer (subst (λ n. FollowsLines planning n [] fetches answer) leads.is_next then_) in
         (end.0, by end.1)
       where
         new : Graph
@@ -184,7 +185,7 @@ module _ (file text : List ℕ) (tree : Tree) (checked : IsChecked text tree) wh
         can : CanPlan old new [] (made_of old)
         can = subst (λ m. CanPlan old new [] m) made_is (subst (λ g. CanPlan g new [] made) (sym (head_is old leads.allowed.0 [] leads.allowed.1 leads.allowed.2)) leads.allowed.3.0)
 
-        by : (answer ≡ refusal no_memory) ⊎ Concludes planning (with_call started_ (changes 0 []) target.top target.args leads.graph leads.made) answer → EndsAs file (queries.Plan call target) text answer
+        by : (answer ≡ refusal no_memory) ⊎ Concludes planning (with_called_graph started_ (changes 0 []) target.top target.args leads.graph leads.made) answer → EndsAs file (queries.Plan call target) text answer
         by (inl is) = subst (EndsAs file (queries.Plan call target) text) (sym is) short
         by (inr (o, n, earlier, graphs, (steps, is_plan, what))) =
             let new_is = head_is new n (old ∷ []) (o ∷ earlier) graphs in
@@ -205,16 +206,16 @@ module _ (file text : List ℕ) (tree : Tree) (checked : IsChecked text tree) wh
 
   from_plan :
       (call target : TopCall) (fetches : List Fetch) (answer : Answer)
-      → Follows planning used (calls_of (queries.Plan call target)) fetches answer → Ended file (queries.Plan call target) text fetches answer
+      → FollowsLines planning used (calls_of (queries.Plan call target)) fetches answer → Ended file (queries.Plan call target) text fetches answer
   unfolding used started_
   from_plan call target _ _ not_judged = (refl, short)
   from_plan call target _ _ (refused words why) = (refl, refuses words (starts_not words (start_refused call.top call.args words why)))
   from_plan call target _ _ (gives next fetches answer leads then_) =
       from_change call target leads.graph leads.made (start_of call.top call.args next leads) (leads.allowed.1 ∙ first_made leads.graph) fetches answer
-      (subst (λ n. Follows planning n (Rattle.command_runs.specs.Lines.calls (changes 0 []) target.top target.args ∷ []) fetches answer) leads.is_next then_)
+      (subst (λ n. FollowsLines planning n (Rattle.command_runs.specs.Lines.calls (changes 0 []) target.top target.args ∷ []) fetches answer) leads.is_next then_)
 
   pub from_calls :
-      (query : Query) (fetches : List Fetch) (answer : Answer) → Follows (aim_of query) (with_description begun file tree) (calls_of query) fetches answer
+      (query : Query) (fetches : List Fetch) (answer : Answer) → FollowsLines (aim_of query) (with_description begun file tree) (calls_of query) fetches answer
       → Ended file query text fetches answer
   unfolding used
   from_calls (queries.Graph call) fetches answer follows = from_graph call fetches answer follows

@@ -15,14 +15,14 @@ use Rattle.command_runs.specs.declared.fetched.Fetched.TheVariants.{Held, TooLon
 use Rattle.command_runs.specs.declared.query.Query.{Query}
 use Rattle.command_runs.specs.declared.query.Query.TheVariants as queries
 use Rattle.command_runs.specs.Commands.{RefusesEvents, RefusesReport, RefusesStatements, TellsReport, calls_of, course_of_query, in_summary, OfMadeFiles}
-use Rattle.command_runs.specs.Courses.{Course, Says, AfterFetch, not_fetched, fetched_alone, failed, too_long, leads_on, After, not_judged, refused, gives}
+use Rattle.command_runs.specs.Courses.{FetchCourse, SaysAlone, AfterFetch, not_fetched, fetched_alone, failed, too_long, leads_on, After, not_judged, refused, gives}
 use Rattle.command_runs.specs.Descriptions.{IsTextRefusal, IsChecked}
 use Rattle.command_runs.specs.Failures.{Uses, FailsLast}
 use Rattle.command_runs.specs.Fetches.{Fetch, WasHeld, failed_names, fetch_of, file_limit, report_limit}
-use Rattle.command_runs.specs.Lines.{Line, uses, calls, does, Aim, drawing, planning, replaying, running, Progress, begun, with_description, with_statement, IsCallRefusal, Leads, Concludes, Follows}
+use Rattle.command_runs.specs.Lines.{RunLine, uses, calls, does, Aim, drawing, planning, replaying, running, Progress, begun, with_description, with_statement, IsCallRefusal, CallLeads, Concludes, FollowsLines}
 use Rattle.command_runs.specs.Outcomes.{NamesFile}
 use Rattle.command_runs.specs.Replays.{IsReplayed, one_denied, all_steps}
-use Rattle.command_runs.specs.Scripts.{lines_of}
+use Rattle.command_runs.specs.Scripts.{lines_of_script}
 use Rattle.command_runs.specs.Runs.{AnswersWords, asked}
 use Rattle.command_runs.specs.Runs as runs
 use Rattle.command_runs.proofs.Inverting.{OfStep, from_script, shown_text}
@@ -43,7 +43,7 @@ concludes_well running p answer why (r, is, what) same = cc (what, same)
 -- ---- the single steps
 
 module _ (Named : List ℕ → Type 0) where
-  of_says : (what : Answer) (fetches : List Fetch) (answer : Answer) → ((file : List ℕ) → what ≢ refusal (read_fault file)) → Says what fetches answer → FailsLast Named fetches answer
+  of_says : (what : Answer) (fetches : List Fetch) (answer : Answer) → ((file : List ℕ) → what ≢ refusal (read_fault file)) → SaysAlone what fetches answer → FailsLast Named fetches answer
   of_says what fetches answer other says = inl (ap failed_names says.0, λ file is. other file (sym says.1 ∙ is))
 
   more_fetches : (fetch : Fetch) (fetches : List Fetch) (answer : Answer) → failed_names (fetch ∷ []) ≡ [] → failed_names (fetch ∷ fetches) ≡ failed_names fetches
@@ -60,7 +60,7 @@ module _ (Named : List ℕ → Type 0) where
   })
 
   of_fetch :
-      (name : List ℕ) (limit : ℕ) (refuse : List (List ℕ) → Answer) (Then : List ℕ → Course) (fetches : List Fetch) (answer : Answer) → Named name
+      (name : List ℕ) (limit : ℕ) (refuse : List (List ℕ) → Answer) (Then : List ℕ → FetchCourse) (fetches : List Fetch) (answer : Answer) → Named name
       → ((words : List (List ℕ)) (file : List ℕ) → refuse words ≢ refusal (read_fault file))
       → ((bytes : List ℕ) (fs : List Fetch) (a : Answer) → fetches ≡ record { name = name; limit = limit; given = Held bytes } ∷ fs → Then bytes fs a → FailsLast Named fs a)
       → AfterFetch name limit refuse Then fetches answer → FailsLast Named fetches answer
@@ -76,7 +76,7 @@ module _ (Named : List ℕ → Type 0) where
       more_fetches (record { name = name; limit = limit; given = Held bytes }) fetches answer refl refl (λ before none. none) (rest bytes fetches answer refl then_)
 
   of_step :
-      {A : Type 0} (Refuses : List (List ℕ) → Type 0) (refuse : List (List ℕ) → Answer) (Gives : A → Type 0) (Then : A → Course) (fetches : List Fetch) (answer : Answer)
+      {A : Type 0} (Refuses : List (List ℕ) → Type 0) (refuse : List (List ℕ) → Answer) (Gives : A → Type 0) (Then : A → FetchCourse) (fetches : List Fetch) (answer : Answer)
       → ((words : List (List ℕ)) (file : List ℕ) → refuse words ≢ refusal (read_fault file))
       → ((a : A) (fs : List Fetch) (ans : Answer) → Gives a → Then a fs ans → FailsLast Named fs ans)
       → After Refuses refuse Gives Then fetches answer → FailsLast Named fetches answer
@@ -93,20 +93,20 @@ module _ (Named : List ℕ → Type 0) where
   -- ---- lines
 
   pub of_lines :
-      (aim : Aim) (p : Progress) (lines : List Line) (fetches : List Fetch) (answer : Answer) → ((file : List ℕ) → Uses lines file → Named file)
-      → Follows aim p lines fetches answer → FailsLast Named fetches answer
+      (aim : Aim) (p : Progress) (lines : List RunLine) (fetches : List Fetch) (answer : Answer) → ((file : List ℕ) → Uses lines file → Named file)
+      → FollowsLines aim p lines fetches answer → FailsLast Named fetches answer
   of_lines aim p [] fetches answer named follows =
-      of_step (λ words. ⊥) (λ words. refusal (description p.file words)) (Concludes aim p) Says fetches answer (other_refusal p.file)
+      of_step (λ words. ⊥) (λ words. refusal (description p.file words)) (Concludes aim p) SaysAlone fetches answer (other_refusal p.file)
       (λ a fs ans concludes says. of_says a fs ans (λ file. concludes_well aim p a (read_fault file) concludes) says) follows
   of_lines aim p (uses file ∷ lines) fetches answer named follows =
       let refuse = λ (words : List (List ℕ)). refusal (description file words) in
       of_fetch file file_limit refuse
-      (λ bytes. After (IsTextRefusal bytes) refuse (IsChecked bytes) (λ tree. Follows aim (with_description p file tree) lines)) fetches answer
+      (λ bytes. After (IsTextRefusal bytes) refuse (IsChecked bytes) (λ tree. FollowsLines aim (with_description p file tree) lines)) fetches answer
       (named file (inl refl)) (other_refusal file)
-      (λ bytes fs a here then_. of_step (IsTextRefusal bytes) refuse (IsChecked bytes) (λ tree. Follows aim (with_description p file tree) lines) fs a (other_refusal file)
+      (λ bytes fs a here then_. of_step (IsTextRefusal bytes) refuse (IsChecked bytes) (λ tree. FollowsLines aim (with_description p file tree) lines) fs a (other_refusal file)
       (λ tree gs b checked rest. of_lines aim (with_description p file tree) lines gs b (λ other is. named other (inr is)) rest) then_) follows
   of_lines aim p (calls deed name args ∷ lines) fetches answer named follows =
-      of_step (IsCallRefusal p deed name args) (λ words. refusal (description p.file words)) (Leads p deed name args) (λ next. Follows aim next lines) fetches answer
+      of_step (IsCallRefusal p deed name args) (λ words. refusal (description p.file words)) (CallLeads p deed name args) (λ next. FollowsLines aim next lines) fetches answer
       (other_refusal p.file) (λ next fs a leads rest. of_lines aim next lines fs a named rest) follows
   of_lines aim p (does what ∷ lines) fetches answer named follows = of_lines aim (with_statement p what) lines fetches answer named follows
 
@@ -182,16 +182,16 @@ of_words words _ _ (asked (commands.Replay file name) fetches answer asks course
 of_words words _ _ (asked (commands.Upgrade file) fetches answer asks course) =
     let Named = NamesFile (WasHeld fetches) words in
     let refuse = λ (ws : List (List ℕ)). refusal (script file ws) in
-    let Then = λ (bytes : List ℕ). After (RefusesReport bytes) refuse (TellsReport bytes) (λ r. Says (report r)) in
+    let Then = λ (bytes : List ℕ). After (RefusesReport bytes) refuse (TellsReport bytes) (λ r. SaysAlone (report r)) in
     of_fetch Named file report_limit refuse Then fetches answer (commands.Upgrade file, asks, refl) (other_script Named file)
-    (λ bytes fs a here then_. of_step Named (RefusesReport bytes) refuse (TellsReport bytes) (λ r. Says (report r)) fs a (other_script Named file)
+    (λ bytes fs a here then_. of_step Named (RefusesReport bytes) refuse (TellsReport bytes) (λ r. SaysAlone (report r)) fs a (other_script Named file)
     (λ r gs b is says. of_says Named (report r) gs b (λ other same. cc) says) then_) course
 of_words words _ _ (asked (commands.Big lanes) fetches answer asks course) = inl (ap failed_names course.0, not_unread lanes answer course.1)
 of_words words _ _ (asked (commands.Step name) fetches answer asks course) =
     let Named = NamesFile (WasHeld fetches) words in
     let refuse = λ (ws : List (List ℕ)). refusal (script name ws) in
-    let Then = λ (bytes : List ℕ). After (RefusesStatements bytes) refuse (IsScript bytes) (λ lines. Follows running begun (lines_of lines.lines)) in
+    let Then = λ (bytes : List ℕ). After (RefusesStatements bytes) refuse (IsScript bytes) (λ lines. FollowsLines running begun (lines_of_script lines.lines)) in
     of_fetch Named name file_limit refuse Then fetches answer (commands.Step name, asks, inl refl) (other_script Named name)
-    (λ bytes fs a here then_. of_step Named (RefusesStatements bytes) refuse (IsScript bytes) (λ lines. Follows running begun (lines_of lines.lines)) fs a (other_script Named name)
-    (λ lines gs b is rest. of_lines Named running begun (lines_of lines.lines) gs b
+    (λ bytes fs a here then_. of_step Named (RefusesStatements bytes) refuse (IsScript bytes) (λ lines. FollowsLines running begun (lines_of_script lines.lines)) fs a (other_script Named name)
+    (λ lines gs b is rest. of_lines Named running begun (lines_of_script lines.lines) gs b
     (λ file used. (commands.Step name, asks, inr (bytes, lines, held name bytes fetches fs here, is, used))) rest) then_) course

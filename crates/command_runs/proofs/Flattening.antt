@@ -34,7 +34,7 @@ use Rattle.command_runs.specs.declared.fetched.Fetched.TheVariants.{Failed}
 use Rattle.command_runs.specs.Fetches.{Fetch, failed_names, fetch_of, file_limit, Gave, report_fetch, report_limit}
 use Rattle.command_runs.specs.OneFile.{DescriptionAnswers, cannot_read, is_too_long, refused, answered, ScriptAnswers, cannot_read_script, script_too_long, script_at_fault, ReportAnswers, cannot_read_report, report_too_long, report_at_fault, upgraded}
 use Rattle.command_runs.specs.Runs.{Written, whole, stopped}
-use Rattle.command_runs.specs.Outcomes.{Ends, Wants, Flattened, Planned, Replayed, Refused, too_long, at_fault, ScriptRefused, events_too_long, events_at_fault, HoldsFile, MustRefuse, MustRefuseScript, NothingRefuses, EndsAsGiven, Upgraded, ReportRefused, is_longer, has_fault, RefusesScript, RefusesDescription, MustRefuseReport, NothingRefusesReport}
+use Rattle.command_runs.specs.Outcomes.{Ends, Wants, Flattened, Planned, Replayed, DescriptionRefused, too_long, at_fault, ScriptRefused, events_too_long, events_at_fault, HoldsFile, MustRefuse, MustRefuseScript, NothingRefuses, EndsAsGiven, Upgraded, ReportRefused, is_longer, has_fault, RefusesScript, RefusesDescription, MustRefuseReport, NothingRefusesReport}
 use Rattle.command_runs.proofs.Inverting.{Answer, of_words, AnswersCommand, no_form, answered_to, no_memory, Ran, OfDescription, OfScript, OfReplay, OfReport}
 use Rattle.change_script.proofs.EventFileLaws as scripts
 use Rattle.big_files.specs.BigFiles.{made_files, script_name}
@@ -154,14 +154,14 @@ module _ (files : Option Files) (taken taken' : Option (List ℕ)) where
 
   of_refusal :
       (file : List ℕ) (query : Query) (given : Fetched) (own : Status) (text : List ℕ) → DescriptionAnswers file query given own text → own ≡ status.Description
-      → Gave files (fetch_of file given) → taken' ≡ with_bytes taken text → Refused files file query taken taken'
+      → Gave files (fetch_of file given) → taken' ≡ with_bytes taken text → DescriptionRefused files file query taken taken'
   of_refusal file query _ _ _ cannot_read is gave took = cc
   of_refusal file query _ _ _ is_too_long is gave took = too_long (long_told files file gave) took
   of_refusal file query _ _ _ (refused text why refuses) is gave took =
       at_fault text why (held_told files file text gave) (held_within files file text gave) refuses took
   of_refusal file query _ _ _ (answered text own written gives) is gave took = by (gives_status query text own written gives)
     where
-      by : (own ≡ status.Ok) ⊎ (own ≡ status.Denied) → Refused files file query taken taken'
+      by : (own ≡ status.Ok) ⊎ (own ≡ status.Denied) → DescriptionRefused files file query taken taken'
       by (inl ok) = cc (ok, is)
       by (inr denial) = cc (denial, is)
 

@@ -27,11 +27,11 @@ use Rattle.command_runs.specs.Commands.{course_of, course_of_script, in_summary,
 use Rattle.command_runs.specs.Courses.{not_fetched, fetched_alone, failed, too_long, leads_on, not_judged}
 use Rattle.command_runs.specs.Courses as courses
 use Rattle.command_runs.specs.Fetches.{Fetch, fetch_of, failed_names, Gave, report_fetch}
-use Rattle.command_runs.specs.Lines.{Line, uses, calls, does, Progress, begun, with_description, with_statement, running, Follows}
+use Rattle.command_runs.specs.Lines.{RunLine, uses, calls, does, Progress, begun, with_description, with_statement, running, FollowsLines}
 use Rattle.command_runs.specs.OneFile.{DescriptionAnswers, cannot_read, is_too_long, refused, answered, ScriptAnswers, cannot_read_script, script_too_long, script_at_fault, StatementsAnswers, cannot_read_statements, statements_too_long, statements_at_fault, ReportAnswers, cannot_read_report, report_too_long, report_at_fault, upgraded}
 use Rattle.command_runs.specs.Runs.{Written, AnswersWords, asked, Runs}
 use Rattle.command_runs.specs.Runs as runs
-use Rattle.command_runs.specs.Scripts.{lines_of}
+use Rattle.command_runs.specs.Scripts.{lines_of_script}
 use Rattle.command_words.proofs.WordsLaws.{one_command}
 use Rattle.command_runs.proofs.Courses.{OfQuery, out_of_memory, of_description, from_query}
 use Rattle.command_runs.proofs.Wanting.{gives_status}
@@ -63,7 +63,7 @@ run_own n = run_own_with (n == 7) (n == 8)
 
 -- of lines that are run
 follows_status :
-    (p : Progress) (lines : List Line) (fetches : List Fetch) (answer : values.Answer) → Follows running p lines fetches answer
+    (p : Progress) (lines : List RunLine) (fetches : List Fetch) (answer : values.Answer) → FollowsLines running p lines fetches answer
     → Own (status_of answer) ⊎ (answer ≡ refusal values.no_memory)
 follows_status p [] _ _ not_judged = inr refl
 follows_status p [] _ _ (courses.refused words never) = absurd never
@@ -127,7 +127,7 @@ pub data OfStep (show : Report → List ℕ) (name : List ℕ) : List Fetch → 
       (given : Fetched) (own : Status) (text : List ℕ) → StatementsAnswers name given own text → OfStep show name (fetch_of name given ∷ []) own text
   of_lines :
       (bytes : List ℕ) (parsed : Script) (fetches : List Fetch) (answer : values.Answer) → IsScript bytes parsed
-      → Follows running begun (lines_of parsed.lines) fetches answer → Own (status_of answer)
+      → FollowsLines running begun (lines_of_script parsed.lines) fetches answer → Own (status_of answer)
       → OfStep show name (fetch_of name (Held bytes) ∷ fetches) (status_of answer) (shown_text show answer)
 
 -- an answer of a script that was made, by its own fetches
@@ -162,7 +162,7 @@ module _ (show : Report → List ℕ) (name : List ℕ) where
       inl (of_statements (Held bytes) status.Script (script_line name words)
       (subst (λ w. StatementsAnswers name (Held bytes) status.Script (script_line name w)) (sym is) (statements_at_fault bytes fault first)))
   from_script _ _ (leads_on bytes _ _ (courses.gives parsed fetches answer is follows)) =
-      by (follows_status begun (lines_of parsed.lines) fetches answer follows)
+      by (follows_status begun (lines_of_script parsed.lines) fetches answer follows)
     where
       by : Own (status_of answer) ⊎ (answer ≡ refusal values.no_memory)
           → OfStep show name (fetch_of name (Held bytes) ∷ fetches) (status_of answer) (shown_text show answer) ⊎ (answer ≡ refusal values.no_memory)

@@ -9,13 +9,13 @@ use Rattle.command_runs.specs.declared.fetched.Fetched.TheVariants.{Held, TooLon
 use Rattle.command_runs.specs.Courses.{not_fetched, fetched_alone, failed, too_long, leads_on, not_judged, refused, gives}
 use Rattle.command_runs.specs.Failures.{Uses}
 use Rattle.command_runs.specs.Fetches.{Fetch, fetch_of, failed_names, Gave}
-use Rattle.command_runs.specs.Lines.{Deed, Line, uses, calls, does, Aim, Progress, with_description, with_statement, Leads, Concludes, Follows}
+use Rattle.command_runs.specs.Lines.{Deed, RunLine, uses, calls, does, Aim, Progress, with_description, with_statement, CallLeads, Concludes, FollowsLines}
 use Rattle.command_runs.specs.Outcomes.{HoldsFile, TellsTooLong}
-use Rattle.command_runs.specs.Ways.{LeadsIn, LeadTo, too_long_to_use, at_fault, leads_nowhere, AreRefused}
+use Rattle.command_runs.specs.Ways.{UseLeads, LeadTo, too_long_to_use, at_fault, leads_nowhere, AreRefused}
 use Rattle.command_runs.proofs.Telling.{held_told, held_within, long_told}
 use Rattle.command_runs.proofs.WayLaws.{refused_at, refused_below_use, refused_below_call, refused_below_deed}
 
-pub data LinesEnd (files : Option Files) (aim : Aim) (p : Progress) (lines : List Line) : List Fetch → Answer → Type 0 where
+pub data LinesEnd (files : Option Files) (aim : Aim) (p : Progress) (lines : List RunLine) : List Fetch → Answer → Type 0 where
   short : (fetches : List Fetch) → LinesEnd files aim p lines fetches (refusal no_memory)
   unread :
       (file : List ℕ) (fetches : List Fetch) → Uses lines file → failed_names fetches ≡ file ∷ []
@@ -28,9 +28,9 @@ pub data LinesEnd (files : Option Files) (aim : Aim) (p : Progress) (lines : Lis
       → failed_names fetches ≡ [] → LinesEnd files aim p lines fetches answer
 
 module _ (files : Option Files) where
-  module _ (aim : Aim) (p : Progress) (lines : List Line) where
+  module _ (aim : Aim) (p : Progress) (lines : List RunLine) where
     below_use :
-        (file bytes : List ℕ) (tree : Tree) (fetches : List Fetch) (answer : Answer) → LeadsIn (HoldsFile files) file tree
+        (file bytes : List ℕ) (tree : Tree) (fetches : List Fetch) (answer : Answer) → UseLeads (HoldsFile files) file tree
         → LinesEnd files aim (with_description p file tree) lines fetches answer
         → LinesEnd files aim p (uses file ∷ lines) (fetch_of file (Held bytes) ∷ fetches) answer
     below_use file bytes tree _ _ leads (short fetches) = short (fetch_of file (Held bytes) ∷ fetches)
@@ -42,7 +42,7 @@ module _ (files : Option Files) where
         conclude end (fetch_of file (Held bytes) ∷ fetches) answer (tree, leads, lead) concludes none
 
     below_call :
-        (deed : Deed) (name : List ℕ) (args : List ℤ) (next : Progress) (fetches : List Fetch) (answer : Answer) → Leads p deed name args next
+        (deed : Deed) (name : List ℕ) (args : List ℤ) (next : Progress) (fetches : List Fetch) (answer : Answer) → CallLeads p deed name args next
         → LinesEnd files aim next lines fetches answer → LinesEnd files aim p (calls deed name args ∷ lines) fetches answer
     below_call deed name args next _ _ leads (short fetches) = short fetches
     below_call deed name args next _ _ leads (unread other fetches used names) = unread other fetches used names
@@ -63,7 +63,7 @@ module _ (files : Option Files) where
     below_deed what _ _ (conclude end fetches answer lead concludes none) = conclude end fetches answer lead concludes none
 
   pub lines_end :
-      (aim : Aim) (p : Progress) (lines : List Line) (fetches : List Fetch) (answer : Answer) → Follows aim p lines fetches answer
+      (aim : Aim) (p : Progress) (lines : List RunLine) (fetches : List Fetch) (answer : Answer) → FollowsLines aim p lines fetches answer
       → AllByRecursion (Gave files) fetches → LinesEnd files aim p lines fetches answer
   lines_end aim p [] _ _ not_judged told = short []
   lines_end aim p [] _ _ (refused words never) told = absurd never

@@ -12,9 +12,9 @@ use Rattle.change_script.specs.declared.script.Script.{Script}
 use Rattle.change_script.specs.declared.script.ScriptLine.{ScriptLine}
 use Rattle.change_law.specs.Scripts.{Above, nothing_above, more_made, Says, SayAll, StatementsOf}
 use Rattle.change_law.specs.Statements.{Statement, start, change, run, finish, show}
-use Rattle.command_runs.specs.Lines.{Deed, starts, changes, Progress, begun, with_description, with_call, with_statement, Leads}
-use Rattle.command_runs.specs.Scripts.{line_of, lines_of}
-use Rattle.command_runs.specs.Ways.{LeadsIn, LeadTo, Elaborates}
+use Rattle.command_runs.specs.Lines.{Deed, starts, changes, Progress, begun, with_description, with_called_graph, with_statement, CallLeads}
+use Rattle.command_runs.specs.Scripts.{lines_of_body, lines_of_script}
+use Rattle.command_runs.specs.Ways.{UseLeads, LeadTo, Elaborates}
 
 module _ (Holds : List ℕ → List ℕ → Type 0) where
   -- what stands above the lines, as the law of reports has it
@@ -22,7 +22,7 @@ module _ (Holds : List ℕ → List ℕ → Type 0) where
     pub file_is : above.file ≡ p.file
     pub made_is : above.made ≡ p.made
     pub graph_is : (g : Graph) (earlier : List Graph) → p.graphs ≡ g ∷ earlier → above.graph ≡ g
-    pub used_is : (tree : Tree) → p.used ≡ Some tree → LeadsIn Holds p.file tree
+    pub used_is : (tree : Tree) → p.used ≡ Some tree → UseLeads Holds p.file tree
 
   -- what lines say that lead from a progress to an end
   record Said (lines : List ScriptLine) (p end : Progress) (above : Above) : Type 0 where
@@ -41,7 +41,7 @@ module _ (Holds : List ℕ → List ℕ → Type 0) where
   -- the component that a line calls elaborates to its graph
   elaborates :
       (p : Progress) (above : Above) (deed : Deed) (name : List ℕ) (args : List ℤ) (next : Progress) → Stands p above
-      → (leads : Leads p deed name args next) → Elaborates Holds above.file name args leads.graph
+      → (leads : CallLeads p deed name args next) → Elaborates Holds above.file name args leads.graph
   elaborates p above deed name args next stands leads =
       let used = stands.used_is leads.tree leads.is_used in
       subst (λ file. Elaborates Holds file name args leads.graph) (sym stands.file_is)
@@ -59,11 +59,11 @@ module _ (Holds : List ℕ → List ℕ → Type 0) where
   head_is : (g h : Graph) (gs hs : List Graph) → g ∷ gs ≡ h ∷ hs → g ≡ h
   head_is g h gs hs is = cc
 
-  module _ (lines : List ScriptLine) (end : Progress) (rest_said : (p : Progress) (above : Above) → Stands p above → LeadTo Holds p (lines_of lines) end → Said lines p end above) where
+  module _ (lines : List ScriptLine) (end : Progress) (rest_said : (p : Progress) (above : Above) → Stands p above → LeadTo Holds p (lines_of_script lines) end → Said lines p end above) where
     -- a line of no call, behind which as much was made
     first_plain :
         (body : Body) (own : List Statement) (p next : Progress) (above below : Above) → Says (Elaborates Holds) above body own below
-        → next.statements ≡ p.statements ++ own → Stands next below → LeadTo Holds next (lines_of lines) end → FirstSaid body lines p end above
+        → next.statements ≡ p.statements ++ own → Stands next below → LeadTo Holds next (lines_of_script lines) end → FirstSaid body lines p end above
     first_plain body own p next above below said adds stands lead =
         let r = rest_said next below stands lead in
         record {
@@ -77,7 +77,7 @@ module _ (Holds : List ℕ → List ℕ → Type 0) where
 
     -- each line
     first :
-        (body : Body) (p : Progress) (above : Above) → Stands p above → LeadTo Holds p (line_of body ++ lines_of lines) end
+        (body : Body) (p : Progress) (above : Above) → Stands p above → LeadTo Holds p (lines_of_body body ++ lines_of_script lines) end
         → FirstSaid body lines p end above
     first (bodies.File file) p above stands (tree, leads, lead) =
         first_plain (bodies.File file) [] p (with_description p file tree) above (record above { file = file }) (refl, refl) (sym (append-nil p.statements))
@@ -85,11 +85,11 @@ module _ (Holds : List ℕ → List ℕ → Type 0) where
           file_is = refl;
           made_is = stands.made_is;
           graph_is = stands.graph_is;
-          used_is = λ other is. subst (λ t. LeadsIn Holds file t) (same_Some tree other is) leads;
+          used_is = λ other is. subst (λ t. UseLeads Holds file t) (same_Some tree other is) leads;
         }) lead
     first (bodies.Start name args) p above stands (next, leads, lead) =
         let g = leads.graph in
-        first_plain (bodies.Start name args) (start name args g ∷ []) p (with_call p starts name args g leads.made) above
+        first_plain (bodies.Start name args) (start name args g ∷ []) p (with_called_graph p starts name args g leads.made) above
         (record above { graph = g; made = more_made above.made (length g.nodes) (length (ports g.nodes)) })
         (record {
           graph = g;
@@ -103,13 +103,13 @@ module _ (Holds : List ℕ → List ℕ → Type 0) where
           made_is = ap (λ m. more_made m (length g.nodes) (length (ports g.nodes))) stands.made_is ∙ sym leads.allowed.1;
           graph_is = λ h earlier is. head_is g h p.graphs earlier is;
           used_is = stands.used_is;
-        }) (subst (λ q. LeadTo Holds q (lines_of lines) end) leads.is_next lead)
+        }) (subst (λ q. LeadTo Holds q (lines_of_script lines) end) leads.is_next lead)
     first (bodies.Change name args within moves) p above stands (next, leads, lead) =
         let g = leads.graph in
         let can = leads.allowed.3.0 in
         let old_is = stands.graph_is leads.allowed.0 leads.allowed.1 leads.allowed.2 in
         first_plain (bodies.Change name args within moves) (change name args g within moves ∷ []) p
-        (with_call p (changes within moves) name args g leads.made) above (record above { graph = g; made = more_made above.made can.nodes can.ports })
+        (with_called_graph p (changes within moves) name args g leads.made) above (record above { graph = g; made = more_made above.made can.nodes can.ports })
         (record {
           graph = g;
           elaborates = elaborates p above (changes within moves) name args next stands leads;
@@ -128,7 +128,7 @@ module _ (Holds : List ℕ → List ℕ → Type 0) where
           made_is = ap (λ m. more_made m can.nodes can.ports) stands.made_is ∙ sym leads.allowed.3.1;
           graph_is = λ h earlier is. head_is g h p.graphs earlier is;
           used_is = stands.used_is;
-        }) (subst (λ q. LeadTo Holds q (lines_of lines) end) leads.is_next lead)
+        }) (subst (λ q. LeadTo Holds q (lines_of_script lines) end) leads.is_next lead)
     first (bodies.Run k) p above stands lead = first_plain (bodies.Run k) (run k ∷ []) p (with_statement p (run k)) above above (refl, refl) refl (same_stands p (run k) above stands) lead
     first (bodies.Finish n) p above stands lead =
         first_plain (bodies.Finish n) (finish n ∷ []) p (with_statement p (finish n)) above above (refl, refl) refl (same_stands p (finish n) above stands) lead
@@ -136,7 +136,7 @@ module _ (Holds : List ℕ → List ℕ → Type 0) where
     first bodies.Stop p above stands lead = first_plain bodies.Stop [] p p above above (refl, refl) (sym (append-nil p.statements)) stands lead
 
   all_lines :
-      (lines : List ScriptLine) (end p : Progress) (above : Above) → Stands p above → LeadTo Holds p (lines_of lines) end → Said lines p end above
+      (lines : List ScriptLine) (end p : Progress) (above : Above) → Stands p above → LeadTo Holds p (lines_of_script lines) end → Said lines p end above
   all_lines [] end p above stands lead =
       record { own = []; all_said = refl; are = ap (λ (q : Progress). q.statements) lead ∙ sym (append-nil p.statements) }
   all_lines (line ∷ lines) end p above stands lead =
@@ -148,7 +148,7 @@ module _ (Holds : List ℕ → List ℕ → Type 0) where
       }
 
   pub say_statements :
-      (script : Script) (end : Progress) → LeadTo Holds begun (lines_of script.lines) end → StatementsOf (Elaborates Holds) script end.statements
+      (script : Script) (end : Progress) → LeadTo Holds begun (lines_of_script script.lines) end → StatementsOf (Elaborates Holds) script end.statements
   say_statements script end lead =
       let at_first : Stands begun nothing_above = record {
         file_is = refl;

@@ -23,7 +23,7 @@ use Rattle.command_runs.specs.OneFile.{StatementsAnswers, cannot_read_statements
 use Rattle.command_runs.specs.Outcomes as outcomes
 use Rattle.command_runs.specs.Outcomes.{HoldsFile, TellsTooLong, MentionsFile, IsScriptOf, IsRunStatus, LineRefused, StatementsRefused, script_too_long, script_at_fault}
 use Rattle.command_runs.specs.RunReports.{IsReportOf}
-use Rattle.command_runs.specs.Scripts.{lines_of}
+use Rattle.command_runs.specs.Scripts.{lines_of_script}
 use Rattle.command_runs.specs.Ways.{LeadTo, AreRefused}
 use Rattle.command_runs.proofs.Inverting.{OfStep, of_statements, of_lines, OfBig, Own, not_no_memory, shown_text}
 use Rattle.command_runs.proofs.LineEnds.{LinesEnd, short, stop, conclude, lines_end}
@@ -86,14 +86,14 @@ pub data ScriptEnds (show : Report → List ℕ) (files : Option Files) (name : 
       (given : Fetched) (own : Status) (text : List ℕ) → failed_names fetches ≡ failed_names (fetch_of name given ∷ []) → Gave files (fetch_of name given)
       → StatementsAnswers name given own text → ScriptEnds show files name fetches own text
   unread :
-      (script : Script) (file : List ℕ) → IsScriptOf files name script → Uses (lines_of script.lines) file → failed_names fetches ≡ file ∷ []
+      (script : Script) (file : List ℕ) → IsScriptOf files name script → Uses (lines_of_script script.lines) file → failed_names fetches ≡ file ∷ []
       → ScriptEnds show files name fetches status.ReadFault (read_fault_line file)
   refuses :
       (script : Script) (file : List ℕ) (words : List (List ℕ)) → IsScriptOf files name script
-      → AreRefused (HoldsFile files) (TellsTooLong files) (lines_of script.lines) begun file words → failed_names fetches ≡ []
+      → AreRefused (HoldsFile files) (TellsTooLong files) (lines_of_script script.lines) begun file words → failed_names fetches ≡ []
       → ScriptEnds show files name fetches status.Description (description_line file words)
   reports :
-      (script : Script) (end : Progress) (report : Report) → IsScriptOf files name script → LeadTo (HoldsFile files) begun (lines_of script.lines) end
+      (script : Script) (end : Progress) (report : Report) → IsScriptOf files name script → LeadTo (HoldsFile files) begun (lines_of_script script.lines) end
       → IsReportOf end.statements report → failed_names fetches ≡ []
       → ScriptEnds show files name fetches (run_status report.status) (show report)
 
@@ -102,12 +102,12 @@ pub script_ends :
     → AllByRecursion (Gave files) fetches → ScriptEnds show files name fetches own text
 script_ends show files name _ _ _ (of_statements given own text answer) told = is_none given own text refl told.0 answer
 script_ends show files name _ _ _ (of_lines bytes script fetches answer is follows own) told =
-    by fetches answer (lines_end files running begun (lines_of script.lines) fetches answer follows told.1) own
+    by fetches answer (lines_end files running begun (lines_of_script script.lines) fetches answer follows told.1) own
   where
     script_of : IsScriptOf files name script
     script_of = record { bytes = bytes; told = held_told files name bytes told.0; within = held_within files name bytes told.0; is_script = is }
 
-    by : (fs : List Fetch) (a : values.Answer) → LinesEnd files running begun (lines_of script.lines) fs a → Own (status_of a)
+    by : (fs : List Fetch) (a : values.Answer) → LinesEnd files running begun (lines_of_script script.lines) fs a → Own (status_of a)
         → ScriptEnds show files name (fetch_of name (Held bytes) ∷ fs) (status_of a) (shown_text show a)
     by _ _ (short fs) own = absurd (not_no_memory status.NoMemory own refl)
     by _ _ (lines.unread file fs used names) own = unread script file script_of used names

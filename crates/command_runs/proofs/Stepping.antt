@@ -28,7 +28,7 @@ use Rattle.command_runs.specs.OneFile.{cannot_read_statements, statements_too_lo
 use Rattle.command_runs.specs.Outcomes as outcomes
 use Rattle.command_runs.specs.Outcomes.{Ends, HoldsFile, TellsTooLong, IsScriptOf, IsRunStatus, EndsAsRun, MustRefuseStatements, MustRefuseLine, NothingRefusesLines}
 use Rattle.command_runs.specs.Runs.{Written, whole, stopped}
-use Rattle.command_runs.specs.Scripts.{lines_of}
+use Rattle.command_runs.specs.Scripts.{lines_of_script}
 use Rattle.command_runs.specs.Ways.{IsTextIn, AreRefused}
 use Rattle.command_runs.proofs.Inverting.{Answer, of_words, AnswersCommand, no_form, answered_to, no_memory, only_scripts, Ran}
 use Rattle.command_runs.proofs.WayLaws as ways
@@ -83,7 +83,7 @@ record Refusing (f : Files) (name : List ℕ) : Type 0 where
   pub is_script : IsScript bytes script
   pub used : List ℕ
   pub words : List (List ℕ)
-  pub refused : AreRefused (HoldsFile (Some f)) (TellsTooLong (Some f)) (lines_of script.lines) begun used words
+  pub refused : AreRefused (HoldsFile (Some f)) (TellsTooLong (Some f)) (lines_of_script script.lines) begun used words
 
 refusing : (f : Files) (name : List ℕ) → MustRefuseLine f (f name) → Refusing f name
 refusing f name must = by (f name) refl must
@@ -108,7 +108,7 @@ record Leading (f : Files) (name : List ℕ) : Type 0 where
   pub within : length bytes ≤ file_limit
   pub right : (fault : ScriptError) → ¬ IsScriptFault bytes fault
   pub none : (script : Script) (used : List ℕ) (words : List (List ℕ)) → IsScript bytes script
-      → ¬ AreRefused (HoldsFile (Some f)) (TellsTooLong (Some f)) (lines_of script.lines) begun used words
+      → ¬ AreRefused (HoldsFile (Some f)) (TellsTooLong (Some f)) (lines_of_script script.lines) begun used words
 
 leading : (f : Files) (name : List ℕ) → NothingRefusesLines f (f name) → Leading f name
 leading f name nothing = by (f name) refl nothing
@@ -165,8 +165,8 @@ module _ (show : Report → List ℕ) (f : Files) (name : List ℕ) (fetches : L
       of_end _ _ (refuses script file ws is are none) = refl
       of_end _ _ (reports script end report is lead is_report none) =
           absurd (ways.not_refused graphs (HoldsFile (Some f)) (TellsTooLong (Some f)) (λ file a b x y. same_content (f file) a b x y) (not_long f)
-          (lines_of script.lines) end r.used r.words lead
-          (subst (λ (s : Script). AreRefused (HoldsFile (Some f)) (TellsTooLong (Some f)) (lines_of s.lines) begun r.used r.words)
+          (lines_of_script script.lines) end r.used r.words lead
+          (subst (λ (s : Script). AreRefused (HoldsFile (Some f)) (TellsTooLong (Some f)) (lines_of_script s.lines) begun r.used r.words)
           (sym (one_script r.bytes r.script script r.holds r.is_script is)) r.refused))
 
   pub completed : NothingRefusesLines f (f name) → (own : Status) (text : List ℕ) → ScriptEnds show (Some f) name fetches own text → IsRunStatus own

@@ -17,10 +17,10 @@ use Rattle.command_words.specs.declared.words.Command.{Command}
 use Rattle.command_words.specs.declared.words.Command.TheVariants as commands
 use Rattle.command_runs.specs.declared.query.Query.{Query}
 use Rattle.command_runs.specs.declared.query.Query.TheVariants as queries
-use Rattle.command_runs.specs.Courses.{Course, Says, AfterFetch, After}
+use Rattle.command_runs.specs.Courses.{FetchCourse, SaysAlone, AfterFetch, After}
 use Rattle.command_runs.specs.Fetches.{Fetch, Gave, failed_names, file_limit, report_limit}
-use Rattle.command_runs.specs.Lines.{Line, uses, calls, draws, starts, changes, Aim, drawing, planning, replaying, running, begun, Follows}
-use Rattle.command_runs.specs.Scripts.{lines_of}
+use Rattle.command_runs.specs.Lines.{RunLine, uses, calls, draws, starts, changes, Aim, drawing, planning, replaying, running, begun, FollowsLines}
+use Rattle.command_runs.specs.Scripts.{lines_of_script}
 
 abbrev pub aim_of : Query → Aim
 aim_of (queries.Graph call) = drawing
@@ -29,15 +29,15 @@ aim_of (queries.Replay events) = replaying events.events
 
 -- Of a graph the component is drawn. For a plan a run starts with the first component and changes to the second,
 -- without moves and without waiting; and events begin with a start.
-abbrev pub calls_of : Query → List Line
+abbrev pub calls_of : Query → List RunLine
 calls_of (queries.Graph call) = calls draws call.top call.args ∷ []
 calls_of (queries.Plan call target) =
     calls starts call.top call.args ∷ calls (changes 0 []) target.top target.args ∷ []
 calls_of (queries.Replay events) = calls starts events.name events.args ∷ []
 
 -- what is wanted of the description in a file
-abbrev pub course_of_query : List ℕ → Query → Course
-course_of_query file query = Follows (aim_of query) begun (uses file ∷ calls_of query)
+abbrev pub course_of_query : List ℕ → Query → FetchCourse
+course_of_query file query = FollowsLines (aim_of query) begun (uses file ∷ calls_of query)
 
 -- the words of what refuses a file of events
 abbrev pub RefusesEvents : List ℕ → List (List ℕ) → Type 0
@@ -56,12 +56,12 @@ abbrev pub RefusesStatements : List ℕ → List (List ℕ) → Type 0
 RefusesStatements bytes words = (fault : ScriptError) × IsScriptFault bytes fault × (words ≡ script_words fault)
 
 -- what is asked for by the script of a name
-abbrev pub course_of_script : List ℕ → Course
+abbrev pub course_of_script : List ℕ → FetchCourse
 course_of_script name =
     let refuse = λ (words : List (List ℕ)). refusal (script name words) in
     AfterFetch name file_limit refuse
     (λ bytes. After (RefusesStatements bytes) refuse (IsScript bytes)
-    (λ lines. Follows running begun (lines_of lines.lines)))
+    (λ lines. FollowsLines running begun (lines_of_script lines.lines)))
 
 -- the answer with the summary of a run in place of its report
 abbrev pub in_summary : ℕ → Answer → Answer
@@ -79,12 +79,12 @@ pub record OfMadeFiles (lanes : ℕ) (answer : Answer) : Type 0 where
   pub is : answer ≡ in_summary lanes made
 
 -- By no fetch of the shelf.
-abbrev pub SumsUp : ℕ → Course
+abbrev pub SumsUp : ℕ → FetchCourse
 SumsUp lanes fetches answer = (fetches ≡ []) × OfMadeFiles lanes answer
 
-abbrev pub course_of : Command → Course
-course_of commands.Help = Says help
-course_of commands.Version = Says version
+abbrev pub course_of : Command → FetchCourse
+course_of commands.Help = SaysAlone help
+course_of commands.Version = SaysAlone version
 course_of (commands.Flat file call) = course_of_query file (queries.Graph call)
 course_of (commands.Plan file call target) = course_of_query file (queries.Plan call target)
 course_of (commands.Replay file name) =
@@ -95,6 +95,6 @@ course_of (commands.Replay file name) =
 course_of (commands.Upgrade file) =
     let refuse = λ (words : List (List ℕ)). refusal (script file words) in
     AfterFetch file report_limit refuse
-    (λ bytes. After (RefusesReport bytes) refuse (TellsReport bytes) (λ r. Says (report r)))
+    (λ bytes. After (RefusesReport bytes) refuse (TellsReport bytes) (λ r. SaysAlone (report r)))
 course_of (commands.Step name) = course_of_script name
 course_of (commands.Big lanes) = SumsUp lanes

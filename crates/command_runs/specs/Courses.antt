@@ -7,16 +7,16 @@ use Rattle.command_runs.specs.declared.fetched.Fetched.TheVariants.{Held, TooLon
 use Rattle.command_runs.specs.Fetches.{Fetch}
 
 -- the fetches in order, and the answer
-abbrev pub Course : Type 1
-Course = List Fetch → Answer → Type 0
+abbrev pub FetchCourse : Type 1
+FetchCourse = List Fetch → Answer → Type 0
 
 -- an answer, and no fetch
-abbrev pub Says : Answer → Course
-Says what fetches answer = (fetches ≡ []) × (answer ≡ what)
+abbrev pub SaysAlone : Answer → FetchCourse
+SaysAlone what fetches answer = (fetches ≡ []) × (answer ≡ what)
 
 -- A file is fetched, of which so many bytes are wanted at most: the fetch fails, and is the last; or the file is too
 -- long, which is refused; or its bytes lead on. Memory may run out before the fetch or behind it.
-pub data AfterFetch (name : List ℕ) (limit : ℕ) (refuse : List (List ℕ) → Answer) (Then : List ℕ → Course)
+pub data AfterFetch (name : List ℕ) (limit : ℕ) (refuse : List (List ℕ) → Answer) (Then : List ℕ → FetchCourse)
     : List Fetch → Answer → Type 0 where
   not_fetched : AfterFetch name limit refuse Then [] (refusal no_memory)
   fetched_alone :
@@ -35,7 +35,7 @@ pub data AfterFetch (name : List ℕ) (limit : ℕ) (refuse : List (List ℕ) �
 
 -- Something is judged: it is refused by the words of a fault; or it gives something that leads on. Memory may run out.
 pub data After {A : Type 0} (Refuses : List (List ℕ) → Type 0) (refuse : List (List ℕ) → Answer) (Gives : A → Type 0)
-    (Then : A → Course) : List Fetch → Answer → Type 0 where
+    (Then : A → FetchCourse) : List Fetch → Answer → Type 0 where
   not_judged : After Refuses refuse Gives Then [] (refusal no_memory)
   refused : (words : List (List ℕ)) → Refuses words → After Refuses refuse Gives Then [] (refuse words)
   gives :

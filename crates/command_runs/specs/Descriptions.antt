@@ -46,7 +46,7 @@ pub data IsTextRefusal (text : List ℕ) : List (List ℕ) → Type 0 where
 
 -- The graph of the component of a name with these arguments: no fault holds, and it is the one to which the
 -- description elaborates.
-pub record IsGraphOf (tree : Tree) (name : Name) (args : List ℤ) (graph : Graph) : Type 0 where
+pub record IsGraphOfCall (tree : Tree) (name : Name) (args : List ℤ) (graph : Graph) : Type 0 where
   pub no_fault : HasNoFault tree name args
   pub is_graph : ElaboratesTo tree name args graph
 
@@ -54,7 +54,7 @@ pub record IsGraphOf (tree : Tree) (name : Name) (args : List ℤ) (graph : Grap
 pub record HasGraph (text : List ℕ) (name : Name) (args : List ℤ) (graph : Graph) : Type 0 where
   pub tree : Tree
   pub checked : IsChecked text tree
-  pub is : IsGraphOf tree name args graph
+  pub is : IsGraphOfCall tree name args graph
 
 -- The words of what refuses a description, of which the component of a name is wanted with these arguments: what
 -- refuses its text, or else a fault of the elaboration.

@@ -3,10 +3,10 @@ use Rattle.std.specs.Prelude.{◌≡◌, ◌≢◌, ◌⊎◌, ℕ, List, [], �
 use Rattle.command_answers.specs.Answers.{Answer, refusal, read_fault, no_memory}
 use Rattle.command_runs.specs.declared.fetched.Fetched.TheVariants.{Failed}
 use Rattle.command_runs.specs.Fetches.{Fetch, failed_names}
-use Rattle.command_runs.specs.Lines.{Line, uses, calls, does}
+use Rattle.command_runs.specs.Lines.{RunLine, uses, calls, does}
 
 -- the lines use the file
-abbrev pub Uses : List Line → List ℕ → Type 0
+abbrev pub Uses : List RunLine → List ℕ → Type 0
 Uses [] name = ⊥
 Uses (uses file ∷ lines) name = (name ≡ file) ⊎ Uses lines name
 Uses (calls deed component args ∷ lines) name = Uses lines name

@@ -26,10 +26,10 @@ abbrev pub failed_names : List Fetch → List (List ℕ)
 failed_names fetches = flat_map failed_name fetches
 
 -- what is given of a file, or of a name that has none: its bytes where they keep the limit, and `TooLong` where not
-abbrev pub Holds : Option (List ℕ) → ℕ → Fetched → Type 0
-Holds file limit (Held bytes) = file ≡ Some bytes
-Holds file limit TooLong = IsSomeAnd file (λ bytes. limit < length bytes)
-Holds file limit Failed = Unit {0}
+abbrev pub IsGivenOf : Option (List ℕ) → ℕ → Fetched → Type 0
+IsGivenOf file limit (Held bytes) = file ≡ Some bytes
+IsGivenOf file limit TooLong = IsSomeAnd file (λ bytes. limit < length bytes)
+IsGivenOf file limit Failed = Unit {0}
 
 abbrev pub FitsFileLimit : ℕ → Fetched → Type 0
 FitsFileLimit limit (Held bytes) = length bytes ≤ limit
@@ -39,7 +39,7 @@ FitsFileLimit limit Failed = Unit {0}
 -- a fetch gave what the shelf's files hold, where the shelf tells them
 abbrev pub Gave : Option Files → Fetch → Type 0
 Gave None fetch = FitsFileLimit fetch.limit fetch.given
-Gave (Some files) fetch = FitsFileLimit fetch.limit fetch.given × Holds (files fetch.name) fetch.limit fetch.given
+Gave (Some files) fetch = FitsFileLimit fetch.limit fetch.given × IsGivenOf (files fetch.name) fetch.limit fetch.given
 
 -- the most bytes of a description or a file of events
 abbrev pub file_limit : ℕ

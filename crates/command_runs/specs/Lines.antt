@@ -14,12 +14,13 @@ use Rattle.change_plan.specs.Room.{HasRoomFor, LacksRoomFor}
 use Rattle.change_plan.specs.declared.error.PlanError.{PlanError}
 use Rattle.change_plan.specs.declared.plan_data.Move.{Move}
 use Rattle.change_plan.specs.declared.plan_data.Plan.{Plan}
+use Rattle.change_law.specs.Scripts.{more_made}
 use Rattle.change_law.specs.Statements.{Statement, start, change}
 use Rattle.change_script.specs.declared.report.Report.{Report}
 use Rattle.command_answers.specs.Answers.{Answer, refusal, description, graph, plan, ran}
 use Rattle.command_answers.specs.RefusalLines.{elaborate_words, plan_words}
-use Rattle.command_runs.specs.Courses.{Course, Says, AfterFetch, After}
-use Rattle.command_runs.specs.Descriptions.{IsChecked, IsGraphOf, IsTextRefusal}
+use Rattle.command_runs.specs.Courses.{FetchCourse, SaysAlone, AfterFetch, After}
+use Rattle.command_runs.specs.Descriptions.{IsChecked, IsGraphOfCall, IsTextRefusal}
 use Rattle.command_runs.specs.Fetches.{file_limit}
 use Rattle.command_runs.specs.Replays.{IsReplayed}
 use Rattle.command_runs.specs.RunReports.{IsReportOf}
@@ -33,13 +34,13 @@ pub data Deed : Type 0 where
   -- what runs is changed to it, within so many rounds, and these states go on
   changes : (within : ℕ) → List Move → Deed
 
-pub data Line : Type 0 where
+pub data RunLine : Type 0 where
   -- the lines below are of the description in this file
-  uses : (file : List ℕ) → Line
+  uses : (file : List ℕ) → RunLine
   -- a component of it, with arguments
-  calls : Deed → (name : Name) → (args : List ℤ) → Line
+  calls : Deed → (name : Name) → (args : List ℤ) → RunLine
   -- what the run does of itself, for which no description is asked
-  does : (what : Statement) → Line
+  does : (what : Statement) → RunLine
 
 -- How far lines came: the file that was used last and the tree of its description; the graphs of the calls, the
 -- latest first; what the run is to do, in order; and what it makes if each change is committed.
@@ -58,28 +59,25 @@ abbrev pub with_description : Progress → List ℕ → Tree → Progress
 with_description p file tree = record p { file = file; used = Some tree }
 
 -- the statement that a call is, where something is to run
-abbrev pub said_by : Deed → Name → List ℤ → Graph → List Statement
-said_by draws name args g = []
-said_by starts name args g = start name args g ∷ []
-said_by (changes within moves) name args g = change name args g within moves ∷ []
+abbrev pub stated_by : Deed → Name → List ℤ → Graph → List Statement
+stated_by draws name args g = []
+stated_by starts name args g = start name args g ∷ []
+stated_by (changes within moves) name args g = change name args g within moves ∷ []
 
-abbrev pub with_call : Progress → Deed → Name → List ℤ → Graph → Made → Progress
-with_call p deed name args g made =
-    record p { graphs = g ∷ p.graphs; statements = p.statements ++ said_by deed name args g; made = made }
+abbrev pub with_called_graph : Progress → Deed → Name → List ℤ → Graph → Made → Progress
+with_called_graph p deed name args g made =
+    record p { graphs = g ∷ p.graphs; statements = p.statements ++ stated_by deed name args g; made = made }
 
 abbrev pub with_statement : Progress → Statement → Progress
 with_statement p what = record p { statements = p.statements ++ what ∷ [] }
 
-abbrev pub and_made : Made → ℕ → ℕ → Made
-and_made made nodes wanted_ports = record { nodes = made.nodes + nodes; ports = made.ports + wanted_ports }
-
 -- the deed can be done with the graph, and so much is made then
 abbrev pub Allows : Progress → Deed → Graph → Made → Type 0
 Allows p draws g made = made ≡ p.made
-Allows p starts g made = HasRoomFor p.made g × (made ≡ and_made p.made (length g.nodes) (length (ports g.nodes)))
+Allows p starts g made = HasRoomFor p.made g × (made ≡ more_made p.made (length g.nodes) (length (ports g.nodes)))
 Allows p (changes within moves) g made =
     (old : Graph) × (earlier : List Graph) × (p.graphs ≡ old ∷ earlier)
-    × ((can : CanPlan old g moves p.made) × (made ≡ and_made p.made can.nodes can.ports))
+    × ((can : CanPlan old g moves p.made) × (made ≡ more_made p.made can.nodes can.ports))
 
 -- it can't be done, and these words say why
 abbrev pub Forbids : Progress → Deed → Graph → List (List ℕ) → Type 0
@@ -90,14 +88,14 @@ Forbids p (changes within moves) g words =
     × ((e : PlanError) × IsRefusal old g moves p.made e × (words ≡ plan_words e))
 
 -- how far a call leads
-pub record Leads (p : Progress) (deed : Deed) (name : Name) (args : List ℤ) (next : Progress) : Type 0 where
+pub record CallLeads (p : Progress) (deed : Deed) (name : Name) (args : List ℤ) (next : Progress) : Type 0 where
   pub tree : Tree
   pub is_used : p.used ≡ Some tree
   pub graph : Graph
-  pub is_graph : IsGraphOf tree name args graph
+  pub is_graph : IsGraphOfCall tree name args graph
   pub made : Made
   pub allowed : Allows p deed graph made
-  pub is_next : next ≡ with_call p deed name args graph made
+  pub is_next : next ≡ with_called_graph p deed name args graph made
 
 -- the words of why a call leads nowhere: a fault of its elaboration, or else one of what is done with its graph
 pub data IsCallRefusal (p : Progress) (deed : Deed) (name : Name) (args : List ℤ) : List (List ℕ) → Type 0 where
@@ -105,7 +103,7 @@ pub data IsCallRefusal (p : Progress) (deed : Deed) (name : Name) (args : List �
       (tree : Tree) (e : ElabError) → p.used ≡ Some tree → Faults tree name args e
       → IsCallRefusal p deed name args (elaborate_words e)
   by_deed :
-      (tree : Tree) (g : Graph) (words : List (List ℕ)) → p.used ≡ Some tree → IsGraphOf tree name args g
+      (tree : Tree) (g : Graph) (words : List (List ℕ)) → p.used ≡ Some tree → IsGraphOfCall tree name args g
       → Forbids p deed g words
       → IsCallRefusal p deed name args words
 
@@ -131,14 +129,14 @@ Concludes (replaying events) p answer =
 Concludes running p answer = (r : Report) × IsReportOf p.statements r × (answer ≡ ran r)
 
 -- The course of lines. A line that uses a file fetches it, and no other line fetches anything.
-abbrev pub Follows : Aim → Progress → List Line → Course
-Follows aim p [] = After (λ words. ⊥) (λ words. refusal (description p.file words)) (Concludes aim p) Says
-Follows aim p (uses file ∷ lines) =
+abbrev pub FollowsLines : Aim → Progress → List RunLine → FetchCourse
+FollowsLines aim p [] = After (λ words. ⊥) (λ words. refusal (description p.file words)) (Concludes aim p) SaysAlone
+FollowsLines aim p (uses file ∷ lines) =
     let refuse = λ (words : List (List ℕ)). refusal (description file words) in
     AfterFetch file file_limit refuse
     (λ bytes. After (IsTextRefusal bytes) refuse (IsChecked bytes)
-    (λ tree. Follows aim (with_description p file tree) lines))
-Follows aim p (calls deed name args ∷ lines) =
-    After (IsCallRefusal p deed name args) (λ words. refusal (description p.file words)) (Leads p deed name args)
-    (λ next. Follows aim next lines)
-Follows aim p (does what ∷ lines) = Follows aim (with_statement p what) lines
+    (λ tree. FollowsLines aim (with_description p file tree) lines))
+FollowsLines aim p (calls deed name args ∷ lines) =
+    After (IsCallRefusal p deed name args) (λ words. refusal (description p.file words)) (CallLeads p deed name args)
+    (λ next. FollowsLines aim next lines)
+FollowsLines aim p (does what ∷ lines) = FollowsLines aim (with_statement p what) lines

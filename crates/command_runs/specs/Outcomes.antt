@@ -34,7 +34,7 @@ use Rattle.command_answers.specs.Answers.{Answer, run_status, status_of, text_of
 use Rattle.command_runs.specs.Failures.{Uses}
 use Rattle.command_runs.specs.Lines.{begun}
 use Rattle.command_runs.specs.RunReports.{IsReportOf}
-use Rattle.command_runs.specs.Scripts.{lines_of}
+use Rattle.command_runs.specs.Scripts.{lines_of_script}
 use Rattle.command_runs.specs.Ways.{AreRefused, Elaborates}
 use Rattle.command_runs.specs.Fetches.{Fetch, Gave, failed_names, file_limit, report_limit}
 use Rattle.command_runs.specs.Runs.{AnswersWords}
@@ -50,7 +50,7 @@ MentionsFile Holds (commands.Plan file call target) name = name ≡ file
 MentionsFile Holds (commands.Replay file events) name = (name ≡ file) ⊎ (name ≡ events)
 MentionsFile Holds (commands.Upgrade file) name = name ≡ file
 MentionsFile Holds (commands.Step script) name =
-    (name ≡ script) ⊎ ((bytes : List ℕ) × (lines : Script) × Holds script bytes × IsScript bytes lines × Uses (lines_of lines.lines) name)
+    (name ≡ script) ⊎ ((bytes : List ℕ) × (lines : Script) × Holds script bytes × IsScript bytes lines × Uses (lines_of_script lines.lines) name)
 MentionsFile Holds (commands.Big lanes) name = ⊥
 
 -- the words name the file
@@ -122,7 +122,7 @@ pub record LineRefused (files : Option Files) (name : List ℕ) (taken taken' : 
   pub is_script : IsScriptOf files name script
   pub file : List ℕ
   pub words : List (List ℕ)
-  pub refused : AreRefused (HoldsFile files) (TellsTooLong files) (lines_of script.lines) begun file words
+  pub refused : AreRefused (HoldsFile files) (TellsTooLong files) (lines_of_script script.lines) begun file words
   pub written : taken' ≡ with_bytes taken (description_line file words)
 
 -- The script is too long, or the fault of its first line at fault was named, or what it lacks; and the line that says so
@@ -153,7 +153,7 @@ MustRefuseLine files file =
     IsSomeAnd file
     (λ bytes. (length bytes ≤ file_limit)
     × ((script : Script) × (used : List ℕ) × (words : List (List ℕ)) × IsScript bytes script
-    × AreRefused (HoldsFile (Some files)) (TellsTooLong (Some files)) (lines_of script.lines) begun used words))
+    × AreRefused (HoldsFile (Some files)) (TellsTooLong (Some files)) (lines_of_script script.lines) begun used words))
 
 -- the file has no more bytes than a script may have, nothing is wrong with it, and no line of it is refused
 abbrev pub NothingRefusesLines : Files → Option (List ℕ) → Type 0
@@ -161,7 +161,7 @@ NothingRefusesLines files file =
     IsSomeAnd file
     (λ bytes. (length bytes ≤ file_limit) × ((fault : ScriptError) → ¬ IsScriptFault bytes fault)
     × ((script : Script) (used : List ℕ) (words : List (List ℕ)) → IsScript bytes script
-    → ¬ AreRefused (HoldsFile (Some files)) (TellsTooLong (Some files)) (lines_of script.lines) begun used words))
+    → ¬ AreRefused (HoldsFile (Some files)) (TellsTooLong (Some files)) (lines_of_script script.lines) begun used words))
 
 -- The words ask for this of the description in a file, where the shelf tells of events what the file of events holds.
 abbrev pub Wants : Option Files → List (List ℕ) → List ℕ → Query → Type 0
@@ -204,13 +204,13 @@ pub record Replayed (files : Option Files) (file events : List ℕ) (own : Statu
   pub wrote : taken' ≡ with_bytes taken written
 
 -- The file is too long, or a fault of what it holds was named; and the line that says so was written.
-pub data Refused (files : Option Files) (file : List ℕ) (query : Query) (taken taken' : Option (List ℕ)) : Type 0 where
+pub data DescriptionRefused (files : Option Files) (file : List ℕ) (query : Query) (taken taken' : Option (List ℕ)) : Type 0 where
   too_long :
       TellsTooLong files file → taken' ≡ with_bytes taken (description_line file (codes "TooLong" ∷ []))
-      → Refused files file query taken taken'
+      → DescriptionRefused files file query taken taken'
   at_fault :
       (text : List ℕ) (words : List (List ℕ)) → HoldsFile files file text → length text ≤ file_limit → IsRefused query text words
-      → taken' ≡ with_bytes taken (description_line file words) → Refused files file query taken taken'
+      → taken' ≡ with_bytes taken (description_line file words) → DescriptionRefused files file query taken taken'
 
 -- the file has more bytes than a description may have, or something refuses them
 abbrev pub MustRefuse : Query → Option (List ℕ) → Type 0
@@ -269,7 +269,7 @@ RefusesScript words files taken taken' =
 -- was refused
 abbrev pub RefusesDescription : List (List ℕ) → Option Files → Option (List ℕ) → Option (List ℕ) → Type 0
 RefusesDescription words files taken taken' =
-    ((file : List ℕ) × (query : Query) × Wants files words file query × Refused files file query taken taken')
+    ((file : List ℕ) × (query : Query) × Wants files words file query × DescriptionRefused files file query taken taken')
     ⊎ ((name : List ℕ) × Asks words (commands.Step name) × LineRefused files name taken taken')
     ⊎ ((lanes : ℕ) × Asks words (commands.Big lanes) × LineRefused (Some (made_files lanes)) script_name taken taken')
 

@@ -5,17 +5,17 @@ use Rattle.change_law.specs.Statements.{run, finish, show}
 use Rattle.change_script.specs.declared.script.Body.{Body}
 use Rattle.change_script.specs.declared.script.Body.TheVariants as bodies
 use Rattle.change_script.specs.declared.script.ScriptLine.{ScriptLine}
-use Rattle.command_runs.specs.Lines.{Line, uses, calls, does, starts, changes}
+use Rattle.command_runs.specs.Lines.{RunLine, uses, calls, does, starts, changes}
 
 -- `end` asks for nothing: the stop stands behind all that is to be done.
-abbrev pub line_of : Body → List Line
-line_of (bodies.File name) = uses name ∷ []
-line_of (bodies.Start name args) = calls starts name args ∷ []
-line_of (bodies.Run k) = does (run k) ∷ []
-line_of (bodies.Change name args within moves) = calls (changes within moves) name args ∷ []
-line_of (bodies.Finish n) = does (finish n) ∷ []
-line_of bodies.Show = does show ∷ []
-line_of bodies.Stop = []
+abbrev pub lines_of_body : Body → List RunLine
+lines_of_body (bodies.File name) = uses name ∷ []
+lines_of_body (bodies.Start name args) = calls starts name args ∷ []
+lines_of_body (bodies.Run k) = does (run k) ∷ []
+lines_of_body (bodies.Change name args within moves) = calls (changes within moves) name args ∷ []
+lines_of_body (bodies.Finish n) = does (finish n) ∷ []
+lines_of_body bodies.Show = does show ∷ []
+lines_of_body bodies.Stop = []
 
-abbrev pub lines_of : List ScriptLine → List Line
-lines_of lines = flat_map (λ (line : ScriptLine). line_of line.body) lines
+abbrev pub lines_of_script : List ScriptLine → List RunLine
+lines_of_script lines = flat_map (λ (line : ScriptLine). lines_of_body line.body) lines

@@ -36,7 +36,7 @@ ghost use Rattle.report_parser.specs.Stages.{IsReportFault};
 ghost use Rattle.report_parser.specs.declared.error.ReportFault.{ReportFault};
 ghost use Rattle.command_runs.specs.Commands.{TellsReport, course_of, course_of_query};
 ghost use Rattle.command_runs.specs.Failures.{FailsLast, Uses};
-ghost use Rattle.command_runs.specs.Lines.{Aim, Line, Progress, Follows, begun, running};
+ghost use Rattle.command_runs.specs.Lines.{Aim, RunLine, Progress, FollowsLines, begun, running};
 ghost use Rattle.command_runs.specs.Fetches.{Fetch, WasHeld, fetch_of, file_limit, report_fetch};
 ghost use Rattle.command_runs.specs.OneFile.{DescriptionAnswers, ReportAnswers, ScriptAnswers, StatementsAnswers};
 ghost use Rattle.command_runs.specs.declared.fetched.Fetched.{Fetched};
@@ -50,7 +50,7 @@ ghost use Rattle.command_runs.specs.Outcomes.{EndsAsGiven, MustRefuseReport, Not
 ghost use Rattle.command_runs.specs.Plans.{RefusesStart, Starts};
 ghost use Rattle.command_runs.specs.Queries.{AnswersQuery, IsRefused};
 ghost use Rattle.command_runs.specs.Runs.{AnswersWords, Runs};
-ghost use Rattle.command_runs.specs.Scripts.{lines_of};
+ghost use Rattle.command_runs.specs.Scripts.{lines_of_script};
 ghost use Rattle.command_runs.specs.Ways.{Elaborates, LeadTo};
 ghost use Rattle.command_runs.specs.declared.query.Query.{Query};
 ghost use Rattle.command_runs.specs.declared.query.Query.TheVariants as queries;
@@ -128,7 +128,7 @@ pub fn runs_end_by_their_reports()
 /// component elaborates.
 pub fn lines_that_lead_on_are_statements()
     ensures { (files : Option Files) (script : ScriptOf) (end : Progress)
-        → LeadTo (HoldsFile files) begun (lines_of script.lines) end
+        → LeadTo (HoldsFile files) begun (lines_of_script script.lines) end
         → StatementsOf (Elaborates (HoldsFile files)) script end.statements }
 {}
 
@@ -296,7 +296,7 @@ pub fn courses_of_runs_are_by_their_lines()
         → Shows (course_of (commands.Step name) (fetch_of name given ∷ [])) own text }
     ensures read { (name bytes : List ℕ) (script : ScriptOf) (fetches : List Fetch) (answer : Answer)
         → IsScript bytes script
-        → Follows running begun (lines_of script.lines) fetches answer
+        → FollowsLines running begun (lines_of_script script.lines) fetches answer
         → course_of (commands.Step name) (fetch_of name (Held bytes) ∷ fetches) answer }
     ensures short { (name : List ℕ) (given : Fetched)
         → course_of (commands.Step name) [] (refusal no_memory)
@@ -315,8 +315,8 @@ pub fn courses_of_reports_are_by_one_file()
 /// A law: a fetch that fails is the last, and the only one; it is of a file that the lines use, or the words name or a
 /// line of the script that was fetched, and the answer says so unless memory ran out.
 pub fn a_failed_fetch_is_the_last()
-    ensures of_lines { (aim : Aim) (p : Progress) (lines : List Line) (fetches : List Fetch) (answer : Answer)
-        → Follows aim p lines fetches answer → FailsLast (Uses lines) fetches answer }
+    ensures of_lines { (aim : Aim) (p : Progress) (lines : List RunLine) (fetches : List Fetch) (answer : Answer)
+        → FollowsLines aim p lines fetches answer → FailsLast (Uses lines) fetches answer }
     ensures of_words { (words : List (List ℕ)) (fetches : List Fetch) (answer : Answer)
         → AnswersWords words fetches answer → FailsLast (NamesFile (WasHeld fetches) words) fetches answer }
 {}

@@ -5,7 +5,7 @@ ghost use Rattle.darwin_lexer.specs.Tokens.{IsTokens};
 ghost use Rattle.darwin_parser.specs.Tree.{tree_of};
 ghost use Rattle.config_graph.specs.Sound.{Sound};
 ghost use Rattle.darwin_types.specs.Checked.{description};
-ghost use Rattle.command_runs.specs.Descriptions.{IsTree, IsChecked, IsGraphOf, HasGraph, IsTextRefusal, IsDescriptionRefusal};
+ghost use Rattle.command_runs.specs.Descriptions.{IsTree, IsChecked, IsGraphOfCall, HasGraph, IsTextRefusal, IsDescriptionRefusal};
 ghost use Rattle.command_answers.specs.DescriptionFaults.{MayRefuse};
 ghost use Rattle.file_answers.specs.Refusals.{NamesFault};
 
@@ -37,7 +37,7 @@ pub fn graph_of(
     top: &[u8],
     args: &[i32],
 ) -> Result<Graph, DescriptionFault>
-    ensures is_graph { IfOk result (IsGraphOf (description checked.now) top.now args.now) }
+    ensures is_graph { IfOk result (IsGraphOfCall (description checked.now) top.now args.now) }
     ensures sound { IfOk result (λ graph. Sound graph) }
     ensures at_fault { IfErr result (MayRefuse (NamesFault (description checked.now) top.now args.now)) }
     ensures graph { (text : List ℕ) → IsChecked text (description checked.now)

@@ -23,12 +23,13 @@ use Rattle.darwin_types.specs.Faults.{NoFault}
 use Rattle.elaborator.specs.Elaboration.{HasNoFault, ElaboratesTo}
 use Rattle.elaborator.specs.Faults.{Faults}
 use Rattle.elaborator.specs.declared.error.ElabError.{ElabError}
-use Rattle.command_runs.specs.Descriptions.{IsGraphOf}
+use Rattle.change_law.specs.Scripts.{more_made}
+use Rattle.command_runs.specs.Descriptions.{IsGraphOfCall}
 use Rattle.command_runs.specs.Fetches.{file_limit}
-use Rattle.command_runs.specs.Lines.{Line, Progress, Leads, and_made, begun, changes, starts, with_call, with_description, with_statement}
+use Rattle.command_runs.specs.Lines.{RunLine, Progress, CallLeads, begun, changes, starts, with_called_graph, with_description, with_statement}
 use Rattle.command_runs.specs.Outcomes.{HoldsFile, NothingRefusesLines, TellsTooLong}
-use Rattle.command_runs.specs.Scripts.{lines_of}
-use Rattle.command_runs.specs.Ways.{AreRefused, LeadTo, LeadsIn}
+use Rattle.command_runs.specs.Scripts.{lines_of_script}
+use Rattle.command_runs.specs.Ways.{AreRefused, LeadTo, UseLeads}
 use Rattle.command_runs.proofs.TotalityLaws.{wanted}
 use Rattle.run_laws.specs.MadeScripts.{made_script}
 use Rattle.fault_rows.proofs.ElaborationTestLaws.{cases, is_clear, none_at_all}
@@ -39,7 +40,7 @@ use Rattle.made_runs.specs.MadeTrees.{made_tree}
 
 -- the graph of so many lanes, with this argument of the first maps
 abbrev of_lanes : ℕ → ℕ → Graph → Type 0
-of_lanes lanes k g = IsGraphOf made_tree (codes "Lanes") (arguments lanes k) g × (length g.nodes ≤ 200)
+of_lanes lanes k g = IsGraphOfCall made_tree (codes "Lanes") (arguments lanes k) g × (length g.nodes ≤ 200)
 
 -- ---- rooms
 
@@ -81,7 +82,7 @@ no_faults lanes some few = let may = both_may_run lanes some few in (no_fault la
 -- Laws of the crates below, as they stand there.
 module _
     (graphs : (tree : Tree) (name : Name) (args : List ℤ) → NoFault tree → ((e : ElabError) × Faults tree name args e) ⊎ ((g : Graph) × HasNoFault tree name args × ElaboratesTo tree name args g × Sound g))
-    (never_both : (files : Files) (lines : List Line) (end : Progress) (used : List ℕ) (words : List (List ℕ)) → LeadTo (HoldsFile (Some files)) begun lines end → ¬ AreRefused (HoldsFile (Some files)) (TellsTooLong (Some files)) lines begun used words)
+    (never_both : (files : Files) (lines : List RunLine) (end : Progress) (used : List ℕ) (words : List (List ℕ)) → LeadTo (HoldsFile (Some files)) begun lines end → ¬ AreRefused (HoldsFile (Some files)) (TellsTooLong (Some files)) lines begun used words)
     (scripts_are : (lanes : ℕ) → 1 ≤ lanes → lanes ≤ 40 → IsScript (script lanes) (made_script lanes))
   where
     graph_of : (lanes k : ℕ) → may_run lanes k ≡ true → (g : Graph) × of_lanes lanes k g
@@ -98,7 +99,7 @@ module _
       abbrev Holds : List ℕ → List ℕ → Type 0
       Holds = HoldsFile (Some (made_files lanes))
 
-      leads_in : LeadsIn Holds (codes "big.dar") made_tree
+      leads_in : UseLeads Holds (codes "big.dar") made_tree
       leads_in = record { text = description; is_text = (refl, leb-true (length description) file_limit refl); checked = checked }
 
       module _ (old new : Graph) (is_old : of_lanes lanes 1 old) (is_new : of_lanes lanes 2 new) where
@@ -106,15 +107,15 @@ module _
         used = with_description begun (codes "big.dar") made_tree
 
         abbrev first : Made
-        first = and_made used.made (length old.nodes) (length (ports old.nodes))
+        first = more_made used.made (length old.nodes) (length (ports old.nodes))
 
         abbrev started : Progress
-        started = with_call used starts (codes "Lanes") (arguments lanes 1) old first
+        started = with_called_graph used starts (codes "Lanes") (arguments lanes 1) old first
 
         few_old_ports : length (ports old.nodes) ≤ 400
         few_old_ports = let at = ports_from 0 old.nodes in omega (arith, at, is_old.1)
 
-        start_leads : Leads used starts (codes "Lanes") (arguments lanes 1) started
+        start_leads : CallLeads used starts (codes "Lanes") (arguments lanes 1) started
         start_leads = record {
           tree = made_tree;
           is_used = refl;
@@ -132,9 +133,9 @@ module _
         WhatIsCreated = (nodes : ℕ) × (wanted_ports : ℕ) × CreatesSoMany old new nodes wanted_ports
 
         abbrev changed : WhatIsCreated → Progress
-        changed w = with_call ran (changes 100000 []) (codes "Lanes") (arguments lanes 2) new (and_made first w.0 w.1)
+        changed w = with_called_graph ran (changes 100000 []) (codes "Lanes") (arguments lanes 2) new (more_made first w.0 w.1)
 
-        change_leads : (w : WhatIsCreated) → Leads ran (changes 100000 []) (codes "Lanes") (arguments lanes 2) (changed w)
+        change_leads : (w : WhatIsCreated) → CallLeads ran (changes 100000 []) (codes "Lanes") (arguments lanes 2) (changed w)
         change_leads w =
             let most = few_created old new w.0 w.1 w.2 is_new.1 in
             let can : CanPlan old new [] first = record {
@@ -149,17 +150,17 @@ module _
               is_used = refl;
               graph = new;
               is_graph = is_new.0;
-              made = and_made first w.0 w.1;
+              made = more_made first w.0 w.1;
               allowed = (old, [], refl, (can, refl));
               is_next = refl;
             }
 
-        lead : (w : WhatIsCreated) → LeadTo Holds begun (lines_of (made_script lanes).lines) (with_statement (changed w) (finish 100000))
+        lead : (w : WhatIsCreated) → LeadTo Holds begun (lines_of_script (made_script lanes).lines) (with_statement (changed w) (finish 100000))
         lead w = (made_tree, leads_in, (started, start_leads, (changed w, change_leads w, refl)))
 
-        none_refused : (file : List ℕ) (words : List (List ℕ)) → AreRefused Holds (TellsTooLong (Some (made_files lanes))) (lines_of (made_script lanes).lines) begun file words → ⊥
+        none_refused : (file : List ℕ) (words : List (List ℕ)) → AreRefused Holds (TellsTooLong (Some (made_files lanes))) (lines_of_script (made_script lanes).lines) begun file words → ⊥
         none_refused file words are =
-            wanted old new (λ (w : WhatIsCreated). never_both (made_files lanes) (lines_of (made_script lanes).lines) (with_statement (changed w) (finish 100000)) file words (lead w) are)
+            wanted old new (λ (w : WhatIsCreated). never_both (made_files lanes) (lines_of_script (made_script lanes).lines) (with_statement (changed w) (finish 100000)) file words (lead w) are)
 
     pub nothing_refuses : (lanes : ℕ) → 1 ≤ lanes → lanes ≤ 40 → NothingRefusesLines (made_files lanes) (Some (script lanes))
     nothing_refuses lanes low high = (
@@ -167,7 +168,7 @@ module _
       λ (fault : ScriptError) first. scripts.never_both (script lanes) (made_script lanes) fault is_script first,
       λ (other : Script) used words is_one are.
           none_refused lanes old.0 new.0 old.1 new.1 used words
-          (subst (λ (s : Script). AreRefused (Holds lanes) (TellsTooLong (Some (made_files lanes))) (lines_of s.lines) begun used words)
+          (subst (λ (s : Script). AreRefused (Holds lanes) (TellsTooLong (Some (made_files lanes))) (lines_of_script s.lines) begun used words)
           (scripts.one_script (script lanes) other (made_script lanes) is_one is_script) are),
     )
       where

@@ -29,13 +29,14 @@ use Rattle.elaborator.specs.Elaboration.{HasNoFault, ElaboratesTo}
 use Rattle.elaborator.specs.Faults.{Faults}
 use Rattle.elaborator.specs.declared.error.ElabError.{ElabError}
 use Rattle.command_answers.specs.RefusalLines.{elaborate_words, plan_words}
+use Rattle.change_law.specs.Scripts.{more_made}
 use Rattle.command_runs.specs.Descriptions.{IsChecked, IsTextRefusal}
 use Rattle.command_runs.specs.Failures.{Uses}
 use Rattle.command_runs.specs.Fetches.{file_limit}
-use Rattle.command_runs.specs.Lines.{Deed, starts, changes, Line, uses, calls, does, Progress, begun, with_description, with_call, with_statement, and_made, Allows, Leads, IsCallRefusal, by_elaboration, by_deed}
+use Rattle.command_runs.specs.Lines.{Deed, starts, changes, RunLine, uses, calls, does, Progress, begun, with_description, with_called_graph, with_statement, Allows, CallLeads, IsCallRefusal, by_elaboration, by_deed}
 use Rattle.command_runs.specs.Outcomes.{HoldsFile, TellsTooLong}
-use Rattle.command_runs.specs.Scripts.{line_of, lines_of}
-use Rattle.command_runs.specs.Ways.{IsTextIn, LeadsIn, LeadTo, too_long_to_use, at_fault, leads_nowhere, AreRefused}
+use Rattle.command_runs.specs.Scripts.{lines_of_body, lines_of_script}
+use Rattle.command_runs.specs.Ways.{IsTextIn, UseLeads, LeadTo, too_long_to_use, at_fault, leads_nowhere, AreRefused}
 use Rattle.command_runs.proofs.TotalityLaws.{room_for, wanted, text_or_refusal}
 use Rattle.command_runs.proofs.WayLaws.{refused_at, refused_below_use, refused_below_call, refused_below_deed}
 
@@ -151,23 +152,23 @@ not_long f file text is long = by (f file) is.0 long
     by (Some bytes) holds long = omega (arith, ap length (same_Some bytes text holds), is.1, long)
 
 -- the lines lead on, or one of them is refused
-abbrev LeadOrStop : Files → List Line → Progress → Type 0
+abbrev LeadOrStop : Files → List RunLine → Progress → Type 0
 LeadOrStop f lines p =
     ((end : Progress) × LeadTo (HoldsFile (Some f)) p lines end)
     ⊎ ((file : List ℕ) × (words : List (List ℕ)) × AreRefused (HoldsFile (Some f)) (TellsTooLong (Some f)) lines p file words)
 
 -- the shelf has each file that the lines use
-abbrev HasAll : Files → List Line → Type 0
+abbrev HasAll : Files → List RunLine → Type 0
 HasAll f lines = (file : List ℕ) → Uses lines file → (text : List ℕ) × (f file ≡ Some text)
 
-module _ (f : Files) (p : Progress) (lines : List Line) where
-  below_use : (used : List ℕ) (tree : Tree) → LeadsIn (HoldsFile (Some f)) used tree → LeadOrStop f lines (with_description p used tree) → LeadOrStop f (uses used ∷ lines) p
+module _ (f : Files) (p : Progress) (lines : List RunLine) where
+  below_use : (used : List ℕ) (tree : Tree) → UseLeads (HoldsFile (Some f)) used tree → LeadOrStop f lines (with_description p used tree) → LeadOrStop f (uses used ∷ lines) p
   below_use used tree leads (inl (end, lead)) = inl (end, (tree, leads, lead))
   below_use used tree leads (inr (file, words, are)) =
       inr (file, words, refused_below_use (HoldsFile (Some f)) (TellsTooLong (Some f)) p lines used tree file words leads are)
 
   below_call :
-      (deed : Deed) (name : Name) (args : List ℤ) (next : Progress) → Leads p deed name args next → LeadOrStop f lines next
+      (deed : Deed) (name : Name) (args : List ℤ) (next : Progress) → CallLeads p deed name args next → LeadOrStop f lines next
       → LeadOrStop f (calls deed name args ∷ lines) p
   below_call deed name args next leads (inl (end, lead)) = inl (end, (next, leads, lead))
   below_call deed name args next leads (inr (file, words, are)) =
@@ -189,7 +190,7 @@ module _ (names : (t : Tree) → NoFault t ⊎ ((e : TypeError) × NameFault t e
     pub used : has is_file above ≡ true → (tree : Tree) × (p.used ≡ Some tree) × NoFault tree
     pub named : has is_start above ≡ true → (g : Graph) × (earlier : List Graph) × (p.graphs ≡ g ∷ earlier)
 
-  module _ (above : List ScriptLine) (line : ScriptLine) (lines : List Line) (p : Progress) (fits : Fits above p) (rest : (q : Progress) → Fits (above ++ line ∷ []) q → ¬ ¬ LeadOrStop f lines q) where
+  module _ (above : List ScriptLine) (line : ScriptLine) (lines : List RunLine) (p : Progress) (fits : Fits above p) (rest : (q : Progress) → Fits (above ++ line ∷ []) q → ¬ ¬ LeadOrStop f lines q) where
     used_still : is_file line.body ≡ false → has is_file (above ++ line ∷ []) ≡ true → (tree : Tree) × (p.used ≡ Some tree) × NoFault tree
     used_still other any = fits.used (had_before is_file above line other any)
 
@@ -201,9 +202,9 @@ module _ (names : (t : Tree) → NoFault t ⊎ ((e : TypeError) × NameFault t e
         (deed : Deed) (name : Name) (args : List ℤ) (tree : Tree) (g : Graph) (made : Made) → is_file line.body ≡ false → p.used ≡ Some tree
         → HasNoFault tree name args → ElaboratesTo tree name args g → Allows p deed g made → ¬ ¬ LeadOrStop f (calls deed name args ∷ lines) p
     goes_on deed name args tree g made other used sound elaborates allows none =
-        rest (with_call p deed name args g made)
+        rest (with_called_graph p deed name args g made)
         (record { used = λ any. used_still other any; named = λ any. (g, p.graphs, refl) })
-        (λ below. none (below_call f p lines deed name args (with_call p deed name args g made)
+        (λ below. none (below_call f p lines deed name args (with_called_graph p deed name args g made)
         (record {
           tree = tree;
           is_used = used;
@@ -222,7 +223,7 @@ module _ (names : (t : Tree) → NoFault t ⊎ ((e : TypeError) × NameFault t e
 
         room : (g : Graph) → HasNoFault used.0 name args → ElaboratesTo used.0 name args g → HasRoomFor p.made g ⊎ ((e : PlanError) × LacksRoomFor p.made g e) → ⊥
         room g sound elaborates (inl has_room) =
-            goes_on starts name args used.0 g (and_made p.made (length g.nodes) (length (ports g.nodes))) other used.1 sound elaborates (has_room, refl) none
+            goes_on starts name args used.0 g (more_made p.made (length g.nodes) (length (ports g.nodes))) other used.1 sound elaborates (has_room, refl) none
         room g sound elaborates (inr (e, lacks)) =
             none (call_stops f p lines starts name args (plan_words e)
             (by_deed used.0 g (plan_words e) used.1 (record { no_fault = sound; is_graph = elaborates }) (e, lacks, refl)))
@@ -248,7 +249,7 @@ module _ (names : (t : Tree) → NoFault t ⊎ ((e : TypeError) × NameFault t e
             (g : Graph) → HasNoFault used.0 name args → ElaboratesTo used.0 name args g
             → CanPlan last.0 g moves p.made ⊎ ((e : PlanError) × IsRefusal last.0 g moves p.made e) → ⊥
         plan g sound elaborates (inl can) =
-            goes_on (changes within moves) name args used.0 g (and_made p.made can.nodes can.ports) other used.1 sound elaborates
+            goes_on (changes within moves) name args used.0 g (more_made p.made can.nodes can.ports) other used.1 sound elaborates
             (last.0, last.1, last.2, (can, refl)) none
         plan g sound elaborates (inr (e, refusal)) =
             none (call_stops f p lines (changes within moves) name args (plan_words e)
@@ -290,7 +291,7 @@ module _ (names : (t : Tree) → NoFault t ⊎ ((e : TypeError) × NameFault t e
         (λ below. none (below_deed f p lines what below))
 
     line_goes :
-        (body : Body) → line.body ≡ body → is_out_of_order above body ≡ false → HasAll f (line_of body ++ lines) → ¬ ¬ LeadOrStop f (line_of body ++ lines) p
+        (body : Body) → line.body ≡ body → is_out_of_order above body ≡ false → HasAll f (lines_of_body body ++ lines) → ¬ ¬ LeadOrStop f (lines_of_body body ++ lines) p
     line_goes (bodies.File file) is right held =
         let at = held file (inl refl) in
         use_goes file at.0 (ap is_start is) at.1
@@ -305,14 +306,14 @@ module _ (names : (t : Tree) → NoFault t ⊎ ((e : TypeError) × NameFault t e
         rest p (record { used = λ any. used_still (ap is_file is) any; named = λ any. named_still (ap is_start is) any })
 
   all_go :
-      (lines above : List ScriptLine) (p : Progress) → Fits above p → EachAfter StandsInOrder above lines → HasAll f (lines_of lines) → ¬ ¬ LeadOrStop f (lines_of lines) p
+      (lines above : List ScriptLine) (p : Progress) → Fits above p → EachAfter StandsInOrder above lines → HasAll f (lines_of_script lines) → ¬ ¬ LeadOrStop f (lines_of_script lines) p
   all_go [] above p fits order held = λ none. none (inl (p, refl))
   all_go (line ∷ lines) above p fits order held =
-      line_goes above line (lines_of lines) p fits
-      (λ q below. all_go lines (above ++ line ∷ []) q below order.1 (λ file used. held file (used_below line.body (lines_of lines) file used)))
+      line_goes above line (lines_of_script lines) p fits
+      (λ q below. all_go lines (above ++ line ∷ []) q below order.1 (λ file used. held file (used_below line.body (lines_of_script lines) file used)))
       line.body refl order.0.right held
     where
-      used_below : (body : Body) (below : List Line) (file : List ℕ) → Uses below file → Uses (line_of body ++ below) file
+      used_below : (body : Body) (below : List RunLine) (file : List ℕ) → Uses below file → Uses (lines_of_body body ++ below) file
       used_below (bodies.File name) below file used = inr used
       used_below (bodies.Start name args) below file used = used
       used_below (bodies.Run k) below file used = used
@@ -322,13 +323,13 @@ module _ (names : (t : Tree) → NoFault t ⊎ ((e : TypeError) × NameFault t e
       used_below bodies.Stop below file used = used
 
   pub lead_or_stop :
-      (bytes : List ℕ) (script : Script) → IsScript bytes script → HasAll f (lines_of script.lines)
-      → ¬ (((end : Progress) → ¬ LeadTo (HoldsFile (Some f)) begun (lines_of script.lines) end)
-      × ((file : List ℕ) (words : List (List ℕ)) → ¬ AreRefused (HoldsFile (Some f)) (TellsTooLong (Some f)) (lines_of script.lines) begun file words))
+      (bytes : List ℕ) (script : Script) → IsScript bytes script → HasAll f (lines_of_script script.lines)
+      → ¬ (((end : Progress) → ¬ LeadTo (HoldsFile (Some f)) begun (lines_of_script script.lines) end)
+      × ((file : List ℕ) (words : List (List ℕ)) → ¬ AreRefused (HoldsFile (Some f)) (TellsTooLong (Some f)) (lines_of_script script.lines) begun file words))
   lead_or_stop bytes script is held (leads, stops) =
       let at_first : Fits [] begun = record { used = λ any. cc; named = λ any. cc } in
       all_go script.lines [] begun at_first (script_stands bytes script is) held by
     where
-      by : LeadOrStop f (lines_of script.lines) begun → ⊥
+      by : LeadOrStop f (lines_of_script script.lines) begun → ⊥
       by (inl (end, lead)) = leads end lead
       by (inr (file, words, are)) = stops file words are

@@ -8,11 +8,11 @@ ghost use Rattle.change_script.specs.ScriptFiles.{IsScript};
 ghost use Rattle.change_script.specs.declared.script.Script.{Script};
 ghost use Rattle.command_answers.specs.declared.status.Status.{Status};
 ghost use Rattle.command_runs.specs.Failures.{Uses};
-ghost use Rattle.command_runs.specs.Lines.{Line, Progress, begun};
+ghost use Rattle.command_runs.specs.Lines.{RunLine, Progress, begun};
 ghost use Rattle.command_runs.specs.Outcomes.{HoldsFile, MustRefuseLine, MustRefuseStatements};
 ghost use Rattle.command_runs.specs.Outcomes.{NothingRefusesLines, Ran, SummedUp, TellsTooLong};
 ghost use Rattle.command_runs.specs.Runs.{Runs};
-ghost use Rattle.command_runs.specs.Scripts.{lines_of};
+ghost use Rattle.command_runs.specs.Scripts.{lines_of_script};
 ghost use Rattle.command_runs.specs.RunReports.{IsReportOf};
 ghost use Rattle.command_runs.specs.Ways.{AreRefused, Elaborates, LeadTo};
 ghost use Rattle.change_law.specs.Scripts.{StatementsOf};
@@ -69,16 +69,16 @@ pub fn a_script_has_one_run()
 /// A law: the lines of a script lead to one end at most, and none of them is refused then. That they neither lead on nor
 /// stop can't be, where the shelf has each file that they use.
 pub fn lines_lead_or_are_refused()
-    ensures one_end { (files : Files) (lines : List Line) (end other : Progress)
+    ensures one_end { (files : Files) (lines : List RunLine) (end other : Progress)
         → LeadTo (HoldsFile (Some files)) begun lines end → LeadTo (HoldsFile (Some files)) begun lines other → end ≡ other }
-    ensures never_both { (files : Files) (lines : List Line) (end : Progress) (used : List ℕ) (words : List (List ℕ))
+    ensures never_both { (files : Files) (lines : List RunLine) (end : Progress) (used : List ℕ) (words : List (List ℕ))
         → LeadTo (HoldsFile (Some files)) begun lines end
         → ¬ AreRefused (HoldsFile (Some files)) (TellsTooLong (Some files)) lines begun used words }
     ensures not_neither { (files : Files) (bytes : List ℕ) (script : Script) → IsScript bytes script
-        → ((file : List ℕ) → Uses (lines_of script.lines) file → (text : List ℕ) × (files file ≡ Some text))
-        → ¬ (((end : Progress) → ¬ LeadTo (HoldsFile (Some files)) begun (lines_of script.lines) end)
+        → ((file : List ℕ) → Uses (lines_of_script script.lines) file → (text : List ℕ) × (files file ≡ Some text))
+        → ¬ (((end : Progress) → ¬ LeadTo (HoldsFile (Some files)) begun (lines_of_script script.lines) end)
         × ((used : List ℕ) (words : List (List ℕ))
-        → ¬ AreRefused (HoldsFile (Some files)) (TellsTooLong (Some files)) (lines_of script.lines) begun used words)) }
+        → ¬ AreRefused (HoldsFile (Some files)) (TellsTooLong (Some files)) (lines_of_script script.lines) begun used words)) }
 {
     a_fault_or_none();
     a_graph_or_a_fault();

@@ -8,7 +8,7 @@ use Rattle.command_answers.specs.Answers.{Shows, refusal, no_memory}
 use Rattle.command_answers.specs.Answers as values
 use Rattle.command_runs.specs.Courses.{not_fetched, not_judged}
 use Rattle.command_runs.specs.Fetches.{Fetch, Gave, failed_name, failed_names, fetch_of}
-use Rattle.command_runs.specs.Lines.{Aim, Line, uses, calls, does, Follows, Progress, running, with_statement}
+use Rattle.command_runs.specs.Lines.{Aim, RunLine, uses, calls, does, FollowsLines, Progress, running, with_statement}
 use Rattle.command_runs.specs.declared.fetched.Fetched.{Fetched}
 use Rattle.file_answers.specs.declared.answer.Answer.{Answer}
 use Rattle.script_answers.specs.Leading.{LeadOn, Took}
@@ -16,7 +16,7 @@ use Rattle.script_answers.specs.Ways.{IsAt}
 use Rattle.script_answers.specs.declared.way.Way.{Way}
 
 -- memory may run out before any line
-pub always_short : (aim : Aim) (p : Progress) (rest : List Line) → Follows aim p rest [] (refusal no_memory)
+pub always_short : (aim : Aim) (p : Progress) (rest : List RunLine) → FollowsLines aim p rest [] (refusal no_memory)
 always_short aim p [] = not_judged
 always_short aim p (uses file ∷ rest) = not_fetched
 always_short aim p (calls deed name args ∷ rest) = not_judged
@@ -33,12 +33,12 @@ none_took files p failures way at =
     record { fetches = []; noted = sym (append-nil failures); told = tt; lead = (p, at, λ rest more answer follows. follows) }
 
 -- lines that fetch nothing
-pub unfetched : {E : Type 0} (files : Option Files) (p : Progress) (lines : List Line) (failures : List (List ℕ)) (way : Way) (r : Result (Option Answer) E)
+pub unfetched : {E : Type 0} (files : Option Files) (p : Progress) (lines : List RunLine) (failures : List (List ℕ)) (way : Way) (r : Result (Option Answer) E)
     → LeadOn p lines [] way r → Took files p lines failures failures way r
 unfetched files p lines failures way r lead = record { fetches = []; noted = sym (append-nil failures); told = tt; lead = lead }
 
 -- one fetch
-pub fetched : {E : Type 0} (files : Option Files) (p : Progress) (lines : List Line) (file : List ℕ) (given : Fetched) (failures failures' : List (List ℕ)) (way : Way)
+pub fetched : {E : Type 0} (files : Option Files) (p : Progress) (lines : List RunLine) (file : List ℕ) (given : Fetched) (failures failures' : List (List ℕ)) (way : Way)
     (r : Result (Option Answer) E) → failures' ≡ failures ++ failed_name (fetch_of file given) → Gave files (fetch_of file given)
     → LeadOn p lines (fetch_of file given ∷ []) way r → Took files p lines failures failures' way r
 fetched files p lines file given failures failures' way r noted gave lead = record {
@@ -49,7 +49,7 @@ fetched files p lines file given failures failures' way r noted gave lead = reco
 }
 
 -- lines behind lines that led on
-module _ {E F : Type 0} (files : Option Files) (p : Progress) (lines below : List Line) (failures between failures' : List (List ℕ)) (mid way : Way) where
+module _ {E F : Type 0} (files : Option Files) (p : Progress) (lines below : List RunLine) (failures between failures' : List (List ℕ)) (mid way : Way) where
   lead_joined : (t : Took {E = E} files p lines failures between mid (Ok None)) (fetches : List Fetch) (r : Result (Option Answer) F)
       → LeadOn t.lead.0 below fetches way r → LeadOn p (lines ++ below) (t.fetches ++ fetches) way r
   lead_joined t fetches (Ok None) u = (
@@ -59,19 +59,19 @@ module _ {E F : Type 0} (files : Option Files) (p : Progress) (lines below : Lis
         (t.lead.2 (below ++ rest) (fetches ++ more) answer (u.2 rest more answer follows)),
   )
     where
-      moved : (rest : List Line) (fs gs : List Fetch) (answer : values.Answer) → fs ≡ gs → Follows running p (lines ++ (below ++ rest)) gs answer → Follows running p ((lines ++ below) ++ rest) fs answer
+      moved : (rest : List RunLine) (fs gs : List Fetch) (answer : values.Answer) → fs ≡ gs → FollowsLines running p (lines ++ (below ++ rest)) gs answer → FollowsLines running p ((lines ++ below) ++ rest) fs answer
       moved rest fs gs answer same follows =
-          subst (λ ls. Follows running p ls fs answer) (sym (append_assoc lines below rest)) (subst (λ hs. Follows running p (lines ++ (below ++ rest)) hs answer) (sym same) follows)
+          subst (λ ls. FollowsLines running p ls fs answer) (sym (append_assoc lines below rest)) (subst (λ hs. FollowsLines running p (lines ++ (below ++ rest)) hs answer) (sym same) follows)
   lead_joined t fetches (Ok (Some a)) u =
       λ rest. let s = u rest in
       record {
         answer = s.answer;
-        is = subst (λ ls. Follows running p ls (t.fetches ++ fetches) s.answer) (sym (append_assoc lines below rest)) (t.lead.2 (below ++ rest) fetches s.answer s.is);
+        is = subst (λ ls. FollowsLines running p ls (t.fetches ++ fetches) s.answer) (sym (append_assoc lines below rest)) (t.lead.2 (below ++ rest) fetches s.answer s.is);
         has_status = s.has_status;
         has_text = s.has_text;
       }
   lead_joined t fetches (Err e) u =
-      λ rest. subst (λ ls. Follows running p ls (t.fetches ++ fetches) (refusal no_memory)) (sym (append_assoc lines below rest))
+      λ rest. subst (λ ls. FollowsLines running p ls (t.fetches ++ fetches) (refusal no_memory)) (sym (append_assoc lines below rest))
       (t.lead.2 (below ++ rest) fetches (refusal no_memory) (u rest))
 
   pub joined : (r : Result (Option Answer) F) → Took {E = E} files p lines failures between mid (Ok None)

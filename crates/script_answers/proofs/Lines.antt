@@ -20,7 +20,7 @@ use Rattle.command_answers.specs.declared.status.Status.TheVariants as status
 use Rattle.command_runs.specs.Courses.{failed, gives, leads_on, refused, too_long}
 use Rattle.command_runs.specs.Descriptions.{IsChecked, IsTextRefusal}
 use Rattle.command_runs.specs.Fetches.{fetch_of}
-use Rattle.command_runs.specs.Lines.{Deed, Line, calls, changes, does, starts, uses, Follows, IsCallRefusal, Progress, running, with_call, with_description, with_statement}
+use Rattle.command_runs.specs.Lines.{Deed, RunLine, calls, changes, does, starts, uses, FollowsLines, IsCallRefusal, Progress, running, with_called_graph, with_description, with_statement}
 use Rattle.command_runs.specs.declared.fetched.Fetched.TheVariants.{Failed, Held, TooLong}
 use Rattle.darwin_types.specs.Checked as of_checked
 use Rattle.darwin_types.specs.declared.checked.Checked.{Checked}
@@ -75,7 +75,7 @@ used_marks way next file name d has = record {
 pub started : (way : Way) (p : Progress) (s : Start) (name : List ℕ) (args : List ℤ) → way.start ≡ None → Sound s.graph → HasRoomFor way.made s.graph
     → LeadsToStart p name args s → IsAt way p → LeadOn {E = ℕ} p (calls starts name args ∷ []) [] (with_start way s) (Ok None)
 started way p s name args none_ sound room leads at =
-    let q = with_call p starts name args s.graph (made_with_graph p.made s.graph) in (
+    let q = with_called_graph p starts name args s.graph (made_with_graph p.made s.graph) in (
       q,
       record {
         file_is = at.file_is;
@@ -115,7 +115,7 @@ pub changed : (way next : Way) (p : Progress) (c : Replacement) (name : List ℕ
     → IfSome way.start (λ s. CanFollow (last_graph s.graph way.steps.items) way.made c) → IsGraph c.graph → LeadsToChange p name args within moves c
     → HasAdded way (steps.Change c) (made_with_change way.made c) next → IsAt way p → LeadOn {E = ℕ} p (calls (changes within moves) name args ∷ []) [] next (Ok None)
 changed way next p c name args within moves some follows_ is_graph leads has at =
-    let q = with_call p (changes within moves) name args c.graph (made_with_change p.made c) in
+    let q = with_called_graph p (changes within moves) name args c.graph (made_with_change p.made c) in
     let told = goes_on way.start way.steps.items way.made p.statements p.graphs c some follows_ is_graph at.stands in
     let said_so : p.statements ++ change c.name c.args c.graph c.within c.moves ∷ [] ≡ p.statements ++ change name args c.graph within moves ∷ [] =
     λ i. p.statements ++ change (leads.name_is i) (leads.args_are i) c.graph (leads.within_is i) (leads.moves_are i) ∷ [] in
@@ -157,8 +157,8 @@ found_marks way next body (Ok (Some answer)) found = tt
 found_marks way next body (Err e) found = tt
 
 -- a description that is refused
-pub text_refused : (file text : List ℕ) (fault : DescriptionFault) (answer : Answer) → MayRefuse (IsTextRefusal text) fault → IsRefusalFor file fault answer → (p : Progress) (rest : List Line)
-    → Shows (Follows running p (uses file ∷ rest) (fetch_of file (Held text) ∷ [])) answer.status answer.text.items
+pub text_refused : (file text : List ℕ) (fault : DescriptionFault) (answer : Answer) → MayRefuse (IsTextRefusal text) fault → IsRefusalFor file fault answer → (p : Progress) (rest : List RunLine)
+    → Shows (FollowsLines running p (uses file ∷ rest) (fetch_of file (Held text) ∷ [])) answer.status answer.text.items
 text_refused file text fault answer may is p rest = record {
   answer = refusal (description file (fault_words fault));
   is = leads_on text [] (refusal (description file (fault_words fault))) (refused (fault_words fault) (may is.plain));
@@ -166,12 +166,12 @@ text_refused file text fault answer may is p rest = record {
   has_text = is.text_is;
 }
 
-pub too_long_refused : (file : List ℕ) (p : Progress) (rest : List Line)
-    → Shows (Follows running p (uses file ∷ rest) (fetch_of file TooLong ∷ [])) status.Description (description_line file (codes "TooLong" ∷ []))
+pub too_long_refused : (file : List ℕ) (p : Progress) (rest : List RunLine)
+    → Shows (FollowsLines running p (uses file ∷ rest) (fetch_of file TooLong ∷ [])) status.Description (description_line file (codes "TooLong" ∷ []))
 too_long_refused file p rest = record { answer = refusal (description file (codes "TooLong" ∷ [])); is = too_long; has_status = refl; has_text = refl }
 
-pub failed_refused : (file : List ℕ) (p : Progress) (rest : List Line)
-    → Shows (Follows running p (uses file ∷ rest) (fetch_of file Failed ∷ [])) status.ReadFault (read_fault_line file)
+pub failed_refused : (file : List ℕ) (p : Progress) (rest : List RunLine)
+    → Shows (FollowsLines running p (uses file ∷ rest) (fetch_of file Failed ∷ [])) status.ReadFault (read_fault_line file)
 failed_refused file p rest = record { answer = refusal (read_fault file); is = failed; has_status = refl; has_text = refl }
 
 -- room for what a change creates

@@ -16,7 +16,7 @@ use Rattle.command_answers.specs.DescriptionFaults.{MayRefuse, is_no_memory}
 use Rattle.command_answers.specs.RefusalLines.{plan_words}
 use Rattle.command_answers.specs.declared.error.DescriptionFault.{DescriptionFault}
 use Rattle.command_answers.specs.declared.error.DescriptionFault.TheVariants as fault
-use Rattle.command_runs.specs.Lines.{Deed, changes, starts, IsCallRefusal, by_deed, by_elaboration, Leads, Progress, with_call}
+use Rattle.command_runs.specs.Lines.{Deed, changes, starts, IsCallRefusal, by_deed, by_elaboration, CallLeads, Progress, with_called_graph}
 use Rattle.darwin_parser.specs.Tree.{Tree}
 use Rattle.script_answers.specs.Calls.{HasUsedFault, HasUsedGraph}
 use Rattle.script_answers.specs.Ways.{IsAt, IsAskedSoFar, last_graph, made_with_graph}
@@ -34,7 +34,7 @@ call_at_fault p used deed name args e same may plain =
 -- a start
 module _ (p : Progress) (used : Option Tree) (name : List ℕ) (args : List ℤ) (g : Graph) (made : Made) (same : p.used ≡ used) (made_is : p.made ≡ made)
     (u : HasUsedGraph used name args g) where
-  pub start_leads : HasRoomFor made g → Leads p starts name args (with_call p starts name args g (made_with_graph p.made g))
+  pub start_leads : HasRoomFor made g → CallLeads p starts name args (with_called_graph p starts name args g (made_with_graph p.made g))
   start_leads room = record {
     tree = u.tree;
     is_used = same ∙ u.is_used;
@@ -77,8 +77,8 @@ module _ (way : Way) (p : Progress) (used : Option Tree) (name : List ℕ) (args
     (same : p.used ≡ used) (some : IsSome way.start) (is_old : IfSome way.start (λ s. old ≡ last_graph s.graph way.steps.items)) (at : IsAt way p)
     (u : HasUsedGraph used name args g) where
   pub change_leads : (plan : Plan) → CanPlan old g moves way.made → IsPlanOf old g moves plan
-      → Leads p (changes within moves) name args
-      (with_call p (changes within moves) name args g (record { nodes = p.made.nodes + length plan.create; ports = p.made.ports + sum_by (requires_at g.nodes) plan.create }))
+      → CallLeads p (changes within moves) name args
+      (with_called_graph p (changes within moves) name args g (record { nodes = p.made.nodes + length plan.create; ports = p.made.ports + sum_by (requires_at g.nodes) plan.create }))
   change_leads plan can is =
       let on = stands_on way.start way.steps.items way.made p.statements p.graphs old some is_old at.stands in
       let can_so = subst (λ m. CanPlan old g moves m) (sym at.made_is) can in

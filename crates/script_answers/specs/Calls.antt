@@ -1,8 +1,8 @@
 -- What a start or a change comes to, of the description that is used.
 use Rattle.std.specs.Prelude.{◌≡◌, ℕ, ℤ, List, Option, Some}
 use Rattle.change_plan.specs.declared.plan_data.Move.{Move}
-use Rattle.command_runs.specs.Descriptions.{IsGraphOf}
-use Rattle.command_runs.specs.Lines.{changes, starts, Leads, Progress, with_call}
+use Rattle.command_runs.specs.Descriptions.{IsGraphOfCall}
+use Rattle.command_runs.specs.Lines.{changes, starts, CallLeads, Progress, with_called_graph}
 use Rattle.config_graph.specs.Graph.{Graph}
 use Rattle.darwin_parser.specs.Tree.{Name, Tree}
 use Rattle.file_answers.specs.Refusals.{NamesFault}
@@ -15,7 +15,7 @@ use Rattle.script_steps.specs.declared.steps.Start.{Start}
 pub record HasUsedGraph (used : Option Tree) (name : Name) (args : List ℤ) (g : Graph) : Type 0 where
   pub tree : Tree
   pub is_used : used ≡ Some tree
-  pub is_graph : IsGraphOf tree name args g
+  pub is_graph : IsGraphOfCall tree name args g
 
 pub record HasUsedFault (used : Option Tree) (name : Name) (args : List ℤ) (words : List (List ℕ)) : Type 0 where
   pub tree : Tree
@@ -26,7 +26,7 @@ pub record HasUsedFault (used : Option Tree) (name : Name) (args : List ℤ) (wo
 pub record LeadsToStart (p : Progress) (name : Name) (args : List ℤ) (s : Start) : Type 0 where
   pub name_is : s.name ≡ name
   pub args_are : s.args ≡ args
-  pub leads : Leads p starts name args (with_call p starts name args s.graph (made_with_graph p.made s.graph))
+  pub leads : CallLeads p starts name args (with_called_graph p starts name args s.graph (made_with_graph p.made s.graph))
 
 -- and so does a change
 pub record LeadsToChange (p : Progress) (name : Name) (args : List ℤ) (within : ℕ) (moves : List Move) (c : Replacement)
@@ -35,5 +35,5 @@ pub record LeadsToChange (p : Progress) (name : Name) (args : List ℤ) (within 
   pub args_are : c.args ≡ args
   pub within_is : c.within ≡ within
   pub moves_are : c.moves ≡ moves
-  pub leads : Leads p (changes within moves) name args
-      (with_call p (changes within moves) name args c.graph (made_with_change p.made c))
+  pub leads : CallLeads p (changes within moves) name args
+      (with_called_graph p (changes within moves) name args c.graph (made_with_change p.made c))

@@ -9,7 +9,7 @@ use Rattle.command_answers.specs.Statuses.{is_of_run}
 use Rattle.command_answers.specs.Answers.{Shows, refusal, no_memory}
 use Rattle.command_runs.specs.Descriptions.{IsChecked}
 use Rattle.command_runs.specs.Fetches.{Fetch, Gave, failed_names, fetch_of}
-use Rattle.command_runs.specs.Lines.{Line, uses, Follows, Progress, running}
+use Rattle.command_runs.specs.Lines.{RunLine, uses, FollowsLines, Progress, running}
 use Rattle.command_runs.specs.declared.fetched.Fetched.{Fetched}
 use Rattle.command_runs.specs.declared.fetched.Fetched.TheVariants.{Held}
 use Rattle.darwin_types.specs.Checked.{description}
@@ -20,17 +20,17 @@ use Rattle.script_answers.specs.declared.describing.Described.TheVariants as des
 use Rattle.script_answers.specs.declared.way.Way.{Way}
 
 -- The lines lead to an answer; or none of them refuses, and what follows behind them follows with them.
-abbrev pub LeadOn : {E : Type 0} → Progress → List Line → List Fetch → Way → Result (Option Answer) E → Type 0
+abbrev pub LeadOn : {E : Type 0} → Progress → List RunLine → List Fetch → Way → Result (Option Answer) E → Type 0
 LeadOn p lines fetches way (Ok None) =
     (q : Progress) × IsAt way q
-    × ((rest : List Line) (more : List Fetch) (answer : values.Answer) → Follows running q rest more answer
-    → Follows running p (lines ++ rest) (fetches ++ more) answer)
+    × ((rest : List RunLine) (more : List Fetch) (answer : values.Answer) → FollowsLines running q rest more answer
+    → FollowsLines running p (lines ++ rest) (fetches ++ more) answer)
 LeadOn p lines fetches way (Ok (Some answer)) =
-    (rest : List Line) → Shows (Follows running p (lines ++ rest) fetches) answer.status answer.text.items
-LeadOn p lines fetches way (Err _) = (rest : List Line) → Follows running p (lines ++ rest) fetches (refusal no_memory)
+    (rest : List RunLine) → Shows (FollowsLines running p (lines ++ rest) fetches) answer.status answer.text.items
+LeadOn p lines fetches way (Err _) = (rest : List RunLine) → FollowsLines running p (lines ++ rest) fetches (refusal no_memory)
 
 -- the same by fetches whose failures the shelf notes, and which gave what its files hold
-pub record Took {E : Type 0} (files : Option Files) (p : Progress) (lines : List Line) (failures failures' : List (List ℕ))
+pub record Took {E : Type 0} (files : Option Files) (p : Progress) (lines : List RunLine) (failures failures' : List (List ℕ))
     (way : Way) (result : Result (Option Answer) E) : Type 0 where
   pub fetches : List Fetch
   pub noted : failures' ≡ failures ++ failed_names fetches
@@ -56,5 +56,5 @@ abbrev pub Describes : List ℕ → Fetched → Described → Type 0
 Describes file given (described.Checked checked) = (bytes : List ℕ) × (given ≡ Held bytes) × IsChecked bytes (description checked)
 Describes file given (described.Refused answer) =
     IsOfNoRun answer
-    × ((p : Progress) (rest : List Line)
-    → Shows (Follows running p (uses file ∷ rest) (fetch_of file given ∷ [])) answer.status answer.text.items)
+    × ((p : Progress) (rest : List RunLine)
+    → Shows (FollowsLines running p (uses file ∷ rest) (fetch_of file given ∷ [])) answer.status answer.text.items)

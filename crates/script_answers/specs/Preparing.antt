@@ -7,7 +7,7 @@ use Rattle.change_script.specs.declared.report.Report.{Report}
 use Rattle.command_answers.specs.Answers.{Shows, refusal, no_memory, ran}
 use Rattle.command_answers.specs.Answers as values
 use Rattle.command_runs.specs.Commands.{course_of}
-use Rattle.command_runs.specs.Courses.{Course}
+use Rattle.command_runs.specs.Courses.{FetchCourse}
 use Rattle.command_runs.specs.Fetches.{Fetch, Gave, failed_names}
 use Rattle.command_runs.specs.RunReports.{IsReportOf}
 use Rattle.command_words.specs.declared.words.Command.TheVariants as commands
@@ -22,14 +22,14 @@ abbrev pub EndsRun : List Statement → values.Answer → Type 0
 EndsRun statements answer = (answer ≡ refusal no_memory) ⊎ ((r : Report) × IsReportOf statements r × (answer ≡ ran r))
 
 -- The course has the answer that refuses, or want of memory; or it has whatever ends the run of what is asked for.
-abbrev pub LeadsIn : {E : Type 0} → Course → List Fetch → Result Prepared E → Type 0
+abbrev pub LeadsIn : {E : Type 0} → FetchCourse → List Fetch → Result Prepared E → Type 0
 LeadsIn course fetches (Ok (prepared.Asked start steps)) =
     (answer : values.Answer) → EndsRun (statements_of start steps.items) answer → course fetches answer
 LeadsIn course fetches (Ok (prepared.Refused answer)) = Shows (course fetches) answer.status answer.text.items
 LeadsIn course fetches (Err _) = course fetches (refusal no_memory)
 
 -- the same of a shelf that notes the failures, and whose files the fetches gave
-pub record PreparesIn {E : Type 0} (files : Option Files) (course : Course) (failures failures' : List (List ℕ))
+pub record PreparesIn {E : Type 0} (files : Option Files) (course : FetchCourse) (failures failures' : List (List ℕ))
     (result : Result Prepared E) : Type 0 where
   pub fetches : List Fetch
   pub noted : failures' ≡ failures ++ failed_names fetches

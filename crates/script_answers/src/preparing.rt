@@ -2,8 +2,8 @@
 
 ghost use Rattle.std.specs.Prelude.{◌≡◌, ℕ, List, IfOk, IsSome};
 ghost use Rattle.change_script.specs.ScriptFiles.{IsScript};
-ghost use Rattle.command_runs.specs.Lines.{Progress, begun, running, Follows};
-ghost use Rattle.command_runs.specs.Scripts.{lines_of};
+ghost use Rattle.command_runs.specs.Lines.{Progress, begun, running, FollowsLines};
+ghost use Rattle.command_runs.specs.Scripts.{lines_of_script};
 ghost use Rattle.script_answers.specs.Preparing.{CanRun, IsAskedBy, Prepares, PreparesIn, RefusesRun};
 
 use crate::taking::take_lines;
@@ -45,7 +45,7 @@ fn prepare_lines<H: Shelf>(
     script: Script,
 ) -> Result<Prepared, NoMemory>
     requires { (text : List ℕ) × IsScript text script }
-    ensures prepares { PreparesIn (H.files shelf.old) (Follows running begun (lines_of script.lines))
+    ensures prepares { PreparesIn (H.files shelf.old) (FollowsLines running begun (lines_of_script script.lines))
         (H.failed shelf.old) (H.failed shelf.new) result }
     ensures kept { H.files shelf.new ≡ H.files shelf.old }
     ensures can_run { IfOk result CanRun }

@@ -6,7 +6,7 @@ ghost use Rattle.command_answers.specs.DescriptionFaults.{MayRefuse};
 ghost use Rattle.change_script.specs.ScriptFiles.{is_file, is_start};
 ghost use Rattle.change_script.specs.declared.script.Body.{Body as Statement};
 ghost use Rattle.command_runs.specs.Lines.{Deed, IsCallRefusal, Progress, calls, changes, does, starts, uses};
-ghost use Rattle.command_runs.specs.Scripts.{line_of, lines_of};
+ghost use Rattle.command_runs.specs.Scripts.{lines_of_body, lines_of_script};
 ghost use Rattle.script_answers.specs.Fitting.{MayAllStand, MayStand};
 ghost use Rattle.script_answers.specs.Leading.{IsOfNoRun, LeadOn, MarksOnward, Took};
 ghost use Rattle.script_answers.specs.Ways.{IsAt, IsNoChange};
@@ -33,7 +33,7 @@ pub fn take_lines<H: Shelf>(
 ) -> Result<Option<Answer>, NoMemory>
     requires { MayAllStand (is_some way.old.used) (is_some way.old.start) lines.items }
     ensures took { (p : Progress) → IsAt way.old p
-        → Took (H.files shelf.old) p (lines_of lines.items) (H.failed shelf.old) (H.failed shelf.new) way.new result }
+        → Took (H.files shelf.old) p (lines_of_script lines.items) (H.failed shelf.old) (H.failed shelf.new) way.new result }
     ensures begun { IfOk result (λ found. found ≡ None → IsSome way.new.start) }
     ensures refuses { IfOk result (λ found. IfSome found IsOfNoRun) }
     ensures kept { H.files shelf.new ≡ H.files shelf.old }
@@ -57,7 +57,7 @@ fn take_line<H: Shelf>(
 ) -> Result<Option<Answer>, NoMemory>
     requires { MayStand (is_some way.old.used) (is_some way.old.start) body }
     ensures took { (p : Progress) → IsAt way.old p
-        → Took (H.files shelf.old) p (line_of body) (H.failed shelf.old) (H.failed shelf.new) way.new result }
+        → Took (H.files shelf.old) p (lines_of_body body) (H.failed shelf.old) (H.failed shelf.new) way.new result }
     ensures marks { MarksOnward way.old way.new body result }
     ensures refuses { IfOk result (λ found. IfSome found IsOfNoRun) }
     ensures kept { H.files shelf.new ≡ H.files shelf.old }

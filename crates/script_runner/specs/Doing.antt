@@ -6,7 +6,6 @@ use Rattle.config_graph.specs.declared.node.Made.{Made}
 use Rattle.change_plan.specs.declared.plan_data.Plan.{Plan}
 use Rattle.plan_laws.specs.Committing.{made_in}
 use Rattle.change_law.specs.Members.{is_pending}
-use Rattle.change_law.specs.Scripts.{more_made}
 use Rattle.gate_records.specs.declared.entry.Entry.{Entry}
 use Rattle.change_board.specs.Steps.{Room}
 use Rattle.change_board.specs.Transcripts.{Item, lines}

@@ -2,7 +2,7 @@
 use Rattle.std.proofs.Common.{◌∙◌, Ok, ap, subst}
 use Rattle.std.proofs.lemmas.Result.{err_from_is_err_and}
 use Rattle.command_runs.specs.Lines.{begun}
-use Rattle.command_runs.specs.Scripts.{lines_of}
+use Rattle.command_runs.specs.Scripts.{lines_of_script}
 use Rattle.script_answers.specs.Leading.{Took}
 use Rattle.script_answers.proofs.Fitting.{script_fits}
 use Rattle.script_answers.proofs.Preparations.{at_begin, can_run, lines_prepared, lines_refused, lines_short}
@@ -20,24 +20,24 @@ pub returns-in-None-clause-prepares : goal.returns-in-None-clause-prepares
 returns-in-None-clause-prepares g c =
     let way = c.new-way.ensures in
     let took = c.take_lines.ensures.took begun (at_begin c.new-way.result way.file way.used way.start way.steps way.made) in
-    lines_prepared _ (lines_of c.args.script.lines) _ _ c.take_lines.new.way c.asked_by.result c.asked_by.ensures
-    (subst (Took _ begun (lines_of c.args.script.lines) _ _ c.take_lines.new.way) (c.in_ok-refusal.was ∙ ap Ok c.in-None.is)
+    lines_prepared _ (lines_of_script c.args.script.lines) _ _ c.take_lines.new.way c.asked_by.result c.asked_by.ensures
+    (subst (Took _ begun (lines_of_script c.args.script.lines) _ _ c.take_lines.new.way) (c.in_ok-refusal.was ∙ ap Ok c.in-None.is)
     (rw c.into_vec.ensures at took))
 
 pub returns-in-None-clause-can_run : goal.returns-in-None-clause-can_run
 returns-in-None-clause-can_run g c =
     let way = c.new-way.ensures in
     let took = c.take_lines.ensures.took begun (at_begin c.new-way.result way.file way.used way.start way.steps way.made) in
-    can_run _ (lines_of c.args.script.lines) _ _ c.take_lines.new.way c.asked_by.result c.asked_by.ensures
-    (subst (Took _ begun (lines_of c.args.script.lines) _ _ c.take_lines.new.way) (c.in_ok-refusal.was ∙ ap Ok c.in-None.is)
+    can_run _ (lines_of_script c.args.script.lines) _ _ c.take_lines.new.way c.asked_by.result c.asked_by.ensures
+    (subst (Took _ begun (lines_of_script c.args.script.lines) _ _ c.take_lines.new.way) (c.in_ok-refusal.was ∙ ap Ok c.in-None.is)
     (rw c.into_vec.ensures at took))
 
 pub returns-in-Some-clause-prepares : goal.returns-in-Some-clause-prepares
 returns-in-Some-clause-prepares g c =
     let way = c.new-way.ensures in
     let took = c.take_lines.ensures.took begun (at_begin c.new-way.result way.file way.used way.start way.steps way.made) in
-    lines_refused _ (lines_of c.args.script.lines) _ _ c.take_lines.new.way c.in-Some.answer
-    (subst (Took _ begun (lines_of c.args.script.lines) _ _ c.take_lines.new.way) (c.in_ok-refusal.was ∙ ap Ok c.in-Some.is)
+    lines_refused _ (lines_of_script c.args.script.lines) _ _ c.take_lines.new.way c.in-Some.answer
+    (subst (Took _ begun (lines_of_script c.args.script.lines) _ _ c.take_lines.new.way) (c.in_ok-refusal.was ∙ ap Ok c.in-Some.is)
     (rw c.into_vec.ensures at took))
 
 pub returns-in_err-refusal-clause-prepares : goal.returns-in_err-refusal-clause-prepares
@@ -46,5 +46,5 @@ returns-in_err-refusal-clause-prepares g c =
     let way = c.new-way.ensures in
     let took = c.take_lines.ensures.took begun (at_begin c.new-way.result way.file way.used way.start way.steps way.made) in
     rw q.1
-    (lines_short _ (lines_of c.args.script.lines) _ _ c.take_lines.new.way c.in_err-refusal.field-0.0 q.0
-    (subst (Took _ begun (lines_of c.args.script.lines) _ _ c.take_lines.new.way) c.in_err-refusal.was (rw c.into_vec.ensures at took)))
+    (lines_short _ (lines_of_script c.args.script.lines) _ _ c.take_lines.new.way c.in_err-refusal.field-0.0 q.0
+    (subst (Took _ begun (lines_of_script c.args.script.lines) _ _ c.take_lines.new.way) c.in_err-refusal.was (rw c.into_vec.ensures at took)))
