@@ -8,7 +8,7 @@ use Rattle.command_answers.specs.Answers as values
 use Rattle.command_answers.specs.Answers.{Shows, refusal, no_memory, no_memory_line, summary}
 use Rattle.command_answers.specs.declared.status.Status.{Status}
 use Rattle.command_answers.specs.declared.status.Status.TheVariants as status
-use Rattle.command_runs.specs.Courses.{Course}
+use Rattle.command_runs.specs.Courses.{FetchCourse}
 use Rattle.command_runs.specs.Fetches.{Fetch, failed_names, Gave}
 use Rattle.command_runs.specs.RunReports.{IsReportOf}
 use Rattle.file_answers.specs.declared.answer.Answer.{Answer}
@@ -23,12 +23,12 @@ result_text (Ok answer) = answer.text.items
 result_text (Err _) = no_memory_line
 
 -- these fetches and this answer, or want of memory, are of the course
-abbrev pub EndsBy : {E : Type 0} → Course → List Fetch → Result Answer E → Type 0
+abbrev pub EndsBy : {E : Type 0} → FetchCourse → List Fetch → Result Answer E → Type 0
 EndsBy course fetches (Ok answer) = Shows (course fetches) answer.status answer.text.items
 EndsBy course fetches (Err _) = course fetches (refusal no_memory)
 
 -- the same of a shelf
-pub record ComesBy {E : Type 0} (files : Option Files) (course : Course) (failures failures' : List (List ℕ)) (result : Result Answer E) : Type 0 where
+pub record ComesBy {E : Type 0} (files : Option Files) (course : FetchCourse) (failures failures' : List (List ℕ)) (result : Result Answer E) : Type 0 where
   pub fetches : List Fetch
   pub noted : failures' ≡ failures ++ failed_names fetches
   pub told : AllByRecursion (Gave files) fetches

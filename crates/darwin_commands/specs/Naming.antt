@@ -16,5 +16,5 @@ NamesNoFile (commands.Step script) = ⊥
 NamesNoFile (commands.Big lanes) = ⊤
 
 -- they ask for nothing, or for such a command
-abbrev pub NameNoFile : List (List ℕ) → Type 0
-NameNoFile words = (command : Command) → Asks words command → NamesNoFile command
+abbrev pub AskForNoFile : List (List ℕ) → Type 0
+AskForNoFile words = (command : Command) → Asks words command → NamesNoFile command

@@ -11,7 +11,7 @@ ghost use Rattle.command_runs.specs.Runs.{Runs};
 ghost use Rattle.script_answers.specs.Preparing.{EndsRun};
 ghost use Rattle.script_steps.specs.Asked.{CanDoAll, CanStart, after_start, statements_of};
 ghost use Rattle.darwin_commands.specs.Coming.{ComesBy, EndsBy, EndsInSummary};
-ghost use Rattle.darwin_commands.specs.Naming.{NameNoFile, NamesNoFile};
+ghost use Rattle.darwin_commands.specs.Naming.{AskForNoFile, NamesNoFile};
 
 use crate::writing::{finish, no_memory, write};
 use crate::{HELP, USAGE, VERSION};
@@ -46,7 +46,7 @@ pub fn run_words<H: Shelf, K: Sink>(
         (H.failed shelf.old) (H.failed shelf.new)
         (K.taken out.old) (K.taken out.new) (K.faults out.old) (K.faults out.new) result }
     ensures kept { H.files shelf.new ≡ H.files shelf.old }
-    ensures untouched { NameNoFile (map string_bytes words.now) → shelf.new ≡ shelf.old }
+    ensures untouched { AskForNoFile (map string_bytes words.now) → shelf.new ≡ shelf.old }
 {
     match read_words(alloc, words) {
         Ok(None) => write(out, Status::Usage, USAGE.as_bytes()),

@@ -11,7 +11,7 @@ ghost use Rattle.command_runs.specs.Outcomes.{Flattened, Planned, Replayed, Upgr
 ghost use Rattle.command_runs.specs.Outcomes.{EndsAsRun, IsRunStatus, NothingRefusesLines, Ran, SummedUp};
 ghost use Rattle.command_runs.specs.Runs.{Runs};
 ghost use Rattle.command_runs.specs.declared.query.Query.{Query};
-ghost use Rattle.darwin_commands.specs.Naming.{NameNoFile};
+ghost use Rattle.darwin_commands.specs.Naming.{AskForNoFile};
 
 use crate::answering::run_words;
 use cfg_io::{Shelf, Sink};
@@ -67,7 +67,7 @@ pub fn still<H: Shelf, K: Sink>(
     // And so is the script that is made, of which nothing is refused.
     ensures complete_big { (lanes : ℕ) → Asks (map string_bytes words.now) (commands.Big lanes) → EndsAsRun result }
     // Words that name no file, as those of `big`, fetch none: the shelf is as it was.
-    ensures untouched { NameNoFile (map string_bytes words.now) → shelf.new ≡ shelf.old }
+    ensures untouched { AskForNoFile (map string_bytes words.now) → shelf.new ≡ shelf.old }
 {
     made_runs_are_not_refused();
     run_words(alloc, words, shelf, out)

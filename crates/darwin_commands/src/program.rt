@@ -8,7 +8,7 @@ ghost use Rattle.command_answers.specs.Answers.{no_memory_line};
 ghost use Rattle.command_answers.specs.Statuses.{status_number};
 ghost use Rattle.command_runs.specs.Runs.{Runs, Written};
 ghost use Rattle.darwin_commands.specs.Exits.{Exits};
-ghost use Rattle.darwin_commands.specs.Naming.{NameNoFile};
+ghost use Rattle.darwin_commands.specs.Naming.{AskForNoFile};
 
 use crate::answering::run_words;
 use crate::writing::no_memory;
@@ -44,7 +44,7 @@ pub fn run_program<H: Shelf, K: Sink>(
         × (H.failed shelf.new ≡ H.failed shelf.old)) }
     // No fetch changes the files. Words that name no file fetch none: the shelf is as it was.
     ensures kept { H.files shelf.new ≡ H.files shelf.old }
-    ensures untouched { IfOk args (λ args. NameNoFile (map string_bytes (drop 1 (into_iter_items args))) → shelf.new ≡ shelf.old) }
+    ensures untouched { IfOk args (λ args. AskForNoFile (map string_bytes (drop 1 (into_iter_items args))) → shelf.new ≡ shelf.old) }
     ensures unread { OnErr args (shelf.new ≡ shelf.old) }
 {
     exit_code(run_args(alloc, args, shelf, out))
@@ -68,7 +68,7 @@ fn run_args<H: Shelf, K: Sink>(
         (K.taken out.old) (K.taken out.new) (K.faults out.old) (K.faults out.new) result
         × (H.failed shelf.new ≡ H.failed shelf.old)) }
     ensures kept { H.files shelf.new ≡ H.files shelf.old }
-    ensures untouched { IfOk args (λ args. NameNoFile (map string_bytes (drop 1 (into_iter_items args))) → shelf.new ≡ shelf.old) }
+    ensures untouched { IfOk args (λ args. AskForNoFile (map string_bytes (drop 1 (into_iter_items args))) → shelf.new ≡ shelf.old) }
     ensures unread { OnErr args (shelf.new ≡ shelf.old) }
 {
     match args {
@@ -84,7 +84,7 @@ fn run_given<H: Shelf, K: Sink>(alloc: Global, args: Args, shelf: &mut H, out: &
         (H.files shelf.old) (H.failed shelf.old) (H.failed shelf.new)
         (K.taken out.old) (K.taken out.new) (K.faults out.old) (K.faults out.new) result }
     ensures kept { H.files shelf.new ≡ H.files shelf.old }
-    ensures untouched { NameNoFile (map string_bytes (drop 1 (into_iter_items args))) → shelf.new ≡ shelf.old }
+    ensures untouched { AskForNoFile (map string_bytes (drop 1 (into_iter_items args))) → shelf.new ≡ shelf.old }
 {
     match words_behind_name(alloc, args) {
         Ok(words) => run_words(alloc, words.as_slice(), shelf, out),

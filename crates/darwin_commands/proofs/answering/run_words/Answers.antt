@@ -18,4 +18,4 @@ returns-in-Err-clause-runs g c = runs_alone _ _ _ _ _ _ _ (refusal no_memory) _ 
 
 pub returns-in-Ok-Some-clause-untouched : goal.returns-in-Ok-Some-clause-untouched
 returns-in-Ok-Some-clause-untouched g c none =
-    c.run_command.ensures.untouched (none c.in-Ok-Some.field-0.command (rw c.in-Ok-Some.field-0-is at c.in-Ok-Some.ensures.found))
+    c.run_command.ensures.untouched (none _ (rw c.in-Ok-Some.field-0-is at c.in-Ok-Some.ensures.found))
