@@ -1,10 +1,11 @@
 //! Rows of fetches: which there are, and that there are no more.
 
 use crate::descriptions::LINE;
-use crate::running::AMPLE;
-use cfg_io::{FileShelf, MemShelf, MemSink, Shelf};
-use darwin_commands::still;
+use crate::running::{AMPLE, run_over};
+use cfg_io::{FileShelf, MemShelf, Shelf};
+use std::alloc::Global;
 use std::fs;
+use std::process::Abort;
 use std::test::Fail;
 
 /// Words, the number of the fetch that fails, counted from 0, and what they come to.
@@ -69,23 +70,19 @@ static ROWS: [Failing; 7] = [
     },
 ];
 
+fn assert_failing(rt: &impl Abort, alloc: Global, row: &Failing) -> Result<(), Fail> {
+    let mut shelf = MemShelf::new(alloc);
+    shelf.add("line.dar", LINE.as_bytes())?;
+    shelf.add("e.txt", b"start Line(3,10)\n")?;
+    shelf.fail_at(row.fetch)?;
+    let wanted = (AMPLE, row.status, row.written);
+    run_over(rt, alloc, &mut shelf, row.words, wanted)
+}
+
 #[test]
 fn each_file_is_fetched_once(rt: HostRuntime) -> Result<(), Fail> {
-    let alloc = rt.alloc();
     for row in &ROWS {
-        let mut shelf = MemShelf::new(alloc);
-        shelf.add("line.dar", LINE.as_bytes())?;
-        shelf.add("e.txt", b"start Line(3,10)\n")?;
-        shelf.fail_at(row.fetch)?;
-        let mut sink = MemSink::new(alloc, AMPLE)?;
-        let mut words = Vec::new(alloc);
-        for word in row.words {
-            words.push(String::from_str(alloc, word)?)?;
-        }
-        let status = still(alloc, words.as_slice(), &mut shelf, &mut sink);
-        let written = row.written;
-        assert_eq!(rt; sink.bytes(), written.as_bytes(), "{written}");
-        assert_eq!(rt; status.number(), row.status, "{written}");
+        assert_failing(&rt, rt.alloc(), row)?;
     }
     Ok(())
 }

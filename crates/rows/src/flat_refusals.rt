@@ -3,9 +3,8 @@
 use crate::descriptions::{
     DEEP, DIVISION, LINE, LONG_NAME, LOOP, NESTED, ONE, RING, ROW, SMALL_REFUSED, TURNS, TWICE, TWO,
 };
-use crate::running::{AMPLE, Row, run};
-use cfg_io::{MemShelf, MemSink};
-use darwin_commands::{Status, still};
+use crate::running::{AMPLE, Row, run, run_over};
+use cfg_io::MemShelf;
 use std::alloc::Global;
 use std::process::Abort;
 use std::test::Fail;
@@ -200,61 +199,57 @@ static GRAPHS: [Fault; 13] = [
 ];
 
 /// Each description is refused for its fault.
-fn run_all(rt: &impl Abort, alloc: Global, faults: &[Fault]) -> Result<(), Fail> {
+fn assert_refused(rt: &impl Abort, alloc: Global, fault: &Fault) -> Result<(), Fail> {
+    let mut words = vec![in alloc; "flat", "f.dar"]?;
+    words.extend_from_slice(fault.words)?;
+    let written = format!(in alloc; "description f.dar: {}\n", fault.fault)?;
+    let row = Row {
+        words: words.as_slice(),
+        files: &[("f.dar", fault.text)],
+        room: AMPLE,
+        status: 2,
+        written: written.as_str(),
+    };
+    run(rt, alloc, &row)
+}
+
+fn assert_all_refused(rt: &impl Abort, alloc: Global, faults: &[Fault]) -> Result<(), Fail> {
     for fault in faults {
-        let mut words = vec![in alloc; "flat", "f.dar"]?;
-        words.extend_from_slice(fault.words)?;
-        let name = fault.fault;
-        let written = format!(in alloc; "description f.dar: {name}\n")?;
-        let row = Row {
-            words: words.as_slice(),
-            files: &[("f.dar", fault.text)],
-            room: AMPLE,
-            status: 2,
-            written: written.as_str(),
-        };
-        run(rt, alloc, &row)?;
+        assert_refused(rt, alloc, fault)?;
     }
     Ok(())
 }
 
 #[test]
 fn texts_are_refused(rt: HostRuntime) -> Result<(), Fail> {
-    run_all(&rt, rt.alloc(), &TEXTS)
+    assert_all_refused(&rt, rt.alloc(), &TEXTS)
 }
 
 #[test]
 fn names_are_refused(rt: HostRuntime) -> Result<(), Fail> {
-    run_all(&rt, rt.alloc(), &NAMES)
+    assert_all_refused(&rt, rt.alloc(), &NAMES)
 }
 
 #[test]
 fn graphs_are_refused(rt: HostRuntime) -> Result<(), Fail> {
-    run_all(&rt, rt.alloc(), &GRAPHS)
+    assert_all_refused(&rt, rt.alloc(), &GRAPHS)
 }
 
 /// The most bytes of a description.
 const LIMIT: usize = 1_048_576;
 
+/// A description of so many blanks.
+fn run_blanks(rt: &impl Abort, alloc: Global, length: usize, written: &str) -> Result<(), Fail> {
+    let blanks = Vec::from_elem(alloc, b' ', length)?;
+    let mut shelf = MemShelf::new(alloc);
+    shelf.add("f.dar", blanks.as_slice())?;
+    let wanted = (AMPLE, 2, written);
+    run_over(rt, alloc, &mut shelf, &["flat", "f.dar", "X"], wanted)
+}
+
 #[test]
 fn long_descriptions(rt: HostRuntime) -> Result<(), Fail> {
     let alloc = rt.alloc();
-    let words = vec![in alloc;
-        String::from_str(alloc, "flat")?,
-        String::from_str(alloc, "f.dar")?,
-        String::from_str(alloc, "X")?,
-    ]?;
-    for (length, written) in [
-        (LIMIT, "description f.dar: NoTop X\n"),
-        (LIMIT + 1, "description f.dar: TooLong\n"),
-    ] {
-        let blanks = Vec::from_elem(alloc, b' ', length)?;
-        let mut shelf = MemShelf::new(alloc);
-        shelf.add("f.dar", blanks.as_slice())?;
-        let mut sink = MemSink::new(alloc, AMPLE)?;
-        let status = still(alloc, words.as_slice(), &mut shelf, &mut sink);
-        assert_eq!(rt; sink.bytes(), written.as_bytes(), "{written}");
-        assert_eq!(rt; status, Status::Description, "{written}");
-    }
-    Ok(())
+    run_blanks(&rt, alloc, LIMIT, "description f.dar: NoTop X\n")?;
+    run_blanks(&rt, alloc, LIMIT + 1, "description f.dar: TooLong\n")
 }

@@ -1,7 +1,7 @@
 //! Rows of `flat` that write a graph. Further ones stand in the rows of the guide.
 
 use crate::descriptions::{LINE, ONE, ONE_NOTE, TABLE, TURNS};
-use crate::running::{AMPLE, Row, run};
+use crate::running::{AMPLE, Row, run_all};
 use std::test::Fail;
 
 static ROWS: [Row<'static>; 5] = [
@@ -44,8 +44,5 @@ static ROWS: [Row<'static>; 5] = [
 
 #[test]
 fn flat_writes_graphs(rt: HostRuntime) -> Result<(), Fail> {
-    for row in &ROWS {
-        run(&rt, rt.alloc(), row)?;
-    }
-    Ok(())
+    run_all(&rt, rt.alloc(), &ROWS)
 }

@@ -1,6 +1,6 @@
 //! Rows of the guide: its commands on the texts of `examples/`, with what it shows.
 
-use crate::running::{AMPLE, Row, run};
+use crate::running::{AMPLE, Row, run_all};
 use std::test::Fail;
 
 /// The text of `examples/l.dar`.
@@ -211,8 +211,5 @@ static ROWS: [Row<'static>; 9] = [
 
 #[test]
 fn the_guide_shows_what_comes(rt: HostRuntime) -> Result<(), Fail> {
-    for row in &ROWS {
-        run(&rt, rt.alloc(), row)?;
-    }
-    Ok(())
+    run_all(&rt, rt.alloc(), &ROWS)
 }

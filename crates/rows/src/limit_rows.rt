@@ -1,6 +1,7 @@
 //! Rows of systems as large as one run may make.
 
 use crate::descriptions::MANY;
+use crate::running::words_of;
 use cfg_io::{MemShelf, MemSink};
 use darwin_commands::{Status, still};
 use std::alloc::Global;
@@ -9,6 +10,10 @@ use std::test::Fail;
 
 /// Room of a sink that takes the text of the largest system.
 const WIDE: usize = 65_536;
+
+fn count_of_lines(text: &[u8]) -> usize {
+    text.iter().filter(|byte| **byte == b'\n').count()
+}
 
 /// Runs words over a description of many nodes, and stops the test where the text has another front, another end, or
 /// other counts of bytes and lines.
@@ -22,17 +27,13 @@ fn run_many(
     let mut shelf = MemShelf::new(alloc);
     shelf.add("many.dar", MANY.as_bytes())?;
     let mut sink = MemSink::new(alloc, WIDE)?;
-    let mut given = Vec::new(alloc);
-    for word in words {
-        given.push(String::from_str(alloc, word)?)?;
-    }
-    let status = still(alloc, given.as_slice(), &mut shelf, &mut sink);
-    let text = sink.bytes();
+    let words = words_of(alloc, words)?;
+    let status = still(alloc, words.as_slice(), &mut shelf, &mut sink);
     assert_eq!(rt; status, Status::Ok);
-    assert!(rt; text.starts_with(front));
-    assert!(rt; text.ends_with(end));
+    let text = sink.bytes();
+    assert!(rt; text.starts_with(front) && text.ends_with(end));
     assert_eq!(rt; text.len(), bytes);
-    assert_eq!(rt; text.iter().filter(|byte| **byte == b'\n').count(), lines);
+    assert_eq!(rt; count_of_lines(text), lines);
     Ok(())
 }
 

@@ -1,7 +1,7 @@
 //! Rows of `plan`.
 
 use crate::descriptions::{FLOW, LINE, MANY, TABLE};
-use crate::running::{AMPLE, Row, run};
+use crate::running::{AMPLE, Row, run_all};
 use std::test::Fail;
 
 static ROWS: [Row<'static>; 14] = [
@@ -133,8 +133,5 @@ static ROWS: [Row<'static>; 14] = [
 
 #[test]
 fn plan_writes_plans(rt: HostRuntime) -> Result<(), Fail> {
-    for row in &ROWS {
-        run(&rt, rt.alloc(), row)?;
-    }
-    Ok(())
+    run_all(&rt, rt.alloc(), &ROWS)
 }

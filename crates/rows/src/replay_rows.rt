@@ -1,9 +1,8 @@
 //! Rows of `replay`. Further ones stand in the rows of the guide.
 
 use crate::descriptions::{ASKING, BANK, CHAIN, LINE, MANY, SMALL};
-use crate::running::{AMPLE, Row, run};
-use cfg_io::{MemShelf, MemSink};
-use darwin_commands::{Status, still};
+use crate::running::{AMPLE, Row, run, run_all, run_over};
+use cfg_io::MemShelf;
 use std::alloc::Global;
 use std::process::Abort;
 use std::test::Fail;
@@ -205,17 +204,26 @@ static UNREAD: [Row<'static>; 4] = [
     },
 ];
 
-/// Replays events over descriptions, and stops the test where another text or status comes.
+/// Replays events over a description.
+fn replay(
+    rt: &impl Abort,
+    alloc: Global,
+    (description, events, status, written): &Replay,
+) -> Result<(), Fail> {
+    let row = Row {
+        words: &["replay", "f.dar", "e.txt"],
+        files: &[("f.dar", *description), ("e.txt", *events)],
+        room: AMPLE,
+        status: *status,
+        written,
+    };
+    run(rt, alloc, &row)
+}
+
+/// Replays each row.
 pub fn replay_all(rt: &impl Abort, alloc: Global, rows: &[Replay]) -> Result<(), Fail> {
-    for (description, events, status, written) in rows {
-        let row = Row {
-            words: &["replay", "f.dar", "e.txt"],
-            files: &[("f.dar", *description), ("e.txt", *events)],
-            room: AMPLE,
-            status: *status,
-            written,
-        };
-        run(rt, alloc, &row)?;
+    for row in rows {
+        replay(rt, alloc, row)?;
     }
     Ok(())
 }
@@ -237,26 +245,16 @@ fn descriptions_of_replays_are_refused(rt: HostRuntime) -> Result<(), Fail> {
 
 #[test]
 fn files_of_replays_are_read(rt: HostRuntime) -> Result<(), Fail> {
-    for row in &UNREAD {
-        run(&rt, rt.alloc(), row)?;
-    }
-    Ok(())
+    run_all(&rt, rt.alloc(), &UNREAD)
 }
 
 #[test]
 fn long_files_of_events(rt: HostRuntime) -> Result<(), Fail> {
     let alloc = rt.alloc();
-    let words = vec![in alloc;
-        String::from_str(alloc, "replay")?,
-        String::from_str(alloc, "none.dar")?,
-        String::from_str(alloc, "e.txt")?,
-    ]?;
     let blanks = Vec::from_elem(alloc, b' ', 1_048_577)?;
     let mut shelf = MemShelf::new(alloc);
     shelf.add("e.txt", blanks.as_slice())?;
-    let mut sink = MemSink::new(alloc, AMPLE)?;
-    let status = still(alloc, words.as_slice(), &mut shelf, &mut sink);
-    assert_eq!(rt; sink.bytes(), b"script e.txt: TooLong\n".as_slice());
-    assert_eq!(rt; status, Status::Script);
-    Ok(())
+    let words = ["replay", "none.dar", "e.txt"];
+    let wanted = (AMPLE, 3, "script e.txt: TooLong\n");
+    run_over(&rt, alloc, &mut shelf, &words, wanted)
 }

@@ -1,8 +1,7 @@
 //! Rows of `upgrade`. What may stand where in a report is told by the rows of its reader.
 
-use crate::running::{AMPLE, Row, run};
-use cfg_io::{MemShelf, MemSink};
-use darwin_commands::{Status, still};
+use crate::running::{AMPLE, Row, run_all, run_over};
+use cfg_io::MemShelf;
 use std::test::Fail;
 
 /// The run of a source that leads to nothing, in the two versions.
@@ -81,26 +80,16 @@ static ROWS: [Row<'static>; 8] = [
 
 #[test]
 fn upgrade_writes_reports_again(rt: HostRuntime) -> Result<(), Fail> {
-    for row in &ROWS {
-        run(&rt, rt.alloc(), row)?;
-    }
-    Ok(())
+    run_all(&rt, rt.alloc(), &ROWS)
 }
 
 /// A file longer than a report may be.
 #[test]
 fn long_reports_are_refused(rt: HostRuntime) -> Result<(), Fail> {
     let alloc = rt.alloc();
-    let words = vec![in alloc;
-        String::from_str(alloc, "upgrade")?,
-        String::from_str(alloc, "long.txt")?,
-    ]?;
-    let mut shelf = MemShelf::new(alloc);
     let blanks = Vec::from_elem(alloc, b'\n', 67_108_865)?;
+    let mut shelf = MemShelf::new(alloc);
     shelf.add("long.txt", blanks.as_slice())?;
-    let mut sink = MemSink::new(alloc, AMPLE)?;
-    let status = still(alloc, words.as_slice(), &mut shelf, &mut sink);
-    assert_eq!(rt; sink.bytes(), b"script long.txt: TooLong\n".as_slice());
-    assert_eq!(rt; status, Status::Script);
-    Ok(())
+    let wanted = (AMPLE, 3, "script long.txt: TooLong\n");
+    run_over(&rt, alloc, &mut shelf, &["upgrade", "long.txt"], wanted)
 }

@@ -252,16 +252,20 @@ static REPLAY: [Words; 5] = [
     },
 ];
 
+fn run_words(rt: &impl Abort, alloc: Global, words: &Words) -> Result<(), Fail> {
+    let row = Row {
+        words: words.words,
+        files: &[("f.dar", LINE)],
+        room: AMPLE,
+        status: words.status,
+        written: words.written,
+    };
+    run(rt, alloc, &row)
+}
+
 fn run_all(rt: &impl Abort, alloc: Global, rows: &[Words]) -> Result<(), Fail> {
     for row in rows {
-        let row = Row {
-            words: row.words,
-            files: &[("f.dar", LINE)],
-            room: AMPLE,
-            status: row.status,
-            written: row.written,
-        };
-        run(rt, alloc, &row)?;
+        run_words(rt, alloc, row)?;
     }
     Ok(())
 }

@@ -135,6 +135,14 @@ fn fault(alloc: Global, text: &[u8]) -> (&'static str, u32)
     }
 }
 
+fn assert_fault(rt: &impl Abort, alloc: Global, text: &str, (name, line): (&str, u32)) {
+    let bytes = text.as_bytes();
+    assert!(rt; bytes.len() <= MAX_TEXT);
+    let found = fault(alloc, bytes);
+    assert_eq!(rt; found.0, name, "{text}");
+    assert_eq!(rt; found.1, line, "{text}");
+}
+
 /// Each line between these others, which is the line of this number, has its fault, or the text has none.
 fn assert_faults(
     rt: &impl Abort,
@@ -146,10 +154,8 @@ fn assert_faults(
 ) -> Result<(), Fail> {
     for (line, wanted) in rows {
         let text = format!(in alloc; "{before}{line}{after}")?;
-        let bytes = text.as_bytes();
-        assert!(rt; bytes.len() <= MAX_TEXT);
         let at = if wanted.is_empty() { 0 } else { number };
-        assert_eq!(rt; fault(alloc, bytes), (*wanted, at), "{line}");
+        assert_fault(rt, alloc, text.as_str(), (wanted, at));
     }
     Ok(())
 }
@@ -184,17 +190,32 @@ fn further_makes_have_forms(rt: HostRuntime) -> Result<(), Fail> {
     assert_faults(&rt, rt.alloc(), "start C()\n", 2, &FURTHER_MAKES, "")
 }
 
+/// Texts of several lines, and the first fault of each with its line.
+static FIRST_FAULTS: [(&str, &str, u32); 5] = [
+    ("", "NoStart", 0),
+    ("# start C()\n \t\r\n", "NoStart", 0),
+    (
+        "start a123456789_123456789_123456789_123456789_123456789_123456789_123()",
+        "",
+        0,
+    ),
+    (
+        "start a123456789_123456789_123456789_123456789_123456789_123456789_1234()",
+        "BadLine",
+        1,
+    ),
+    (
+        "start C()\nclose 1\nclose 4294967296\nclose",
+        "NumberTooBig",
+        3,
+    ),
+];
+
 #[test]
 fn the_first_fault_of_a_file(rt: HostRuntime) {
-    let alloc = rt.alloc();
-    assert_eq!(rt; fault(alloc, b""), ("NoStart", 0));
-    assert_eq!(rt; fault(alloc, b"# start C()\n \t\r\n"), ("NoStart", 0));
-    let name_64 = b"start a123456789_123456789_123456789_123456789_123456789_123456789_123()";
-    assert_eq!(rt; fault(alloc, name_64), ("", 0));
-    let name_65 = b"start a123456789_123456789_123456789_123456789_123456789_123456789_1234()";
-    assert_eq!(rt; fault(alloc, name_65), ("BadLine", 1));
-    let two_faults = b"start C()\nclose 1\nclose 4294967296\nclose";
-    assert_eq!(rt; fault(alloc, two_faults), ("NumberTooBig", 3));
+    for (text, name, line) in &FIRST_FAULTS {
+        assert_fault(&rt, rt.alloc(), text, (name, *line));
+    }
 }
 
 /// An event file has these events.

@@ -172,17 +172,26 @@ fn outcome(
     Ok(out)
 }
 
+fn assert_outcome(
+    rt: &impl Abort,
+    alloc: Global,
+    (from, to, pairs, (nodes, ports), wanted): &Planned,
+) -> Result<(), Fail> {
+    let old = graph_after(rt, alloc, from)?;
+    let new = graph_after(rt, alloc, to)?;
+    let moves = moves_of(alloc, pairs)?;
+    let made = Made {
+        nodes: *nodes,
+        ports: *ports,
+    };
+    let found = outcome(alloc, &old, &new, &moves, made)?;
+    assert_eq!(rt; found.as_str(), *wanted);
+    Ok(())
+}
+
 fn assert_outcomes(rt: &impl Abort, alloc: Global, rows: &[Planned]) -> Result<(), Fail> {
-    for (from, to, pairs, (nodes, ports), wanted) in rows {
-        let old = graph_after(rt, alloc, from)?;
-        let new = graph_after(rt, alloc, to)?;
-        let moves = moves_of(alloc, pairs)?;
-        let made = Made {
-            nodes: *nodes,
-            ports: *ports,
-        };
-        let found = outcome(alloc, &old, &new, &moves, made)?;
-        assert_eq!(rt; found.as_str(), *wanted);
+    for row in rows {
+        assert_outcome(rt, alloc, row)?;
     }
     Ok(())
 }

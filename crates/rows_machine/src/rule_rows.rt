@@ -139,18 +139,28 @@ fn denial_of_the_last(alloc: Global, events: &[Event]) -> Option<u32> {
     }
 }
 
+fn assert_last_denied(
+    rt: &impl Abort,
+    alloc: Global,
+    system: &[&str],
+    (events, rule): &Denied,
+) -> Result<(), Fail> {
+    let mut pieces = Vec::from_slice(alloc, system)?;
+    pieces.push(events)?;
+    let file = events_of(rt, alloc, &pieces)?;
+    let denied = denial_of_the_last(alloc, file.events.items());
+    assert_eq!(rt; denied, Some(*rule), "{events}");
+    Ok(())
+}
+
 fn assert_denied(
     rt: &impl Abort,
     alloc: Global,
     system: &[&str],
     rows: &[Denied],
 ) -> Result<(), Fail> {
-    for (events, rule) in rows {
-        let mut pieces = Vec::from_slice(alloc, system)?;
-        pieces.push(events)?;
-        let file = events_of(rt, alloc, &pieces)?;
-        let denied = denial_of_the_last(alloc, file.events.items());
-        assert_eq!(rt; denied, Some(*rule), "{events}");
+    for row in rows {
+        assert_last_denied(rt, alloc, system, row)?;
     }
     Ok(())
 }

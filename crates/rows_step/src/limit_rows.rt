@@ -1,10 +1,10 @@
 //! Rows of scripts as large as they may be, and one past it.
 
 use crate::descriptions::{LINE, MANY};
-use crate::running::{AMPLE, STEP, words_of};
+use crate::running::{AMPLE, STEP, run_over, words_of};
 use cfg_io::{MemShelf, MemSink};
 use darwin_commands::{Status, still};
-use std::alloc::Global;
+use std::alloc::{AllocError, Global};
 use std::process::Abort;
 use std::test::Fail;
 
@@ -13,6 +13,15 @@ const WIDE: usize = 65_536;
 
 /// The most statements of a script.
 const MOST: u32 = 256;
+
+fn count_of_lines(text: &[u8]) -> usize {
+    text.iter().filter(|byte| **byte == b'\n').count()
+}
+
+const FIRST_LINES: &[u8] =
+    b"report 2\nstart Many(1023)\nmake 0 A[0] sink()\nmake 1 A[1000] sink()\n";
+
+const LAST_LINES: &[u8] = b"log 1022 A[9]\nstate\nstatus 0\n";
 
 /// As many nodes as one run may make.
 #[test]
@@ -24,15 +33,22 @@ fn the_largest_system_runs(rt: HostRuntime) -> Result<(), Fail> {
     let mut sink = MemSink::new(alloc, WIDE)?;
     let words = words_of(alloc, &STEP)?;
     let status = still(alloc, words.as_slice(), &mut shelf, &mut sink);
-    let text = sink.bytes();
     assert_eq!(rt; status, Status::Ok);
-    assert!(rt;
-        text.starts_with(b"report 2\nstart Many(1023)\nmake 0 A[0] sink()\nmake 1 A[1000] sink()\n")
-    );
-    assert!(rt; text.ends_with(b"log 1022 A[9]\nstate\nstatus 0\n"));
+    let text = sink.bytes();
+    assert!(rt; text.starts_with(FIRST_LINES) && text.ends_with(LAST_LINES));
     assert_eq!(rt; text.len(), 44_711);
-    assert_eq!(rt; text.iter().filter(|byte| **byte == b'\n').count(), 3_074);
+    assert_eq!(rt; count_of_lines(text), 3_074);
     Ok(())
+}
+
+/// A script over a line with so many `run` lines.
+fn script_of_runs(alloc: Global, lines: u32) -> Result<String, AllocError> {
+    let mut script = String::from_str(alloc, "use line.dar\nstart Line(3,10)\n")?;
+    for _ in 0..lines {
+        script.push_str("run 1\n")?;
+    }
+    script.push_str("end\n")?;
+    Ok(script)
 }
 
 /// Runs a script over a line with so many `run` lines, and stops the test where another status comes, or a text that
@@ -44,11 +60,7 @@ fn run_often(
     status: Status,
     front: &[u8],
 ) -> Result<(), Fail> {
-    let mut script = String::from_str(alloc, "use line.dar\nstart Line(3,10)\n")?;
-    for _ in 0..lines {
-        script.push_str("run 1\n")?;
-    }
-    script.push_str("end\n")?;
+    let script = script_of_runs(alloc, lines)?;
     let mut shelf = MemShelf::new(alloc);
     shelf.add("line.dar", LINE.as_bytes())?;
     shelf.add("s.cfg", script.as_bytes())?;
@@ -80,12 +92,8 @@ fn long_scripts_are_refused(rt: HostRuntime) -> Result<(), Fail> {
     let blanks = Vec::from_elem(alloc, b' ', 1_048_577)?;
     let mut shelf = MemShelf::new(alloc);
     shelf.add("s.cfg", blanks.as_slice())?;
-    let mut sink = MemSink::new(alloc, AMPLE)?;
-    let words = words_of(alloc, &STEP)?;
-    let status = still(alloc, words.as_slice(), &mut shelf, &mut sink);
-    assert_eq!(rt; sink.bytes(), b"script s.cfg: TooLong\n".as_slice());
-    assert_eq!(rt; status, Status::Script);
-    Ok(())
+    let wanted = (AMPLE, 3, "script s.cfg: TooLong\n");
+    run_over(&rt, alloc, &mut shelf, &STEP, wanted)
 }
 
 /// A description that is too long is refused by the line that uses it, and so is a file that isn't one.
@@ -96,10 +104,6 @@ fn long_descriptions_are_refused(rt: HostRuntime) -> Result<(), Fail> {
     let mut shelf = MemShelf::new(alloc);
     shelf.add("long.dar", blanks.as_slice())?;
     shelf.add("s.cfg", b"use long.dar\nstart L()\nend\n")?;
-    let mut sink = MemSink::new(alloc, AMPLE)?;
-    let words = words_of(alloc, &STEP)?;
-    let status = still(alloc, words.as_slice(), &mut shelf, &mut sink);
-    assert_eq!(rt; sink.bytes(), b"description long.dar: TooLong\n".as_slice());
-    assert_eq!(rt; status, Status::Description);
-    Ok(())
+    let wanted = (AMPLE, 2, "description long.dar: TooLong\n");
+    run_over(&rt, alloc, &mut shelf, &STEP, wanted)
 }

@@ -63,6 +63,10 @@ fn has_line(text: &[u8], line: &str) -> bool {
         .any(|part| part == line.as_bytes())
 }
 
+fn has_lines(text: &[u8], lines: &[&str]) -> bool {
+    lines.iter().all(|line| has_line(text, line))
+}
+
 /// Runs a script over the line or the bank, and stops the test where another status comes or one of the lines doesn't.
 fn run_to(
     rt: &impl Abort,
@@ -79,27 +83,29 @@ fn run_to(
     let words = words_of(alloc, &STEP)?;
     let came = still(alloc, words.as_slice(), &mut shelf, &mut sink);
     assert_eq!(rt; came, status, "{script}");
-    for line in lines {
-        assert!(rt; has_line(sink.bytes(), line), "{script}{line}");
-    }
+    assert!(rt; has_lines(sink.bytes(), lines), "{script}");
     Ok(())
+}
+
+/// A map is replaced within so many rounds.
+fn run_falling(rt: &impl Abort, alloc: Global, falling: &Falling, within: u32) -> Result<(), Fail> {
+    let run = falling.run;
+    let script = format!(in alloc;
+        "use line.dar\nstart Line(3,10)\nrun {run}\nchange to Line(3,20) within {within}\nfinish within 100\nend\n"
+    )?;
+    let (status, kept) = if within < falling.within {
+        (Status::Pending, UNCHANGED)
+    } else {
+        (Status::Ok, falling.kept)
+    };
+    run_to(rt, alloc, script.as_str(), status, &[kept])
 }
 
 #[test]
 fn items_are_kept_in_every_round(rt: HostRuntime) -> Result<(), Fail> {
-    let alloc = rt.alloc();
     for falling in &FALLINGS {
         for within in 0..8_u32 {
-            let run = falling.run;
-            let script = format!(in alloc;
-                "use line.dar\nstart Line(3,10)\nrun {run}\nchange to Line(3,20) within {within}\nfinish within 100\nend\n"
-            )?;
-            let (status, kept) = if within < falling.within {
-                (Status::Pending, UNCHANGED)
-            } else {
-                (Status::Ok, falling.kept)
-            };
-            run_to(&rt, alloc, script.as_str(), status, &[kept])?;
+            run_falling(&rt, rt.alloc(), falling, within)?;
         }
     }
     Ok(())

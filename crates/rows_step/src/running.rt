@@ -23,6 +23,15 @@ pub struct Row<'a> {
     pub written: &'a str,
 }
 
+/// A shelf with these files.
+fn shelf_of(alloc: Global, files: &[(&str, &str)]) -> Result<MemShelf, Fail> {
+    let mut shelf = MemShelf::new(alloc);
+    for (name, text) in files {
+        shelf.add(name, text.as_bytes())?;
+    }
+    Ok(shelf)
+}
+
 /// The words of a command line.
 pub fn words_of(alloc: Global, words: &[&str]) -> Result<Vec<String>, Fail> {
     let mut given = Vec::new(alloc);
@@ -32,19 +41,27 @@ pub fn words_of(alloc: Global, words: &[&str]) -> Result<Vec<String>, Fail> {
     Ok(given)
 }
 
-/// Runs a row, and stops the test where another text or status comes.
-fn run(rt: &impl Abort, alloc: Global, row: &Row<'_>) -> Result<(), Fail> {
-    let mut shelf = MemShelf::new(alloc);
-    for (name, text) in row.files {
-        shelf.add(name, text.as_bytes())?;
-    }
-    let mut sink = MemSink::new(alloc, row.room)?;
-    let words = words_of(alloc, row.words)?;
-    let status = still(alloc, words.as_slice(), &mut shelf, &mut sink);
-    let written = row.written;
+/// Runs words over a shelf, and stops the test where another text or status comes.
+pub fn run_over(
+    rt: &impl Abort,
+    alloc: Global,
+    shelf: &mut MemShelf,
+    words: &[&str],
+    (room, status, written): (usize, u8, &str),
+) -> Result<(), Fail> {
+    let words = words_of(alloc, words)?;
+    let mut sink = MemSink::new(alloc, room)?;
+    let came = still(alloc, words.as_slice(), shelf, &mut sink);
     assert_eq!(rt; sink.bytes(), written.as_bytes(), "{written}");
-    assert_eq!(rt; status.number(), row.status, "{written}");
+    assert_eq!(rt; came.number(), status, "{written}");
     Ok(())
+}
+
+/// Runs a row.
+fn run(rt: &impl Abort, alloc: Global, row: &Row<'_>) -> Result<(), Fail> {
+    let mut shelf = shelf_of(alloc, row.files)?;
+    let wanted = (row.room, row.status, row.written);
+    run_over(rt, alloc, &mut shelf, row.words, wanted)
 }
 
 /// Runs the rows of a table.
