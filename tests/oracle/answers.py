@@ -1,10 +1,11 @@
-"""What the program may answer to a command line and files, told by the plain statements of the language, the plans, the machine and the event files here.
+"""What the program may answer to a command line and files, told by the plain statements of the language, the plans, the machine, the files and the reports here.
 
 Where several faults of a description hold, any of them may be named; all else has one answer."""
 import functools
 import os
 
 import model
+import reports
 import runs
 import scripts
 from language import GREATEST, LEAST, Description
@@ -26,12 +27,12 @@ def described(text):
     return Description(text)
 
 
-def fetched(files, name, status, prefix):
+def fetched(files, name, status, prefix, limit=LIMIT):
     """The bytes of a file that keeps the limit; where it doesn't, the refusal has this status and begins so."""
     text = files.get(os.fsdecode(name))
     if text is None:
         raise Refusal(4, [b"read fault " + name])
-    if len(text) > LIMIT:
+    if len(text) > limit:
         raise Refusal(status, [prefix + b" " + name + b": TooLong"])
     return text
 
@@ -193,7 +194,16 @@ def big(words, files):
     return status, b"big %d\nnodes %d\ncommits %d\nitems %d\nstatus %d\n" % (lanes, nodes, commits, items, status)
 
 
-COMMANDS = {b"flat": flat, b"plan": plan, b"replay": replay, b"step": step, b"big": big}
+def upgrade(words, files):
+    """`upgrade FILE`"""
+    usage(len(words) == 2 and words[1])
+    report, fault = reports.parse(fetched(files, words[1], 3, b"script", reports.LIMIT))
+    if fault:
+        raise Refusal(3, [b"script " + words[1] + b": " + fault.encode()])
+    return reports.in_version_2(report)
+
+
+COMMANDS = {b"flat": flat, b"plan": plan, b"replay": replay, b"step": step, b"big": big, b"upgrade": upgrade}
 
 
 def wrong(words, files, status, written):

@@ -53,9 +53,17 @@ EVENTS = {
     b"NoStart": b"",
 }
 
+# The faults of a report.
+REPORTS = {
+    b"TooLong": b"",
+    b"BadLine": b" " + NUMBER,
+    b"Short": b"",
+}
+
 # The rules of the change machine by their numbers.
 RULES = range(1, 31)
 
+REPORT = re.compile(rb"report 2\n(?:[^\n]+\n)*status %s\n" % NUMBER)
 SUMMARY = re.compile(rb"big %s\nnodes %s\ncommits %s\nitems %s\nstatus 0\n" % (NUMBER, NUMBER, NUMBER, NUMBER))
 NODE = re.compile(rb"node (%s) ([a-z]+)\((\d*)\)" % PATH)
 PORT = re.compile(rb"port (%s)\.([a-z]+) (?:-|(%s)\.([a-z]+))" % (PATH, PATH))
@@ -85,8 +93,10 @@ def fault_of(status, text):
 
 def fault_names(commands):
     """All faults that the texts of these commands can have."""
-    names = set(DESCRIPTION) - (set() if {"plan", "replay"} & set(commands) else {b"NodesFull", b"PortsFull"})
+    names = set(DESCRIPTION) if set(commands) - {"big", "upgrade"} else set()
+    names -= set() if {"plan", "replay"} & set(commands) else {b"NodesFull", b"PortsFull"}
     names |= set(EVENTS) if "replay" in commands else set()
+    names |= set(REPORTS) if "upgrade" in commands else set()
     rules = ["rule %02d" % rule for rule in RULES] if "replay" in commands else []
     return sorted(name.decode() for name in names) + rules
 
@@ -153,6 +163,8 @@ def judge(words, files, status, written):
         want(FREEZE.fullmatch(written), "no text of a plan")
     elif status == 0 and command == "replay":
         want(REPLAY.fullmatch(written), "no text of a replay")
+    elif status == 0 and command == "upgrade":
+        want(REPORT.fullmatch(written), "no text of a report")
     elif status == 0:
         want(words in ([b"--help"], [b"--version"]) and written.endswith(b"\n"), "status 0 of words that have no form")
     elif status == 1:
@@ -160,6 +172,8 @@ def judge(words, files, status, written):
     elif status == 2:
         text = files.get(os.fsdecode(file))
         refusal(written, file, REFUSAL, DESCRIPTION, None if text is None else text.split(b"\n"))
+    elif status == 3 and command == "upgrade":
+        refusal(written, file, SCRIPT, REPORTS, None)
     elif status == 3:
         want(command == "replay", "status 3 of a command without such a file")
         refusal(written, words[2], SCRIPT, EVENTS, None)
