@@ -36,7 +36,7 @@ use Rattle.darwin_parser.specs.Tree.{Name, Expr, num, var, neg, op, PortDecl, Ar
 use Rattle.darwin_types.specs.Scope.{array_named, component_named, is_primitive}
 use Rattle.darwin_walk.specs.declared.fault.Fault.{Fault}
 use Rattle.darwin_walk.specs.declared.fault.Fault.TheVariants as shown
-use Rattle.darwin_walk.specs.Instance.{values, integers, element_arguments, Segment, Child, children, children_of, element_child, index_fault, value_fault, element_faults, faults_of, instance_faults}
+use Rattle.darwin_walk.specs.Instance.{values, integers, element_arguments, Segment, Child, children, children_of, element_child, index_fault, value_fault, element_index_faults, faults_of, instance_faults}
 use Rattle.darwin_walk.specs.Reached.{Reached, valued, turn, made, bound, range, port_size, array_size, reached_in, reached_in_component, with_variable}
 use Rattle.darwin_walk.specs.Value.{Value, integer, out_of_range, zero_divisor, Variable, Env, value_of_name, exact, truth, is_true, integer_operation, is_decided, on_integer, operation, parameters, value}
 use Rattle.darwin_parser.specs.declared.tree.Op.{Op}
@@ -46,7 +46,7 @@ use Rattle.darwin_walk.specs.Reaches.{Reaches, ReachedIn, reached_at}
 use Rattle.elaborator.specs.PathBytes.{is_path_byte}
 use Rattle.elaborator.specs.Paths.{Path, within}
 use Rattle.elaborator.specs.Instances.{Instance, Inst, at_top, below, child_path, children_in, instance_of, is_expanded, made_in, top_instance}
-use Rattle.elaborator.specs.Faults.{Faults, faults_in, own_faults, kind_faults}
+use Rattle.elaborator.specs.Faults.{Faults, faults_in, own_faults, kind_argument_faults}
 use Rattle.elaborator.specs.Faults.Faults.{out_of_range as out_of_range_holds, zero_divisor as zero_divisor_holds, bad_index as bad_index_holds}
 use Rattle.elaborator.specs.Elaboration.{ElaboratesTo, HasNoFault}
 use Rattle.elaborator.specs.Graph.{natural, node_of}
@@ -339,7 +339,7 @@ module _ (reached : (c : Component) (env : Env) (r : Reached) → Contains (reac
         by (made (single name component args place) at) reached_ there = subst (λ (x : Child). IsIndex x.segment.index) (sym (Contains-one _ child there)) tt
         by (made (element name index args place) at) reached_ there =
             by_element name index args place at (array_named c name) (value index at) refl
-            (λ f fault. shown_there (made (element name index args place) at) f reached_ (Contains-append_left (element_faults c env name place (value index at)) _ f fault)) there
+            (λ f fault. shown_there (made (element name index args place) at) f reached_ (Contains-append_left (element_index_faults c env name place (value index at)) _ f fault)) there
         by (valued e at place) reached_ there = absurd (Contains-nil child there)
         by turn reached_ there = absurd (Contains-nil child there)
         by (bound b at) reached_ there = absurd (Contains-nil child there)
@@ -372,7 +372,7 @@ module _ (reached : (c : Component) (env : Env) (r : Reached) → Contains (reac
       no_fault i inst expanded f there = by f (Contains-append_left (own_faults tree i) _ f own)
         where
           own : Contains (own_faults tree i) f
-          own = subst (λ b. Contains (if b then instance_faults i.component i.env ++ flat_map (kind_faults tree) (children i.component i.env) else []) f) (sym expanded)
+          own = subst (λ b. Contains (if b then instance_faults i.component i.env ++ flat_map (kind_argument_faults tree) (children i.component i.env) else []) f) (sym expanded)
               (Contains-append_left (instance_faults i.component i.env) _ f there)
 
           by : (g : Fault) → Contains (faults_in tree i) g → ⊥

@@ -9,7 +9,7 @@ ghost use Rattle.turns.specs.World.{nowhere};
 
 use crate::collecting::collect_logs;
 use crate::nodes::Nodes;
-use crate::scanning::{first_undone, give_turns, look_at_ports};
+use crate::scanning::{first_undone, give_turns, look_at_ports, rests};
 use change_board::{Board, Collected, Scan};
 use config_graph::{List, NoMemory, Node};
 use gate_records::Look;
