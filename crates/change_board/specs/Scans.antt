@@ -1,4 +1,4 @@
--- Scans: turns given to nodes, then sights of those that are done, and a look at each port.
+-- Scans: turns given to nodes, then sights of nodes, and a look at each port.
 use Rattle.std.specs.Prelude.{◌≡◌, ℕ, Bool, true, not, ◌&&◌, ◌||◌, List, ◌∷◌, ◌++◌, map, length, filter}
 use Rattle.std.specs.List.{list_all, range_with_len, sum_by}
 use Rattle.quiesce_core.specs.Rules.{is_live_port}

@@ -50,7 +50,8 @@ needs_start body = false
 abbrev pub has : (Body → Bool) → List ScriptLine → Bool
 has test lines = list_any (λ (line : ScriptLine). test line.body) lines
 
--- A statement can't stand below these: it needs a `use` or a `start` above, it is a second `start`, it stands behind `end`, or it isn't `end` and stands behind `finish`.
+-- A statement can't stand below these: it needs a `use` or a `start` above, it is a second `start`, it stands behind
+-- `end`, or it isn't `end` and stands behind `finish`.
 abbrev pub is_out_of_order : List ScriptLine → Body → Bool
 is_out_of_order above body =
     (needs_file body && not (has is_file above)) || (is_start body && has is_start above) || (needs_start body && not (has is_start above))

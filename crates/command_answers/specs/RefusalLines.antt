@@ -73,7 +73,7 @@ plan_words (planning.NodesFull made wanted) = codes "NodesFull" ∷ decimal made
 plan_words (planning.PortsFull made wanted) = codes "PortsFull" ∷ decimal made ∷ decimal wanted ∷ []
 plan_words planning.NoMemory = []
 
--- Faults of a file of events show the line.
+-- Faults of a line of a script or of a file of events show its number.
 abbrev pub script_words : ScriptError → List (List ℕ)
 script_words (scripting.BadLine line) = codes "BadLine" ∷ decimal line ∷ []
 script_words scripting.NoStart = codes "NoStart" ∷ []
@@ -83,7 +83,7 @@ script_words (scripting.NumberTooBig line) = codes "NumberTooBig" ∷ decimal li
 script_words (scripting.TooManyLines line) = codes "TooManyLines" ∷ decimal line ∷ []
 script_words scripting.NoMemory = []
 
--- Those of a report too.
+-- So do those of a line of a report.
 abbrev pub report_words : ReportFault → List (List ℕ)
 report_words (reporting.BadLine line) = codes "BadLine" ∷ decimal line ∷ []
 report_words reporting.Short = codes "Short" ∷ []

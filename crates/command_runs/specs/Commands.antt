@@ -78,7 +78,7 @@ pub record OfMadeFiles (lanes : ℕ) (answer : Answer) : Type 0 where
   pub course : course_of_script script_name own made
   pub is : answer ≡ in_summary lanes made
 
--- By no fetch of the shelf.
+-- The course of `big`: it fetches no file of the shelf, and has such an answer.
 abbrev pub SumsUp : ℕ → FetchCourse
 SumsUp lanes fetches answer = (fetches ≡ []) × OfMadeFiles lanes answer
 

@@ -41,7 +41,7 @@ abbrev pub Gave : Option Files → Fetch → Type 0
 Gave None fetch = FitsFileLimit fetch.limit fetch.given
 Gave (Some files) fetch = FitsFileLimit fetch.limit fetch.given × IsGivenOf (files fetch.name) fetch.limit fetch.given
 
--- the most bytes of a description or a file of events
+-- the most bytes of a description, a script or a file of events
 abbrev pub file_limit : ℕ
 file_limit = MAX_TEXT
 

@@ -26,7 +26,8 @@ pub record IsUnexpected (text : List ℕ) (tokens : List Token) (n : ℕ) : Type
   pub refused : n < length tokens → (levels : ℕ) → UnitBegins levels text (take (n + 1) tokens) → ⊥
   pub unfinished : n ≡ length tokens → (levels : ℕ) (tree : Tree) → IsUnitLifted levels text tokens tree → ⊥
 
--- Token n opens one level too many: a unit begins with the tokens before it, none does with it as well, and one would if units nested one level deeper.
+-- Token n opens one level too many: a unit begins with the tokens before it, none does with it as well, and one would if
+-- units nested one level deeper.
 pub record IsTooNested (text : List ℕ) (tokens : List Token) (n : ℕ) : Type 0 where
   pub within : n < length tokens
   pub before : UnitBegins 0 text (take n tokens)

@@ -10,7 +10,7 @@ use darwin_lexer::MAX_TEXT;
 use report_parser::MAX_REPORT;
 use std::alloc::AllocError;
 
-/// The most bytes of a description or a file of events.
+/// The most bytes of a description, a script or a file of events.
 pub const FILE_LIMIT: u32 = MAX_TEXT as u32;
 
 /// The most bytes of a report.

@@ -36,7 +36,7 @@ entries m = filter_map entry_at m
 abbrev pub state_at : List Moment → State
 state_at m = state_after (events m)
 
--- nodes do nodes' events and the change its own; a look loads the port's word, and a sight shows all that the node Did
+-- nodes do nodes' events and the change its own; a look loads the port's word, and a sight shows all that the node did
 abbrev pub IsSo : List Moment → Moment → Type 0
 IsSo before (by_node e) = is_of_change e ≡ false
 IsSo before (entry (Did e)) = is_of_change e ≡ true

@@ -31,8 +31,9 @@ pub trait GateSeat {
         ensures { result ≡ slot_of self.now };
 }
 
-/// A gate, at which nodes do their events. A seat that fits is one of a node of this gate, of the kind and with the first port that
-/// `node` says; after each call it still fits, and so does each seat of another slot that fitted before. No call takes memory, or uses up what there is.
+/// A gate, at which nodes do their events. A seat that fits is one of a node of this gate, of the kind and with the
+/// first port that `node` says; after each call it still fits, and so does each seat of another slot that fitted before.
+/// No call takes memory, or uses up what there is.
 pub trait PortGate {
     type Seat: GateSeat;
 

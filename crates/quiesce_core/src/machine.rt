@@ -244,7 +244,8 @@ impl Core {
         self.tables.graph()
     }
 
-    /// How many events can still happen, at most, of the open transactions and their consequents, until each has ended. It is the greatest number of 128 bits where it is more.
+    /// How many events can still happen, at most, of the open transactions and their consequents, until each has ended.
+    /// It is the greatest number of 128 bits where it is more.
     pub fn rest(&self) -> u128
         ensures { result ≡ min (rest self.now.state) (2 ^ 128 - 1) }
     {

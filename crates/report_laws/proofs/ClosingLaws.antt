@@ -1,4 +1,5 @@
--- A course in which ports are closed: what was closed stays closed, what is left at a port has a root that stood since, and the ports may be reopened.
+-- A course in which ports are closed: what was closed stays closed, what is left at a port has a root that stood since,
+-- and the ports may be reopened.
 use Rattle.std.proofs.Common.{◌≡◌, ◌∙◌, ℕ, true, false, List, [], ◌∷◌, ◌++◌, append_assoc, map, refl, sym, ap, subst, inl, inr, arith}
 use Rattle.std.specs.Prelude.{filter}
 use Rattle.std.specs.List.{list_any}

@@ -1,4 +1,5 @@
--- A `run` comes to an end in rounds: each event brings what is open nearer to its end, or begins at an idle port, and fewer transactions than were asked for may end.
+-- A `run` comes to an end in rounds: each event brings what is open nearer to its end, or begins at an idle port, and
+-- fewer transactions than were asked for may end.
 use Rattle.std.proofs.Common.{◌≡◌, ◌∙◌, ℕ, zero, suc, ◌+◌, ◌-◌, ◌<◌, ◌≤◌, Bool, true, false, cond, ◌&&◌, ◌||◌, List, [], ◌∷◌, ◌++◌, append_assoc, length, Option, Some, None, refl, sym, ap, subst, ⊎_elim, inl, inr, arith, get_or-set_same, get_or-set_other}
 use Rattle.std.specs.Prelude.{◌⊎◌, fold, is_some, nat_le, nat_lt, option_map, slice_index_or, slice_set, sum_by}
 use Rattle.std.specs.List.{cons_option, count_by, list_any, range_with_len}

@@ -1,4 +1,5 @@
--- The report of rounds: its history follows the script, the order in which the rounds make events and lines is the one list that is said to be there, and so it is lawful.
+-- The report of rounds: its history follows the script, the order in which the rounds make events and lines is the one
+-- list that is said to be there, and so it is lawful.
 use Rattle.std.proofs.Common.{◌≡◌, ◌∙◌, ℕ, zero, suc, ◌+◌, ◌<◌, ◌≤◌, Bool, true, false, cond, not, ◌&&◌, List, [], ◌∷◌, ◌++◌, append_assoc, map, length, Option, Some, None, refl, sym, ap, subst, ⊎_elim, inl, inr, arith}
 use Rattle.std.specs.Prelude.{◌==◌, ⊤, All, filter, filter_map, find, fold, nat_le, nat_lt, option_map, slice_get, if◌then◌else◌}
 use Rattle.std.specs.List.{cons_option, enumerate_from, list_any, range_with_len}

@@ -55,7 +55,8 @@ ends_pending [] = false
 ends_pending (last ∷ []) = is_pending_or_root last
 ends_pending (first ∷ next ∷ more) = ends_pending (next ∷ more)
 
--- A line can stand behind these: nodes are made in the slots 0, 1 and on, and `open` lines stand behind `pending`, with nothing but such lines between.
+-- A line can stand behind these: nodes are made in the slots 0, 1 and on, and `open` lines stand behind `pending`, with
+-- nothing but such lines between.
 pub record StandsBehind (version : Version) (before : List HistoryLine) (says : HistoryLine) : Type 0 where
   pub can : CanStand version says
   pub slot : IfSome (made_by says) (λ (made : Made). made.slot ≡ length (makes before))
