@@ -1,4 +1,4 @@
-//! Scripts of changes and files of events: their lines, and what each line says.
+//! Scripts of changes and files of events: their lines, and what each line says; and the texts of reports.
 #![tactic(auto)]
 
 mod arguments;

@@ -1,4 +1,4 @@
-//! Fetches of descriptions, of files of events and of reports.
+//! Fetches of descriptions, of scripts, of files of events and of reports.
 
 ghost use Rattle.std.specs.Prelude.{◌≡◌, ◌≤◌, vec_len};
 ghost use Rattle.file_answers.specs.Fetching.{Fetches};

@@ -1,4 +1,4 @@
-//! Worked rows of nodes: what each kind does, what is handed over, and inboxes.
+//! Worked rows of nodes: what each kind does, what is handed over, inboxes, and turns.
 #![tactic(auto)]
 
 #[cfg(test)]

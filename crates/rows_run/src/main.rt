@@ -1,4 +1,4 @@
-//! A stored run of the program that is refused: what `darwin_run` is, on words that name no file.
+//! A stored run of the program that is refused: what `darwin_run` is, on words that name a file that isn't there.
 #![tactic(auto)]
 
 use cfg_io::{FileShelf, OutSink};

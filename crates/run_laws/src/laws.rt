@@ -1,4 +1,4 @@
-//! Laws of runs of scripts, where the shelf tells its files.
+//! Laws of runs of scripts; those of which lines are refused are of a shelf that tells its files.
 
 ghost use Rattle.std.specs.Prelude.{◌≡◌, ◌≢◌, ◌≤◌, ℕ, List, Option, Some};
 ghost use Rattle.base.specs.Each.{Each};
