@@ -119,18 +119,11 @@ impl Tables {
         requires { IsSound (state_of self.now).config }
         ensures { result ≡ list_all (λ p. rules.is_quiet (state_of self.now) p || not (reach.reaches (state_of self.now).config node p)) (range_with_len 0 (length (state_of self.now).config.gates)) }
     {
-        if self.all_are_quiet() {
+        let ports = self.gates.len() as u32;
+        if self.are_quiet(&(0..ports)) {
             return true;
         }
         self.searched_ports_are_quiet(node)
-    }
-
-    fn all_are_quiet(&self) -> bool
-        requires { IsSound (state_of self.now).config }
-        ensures { result ≡ list_all (λ p. rules.is_quiet (state_of self.now) p) (range_with_len 0 (length (state_of self.now).config.gates)) }
-    {
-        let ports = self.gates.len() as u32;
-        (0..ports).all(|port| self.is_quiet(port))
     }
 
     /// The same, by a search from each port that isn't.

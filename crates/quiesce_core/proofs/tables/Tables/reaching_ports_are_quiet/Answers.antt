@@ -1,8 +1,14 @@
-use Rattle.std.proofs.Common.{sym, ◌∙◌, length}
+use Rattle.std.proofs.Common.{◌≡◌, ◌-◌, sym, subst, ◌∙◌, length, true, arith}
+use Rattle.std.specs.List.{list_all, range_with_len}
+use Rattle.quiesce_core.specs.Rules.{is_quiet}
 use Rattle.quiesce_core.specs.Tables.{state_of}
 use Rattle.quiesce_core.proofs.ReachLaws.{all_quiet}
 use Rattle.quiesce_core.proofs.tables.Tables.reaching_ports_are_quiet.Goals as goal
 
-pub returns-then-all_are_quiet : goal.returns-then-all_are_quiet
-returns-then-all_are_quiet c =
-    sym (all_quiet (state_of c.args.self.now) c.args.node (length c.args.self.now.gates.items) (sym c.all_are_quiet.ensures ∙ c.if-all_are_quiet.true))
+pub returns-then-are_quiet : goal.returns-then-are_quiet
+returns-then-are_quiet c =
+    let s = state_of c.args.self.now in
+    let count : c.len-ports.result - 0 ≡ length c.args.self.now.gates.items = omega (arith, c.len-ports.ensures) in
+    let quiet : list_all (is_quiet s) (range_with_len 0 (length c.args.self.now.gates.items)) ≡ true =
+    subst (λ k. list_all (is_quiet s) (range_with_len 0 k) ≡ true) count (sym c.are_quiet.ensures ∙ c.if-are_quiet.true) in
+    sym (all_quiet s c.args.node (length c.args.self.now.gates.items) quiet)
