@@ -7,7 +7,7 @@ ghost use Rattle.config_graph.specs.declared.TheConstants.{MAX_PORTS};
 ghost use Rattle.quiesce_core.specs.Start as start;
 ghost use Rattle.quiesce_core.specs.Tables.{state_of};
 
-use crate::state::{Exchange, Gate, Service, Slot};
+use crate::state::{Gate, Slot};
 use crate::tables::{FRESH_EXCHANGE, Tables};
 use config_graph::{Graph, NoMemory, Node};
 use std::alloc::Global;
@@ -49,26 +49,6 @@ fn list_gates(alloc: Global, graph: &Graph) -> Result<Vec<Gate>, NoMemory>
     Ok(gates)
 }
 
-fn list_services(alloc: Global, nodes: &[Node]) -> Result<Vec<Option<Service>>, NoMemory>
-    ensures { IfOk result (λ v. v.items ≡ map start.no_service nodes.now) }
-{
-    let mut services = Vec::with_capacity(alloc, nodes.len())?;
-    for _node in nodes {
-        services.push(None)?;
-    }
-    Ok(services)
-}
-
-fn list_exchanges(alloc: Global, graph: &Graph) -> Result<Vec<Exchange>, NoMemory>
-    ensures { IfOk result (λ v. v.items ≡ map start.no_exchange (ports graph.now.nodes)) }
-{
-    let mut exchanges = Vec::with_capacity(alloc, graph.port_count() as usize)?;
-    for _number in 0..graph.port_count() {
-        exchanges.push(FRESH_EXCHANGE)?;
-    }
-    Ok(exchanges)
-}
-
 impl Tables {
     /// The tables of a system that was started as the graph says.
     pub fn of(alloc: Global, graph: &Graph) -> Result<Tables, NoMemory>
@@ -76,9 +56,9 @@ impl Tables {
         ensures { IfOk result (λ t. state_of t ≡ start.started graph.now) }
     {
         let slots = list_slots(alloc, graph.nodes())?;
-        let services = list_services(alloc, graph.nodes())?;
+        let services = vec![in alloc; None; graph.nodes().len()]?;
         let gates = list_gates(alloc, graph)?;
-        let exchanges = list_exchanges(alloc, graph)?;
+        let exchanges = vec![in alloc; FRESH_EXCHANGE; graph.port_count() as usize]?;
         Ok(Tables {
             slots,
             services,
