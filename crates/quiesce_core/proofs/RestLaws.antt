@@ -11,8 +11,8 @@ use Rattle.config_graph.specs.declared.node.Target.{Target}
 use Rattle.quiesce_core.specs.declared.state.Slot.{Slot}
 use Rattle.quiesce_core.specs.State.{Configuration, slot, target, depends, calls_allowed, mores_allowed}
 use Rattle.quiesce_core.specs.Reach.{IsPortOf, can_walk, has_no_cycle}
-use Rattle.quiesce_core.specs.Rest.{greatest, full_within, full, call_events}
-use Rattle.quiesce_core.specs.Counted.{capped, AreCounted}
+use Rattle.quiesce_core.specs.Rest.{greatest, full_within, full, call_events, events_through}
+use Rattle.quiesce_core.specs.Counted.{capped, events_within, AreCounted}
 use Rattle.quiesce_core.specs.WellFormed.{LeadsToProvision}
 use Rattle.quiesce_core.proofs.CycleLaws.{walk_to, no_walk}
 use Rattle.base.proofs.OptionLaws.{map_or_true, map_or_at}
@@ -81,6 +81,27 @@ greatest_after f most v i e b l is h =
   where
     after : (most v x rest b : ℕ) → v ≡ capped x → max most (capped (max x rest)) ≡ b → max (max v most) (capped rest) ≡ b
     after most v x rest b is h = omega arith
+
+pub greatest_done : (f : ℕ → ℕ) (most i e b : ℕ) → e ≤ i → max most (capped (greatest f (range_with_len i (e - i)))) ≡ b → most ≡ b
+greatest_done f most i e b l h =
+    let none_ : e - i ≡ 0 = omega arith in
+    let before : max most (capped 0) ≡ b = sym (ap (λ k. max most (capped (greatest f (range_with_len i k)))) none_) ∙ h in
+    omega arith
+
+-- the events of one call of a port on which the provision depends, linked and unlinked
+pub within_linked : (c : Configuration) (t next : Target) (p e v : ℕ) → depends c t.node t.provide p ≡ true → target c p ≡ Some next → e ≡ capped (full c next.node next.provide) → v ≡ min (e + 1) (2 ^ 128 - 1)
+    → v ≡ capped (events_within c t p)
+within_linked c t next p e v dep leads is adds =
+    let through : events_within c t p ≡ 1 + full c next.node next.provide =
+    ap (λ d. cond d (events_through c p) 0) dep ∙ ap (λ o. 1 + option_map_or (λ (u : Target). full c u.node u.provide) o 0) leads in
+    after e v (full c next.node next.provide) (events_within c t p) is adds through
+  where
+    after : (e v x w : ℕ) → e ≡ capped x → v ≡ min (e + 1) (2 ^ 128 - 1) → w ≡ 1 + x → v ≡ capped w
+    after e v x w is adds through = omega arith
+
+pub within_unlinked : (c : Configuration) (t : Target) (p : ℕ) → depends c t.node t.provide p ≡ true → target c p ≡ None → 1 ≡ capped (events_within c t p)
+within_unlinked c t p dep leads =
+    ap (λ n. capped n) (sym (ap (λ d. cond d (events_through c p) 0) dep ∙ ap (λ o. 1 + option_map_or (λ (u : Target). full c u.node u.provide) o 0) leads))
 
 more_than : (a e m : ℕ) → m ≤ e → m ≤ suc a * e
 more_than a e m h = rw suc-mul (omega arith)

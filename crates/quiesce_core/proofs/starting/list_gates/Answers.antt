@@ -1,4 +1,5 @@
-use Rattle.std.proofs.Common.{ap}
+use Rattle.std.proofs.Common.{map, ap, ◌∙◌, arith}
+use Rattle.std.proofs.lemmas.List.{take_all}
 use Rattle.config_graph.specs.Graph.{ports}
 use Rattle.quiesce_core.specs.declared.state.Gate.{Gate}
 use Rattle.std.proofs.Common.{false}
@@ -13,3 +14,8 @@ loop-number-preserved c =
     c.port-port.ensures.port c.loop-number.invariant
     (ap (λ t. record { owner = c.port-port.result.node; require = c.port-port.result.require; closed = false; target = t }) c.target.ensures.target)
     c.in_ok-push.ensures.items
+
+pub returns : goal.returns
+returns c =
+    let all_ports = ports c.args.graph.now.nodes in
+    c.loop-number.invariant ∙ ap (λ xs. map (gate_of c.args.graph.now) xs) (take_all c.loop-number.number all_ports (omega (arith, c.loop-number-test.false, c.port_count-number-end.ensures)))

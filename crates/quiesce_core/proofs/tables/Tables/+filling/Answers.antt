@@ -1,13 +1,13 @@
 use Rattle.std.proofs.Common.{◌≡◌, ◌-◌, ◌+◌, ◌*◌, ◌^◌, ◌<◌, min, true, sym, ap, ◌∙◌, arith}
 use Rattle.quiesce_core.specs.State.{depends, calls_allowed, mores_allowed}
 use Rattle.quiesce_core.specs.Reach.{IsPortOf}
-use Rattle.quiesce_core.specs.Rest.{call_events}
+use Rattle.quiesce_core.specs.Rest.{full, call_events}
 use Rattle.quiesce_core.specs.Counted.{capped, events_within}
 use Rattle.quiesce_core.specs.Tables.{state_of}
 use Rattle.quiesce_core.proofs.CycleLaws.{port_in}
 use Rattle.quiesce_core.proofs.ReachLaws.{fewer_steps, walks_zero}
 use Rattle.quiesce_core.proofs.TableLaws.{live_made}
-use Rattle.quiesce_core.proofs.RestLaws.{full_step, capped_full, greatest_after, counted_more}
+use Rattle.quiesce_core.proofs.RestLaws.{full_step, capped_full, greatest_after, greatest_done, counted_more, first_provision, within_linked, within_unlinked}
 use Rattle.quiesce_core.proofs.tables.Tables.+filling.Goals as goal
 
 pub call_events-events_within-requires : goal.call_events-events_within-requires
@@ -64,3 +64,30 @@ pub full-returns-clause-known : goal.full-returns-clause-known
 full-returns-clause-known t c =
     counted_more (state_of c.args.self.now).config c.args.target c.saturating_add-events.result c.call_events.new.known c.requires.there (omega (arith, live_made (state_of c.args.self.now).config c.args.target.node c.requires.there.live, c.requires.room))
     (full-returns-clause-value t c) c.call_events.ensures.known
+
+pub full-returns-in-Some-clause-value : goal.full-returns-in-Some-clause-value
+full-returns-in-Some-clause-value t c =
+    let config = (state_of c.args.self.now).config in
+    c.requires.known c.args.target.node c.in-Some.events c.in-Some.is
+    ∙ ap (λ x. capped (full config c.args.target.node x)) (sym (first_provision config c.args.target c.requires.there))
+
+pub full-bounds-known-target : goal.full-bounds-known-target
+full-bounds-known-target t c = omega (arith, live_made (state_of c.args.self.now).config c.args.target.node c.requires.there.live, c.requires.room)
+
+pub full-bounds-known-target-2 : goal.full-bounds-known-target-2
+full-bounds-known-target-2 t c = omega (arith, live_made (state_of c.args.self.now).config c.args.target.node c.requires.there.live, c.requires.room, c.call_events.auto.known)
+
+pub call_events-returns-clause-value : goal.call_events-returns-clause-value
+call_events-returns-clause-value t c =
+    let config = (state_of c.args.self.now).config in
+    greatest_done (events_within config c.args.target) c.loop-port.most c.loop-port.port c.ports_of-ports.result.end (capped (call_events config c.args.target.node c.args.target.provide)) c.loop-port-test.false
+    c.loop-port.invariant.left
+
+pub events_within-returns-in-Some-clause-value : goal.events_within-returns-in-Some-clause-value
+events_within-returns-in-Some-clause-value t c =
+    within_linked (state_of c.args.self.now).config c.args.target c.in-Some.next c.args.port c.full.result c.saturating_add.result (sym c.depends.ensures ∙ c.if-not-depends.false)
+    (sym (ap (λ g. g.target) c.gate.ensures) ∙ c.in-Some.is) c.full.ensures.value c.saturating_add.ensures
+
+pub events_within-returns-in-None-clause-value : goal.events_within-returns-in-None-clause-value
+events_within-returns-in-None-clause-value t c =
+    within_unlinked (state_of c.args.self.now).config c.args.target c.args.port (sym c.depends.ensures ∙ c.if-not-depends.false) (sym (ap (λ g. g.target) c.gate.ensures) ∙ c.in-None.is)
