@@ -1,5 +1,6 @@
-use Rattle.std.proofs.Common.{arith}
-use Rattle.port_gate.proofs.AllowedLaws.{call_by_word, call_doer}
+use Rattle.std.proofs.Common.{◌+◌, arith}
+use Rattle.quiesce_core.specs.declared.event.Event.TheVariants.{Call}
+use Rattle.port_gate.proofs.AllowedLaws.{call_by_word, call_doer, few_calls_known}
 use Rattle.port_gate.proofs.core_gate.CoreGatePortGate.call.Goals as goal
 
 pub act-requires-clause-allowed : goal.act-requires-clause-allowed
@@ -9,3 +10,6 @@ act-requires-clause-allowed c =
 
 pub act-requires-clause-doer : goal.act-requires-clause-doer
 act-requires-clause-doer c = call_doer c.args.self.now.core.state c.holds.ensures.well_formed c.holds.ensures.consistent c.args.seat.now.slot c.args.seat.now.known c.requires.fits c.args.port 0 c.args.value c.requires.may.own
+
+pub act-requires-clause-count : goal.act-requires-clause-count
+act-requires-clause-count c = few_calls_known c.args.self.now.core.state c.holds.ensures.well_formed c.holds.ensures.consistent c.args.seat.now.slot c.args.seat.now.known c.requires.fits (Call c.args.port (c.fields-word.result.serial + 1) c.args.value) c.requires.may.calls
