@@ -8,7 +8,7 @@ use Rattle.darwin_lexer.specs.declared.token.Sign.TheVariants.{Comma}
 use Rattle.darwin_parser.specs.declared.cursor.Stop.{Stop}
 use Rattle.darwin_parser.specs.declared.cursor.Stop.TheVariants.{Expected, NoMemory}
 use Rattle.darwin_parser.specs.declared.cursor.Level.{Level}
-use Rattle.darwin_parser.specs.Reading.{operator_at, sees_operator, at_end, Reader, Outcome, Reads, and_then, turns, turns_up_to, sees, after, expect, ◌>>=◌, ◌>>◌}
+use Rattle.darwin_parser.specs.Reading.{operator_at, sees_operator, at_end, Reader, Outcome, Reads, and_then, turns, turns_up_to, repeated, up_to, pushed, sees, after, expect, ◌>>=◌, ◌>>◌}
 
 abbrev pub comma : TokenKind
 comma = kinds.Sign Comma
@@ -56,6 +56,34 @@ module _ {S A : Type 0} {test : List Token → Bool} {step : S → A → S} {p :
   pub fails : {e : Stop} → test tokens ≡ true → 0 < length tokens → p tokens ≡ Err e → whole ≡ Err e
   fails t some f = fail_at test step p h.bound s tokens whole _ some t f h.enough h.same
 
+-- ---- a loop that reads one, and then asks whether more come
+
+-- the one that comes next and the turns after it make the whole
+pub record Owing {S A : Type 0} (test : List Token → Bool) (step : S → A → S) (p first : Reader A) (whole : Outcome S) (s : S) (tokens : List Token) : Type 0 where
+  pub bound : List Token → ℕ
+  pub enough : (rest : List Token) → length rest < length tokens → length rest ≤ bound rest
+  pub same : and_then (first tokens) (λ a rest. turns test step p (bound rest) (step s a) rest) ≡ whole
+
+pub owes_first : {A : Type 0} (test : List Token → Bool) (p first : Reader A) (items : List A) (tokens : List Token) → items ≡ [] → Owing test pushed p first ((first >>= (λ a. repeated test pushed p (a ∷ []))) tokens) items tokens
+owes_first test p first items tokens e = subst (λ s. Owing test pushed p first ((first >>= (λ a. repeated test pushed p (a ∷ []))) tokens) s tokens) (sym e)
+    (record { bound = length; enough = λ rest shorter. omega arith; same = refl })
+
+module _ {S A : Type 0} {test : List Token → Bool} {step : S → A → S} {p first : Reader A} {whole : Outcome S} {s : S} {tokens : List Token} (h : Owing test step p first whole s tokens) where
+  pub read_one : {s' : S} {a : A} {rest : List Token} → first tokens ≡ Ok (a, rest) → length rest < length tokens → s' ≡ step s a → Turning test step p whole s' rest
+  read_one {rest = rest} e shorter same = subst (λ x. Turning test step p whole x rest) (sym same)
+      (record { bound = h.bound rest; enough = h.enough rest shorter; same = sym (ap (λ o. and_then o (λ a rest. turns test step p (h.bound rest) (step s a) rest)) e) ∙ h.same })
+
+  pub fails_at_one : {e : Stop} → first tokens ≡ Err e → whole ≡ Err e
+  fails_at_one f = sym h.same ∙ ap (λ o. and_then o (λ a rest. turns test step p (h.bound rest) (step s a) rest)) f
+
+module _ {S A : Type 0} {test : List Token → Bool} {step : S → A → S} {p : Reader A} {whole : Outcome S} where
+  owes_at : (n : ℕ) (s : S) (tokens : List Token) → 0 < length tokens → test tokens ≡ true → length tokens ≤ n → turns test step p n s tokens ≡ whole → Owing test step p p whole s tokens
+  owes_at zero s tokens some t enough same = absurd (omega arith)
+  owes_at (suc n) s tokens some t enough same = record { bound = λ rest. n; enough = λ rest shorter. omega arith; same = sym (turn test step p n s tokens t) ∙ same }
+
+  pub owes : {s : S} {tokens : List Token} → Turning test step p whole s tokens → test tokens ≡ true → 0 < length tokens → Owing test step p p whole s tokens
+  owes {s} {tokens} h t some = owes_at h.bound s tokens some t h.enough h.same
+
 -- ---- a loop that goes on after a token of one kind
 
 pub sees_some : (kind : TokenKind) (tokens : List Token) → sees kind tokens ≡ true → 0 < length tokens
@@ -79,18 +107,19 @@ taken kind p (t ∷ tokens) e = rw e refl
 
 module _ {S A : Type 0} (kind : TokenKind) {step : S → A → S} (p : Reader A) {whole : Outcome S} {s : S} {tokens now : List Token}
     (h : Turning (sees kind) step (expect kind >> p) whole s tokens) (now_is : now ≡ after kind tokens) where
-  pub next_after : {s' : S} {a : A} {rest : List Token} → sees kind tokens ≡ true → p now ≡ Ok (a, rest) → length rest < length now → s' ≡ step s a
-      → Turning (sees kind) step (expect kind >> p) whole s' rest
-  next_after t e shorter same =
-      let fewer = after_seen kind tokens t in
-      let fewer' = ap length now_is in
-      next h t (taken kind p tokens t ∙ (ap p (sym now_is) ∙ e)) (omega arith) same
-
   pub stops_after : sees kind tokens ≡ false → whole ≡ Ok (s, now)
   stops_after t = stops h t ∙ ap (λ ts. Ok (s, ts)) (sym (now_is ∙ after_not kind tokens t))
 
-  pub fails_after : {e : Stop} → sees kind tokens ≡ true → p now ≡ Err e → whole ≡ Err e
-  fails_after t f = fails h t (sees_some kind tokens t) (taken kind p tokens t ∙ (ap p (sym now_is) ∙ f))
+  pub owes_after : sees kind tokens ≡ true → Owing (sees kind) step (expect kind >> p) p whole s now
+  owes_after t =
+      let owing = owes h t (sees_some kind tokens t) in
+      let fewer = after_seen kind tokens t in
+      let fewer' = ap length now_is in
+      record {
+        bound = owing.bound;
+        enough = λ rest shorter. owing.enough rest (omega arith);
+        same = ap (λ o. and_then o (λ a rest. turns (sees kind) step (expect kind >> p) (owing.bound rest) (step s a) rest)) (ap p now_is ∙ sym (taken kind p tokens t)) ∙ owing.same;
+      }
 
 pub operator_some : (level : Level) (tokens : List Token) → sees_operator level tokens ≡ true → 0 < length tokens
 unfolding operator_at
@@ -147,6 +176,32 @@ module _ {S A : Type 0} {close : TokenKind} {step : S → A → S} {p : Reader A
 
   pub fails_up_to : {e : Stop} → sees close tokens ≡ false → p now ≡ Err e → whole ≡ Err e
   fails_up_to t f = fail_up_to_at close step p h.bound s tokens whole _ t (ap p (sym (now_is ∙ after_not close tokens t)) ∙ f) h.enough h.same
+
+-- the one that comes next and the turns after it, up to that token, make the whole
+pub record OwingUpTo {S A : Type 0} (close : TokenKind) (step : S → A → S) (p : Reader A) (whole : Outcome S) (s : S) (tokens : List Token) : Type 0 where
+  pub bound : List Token → ℕ
+  pub enough : (rest : List Token) → length rest < length tokens → length rest < bound rest
+  pub same : and_then (p tokens) (λ a rest. turns_up_to close step p (bound rest) (step s a) rest) ≡ whole
+
+pub owes_first_up_to : {A : Type 0} (close : TokenKind) (p : Reader A) (items : List A) (tokens : List Token) → items ≡ [] → OwingUpTo close pushed p ((p >>= (λ a. up_to close pushed p (a ∷ []))) tokens) items tokens
+owes_first_up_to close p items tokens e = subst (λ s. OwingUpTo close pushed p ((p >>= (λ a. up_to close pushed p (a ∷ []))) tokens) s tokens) (sym e)
+    (record { bound = λ rest. suc (length rest); enough = λ rest shorter. omega arith; same = refl })
+
+module _ {S A : Type 0} {close : TokenKind} {step : S → A → S} {p : Reader A} {whole : Outcome S} {s : S} {tokens : List Token} (h : OwingUpTo close step p whole s tokens) where
+  pub read_one_up_to : {s' : S} {a : A} {rest : List Token} → p tokens ≡ Ok (a, rest) → length rest < length tokens → s' ≡ step s a → TurningUpTo close step p whole s' rest
+  read_one_up_to {rest = rest} e shorter same = subst (λ x. TurningUpTo close step p whole x rest) (sym same)
+      (record { bound = h.bound rest; enough = h.enough rest shorter; same = sym (ap (λ o. and_then o (λ a rest. turns_up_to close step p (h.bound rest) (step s a) rest)) e) ∙ h.same })
+
+  pub fails_at_one_up_to : {e : Stop} → p tokens ≡ Err e → whole ≡ Err e
+  fails_at_one_up_to f = sym h.same ∙ ap (λ o. and_then o (λ a rest. turns_up_to close step p (h.bound rest) (step s a) rest)) f
+
+module _ {S A : Type 0} {close : TokenKind} {step : S → A → S} {p : Reader A} {whole : Outcome S} where
+  owes_up_to_at : (n : ℕ) (s : S) (tokens : List Token) → sees close tokens ≡ false → length tokens < n → turns_up_to close step p n s tokens ≡ whole → OwingUpTo close step p whole s tokens
+  owes_up_to_at zero s tokens t enough same = absurd (omega arith)
+  owes_up_to_at (suc n) s tokens t enough same = record { bound = λ rest. n; enough = λ rest shorter. omega arith; same = sym (turn_up_to close step p n s tokens t) ∙ same }
+
+  pub owes_up_to : {s : S} {tokens now : List Token} → TurningUpTo close step p whole s tokens → now ≡ after close tokens → sees close tokens ≡ false → OwingUpTo close step p whole s now
+  owes_up_to {s} {tokens} {now} h now_is t = subst (OwingUpTo close step p whole s) (sym (now_is ∙ after_not close tokens t)) (owes_up_to_at h.bound s tokens t h.enough h.same)
 
 -- ---- the end of the tokens
 

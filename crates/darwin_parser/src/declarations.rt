@@ -118,11 +118,12 @@ impl Source<'_> {
         ensures shorter { OnOk result (length tokens.new.rest.now < length tokens.old.rest.now) }
     {
         let mut params = Vec::new(self.alloc);
-        params.push(self.param(tokens)?)?;
-        'more: while tokens.eat(Sign::Comma) {
+        'more: loop {
             params.push(self.param(tokens)?)?;
+            if !tokens.eat(Sign::Comma) {
+                return Ok(params);
+            }
         }
-        Ok(params)
     }
 
     /// `"int" NAME`
@@ -184,11 +185,12 @@ impl Source<'_> {
         ensures shorter { OnOk result (length tokens.new.rest.now < length tokens.old.rest.now) }
     {
         let mut ports = Vec::new(self.alloc);
-        ports.push(self.port(tokens, side, at)?)?;
-        'more: while tokens.eat(Sign::Comma) {
+        'more: loop {
             ports.push(self.port(tokens, side, at)?)?;
+            if !tokens.eat(Sign::Comma) {
+                return Ok(ports);
+            }
         }
-        Ok(ports)
     }
 
     /// `NAME [ "[" expr "]" ] [ "<" note { note } ">" ]`
@@ -229,11 +231,12 @@ impl Source<'_> {
     {
         tokens.sign(Sign::Less)?;
         let mut notes = Vec::new(self.alloc);
-        notes.push(self.note(tokens)?)?;
-        'more: while !tokens.eat(Sign::Greater) {
+        'more: loop {
             notes.push(self.note(tokens)?)?;
+            if tokens.eat(Sign::Greater) {
+                return Ok(notes);
+            }
         }
-        Ok(notes)
     }
 
     /// `NAME | "int" | ","`
@@ -260,11 +263,12 @@ impl Source<'_> {
     {
         tokens.word(Keyword::Array)?;
         let mut arrays = Vec::new(self.alloc);
-        arrays.push(self.array(tokens)?)?;
-        'more: while tokens.sees(TokenKind::Name) {
+        'more: loop {
             arrays.push(self.array(tokens)?)?;
+            if !tokens.sees(TokenKind::Name) {
+                return Ok(arrays);
+            }
         }
-        Ok(arrays)
     }
 
     /// `NAME "[" expr "]" ":" NAME [ args ] ";"`

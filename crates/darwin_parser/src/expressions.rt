@@ -55,11 +55,12 @@ impl Source<'_> {
         ensures shorter { OnOk result (length tokens.new.rest.now < length tokens.old.rest.now) }
     {
         let mut exprs = Vec::new(self.alloc);
-        exprs.push(self.expr(tokens)?)?;
-        'more: while tokens.eat(Sign::Comma) {
+        'more: loop {
             exprs.push(self.expr(tokens)?)?;
+            if !tokens.eat(Sign::Comma) {
+                return Ok(exprs);
+            }
         }
-        Ok(exprs)
     }
 
     /// `"(" [ expr {"," expr} ] ")"`

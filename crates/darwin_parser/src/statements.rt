@@ -139,11 +139,12 @@ impl Source<'_> {
     {
         tokens.word(Keyword::Inst)?;
         let mut stmts = Vec::new(self.alloc);
-        stmts.push(Stmt::Inst(self.instance(tokens)?))?;
-        'more: while tokens.sees(TokenKind::Name) {
+        'more: loop {
             stmts.push(Stmt::Inst(self.instance(tokens)?))?;
+            if !tokens.sees(TokenKind::Name) {
+                return Ok(stmts);
+            }
         }
-        Ok(stmts)
     }
 
     /// `NAME ":" NAME [ args ] ";" | NAME "[" expr "]" [ args ] ";"`
@@ -200,11 +201,12 @@ impl Source<'_> {
     {
         tokens.word(Keyword::Bind)?;
         let mut stmts = Vec::new(self.alloc);
-        stmts.push(Stmt::Bind(self.binding(tokens)?))?;
-        'more: while tokens.sees(TokenKind::Name) {
+        'more: loop {
             stmts.push(Stmt::Bind(self.binding(tokens)?))?;
+            if !tokens.sees(TokenKind::Name) {
+                return Ok(stmts);
+            }
         }
-        Ok(stmts)
     }
 
     /// `end "--" end ";"`

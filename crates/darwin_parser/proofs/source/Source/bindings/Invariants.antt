@@ -1,15 +1,15 @@
-use Rattle.std.proofs.Common.{◌<◌, length, map}
+use Rattle.std.proofs.Common.{◌≤◌, length, map}
 use Rattle.darwin_lexer.specs.declared.token.TokenKind.TheVariants as kinds
 use Rattle.darwin_parser.specs.Tree.{bind, stmt_of}
 use Rattle.darwin_parser.specs.Reading as reading
 use Rattle.darwin_parser.specs.Reading.{sees, pushed, expect, ◌>>◌, ◌>>=◌, pure}
-use Rattle.darwin_parser.proofs.Loops.{Turning}
+use Rattle.darwin_parser.proofs.Loops.{Owing}
 use Rattle.darwin_parser.proofs.source.Source.bindings.Given as goal
 
 abbrev pub invariant-more : goal.invariant-more
 invariant-more l = record {
-  turning : Turning (sees kinds.Name) pushed (reading.bindentry l.self.text.now 32 >>= (λ b. pure (bind b))) (reading.bindings l.self.text.now 32 l.fn.tokens.rest.now) (map stmt_of l.stmts.items) l.tokens.rest.now;
-  shorter : length l.tokens.rest.now < length l.fn.tokens.rest.now;
+  owing : Owing (sees kinds.Name) pushed (reading.bindentry l.self.text.now 32 >>= (λ b. pure (bind b))) (reading.bindentry l.self.text.now 32 >>= (λ b. pure (bind b))) (reading.bindings l.self.text.now 32 l.fn.tokens.rest.now) (map stmt_of l.stmts.items) l.tokens.rest.now;
+  shorter : length l.tokens.rest.now ≤ length l.fn.tokens.rest.now;
 }
 
 abbrev pub decreases-more : goal.decreases-more

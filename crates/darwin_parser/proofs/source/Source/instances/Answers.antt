@@ -1,21 +1,34 @@
-use Rattle.std.proofs.Common.{arith, ap, sym, ◌∙◌}
+use Rattle.std.proofs.Common.{map, arith, ap, sym, ◌∙◌}
 use Rattle.std.proofs.lemmas.Grind.{common_steps}
-use Rattle.darwin_parser.specs.Tree.{inst}
-use Rattle.darwin_parser.specs.Reading.{and_then, pure}
-use Rattle.darwin_parser.proofs.Loops.{passes_on, next, stops, fails, sees_some}
+use Rattle.darwin_lexer.specs.declared.token.TokenKind.TheVariants as kinds
+use Rattle.darwin_parser.specs.Tree.{inst, stmt_of}
+use Rattle.darwin_parser.specs.Reading as reading
+use Rattle.darwin_parser.specs.Reading.{sees, ◌>>=◌, and_then, pure}
+use Rattle.darwin_parser.proofs.Loops.{passes_on, owes_first, read_one, fails_at_one, stops, owes, sees_some}
 use Rattle.darwin_parser.proofs.source.Source.instances.Goals as goal
 
-pub returns-in_err-instance-2-clause-reads : goal.returns-in_err-instance-2-clause-reads
-returns-in_err-instance-2-clause-reads c =
-    let e = sym c.sees.ensures ∙ c.more-test.true in
-    passes_on _ _ _ c.from_residual-in_err-instance-2.result c.from_residual-in_err-instance-2.ensures.1
-    (λ ne. fails c.more.invariant.turning e (sees_some _ _ e) (ap (λ o. and_then o (λ e. pure (inst e))) (c.in_err-instance-2.ensures.reads ne)))
-
-pub more-preserved : goal.more-preserved
-more-preserved c = record {
-  turning = next c.more.invariant.turning (sym c.sees.ensures ∙ c.more-test.true) (ap (λ o. and_then o (λ e. pure (inst e))) c.in_ok-instance-2.ensures.reads) c.in_ok-instance-2.ensures.shorter (grind (arith, common_steps));
-  shorter = omega (arith, c.in_ok-instance-2.ensures.shorter);
+pub more-init : goal.more-init
+unfolding reading.instances
+more-init c = record {
+  owing = rw c.in_ok-word.ensures.reads (owes_first (sees kinds.Name) (reading.instentry c.args.self.now.text.now 32 >>= (λ e. pure (inst e))) (reading.instentry c.args.self.now.text.now 32 >>= (λ e. pure (inst e))) _ _ (ap (map stmt_of) c.new-stmts.ensures.items));
+  shorter = omega (arith, c.in_ok-word.ensures.shorter);
 }
 
-pub returns-clause-reads : goal.returns-clause-reads
-returns-clause-reads c = stops c.more.invariant.turning (sym c.sees.ensures ∙ c.more-test.false)
+pub returns-in_err-instance-clause-reads : goal.returns-in_err-instance-clause-reads
+returns-in_err-instance-clause-reads c = passes_on _ _ _ c.from_residual-in_err-instance.result c.from_residual-in_err-instance.ensures.1
+    (λ ne. fails_at_one c.more.invariant.owing (ap (λ o. and_then o (λ x. pure (inst x))) (c.in_err-instance.ensures.reads ne)))
+
+pub returns-then-not-sees-clause-reads : goal.returns-then-not-sees-clause-reads
+returns-then-not-sees-clause-reads c = stops
+    (read_one c.more.invariant.owing (ap (λ o. and_then o (λ x. pure (inst x))) c.in_ok-instance.ensures.reads) c.in_ok-instance.ensures.shorter (grind (arith, common_steps)))
+    (sym c.sees.ensures ∙ c.if-not-sees.true)
+
+pub more-preserved : goal.more-preserved
+more-preserved c =
+    let more = sym c.sees.ensures ∙ c.if-not-sees.false in
+    record {
+      owing = owes
+          (read_one c.more.invariant.owing (ap (λ o. and_then o (λ x. pure (inst x))) c.in_ok-instance.ensures.reads) c.in_ok-instance.ensures.shorter (grind (arith, common_steps)))
+          more (sees_some _ _ more);
+      shorter = omega (arith, c.in_ok-instance.ensures.shorter);
+    }
