@@ -8,7 +8,7 @@ use Rattle.darwin_lexer.specs.declared.token.TokenKind.{TokenKind}
 use Rattle.darwin_parser.specs.declared.cursor.Stop.TheVariants.{Expected, TooNested, NoMemory}
 use Rattle.darwin_parser.specs.Language as lang
 use Rattle.darwin_parser.specs.Language.{Lang, Joined}
-use Rattle.darwin_parser.specs.Reading.{Reader, Outcome, and_then}
+use Rattle.darwin_parser.specs.Reading.{Reader, Outcome, and_then, expect}
 use Rattle.darwin_parser.proofs.KindSets.{apart, apart_is, apart_not, class_of, implied, implies, member, member_right, no_is_yes, no_yes, self_implied, sum_first, sum_of, sum_second, within, within_is, within_left, within_not, within_right, within_self_at}
 use Rattle.std.proofs.lemmas.Bool.{and_parts}
 
@@ -273,6 +273,21 @@ exact_same {C = C} {L = L} {L' = L'} {p = p} e to from =
 
 pub exact_reads : {A : Type 0} {F C : List TokenKind} {n : Bool} {L : ℕ → Lang A} {p q : Reader A} → Exact F n C L p → ((tokens : List Token) → p tokens ≡ q tokens) → Exact F n C L q
 exact_reads {C = C} {L = L} e is = record { shape = e.shape; answers = λ tokens. subst (λ o. Answer C L tokens o) (is tokens) (e.answers tokens) }
+
+-- a rule and a token of this kind after it, read as one
+module _ {A B : Type 0} (kind : TokenKind) (p : Reader A) where
+  token_first : (o : Outcome Token) (a : A) (f : A → Reader B) → and_then o (λ _ rest. f a rest) ≡ and_then (and_then o (λ _ rest. Ok (a, rest))) f
+  token_first (Ok q) a f = refl
+  token_first (Err e) a f = refl
+
+  rule_first : (o : Outcome A) (f : A → Reader B)
+      → and_then o (λ a rest. and_then (expect kind rest) (λ _ more. f a more)) ≡ and_then (and_then o (λ a rest. and_then (expect kind rest) (λ _ more. Ok (a, more)))) f
+  rule_first (Ok q) f = token_first (expect kind q.1) q.0 f
+  rule_first (Err e) f = refl
+
+  pub exact_before : {F C : List TokenKind} {n : Bool} {L : ℕ → Lang B} (f : A → Reader B) → Exact F n C L (λ tokens. and_then (p tokens) (λ a rest. and_then (expect kind rest) (λ _ more. f a more)))
+      → Exact F n C L (λ tokens. and_then (and_then (p tokens) (λ a rest. and_then (expect kind rest) (λ _ more. Ok (a, more)))) f)
+  exact_before f x = exact_reads x (λ tokens. rule_first (p tokens) f)
 
 pub swap : {P Q : Type 0} → P ⊎ Q → Q ⊎ P
 swap (inl p) = inr p

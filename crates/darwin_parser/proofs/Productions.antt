@@ -19,7 +19,7 @@ use Rattle.darwin_parser.specs.Grammar as grammar
 use Rattle.darwin_parser.specs.Reading as reading
 use Rattle.darwin_parser.specs.Reading.{Reader, same_kind}
 use Rattle.darwin_parser.proofs.KindSets.{class_of, member, no_yes, same_sound}
-use Rattle.darwin_parser.proofs.Exact.{Begun, Exact, StartsOr, Tells, exact_done, exact_if, exact_nest, exact_other, exact_same, exact_seq, exact_shared, exact_wide}
+use Rattle.darwin_parser.proofs.Exact.{Begun, Exact, StartsOr, Tells, exact_before, exact_done, exact_if, exact_nest, exact_other, exact_same, exact_seq, exact_shared, exact_wide}
 use Rattle.darwin_parser.proofs.OneToken.{exact_after, exact_number, exact_operator, exact_plain, exact_sees, example_of, operators, plain, starts_two, tells_either, tells_number, tells_operator, tells_sees}
 use Rattle.darwin_parser.proofs.Repeats.{exact_closed, exact_loop, fold_appended, fold_pushed}
 
@@ -241,7 +241,7 @@ abbrev pub comma : TokenKind
 comma = kinds.Sign signs.Comma
 
 exact_note : (text : List ℕ) → Exact (kinds.Name ∷ kinds.Word words.Int ∷ comma ∷ []) false [] (λ i. grammar.note text) (reading.note text)
-unfolding grammar.note reading.note
+unfolding grammar.note reading.note reading.note_token
 exact_note text = exact_wide (exact_seq
     (exact_sees kinds.Name refl (exact_plain kinds.Name refl) (exact_sees (kinds.Word words.Int) refl (exact_plain (kinds.Word words.Int) refl) (exact_plain comma refl) refl) refl)
     (λ t. exact_done (bytes_of text t)) refl) refl
@@ -300,12 +300,12 @@ module _ (text : List ℕ) (e : ℕ) where
   exact_args = exact_wide (exact_sees open_paren refl (exact_seq exact_arg_list (λ es. exact_done (Some es)) refl) (exact_done None) refl) refl
 
   exact_instentry : Exact (kinds.Name ∷ []) false [] (λ i. grammar.instentry text (deeper i e)) (reading.instentry text e)
-  unfolding grammar.instentry reading.instentry reading.single_after reading.element_after
+  unfolding grammar.instentry reading.instentry reading.single_after reading.element_after reading.last_args
   exact_instentry = exact_wide (exact_shared (exact_seq (exact_plain kinds.Name refl) (λ t. exact_after (kinds.Sign signs.Colon) (reading.single_after text e t) refl
-      (exact_seq (exact_plain (kinds.Sign signs.Colon) refl) (λ _. exact_seq (exact_name text) (λ component. exact_seq exact_args
-      (λ given. exact_seq (exact_plain (kinds.Sign signs.Semicolon) refl) (λ _. exact_done (single (bytes_of text t) component (unwrap_or given []) t.at)) refl) refl) refl) refl)
-      (exact_seq exact_bracketed (λ index. exact_seq exact_args
-      (λ given. exact_seq (exact_plain (kinds.Sign signs.Semicolon) refl) (λ _. exact_done (element (bytes_of text t) index given t.at)) refl) refl) refl)
+      (exact_seq (exact_plain (kinds.Sign signs.Colon) refl) (λ _. exact_seq (exact_name text) (λ component. exact_before (kinds.Sign signs.Semicolon) (reading.args text e) _ (exact_seq exact_args
+      (λ given. exact_seq (exact_plain (kinds.Sign signs.Semicolon) refl) (λ _. exact_done (single (bytes_of text t) component (unwrap_or given []) t.at)) refl) refl)) refl) refl)
+      (exact_seq exact_bracketed (λ index. exact_before (kinds.Sign signs.Semicolon) (reading.args text e) _ (exact_seq exact_args
+      (λ given. exact_seq (exact_plain (kinds.Sign signs.Semicolon) refl) (λ _. exact_done (element (bytes_of text t) index given t.at)) refl) refl)) refl)
       refl) refl)) refl
 
   exact_port_end : Exact (kinds.Name ∷ []) false (kinds.Sign signs.OpenBracket ∷ []) (λ i. grammar.port_end text (deeper i e)) (reading.port_end text e)
@@ -320,9 +320,10 @@ module _ (text : List ℕ) (e : ℕ) where
       (exact_done (first.0, record { inst = None; inst_index = None; port = bytes_of text first.0; port_index = first.1 })) refl)) refl)) refl
 
   exact_bindentry : Exact (kinds.Name ∷ []) false [] (λ i. grammar.bindentry text (deeper i e)) (reading.bindentry text e)
-  unfolding grammar.bindentry reading.bindentry
-  exact_bindentry = exact_wide (exact_seq exact_bind_end (λ left. exact_seq (exact_plain (kinds.Sign signs.DashDash) refl) (λ _. exact_seq exact_bind_end
-      (λ right. exact_seq (exact_plain (kinds.Sign signs.Semicolon) refl) (λ _. exact_done (record { left = left.1; right = right.1; at = left.0.at })) refl) refl) refl) refl) refl
+  unfolding grammar.bindentry reading.bindentry reading.end_before
+  exact_bindentry = exact_wide (exact_before (kinds.Sign signs.DashDash) (reading.bind_end text e) _ (exact_seq exact_bind_end (λ left. exact_seq (exact_plain (kinds.Sign signs.DashDash) refl)
+      (λ _. exact_before (kinds.Sign signs.Semicolon) (reading.bind_end text e) _ (exact_seq exact_bind_end
+      (λ right. exact_seq (exact_plain (kinds.Sign signs.Semicolon) refl) (λ _. exact_done (record { left = left.1; right = right.1; at = left.0.at })) refl) refl)) refl) refl)) refl
 
   exact_instances : Exact (kinds.Word words.Inst ∷ []) false (kinds.Name ∷ []) (λ i. grammar.instances text (deeper i e)) (reading.instances text e)
   unfolding grammar.instances reading.instances
@@ -564,10 +565,10 @@ module _ (text : List ℕ) (e : ℕ) where
       (λ ps. exact_seq (exact_plain (kinds.Sign signs.Semicolon) refl) (λ _. exact_done ps) refl) refl) refl) refl
 
   exact_arrayentry : Exact (kinds.Name ∷ []) false [] (λ i. grammar.arrayentry text (deeper i e)) (reading.arrayentry text e)
-  unfolding grammar.arrayentry reading.arrayentry
+  unfolding grammar.arrayentry reading.arrayentry reading.last_args
   exact_arrayentry = exact_wide (exact_seq (exact_plain kinds.Name refl) (λ t. exact_seq (exact_bracketed text e) (λ size. exact_seq (exact_plain (kinds.Sign signs.Colon) refl)
-      (λ _. exact_seq (exact_name text) (λ component. exact_seq (exact_args text e) (λ given. exact_seq (exact_plain (kinds.Sign signs.Semicolon) refl)
-      (λ _. exact_done (record { name = bytes_of text t; size = size; component = component; args = given; at = t.at })) refl) refl) refl) refl) refl) refl) refl
+      (λ _. exact_seq (exact_name text) (λ component. exact_before (kinds.Sign signs.Semicolon) (reading.args text e) _ (exact_seq (exact_args text e) (λ given. exact_seq (exact_plain (kinds.Sign signs.Semicolon) refl)
+      (λ _. exact_done (record { name = bytes_of text t; size = size; component = component; args = given; at = t.at })) refl) refl)) refl) refl) refl) refl) refl
 
   exact_array_list : Exact (kinds.Word words.Array ∷ []) false (kinds.Name ∷ []) (λ i. grammar.array_list text (deeper i e)) (reading.array_list text e)
   unfolding grammar.array_list reading.array_list

@@ -128,6 +128,13 @@ appended items others = items ++ others
 abbrev pub optional : {A : Type 0} → TokenKind → Reader A → Reader (Option A)
 optional first p = choose (sees first) (p >>= (λ a. pure (Some a))) (pure None)
 
+-- a rule, and after it a token of this kind
+abbrev pub before : {A : Type 0} → TokenKind → Reader A → Reader A
+before kind p = do
+  a ← p
+  expect kind
+  pure a
+
 -- one and then more where the token of this kind comes next
 abbrev pub some : {A : Type 0} → TokenKind → Reader A → Reader (List A)
 some first p = p >>= (λ a. repeated (sees first) pushed p (a ∷ []))
@@ -183,6 +190,9 @@ nested_over factor =
       expect (kinds.Sign signs.CloseParen)
       pure e)
 
+unfoldable pub note_token : Reader Token
+note_token = choose (sees kinds.Name) (expect kinds.Name) (choose (sees (kinds.Word words.Int)) (expect (kinds.Word words.Int)) (expect (kinds.Sign signs.Comma)))
+
 module _ (text : List ℕ) where
   unfoldable pub name : Reader Name
   name = do
@@ -191,7 +201,7 @@ module _ (text : List ℕ) where
 
   unfoldable pub note : Reader Name
   note = do
-    t ← choose (sees kinds.Name) (expect kinds.Name) (choose (sees (kinds.Word words.Int)) (expect (kinds.Word words.Int)) (expect (kinds.Sign signs.Comma)))
+    t ← note_token
     pure (bytes_of text t)
 
   unfoldable pub note_list : Reader (List Name)
@@ -259,18 +269,19 @@ module _ (text : List ℕ) (operands : ℕ) where
   unfoldable pub args : Reader (Option (List Expr))
   args = optional (kinds.Sign signs.OpenParen) arg_list
 
+  unfoldable pub last_args : Reader (Option (List Expr))
+  last_args = before (kinds.Sign signs.Semicolon) args
+
   unfoldable pub single_after : Token → Reader InstEntry
   single_after t = do
     component ← name text
-    given ← args
-    expect (kinds.Sign signs.Semicolon)
+    given ← last_args
     pure (single (bytes_of text t) component (unwrap_or given []) t.at)
 
   unfoldable pub element_after : Token → Reader InstEntry
   element_after t = do
     i ← bracketed
-    given ← args
-    expect (kinds.Sign signs.Semicolon)
+    given ← last_args
     pure (element (bytes_of text t) i given t.at)
 
   unfoldable pub instentry : Reader InstEntry
@@ -296,12 +307,13 @@ module _ (text : List ℕ) (operands : ℕ) where
     after_or (kinds.Sign signs.Dot) (inner_end first)
         (pure (first.0, record { inst = None; inst_index = None; port = bytes_of text first.0; port_index = first.1 }))
 
+  unfoldable pub end_before : TokenKind → Reader (Token × PortRef)
+  end_before kind = before kind bind_end
+
   unfoldable pub bindentry : Reader BindEntry
   bindentry = do
-    left ← bind_end
-    expect (kinds.Sign signs.DashDash)
-    right ← bind_end
-    expect (kinds.Sign signs.Semicolon)
+    left ← end_before (kinds.Sign signs.DashDash)
+    right ← end_before (kinds.Sign signs.Semicolon)
     pure (record { left = left.1; right = right.1; at = left.0.at })
 
   unfoldable pub instances : Reader (List Stmt)
@@ -371,8 +383,7 @@ module _ (text : List ℕ) (operands : ℕ) where
     size ← bracketed
     expect (kinds.Sign signs.Colon)
     component ← name text
-    given ← args
-    expect (kinds.Sign signs.Semicolon)
+    given ← last_args
     pure (record { name = bytes_of text t; size = size; component = component; args = given; at = t.at })
 
   unfoldable pub array_list : Reader (List ArrayDecl)

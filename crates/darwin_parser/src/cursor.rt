@@ -159,6 +159,21 @@ impl Tokens<'_> {
         self.expect(TokenKind::Sign(sign))
     }
 
+    /// The token of a note that comes next: a name, `int` or a comma.
+    #[tactic(auto, unfolding(crate::specs::Reading::note_token))]
+    pub fn note(&mut self) -> Result<Token, Stop>
+        ensures reads { Reads (λ t. t) (reading.note_token self.old.rest.now) result self.new.rest.now }
+        ensures shorter { OnOk result (length self.new.rest.now < length self.old.rest.now) }
+    {
+        if self.sees(TokenKind::Name) {
+            self.name()
+        } else if self.sees_word(Keyword::Int) {
+            self.word(Keyword::Int)
+        } else {
+            self.sign(Sign::Comma)
+        }
+    }
+
     /// The number that comes next.
     #[tactic(auto, unfolding(crate::specs::Reading::number))]
     pub fn number(&mut self) -> Result<u32, Stop>

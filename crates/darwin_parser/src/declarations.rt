@@ -245,13 +245,7 @@ impl Source<'_> {
         ensures reads { Reads (λ x. x) (reading.note self.now.text.now tokens.old.rest.now) result tokens.new.rest.now }
         ensures shorter { OnOk result (length tokens.new.rest.now < length tokens.old.rest.now) }
     {
-        let token = if tokens.sees(TokenKind::Name) {
-            tokens.name()?
-        } else if tokens.sees_word(Keyword::Int) {
-            tokens.word(Keyword::Int)?
-        } else {
-            tokens.sign(Sign::Comma)?
-        };
+        let token = tokens.note()?;
         Ok(self.spelling(token)?)
     }
 
@@ -281,8 +275,7 @@ impl Source<'_> {
         let size = self.bracketed(tokens)?;
         tokens.sign(Sign::Colon)?;
         let component = self.name(tokens)?;
-        let args = self.args(tokens)?;
-        tokens.sign(Sign::Semicolon)?;
+        let args = self.last_args(tokens)?;
         Ok(ArrayDecl {
             name: self.spelling(name)?,
             size,

@@ -80,7 +80,7 @@ impl Source<'_> {
 
     /// `[ args ]`
     #[tactic(auto, unfolding(crate::specs::Reading::args))]
-    pub fn args(&self, tokens: &mut Tokens<'_>) -> Result<Option<Vec<Expr>>, Stop>
+    fn args(&self, tokens: &mut Tokens<'_>) -> Result<Option<Vec<Expr>>, Stop>
         ensures reads { Reads (option_map (λ v. map expr_of v.items)) (reading.args self.now.text.now 32 tokens.old.rest.now) result tokens.new.rest.now }
         ensures shorter { OnOk result (length tokens.new.rest.now ≤ length tokens.old.rest.now) }
     {
@@ -88,6 +88,17 @@ impl Source<'_> {
             return Ok(None);
         }
         Ok(Some(self.arg_list(tokens)?))
+    }
+
+    /// `[ args ] ";"`
+    #[tactic(auto, unfolding(crate::specs::Reading::last_args))]
+    pub fn last_args(&self, tokens: &mut Tokens<'_>) -> Result<Option<Vec<Expr>>, Stop>
+        ensures reads { Reads (option_map (λ v. map expr_of v.items)) (reading.last_args self.now.text.now 32 tokens.old.rest.now) result tokens.new.rest.now }
+        ensures shorter { OnOk result (length tokens.new.rest.now < length tokens.old.rest.now) }
+    {
+        let args = self.args(tokens)?;
+        tokens.sign(Sign::Semicolon)?;
+        Ok(args)
     }
 
     /// Operands of the next tighter level with operators of this level between them.

@@ -1,6 +1,8 @@
 //! Statements: instances, bindings, and the bodies of `forall` and `when`.
 
-ghost use Rattle.std.specs.Prelude.{◌≡◌, ◌<◌, ◌≤◌, [], ◌∷◌, length, map, option_map, OnOk};
+ghost use Rattle.std.specs.Prelude.{◌≡◌, ◌<◌, ◌≤◌, [], ◌∷◌, length, map, option_map, IfOk, OnOk};
+ghost use Rattle.darwin_lexer.specs.Tokens.{bytes_of};
+ghost use Rattle.darwin_lexer.specs.declared.token.TokenKind.TheVariants as kinds;
 ghost use Rattle.darwin_parser.specs.Tree.{expr_of, entry_of, end_of, binding_of, stmt_of};
 ghost use Rattle.darwin_parser.specs.Reading as reading;
 ghost use Rattle.darwin_parser.specs.Reading.{Reads};
@@ -8,6 +10,7 @@ ghost use Rattle.darwin_parser.specs.Reading.{Reads};
 use crate::cursor::{Stop, Tokens};
 use crate::source::Source;
 use crate::tree::{BindEntry, Expr, InstEntry, PortRef, Stmt};
+use base::Text;
 use darwin_lexer::{Keyword, Sign, Token, TokenKind};
 
 /// In how many bodies of `forall` and `when` a statement may stand.
@@ -167,12 +170,11 @@ impl Source<'_> {
         ensures shorter { OnOk result (length tokens.new.rest.now < length tokens.old.rest.now) }
     {
         let component = self.name(tokens)?;
-        let args = self.args(tokens)?.unwrap_or(Vec::new(self.alloc));
-        tokens.sign(Sign::Semicolon)?;
+        let args = self.last_args(tokens)?;
         Ok(InstEntry::Single {
             name: self.spelling(name)?,
             component,
-            args,
+            args: args.unwrap_or(Vec::new(self.alloc)),
             at: name.at,
         })
     }
@@ -183,8 +185,7 @@ impl Source<'_> {
         ensures shorter { OnOk result (length tokens.new.rest.now < length tokens.old.rest.now) }
     {
         let index = self.bracketed(tokens)?;
-        let args = self.args(tokens)?;
-        tokens.sign(Sign::Semicolon)?;
+        let args = self.last_args(tokens)?;
         Ok(InstEntry::Element {
             array: self.spelling(array)?,
             index,
@@ -215,15 +216,24 @@ impl Source<'_> {
         ensures reads { Reads binding_of (reading.bindentry self.now.text.now 32 tokens.old.rest.now) result tokens.new.rest.now }
         ensures shorter { OnOk result (length tokens.new.rest.now < length tokens.old.rest.now) }
     {
-        let (first, left) = self.end(tokens)?;
-        tokens.sign(Sign::DashDash)?;
-        let (_, right) = self.end(tokens)?;
-        tokens.sign(Sign::Semicolon)?;
+        let (first, left) = self.end_before(tokens, Sign::DashDash)?;
+        let (_, right) = self.end_before(tokens, Sign::Semicolon)?;
         Ok(BindEntry {
             left,
             right,
             at: first.at,
         })
+    }
+
+    /// An end, with its first token, and this sign after it.
+    #[tactic(auto, unfolding(crate::specs::Reading::end_before))]
+    fn end_before(&self, tokens: &mut Tokens<'_>, sign: Sign) -> Result<(Token, PortRef), Stop>
+        ensures reads { Reads (λ p. (p.0, end_of p.1)) (reading.end_before self.now.text.now 32 (kinds.Sign sign) tokens.old.rest.now) result tokens.new.rest.now }
+        ensures shorter { OnOk result (length tokens.new.rest.now < length tokens.old.rest.now) }
+    {
+        let end = self.end(tokens)?;
+        tokens.sign(sign)?;
+        Ok(end)
     }
 
     /// `[ NAME [ "[" expr "]" ] "." ] NAME [ "[" expr "]" ]`, with its first token.
@@ -232,34 +242,36 @@ impl Source<'_> {
         ensures reads { Reads (λ p. (p.0, end_of p.1)) (reading.bind_end self.now.text.now 32 tokens.old.rest.now) result tokens.new.rest.now }
         ensures shorter { OnOk result (length tokens.new.rest.now < length tokens.old.rest.now) }
     {
-        let (first, index) = self.port_end(tokens)?;
+        let (first, name, index) = self.port_end(tokens)?;
         if !tokens.eat(Sign::Dot) {
             let end = PortRef {
                 inst: None,
                 inst_index: None,
-                port: self.spelling(first)?,
+                port: name,
                 port_index: index,
             };
             return Ok((first, end));
         }
-        let (port, port_index) = self.port_end(tokens)?;
+        let (_, port, port_index) = self.port_end(tokens)?;
         let end = PortRef {
-            inst: Some(self.spelling(first)?),
+            inst: Some(name),
             inst_index: index,
-            port: self.spelling(port)?,
+            port,
             port_index,
         };
         Ok((first, end))
     }
 
-    /// `NAME [ "[" expr "]" ]`
+    /// `NAME [ "[" expr "]" ]`, with the token of the name.
     #[tactic(auto, unfolding(crate::specs::Reading::port_end))]
-    fn port_end(&self, tokens: &mut Tokens<'_>) -> Result<(Token, Option<Expr>), Stop>
-        ensures reads { Reads (λ p. (p.0, option_map expr_of p.1)) (reading.port_end self.now.text.now 32 tokens.old.rest.now) result tokens.new.rest.now }
+    fn port_end(&self, tokens: &mut Tokens<'_>) -> Result<(Token, Text, Option<Expr>), Stop>
+        ensures reads { Reads (λ p. (p.0, option_map expr_of p.2)) (reading.port_end self.now.text.now 32 tokens.old.rest.now) result tokens.new.rest.now }
+        ensures named { IfOk result (λ p. p.1 ≡ bytes_of self.now.text.now p.0) }
         ensures shorter { OnOk result (length tokens.new.rest.now < length tokens.old.rest.now) }
     {
-        let name = tokens.name()?;
+        let token = tokens.name()?;
+        let name = self.spelling(token)?;
         let index = self.index(tokens)?;
-        Ok((name, index))
+        Ok((token, name, index))
     }
 }
