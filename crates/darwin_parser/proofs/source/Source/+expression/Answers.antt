@@ -1,4 +1,5 @@
-use Rattle.std.proofs.Common.{arith, sym, subst, ◌∙◌}
+use Rattle.std.proofs.Common.{arith, sym, subst, ◌∙◌, refl}
+use Rattle.darwin_parser.specs.Reading as reading
 use Rattle.darwin_parser.specs.Tree.{expr_of}
 use Rattle.darwin_parser.specs.Reading.{Reads}
 use Rattle.darwin_parser.proofs.Loops.{passes_on, next, stops, fails, operator_some}
@@ -33,3 +34,7 @@ nested-returns-then-nesting-eq0-clause-reads t c = λ _. rw c.too_nested.ensures
 pub nested-returns-clause-reads : goal.nested-returns-clause-reads
 nested-returns-clause-reads t c = subst (λ o. Reads expr_of o c.nested_over.result c.nested_over.new.tokens.rest.now)
     (nested_deeper c.args.self.now.text.now c.args.nesting c.args.tokens.now.rest.now (omega arith)) c.nested_over.ensures.reads
+
+pub comparison-returns-in_err-left-clause-reads : goal.comparison-returns-in_err-left-clause-reads
+unfolding reading.comparison
+comparison-returns-in_err-left-clause-reads t c = passes_on _ _ _ c.from_residual.result c.from_residual.ensures.1 (λ ne. rw (c.in_err-left.ensures.reads ne) refl)

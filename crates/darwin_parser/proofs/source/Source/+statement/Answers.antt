@@ -1,4 +1,4 @@
-use Rattle.std.proofs.Common.{map, Ok, arith, ap, sym, subst, ◌∙◌}
+use Rattle.std.proofs.Common.{map, Ok, arith, ap, sym, subst, ◌∙◌, refl}
 use Rattle.std.proofs.lemmas.Grind.{common_steps}
 use Rattle.darwin_parser.specs.Tree.{stmt_of}
 use Rattle.darwin_parser.specs.Reading as reading
@@ -52,3 +52,43 @@ pub when-returns-clause-reads : goal.when-returns-clause-reads
 unfolding reading.when_over
 when-returns-clause-reads t c = rw (c.in_ok-at.ensures.reads, c.in_ok-test.ensures.reads, c.in_ok-body.ensures.reads)
     (ap (λ s. Ok (s, c.body.new.tokens.rest.now)) (sym (when_body c.in_ok-test.test c.in_ok-body.body c.in_ok-at.field-0.at)))
+
+pub forall-returns-in_err-at-clause-reads : goal.forall-returns-in_err-at-clause-reads
+unfolding reading.forall_over
+forall-returns-in_err-at-clause-reads t c = passes_on _ _ _ c.from_residual.result c.from_residual.ensures.1 (λ ne. rw (c.in_err-at.ensures.reads ne) refl)
+
+pub forall-returns-in_err-var-clause-reads : goal.forall-returns-in_err-var-clause-reads
+unfolding reading.forall_over
+forall-returns-in_err-var-clause-reads t c = passes_on _ _ _ c.from_residual-in_err-var.result c.from_residual-in_err-var.ensures.1 (λ ne. rw (c.in_ok-at.ensures.reads, c.in_err-var.ensures.reads ne) refl)
+
+pub forall-returns-in_err-sign-clause-reads : goal.forall-returns-in_err-sign-clause-reads
+unfolding reading.forall_over
+forall-returns-in_err-sign-clause-reads t c = passes_on _ _ _ c.from_residual-in_err-sign.result c.from_residual-in_err-sign.ensures.1 (λ ne. rw (c.in_ok-at.ensures.reads, c.in_ok-var.ensures.reads, c.in_err-sign.ensures.reads ne) refl)
+
+pub forall-returns-in_err-low-clause-reads : goal.forall-returns-in_err-low-clause-reads
+unfolding reading.forall_over
+forall-returns-in_err-low-clause-reads t c = passes_on _ _ _ c.from_residual-in_err-low.result c.from_residual-in_err-low.ensures.1 (λ ne. rw (c.in_ok-at.ensures.reads, c.in_ok-var.ensures.reads, c.in_ok-sign.ensures.reads, c.in_err-low.ensures.reads ne) refl)
+
+pub forall-returns-in_err-sign-2-clause-reads : goal.forall-returns-in_err-sign-2-clause-reads
+unfolding reading.forall_over
+forall-returns-in_err-sign-2-clause-reads t c = passes_on _ _ _ c.from_residual-in_err-sign-2.result c.from_residual-in_err-sign-2.ensures.1 (λ ne. rw (c.in_ok-at.ensures.reads, c.in_ok-var.ensures.reads, c.in_ok-sign.ensures.reads, c.in_ok-low.ensures.reads, c.in_err-sign-2.ensures.reads ne) refl)
+
+pub forall-returns-in_err-high-clause-reads : goal.forall-returns-in_err-high-clause-reads
+unfolding reading.forall_over
+forall-returns-in_err-high-clause-reads t c = passes_on _ _ _ c.from_residual-in_err-high.result c.from_residual-in_err-high.ensures.1 (λ ne. rw (c.in_ok-at.ensures.reads, c.in_ok-var.ensures.reads, c.in_ok-sign.ensures.reads, c.in_ok-low.ensures.reads, c.in_ok-sign-2.ensures.reads, c.in_err-high.ensures.reads ne) refl)
+
+pub forall-returns-in_err-body-clause-reads : goal.forall-returns-in_err-body-clause-reads
+unfolding reading.forall_over
+forall-returns-in_err-body-clause-reads t c = passes_on _ _ _ c.from_residual-in_err-body.result c.from_residual-in_err-body.ensures.1 (λ ne. rw (c.in_ok-at.ensures.reads, c.in_ok-var.ensures.reads, c.in_ok-sign.ensures.reads, c.in_ok-low.ensures.reads, c.in_ok-sign-2.ensures.reads, c.in_ok-high.ensures.reads, c.in_err-body.ensures.reads ne) refl)
+
+pub when-returns-in_err-at-clause-reads : goal.when-returns-in_err-at-clause-reads
+unfolding reading.when_over
+when-returns-in_err-at-clause-reads t c = passes_on _ _ _ c.from_residual.result c.from_residual.ensures.1 (λ ne. rw (c.in_err-at.ensures.reads ne) refl)
+
+pub when-returns-in_err-test-clause-reads : goal.when-returns-in_err-test-clause-reads
+unfolding reading.when_over
+when-returns-in_err-test-clause-reads t c = passes_on _ _ _ c.from_residual-in_err-test.result c.from_residual-in_err-test.ensures.1 (λ ne. rw (c.in_ok-at.ensures.reads, c.in_err-test.ensures.reads ne) refl)
+
+pub when-returns-in_err-body-clause-reads : goal.when-returns-in_err-body-clause-reads
+unfolding reading.when_over
+when-returns-in_err-body-clause-reads t c = passes_on _ _ _ c.from_residual-in_err-body.result c.from_residual-in_err-body.ensures.1 (λ ne. rw (c.in_ok-at.ensures.reads, c.in_ok-test.ensures.reads, c.in_err-body.ensures.reads ne) refl)

@@ -3,7 +3,7 @@ use Rattle.std.proofs.lemmas.Grind.{common_steps}
 use Rattle.darwin_lexer.specs.declared.token.TokenKind.TheVariants as kinds
 use Rattle.darwin_lexer.specs.declared.token.Sign.TheVariants as signs
 use Rattle.darwin_parser.specs.Reading as reading
-use Rattle.darwin_parser.proofs.Loops.{owes_first_up_to, read_one_up_to, stops_up_to, owes_up_to}
+use Rattle.darwin_parser.proofs.Loops.{owes_first_up_to, read_one_up_to, stops_up_to, owes_up_to, passes_on, fails_at_one_up_to}
 use Rattle.darwin_parser.proofs.source.Source.note_list.Goals as goal
 
 pub more-init : goal.more-init
@@ -25,3 +25,7 @@ more-preserved c = record {
       c.eat.ensures.rest (sym c.eat.ensures.found ∙ c.if-eat.false);
   shorter = omega (arith, c.in_ok-note.ensures.shorter);
 }
+
+pub returns-in_err-note-clause-reads : goal.returns-in_err-note-clause-reads
+returns-in_err-note-clause-reads c = passes_on _ _ _ c.from_residual-in_err-note.result c.from_residual-in_err-note.ensures.1
+    (λ ne. fails_at_one_up_to c.more.invariant.owing (c.in_err-note.ensures.reads ne))

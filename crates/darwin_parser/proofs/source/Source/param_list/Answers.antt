@@ -2,7 +2,7 @@ use Rattle.std.proofs.Common.{arith, sym, ◌∙◌}
 use Rattle.std.proofs.lemmas.Grind.{common_steps}
 use Rattle.darwin_parser.specs.Reading as reading
 use Rattle.darwin_parser.specs.Reading.{sees, expect, ◌>>◌, ◌>>=◌}
-use Rattle.darwin_parser.proofs.Loops.{comma, owes_first, read_one, stops_after, owes_after}
+use Rattle.darwin_parser.proofs.Loops.{comma, owes_first, read_one, stops_after, owes_after, passes_on, fails_at_one}
 use Rattle.darwin_parser.proofs.source.Source.param_list.Goals as goal
 
 pub more-init : goal.more-init
@@ -24,3 +24,6 @@ more-preserved c = record {
       c.eat.ensures.rest (sym c.eat.ensures.found ∙ c.if-not-eat.false);
   shorter = omega (arith, c.in_ok-param.ensures.shorter);
 }
+
+pub returns-in_err-param-clause-reads : goal.returns-in_err-param-clause-reads
+returns-in_err-param-clause-reads c = passes_on _ _ _ c.from_residual.result c.from_residual.ensures.1 (λ ne. fails_at_one c.more.invariant.owing (c.in_err-param.ensures.reads ne))

@@ -3,7 +3,7 @@ use Rattle.std.proofs.lemmas.Grind.{common_steps}
 use Rattle.darwin_parser.specs.Tree.{port_of}
 use Rattle.darwin_parser.specs.Reading as reading
 use Rattle.darwin_parser.specs.Reading.{sees, expect, ◌>>◌, ◌>>=◌}
-use Rattle.darwin_parser.proofs.Loops.{comma, owes_first, read_one, stops_after, owes_after}
+use Rattle.darwin_parser.proofs.Loops.{comma, owes_first, read_one, stops_after, owes_after, passes_on, fails_at_one}
 use Rattle.darwin_parser.proofs.source.Source.ports_at.Goals as goal
 
 pub more-init : goal.more-init
@@ -25,3 +25,6 @@ more-preserved c = record {
       c.eat.ensures.rest (sym c.eat.ensures.found ∙ c.if-not-eat.false);
   shorter = omega (arith, c.in_ok-port.ensures.shorter);
 }
+
+pub returns-in_err-port-clause-reads : goal.returns-in_err-port-clause-reads
+returns-in_err-port-clause-reads c = passes_on _ _ _ c.from_residual.result c.from_residual.ensures.1 (λ ne. fails_at_one c.more.invariant.owing (c.in_err-port.ensures.reads ne))
