@@ -12,3 +12,4 @@ pub mod MoveLemmas
 pub mod ScriptWordLemmas
 pub mod ScriptFormLaws
 pub mod StatementLemmas
+pub mod LeftLemmas
