@@ -1,6 +1,7 @@
 //! The lines of what nodes did, many of them as one piece of text.
 
 ghost use Rattle.std.specs.Prelude.{◌≡◌, ◌≤◌, ◌+◌, ◌*◌, ◌++◌, IfSome, drop, ◌||◌, flat_map, is_some, length, not};
+ghost use Rattle.std.specs.List.{list_all};
 ghost use Rattle.quiesce_core.specs.Doers.{is_of_change, is_of_owner};
 ghost use Rattle.change_script.specs.Reports.{event_text};
 
@@ -84,6 +85,7 @@ pub fn put_event(piece: &mut [u8], end: usize, event: &Event) -> Option<usize>
 /// Puts the lines of events of nodes at the end of a piece, and tells where they start. None where one is of the change.
 pub fn put_events(piece: &mut [u8], events: &[Event]) -> Option<usize>
     requires room { length events.now * 72 ≤ length piece.old }
+    ensures some { is_some result ≡ list_all (λ event. not (is_of_change event)) events.now }
     ensures within { IfSome result (λ start. start ≤ length piece.new) }
     ensures written { IfSome result (λ start. drop start piece.new ≡ flat_map event_text events.now) }
     ensures length { length piece.new ≡ length piece.old }
