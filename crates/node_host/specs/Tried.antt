@@ -34,6 +34,11 @@ abbrev pub is_passed : ℕ → Option Event → Bool
 is_passed k None = true
 is_passed k (Some e) = nat_lt k (move_number e)
 
+-- whether it begins a transaction of the node's own
+abbrev pub is_begin : Option Event → Bool
+is_begin None = false
+is_begin (Some e) = move_number e == 4
+
 -- ---- a reply
 
 abbrev pub is_busy : Known → ℕ → Bool

@@ -1,6 +1,6 @@
 //! A node's turn.
 
-ghost use Rattle.std.specs.Prelude.{◌≡◌, ◌≢◌, ◌&&◌, true, ℕ, ◌<◌, ◌+◌, List, length, map, vec_capacity, is_none, slice_get, slice_index_or, None, Some, OnOk, IsOk, Ok, Err, if◌then◌else◌};
+ghost use Rattle.std.specs.Prelude.{◌≡◌, ◌≢◌, ◌&&◌, true, false, ℕ, ◌<◌, ◌+◌, List, length, map, vec_capacity, is_none, slice_get, slice_index_or, None, Some, OnOk, IsOk, Ok, Err, if◌then◌else◌};
 ghost use Rattle.node_host.specs.Hosted.{node_of};
 ghost use Rattle.node_host.specs.Moved.{Moved};
 ghost use Rattle.node_host.specs.Posting.{IsSentAfter, IsSentBy};
@@ -8,7 +8,7 @@ ghost use Rattle.node_host.specs.Told.{IsTold};
 ghost use Rattle.node_host.specs.Trying.{LookedAt};
 ghost use Rattle.quiesce_core.specs.State.{State, service};
 ghost use Rattle.turns.specs.Turn.{begins, looks, move_of, or_else, serves, takes};
-ghost use Rattle.node_host.specs.Tried.{AreLaterTried, AreMovesTried, IsTried, Keeps, is_passed};
+ghost use Rattle.node_host.specs.Tried.{AreLaterTried, AreMovesTried, IsTried, Keeps, is_begin, is_passed};
 ghost use Rattle.port_gate.specs.Loads.{TellsLoads};
 
 use crate::node::HostNode;
@@ -43,6 +43,7 @@ impl<C: Component + Drop, S: GateSeat + Drop> HostNode<C, S> {
         ensures passed { is_passed 2 result ≡ true }
         ensures loads { TellsLoads (Keeps 3 self.old.first_port self.old.known) (S.loads self.old.seat) (S.loads self.new.seat) }
         ensures tried { AreLaterTried (node_of self.old.slot self.old.first_port (C.state self.old.inner)) (C.state self.old.inner) self.old.known allowed result (H.counts hints.old self.old.slot) (H.counts hints.new self.old.slot) (S.loads self.old.seat) (S.loads self.new.seat) }
+        ensures no_begin { allowed ≡ false → is_begin result ≡ false }
     {
         match self.take_next(gate, hints) {
             Some(event) => Some(event),
@@ -74,6 +75,7 @@ impl<C: Component + Drop, S: GateSeat + Drop> HostNode<C, S> {
         ensures passed { is_passed 2 result ≡ true }
         ensures loads { TellsLoads (Keeps 3 self.old.first_port self.old.known) (S.loads self.old.seat) (S.loads self.new.seat) }
         ensures tried { AreLaterTried (node_of self.old.slot self.old.first_port (C.state self.old.inner)) (C.state self.old.inner) self.old.known allowed result (H.counts hints.old self.old.slot) (H.counts hints.new self.old.slot) (S.loads self.old.seat) (S.loads self.new.seat) }
+        ensures no_begin { allowed ≡ false → is_begin result ≡ false }
     {
         if self.known.service.is_some() {
             self.begin_if(gate, hints, allowed)
@@ -106,6 +108,7 @@ impl<C: Component + Drop, S: GateSeat + Drop> HostNode<C, S> {
         ensures passed { is_passed 1 result ≡ true }
         ensures loads { TellsLoads (Keeps 2 self.old.first_port self.old.known) (S.loads self.old.seat) (S.loads self.new.seat) }
         ensures tried { AreMovesTried (node_of self.old.slot self.old.first_port (C.state self.old.inner)) (C.state self.old.inner) self.old.known allowed result (H.counts hints.old self.old.slot) (H.counts hints.new self.old.slot) (S.loads self.old.seat) (S.loads self.new.seat) }
+        ensures no_begin { allowed ≡ false → is_begin result ≡ false }
     {
         match self.serve(gate, hints) {
             Some(event) => Some(event),
@@ -135,6 +138,7 @@ impl<C: Component + Drop, S: GateSeat + Drop> HostNode<C, S> {
         ensures sent { IsSentBy (record { state = G.state gate.old; before = S.loads self.old.seat; after = S.loads self.new.seat }) (node_of self.old.slot self.old.first_port (C.state self.old.inner)) (S.known self.old.seat) (λ s. looks s self.old.slot (C.state self.old.inner)) result (record { waiting = self.old.waiting; counts = H.counts hints.old; told = H.tells hints.old }) (record { waiting = self.new.waiting; counts = H.counts hints.new; told = H.tells hints.new }) }
         ensures exact { (s : State) (held : List ℕ) → IsTold (G.state gate.old) (node_of self.old.slot self.old.first_port (C.state self.old.inner)) (S.known self.old.seat) s → H.tells hints.old self.old.slot ≡ Some held → result ≡ move_of s self.old.slot (C.state self.old.inner) held allowed }
         ensures tried { IsTried (node_of self.old.slot self.old.first_port (C.state self.old.inner)) (C.state self.old.inner) self.old.known allowed result (H.counts hints.old self.old.slot) (H.counts hints.new self.old.slot) (S.loads self.old.seat) (S.loads self.new.seat) }
+        ensures no_begin { allowed ≡ false → is_begin result ≡ false }
     {
         match self.end_or_ask(gate) {
             Some(event) => Some(event),

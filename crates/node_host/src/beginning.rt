@@ -1,6 +1,6 @@
 //! A node's last move: it begins what it wants.
 
-ghost use Rattle.std.specs.Prelude.{◌≡◌, ◌≢◌, ℕ, ◌<◌, List, length, map, vec_capacity, slice_index_or, None, Some, if◌then◌else◌, true};
+ghost use Rattle.std.specs.Prelude.{◌≡◌, ◌≢◌, ℕ, ◌<◌, List, length, map, vec_capacity, slice_index_or, None, Some, if◌then◌else◌, true, false};
 ghost use Rattle.component_trait.specs.Bounds.{FitsRequest};
 ghost use Rattle.component_trait.specs.Moves as moves;
 ghost use Rattle.node_host.specs.Hosted.{node_of};
@@ -10,7 +10,7 @@ ghost use Rattle.node_host.specs.Told.{IsTold};
 ghost use Rattle.quiesce_core.specs.Knowledge.{port_at_start};
 ghost use Rattle.quiesce_core.specs.State.{State};
 ghost use Rattle.turns.specs.Turn.{begins};
-ghost use Rattle.node_host.specs.Tried.{CannotBegin, Keeps, is_move};
+ghost use Rattle.node_host.specs.Tried.{CannotBegin, Keeps, is_begin, is_move};
 ghost use Rattle.port_gate.specs.Loads.{TellsLoads};
 
 use crate::ending::port_known;
@@ -175,6 +175,7 @@ impl<C: Component + Drop, S: GateSeat + Drop> HostNode<C, S> {
         ensures number { is_move 4 result ≡ true }
         ensures loads { TellsLoads (Keeps 4 self.old.first_port self.old.known) (S.loads self.old.seat) (S.loads self.new.seat) }
         ensures tried { result ≡ None → allowed ≡ true → CannotBegin self.old.first_port (C.state self.old.inner) self.old.known (S.loads self.old.seat) (S.loads self.new.seat) }
+        ensures no_begin { allowed ≡ false → is_begin result ≡ false }
     {
         if allowed {
             self.begin_wanted(gate, hints)

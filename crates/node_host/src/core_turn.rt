@@ -1,11 +1,13 @@
 //! A node's turn on one thread.
 
-ghost use Rattle.std.specs.Prelude.{◌≡◌, ◌++◌, ◌<◌, ℕ, List, Some, length, vec_capacity, OnErr, OnOk, option_to_list};
+ghost use Rattle.std.specs.Prelude.{◌≡◌, ◌≢◌, ◌++◌, ◌<◌, ℕ, List, None, Some, length, vec_capacity, OnErr, OnOk, option_to_list};
 ghost use Rattle.node_host.specs.Hosted.{node_of};
+ghost use Rattle.node_host.specs.Posting.{IsHinted};
 ghost use Rattle.node_host.specs.Trying.{own_box};
 ghost use Rattle.node_host.specs.Turning.{event_of, state_then};
 ghost use Rattle.port_gate.specs.Core.{FitsCore, node_at};
-ghost use Rattle.turns.specs.Turn.{move_of};
+ghost use Rattle.port_gate.specs.declared.core_gate.CoreSeat.{CoreSeat as Seat};
+ghost use Rattle.turns.specs.Turn.{looks, move_of};
 
 use crate::node::HostNode;
 use crate::turning::Turn;
@@ -34,6 +36,8 @@ pub fn turn_at_core<C: Component + Drop>(
     ensures full { OnErr result (length node.old.log.items < vec_capacity node.old.log → C.has_room node.old.inner → ⊥) }
     ensures logged { OnOk result (node.new.log.items ≡ node.old.log.items ++ option_to_list (event_of result)) }
     ensures state { OnOk result (gate.new.core.state ≡ state_then gate.old.core.state (event_of result)) }
+    ensures hints { OnOk result (IsHinted (record { state = Some gate.old.core.state; before = None; after = None }) (node_of node.old.slot node.old.first_port (C.state node.old.inner)) node.old.seat.known (λ s. looks s node.old.slot (C.state node.old.inner)) (event_of result) (record { waiting = node.old.waiting; counts = ⟦<PlainHints as Hints>⟧.counts hints.old; told = ⟦<PlainHints as Hints>⟧.tells hints.old }) (record { waiting = node.new.waiting; counts = ⟦<PlainHints as Hints>⟧.counts hints.new; told = ⟦<PlainHints as Hints>⟧.tells hints.new })) }
+    ensures others { (other : Seat) → other.slot ≢ node.old.slot → FitsCore gate.old.core.state other.slot other.known → FitsCore gate.new.core.state other.slot other.known }
 {
     let _ = gate.core().made();
     node.turn(gate, hints, begins)

@@ -1,6 +1,6 @@
 //! A node's turn.
 
-ghost use Rattle.std.specs.Prelude.{◌≡◌, ◌≢◌, ℕ, ◌+◌, ◌<◌, List, length, map, vec_capacity, slice_index_or, None, Some, OnOk, OnErr, IsOk, Ok};
+ghost use Rattle.std.specs.Prelude.{◌≡◌, ◌≢◌, ℕ, ◌+◌, ◌<◌, false, List, length, map, vec_capacity, slice_index_or, None, Some, OnOk, OnErr, IsOk, Ok};
 ghost use Rattle.node_host.specs.Hosted.{node_of};
 ghost use Rattle.node_host.specs.Moved.{Moved};
 ghost use Rattle.node_host.specs.Posting.{IsHinted};
@@ -10,7 +10,7 @@ ghost use Rattle.node_host.specs.declared.turning.Turn.TheVariants as turn;
 ghost use Rattle.node_host.specs.Trying.{IsAsked, own_box};
 ghost use Rattle.quiesce_core.specs.State.{State};
 ghost use Rattle.turns.specs.Turn.{looks, move_of};
-ghost use Rattle.node_host.specs.Tried.{IsTried};
+ghost use Rattle.node_host.specs.Tried.{IsTried, is_begin};
 
 use crate::node::HostNode;
 use component_trait::Component;
@@ -62,6 +62,7 @@ impl<C: Component + Drop, S: GateSeat + Drop> HostNode<C, S> {
         ensures hints { OnOk result (IsHinted (record { state = G.state gate.old; before = S.loads self.old.seat; after = S.loads self.new.seat }) (node_of self.old.slot self.old.first_port (C.state self.old.inner)) (S.known self.old.seat) (λ s. looks s self.old.slot (C.state self.old.inner)) (event_of result) (record { waiting = self.old.waiting; counts = H.counts hints.old; told = H.tells hints.old }) (record { waiting = self.new.waiting; counts = H.counts hints.new; told = H.tells hints.new })) }
         ensures looked { result ≡ Ok turn.Still → (C.state self.old.inner).service ≡ None → IsAsked (H.counts hints.old self.old.slot) (H.counts hints.new self.old.slot) }
         ensures tried { OnOk result (IsTried (node_of self.old.slot self.old.first_port (C.state self.old.inner)) (C.state self.old.inner) self.old.known begins (event_of result) (H.counts hints.old self.old.slot) (H.counts hints.new self.old.slot) (S.loads self.old.seat) (S.loads self.new.seat)) }
+        ensures no_begin { begins ≡ false → is_begin (event_of result) ≡ false }
     {
         reserve(&mut self.log)?;
         self.inner.room()?;
