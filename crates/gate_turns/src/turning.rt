@@ -1,12 +1,12 @@
 //! A node's turn at the gates.
 
-ghost use Rattle.std.specs.Prelude.{◌≡◌, ◌<◌, None, Some, Ok, OnErr, OnOk, length, vec_capacity};
+ghost use Rattle.std.specs.Prelude.{◌≡◌, ◌<◌, false, None, Some, Ok, OnErr, OnOk, length, vec_capacity};
 ghost use Rattle.gate_rule.specs.Views as views;
 ghost use Rattle.gate_rule.specs.Views.{node_at};
 ghost use Rattle.node_host.specs.Hosted.{node_of};
 ghost use Rattle.node_host.specs.Moved.{Moved};
 ghost use Rattle.node_host.specs.Posting.{IsHinted};
-ghost use Rattle.node_host.specs.Tried.{IsTried};
+ghost use Rattle.node_host.specs.Tried.{IsTried, is_begin};
 ghost use Rattle.node_host.specs.Trying.{IsAsked};
 ghost use Rattle.node_host.specs.Turning.{event_of};
 ghost use Rattle.node_host.specs.declared.turning.Turn.TheVariants as turn;
@@ -39,6 +39,7 @@ pub fn turn_at_gates<C: Component + Drop, H: Hints>(
     ensures hints { OnOk result (IsHinted (record { state = None; before = Some (loads_of (views.node_of node.old.seat.seat.me.0).loads); after = Some (loads_of (views.node_of node.new.seat.seat.me.0).loads) }) (node_of node.old.slot node.old.first_port (C.state node.old.inner)) node.old.seat.known (λ s. looks s node.old.slot (C.state node.old.inner)) (event_of result) (record { waiting = node.old.waiting; counts = H.counts hints.old; told = H.tells hints.old }) (record { waiting = node.new.waiting; counts = H.counts hints.new; told = H.tells hints.new })) }
     ensures looked { result ≡ Ok turn.Still → (C.state node.old.inner).service ≡ None → IsAsked (H.counts hints.old node.old.slot) (H.counts hints.new node.old.slot) }
     ensures tried { OnOk result (IsTried (node_of node.old.slot node.old.first_port (C.state node.old.inner)) (C.state node.old.inner) node.old.known begins (event_of result) (H.counts hints.old node.old.slot) (H.counts hints.new node.old.slot) (Some (loads_of (views.node_of node.old.seat.seat.me.0).loads)) (Some (loads_of (views.node_of node.new.seat.seat.me.0).loads))) }
+    ensures no_begin { begins ≡ false → is_begin (event_of result) ≡ false }
 {
     let mut gate = TableGate::new(gates);
     node.turn(&mut gate, hints, begins)
