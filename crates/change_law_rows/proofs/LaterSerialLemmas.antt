@@ -44,7 +44,7 @@ stuck_is_serial = record {
 
 -- two sources, of which each ends a transaction in the third round and one in the sixth; the seventh moves nothing
 
-abbrev two_started : World
+abbrev pub two_started : World
 two_started = fold with_event nowhere (start_of (two_of 2))
 
 abbrev two_ended : World

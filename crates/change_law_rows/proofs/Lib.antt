@@ -32,3 +32,8 @@ mod WrongRestLemmas
 mod WrongDrainLemmas
 mod WrongStateLemmas
 mod WrongTellingLemmas
+mod WrongSerialLemmas
+mod WrongClosingLemmas
+mod WrongEndLemmas
+mod FinishedTwiceLemmas
+mod WrongCloseLemmas

@@ -143,7 +143,7 @@ port_of (to.Drained p k) = p
 port_of _ = 0
 
 -- the first two of what was seen
-record FirstTwo (seen : List Seen) (p q : ℕ) : Type 0 where
+pub record FirstTwo (seen : List Seen) (p q : ℕ) : Type 0 where
   first : Seen
   second : Seen
   later : List Seen
@@ -151,7 +151,7 @@ record FirstTwo (seen : List Seen) (p q : ℕ) : Type 0 where
   port : first.port ≡ p
   next : second.port ≡ q
 
-first_two : (seen : List Seen) (l : HistoryLine) (rest stop more_ : List HistoryLine) (p j q k : ℕ) → is_drained_line l ≡ false
+pub first_two : (seen : List Seen) (l : HistoryLine) (rest stop more_ : List HistoryLine) (p j q k : ℕ) → is_drained_line l ≡ false
     → (map drained_line seen ++ (l ∷ rest)) ++ stop ≡ to.Drained p j ∷ to.Drained q k ∷ more_ → FirstTwo seen p q
 first_two [] l rest stop more_ p j q k other h =
     absurd (both_ways (is_drained_line l) other (ap is_drained_line (heads_are l (to.Drained p j) (rest ++ stop) (to.Drained q k ∷ more_) h)))
@@ -170,7 +170,7 @@ first_two (d ∷ (e ∷ seen)) l rest stop more_ p j q k other h =
       next = ap port_of (heads_are (drained_line e) (to.Drained q k) tail more_ later);
     }
 
-falls_in_one : (looks : List (List Seen)) (p q : ℕ) → AreLooks 0 looks → FirstTwo (seen_in_all looks) p q → q ≤ p → ⊥
+pub falls_in_one : (looks : List (List Seen)) (p q : ℕ) → AreLooks 0 looks → FirstTwo (seen_in_all looks) p q → q ≤ p → ⊥
 falls_in_one [] p q are two low = cc (two.are)
 falls_in_one (seen ∷ []) p q are two low =
     let is : seen ≡ two.first ∷ two.second ∷ two.later = sym (append-nil seen) ∙ two.are in

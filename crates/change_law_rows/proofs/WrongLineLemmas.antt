@@ -140,7 +140,7 @@ never_rests x undone starts live stands m before after l parts kinds did are res
 
 -- the rounds end with the first one
 
-abbrev rounds_in : Option HistoryLine → ℕ
+abbrev pub rounds_in : Option HistoryLine → ℕ
 rounds_in (Some (to.Finish n r)) = r
 rounds_in _ = 0
 

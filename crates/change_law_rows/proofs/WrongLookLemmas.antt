@@ -162,7 +162,7 @@ reopened_in m h =
 abbrev is_one_of_two : ℕ → Bool
 is_one_of_two j = not (begins_so (drop j told)) || (j == 12 || j == 25)
 
-then_so : (a b : Bool) → (not a || b) ≡ true → a ≡ true → b ≡ true
+pub then_so : (a b : Bool) → (not a || b) ≡ true → a ≡ true → b ≡ true
 then_so true b h e = h
 then_so false b h e = absurd (both_ways false refl e)
 

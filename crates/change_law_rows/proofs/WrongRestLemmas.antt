@@ -43,7 +43,7 @@ use Rattle.change_law_rows.proofs.WrongRunLemmas.{behind_line, ends_in}
 use Rattle.change_law_rows.proofs.WrongStateLemmas.{folds_so}
 
 -- what a node does in a list that is put together
-done_parts : (s : State) (n : ℕ) (xs ys : List Event) → done_from s n (xs ++ ys) ≡ done_from s n xs ++ done_from (fold effect s xs) n ys
+pub done_parts : (s : State) (n : ℕ) (xs ys : List Event) → done_from s n (xs ++ ys) ≡ done_from s n xs ++ done_from (fold effect s xs) n ys
 done_parts s n [] ys = refl
 done_parts s n (e ∷ xs) ys = by (is_doer s n e) (done_parts (effect s e) n xs ys)
   where

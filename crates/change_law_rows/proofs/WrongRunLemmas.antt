@@ -36,10 +36,10 @@ use Rattle.change_law_rows.proofs.WrongStateLemmas.{folds_so}
 
 -- the first run ends with nothing, though neither anything rests nor the rounds end so
 
-abbrev first_source : Slot
+abbrev pub first_source : Slot
 first_source = record { node = source_at (codes "a") 2; first_port = 0; from = None; live = true }
 
-never_done : (es : List Event) → slot (state_after es).config 0 ≡ Some first_source → done_by 0 es ≡ [] → is_done es 0 ≡ false
+pub never_done : (es : List Event) → slot (state_after es).config 0 ≡ Some first_source → done_by 0 es ≡ [] → is_done es 0 ≡ false
 never_done es there did = ap (λ (o : Option NodeState). option_map_or moves.is_done o false) (folds_so es 0 0 first_source [] (opening kind.Source 2) there did refl)
 
 abbrev starts : List HistoryLine

@@ -27,7 +27,7 @@ use Rattle.change_law_rows.specs.WrongSights.{closing, given_up_idly, given_up_l
 use Rattle.change_law_rows.proofs.StatementLemmas.{after_start, known}
 
 -- of which port a line tells that it was found drained or open
-abbrev tells_of : ℕ → HistoryLine → Bool
+abbrev pub tells_of : ℕ → HistoryLine → Bool
 tells_of p (to.Drained q k) = q == p
 tells_of p (to.Root q k) = q == p
 tells_of p _ = false
@@ -36,7 +36,7 @@ abbrev is_sight : HistoryLine → Bool
 is_sight (to.Drained p k) = true
 is_sight _ = false
 
-told_count : (f : Seen → HistoryLine) (p : ℕ) → ((d : Seen) → tells_of p (f d) ≡ (d.port == p)) → (seen : List Seen)
+pub told_count : (f : Seen → HistoryLine) (p : ℕ) → ((d : Seen) → tells_of p (f d) ≡ (d.port == p)) → (seen : List Seen)
     → count_by (tells_of p) (map f seen) ≡ count_by (λ (d : Seen). d.port == p) seen
 told_count f p h [] = refl
 told_count f p h (d ∷ seen) =
@@ -137,16 +137,16 @@ gives_up_so within p closed l rest reopens stop lines closed_once first other e 
 
 -- a source that is replaced
 
-abbrev lone_started : List HistoryLine
+abbrev pub lone_started : List HistoryLine
 lone_started = start_lines (codes "Lone") (pos 2 ∷ []) lone ++ []
 
-abbrev lone_changes : Plan
+abbrev pub lone_changes : Plan
 lone_changes = planned lone (lone_of 3) []
 
-abbrev lone_closed : Configuration
+abbrev pub lone_closed : Configuration
 lone_closed = config_after (lone_started ++ opening_lines (codes "Lone") (pos 3 ∷ []) lone lone_changes (config_after lone_started))
 
-lone_stands : IsGraphOf (config_after lone_started) lone
+pub lone_stands : IsGraphOf (config_after lone_started) lone
 lone_stands = graph_by (config_after lone_started) lone refl
 
 abbrev is_removal : HistoryLine → Bool

@@ -48,7 +48,7 @@ at_last = record { count = 0; total = 94; items = [] }
 abbrev first_number : List ℕ → ℕ
 first_number xs = get_or xs 0 0
 
-ends_with : (o : Option NodeState) (s : NodeState) (xs : List ℕ) → o ≡ Some s → EndsAs o None (last.State xs) → EndsAs (Some s) None (last.State xs)
+pub ends_with : (o : Option NodeState) (s : NodeState) (xs : List ℕ) → o ≡ Some s → EndsAs o None (last.State xs) → EndsAs (Some s) None (last.State xs)
 ends_with o s xs is h = subst (λ p. EndsAs p None (last.State xs)) is h
 
 pub not_forgotten : (m : List Member) → Merge m forgetting → All (IsFolded m forgetting.history) forgetting.logs → ⊥

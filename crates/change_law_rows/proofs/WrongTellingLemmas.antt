@@ -1,7 +1,7 @@
 -- Lines that say another thing than their statement asks for, a change that is tried behind one that was given up, a state that is moved
 -- twice, and a log that no node of its kind has: each refuted by one clause.
 use Rattle.std.proofs.Common.{◌≡◌, ◌∙◌, ℕ, Bool, true, false, List, [], ◌∷◌, ◌++◌, append_assoc, drop, map, Some, None, refl, sym, ap, subst, inl, inr, ⊎_elim, arith}
-use Rattle.std.specs.Prelude.{◌⊎◌, ℤ, All, bytes_eq, codes, pos}
+use Rattle.std.specs.Prelude.{◌==◌, ◌⊎◌, ℤ, All, bytes_eq, codes, pos}
 use Rattle.std.specs.List.{list_any}
 use Rattle.std.proofs.lemmas.Bool.{both_ways}
 use Rattle.base.proofs.PlaceLaws.{heads_are, tails_are}
@@ -29,7 +29,7 @@ use Rattle.change_law_rows.specs.Alone as alone
 use Rattle.plan_laws.specs.Systems.{bank, lone, lone_of, source_at, two}
 use Rattle.change_law_rows.specs.WrongLogs.{running_two}
 use Rattle.change_law_rows.specs.WrongSights.{replacing}
-use Rattle.change_law_rows.specs.WrongTellings.{a_to_a, change_to_four, finished_within_six, invented, log_of_a, moving_twice, of_three, renamed, run_of_two, tried_again, trying_again, turned, turned_log}
+use Rattle.change_law_rows.specs.WrongTellings.{a_to_a, change_to_four, finished_within_six, invented, log_of_a, moving_twice, of_three, renamed, run_of_two, skipped_to_nine, tried_again, trying_again, turned, turned_log}
 use Rattle.change_law_rows.proofs.StatementLemmas.{after_start}
 use Rattle.change_law_rows.proofs.WrongChangeLemmas.{any_left, any_right}
 use Rattle.change_law_rows.proofs.WrongLineLemmas.{first_lines}
@@ -212,6 +212,28 @@ not_tried_again f =
         only_so false all nothing is = is
     by name first second third stop false none right are behind (inr some) =
         both_ways (list_any is_pending (first ++ (second ++ []))) none (any_right is_pending first (second ++ []) (any_left is_pending second [] some))
+
+-- a change that is skipped names what its statement does
+
+abbrev leads_to_two : HistoryLine → Bool
+leads_to_two (to.Change name args) = first_argument args == 2
+leads_to_two _ = false
+
+pub not_skipped_to_nine : Follows trying_again skipped_to_nine → ⊥
+not_skipped_to_nine f =
+    let name = codes "Lone" in
+    let w = parted (start name (pos 2 ∷ []) lone) (change name (pos 3 ∷ []) (lone_of 3) 1 []) (change name (pos 2 ∷ []) lone 0 []) skipped_to_nine
+    f.parts f.stop f.statements_are f.right f.history_is in
+    let third : list_any leads_to_two w.third ≡ true = by (w.first ++ (w.second ++ [])) w.third (list_any is_pending (w.first ++ (w.second ++ []))) refl w.third_right in
+    both_ways (list_any leads_to_two skipped_to_nine) refl
+    (sym (ap (list_any leads_to_two) w.are) ∙ any_left leads_to_two (w.first ++ (w.second ++ (w.third ++ []))) w.stop
+    (any_right leads_to_two w.first (w.second ++ (w.third ++ [])) (any_right leads_to_two w.second (w.third ++ []) (any_left leads_to_two w.third [] third))))
+  where
+    by : (before third : List HistoryLine) (b : Bool) → list_any is_pending before ≡ b → IsRight before (change (codes "Lone") (pos 2 ∷ []) lone 0 []) third → list_any leads_to_two third ≡ true
+    by before third true given_up right = ap (list_any leads_to_two) (right.0 given_up)
+    by before third false none right =
+        let c : IsChange before (codes "Lone") (pos 2 ∷ []) lone 0 [] third = right.1 none in
+        ap (list_any leads_to_two) c.are ∙ any_left leads_to_two (opening_lines (codes "Lone") (pos 2 ∷ []) c.old c.plan (config_after before)) c.rest refl
 
 -- a source begins with the number of its item
 

@@ -26,3 +26,7 @@ pub mod WrongSights
 pub mod WrongRuns
 pub mod WrongLooks
 pub mod WrongTellings
+pub mod WrongSerials
+pub mod WrongClosings
+pub mod WrongEnds
+pub mod FinishedTwice

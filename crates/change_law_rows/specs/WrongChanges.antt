@@ -1,8 +1,9 @@
 -- Wrong lines of changes.
-use Rattle.std.specs.Prelude.{List, [], ◌∷◌, codes, pos, None}
+use Rattle.std.specs.Prelude.{List, [], ◌∷◌, codes, drop, pos, take, None}
 use Rattle.change_script.specs.declared.report.HistoryLine.{HistoryLine}
 use Rattle.change_script.specs.declared.report.HistoryLine.TheVariants as to
 use Rattle.change_plan.specs.declared.plan_data.Move.{Move}
+use Rattle.change_law.specs.Follows.{Part}
 use Rattle.change_law.specs.Statements.{Statement, start, change}
 use Rattle.plan_laws.specs.Systems.{line, map_m, one, pair, sink_t, source_at}
 use Rattle.change_law_rows.specs.SecondLook as second_look
@@ -30,6 +31,16 @@ closed_for_nothing =
     ∷ to.Reopen 1 ∷ to.Commit ∷ to.Change (codes "Line") (pos 3 ∷ pos 10 ∷ []) ∷ to.Close 0 ∷ to.Close 1
     ∷ to.Drained 0 0 ∷ to.Drained 1 0 ∷ to.Reopen 0 ∷ to.Reopen 1 ∷ to.Commit ∷ to.Stop ∷ to.Close 0 ∷ to.Close 1
     ∷ to.Drained 0 0 ∷ to.Drained 1 0 ∷ []
+
+abbrev pub parts_for_nothing : List Part
+parts_for_nothing =
+    record {
+      statement = start (codes "Line") (pos 3 ∷ pos 10 ∷ []) (line 10);
+      lines = take 9 closed_for_nothing;
+    } ∷ record {
+      statement = change (codes "Line") (pos 3 ∷ pos 10 ∷ []) (line 10) 0 [];
+      lines = take 8 (drop 9 closed_for_nothing);
+    } ∷ []
 
 -- two looks where one was allowed
 abbrev pub looking_once : List Statement

@@ -42,6 +42,12 @@ tried_again =
     closing ++ to.Pending 1 ∷ to.Root 0 1 ∷ to.Reopen 0 ∷ to.Abandon ∷ to.Change (codes "Lone") (pos 2 ∷ []) ∷ to.Commit
     ∷ to.Stop ∷ to.Close 0 ∷ to.Drained 0 1 ∷ []
 
+-- it is skipped, and names another argument
+abbrev pub skipped_to_nine : List HistoryLine
+skipped_to_nine =
+    closing ++ to.Pending 1 ∷ to.Root 0 1 ∷ to.Reopen 0 ∷ to.Abandon ∷ to.Change (codes "Lone") (pos 9 ∷ []) ∷ to.Skipped
+    ∷ to.Stop ∷ to.Close 0 ∷ to.Drained 0 1 ∷ []
+
 -- a state is moved twice
 abbrev pub a_to_a : Move
 a_to_a = record { from = codes "a"; to = codes "a" }

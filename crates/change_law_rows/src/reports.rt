@@ -7,6 +7,7 @@ ghost use Rattle.change_law_rows.specs.Alone as alone;
 ghost use Rattle.change_law_rows.specs.Emptied as emptied;
 ghost use Rattle.change_law_rows.specs.EndedEarly as ended_early;
 ghost use Rattle.change_law_rows.specs.Filled as filled;
+ghost use Rattle.change_law_rows.specs.FinishedTwice as finished_twice;
 ghost use Rattle.change_law_rows.specs.GivenUp as given_up;
 ghost use Rattle.change_law_rows.specs.GivenUpLater as given_up_later;
 ghost use Rattle.change_law_rows.specs.Kept as kept;
@@ -63,6 +64,11 @@ pub fn a_run_may_end_with_more_or_fewer()
 /// has ended.
 pub fn a_second_run_counts_anew()
     ensures serial { Serial run_out.twice_script run_out.twice_report }
+{}
+
+/// In rounds a second finish makes none where the first came to rest.
+pub fn a_second_finish_makes_no_round()
+    ensures serial { Serial finished_twice.script finished_twice.report }
 {}
 
 /// A change to the same graph closes nothing, and commits at once.

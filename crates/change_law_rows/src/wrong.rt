@@ -1,21 +1,26 @@
 //! Reports that are wrong in one place, each refuted by one clause, whatever list of members is chosen.
 
-ghost use Rattle.std.specs.Prelude.{◌≡◌, List, Some, None, All};
+ghost use Rattle.std.specs.Prelude.{◌≡◌, List, [], take, Some, None, All};
 ghost use Rattle.base.specs.Each.{Each};
 ghost use Rattle.quiesce_core.specs.Runs.{IsRun};
 ghost use Rattle.change_script.specs.declared.report.HistoryLine.{HistoryLine};
+ghost use Rattle.change_law.specs.Closings.{IsClosedFor};
 ghost use Rattle.change_law.specs.Follows.{Follows};
 ghost use Rattle.change_law.specs.Lawful.{IsDrainedAt, IsFinishAt, IsFolded, IsGraphAt, IsRunAt, Merge, Pace, StoodOpenWhereSaid, on_threads, unfinished_of};
 ghost use Rattle.change_law.specs.Members.{Member, events};
 ghost use Rattle.change_law_rows.specs.Alone as alone;
+ghost use Rattle.change_law_rows.specs.FinishedTwice as finished_twice;
 ghost use Rattle.change_law_rows.specs.Ran as ran;
 ghost use Rattle.change_law_rows.specs.RunOut as run_out;
 ghost use Rattle.change_law_rows.specs.Shown as shown;
 ghost use Rattle.change_law_rows.specs.WrongChanges as changes;
+ghost use Rattle.change_law_rows.specs.WrongClosings as closings;
+ghost use Rattle.change_law_rows.specs.WrongEnds as ends;
 ghost use Rattle.change_law_rows.specs.WrongLines as wrong_lines;
 ghost use Rattle.change_law_rows.specs.WrongLogs as logs;
 ghost use Rattle.change_law_rows.specs.WrongLooks as looks;
 ghost use Rattle.change_law_rows.specs.WrongRuns as runs;
+ghost use Rattle.change_law_rows.specs.WrongSerials as serials;
 ghost use Rattle.change_law_rows.specs.WrongSights as sights;
 ghost use Rattle.change_law_rows.specs.WrongTellings as tellings;
 
@@ -60,7 +65,8 @@ pub fn wrong_sights_are_refuted()
 {}
 
 /// A line says what its statement asks for: a start with its component and arguments, a change too, a run with its
-/// number and a finish with its rounds. A change behind one that was given up isn't tried, and no state moves twice.
+/// number and a finish with its rounds. A change behind one that was given up isn't tried, and names what its statement
+/// does; and no state moves twice.
 pub fn wrong_tellings_are_refuted()
     ensures renamed { Follows alone.script tellings.renamed → ⊥ }
     ensures argument { Follows alone.script tellings.of_three → ⊥ }
@@ -68,16 +74,20 @@ pub fn wrong_tellings_are_refuted()
     ensures finish { Follows alone.script tellings.finished_within_six → ⊥ }
     ensures change { Follows sights.replacing tellings.change_to_four → ⊥ }
     ensures again { Follows tellings.trying_again tellings.tried_again → ⊥ }
+    ensures skipped { Follows tellings.trying_again tellings.skipped_to_nine → ⊥ }
     ensures moved_twice { (history : List HistoryLine) → Follows tellings.moving_twice history → ⊥ }
 {}
 
 /// A `run` that ends with nothing though nothing came to rest, and neither the rounds end so; one that counts what
-/// ended before the line before it; and a finish that ends early, for a rest that was before that line.
+/// ended before the line before it; and a finish that ends early, for a rest that was before that line, or as the
+/// rounds end another finish.
 pub fn wrong_runs_are_refuted()
     ensures idle { (pace : Pace run_out.script) (m : List Member) → Merge m runs.ended_idly → Each (IsRunAt pace) m
         → ⊥ }
     ensures rested_before { (m : List Member) → Merge m runs.rested_before → IsRun (events m)
         → Each (IsRunAt {statements = runs.resting_small} on_threads) m → Each (IsFinishAt {statements = runs.resting_small} on_threads) m → ⊥ }
+    ensures sooner { (pace : Pace finished_twice.script) (m : List Member) → Merge m finished_twice.finished_at_once
+        → Each (IsFinishAt pace) m → ⊥ }
     ensures twice { (pace : Pace run_out.script) (m : List Member) → Merge m runs.counted_twice → IsRun (events m)
         → Each (IsRunAt pace) m → ⊥ }
 {}
@@ -119,3 +129,38 @@ pub fn wrong_looks_are_refuted()
 {
     open_roots_are_seen();
 }
+
+/// A port isn't drained with a serial to which it hasn't come, nor is such a root open. And a root isn't open that ended
+/// before the last port of its change was closed.
+pub fn wrong_serials_are_refuted()
+    ensures late { (m : List Member) → Merge m serials.late → IsRun (events m) → Each IsDrainedAt m → ⊥ }
+    ensures ahead { (m : List Member) → Merge m serials.ahead → IsRun (events m) → Each IsDrainedAt m
+        → Each (StoodOpenWhereSaid m) serials.ahead.history → ⊥ }
+    ensures between { (m : List Member) → Merge m serials.between → IsRun (events m)
+        → Each (StoodOpenWhereSaid m) serials.between.history → ⊥ }
+{}
+
+/// A change that commits reopens what it made, and one that is given up what it closed; and where that one looked, the
+/// ports rise in each look. The stop closes each live port, and finds no other drained; and each statement has its
+/// lines. A port isn't closed for a change that freezes nothing, nor before the change is named.
+pub fn wrong_closings_are_refuted()
+    ensures left { Follows sights.replacing closings.left_closed → ⊥ }
+    ensures kept { Follows sights.replacing closings.kept_closed → ⊥ }
+    ensures falling { Follows closings.replacing_three closings.seen_falling → ⊥ }
+    ensures unclosed { Follows alone.script closings.unclosed → ⊥ }
+    ensures elsewhere { Follows alone.script closings.seen_elsewhere → ⊥ }
+    ensures unshown { Follows shown.script closings.unshown → ⊥ }
+    ensures for_nothing { IsClosedFor changes.parts_for_nothing (take 10 changes.closed_for_nothing) 0 → ⊥ }
+    ensures too_soon { IsClosedFor changes.parts_for_nothing [] 0 → ⊥ }
+{}
+
+/// A node that stays has not moved its state, a sink tells each value that it took, logs stand in the order of their
+/// nodes, and of two nodes that aren't done the first is named.
+pub fn wrong_ends_are_refuted()
+    ensures sent_off { (m : List Member) → All (IsFolded m ends.sending_off.history) ends.sending_off.logs → ⊥ }
+    ensures misheard { (m : List Member) → Merge m ends.mishearing
+        → All (IsFolded m ends.mishearing.history) ends.mishearing.logs → ⊥ }
+    ensures disordered { (m : List Member) → Merge m ends.disordered → ⊥ }
+    ensures second { (m : List Member) → Merge m ends.second_named
+        → Some 1 ≡ unfinished_of ends.finishing_at_once (events m) → ⊥ }
+{}

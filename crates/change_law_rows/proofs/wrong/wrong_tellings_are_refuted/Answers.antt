@@ -1,4 +1,4 @@
-use Rattle.change_law_rows.proofs.WrongTellingLemmas.{not_change_to_four, not_finished_within_six, not_moved_twice, not_of_three, not_renamed, not_run_of_two, not_tried_again}
+use Rattle.change_law_rows.proofs.WrongTellingLemmas.{not_change_to_four, not_finished_within_six, not_moved_twice, not_of_three, not_renamed, not_run_of_two, not_skipped_to_nine, not_tried_again}
 use Rattle.change_law_rows.proofs.wrong.wrong_tellings_are_refuted.Goals as goal
 
 pub returns : goal.returns
@@ -9,5 +9,6 @@ returns c = record {
   finish = not_finished_within_six;
   change = not_change_to_four;
   again = not_tried_again;
+  skipped = not_skipped_to_nine;
   moved_twice = not_moved_twice;
 }

@@ -1,0 +1,68 @@
+-- A second finish makes no round, and the first one isn't like it.
+use Rattle.std.proofs.Common.{◌≡◌, ◌∙◌, ◌<◌, true, List, [], ◌∷◌, drop, length, map, take, refl, sym, ap, subst, ⊎_elim, arith}
+use Rattle.std.specs.Prelude.{◌⊎◌, codes, pos, slice_get}
+use Rattle.base.specs.Each.{Each}
+use Rattle.base.proofs.EachLaws.{each_at}
+use Rattle.quiesce_core.specs.declared.event.Event.TheVariants.{Close}
+use Rattle.turns.specs.Round.{after_rounds}
+use Rattle.turns.specs.World.{World}
+use Rattle.change_script.specs.declared.report.HistoryLine.{HistoryLine}
+use Rattle.change_script.specs.declared.report.HistoryLine.TheVariants as to
+use Rattle.change_law.specs.Lawful.{CameToRest, IsFinishAt, IsOfRounds, Merge, Pace, on_threads, in_rounds}
+use Rattle.change_law.specs.Members.{Member, of_history, lines, without_roots}
+use Rattle.change_law.specs.Serial.{Serial, after_changes, finish_ends, is_none_left}
+use Rattle.change_law.specs.Statements.{finish, start}
+use Rattle.change_law.proofs.MemberLaws.{at_line}
+use Rattle.change_law.proofs.SerialLaws.{one_serial}
+use Rattle.change_law_rows.specs.FinishedTwice.{finished_at_once, report, script}
+use Rattle.plan_laws.specs.Systems.{two_of}
+use Rattle.change_law_rows.proofs.LaterSerialLemmas.{two_started}
+use Rattle.change_law_rows.proofs.SerialLemmas.{first_at}
+use Rattle.change_law_rows.proofs.WrongLineLemmas.{never_rests, rounds_in}
+use Rattle.change_law_rows.proofs.WrongLogLemmas.{some_log}
+use Rattle.change_law_rows.proofs.WrongRunLemmas.{first_source, never_done}
+
+abbrev two_rested : World
+two_rested = after_rounds true two_started 6
+
+abbrev two_closed : World
+two_closed = after_changes two_rested (map Close (0 ∷ 1 ∷ []))
+
+pub finished_twice : Serial script report
+finished_twice = record {
+  parts = record { statement = start (codes "Two") (pos 2 ∷ []) (two_of 2); lines = take 10 report.history; world = two_started }
+      ∷ record { statement = finish 9; lines = to.Finish 9 6 ∷ []; world = two_rested }
+      ∷ record { statement = finish 9; lines = to.Finish 9 0 ∷ []; world = two_rested } ∷ [];
+  statements_are = refl;
+  played = (
+    (refl, refl),
+    (
+      record { rounds = 6; number = first_at (finish_ends two_started 9) 6 refl refl; world = refl; are = refl },
+      (record { rounds = 0; number = first_at (finish_ends two_rested 9) 0 refl refl; world = refl; are = refl }, tt),
+    ),
+  );
+  stop = drop 12 report.history;
+  world = two_closed;
+  stops = record { waiting = two_closed; waits = refl; rounds = 0; number = first_at (is_none_left two_closed (0 ∷ 1 ∷ [])) 0 refl refl; world = refl; are = refl };
+  report_is = refl;
+}
+
+abbrev starts : List HistoryLine
+starts = take 10 report.history
+
+not_of_rounds : (pace : Pace script) (before : List Member) → lines before ≡ starts → IsOfRounds pace before (to.Finish 9 0) → ⊥
+not_of_rounds on_threads before are h = h
+not_of_rounds (in_rounds rounds serial) before are h =
+    let same = one_serial script rounds report serial finished_twice in
+    let made : 6 ≡ 0 = sym (λ i. rounds_in (slice_get (without_roots (same i).history) (length (are i)))) ∙ ap rounds_in h in omega (arith, made)
+
+pub not_finished_at_once : (pace : Pace script) (m : List Member) → Merge m finished_at_once → Each (IsFinishAt pace) m → ⊥
+not_finished_at_once pace m merge finishes =
+    let line_ = to.Finish 9 0 in
+    let w = at_line m starts line_ (drop 11 finished_at_once.history) merge.history in
+    let said : IsFinishAt pace w.before (of_history line_) = each_at (IsFinishAt pace) w.before w.after (of_history line_) (subst (Each (IsFinishAt pace)) w.parts finishes) in
+    ⊎_elim (λ (all : 0 ≡ 9). absurd (omega (arith, all)))
+    (λ (early : (0 < 9) × (CameToRest w.before ⊎ IsOfRounds pace w.before line_)). ⊎_elim
+    (λ (rest : CameToRest w.before).
+    never_rests first_source never_done starts refl refl m w.before w.after line_ w.parts merge.by_nodes (merge.logs 0 some_log (omega arith)) w.lines_before rest)
+    (λ (so : IsOfRounds pace w.before line_). not_of_rounds pace w.before w.lines_before so) early.1) said
