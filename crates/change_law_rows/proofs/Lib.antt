@@ -37,3 +37,4 @@ mod WrongClosingLemmas
 mod WrongEndLemmas
 mod FinishedTwiceLemmas
 mod WrongCloseLemmas
+mod UndoneLemmas

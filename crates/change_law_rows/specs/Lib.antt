@@ -30,3 +30,4 @@ pub mod WrongSerials
 pub mod WrongClosings
 pub mod WrongEnds
 pub mod FinishedTwice
+pub mod Undone

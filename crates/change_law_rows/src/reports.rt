@@ -23,6 +23,7 @@ ghost use Rattle.change_law_rows.specs.Shown as shown;
 ghost use Rattle.change_law_rows.specs.Skipped as skipped;
 ghost use Rattle.change_law_rows.specs.Stuck as stuck;
 ghost use Rattle.change_law_rows.specs.Summed as summed;
+ghost use Rattle.change_law_rows.specs.Undone as undone;
 ghost use Rattle.change_law_rows.specs.Waited as waited;
 
 /// One sink that is started and shown has this report. This is the report of rounds too.
@@ -74,6 +75,11 @@ pub fn a_second_finish_makes_no_round()
 /// A change to the same graph closes nothing, and commits at once.
 pub fn a_change_that_changes_nothing_is_lawful()
     ensures lawful { Lawful kept.script on_threads kept.report }
+{}
+
+/// A node that was removed before it was done isn't named: of two sources the live one is.
+pub fn a_removed_node_is_not_named()
+    ensures lawful { Lawful undone.script on_threads undone.report }
 {}
 
 /// An asker asks an adder for one sum, which takes an intermediate reply and a further message: the report of a run

@@ -1,0 +1,30 @@
+-- The report in which the live one of two sources that are not done is named is lawful.
+use Rattle.std.proofs.Common.{[], refl}
+use Rattle.quiesce_core.specs.Reach.{has_no_cycle, reaches}
+use Rattle.change_law.specs.Found.{IsFound}
+use Rattle.change_law.specs.Lawful.{Lawful, on_threads}
+use Rattle.change_law.proofs.FoundLaws.{found_lawful, none_open}
+use Rattle.change_law_rows.specs.Undone.{history, members, report, script, stopped, tells}
+
+is_found : IsFound script on_threads tells stopped members report
+unfolding reaches has_no_cycle
+is_found = record {
+  follows = refl;
+  history = refl;
+  slots = refl;
+  logs = refl;
+  kinds = refl;
+  lines_are = refl;
+  runs = refl;
+  lasts = refl;
+  drained = refl;
+  stood_open = none_open members [] history refl;
+  graphs = refl;
+  unfinished = refl;
+  status = refl;
+  runs_end = refl;
+  finishes_end = refl;
+}
+
+pub lawful : Lawful script on_threads report
+lawful = found_lawful script on_threads tells stopped members report is_found
