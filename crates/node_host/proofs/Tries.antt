@@ -1,6 +1,6 @@
 -- That the moves before the one that was made aren't possible, put together from what each call shows.
 use Rattle.std.proofs.Common.{inl, inr, ◌≡◌, ◌∙◌, ◌⊎◌, ℕ, zero, suc, ◌+◌, ◌<◌, ◌≤◌, Bool, true, false, length, Option, Some, None, refl, sym, ap, subst, arith}
-use Rattle.std.specs.Prelude.{◌==◌, ◌&&◌, is_none}
+use Rattle.std.specs.Prelude.{◌==◌, ◌&&◌, is_none, nat_lt}
 use Rattle.std.proofs.lemmas.Bool.{both_ways, eq-eqb, eqb-true}
 use Rattle.config_graph.specs.Kinds.{row}
 use Rattle.component_trait.specs.States.{NodeState}
@@ -18,7 +18,7 @@ use Rattle.port_queue.specs.Inboxes.{Counts, Rose}
 use Rattle.node_host.specs.Hosted.{node_of}
 use Rattle.node_host.specs.Posting.{GateSeen, HintOf, Hinted, IsSent, IsSentAfter, IsSentBy}
 use Rattle.node_host.specs.Told.{IsTold}
-use Rattle.node_host.specs.Tried.{AreLaterTried, AreMovesTried, CannotBegin, HasNoReply, HasNoRequest, HaveNoReplies, IsHeld, IsTried, Keeps, LoadsPort, Steps, bars_begin, is_busy, is_passed, is_reply_at, is_stale_for, passed_ports, shows_in_more}
+use Rattle.node_host.specs.Tried.{AreLaterTried, AreMovesTried, CannotBegin, HasNoReply, HasNoRequest, HaveNoReplies, IsHeld, IsTried, Keeps, LoadsPort, Steps, bars_begin, is_busy, is_move, is_passed, is_reply_at, is_stale_for, move_number, passed_ports, shows_in_more}
 use Rattle.node_host.specs.Trying.{CountsTried, IsGrown}
 use Rattle.node_host.proofs.Asked.{rose_since}
 use Rattle.node_host.proofs.Loading.{keeps_steps, led_kept, led_since, loaded_kept, loaded_since, then_so}
@@ -308,8 +308,7 @@ sent_by_as s s' a b d n n' w w' rule rule' e old old' new st en ew eo steps same
     let four = subst (λ x. IsSentBy (record { state = s; before = b; after = d }) n w rule' e x new) eo three in
     record {
       asked = four.asked;
-      free = four.free;
-      passed = four.passed;
+      exact = four.exact;
       ruled = λ x told. four.ruled x told ∙ same x told;
       after = record { between = four.after.between; looked = four.after.looked; sent = hint_since s a b d n.first e four.after.between new steps four.after.sent };
     }
@@ -321,19 +320,24 @@ same_none s None (Some u) h = absurd h
 same_none s (Some v) None h = absurd h
 same_none s (Some v) (Some u) h = refl
 
-none_is : (o : Option Served) → is_none o ≡ true → o ≡ None
-none_is None h = refl
-none_is (Some u) h = absurd (both_ways false refl h)
-
 -- the look after the service
-pub sent_after_service : (g : GateSeen) (n : NodeAt) (t : NodeState) (w seat : Known) (e : Option Event) (old new : Hinted) → w ≡ seat → ((s : State) → IsTold g.state n seat s → None ≡ serves s n.slot t)
+pub sent_after_service : (g : GateSeen) (n : NodeAt) (t : NodeState) (w seat : Known) (e : Option Event) (old new : Hinted) → w ≡ seat → is_passed 2 e ≡ true → ((s : State) → IsTold g.state n seat s → None ≡ serves s n.slot t)
     → IsSentAfter g n.slot n.first (is_none w.service) e old new → IsSentBy g n seat (λ s. is_none (serves s n.slot t) && is_none (service s n.slot)) e old new
-sent_after_service g n t w seat e old new kept exact h = record {
+sent_after_service g n t w seat e old new kept passed exact h = record {
   asked = is_none w.service;
-  free = λ is. ap (λ (k : Known). k.service) (sym kept) ∙ none_is w.service is;
-  passed = λ after. ap (λ (k : Known). is_none k.service) kept;
+  exact = ap (λ (k : Known). is_none k.service) kept ∙ ap (λ b. b && is_none seat.service) (sym passed);
   ruled = λ s told.
       ap (λ (k : Known). is_none k.service) kept ∙ same_none s (service s n.slot) seat.service told.fits.known.service
       ∙ ap (λ o. is_none o && is_none (service s n.slot)) (exact s told);
   after = h;
+}
+
+-- a move before the look
+pub sent_before_look : (g : GateSeen) (n : NodeAt) (w : Known) (rule : State → Bool) (k : ℕ) (e : Event) (old new : Hinted) → nat_lt 2 k ≡ false → is_move k (Some e) ≡ true → ((s : State) → IsTold g.state n w s → rule s ≡ false)
+    → HintOf g n.first (Some e) old new → IsSentBy g n w rule (Some e) old new
+sent_before_look g n w rule k e old new below number ruled h = record {
+  asked = false;
+  exact = ap (λ b. b && is_none w.service) (sym (ap (nat_lt 2) (eqb-true (move_number e) k number) ∙ below));
+  ruled = λ s told. sym (ruled s told);
+  after = record { between = old; looked = refl; sent = h };
 }

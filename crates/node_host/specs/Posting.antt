@@ -1,5 +1,5 @@
 -- What becomes of the hint of a request that a node sends.
-use Rattle.std.specs.Prelude.{◌≡◌, ◌≢◌, ◌+◌, ◌-◌, ℕ, Bool, true, false, List, Option, Some, None, is_none, slice_index_or, slice_set, if◌then◌else◌}
+use Rattle.std.specs.Prelude.{◌≡◌, ◌≢◌, ◌+◌, ◌-◌, ℕ, Bool, true, false, ◌&&◌, List, Option, Some, None, is_none, slice_index_or, slice_set, if◌then◌else◌}
 use Rattle.port_gate.specs.Answers.{IsTargetAt}
 use Rattle.port_gate.specs.Loads.{IsLoaded, Loads, TellsLoads, leads_to}
 use Rattle.port_gate.specs.Seats.{NodeAt}
@@ -87,12 +87,11 @@ pub record IsSentAfter (g : GateSeen) (slot first : ℕ) (asked : Bool) (e : Opt
   pub looked : Looked asked slot old between
   pub sent : HintOf g first e between new
 
--- The inbox is asked where the node is in no service and no move before that one was made; if the gate tells its state, exactly where the
--- rule says so.
+-- The inbox is asked exactly where the node is in no service and neither replied nor went on with one: where the rule says so, if the
+-- gate tells its state.
 pub record IsSentBy (g : GateSeen) (n : NodeAt) (known : Known) (rule : State → Bool) (e : Option Event) (old new : Hinted) : Type 0 where
   pub asked : Bool
-  pub free : asked ≡ true → known.service ≡ None
-  pub passed : is_passed 2 e ≡ true → asked ≡ is_none known.service
+  pub exact : asked ≡ (is_passed 2 e && is_none known.service)
   pub ruled : (s : State) → IsTold g.state n known s → asked ≡ rule s
   pub after : IsSentAfter g n.slot n.first asked e old new
 

@@ -1,12 +1,25 @@
-use Rattle.std.proofs.Common.{◌∙◌, refl, ap}
+use Rattle.std.proofs.Common.{◌∙◌, Some, refl, sym, ap}
 use Rattle.std.specs.Prelude.{◌&&◌, is_none}
 use Rattle.node_host.specs.Hosted.{SeatSeen, node_of}
-use Rattle.node_host.specs.Posting.{Hinted}
+use Rattle.node_host.specs.Posting.{GateSeen, Hinted}
 use Rattle.node_host.proofs.Composing.{same_known, same_machine, same_node, same_state}
-use Rattle.node_host.proofs.Tries.{moves_after_replies, sent_by_as}
+use Rattle.node_host.proofs.Hinting.{without_hint}
+use Rattle.node_host.proofs.Tries.{moves_after_replies, sent_before_look, sent_by_as}
 use Rattle.quiesce_core.specs.State.{service}
 use Rattle.turns.specs.Turn.{looks, serves}
 use Rattle.node_host.proofs.node.HostNode.act.Goals as goal
+
+pub returns-in-Some-clause-sent : goal.returns-in-Some-clause-sent
+returns-in-Some-clause-sent g c =
+    let h = c.args.self.now in
+    let t = g.C.Component.state h.inner in
+    let k = c.end_or_ask.new.self in
+    let seen : GateSeen = record { state = g.G.PortGate.state c.args.gate.now; before = g.S.GateSeat.loads h.seat; after = g.S.GateSeat.loads k.seat } in
+    let old : Hinted = record { waiting = h.waiting; counts = g.H.Hints.counts c.args.hints.now; told = g.H.Hints.tells c.args.hints.now } in
+    let new : Hinted = record { waiting = k.waiting; counts = g.H.Hints.counts c.args.hints.now; told = g.H.Hints.tells c.args.hints.now } in
+    sent_before_look seen (node_of h.slot h.first_port t) (g.S.GateSeat.known h.seat) (λ s. looks s h.slot t) 1 c.in-Some.event old new refl c.in-Some.ensures.number
+    (λ s told. ap (λ e. is_none e && is_none (serves s h.slot t) && is_none (service s h.slot)) (sym (c.in-Some.ensures.exact s told)))
+    (without_hint seen h.first_port (Some c.in-Some.event) h.waiting k.waiting (g.H.Hints.counts c.args.hints.now) (g.H.Hints.tells c.args.hints.now) c.in-Some.ensures.asks_nothing c.in-Some.ensures.waiting)
 
 pub returns-in-None-clause-sent : goal.returns-in-None-clause-sent
 returns-in-None-clause-sent g c =

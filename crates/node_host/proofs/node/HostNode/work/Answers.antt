@@ -1,10 +1,25 @@
-use Rattle.std.proofs.Common.{◌∙◌, refl, ap}
+use Rattle.std.proofs.Common.{◌∙◌, refl, sym, ap}
+use Rattle.std.specs.Prelude.{◌&&◌, is_none}
 use Rattle.node_host.specs.Hosted.{SeatSeen, node_of}
 use Rattle.node_host.specs.Posting.{GateSeen, Hinted}
 use Rattle.node_host.proofs.Composing.{same_machine, same_state}
 use Rattle.node_host.proofs.Loading.{keeps_steps}
-use Rattle.node_host.proofs.Tries.{later_after_service, sent_after_service, sent_as}
+use Rattle.node_host.proofs.Tries.{later_after_service, sent_after_service, sent_as, sent_before_look}
+use Rattle.quiesce_core.specs.State.{service}
+use Rattle.turns.specs.Turn.{serves}
 use Rattle.node_host.proofs.node.HostNode.work.Goals as goal
+
+pub returns-in-Some-clause-sent : goal.returns-in-Some-clause-sent
+returns-in-Some-clause-sent g c =
+    let h = c.args.self.now in
+    let t = g.C.Component.state h.inner in
+    let k = c.serve.new.self in
+    let seen : GateSeen = record { state = g.G.PortGate.state c.args.gate.now; before = g.S.GateSeat.loads h.seat; after = g.S.GateSeat.loads k.seat } in
+    let old : Hinted = record { waiting = h.waiting; counts = g.H.Hints.counts c.args.hints.now; told = g.H.Hints.tells c.args.hints.now } in
+    let new : Hinted = record { waiting = k.waiting; counts = g.H.Hints.counts c.serve.new.hints; told = g.H.Hints.tells c.serve.new.hints } in
+    sent_before_look seen (node_of h.slot h.first_port t) (g.S.GateSeat.known h.seat) (λ s. is_none (serves s h.slot t) && is_none (service s h.slot)) 2 c.in-Some.event old new refl c.in-Some.ensures.number
+    (λ s told. ap (λ e. is_none e && is_none (service s h.slot)) (sym (c.in-Some.ensures.exact s told)))
+    c.in-Some.ensures.hint
 
 pub returns-in-None-clause-sent : goal.returns-in-None-clause-sent
 returns-in-None-clause-sent g c =
@@ -24,7 +39,7 @@ returns-in-None-clause-sent g c =
     let between : Hinted = record { waiting = m.waiting; counts = g.H.Hints.counts c.serve.new.hints; told = g.H.Hints.tells c.serve.new.hints } in
     let new : Hinted = record { waiting = k.waiting; counts = g.H.Hints.counts c.look.new.hints; told = g.H.Hints.tells c.look.new.hints } in
     let quiet = c.in-None.ensures.quiet refl in
-    sent_after_service seen (node_of h.slot h.first_port t) t h.known seat.known c.look.result old new h.hosted.kept (λ s told. c.in-None.ensures.exact s told)
+    sent_after_service seen (node_of h.slot h.first_port t) t h.known seat.known c.look.result old new h.hosted.kept c.look.ensures.passed (λ s told. c.in-None.ensures.exact s told)
     (sent_as o (g.G.PortGate.state c.serve.new.gate) a b d h.slot m.slot h.first_port m.first_port h.known m.known c.look.result old between new
     (same_machine (node_of h.slot h.first_port t) t tm h.log.items m.log.items seat seatm (g.G.PortGate.state c.args.gate.now) (g.G.PortGate.state c.serve.new.gate) c.in-None.ensures.moved)
     c.in-None.ensures.place.0 c.in-None.ensures.place.1 (c.in-None.ensures.known refl)
