@@ -10,6 +10,7 @@ mod FitProps
 mod TableLemmas
 mod TurnTable
 mod HostLemmas
+mod Heirs
 mod ReadLemmas
 mod RoomLemmas
 mod LineLemmas

@@ -20,6 +20,7 @@ use Rattle.node_table.specs.Worlds.{ShowsIn}
 use Rattle.node_table.specs.declared.handed.Handed.{Handed}
 use Rattle.node_table.specs.declared.held.Held.{Held}
 use Rattle.node_table.proofs.ChangeLemmas.{here_same, not_both}
+use Rattle.node_table.proofs.Heirs.{not_taken}
 use Rattle.node_table.proofs.LogLaws.{log_is}
 use Rattle.node_table.proofs.TableLemmas.{at_slot}
 
@@ -47,6 +48,12 @@ module _ (S : AnyNode → NodeState) (s : State) (xs : List Held) (ends : List �
   taken_over y is some_ = ∥∥₁_map some_
       (λ (p : (w : World) × ShowsIn s (map (seen S) xs) ends tells w).
       let g = p.1.holds.nodes_gone n y (entry_at S s xs ends tells n h (gone y) at is) in (y.heir, g.taker, ap (λ (u : State). slot u.config y.heir) p.1.holds.state ∙ g.heir, g.from))
+
+  pub not_taken_over : (x : NodeSeen) → seen S h ≡ here x → ∥ ((w : World) × ShowsIn s (map (seen S) xs) ends tells w) ∥₁ → ∥ ((k : ℕ) × (m : Slot) × (slot s.config k ≡ Some m) × (m.from ≡ Some n)) ∥₁ → ⊥
+  not_taken_over x is some_ taken = ∥∥₁_elim some_ (Prim.hlevel props)
+      (λ (p : (w : World) × ShowsIn s (map (seen S) xs) ends tells w). ∥∥₁_elim taken (Prim.hlevel props)
+      (λ (t : (k : ℕ) × (m : Slot) × (slot s.config k ≡ Some m) × (m.from ≡ Some n)).
+      not_taken s (map (seen S) xs) ends p.0.events p.1.holds n x (entry_at S s xs ends tells n h (here x) at is) t.0 t.1 t.2 t.3))
 
 module _ (S : AnyNode → NodeState) (xs : List Held) (ends : List ℕ) (y : Handed) (there : ∥ HasLog (map (seen S) xs) ends y ∥₁) where
   pub line_below : y.line < length ends

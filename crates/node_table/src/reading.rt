@@ -1,6 +1,6 @@
 //! What a table tells of its nodes and ports.
 
-ghost use Rattle.std.specs.Prelude.{◌≡◌, ◌<◌, ℕ, [], Some, None, length, IfSome, option_and_then, slice_index_or};
+ghost use Rattle.std.specs.Prelude.{◌≡◌, ◌<◌, ◌↔◌, ℕ, [], Some, None, length, IfSome, option_and_then, slice_index_or};
 ghost use Rattle.gate_word.specs.Words.{FitsWord, unpack};
 ghost use Rattle.quiesce_core.specs.Rules as rules;
 ghost use Rattle.quiesce_core.specs.Runs.{done_by};
@@ -104,7 +104,7 @@ impl NodeTable {
         requires made { slot < length (machine self.now).config.slots }
         requires some { ∥ ((w : World) × Shows ⟦<AnyNode as Component>⟧.state ⟦<PlainHints as Hints>⟧.tells self.now w) ∥₁ }
         ensures state { (w : World) → Shows ⟦<AnyNode as Component>⟧.state ⟦<PlainHints as Hints>⟧.tells self.now w → IfSome result (λ node. state_of w slot ≡ Some (⟦<AnyNode as Component>⟧.state node.now)) }
-        ensures handed { result ≡ None → ∥ ((n : ℕ) × (m : Slot) × (state.slot (machine self.now).config n ≡ Some m) × (m.from ≡ Some slot)) ∥₁ }
+        ensures handed { (result ≡ None) ↔ ∥ ((n : ℕ) × (m : Slot) × (state.slot (machine self.now).config n ≡ Some m) × (m.from ≡ Some slot)) ∥₁ }
     {
         match &self.nodes[slot as usize] {
             Held::Node(node) => Some(&node.inner),
