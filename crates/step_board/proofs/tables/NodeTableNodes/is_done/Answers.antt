@@ -6,4 +6,4 @@ use Rattle.step_board.proofs.tables.NodeTableNodes.is_done.Goals as goal
 
 pub unreachable-requires : goal.unreachable-requires
 unreachable-requires c =
-    no_heir_of_live (table.machine c.args.self.now) c.args.slot c.requires.live (∥∥₁_map c.requires.some (λ h. (h.0, h.1.reached, h.1.machine))) (c.in-None.ensures.handed refl)
+    no_heir_of_live (table.machine c.args.self.now) c.args.slot c.requires.live (∥∥₁_map c.requires.some (λ h. (h.0, h.1.reached, h.1.machine))) (c.in-None.ensures.handed.0 refl)
