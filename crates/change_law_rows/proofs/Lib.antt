@@ -38,3 +38,4 @@ mod WrongEndLemmas
 mod FinishedTwiceLemmas
 mod WrongCloseLemmas
 mod UndoneLemmas
+mod AsideLemmas

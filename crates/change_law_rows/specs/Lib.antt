@@ -31,3 +31,4 @@ pub mod WrongClosings
 pub mod WrongEnds
 pub mod FinishedTwice
 pub mod Undone
+pub mod Aside

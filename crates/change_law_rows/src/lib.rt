@@ -15,7 +15,7 @@ pub use reports::{
     a_second_finish_makes_no_round, a_second_look_may_find_a_lower_port, a_second_run_counts_anew,
     a_shown_sink_is_lawful, a_sum_with_a_further_message_is_lawful, a_system_may_be_empty,
     rest_may_be_seen_at_different_places, what_a_looped_buffer_holds_goes_on,
-    what_is_open_may_be_named_in_any_order,
+    what_is_not_frozen_begins_nothing_in_a_wait, what_is_open_may_be_named_in_any_order,
 };
 pub use unlawful::wrong_reports_are_not_lawful;
 pub use wrong::{

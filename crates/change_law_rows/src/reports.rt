@@ -4,6 +4,7 @@ ghost use Rattle.change_law.specs.Lawful.{Lawful, in_rounds, on_threads};
 ghost use Rattle.change_law.specs.Scripts.{StatementsOf};
 ghost use Rattle.change_law.specs.Serial.{Serial};
 ghost use Rattle.change_law_rows.specs.Alone as alone;
+ghost use Rattle.change_law_rows.specs.Aside as aside;
 ghost use Rattle.change_law_rows.specs.Emptied as emptied;
 ghost use Rattle.change_law_rows.specs.EndedEarly as ended_early;
 ghost use Rattle.change_law_rows.specs.Filled as filled;
@@ -117,7 +118,12 @@ pub fn a_change_may_wait()
     ensures serial { Serial waited.script waited.report }
 {}
 
-/// The script of that report has these statements, where the component of its file elaborates to those graphs.
+/// In rounds a source that a change doesn't freeze begins nothing while the change waits, though its port is open.
+pub fn what_is_not_frozen_begins_nothing_in_a_wait()
+    ensures serial { Serial aside.script aside.report }
+{}
+
+/// The script of the report in which a change waits has these statements, where the component of its file elaborates to those graphs.
 pub fn a_script_says_its_statements()
     ensures said { StatementsOf said.elaborates said.script waited.script }
 {}
