@@ -1,7 +1,7 @@
 -- Ports that stay closed or are never closed, looks that don't rise, and a statement without a line: none of these histories follows its
 -- script.
-use Rattle.std.proofs.Common.{◌≡◌, ◌∙◌, ℕ, Bool, true, false, List, [], ◌∷◌, ◌++◌, drop, map, refl, sym, ap, subst, inl, inr, ⊎_elim, arith}
-use Rattle.std.specs.Prelude.{◌==◌, ◌⊎◌, codes, pos}
+use Rattle.std.proofs.Common.{◌≡◌, ◌∙◌, ℕ, Bool, true, false, List, [], ◌∷◌, ◌++◌, drop, map, refl, sym, ap, subst, inl, inr, ⊎_elim, arith, None}
+use Rattle.std.specs.Prelude.{◌==◌, ◌⊎◌, codes, pos, is_some}
 use Rattle.std.specs.List.{count_by, list_any}
 use Rattle.std.proofs.lemmas.Bool.{both_ways}
 use Rattle.std.proofs.lemmas.List.{append-nil}
@@ -13,7 +13,7 @@ use Rattle.change_script.specs.declared.report.HistoryLine.{HistoryLine}
 use Rattle.change_script.specs.declared.report.HistoryLine.TheVariants as to
 use Rattle.change_law.specs.Changes.{IsCommitted, IsGivenUp, commit_lines, drained_lines, opening_lines, pending_lines, seen_in_all}
 use Rattle.change_law.specs.Follows.{Follows, IsFinishLine, IsShowLine, IsStop, start_lines}
-use Rattle.change_law.specs.Members.{is_close, is_commit, is_pending}
+use Rattle.change_law.specs.Members.{is_close, is_pending}
 use Rattle.change_law.specs.Planning.{planned}
 use Rattle.change_law.specs.Scene.{Seen, config_after, drained_line, root_line}
 use Rattle.change_law.specs.Statements.{change, finish, show}
@@ -21,11 +21,11 @@ use Rattle.change_law.proofs.StandingLaws.{graph_by}
 use Rattle.change_law_rows.specs.Alone as alone
 use Rattle.change_law_rows.specs.Shown as shown
 use Rattle.plan_laws.specs.Systems.{lone, lone_of, one, three}
-use Rattle.change_law_rows.specs.WrongClosings.{kept_closed, left_closed, replacing_three, seen_elsewhere, seen_falling, unclosed, unshown}
+use Rattle.change_law_rows.specs.WrongClosings.{kept_closed, left_closed, made_too_soon, moved_unasked, replacing_three, seen_elsewhere, seen_falling, unclosed, unshown}
 use Rattle.change_law_rows.specs.WrongSights.{closing, replacing}
 use Rattle.change_law_rows.proofs.StatementLemmas.{after_start, known}
 use Rattle.change_law_rows.proofs.WrongChangeLemmas.{any_left, any_right, falls_in_one, first_two}
-use Rattle.change_law_rows.proofs.WrongSightLemmas.{lone_changes, lone_closed, lone_stands, lone_started, tells_of, told_count}
+use Rattle.change_law_rows.proofs.WrongSightLemmas.{CommitsSo, GivesUpSo, begins, behind, is_removal, is_sight, lone_changes, lone_closed, lone_stands, lone_started, replaced as ends_so, rounds_of, tells_of, told_count}
 
 abbrev is_reopen : HistoryLine → Bool
 is_reopen (to.Reopen p) = true
@@ -36,12 +36,16 @@ is_reopen _ = false
 abbrev closed_ports : List ℕ
 closed_ports = ports_to_close lone lone_changes (config_after lone_started)
 
+abbrev is_made_anew : HistoryLine → Bool
+is_made_anew (to.Make n made None) = true
+is_made_anew _ = false
+
 record Behind (lines : List HistoryLine) : Type 0 where
   reopened : list_any is_reopen lines ≡ true
-  ended : (list_any is_commit lines ≡ true) ⊎ (list_any is_pending lines ≡ true)
+  ended : (list_any is_made_anew lines ≡ true) ⊎ (list_any is_pending lines ≡ true)
 
 committed_so : (rest stop lines : List HistoryLine) → IsCommitted lone (lone_of 3) lone_changes 1 lone_closed rest → rest ++ stop ≡ lines → Behind lines
-committed_so rest stop lines e is = record { reopened = there is_reopen refl; ended = inl (there is_commit refl) }
+committed_so rest stop lines e is = record { reopened = there is_reopen refl; ended = inl (there is_made_anew refl) }
   where
     there : (t : HistoryLine → Bool) → list_any t (commit_lines lone (lone_of 3) lone_changes lone_closed) ≡ true → list_any t lines ≡ true
     there t h =
@@ -75,6 +79,19 @@ not_left_closed f = both_ways (list_any is_reopen (drop 6 left_closed)) refl (re
 
 pub not_kept_closed : Follows replacing kept_closed → ⊥
 not_kept_closed f = both_ways (list_any is_reopen (drop 6 kept_closed)) refl (replaced (drop 6 kept_closed) f).reopened
+
+-- where no state is to move, a node is made anew
+pub not_moved_unasked : Follows replacing moved_unasked → ⊥
+not_moved_unasked f = ⊎_elim
+    (λ (e : list_any is_made_anew (drop 6 moved_unasked) ≡ true). both_ways (list_any is_made_anew (drop 6 moved_unasked)) refl e)
+    (λ (e : list_any is_pending (drop 6 moved_unasked) ≡ true). both_ways (list_any is_pending (drop 6 moved_unasked)) refl e) (replaced (drop 6 moved_unasked) f).ended
+
+-- what is replaced is removed first
+pub not_made_too_soon : Follows replacing made_too_soon → ⊥
+not_made_too_soon f = ⊎_elim
+    (λ (e : CommitsSo is_removal 0 (drop 6 made_too_soon)). both_ways (begins is_removal (behind is_sight (drop 6 made_too_soon))) refl e.at_once)
+    (λ (e : GivesUpSo 1 0 (drop 6 made_too_soon)). both_ways (is_some (rounds_of (behind is_sight (drop 6 made_too_soon)))) refl (ap is_some e.rounds))
+    (ends_so (drop 6 made_too_soon) f)
 
 -- the stop closes each live port
 pub not_unclosed : Follows alone.script unclosed → ⊥

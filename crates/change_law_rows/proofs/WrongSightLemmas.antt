@@ -32,7 +32,7 @@ tells_of p (to.Drained q k) = q == p
 tells_of p (to.Root q k) = q == p
 tells_of p _ = false
 
-abbrev is_sight : HistoryLine → Bool
+abbrev pub is_sight : HistoryLine → Bool
 is_sight (to.Drained p k) = true
 is_sight _ = false
 
@@ -46,11 +46,11 @@ told_count f p h (d ∷ seen) =
 
 -- the lines of a kind that stand first, and what stands behind them
 
-abbrev first_of : (HistoryLine → Bool) → List HistoryLine → List HistoryLine
+abbrev pub first_of : (HistoryLine → Bool) → List HistoryLine → List HistoryLine
 first_of t [] = []
 first_of t (l ∷ ls) = if t l then l ∷ first_of t ls else []
 
-abbrev behind : (HistoryLine → Bool) → List HistoryLine → List HistoryLine
+abbrev pub behind : (HistoryLine → Bool) → List HistoryLine → List HistoryLine
 behind t [] = []
 behind t (l ∷ ls) = if t l then behind t ls else l ∷ ls
 
@@ -80,28 +80,28 @@ parted_at_first t f h seen l rest stop lines other is =
 -- What the lines behind the closes tell of port p, which is closed once. The change commits, with line l first; or it is given up with
 -- these rounds, where some root is left.
 
-abbrev sights : ℕ → List HistoryLine → ℕ
+abbrev pub sights : ℕ → List HistoryLine → ℕ
 sights p lines = count_by (tells_of p) (first_of is_sight lines)
 
-abbrev roots : List HistoryLine → List HistoryLine
+abbrev pub roots : List HistoryLine → List HistoryLine
 roots lines = first_of is_root (drop 1 (behind is_sight lines))
 
-abbrev rounds_of : List HistoryLine → Option ℕ
+abbrev pub rounds_of : List HistoryLine → Option ℕ
 rounds_of (to.Pending n ∷ ls) = Some n
 rounds_of _ = None
 
-abbrev begins : (HistoryLine → Bool) → List HistoryLine → Bool
+abbrev pub begins : (HistoryLine → Bool) → List HistoryLine → Bool
 begins t [] = false
 begins t (l ∷ ls) = t l
 
-record CommitsSo (t : HistoryLine → Bool) (p : ℕ) (lines : List HistoryLine) : Type 0 where
-  at_once : begins t (behind is_sight lines) ≡ true
-  once : sights p lines ≡ 1
+pub record CommitsSo (t : HistoryLine → Bool) (p : ℕ) (lines : List HistoryLine) : Type 0 where
+  pub at_once : begins t (behind is_sight lines) ≡ true
+  pub once : sights p lines ≡ 1
 
-record GivesUpSo (within p : ℕ) (lines : List HistoryLine) : Type 0 where
-  rounds : rounds_of (behind is_sight lines) ≡ Some within
-  some_left : 0 < length (roots lines)
-  once : sights p lines + count_by (tells_of p) (roots lines) ≡ 1
+pub record GivesUpSo (within p : ℕ) (lines : List HistoryLine) : Type 0 where
+  pub rounds : rounds_of (behind is_sight lines) ≡ Some within
+  pub some_left : 0 < length (roots lines)
+  pub once : sights p lines + count_by (tells_of p) (roots lines) ≡ 1
 
 commits_so : (t : HistoryLine → Bool) (old new : Graph) (plan : Plan) (within p : ℕ) (c : Configuration) (l : HistoryLine) (rest commits stop lines : List HistoryLine)
     → count_by (λ q. q == p) (ports_to_close old plan c) ≡ 1 → commit_lines old new plan c ≡ l ∷ commits → is_sight l ≡ false → t l ≡ true
@@ -149,11 +149,11 @@ lone_closed = config_after (lone_started ++ opening_lines (codes "Lone") (pos 3 
 pub lone_stands : IsGraphOf (config_after lone_started) lone
 lone_stands = graph_by (config_after lone_started) lone refl
 
-abbrev is_removal : HistoryLine → Bool
+abbrev pub is_removal : HistoryLine → Bool
 is_removal (to.Remove n) = true
 is_removal _ = false
 
-replaced : (lines : List HistoryLine) → Follows replacing (closing ++ lines) → CommitsSo is_removal 0 lines ⊎ GivesUpSo 1 0 lines
+pub replaced : (lines : List HistoryLine) → Follows replacing (closing ++ lines) → CommitsSo is_removal 0 lines ⊎ GivesUpSo 1 0 lines
 replaced lines f =
     let name = codes "Lone" in
     let w = after_start name (pos 2 ∷ []) lone (change name (pos 3 ∷ []) (lone_of 3) 1 []) (closing ++ lines) f in

@@ -1,5 +1,5 @@
 -- Ports that stay closed, or are never closed, looks that don't rise, and a statement without a line.
-use Rattle.std.specs.Prelude.{List, [], ◌∷◌, ◌++◌, codes, pos, None}
+use Rattle.std.specs.Prelude.{List, [], ◌∷◌, ◌++◌, codes, pos, Some, None}
 use Rattle.change_script.specs.declared.report.HistoryLine.{HistoryLine}
 use Rattle.change_script.specs.declared.report.HistoryLine.TheVariants as to
 use Rattle.change_law.specs.Statements.{Statement, start, change}
@@ -15,6 +15,17 @@ left_closed =
 
 abbrev pub kept_closed : List HistoryLine
 kept_closed = closing ++ to.Pending 1 ∷ to.Root 0 1 ∷ to.Abandon ∷ to.Stop ∷ to.Close 0 ∷ to.Drained 0 1 ∷ []
+
+-- a node takes over a state though none was to move, or is made before the one that it replaces is removed
+abbrev pub moved_unasked : List HistoryLine
+moved_unasked =
+    closing ++ to.Drained 0 0 ∷ to.Remove 0 ∷ to.Make 1 (source_at (codes "s") 3) (Some 0) ∷ to.Reopen 1 ∷ to.Commit
+    ∷ to.Stop ∷ to.Close 1 ∷ to.Drained 1 0 ∷ []
+
+abbrev pub made_too_soon : List HistoryLine
+made_too_soon =
+    closing ++ to.Drained 0 0 ∷ to.Make 1 (source_at (codes "s") 3) None ∷ to.Remove 0 ∷ to.Reopen 1 ∷ to.Commit
+    ∷ to.Stop ∷ to.Close 1 ∷ to.Drained 1 0 ∷ []
 
 -- the stop closes nothing
 abbrev pub unclosed : List HistoryLine

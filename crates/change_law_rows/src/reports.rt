@@ -111,6 +111,11 @@ pub fn a_change_may_be_given_up_after_rounds()
     ensures serial { Serial given_up_later.script given_up_later.report }
 {}
 
+/// In rounds a source that a change doesn't freeze begins nothing while the change waits, though its port is open.
+pub fn what_is_not_frozen_begins_nothing_in_a_wait()
+    ensures serial { Serial aside.script aside.report }
+{}
+
 /// A change waits for one round, in which that root ends, and commits.
 /// This is the report of rounds too.
 pub fn a_change_may_wait()
@@ -118,12 +123,7 @@ pub fn a_change_may_wait()
     ensures serial { Serial waited.script waited.report }
 {}
 
-/// In rounds a source that a change doesn't freeze begins nothing while the change waits, though its port is open.
-pub fn what_is_not_frozen_begins_nothing_in_a_wait()
-    ensures serial { Serial aside.script aside.report }
-{}
-
-/// The script of the report in which a change waits has these statements, where the component of its file elaborates to those graphs.
+/// The script of that report has these statements, where the component of its file elaborates to those graphs.
 pub fn a_script_says_its_statements()
     ensures said { StatementsOf said.elaborates said.script waited.script }
 {}

@@ -140,12 +140,14 @@ pub fn wrong_serials_are_refuted()
         → Each (StoodOpenWhereSaid m) serials.between.history → ⊥ }
 {}
 
-/// A change that commits reopens what it made, and one that is given up what it closed; and where that one looked, the
-/// ports rise in each look. The stop closes each live port, and finds no other drained; and each statement has its
+/// A change that commits removes what it replaces before it makes another, which takes over no state unasked, and reopens
+/// what it made; one that is given up reopens what it closed, and in each of its looks the ports rise. The stop closes each live port, and finds no other drained; and each statement has its
 /// lines. A port isn't closed for a change that freezes nothing, nor before the change is named.
 pub fn wrong_closings_are_refuted()
     ensures left { Follows sights.replacing closings.left_closed → ⊥ }
     ensures kept { Follows sights.replacing closings.kept_closed → ⊥ }
+    ensures unasked { Follows sights.replacing closings.moved_unasked → ⊥ }
+    ensures too_early { Follows sights.replacing closings.made_too_soon → ⊥ }
     ensures falling { Follows closings.replacing_three closings.seen_falling → ⊥ }
     ensures unclosed { Follows alone.script closings.unclosed → ⊥ }
     ensures elsewhere { Follows alone.script closings.seen_elsewhere → ⊥ }
