@@ -1,26 +1,38 @@
 -- A second finish makes no round, and the first one isn't like it.
-use Rattle.std.proofs.Common.{◌≡◌, ◌∙◌, ◌<◌, true, List, [], ◌∷◌, drop, length, map, take, refl, sym, ap, subst, ⊎_elim, arith}
+use Rattle.std.proofs.Common.{◌≡◌, ◌∙◌, ◌<◌, true, false, List, [], ◌∷◌, ◌++◌, drop, length, map, take, Option, Some, None, refl, sym, ap, subst, ⊎_elim, arith}
 use Rattle.std.specs.Prelude.{◌⊎◌, codes, pos, slice_get}
+use Rattle.std.specs.Option.{option_map_or}
 use Rattle.base.specs.Each.{Each}
 use Rattle.base.proofs.EachLaws.{each_at}
+use Rattle.component_trait.specs.Moves as moves
+use Rattle.component_trait.specs.States.{NodeState}
+use Rattle.component_trait.specs.Tables.{opening}
+use Rattle.config_graph.specs.declared.kind.Kind.TheVariants as kind
+use Rattle.quiesce_core.specs.Runs.{done_by, state_after}
+use Rattle.quiesce_core.specs.State.{slot}
+use Rattle.quiesce_core.specs.declared.event.Event.{Event}
 use Rattle.quiesce_core.specs.declared.event.Event.TheVariants.{Close}
+use Rattle.quiesce_core.specs.declared.state.Slot.{Slot}
 use Rattle.turns.specs.Round.{after_rounds}
 use Rattle.turns.specs.World.{World}
 use Rattle.change_script.specs.declared.report.HistoryLine.{HistoryLine}
 use Rattle.change_script.specs.declared.report.HistoryLine.TheVariants as to
-use Rattle.change_law.specs.Lawful.{CameToRest, IsFinishAt, IsOfRounds, Merge, Pace, on_threads, in_rounds}
+use Rattle.change_law.specs.Lawful.{CameToRest, IsFinishAt, IsOfRounds, Merge, Pace, on_threads, in_rounds, is_done}
 use Rattle.change_law.specs.Members.{Member, of_history, lines, without_roots}
 use Rattle.change_law.specs.Serial.{Serial, after_changes, finish_ends, is_none_left}
 use Rattle.change_law.specs.Statements.{finish, start}
 use Rattle.change_law.proofs.MemberLaws.{at_line}
 use Rattle.change_law.proofs.SerialLaws.{one_serial}
-use Rattle.change_law_rows.specs.FinishedTwice.{finished_at_once, report, script}
-use Rattle.plan_laws.specs.Systems.{two_of}
+use Rattle.change_law_rows.specs.FinishedTwice.{finished_at_once, finished_later, report, script}
+use Rattle.change_law_rows.specs.Ran as ran
+use Rattle.change_law_rows.specs.WrongRuns.{rested_partly}
+use Rattle.plan_laws.specs.Systems.{source_at, two_of}
 use Rattle.change_law_rows.proofs.LaterSerialLemmas.{two_started}
-use Rattle.change_law_rows.proofs.SerialLemmas.{first_at}
+use Rattle.change_law_rows.proofs.SerialLemmas.{first_at, ran_is_serial}
 use Rattle.change_law_rows.proofs.WrongLineLemmas.{never_rests, rounds_in}
 use Rattle.change_law_rows.proofs.WrongLogLemmas.{some_log}
 use Rattle.change_law_rows.proofs.WrongRunLemmas.{first_source, never_done}
+use Rattle.change_law_rows.proofs.WrongStateLemmas.{folds_so}
 
 abbrev two_rested : World
 two_rested = after_rounds true two_started 6
@@ -64,5 +76,51 @@ not_finished_at_once pace m merge finishes =
     ⊎_elim (λ (all : 0 ≡ 9). absurd (omega (arith, all)))
     (λ (early : (0 < 9) × (CameToRest w.before ⊎ IsOfRounds pace w.before line_)). ⊎_elim
     (λ (rest : CameToRest w.before).
-    never_rests first_source never_done starts refl refl m w.before w.after line_ w.parts merge.by_nodes (merge.logs 0 some_log (omega arith)) w.lines_before rest)
+    never_rests 0 first_source never_done starts refl refl m w.before w.after line_ w.parts merge.by_nodes (merge.logs 0 some_log (omega arith)) w.lines_before rest)
     (λ (so : IsOfRounds pace w.before line_). not_of_rounds pace w.before w.lines_before so) early.1) said
+
+-- nor is the second finish one of three rounds
+
+later_rounds : (pace : Pace script) (before : List Member) → lines before ≡ starts ++ to.Finish 9 9 ∷ [] → IsOfRounds pace before (to.Finish 9 3) → ⊥
+later_rounds on_threads before are h = h
+later_rounds (in_rounds rounds serial) before are h =
+    let same = one_serial script rounds report serial finished_twice in
+    let made : 0 ≡ 3 = sym (λ i. rounds_in (slice_get (without_roots (same i).history) (length (are i)))) ∙ ap rounds_in h in omega (arith, made)
+
+pub not_finished_later : (pace : Pace script) (m : List Member) → Merge m finished_later → Each (IsFinishAt pace) m → ⊥
+not_finished_later pace m merge finishes =
+    let line_ = to.Finish 9 3 in
+    let front = starts ++ to.Finish 9 9 ∷ [] in
+    let w = at_line m front line_ (drop 12 finished_later.history) merge.history in
+    let said : IsFinishAt pace w.before (of_history line_) = each_at (IsFinishAt pace) w.before w.after (of_history line_) (subst (Each (IsFinishAt pace)) w.parts finishes) in
+    ⊎_elim (λ (all : 3 ≡ 9). absurd (omega (arith, all)))
+    (λ (early : (3 < 9) × (CameToRest w.before ⊎ IsOfRounds pace w.before line_)). ⊎_elim
+    (λ (rest : CameToRest w.before).
+    never_rests 0 first_source never_done front refl refl m w.before w.after line_ w.parts merge.by_nodes (merge.logs 0 some_log (omega arith)) w.lines_before rest)
+    (λ (so : IsOfRounds pace w.before line_). later_rounds pace w.before w.lines_before so) early.1) said
+
+-- a source doesn't rest, though the map before it does
+
+abbrev second_source : Slot
+second_source = record { node = source_at (codes "s") 3; first_port = 1; from = None; live = true }
+
+source_undone : (es : List Event) → slot (state_after es).config 1 ≡ Some second_source → done_by 1 es ≡ [] → is_done es 1 ≡ false
+source_undone es there did = ap (λ (o : Option NodeState). option_map_or moves.is_done o false) (folds_so es 1 1 second_source [] (opening kind.Source 3) there did refl)
+
+no_round : (pace : Pace ran.script) (before : List Member) → lines before ≡ take 9 ran.history → IsOfRounds pace before (to.Finish 100 0) → ⊥
+no_round on_threads before are h = h
+no_round (in_rounds rounds serial) before are h =
+    let same = one_serial ran.script rounds ran.report serial ran_is_serial in
+    let made : 18 ≡ 0 = sym (λ i. rounds_in (slice_get (without_roots (same i).history) (length (are i)))) ∙ ap rounds_in h in omega (arith, made)
+
+pub not_rested_partly : (pace : Pace ran.script) (m : List Member) → Merge m rested_partly → Each (IsFinishAt pace) m → ⊥
+not_rested_partly pace m merge finishes =
+    let line_ = to.Finish 100 0 in
+    let front = take 9 ran.history in
+    let w = at_line m front line_ (drop 10 rested_partly.history) merge.history in
+    let said : IsFinishAt pace w.before (of_history line_) = each_at (IsFinishAt pace) w.before w.after (of_history line_) (subst (Each (IsFinishAt pace)) w.parts finishes) in
+    ⊎_elim (λ (all : 0 ≡ 100). absurd (omega (arith, all)))
+    (λ (early : (0 < 100) × (CameToRest w.before ⊎ IsOfRounds pace w.before line_)). ⊎_elim
+    (λ (rest : CameToRest w.before).
+    never_rests 1 second_source source_undone front refl refl m w.before w.after line_ w.parts merge.by_nodes (merge.logs 1 some_log (omega arith)) w.lines_before rest)
+    (λ (so : IsOfRounds pace w.before line_). no_round pace w.before w.lines_before so) early.1) said

@@ -120,14 +120,14 @@ lines_of_nodes [] = refl
 lines_of_nodes (e ∷ es) = lines_of_nodes es
 
 -- where the node of a slot does nothing, and isn't done so, nothing comes to rest before a line
-pub never_rests : (x : Slot) → ((es : List Event) → slot (state_after es).config 0 ≡ Some x → done_by 0 es ≡ [] → is_done es 0 ≡ false) → (starts : List HistoryLine) → is_live (config_after starts) 0 ≡ true
-    → slot (config_after starts) 0 ≡ Some x → (m before after : List Member) (l : HistoryLine) → m ≡ before ++ of_history l ∷ after → All IsOfItsKind m → done_by 0 (events m) ≡ []
+pub never_rests : (n : ℕ) (x : Slot) → ((es : List Event) → slot (state_after es).config n ≡ Some x → done_by n es ≡ [] → is_done es n ≡ false) → (starts : List HistoryLine) → is_live (config_after starts) n ≡ true
+    → slot (config_after starts) n ≡ Some x → (m before after : List Member) (l : HistoryLine) → m ≡ before ++ of_history l ∷ after → All IsOfItsKind m → done_by n (events m) ≡ []
     → lines before ≡ starts → CameToRest before → ⊥
-never_rests x undone starts live stands m before after l parts kinds did are rest =
+never_rests n x undone starts live stands m before after l parts kinds did are rest =
     let c = config_after starts in
     let kinds_before = (all_parts IsOfItsKind before (of_history l ∷ after) (subst (All IsOfItsKind) parts kinds)).0 in
     let here : (state_at before).config ≡ c = config_of_lines before kinds_before ∙ ap config_after are in
-    let held = rest.nodes 0 (ap (λ (d : Configuration). is_live d 0) here ∙ live) in
+    let held = rest.nodes n (ap (λ (d : Configuration). is_live d n) here ∙ live) in
     let kinds_front = (all_parts IsOfItsKind held.front (map by_node held.later) (subst (All IsOfItsKind) held.parts kinds_before)).0 in
     let lines_front : lines held.front ≡ starts =
     sym (ap (λ ls. lines held.front ++ ls) (lines_of_nodes held.later) ∙ append-nil (lines held.front)) ∙ sym (ap lines held.parts ∙ lines_parts held.front (map by_node held.later)) ∙ are in
@@ -135,8 +135,8 @@ never_rests x undone starts live stands m before after l parts kinds did are res
     let left = map by_node held.later ++ of_history l ∷ after in
     let whole : events m ≡ events held.front ++ events left =
     ap events (parts ∙ ap (λ k. k ++ of_history l ∷ after) held.parts ∙ append_assoc held.front (map by_node held.later) (of_history l ∷ after)) ∙ events_parts held.front left in
-    let none = none_from empty 0 (events held.front) (events left) (sym (ap (done_by 0) whole) ∙ did) in
-    both_ways (is_done (events held.front) 0) (undone (events held.front) (ap (λ (d : Configuration). slot d 0) there ∙ stands) none) held.held
+    let none = none_from empty n (events held.front) (events left) (sym (ap (done_by n) whole) ∙ did) in
+    both_ways (is_done (events held.front) n) (undone (events held.front) (ap (λ (d : Configuration). slot d n) there ∙ stands) none) held.held
 
 -- the rounds end with the first one
 
@@ -157,7 +157,7 @@ not_given_up_early pace m merge finishes =
     let said : IsFinishAt pace w.before (of_history (to.Finish 5 3)) = each_at (IsFinishAt pace) w.before w.after (of_history (to.Finish 5 3)) (subst (Each (IsFinishAt pace)) w.parts finishes) in
     ⊎_elim (λ (all : 3 ≡ 5). absurd (omega (arith, all)))
     (λ (early : (3 < 5) × (CameToRest w.before ⊎ IsOfRounds pace w.before (to.Finish 5 3))). ⊎_elim
-    (λ (rest : CameToRest w.before). never_rests lone_slot never_done lone_starts refl refl m w.before w.after (to.Finish 5 3) w.parts merge.by_nodes (All-head (IsLogIn m) log_0 [] merge.logs) w.lines_before rest)
+    (λ (rest : CameToRest w.before). never_rests 0 lone_slot never_done lone_starts refl refl m w.before w.after (to.Finish 5 3) w.parts merge.by_nodes (All-head (IsLogIn m) log_0 [] merge.logs) w.lines_before rest)
     (λ (so : IsOfRounds pace w.before (to.Finish 5 3)). not_of_rounds pace w.before w.lines_before so) early.1) said
 
 -- more rounds were made than were allowed

@@ -63,7 +63,7 @@ not_ended_idly pace m merge runs =
     ⊎_elim (λ (all : 1 ≤ 0). omega (arith, all))
     (λ (early : CameToRest w.before ⊎ IsOfRounds pace w.before line_). ⊎_elim
     (λ (rest : CameToRest w.before).
-    never_rests first_source never_done starts refl refl m w.before w.after line_ w.parts merge.by_nodes (merge.logs 0 some_log (omega arith)) w.lines_before rest)
+    never_rests 0 first_source never_done starts refl refl m w.before w.after line_ w.parts merge.by_nodes (merge.logs 0 some_log (omega arith)) w.lines_before rest)
     (λ (so : IsOfRounds pace w.before line_). not_of_rounds pace w.before w.lines_before so) early) said
 
 -- what ended before a line isn't counted behind it

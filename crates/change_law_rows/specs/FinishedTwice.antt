@@ -17,6 +17,15 @@ report =
       history = take 10 run_out.history ++ to.Finish 9 6 ∷ to.Finish 9 0 ∷ drop 12 run_out.history;
     }
 
+-- the second finish makes three rounds though nothing rests, nor do rounds end so
+abbrev pub finished_later : Report
+finished_later =
+    record ended_idly {
+      history =
+          take 10 run_out.history ++ to.Finish 9 9 ∷ to.Finish 9 3 ∷ to.Stop ∷ to.Close 0 ∷ to.Close 1 ∷ to.Drained 0 0
+          ∷ to.Drained 1 0 ∷ [];
+    }
+
 -- the first finish makes no round though nothing rests, as the second does in rounds; and no node does anything
 abbrev pub finished_at_once : Report
 finished_at_once =

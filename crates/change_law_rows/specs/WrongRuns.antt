@@ -1,5 +1,5 @@
 -- Wrong numbers of runs, wrong rests, and logs that no node has.
-use Rattle.std.specs.Prelude.{List, [], ◌∷◌, ◌++◌, codes, drop, take, None}
+use Rattle.std.specs.Prelude.{List, [], ◌∷◌, ◌++◌, codes, drop, take, Some, None}
 use Rattle.change_script.specs.declared.report.HistoryLine.TheVariants as to
 use Rattle.change_script.specs.declared.report.Last.TheVariants as last
 use Rattle.change_script.specs.declared.report.NodeLog.{NodeLog}
@@ -7,6 +7,7 @@ use Rattle.change_script.specs.declared.report.Report.{Report}
 use Rattle.change_law.specs.Statements.{Statement, start, run, finish}
 use Rattle.change_law_rows.specs.Filled as filled
 use Rattle.change_law_rows.specs.Moved as moved
+use Rattle.change_law_rows.specs.Ran as ran
 use Rattle.change_law_rows.specs.RunOut as run_out
 use Rattle.change_law_rows.specs.Shown as shown
 use Rattle.plan_laws.specs.Systems.{small}
@@ -57,6 +58,34 @@ resting_small =
 abbrev pub rested_before : Report
 rested_before =
     record filled.report { history = take 9 filled.history ++ to.Run 1 1 ∷ drop 9 filled.history }
+
+-- a map and a sink rest, and the source between them doesn't
+abbrev pub rested_partly : Report
+rested_partly =
+    record ran.report {
+      history =
+          take 9 ran.history ++ to.Finish 100 0 ∷ to.Stop ∷ to.Close 0 ∷ to.Close 1 ∷ to.Drained 0 0 ∷ to.Drained 1 0
+          ∷ [];
+      logs =
+          record {
+            slot = 0;
+            events =
+                [];
+            last = last.State [];
+          } ∷ record {
+            slot = 1;
+            events =
+                [];
+            last = last.State (0 ∷ []);
+          } ∷ record {
+            slot = 2;
+            events =
+                [];
+            last = last.State [];
+          } ∷ [];
+      unfinished = Some 1;
+      status = 8;
+    }
 
 -- a node has no log, or two
 abbrev pub unlogged : Report

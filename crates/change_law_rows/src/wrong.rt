@@ -79,13 +79,17 @@ pub fn wrong_tellings_are_refuted()
 {}
 
 /// A `run` that ends with nothing though nothing came to rest, and neither the rounds end so; one that counts what
-/// ended before the line before it; and a finish that ends early, for a rest that was before that line, or as the
-/// rounds end another finish.
+/// ended before the line before it; and a finish that ends early, for a rest that was before that line or that not all
+/// nodes have, or as the rounds end another finish; so for a second one.
 pub fn wrong_runs_are_refuted()
     ensures idle { (pace : Pace run_out.script) (m : List Member) → Merge m runs.ended_idly → Each (IsRunAt pace) m
         → ⊥ }
     ensures rested_before { (m : List Member) → Merge m runs.rested_before → IsRun (events m)
         → Each (IsRunAt {statements = runs.resting_small} on_threads) m → Each (IsFinishAt {statements = runs.resting_small} on_threads) m → ⊥ }
+    ensures partly { (pace : Pace ran.script) (m : List Member) → Merge m runs.rested_partly → Each (IsFinishAt pace) m
+        → ⊥ }
+    ensures later { (pace : Pace finished_twice.script) (m : List Member) → Merge m finished_twice.finished_later
+        → Each (IsFinishAt pace) m → ⊥ }
     ensures sooner { (pace : Pace finished_twice.script) (m : List Member) → Merge m finished_twice.finished_at_once
         → Each (IsFinishAt pace) m → ⊥ }
     ensures twice { (pace : Pace run_out.script) (m : List Member) → Merge m runs.counted_twice → IsRun (events m)
