@@ -41,3 +41,4 @@ pub mod TargetLemmas
 pub mod UniqueLaws
 pub mod VerdictLemmas
 pub mod WholeLemmas
+pub mod ReadLemmas

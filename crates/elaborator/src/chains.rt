@@ -9,7 +9,7 @@ use std::marker::Model;
 
 /// A port of an instance: the number of the instance, the place of the port's declaration in the
 /// instance's component, and the port's index where it has one.
-#[derive(Clone, Copy, Debug, PartialEq, Eq, Hash)]
+#[derive(Clone, Copy, PartialEq, Eq, Hash)]
 pub struct PortId {
     pub instance: u32,
     pub port: usize,

@@ -7,8 +7,21 @@ use Rattle.elaborator.specs.NodeOrder.{nodes_in}
 use Rattle.elaborator.specs.Links.{AreFirstLinks}
 use Rattle.elaborator.proofs.LinkLemmas.{kind_read}
 use Rattle.elaborator.proofs.AllLinksLemmas.{first_links-skip, first_links-push, first_links-node}
+use Rattle.elaborator.proofs.ReadLemmas.{kind_within, requirement_counted}
 use Rattle.elaborator.proofs.links.add_links.Goals as goal
 use Rattle.elaborator.proofs.links.add_links.Goals.{in-Some+in_ok-push, in_default}
+
+pub index-requires : goal.index-requires
+index-requires c =
+    let e = expanded_of c.args.expansion.now in
+    let n = c.args.nodes.now in
+    omega (arith, n.kinds.ok.0, kind_within e (nodes_in e n.instances.items) n c.args.from c.requires.nodes c.requires.within)
+
+pub target_of-requires-clause-required : goal.target_of-requires-clause-required
+target_of-requires-clause-required c =
+    let e = expanded_of c.args.expansion.now in
+    let n = c.args.nodes.now in
+    requirement_counted e (nodes_in e n.instances.items) n c.args.from c.loop-require.require c.index.result.now c.requires.nodes c.requires.within c.index.ensures (omega (arith, c.requires_-require-end.ensures, c.loop-require-test.true))
 
 pub loop-require-preserved : goal.loop-require-preserved
 loop-require-preserved c = λ top is_of first.

@@ -1,4 +1,4 @@
-use Rattle.std.proofs.Common.{◌≡◌, Some, ◌∙◌, None, sym, ap, subst, get_or}
+use Rattle.std.proofs.Common.{◌≡◌, Some, ◌∙◌, None, sym, ap, subst, get_or, arith}
 use Rattle.std.specs.Str.{bytes_eq}
 use Rattle.std.proofs.lemmas.List.Quantifiers.{position-Some}
 use Rattle.darwin_parser.specs.Tree.{port_of}
@@ -13,7 +13,26 @@ use Rattle.elaborator.proofs.FollowLemmas.{Indexed}
 use Rattle.elaborator.proofs.PortLemmas.{place_found}
 use Rattle.elaborator.proofs.LinkLemmas.{decl_read}
 use Rattle.elaborator.proofs.TargetLemmas.{end_port, Requirement, targeted, untargeted, node_read, start_read, no_place, no_requirement}
+use Rattle.elaborator.proofs.ReadLemmas.{kind_within, instance_within, requirement_within}
 use Rattle.elaborator.proofs.links.target_of.Goals as goal
+
+pub index-requires : goal.index-requires
+index-requires c =
+    let e = expanded_of c.args.expansion.now in
+    let n = c.args.nodes.now in
+    omega (arith, n.kinds.ok.0, kind_within e (nodes_in e n.instances.items) n c.args.from c.requires.nodes c.requires.within)
+
+pub require_name-name-requires : goal.require_name-name-requires
+require_name-name-requires c =
+    let e = expanded_of c.args.expansion.now in
+    let n = c.args.nodes.now in
+    requirement_within e (nodes_in e n.instances.items) n c.args.from c.args.require c.index.result.now c.requires.nodes c.requires.within c.index.ensures c.requires.required
+
+pub instance-requires-clause-within : goal.instance-requires-clause-within
+instance-requires-clause-within c =
+    let e = expanded_of c.args.expansion.now in
+    let n = c.args.nodes.now in
+    instance_within e (nodes_in e n.instances.items) n c.args.from c.index-instance.result.now c.index.result.now c.requires.nodes c.requires.within c.index.ensures c.index-instance.ensures
 
 pub returns-in_err-port : goal.returns-in_err-port
 returns-in_err-port c = λ top is_of.

@@ -1,6 +1,7 @@
 use Rattle.std.proofs.Common.{◌∙◌, ◌++◌, ◌+◌, map, drop, sym, ap, subst, All, Some}
-use Rattle.std.specs.List.{filter_map}
+use Rattle.std.specs.List.{flat_map, filter_map}
 use Rattle.std.specs.Option.{option_map}
+use Rattle.std.proofs.lemmas.List.{append-nil, drop_all}
 use Rattle.darwin_parser.specs.Tree.{tree_of}
 use Rattle.darwin_walk.specs.Walked.{child_of}
 use Rattle.elaborator.specs.Instances.{instance_of}
@@ -20,6 +21,22 @@ returns-in_err-instance c =
     Answers-exit _ _ c.from_residual-in_err-instance.ensures.1
     (fault-grow _ _ _ _ (Contains-from (kind_argument_faults tree) child_of _ _ _ _ c.loop-child-test.true c.child-item.is c.loop-child.invariant.no_faults))
     c.in_err-instance.ensures
+
+pub returns : goal.returns
+returns c =
+    let tree = tree_of c.args.directory.now.unit.now in
+    let make_one = instance_of tree (instance_in c.args.within.now) in
+    let so_far = c.loop-child.invariant in
+    let none = drop_all c.loop-child.child-index c.args.children.now c.loop-child-test.false in (
+      so_far.no_faults ∙ ap (λ cs. flat_map (kind_argument_faults tree) (map child_of cs)) none,
+      record {
+        instances =
+            sym
+            (so_far.instances ∙ ap (λ cs. map instance_in c.loop-child.made.items ++ filter_map make_one (map child_of cs)) none
+            ∙ append-nil (map instance_in c.loop-child.made.items));
+        noted = so_far.noted;
+      },
+    )
 
 pub loop-child-preserved : goal.loop-child-preserved
 loop-child-preserved c =
