@@ -1,6 +1,6 @@
 //! The calls of the change at the gates.
 
-ghost use Rattle.std.specs.Prelude.{◌≡◌, ◌+◌, ◌<◌, ◌≤◌, ℕ, [], IfOk, IsTrue, OnOk, length, replicate};
+ghost use Rattle.std.specs.Prelude.{◌≡◌, ◌⊎◌, ◌+◌, ◌<◌, ◌≤◌, ℕ, [], IfOk, IsOk, IsTrue, OnOk, length, replicate};
 ghost use Rattle.commit_laws.specs.Steps.{MayLink, MayRemove, MayUnlink};
 ghost use Rattle.config_graph.specs.Kinds.{row};
 ghost use Rattle.config_graph.specs.declared.TheConstants.{MAX_NODES, MAX_PORTS};
@@ -71,6 +71,8 @@ impl Gates {
         requires { length (config_of (change_of seat.old.seat.me.0).entries).slots + nodes ≤ MAX_NODES }
         ensures spare { OnOk result (nodes ≤ seat.new.spare) }
         ensures kept { seat.old.spare ≤ seat.new.spare }
+        ensures no_more { (seat.new.spare ≡ seat.old.spare) ⊎ (seat.new.spare ≡ nodes) }
+        ensures always { IsOk result }
         ensures seat { seat.new.seat ≡ seat.old.seat }
     {
         seat.spare = seat.spare.max(nodes);
