@@ -16,7 +16,7 @@ use Rattle.config_graph.specs.Cycles.{FirstOnCycle, OnCycle, leads_by, graph_wir
 use Rattle.config_graph.specs.Marks.{IsMarked}
 use Rattle.config_graph.specs.Walks.{onward, step}
 use Rattle.config_graph.specs.Wiring.{CallPath, MayCall, HasNoCycle}
-use Rattle.config_graph.specs.Search.{Seen, see, see_all, seen_of, successors, successors_by}
+use Rattle.config_graph.specs.Search.{Visited, see, see_all, seen_of, successors, successors_by}
 use Rattle.config_graph.proofs.CycleLaws.{no_cycle, leads_by-MayCall, MayCall-ends, MayCall-leads_by, MayCall-require}
 use Rattle.config_graph.proofs.MarkLaws.{marked_here, marked_kept, marked_only, none_marked}
 use Rattle.config_graph.proofs.WalkLaws.{walk_then}
@@ -45,7 +45,7 @@ unseen-set bits j clear =
     omega (arith, moved, one)
 
 -- what a step of the search keeps
-pub record Extends (s t : Seen) : Type 0 where
+pub record Extends (s t : Visited) : Type 0 where
   pub long : length t.bits ≡ length s.bits
   pub kept : (i : ℕ) → IsMarked s.bits i → IsMarked t.bits i
   pub count : unseen t.bits + length t.reached ≡ unseen s.bits + length s.reached
@@ -53,14 +53,14 @@ pub record Extends (s t : Seen) : Type 0 where
   pub grows : length s.reached ≤ length t.reached
 
 -- the list has exactly the nodes whose bits are set
-pub record IsListed (s : Seen) : Type 0 where
+pub record IsListed (s : Visited) : Type 0 where
   pub listed : (i : ℕ) → IsMarked s.bits i → Contains s.reached i
   pub members : All (λ i. IsMarked s.bits i) s.reached
 
-Extends-refl : (s : Seen) → Extends s s
+Extends-refl : (s : Visited) → Extends s s
 Extends-refl s = record { long = refl; kept = λ i h. h; count = refl; prefix = λ k h. refl; grows = omega arith }
 
-Extends-trans : (s t u : Seen) → Extends s t → Extends t u → Extends s u
+Extends-trans : (s t u : Visited) → Extends s t → Extends t u → Extends s u
 Extends-trans s t u a b = record {
   long = b.long ∙ a.long;
   kept = λ i h. b.kept i (a.kept i h);
@@ -74,10 +74,10 @@ get_or-append_front [] ys k h = absurd (omega arith)
 get_or-append_front (x ∷ xs) ys zero h = refl
 get_or-append_front (x ∷ xs) ys (suc k) h = get_or-append_front xs ys k (omega arith)
 
-abbrev marked : ℕ → Seen → Seen
+abbrev marked : ℕ → Visited → Visited
 marked j s = record { bits = set s.bits j true; reached = s.reached ++ j ∷ [] }
 
-Extends-marked : (j : ℕ) (s : Seen) → get_or s.bits j true ≡ false → Extends s (marked j s)
+Extends-marked : (j : ℕ) (s : Visited) → get_or s.bits j true ≡ false → Extends s (marked j s)
 Extends-marked j s clear = record {
   long = length-set s.bits j true;
   kept = λ i h. marked_kept s.bits i j h;
@@ -86,7 +86,7 @@ Extends-marked j s clear = record {
   grows = omega (arith, length-append s.reached (j ∷ []));
 }
 
-IsListed-marked : (j : ℕ) (s : Seen) → get_or s.bits j true ≡ false → IsListed s → IsListed (marked j s)
+IsListed-marked : (j : ℕ) (s : Visited) → get_or s.bits j true ≡ false → IsListed s → IsListed (marked j s)
 IsListed-marked j s clear h =
     let low = clear_within s.bits j clear in
     record {
@@ -99,28 +99,28 @@ IsListed-marked j s clear h =
     }
 
 -- one node is seen
-see-extends : (j : ℕ) (s : Seen) → Extends s (see j s)
+see-extends : (j : ℕ) (s : Visited) → Extends s (see j s)
 see-extends j s = by (get_or s.bits j true) refl
   where
     by : (b : Bool) → get_or s.bits j true ≡ b → Extends s (if b then s else marked j s)
     by true e = Extends-refl s
     by false e = Extends-marked j s e
 
-see-listed : (j : ℕ) (s : Seen) → IsListed s → IsListed (see j s)
+see-listed : (j : ℕ) (s : Visited) → IsListed s → IsListed (see j s)
 see-listed j s h = by (get_or s.bits j true) refl
   where
     by : (b : Bool) → get_or s.bits j true ≡ b → IsListed (if b then s else marked j s)
     by true e = h
     by false e = IsListed-marked j s e h
 
-see-here : (j : ℕ) (s : Seen) → j < length s.bits → IsMarked (see j s).bits j
+see-here : (j : ℕ) (s : Visited) → j < length s.bits → IsMarked (see j s).bits j
 see-here j s low = by (get_or s.bits j true) refl
   where
     by : (b : Bool) → get_or s.bits j true ≡ b → IsMarked (if b then s else marked j s).bits j
     by true e = get_or_default s.bits j false true low ∙ e
     by false e = marked_here s.bits j low
 
-see-only : (j i : ℕ) (s : Seen) → IsMarked (see j s).bits i → IsMarked s.bits i ⊎ (i ≡ j)
+see-only : (j i : ℕ) (s : Visited) → IsMarked (see j s).bits i → IsMarked s.bits i ⊎ (i ≡ j)
 see-only j i s h = by (get_or s.bits j true) h
   where
     by : (b : Bool) → IsMarked (if b then s else marked j s).bits i → IsMarked s.bits i ⊎ (i ≡ j)
@@ -128,15 +128,15 @@ see-only j i s h = by (get_or s.bits j true) h
     by false h = marked_only s.bits i j h
 
 -- each node of a list is seen
-pub see_all-extends : (js : List ℕ) (s : Seen) → Extends s (see_all js s)
+pub see_all-extends : (js : List ℕ) (s : Visited) → Extends s (see_all js s)
 see_all-extends [] s = Extends-refl s
 see_all-extends (j ∷ js) s = Extends-trans s (see j s) (see_all js (see j s)) (see-extends j s) (see_all-extends js (see j s))
 
-pub see_all-listed : (js : List ℕ) (s : Seen) → IsListed s → IsListed (see_all js s)
+pub see_all-listed : (js : List ℕ) (s : Visited) → IsListed s → IsListed (see_all js s)
 see_all-listed [] s h = h
 see_all-listed (j ∷ js) s h = see_all-listed js (see j s) (see-listed j s h)
 
-pub see_all-only : (P : ℕ → Type 0) (js : List ℕ) (s : Seen) → All P js → (i : ℕ) → IsMarked (see_all js s).bits i → IsMarked s.bits i ⊎ P i
+pub see_all-only : (P : ℕ → Type 0) (js : List ℕ) (s : Visited) → All P js → (i : ℕ) → IsMarked (see_all js s).bits i → IsMarked s.bits i ⊎ P i
 see_all-only P [] s all i h = inl h
 see_all-only P (j ∷ js) s all i h =
     elim (see_all-only P js (see j s) (λ k d l. all (suc k) d (omega arith)) i h) [
@@ -145,7 +145,7 @@ see_all-only P (j ∷ js) s all i h =
       | inr p ↦ inr p
     ]
 
-pub see_all-here : (js : List ℕ) (s : Seen) → All (λ j. j < length s.bits) js → (k : ℕ) (d : ℕ) → k < length js → IsMarked (see_all js s).bits (get_or js k d)
+pub see_all-here : (js : List ℕ) (s : Visited) → All (λ j. j < length s.bits) js → (k : ℕ) (d : ℕ) → k < length js → IsMarked (see_all js s).bits (get_or js k d)
 see_all-here [] s all k d low = absurd (omega arith)
 see_all-here (j ∷ js) s all zero d low =
     (see_all-extends js (see j s)).kept j (see-here j s (all 0 d (omega arith)))
@@ -153,7 +153,7 @@ see_all-here (j ∷ js) s all (suc k) d low =
     let long = (see-extends j s).long in
     see_all-here js (see j s) (λ i e l. omega (arith, all (suc i) e (omega arith), long)) k d (omega arith)
 
-pub see_all-append : (xs ys : List ℕ) (s : Seen) → see_all (xs ++ ys) s ≡ see_all ys (see_all xs s)
+pub see_all-append : (xs ys : List ℕ) (s : Visited) → see_all (xs ++ ys) s ≡ see_all ys (see_all xs s)
 see_all-append [] ys s = refl
 see_all-append (x ∷ xs) ys s = see_all-append xs ys (see x s)
 
@@ -175,7 +175,7 @@ successors-within g graph i =
     All-filter_map (leads_by g i) (λ j. j < length g.nodes) (range_with_len 0 (requires_at g.nodes i)) (λ k r j at_k h. MayCall-ends g graph i j (leads_by-MayCall g i r j h))
 
 -- every node to which a node leads is seen with its successors
-pub see_all-leads : (g : Graph) → All (IsLinkWithin g.nodes) g.links → (i j : ℕ) (s : Seen) → length s.bits ≡ length g.nodes → MayCall (graph_wiring g) i j → IsMarked (see_all (successors g i) s).bits j
+pub see_all-leads : (g : Graph) → All (IsLinkWithin g.nodes) g.links → (i j : ℕ) (s : Visited) → length s.bits ≡ length g.nodes → MayCall (graph_wiring g) i j → IsMarked (see_all (successors g i) s).bits j
 see_all-leads g graph i j s long h =
     let requires_ = requires_at g.nodes i in
     let r = h.port.require in
@@ -187,7 +187,7 @@ see_all-leads g graph i j s long h =
     subst (IsMarked (see_all (successors g i) s).bits) there.2 (see_all-here (successors g i) s (λ k d l. rw long (successors-within g graph i k d l)) there.0 j there.1)
 
 -- where the search stands: the first `next` nodes that were reached have had their successors seen
-pub record Searched (g : Graph) (start : ℕ) (s : Seen) (next : ℕ) : Type 0 where
+pub record Searched (g : Graph) (start : ℕ) (s : Visited) (next : ℕ) : Type 0 where
   pub long : length s.bits ≡ length g.nodes
   pub count : unseen s.bits + length s.reached ≡ length g.nodes
   pub listed : IsListed s
@@ -197,10 +197,10 @@ pub record Searched (g : Graph) (start : ℕ) (s : Seen) (next : ℕ) : Type 0 w
   pub low : next ≤ length s.reached
 
 -- before anything is seen
-abbrev pub nothing_seen : Graph → Seen
+abbrev pub nothing_seen : Graph → Visited
 nothing_seen g = seen_of (replicate (length g.nodes) false) []
 
-pub search_begins : (g : Graph) → All (IsLinkWithin g.nodes) g.links → (start : ℕ) (s : Seen) → s ≡ see_all (successors g start) (nothing_seen g) → Searched g start s 0
+pub search_begins : (g : Graph) → All (IsLinkWithin g.nodes) g.links → (start : ℕ) (s : Visited) → s ≡ see_all (successors g start) (nothing_seen g) → Searched g start s 0
 search_begins g graph start s s_is = subst (λ t. Searched g start t 0) (sym s_is) begun
   where
     begun : Searched g start (see_all (successors g start) (nothing_seen g)) 0
@@ -222,7 +222,7 @@ search_begins g graph start s s_is = subst (λ t. Searched g start t 0) (sym s_i
           low = omega arith;
         }
 
-pub search_goes_on : (g : Graph) → All (IsLinkWithin g.nodes) g.links → (start : ℕ) (s t : Seen) (next node : ℕ) → Searched g start s next → next < length s.reached → node ≡ get_or s.reached next 0 → t ≡ see_all (successors g node) s → Searched g start t (next + 1)
+pub search_goes_on : (g : Graph) → All (IsLinkWithin g.nodes) g.links → (start : ℕ) (s t : Visited) (next node : ℕ) → Searched g start s next → next < length s.reached → node ≡ get_or s.reached next 0 → t ≡ see_all (successors g node) s → Searched g start t (next + 1)
 search_goes_on g graph start s t next node h more node_is t_is =
     subst (λ u. Searched g start u (next + 1)) (sym t_is) after
   where
@@ -254,7 +254,7 @@ search_goes_on g graph start s t next node h more node_is t_is =
         }
 
 -- at the end exactly the nodes to which ways lead are seen
-pub search_ends : (g : Graph) (start : ℕ) (s : Seen) (next : ℕ) → Searched g start s next → length s.reached ≤ next → (j : ℕ) → IsMarked s.bits j ↔ CallPath (graph_wiring g) start j
+pub search_ends : (g : Graph) (start : ℕ) (s : Visited) (next : ℕ) → Searched g start s next → length s.reached ≤ next → (j : ℕ) → IsMarked s.bits j ↔ CallPath (graph_wiring g) start j
 search_ends g start s next h all j = (h.ways j, λ way. follows start j way (λ k leads. h.first k leads))
   where
     closed : (i : ℕ) → IsMarked s.bits i → (k : ℕ) → MayCall (graph_wiring g) i k → IsMarked s.bits k
@@ -290,13 +290,13 @@ All-before_last P (y ∷ xs) x all =
 
 module _ (g : Graph) (graph : All (IsLinkWithin g.nodes) g.links) (start : ℕ) where
   -- the search to its end: each step takes one node of the list, and no node stands there twice
-  searched_from : (fuel next : ℕ) (s : Seen) → Searched g start s next → length g.nodes ≤ next + fuel → (t : Seen) × ((j : ℕ) → IsMarked t.bits j ↔ CallPath (graph_wiring g) start j)
+  searched_from : (fuel next : ℕ) (s : Visited) → Searched g start s next → length g.nodes ≤ next + fuel → (t : Visited) × ((j : ℕ) → IsMarked t.bits j ↔ CallPath (graph_wiring g) start j)
   searched_from zero next s h enough = (s, search_ends g start s next h (omega (arith, enough, h.count)))
   searched_from (suc fuel) next s h enough = by (cases_lt next (length s.reached)) (λ t after. searched_from fuel (next + 1) t after (omega (arith, enough)))
     where
       by :
-          (next < length s.reached) ⊎ (length s.reached ≤ next) → ((t : Seen) → Searched g start t (next + 1) → (u : Seen) × ((j : ℕ) → IsMarked u.bits j ↔ CallPath (graph_wiring g) start j))
-          → (u : Seen) × ((j : ℕ) → IsMarked u.bits j ↔ CallPath (graph_wiring g) start j)
+          (next < length s.reached) ⊎ (length s.reached ≤ next) → ((t : Visited) → Searched g start t (next + 1) → (u : Visited) × ((j : ℕ) → IsMarked u.bits j ↔ CallPath (graph_wiring g) start j))
+          → (u : Visited) × ((j : ℕ) → IsMarked u.bits j ↔ CallPath (graph_wiring g) start j)
       by (inl more) on =
           let node = get_or s.reached next 0 in
           on (see_all (successors g node) s) (search_goes_on g graph start s (see_all (successors g node) s) next node h more refl refl)

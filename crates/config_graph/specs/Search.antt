@@ -5,18 +5,18 @@ use Rattle.std.specs.List.{range_with_len}
 use Rattle.config_graph.specs.Graph.{Graph, requires_at}
 use Rattle.config_graph.specs.Cycles.{leads_by}
 
-pub record Seen : Type 0 where
+pub record Visited : Type 0 where
   pub bits : List Bool
   pub reached : List ℕ
 
-abbrev pub seen_of : List Bool → List ℕ → Seen
+abbrev pub seen_of : List Bool → List ℕ → Visited
 seen_of bits reached = record { bits = bits; reached = reached }
 
 -- after node j is seen
-abbrev pub see : ℕ → Seen → Seen
+abbrev pub see : ℕ → Visited → Visited
 see j s = if slice_index_or s.bits j true then s else record { bits = slice_set s.bits j true; reached = s.reached ++ j ∷ [] }
 
-abbrev pub see_all : List ℕ → Seen → Seen
+abbrev pub see_all : List ℕ → Visited → Visited
 see_all [] s = s
 see_all (j ∷ js) s = see_all js (see j s)
 

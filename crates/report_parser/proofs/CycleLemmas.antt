@@ -8,7 +8,7 @@ use Rattle.base.proofs.RangeLaws.{all_in_range, range_all}
 use Rattle.config_graph.specs.Cycles.{FirstOnCycle, OnCycle, graph_wiring}
 use Rattle.config_graph.specs.Graph.{Graph, IsLinkWithin}
 use Rattle.config_graph.specs.Marks.{IsMarked}
-use Rattle.config_graph.specs.Search.{Seen, see_all, successors}
+use Rattle.config_graph.specs.Search.{Visited, see_all, successors}
 use Rattle.config_graph.specs.Wiring.{CallPath, HasNoCycle}
 use Rattle.config_graph.proofs.CycleLaws.{CallPath-within, no_cycle}
 use Rattle.config_graph.proofs.SearchLaws.{Searched, nothing_seen, search_begins, search_ends, search_goes_on}
@@ -21,7 +21,7 @@ not_below : (a b : ℕ) → nat_lt a b ≡ false → b ≤ a
 not_below a b is = grind (arith, nat_tests)
 
 module _ (g : Graph) (within : All (IsLinkWithin g.nodes) g.links) (start : ℕ) where
-  searched : (fuel next : ℕ) (s : Seen) → Searched g start s next → length g.nodes ≤ next + fuel → (j : ℕ) → IsMarked (search g fuel next s).bits j ↔ CallPath (graph_wiring g) start j
+  searched : (fuel next : ℕ) (s : Visited) → Searched g start s next → length g.nodes ≤ next + fuel → (j : ℕ) → IsMarked (search g fuel next s).bits j ↔ CallPath (graph_wiring g) start j
   searched zero next s h enough = search_ends g start s next h (omega (arith, enough, h.count))
   searched (suc fuel) next s h enough =
       elim (cases_Bool (nat_lt next (length s.reached))) [
@@ -29,10 +29,10 @@ module _ (g : Graph) (within : All (IsLinkWithin g.nodes) g.links) (start : ℕ)
             let node = get_or s.reached next 0 in
             let after = search_goes_on g within start s (see_all (successors g node) s) next node h (below next (length s.reached) more) refl refl in
             let same : search g (suc fuel) next s ≡ search g fuel (next + 1) (see_all (successors g node) s) = cond-true _ _ _ more in
-            λ j. subst (λ (t : Seen). IsMarked t.bits j ↔ CallPath (graph_wiring g) start j) (sym same) (searched fuel (next + 1) (see_all (successors g node) s) after (omega (arith, enough)) j)
+            λ j. subst (λ (t : Visited). IsMarked t.bits j ↔ CallPath (graph_wiring g) start j) (sym same) (searched fuel (next + 1) (see_all (successors g node) s) after (omega (arith, enough)) j)
         | inr all ↦
             let same : search g (suc fuel) next s ≡ s = cond-false _ _ _ all in
-            λ j. subst (λ (t : Seen). IsMarked t.bits j ↔ CallPath (graph_wiring g) start j) (sym same) (search_ends g start s next h (not_below next (length s.reached) all) j)
+            λ j. subst (λ (t : Visited). IsMarked t.bits j ↔ CallPath (graph_wiring g) start j) (sym same) (search_ends g start s next h (not_below next (length s.reached) all) j)
       ]
 
   found : (leads_back g start ≡ true) ↔ OnCycle g start

@@ -7,7 +7,7 @@ use Rattle.std.specs.Cmp.Lexicographic.{slice_cmp}
 use Rattle.config_graph.specs.Kinds.{row}
 use Rattle.config_graph.specs.Graph.{Graph, graph_of, index_of, ports, provides_at}
 use Rattle.config_graph.specs.GraphText.{graph_text}
-use Rattle.config_graph.specs.Search.{Seen, see_all, seen_of, successors}
+use Rattle.config_graph.specs.Search.{Visited, see_all, seen_of, successors}
 use Rattle.config_graph.specs.declared.TheConstants.{VALUE_LIMIT}
 use Rattle.config_graph.specs.declared.node.Link.{Link}
 use Rattle.config_graph.specs.declared.node.Node.{Node}
@@ -88,7 +88,7 @@ abbrev pub is_sound_node : Node → Bool
 is_sound_node node = is_one_piece node.path && fits_kind (is_some (row node.kind).arg) node.arg
 
 -- all nodes to which ways lead from those that were seen: so many more of them have their successors seen
-abbrev pub search : Graph → ℕ → ℕ → Seen → Seen
+abbrev pub search : Graph → ℕ → ℕ → Visited → Visited
 search graph zero next seen = seen
 search graph (suc fuel) next seen =
     if nat_lt next (length seen.reached) then search graph fuel (next + 1) (see_all (successors graph (slice_index_or seen.reached next 0)) seen) else seen
