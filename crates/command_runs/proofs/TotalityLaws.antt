@@ -9,7 +9,7 @@ use Rattle.base.proofs.OptionLaws.{option_map_some}
 use Rattle.std.proofs.lemmas.List.Elements.{All-contains}
 use Rattle.darwin_lexer.proofs.TokensLaws as lexing
 use Rattle.darwin_lexer.specs.Tokens.{IsTokens, FirstFault, refusal}
-use Rattle.darwin_lexer.specs.declared.front.Fault.{Fault}
+use Rattle.darwin_lexer.specs.declared.front.LexicalFault.{LexicalFault}
 use Rattle.darwin_lexer.specs.declared.token.At.{At}
 use Rattle.darwin_lexer.specs.declared.token.Token.{Token}
 use Rattle.darwin_parser.proofs.UnitLaws as parsing
@@ -186,7 +186,7 @@ module _ (names : (t : Tree) → NoFault t ⊎ ((e : TypeError) × NameFault t e
       read tokens parted (inr (inr (n, nested))) = inr (too_nested_words (place_at text tokens n), by_nesting tokens n parted nested)
 
       by :
-          ((tokens : List Token) × IsTokens text tokens) ⊎ ((fault : Fault) × (at : At) × FirstFault text fault at)
+          ((tokens : List Token) × IsTokens text tokens) ⊎ ((fault : LexicalFault) × (at : At) × FirstFault text fault at)
           → ((tree : Tree) × IsChecked text tree) ⊎ ((words : List (List ℕ)) × IsTextRefusal text words)
       by (inl (tokens, parted)) = read tokens parted (parsing.always_one text tokens)
       by (inr (fault, at, first)) = inr (lex_words (refusal fault at), by_lexer fault at first)

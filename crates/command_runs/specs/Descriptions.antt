@@ -3,7 +3,7 @@ use Rattle.std.specs.Prelude.{ℕ, ℤ, List, length, slice_get}
 use Rattle.std.specs.Option.{option_map_or}
 use Rattle.darwin_lexer.specs.declared.token.At.{At}
 use Rattle.darwin_lexer.specs.declared.token.Token.{Token}
-use Rattle.darwin_lexer.specs.declared.front.Fault.{Fault}
+use Rattle.darwin_lexer.specs.declared.front.LexicalFault.{LexicalFault}
 use Rattle.darwin_lexer.specs.Positions.{place_of}
 use Rattle.darwin_lexer.specs.Tokens.{IsTokens, FirstFault, refusal}
 use Rattle.darwin_parser.specs.Grammar.{IsUnit}
@@ -35,7 +35,7 @@ pub record IsChecked (text : List ℕ) (tree : Tree) : Type 0 where
 -- The words of what refuses a text: the first fault of its tokens; or else a token that no unit can have there, or
 -- that opens a level of nesting too many; or else a fault of its names.
 pub data IsTextRefusal (text : List ℕ) : List (List ℕ) → Type 0 where
-  by_lexer : (fault : Fault) (at : At) → FirstFault text fault at → IsTextRefusal text (lex_words (refusal fault at))
+  by_lexer : (fault : LexicalFault) (at : At) → FirstFault text fault at → IsTextRefusal text (lex_words (refusal fault at))
   by_grammar :
       (tokens : List Token) (n : ℕ) → IsTokens text tokens → IsUnexpected text tokens n
       → IsTextRefusal text (expected_words (place_at text tokens n))

@@ -16,7 +16,7 @@ use Rattle.darwin_lexer.specs.declared.token.TokenKind.{TokenKind}
 use Rattle.darwin_lexer.specs.declared.token.TokenKind.TheVariants as kinds
 use Rattle.darwin_lexer.specs.declared.front.Front.{Front}
 use Rattle.darwin_lexer.specs.declared.front.Front.TheVariants.{End, Gap, Lexeme, Broken}
-use Rattle.darwin_lexer.specs.declared.front.Fault.TheVariants.{BadByte, OpenComment, LongName, BigNumber}
+use Rattle.darwin_lexer.specs.declared.front.LexicalFault.TheVariants.{BadByte, OpenComment, LongName, BigNumber}
 use Rattle.darwin_lexer.specs.Keywords.{begins_name, is_blank, keyword_bytes, keyword_of, kind_or_name, word_kind, sign_at, sign_bytes}
 use Rattle.darwin_lexer.specs.Fronts.{line_comment, block_comment, front_of}
 use Rattle.darwin_lexer.specs.Spelling.{Spells, KeepsLimit, IsLongest, BeginsNothing, opens_line_comment, opens_block_comment, IsLineComment, IsBlockComment, NeverCloses, Means}

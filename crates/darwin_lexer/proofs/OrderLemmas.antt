@@ -2,7 +2,7 @@
 use Rattle.std.proofs.Common.{◌≡◌, ℕ, ◌+◌, ◌-◌, List, [], ◌∷◌, length, drop, refl, sym, subst, arith, length-drop}
 use Rattle.darwin_lexer.specs.declared.token.At.{At}
 use Rattle.darwin_lexer.specs.declared.token.Token.{Token}
-use Rattle.darwin_lexer.specs.declared.front.Fault.{Fault}
+use Rattle.darwin_lexer.specs.declared.front.LexicalFault.{LexicalFault}
 use Rattle.darwin_lexer.specs.declared.front.Front.TheVariants.{Gap, Lexeme, Broken}
 use Rattle.darwin_lexer.specs.Fronts.{IsFrontWithin}
 use Rattle.darwin_lexer.specs.Positions.{place_of}
@@ -64,7 +64,7 @@ pub parted : (text : List ℕ) (from to : ℕ) (tokens : List Token) → InOrder
 parted text from to [] is = before_parts text from to to [] is (ended to)
 parted text from to (first ∷ tokens) is = token_stands text from to first tokens is.0 (parted text first.end to tokens is.1)
 
-pub fault_stands : (text : List ℕ) (fault : Fault) (at : At) → FirstFault text fault at → FaultStands text fault at
+pub fault_stands : (text : List ℕ) (fault : LexicalFault) (at : At) → FirstFault text fault at → FaultStands text fault at
 fault_stands text fault at is = record {
   offset = is.0;
   tokens = is.1;
@@ -73,5 +73,5 @@ fault_stands text fault at is = record {
   place = is.4;
 }
 
-pub first_fault : (text : List ℕ) (fault : Fault) (at : At) → FaultStands text fault at → FirstFault text fault at
+pub first_fault : (text : List ℕ) (fault : LexicalFault) (at : At) → FaultStands text fault at → FirstFault text fault at
 first_fault text fault at is = (is.offset, is.tokens, parted text 0 is.offset is.tokens is.before, sym (meaning_decides (drop is.offset text) (Broken fault) is.broken), is.place)

@@ -18,7 +18,7 @@ use Rattle.darwin_lexer.specs.declared.token.TokenKind.{TokenKind}
 use Rattle.darwin_lexer.specs.declared.token.TokenKind.TheVariants as kinds
 use Rattle.darwin_lexer.specs.Keywords.{begins_name, continues_name, is_blank, keyword_bytes, keywords, keyword_of, kind_or_name, word_kind, sign_at, sign_bytes, signs, two_byte_signs, one_byte_signs}
 use Rattle.darwin_lexer.specs.declared.front.Front.TheVariants.{Gap, Broken}
-use Rattle.darwin_lexer.specs.declared.front.Fault.TheVariants.{OpenComment}
+use Rattle.darwin_lexer.specs.declared.front.LexicalFault.TheVariants.{OpenComment}
 use Rattle.darwin_lexer.specs.Fronts.{through_close, closed_or_open, block_comment, name, number, sign, sign_or_bad, front_of}
 use Rattle.darwin_lexer.proofs.FrontLemmas.{prefix_within, find_passes, starts_long}
 use Rattle.darwin_lexer.specs.Spelling.{Spells, KeepsLimit, IsLongest, opens_line_comment, opens_block_comment, closes_at, IsLineComment, IsBlockComment, NeverCloses, Means}

@@ -6,8 +6,8 @@ use Rattle.darwin_lexer.specs.declared.token.At.{At}
 use Rattle.darwin_lexer.specs.declared.token.Token.{Token}
 use Rattle.darwin_lexer.specs.declared.token.TokenKind.{TokenKind}
 use Rattle.darwin_lexer.specs.declared.token.LexError.{LexError}
-use Rattle.darwin_lexer.specs.declared.front.Fault.{Fault}
-use Rattle.darwin_lexer.specs.declared.front.Fault.TheVariants.{BadByte, OpenComment, LongName, BigNumber}
+use Rattle.darwin_lexer.specs.declared.front.LexicalFault.{LexicalFault}
+use Rattle.darwin_lexer.specs.declared.front.LexicalFault.TheVariants.{BadByte, OpenComment, LongName, BigNumber}
 use Rattle.darwin_lexer.specs.declared.front.Front.{Front}
 use Rattle.darwin_lexer.specs.declared.front.Front.TheVariants.{End, Gap, Lexeme, Broken}
 use Rattle.darwin_lexer.specs.Positions.{start, next, place_of}
@@ -68,21 +68,21 @@ at_end text = ap front_of (drop-length text)
 pub one_parting : (text : List ℕ) (tokens others : List Token) → IsTokens text tokens → IsTokens text others → tokens ≡ others
 one_parting text tokens others parts more = (same_parts text 0 _ _ _ _ parts more (subst IsStop (sym (at_end text)) tt) (subst IsStop (sym (at_end text)) tt)).1
 
-pub never_both : (text : List ℕ) (tokens : List Token) (fault : Fault) (at : At) → IsTokens text tokens → FirstFault text fault at → ⊥
+pub never_both : (text : List ℕ) (tokens : List Token) (fault : LexicalFault) (at : At) → IsTokens text tokens → FirstFault text fault at → ⊥
 never_both text tokens fault at parts first =
     let both = same_parts text 0 _ _ _ _ parts first.2 (subst IsStop (sym (at_end text)) tt) (subst IsStop (sym first.3) tt) in
     let ends : front_of (drop first.0 text) ≡ End = subst (λ k. front_of (drop k text) ≡ End) both.0 (at_end text) in
     let breaks = first.3 in
     cc
 
-pub one_first_fault : (text : List ℕ) (fault other : Fault) (at place : At) → FirstFault text fault at → FirstFault text other place → (fault ≡ other) × (at ≡ place)
+pub one_first_fault : (text : List ℕ) (fault other : LexicalFault) (at place : At) → FirstFault text fault at → FirstFault text other place → (fault ≡ other) × (at ≡ place)
 one_first_fault text fault other at place first more =
     let both = same_parts text 0 _ _ _ _ first.2 more.2 (subst IsStop (sym first.3) tt) (subst IsStop (sym more.3) tt) in
     let breaks : front_of (drop more.0 text) ≡ Broken fault = subst (λ k. front_of (drop k text) ≡ Broken fault) both.0 first.3 in
     let again = more.3 in
     (cc, first.4 ∙ ap (λ k. place_of text k) both.0 ∙ sym more.4)
 
-refusal_one : (fault other : Fault) (at place : At) → refusal fault at ≡ refusal other place → (fault ≡ other) × (at ≡ place)
+refusal_one : (fault other : LexicalFault) (at place : At) → refusal fault at ≡ refusal other place → (fault ≡ other) × (at ≡ place)
 refusal_one BadByte BadByte at place is = (refl, cc)
 refusal_one OpenComment OpenComment at place is = (refl, cc)
 refusal_one LongName LongName at place is = (refl, cc)
@@ -90,10 +90,10 @@ refusal_one BigNumber BigNumber at place is = (refl, cc)
 refusal_one _ _ at place is = absurd (let no_way : ⊥ = cc in no_way)
 
 -- what the two answers other than want of memory say of each fault
-pub refuses_tokens : {T : Type 0} (text : List ℕ) (tokens : List Token) (value : T) (fault : Fault) → IsTokens text tokens → RefusesExactly text (Ok value) fault
+pub refuses_tokens : {T : Type 0} (text : List ℕ) (tokens : List Token) (value : T) (fault : LexicalFault) → IsTokens text tokens → RefusesExactly text (Ok value) fault
 refuses_tokens text tokens value fault parts at = (λ is. absurd (let no_way : ⊥ = cc in no_way), λ first. absurd (never_both text tokens fault at parts first))
 
-pub refuses_fault : {T : Type 0} (text : List ℕ) (error : LexError) (fault other : Fault) (at : At) → error ≡ refusal fault at → FirstFault text fault at → RefusesExactly {T = T} text (Err error) other
+pub refuses_fault : {T : Type 0} (text : List ℕ) (error : LexError) (fault other : LexicalFault) (at : At) → error ≡ refusal fault at → FirstFault text fault at → RefusesExactly {T = T} text (Err error) other
 refuses_fault text error fault other at error_is first place = (
   λ is.
       let same = refusal_one fault other at place (sym error_is ∙ (let e : error ≡ refusal other place = cc in e)) in
@@ -106,7 +106,7 @@ refuses_fault text error fault other at error_is first place = (
 -- a text from an offset on, with so much left
 data Ends (text : List ℕ) (from : ℕ) : Type 0 where
   parted : (tokens : List Token) → Tokenizes text from (length text) tokens → Ends text from
-  broken : (to : ℕ) (tokens : List Token) (fault : Fault) → Tokenizes text from to tokens → front_of (drop to text) ≡ Broken fault → Ends text from
+  broken : (to : ℕ) (tokens : List Token) (fault : LexicalFault) → Tokenizes text from to tokens → front_of (drop to text) ≡ Broken fault → Ends text from
 
 before_gap : (text : List ℕ) (from n : ℕ) → front_of (drop from text) ≡ Gap n → Ends text (from + n) → Ends text from
 before_gap text from n is (parted tokens rest) = parted tokens (gap from n (length text) tokens is rest)
@@ -130,9 +130,9 @@ ends_from text (suc left) from within enough =
     before_front text from _ within refl (subst (λ k. IsFrontWithin k (front_of (drop from text))) (length-drop from text) (front_of_within (drop from text)))
     (λ n some fits. ends_from text left (from + n) fits (omega arith))
 
-pub always_one : (text : List ℕ) → ((tokens : List Token) × IsTokens text tokens) ⊎ ((fault : Fault) × (at : At) × FirstFault text fault at)
+pub always_one : (text : List ℕ) → ((tokens : List Token) × IsTokens text tokens) ⊎ ((fault : LexicalFault) × (at : At) × FirstFault text fault at)
 always_one text = go (ends_from text (length text) 0 (omega arith) (omega arith))
   where
-    go : Ends text 0 → ((tokens : List Token) × IsTokens text tokens) ⊎ ((fault : Fault) × (at : At) × FirstFault text fault at)
+    go : Ends text 0 → ((tokens : List Token) × IsTokens text tokens) ⊎ ((fault : LexicalFault) × (at : At) × FirstFault text fault at)
     go (parted tokens parts) = inl (tokens, parts)
     go (broken to tokens fault parts is) = inr (fault, place_of text to, (to, tokens, parts, is, refl))

@@ -7,7 +7,7 @@ use Rattle.darwin_lexer.specs.declared.token.Sign.{Sign}
 use Rattle.darwin_lexer.specs.declared.token.TokenKind.TheVariants as kinds
 use Rattle.darwin_lexer.specs.declared.front.Front.{Front}
 use Rattle.darwin_lexer.specs.declared.front.Front.TheVariants.{End, Gap, Lexeme, Broken}
-use Rattle.darwin_lexer.specs.declared.front.Fault.TheVariants.{BadByte, OpenComment, LongName, BigNumber}
+use Rattle.darwin_lexer.specs.declared.front.LexicalFault.TheVariants.{BadByte, OpenComment, LongName, BigNumber}
 use Rattle.darwin_lexer.specs.Keywords.{is_blank, begins_name, continues_name, word_kind, sign_at, sign_bytes}
 
 -- a comment that ends before the next line feed, or with the text

@@ -10,8 +10,8 @@ use Rattle.darwin_lexer.specs.declared.token.TokenKind.{TokenKind}
 use Rattle.darwin_lexer.specs.declared.token.TokenKind.TheVariants.{Name, Number, Word, Sign}
 use Rattle.darwin_lexer.specs.declared.front.Front.{Front}
 use Rattle.darwin_lexer.specs.declared.front.Front.TheVariants.{End, Gap, Lexeme, Broken}
-use Rattle.darwin_lexer.specs.declared.front.Fault.{Fault}
-use Rattle.darwin_lexer.specs.declared.front.Fault.TheVariants.{BadByte, OpenComment, LongName, BigNumber}
+use Rattle.darwin_lexer.specs.declared.front.LexicalFault.{LexicalFault}
+use Rattle.darwin_lexer.specs.declared.front.LexicalFault.TheVariants.{BadByte, OpenComment, LongName, BigNumber}
 use Rattle.darwin_lexer.specs.Positions.{place_of}
 use Rattle.darwin_lexer.specs.Keywords.{is_blank, begins_name, continues_name, keyword_bytes, sign_bytes}
 
@@ -103,7 +103,7 @@ pub record IsBigNumber (text : List ℕ) : Type 0 where
   pub token : IsLongest text (Number value) n
   pub big : 2147483647 < value
 
-abbrev pub IsFault : List ℕ → Fault → Type 0
+abbrev pub IsFault : List ℕ → LexicalFault → Type 0
 IsFault text BadByte = BeginsNothing text
 IsFault text OpenComment = NeverCloses text
 IsFault text LongName = IsLongName text
@@ -140,7 +140,7 @@ InOrder text from to [] = OnlyGaps text from to
 InOrder text from to (token ∷ tokens) = Stands text from token × InOrder text token.end to tokens
 
 -- Behind tokens in order a text is at fault, at this place.
-pub record FaultStands (text : List ℕ) (fault : Fault) (at : At) : Type 0 where
+pub record FaultStands (text : List ℕ) (fault : LexicalFault) (at : At) : Type 0 where
   pub offset : ℕ
   pub tokens : List Token
   pub before : InOrder text 0 offset tokens

@@ -4,8 +4,8 @@ use Rattle.darwin_lexer.specs.declared.token.At.{At}
 use Rattle.darwin_lexer.specs.declared.token.Token.{Token}
 use Rattle.darwin_lexer.specs.declared.token.TokenKind.{TokenKind}
 use Rattle.darwin_lexer.specs.declared.front.Front.TheVariants.{Gap, Lexeme, Broken}
-use Rattle.darwin_lexer.specs.declared.front.Fault.{Fault}
-use Rattle.darwin_lexer.specs.declared.front.Fault.TheVariants.{BadByte, OpenComment, LongName, BigNumber}
+use Rattle.darwin_lexer.specs.declared.front.LexicalFault.{LexicalFault}
+use Rattle.darwin_lexer.specs.declared.front.LexicalFault.TheVariants.{BadByte, OpenComment, LongName, BigNumber}
 use Rattle.darwin_lexer.specs.declared.token.LexError.{LexError}
 use Rattle.darwin_lexer.specs.declared.token.LexError.TheVariants as errors
 use Rattle.darwin_lexer.specs.Positions.{place_of}
@@ -31,16 +31,16 @@ abbrev pub IsTokens : List ℕ → List Token → Type 0
 IsTokens text tokens = Tokenizes text 0 (length text) tokens
 
 -- A text has this fault at this place, and all that stands before it is blanks, comments and tokens.
-abbrev pub FirstFault : List ℕ → Fault → At → Type 0
+abbrev pub FirstFault : List ℕ → LexicalFault → At → Type 0
 FirstFault text fault at = (offset : ℕ) × (tokens : List Token) × Tokenizes text 0 offset tokens × (front_of (drop offset text) ≡ Broken fault) × (at ≡ place_of text offset)
 
 -- the refusal that names a fault and its place
-abbrev pub refusal : Fault → At → LexError
+abbrev pub refusal : LexicalFault → At → LexError
 refusal BadByte at = errors.BadByte at
 refusal OpenComment at = errors.OpenComment at
 refusal LongName at = errors.LongName at
 refusal BigNumber at = errors.BigNumber at
 
 -- An answer is a fault's refusal exactly where this fault is the first of the text, unless memory ran out.
-abbrev pub RefusesExactly : {T : Type 0} → List ℕ → Result T LexError → Fault → Type 0
+abbrev pub RefusesExactly : {T : Type 0} → List ℕ → Result T LexError → LexicalFault → Type 0
 RefusesExactly text answer fault = (at : At) → (IsErrOf answer (refusal fault at) → FirstFault text fault at) × (FirstFault text fault at → IsErrOf answer (refusal fault at) ⊎ IsErrOf answer errors.NoMemory)

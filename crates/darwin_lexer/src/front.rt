@@ -19,14 +19,14 @@ pub const MAX_NUMBER: u32 = 2_147_483_647;
 
 /// What is wrong at the front of a text.
 #[derive(Clone, Copy, Debug, PartialEq, Eq)]
-pub enum Fault {
+pub enum LexicalFault {
     BadByte,
     OpenComment,
     LongName,
     BigNumber,
 }
 
-impl Fault {
+impl LexicalFault {
     ghost use Rattle.std.specs.Prelude.{◌≡◌};
     ghost use Rattle.darwin_lexer.specs.Tokens.{refusal};
 
@@ -35,10 +35,10 @@ impl Fault {
         ensures { result ≡ refusal self at }
     {
         match self {
-            Fault::BadByte => LexError::BadByte(at),
-            Fault::OpenComment => LexError::OpenComment(at),
-            Fault::LongName => LexError::LongName(at),
-            Fault::BigNumber => LexError::BigNumber(at),
+            LexicalFault::BadByte => LexError::BadByte(at),
+            LexicalFault::OpenComment => LexError::OpenComment(at),
+            LexicalFault::LongName => LexError::LongName(at),
+            LexicalFault::BigNumber => LexError::BigNumber(at),
         }
     }
 }
@@ -52,7 +52,7 @@ pub enum Front {
     Gap(usize),
     /// A token.
     Lexeme(TokenKind, usize),
-    Broken(Fault),
+    Broken(LexicalFault),
 }
 
 /// What stands at the front of `text`.
@@ -117,7 +117,7 @@ fn block_comment(text: &[u8]) -> Front
 {
     match through_close(&text[2..]) {
         Some(len) => Front::Gap(2 + len),
-        None => Front::Broken(Fault::OpenComment),
+        None => Front::Broken(LexicalFault::OpenComment),
     }
 }
 
@@ -141,7 +141,7 @@ fn name(text: &[u8]) -> Front
     if len <= MAX_NAME {
         Front::Lexeme(word_kind(&text[..len]), len)
     } else {
-        Front::Broken(Fault::LongName)
+        Front::Broken(LexicalFault::LongName)
     }
 }
 
@@ -160,7 +160,7 @@ fn number(text: &[u8]) -> Front
     let len = digits_len(text);
     match value_of(&text[..len]) {
         Some(value) => Front::Lexeme(TokenKind::Number(value), len),
-        None => Front::Broken(Fault::BigNumber),
+        None => Front::Broken(LexicalFault::BigNumber),
     }
 }
 
@@ -194,6 +194,6 @@ fn sign(text: &[u8]) -> Front
 {
     match sign_at(text) {
         Some(sign) => Front::Lexeme(TokenKind::Sign(sign), sign.bytes().len()),
-        None => Front::Broken(Fault::BadByte),
+        None => Front::Broken(LexicalFault::BadByte),
     }
 }

@@ -2,7 +2,7 @@
 
 ghost use Rattle.std.specs.Prelude.{◌≡◌, ℕ, List, length, ◌⊎◌};
 ghost use Rattle.darwin_lexer.specs.declared.lexing.TheConstants.{MAX_TEXT};
-ghost use Rattle.darwin_lexer.specs.declared.front.Fault.{Fault};
+ghost use Rattle.darwin_lexer.specs.declared.front.LexicalFault.{LexicalFault};
 ghost use Rattle.darwin_lexer.specs.declared.front.Front.{Front};
 ghost use Rattle.darwin_lexer.specs.declared.token.At.{At};
 ghost use Rattle.darwin_lexer.specs.declared.token.Token.{Token};
@@ -14,12 +14,12 @@ ghost use Rattle.darwin_lexer.specs.Tokens.{FirstFault, IsTokens};
 pub fn one_reading()
     ensures one_parting { (text : List ℕ) (tokens others : List Token)
         → IsTokens text tokens → IsTokens text others → tokens ≡ others }
-    ensures one_fault { (text : List ℕ) (fault other : Fault) (at place : At)
+    ensures one_fault { (text : List ℕ) (fault other : LexicalFault) (at place : At)
         → FirstFault text fault at → FirstFault text other place → (fault ≡ other) × (at ≡ place) }
-    ensures never_both { (text : List ℕ) (tokens : List Token) (fault : Fault) (at : At)
+    ensures never_both { (text : List ℕ) (tokens : List Token) (fault : LexicalFault) (at : At)
         → IsTokens text tokens → FirstFault text fault at → ⊥ }
     ensures always_one { (text : List ℕ)
-        → ((tokens : List Token) × IsTokens text tokens) ⊎ ((fault : Fault) × (at : At) × FirstFault text fault at) }
+        → ((tokens : List Token) × IsTokens text tokens) ⊎ ((fault : LexicalFault) × (at : At) × FirstFault text fault at) }
 {}
 
 /// What stands at the front of a text is a blank, a comment or a token that can't be longer, or is at
@@ -37,9 +37,9 @@ pub fn tokens_in_order()
         → IsTokens text tokens → InOrder text 0 (length text) tokens }
     ensures only_those { (text : List ℕ) (tokens : List Token)
         → InOrder text 0 (length text) tokens → IsTokens text tokens }
-    ensures fault { (text : List ℕ) (fault : Fault) (at : At)
+    ensures fault { (text : List ℕ) (fault : LexicalFault) (at : At)
         → FirstFault text fault at → FaultStands text fault at }
-    ensures only_that { (text : List ℕ) (fault : Fault) (at : At)
+    ensures only_that { (text : List ℕ) (fault : LexicalFault) (at : At)
         → FaultStands text fault at → FirstFault text fault at }
 {}
 

@@ -4,7 +4,7 @@ ghost use Rattle.std.specs.Prelude.{◌≡◌, ◌≤◌, length, List, IfOk, Is
 ghost use Rattle.darwin_lexer.specs.declared.token.Token.{Token};
 ghost use Rattle.darwin_lexer.specs.Tokens.{IsTokens, RefusesExactly};
 
-use crate::front::{Fault, Front, front_of};
+use crate::front::{Front, LexicalFault, front_of};
 use crate::token::{At, LexError, Token};
 use std::alloc::Global;
 
@@ -19,10 +19,10 @@ pub fn lex(alloc: Global, text: &[u8]) -> Result<Vec<Token>, LexError>
     ensures whenever { (tokens : List Token) → IsTokens text.now tokens
         → IsOkAnd result (λ found. found.items ≡ tokens) ⊎ IsErrOf result LexError.NoMemory }
 
-    ensures bad_byte { RefusesExactly text.now result Fault.BadByte }
-    ensures open_comment { RefusesExactly text.now result Fault.OpenComment }
-    ensures long_name { RefusesExactly text.now result Fault.LongName }
-    ensures big_number { RefusesExactly text.now result Fault.BigNumber }
+    ensures bad_byte { RefusesExactly text.now result LexicalFault.BadByte }
+    ensures open_comment { RefusesExactly text.now result LexicalFault.OpenComment }
+    ensures long_name { RefusesExactly text.now result LexicalFault.LongName }
+    ensures big_number { RefusesExactly text.now result LexicalFault.BigNumber }
 {
     let mut tokens = Vec::new(alloc);
     let mut at = At::START;

@@ -10,7 +10,7 @@ use Rattle.darwin_lexer.specs.declared.token.Token.{Token}
 use Rattle.darwin_lexer.specs.declared.token.TokenKind.{TokenKind}
 use Rattle.darwin_lexer.specs.declared.token.TokenKind.TheVariants as kinds
 use Rattle.darwin_lexer.specs.declared.front.Front.TheVariants.{Gap, Lexeme, Broken}
-use Rattle.darwin_lexer.specs.declared.front.Fault.TheVariants.{BigNumber, LongName}
+use Rattle.darwin_lexer.specs.declared.front.LexicalFault.TheVariants.{BigNumber, LongName}
 use Rattle.darwin_lexer.specs.Keywords.{is_blank, begins_name, continues_name, word_kind, sign_at}
 use Rattle.darwin_lexer.specs.Fronts.{front_of, line_comment, through_close, closed_or_open, block_comment, name, number, sign_or_bad, sign}
 use Rattle.darwin_lexer.specs.Tokens.{bytes_of, token_at, Tokenizes, ended, gap, token}

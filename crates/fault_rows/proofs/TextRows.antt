@@ -1,7 +1,7 @@
 -- The rows of texts and of tokens.
 use Rattle.std.proofs.Common.{[], refl}
-use Rattle.darwin_lexer.specs.declared.front.Fault.{Fault}
-use Rattle.darwin_lexer.specs.declared.front.Fault.TheVariants.{BadByte, OpenComment, LongName, BigNumber}
+use Rattle.darwin_lexer.specs.declared.front.LexicalFault.{LexicalFault}
+use Rattle.darwin_lexer.specs.declared.front.LexicalFault.TheVariants.{BadByte, OpenComment, LongName, BigNumber}
 use Rattle.darwin_lexer.specs.declared.token.At.{At}
 use Rattle.darwin_lexer.specs.Tokens.{FirstFault, ended}
 use Rattle.darwin_parser.specs.Reading as reading
@@ -9,7 +9,7 @@ use Rattle.darwin_parser.specs.Refusals.{IsUnexpected, IsTooNested}
 use Rattle.darwin_parser.proofs.UnitLaws.{too_nested_read, unexpected_read}
 use Rattle.fault_rows.specs.Texts.{text_of, too_nested, unexpected}
 
-pub faults : (fault : Fault) → (at : At) × FirstFault (text_of fault) fault at
+pub faults : (fault : LexicalFault) → (at : At) × FirstFault (text_of fault) fault at
 faults BadByte = (_, (0, [], ended 0, refl, refl))
 faults OpenComment = (_, (0, [], ended 0, refl, refl))
 faults LongName = (_, (0, [], ended 0, refl, refl))

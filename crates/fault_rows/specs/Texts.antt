@@ -1,8 +1,8 @@
 -- Texts and tokens each of which is refused for one fault.
 use Rattle.std.specs.Prelude.{ℕ, List, [], ◌∷◌, codes, replicate}
 use Rattle.std.specs.List.{flat_map, range_with_len}
-use Rattle.darwin_lexer.specs.declared.front.Fault.{Fault}
-use Rattle.darwin_lexer.specs.declared.front.Fault.TheVariants.{BadByte, OpenComment, LongName, BigNumber}
+use Rattle.darwin_lexer.specs.declared.front.LexicalFault.{LexicalFault}
+use Rattle.darwin_lexer.specs.declared.front.LexicalFault.TheVariants.{BadByte, OpenComment, LongName, BigNumber}
 use Rattle.darwin_lexer.specs.declared.token.Keyword.TheVariants.{Component, When}
 use Rattle.darwin_lexer.specs.declared.token.Sign.TheVariants.{OpenBrace, Semicolon}
 use Rattle.darwin_lexer.specs.declared.token.Token.{Token}
@@ -11,7 +11,7 @@ use Rattle.darwin_lexer.specs.declared.token.TokenKind.TheVariants.{Name, Number
 use Rattle.fault_rows.specs.Trees.{here}
 
 -- the text of a fault
-abbrev pub text_of : Fault → List ℕ
+abbrev pub text_of : LexicalFault → List ℕ
 text_of BadByte = codes "?"
 text_of OpenComment = codes "/*"
 text_of LongName = replicate 65 97

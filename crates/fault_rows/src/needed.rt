@@ -6,7 +6,7 @@ ghost use Rattle.change_script.specs.EventFiles.{IsFirstFault};
 ghost use Rattle.change_script.specs.ScriptFiles.{IsScriptFault};
 ghost use Rattle.change_script.specs.declared.error.ScriptError.TheVariants.{BadLine, NoEnd, NoStart, NumberTooBig, Order, TooManyLines};
 ghost use Rattle.change_plan.specs.declared.error.PlanError.TheVariants.{KindsDiffer, MovedTwice, NodesFull, NotCreated, NotRemoved, PortsFull};
-ghost use Rattle.darwin_lexer.specs.declared.front.Fault.{Fault};
+ghost use Rattle.darwin_lexer.specs.declared.front.LexicalFault.{LexicalFault};
 ghost use Rattle.darwin_lexer.specs.declared.token.At.{At};
 ghost use Rattle.darwin_lexer.specs.Tokens.{FirstFault};
 ghost use Rattle.darwin_parser.specs.Refusals.{IsTooNested, IsUnexpected};
@@ -20,7 +20,7 @@ ghost use Rattle.fault_rows.specs.Texts.{text_of, too_nested, unexpected};
 /// For each fault of a text there is one whose first fault it is. By `darwin_lexer::one_reading` it has no other, and is
 /// no tokens.
 pub fn each_fault_of_a_text_is_needed()
-    ensures { (fault : Fault) → (at : At) × FirstFault (text_of fault) fault at }
+    ensures { (fault : LexicalFault) → (at : At) × FirstFault (text_of fault) fault at }
 {}
 
 /// There are tokens of which one can't stand where it does, and tokens of which one is too nested. By

@@ -2,7 +2,7 @@
 use Rattle.std.proofs.Common.{◌≡◌, ◌≢◌, false, ℕ, ℤ, List, Err, refl, subst, sym}
 use Rattle.darwin_lexer.specs.declared.token.LexError.{LexError}
 use Rattle.darwin_lexer.specs.declared.token.LexError.TheVariants as lexing
-use Rattle.darwin_lexer.specs.declared.front.Fault.TheVariants as fronts
+use Rattle.darwin_lexer.specs.declared.front.LexicalFault.TheVariants as fronts
 use Rattle.darwin_lexer.specs.Tokens.{RefusesExactly}
 use Rattle.command_answers.specs.declared.error.DescriptionFault.{DescriptionFault}
 use Rattle.command_answers.specs.declared.error.DescriptionFault.TheVariants as fault
