@@ -8,7 +8,7 @@ use Rattle.quiesce_core.specs.declared.event.Event.{Event}
 use Rattle.quiesce_core.specs.declared.event.Event.TheVariants.{Begin, Call, Take, Give, End, More, Ask, Hear}
 use Rattle.quiesce_core.specs.Runs.{IsRun, state_after, is_begin_of, is_end_of}
 use Rattle.quiescence_laws.specs.Events.{is_take_of, is_give_of, is_more_of, is_ask_of, is_hear_of}
-use Rattle.quiescence_laws.specs.Courses.{Course, on_begin, on_take, on_more, on_ask, on_hear, on_give, on_end, course_next, course_at}
+use Rattle.quiescence_laws.specs.Courses.{TransactionStage, on_begin, on_take, on_more, on_ask, on_hear, on_give, on_end, course_next, course_at}
 use Rattle.quiescence_laws.specs.Courses as course
 use Rattle.quiescence_laws.proofs.CourseLemmas.{on_course}
 
@@ -46,7 +46,7 @@ ones p k e = record {
 }
 
 -- on this course, when so many further messages were heard
-abbrev pub table : Course → ℕ → Counts
+abbrev pub table : TransactionStage → ℕ → Counts
 table course.unbegun r = record { begins = 0; takes = 0; gives = 0; ends = 0; mores = r; asks = r; hears = r }
 table course.waiting r = record { begins = 1; takes = 0; gives = 0; ends = 0; mores = r; asks = r; hears = r }
 table course.serving r = record { begins = 1; takes = 1; gives = 0; ends = 0; mores = r; asks = r; hears = r }
@@ -66,7 +66,7 @@ record Adds (x y z : Counts) : Type 0 where
   hears : x.hears + z.hears ≡ y.hears
 
 -- the counts are those of a course
-pub record IsCounted (p k : ℕ) (xs : List Event) (c : Course) : Type 0 where
+pub record IsCounted (p k : ℕ) (xs : List Event) (c : TransactionStage) : Type 0 where
   pub rounds : ℕ
   pub begins : count_by (is_begin_of p k) xs ≡ (table c rounds).begins
   pub takes : count_by (is_take_of p k) xs ≡ (table c rounds).takes
@@ -79,7 +79,7 @@ pub record IsCounted (p k : ℕ) (xs : List Event) (c : Course) : Type 0 where
 push : (t : Event → Bool) (xs : List Event) (e : Event) (n m : ℕ) → count_by t xs ≡ n → n + cond (t e) 1 0 ≡ m → count_by t (xs ++ e ∷ []) ≡ m
 push t xs e n m h more_ = sum_by_push (λ x. cond (t x) 1 0) xs e ∙ ap (λ i. i + cond (t e) 1 0) h ∙ more_
 
-counted_more : (p k : ℕ) (xs : List Event) (e : Event) (c d : Course) (h : IsCounted p k xs c) (r : ℕ) → Adds (table c h.rounds) (table d r) (ones p k e) → IsCounted p k (xs ++ e ∷ []) d
+counted_more : (p k : ℕ) (xs : List Event) (e : Event) (c d : TransactionStage) (h : IsCounted p k xs c) (r : ℕ) → Adds (table c h.rounds) (table d r) (ones p k e) → IsCounted p k (xs ++ e ∷ []) d
 unfolding ones
 counted_more p k xs e c d h r a = record {
   rounds = r;
@@ -93,39 +93,39 @@ counted_more p k xs e c d h r a = record {
 }
 
 -- an event leads from this course to that
-record Leads (c d from to : Course) : Type 0 where
+record Leads (c d from to : TransactionStage) : Type 0 where
   was : c ≡ from
   is : d ≡ to
 
-begun_leads : (c d : Course) → on_begin c ≡ Some d → Leads c d course.unbegun course.waiting
+begun_leads : (c d : TransactionStage) → on_begin c ≡ Some d → Leads c d course.unbegun course.waiting
 begun_leads course.unbegun d h = record { was = refl; is = cc }
 begun_leads _ d h = absurd (cc)
 
-taken_leads : (c d : Course) → on_take c ≡ Some d → Leads c d course.waiting course.serving
+taken_leads : (c d : TransactionStage) → on_take c ≡ Some d → Leads c d course.waiting course.serving
 taken_leads course.waiting d h = record { was = refl; is = cc }
 taken_leads _ d h = absurd (cc)
 
-replied_leads : (c d : Course) → on_more c ≡ Some d → Leads c d course.serving course.replied
+replied_leads : (c d : TransactionStage) → on_more c ≡ Some d → Leads c d course.serving course.replied
 replied_leads course.serving d h = record { was = refl; is = cc }
 replied_leads _ d h = absurd (cc)
 
-asked_leads : (c d : Course) → on_ask c ≡ Some d → Leads c d course.replied course.prompted
+asked_leads : (c d : TransactionStage) → on_ask c ≡ Some d → Leads c d course.replied course.prompted
 asked_leads course.replied d h = record { was = refl; is = cc }
 asked_leads _ d h = absurd (cc)
 
-heard_leads : (c d : Course) → on_hear c ≡ Some d → Leads c d course.prompted course.serving
+heard_leads : (c d : TransactionStage) → on_hear c ≡ Some d → Leads c d course.prompted course.serving
 heard_leads course.prompted d h = record { was = refl; is = cc }
 heard_leads _ d h = absurd (cc)
 
-given_leads : (c d : Course) → on_give c ≡ Some d → Leads c d course.serving course.answered
+given_leads : (c d : TransactionStage) → on_give c ≡ Some d → Leads c d course.serving course.answered
 given_leads course.serving d h = record { was = refl; is = cc }
 given_leads _ d h = absurd (cc)
 
-finished_leads : (c d : Course) → on_end c ≡ Some d → Leads c d course.answered course.ended
+finished_leads : (c d : TransactionStage) → on_end c ≡ Some d → Leads c d course.answered course.ended
 finished_leads course.answered d h = record { was = refl; is = cc }
 finished_leads _ d h = absurd (cc)
 
-leads_adds : (c d from to : Course) (r j : ℕ) (z : Counts) → Leads c d from to → Adds (table from r) (table to j) z → Adds (table c r) (table d j) z
+leads_adds : (c d from to : TransactionStage) (r j : ℕ) (z : Counts) → Leads c d from to → Adds (table from r) (table to j) z → Adds (table c r) (table d j) z
 leads_adds c d from to r j z l a = subst (λ x. Adds (table x r) (table d j) z) (sym l.was) (subst (λ x. Adds (table from r) (table x j) z) (sym l.is) a)
 
 -- the course stays, and no event of it is counted
@@ -153,15 +153,15 @@ none_adds x z h = record {
 }
 
 -- what an event adds to what was counted on the course
-record AddsOn (p k : ℕ) (e : Event) (c d : Course) (r : ℕ) : Type 0 where
+record AddsOn (p k : ℕ) (e : Event) (c d : TransactionStage) (r : ℕ) : Type 0 where
   rounds : ℕ
   adds : Adds (table c r) (table d rounds) (ones p k e)
 
-stays : (p k : ℕ) (e : Event) (c d : Course) (r : ℕ) → c ≡ d → IsNone (ones p k e) → AddsOn p k e c d r
+stays : (p k : ℕ) (e : Event) (c d : TransactionStage) (r : ℕ) → c ≡ d → IsNone (ones p k e) → AddsOn p k e c d r
 stays p k e c d r same h = record { rounds = r; adds = subst (λ x. Adds (table c r) (table x r) (ones p k e)) same (none_adds (table c r) (ones p k e) h) }
 
 -- the event is the transaction's, or another's
-choose : (f : Course → Option Course) (b : Bool) (c d : Course) → cond b (f c) (Some c) ≡ Some d → ((b ≡ true) × (f c ≡ Some d)) ⊎ ((b ≡ false) × (c ≡ d))
+choose : (f : TransactionStage → Option TransactionStage) (b : Bool) (c d : TransactionStage) → cond b (f c) (Some c) ≡ Some d → ((b ≡ true) × (f c ≡ Some d)) ⊎ ((b ≡ false) × (c ≡ d))
 choose f true c d h = inl (refl, h)
 choose f false c d h = inr (refl, cc)
 
@@ -171,14 +171,14 @@ flag_none b h = ap (λ x. cond x 1 0) h
 more_by : (n : ℕ) (b : Bool) → b ≡ true → n + cond b 1 0 ≡ n + 1
 more_by n b h = ap (λ x. n + cond x 1 0) h
 
-own : (p k : ℕ) (e : Event) (c d : Course) (r j : ℕ) (f : Course → Option Course) (b : Bool) (from to : Course) → cond b (f c) (Some c) ≡ Some d → (f c ≡ Some d → Leads c d from to)
+own : (p k : ℕ) (e : Event) (c d : TransactionStage) (r j : ℕ) (f : TransactionStage → Option TransactionStage) (b : Bool) (from to : TransactionStage) → cond b (f c) (Some c) ≡ Some d → (f c ≡ Some d → Leads c d from to)
     → (b ≡ true → Adds (table from r) (table to j) (ones p k e)) → (b ≡ false → IsNone (ones p k e)) → AddsOn p k e c d r
 own p k e c d r j f b from to h leads adds none_ = ⊎_elim
     (λ (w : (b ≡ true) × (f c ≡ Some d)). record { rounds = j; adds = leads_adds c d from to r j (ones p k e) (leads w.1) (adds w.0) })
     (λ (w : (b ≡ false) × (c ≡ d)). stays p k e c d r w.1 (none_ w.0))
     (choose f b c d h)
 
-adds_on : (p k : ℕ) (e : Event) (c d : Course) (r : ℕ) → course_next p k c e ≡ Some d → AddsOn p k e c d r
+adds_on : (p k : ℕ) (e : Event) (c d : TransactionStage) (r : ℕ) → course_next p k c e ≡ Some d → AddsOn p k e c d r
 unfolding ones
 adds_on p k (Begin q j v) c d r h = own p k (Begin q j v) c d r r on_begin (q == p && j == k) course.unbegun course.waiting h (begun_leads c d)
     (λ it. record { begins = more_by 0 (q == p && j == k) it; takes = refl; gives = refl; ends = refl; mores = omega arith; asks = omega arith; hears = omega arith })
@@ -206,7 +206,7 @@ adds_on p k (End q j v) c d r h = own p k (End q j v) c d r r on_end (q == p && 
     (λ off. record { begins = refl; takes = refl; gives = refl; ends = flag_none (q == p && j == k) off; mores = refl; asks = refl; hears = refl })
 adds_on p k e c d r h = stays p k e c d r (cc) (record { begins = refl; takes = refl; gives = refl; ends = refl; mores = refl; asks = refl; hears = refl })
 
-abbrev led : ℕ → ℕ → Option Course → Event → Option Course
+abbrev led : ℕ → ℕ → Option TransactionStage → Event → Option TransactionStage
 led p k c e = option_and_then (λ d. course_next p k d e) c
 
 none_stays : (p k : ℕ) (es : List Event) → fold (led p k) None es ≡ None
@@ -214,12 +214,12 @@ none_stays p k [] = refl
 none_stays p k (e ∷ es) = none_stays p k es
 
 -- where an event leads nowhere nothing can be led further
-through : (p k : ℕ) (es : List Event) (c d : Course) (e : Event) (P : Type 0) → ((x : Course) → course_next p k c e ≡ Some x → fold (led p k) (Some x) es ≡ Some d → P)
-    → (o : Option Course) → course_next p k c e ≡ o → fold (led p k) o es ≡ Some d → P
+through : (p k : ℕ) (es : List Event) (c d : TransactionStage) (e : Event) (P : Type 0) → ((x : TransactionStage) → course_next p k c e ≡ Some x → fold (led p k) (Some x) es ≡ Some d → P)
+    → (o : Option TransactionStage) → course_next p k c e ≡ o → fold (led p k) o es ≡ Some d → P
 through p k es c d e P on None was end = let none_ = none_stays p k es in absurd (cc (none_, end))
 through p k es c d e P on (Some x) was end = on x was end
 
-counted_from : (p k : ℕ) (xs es : List Event) (c d : Course) → IsCounted p k xs c → fold (led p k) (Some c) es ≡ Some d → IsCounted p k (xs ++ es) d
+counted_from : (p k : ℕ) (xs es : List Event) (c d : TransactionStage) → IsCounted p k xs c → fold (led p k) (Some c) es ≡ Some d → IsCounted p k (xs ++ es) d
 counted_from p k xs [] c d h e =
     let same : c ≡ d = cc in
     subst (λ ys. IsCounted p k ys d) (sym (append-nil xs)) (subst (λ x. IsCounted p k xs x) same h)

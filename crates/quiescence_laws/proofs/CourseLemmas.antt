@@ -21,7 +21,7 @@ use Rattle.quiesce_core.specs.Runs.{IsRun, state_after}
 use Rattle.quiesce_core.specs.Traffic.{IsConsistent}
 use Rattle.quiesce_core.specs.WellFormed.{IsWellFormed}
 use Rattle.quiesce_core.specs.Doers.{is_end_at}
-use Rattle.quiescence_laws.specs.Courses.{Course, on_begin, on_take, on_more, on_ask, on_hear, on_give, on_end, course_next, course_after, heard_at, course_in, course_of, course_at}
+use Rattle.quiescence_laws.specs.Courses.{TransactionStage, on_begin, on_take, on_more, on_ask, on_hear, on_give, on_end, course_next, course_after, heard_at, course_in, course_of, course_at}
 use Rattle.quiescence_laws.specs.Courses as course
 use Rattle.quiesce_core.proofs.StabilityLaws.{busy_ports_stay}
 use Rattle.quiesce_core.proofs.InductionLaws.{always}
@@ -36,25 +36,25 @@ use Rattle.quiesce_core.proofs.AlterLaws.{exchanges_next}
 
 -- what is said of one serial
 
-pub course_behind : (n : ℕ) (c : Course) (k : ℕ) → n < k → course_of n c k ≡ course.unbegun
+pub course_behind : (n : ℕ) (c : TransactionStage) (k : ℕ) → n < k → course_of n c k ≡ course.unbegun
 course_behind n c k h = ap (λ b. cond b course.unbegun (cond (nat_lt k n) course.ended c)) (or_right (k == 0) (nat_lt n k) (lt-ltb n k h))
 
-pub course_zero : (n : ℕ) (c : Course) (k : ℕ) → k ≡ 0 → course_of n c k ≡ course.unbegun
+pub course_zero : (n : ℕ) (c : TransactionStage) (k : ℕ) → k ≡ 0 → course_of n c k ≡ course.unbegun
 course_zero n c k h = ap (λ b. cond b course.unbegun (cond (nat_lt k n) course.ended c)) (or_left (k == 0) (nat_lt n k) (eq-eqb k 0 h))
 
 named_serial : (n k : ℕ) → 1 ≤ k → k ≤ n → (k == 0 || nat_lt n k) ≡ false
 named_serial n k one within = ap (λ b. b || nat_lt n k) (ne_eqb k 0 (λ e. omega arith)) ∙ le-ltb n k within
 
-pub course_before : (n : ℕ) (c : Course) (k : ℕ) → 1 ≤ k → k < n → course_of n c k ≡ course.ended
+pub course_before : (n : ℕ) (c : TransactionStage) (k : ℕ) → 1 ≤ k → k < n → course_of n c k ≡ course.ended
 course_before n c k one h =
     ap (λ b. cond b course.unbegun (cond (nat_lt k n) course.ended c)) (named_serial n k one (omega arith)) ∙ ap (λ b. cond b course.ended c) (lt-ltb k n h)
 
-pub course_here : (n : ℕ) (c : Course) (k : ℕ) → 1 ≤ n → n ≡ k → course_of n c k ≡ c
+pub course_here : (n : ℕ) (c : TransactionStage) (k : ℕ) → 1 ≤ n → n ≡ k → course_of n c k ≡ c
 course_here n c k one same =
     ap (λ b. cond b course.unbegun (cond (nat_lt k n) course.ended c)) (named_serial n k (omega arith) (omega arith)) ∙ ap (λ b. cond b course.ended c) (le-ltb k n (omega arith))
 
 -- the last course matters for the last serial alone
-course_apart : (n : ℕ) (c d : Course) (k : ℕ) → (n ≡ k → ⊥) → course_of n c k ≡ course_of n d k
+course_apart : (n : ℕ) (c d : TransactionStage) (k : ℕ) → (n ≡ k → ⊥) → course_of n c k ≡ course_of n d k
 course_apart n c d k other = ⊎_elim
     (λ (h : n < k). course_behind n c k h ∙ sym (course_behind n d k h))
     (λ (h : k ≤ n).
@@ -64,7 +64,7 @@ course_apart n c d k other = ⊎_elim
     (cases_lt n k)
 
 -- an event of the last transaction of a port leads it on
-leads_on : (f : Course → Option Course) (n k : ℕ) (b : Bool) (c d : Course) → 1 ≤ n → f c ≡ Some d → b ≡ (n == k) → cond b (f (course_of n c k)) (Some (course_of n c k)) ≡ Some (course_of n d k)
+leads_on : (f : TransactionStage → Option TransactionStage) (n k : ℕ) (b : Bool) (c d : TransactionStage) → 1 ≤ n → f c ≡ Some d → b ≡ (n == k) → cond b (f (course_of n c k)) (Some (course_of n c k)) ≡ Some (course_of n d k)
 leads_on f n k b c d one e is_b = ⊎_elim
     (λ (same : n ≡ k).
     ap (λ x. cond x (f (course_of n c k)) (Some (course_of n c k))) (is_b ∙ eq-eqb n k same) ∙ ap f (course_here n c k one same) ∙ e ∙ ap Some (sym (course_here n d k one same)))
@@ -117,7 +117,7 @@ its_own : (q j k n : ℕ) → j ≡ n → (q == q && j == k) ≡ (n == k)
 its_own q j k n same = ap (λ b. b && j == k) (eq-eqb q q refl) ∙ ap (λ i. i == k) same
 
 -- an event of the port's last transaction
-of_its_own : (f : Course → Option Course) (s s' : State) (q j k : ℕ) (c d : Course) → 1 ≤ (exchange s q).serial → j ≡ (exchange s q).serial → (exchange s' q).serial ≡ (exchange s q).serial
+of_its_own : (f : TransactionStage → Option TransactionStage) (s s' : State) (q j k : ℕ) (c d : TransactionStage) → 1 ≤ (exchange s q).serial → j ≡ (exchange s q).serial → (exchange s' q).serial ≡ (exchange s q).serial
     → course_in (exchange s q).phase (heard_at s q) ≡ c → course_in (exchange s' q).phase (heard_at s' q) ≡ d → f c ≡ Some d
     → cond (q == q && j == k) (f (course_at s q k)) (Some (course_at s q k)) ≡ Some (course_at s' q k)
 of_its_own f s s' q j k c d one serial kept was is e =
@@ -129,7 +129,7 @@ of_its_own f s s' q j k c d one serial kept was is e =
 module _ (s : State) (w : IsWellFormed s) (t : IsConsistent s) (positive : (p : ℕ) → is_idle (exchange s p).phase ≡ false → 1 ≤ (exchange s p).serial) where
   -- the events of other ports, and those of none
 
-  other_course : (e : Event) (p k : ℕ) (c : Course) → is_message_at p e ≡ false → is_of_server p e ≡ false → course_next p k c e ≡ Some c
+  other_course : (e : Event) (p k : ℕ) (c : TransactionStage) → is_message_at p e ≡ false → is_of_server p e ≡ false → course_next p k c e ≡ Some c
   other_course (Begin q j v) p k c off none_ = ap (λ b. cond (b && j == k) (on_begin c) (Some c)) off
   other_course (Call q j v) p k c off none_ = ap (λ b. cond (b && j == k) (on_begin c) (Some c)) off
   other_course (Take q j v) p k c none_ off = ap (λ b. cond (b && j == k) (on_take c) (Some c)) off

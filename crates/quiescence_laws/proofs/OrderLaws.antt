@@ -13,7 +13,7 @@ use Rattle.gate_word.specs.Phases.{is_idle}
 use Rattle.quiesce_core.specs.Runs.{IsRun, state_after, is_begin_of, is_end_of, is_open_after}
 use Rattle.quiesce_core.specs.Doers.{is_end_at}
 use Rattle.quiescence_laws.specs.Events.{is_take_of, is_give_of}
-use Rattle.quiescence_laws.specs.Courses.{Course, heard_at, course_in, course_at}
+use Rattle.quiescence_laws.specs.Courses.{TransactionStage, heard_at, course_in, course_at}
 use Rattle.quiescence_laws.specs.Courses as course
 use Rattle.quiescence_laws.proofs.Counting.{Counts, counts_of, table, counted}
 use Rattle.quiescence_laws.proofs.SerialLaws.{tallied, busy_serial}
@@ -30,7 +30,7 @@ pub record IsOrdered (n : Counts) : Type 0 where
   pub all_asked : n.gives ≡ 1 → n.asks ≡ n.mores
   pub all_heard : n.gives ≡ 1 → n.hears ≡ n.mores
 
-ordered : (c : Course) (r : ℕ) → IsOrdered (table c r)
+ordered : (c : TransactionStage) (r : ℕ) → IsOrdered (table c r)
 ordered course.unbegun r = record { begun = omega arith; taken = omega arith; given = omega arith; ended = omega arith; heard = omega arith; asked = omega arith; told = omega arith; all_asked = λ h. refl; all_heard = λ h. refl }
 ordered course.waiting r = record { begun = omega arith; taken = omega arith; given = omega arith; ended = omega arith; heard = omega arith; asked = omega arith; told = omega arith; all_asked = λ h. refl; all_heard = λ h. refl }
 ordered course.serving r = record { begun = omega arith; taken = omega arith; given = omega arith; ended = omega arith; heard = omega arith; asked = omega arith; told = omega arith; all_asked = λ h. refl; all_heard = λ h. refl }
