@@ -11,7 +11,7 @@ use Rattle.change_plan.specs.declared.plan_data.Plan.{Plan}
 use Rattle.change_plan.specs.declared.plan_data.Shift.{Shift}
 use Rattle.change_plan.proofs.SelectsLaws.{Selects-one}
 use Rattle.commit_laws.specs.Steps.{change_all}
-use Rattle.commit_laws.specs.Work.{link_of, make_of, work_of}
+use Rattle.commit_laws.specs.Work.{link_new, make_new, work_of}
 use Rattle.config_graph.specs.Graph.{Graph}
 use Rattle.config_graph.specs.declared.TheConstants.{MAX_NODES}
 use Rattle.plan_laws.specs.Commit.{commit_events, is_at, makes_from, new_links, node_at, node_path, reopened_ports, slot_at, source_of, work}
@@ -60,7 +60,7 @@ module _ (old new : Graph) (plan : Plan) (c : Configuration) where
       by (Some s) = at (node_path old s.old) (slot_at c (node_path old s.old)) refl
 
   makes_fit : (rest : List Event) → ((room : Room) → HasRoomForAll room rest) → (k : ℕ) (js : List ℕ) (room : Room) → length js ≤ room.nodes → length c.slots ≤ room.sources
-      → HasRoomForAll room (map make_of (makes_from old new plan c k js) ++ rest)
+      → HasRoomForAll room (map make_new (makes_from old new plan c k js) ++ rest)
   makes_fit rest fits k [] room few low = fits room
   makes_fit rest fits k (j ∷ js) room few low =
       (record { node = omega (arith, few); source = source_low j room.sources low }, makes_fit rest fits (k + 1) js (less_one room) (omega (arith, few)) low)
@@ -70,11 +70,11 @@ module _ (old new : Graph) (plan : Plan) (c : Configuration) where
       let w = work old new plan c in
       let unlinks = map Unlink w.unlinks in
       let removes = map Remove w.removes in
-      let makes = map make_of w.makes in
-      let links = map link_of (new_links new plan (change_all c (work_of w))) in
+      let makes = map make_new w.makes in
+      let links = map link_new (new_links new plan (change_all c (work_of w))) in
       let opens = map Reopen (reopened_ports old new plan c) in
       let fits : (r : Room) → HasRoomForAll r (links ++ opens) =
-      λ r. free_fit link_of (λ room rest x h. (tt, h)) r (new_links new plan (change_all c (work_of w))) opens (opens_fit (reopened_ports old new plan c) r) in
+      λ r. free_fit link_new (λ room rest x h. (tt, h)) r (new_links new plan (change_all c (work_of w))) opens (opens_fit (reopened_ports old new plan c) r) in
       subst (HasRoomForAll room)
       (sym (append_assoc (unlinks ++ (removes ++ makes)) links opens ∙ append_assoc unlinks (removes ++ makes) (links ++ opens)
       ∙ ap (λ es. unlinks ++ es) (append_assoc removes makes (links ++ opens))))

@@ -23,7 +23,7 @@ use Rattle.config_graph.specs.declared.node.Link.{Link}
 use Rattle.config_graph.specs.declared.node.Port.{Port}
 use Rattle.plan_laws.specs.Commit.{commit_events, commit_steps, is_frozen_or_new, is_link_of, is_one_of, is_unlinked_by, makes_from, new_link, new_links, node_at, node_path, ports_to_close, ports_where, reopened_ports, slot_at, slots_where, source_of, stands_in, work}
 use Rattle.commit_laws.specs.Steps.{change_all}
-use Rattle.commit_laws.specs.Work.{NewLink, Work, link_of, make_of, work_of}
+use Rattle.commit_laws.specs.Work.{NewLink, Work, link_new, make_new, work_of}
 use Rattle.quiesce_core.specs.Effect.{change_next, new_gates}
 use Rattle.quiesce_core.specs.declared.event.Event.TheVariants as event
 use Rattle.quiesce_core.specs.declared.event.Event.TheVariants.{Make, Remove, Reopen, Unlink}
@@ -120,11 +120,11 @@ module _ (c : Configuration) (g : Graph) (rise : PathsRise g.nodes) where
           by false rest = rest
 
   pub makes_are : (new : Graph) (plan : Plan) → All (λ (s : Shift). s.old < length g.nodes) plan.moves → (k : ℕ) (js : List ℕ)
-      → map make_of (makes_from g new plan c k js) ≡ makes_by places plan.moves new k js
+      → map make_new (makes_from g new plan c k js) ≡ makes_by places plan.moves new k js
   makes_are new plan within k [] = refl
   makes_are new plan within k (j ∷ js) =
-      ap (λ from. make_of (record { slot = k; node = node_at new j; from = from }) ∷ map make_of (makes_from g new plan c (k + 1) js)) (source_is plan within j)
-      ∙ ap (λ es. make_of (record { slot = k; node = node_at new j; from = source_by places plan.moves j }) ∷ es) (makes_are new plan within (k + 1) js)
+      ap (λ from. make_new (record { slot = k; node = node_at new j; from = from }) ∷ map make_new (makes_from g new plan c (k + 1) js)) (source_is plan within j)
+      ∙ ap (λ es. make_new (record { slot = k; node = node_at new j; from = source_by places plan.moves j }) ∷ es) (makes_are new plan within (k + 1) js)
 
 -- A removal leaves a node's slot, but not live.
 abbrev kill : Slot → Slot
@@ -205,13 +205,13 @@ unlinks_slots : (ps : List ℕ) (c : Configuration) → (change_all c (map Unlin
 unlinks_slots [] c = refl
 unlinks_slots (p ∷ ps) c = unlinks_slots ps (change_next c (Unlink p))
 
-links_ports : (ls : List NewLink) (c : Configuration) → map port_of (change_all c (map link_of ls)).gates ≡ map port_of c.gates
+links_ports : (ls : List NewLink) (c : Configuration) → map port_of (change_all c (map link_new ls)).gates ≡ map port_of c.gates
 links_ports [] c = refl
-links_ports (l ∷ ls) c = links_ports ls (change_next c (link_of l)) ∙ set_same port_of c.gates l.port _ fresh_gate refl
+links_ports (l ∷ ls) c = links_ports ls (change_next c (link_new l)) ∙ set_same port_of c.gates l.port _ fresh_gate refl
 
-links_slots : (ls : List NewLink) (c : Configuration) → (change_all c (map link_of ls)).slots ≡ c.slots
+links_slots : (ls : List NewLink) (c : Configuration) → (change_all c (map link_new ls)).slots ≡ c.slots
 links_slots [] c = refl
-links_slots (l ∷ ls) c = links_slots ls (change_next c (link_of l))
+links_slots (l ∷ ls) c = links_slots ls (change_next c (link_new l))
 
 opens_ports : (ps : List ℕ) (c : Configuration) → map port_of (change_all c (map Reopen ps)).gates ≡ map port_of c.gates
 opens_ports [] c = refl
@@ -224,7 +224,7 @@ opens_slots (p ∷ ps) c = opens_slots ps (change_next c (Reopen p))
 -- makes add their nodes and ports
 module _ (old new : Graph) (plan : Plan) (c : Configuration) where
   makes_places : (k : ℕ) (js : List ℕ) (d : Configuration) → PathsRise new.nodes → All (λ j. j < length new.nodes) js
-      → map (place_in new) (change_all d (map make_of (makes_from old new plan c k js))).slots ≡ map (place_in new) d.slots ++ map Some js
+      → map (place_in new) (change_all d (map make_new (makes_from old new plan c k js))).slots ≡ map (place_in new) d.slots ++ map Some js
   makes_places k [] d rise within = sym (append-nil (map (place_in new) d.slots))
   makes_places k (j ∷ js) d rise within =
       let e = change_next d (Make k (node_at new j) (source_of old plan c j)) in
@@ -236,7 +236,7 @@ module _ (old new : Graph) (plan : Plan) (c : Configuration) where
       ∙ append_assoc (map (place_in new) d.slots) (Some j ∷ []) (map Some js)
 
   makes_ports : (k : ℕ) (js : List ℕ) (d : Configuration) → k ≡ length d.slots
-      → map port_of (change_all d (map make_of (makes_from old new plan c k js))).gates ≡ map port_of d.gates ++ ports_from new k js
+      → map port_of (change_all d (map make_new (makes_from old new plan c k js))).gates ≡ map port_of d.gates ++ ports_from new k js
   makes_ports k [] d is = sym (append-nil (map port_of d.gates))
   makes_ports k (j ∷ js) d is =
       let e = change_next d (Make k (node_at new j) (source_of old plan c j)) in
@@ -344,7 +344,7 @@ record AddsLive (before after : List Slot) (many : ℕ) : Type 0 where
   long : length added ≡ many
   live : (i : ℕ) (m : Slot) → slice_get added i ≡ Some m → m.live ≡ true
 
-makes_slots : (old new : Graph) (plan : Plan) (c : Configuration) (k : ℕ) (js : List ℕ) (d : Configuration) → AddsLive d.slots (change_all d (map make_of (makes_from old new plan c k js))).slots (length js)
+makes_slots : (old new : Graph) (plan : Plan) (c : Configuration) (k : ℕ) (js : List ℕ) (d : Configuration) → AddsLive d.slots (change_all d (map make_new (makes_from old new plan c k js))).slots (length js)
 makes_slots old new plan c k [] d = record { added = []; are = sym (append-nil d.slots); long = refl; live = λ i m e. absurd (both_ways true (sym (ap is_some e)) refl) }
 makes_slots old new plan c k (j ∷ js) d =
     let e = change_next d (Make k (node_at new j) (source_of old plan c j)) in
@@ -394,7 +394,7 @@ map_picked h f (x ∷ xs) = by (f x) (map_picked h f xs)
 
 -- links in a configuration, by the places of the new graph
 module _ (d : Configuration) (new : Graph) (rise : PathsRise new.nodes) (links : List Link) (within : All (λ (l : Link). (l.from < length new.nodes) × (l.to < length new.nodes)) links) where
-  link_is : (p : ℕ) → p < length d.gates → option_map link_of (option_and_then (new_link new d p) (find (is_link_of new d p) links)) ≡ link_at (map (place_in new) d.slots) (map port_of d.gates) links p
+  link_is : (p : ℕ) → p < length d.gates → option_map link_new (option_and_then (new_link new d p) (find (is_link_of new d p) links)) ≡ link_at (map (place_in new) d.slots) (map port_of d.gates) links p
   link_is p made =
       found links within
       ∙ sym (ap (λ (o : Option Port). option_and_then (λ (x : Port). option_and_then (link_to (map (place_in new) d.slots) p) (find (is_link_at (place_at (map (place_in new) d.slots) x.node) x) links)) o) (port_there d new rise p made))
@@ -402,15 +402,15 @@ module _ (d : Configuration) (new : Graph) (rise : PathsRise new.nodes) (links :
       place : Option ℕ
       place = place_at (map (place_in new) d.slots) (owner d p)
 
-      end_is : (l : Link) → l.to < length new.nodes → option_map link_of (new_link new d p l) ≡ link_to (map (place_in new) d.slots) p l
-      end_is l low = ap (λ o. option_map link_of (option_map (λ n. record { port = p; node = n; provide = l.provide }) o)) (slot_there d new rise l.to low) ∙ by (slot_of (map (place_in new) d.slots) l.to)
+      end_is : (l : Link) → l.to < length new.nodes → option_map link_new (new_link new d p l) ≡ link_to (map (place_in new) d.slots) p l
+      end_is l low = ap (λ o. option_map link_new (option_map (λ n. record { port = p; node = n; provide = l.provide }) o)) (slot_there d new rise l.to low) ∙ by (slot_of (map (place_in new) d.slots) l.to)
         where
-          by : (o : Option ℕ) → option_map link_of (option_map (λ n. record { port = p; node = n; provide = l.provide }) o) ≡ option_map (λ n. event.Link p n l.provide) o
+          by : (o : Option ℕ) → option_map link_new (option_map (λ n. record { port = p; node = n; provide = l.provide }) o) ≡ option_map (λ n. event.Link p n l.provide) o
           by None = refl
           by (Some n) = refl
 
       found : (ls : List Link) → All (λ (l : Link). (l.from < length new.nodes) × (l.to < length new.nodes)) ls
-          → option_map link_of (option_and_then (new_link new d p) (find (is_link_of new d p) ls)) ≡ option_and_then (link_to (map (place_in new) d.slots) p) (find (is_link_at place (port_of (gate d p))) ls)
+          → option_map link_new (option_and_then (new_link new d p) (find (is_link_of new d p) ls)) ≡ option_and_then (link_to (map (place_in new) d.slots) p) (find (is_link_at place (port_of (gate d p))) ls)
       found [] h = refl
       found (l ∷ ls) h =
           let low = h 0 l (omega arith) in
@@ -418,16 +418,16 @@ module _ (d : Configuration) (new : Graph) (rise : PathsRise new.nodes) (links :
           ∙ ap (λ b. option_and_then (link_to (map (place_in new) d.slots) p) (cond b (Some l) (find (is_link_at place (port_of (gate d p))) ls)))
           (ap (λ b. b && (gate d p).require == l.require) (stands_by_place d new rise l.from (owner d p) low.0))
         where
-          pick : (b : Bool) → option_map link_of (option_and_then (new_link new d p) (find (is_link_of new d p) ls)) ≡ option_and_then (link_to (map (place_in new) d.slots) p) (find (is_link_at place (port_of (gate d p))) ls)
-              → option_map link_of (new_link new d p l) ≡ link_to (map (place_in new) d.slots) p l
-              → option_map link_of (option_and_then (new_link new d p) (cond b (Some l) (find (is_link_of new d p) ls))) ≡ option_and_then (link_to (map (place_in new) d.slots) p) (cond b (Some l) (find (is_link_at place (port_of (gate d p))) ls))
+          pick : (b : Bool) → option_map link_new (option_and_then (new_link new d p) (find (is_link_of new d p) ls)) ≡ option_and_then (link_to (map (place_in new) d.slots) p) (find (is_link_at place (port_of (gate d p))) ls)
+              → option_map link_new (new_link new d p l) ≡ link_to (map (place_in new) d.slots) p l
+              → option_map link_new (option_and_then (new_link new d p) (cond b (Some l) (find (is_link_of new d p) ls))) ≡ option_and_then (link_to (map (place_in new) d.slots) p) (cond b (Some l) (find (is_link_at place (port_of (gate d p))) ls))
           pick true rest here = here
           pick false rest here = rest
 
-  links_are : map link_of (filter_map (λ p. option_and_then (new_link new d p) (find (is_link_of new d p) links)) (range_with_len 0 (length d.gates))) ≡ links_by (map (place_in new) d.slots) (map port_of d.gates) links
+  links_are : map link_new (filter_map (λ p. option_and_then (new_link new d p) (find (is_link_of new d p) links)) (range_with_len 0 (length d.gates))) ≡ links_by (map (place_in new) d.slots) (map port_of d.gates) links
   links_are =
-      map_picked link_of (λ p. option_and_then (new_link new d p) (find (is_link_of new d p) links)) (range_with_len 0 (length d.gates))
-      ∙ same_picked (λ p. option_map link_of (option_and_then (new_link new d p) (find (is_link_of new d p) links))) (link_at (map (place_in new) d.slots) (map port_of d.gates) links) (length d.gates) link_is
+      map_picked link_new (λ p. option_and_then (new_link new d p) (find (is_link_of new d p) links)) (range_with_len 0 (length d.gates))
+      ∙ same_picked (λ p. option_map link_new (option_and_then (new_link new d p) (find (is_link_of new d p) links))) (link_at (map (place_in new) d.slots) (map port_of d.gates) links) (length d.gates) link_is
       ∙ ap (λ n. filter_map (link_at (map (place_in new) d.slots) (map port_of d.gates) links) (range_with_len 0 n)) (sym (length-map d.gates port_of))
 
 -- What a commit leaves, by layouts.
@@ -439,12 +439,12 @@ module _ (old new : Graph) (plan : Plan) (c : Configuration) (is : IsGraphOf c o
   at_removes = change_all at_unlinks (map Remove (slots_where (is_one_of old plan.remove c) c))
 
   abbrev at_makes : Configuration
-  at_makes = change_all at_removes (map make_of (makes_from old new plan c (length c.slots) plan.create))
+  at_makes = change_all at_removes (map make_new (makes_from old new plan c (length c.slots) plan.create))
 
   pub work_made : change_all c (work_of (work old new plan c)) ≡ at_makes
   work_made =
-      fold-append change_next c (map Unlink (ports_where (is_unlinked_by old plan c) c)) (map Remove (slots_where (is_one_of old plan.remove c) c) ++ map make_of (makes_from old new plan c (length c.slots) plan.create))
-      ∙ fold-append change_next at_unlinks (map Remove (slots_where (is_one_of old plan.remove c) c)) (map make_of (makes_from old new plan c (length c.slots) plan.create))
+      fold-append change_next c (map Unlink (ports_where (is_unlinked_by old plan c) c)) (map Remove (slots_where (is_one_of old plan.remove c) c) ++ map make_new (makes_from old new plan c (length c.slots) plan.create))
+      ∙ fold-append change_next at_unlinks (map Remove (slots_where (is_one_of old plan.remove c) c)) (map make_new (makes_from old new plan c (length c.slots) plan.create))
 
   removed_slots : at_removes.slots ≡ killed (slots_where (is_one_of old plan.remove c) c) 0 c.slots
   removed_slots =
@@ -481,7 +481,7 @@ module _ (old new : Graph) (plan : Plan) (c : Configuration) (is : IsGraphOf c o
   abbrev at_links : Configuration
   at_links = change_all c (commit_steps old new plan c)
 
-  commit_links_are : map link_of (new_links new plan (change_all c (work_of (work old new plan c)))) ≡ links_by (places_after old new plan (map (place_in old) c.slots)) (ports_after new plan (map (place_in old) c.slots) (map port_of c.gates)) plan.link
+  commit_links_are : map link_new (new_links new plan (change_all c (work_of (work old new plan c)))) ≡ links_by (places_after old new plan (map (place_in old) c.slots)) (ports_after new plan (map (place_in old) c.slots) (map port_of c.gates)) plan.link
   commit_links_are =
       links_are (change_all c (work_of (work old new plan c))) new rise plan.link h.link
       ∙ ap (λ (d : Configuration). links_by (map (place_in new) d.slots) (map port_of d.gates) plan.link) work_made
@@ -490,12 +490,12 @@ module _ (old new : Graph) (plan : Plan) (c : Configuration) (is : IsGraphOf c o
 
   steps_slots : at_links.slots ≡ at_makes.slots
   steps_slots =
-      ap (λ (d : Configuration). d.slots) (fold-append change_next c (work_of (work old new plan c)) (map link_of (new_links new plan (change_all c (work_of (work old new plan c))))))
+      ap (λ (d : Configuration). d.slots) (fold-append change_next c (work_of (work old new plan c)) (map link_new (new_links new plan (change_all c (work_of (work old new plan c))))))
       ∙ links_slots (new_links new plan (change_all c (work_of (work old new plan c)))) (change_all c (work_of (work old new plan c))) ∙ ap (λ (d : Configuration). d.slots) work_made
 
   steps_ports : map port_of at_links.gates ≡ ports_after new plan (map (place_in old) c.slots) (map port_of c.gates)
   steps_ports =
-      ap (λ (d : Configuration). map port_of d.gates) (fold-append change_next c (work_of (work old new plan c)) (map link_of (new_links new plan (change_all c (work_of (work old new plan c))))))
+      ap (λ (d : Configuration). map port_of d.gates) (fold-append change_next c (work_of (work old new plan c)) (map link_new (new_links new plan (change_all c (work_of (work old new plan c))))))
       ∙ links_ports (new_links new plan (change_all c (work_of (work old new plan c)))) (change_all c (work_of (work old new plan c))) ∙ ap (λ (d : Configuration). map port_of d.gates) work_made
       ∙ next_ports
 
@@ -594,8 +594,8 @@ module _ (old new : Graph) (plan : Plan) (c : Configuration) (is : IsGraphOf c o
 
   pub commit_is : commit_events old new plan c ≡ commit_by old new plan (map (place_in old) c.slots) (map port_of c.gates)
   commit_is =
-      ap (λ es. ((map Unlink es ++ (map Remove w.removes ++ map make_of w.makes)) ++ ls) ++ map Reopen ps) (unlinks_are c old is.paths_rise plan h.unlink)
-      ∙ ap (λ es. ((map Unlink us ++ (map Remove es ++ map make_of w.makes)) ++ ls) ++ map Reopen ps) (removes_are c old is.paths_rise plan h.remove)
+      ap (λ es. ((map Unlink es ++ (map Remove w.removes ++ map make_new w.makes)) ++ ls) ++ map Reopen ps) (unlinks_are c old is.paths_rise plan h.unlink)
+      ∙ ap (λ es. ((map Unlink us ++ (map Remove es ++ map make_new w.makes)) ++ ls) ++ map Reopen ps) (removes_are c old is.paths_rise plan h.remove)
       ∙ ap (λ es. ((map Unlink us ++ (map Remove rs ++ es)) ++ ls) ++ map Reopen ps)
       (makes_are c old is.paths_rise new plan h.moves (length c.slots) plan.create ∙ ap (λ k. makes_by (map (place_in old) c.slots) plan.moves new k plan.create) (sym (length-map c.slots (place_in old))))
       ∙ ap (λ es. ((map Unlink us ++ (map Remove rs ++ makes_by (map (place_in old) c.slots) plan.moves new (length (map (place_in old) c.slots)) plan.create)) ++ es) ++ map Reopen ps) commit_links_are
@@ -606,7 +606,7 @@ module _ (old new : Graph) (plan : Plan) (c : Configuration) (is : IsGraphOf c o
       w = work old new plan c
 
       ls : List Event
-      ls = map link_of (new_links new plan (change_all c (work_of (work old new plan c))))
+      ls = map link_new (new_links new plan (change_all c (work_of (work old new plan c))))
 
       ps : List ℕ
       ps = reopened_ports old new plan c

@@ -10,7 +10,7 @@ use Rattle.change_plan.specs.declared.plan_data.Move.{Move}
 use Rattle.change_plan.specs.declared.plan_data.Plan.{Plan}
 use Rattle.config_graph.specs.Graph.{Graph}
 use Rattle.commit_laws.specs.Steps.{MayStepAll, change_all}
-use Rattle.commit_laws.specs.Work.{link_of, make_of}
+use Rattle.commit_laws.specs.Work.{link_new, make_new}
 use Rattle.commit_laws.proofs.MeanwhileLaws.{front_is_of_change, now_is}
 use Rattle.commit_laws.proofs.TurningLaws.{live_port}
 use Rattle.plan_laws.specs.Commit.{commit_events, commit_steps, is_frozen_or_new, is_one_of, new_links, reopened_ports, work}
@@ -120,12 +120,12 @@ commit_turns_last old new plan c =
     let w = work old new plan c in
     let unlinks = map Unlink w.unlinks in
     let removes = map Remove w.removes in
-    let makes = map make_of w.makes in
+    let makes = map make_new w.makes in
     turns_last (commit_steps old new plan c) (reopened_ports old new plan c)
-    (none_both (unlinks ++ (removes ++ makes)) (map link_of (new_links new plan (change_all c (unlinks ++ (removes ++ makes)))))
+    (none_both (unlinks ++ (removes ++ makes)) (map link_new (new_links new plan (change_all c (unlinks ++ (removes ++ makes)))))
     (none_both unlinks (removes ++ makes) (none_turn Unlink (λ x. refl) w.unlinks)
-    (none_both removes makes (none_turn Remove (λ x. refl) w.removes) (none_turn make_of (λ x. refl) w.makes)))
-    (none_turn link_of (λ x. refl) (new_links new plan (change_all c (unlinks ++ (removes ++ makes))))))
+    (none_both removes makes (none_turn Remove (λ x. refl) w.removes) (none_turn make_new (λ x. refl) w.makes)))
+    (none_turn link_new (λ x. refl) (new_links new plan (change_all c (unlinks ++ (removes ++ makes))))))
 
 module _ (old new : Graph) (moves : List Move) (plan : Plan) (r : List Entry) (m : List Moment) (h : IsRecordOf r m) (x : MayCarryOut old new moves plan r) where
   same : config_of r ≡ (state_after (events m)).config

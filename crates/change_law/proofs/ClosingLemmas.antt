@@ -91,8 +91,8 @@ start_closes_none name args g =
 
 work_closes_none : (w : work.Work) → list_any closes (work.work_of w) ≡ false
 work_closes_none w =
-    none_joined closes (map event.Unlink w.unlinks) (map event.Remove w.removes ++ map work.make_of w.makes) (none_mapped closes event.Unlink (λ x. refl) w.unlinks)
-    (none_joined closes (map event.Remove w.removes) (map work.make_of w.makes) (none_mapped closes event.Remove (λ x. refl) w.removes) (none_mapped closes work.make_of (λ x. refl) w.makes))
+    none_joined closes (map event.Unlink w.unlinks) (map event.Remove w.removes ++ map work.make_new w.makes) (none_mapped closes event.Unlink (λ x. refl) w.unlinks)
+    (none_joined closes (map event.Remove w.removes) (map work.make_new w.makes) (none_mapped closes event.Remove (λ x. refl) w.removes) (none_mapped closes work.make_new (λ x. refl) w.makes))
 
 commit_closes_none : (old new : Graph) (plan : Plan) (c : Configuration) → list_any closes (commit_events old new plan c) ≡ false
 commit_closes_none old new plan c =
@@ -100,7 +100,7 @@ commit_closes_none old new plan c =
     let links = new_links new plan (change_all c does) in
     let ports = reopened_ports old new plan c in
     none_joined closes (commit_steps old new plan c) (map event.Reopen ports)
-    (none_joined closes does (map work.link_of links) (work_closes_none (commit.work old new plan c)) (none_mapped closes work.link_of (λ x. refl) links))
+    (none_joined closes does (map work.link_new links) (work_closes_none (commit.work old new plan c)) (none_mapped closes work.link_new (λ x. refl) links))
     (none_mapped closes event.Reopen (λ x. refl) ports)
 
 ends_close_none : (old new : Graph) (plan : Plan) (within : ℕ) (c : Configuration) (closed : List ℕ) (rest : List HistoryLine)

@@ -20,7 +20,7 @@ use Rattle.quiescence_laws.proofs.DrainingLaws.{drained_stays, settled_if_draine
 use Rattle.commit_laws.specs.Fitting.{KeptLink}
 use Rattle.commit_laws.specs.Lists.{In}
 use Rattle.commit_laws.specs.Steps.{MayStep, MayStepAll, change_all}
-use Rattle.commit_laws.specs.Work.{NewLink, NewNode, Work, events_of, link_of, make_of, steps_of, work_of}
+use Rattle.commit_laws.specs.Work.{NewLink, NewNode, Work, events_of, link_new, make_new, steps_of, work_of}
 use Rattle.commit_laws.proofs.AllowedLemmas.{step_allowed}
 use Rattle.commit_laws.proofs.BetweenLaws.{Between, Ground, is_noted}
 use Rattle.commit_laws.proofs.CommitLaws.{after_both, commit_each, commit_graph, commit_may}
@@ -53,10 +53,10 @@ map_closed p f h [] = refl
 map_closed p f h (x ∷ xs) = ap (λ b. b || list_any (reopens p) (map f xs)) (h x) ∙ map_closed p f h xs
 
 steps_closed : (w : Work) (links : List NewLink) (p : ℕ) → list_any (reopens p) (steps_of w links) ≡ false
-steps_closed w links p = append_closed p (work_of w) (map link_of links)
-    (append_closed p (map Unlink w.unlinks) (map Remove w.removes ++ map make_of w.makes) (map_closed p Unlink (λ x. refl) w.unlinks)
-    (append_closed p (map Remove w.removes) (map make_of w.makes) (map_closed p Remove (λ x. refl) w.removes) (map_closed p make_of (λ x. refl) w.makes)))
-    (map_closed p link_of (λ x. refl) links)
+steps_closed w links p = append_closed p (work_of w) (map link_new links)
+    (append_closed p (map Unlink w.unlinks) (map Remove w.removes ++ map make_new w.makes) (map_closed p Unlink (λ x. refl) w.unlinks)
+    (append_closed p (map Remove w.removes) (map make_new w.makes) (map_closed p Remove (λ x. refl) w.removes) (map_closed p make_new (λ x. refl) w.makes)))
+    (map_closed p link_new (λ x. refl) links)
 
 -- an event that stands among events each of which is a reopening
 in_reopens : {A : Type 0} (f : A → Event) → ((x : A) → (q : ℕ) × (f x ≡ Reopen q)) → (xs : List A) (done : List Event) (e : Event) (left : List Event) → done ++ e ∷ left ≡ map f xs → (q : ℕ) × (e ≡ Reopen q)

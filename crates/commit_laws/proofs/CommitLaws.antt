@@ -21,7 +21,7 @@ use Rattle.base.proofs.ContainsLaws.{Contains-at}
 use Rattle.commit_laws.specs.Lists.{In}
 use Rattle.commit_laws.specs.Steps.{MayStepAll, change_all}
 use Rattle.quiesce_core.specs.Effect.{change_next}
-use Rattle.commit_laws.specs.Work.{AreNumbered, NewLink, NewNode, Work, link_of, make_of, work_of}
+use Rattle.commit_laws.specs.Work.{AreNumbered, NewLink, NewNode, Work, link_new, make_new, work_of}
 use Rattle.commit_laws.proofs.BetweenLaws.{Ground, between_start}
 use Rattle.quiesce_core.proofs.ConfigurationLaws.{linked_made}
 use Rattle.commit_laws.proofs.LinkingLemmas.{Linking, graph_is, link_may, link_next}
@@ -164,7 +164,7 @@ module _ (c : Configuration) (new : Graph) (sound : Sound new) (Touched : ℕ �
   removed_down = change_all (change_all c (map event.Unlink w.unlinks)) (map event.Remove w.removes)
 
   abbrev pub grown : Configuration
-  grown = change_all (change_all (change_all c (map event.Unlink w.unlinks)) (map event.Remove w.removes)) (map make_of w.makes)
+  grown = change_all (change_all (change_all c (map event.Unlink w.unlinks)) (map event.Remove w.removes)) (map make_new w.makes)
 
   unlinked_all : Unlinking c new Touched (change_all c (map event.Unlink w.unlinks)) []
   unlinked_all = phase_ends noted event.Unlink (Unlinking c new Touched) (unlink_may c new Touched noted ground owners_live) (unlink_next c new Touched noted ground owners_live) c w.unlinks unlinking
@@ -196,47 +196,47 @@ module _ (c : Configuration) (new : Graph) (sound : Sound new) (Touched : ℕ �
 
   -- the nodes are those of the new graph, and no link is one that it hasn't
   pub all_made : Making c new Touched grown []
-  all_made = phase_ends noted make_of (Making c new Touched) (make_may c new Touched noted ground) (make_next c new Touched noted ground) removed_down w.makes start_making
+  all_made = phase_ends noted make_new (Making c new Touched) (make_may c new Touched noted ground) (make_next c new Touched noted ground) removed_down w.makes start_making
 
   -- each step up to the links may be made
   pub work_may : MayStepAll noted c (work_of w)
-  work_may = may_then noted c (map event.Unlink w.unlinks) (map event.Remove w.removes ++ map make_of w.makes)
+  work_may = may_then noted c (map event.Unlink w.unlinks) (map event.Remove w.removes ++ map make_new w.makes)
       (phase_may noted event.Unlink (Unlinking c new Touched) (unlink_may c new Touched noted ground owners_live) (unlink_next c new Touched noted ground owners_live) c w.unlinks unlinking)
-      (may_then noted (change_all c (map event.Unlink w.unlinks)) (map event.Remove w.removes) (map make_of w.makes)
+      (may_then noted (change_all c (map event.Unlink w.unlinks)) (map event.Remove w.removes) (map make_new w.makes)
       (phase_may noted event.Remove (Removing c new Touched w.removes) (remove_may c new Touched noted ground w.removes) (remove_next c new Touched noted ground w.removes)
       (change_all c (map event.Unlink w.unlinks)) w.removes (removing (change_all c (map event.Unlink w.unlinks)) unlinked_all))
-      (phase_may noted make_of (Making c new Touched) (make_may c new Touched noted ground) (make_next c new Touched noted ground) removed_down w.makes start_making))
+      (phase_may noted make_new (Making c new Touched) (make_may c new Touched noted ground) (make_next c new Touched noted ground) removed_down w.makes start_making))
 
   -- at each place up to the links
   pub work_each : (P : Configuration → Type 0) → ((d : Configuration) (xs : List ℕ) → Unlinking c new Touched d xs → P d) → ((d : Configuration) (xs : List ℕ) → Removing c new Touched w.removes d xs → P d)
       → ((d : Configuration) (xs : List NewNode) → Making c new Touched d xs → P d) → EachConfig P c (work_of w)
-  work_each P a b g = each_then P c (map event.Unlink w.unlinks) (map event.Remove w.removes ++ map make_of w.makes)
+  work_each P a b g = each_then P c (map event.Unlink w.unlinks) (map event.Remove w.removes ++ map make_new w.makes)
       (phase_each noted event.Unlink (Unlinking c new Touched) (unlink_may c new Touched noted ground owners_live) (unlink_next c new Touched noted ground owners_live) P a c w.unlinks unlinking)
-      (each_then P (change_all c (map event.Unlink w.unlinks)) (map event.Remove w.removes) (map make_of w.makes)
+      (each_then P (change_all c (map event.Unlink w.unlinks)) (map event.Remove w.removes) (map make_new w.makes)
       (phase_each noted event.Remove (Removing c new Touched w.removes) (remove_may c new Touched noted ground w.removes) (remove_next c new Touched noted ground w.removes) P b
       (change_all c (map event.Unlink w.unlinks)) w.removes (removing (change_all c (map event.Unlink w.unlinks)) unlinked_all))
-      (phase_each noted make_of (Making c new Touched) (make_may c new Touched noted ground) (make_next c new Touched noted ground) P g removed_down w.makes start_making))
+      (phase_each noted make_new (Making c new Touched) (make_may c new Touched noted ground) (make_next c new Touched noted ground) P g removed_down w.makes start_making))
 
   pub made_is : change_all c (work_of w) ≡ grown
-  made_is = after_both c (map event.Unlink w.unlinks) (map event.Remove w.removes ++ map make_of w.makes) ∙ after_both (change_all c (map event.Unlink w.unlinks)) (map event.Remove w.removes) (map make_of w.makes)
+  made_is = after_both c (map event.Unlink w.unlinks) (map event.Remove w.removes ++ map make_new w.makes) ∙ after_both (change_all c (map event.Unlink w.unlinks)) (map event.Remove w.removes) (map make_new w.makes)
 
   module _ (links : List NewLink) (are : AreLinks c new Touched (change_all c (work_of w)) links) where
     start_linking : Linking c new Touched (change_all c (work_of w)) links
     start_linking = linking (change_all c (work_of w)) links are (subst (λ d. Making c new Touched d []) (sym made_is) all_made)
 
     -- each step of the commit may be made after those before it
-    pub commit_may : MayStepAll noted c (work_of w ++ map link_of links)
-    commit_may = may_then noted c (work_of w) (map link_of links) work_may
-        (phase_may noted link_of (Linking c new Touched) (link_may c new sound Touched noted ground) (link_next c new sound Touched noted ground) (change_all c (work_of w)) links start_linking)
+    pub commit_may : MayStepAll noted c (work_of w ++ map link_new links)
+    commit_may = may_then noted c (work_of w) (map link_new links) work_may
+        (phase_may noted link_new (Linking c new Touched) (link_may c new sound Touched noted ground) (link_next c new sound Touched noted ground) (change_all c (work_of w)) links start_linking)
 
     -- and after the last the graph is the new one
-    pub commit_graph : IsGraphOf (change_all c (work_of w ++ map link_of links)) new
-    commit_graph = subst (λ d. IsGraphOf d new) (sym (after_both c (work_of w) (map link_of links)))
-        (graph_is c new sound Touched noted ground (change_all (change_all c (work_of w)) (map link_of links))
-        (phase_ends noted link_of (Linking c new Touched) (link_may c new sound Touched noted ground) (link_next c new sound Touched noted ground) (change_all c (work_of w)) links start_linking))
+    pub commit_graph : IsGraphOf (change_all c (work_of w ++ map link_new links)) new
+    commit_graph = subst (λ d. IsGraphOf d new) (sym (after_both c (work_of w) (map link_new links)))
+        (graph_is c new sound Touched noted ground (change_all (change_all c (work_of w)) (map link_new links))
+        (phase_ends noted link_new (Linking c new Touched) (link_may c new sound Touched noted ground) (link_next c new sound Touched noted ground) (change_all c (work_of w)) links start_linking))
 
     -- at each place of the commit
     pub commit_each : (P : Configuration → Type 0) → ((d : Configuration) (xs : List ℕ) → Unlinking c new Touched d xs → P d) → ((d : Configuration) (xs : List ℕ) → Removing c new Touched w.removes d xs → P d)
-        → ((d : Configuration) (xs : List NewNode) → Making c new Touched d xs → P d) → ((d : Configuration) (xs : List NewLink) → Linking c new Touched d xs → P d) → EachConfig P c (work_of w ++ map link_of links)
-    commit_each P a b g l = each_then P c (work_of w) (map link_of links) (work_each P a b g)
-        (phase_each noted link_of (Linking c new Touched) (link_may c new sound Touched noted ground) (link_next c new sound Touched noted ground) P l (change_all c (work_of w)) links start_linking)
+        → ((d : Configuration) (xs : List NewNode) → Making c new Touched d xs → P d) → ((d : Configuration) (xs : List NewLink) → Linking c new Touched d xs → P d) → EachConfig P c (work_of w ++ map link_new links)
+    commit_each P a b g l = each_then P c (work_of w) (map link_new links) (work_each P a b g)
+        (phase_each noted link_new (Linking c new Touched) (link_may c new sound Touched noted ground) (link_next c new sound Touched noted ground) P l (change_all c (work_of w)) links start_linking)

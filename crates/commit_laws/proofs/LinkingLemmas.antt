@@ -20,7 +20,7 @@ use Rattle.quiesce_core.proofs.SoundnessLaws.{put_here, put_owner, put_require}
 use Rattle.quiesce_core.proofs.ReachLaws.{owner_of}
 use Rattle.commit_laws.specs.Lists.{Apart, In}
 use Rattle.commit_laws.specs.Steps.{MayStep}
-use Rattle.commit_laws.specs.Work.{NewLink, link_of, end_of}
+use Rattle.commit_laws.specs.Work.{NewLink, link_new, end_of}
 use Rattle.commit_laws.proofs.AcyclicLaws.{no_cycle, one_place}
 use Rattle.commit_laws.proofs.BetweenLaws.{Between, Ground, between_link, is_noted}
 use Rattle.commit_laws.proofs.UnlinkingLemmas.{target_beside, target_put}
@@ -86,7 +86,7 @@ module _ (c : Configuration) (new : Graph) (sound : Sound new) (Touched : ℕ �
         (λ n p o. owner_still d l.port (Some (end_of l)) this.made p ∙ owner_of d h.between.sound_now n p (record { node = o.node; made = o.made; from = o.from; below = o.below }))
         fits_then
 
-    pub link_may : MayStep noted d (link_of l)
+    pub link_may : MayStep noted d (link_new l)
     link_may =
         let this = h.to_link l (inl refl) in
         let live = stands_live d new.nodes (owner d l.port) this.fits.i this.fits.stands.from_there in

@@ -25,7 +25,7 @@ use Rattle.commit_laws.specs.Fitting.{KeptLink, PathsApart}
 use Rattle.quiesce_core.specs.Live.{IsLiveAt}
 use Rattle.commit_laws.specs.Lists.{Apart, In}
 use Rattle.commit_laws.specs.Steps.{MayStep}
-use Rattle.commit_laws.specs.Work.{AreNumbered, NewNode, make_of, ports_wanted}
+use Rattle.commit_laws.specs.Work.{AreNumbered, NewNode, make_new, ports_wanted}
 use Rattle.commit_laws.proofs.BetweenLaws.{Between, Ground, between_make, linked_before}
 use Rattle.quiesce_core.proofs.ConfigurationLaws.{linked_made}
 use Rattle.commit_laws.specs.Commits.{OtherPath, OtherSource}
@@ -85,7 +85,7 @@ module _ (c : Configuration) (new : Graph) (Touched : ℕ → Type 0) (noted : �
     moves None e = refl
     moves (Some k) e = h.sources m (inl refl) k e
 
-    pub make_may : MayStep noted d (make_of m)
+    pub make_may : MayStep noted d (make_new m)
     make_may = record {
       room = and_from (m.slot == length d.slots && nat_lt m.slot MAX_NODES) (nat_le (length d.gates + length (row m.node.kind).requires_) MAX_PORTS)
           (and_from (m.slot == length d.slots) (nat_lt m.slot MAX_NODES) (eq-eqb m.slot (length d.slots) h.numbered.0) (lt-ltb m.slot MAX_NODES (omega (arith, few, h.numbered.0))))

@@ -12,8 +12,8 @@ pub record NewNode : Type 0 where
   pub node : Node
   pub from : Option ℕ
 
-abbrev pub make_of : NewNode → Event
-make_of m = Make m.slot m.node m.from
+abbrev pub make_new : NewNode → Event
+make_new m = Make m.slot m.node m.from
 
 -- a link to be made
 pub record NewLink : Type 0 where
@@ -21,8 +21,8 @@ pub record NewLink : Type 0 where
   pub node : ℕ
   pub provide : ℕ
 
-abbrev pub link_of : NewLink → Event
-link_of l = Link l.port l.node l.provide
+abbrev pub link_new : NewLink → Event
+link_new l = Link l.port l.node l.provide
 
 abbrev pub end_of : NewLink → Target
 end_of l = record { node = l.node; provide = l.provide }
@@ -44,11 +44,11 @@ pub record Work : Type 0 where
   pub makes : List NewNode
 
 abbrev pub work_of : Work → List Event
-work_of w = map Unlink w.unlinks ++ (map Remove w.removes ++ map make_of w.makes)
+work_of w = map Unlink w.unlinks ++ (map Remove w.removes ++ map make_new w.makes)
 
 -- up to the last link, and with the ports that are reopened then
 abbrev pub steps_of : Work → List NewLink → List Event
-steps_of w links = work_of w ++ map link_of links
+steps_of w links = work_of w ++ map link_new links
 
 abbrev pub events_of : Work → List NewLink → List ℕ → List Event
 events_of w links ports = steps_of w links ++ map Reopen ports

@@ -79,13 +79,13 @@ commit_is_change old new plan c =
     let w = work old new plan c in
     let unlinks = map Unlink w.unlinks in
     let removes = map Remove w.removes in
-    let makes = map work_.make_of w.makes in
+    let makes = map work_.make_new w.makes in
     let links = new_links new plan (change_all c (unlinks ++ (removes ++ makes))) in
     both_all (commit_steps old new plan c) (map Reopen (reopened_ports old new plan c))
-    (both_all (unlinks ++ (removes ++ makes)) (map work_.link_of links)
+    (both_all (unlinks ++ (removes ++ makes)) (map work_.link_new links)
     (both_all unlinks (removes ++ makes) (all_made Unlink (λ x. refl) w.unlinks)
-    (both_all removes makes (all_made Remove (λ x. refl) w.removes) (all_made work_.make_of (λ x. refl) w.makes)))
-    (all_made work_.link_of (λ x. refl) links))
+    (both_all removes makes (all_made Remove (λ x. refl) w.removes) (all_made work_.make_new (λ x. refl) w.makes)))
+    (all_made work_.link_new (λ x. refl) links))
     (all_made Reopen (λ x. refl) (reopened_ports old new plan c))
 
 fair_done : (deeds : List Deed) (es : List Event) → events_of deeds ≡ es → list_all is_of_change es ≡ true → AreFair (flat_map deed_items deeds)

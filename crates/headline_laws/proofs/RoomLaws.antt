@@ -93,46 +93,46 @@ module _ (old new : Graph) (plan : Plan) (c : Configuration) where
   makes_long k [] = refl
   makes_long k (j ∷ js) = omega (arith, makes_long (k + 1) js)
 
-  nodes_summed : (k : ℕ) (js : List ℕ) → sum_by nodes_made (map work_.make_of (makes_from old new plan c k js)) ≡ length js
+  nodes_summed : (k : ℕ) (js : List ℕ) → sum_by nodes_made (map work_.make_new (makes_from old new plan c k js)) ≡ length js
   nodes_summed k [] = refl
   nodes_summed k (j ∷ js) =
       let m : work_.NewNode = record { slot = k; node = node_at new j; from = source_of old plan c j } in
-      omega (arith, sum_by-cons nodes_made (work_.make_of m) (map work_.make_of (makes_from old new plan c (k + 1) js)), nodes_summed (k + 1) js)
+      omega (arith, sum_by-cons nodes_made (work_.make_new m) (map work_.make_new (makes_from old new plan c (k + 1) js)), nodes_summed (k + 1) js)
 
   wanted_there : (j : ℕ) → IsGone new old j → requires_of (node_at new j) ≡ requires_at new.nodes j
   wanted_there j gone =
       let fork : Node = record { path = []; kind = Fork; arg = None } in
       ap (λ o. requires_of (unwrap_or o fork)) gone.here ∙ sym (ap (λ o. option_map_or requires_of o 0) gone.here)
 
-  ports_summed : (k : ℕ) (js : List ℕ) → All (IsGone new old) js → sum_by ports_made (map work_.make_of (makes_from old new plan c k js)) ≡ sum_by (requires_at new.nodes) js
+  ports_summed : (k : ℕ) (js : List ℕ) → All (IsGone new old) js → sum_by ports_made (map work_.make_new (makes_from old new plan c k js)) ≡ sum_by (requires_at new.nodes) js
   ports_summed k [] gone = refl
   ports_summed k (j ∷ js) gone =
       let m : work_.NewNode = record { slot = k; node = node_at new j; from = source_of old plan c j } in
       omega (
         arith,
-        sum_by-cons ports_made (work_.make_of m) (map work_.make_of (makes_from old new plan c (k + 1) js)),
+        sum_by-cons ports_made (work_.make_new m) (map work_.make_new (makes_from old new plan c (k + 1) js)),
         sum_by-cons (requires_at new.nodes) j js,
         wanted_there j (All-head (IsGone new old) j js gone),
         ports_summed (k + 1) js (All-tail (IsGone new old) j js gone),
       )
 
-  commit_summed : (count : Event → ℕ) → ((p : ℕ) → count (Unlink p) ≡ 0) → ((n : ℕ) → count (Remove n) ≡ 0) → ((l : work_.NewLink) → count (work_.link_of l) ≡ 0) → ((p : ℕ) → count (Reopen p) ≡ 0)
-      → sum_by count (commit_events old new plan c) ≡ sum_by count (map work_.make_of (work old new plan c).makes)
+  commit_summed : (count : Event → ℕ) → ((p : ℕ) → count (Unlink p) ≡ 0) → ((n : ℕ) → count (Remove n) ≡ 0) → ((l : work_.NewLink) → count (work_.link_new l) ≡ 0) → ((p : ℕ) → count (Reopen p) ≡ 0)
+      → sum_by count (commit_events old new plan c) ≡ sum_by count (map work_.make_new (work old new plan c).makes)
   commit_summed count unlinks removes links reopens =
       let w = work old new plan c in
       let unlinked = map Unlink w.unlinks in
       let removed = map Remove w.removes in
-      let made = map work_.make_of w.makes in
+      let made = map work_.make_new w.makes in
       let linked = new_links new plan (change_all c (unlinked ++ (removed ++ made))) in
       omega (
         arith,
         sum_by-append count (commit_steps old new plan c) (map Reopen (reopened_ports old new plan c)),
-        sum_by-append count (unlinked ++ (removed ++ made)) (map work_.link_of linked),
+        sum_by-append count (unlinked ++ (removed ++ made)) (map work_.link_new linked),
         sum_by-append count unlinked (removed ++ made),
         sum_by-append count removed made,
         none_summed count Unlink unlinks w.unlinks,
         none_summed count Remove removes w.removes,
-        none_summed count work_.link_of links linked,
+        none_summed count work_.link_new links linked,
         none_summed count Reopen reopens (reopened_ports old new plan c),
       )
 

@@ -17,7 +17,7 @@ use Rattle.quiesce_core.specs.declared.event.Event.TheVariants.{Reopen}
 use Rattle.quiesce_core.specs.declared.state.Slot.{Slot}
 use Rattle.quiesce_core.specs.State.{Configuration, gate, is_live, owner, slot}
 use Rattle.commit_laws.specs.Steps.{change_all}
-use Rattle.commit_laws.specs.Work.{NewLink, NewNode, Work, link_of, work_of}
+use Rattle.commit_laws.specs.Work.{NewLink, NewNode, Work, link_new, work_of}
 
 -- the path of a node of a graph
 abbrev pub node_path : Graph → ℕ → List ℕ
@@ -102,7 +102,7 @@ ports_to_close old plan c = ports_where (λ p. is_one_of old plan.freeze c (owne
 -- all up to the last link
 abbrev pub commit_steps : Graph → Graph → Plan → Configuration → List Event
 commit_steps old new plan c =
-    work_of (work old new plan c) ++ map link_of (new_links new plan (change_all c (work_of (work old new plan c))))
+    work_of (work old new plan c) ++ map link_new (new_links new plan (change_all c (work_of (work old new plan c))))
 
 -- the ports that were closed for the change and those made in it, where they are live
 abbrev pub ports_to_reopen : Graph → Plan → Configuration → Configuration → List ℕ

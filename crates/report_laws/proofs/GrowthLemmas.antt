@@ -18,7 +18,7 @@ use Rattle.quiesce_core.specs.declared.state.Slot.{Slot}
 use Rattle.quiesce_core.specs.Effect.{change_next}
 use Rattle.quiesce_core.specs.State.{Configuration, gate, slot}
 use Rattle.commit_laws.specs.Steps.{change_all}
-use Rattle.commit_laws.specs.Work.{link_of, make_of, work_of}
+use Rattle.commit_laws.specs.Work.{link_new, make_new, work_of}
 use Rattle.plan_laws.specs.Commit.{commit_events, commit_steps, makes_from, new_links, reopened_ports, work}
 
 abbrev pub nodes_by : Event → ℕ
@@ -75,18 +75,18 @@ wanted_at None = refl
 wanted_at (Some n) = refl
 
 module _ (old new : Graph) (plan : Plan) (c : Configuration) where
-  made_nodes : (k : ℕ) (js : List ℕ) → total nodes_by (map make_of (makes_from old new plan c k js)) ≡ length js
+  made_nodes : (k : ℕ) (js : List ℕ) → total nodes_by (map make_new (makes_from old new plan c k js)) ≡ length js
   made_nodes k [] = refl
   made_nodes k (j ∷ js) = omega (arith, made_nodes (k + 1) js)
 
-  made_ports : (k : ℕ) (js : List ℕ) → total ports_by (map make_of (makes_from old new plan c k js)) ≡ sum_by (requires_at new.nodes) js
+  made_ports : (k : ℕ) (js : List ℕ) → total ports_by (map make_new (makes_from old new plan c k js)) ≡ sum_by (requires_at new.nodes) js
   made_ports k [] = refl
   made_ports k (j ∷ js) =
-      ap (λ n. n + total ports_by (map make_of (makes_from old new plan c (k + 1) js))) (wanted_at (slice_get new.nodes j)) ∙ ap (λ n. requires_at new.nodes j + n) (made_ports (k + 1) js)
+      ap (λ n. n + total ports_by (map make_new (makes_from old new plan c (k + 1) js))) (wanted_at (slice_get new.nodes j)) ∙ ap (λ n. requires_at new.nodes j + n) (made_ports (k + 1) js)
       ∙ sym (sum_by-cons (requires_at new.nodes) j js)
 
   parts_of : (f : Event → ℕ) → ((p : ℕ) → f (Unlink p) ≡ 0) → ((n : ℕ) → f (Remove n) ≡ 0) → ((p n x : ℕ) → f (Link p n x) ≡ 0) → ((p : ℕ) → f (Reopen p) ≡ 0)
-      → total f (commit_events old new plan c) ≡ total f (map make_of (makes_from old new plan c (length c.slots) plan.create))
+      → total f (commit_events old new plan c) ≡ total f (map make_new (makes_from old new plan c (length c.slots) plan.create))
   parts_of f unlink remove link reopen =
       let w = work old new plan c in
       let links = new_links new plan (change_all c (work_of w)) in
@@ -94,11 +94,11 @@ module _ (old new : Graph) (plan : Plan) (c : Configuration) where
         arith,
         total_both f (commit_steps old new plan c) (map Reopen (reopened_ports old new plan c)),
         total_none f Reopen reopen (reopened_ports old new plan c),
-        total_both f (work_of w) (map link_of links),
-        total_none f link_of (λ l. link l.port l.node l.provide) links,
-        total_both f (map Unlink w.unlinks) (map Remove w.removes ++ map make_of w.makes),
+        total_both f (work_of w) (map link_new links),
+        total_none f link_new (λ l. link l.port l.node l.provide) links,
+        total_both f (map Unlink w.unlinks) (map Remove w.removes ++ map make_new w.makes),
         total_none f Unlink unlink w.unlinks,
-        total_both f (map Remove w.removes) (map make_of w.makes),
+        total_both f (map Remove w.removes) (map make_new w.makes),
         total_none f Remove remove w.removes,
       )
 
