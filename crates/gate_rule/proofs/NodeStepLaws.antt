@@ -28,7 +28,7 @@ use Rattle.quiesce_core.specs.declared.known.PortKnown.{PortKnown}
 use Rattle.quiesce_core.proofs.LoadLaws.{take_judged}
 use Rattle.quiesce_core.proofs.OperationLaws.{ask_by, begin_by, end_by, give_by, more_by}
 use Rattle.quiesce_core.proofs.WordLaws.{port_word_follows, port_words_decode, port_words_fit}
-use Rattle.port_gate.specs.Looks.{Shows as Shows'}
+use Rattle.port_gate.specs.Looks.{WordShows as Shows'}
 use Rattle.port_gate.specs.Moves.{with_seen}
 use Rattle.port_gate.specs.declared.answers.SeeAnswer.TheVariants as see
 use Rattle.port_gate.specs.Seats.{MayAsk, MayBegin, MayCall, MayEnd, MayGive, MayHear, MaySee, MaySendMore, MayTake, NodeAt, port_known, serial_served, value_seen}

@@ -35,7 +35,7 @@ use Rattle.quiesce_core.proofs.LegalLaws.{allowed, legal}
 use Rattle.quiesce_core.proofs.RunLaws.{effect_config}
 use Rattle.quiesce_core.proofs.WordLaws.{port_words_decode, port_words_fit}
 use Rattle.port_gate.specs.Answers.{HasWord, IsSpentAt, IsTargetAt, SeeSays}
-use Rattle.port_gate.specs.Looks.{Shows}
+use Rattle.port_gate.specs.Looks.{WordShows}
 use Rattle.port_gate.specs.Moves.{seen_by, with_seen}
 use Rattle.port_gate.specs.declared.answers.SeeAnswer.{SeeAnswer}
 use Rattle.port_gate.specs.declared.answers.SeeAnswer.TheVariants.{Answer, NotYet}
@@ -398,12 +398,12 @@ module _ (s : State) (wf : IsWellFormed s) (con : IsConsistent s) (n : ℕ) (w :
   pub sees_busy : (p : ℕ) (word : Word) → word ≡ fields_of s p → MaySee (node_at s.config n) w p → is_idle word.phase ≡ false
   sees_busy p word e may = subst (λ (x : Word). is_idle x.phase ≡ false) (sym e) (sym (own_known s wf con n w fits p may.own).idle ∙ may.busy)
 
-  pub says_seen : (p : ℕ) (word : Word) (answer : SeeAnswer) → word ≡ fields_of s p → Shows word answer → SeeSays (Some s) p answer
-  says_seen p word (Answer v) e h = (subst (λ i. i < value_limit) (sym (h.1 ∙ ap (λ (x : Word). x.value) e)) (wf.bounds p).value, subst (λ (x : Word). Shows x (Answer v)) e h)
-  says_seen p word (see.More v) e h = (subst (λ i. i < value_limit) (sym (h.1 ∙ ap (λ (x : Word). x.value) e)) (wf.bounds p).value, subst (λ (x : Word). Shows x (see.More v)) e h)
+  pub says_seen : (p : ℕ) (word : Word) (answer : SeeAnswer) → word ≡ fields_of s p → WordShows word answer → SeeSays (Some s) p answer
+  says_seen p word (Answer v) e h = (subst (λ i. i < value_limit) (sym (h.1 ∙ ap (λ (x : Word). x.value) e)) (wf.bounds p).value, subst (λ (x : Word). WordShows x (Answer v)) e h)
+  says_seen p word (see.More v) e h = (subst (λ i. i < value_limit) (sym (h.1 ∙ ap (λ (x : Word). x.value) e)) (wf.bounds p).value, subst (λ (x : Word). WordShows x (see.More v)) e h)
   says_seen p word (NotYet k) e h = has_word s wf con n w fits p k word (λ x. is_asked x.phase) e h.1 h.0
 
-  seen_there : (p : ℕ) (x : PortKnown) (answer : SeeAnswer) → IsPortKnown s p x → Shows (fields_of s p) answer → IsPortKnown s p (seen_by answer x)
+  seen_there : (p : ℕ) (x : PortKnown) (answer : SeeAnswer) → IsPortKnown s p x → WordShows (fields_of s p) answer → IsPortKnown s p (seen_by answer x)
   seen_there p x (Answer v) known h = record {
     idle = known.idle;
     serial = known.serial;
@@ -418,13 +418,13 @@ module _ (s : State) (wf : IsWellFormed s) (con : IsConsistent s) (n : ℕ) (w :
   }
   seen_there p x (NotYet k) known h = known
 
-  pub fits_seen : (p : ℕ) (word : Word) (answer : SeeAnswer) → word ≡ fields_of s p → MaySee (node_at s.config n) w p → Shows word answer
+  pub fits_seen : (p : ℕ) (word : Word) (answer : SeeAnswer) → word ≡ fields_of s p → MaySee (node_at s.config n) w p → WordShows word answer
       → FitsCore s n (with_seen (node_at s.config n) p answer w)
   fits_seen p word answer e may h =
       let x : PortKnown = port_known (node_at s.config n) w p in
       let i : ℕ = p - (node_at s.config n).first in
       let there : (node_at s.config n).first + i ≡ p = omega (arith, may.own.from) in
-      let seen : IsPortKnown s p (seen_by answer x) = seen_there p x answer (own_known s wf con n w fits p may.own) (subst (λ y. Shows y answer) e h) in
+      let seen : IsPortKnown s p (seen_by answer x) = seen_there p x answer (own_known s wf con n w fits p may.own) (subst (λ y. WordShows y answer) e h) in
       record {
         live = fits.live;
         known =

@@ -10,7 +10,7 @@ use Rattle.quiesce_core.specs.Rules.{last_serial, value_limit}
 use Rattle.quiesce_core.specs.State.{State}
 use Rattle.quiesce_core.specs.Words.{word_of}
 use Rattle.quiesce_core.specs.Fields.{fields_of}
-use Rattle.port_gate.specs.Looks.{Shows}
+use Rattle.port_gate.specs.Looks.{WordShows}
 use Rattle.port_gate.specs.Seats.{NodeAt}
 use Rattle.port_gate.specs.declared.answers.BeginAnswer.{BeginAnswer}
 use Rattle.port_gate.specs.declared.answers.BeginAnswer.TheVariants.{Again, Begun, Closed, Spent, Unlinked}
@@ -50,7 +50,7 @@ IsSpentAt (Some s) p = ((fields_of s p).closed ≡ false) × (is_some (fields_of
 -- and what is seen is what its word shows
 abbrev pub IsShownAt : Option State → ℕ → SeeAnswer → Type 0
 IsShownAt None p answer = ⊤
-IsShownAt (Some s) p answer = Shows (fields_of s p) answer
+IsShownAt (Some s) p answer = WordShows (fields_of s p) answer
 
 abbrev pub BeginSays : Option State → ℕ → BeginAnswer → Type 0
 BeginSays s p (Begun k t) = (k ≤ last_serial) × (t < MAX_NODES) × IsTargetAt s p t

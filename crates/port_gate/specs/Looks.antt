@@ -6,7 +6,7 @@ use Rattle.gate_word.specs.declared.word.Word.{Word}
 use Rattle.port_gate.specs.declared.answers.SeeAnswer.{SeeAnswer}
 use Rattle.port_gate.specs.declared.answers.SeeAnswer.TheVariants.{Answer, More, NotYet}
 
-abbrev pub Shows : Word → SeeAnswer → Type 0
-Shows w (Answer v) = (is_answered w.phase ≡ true) × (v ≡ w.value)
-Shows w (More v) = (is_in_more w.phase ≡ true) × (v ≡ w.value)
-Shows w (NotYet k) = (is_asked w.phase ≡ true) × (k ≡ pack w)
+abbrev pub WordShows : Word → SeeAnswer → Type 0
+WordShows w (Answer v) = (is_answered w.phase ≡ true) × (v ≡ w.value)
+WordShows w (More v) = (is_in_more w.phase ≡ true) × (v ≡ w.value)
+WordShows w (NotYet k) = (is_asked w.phase ≡ true) × (k ≡ pack w)

@@ -4,7 +4,7 @@ ghost use Rattle.std.specs.Prelude.{◌≡◌, ◌≢◌, ◌<◌, ◌^◌, ℕ,
 ghost use Rattle.gate_word.specs.Phases as phases;
 ghost use Rattle.gate_word.specs.Phases.{is_idle};
 ghost use Rattle.gate_word.specs.Words.{FitsWord, is_missing};
-ghost use Rattle.port_gate.specs.Looks.{Shows};
+ghost use Rattle.port_gate.specs.Looks.{WordShows};
 ghost use Rattle.quiesce_core.specs.Traffic.{IsConsistent};
 ghost use Rattle.quiesce_core.specs.WellFormed.{IsWellFormed};
 ghost use Rattle.quiesce_core.specs.Knowledge as knowledge;
@@ -23,7 +23,7 @@ ghost use Rattle.port_gate.specs.Seats.{MayCall, serial_served, value_seen};
 
 use crate::answers::{BeginAnswer, CallAnswer, HearAnswer, SeeAnswer, TakeAnswer};
 use crate::gate::{GateSeat, PortGate};
-use crate::noting::{note, note_look, unknown};
+use crate::noting::{note, note_reply, unknown};
 use gate_word::{LAST_SERIAL, Phase, Word};
 use quiesce_core::{Core, Event, Known, PortKnown};
 
@@ -296,7 +296,7 @@ impl PortGate for CoreGate {
         let word = self.fields(port);
         let answer = look(word);
         let require = port - self.first_port(seat.slot);
-        note_look(&mut seat.known.ports[require as usize], answer);
+        note_reply(&mut seat.known.ports[require as usize], answer);
         answer
     }
 
@@ -371,7 +371,7 @@ impl PortGate for CoreGate {
 fn look(word: Word) -> SeeAnswer
     requires busy { is_idle word.phase ≡ false }
     requires fits { FitsWord word }
-    ensures { Shows word result }
+    ensures { WordShows word result }
 {
     match word.phase {
         Phase::Answered => SeeAnswer::Answer { value: word.value },

@@ -130,7 +130,7 @@ pub fn note(known: &mut Known, first_port: u32, event: &Event)
 
 /// A reply was looked for at a port: what is known of it then. Where there is none the port isn't written.
 #[inline(always)]
-pub fn note_look(port: &mut PortKnown, answer: SeeAnswer)
+pub fn note_reply(port: &mut PortKnown, answer: SeeAnswer)
     ensures { port.new ≡ seen_by answer port.old }
 {
     match answer {
@@ -151,6 +151,6 @@ pub fn note_seen(port: PortKnown, answer: SeeAnswer) -> PortKnown
     ensures { result ≡ seen_by answer port }
 {
     let mut seen = port;
-    note_look(&mut seen, answer);
+    note_reply(&mut seen, answer);
     seen
 }

@@ -14,7 +14,7 @@ returns-clause-fits c =
     let first = c.first_port.ensures.first in
     let two = c.requires.fits.two in
     let within : c.args.port - c.first_port.result < length c.args.seat.now.known.ports = omega (arith, own, first, two) in
-    let seen = c.note_look.ensures ∙ ap (seen_by c.look-answer.result) (get_or_default c.args.seat.now.known.ports (c.args.port - c.first_port.result) _ port_at_start within) in
+    let seen = c.note_reply.ensures ∙ ap (seen_by c.look-answer.result) (get_or_default c.args.seat.now.known.ports (c.args.port - c.first_port.result) _ port_at_start within) in
     subst (λ (x : PortKnown). FitsCore c.args.self.now.core.state c.args.seat.now.slot (record { service = c.args.seat.now.known.service; ports = slice_set c.args.seat.now.known.ports (c.args.port - c.first_port.result) x })) (sym seen)
     (subst
     (λ first. FitsCore c.args.self.now.core.state c.args.seat.now.slot (record { service = c.args.seat.now.known.service; ports = slice_set c.args.seat.now.known.ports (c.args.port - first) (seen_by c.look-answer.result (get_or c.args.seat.now.known.ports (c.args.port - first) port_at_start)) }))
