@@ -15,7 +15,7 @@ use Rattle.gate_records.specs.declared.entry.Entry.TheVariants.{Did}
 use Rattle.change_board.specs.Making.{Makes}
 use Rattle.gate_records.specs.Records.{Adds, May}
 use Rattle.change_board.specs.Sights.{sight_entry}
-use Rattle.change_board.specs.Steps.{Deed, Does, MayDoAll, deed_entries, entries_of}
+use Rattle.change_board.specs.Steps.{Deed, DoesEvents, MayDoAll, deed_entries, entries_of}
 use Rattle.base.proofs.PlaceLaws.{heads_are}
 use Rattle.change_board.proofs.StepLaws.{alike_deed, may_all_alike}
 
@@ -33,13 +33,13 @@ module _ {B : Type 0} (S : B → List Entry → Type 0) where
   pub adds_both : (a b c : B) (es fs : List Entry) → Adds S a b es → Adds S b c fs → Adds S a c (es ++ fs)
   adds_both a b c es fs x y r s = subst (λ zs. S c zs) (append_assoc r es fs) (y (r ++ es) (x r s))
 
-  pub does_none : (a : B) → Does S a a []
+  pub does_none : (a : B) → DoesEvents S a a []
   does_none a = record { deeds = []; events_are = refl; adds = adds_none a }
 
-  pub does_one : (a b : B) (e : Event) → Adds S a b (Did e ∷ []) → Does S a b (e ∷ [])
+  pub does_one : (a b : B) (e : Event) → Adds S a b (Did e ∷ []) → DoesEvents S a b (e ∷ [])
   does_one a b e x = record { deeds = record { event = e; sights = [] } ∷ []; events_are = refl; adds = x }
 
-  pub does_make : (a b : B) (n : ℕ) (node : Node) (from : Option ℕ) → ((r : List Entry) → S a r → n ≡ length (config_of r).slots) → Makes S a b node from → Does S a b (Make n node from ∷ [])
+  pub does_make : (a b : B) (n : ℕ) (node : Node) (from : Option ℕ) → ((r : List Entry) → S a r → n ≡ length (config_of r).slots) → Makes S a b node from → DoesEvents S a b (Make n node from ∷ [])
   does_make a b n node from next x =
       let d : Deed = record { event = Make n node from; sights = x.sights } in
       record {
@@ -49,7 +49,7 @@ module _ {B : Type 0} (S : B → List Entry → Type 0) where
             (subst (λ k. S b (r ++ Did (Make k node from) ∷ map sight_entry x.sights)) (sym (next r s)) (x.adds r s));
       }
 
-  pub does_both : (a b c : B) (es fs : List Event) → Does S a b es → Does S b c fs → Does S a c (es ++ fs)
+  pub does_both : (a b c : B) (es fs : List Event) → DoesEvents S a b es → DoesEvents S b c fs → DoesEvents S a c (es ++ fs)
   does_both a b c es fs x y = record {
     deeds = x.deeds ++ y.deeds;
     events_are = map-append (λ (d : Deed). d.event) x.deeds y.deeds ∙ ap (λ zs. zs ++ map (λ (d : Deed). d.event) y.deeds) x.events_are ∙ ap (λ zs. es ++ zs) y.events_are;
@@ -65,5 +65,5 @@ module _ {B : Type 0} (S : B → List Entry → Type 0) where
       (subst (λ f. MayDoAll (r ++ Did f ∷ []) es) (sym (heads_are d.event e [] [] is)) h))
   by_deeds r e es (d ∷ f ∷ ds) is h = absurd (omega (arith, ap length is))
 
-  pub here_next : (a b : B) (e : Event) (es : List Event) → Does S a b (e ∷ []) → (here : (r : List Entry) × S a r × MayDoAll r (e ∷ es)) → (r : List Entry) × S b r × MayDoAll r es
+  pub here_next : (a b : B) (e : Event) (es : List Event) → DoesEvents S a b (e ∷ []) → (here : (r : List Entry) × S a r × MayDoAll r (e ∷ es)) → (r : List Entry) × S b r × MayDoAll r es
   here_next a b e es x here = (here.0 ++ entries_of x.deeds, x.adds here.0 here.1, by_deeds here.0 e es x.deeds x.events_are here.2.1)

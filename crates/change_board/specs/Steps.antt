@@ -42,14 +42,14 @@ abbrev pub room_after : Room → Event → Room
 room_after room (Make n node from) = less_one room
 room_after room _ = room
 
-abbrev pub HasRoomFor : Room → Event → Type 0
-HasRoomFor room (Make n node from) = HasRoom room from
-HasRoomFor room _ = ⊤
+abbrev pub HasRoomToDo : Room → Event → Type 0
+HasRoomToDo room (Make n node from) = HasRoom room from
+HasRoomToDo room _ = ⊤
 
 -- there is memory for each node that these events make
 abbrev pub HasRoomForAll : Room → List Event → Type 0
 HasRoomForAll room [] = ⊤
-HasRoomForAll room (e ∷ es) = HasRoomFor room e × HasRoomForAll (room_after room e) es
+HasRoomForAll room (e ∷ es) = HasRoomToDo room e × HasRoomForAll (room_after room e) es
 
 -- an event of the change that was done on a board, and the sights that came with it
 pub record Deed : Type 0 where
@@ -63,7 +63,7 @@ abbrev pub entries_of : List Deed → List Entry
 entries_of deeds = flat_map deed_entries deeds
 
 -- these events were done, one after the other
-pub record Does {B : Type 0} (S : B → List Entry → Type 0) (old new : B) (events : List Event) : Type 0 where
+pub record DoesEvents {B : Type 0} (S : B → List Entry → Type 0) (old new : B) (events : List Event) : Type 0 where
   pub deeds : List Deed
   pub events_are : map (λ (d : Deed). d.event) deeds ≡ events
   pub adds : Adds S old new (entries_of deeds)

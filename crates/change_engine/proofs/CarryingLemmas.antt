@@ -7,12 +7,12 @@ use Rattle.change_script.specs.declared.report.HistoryLine.{HistoryLine}
 use Rattle.quiesce_core.specs.declared.event.Event.{Event}
 use Rattle.gate_records.specs.declared.entry.Entry.{Entry}
 use Rattle.gate_records.specs.declared.entry.Entry.TheVariants.{Did}
-use Rattle.change_board.specs.Steps.{Does, entries_of}
+use Rattle.change_board.specs.Steps.{DoesEvents, entries_of}
 use Rattle.change_board.specs.Transcripts.{said, entries, lines}
 use Rattle.change_engine.specs.Carrying.{CarriesOut, deed_items}
 use Rattle.change_engine.proofs.ItemLaws.{entries_both, lines_both, carried_entries, carried_lines, said_entries, said_lines}
 
-pub carries : {B : Type 0} (S : B → List Entry → Type 0) (a b : B) (h i head tail : List HistoryLine) (es : List Event) → Does S a b es → i ≡ h ++ (head ++ lines_of_events es ++ tail) → CarriesOut S a b h i head es tail
+pub carries : {B : Type 0} (S : B → List Entry → Type 0) (a b : B) (h i head tail : List HistoryLine) (es : List Event) → DoesEvents S a b es → i ≡ h ++ (head ++ lines_of_events es ++ tail) → CarriesOut S a b h i head es tail
 carries S a b h i head tail es x grown =
     let mid = flat_map deed_items x.deeds in
     let front = map said head in

@@ -1,7 +1,7 @@
 use Rattle.std.proofs.Common.{◌≡◌, ◌++◌, ◌∷◌, [], append_assoc, sym, ap, ◌∙◌, subst, arith}
 use Rattle.std.proofs.lemmas.List.{append-nil}
 use Rattle.base.proofs.MapLaws.{no_length}
-use Rattle.change_board.specs.Steps.{HasRoomForAll, Does, MayDoAll}
+use Rattle.change_board.specs.Steps.{HasRoomForAll, DoesEvents, MayDoAll}
 use Rattle.change_board.proofs.DeedLemmas.{does_both, does_none, here_next}
 use Rattle.change_board.proofs.stepping.do_steps.Goals as goal
 
@@ -48,4 +48,4 @@ returns g c =
     let rest = c.loop-event.event-iterator.rest in
     let none_ : rest.items ≡ [] = no_length rest.items (omega (arith, rest.ok.0, c.in-None.ensures.steps.0)) in
     let all : c.loop-event.yielded ≡ c.args.events.items = sym (append-nil c.loop-event.yielded) ∙ ap (λ es. c.loop-event.yielded ++ es) (sym none_) ∙ inv.4 in
-    subst (Does g.B.Board.stands_for c.args.board.now c.loop-event.board) all inv.2
+    subst (DoesEvents g.B.Board.stands_for c.args.board.now c.loop-event.board) all inv.2
