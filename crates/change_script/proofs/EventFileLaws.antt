@@ -4,8 +4,8 @@ use Rattle.quiesce_core.specs.declared.event.Event.{Event}
 use Rattle.change_script.specs.declared.event_files.EventFile.{EventFile}
 use Rattle.change_script.specs.declared.error.LineFault.{LineFault}
 use Rattle.change_script.specs.declared.error.LineFault.TheVariants.{Bad, Big}
-use Rattle.change_script.specs.declared.event_lines.Statement.{Statement}
-use Rattle.change_script.specs.declared.event_lines.Statement.TheVariants as statements
+use Rattle.change_script.specs.declared.event_lines.EventLine.{EventLine}
+use Rattle.change_script.specs.declared.event_lines.EventLine.TheVariants as statements
 use Rattle.change_script.specs.declared.error.ScriptError.{ScriptError}
 use Rattle.change_script.specs.declared.error.ScriptError.TheVariants as errors
 use Rattle.change_script.specs.Lines.{Line, statements as lines_of}
@@ -21,12 +21,12 @@ FileOf lines file = map meaning_of_line lines ≡ of_start file ∷ map of_event
 abbrev FaultOf : List Line → ScriptError → Type 0
 FaultOf lines fault = ((lines ≡ []) × (fault ≡ errors.NoStart)) ⊎ (first_fault (line_faults lines) ≡ Some fault)
 
-line_event : (n : ℕ) (m : Result Statement LineFault) (event : Event) → event_at n m ≡ Ok event → (m ≡ of_event event) × (fault_in false n m ≡ None)
+line_event : (n : ℕ) (m : Result EventLine LineFault) (event : Event) → event_at n m ≡ Ok event → (m ≡ of_event event) × (fault_in false n m ≡ None)
 line_event n (Err fault) event h = cc
 line_event n (Ok (statements.Start name args)) event h = cc
 line_event n (Ok (statements.Event found)) event h = let e : found ≡ event = cc in (ap of_event e, refl)
 
-line_fault : (n : ℕ) (m : Result Statement LineFault) (fault : ScriptError) → event_at n m ≡ Err fault → fault_in false n m ≡ Some fault
+line_fault : (n : ℕ) (m : Result EventLine LineFault) (fault : ScriptError) → event_at n m ≡ Err fault → fault_in false n m ≡ Some fault
 line_fault n (Err Bad) fault h = let e : errors.BadLine n ≡ fault = cc in ap Some e
 line_fault n (Err Big) fault h = let e : errors.NumberTooBig n ≡ fault = cc in ap Some e
 line_fault n (Ok (statements.Start name args)) fault h = let e : errors.Order n ≡ fault = cc in ap Some e
@@ -62,7 +62,7 @@ faults_read (line ∷ lines) fault h =
           ap (λ o. first_fault (o ∷ map (fault_of false) lines)) here.1 ∙ faults_read lines fault later.2
     ]
 
-first_line : (line : Line) (lines : List Line) (m : Result Statement LineFault) → meaning_of_line line ≡ m → (r : Result (List Event) ScriptError) → read_events lines ≡ r
+first_line : (line : Line) (lines : List Line) (m : Result EventLine LineFault) → meaning_of_line line ≡ m → (r : Result (List Event) ScriptError) → read_events lines ≡ r
     → ((file : EventFile) × FileOf (line ∷ lines) file) ⊎ ((fault : ScriptError) × FaultOf (line ∷ lines) fault)
 first_line line lines (Err Bad) is r read = inr (errors.BadLine line.number, inr (ap (λ m. first_fault (fault_in true line.number m ∷ map (fault_of false) lines)) is))
 first_line line lines (Err Big) is r read = inr (errors.NumberTooBig line.number, inr (ap (λ m. first_fault (fault_in true line.number m ∷ map (fault_of false) lines)) is))
@@ -138,7 +138,7 @@ pub one_file : (text : List ℕ) (file other : EventFile) → IsEventFile text f
 one_file text file other a b = same_file file other (sym a ∙ b)
 
 -- No line wants memory.
-no_want_in : (n : ℕ) (m : Result Statement LineFault) → (fault_in true n m ≡ Some errors.NoMemory → ⊥) × (fault_in false n m ≡ Some errors.NoMemory → ⊥)
+no_want_in : (n : ℕ) (m : Result EventLine LineFault) → (fault_in true n m ≡ Some errors.NoMemory → ⊥) × (fault_in false n m ≡ Some errors.NoMemory → ⊥)
 no_want_in n (Err Bad) = (λ e. cc, λ e. cc)
 no_want_in n (Err Big) = (λ e. cc, λ e. cc)
 no_want_in n (Ok (statements.Start name args)) = (λ e. cc, λ e. cc)

@@ -9,7 +9,7 @@ use Rattle.std.proofs.lemmas.List.Elements.{filter_map-append}
 use Rattle.change_script.specs.declared.report.HistoryLine.{HistoryLine}
 use Rattle.change_script.specs.declared.report_writing.MadeNode.{MadeNode}
 use Rattle.change_script.specs.MadeNodes.{made_of}
-use Rattle.change_script.specs.Reports.{Made, made_by, path_in}
+use Rattle.change_script.specs.Reports.{SlotPath, made_by, path_in}
 use Rattle.base.proofs.PlaceLaws.{slice_get-map_at}
 use Rattle.base.proofs.LinesLaws.{lines_more}
 use Rattle.base.proofs.ContainsLaws.{Contains-at, Contains-filter, Contains-one}
@@ -40,7 +40,7 @@ gives_one f x None is = rw is refl
 gives_one f x (Some y) is = rw is refl
 
 -- the nodes that a history makes, after one line more
-pub made_more : (history : List HistoryLine) (i : ℕ) (line : HistoryLine) (so_far new : List Made) → i < length history → line ≡ get_or history i line
+pub made_more : (history : List HistoryLine) (i : ℕ) (line : HistoryLine) (so_far new : List SlotPath) → i < length history → line ≡ get_or history i line
     → so_far ≡ filter_map made_by (take i history) → new ≡ so_far ++ option_to_list (made_by line) → new ≡ filter_map made_by (take (i + 1) history)
 made_more history i line so_far new low is so_far_is new_is =
     let one : filter_map made_by (get_or history i line ∷ []) ≡ option_to_list (made_by line) = gives_one made_by (get_or history i line) (made_by line) (ap made_by (sym is)) in
@@ -48,9 +48,9 @@ made_more history i line so_far new low is so_far_is new_is =
     ∙ sym (filter_map-append made_by (take i history) (get_or history i line ∷ [])) ∙ ap (filter_map made_by) (sym (take_more history i line low))
 
 -- the path of what stands at the slot's own place
-pub path_found : (made : List MadeNode) (slot : ℕ) (node : MadeNode) → length (filter (λ (m : Made). m.slot == slot) (map made_of made)) ≡ 1 → slice_get made slot ≡ Some node → node.slot ≡ slot
+pub path_found : (made : List MadeNode) (slot : ℕ) (node : MadeNode) → length (filter (λ (m : SlotPath). m.slot == slot) (map made_of made)) ≡ 1 → slice_get made slot ≡ Some node → node.slot ≡ slot
     → node.path.now ≡ path_in (map made_of made) slot
 path_found made slot node one at is =
     let there = slice_get-map_at made_of made slot node at in
-    let found = only_found (λ (m : Made). m.slot == slot) (map made_of made) slot (made_of node) one there (eq-eqb node.slot slot is) in
-    sym (ap (λ o. option_map_or (λ (m : Made). m.path) o []) found)
+    let found = only_found (λ (m : SlotPath). m.slot == slot) (map made_of made) slot (made_of node) one there (eq-eqb node.slot slot is) in
+    sym (ap (λ o. option_map_or (λ (m : SlotPath). m.path) o []) found)

@@ -10,7 +10,7 @@ use Rattle.change_script.specs.declared.error.LineFault.TheVariants.{Bad, Big}
 use Rattle.change_script.specs.Tokens.{word, is_blank, is_sign, is_arrow, begins_blank, begins_word, tokens}
 use Rattle.change_script.specs.ScriptWords.{Words, file, start, run, change, finish, show, stop, is_blankless, without_blanks, name_behind, file_in, words_or_file, words_in_tokens, words_in}
 use Rattle.change_script.specs.ScriptForms.{UsesFile, IsSpelledBy, IsSpelled, are_right, HasForm}
-use Rattle.change_script.specs.ScriptLines.{keep_limits, body_of, meaning_of, meaning, Means, IsTooBig}
+use Rattle.change_script.specs.ScriptLines.{keep_limits, body_of, meaning_of, meaning, LineMeans, IsTooBig}
 use Rattle.change_script.proofs.TokenLemmas.{drop_one_more, word_front}
 use Rattle.change_script.proofs.ScriptWordLemmas.{tested, tokens_found, tokens_read}
 
@@ -161,12 +161,12 @@ judge_with line (Some words) is = judge_words line words is (are_right words) re
 judge : (line : List ℕ) → Judged line
 judge line = judge_with line (words_in line) refl
 
-meant_by : (line : List ℕ) (body : Body) → Judged line → meaning line ≡ Ok body → Means line body
+meant_by : (line : List ℕ) (body : Body) → Judged line → meaning line ≡ Ok body → LineMeans line body
 meant_by line body (right words has keeps is) e = let same : Ok (body_of words) ≡ Ok body = sym is ∙ e in (words, has, keeps, let it : body_of words ≡ body = cc in sym it)
 meant_by line body (big words has fails is) e = let same : Err Big ≡ Ok body = sym is ∙ e in cc
 meant_by line body (none never is) e = let same : Err Bad ≡ Ok body = sym is ∙ e in cc
 
-pub means : (line : List ℕ) (body : Body) → (meaning line ≡ Ok body) ↔ Means line body
+pub means : (line : List ℕ) (body : Body) → (meaning line ≡ Ok body) ↔ LineMeans line body
 means line body = (meant_by line body (judge line), λ m. within_limits line m.0 m.1 m.2 ∙ ap Ok (sym m.3))
 
 big_by : (line : List ℕ) → Judged line → meaning line ≡ Err Big → IsTooBig line

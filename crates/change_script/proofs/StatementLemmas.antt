@@ -16,7 +16,7 @@ use Rattle.change_script.specs.Paths.{is_name, is_path, path_fits}
 use Rattle.change_script.specs.Reports.{args_text, with_system}
 use Rattle.change_script.specs.ScriptWords.{Ends, file, start, run, change, finish, show, stop}
 use Rattle.change_script.specs.ScriptForms.{argument_tokens, move_tokens, moving_tokens, are_paths}
-use Rattle.change_script.specs.ScriptLines.{paths_fit, move_of, meaning, Means}
+use Rattle.change_script.specs.ScriptLines.{paths_fit, move_of, meaning, LineMeans}
 use Rattle.change_script.specs.StatementTexts.{move_text, more_moves_text, moving_text, statement_text, IsInteger, IsWrittenName, IsWrittenMove, CanBeStated}
 use Rattle.change_script.specs.Writing.{IsNumber, with_one, spaced}
 use Rattle.change_script.proofs.TokenLemmas.{at_blank, sign_front, arrow_front}
@@ -182,7 +182,7 @@ moves_value : (moves : List Move) → map move_of (map ends moves) ≡ moves
 moves_value [] = refl
 moves_value (first ∷ more) = ap (λ xs. first ∷ xs) (moves_value more)
 
-start_means : (name : List ℕ) (args : List ℤ) → IsWrittenName name → AllByRecursion IsInteger args → Means (statement_text (bodies.Start name args)) (bodies.Start name args)
+start_means : (name : List ℕ) (args : List ℤ) → IsWrittenName name → AllByRecursion IsInteger args → LineMeans (statement_text (bodies.Start name args)) (bodies.Start name args)
 start_means name args is all =
     let words = map signed_decimal args in
     let text = with_system (codes "start") name args in
@@ -196,7 +196,7 @@ start_means name args is all =
     )
 
 change_means : (name : List ℕ) (args : List ℤ) (within : ℕ) (moves : List Move) → IsWrittenName name → AllByRecursion IsInteger args → IsNumber within → AllByRecursion IsWrittenMove moves
-    → Means (statement_text (bodies.Change name args within moves)) (bodies.Change name args within moves)
+    → LineMeans (statement_text (bodies.Change name args within moves)) (bodies.Change name args within moves)
 change_means name args within moves is all small moved =
     let words = map signed_decimal args in
     let d = decimal_of within small in
@@ -220,7 +220,7 @@ change_means name args within moves is all small moved =
           ∙ ap (bodies.Change name (map integer words) (number (decimal within))) (sym (moves_value moves)),
     )
 
-finish_means : (within : ℕ) → IsNumber within → Means (statement_text (bodies.Finish within)) (bodies.Finish within)
+finish_means : (within : ℕ) → IsNumber within → LineMeans (statement_text (bodies.Finish within)) (bodies.Finish within)
 finish_means within small =
     let d = decimal_of within small in
     let spelled : tokens (codes "finish within" ++ spaced (decimal within ∷ [])) ≡ word (codes "finish") ∷ word (codes "within") ∷ word (decimal within) ∷ [] =
@@ -228,12 +228,12 @@ finish_means within small =
     ∙ ap (λ ts. word (codes "finish") ∷ ts) (at_blank 32 (codes "within" ++ spaced (decimal within ∷ [])) refl ∙ one_tokens (codes "within") within refl small) in
     (finish (decimal within), (spelled, d.is_one), d.fits, ap bodies.Finish (sym d.value))
 
-run_means : (count : ℕ) → IsNumber count → Means (statement_text (bodies.Run count)) (bodies.Run count)
+run_means : (count : ℕ) → IsNumber count → LineMeans (statement_text (bodies.Run count)) (bodies.Run count)
 run_means count small =
     let d = decimal_of count small in
     (run (decimal count), (one_tokens (codes "run") count refl small, d.is_one), d.fits, ap bodies.Run (sym d.value))
 
-stated : (body : Body) → CanBeStated body → Means (statement_text body) body
+stated : (body : Body) → CanBeStated body → LineMeans (statement_text body) body
 stated (bodies.File name) can = (file name, ((32, [], refl, can.1, refl), can.0), refl, refl)
 stated (bodies.Start name args) can = start_means name args can.0 can.1
 stated (bodies.Run count) can = run_means count can

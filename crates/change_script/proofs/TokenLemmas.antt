@@ -4,7 +4,7 @@ use Rattle.std.specs.List.{prefix_len, list_all}
 use Rattle.std.proofs.lemmas.Bool.{cond-true, cond-false, and_parts, cases_Bool}
 use Rattle.std.proofs.lemmas.Bool.Decides.{nat_tests}
 use Rattle.std.proofs.lemmas.Grind.{common_steps}
-use Rattle.change_script.specs.Tokens.{Token, word, opened, closed, comma, arrow, is_blank, begins_blank, is_sign, sign, is_word_byte, is_arrow, begins_word, is_word, word_len, onto_word, tokens, tokens_behind}
+use Rattle.change_script.specs.Tokens.{ScriptToken, word, opened, closed, comma, arrow, is_blank, begins_blank, is_sign, sign, is_word_byte, is_arrow, begins_word, is_word, word_len, onto_word, tokens, tokens_behind}
 
 pub drop_one_more : {A : Type 0} (k : ℕ) (x : A) (xs : List A) → drop (1 + k) (x ∷ xs) ≡ drop k xs
 drop_one_more k x xs = let e : 1 + k ≡ suc k = omega arith in ap (λ n. drop n (x ∷ xs)) e
@@ -79,7 +79,7 @@ word_first (b ∷ bs) holds =
     ]
 
 -- A line whose first byte begins a word has that word first.
-onto_word_is : (b : ℕ) (goes_on : Bool) (ts : List Token) → (bytes : List ℕ) × (more : List Token) × (onto_word b goes_on ts ≡ word bytes ∷ more)
+onto_word_is : (b : ℕ) (goes_on : Bool) (ts : List ScriptToken) → (bytes : List ℕ) × (more : List ScriptToken) × (onto_word b goes_on ts ≡ word bytes ∷ more)
 onto_word_is b true (word bytes ∷ ts) = (b ∷ bytes, ts, refl)
 onto_word_is b true [] = (b ∷ [], [], refl)
 onto_word_is b true (opened ∷ ts) = (b ∷ [], opened ∷ ts, refl)
@@ -88,7 +88,7 @@ onto_word_is b true (comma ∷ ts) = (b ∷ [], comma ∷ ts, refl)
 onto_word_is b true (arrow ∷ ts) = (b ∷ [], arrow ∷ ts, refl)
 onto_word_is b false ts = (b ∷ [], ts, refl)
 
-abbrev token_code : Token → ℕ
+abbrev token_code : ScriptToken → ℕ
 token_code (word bytes) = 0
 token_code opened = 40
 token_code closed = 41
@@ -109,7 +109,7 @@ pub data First : List ℕ → Type 0 where
   at_end : First []
   a_sign : (b : ℕ) (bs : List ℕ) → is_sign b ≡ true → tokens (b ∷ bs) ≡ sign b ∷ tokens bs → First (b ∷ bs)
   an_arrow : (b : ℕ) (bs : List ℕ) → is_arrow b bs ≡ true → tokens (b ∷ bs) ≡ arrow ∷ tokens_behind true bs → First (b ∷ bs)
-  a_word : (b : ℕ) (bs bytes : List ℕ) (more : List Token) → Apart b bs → tokens (b ∷ bs) ≡ word bytes ∷ more → First (b ∷ bs)
+  a_word : (b : ℕ) (bs bytes : List ℕ) (more : List ScriptToken) → Apart b bs → tokens (b ∷ bs) ≡ word bytes ∷ more → First (b ∷ bs)
 
 pub first_of_line : (line : List ℕ) → begins_blank line ≡ false → First line
 first_of_line [] fails = at_end
@@ -128,7 +128,7 @@ first_of_line (b ∷ bs) fails =
 pub sign_first : (b : ℕ) (bs : List ℕ) → is_blank b ≡ false → is_sign b ≡ true → tokens (b ∷ bs) ≡ sign b ∷ tokens bs
 sign_first b bs fails holds = at_sign b bs fails holds
 
-no_sign_at : (line : List ℕ) (byte : ℕ) (more : List Token) → First line → is_sign byte ≡ true → ((bytes : List ℕ) → line ≡ byte ∷ bytes → ⊥) → tokens line ≡ sign byte ∷ more → ⊥
+no_sign_at : (line : List ℕ) (byte : ℕ) (more : List ScriptToken) → First line → is_sign byte ≡ true → ((bytes : List ℕ) → line ≡ byte ∷ bytes → ⊥) → tokens line ≡ sign byte ∷ more → ⊥
 no_sign_at line byte more at_end is other e = cc
 no_sign_at line byte more (a_sign b bs holds here) is other e =
     let both : sign b ∷ tokens bs ≡ sign byte ∷ more = sym here ∙ e in
@@ -142,11 +142,11 @@ no_sign_at line byte more (a_word b bs bytes rest a here) is other e =
     sign_no_word byte bytes is cc
 
 -- No other sign is at the front of a line than its first byte.
-pub no_sign_first : (line : List ℕ) (byte : ℕ) (more : List Token) → begins_blank line ≡ false → is_sign byte ≡ true → ((bytes : List ℕ) → line ≡ byte ∷ bytes → ⊥)
+pub no_sign_first : (line : List ℕ) (byte : ℕ) (more : List ScriptToken) → begins_blank line ≡ false → is_sign byte ≡ true → ((bytes : List ℕ) → line ≡ byte ∷ bytes → ⊥)
     → tokens line ≡ sign byte ∷ more → ⊥
 no_sign_first line byte more fails is other e = no_sign_at line byte more (first_of_line line fails) is other e
 
-no_word_at : (line : List ℕ) (bytes : List ℕ) (more : List Token) → First line → word_len line ≡ 0 → tokens line ≡ word bytes ∷ more → ⊥
+no_word_at : (line : List ℕ) (bytes : List ℕ) (more : List ScriptToken) → First line → word_len line ≡ 0 → tokens line ≡ word bytes ∷ more → ⊥
 no_word_at line bytes more at_end none e = cc
 no_word_at line bytes more (a_sign b bs holds here) none e =
     let both : sign b ∷ tokens bs ≡ word bytes ∷ more = sym here ∙ e in
@@ -155,7 +155,7 @@ no_word_at line bytes more (an_arrow b bs holds here) none e = let both : arrow 
 no_word_at line bytes more (a_word b bs found rest a here) none e = let some : suc (word_len bs) ≡ 0 = sym (one_more_len b bs (no_word b bs a)) ∙ none in absurd (omega arith)
 
 -- No word is at the front of a line that doesn't begin with one.
-pub no_word_first : (line : List ℕ) (bytes : List ℕ) (more : List Token) → begins_blank line ≡ false → word_len line ≡ 0 → tokens line ≡ word bytes ∷ more → ⊥
+pub no_word_first : (line : List ℕ) (bytes : List ℕ) (more : List ScriptToken) → begins_blank line ≡ false → word_len line ≡ 0 → tokens line ≡ word bytes ∷ more → ⊥
 no_word_first line bytes more fails none e = no_word_at line bytes more (first_of_line line fails) none e
 
 something_at : (line : List ℕ) → First line → (line ≡ [] → ⊥) → tokens line ≡ [] → ⊥

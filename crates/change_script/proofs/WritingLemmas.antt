@@ -15,8 +15,8 @@ use Rattle.config_graph.specs.declared.node.Node.{Node}
 use Rattle.config_graph.proofs.KindLaws.{kind_named-name}
 use Rattle.quiesce_core.specs.declared.event.Event.{Event}
 use Rattle.quiesce_core.specs.declared.event.Event.TheVariants as events
-use Rattle.change_script.specs.declared.event_lines.Statement.TheVariants as statements
-use Rattle.change_script.specs.Tokens.{Token, word, opened, closed, tokens, is_word, is_word_byte, begins_word}
+use Rattle.change_script.specs.declared.event_lines.EventLine.TheVariants as statements
+use Rattle.change_script.specs.Tokens.{ScriptToken, word, opened, closed, tokens, is_word, is_word_byte, begins_word}
 use Rattle.change_script.specs.Numbers.{is_number, number, number_fits, number_in}
 use Rattle.change_script.specs.Paths.{is_path, path_fits, path_in}
 use Rattle.change_script.specs.EventLines.{MakeWords, meaning, three_numbers, make_of_words, make_of_kind, make_words, optional_number, event_line, owner_event, target_event, single_event, link_event}
@@ -110,7 +110,7 @@ kind_is_word Asker = refl
 kind_is_word Adder = refl
 
 -- a kind's parentheses, and what stands behind
-abbrev parentheses : Option ℕ → List Token → List Token
+abbrev parentheses : Option ℕ → List ScriptToken → List ScriptToken
 parentheses None rest = opened ∷ closed ∷ rest
 parentheses (Some arg) rest = opened ∷ word (decimal arg) ∷ closed ∷ rest
 
@@ -135,7 +135,7 @@ kind_tokens kind arg words small =
     ∙ front_word name (40 ∷ (option_map_or decimal arg [] ++ (41 ∷ rest))) (kind_is_word kind) refl ∙ ap (λ ts. word name ∷ ts) (inner_tokens arg rest small)
 
 -- the tokens of `from SLOT`, or none
-abbrev source_tokens : Option ℕ → List Token
+abbrev source_tokens : Option ℕ → List ScriptToken
 source_tokens None = []
 source_tokens (Some slot) = word (codes "from") ∷ word (decimal slot) ∷ []
 

@@ -4,8 +4,8 @@ use Rattle.quiesce_core.specs.declared.event.Event.{Event}
 use Rattle.change_script.specs.declared.event_files.EventFile.{EventFile}
 use Rattle.change_script.specs.declared.error.LineFault.{LineFault}
 use Rattle.change_script.specs.declared.error.LineFault.TheVariants.{Bad, Big}
-use Rattle.change_script.specs.declared.event_lines.Statement.{Statement}
-use Rattle.change_script.specs.declared.event_lines.Statement.TheVariants as statements
+use Rattle.change_script.specs.declared.event_lines.EventLine.{EventLine}
+use Rattle.change_script.specs.declared.event_lines.EventLine.TheVariants as statements
 use Rattle.change_script.specs.declared.error.ScriptError.{ScriptError}
 use Rattle.change_script.specs.declared.error.ScriptError.TheVariants as errors
 use Rattle.change_script.specs.Lines.{Line, statements as lines_of}
@@ -13,13 +13,13 @@ use Rattle.change_script.specs.Tokens.{tokens}
 use Rattle.change_script.specs.EventLines.{meaning}
 
 -- what a line means
-abbrev pub meaning_of_line : Line → Result Statement LineFault
+abbrev pub meaning_of_line : Line → Result EventLine LineFault
 meaning_of_line line = meaning (tokens line.bytes)
 
-abbrev pub of_event : Event → Result Statement LineFault
+abbrev pub of_event : Event → Result EventLine LineFault
 of_event event = Ok (statements.Event event)
 
-abbrev pub of_start : EventFile → Result Statement LineFault
+abbrev pub of_start : EventFile → Result EventLine LineFault
 of_start file = Ok (statements.Start file.name file.args)
 
 -- The lines of the text that say something are a start and then events, those of the file in order.
@@ -27,7 +27,7 @@ abbrev pub IsEventFile : List ℕ → EventFile → Type 0
 IsEventFile text file = map meaning_of_line (lines_of text) ≡ of_start file ∷ map of_event file.events
 
 -- what is wrong with a line of this number and meaning, by whether it is the first
-abbrev pub fault_in : Bool → ℕ → Result Statement LineFault → Option ScriptError
+abbrev pub fault_in : Bool → ℕ → Result EventLine LineFault → Option ScriptError
 fault_in first number (Err Bad) = Some (errors.BadLine number)
 fault_in first number (Err Big) = Some (errors.NumberTooBig number)
 fault_in true number (Ok (statements.Event event)) = Some (errors.Order number)

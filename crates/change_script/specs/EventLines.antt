@@ -15,11 +15,11 @@ use Rattle.change_script.specs.declared.verbs.EventVerb.{EventVerb}
 use Rattle.change_script.specs.declared.verbs.EventVerb.TheVariants as verbs
 use Rattle.change_script.specs.declared.error.LineFault.{LineFault}
 use Rattle.change_script.specs.declared.error.LineFault.TheVariants.{Bad, Big}
-use Rattle.change_script.specs.declared.event_lines.Statement.{Statement}
-use Rattle.change_script.specs.declared.event_lines.Statement.TheVariants as statements
+use Rattle.change_script.specs.declared.event_lines.EventLine.{EventLine}
+use Rattle.change_script.specs.declared.event_lines.EventLine.TheVariants as statements
 use Rattle.change_script.specs.declared.event_lines.Triple.{Triple}
 use Rattle.change_script.specs.declared.event_lines.MakeLine.{MakeLine}
-use Rattle.change_script.specs.Tokens.{Token, word, opened, closed}
+use Rattle.change_script.specs.Tokens.{ScriptToken, word, opened, closed}
 use Rattle.change_script.specs.Arguments.{arguments, at_end, integers}
 use Rattle.change_script.specs.Faults.{both, with_value}
 use Rattle.change_script.specs.Numbers.{number_in, is_integer}
@@ -70,7 +70,7 @@ abbrev pub event_verb_named : List ℕ → Option EventVerb
 event_verb_named name = find (λ verb. bytes_eq (event_verb_bytes verb) name) event_verbs
 
 -- NUM
-abbrev pub single_in : List Token → Result ℕ LineFault
+abbrev pub single_in : List ScriptToken → Result ℕ LineFault
 single_in (word first ∷ []) = number_in first
 single_in _ = Err Bad
 
@@ -81,7 +81,7 @@ three_numbers first second third =
     (both (number_in first) (both (number_in second) (number_in third)))
 
 -- NUM NUM NUM
-abbrev pub triple_in : List Token → Result Triple LineFault
+abbrev pub triple_in : List ScriptToken → Result Triple LineFault
 triple_in (word first ∷ word second ∷ word third ∷ []) = three_numbers first second third
 triple_in _ = Err Bad
 
@@ -124,23 +124,23 @@ words_of line =
     record { slot = line.slot.now; path = line.path.now; kind = line.kind.now; arg = option_copied line.arg; from = option_copied line.from }
 
 -- `from` SLOT, or nothing
-abbrev pub source : List Token → Option (Option (List ℕ))
+abbrev pub source : List ScriptToken → Option (Option (List ℕ))
 source [] = Some None
 source (word preposition ∷ word slot ∷ []) = if bytes_eq preposition (codes "from") then Some (Some slot) else None
 source _ = None
 
-abbrev pub make_from : List ℕ → List ℕ → List ℕ → Option (List ℕ) → List Token → Option MakeWords
+abbrev pub make_from : List ℕ → List ℕ → List ℕ → Option (List ℕ) → List ScriptToken → Option MakeWords
 make_from slot path kind arg tokens =
     option_map (λ from. record { slot = slot; path = path; kind = kind; arg = arg; from = from }) (source tokens)
 
 -- KIND's parentheses, empty or round NUM, and then `from` SLOT or nothing
-abbrev pub after_kind : List ℕ → List ℕ → List ℕ → List Token → Option MakeWords
+abbrev pub after_kind : List ℕ → List ℕ → List ℕ → List ScriptToken → Option MakeWords
 after_kind slot path kind (opened ∷ closed ∷ rest) = make_from slot path kind None rest
 after_kind slot path kind (opened ∷ word arg ∷ closed ∷ rest) = make_from slot path kind (Some arg) rest
 after_kind slot path kind _ = None
 
 -- SLOT PATH KIND() or SLOT PATH KIND(NUM), and then `from` SLOT or nothing
-abbrev pub make_words : List Token → Option MakeWords
+abbrev pub make_words : List ScriptToken → Option MakeWords
 make_words (word slot ∷ word path ∷ word kind ∷ rest) = after_kind slot path kind rest
 make_words _ = None
 
@@ -160,28 +160,28 @@ abbrev pub make_of_words : Option MakeWords → Result Event LineFault
 make_of_words None = Err Bad
 make_of_words (Some words) = make_of_kind words (kind_named words.kind)
 
-abbrev pub make : List Token → Result Event LineFault
+abbrev pub make : List ScriptToken → Result Event LineFault
 make tokens = make_of_words (make_words tokens)
 
-abbrev pub start_with : List ℕ → Option (List ℤ) → Result Statement LineFault
+abbrev pub start_with : List ℕ → Option (List ℤ) → Result EventLine LineFault
 start_with name None = Err Big
 start_with name (Some args) = Ok (statements.Start name args)
 
-abbrev pub start_of_words : List ℕ → Option (List (List ℕ)) → Result Statement LineFault
+abbrev pub start_of_words : List ℕ → Option (List (List ℕ)) → Result EventLine LineFault
 start_of_words name None = Err Bad
 start_of_words name (Some words) = if is_name name && list_all is_integer words then start_with name (integers words) else Err Bad
 
 -- C(ARGS)
-abbrev pub start : List Token → Result Statement LineFault
+abbrev pub start : List ScriptToken → Result EventLine LineFault
 start (word name ∷ opened ∷ rest) = start_of_words name (at_end (arguments rest))
 start _ = Err Bad
 
 -- a line that is an event where it has one
-abbrev pub event_line : {A : Type 0} → (A → Event) → Result A LineFault → Result Statement LineFault
+abbrev pub event_line : {A : Type 0} → (A → Event) → Result A LineFault → Result EventLine LineFault
 event_line event read = with_value (λ value. statements.Event (event value)) read
 
 -- what stands behind a verb
-abbrev pub meaning_of : EventVerb → List Token → Result Statement LineFault
+abbrev pub meaning_of : EventVerb → List ScriptToken → Result EventLine LineFault
 meaning_of verbs.Start rest = start rest
 meaning_of (verbs.Owner step) rest = event_line (owner_event step) (triple_in rest)
 meaning_of (verbs.Target step) rest = event_line (target_event step) (triple_in rest)
@@ -189,11 +189,11 @@ meaning_of (verbs.Single kind) rest = event_line (single_event kind) (single_in 
 meaning_of verbs.Link rest = event_line link_event (triple_in rest)
 meaning_of verbs.Make rest = event_line (λ event. event) (make rest)
 
-abbrev pub meaning_of_named : Option EventVerb → List Token → Result Statement LineFault
+abbrev pub meaning_of_named : Option EventVerb → List ScriptToken → Result EventLine LineFault
 meaning_of_named None rest = Err Bad
 meaning_of_named (Some verb) rest = meaning_of verb rest
 
 -- a start, an event, or what is wrong; a line of a form, whose words are what the form asks for, has no number above its limit
-abbrev pub meaning : List Token → Result Statement LineFault
+abbrev pub meaning : List ScriptToken → Result EventLine LineFault
 meaning (word name ∷ rest) = meaning_of_named (event_verb_named name) rest
 meaning _ = Err Bad

@@ -2,8 +2,8 @@
 use Rattle.std.specs.Prelude.{ℕ, List, [], ◌∷◌, ◌++◌, Result, Ok, Err}
 use Rattle.quiesce_core.specs.declared.event.Event.{Event}
 use Rattle.change_script.specs.declared.error.LineFault.{LineFault}
-use Rattle.change_script.specs.declared.event_lines.Statement.{Statement}
-use Rattle.change_script.specs.declared.event_lines.Statement.TheVariants as statements
+use Rattle.change_script.specs.declared.event_lines.EventLine.{EventLine}
+use Rattle.change_script.specs.declared.event_lines.EventLine.TheVariants as statements
 use Rattle.change_script.specs.declared.error.ScriptError.{ScriptError}
 use Rattle.change_script.specs.declared.error.ScriptError.TheVariants as errors
 use Rattle.change_script.specs.Faults.{fault_with}
@@ -11,7 +11,7 @@ use Rattle.change_script.specs.Lines.{Line}
 use Rattle.change_script.specs.EventFiles.{meaning_of_line}
 
 -- the event of a line behind the first
-abbrev pub event_at : ℕ → Result Statement LineFault → Result Event ScriptError
+abbrev pub event_at : ℕ → Result EventLine LineFault → Result Event ScriptError
 event_at number (Err fault) = Err (fault_with number fault)
 event_at number (Ok (statements.Start name args)) = Err (errors.Order number)
 event_at number (Ok (statements.Event event)) = Ok event

@@ -56,28 +56,28 @@ history_text (history.Show graph) = ended (codes "show") ++ graph_text graph
 history_text history.Stop = ended (codes "stop")
 
 -- a slot and the path of the node that was made in it
-pub record Made : Type 0 where
+pub record SlotPath : Type 0 where
   pub slot : ℕ
   pub path : List ℕ
 
-abbrev pub made_by : HistoryLine → Option Made
+abbrev pub made_by : HistoryLine → Option SlotPath
 made_by (history.Make slot node from) = Some (record { slot = slot; path = node.path })
 made_by _ = None
 
 -- the nodes that a history makes, in order
-abbrev pub makes : List HistoryLine → List Made
+abbrev pub makes : List HistoryLine → List SlotPath
 makes lines = filter_map made_by lines
 
 -- the path of the `make` line of a slot, which is nothing where there is no such line
-abbrev pub path_in : List Made → ℕ → List ℕ
-path_in made slot = option_map_or (λ (m : Made). m.path) (find (λ (m : Made). m.slot == slot) made) []
+abbrev pub path_in : List SlotPath → ℕ → List ℕ
+path_in made slot = option_map_or (λ (m : SlotPath). m.path) (find (λ (m : SlotPath). m.slot == slot) made) []
 
 abbrev pub path_at : List HistoryLine → ℕ → List ℕ
 path_at lines slot = path_in (makes lines) slot
 
 -- The history has exactly one `make` line of the slot.
 abbrev pub HasOneMake : List HistoryLine → ℕ → Type 0
-HasOneMake lines slot = length (filter (λ (m : Made). m.slot == slot) (makes lines)) ≡ 1
+HasOneMake lines slot = length (filter (λ (m : SlotPath). m.slot == slot) (makes lines)) ≡ 1
 
 -- A log of each slot is of a node that was made once.
 abbrev pub LogsAreMade : Report → Type 0
@@ -102,7 +102,7 @@ abbrev pub last_text : Last → List ℕ
 last_text (lasts.State numbers) = ended (codes "state" ++ flat_map (λ number. codes " " ++ decimal number) numbers)
 last_text (lasts.Moved slot) = ended (with_one (codes "moved") slot)
 
-abbrev pub log_text : Version → List Made → NodeLog → List ℕ
+abbrev pub log_text : Version → List SlotPath → NodeLog → List ℕ
 log_text version made log =
     ended (log_head version (path_in made log.slot) log.slot) ++ flat_map event_text log.events ++ last_text log.last
 

@@ -2,28 +2,28 @@
 use Rattle.std.specs.Prelude.{◌≡◌, ◌⊎◌, ℕ, Bool, true, ◌&&◌, List, [], ◌∷◌, ◌++◌, codes}
 use Rattle.std.specs.List.{list_all}
 use Rattle.std.specs.Str.{is_utf8}
-use Rattle.change_script.specs.Tokens.{Token, word, opened, closed, comma, arrow, is_blank, tokens}
+use Rattle.change_script.specs.Tokens.{ScriptToken, word, opened, closed, comma, arrow, is_blank, tokens}
 use Rattle.change_script.specs.Numbers.{is_integer, is_number}
 use Rattle.change_script.specs.Paths.{is_name, is_path}
 use Rattle.change_script.specs.ScriptWords.{Ends, Words, file, start, run, change, finish, show, stop, is_blankless}
 
 -- INT {, INT} and the closing parenthesis, which may stand alone
-abbrev pub argument_tokens : List (List ℕ) → List Token
+abbrev pub argument_tokens : List (List ℕ) → List ScriptToken
 argument_tokens [] = closed ∷ []
 argument_tokens (last ∷ []) = word last ∷ closed ∷ []
 argument_tokens (first ∷ next ∷ more) = word first ∷ comma ∷ argument_tokens (next ∷ more)
 
 -- nothing, or the arguments in parentheses
-abbrev pub AreArguments : List (List ℕ) → List Token → Type 0
+abbrev pub AreArguments : List (List ℕ) → List ScriptToken → Type 0
 AreArguments args ts = ((args ≡ []) × (ts ≡ [])) ⊎ (ts ≡ opened ∷ argument_tokens args)
 
 -- PATH -> PATH {, PATH -> PATH}
-abbrev pub move_tokens : Ends → List Ends → List Token
+abbrev pub move_tokens : Ends → List Ends → List ScriptToken
 move_tokens first [] = word first.from ∷ arrow ∷ word first.to ∷ []
 move_tokens first (next ∷ more) = word first.from ∷ arrow ∷ word first.to ∷ comma ∷ move_tokens next more
 
 -- nothing, or `moving` and one move or more
-abbrev pub moving_tokens : List Ends → List Token
+abbrev pub moving_tokens : List Ends → List ScriptToken
 moving_tokens [] = []
 moving_tokens (first ∷ more) = word (codes "moving") ∷ move_tokens first more
 
@@ -33,12 +33,12 @@ UsesFile line name =
     (blank : ℕ) × (blanks : List ℕ) × (list_all is_blank (blank ∷ blanks) ≡ true) × (is_blankless name ≡ true) × (line ≡ codes "use" ++ ((blank ∷ blanks) ++ name))
 
 -- the tokens of a line with these words, but for `use`
-abbrev pub IsSpelledBy : List Token → Words → Type 0
+abbrev pub IsSpelledBy : List ScriptToken → Words → Type 0
 IsSpelledBy ts (file name) = ⊥
-IsSpelledBy ts (start name args) = (given : List Token) × AreArguments args given × (ts ≡ word (codes "start") ∷ word name ∷ given)
+IsSpelledBy ts (start name args) = (given : List ScriptToken) × AreArguments args given × (ts ≡ word (codes "start") ∷ word name ∷ given)
 IsSpelledBy ts (run count) = ts ≡ word (codes "run") ∷ word count ∷ []
 IsSpelledBy ts (change name args within moves) =
-    (given : List Token) × AreArguments args given
+    (given : List ScriptToken) × AreArguments args given
     × (ts ≡ word (codes "change") ∷ word (codes "to") ∷ word name ∷ (given ++ (word (codes "within") ∷ word within ∷ moving_tokens moves)))
 IsSpelledBy ts (finish within) = ts ≡ word (codes "finish") ∷ word (codes "within") ∷ word within ∷ []
 IsSpelledBy ts show = ts ≡ word (codes "show") ∷ []

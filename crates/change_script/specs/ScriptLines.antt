@@ -44,8 +44,8 @@ abbrev pub meaning : List ℕ → Result Body LineFault
 meaning line = meaning_of (words_in line)
 
 -- The same by the forms: the line has a form, the numbers in it keep their limits, and the statement is that of the form; or some number doesn't.
-abbrev pub Means : List ℕ → Body → Type 0
-Means line body = (words : Words) × HasForm line words × (keep_limits words ≡ true) × (body ≡ body_of words)
+abbrev pub LineMeans : List ℕ → Body → Type 0
+LineMeans line body = (words : Words) × HasForm line words × (keep_limits words ≡ true) × (body ≡ body_of words)
 
 abbrev pub IsTooBig : List ℕ → Type 0
 IsTooBig line = (words : Words) × HasForm line words × (keep_limits words ≡ false)

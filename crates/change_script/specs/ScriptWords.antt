@@ -6,7 +6,7 @@ use Rattle.change_script.specs.declared.script_words.ScriptVerb.TheVariants as v
 use Rattle.change_script.specs.declared.script_words.MoveWords.{MoveWords}
 use Rattle.change_script.specs.declared.script_words.StatementWords.{StatementWords}
 use Rattle.change_script.specs.declared.script_words.StatementWords.TheVariants as code
-use Rattle.change_script.specs.Tokens.{Token, word, opened, comma, arrow, begins_blank, is_blank, tokens}
+use Rattle.change_script.specs.Tokens.{ScriptToken, word, opened, comma, arrow, begins_blank, is_blank, tokens}
 use Rattle.change_script.specs.Arguments.{arguments, at_end}
 
 -- PATH -> PATH
@@ -53,28 +53,28 @@ abbrev pub script_verb_named : List ℕ → Option ScriptVerb
 script_verb_named name = find (λ verb. bytes_eq (script_verb_bytes verb) name) script_verbs
 
 -- no parentheses, or the arguments in them, and what stands behind
-abbrev pub optional_arguments : List Token → Option (List (List ℕ) × List Token)
+abbrev pub optional_arguments : List ScriptToken → Option (List (List ℕ) × List ScriptToken)
 optional_arguments (opened ∷ rest) = arguments rest
 optional_arguments tokens = Some ([], tokens)
 
 -- the word behind `within`, and what stands behind it
-abbrev pub within_at : List Token → Option (List ℕ × List Token)
+abbrev pub within_at : List ScriptToken → Option (List ℕ × List ScriptToken)
 within_at (word preposition ∷ word count ∷ rest) = if bytes_eq preposition (codes "within") then Some (count, rest) else None
 within_at _ = None
 
 -- PATH -> PATH {, PATH -> PATH}
-abbrev pub more_moves : List Token → Option (List Ends)
+abbrev pub more_moves : List ScriptToken → Option (List Ends)
 more_moves (word from ∷ arrow ∷ word to ∷ []) = Some (record { from = from; to = to } ∷ [])
 more_moves (word from ∷ arrow ∷ word to ∷ comma ∷ rest) = option_map (λ moves. record { from = from; to = to } ∷ moves) (more_moves rest)
 more_moves _ = None
 
 -- PATH -> PATH, and what stands behind
-abbrev pub first_move : List Token → Option (Ends × List Token)
+abbrev pub first_move : List ScriptToken → Option (Ends × List ScriptToken)
 first_move (word from ∷ arrow ∷ word to ∷ rest) = Some (record { from = from; to = to }, rest)
 first_move _ = None
 
 -- nothing, or `moving` and moves
-abbrev pub moves_in : List Token → Option (List Ends)
+abbrev pub moves_in : List ScriptToken → Option (List Ends)
 moves_in [] = Some []
 moves_in (word adverb ∷ rest) = if bytes_eq adverb (codes "moving") then more_moves rest else None
 moves_in _ = None
@@ -83,46 +83,46 @@ abbrev pub start_with : List ℕ → Option (List (List ℕ)) → Option Words
 start_with name args = option_map (λ words. start name words) args
 
 -- C [args]
-abbrev pub start_words : List Token → Option Words
+abbrev pub start_words : List ScriptToken → Option Words
 start_words (word name ∷ rest) = start_with name (at_end (optional_arguments rest))
 start_words _ = None
 
 -- NUM
-abbrev pub one_word : List Token → Option (List ℕ)
+abbrev pub one_word : List ScriptToken → Option (List ℕ)
 one_word (word count ∷ []) = Some count
 one_word _ = None
 
 -- the word behind `within` and the moves behind it
-abbrev pub within_and_moves : Option (List ℕ × List Token) → Option (List ℕ × List Ends)
+abbrev pub within_and_moves : Option (List ℕ × List ScriptToken) → Option (List ℕ × List Ends)
 within_and_moves None = None
 within_and_moves (Some (count, rest)) = option_map (λ moves. (count, moves)) (moves_in rest)
 
-abbrev pub change_within : List ℕ → List (List ℕ) → Option (List ℕ × List Token) → Option Words
+abbrev pub change_within : List ℕ → List (List ℕ) → Option (List ℕ × List ScriptToken) → Option Words
 change_within name args within = option_map (λ found. change name args found.0 found.1) (within_and_moves within)
 
-abbrev pub change_with : List ℕ → Option (List (List ℕ) × List Token) → Option Words
+abbrev pub change_with : List ℕ → Option (List (List ℕ) × List ScriptToken) → Option Words
 change_with name None = None
 change_with name (Some (args, rest)) = change_within name args (within_at rest)
 
 -- `to` C, and what stands behind
-abbrev pub change_head : List Token → Option (List ℕ × List Token)
+abbrev pub change_head : List ScriptToken → Option (List ℕ × List ScriptToken)
 change_head (word preposition ∷ word name ∷ rest) = if bytes_eq preposition (codes "to") then Some (name, rest) else None
 change_head _ = None
 
-abbrev pub change_of : Option (List ℕ × List Token) → Option Words
+abbrev pub change_of : Option (List ℕ × List ScriptToken) → Option Words
 change_of None = None
 change_of (Some (name, rest)) = change_with name (optional_arguments rest)
 
 -- `to` C [args] `within` NUM [`moving` moves]
-abbrev pub change_words : List Token → Option Words
+abbrev pub change_words : List ScriptToken → Option Words
 change_words tokens = change_of (change_head tokens)
 
-abbrev pub where_empty : Words → List Token → Option Words
+abbrev pub where_empty : Words → List ScriptToken → Option Words
 where_empty words [] = Some words
 where_empty words (token ∷ rest) = None
 
 -- what stands behind a verb
-abbrev pub words_behind : ScriptVerb → List Token → Option Words
+abbrev pub words_behind : ScriptVerb → List ScriptToken → Option Words
 words_behind verbs.Start tokens = start_words tokens
 words_behind verbs.Run tokens = option_map (λ count. run count) (one_word tokens)
 words_behind verbs.Change tokens = change_words tokens
@@ -130,11 +130,11 @@ words_behind verbs.Finish tokens = option_map (λ count. finish count) (at_end (
 words_behind verbs.Show tokens = where_empty show tokens
 words_behind verbs.Stop tokens = where_empty stop tokens
 
-abbrev pub words_behind_named : Option ScriptVerb → List Token → Option Words
+abbrev pub words_behind_named : Option ScriptVerb → List ScriptToken → Option Words
 words_behind_named None tokens = None
 words_behind_named (Some verb) tokens = words_behind verb tokens
 
-abbrev pub words_in_tokens : List Token → Option Words
+abbrev pub words_in_tokens : List ScriptToken → Option Words
 words_in_tokens (word name ∷ rest) = words_behind_named (script_verb_named name) rest
 words_in_tokens _ = None
 
@@ -154,7 +154,7 @@ name_behind text = if begins_blank text && is_blankless (without_blanks text) th
 abbrev pub file_in : List ℕ → Option (List ℕ)
 file_in line = if starts_with nat_eq line (codes "use") then name_behind (drop 3 line) else None
 
-abbrev pub words_or_file : Option (List ℕ) → List Token → Option Words
+abbrev pub words_or_file : Option (List ℕ) → List ScriptToken → Option Words
 words_or_file None tokens = words_in_tokens tokens
 words_or_file (Some name) tokens = Some (file name)
 

@@ -2,12 +2,12 @@
 use Rattle.std.specs.Prelude.{ℕ, suc, Bool, true, false, not, ◌==◌, ◌||◌, ◌&&◌, if◌then◌else◌, List, [], ◌∷◌}
 
 -- A word, or one of the signs `(`, `)`, `,` and `->`.
-pub data Token : Type 0 where
-  word : (bytes : List ℕ) → Token
-  opened : Token
-  closed : Token
-  comma : Token
-  arrow : Token
+pub data ScriptToken : Type 0 where
+  word : (bytes : List ℕ) → ScriptToken
+  opened : ScriptToken
+  closed : ScriptToken
+  comma : ScriptToken
+  arrow : ScriptToken
 
 -- space and tab, which part words
 abbrev pub is_blank : ℕ → Bool
@@ -18,7 +18,7 @@ abbrev pub is_sign : ℕ → Bool
 is_sign byte = (byte == 40) || (byte == 41) || (byte == 44)
 
 -- the token of such a byte
-abbrev pub sign : ℕ → Token
+abbrev pub sign : ℕ → ScriptToken
 sign byte = if byte == 40 then opened else (if byte == 41 then closed else comma)
 
 abbrev pub begins_blank : List ℕ → Bool
@@ -53,12 +53,12 @@ is_word [] = true
 is_word (byte ∷ bytes) = begins_word (byte ∷ bytes) && is_word bytes
 
 -- the tokens with this byte before them: it is the first of their first word where the word goes on with it, and else a word by itself
-abbrev pub onto_word : ℕ → Bool → List Token → List Token
+abbrev pub onto_word : ℕ → Bool → List ScriptToken → List ScriptToken
 onto_word byte true (word bytes ∷ tokens) = word (byte ∷ bytes) ∷ tokens
 onto_word byte goes_on tokens = word (byte ∷ []) ∷ tokens
 
 -- The same of a text whose first byte is passed over where it is the second of an arrow.
-abbrev pub tokens_behind : Bool → List ℕ → List Token
+abbrev pub tokens_behind : Bool → List ℕ → List ScriptToken
 tokens_behind passes [] = []
 tokens_behind true (byte ∷ bytes) = tokens_behind false bytes
 tokens_behind false (byte ∷ bytes) =
@@ -68,5 +68,5 @@ tokens_behind false (byte ∷ bytes) =
     else onto_word byte (begins_word bytes) (tokens_behind false bytes)))
 
 -- Words are parted by blanks and signs, and a word has all the bytes between.
-abbrev pub tokens : List ℕ → List Token
+abbrev pub tokens : List ℕ → List ScriptToken
 tokens line = tokens_behind false line

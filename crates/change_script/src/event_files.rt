@@ -8,7 +8,7 @@ ghost use Rattle.change_script.specs.Tokens.{tokens};
 ghost use Rattle.change_script.specs.EventLines as of_lines;
 
 use crate::error::ScriptError;
-use crate::event_lines::{Statement, meaning};
+use crate::event_lines::{EventLine, meaning};
 use crate::lines::next_statement;
 use config_graph::{List, Text};
 use darwin_lexer::MAX_TEXT;
@@ -46,12 +46,12 @@ pub fn parse_events(alloc: Global, text: &[u8]) -> Result<EventFile, ScriptError
 
 /// The component and the arguments of the first line.
 fn start_of(alloc: Global, line: &[u8], number: u32) -> Result<(Text, List<i32>), ScriptError>
-    ensures read { IfOk result (λ start. of_lines.meaning (tokens line.now) ≡ Ok (Statement.Start start.0 start.1)) }
+    ensures read { IfOk result (λ start. of_lines.meaning (tokens line.now) ≡ Ok (EventLine.Start start.0 start.1)) }
     ensures fault { IfErr result (λ fault. fault ≢ ScriptError.NoMemory → fault_in true number (of_lines.meaning (tokens line.now)) ≡ Some fault) }
 {
     match meaning(alloc, line) {
-        Ok(Statement::Start { name, args }) => Ok((name, args)),
-        Ok(Statement::Event(_)) => Err(ScriptError::Order(number)),
+        Ok(EventLine::Start { name, args }) => Ok((name, args)),
+        Ok(EventLine::Event(_)) => Err(ScriptError::Order(number)),
         Err(error) => Err(error.at(number)),
     }
 }
@@ -82,8 +82,8 @@ fn event_of(alloc: Global, line: &[u8], number: u32) -> Result<Event, ScriptErro
     ensures fault { IfErr result (λ fault. fault ≢ ScriptError.NoMemory → event_at number (of_lines.meaning (tokens line.now)) ≡ Err fault) }
 {
     match meaning(alloc, line) {
-        Ok(Statement::Event(event)) => Ok(event),
-        Ok(Statement::Start { .. }) => Err(ScriptError::Order(number)),
+        Ok(EventLine::Event(event)) => Ok(event),
+        Ok(EventLine::Start { .. }) => Err(ScriptError::Order(number)),
         Err(error) => Err(error.at(number)),
     }
 }

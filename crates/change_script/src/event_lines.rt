@@ -18,7 +18,7 @@ use std::alloc::Global;
 
 /// What a line says.
 #[derive(Debug, Drop)]
-pub enum Statement {
+pub enum EventLine {
     Start { name: Text, args: List<i32> },
     Event(Event),
 }
@@ -42,7 +42,7 @@ struct MakeLine<'a> {
 }
 
 /// What `line` says, or what is wrong with it.
-pub fn meaning(alloc: Global, line: &[u8]) -> Result<Statement, LineError>
+pub fn meaning(alloc: Global, line: &[u8]) -> Result<EventLine, LineError>
     ensures { MeansLine result (meaning (tokens line.now)) }
 {
     let Some((name, rest)) = first_word(line) else {
@@ -55,16 +55,16 @@ pub fn meaning(alloc: Global, line: &[u8]) -> Result<Statement, LineError>
 }
 
 /// What a line says by what stands behind its verb.
-fn meaning_of(alloc: Global, verb: EventVerb, line: &[u8]) -> Result<Statement, LineError>
+fn meaning_of(alloc: Global, verb: EventVerb, line: &[u8]) -> Result<EventLine, LineError>
     ensures { MeansLine result (meaning_of verb (tokens line.now)) }
 {
     match verb {
         EventVerb::Start => start(alloc, line),
-        EventVerb::Owner(step) => Ok(Statement::Event(step.event(triple_in(line)?))),
-        EventVerb::Target(step) => Ok(Statement::Event(step.event(triple_in(line)?))),
-        EventVerb::Single(kind) => Ok(Statement::Event(kind.event(single_in(line)?))),
-        EventVerb::Link => Ok(Statement::Event(link(triple_in(line)?))),
-        EventVerb::Make => Ok(Statement::Event(make(alloc, line)?)),
+        EventVerb::Owner(step) => Ok(EventLine::Event(step.event(triple_in(line)?))),
+        EventVerb::Target(step) => Ok(EventLine::Event(step.event(triple_in(line)?))),
+        EventVerb::Single(kind) => Ok(EventLine::Event(kind.event(single_in(line)?))),
+        EventVerb::Link => Ok(EventLine::Event(link(triple_in(line)?))),
+        EventVerb::Make => Ok(EventLine::Event(make(alloc, line)?)),
     }
 }
 
@@ -210,7 +210,7 @@ fn source(line: &[u8]) -> Option<Option<&[u8]>>
 }
 
 /// C(ARGS)
-fn start(alloc: Global, line: &[u8]) -> Result<Statement, LineError>
+fn start(alloc: Global, line: &[u8]) -> Result<EventLine, LineError>
     ensures { MeansLine result (start (tokens line.now)) }
 {
     let Some((name, line)) = first_word(line) else {
@@ -235,7 +235,7 @@ fn last_arguments(alloc: Global, line: &[u8]) -> Result<Option<Vec<&[u8]>>, NoMe
     }
 }
 
-fn start_of_words(alloc: Global, name: &[u8], words: &[&[u8]]) -> Result<Statement, LineError>
+fn start_of_words(alloc: Global, name: &[u8], words: &[&[u8]]) -> Result<EventLine, LineError>
     ensures { MeansLine result (start_of_words name.now (Some (map (λ word. word.now) words.now))) }
 {
     if !(is_name(name) && are_integers(words)) {
@@ -246,7 +246,7 @@ fn start_of_words(alloc: Global, name: &[u8], words: &[&[u8]]) -> Result<Stateme
     }
     let args = integer_values(alloc, words)?;
     let name = Text::from_bytes(alloc, name)?;
-    Ok(Statement::Start {
+    Ok(EventLine::Start {
         name,
         args: List::of(args),
     })

@@ -3,7 +3,7 @@
 ghost use Rattle.std.specs.Prelude.{◌≡◌, ◌≢◌, ◌⊎◌, ◌↔◌, ℕ, true, false, List, ◌∷◌, ◌++◌, Ok, IsTrue, codes};
 ghost use Rattle.darwin_lexer.specs.Naming.{IsName};
 ghost use Rattle.quiesce_core.specs.declared.event.Event.{Event};
-ghost use Rattle.change_script.specs.declared.event_lines.Statement.TheVariants as statements;
+ghost use Rattle.change_script.specs.declared.event_lines.EventLine.TheVariants as statements;
 ghost use Rattle.change_script.specs.declared.event_files.EventFile.{EventFile};
 ghost use Rattle.change_script.specs.declared.error.ScriptError.{ScriptError};
 ghost use Rattle.change_script.specs.EventFiles.{IsEventFile, IsFirstFault};

@@ -7,7 +7,7 @@ ghost use Rattle.change_script.specs.declared.script.Body.{Body};
 ghost use Rattle.change_script.specs.declared.script.Script.{Script};
 ghost use Rattle.change_script.specs.ScriptFiles.{IsScript, IsScriptFault};
 ghost use Rattle.change_script.specs.ScriptForms.{HasForm};
-ghost use Rattle.change_script.specs.ScriptLines.{IsTooBig, Means, meaning};
+ghost use Rattle.change_script.specs.ScriptLines.{IsTooBig, LineMeans, meaning};
 ghost use Rattle.change_script.specs.ScriptWords.{Words};
 ghost use Rattle.change_script.specs.StatementTexts.{CanBeStated, statement_text};
 
@@ -15,7 +15,7 @@ ghost use Rattle.change_script.specs.StatementTexts.{CanBeStated, statement_text
 /// number outside its limit is too big.
 pub fn lines_mean_what_their_forms_say()
     ensures one_form { (line : List ℕ) (words others : Words) → HasForm line words → HasForm line others → words ≡ others }
-    ensures means { (line : List ℕ) (body : Body) → (meaning line ≡ Ok body) ↔ Means line body }
+    ensures means { (line : List ℕ) (body : Body) → (meaning line ≡ Ok body) ↔ LineMeans line body }
     ensures too_big { (line : List ℕ) → (meaning line ≡ Err Big) ↔ IsTooBig line }
     ensures bad { (line : List ℕ) → (meaning line ≡ Err Bad) ↔ ((words : Words) → HasForm line words → ⊥) }
 {}

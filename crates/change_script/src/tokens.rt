@@ -2,11 +2,11 @@
 
 ghost use Rattle.std.specs.Prelude.{◌≡◌, ◌<◌, ◌≤◌, false, ◌∷◌, [], ℕ, List, length, IsTrue, ◌↔◌, IfNone, IfSome};
 ghost use Rattle.std.specs.List.{list_all, prefix_len};
-ghost use Rattle.change_script.specs.Tokens.{Token, arrow, begins_arrow, begins_blank, begins_word, is_blank, is_sign, is_word_byte, sign, tokens, word, word_len};
+ghost use Rattle.change_script.specs.Tokens.{ScriptToken, arrow, begins_arrow, begins_blank, begins_word, is_blank, is_sign, is_word_byte, sign, tokens, word, word_len};
 
 /// The word that comes first in `line`, and what stands behind it; `None` where no word comes first.
 pub fn first_word(line: &[u8]) -> Option<(&[u8], &[u8])>
-    ensures none { IfNone result ((bytes : List ℕ) (more : List Token) → tokens line.now ≡ word bytes ∷ more → ⊥) }
+    ensures none { IfNone result ((bytes : List ℕ) (more : List ScriptToken) → tokens line.now ≡ word bytes ∷ more → ⊥) }
     ensures found { IfSome result (λ found. tokens line.now ≡ word found.0.now ∷ tokens found.1.now) }
     ensures shorter { IfSome result (λ found. length found.1.now < length line.now) }
 {
@@ -21,7 +21,7 @@ pub fn first_word(line: &[u8]) -> Option<(&[u8], &[u8])>
 /// What stands behind the sign `byte`, where it comes first in `line`.
 pub fn after_sign(line: &[u8], byte: u8) -> Option<&[u8]>
     requires { IsTrue (is_sign byte) }
-    ensures none { IfNone result ((more : List Token) → tokens line.now ≡ sign byte ∷ more → ⊥) }
+    ensures none { IfNone result ((more : List ScriptToken) → tokens line.now ≡ sign byte ∷ more → ⊥) }
     ensures found { IfSome result (λ rest. tokens line.now ≡ sign byte ∷ tokens rest.now) }
     ensures shorter { IfSome result (λ rest. length rest.now < length line.now) }
 {
@@ -38,7 +38,7 @@ pub fn after_sign(line: &[u8], byte: u8) -> Option<&[u8]>
 
 /// What stands behind `->`, where it comes first in `line`.
 pub fn after_arrow(line: &[u8]) -> Option<&[u8]>
-    ensures none { IfNone result ((more : List Token) → tokens line.now ≡ arrow ∷ more → ⊥) }
+    ensures none { IfNone result ((more : List ScriptToken) → tokens line.now ≡ arrow ∷ more → ⊥) }
     ensures found { IfSome result (λ rest. tokens line.now ≡ arrow ∷ tokens rest.now) }
     ensures shorter { IfSome result (λ rest. length rest.now < length line.now) }
 {

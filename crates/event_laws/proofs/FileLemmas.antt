@@ -5,7 +5,7 @@ use Rattle.std.proofs.lemmas.Bool.{and_parts}
 use Rattle.std.proofs.lemmas.List.{append_assoc}
 use Rattle.quiesce_core.specs.declared.event.Event.{Event}
 use Rattle.change_script.specs.declared.event_files.EventFile.{EventFile}
-use Rattle.change_script.specs.declared.event_lines.Statement.TheVariants as statements
+use Rattle.change_script.specs.declared.event_lines.EventLine.TheVariants as statements
 use Rattle.change_script.specs.declared.script.Body.{Body}
 use Rattle.change_script.specs.declared.script.Body.TheVariants as bodies
 use Rattle.change_script.specs.EventFiles.{IsEventFile, meaning_of_line, of_event, of_start}
@@ -14,7 +14,7 @@ use Rattle.change_script.specs.Lines.{is_margin, statements_from}
 use Rattle.change_script.specs.Numbers.{integer}
 use Rattle.change_script.specs.Paths.{is_name}
 use Rattle.change_script.specs.Reports.{args_text, event_text}
-use Rattle.change_script.specs.ScriptLines.{Means, meaning as body_meaning}
+use Rattle.change_script.specs.ScriptLines.{LineMeans, meaning as body_meaning}
 use Rattle.change_script.specs.ScriptWords.{file, start, run, change, finish, show, stop}
 use Rattle.change_script.specs.StatementTexts.{CanBeStated, IsInteger, IsWrittenName, statement_text}
 use Rattle.change_script.specs.Tokens.{word, opened, tokens, begins_word, is_blank, is_sign, is_word, sign}
@@ -48,7 +48,7 @@ module _
         ∙ ap (λ ts. word (codes "start") ∷ ts) (blank 32 (name ++ (40 ∷ behind)) refl ∙ named_front name (40 ∷ behind) is.0 is.1 refl)
         ∙ ap (λ ts. word (codes "start") ∷ word name ∷ ts) (signs 40 behind refl)
 
-    start_of : (name : List ℕ) (args : List ℤ) → IsWrittenName name → Means (start_text name args) (bodies.Start name args) → MeansEvent (start_text name args) (statements.Start name args)
+    start_of : (name : List ℕ) (args : List ℤ) → IsWrittenName name → LineMeans (start_text name args) (bodies.Start name args) → MeansEvent (start_text name args) (statements.Start name args)
     start_of name args is (file f, has, keeps, same) = cc
     start_of name args is (run n, has, keeps, same) = cc
     start_of name args is (change n a w m, has, keeps, same) = cc

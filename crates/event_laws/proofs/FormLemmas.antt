@@ -17,8 +17,8 @@ use Rattle.change_script.specs.declared.verbs.EventVerb.{EventVerb}
 use Rattle.change_script.specs.declared.verbs.EventVerb.TheVariants as verbs
 use Rattle.change_script.specs.declared.error.LineFault.{LineFault}
 use Rattle.change_script.specs.declared.error.LineFault.TheVariants.{Bad, Big}
-use Rattle.change_script.specs.declared.event_lines.Statement.{Statement}
-use Rattle.change_script.specs.declared.event_lines.Statement.TheVariants as statements
+use Rattle.change_script.specs.declared.event_lines.EventLine.{EventLine}
+use Rattle.change_script.specs.declared.event_lines.EventLine.TheVariants as statements
 use Rattle.change_script.specs.declared.event_lines.Triple.{Triple}
 use Rattle.change_script.specs.Arguments.{more_arguments, arguments, at_end}
 use Rattle.change_script.specs.EventLines.{event_verb_bytes, event_verb_named, event_verbs, three_numbers, triple_in, single_in, owner_event, target_event, single_event, link_event, event_line, source, optional_number, MakeWords, make_from, make_words, make, make_of_words, make_of_kind, start, start_of_words, start_with, meaning_of, meaning_of_named, meaning}
@@ -26,7 +26,7 @@ use Rattle.change_script.specs.Faults.{both, with_value}
 use Rattle.change_script.specs.Numbers.{integer, integer_fits, is_integer, is_number, number, number_fits, number_in}
 use Rattle.change_script.specs.Paths.{is_name, is_path, path_fits, path_in}
 use Rattle.change_script.specs.ScriptForms.{argument_tokens}
-use Rattle.change_script.specs.Tokens.{Token, word, opened, closed, comma, tokens}
+use Rattle.change_script.specs.Tokens.{ScriptToken, word, opened, closed, comma, tokens}
 use Rattle.event_laws.specs.EventForms as forms
 use Rattle.event_laws.specs.EventForms.{Form, form_tokens, source_tokens, kind_tokens, optional, is_right, keeps_limits, statement_of, HasEventForm, MeansEvent, IsTooBigEvent}
 
@@ -141,7 +141,7 @@ made_read slot path name kind arg from =
 
 more_arguments_read : (first : List ℕ) (more : List (List ℕ)) → more_arguments (argument_tokens (first ∷ more)) ≡ Some (first ∷ more, [])
 more_arguments_read first [] = refl
-more_arguments_read first (next ∷ more) = ap (option_map (λ (f : List (List ℕ) × List Token). (first ∷ f.0, f.1))) (more_arguments_read next more)
+more_arguments_read first (next ∷ more) = ap (option_map (λ (f : List (List ℕ) × List ScriptToken). (first ∷ f.0, f.1))) (more_arguments_read next more)
 
 arguments_read : (args : List (List ℕ)) → arguments (argument_tokens args) ≡ Some (args, [])
 arguments_read [] = refl
@@ -155,7 +155,7 @@ started name args true false = refl
 started name args false fits = refl
 
 -- what a line of a form means
-abbrev judged : Form → Result Statement LineFault
+abbrev judged : Form → Result EventLine LineFault
 judged form = checked (is_right form) (keeps_limits form) (statement_of form)
 
 start_read : (name : List ℕ) (args : List (List ℕ)) → start (word name ∷ opened ∷ argument_tokens args) ≡ judged (forms.start name args)
@@ -196,20 +196,20 @@ form_read (forms.remove a) = one_means (single_event singles.Remove) a
 
 -- ---- a line that isn't bad has a form
 
-abbrev Formed : List Token → Type 0
+abbrev Formed : List ScriptToken → Type 0
 Formed ts = (form : Form) × (ts ≡ form_tokens form)
 
-triple_found : (rest : List Token) → (triple_in rest ≡ Err Bad) ⊎ ((a : List ℕ) × (b : List ℕ) × (c : List ℕ) × (rest ≡ word a ∷ word b ∷ word c ∷ []))
+triple_found : (rest : List ScriptToken) → (triple_in rest ≡ Err Bad) ⊎ ((a : List ℕ) × (b : List ℕ) × (c : List ℕ) × (rest ≡ word a ∷ word b ∷ word c ∷ []))
 triple_found (word a ∷ word b ∷ word c ∷ []) = inr (a, b, c, refl)
 triple_found _ = inl refl
 
-single_found : (rest : List Token) → (single_in rest ≡ Err Bad) ⊎ ((a : List ℕ) × (rest ≡ word a ∷ []))
+single_found : (rest : List ScriptToken) → (single_in rest ≡ Err Bad) ⊎ ((a : List ℕ) × (rest ≡ word a ∷ []))
 single_found (word a ∷ []) = inr (a, refl)
 single_found _ = inl refl
 
 -- lines of three numbers, and of one, by what a form of them is
 triple_formed : (verb : List ℕ) (event : Triple → Event) (form : List ℕ → List ℕ → List ℕ → Form) → ((a b c : List ℕ) → forms.with_three_words verb a b c ≡ form_tokens (form a b c))
-    → (rest : List Token) → (event_line event (triple_in rest) ≡ Err Bad) ⊎ Formed (word verb ∷ rest)
+    → (rest : List ScriptToken) → (event_line event (triple_in rest) ≡ Err Bad) ⊎ Formed (word verb ∷ rest)
 triple_formed verb event form is rest =
     elim (triple_found rest) [
       | inl bad ↦ inl (ap (event_line event) bad)
@@ -217,7 +217,7 @@ triple_formed verb event form is rest =
     ]
 
 single_formed : (verb : List ℕ) (event : ℕ → Event) (form : List ℕ → Form) → ((a : List ℕ) → forms.with_one_word verb a ≡ form_tokens (form a))
-    → (rest : List Token) → (event_line event (single_in rest) ≡ Err Bad) ⊎ Formed (word verb ∷ rest)
+    → (rest : List ScriptToken) → (event_line event (single_in rest) ≡ Err Bad) ⊎ Formed (word verb ∷ rest)
 single_formed verb event form is rest =
     elim (single_found rest) [
       | inl bad ↦ inl (ap (event_line event) bad)
@@ -232,14 +232,14 @@ tested : {A : Type 0} (P : A → Type 0) (test : Bool) (a : A) → (test ≡ tru
 tested P true a h = inr (a, refl, h refl)
 tested P false a h = inl refl
 
-source_found : (ts : List Token) → Sought (source ts) (λ from. ts ≡ source_tokens from)
+source_found : (ts : List ScriptToken) → Sought (source ts) (λ from. ts ≡ source_tokens from)
 source_found [] = inr (None, refl, refl)
 source_found (word preposition ∷ word slot ∷ []) =
     tested (λ from. word preposition ∷ word slot ∷ [] ≡ source_tokens from) (bytes_eq preposition (codes "from")) (Some slot)
     (λ holds. ap (λ w. word w ∷ word slot ∷ []) (same_bytes preposition (codes "from") holds))
 source_found _ = inl refl
 
-record Made (ts : List Token) : Type 0 where
+record Made (ts : List ScriptToken) : Type 0 where
   slot : List ℕ
   path : List ℕ
   kind : List ℕ
@@ -247,7 +247,7 @@ record Made (ts : List Token) : Type 0 where
   from : Option (List ℕ)
   are : ts ≡ word slot ∷ word path ∷ word kind ∷ kind_tokens arg (source_tokens from)
 
-kind_found : (slot path kind : List ℕ) (arg : Option (List ℕ)) (rest : List Token)
+kind_found : (slot path kind : List ℕ) (arg : Option (List ℕ)) (rest : List ScriptToken)
     → (make_from slot path kind arg rest ≡ None) ⊎ Made (word slot ∷ word path ∷ word kind ∷ kind_tokens arg rest)
 kind_found slot path kind arg rest =
     elim (source_found rest) [
@@ -255,7 +255,7 @@ kind_found slot path kind arg rest =
       | inr some ↦ inr (record { slot = slot; path = path; kind = kind; arg = arg; from = some.0; are = ap (λ ts. word slot ∷ word path ∷ word kind ∷ kind_tokens arg ts) some.2 })
     ]
 
-words_made : (ts : List Token) → (make_words ts ≡ None) ⊎ Made ts
+words_made : (ts : List ScriptToken) → (make_words ts ≡ None) ⊎ Made ts
 words_made (word slot ∷ word path ∷ word kind ∷ opened ∷ closed ∷ rest) = kind_found slot path kind None rest
 words_made (word slot ∷ word path ∷ word kind ∷ opened ∷ word arg ∷ closed ∷ rest) = kind_found slot path kind (Some arg) rest
 words_made _ = inl refl
@@ -263,7 +263,7 @@ words_made _ = inl refl
 kind_bytes : (name : List ℕ) (kind : Kind) → kind_named name ≡ Some kind → name ≡ (row kind).name
 kind_bytes name kind is = sym (same_bytes (row kind).name name (find_passes (λ k. bytes_eq (row k).name name) kinds kind is))
 
-make_formed : (rest : List Token) → (event_line (λ event. event) (make rest) ≡ Err Bad) ⊎ Formed (word (codes "make") ∷ rest)
+make_formed : (rest : List ScriptToken) → (event_line (λ event. event) (make rest) ≡ Err Bad) ⊎ Formed (word (codes "make") ∷ rest)
 make_formed rest =
     elim (words_made rest) [
       | inl none ↦ inl (ap (λ words. event_line (λ event. event) (make_of_words words)) none)
@@ -277,36 +277,36 @@ make_formed rest =
     by m (Some kind) is =
         inr (forms.make m.slot m.path kind m.arg m.from, ap (λ ts. word (codes "make") ∷ ts) m.are ∙ ap (λ k. word (codes "make") ∷ word m.slot ∷ word m.path ∷ word k ∷ kind_tokens m.arg (source_tokens m.from)) (kind_bytes m.kind kind is))
 
-more_arguments_found : (ts : List Token) → Sought (more_arguments ts) (λ found. (first : List ℕ) × (more : List (List ℕ)) × (found.0 ≡ first ∷ more) × (ts ≡ argument_tokens (first ∷ more) ++ found.1))
+more_arguments_found : (ts : List ScriptToken) → Sought (more_arguments ts) (λ found. (first : List ℕ) × (more : List (List ℕ)) × (found.0 ≡ first ∷ more) × (ts ≡ argument_tokens (first ∷ more) ++ found.1))
 more_arguments_found (word first ∷ closed ∷ rest) = inr ((first ∷ [], rest), refl, (first, [], refl, refl))
 more_arguments_found (word first ∷ comma ∷ rest) =
     elim (more_arguments_found rest) [
-      | inl none ↦ inl (ap (option_map (λ (f : List (List ℕ) × List Token). (first ∷ f.0, f.1))) none)
+      | inl none ↦ inl (ap (option_map (λ (f : List (List ℕ) × List ScriptToken). (first ∷ f.0, f.1))) none)
       | inr some ↦
-          let inner : List (List ℕ) × List Token = some.0 in
+          let inner : List (List ℕ) × List ScriptToken = some.0 in
           let is = some.2 in
           inr (
             (first ∷ inner.0, inner.1),
-            ap (option_map (λ (f : List (List ℕ) × List Token). (first ∷ f.0, f.1))) some.1,
+            ap (option_map (λ (f : List (List ℕ) × List ScriptToken). (first ∷ f.0, f.1))) some.1,
             (first, is.0 ∷ is.1, ap (λ args. first ∷ args) is.2, ap (λ ts. word first ∷ comma ∷ ts) is.3),
           )
     ]
 more_arguments_found _ = inl refl
 
-arguments_found : (ts : List Token) → (at_end (arguments ts) ≡ None) ⊎ ((args : List (List ℕ)) × (ts ≡ argument_tokens args))
+arguments_found : (ts : List ScriptToken) → (at_end (arguments ts) ≡ None) ⊎ ((args : List (List ℕ)) × (ts ≡ argument_tokens args))
 arguments_found (closed ∷ []) = inr ([], refl)
 arguments_found (closed ∷ t ∷ ts) = inl refl
 arguments_found (word first ∷ rest) = elim (more_arguments_found (word first ∷ rest)) [ inl none ↦ inl (ap at_end none) | inr some ↦ by some.0 some.1 some.2 ]
   where
     by :
-        (found : List (List ℕ) × List Token) → more_arguments (word first ∷ rest) ≡ Some found
+        (found : List (List ℕ) × List ScriptToken) → more_arguments (word first ∷ rest) ≡ Some found
         → ((head : List ℕ) × (more : List (List ℕ)) × (found.0 ≡ head ∷ more) × (word first ∷ rest ≡ argument_tokens (head ∷ more) ++ found.1))
         → (at_end (more_arguments (word first ∷ rest)) ≡ None) ⊎ ((args : List (List ℕ)) × (word first ∷ rest ≡ argument_tokens args))
     by (args, []) is are = inr (are.0 ∷ are.1, are.3 ∙ append-nil (argument_tokens (are.0 ∷ are.1)))
     by (args, t ∷ ts) is are = inl (ap at_end is)
 arguments_found _ = inl refl
 
-start_formed : (rest : List Token) → (start rest ≡ Err Bad) ⊎ Formed (word (codes "start") ∷ rest)
+start_formed : (rest : List ScriptToken) → (start rest ≡ Err Bad) ⊎ Formed (word (codes "start") ∷ rest)
 start_formed (word name ∷ opened ∷ rest) =
     elim (arguments_found rest) [
       | inl none ↦ inl (ap (start_of_words name) none)
@@ -314,7 +314,7 @@ start_formed (word name ∷ opened ∷ rest) =
     ]
 start_formed _ = inl refl
 
-verb_formed : (verb : EventVerb) (rest : List Token) → (meaning_of verb rest ≡ Err Bad) ⊎ Formed (word (event_verb_bytes verb) ∷ rest)
+verb_formed : (verb : EventVerb) (rest : List ScriptToken) → (meaning_of verb rest ≡ Err Bad) ⊎ Formed (word (event_verb_bytes verb) ∷ rest)
 verb_formed verbs.Start rest = start_formed rest
 verb_formed (verbs.Owner owner.Begin) rest = triple_formed (codes "begin") (owner_event owner.Begin) (λ a b c. forms.begin a b c) (λ a b c. refl) rest
 verb_formed (verbs.Owner owner.Call) rest = triple_formed (codes "call") (owner_event owner.Call) (λ a b c. forms.call a b c) (λ a b c. refl) rest
@@ -332,7 +332,7 @@ verb_formed (verbs.Single singles.Remove) rest = single_formed (codes "remove") 
 verb_formed verbs.Link rest = triple_formed (codes "link") link_event (λ a b c. forms.link a b c) (λ a b c. refl) rest
 verb_formed verbs.Make rest = make_formed rest
 
-line_formed : (ts : List Token) → (meaning ts ≡ Err Bad) ⊎ Formed ts
+line_formed : (ts : List ScriptToken) → (meaning ts ≡ Err Bad) ⊎ Formed ts
 line_formed (word name ∷ rest) = by (event_verb_named name) refl
   where
     by : (o : Option EventVerb) → event_verb_named name ≡ o → (meaning_of_named (event_verb_named name) rest ≡ Err Bad) ⊎ Formed (word name ∷ rest)
@@ -354,15 +354,15 @@ abbrev make_form : Option MakeWords → Option Form
 make_form None = None
 make_form (Some words) = option_map (λ kind. forms.make words.slot words.path kind words.arg words.from) (kind_named words.kind)
 
-abbrev triple_form : (List ℕ → List ℕ → List ℕ → Form) → List Token → Option Form
+abbrev triple_form : (List ℕ → List ℕ → List ℕ → Form) → List ScriptToken → Option Form
 triple_form form (word a ∷ word b ∷ word c ∷ []) = Some (form a b c)
 triple_form form _ = None
 
-abbrev single_form : (List ℕ → Form) → List Token → Option Form
+abbrev single_form : (List ℕ → Form) → List ScriptToken → Option Form
 single_form form (word a ∷ []) = Some (form a)
 single_form form _ = None
 
-abbrev form_behind : Option EventVerb → List Token → Option Form
+abbrev form_behind : Option EventVerb → List ScriptToken → Option Form
 form_behind None rest = None
 form_behind (Some verbs.Start) (word name ∷ opened ∷ rest) = start_form name (at_end (arguments rest))
 form_behind (Some verbs.Start) rest = None
@@ -382,7 +382,7 @@ form_behind (Some (verbs.Single singles.Remove)) rest = single_form (λ a. forms
 form_behind (Some verbs.Link) rest = triple_form (λ a b c. forms.link a b c) rest
 form_behind (Some verbs.Make) rest = make_form (make_words rest)
 
-abbrev form_in : List Token → Option Form
+abbrev form_in : List ScriptToken → Option Form
 form_in (word name ∷ rest) = form_behind (event_verb_named name) rest
 form_in _ = None
 
@@ -438,10 +438,10 @@ big_is : {A : Type 0} (r f : Bool) (a : A) → r ≡ true → f ≡ false → ch
 big_is r f a right big = ap (λ x. checked x f a) right ∙ ap (λ x. checked true x a) big
 
 -- what the tokens of a form mean
-formed : (ts : List Token) (form : Form) → ts ≡ form_tokens form → meaning ts ≡ judged form
+formed : (ts : List ScriptToken) (form : Form) → ts ≡ form_tokens form → meaning ts ≡ judged form
 formed ts form is = ap meaning is ∙ form_read form
 
-pub means : (line : List ℕ) (statement : Statement) → (meaning (tokens line) ≡ Ok statement) ↔ MeansEvent line statement
+pub means : (line : List ℕ) (statement : EventLine) → (meaning (tokens line) ≡ Ok statement) ↔ MeansEvent line statement
 means line statement = (only, always)
   where
     only : meaning (tokens line) ≡ Ok statement → MeansEvent line statement

@@ -4,9 +4,9 @@ use Rattle.std.specs.List.{list_all}
 use Rattle.config_graph.specs.declared.kind.Kind.{Kind}
 use Rattle.config_graph.specs.Kinds.{row}
 use Rattle.quiesce_core.specs.declared.event.Event.TheVariants as events
-use Rattle.change_script.specs.declared.event_lines.Statement.{Statement}
-use Rattle.change_script.specs.declared.event_lines.Statement.TheVariants as statements
-use Rattle.change_script.specs.Tokens.{Token, word, opened, closed, tokens}
+use Rattle.change_script.specs.declared.event_lines.EventLine.{EventLine}
+use Rattle.change_script.specs.declared.event_lines.EventLine.TheVariants as statements
+use Rattle.change_script.specs.Tokens.{ScriptToken, word, opened, closed, tokens}
 use Rattle.change_script.specs.Numbers.{integer, integer_fits, is_integer, is_number, number, number_fits}
 use Rattle.change_script.specs.Paths.{is_name, is_path, path_fits}
 use Rattle.change_script.specs.ScriptForms.{argument_tokens}
@@ -31,23 +31,23 @@ pub data Form : Type 0 where
   remove : (slot : List ℕ) → Form
 
 -- VERB NUM, and VERB NUM NUM NUM
-abbrev pub with_one_word : List ℕ → List ℕ → List Token
+abbrev pub with_one_word : List ℕ → List ℕ → List ScriptToken
 with_one_word verb number = word verb ∷ word number ∷ []
 
-abbrev pub with_three_words : List ℕ → List ℕ → List ℕ → List ℕ → List Token
+abbrev pub with_three_words : List ℕ → List ℕ → List ℕ → List ℕ → List ScriptToken
 with_three_words verb first second third = word verb ∷ word first ∷ word second ∷ word third ∷ []
 
 -- KIND's parentheses, empty or round NUM, and then `from` SLOT or nothing
-abbrev pub source_tokens : Option (List ℕ) → List Token
+abbrev pub source_tokens : Option (List ℕ) → List ScriptToken
 source_tokens None = []
 source_tokens (Some slot) = word (codes "from") ∷ word slot ∷ []
 
-abbrev pub kind_tokens : Option (List ℕ) → List Token → List Token
+abbrev pub kind_tokens : Option (List ℕ) → List ScriptToken → List ScriptToken
 kind_tokens None rest = opened ∷ closed ∷ rest
 kind_tokens (Some arg) rest = opened ∷ word arg ∷ closed ∷ rest
 
 -- the tokens of a line of the form with these words
-abbrev pub form_tokens : Form → List Token
+abbrev pub form_tokens : Form → List ScriptToken
 form_tokens (start name args) = word (codes "start") ∷ word name ∷ opened ∷ argument_tokens args
 form_tokens (begin port serial value) = with_three_words (codes "begin") port serial value
 form_tokens (call port serial value) = with_three_words (codes "call") port serial value
@@ -108,7 +108,7 @@ abbrev pub keeps_limits : Form → Bool
 keeps_limits form = others_fit form && list_all number_fits (numbers form)
 
 -- the start or the event of a line of the form
-abbrev pub statement_of : Form → Statement
+abbrev pub statement_of : Form → EventLine
 statement_of (start name args) = statements.Start name (map integer args)
 statement_of (begin port serial value) = statements.Event (events.Begin (number port) (number serial) (number value))
 statement_of (call port serial value) = statements.Event (events.Call (number port) (number serial) (number value))
@@ -132,7 +132,7 @@ abbrev pub HasEventForm : List ℕ → Form → Type 0
 HasEventForm line form = (tokens line ≡ form_tokens form) × (is_right form ≡ true)
 
 -- The line has a form whose numbers keep their limits, and this is what the form says; or one of its numbers doesn't.
-abbrev pub MeansEvent : List ℕ → Statement → Type 0
+abbrev pub MeansEvent : List ℕ → EventLine → Type 0
 MeansEvent line statement = (form : Form) × HasEventForm line form × (keeps_limits form ≡ true) × (statement ≡ statement_of form)
 
 abbrev pub IsTooBigEvent : List ℕ → Type 0

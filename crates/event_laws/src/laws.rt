@@ -10,8 +10,8 @@ ghost use Rattle.darwin_parser.specs.Tree.{Name, Tree};
 ghost use Rattle.elaborator.specs.Elaboration.{ElaboratesTo, HasNoFault};
 ghost use Rattle.change_script.specs.declared.error.LineFault.TheVariants.{Bad, Big};
 ghost use Rattle.change_script.specs.declared.event_files.EventFile.{EventFile};
-ghost use Rattle.change_script.specs.declared.event_lines.Statement.{Statement};
-ghost use Rattle.change_script.specs.declared.event_lines.Statement.TheVariants as statements;
+ghost use Rattle.change_script.specs.declared.event_lines.EventLine.{EventLine};
+ghost use Rattle.change_script.specs.declared.event_lines.EventLine.TheVariants as statements;
 ghost use Rattle.change_script.specs.EventFiles.{IsEventFile};
 ghost use Rattle.change_script.specs.EventLines.{meaning};
 ghost use Rattle.change_script.specs.Lines.{is_margin, statements as lines_of, statements_from};
@@ -32,7 +32,7 @@ use elaborator::paths_are_words;
 /// number outside its limit is too big.
 pub fn only_forms_mean()
     ensures one_form { (line : List ℕ) (form other : Form) → HasEventForm line form → HasEventForm line other → form ≡ other }
-    ensures means { (line : List ℕ) (statement : Statement) → (meaning (tokens line) ≡ Ok statement) ↔ MeansEvent line statement }
+    ensures means { (line : List ℕ) (statement : EventLine) → (meaning (tokens line) ≡ Ok statement) ↔ MeansEvent line statement }
     ensures too_big { (line : List ℕ) → (meaning (tokens line) ≡ Err Big) ↔ IsTooBigEvent line }
     ensures bad { (line : List ℕ) → (meaning (tokens line) ≡ Err Bad) ↔ ((form : Form) → HasEventForm line form → ⊥) }
 {}

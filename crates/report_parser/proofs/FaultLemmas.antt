@@ -2,7 +2,7 @@
 use Rattle.std.proofs.Common.{ℕ, Bool, true, false, List, [], ◌∷◌, ◌++◌, Option, Some, None, subst, cond}
 use Rattle.std.specs.Prelude.{Result, Ok, Err}
 use Rattle.quiesce_core.specs.declared.event.Event.{Event}
-use Rattle.change_script.specs.Reports.{Made, makes}
+use Rattle.change_script.specs.Reports.{SlotPath, makes}
 use Rattle.change_script.specs.declared.report.HistoryLine.{HistoryLine}
 use Rattle.change_script.specs.declared.report.NodeLog.{NodeLog}
 use Rattle.report_reader.specs.Ends.{status_in}
@@ -40,7 +40,7 @@ version_tells : (number : ℕ) (ls : List (List ℕ)) → Tells (version_from nu
 version_tells number [] = tt
 version_tells number (line ∷ more) = named_tells (version_in line) number more
 
-head_tells : (version : Version) (made : Made) (number : ℕ) (ls : List (List ℕ)) → Tells (head_from version made number ls)
+head_tells : (version : Version) (made : SlotPath) (number : ℕ) (ls : List (List ℕ)) → Tells (head_from version made number ls)
 head_tells version made number [] = tt
 head_tells version made number (line ∷ more) = named_tells (head_in version made line) number more
 
@@ -56,12 +56,12 @@ ended_tells : (version : Version) (slot : ℕ) (events : Front (List Event)) →
 ended_tells version slot events =
     after_tells (last_from version events.number events.left) (λ last. Ok (log_with slot events.read last)) (last_tells version events.number events.left) (λ f. tt)
 
-log_tells : (version : Version) (made : Made) (number : ℕ) (ls : List (List ℕ)) → Tells (log_from version made number ls)
+log_tells : (version : Version) (made : SlotPath) (number : ℕ) (ls : List (List ℕ)) → Tells (log_from version made number ls)
 log_tells version made number ls =
     after_tells (head_from version made number ls) (λ head. ended_from version made.slot (events_from version [] head.number head.left)) (head_tells version made number ls)
     (λ head. ended_tells version made.slot (events_from version [] head.number head.left))
 
-logs_tell : (version : Version) (mades : List Made) (logs : List NodeLog) (number : ℕ) (ls : List (List ℕ)) → Tells (logs_from version mades logs number ls)
+logs_tell : (version : Version) (mades : List SlotPath) (logs : List NodeLog) (number : ℕ) (ls : List (List ℕ)) → Tells (logs_from version mades logs number ls)
 logs_tell version [] logs number ls = tt
 logs_tell version (made ∷ others) logs number ls =
     after_tells (log_from version made number ls) (λ log. logs_from version others (logs ++ log.read ∷ []) log.number log.left) (log_tells version made number ls)

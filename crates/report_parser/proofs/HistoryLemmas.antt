@@ -8,7 +8,7 @@ use Rattle.base.proofs.BytesLaws.{same_bytes}
 use Rattle.base.proofs.FindLaws.{find_passes}
 use Rattle.config_graph.specs.Graph.{Graph}
 use Rattle.config_graph.specs.GraphText.{graph_text}
-use Rattle.change_script.specs.Reports.{Made, ended, history_text, made_by, makes}
+use Rattle.change_script.specs.Reports.{SlotPath, ended, history_text, made_by, makes}
 use Rattle.change_script.specs.declared.report.HistoryLine.{HistoryLine}
 use Rattle.change_script.specs.declared.report.HistoryLine.TheVariants as history
 use Rattle.report_reader.specs.declared.verbs.Bare.TheVariants as bares
@@ -125,7 +125,7 @@ stands_plain version (history.Finish n rounds) is one keeps = (is, one, keeps)
 stands_plain version history.Stop is one keeps = (is, one, keeps)
 
 -- the test of a place, both ways
-stands_by : (made : ℕ) (behind : Behind) (says : HistoryLine) → IfSome (made_by says) (λ (m : Made). m.slot ≡ made) → (is_root says ≡ true → is_after_pending behind ≡ true) → stands made behind says ≡ true
+stands_by : (made : ℕ) (behind : Behind) (says : HistoryLine) → IfSome (made_by says) (λ (m : SlotPath). m.slot ≡ made) → (is_root says ≡ true → is_after_pending behind ≡ true) → stands made behind says ≡ true
 stands_by made behind (history.Make slot node from) slots opens = eq-eqb slot made slots
 stands_by made behind (history.Root port serial) slots opens = opens refl
 stands_by made behind (history.Show graph) slots opens = refl
@@ -146,7 +146,7 @@ stands_by made behind (history.Finish n rounds) slots opens = refl
 stands_by made behind history.Stop slots opens = refl
 
 record Placed (made : ℕ) (behind : Behind) (says : HistoryLine) : Type 0 where
-  slot : IfSome (made_by says) (λ (m : Made). m.slot ≡ made)
+  slot : IfSome (made_by says) (λ (m : SlotPath). m.slot ≡ made)
   opens : is_root says ≡ true → is_after_pending behind ≡ true
 
 no_root : (b : Bool) → false ≡ true → b ≡ true

@@ -9,7 +9,7 @@ use Rattle.std.proofs.lemmas.List.Elements.{All-cons}
 use Rattle.base.proofs.BytesLaws.{bytes_eq_self, same_bytes}
 use Rattle.quiesce_core.specs.declared.event.Event.{Event}
 use Rattle.quiesce_core.specs.declared.event.Event.TheVariants as events
-use Rattle.change_script.specs.Reports.{Made, ended, event_text, last_text, log_head, log_text, path_in}
+use Rattle.change_script.specs.Reports.{SlotPath, ended, event_text, last_text, log_head, log_text, path_in}
 use Rattle.change_script.specs.Writing.{spaced, with_one, with_three, written, AreNumbers}
 use Rattle.change_script.specs.declared.report.Last.{Last}
 use Rattle.change_script.specs.declared.report.Last.TheVariants as lasts
@@ -147,13 +147,13 @@ regroup_log : (a b c rest : List ℕ) → ((a ++ b) ++ c) ++ rest ≡ a ++ (b ++
 regroup_log a b c rest = append_assoc (a ++ b) c rest ∙ append_assoc a b (c ++ rest)
 
 -- a log and the node that it is of
-pub record IsOf (version : Version) (all : List Made) (made : Made) (log : NodeLog) : Type 0 where
+pub record IsOf (version : Version) (all : List SlotPath) (made : SlotPath) (log : NodeLog) : Type 0 where
   pub path : path_in all log.slot ≡ made.path
   pub slot : log.slot ≡ made.slot
   pub lack : lacks 10 (log_head (written_by version) made.path made.slot) ≡ true
   pub is : IsLog version log
 
-pub log_written : (version : Version) (all : List Made) (made : Made) (log : NodeLog) (rest : List ℕ) (number : ℕ) → IsOf version all made log
+pub log_written : (version : Version) (all : List SlotPath) (made : SlotPath) (log : NodeLog) (rest : List ℕ) (number : ℕ) → IsOf version all made log
     → (n : ℕ) × (log_from version made number (lines (log_text (written_by version) all log ++ rest)) ≡ Ok (front log n (lines rest)))
 log_written version all made log rest number of_it =
     let head : List ℕ = log_head (written_by version) made.path made.slot in
@@ -170,19 +170,19 @@ log_written version all made log rest number of_it =
     let here : head_in version made head ≡ Some made = cond-true _ _ _ (bytes_eq_self head) in (
       read.0 + 1,
       ap (log_from version made number) (ap lines whole ∙ (line_at head inside of_it.lack).ls)
-          ∙ ap (λ o. after (named o number (lines inside)) (λ (h : Front Made). ended_from version made.slot (events_from version [] h.number h.left))) here
+          ∙ ap (λ o. after (named o number (lines inside)) (λ (h : Front SlotPath). ended_from version made.slot (events_from version [] h.number h.left))) here
           ∙ ap (ended_from version made.slot) (read.1 ∙ ap (front log.events read.0) behind_is)
           ∙ ap (λ o. after (named o read.0 (lines rest)) (λ (l : Front Last). Ok (log_with made.slot log.events l))) found
           ∙ ap (λ s. Ok (front (record { slot = s; events = log.events; last = log.last }) (read.0 + 1) (lines rest))) (sym of_it.slot),
     )
 
-abbrev pub AllOf : Version → List Made → List Made → List NodeLog → Type 0
+abbrev pub AllOf : Version → List SlotPath → List SlotPath → List NodeLog → Type 0
 AllOf version all [] [] = Unit {0}
 AllOf version all (made ∷ others) [] = ⊥
 AllOf version all [] (log ∷ logs) = ⊥
 AllOf version all (made ∷ others) (log ∷ logs) = IsOf version all made log × AllOf version all others logs
 
-pub logs_written : (version : Version) (all : List Made) (rest : List ℕ) (mades : List Made) (logs past : List NodeLog) (number : ℕ) → AllOf version all mades logs
+pub logs_written : (version : Version) (all : List SlotPath) (rest : List ℕ) (mades : List SlotPath) (logs past : List NodeLog) (number : ℕ) → AllOf version all mades logs
     → (n : ℕ) × (logs_from version mades past number (lines (flat_map (log_text (written_by version) all) logs ++ rest)) ≡ Ok (front (past ++ logs) n (lines rest)))
 logs_written version all rest [] [] past number of_them = (number, ap (λ p. Ok (front p number (lines rest))) (sym (append-nil past)))
 logs_written version all rest (made ∷ others) [] past number of_them = absurd of_them
@@ -264,16 +264,16 @@ events_read version f (line ∷ more) lack past number e =
     events_by version f line more lack (λ p n g. events_read version f more lack.1 p n g) past number e (event_of version line) refl
 
 -- the text of a log by its node
-abbrev pub text_of : Version → Made → NodeLog → List ℕ
+abbrev pub text_of : Version → SlotPath → NodeLog → List ℕ
 text_of version made log = ended (log_head (written_by version) made.path made.slot) ++ flat_map event_text log.events ++ last_text log.last
 
-record LogRead (version : Version) (made : Made) (log : NodeLog) (said left : List (List ℕ)) : Type 0 where
+record LogRead (version : Version) (made : SlotPath) (log : NodeLog) (said left : List (List ℕ)) : Type 0 where
   slot : log.slot ≡ made.slot
   text : flat_map ended said ≡ text_of version made log ++ flat_map ended left
   is : IsLog version log
   lack : AllLack left
 
-head_read : (version : Version) (made : Made) (line : List ℕ) (a : Made) → head_in version made line ≡ Some a → line ≡ log_head (written_by version) made.path made.slot
+head_read : (version : Version) (made : SlotPath) (line : List ℕ) (a : SlotPath) → head_in version made line ≡ Some a → line ≡ log_head (written_by version) made.path made.slot
 head_read version made line a e =
     let head : List ℕ = log_head (written_by version) made.path made.slot in
     elim (cases_Bool (bytes_eq line head)) [
@@ -301,12 +301,12 @@ last_read version slot events f lack e =
         let left_is : more ≡ f.left = ap (λ (g : Front NodeLog). g.left) f_is in
         (name.0, sym (ap (λ (g : Front NodeLog). g.read) f_is), (λ i. says.0 i ++ flat_map ended (left_is i)), says.1, test.1, subst AllLack left_is lack.1)
 
-log_read : (version : Version) (made : Made) (ls : List (List ℕ)) (number : ℕ) (f : Front NodeLog) → AllLack ls → log_from version made number ls ≡ Ok f → LogRead version made f.read ls f.left
+log_read : (version : Version) (made : SlotPath) (ls : List (List ℕ)) (number : ℕ) (f : Front NodeLog) → AllLack ls → log_from version made number ls ≡ Ok f → LogRead version made f.read ls f.left
 log_read version made [] number f lack e = let never : ⊥ = cc in absurd never
 log_read version made (line ∷ more) number f lack e =
-    let step = after_ok (named (head_in version made line) number more) (λ (h : Front Made). ended_from version made.slot (events_from version [] h.number h.left)) f e in
+    let step = after_ok (named (head_in version made line) number more) (λ (h : Front SlotPath). ended_from version made.slot (events_from version [] h.number h.left)) f e in
     let name = named_ok (head_in version made line) number more step.0 step.1 in
-    let onward : ended_from version made.slot (events_from version [] (number + 1) more) ≡ Ok f = ap (λ (h : Front Made). ended_from version made.slot (events_from version [] h.number h.left)) (sym name.2) ∙ step.2 in
+    let onward : ended_from version made.slot (events_from version [] (number + 1) more) ≡ Ok f = ap (λ (h : Front SlotPath). ended_from version made.slot (events_from version [] h.number h.left)) (sym name.2) ∙ step.2 in
     let evs : Front (List Event) = events_from version [] (number + 1) more in
     let read = events_read version evs more lack.1 [] (number + 1) refl in
     let last = last_read version made.slot evs f read.lack onward in
@@ -322,25 +322,25 @@ log_read version made (line ∷ more) number f lack e =
     subst (λ log. LogRead version made log (line ∷ more) f.left) (sym log_is) result
 
 -- logs that were read of nodes, in order
-abbrev pub AllRead : Version → List Made → List NodeLog → Type 0
+abbrev pub AllRead : Version → List SlotPath → List NodeLog → Type 0
 AllRead version [] [] = Unit {0}
 AllRead version (made ∷ others) [] = ⊥
 AllRead version [] (log ∷ logs) = ⊥
 AllRead version (made ∷ others) (log ∷ logs) = (log.slot ≡ made.slot) × IsLog version log × AllRead version others logs
 
-abbrev pub texts_of : Version → List Made → List NodeLog → List ℕ
+abbrev pub texts_of : Version → List SlotPath → List NodeLog → List ℕ
 texts_of version [] logs = []
 texts_of version (made ∷ others) [] = []
 texts_of version (made ∷ others) (log ∷ logs) = text_of version made log ++ texts_of version others logs
 
-pub record LogsRead (version : Version) (mades : List Made) (past all : List NodeLog) (said left : List (List ℕ)) : Type 0 where
+pub record LogsRead (version : Version) (mades : List SlotPath) (past all : List NodeLog) (said left : List (List ℕ)) : Type 0 where
   pub more : List NodeLog
   pub is : all ≡ past ++ more
   pub text : flat_map ended said ≡ texts_of version mades more ++ flat_map ended left
   pub each : AllRead version mades more
   pub lack : AllLack left
 
-pub logs_read : (version : Version) (mades : List Made) (past : List NodeLog) (ls : List (List ℕ)) (number : ℕ) (f : Front (List NodeLog)) → AllLack ls
+pub logs_read : (version : Version) (mades : List SlotPath) (past : List NodeLog) (ls : List (List ℕ)) (number : ℕ) (f : Front (List NodeLog)) → AllLack ls
     → logs_from version mades past number ls ≡ Ok f → LogsRead version mades past f.read ls f.left
 logs_read version [] past ls number f lack e =
     subst (λ (g : Front (List NodeLog)). LogsRead version [] past g.read ls g.left) (ok_is (front past number ls) f e)
@@ -358,6 +358,6 @@ logs_read version (made ∷ others) past ls number f lack e =
     }
 
 -- where no line is left, none is left behind
-pub logs_at_end : (version : Version) (mades : List Made) (past : List NodeLog) (number : ℕ) (f : Front (List NodeLog)) → logs_from version mades past number [] ≡ Ok f → f.left ≡ []
+pub logs_at_end : (version : Version) (mades : List SlotPath) (past : List NodeLog) (number : ℕ) (f : Front (List NodeLog)) → logs_from version mades past number [] ≡ Ok f → f.left ≡ []
 logs_at_end version [] past number f e = sym (ap (λ (g : Front (List NodeLog)). g.left) (ok_is (front past number []) f e))
 logs_at_end version (made ∷ others) past number f e = let never : ⊥ = cc in absurd never

@@ -3,7 +3,7 @@ use Rattle.std.proofs.Common.{◌≡◌, ◌+◌, ◌≤◌, ◌&&◌, ℕ, Bool
 use Rattle.std.proofs.lemmas.Bool.{cond-false}
 use Rattle.std.proofs.lemmas.List.Elements.{filter_map-append}
 use Rattle.config_graph.specs.Graph.{Graph}
-use Rattle.change_script.specs.Reports.{Made, made_by, makes}
+use Rattle.change_script.specs.Reports.{SlotPath, made_by, makes}
 use Rattle.change_script.specs.declared.report.HistoryLine.{HistoryLine}
 use Rattle.change_script.specs.declared.report.HistoryLine.TheVariants as history
 use Rattle.report_reader.specs.Parts.{is_end, words}
@@ -16,7 +16,7 @@ use Rattle.report_parser.specs.Limits.{line_keeps}
 use Rattle.report_parser.specs.Stages.{behind_line, keeping, said_in, shown_in, stands, with_line}
 use Rattle.report_parser.proofs.HistoryLemmas.{keep_true}
 
-makes_few : (says : HistoryLine) (o : Option Made) → made_by says ≡ o → length (makes (says ∷ [])) ≤ 1
+makes_few : (says : HistoryLine) (o : Option SlotPath) → made_by says ≡ o → length (makes (says ∷ [])) ≤ 1
 makes_few says None is = let none : makes (says ∷ []) ≡ [] = rw is refl in omega (arith, ap length none)
 makes_few says (Some m) is = let one : makes (says ∷ []) ≡ m ∷ [] = rw is refl in omega (arith, ap length one)
 

@@ -7,7 +7,7 @@ use Rattle.std.proofs.lemmas.List.{append-nil}
 use Rattle.base.proofs.BytesLaws.{bytes_eq_self, same_bytes}
 use Rattle.base.proofs.PlaceLaws.{heads_are}
 use Rattle.change_script.specs.Reports as reports
-use Rattle.change_script.specs.Reports.{LogsAreMade, Made, ended, history_text, log_head, log_text, makes, text_by, unfinished_text, version_number}
+use Rattle.change_script.specs.Reports.{LogsAreMade, SlotPath, ended, history_text, log_head, log_text, makes, text_by, unfinished_text, version_number}
 use Rattle.change_script.specs.Writing.{spaced, with_one, IsNumber}
 use Rattle.change_script.specs.declared.report.HistoryLine.{HistoryLine}
 use Rattle.change_script.specs.declared.report.NodeLog.{NodeLog}
@@ -92,7 +92,7 @@ unfinished_stops n low =
     let ws = unfinished_words n low in
     record { graph = ap is_graph_line ws; show = show_not (with_one (codes "unfinished") n) (codes "unfinished") (decimal n ∷ []) ws refl; says = ap line_in ws }
 
-head_stops : (version : Version) (made : Made) → CanHead version made → Stops (log_head (written_by version) made.path made.slot)
+head_stops : (version : Version) (made : SlotPath) → CanHead version made → Stops (log_head (written_by version) made.path made.slot)
 head_stops versions.First made can =
     let ws = head_words made.slot can.low in
     record { graph = ap is_graph_line ws; show = show_not (with_one (codes "log") made.slot) (codes "log") (decimal made.slot ∷ []) ws refl; says = ap line_in ws }
@@ -165,7 +165,7 @@ first_is : (version : Version) → (lacks 10 (with_one (codes "report") (version
 first_is versions.First = (ap (lacks 10) first_text, ap version_in first_text)
 first_is versions.Second = (ap (lacks 10) second_text, ap version_in second_text)
 
-begins_logs : (version : Version) (all mades : List Made) (logs : List NodeLog) (rest : List ℕ) → AllOf version all mades logs → AllHead version mades → Begins rest
+begins_logs : (version : Version) (all mades : List SlotPath) (logs : List NodeLog) (rest : List ℕ) → AllOf version all mades logs → AllHead version mades → Begins rest
     → Begins (flat_map (log_text (written_by version) all) logs ++ rest)
 begins_logs version all [] [] rest of_them heads begins = begins
 begins_logs version all (made ∷ others) [] rest of_them heads begins = absurd of_them
@@ -183,14 +183,14 @@ begins_logs version all (made ∷ others) (log ∷ logs) rest of_them heads begi
     subst Begins (sym same) one
 
 -- the nodes of a report are found by their slots
-pub found_in : (version : Version) (report : Report) → IsReport version report → (k : ℕ) (m : Made) → slice_get (makes report.history) k ≡ Some m → FoundBy (makes report.history) m
+pub found_in : (version : Version) (report : Report) → IsReport version report → (k : ℕ) (m : SlotPath) → slice_get (makes report.history) k ≡ Some m → FoundBy (makes report.history) m
 found_in version report is k m at = (found_by 0 (makes report.history) k m (slots_in_order version [] report.history is.history refl) at).0
 
 module _ (tells : (graph : Graph) → CanBeShown graph → IsTold graph) (version : Version) (report : Report) (is : IsReport version report) where
   abbrev by_version : reports.Version
   by_version = written_by version
 
-  abbrev made : List Made
+  abbrev made : List SlotPath
   made = makes report.history
 
   abbrev status_text : List ℕ

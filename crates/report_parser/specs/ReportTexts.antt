@@ -7,7 +7,7 @@ use Rattle.config_graph.specs.Sound.{Sound}
 use Rattle.config_graph.specs.declared.node.Node.{Node}
 use Rattle.quiesce_core.specs.declared.event.Event.{Event}
 use Rattle.change_script.specs.Reports as reports
-use Rattle.change_script.specs.Reports.{Made, ended, history_text, made_by, makes, text_by}
+use Rattle.change_script.specs.Reports.{SlotPath, ended, history_text, made_by, makes, text_by}
 use Rattle.change_script.specs.declared.report.HistoryLine.{HistoryLine}
 use Rattle.change_script.specs.declared.report.HistoryLine.TheVariants as history
 use Rattle.change_script.specs.declared.report.NodeLog.{NodeLog}
@@ -59,7 +59,7 @@ ends_pending (first ∷ next ∷ more) = ends_pending (next ∷ more)
 -- nothing but such lines between.
 pub record StandsBehind (version : Version) (before : List HistoryLine) (says : HistoryLine) : Type 0 where
   pub can : CanStand version says
-  pub slot : IfSome (made_by says) (λ (made : Made). made.slot ≡ length (makes before))
+  pub slot : IfSome (made_by says) (λ (made : SlotPath). made.slot ≡ length (makes before))
   pub opens : is_root says ≡ true → ends_pending before ≡ true
 
 -- what the log of a node can be
@@ -71,7 +71,7 @@ pub record IsLog (version : Version) (log : NodeLog) : Type 0 where
 -- A report that can be written, and that can be read again: it has one log of each node that is made, in order.
 pub record IsReport (version : Version) (report : Report) : Type 0 where
   pub history : Each (StandsBehind version) report.history
-  pub logs : map (λ (log : NodeLog). log.slot) report.logs ≡ map (λ (made : Made). made.slot) (makes report.history)
+  pub logs : map (λ (log : NodeLog). log.slot) report.logs ≡ map (λ (made : SlotPath). made.slot) (makes report.history)
   pub each_log : All (IsLog version) report.logs
   pub unfinished : IfSome report.unfinished (λ slot. IsNumber slot × (is_slot version slot ≡ true))
   pub status : report.status < 256

@@ -1,7 +1,7 @@
 -- How a report is read from the lines of its text, in stages: each reads as many lines as fit, and the next names the line that doesn't.
 use Rattle.std.specs.Prelude.{◌≡◌, ℕ, ◌+◌, ◌==◌, Bool, true, false, ◌&&◌, if◌then◌else◌, List, [], ◌∷◌, ◌++◌, bytes_eq, codes, length, Option, Some, None, option_map, Result, Ok, Err}
 use Rattle.quiesce_core.specs.declared.event.Event.{Event}
-use Rattle.change_script.specs.Reports.{Made, log_head, makes}
+use Rattle.change_script.specs.Reports.{SlotPath, log_head, makes}
 use Rattle.change_script.specs.declared.report.HistoryLine.{HistoryLine}
 use Rattle.change_script.specs.declared.report.HistoryLine.TheVariants as history
 use Rattle.change_script.specs.declared.report.Last.{Last}
@@ -129,10 +129,10 @@ last_from version number [] = Err faults.Short
 last_from version number (line ∷ more) = named (last_of version line) number more
 
 -- the line above the log of a node
-abbrev pub head_in : Version → Made → List ℕ → Option Made
+abbrev pub head_in : Version → SlotPath → List ℕ → Option SlotPath
 head_in version made line = if bytes_eq line (log_head (written_by version) made.path made.slot) then Some made else None
 
-abbrev pub head_from : Version → Made → ℕ → List (List ℕ) → Stage Made
+abbrev pub head_from : Version → SlotPath → ℕ → List (List ℕ) → Stage SlotPath
 head_from version made number [] = Err faults.Short
 head_from version made number (line ∷ more) = named (head_in version made line) number more
 
@@ -143,12 +143,12 @@ log_with slot events last = front (record { slot = slot; events = events; last =
 abbrev pub ended_from : Version → ℕ → Front (List Event) → Stage NodeLog
 ended_from version slot events = after (last_from version events.number events.left) (λ last. Ok (log_with slot events.read last))
 
-abbrev pub log_from : Version → Made → ℕ → List (List ℕ) → Stage NodeLog
+abbrev pub log_from : Version → SlotPath → ℕ → List (List ℕ) → Stage NodeLog
 log_from version made number left =
     after (head_from version made number left) (λ head. ended_from version made.slot (events_from version [] head.number head.left))
 
 -- one log of each node that is made, in order
-abbrev pub logs_from : Version → List Made → List NodeLog → ℕ → List (List ℕ) → Stage (List NodeLog)
+abbrev pub logs_from : Version → List SlotPath → List NodeLog → ℕ → List (List ℕ) → Stage (List NodeLog)
 logs_from version [] logs number left = Ok (front logs number left)
 logs_from version (made ∷ others) logs number left =
     after (log_from version made number left) (λ log. logs_from version others (logs ++ log.read ∷ []) log.number log.left)

@@ -6,7 +6,7 @@ use Rattle.std.proofs.lemmas.Bool.{cases_Bool, cond-false, cond-true, eq-eqb, eq
 use Rattle.std.proofs.lemmas.List.Elements.{All-cons, All-nil}
 use Rattle.base.proofs.PlaceLaws.{heads_are, tails_are}
 use Rattle.quiesce_core.specs.declared.event.Event.{Event}
-use Rattle.change_script.specs.Reports.{HasOneMake, LogsAreMade, Made, makes}
+use Rattle.change_script.specs.Reports.{HasOneMake, LogsAreMade, SlotPath, makes}
 use Rattle.change_script.specs.declared.report.HistoryLine.{HistoryLine}
 use Rattle.change_script.specs.declared.report.HistoryLine.TheVariants as to
 use Rattle.change_script.specs.declared.report.NodeLog.{NodeLog}
@@ -24,11 +24,11 @@ use Rattle.script_runner.specs.Ran.{HasCarriedOut}
 
 -- ---- slots that are numbered from a on: each is that of one node
 
-abbrev slots : List Made → List ℕ
-slots made = map (λ (m : Made). m.slot) made
+abbrev slots : List SlotPath → List ℕ
+slots made = map (λ (m : SlotPath). m.slot) made
 
-abbrev counted : ℕ → List Made → List Made
-counted slot made = filter (λ (m : Made). m.slot == slot) made
+abbrev counted : ℕ → List SlotPath → List SlotPath
+counted slot made = filter (λ (m : SlotPath). m.slot == slot) made
 
 differ : (a b : ℕ) → (a ≡ b → ⊥) → (a == b) ≡ false
 differ a b other =
@@ -37,7 +37,7 @@ differ a b other =
       | inr differs ↦ differs
     ]
 
-none_above : (slot a n : ℕ) (made : List Made) → slots made ≡ range_with_len a n → slot < a → counted slot made ≡ []
+none_above : (slot a n : ℕ) (made : List SlotPath) → slots made ≡ range_with_len a n → slot < a → counted slot made ≡ []
 none_above slot a n [] so low = refl
 none_above slot a zero (x ∷ xs) so low = absurd (cc so)
 none_above slot a (suc n) (x ∷ xs) so low =
@@ -45,7 +45,7 @@ none_above slot a (suc n) (x ∷ xs) so low =
     let more = tails_are x.slot a (slots xs) (range_with_len (a + 1) n) so in
     cond-false _ _ _ (differ x.slot slot (λ e. omega (arith, here, e, low))) ∙ none_above slot (a + 1) n xs more (omega (arith, low))
 
-one_of : (k a n : ℕ) (made : List Made) → slots made ≡ range_with_len a n → k < n → length (counted (a + k) made) ≡ 1
+one_of : (k a n : ℕ) (made : List SlotPath) → slots made ≡ range_with_len a n → k < n → length (counted (a + k) made) ≡ 1
 one_of k a zero made so low = absurd (omega (arith, low))
 one_of k a (suc n) [] so low = absurd (cc so)
 one_of zero a (suc n) (x ∷ xs) so low =

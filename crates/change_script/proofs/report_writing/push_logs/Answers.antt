@@ -3,14 +3,14 @@ use Rattle.std.specs.Prelude.{filter, flat_map}
 use Rattle.std.proofs.lemmas.List.Elements.{All-get_or}
 use Rattle.change_script.specs.declared.report.NodeLog.{NodeLog}
 use Rattle.change_script.specs.MadeNodes.{made_of}
-use Rattle.change_script.specs.Reports.{Made, ended, event_text, last_text, log_head, log_text, second}
+use Rattle.change_script.specs.Reports.{SlotPath, ended, event_text, last_text, log_head, log_text, second}
 use Rattle.change_script.proofs.ReportTextLemmas.{line_more}
 use Rattle.change_script.proofs.report_writing.push_logs.Goals as goal
 use Rattle.base.proofs.LinesLaws.{lines_all}
 
 pub path_of-requires : goal.path_of-requires
 path_of-requires c =
-    let P : NodeLog → Type 0 = λ log. length (filter (λ (m : Made). m.slot == log.slot) (map made_of c.args.made.now)) ≡ 1 in
+    let P : NodeLog → Type 0 = λ log. length (filter (λ (m : SlotPath). m.slot == log.slot) (map made_of c.args.made.now)) ≡ 1 in
     subst P (sym c.log-item.is) (All-get_or P c.args.logs.now c.loop-log.log-index c.log-item.result c.loop-log-test.true c.requires)
 
 pub loop-log-preserved : goal.loop-log-preserved

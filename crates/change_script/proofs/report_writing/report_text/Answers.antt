@@ -3,14 +3,14 @@ use Rattle.std.specs.Prelude.{All, filter}
 use Rattle.change_script.specs.declared.report.HistoryLine.{HistoryLine}
 use Rattle.change_script.specs.declared.report.NodeLog.{NodeLog}
 use Rattle.change_script.specs.MadeNodes.{made_of}
-use Rattle.change_script.specs.Reports.{HasOneMake, Made, makes}
+use Rattle.change_script.specs.Reports.{HasOneMake, SlotPath, makes}
 use Rattle.change_script.proofs.report_writing.report_text.Goals as goal
 
 -- each log is of one of the nodes made, where each is of a slot that is made once
-each_made_once : (history : List HistoryLine) (made : List Made) (logs all : List NodeLog) → made ≡ makes history → logs ≡ all
-    → All (λ (log : NodeLog). HasOneMake history log.slot) all → All (λ (log : NodeLog). length (filter (λ (m : Made). m.slot == log.slot) made) ≡ 1) logs
+each_made_once : (history : List HistoryLine) (made : List SlotPath) (logs all : List NodeLog) → made ≡ makes history → logs ≡ all
+    → All (λ (log : NodeLog). HasOneMake history log.slot) all → All (λ (log : NodeLog). length (filter (λ (m : SlotPath). m.slot == log.slot) made) ≡ 1) logs
 each_made_once history made logs all made_is logs_are once =
-    let of : List Made → List NodeLog → Type 0 = λ ms ls. All (λ (log : NodeLog). length (filter (λ (m : Made). m.slot == log.slot) ms) ≡ 1) ls in
+    let of : List SlotPath → List NodeLog → Type 0 = λ ms ls. All (λ (log : NodeLog). length (filter (λ (m : SlotPath). m.slot == log.slot) ms) ≡ 1) ls in
     let here : of (makes history) logs = subst (of (makes history)) (sym logs_are) once in
     subst (λ ms. of ms logs) (sym made_is) here
 
