@@ -23,7 +23,7 @@ use Rattle.quiescence_laws.specs.Events.{is_end}
 use Rattle.quiescence_laws.proofs.SerialLaws.{tallied}
 use Rattle.base.proofs.SumLaws.{at_term, sum_le, sum_plus, sum_term, sum_zero, term_here, term_there}
 
-sum_same : (f g : ℕ → ℕ) (n : ℕ) → ((i : ℕ) → f i ≡ g i) → sum_by f (range_with_len 0 n) ≡ sum_by g (range_with_len 0 n)
+pub sum_same : (f g : ℕ → ℕ) (n : ℕ) → ((i : ℕ) → f i ≡ g i) → sum_by f (range_with_len 0 n) ≡ sum_by g (range_with_len 0 n)
 sum_same f g n h = omega (arith, sum_le f g 0 n (λ i. omega (arith, h i)), sum_le g f 0 n (λ i. omega (arith, h i)))
 
 -- an event ends a transaction of one port, if any
@@ -63,15 +63,18 @@ one_open phase.Asked taken g xs = omega arith
 one_open phase.Answered taken g xs = omega arith
 one_open phase.More taken g xs = omega arith
 
+abbrev pub is_busy_at : State → ℕ → ℕ
+is_busy_at s p = cond (is_idle (exchange s p).phase) 0 1
+
 -- and the ports that aren't idle those that have an open transaction
-open_ports : (s : State) (a n : ℕ) → length (filter_map (open_txn s) (range_with_len a n)) ≡ sum_by (λ p. cond (is_idle (exchange s p).phase) 0 1) (range_with_len a n)
+pub open_ports : (s : State) (a n : ℕ) → length (filter_map (open_txn s) (range_with_len a n)) ≡ sum_by (is_busy_at s) (range_with_len a n)
 open_ports s a zero = refl
 open_ports s a (suc n) =
     omega (
       arith,
       one_open (exchange s a).phase (is_taken s a) (λ st. record { port = a; serial = (exchange s a).serial; root = is_none (exchange s a).within; stage = st }) (filter_map (open_txn s) (range_with_len (a + 1) n)),
       open_ports s (a + 1) n,
-      sum_by-cons (λ p. cond (is_idle (exchange s p).phase) 0 1) a (range_with_len (a + 1) n),
+      sum_by-cons (is_busy_at s) a (range_with_len (a + 1) n),
     )
 
 pub ends_make_all_serials : (es : List Event) → IsRun es
@@ -85,8 +88,8 @@ ends_make_all_serials es run =
     omega (arith, (tallied es q run).count, fresh) in
     omega (
       arith,
-      sum_same (λ p. (exchange s p).serial) (λ p. count_by (is_end_at p) es + cond (is_idle (exchange s p).phase) 0 1) n (λ p. sym (tallied es p run).count),
-      sum_plus (λ p. count_by (is_end_at p) es) (λ p. cond (is_idle (exchange s p).phase) 0 1) 0 n,
+      sum_same (λ p. (exchange s p).serial) (λ p. count_by (is_end_at p) es + is_busy_at s p) n (λ p. sym (tallied es p run).count),
+      sum_plus (λ p. count_by (is_end_at p) es) (is_busy_at s) 0 n,
       ends_of_ports n es none_behind,
       open_ports s 0 n,
     )

@@ -1,58 +1,29 @@
 -- How many transactions looks at all ports show as ended: so many as ended.
-use Rattle.std.proofs.Common.{◌≡◌, ◌∙◌, ℕ, zero, suc, ◌+◌, ◌-◌, Bool, true, false, cond, List, [], ◌∷◌, length, refl, sym, ap, arith, ⊎_elim}
-use Rattle.std.specs.Prelude.{filter_map, is_none, option_map, sum_by}
-use Rattle.std.specs.List.{cons_option, count_by, range_with_len}
+use Rattle.std.proofs.Common.{◌≡◌, ◌∙◌, ℕ, ◌+◌, ◌-◌, Bool, true, false, cond, List, [], ◌∷◌, length, refl, sym, ap, arith, ⊎_elim}
+use Rattle.std.specs.Prelude.{sum_by}
+use Rattle.std.specs.List.{count_by, range_with_len}
 use Rattle.std.proofs.lemmas.Bool.{cases_Bool}
 use Rattle.std.proofs.lemmas.List.Sums.{sum_by-cons}
-use Rattle.base.proofs.SumLaws.{sum_le, sum_plus}
+use Rattle.base.proofs.SumLaws.{sum_plus}
 use Rattle.gate_records.specs.Looks.{ended_in_word}
 use Rattle.change_board.specs.Scans.{Found, all_ports, ended_in, ports_of}
 use Rattle.gate_word.specs.Phases.{is_idle}
-use Rattle.gate_word.specs.declared.phase.Phase.{Phase}
-use Rattle.gate_word.specs.declared.phase.Phase.TheVariants as phase
 use Rattle.gate_word.specs.declared.word.Word.{Word}
 use Rattle.quiesce_core.specs.Doers.{is_end_at}
-use Rattle.quiesce_core.specs.Open.{open_txn, stage_of}
-use Rattle.quiesce_core.specs.Rules.{is_taken}
 use Rattle.quiesce_core.specs.Runs.{IsRun, state_after}
 use Rattle.quiesce_core.specs.State.{Configuration, State, exchange}
 use Rattle.quiesce_core.specs.Words.{word_of}
 use Rattle.quiesce_core.specs.declared.event.Event.{Event}
 use Rattle.quiesce_core.specs.declared.event.Event.TheVariants.{Begin, Call, Take, Give, End, More, Ask, Hear, Miss, Close, Reopen, Make, Link, Unlink, Remove}
 use Rattle.quiesce_core.specs.declared.state.Exchange.{Exchange}
-use Rattle.quiesce_core.specs.declared.state.OpenTxn.{OpenTxn}
-use Rattle.quiesce_core.specs.declared.state.Stage.{Stage}
 use Rattle.quiescence_laws.proofs.SerialLaws.{busy_serial, tallied}
-use Rattle.quiescence_laws.proofs.TotalLaws.{ends_make_all_serials}
+use Rattle.quiescence_laws.proofs.TotalLaws.{ends_make_all_serials, is_busy_at, open_ports, sum_same}
 use Rattle.quiescence_laws.specs.Events as law
 use Rattle.step_board.specs.RunFacts.{machine_is, reached_runs}
 use Rattle.turn_laws.specs.Reached.{IsReached}
 use Rattle.turns.specs.Round.{ended, is_end}
 use Rattle.turns.specs.World.{World}
 use Rattle.serial_laws.proofs.WaitLaws.{AreTrue, fields_seen}
-
-sum_same : (f g : ℕ → ℕ) (n : ℕ) → ((i : ℕ) → f i ≡ g i) → sum_by f (range_with_len 0 n) ≡ sum_by g (range_with_len 0 n)
-sum_same f g n h = omega (arith, sum_le f g 0 n (λ i. omega (arith, h i)), sum_le g f 0 n (λ i. omega (arith, h i)))
-
--- the ports that aren't idle are those that have an open transaction
-one_open : (f : Phase) (taken : Bool) (g : Stage → OpenTxn) (xs : List OpenTxn) → length (cons_option (option_map g (stage_of f taken)) xs) ≡ cond (is_idle f) 0 1 + length xs
-one_open phase.Idle taken g xs = omega arith
-one_open phase.Asked taken g xs = omega arith
-one_open phase.Answered taken g xs = omega arith
-one_open phase.More taken g xs = omega arith
-
-abbrev is_busy_at : State → ℕ → ℕ
-is_busy_at s p = cond (is_idle (exchange s p).phase) 0 1
-
-open_ports : (s : State) (a n : ℕ) → length (filter_map (open_txn s) (range_with_len a n)) ≡ sum_by (is_busy_at s) (range_with_len a n)
-open_ports s a zero = refl
-open_ports s a (suc n) =
-    omega (
-      arith,
-      one_open (exchange s a).phase (is_taken s a) (λ st. record { port = a; serial = (exchange s a).serial; root = is_none (exchange s a).within; stage = st }) (filter_map (open_txn s) (range_with_len (a + 1) n)),
-      open_ports s (a + 1) n,
-      sum_by-cons (is_busy_at s) a (range_with_len (a + 1) n),
-    )
 
 -- how many have ended at a port
 abbrev ended_at : State → ℕ → ℕ
