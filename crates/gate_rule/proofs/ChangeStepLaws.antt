@@ -50,11 +50,11 @@ module _ (nodes : List NodeView) (c : ChangeView) (t : Gates) (h : Holds t) (id 
   s = state_at h.trace.moments
 
   w : IsWellFormed s
-  w = runs_are_well_formed (events h.trace.moments) h.reached.is_record.runs
+  w = runs_are_well_formed (events h.trace.moments) h.is_trace.is_record.runs
 
   -- its record is that of the trace
   is_record : IsRecordOf c.entries h.trace.moments
-  is_record = subst (λ r. IsRecordOf r h.trace.moments) (sym ((h.views id (of_change nodes c) at).change c refl).entries) h.reached.is_record
+  is_record = subst (λ r. IsRecordOf r h.trace.moments) (sym ((h.views id (of_change nodes c) at).change c refl).entries) h.is_trace.is_record
 
   config : config_of c.entries ≡ s.config
   config = config_is c.entries h.trace.moments is_record

@@ -66,8 +66,8 @@ pub meets : (slots id i : ℕ) (n : NodeView) (nodes : List NodeView) (c : Chang
 meets slots id i n nodes c t h _ at _ =
     let fit = h.views id (of_change (n ∷ nodes) c) at in
     let es = events h.trace.moments in
-    let run = h.reached.is_record.runs in
-    let mine = subst (λ r. IsRecordOf r h.trace.moments) (sym (fit.change c refl).entries) h.reached.is_record in (
+    let run = h.is_trace.is_record.runs in
+    let mine = subst (λ r. IsRecordOf r h.trace.moments) (sym (fit.change c refl).entries) h.is_trace.is_record in (
       of_change (n ∷ nodes) c,
       keeps,
       tt,
@@ -121,9 +121,9 @@ merges slots id p nodes c few all t h _ at _ =
         refl,
         record {
           moments = w.moments ++ entry x ∷ [];
-          is_record = subst (λ r. IsRecordOf (r ++ x ∷ []) (w.moments ++ entry x ∷ [])) (sym mine.entries) (seen_more w.entries w.moments x h.reached.is_record refl so);
+          is_record = subst (λ r. IsRecordOf (r ++ x ∷ []) (w.moments ++ entry x ∷ [])) (sym mine.entries) (seen_more w.entries w.moments x h.is_trace.is_record refl so);
           logs = λ n. ap (done_by n) same ∙ logs_are (events w.moments) n c.seats nodes all
-              (λ m none_. h.reached.unseated m (subst (λ k. k ≤ m) mine.seats none_))
+              (λ m none_. h.is_trace.unseated m (subst (λ k. k ≤ m) mine.seats none_))
               (all_into (FitsNode w id) (KnowsNode (events w.moments)) nodes (λ u f. f.knows) fit.nodes);
         },
       ),

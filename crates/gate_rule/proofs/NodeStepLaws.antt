@@ -64,7 +64,7 @@ module _ (n : NodeView) (t : Gates) (h : Holds t) (id : ℕ) (at : get_elem? t.v
   s = state_at h.trace.moments
 
   run : IsRun es
-  run = h.reached.is_record.runs
+  run = h.is_trace.is_record.runs
 
   mine : KnowsNode es n
   mine = (h.views id (of_node n) at).nodes.0.knows

@@ -64,7 +64,7 @@ module _ (t : Table (Unit {0}) View) (h : Holds t) (id : ℕ) where
 
   module _ (nodes : List NodeView) (c : ChangeView) (at : get_elem? t.views id ≡ some (of_change nodes c)) where
     pub is_record : IsRecordOf c.entries h.trace.moments
-    is_record = subst (λ r. IsRecordOf r h.trace.moments) (sym ((h.views id (of_change nodes c) at).change c refl).entries) h.reached.is_record
+    is_record = subst (λ r. IsRecordOf r h.trace.moments) (sym ((h.views id (of_change nodes c) at).change c refl).entries) h.is_trace.is_record
 
     pub given_out : c.seats ≡ h.trace.seats
     given_out = ((h.views id (of_change nodes c) at).change c refl).seats
@@ -79,7 +79,7 @@ module _ (t : Table (Unit {0}) View) (h : Holds t) (id : ℕ) where
     noted_settled n noted =
         let here : IsNoted (is_noted c.entries) (state_at h.trace.moments).config n =
         subst (λ (k : Configuration). IsNoted (is_noted c.entries) k n) (config_is c.entries h.trace.moments is_record) noted in
-        settled_if_drained (events h.trace.moments) n h.reached.is_record.runs here.live (λ p own. noted_drained p (here.own p own)) (λ p reach. noted_drained p (here.reaching p reach))
+        settled_if_drained (events h.trace.moments) n h.is_trace.is_record.runs here.live (λ p own. noted_drained p (here.own p own)) (λ p reach. noted_drained p (here.reaching p reach))
 
     pub drained_until : (r more_ : List Entry) → c.entries ≡ r ++ more_ → (p : ℕ) → is_noted r p ≡ true → list_any (reopens p) (events_in more_) ≡ false → is_drained (state_at h.trace.moments) p ≡ true
     drained_until r more_ parts = still_drained r more_ h.trace.moments (subst (λ xs. IsRecordOf xs h.trace.moments) parts is_record)

@@ -119,11 +119,11 @@ joined w ms r views id other nodes c c' n two at there seated = record {
 module _ (id : ℕ) (nodes : List NodeView) (c : ChangeView) (more_ : c.seats < length (config_of c.entries).slots) where
   -- a node whose seat wasn't given out is known as the record has it
   newest_known : (w : Trace) → IsTrace w → c.seats ≡ w.seats → c.entries ≡ w.entries → KnowsNode (events w.moments) (newest c)
-  newest_known w reached seats entries =
+  newest_known w is_trace seats entries =
       let es = events w.moments in
-      let run = reached.is_record.runs in
-      let config = config_is c.entries w.moments (subst (λ r. IsRecordOf r w.moments) (sym entries) reached.is_record) in
-      let none_ : done_by c.seats es ≡ [] = reached.unseated c.seats (omega (arith, seats)) in
+      let run = is_trace.is_record.runs in
+      let config = config_is c.entries w.moments (subst (λ r. IsRecordOf r w.moments) (sym entries) is_trace.is_record) in
+      let none_ : done_by c.seats es ≡ [] = is_trace.unseated c.seats (omega (arith, seats)) in
       let m = slice_get-there (config_of c.entries).slots c.seats more_ in
       let there : slot (config_of c.entries) c.seats ≡ Some m.0 = m.1 in
       record {
@@ -146,7 +146,7 @@ module _ (id : ℕ) (nodes : List NodeView) (c : ChangeView) (more_ : c.seats < 
       λ j u f. other_owner w c.seats (length t.views) (w.seats + 1) j u (omega arith) (λ is. omega (arith, is, f.seated, mine.seats)) f in
       let c' : ChangeView = record c { seats = c.seats + 1 } in
       holds_parted t w' id (of_change nodes c') (of_node (newest c)) t.homes
-      (record { is_record = h.reached.is_record; unseated = λ n none_. h.reached.unseated n (omega (arith, none_)) })
+      (record { is_record = h.is_trace.is_record; unseated = λ n none_. h.is_trace.unseated n (omega (arith, none_)) })
       h.shows
       (λ j u apart there.
       let f = h.views j u there in
@@ -165,7 +165,7 @@ module _ (id : ℕ) (nodes : List NodeView) (c : ChangeView) (more_ : c.seats < 
           record {
             owned = own_here w.owner c.seats (length t.views);
             seated = (let same = mine.seats in omega (arith, same));
-            knows = newest_known w h.reached mine.seats mine.entries;
+            knows = newest_known w h.is_trace mine.seats mine.entries;
           },
           tt,
         );
@@ -181,7 +181,7 @@ adopts slots id n t h _ at _ =
     let fit = (h.views id (of_node n) at).nodes.0 in
     let es = events h.trace.moments in
     let s = state_after es in
-    let run = h.reached.is_record.runs in
+    let run = h.is_trace.is_record.runs in
     let m = option_map_some slot_fields_of (slot s.config n.slot) n.made fit.knows.made in
     let few : n.slot < MAX_NODES = omega (arith, slice_get_within s.config.slots n.slot m.0 m.1, (runs_are_well_formed es run).sound.few_nodes) in (
       of_node n,
@@ -196,7 +196,7 @@ adopts slots id n t h _ at _ =
 
 module _ (id : ℕ) (nodes : List NodeView) (c : ChangeView) (other : ℕ) (n : NodeView) (t : Table (Unit {0}) View) (h : Holds t) (at : get_elem? t.views id ≡ some (of_change nodes c))
     (two : ¬ (other ≡ id)) (there : get_elem? t.views other ≡ some (of_node n)) (c' : ChangeView) (w' : Trace) (owner : w'.owner ≡ own h.trace.owner n.slot id) (change : w'.change ≡ h.trace.change)
-    (seats : w'.seats ≡ h.trace.seats) (same : events w'.moments ≡ events h.trace.moments) (reached : IsTrace w') (seats' : c'.seats ≡ w'.seats) (entries' : c'.entries ≡ w'.entries)
+    (seats : w'.seats ≡ h.trace.seats) (same : events w'.moments ≡ events h.trace.moments) (is_trace : IsTrace w') (seats' : c'.seats ≡ w'.seats) (entries' : c'.entries ≡ w'.entries)
     (seated : AreSeated w' (set (set t.views id (of_change (n ∷ nodes) c')) other nobody)) where
   abbrev w : Trace
   w = h.trace
@@ -226,7 +226,7 @@ module _ (id : ℕ) (nodes : List NodeView) (c : ChangeView) (other : ℕ) (n : 
 
   pub joins : Holds (record { words = t.words; homes = t.homes; views = set (set t.views id (of_change (n ∷ nodes) c')) other nobody })
   joins =
-      holds_joined t w' id other (of_change (n ∷ nodes) c') t.homes reached
+      holds_joined t w' id other (of_change (n ∷ nodes) c') t.homes is_trace
       (subst (λ es. Shows t.words (state_after es)) (sym same) h.shows)
       (λ j u not_id not_other there'.
       let f = h.views j u there' in
@@ -260,7 +260,7 @@ takes_seat id nodes c other n t h at two at' =
     let mine = (h.views id (of_change nodes c) at).change c refl in
     let there = elsewhere t.views id other (with_seat (of_change nodes c) (of_node n)) (of_node n) two at' in
     joins id nodes c other n t h at two there c (record w { owner = own w.owner n.slot id }) refl refl refl refl
-    (record { is_record = h.reached.is_record; unseated = h.reached.unseated }) mine.seats mine.entries
+    (record { is_record = h.is_trace.is_record; unseated = h.is_trace.unseated }) mine.seats mine.entries
     (joined w w.moments w.entries t.views id other nodes c c n two at there h.seated)
 
 pub takes_sight : (id : ℕ) (nodes : List NodeView) (c : ChangeView) (other : ℕ) (n : NodeView)
@@ -274,8 +274,8 @@ takes_sight id nodes c other n t h at two at' =
     let same = quiet_events w.moments x refl in
     joins id nodes c other n t h at two there (notes c x) (record w { owner = own w.owner n.slot id; moments = w.moments ++ entry x ∷ []; entries = w.entries ++ x ∷ [] }) refl refl refl same
     (record {
-      is_record = seen_more w.entries w.moments x h.reached.is_record refl theirs.knows.log;
-      unseated = λ m none_. ap (done_by m) same ∙ h.reached.unseated m none_;
+      is_record = seen_more w.entries w.moments x h.is_trace.is_record refl theirs.knows.log;
+      unseated = λ m none_. ap (done_by m) same ∙ h.is_trace.unseated m none_;
     })
     mine.seats (ap (λ r. r ++ x ∷ []) mine.entries)
     (joined w (w.moments ++ entry x ∷ []) (w.entries ++ x ∷ []) t.views id other nodes c (notes c x) n two at there h.seated)
@@ -292,7 +292,7 @@ gives_back id n nodes c t h at =
     let node : (j : ℕ) (u : NodeView) → u.slot ≢ n.slot → FitsNode w j u → FitsNode w' j u =
     λ j u apart f. other_owner w n.slot new w.seats j u (omega arith) apart f in
     holds_parted t w' id (of_change nodes c) (of_node n) t.homes
-    (record { is_record = h.reached.is_record; unseated = h.reached.unseated })
+    (record { is_record = h.is_trace.is_record; unseated = h.is_trace.unseated })
     h.shows
     (λ j u apart there.
     let f = h.views j u there in
@@ -336,7 +336,7 @@ first_shows = record {
 pub begins : Holds (opening first_words [] (of_change [] nothing_done))
 begins = record {
   trace = record { moments = []; entries = []; owner = λ n. 0; change = 0; seats = 0 };
-  reached = record { is_record = record { record_is = refl; runs = tt; so = tt }; unseated = λ n none_. refl };
+  is_trace = record { is_record = record { record_is = refl; runs = tt; so = tt }; unseated = λ n none_. refl };
   shows = first_shows;
   views = one;
   seated = record { nodes = λ n few. absurd (omega (arith, few)); change = (of_change [] nothing_done, refl, refl) };

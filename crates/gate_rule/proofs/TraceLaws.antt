@@ -96,9 +96,9 @@ passes_view w w' id j v pass apart fits = record {
 -- the rule holds of new words and a new view, where the others' views fit the new trace
 pub holds_next : (t : Table (Unit {0}) View) (h : Holds t) (w : Trace) (words : List ℕ) (homes : List (Maybe (Unit {0}))) (id : ℕ) (v : View) → IsTrace w → Shows words (state_at w.moments)
     → Passes h.trace w id → FitsView w id v → AreSeated w (set t.views id v) → Holds (record { words = words; homes = homes; views = set t.views id v })
-holds_next t h w words homes id v reached shows pass fits seated = record {
+holds_next t h w words homes id v is_trace shows pass fits seated = record {
   trace = w;
-  reached = reached;
+  is_trace = is_trace;
   shows = shows;
   views = λ j u at. ⊎_elim
       (λ (x : (j ≡ id) × (v ≡ u)). subst (λ (y : ℕ × View). FitsView w y.0 y.1) (λ i. (sym x.0 i, x.1 i)) fits)
@@ -111,9 +111,9 @@ holds_next t h w words homes id v reached shows pass fits seated = record {
 pub holds_joined : (t : Table (Unit {0}) View) (w : Trace) (id other : ℕ) (both : View) (homes : List (Maybe (Unit {0}))) → IsTrace w → Shows t.words (state_at w.moments)
     → ((j : ℕ) (u : View) → j ≢ id → j ≢ other → get_elem? t.views j ≡ some u → FitsView w j u) → FitsView w id both
     → AreSeated w (set (set t.views id both) other nobody) → Holds (record { words = t.words; homes = homes; views = set (set t.views id both) other nobody })
-holds_joined t w id other both homes reached shows others fits seated = record {
+holds_joined t w id other both homes is_trace shows others fits seated = record {
   trace = w;
-  reached = reached;
+  is_trace = is_trace;
   shows = shows;
   views = λ j u at. ⊎_elim
       (λ (x : (j ≡ other) × (nobody ≡ u)). subst (FitsView w j) x.1 (record { nodes = tt; apart = tt; change = λ c is. absurd (cc is) }))
@@ -136,9 +136,9 @@ at_more (x ∷ xs) v u (suc n) e = ⊎_elim inl (λ y. inr (ap suc y.0, y.1)) (a
 pub holds_parted : (t : Table (Unit {0}) View) (w : Trace) (id : ℕ) (left right : View) (homes : List (Maybe (Unit {0}))) → IsTrace w → Shows t.words (state_at w.moments)
     → ((j : ℕ) (u : View) → j ≢ id → get_elem? t.views j ≡ some u → FitsView w j u) → FitsView w id left → FitsView w (length t.views) right
     → AreSeated w (set t.views id left ++ right ∷ []) → Holds (record { words = t.words; homes = homes; views = set t.views id left ++ right ∷ [] })
-holds_parted t w id left right homes reached shows others fits new seated = record {
+holds_parted t w id left right homes is_trace shows others fits new seated = record {
   trace = w;
-  reached = reached;
+  is_trace = is_trace;
   shows = shows;
   views = λ j u at. ⊎_elim
       (λ (x : get_elem? (set t.views id left) j ≡ some u). ⊎_elim
@@ -219,13 +219,13 @@ module _ (t : Table (Unit {0}) View) (h : Holds t) (id : ℕ) (homes : List (May
       let was = (h.views id (of_node n) at).nodes.0 in
       let fit : FitsNode w id n' = record { owned = ap w.owner same ∙ was.owned; seated = subst (λ i. i < w.seats) (sym same) was.seated; knows = knows was.knows } in
       let more_ = event_more w.moments e in
-      let now = node_more w.entries w.moments e h.reached.is_record by_node_ may in
+      let now = node_more w.entries w.moments e h.is_trace.is_record by_node_ may in
       let run : IsRun (es ++ e ∷ []) = subst IsRun more_ now.runs in
       let w' : Trace = record w { moments = w.moments ++ by_node e ∷ [] } in
       holds_next t h w' words homes id (of_node (does n' e))
       (record {
         is_record = now;
-        unseated = λ m none_. ap (done_by m) more_ ∙ done_still m es e (one_doer s n'.slot m e mine (λ at. omega (arith, at, none_, fit.seated))) ∙ h.reached.unseated m none_;
+        unseated = λ m none_. ap (done_by m) more_ ∙ done_still m es e (one_doer s n'.slot m e mine (λ at. omega (arith, at, none_, fit.seated))) ∙ h.is_trace.unseated m none_;
       })
       (subst (Shows words) (sym (ap state_after more_ ∙ state_more es e)) shows)
       (record {
@@ -250,16 +250,16 @@ module _ (t : Table (Unit {0}) View) (h : Holds t) (id : ℕ) (homes : List (May
       let fit = h.views id (of_change nodes c) at in
       let mine = fit.change c refl in
       let more_ = did_event w.moments e in
-      let now = did_more w.entries w.moments e h.reached.is_record change may in
+      let now = did_more w.entries w.moments e h.is_trace.is_record change may in
       let run : IsRun (es ++ e ∷ []) = subst IsRun more_ now.runs in
-      let nobody_ : doer s e ≡ None = (changes_are_of_no_node s e (runs_are_consistent es h.reached.is_record.runs) may).0 change in
+      let nobody_ : doer s e ≡ None = (changes_are_of_no_node s e (runs_are_consistent es h.is_trace.is_record.runs) may).0 change in
       let w' : Trace = record w { moments = w.moments ++ entry (Did e) ∷ []; entries = w.entries ++ Did e ∷ [] } in
       let node : (j : ℕ) (u : NodeView) → FitsNode w j u → FitsNode w' j u =
       λ j u f. record { owned = f.owned; seated = f.seated; knows = subst (λ es. KnowsNode es u) (sym more_) (known_stays es e run u f.knows (no_doer s u.slot e nobody_)) } in
       holds_next t h w' words homes id (of_change nodes (notes c (Did e)))
       (record {
         is_record = now;
-        unseated = λ m none_. ap (done_by m) more_ ∙ done_still m es e (no_doer s m e nobody_) ∙ h.reached.unseated m none_;
+        unseated = λ m none_. ap (done_by m) more_ ∙ done_still m es e (no_doer s m e nobody_) ∙ h.is_trace.unseated m none_;
       })
       (subst (Shows words) (sym (ap state_after more_ ∙ state_more es e)) shows)
       (record { nodes = λ j u apart f. node j u f; change = λ j d apart f. absurd (apart (sym f.change ∙ mine.change)) })
@@ -283,8 +283,8 @@ module _ (t : Table (Unit {0}) View) (h : Holds t) (id : ℕ) (homes : List (May
       λ j u f. record { owned = f.owned; seated = f.seated; knows = subst (λ es. KnowsNode es u) (sym more_) f.knows } in
       holds_next t h w' t.words homes id (of_change nodes (notes c x))
       (record {
-        is_record = seen_more w.entries w.moments x h.reached.is_record quiet so;
-        unseated = λ m none_. ap (done_by m) more_ ∙ h.reached.unseated m none_;
+        is_record = seen_more w.entries w.moments x h.is_trace.is_record quiet so;
+        unseated = λ m none_. ap (done_by m) more_ ∙ h.is_trace.unseated m none_;
       })
       (subst (Shows t.words) (sym (ap state_after more_)) h.shows)
       (record { nodes = λ j u apart f. node j u f; change = λ j d apart f. absurd (apart (sym f.change ∙ mine.change)) })
@@ -301,7 +301,7 @@ module _ (t : Table (Unit {0}) View) (h : Holds t) (id : ℕ) (homes : List (May
       → Holds (record { words = t.words; homes = homes; views = set t.views id (of_node n') })
   learns n n' at same knows =
       let fit = (h.views id (of_node n) at).nodes.0 in
-      holds_next t h w t.words homes id (of_node n') h.reached h.shows
+      holds_next t h w t.words homes id (of_node n') h.is_trace h.shows
       (record { nodes = λ j u apart f. f; change = λ j d apart f. f })
       (record {
         nodes = (record { owned = ap w.owner same ∙ fit.owned; seated = subst (λ i. i < w.seats) (sym same) fit.seated; knows = knows fit.knows }, tt);

@@ -67,8 +67,8 @@ seen_in w =
 -- ---- a node's steps: each loads the word that is found, and what is done by it follows
 
 -- a load does nothing else
-abbrev pub Loads : Step (Unit {0}) → Seat → ℕ → Seat → Type 0
-Loads st me found new = (new ≡ read me Own st.word found) × WasShown (node_of me.0) st.word found
+abbrev pub LoadsWord : Step (Unit {0}) → Seat → ℕ → Seat → Type 0
+LoadsWord st me found new = (new ≡ read me Own st.word found) × WasShown (node_of me.0) st.word found
 
 -- an exchange is the event, where it found the word that it expects
 abbrev pub Begins : Event → Step (Unit {0}) → Seat → ℕ → Seat → Type 0

@@ -121,7 +121,7 @@ pub record AreSeated (w : Trace) (views : List View) : Type 0 where
 -- the rule
 pub record Holds (t : Table (Unit {0}) View) : Type 0 where
   pub trace : Trace
-  pub reached : IsTrace trace
+  pub is_trace : IsTrace trace
   pub shows : Shows t.words (state_at trace.moments)
   pub views : (id : ℕ) (v : View) → get_elem? t.views id ≡ some v → FitsView trace id v
   pub seated : AreSeated trace t.views

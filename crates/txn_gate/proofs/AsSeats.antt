@@ -17,7 +17,7 @@ use Rattle.quiesce_core.specs.Rules.{last_serial}
 use Rattle.quiesce_core.specs.declared.event.Event.{Event}
 use Rattle.quiesce_core.specs.declared.event.Event.TheVariants.{Begin, Call, Give, End, More, Ask, Close, Reopen, Make}
 use Rattle.port_gate.specs.Seats.{MayAsk, MayBegin, MayCall, MayEnd, MayGive, MayHear, MaySee, MaySendMore, MayTake, port_known, serial_served, value_seen}
-use Rattle.gate_rule.specs.Steps.{Adopts, Begins, Hears, IsChange, IsNode, Loads, LooksAt, LooksToCall, Seat, Sees, Takes, did, noted, value_served}
+use Rattle.gate_rule.specs.Steps.{Adopts, Begins, Hears, IsChange, IsNode, LoadsWord, LooksAt, LooksToCall, Seat, Sees, Takes, did, noted, value_served}
 use Rattle.gate_rule.specs.Views.{change_of, new_seat, node_at, node_of, of_change, of_node, without_seat}
 use Rattle.gate_rule.specs.Traces.{Holds}
 use Rattle.gate_rule.proofs.ChangeStepLaws as change_
@@ -30,8 +30,8 @@ module _ (slots id : ℕ) (me : Seat) (is : IsNode me) where
   as_node : (P : Seat → Type 0) → P (of_node (node_of me.0), []) → P me
   as_node P h = subst P (sym is) h
 
-  pub loads : (p : ℕ) → p < MAX_PORTS → Allows Holds slots id me p (λ x. x) (Loads (step slots p 0 0 none) me)
-  loads p few = as_node (λ m. Allows Holds slots id m p (λ x. x) (Loads (step slots p 0 0 none) m)) (node_.loads slots id p (node_of me.0) few)
+  pub loads : (p : ℕ) → p < MAX_PORTS → Allows Holds slots id me p (λ x. x) (LoadsWord (step slots p 0 0 none) me)
+  loads p few = as_node (λ m. Allows Holds slots id m p (λ x. x) (LoadsWord (step slots p 0 0 none) m)) (node_.loads slots id p (node_of me.0) few)
 
   pub begins : (p v old new : ℕ) (e : Event) → e ≡ Begin p ((unpack old).serial + 1) v → MayBegin (node_at (node_of me.0)) (node_of me.0).known p v → (unpack old).closed ≡ false
       → (t : Target) → (unpack old).target ≡ Some t → (unpack old).serial < last_serial

@@ -21,9 +21,9 @@ impl Names for Brand {
 pub struct Loading;
 
 impl Play<(), View> for Loading {
-    ghost use Rattle.gate_rule.specs.Steps.{Loads};
+    ghost use Rattle.gate_rule.specs.Steps.{LoadsWord};
 
-    ghost then = { Loads };
+    ghost then = { LoadsWord };
 }
 
 /// An exchange by which a node begins what `E` names.

@@ -3,7 +3,7 @@ use Rattle.gate_rule.proofs.laws.gates_show_a_run.Goals as goal
 
 pub returns : goal.returns
 returns c = record {
-  run = λ t h. h.reached.is_record.runs;
+  run = λ t h. h.is_trace.is_record.runs;
   words = λ t h. h.shows;
   nodes = node_known;
   change = is_record;
@@ -11,7 +11,7 @@ returns c = record {
   seated = seated;
   one_seat = one_seat;
   once = λ t h id v at. (h.views id v at).apart;
-  unseated = λ t h. h.reached.unseated;
+  unseated = λ t h. h.is_trace.unseated;
   given_out = given_out;
   change_seat = change_seat;
 }
