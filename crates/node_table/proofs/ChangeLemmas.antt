@@ -17,7 +17,7 @@ use Rattle.quiesce_core.specs.declared.state.Slot.{Slot}
 use Rattle.quiesce_core.proofs.InductionLaws.{IsNext}
 use Rattle.quiesce_core.proofs.RunLaws.{changes_are_of_no_node, node_events_keep_the_configuration, runs_grow}
 use Rattle.port_gate.specs.Core.{FitsCore}
-use Rattle.node_table.specs.Entries.{Entry, Member, NodeSeen, gone, here, line_of}
+use Rattle.node_table.specs.Entries.{SlotEntry, Predecessor, NodeSeen, gone, here, line_of}
 use Rattle.node_table.specs.Holding.{HoldsIn, IsGone, IsHere}
 use Rattle.node_table.specs.Lines.{IsPast}
 use Rattle.node_table.specs.declared.handed.Handed.{Handed}
@@ -40,7 +40,7 @@ number_then es e next no_make = (config_then es e next).nodes ∙ same_number (s
 done_by_none : (s : State) (e : Event) (n : ℕ) → doer s e ≡ None → is_doer s n e ≡ false
 done_by_none s e n none_ = ap (λ o. option_map_or (λ m. m == n) o false) none_
 
-pub gone_then : (es : List Event) (e : Event) → IsNext es e → (nodes : List Entry) (ends : List ℕ) (n : ℕ) (x : Handed) → IsGone es nodes ends n x → IsGone (es ++ e ∷ []) nodes ends n x
+pub gone_then : (es : List Event) (e : Event) → IsNext es e → (nodes : List SlotEntry) (ends : List ℕ) (n : ℕ) (x : Handed) → IsGone es nodes ends n x → IsGone (es ++ e ∷ []) nodes ends n x
 gone_then es e next nodes ends n x h =
     let new = still_there es e next x.heir h.taker h.heir in
     record {
@@ -58,7 +58,7 @@ gone_then es e next nodes ends n x h =
     }
 
 -- an event of the change that makes no node
-pub holds_changed : (s t : State) (nodes : List Entry) (ends : List ℕ) (es : List Event) (e : Event) → HoldsIn s nodes ends es → Step s e t → is_of_change e ≡ true → is_make e ≡ false → HoldsIn t nodes ends (es ++ e ∷ [])
+pub holds_changed : (s t : State) (nodes : List SlotEntry) (ends : List ℕ) (es : List Event) (e : Event) → HoldsIn s nodes ends es → Step s e t → is_of_change e ≡ true → is_make e ≡ false → HoldsIn t nodes ends (es ++ e ∷ [])
 holds_changed s t nodes ends es e h st change no_make =
     let step = step_there s t es e h.state st in
     let next = next_of es e t h.runs step in
@@ -86,26 +86,26 @@ pub record IsMoved (e : Event) (x x' : NodeSeen) : Type 0 where
   pub told : x'.known.service ≡ None → x'.state.service ≡ None
 
 same_line : (x x' : NodeSeen) → x'.slot ≡ x.slot → x'.past ≡ x.past → line_of x' ≡ line_of x
-same_line x x' slots pasts = ap (λ p. option_map_or (λ (m : Member). m.slot) (slice_get p 0) x'.slot) pasts ∙ ap (λ k. option_map_or (λ (m : Member). m.slot) (slice_get x.past 0) k) slots
+same_line x x' slots pasts = ap (λ p. option_map_or (λ (m : Predecessor). m.slot) (slice_get p 0) x'.slot) pasts ∙ ap (λ k. option_map_or (λ (m : Predecessor). m.slot) (slice_get x.past 0) k) slots
 
-pub here_same : (nodes : List Entry) (n : ℕ) (x y : NodeSeen) → slice_get nodes n ≡ Some (here x) → slice_get nodes n ≡ Some (here y) → x ≡ y
+pub here_same : (nodes : List SlotEntry) (n : ℕ) (x y : NodeSeen) → slice_get nodes n ≡ Some (here x) → slice_get nodes n ≡ Some (here y) → x ≡ y
 here_same nodes n x y at at' = same_here (same_Some (here x) (here y) (sym at ∙ at'))
   where
     same_here : here x ≡ here y → x ≡ y
     same_here h = cc
 
-pub not_both : {A : Type 0} (nodes : List Entry) (n : ℕ) (x : NodeSeen) (y : Handed) → slice_get nodes n ≡ Some (here x) → slice_get nodes n ≡ Some (gone y) → A
+pub not_both : {A : Type 0} (nodes : List SlotEntry) (n : ℕ) (x : NodeSeen) (y : Handed) → slice_get nodes n ≡ Some (here x) → slice_get nodes n ≡ Some (gone y) → A
 not_both nodes n x y at at' = absurd (apart (same_Some (here x) (gone y) (sym at ∙ at')))
   where
     apart : here x ≡ gone y → ⊥
     apart h = cc
 
 -- the node in slot n is as x' from now on, and all else goes on holding after these events
-module _ (t : State) (nodes : List Entry) (ends : List ℕ) (es : List Event) (n : ℕ) (x x' : NodeSeen) (at : slice_get nodes n ≡ Some (here x)) (slot_kept : x'.slot ≡ x.slot) (past_kept : x'.past ≡ x.past)
+module _ (t : State) (nodes : List SlotEntry) (ends : List ℕ) (es : List Event) (n : ℕ) (x x' : NodeSeen) (at : slice_get nodes n ≡ Some (here x)) (slot_kept : x'.slot ≡ x.slot) (past_kept : x'.past ≡ x.past)
     (own : IsHere es n x') (others : (k : ℕ) (y : NodeSeen) → slice_get nodes k ≡ Some (here y) → k ≢ n → IsHere es k y)
     (line_ends : (k : ℕ) (y : NodeSeen) → slice_get nodes k ≡ Some (here y) → slice_get ends (line_of y) ≡ Some k)
     (goes : (k : ℕ) (y : Handed) → slice_get nodes k ≡ Some (gone y) → IsGone es nodes ends k y) where
-  abbrev nodes_then : List Entry
+  abbrev nodes_then : List SlotEntry
   nodes_then = set nodes n (here x')
 
   within : n < length nodes
@@ -193,7 +193,7 @@ pub record IsStill (x x' : NodeSeen) : Type 0 where
   pub logged : x'.log ≡ x.log
   pub past_kept : x'.past ≡ x.past
 
-pub holds_still : (s : State) (nodes : List Entry) (ends : List ℕ) (es : List Event) (h : HoldsIn s nodes ends es) (n : ℕ) (x x' : NodeSeen) → slice_get nodes n ≡ Some (here x) → IsStill x x' → HoldsIn s (set nodes n (here x')) ends es
+pub holds_still : (s : State) (nodes : List SlotEntry) (ends : List ℕ) (es : List Event) (h : HoldsIn s nodes ends es) (n : ℕ) (x x' : NodeSeen) → slice_get nodes n ≡ Some (here x) → IsStill x x' → HoldsIn s (set nodes n (here x')) ends es
 holds_still s nodes ends es h n x x' at m =
     holds_put s nodes ends es n x x' at m.slot_kept m.past_kept own (λ k y there ne. h.nodes_here k y there) h.line_ends h.nodes_gone h.runs h.state h.made h.lines
   where
@@ -214,7 +214,7 @@ holds_still s nodes ends es h n x x' at m =
           told = λ none_. ap (λ t. t.service) m.state_kept ∙ old.told (ap (λ w. w.service) (sym m.known_kept) ∙ none_);
         }
 
-module _ (s t : State) (nodes : List Entry) (ends : List ℕ) (es : List Event) (e : Event) (h : HoldsIn s nodes ends es) (st : Step s e t)
+module _ (s t : State) (nodes : List SlotEntry) (ends : List ℕ) (es : List Event) (e : Event) (h : HoldsIn s nodes ends es) (st : Step s e t)
     (n : ℕ) (x x' : NodeSeen) (at : slice_get nodes n ≡ Some (here x)) (does : is_doer s n e ≡ true) (of_node : is_of_change e ≡ false) (m : IsMoved e x x') (fits : FitsCore t n x'.known) where
   step : Step (state_after es) e t
   step = step_there s t es e h.state st

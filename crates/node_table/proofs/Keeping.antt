@@ -27,7 +27,7 @@ use Rattle.quiesce_core.proofs.SourceLaws.{sources_are_gone}
 use Rattle.component_trait.specs.Making.{argument_or_0}
 use Rattle.port_gate.specs.Core.{FitsCore}
 use Rattle.port_gate.proofs.SeatLaws.{seats_stay}
-use Rattle.node_table.specs.Entries.{Member, NodeSeen}
+use Rattle.node_table.specs.Entries.{Predecessor, NodeSeen}
 use Rattle.node_table.specs.Holding.{IsHere}
 use Rattle.node_table.specs.Lines.{IsPast, behind, first_of_line, member}
 use Rattle.node_table.proofs.Slots.{IsStill, gone_does_nothing, log_same, slot_then}
@@ -66,7 +66,7 @@ same_member es e k old new same log =
     ∙ ap (λ a. record { slot = k; first = new.first_port; arg = a; log = done_by k es }) (sym (same_argument old new same))
     ∙ ap (λ l. record { slot = k; first = new.first_port; arg = argument_or_0 new.node.arg; log = l }) (sym log)
 
-pub past_then : (es : List Event) (e : Event) → IsNext es e → (n : ℕ) (ms : List Member) → IsPast es n ms → IsPast (es ++ e ∷ []) n ms
+pub past_then : (es : List Event) (e : Event) → IsNext es e → (n : ℕ) (ms : List Predecessor) → IsPast es n ms → IsPast (es ++ e ∷ []) n ms
 past_then es e next _ _ (first_of_line n m at none_) =
     let new = still_there es e next n m at in first_of_line n new.0 new.1 (new.2.from ∙ none_)
 past_then es e next _ _ (behind n k m old ms at from low was rest) =

@@ -8,26 +8,26 @@ use Rattle.base.proofs.PlaceLaws.{slice_get-snoc}
 use Rattle.quiesce_core.specs.Runs.{done_by, state_after}
 use Rattle.quiesce_core.specs.State.{State}
 use Rattle.quiesce_core.specs.declared.event.Event.{Event}
-use Rattle.node_table.specs.Entries.{Entry, Member, gone, here, log_in, past_log}
+use Rattle.node_table.specs.Entries.{SlotEntry, Predecessor, gone, here, log_in, past_log}
 use Rattle.node_table.specs.Holding.{HoldsIn}
 use Rattle.node_table.specs.Lines.{IsPast, behind, first_of_line, member}
 use Rattle.node_table.specs.Worlds.{ShowsIn}
 use Rattle.turns.specs.World.{World}
 
-past_logs : (es : List Event) (n : ℕ) (ms : List Member) → IsPast es n ms → (i : ℕ) (m : Member) → slice_get ms i ≡ Some m → m.log ≡ done_by m.slot es
+past_logs : (es : List Event) (n : ℕ) (ms : List Predecessor) → IsPast es n ms → (i : ℕ) (m : Predecessor) → slice_get ms i ≡ Some m → m.log ≡ done_by m.slot es
 past_logs es _ _ (first_of_line n s at none_) i m is = absurd (none-some m is)
 past_logs es _ _ (behind n k s old ms at from low was rest) i m is = ⊎_elim
     (λ (before : (i < length ms) × (slice_get ms i ≡ Some m)). past_logs es k ms rest i m before.1)
-    (λ (last : (i ≡ length ms) × (member es k old ≡ m)). subst (λ (x : Member). x.log ≡ done_by x.slot es) last.1 refl)
+    (λ (last : (i ≡ length ms) × (member es k old ≡ m)). subst (λ (x : Predecessor). x.log ≡ done_by x.slot es) last.1 refl)
     (slice_get-snoc ms (member es k old) m i is)
 
-pub log_is : (s : State) (nodes : List Entry) (ends : List ℕ) (es : List Event) → HoldsIn s nodes ends es → (n : ℕ) (x : Entry) → slice_get nodes n ≡ Some x → log_in nodes ends x ≡ done_by n es
+pub log_is : (s : State) (nodes : List SlotEntry) (ends : List ℕ) (es : List Event) → HoldsIn s nodes ends es → (n : ℕ) (x : SlotEntry) → slice_get nodes n ≡ Some x → log_in nodes ends x ≡ done_by n es
 log_is s nodes ends es h n (here x) at = (h.nodes_here n x at).log
 log_is s nodes ends es h n (gone y) at =
     let g = h.nodes_gone n y at in
     ap (λ i. past_log y.place (slice_get nodes i)) (get_or_from_slice_get ends y.line g.at 0 g.end_is)
     ∙ ap (past_log y.place) g.last_is
-    ∙ ap (λ o. option_map_or (λ (m : Member). m.log) o []) g.old_is
+    ∙ ap (λ o. option_map_or (λ (m : Predecessor). m.log) o []) g.old_is
     ∙ past_logs es g.at g.last.past (h.nodes_here g.at g.last g.last_is).past y.place g.old g.old_is
     ∙ ap (λ k. done_by k es) g.slot_is
 
@@ -43,7 +43,7 @@ by_place f g (x ∷ xs) k same =
     shift : (a i : ℕ) → a + suc i ≡ a + 1 + i
     shift a i = omega arith
 
-pub logs_are : (s : State) (nodes : List Entry) (ends : List ℕ) (es : List Event) → HoldsIn s nodes ends es
+pub logs_are : (s : State) (nodes : List SlotEntry) (ends : List ℕ) (es : List Event) → HoldsIn s nodes ends es
     → map (log_in nodes ends) nodes ≡ map (λ n. done_by n es) (range_with_len 0 (length (state_after es).config.slots))
 logs_are s nodes ends es h =
     by_place (log_in nodes ends) (λ n. done_by n es) nodes 0 (λ i x is. log_is s nodes ends es h i x is ∙ ap (λ j. done_by j es) (zero_plus i))
@@ -52,7 +52,7 @@ logs_are s nodes ends es h =
     zero_plus : (a : ℕ) → a ≡ 0 + a
     zero_plus a = omega arith
 
-pub logs_shown : (s : State) (nodes : List Entry) (ends : List ℕ) (tells : ℕ → Option (List ℕ)) (w : World) → ShowsIn s nodes ends tells w
+pub logs_shown : (s : State) (nodes : List SlotEntry) (ends : List ℕ) (tells : ℕ → Option (List ℕ)) (w : World) → ShowsIn s nodes ends tells w
     → map (log_in nodes ends) nodes ≡ map (λ n. done_by n w.events) (range_with_len 0 (length w.machine.config.slots))
 logs_shown s nodes ends tells w h =
     logs_are s nodes ends w.events h.holds ∙ ap (λ (u : State). map (λ n. done_by n w.events) (range_with_len 0 (length u.config.slots))) (sym (h.machine ∙ h.holds.state))

@@ -18,7 +18,7 @@ use Rattle.quiesce_core.proofs.InductionLaws.{IsNext}
 use Rattle.component_trait.specs.Making.{argument_or_0}
 use Rattle.port_gate.specs.Core.{FitsCore}
 use Rattle.port_gate.proofs.SeatLaws.{new_seats_fit}
-use Rattle.node_table.specs.Entries.{Entry, Member, NodeSeen, gone, here, line_of}
+use Rattle.node_table.specs.Entries.{SlotEntry, Predecessor, NodeSeen, gone, here, line_of}
 use Rattle.node_table.specs.Holding.{HoldsIn, IsGone, IsHere}
 use Rattle.node_table.specs.Lines.{IsPast, behind, first_of_line, member}
 use Rattle.node_table.specs.declared.handed.Handed.{Handed}
@@ -48,7 +48,7 @@ inside_gone x y h = cc
 here_not_gone : {A : Type 0} (x : NodeSeen) (y : Handed) → here x ≡ gone y → A
 here_not_gone x y h = absurd (cc)
 
-module _ (s t : State) (nodes : List Entry) (ends : List ℕ) (es : List Event) (node : Node) (from : Option ℕ) (h : HoldsIn s nodes ends es)
+module _ (s t : State) (nodes : List SlotEntry) (ends : List ℕ) (es : List Event) (node : Node) (from : Option ℕ) (h : HoldsIn s nodes ends es)
     (st : Step s (Make (length (state_after es).config.slots) node from) t) (x : NodeSeen) (f : IsFresh (state_after es) (length (state_after es).config.slots) node x) where
   abbrev n : ℕ
   n = length (state_after es).config.slots
@@ -100,10 +100,10 @@ module _ (s t : State) (nodes : List Entry) (ends : List ℕ) (es : List Event) 
   ends_number = h.lines ∙ h.made
 
   -- the entries and the line ends then, where l is the line of the new node
-  module _ (mid : List Entry) (l : ℕ) (count : length mid ≡ length nodes) (line : line_of x ≡ l) (low : l ≤ n) (past : IsPast es' n x.past)
+  module _ (mid : List SlotEntry) (l : ℕ) (count : length mid ≡ length nodes) (line : line_of x ≡ l) (low : l ≤ n) (past : IsPast es' n x.past)
       (old_here : (j : ℕ) (y : NodeSeen) → slice_get mid j ≡ Some (here y) → (slice_get nodes j ≡ Some (here y)) × (line_of y ≢ l))
       (old_gone : (j : ℕ) (y : Handed) → slice_get mid j ≡ Some (gone y) → IsGone es' (mid ++ here x ∷ []) (set (ends ++ n ∷ []) l n) j y) where
-    abbrev nodes_then : List Entry
+    abbrev nodes_then : List SlotEntry
     nodes_then = mid ++ here x ∷ []
 
     abbrev ends_then : List ℕ
@@ -149,14 +149,14 @@ module _ (s t : State) (nodes : List Entry) (ends : List ℕ) (es : List Event) 
     }
 
 -- the first of its line
-pub holds_made_first : (s t : State) (nodes : List Entry) (ends : List ℕ) (es : List Event) (node : Node) → HoldsIn s nodes ends es → Step s (Make (length (state_after es).config.slots) node None) t
+pub holds_made_first : (s t : State) (nodes : List SlotEntry) (ends : List ℕ) (es : List Event) (node : Node) → HoldsIn s nodes ends es → Step s (Make (length (state_after es).config.slots) node None) t
     → (x : NodeSeen) → IsFresh (state_after es) (length (state_after es).config.slots) node x → x.past ≡ []
     → HoldsIn t (nodes ++ here x ∷ []) (set (ends ++ length (state_after es).config.slots ∷ []) (length (state_after es).config.slots) (length (state_after es).config.slots)) (es ++ Make (length (state_after es).config.slots) node None ∷ [])
 holds_made_first s t nodes ends es node h st x f none_before =
     let k : ℕ = length (state_after es).config.slots in
     let count : length ends ≡ k = ends_number s t nodes ends es node None h st x f in
     let later = next s t nodes ends es node None h st x f in
-    let line : line_of x ≡ k = ap (λ p. option_map_or (λ (m : Member). m.slot) (slice_get p 0) x.slot) none_before ∙ f.place in
+    let line : line_of x ≡ k = ap (λ p. option_map_or (λ (m : Predecessor). m.slot) (slice_get p 0) x.slot) none_before ∙ f.place in
     let apart : (i j : ℕ) → slice_get ends i ≡ Some j → i ≢ k = λ i j at same. (let below = slice_get-below ends i j at in omega (arith, below, count, same)) in
     made_holds s t nodes ends es node None h st x f nodes k refl line (omega arith)
     (subst (λ p. IsPast (es ++ Make k node None ∷ []) k p) (sym none_before) (first_of_line k (fresh_slot (state_after es).config node None) (there s t nodes ends es node None h st x f) refl))
@@ -179,11 +179,11 @@ holds_made_first s t nodes ends es node h st x f none_before =
 
 -- ---- one that takes the state of another over
 
-line_on : (slot k : ℕ) (ms : List Member) (m : Member) (d : ℕ) → m.slot ≡ k → option_map_or (λ (y : Member). y.slot) (slice_get (ms ++ m ∷ []) 0) d ≡ option_map_or (λ (y : Member). y.slot) (slice_get ms 0) k
+line_on : (slot k : ℕ) (ms : List Predecessor) (m : Predecessor) (d : ℕ) → m.slot ≡ k → option_map_or (λ (y : Predecessor). y.slot) (slice_get (ms ++ m ∷ []) 0) d ≡ option_map_or (λ (y : Predecessor). y.slot) (slice_get ms 0) k
 line_on slot k [] m d is = is
 line_on slot k (y ∷ ms) m d is = refl
 
-pub holds_made_from : (s t : State) (nodes : List Entry) (ends : List ℕ) (es : List Event) (node : Node) (k : ℕ) → HoldsIn s nodes ends es → Step s (Make (length (state_after es).config.slots) node (Some k)) t
+pub holds_made_from : (s t : State) (nodes : List SlotEntry) (ends : List ℕ) (es : List Event) (node : Node) (k : ℕ) → HoldsIn s nodes ends es → Step s (Make (length (state_after es).config.slots) node (Some k)) t
     → (old x : NodeSeen) → slice_get nodes k ≡ Some (here old) → IsFresh (state_after es) (length (state_after es).config.slots) node x
     → x.past ≡ old.past ++ record { slot = k; first = old.first; arg = old.state.arg; log = old.log } ∷ []
     → (g : Handed) → g.heir ≡ length (state_after es).config.slots → g.line ≡ line_of old → g.place ≡ length old.past
@@ -192,7 +192,7 @@ holds_made_from s t nodes ends es node k h st old x at_k f past_is g heir_is lin
     made_holds s t nodes ends es node (Some k) h st x f mid l (length-set nodes k (gone g)) line low past_then_
     old_here old_gone
   where
-    mid : List Entry
+    mid : List SlotEntry
     mid = set nodes k (gone g)
 
     l : ℕ
@@ -201,7 +201,7 @@ holds_made_from s t nodes ends es node k h st old x at_k f past_is g heir_is lin
     n' : ℕ
     n' = length (state_after es).config.slots
 
-    m_k : Member
+    m_k : Predecessor
     m_k = record { slot = k; first = old.first; arg = old.state.arg; log = old.log }
 
     ends' : List ℕ
@@ -218,9 +218,9 @@ holds_made_from s t nodes ends es node k h st old x at_k f past_is g heir_is lin
 
     line_in : line_of x ≡ l
     line_in =
-        ap (λ p. option_map_or (λ (m : Member). m.slot) (slice_get p 0) x.slot) past_is
+        ap (λ p. option_map_or (λ (m : Predecessor). m.slot) (slice_get p 0) x.slot) past_is
         ∙ line_on k k old.past m_k x.slot refl
-        ∙ ap (λ d. option_map_or (λ (m : Member). m.slot) (slice_get old.past 0) d) (sym here_k.place)
+        ∙ ap (λ d. option_map_or (λ (m : Predecessor). m.slot) (slice_get old.past 0) d) (sym here_k.place)
 
     line : line_of x ≡ l
     line = line_in

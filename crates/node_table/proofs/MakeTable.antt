@@ -25,7 +25,7 @@ use Rattle.port_gate.specs.Seats.{IsWithinLimits}
 use Rattle.state_handover.specs.Making.{FitsKind}
 use Rattle.state_handover.specs.declared.any_node.AnyNode.{AnyNode}
 use Rattle.turns.specs.World.{World, with_event}
-use Rattle.node_table.specs.Entries.{Entry, Member, NodeSeen, gone, here, line_of}
+use Rattle.node_table.specs.Entries.{SlotEntry, Predecessor, NodeSeen, gone, here, line_of}
 use Rattle.node_table.specs.Holding.{IsHere}
 use Rattle.node_table.specs.Seen.{is_node, seen}
 use Rattle.node_table.specs.Worlds.{ShowsIn}
@@ -110,7 +110,7 @@ source_of s n node k may =
 inside_here : (x y : NodeSeen) → here x ≡ here y → x ≡ y
 inside_here x y h = cc
 
-there_or_last : (nodes : List Entry) (x : NodeSeen) (n : ℕ) → length nodes ≡ n → (j : ℕ) (y : NodeSeen) → slice_get (nodes ++ here x ∷ []) j ≡ Some (here y) → (slice_get nodes j ≡ Some (here y)) ⊎ ((j ≡ n) × (x ≡ y))
+there_or_last : (nodes : List SlotEntry) (x : NodeSeen) (n : ℕ) → length nodes ≡ n → (j : ℕ) (y : NodeSeen) → slice_get (nodes ++ here x ∷ []) j ≡ Some (here y) → (slice_get nodes j ≡ Some (here y)) ⊎ ((j ≡ n) × (x ≡ y))
 there_or_last nodes x n count j y at = ⊎_elim
     (λ (old : (j < length nodes) × (slice_get nodes j ≡ Some (here y))). inl old.1)
     (λ (new : (j ≡ length nodes) × (here x ≡ here y)). inr (new.0 ∙ count, inside_here x y new.1))
@@ -121,7 +121,7 @@ module _ (S : AnyNode → NodeState) (s t : State) (xs xs' : List Held) (ends en
   abbrev n : ℕ
   n = length (state_after w.events).config.slots
 
-  abbrev nodes : List Entry
+  abbrev nodes : List SlotEntry
   nodes = map (seen S) xs
 
   fresh : IsFresh (state_after w.events) n node x
@@ -153,7 +153,7 @@ module _ (S : AnyNode → NodeState) (s t : State) (xs xs' : List Held) (ends en
   shown_from k old y g step at old_is past_is state_is kind_is heir_is g_line g_place line_is nodes_are ends_are =
       let step' : Step s (Make n node (Some k)) t = subst (λ (u : State). Step s (Make (length u.config.slots) node (Some k)) t) h.holds.state step in
       let at_entry : slice_get nodes k ≡ Some (here y) = slice_get-map_at (seen S) xs k old at ∙ ap Some old_is in
-      let mid : List Entry = set nodes k (gone g) in
+      let mid : List SlotEntry = set nodes k (gone g) in
       let within : k < length nodes = slice_get-below nodes k (here y) at_entry in
       let held_ = holds_made_from s t nodes ends w.events node k h.holds step' y x at_entry fresh past_is g (heir_is ∙ ap (λ (u : State). length u.config.slots) h.holds.state) g_line g_place in
       let count : length mid ≡ n = length-set nodes k (gone g) ∙ h.holds.made in
@@ -179,7 +179,7 @@ module _ (S : AnyNode → NodeState) (s t : State) (xs xs' : List Held) (ends en
 
 -- ---- the node whose state is taken over
 
-pub first_mapped : {A : Type 0} (f : A → Member) (g : A → ℕ) (xs : List A) (d : ℕ) → ((a : A) → (f a).slot ≡ g a) → option_map_or (λ (m : Member). m.slot) (slice_get (map f xs) 0) d ≡ option_map_or g (slice_get xs 0) d
+pub first_mapped : {A : Type 0} (f : A → Predecessor) (g : A → ℕ) (xs : List A) (d : ℕ) → ((a : A) → (f a).slot ≡ g a) → option_map_or (λ (m : Predecessor). m.slot) (slice_get (map f xs) 0) d ≡ option_map_or g (slice_get xs 0) d
 first_mapped f g [] d same = refl
 first_mapped f g (a ∷ xs) d same = same a
 

@@ -13,7 +13,7 @@ use Rattle.quiesce_core.specs.State.{State, slot}
 use Rattle.quiesce_core.specs.declared.state.Slot.{Slot}
 use Rattle.state_handover.specs.declared.any_node.AnyNode.{AnyNode}
 use Rattle.turns.specs.World.{World, state_of}
-use Rattle.node_table.specs.Entries.{Entry, Member, NodeSeen, gone, here, log_in, past_log}
+use Rattle.node_table.specs.Entries.{SlotEntry, Predecessor, NodeSeen, gone, here, log_in, past_log}
 use Rattle.node_table.specs.Holding.{HasLog}
 use Rattle.node_table.specs.Seen.{seen}
 use Rattle.node_table.specs.Worlds.{ShowsIn}
@@ -24,7 +24,7 @@ use Rattle.node_table.proofs.Heirs.{not_taken}
 use Rattle.node_table.proofs.LogLaws.{log_is}
 use Rattle.node_table.proofs.TableLemmas.{at_slot}
 
-module _ (S : AnyNode → NodeState) (s : State) (xs : List Held) (ends : List ℕ) (tells : ℕ → Option (List ℕ)) (n : ℕ) (h : Held) (x : Entry) (at : slice_get xs n ≡ Some h) (is : seen S h ≡ x) where
+module _ (S : AnyNode → NodeState) (s : State) (xs : List Held) (ends : List ℕ) (tells : ℕ → Option (List ℕ)) (n : ℕ) (h : Held) (x : SlotEntry) (at : slice_get xs n ≡ Some h) (is : seen S h ≡ x) where
   entry_at : slice_get (map (seen S) xs) n ≡ Some x
   entry_at = slice_get-map_at (seen S) xs n h at ∙ ap Some is
 
@@ -84,9 +84,9 @@ module _ (S : AnyNode → NodeState) (xs : List Held) (ends : List ℕ) (y : Han
           let same = here_same (map (seen S) xs) e g.last x (last_at g) (slice_get-map_at (seen S) xs e h at ∙ ap Some is) in
           slice_get-below x.past y.place g.old (ap (λ (z : NodeSeen). slice_get z.past y.place) (sym same) ∙ g.old_is))
 
-      pub past_found : (x : NodeSeen) → seen S h ≡ here x → (m : Member) → slice_get x.past y.place ≡ Some m → m.log ≡ past_log y.place (slice_get (map (seen S) xs) (get_or ends y.line 0))
+      pub past_found : (x : NodeSeen) → seen S h ≡ here x → (m : Predecessor) → slice_get x.past y.place ≡ Some m → m.log ≡ past_log y.place (slice_get (map (seen S) xs) (get_or ends y.line 0))
       past_found x is m at_place =
           sym
           (ap (λ i. past_log y.place (slice_get (map (seen S) xs) i)) (get_or_from_slice_get ends y.line e 0 end_at)
           ∙ ap (past_log y.place) (slice_get-map_at (seen S) xs e h at ∙ ap Some is)
-          ∙ ap (λ o. option_map_or (λ (z : Member). z.log) o []) at_place)
+          ∙ ap (λ o. option_map_or (λ (z : Predecessor). z.log) o []) at_place)

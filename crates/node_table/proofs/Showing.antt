@@ -19,7 +19,7 @@ use Rattle.quiesce_core.specs.declared.event.Event.{Event}
 use Rattle.quiesce_core.specs.declared.event.Event.TheVariants.{Make}
 use Rattle.turn_laws.specs.Reached.{IsReached, at_start, by_change}
 use Rattle.turns.specs.World.{World, nowhere, opened, with_event}
-use Rattle.node_table.specs.Entries.{Entry, NodeSeen, here}
+use Rattle.node_table.specs.Entries.{SlotEntry, NodeSeen, here}
 use Rattle.node_table.specs.Holding.{HoldsIn}
 use Rattle.node_table.specs.Worlds.{IsShown, ShowsIn}
 use Rattle.node_table.proofs.ChangeLemmas.{holds_changed}
@@ -29,7 +29,7 @@ after_change : (w : World) (e : Event) → is_make e ≡ false → with_event w 
 after_change w (Make n node from) h = absurd (both_ways true h refl)
 after_change w _ h = refl
 
-pub shows_changed : (s t : State) (nodes : List Entry) (ends : List ℕ) (tells : ℕ → Option (List ℕ)) (w : World) (e : Event) → ShowsIn s nodes ends tells w → Step s e t → is_of_change e ≡ true → is_make e ≡ false
+pub shows_changed : (s t : State) (nodes : List SlotEntry) (ends : List ℕ) (tells : ℕ → Option (List ℕ)) (w : World) (e : Event) → ShowsIn s nodes ends tells w → Step s e t → is_of_change e ≡ true → is_make e ≡ false
     → ShowsIn t nodes ends tells (with_event w e)
 shows_changed s t nodes ends tells w e h step change no_make =
     subst (λ v. ShowsIn t nodes ends tells v) (sym (after_change w e no_make))
@@ -63,7 +63,7 @@ none_waits zero m h = absurd (cc)
 none_waits (suc zero) m h = absurd (cc)
 none_waits (suc (suc r)) m h = absurd (cc)
 
-module _ (s t : State) (nodes nodes' : List Entry) (ends ends' : List ℕ) (tells : ℕ → Option (List ℕ)) (w : World) (n : ℕ) (node : Node) (from : Option ℕ) (h : ShowsIn s nodes ends tells w)
+module _ (s t : State) (nodes nodes' : List SlotEntry) (ends ends' : List ℕ) (tells : ℕ → Option (List ℕ)) (w : World) (n : ℕ) (node : Node) (from : Option ℕ) (h : ShowsIn s nodes ends tells w)
     (step : Step s (Make n node from) t) (held : HoldsIn t nodes' ends' (w.events ++ Make n node from ∷ [])) (x : NodeSeen) (last : length nodes ≡ n) (one_more : length nodes' ≡ length nodes + 1)
     (old_or_new : (j : ℕ) (y : NodeSeen) → slice_get nodes' j ≡ Some (here y) → (slice_get nodes j ≡ Some (here y)) ⊎ ((j ≡ n) × (x ≡ y)))
     (opens : opened w node from ≡ Some x.state) (kind : x.state.kind ≡ node.kind) (waiting : x.waiting ≡ None ∷ None ∷ []) where
@@ -119,7 +119,7 @@ module _ (s t : State) (nodes nodes' : List Entry) (ends ends' : List ℕ) (tell
 
 -- ---- where nothing is made, and where nothing changed
 
-pub shows_same : (s s' : State) (nodes nodes' : List Entry) (ends ends' : List ℕ) (tells tells' : ℕ → Option (List ℕ)) (w : World) → ShowsIn s nodes ends tells w → s' ≡ s → nodes' ≡ nodes → ends' ≡ ends → tells' ≡ tells → ShowsIn s' nodes' ends' tells' w
+pub shows_same : (s s' : State) (nodes nodes' : List SlotEntry) (ends ends' : List ℕ) (tells tells' : ℕ → Option (List ℕ)) (w : World) → ShowsIn s nodes ends tells w → s' ≡ s → nodes' ≡ nodes → ends' ≡ ends → tells' ≡ tells → ShowsIn s' nodes' ends' tells' w
 shows_same s s' nodes nodes' ends ends' tells tells' w h is_s is_n is_e is_t =
     subst (λ x. ShowsIn x nodes' ends' tells' w) (sym is_s) (subst (λ x. ShowsIn s x ends' tells' w) (sym is_n) (subst (λ x. ShowsIn s nodes x tells' w) (sym is_e) (subst (λ x. ShowsIn s nodes ends x w) (sym is_t) h)))
 
@@ -143,5 +143,5 @@ starts_with_nothing tells told = record {
   nodes_shown = λ n x at. absurd (cc);
 }
 
-pub shows_nowhere : (s : State) (nodes : List Entry) (ends : List ℕ) (tells : ℕ → Option (List ℕ)) → s ≡ empty → nodes ≡ [] → ends ≡ [] → ((n : ℕ) → tells n ≡ Some []) → ShowsIn s nodes ends tells nowhere
+pub shows_nowhere : (s : State) (nodes : List SlotEntry) (ends : List ℕ) (tells : ℕ → Option (List ℕ)) → s ≡ empty → nodes ≡ [] → ends ≡ [] → ((n : ℕ) → tells n ≡ Some []) → ShowsIn s nodes ends tells nowhere
 shows_nowhere s nodes ends tells is_s is_n is_e told = shows_same empty s [] nodes [] ends tells tells nowhere (starts_with_nothing tells told) is_s is_n is_e refl

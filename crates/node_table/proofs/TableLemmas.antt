@@ -17,7 +17,7 @@ use Rattle.port_gate.specs.Core.{FitsCore, node_at, node_in}
 use Rattle.state_handover.specs.declared.any_node.AnyNode.{AnyNode}
 use Rattle.turns.specs.World.{World}
 use Rattle.node_host.specs.Hosted.{node_of}
-use Rattle.node_table.specs.Entries.{Entry, NodeSeen, gone, here}
+use Rattle.node_table.specs.Entries.{SlotEntry, NodeSeen, gone, here}
 use Rattle.node_table.specs.Holding.{IsHere}
 use Rattle.node_table.specs.Seen.{seen}
 use Rattle.node_table.specs.Worlds.{ShowsIn}
@@ -29,7 +29,7 @@ pub at_slot : {A : Type 0} (xs : List A) (i : ℕ) (d x : A) → i < length xs �
 at_slot xs i d x low is to = slice_get-get_or xs i d low ∙ ap Some (sym is ∙ to)
 
 module _ (S : AnyNode → NodeState) (s : State) (xs : List Held) (ends : List ℕ) (tells : ℕ → Option (List ℕ)) where
-  abbrev nodes : List Entry
+  abbrev nodes : List SlotEntry
   nodes = map (seen S) xs
 
   abbrev In : World → Type 0

@@ -39,7 +39,7 @@ use Rattle.node_host.specs.Moved.{Moved}
 use Rattle.node_host.specs.Posting.{GateSeen, HintOf, Hinted, IsHinted, IsSent}
 use Rattle.node_host.specs.Told.{IsTold}
 use Rattle.node_host.specs.Trying.{own_box}
-use Rattle.node_table.specs.Entries.{Entry, NodeSeen, here}
+use Rattle.node_table.specs.Entries.{SlotEntry, NodeSeen, here}
 use Rattle.node_table.specs.Holding.{HoldsIn, IsHere}
 use Rattle.node_table.specs.Worlds.{IsShown, ShowsIn}
 use Rattle.node_table.proofs.ChangeLemmas.{IsStill, holds_moved, holds_still}
@@ -116,7 +116,7 @@ record Went (w v : World) (n : ℕ) (x' : NodeSeen) (t : State) (es : List Event
   others : (k : ℕ) → k ≢ n → state_of v k ≡ state_of w k
   folds : length v.folds ≡ length w.folds
 
-module _ (s t : State) (nodes : List Entry) (ends : List ℕ) (tells tells' : ℕ → Option (List ℕ)) (w : World) (h : ShowsIn s nodes ends tells w) (x x' : NodeSeen) (at : slice_get nodes x.slot ≡ Some (here x))
+module _ (s t : State) (nodes : List SlotEntry) (ends : List ℕ) (tells tells' : ℕ → Option (List ℕ)) (w : World) (h : ShowsIn s nodes ends tells w) (x x' : NodeSeen) (at : slice_get nodes x.slot ≡ Some (here x))
     (live : is_live s.config x.slot ≡ true) (begins : Bool) (c c' : ℕ → Counts) (lo lo' : Option Loads) (e : Option Event) (seat seat' : SeatSeen) (known_is : seat.known ≡ x.known) (known_is' : seat'.known ≡ x'.known)
     (moved : Moved (node_of x.slot x.first x.state) e x.state x'.state x.log x'.log seat seat' (Some s) (Some t))
     (slot_kept : x'.slot ≡ x.slot) (first_kept : x'.first ≡ x.first) (past_kept : x'.past ≡ x.past) (fits : FitsCore t x.slot x'.known) (told : x'.known.service ≡ None → x'.state.service ≡ None)
@@ -135,7 +135,7 @@ module _ (s t : State) (nodes : List Entry) (ends : List ℕ) (tells tells' : �
   abbrev new_hints : Hinted
   new_hints = record { waiting = x'.waiting; counts = c'; told = tells' }
 
-  abbrev nodes_then : List Entry
+  abbrev nodes_then : List SlotEntry
   nodes_then = set nodes n (here x')
 
   old : IsHere w.events n x

@@ -7,7 +7,7 @@ use Rattle.quiesce_core.specs.declared.known.Known.{Known}
 use Rattle.node_table.specs.declared.handed.Handed.{Handed}
 
 -- an earlier node of a line, from which the state was handed on, with all that it did
-pub record Member : Type 0 where
+pub record Predecessor : Type 0 where
   pub slot : ℕ
   pub first : ℕ
   pub arg : ℕ
@@ -21,23 +21,23 @@ pub record NodeSeen : Type 0 where
   pub state : NodeState
   pub known : Known
   pub log : List Event
-  pub past : List Member
+  pub past : List Predecessor
   pub waiting : List (Option ℕ)
 
 -- a node, or where the log of one lies whose state was handed over
-pub data Entry : Type 0 where
-  here : NodeSeen → Entry
-  gone : Handed → Entry
+pub data SlotEntry : Type 0 where
+  here : NodeSeen → SlotEntry
+  gone : Handed → SlotEntry
 
 -- the slot of the first of the line at whose end a node stands
 abbrev pub line_of : NodeSeen → ℕ
-line_of x = option_map_or (λ (m : Member). m.slot) (slice_get x.past 0) x.slot
+line_of x = option_map_or (λ (m : Predecessor). m.slot) (slice_get x.past 0) x.slot
 
 -- all that the node of an entry did, wherever its log lies
-abbrev pub past_log : ℕ → Option Entry → List Event
-past_log place (Some (here x)) = option_map_or (λ (m : Member). m.log) (slice_get x.past place) []
+abbrev pub past_log : ℕ → Option SlotEntry → List Event
+past_log place (Some (here x)) = option_map_or (λ (m : Predecessor). m.log) (slice_get x.past place) []
 past_log place _ = []
 
-abbrev pub log_in : List Entry → List ℕ → Entry → List Event
+abbrev pub log_in : List SlotEntry → List ℕ → SlotEntry → List Event
 log_in nodes ends (here x) = x.log
 log_in nodes ends (gone y) = past_log y.place (slice_get nodes (slice_index_or ends y.line 0))

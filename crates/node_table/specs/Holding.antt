@@ -6,7 +6,7 @@ use Rattle.quiesce_core.specs.State.{State, slot}
 use Rattle.quiesce_core.specs.declared.event.Event.{Event}
 use Rattle.quiesce_core.specs.declared.state.Slot.{Slot}
 use Rattle.component_trait.specs.Making.{argument_or_0}
-use Rattle.node_table.specs.Entries.{Entry, Member, NodeSeen, gone, here, line_of}
+use Rattle.node_table.specs.Entries.{SlotEntry, Predecessor, NodeSeen, gone, here, line_of}
 use Rattle.node_table.specs.Lines.{IsPast}
 use Rattle.node_table.specs.declared.handed.Handed.{Handed}
 
@@ -26,7 +26,7 @@ pub record IsHere (es : List Event) (n : ℕ) (x : NodeSeen) : Type 0 where
   pub told : x.known.service ≡ None → x.state.service ≡ None
 
 -- The state of the node in slot n was handed over to the heir's, and its log lies in the past of the node at the end of its line.
-pub record IsGone (es : List Event) (nodes : List Entry) (ends : List ℕ) (n : ℕ) (x : Handed) : Type 0 where
+pub record IsGone (es : List Event) (nodes : List SlotEntry) (ends : List ℕ) (n : ℕ) (x : Handed) : Type 0 where
   pub taker : Slot
   pub heir : slot (state_after es).config x.heir ≡ Some taker
   pub from : taker.from ≡ Some n
@@ -35,21 +35,21 @@ pub record IsGone (es : List Event) (nodes : List Entry) (ends : List ℕ) (n : 
   pub last : NodeSeen
   pub last_is : slice_get nodes at ≡ Some (here last)
   pub of_line : line_of last ≡ x.line
-  pub old : Member
+  pub old : Predecessor
   pub old_is : slice_get last.past x.place ≡ Some old
   pub slot_is : old.slot ≡ n
 
 -- the log of a node lies where its entry says
-pub record HasLog (nodes : List Entry) (ends : List ℕ) (x : Handed) : Type 0 where
+pub record HasLog (nodes : List SlotEntry) (ends : List ℕ) (x : Handed) : Type 0 where
   pub at : ℕ
   pub end_is : slice_get ends x.line ≡ Some at
   pub last : NodeSeen
   pub last_is : slice_get nodes at ≡ Some (here last)
-  pub old : Member
+  pub old : Predecessor
   pub old_is : slice_get last.past x.place ≡ Some old
 
 -- These events are a run, to which the machine's state led. There is one entry for each node made, and each line has its end.
-pub record HoldsIn (s : State) (nodes : List Entry) (ends : List ℕ) (es : List Event) : Type 0 where
+pub record HoldsIn (s : State) (nodes : List SlotEntry) (ends : List ℕ) (es : List Event) : Type 0 where
   pub runs : IsRun es
   pub state : s ≡ state_after es
   pub made : length nodes ≡ length (state_after es).config.slots

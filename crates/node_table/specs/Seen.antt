@@ -3,12 +3,12 @@ use Rattle.std.specs.Prelude.{ℕ, Bool, true, false, List, [], map, slice_get, 
 use Rattle.std.specs.Option.{option_map_or}
 use Rattle.component_trait.specs.States.{NodeState}
 use Rattle.state_handover.specs.declared.any_node.AnyNode.{AnyNode}
-use Rattle.node_table.specs.Entries.{Entry, Member, gone, here}
+use Rattle.node_table.specs.Entries.{SlotEntry, Predecessor, gone, here}
 use Rattle.node_table.specs.declared.held.Held.{Held}
 use Rattle.node_table.specs.declared.held.Held.TheVariants as held
 
 -- states are read as the component tells them
-abbrev pub seen : (AnyNode → NodeState) → Held → Entry
+abbrev pub seen : (AnyNode → NodeState) → Held → SlotEntry
 seen state_of (held.Node h) =
     here
     (record {
@@ -23,7 +23,7 @@ seen state_of (held.Node h) =
 seen state_of (held.Handed x) = gone x
 
 -- the earlier nodes of a node's line
-abbrev pub past_in : Held → List Member
+abbrev pub past_in : Held → List Predecessor
 past_in (held.Node h) = map (λ p. record { slot = p.slot; first = p.first_port; arg = p.arg; log = p.log.items }) h.past.items
 past_in (held.Handed x) = []
 

@@ -7,7 +7,7 @@ use Rattle.quiesce_core.specs.State.{State}
 use Rattle.quiesce_core.specs.declared.event.Event.{Event}
 use Rattle.state_handover.specs.declared.any_node.AnyNode.{AnyNode}
 use Rattle.turns.specs.World.{World}
-use Rattle.node_table.specs.Entries.{Entry, log_in}
+use Rattle.node_table.specs.Entries.{SlotEntry, log_in}
 use Rattle.node_table.specs.Seen.{seen}
 use Rattle.node_table.specs.Worlds.{ShowsIn}
 use Rattle.node_table.specs.declared.table.NodeTable.{NodeTable}
@@ -17,13 +17,13 @@ abbrev pub machine : NodeTable → State
 machine t = t.gate.core.state
 
 -- one entry a slot; the first argument tells the state of a component
-abbrev pub entries : (AnyNode → NodeState) → NodeTable → List Entry
+abbrev pub entries : (AnyNode → NodeState) → NodeTable → List SlotEntry
 entries state_of t = map (seen state_of) t.nodes.items
 
 -- All is as in this world: the machine's state, what each node has come to, the hints in the inboxes and those that wait; and what each
 -- node made did in the world's events is its log, wherever that lies. The second argument tells what the inboxes hold.
-abbrev pub Shows : (AnyNode → NodeState) → (PlainHints → ℕ → Option (List ℕ)) → NodeTable → World → Type 0
-Shows state_of tells t w = ShowsIn (machine t) (entries state_of t) t.line_ends.items (tells t.hints) w
+abbrev pub ShowsWorld : (AnyNode → NodeState) → (PlainHints → ℕ → Option (List ℕ)) → NodeTable → World → Type 0
+ShowsWorld state_of tells t w = ShowsIn (machine t) (entries state_of t) t.line_ends.items (tells t.hints) w
 
 -- what each node made did, by slot
 abbrev pub logs : (AnyNode → NodeState) → NodeTable → List (List Event)

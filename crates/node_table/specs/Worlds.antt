@@ -4,7 +4,7 @@ use Rattle.config_graph.specs.Kinds.{row}
 use Rattle.quiesce_core.specs.State.{State}
 use Rattle.turn_laws.specs.Reached.{IsReached}
 use Rattle.turns.specs.World.{World, inbox, state_of, waiting_of}
-use Rattle.node_table.specs.Entries.{Entry, NodeSeen, here}
+use Rattle.node_table.specs.Entries.{SlotEntry, NodeSeen, here}
 use Rattle.node_table.specs.Holding.{HoldsIn}
 
 -- The node has come to the state that the world says, and the hints of it wait that wait there, for nodes that were made.
@@ -16,7 +16,7 @@ pub record IsShown (w : World) (n : ℕ) (x : NodeSeen) : Type 0 where
 
 -- The world is reached by allowed events of the change and turns of nodes; its events are the run that the entries hold after, and its
 -- inboxes hold what these hold.
-pub record ShowsIn (s : State) (nodes : List Entry) (ends : List ℕ) (tells : ℕ → Option (List ℕ)) (w : World) : Type 0 where
+pub record ShowsIn (s : State) (nodes : List SlotEntry) (ends : List ℕ) (tells : ℕ → Option (List ℕ)) (w : World) : Type 0 where
   pub reached : IsReached w
   pub holds : HoldsIn s nodes ends w.events
   pub machine : w.machine ≡ s

@@ -10,7 +10,7 @@ ghost use Rattle.quiesce_core.specs.declared.state.Slot.{Slot};
 ghost use Rattle.turns.specs.World.{World, state_of};
 ghost use Rattle.node_table.specs.Entries.{gone, log_in};
 ghost use Rattle.node_table.specs.Holding.{HasLog};
-ghost use Rattle.node_table.specs.Table.{Shows, entries, logs, machine};
+ghost use Rattle.node_table.specs.Table.{ShowsWorld, entries, logs, machine};
 
 use crate::handed::Handed;
 use crate::held::Held;
@@ -89,8 +89,8 @@ impl NodeTable {
     /// All that the node in a slot did, whether it is live, was removed or handed its state over.
     pub fn log(&self, slot: u32) -> &[Event]
         requires made { slot < length (machine self.now).config.slots }
-        requires some { ∥ ((w : World) × Shows ⟦<AnyNode as Component>⟧.state ⟦<PlainHints as Hints>⟧.tells self.now w) ∥₁ }
-        ensures log { (w : World) → Shows ⟦<AnyNode as Component>⟧.state ⟦<PlainHints as Hints>⟧.tells self.now w → result.now ≡ done_by slot w.events }
+        requires some { ∥ ((w : World) × ShowsWorld ⟦<AnyNode as Component>⟧.state ⟦<PlainHints as Hints>⟧.tells self.now w) ∥₁ }
+        ensures log { (w : World) → ShowsWorld ⟦<AnyNode as Component>⟧.state ⟦<PlainHints as Hints>⟧.tells self.now w → result.now ≡ done_by slot w.events }
         ensures by_slot { result.now ≡ slice_index_or (logs ⟦<AnyNode as Component>⟧.state self.now) slot [] }
     {
         match &self.nodes[slot as usize] {
@@ -102,8 +102,8 @@ impl NodeTable {
     /// The component in a slot, in the state to which all that its node did has led it; none where another took its state over.
     pub fn component(&self, slot: u32) -> Option<&AnyNode>
         requires made { slot < length (machine self.now).config.slots }
-        requires some { ∥ ((w : World) × Shows ⟦<AnyNode as Component>⟧.state ⟦<PlainHints as Hints>⟧.tells self.now w) ∥₁ }
-        ensures state { (w : World) → Shows ⟦<AnyNode as Component>⟧.state ⟦<PlainHints as Hints>⟧.tells self.now w → IfSome result (λ node. state_of w slot ≡ Some (⟦<AnyNode as Component>⟧.state node.now)) }
+        requires some { ∥ ((w : World) × ShowsWorld ⟦<AnyNode as Component>⟧.state ⟦<PlainHints as Hints>⟧.tells self.now w) ∥₁ }
+        ensures state { (w : World) → ShowsWorld ⟦<AnyNode as Component>⟧.state ⟦<PlainHints as Hints>⟧.tells self.now w → IfSome result (λ node. state_of w slot ≡ Some (⟦<AnyNode as Component>⟧.state node.now)) }
         ensures handed { (result ≡ None) ↔ ∥ ((n : ℕ) × (m : Slot) × (state.slot (machine self.now).config n ≡ Some m) × (m.from ≡ Some slot)) ∥₁ }
     {
         match &self.nodes[slot as usize] {

@@ -6,7 +6,7 @@ use Rattle.component_trait.specs.States.{NodeState}
 use Rattle.node_host.specs.declared.turning.Turn.{Turn}
 use Rattle.node_host.specs.declared.turning.Turn.TheVariants.{Moved, Still}
 use Rattle.node_table.proofs.LogLaws as of_logs
-use Rattle.node_table.specs.Table.{Shows, entries, logs, machine}
+use Rattle.node_table.specs.Table.{ShowsWorld, entries, logs, machine}
 use Rattle.node_table.specs.declared.table.NodeTable.{NodeTable}
 use Rattle.port_queue.specs.declared.plain.PlainHints.{PlainHints}
 use Rattle.quiesce_core.specs.Runs.{done_by}
@@ -21,7 +21,7 @@ abbrev pub event_in : Turn → Option Event
 event_in (Moved e) = Some e
 event_in Still = None
 
-module _ (state_of : AnyNode → NodeState) (tells : PlainHints → ℕ → Option (List ℕ)) (t : NodeTable) (w : World) (h : Shows state_of tells t w) where
+module _ (state_of : AnyNode → NodeState) (tells : PlainHints → ℕ → Option (List ℕ)) (t : NodeTable) (w : World) (h : ShowsWorld state_of tells t w) where
   pub is_reached : IsReached w
   is_reached = h.reached
 

@@ -38,7 +38,7 @@ fn has_moved(turn: &Turn) -> bool
 }
 
 impl Nodes for NodeTable {
-    ghost shows = { λ t w. table.Shows ⟦<AnyNode as Component>⟧.state ⟦<PlainHints as Hints>⟧.tells t w };
+    ghost shows = { λ t w. table.ShowsWorld ⟦<AnyNode as Component>⟧.state ⟦<PlainHints as Hints>⟧.tells t w };
 
     ghost machine = { table.machine };
 

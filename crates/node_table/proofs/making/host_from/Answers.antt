@@ -4,7 +4,7 @@ use Rattle.component_trait.specs.Making.{handed_over}
 use Rattle.base.proofs.PlaceLaws.{slice_get-push_cases}
 use Rattle.state_handover.specs.contracts.any_node.AnyNodeComponent.TheImpl.{ghosts}
 use Rattle.node_host.specs.Lines as line
-use Rattle.node_table.specs.Entries.{Member}
+use Rattle.node_table.specs.Entries.{Predecessor}
 use Rattle.node_table.proofs.LineLemmas.{arg_is, map_snoc, opens_from}
 use Rattle.node_table.proofs.making.host_from.Goals as goal
 
@@ -29,9 +29,9 @@ host-requires-clause-past_slots c = λ k p at.
 pub returns-clause-past : goal.returns-clause-past
 returns-clause-past c =
     let parts = c.into_parts-inner.ensures in
-    ap (λ q. map {B = Member} (λ p. record { slot = p.slot; first = p.first_port; arg = p.arg; log = p.log.items }) q.items) c.host.ensures.past
-    ∙ ap (map {B = Member} (λ p. record { slot = p.slot; first = p.first_port; arg = p.arg; log = p.log.items })) c.push_reserved.ensures.items
-    ∙ map_snoc {B = Member} (λ p. record { slot = p.slot; first = p.first_port; arg = p.arg; log = p.log.items }) c.into_parts-inner.result.3.items _
-    ∙ ap (λ q. map {B = Member} (λ p. record { slot = p.slot; first = p.first_port; arg = p.arg; log = p.log.items }) q.3.items ++ record { slot = c.args.old.slot; first = c.args.old.first_port; arg = c.unwrap_or-old_arg.result; log = q.2.items } ∷ []) parts
-    ∙ ap (λ a. map {B = Member} (λ p. record { slot = p.slot; first = p.first_port; arg = p.arg; log = p.log.items }) c.args.old.past.items ++ record { slot = c.args.old.slot; first = c.args.old.first_port; arg = a; log = c.args.old.log.items } ∷ [])
+    ap (λ q. map {B = Predecessor} (λ p. record { slot = p.slot; first = p.first_port; arg = p.arg; log = p.log.items }) q.items) c.host.ensures.past
+    ∙ ap (map {B = Predecessor} (λ p. record { slot = p.slot; first = p.first_port; arg = p.arg; log = p.log.items })) c.push_reserved.ensures.items
+    ∙ map_snoc {B = Predecessor} (λ p. record { slot = p.slot; first = p.first_port; arg = p.arg; log = p.log.items }) c.into_parts-inner.result.3.items _
+    ∙ ap (λ q. map {B = Predecessor} (λ p. record { slot = p.slot; first = p.first_port; arg = p.arg; log = p.log.items }) q.3.items ++ record { slot = c.args.old.slot; first = c.args.old.first_port; arg = c.unwrap_or-old_arg.result; log = q.2.items } ∷ []) parts
+    ∙ ap (λ a. map {B = Predecessor} (λ p. record { slot = p.slot; first = p.first_port; arg = p.arg; log = p.log.items }) c.args.old.past.items ++ record { slot = c.args.old.slot; first = c.args.old.first_port; arg = a; log = c.args.old.log.items } ∷ [])
     (arg_is _ (ghosts.state c.args.old.inner) _ c.arg.ensures.arg c.unwrap_or-old_arg.ensures c.requires.old_arg)

@@ -1,7 +1,7 @@
 use Rattle.std.proofs.Common.{◌∙◌, Some, ap, map, refl}
 use Rattle.port_queue.specs.Plain.{box_of}
 use Rattle.state_handover.specs.contracts.any_node.AnyNodeComponent.TheImpl.{ghosts}
-use Rattle.node_table.specs.Entries.{Member}
+use Rattle.node_table.specs.Entries.{Predecessor}
 use Rattle.node_table.specs.declared.held.Held.TheVariants as held
 use Rattle.node_table.proofs.MakeTable.{shown_first}
 use Rattle.node_table.proofs.table.NodeTable.make_first.Goals as goal
@@ -20,4 +20,4 @@ returns-clause-shows c = λ w h.
       known = host.known;
       log = host.log;
     }) host.waiting _ (ap (λ g. g.core.state) c.add.ensures.others.0) (ap (λ b. λ n. Some (box_of b.inboxes.items n).held) c.add.ensures.others.1) c.host_first-host.result.slot c.made-made.result.nodes (host.place.0 ∙ c.made-made.ensures.nodes)
-    c.make.ensures.step (ap (map {B = Member} (λ p. record { slot = p.slot; first = p.first_port; arg = p.arg; log = p.log.items })) host.past) host.state c.made-made.ensures.nodes c.add.ensures.nodes c.add.ensures.ends
+    c.make.ensures.step (ap (map {B = Predecessor} (λ p. record { slot = p.slot; first = p.first_port; arg = p.arg; log = p.log.items })) host.past) host.state c.made-made.ensures.nodes c.add.ensures.nodes c.add.ensures.ends
