@@ -4,6 +4,7 @@ mod FirstLemmas
 pub mod FoundLaws
 mod GraphLemmas
 mod HandedLemmas
+pub mod LowerLaws
 pub mod MemberLaws
 pub mod PlanningLaws
 pub mod RunningLaws

@@ -1,8 +1,8 @@
 -- What a world says that a node has come to is the fold of the node's own events: the two readings of a node's state are one.
-use Rattle.std.proofs.Common.{◌≡◌, ◌∙◌, ◌<◌, ◌≤◌, ℕ, zero, suc, Bool, true, false, cond, not, ◌&&◌, List, [], ◌∷◌, ◌++◌, length, set, Option, Some, None, refl, sym, ap, subst, ⊎_elim, arith, get_or-set_same, get_or-set_other}
+use Rattle.std.proofs.Common.{◌≡◌, ◌∙◌, ◌<◌, ◌≤◌, ℕ, zero, suc, Bool, true, false, cond, List, [], ◌∷◌, ◌++◌, length, set, Option, Some, None, refl, sym, ap, subst, ⊎_elim, arith, get_or-set_same, get_or-set_other}
 use Rattle.std.specs.Prelude.{◌⊎◌, ◌==◌, option_and_then, option_map, slice_index_or}
 use Rattle.std.specs.Option.{option_map_or}
-use Rattle.std.proofs.lemmas.Bool.{and_parts, both_ways, cases_Bool, cases_eq, cases_lt, eq-eqb, ne_eqb}
+use Rattle.std.proofs.lemmas.Bool.{both_ways, cases_eq, cases_lt, eq-eqb, ne_eqb}
 use Rattle.std.proofs.lemmas.List.{append-nil, get_or_append_left, get_or_past}
 use Rattle.std.proofs.lemmas.List.Sums.{fold_push}
 use Rattle.std.proofs.lemmas.Option.{none-some, same_Some}
@@ -16,14 +16,13 @@ use Rattle.component_trait.specs.Tables.{opening}
 use Rattle.quiesce_core.specs.Doers.{is_make, is_of_change}
 use Rattle.quiesce_core.specs.Effect.{effect}
 use Rattle.quiesce_core.specs.Legal.{Legal}
-use Rattle.quiesce_core.specs.Rules.{can_move, denial, is_kind, was_moved}
+use Rattle.quiesce_core.specs.Rules.{denial}
 use Rattle.quiesce_core.specs.Runs.{IsRun, doer, done_by, state_after}
 use Rattle.quiesce_core.specs.State.{Configuration, State, is_live, slot}
 use Rattle.quiesce_core.specs.declared.event.Event.{Event}
 use Rattle.quiesce_core.specs.declared.event.Event.TheVariants.{Close, Reopen, Make, Link, Unlink, Remove}
 use Rattle.quiesce_core.specs.declared.state.Slot.{Slot}
 use Rattle.quiesce_core.proofs.AlterLaws.{reconfigured}
-use Rattle.quiesce_core.proofs.InductionLaws.{always}
 use Rattle.quiesce_core.proofs.LegalLaws.{legal}
 use Rattle.quiesce_core.proofs.RunLaws.{changes_are_of_no_node, done_by_more, node_events_keep_the_configuration, runs_are_consistent, state_more}
 use Rattle.quiesce_core.proofs.SourceLaws.{sources_are_gone}
@@ -33,6 +32,7 @@ use Rattle.turns.specs.Turn.{turn}
 use Rattle.turns.specs.World.{World, first_port, opened, state_of, with_event, with_event_of}
 use Rattle.turn_laws.specs.Reached.{IsReached}
 use Rattle.turn_laws.proofs.ReachedLaws.{HoldsIn, TurnGoesOn, holds_where_reached, turn_goes_on}
+use Rattle.change_law.proofs.LowerLaws.{lower_after, new_slot, source_there}
 use Rattle.change_law.specs.Opening.{argument_of, fold_at, fold_of_node, fold_within}
 use Rattle.component_trait.specs.Making.{argument_or_0}
 
@@ -54,38 +54,6 @@ slot_was : (s : State) (e : Event) → Legal s e → is_make e ≡ false → (n 
 slot_was s (Make k node from) l h n m at = absurd (both_ways true h refl)
 slot_was s (Remove k) l h n m at = removed_slot s.config n (n == k) m (sym ((reconfigured s (Remove k) l).slots n) ∙ at)
 slot_was s e l h n m at = record { old = m; there = sym ((reconfigured s e l).slots n) ∙ at; node = refl; first = refl; from = refl }
-
-abbrev new_slot : Configuration → Node → Option ℕ → Slot
-new_slot c node from = record { node = node; first_port = length c.gates; from = from; live = true }
-
--- a node takes its state from one of a lower slot
-
-source_there : (c : Configuration) (node : Node) (from : Option ℕ) (k : ℕ) → option_map_or (λ k. can_move c k node.kind) from true ≡ true → from ≡ Some k → k < length c.slots
-source_there c node from k may is =
-    let here : can_move c k node.kind ≡ true = sym (ap (λ o. option_map_or (λ k. can_move c k node.kind) o true) is) ∙ may in
-    let found = map_or_true (λ (m : Slot). not m.live && is_kind m.node.kind node.kind) (slot c k)
-    (and_parts (option_map_or (λ (m : Slot). not m.live && is_kind m.node.kind node.kind) (slot c k) false) (not (was_moved c k)) here).0 in
-    slice_get-below c.slots k found.0 found.1
-
-abbrev AreLower : Configuration → Type 0
-AreLower c = (n k : ℕ) (m : Slot) → slot c n ≡ Some m → m.from ≡ Some k → k < n
-
-lower_next : (s : State) (e : Event) → Legal s e → AreLower s.config → AreLower (effect s e).config
-lower_next s e l h n k m at is = by e l (cases_Bool (is_make e)) at
-  where
-    by : (d : Event) → Legal s d → (is_make d ≡ true) ⊎ (is_make d ≡ false) → slot (effect s d).config n ≡ Some m → k < n
-    by (Make i node from) l which at = ⊎_elim
-        (λ (old : (n < length s.config.slots) × (slot s.config n ≡ Some m)). h n k m old.1 is)
-        (λ (new : (n ≡ length s.config.slots) × (new_slot s.config node from ≡ m)).
-        let low = source_there s.config node from k l.moves (ap (λ (x : Slot). x.from) new.1 ∙ is) in omega (arith, low, new.0))
-        (slice_get-snoc s.config.slots (new_slot s.config node from) m n at)
-    by d l which at = let was = slot_was s d l refl n m at in h n k was.old was.there (was.from ∙ is)
-
-lower_after : (es : List Event) → IsRun es → AreLower (state_after es).config
-lower_after es run =
-    always (λ xs. AreLower (state_after xs).config)
-    (λ before e here so_far. subst (λ (s : State). AreLower s.config) (sym here.next) (lower_next (state_after before) e here.legal so_far))
-    (λ n k m at. absurd (none-some m at)) es run
 
 -- with what a node in this slot opened, where this is what nodes have come to
 abbrev opened_by : (ℕ → Option NodeState) → Slot → Option Kept
@@ -196,7 +164,7 @@ make_folds w n node from h may are k m at =
     ⊎_elim
     (λ (old : (k < length c.slots) × (slot c k ≡ Some m)).
     early k old.0 ∙ are k m old.1
-    ∙ same_come (state_of w) g (done_by k es) m (λ j is. sym (early j (let low = lower_after es h.1.run k j m old.1 is in omega (arith, low, old.0))))
+    ∙ same_come (state_of w) g (done_by k es) m (λ j is. sym (early j (let low = (lower_after es h.1.run).lower k j m old.1 is in omega (arith, low, old.0))))
     ∙ ap (λ xs. come_to g xs m) (sym none))
     (λ (new : (k ≡ length c.slots) × (new_slot c node from ≡ m)).
     let nothing : done_by k (es ++ e ∷ []) ≡ [] = none ∙ h.1.unmade k (omega (arith, new.0)) in
@@ -256,7 +224,7 @@ module _ (handed : StatesAreHanded) (f : ℕ → Option NodeState) (es : List Ev
           ∙ sym (ap (option_and_then (λ (x : Slot). option_and_then (fold_at x (done_by n es))
           (option_map_or (λ k. option_map (λ (s : NodeState). s.kept) (fold_within es n k)) x.from (Some (opening x.node.kind (argument_of x)))))) at)
       by_from m at (Some k) is earlier =
-          let below = lower_after es run n k m at is in
+          let below = (lower_after es run).lower n k m at is in
           let own = Some (opening m.node.kind (argument_of m)) in
           are n m at ∙ ap (λ o. option_and_then (fold_at m (done_by n es)) (option_map_or (λ k. option_map (λ (s : NodeState). s.kept) (f k)) o own)) is
           ∙ ap (λ o. option_and_then (fold_at m (done_by n es)) (option_map (λ (s : NodeState). s.kept) o)) (earlier k (omega (arith, below, low)))
