@@ -57,7 +57,7 @@ parted : IsTokens description tokens
 parted = subst (λ n. Tokenizes description 0 n tokens) ends (parts_from description 460 0)
 
 read : reading.unit description 32 16 tokens ≡ Ok (made_tree, [])
-unfolding reading.sees reading.after reading.expect reading.sees_number reading.number reading.operator_at reading.operator reading.turns reading.turns_up_to reading.chain reading.comparison reading.operand_over reading.expr_over reading.nested_over reading.name reading.note reading.note_list reading.notes reading.param reading.param_list reading.params reading.simple reading.factor reading.nested reading.expr reading.body_over reading.bracketed reading.index reading.exprs reading.arg_list reading.args reading.single_after reading.element_after reading.instentry reading.port_end reading.bind_end reading.bindentry reading.instances reading.bindings reading.forall_over reading.when_over reading.block_over reading.listing reading.statement reading.block reading.port reading.ports_at reading.port_list reading.arrayentry reading.array_list reading.item reading.component reading.unit
+unfolding reading.sees reading.after reading.expect reading.sees_number reading.number reading.operator_at reading.operator reading.turns reading.turns_up_to reading.chain reading.comparison reading.operand_over reading.expr_over reading.nested_over reading.name reading.note_token reading.note reading.note_list reading.notes reading.param reading.param_list reading.params reading.simple reading.factor reading.nested reading.expr reading.body_over reading.bracketed reading.index reading.exprs reading.arg_list reading.args reading.last_args reading.single_after reading.element_after reading.instentry reading.port_end reading.bind_end reading.end_before reading.bindentry reading.instances reading.bindings reading.forall_over reading.when_over reading.block_over reading.listing reading.statement reading.block reading.port reading.ports_at reading.port_list reading.arrayentry reading.array_list reading.item reading.component reading.unit
 read = refl
 
 spelled : IsUnit description tokens made_tree
