@@ -6,7 +6,7 @@ ghost use Rattle.change_script.specs.Faults.{both, fault_at};
 use std::alloc::{AllocError, AllocFailed};
 
 /// What is wrong with a line by itself.
-#[derive(Clone, Copy, Debug, PartialEq, Eq)]
+#[derive(Clone, Copy)]
 pub enum LineFault {
     /// It has none of the forms.
     Bad,
@@ -15,7 +15,7 @@ pub enum LineFault {
 }
 
 /// Why it isn't known what a line says.
-#[derive(Clone, Copy, Debug, PartialEq, Eq)]
+#[derive(Clone, Copy)]
 pub enum LineError {
     Fault(LineFault),
     NoMemory,

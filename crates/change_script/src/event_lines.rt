@@ -17,7 +17,7 @@ use quiesce_core::Event;
 use std::alloc::Global;
 
 /// What a line says.
-#[derive(Debug, Drop)]
+#[derive(Drop)]
 pub enum EventLine {
     Start { name: Text, args: List<i32> },
     Event(Event),

@@ -19,7 +19,7 @@ use std::alloc::Global;
 pub const MAX_STATEMENTS: usize = 256;
 
 /// What kinds of statements stand above a line.
-#[derive(Clone, Copy, Debug, PartialEq, Eq)]
+#[derive(Clone, Copy)]
 struct Above {
     file: bool,
     start: bool,

@@ -12,7 +12,7 @@ use config_graph::NoMemory;
 use std::alloc::Global;
 
 /// The first word of each line but `use`.
-#[derive(Clone, Copy, Debug, PartialEq, Eq)]
+#[derive(Clone, Copy)]
 pub enum ScriptVerb {
     Start,
     Run,
