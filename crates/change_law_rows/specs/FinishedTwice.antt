@@ -1,5 +1,5 @@
 -- Two sources of two items come to rest in six rounds, and a second finish makes none.
-use Rattle.std.specs.Prelude.{List, [], ◌∷◌, ◌++◌, codes, drop, pos, take}
+use Rattle.std.specs.Prelude.{List, Some, [], ◌∷◌, ◌++◌, codes, drop, pos, take}
 use Rattle.change_script.specs.declared.report.HistoryLine.TheVariants as to
 use Rattle.change_script.specs.declared.report.Report.{Report}
 use Rattle.change_law.specs.Statements.{Statement, start, finish}
@@ -24,6 +24,8 @@ finished_later =
       history =
           take 10 run_out.history ++ to.Finish 9 9 ∷ to.Finish 9 3 ∷ to.Stop ∷ to.Close 0 ∷ to.Close 1 ∷ to.Drained 0 0
           ∷ to.Drained 1 0 ∷ [];
+      unfinished = Some 0;
+      status = 8;
     }
 
 -- the first finish makes no round though nothing rests, as the second does in rounds; and no node does anything
@@ -33,4 +35,6 @@ finished_at_once =
       history =
           take 10 run_out.history ++ to.Finish 9 0 ∷ to.Finish 9 9 ∷ to.Stop ∷ to.Close 0 ∷ to.Close 1 ∷ to.Drained 0 0
           ∷ to.Drained 1 0 ∷ [];
+      unfinished = Some 0;
+      status = 8;
     }

@@ -1,4 +1,4 @@
-//! Reports that aren't lawful, one for each part of what a report must be.
+//! Reports that aren't lawful, one for each part of what a report must be that doesn't follow from the others.
 
 ghost use Rattle.std.specs.Prelude.{None, Some};
 ghost use Rattle.change_law.specs.Lawful.{Lawful, Pace};

@@ -145,8 +145,9 @@ pub fn wrong_serials_are_refuted()
 {}
 
 /// A change that commits removes what it replaces before it makes another, which takes over no state unasked, and reopens
-/// what it made; one that is given up reopens what it closed, and in each of its looks the ports rise. The stop closes each live port, and finds no other drained; and each statement has its
-/// lines. A port isn't closed for a change that freezes nothing, nor before the change is named.
+/// what it made; one that is given up reopens what it closed, and in each of its looks the ports rise. The stop closes
+/// each live port, and finds no other drained; and each statement has its lines. A port isn't closed for a change that
+/// freezes nothing, nor before the change is named.
 pub fn wrong_closings_are_refuted()
     ensures left { Follows sights.replacing closings.left_closed → ⊥ }
     ensures kept { Follows sights.replacing closings.kept_closed → ⊥ }

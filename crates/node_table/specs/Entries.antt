@@ -33,11 +33,12 @@ pub data SlotEntry : Type 0 where
 abbrev pub line_of : NodeSeen → ℕ
 line_of x = option_map_or (λ (m : Predecessor). m.slot) (slice_get x.past 0) x.slot
 
--- all that the node of an entry did, wherever its log lies
+-- the log at a place of the past of an entry's node
 abbrev pub past_log : ℕ → Option SlotEntry → List Event
 past_log place (Some (here x)) = option_map_or (λ (m : Predecessor). m.log) (slice_get x.past place) []
 past_log place _ = []
 
+-- all that the node of an entry did, wherever its log lies
 abbrev pub log_in : List SlotEntry → List ℕ → SlotEntry → List Event
 log_in nodes ends (here x) = x.log
 log_in nodes ends (gone y) = past_log y.place (slice_get nodes (slice_index_or ends y.line 0))

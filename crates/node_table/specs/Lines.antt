@@ -7,7 +7,7 @@ use Rattle.quiesce_core.specs.declared.event.Event.{Event}
 use Rattle.quiesce_core.specs.declared.state.Slot.{Slot}
 use Rattle.node_table.specs.Entries.{Predecessor}
 
--- a node that was made as this slot says, as a member of a line
+-- a node that was made as this slot says, as an earlier node of a line
 abbrev pub member : List Event → ℕ → Slot → Predecessor
 member es n m = record { slot = n; first = m.first_port; arg = argument_or_0 m.node.arg; log = done_by n es }
 

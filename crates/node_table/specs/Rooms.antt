@@ -1,4 +1,4 @@
--- For how many nodes a table has memory.
+-- For how many nodes, and earlier nodes of lines, a table has memory.
 use Rattle.std.specs.Prelude.{Bool, true, nat_lt, length, vec_capacity}
 use Rattle.node_table.specs.declared.held.Held.{Held}
 use Rattle.node_table.specs.declared.held.Held.TheVariants as held

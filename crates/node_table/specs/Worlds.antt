@@ -15,7 +15,7 @@ pub record IsShown (w : World) (n : ℕ) (x : NodeSeen) : Type 0 where
   pub own : (r m : ℕ) → slice_get x.waiting r ≡ Some (Some m) → (r < length (row x.state.kind).requires_) × (m < length w.inboxes)
 
 -- The world is reached by allowed events of the change and turns of nodes; its events are the run that the entries hold after, and its
--- inboxes hold what these hold.
+-- inboxes hold what those of the table hold.
 pub record ShowsIn (s : State) (nodes : List SlotEntry) (ends : List ℕ) (tells : ℕ → Option (List ℕ)) (w : World) : Type 0 where
   pub reached : IsReached w
   pub holds : HoldsIn s nodes ends w.events

@@ -261,7 +261,7 @@ fn scripts_have_256_statements(rt: HostRuntime) -> Result<(), Fail> {
     assert_full(&rt, alloc, "show", "\nshow 1", ("BadLine", 257))
 }
 
-/// Two lists of texts are the same.
+/// The text has these bytes.
 fn is(text: &Text, wanted: &[u8]) -> bool {
     text.as_bytes() == wanted
 }

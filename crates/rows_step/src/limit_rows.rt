@@ -96,7 +96,7 @@ fn long_scripts_are_refused(rt: HostRuntime) -> Result<(), Fail> {
     run_over(&rt, alloc, &mut shelf, &STEP, wanted)
 }
 
-/// A description that is too long is refused by the line that uses it, and so is a file that isn't one.
+/// A description that is too long is refused by the line that uses it.
 #[test]
 fn long_descriptions_are_refused(rt: HostRuntime) -> Result<(), Fail> {
     let alloc = rt.alloc();

@@ -1,4 +1,4 @@
-//! Changes in every round of a run: what is counted or kept at the end doesn't depend on it.
+//! Changes once so many transactions ended: what is counted or kept at the end doesn't depend on it.
 
 use crate::descriptions::{BANK, LINE};
 use crate::running::{AMPLE, STEP, words_of};
@@ -102,7 +102,7 @@ fn run_falling(rt: &impl Abort, alloc: Global, falling: &Falling, within: u32) -
 }
 
 #[test]
-fn items_are_kept_in_every_round(rt: HostRuntime) -> Result<(), Fail> {
+fn items_are_kept_after_each_count(rt: HostRuntime) -> Result<(), Fail> {
     for falling in &FALLINGS {
         for within in 0..8_u32 {
             run_falling(&rt, rt.alloc(), falling, within)?;
@@ -113,7 +113,7 @@ fn items_are_kept_in_every_round(rt: HostRuntime) -> Result<(), Fail> {
 
 /// The accounts have 100 together: one has 94 at the end, and the other 6.
 #[test]
-fn sums_are_kept_in_every_round(rt: HostRuntime) -> Result<(), Fail> {
+fn sums_are_kept_after_each_count(rt: HostRuntime) -> Result<(), Fail> {
     let alloc = rt.alloc();
     for run in 0..10_u32 {
         let script = format!(in alloc;
