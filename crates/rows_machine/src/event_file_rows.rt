@@ -2,7 +2,7 @@
 
 ghost use Rattle.std.specs.Prelude.{◌≤◌, length};
 
-use change_script::{ScriptError, parse_events};
+use change_script::{EventFile, ScriptError, parse_events};
 use config_graph::{Kind, Node, Text};
 use darwin_lexer::MAX_TEXT;
 use quiesce_core::Event;
@@ -119,28 +119,34 @@ static FURTHER_MAKES: [Line; 15] = [
     ("make 0 a map() form 2", "BadLine"),
 ];
 
-/// The name of a text's first fault, and its line.
-fn fault(alloc: Global, text: &[u8]) -> (&'static str, u32)
-    requires { length text.now ≤ MAX_TEXT }
-{
-    match parse_events(alloc, text) {
-        Ok(_) => ("", 0),
-        Err(ScriptError::BadLine(line)) => ("BadLine", line),
-        Err(ScriptError::NoStart) => ("NoStart", 0),
-        Err(ScriptError::NoEnd) => ("NoEnd", 0),
-        Err(ScriptError::Order(line)) => ("Order", line),
-        Err(ScriptError::NumberTooBig(line)) => ("NumberTooBig", line),
-        Err(ScriptError::TooManyLines(line)) => ("TooManyLines", line),
-        Err(ScriptError::NoMemory) => ("NoMemory", 0),
+/// The name of a fault, and its line.
+fn named(error: &ScriptError) -> (&'static str, u32) {
+    match error {
+        ScriptError::BadLine(line) => ("BadLine", *line),
+        ScriptError::NoStart => ("NoStart", 0),
+        ScriptError::NoEnd => ("NoEnd", 0),
+        ScriptError::Order(line) => ("Order", *line),
+        ScriptError::NumberTooBig(line) => ("NumberTooBig", *line),
+        ScriptError::TooManyLines(line) => ("TooManyLines", *line),
+        ScriptError::NoMemory => ("NoMemory", 0),
     }
 }
 
-fn assert_fault(rt: &impl Abort, alloc: Global, text: &str, (name, line): (&str, u32)) {
+/// Whether this is the name of a text's first fault, and its line.
+fn is_fault(alloc: Global, text: &[u8], wanted: (&str, u32)) -> bool
+    requires { length text.now ≤ MAX_TEXT }
+{
+    let found = match parse_events(alloc, text) {
+        Ok(_) => ("", 0),
+        Err(error) => named(&error),
+    };
+    found.0 == wanted.0 && found.1 == wanted.1
+}
+
+fn assert_fault(rt: &impl Abort, alloc: Global, text: &str, wanted: (&str, u32)) {
     let bytes = text.as_bytes();
     assert!(rt; bytes.len() <= MAX_TEXT);
-    let found = fault(alloc, bytes);
-    assert_eq!(rt; found.0, name, "{text}");
-    assert_eq!(rt; found.1, line, "{text}");
+    assert!(rt; is_fault(alloc, bytes, wanted), "{text}");
 }
 
 /// Each line between these others, which is the line of this number, has its fault, or the text has none.
@@ -218,14 +224,19 @@ fn the_first_fault_of_a_file(rt: HostRuntime) {
     }
 }
 
+/// The file starts the line and has these events.
+fn assert_file(rt: &impl Abort, file: &EventFile, wanted: &[Event]) {
+    assert!(rt; file.name.as_bytes() == b"Line".as_slice());
+    assert!(rt; file.args.items() == [3, -10].as_slice());
+    assert!(rt; file.events.items() == wanted);
+}
+
 /// An event file has these events.
 fn assert_events(rt: &impl Abort, alloc: Global, text: &[u8], wanted: &[Event]) -> Result<(), Fail>
     requires { length text.now ≤ MAX_TEXT }
 {
     let file = parse_events(alloc, text)?;
-    assert!(rt; file.name.as_bytes() == b"Line".as_slice());
-    assert!(rt; file.args.items() == [3, -10].as_slice());
-    assert!(rt; file.events.items() == wanted);
+    assert_file(rt, &file, wanted);
     Ok(())
 }
 

@@ -1,7 +1,9 @@
 //! Rows of `plan` with what the command can't ask for: moves, and nodes and ports that were made before.
 
+ghost use Rattle.change_plan.specs.PlanWithin.{IsPlanWithin};
+
 use crate::systems::{LINE, graph_after};
-use change_plan::{Move, PlanError, plan, plan_text};
+use change_plan::{Move, Plan, PlanError, Shift, plan, plan_text};
 use config_graph::{Graph, Made, NoMemory, Text};
 use std::alloc::Global;
 use std::process::Abort;
@@ -122,14 +124,21 @@ static REFUSALS: [Planned; 7] = [
     ),
 ];
 
-fn moves_of(alloc: Global, pairs: &[(&str, &str)]) -> Result<Vec<Move>, NoMemory> {
-    let mut moves = Vec::new(alloc);
+fn move_of(alloc: Global, from: &str, to: &str) -> Result<Move, NoMemory> {
+    let from = Text::from_bytes(alloc, from.as_bytes())?;
+    let to = Text::from_bytes(alloc, to.as_bytes())?;
+    Ok(Move { from, to })
+}
+
+fn push_moves(
+    alloc: Global,
+    moves: &mut Vec<Move>,
+    pairs: &[(&str, &str)],
+) -> Result<(), NoMemory> {
     for (from, to) in pairs {
-        let from = Text::from_bytes(alloc, from.as_bytes())?;
-        let to = Text::from_bytes(alloc, to.as_bytes())?;
-        moves.push(Move { from, to })?;
+        moves.push(move_of(alloc, from, to)?)?;
     }
-    Ok(moves)
+    Ok(())
 }
 
 fn shown(text: &Text) -> &str {
@@ -151,6 +160,24 @@ fn refusal(alloc: Global, error: &PlanError) -> Result<String, NoMemory> {
     }
 }
 
+fn push_shifts(alloc: Global, out: &mut String, shifts: &[Shift]) -> Result<(), NoMemory> {
+    for shift in shifts {
+        let line = format!(in alloc; "move {} {}\n", shift.old, shift.new)?;
+        out.push_str(line.as_str())?;
+    }
+    Ok(())
+}
+
+/// The text of a plan with a line for each of its moves.
+fn planned(alloc: Global, old: &Graph, new: &Graph, plan: &Plan) -> Result<String, NoMemory>
+    requires { IsPlanWithin old.now new.now plan.now }
+{
+    let text = plan_text(alloc, old, new, plan)?;
+    let mut out = String::from_str(alloc, str::from_utf8(&text).unwrap_or("?"))?;
+    push_shifts(alloc, &mut out, plan.moves.items())?;
+    Ok(out)
+}
+
 /// The text of a plan with a line for each of its moves, or its refusal.
 fn outcome(
     alloc: Global,
@@ -159,33 +186,34 @@ fn outcome(
     moves: &[Move],
     made: Made,
 ) -> Result<String, NoMemory> {
-    let plan = match plan(alloc, old, new, moves, made) {
-        Ok(plan) => plan,
-        Err(error) => return refusal(alloc, &error),
-    };
-    let text = plan_text(alloc, old, new, &plan)?;
-    let mut out = format!(in alloc; "{}", str::from_utf8(&text).unwrap_or("?"))?;
-    for shift in plan.moves.items() {
-        let line = format!(in alloc; "move {} {}\n", shift.old, shift.new)?;
-        out.push_str(line.as_str())?;
+    match plan(alloc, old, new, moves, made) {
+        Ok(plan) => planned(alloc, old, new, &plan),
+        Err(error) => refusal(alloc, &error),
     }
-    Ok(out)
 }
 
-fn assert_outcome(
+fn assert_between(
     rt: &impl Abort,
     alloc: Global,
-    (from, to, pairs, (nodes, ports), wanted): &Planned,
-) -> Result<(), Fail> {
-    let old = graph_after(rt, alloc, from)?;
-    let new = graph_after(rt, alloc, to)?;
-    let moves = moves_of(alloc, pairs)?;
+    old: &Graph,
+    new: &Graph,
+    (_, _, pairs, (nodes, ports), wanted): &Planned,
+) -> Result<(), NoMemory> {
+    let mut moves = Vec::new(alloc);
+    push_moves(alloc, &mut moves, pairs)?;
     let made = Made {
         nodes: *nodes,
         ports: *ports,
     };
-    let found = outcome(alloc, &old, &new, &moves, made)?;
+    let found = outcome(alloc, old, new, &moves, made)?;
     assert_eq!(rt; found.as_str(), *wanted);
+    Ok(())
+}
+
+fn assert_outcome(rt: &impl Abort, alloc: Global, row: &Planned) -> Result<(), Fail> {
+    let old = graph_after(rt, alloc, row.0)?;
+    let new = graph_after(rt, alloc, row.1)?;
+    assert_between(rt, alloc, &old, &new, row)?;
     Ok(())
 }
 

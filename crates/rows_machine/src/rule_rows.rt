@@ -126,17 +126,23 @@ static BRANCHES: [Denied; 3] = [
 
 static CYCLES: [Denied; 1] = [("link 1 0 0", 23)];
 
-/// The rule that denies the last event, where each before it happens.
-fn denial_of_the_last(alloc: Global, events: &[Event]) -> Option<u32> {
-    let (last, before) = events.split_last()?;
+/// Whether each event happens.
+fn happen(core: &mut Core, events: &[Event]) -> bool {
+    for event in events {
+        if core.apply(event).is_err() {
+            return false;
+        }
+    }
+    true
+}
+
+/// Whether the rule denies the last event, where each before it happens.
+fn is_last_denied(alloc: Global, events: &[Event], rule: u32) -> bool {
+    let Some((last, before)) = events.split_last() else {
+        return false;
+    };
     let mut core = Core::empty(alloc);
-    for event in before {
-        core.apply(event).ok()?;
-    }
-    match core.apply(last) {
-        Err(CoreError::Denied { rule }) => Some(rule),
-        _ => None,
-    }
+    happen(&mut core, before) && core.apply(last) == Err(CoreError::Denied { rule })
 }
 
 fn assert_last_denied(
@@ -145,11 +151,11 @@ fn assert_last_denied(
     system: &[&str],
     (events, rule): &Denied,
 ) -> Result<(), Fail> {
-    let mut pieces = Vec::from_slice(alloc, system)?;
-    pieces.push(events)?;
-    let file = events_of(rt, alloc, &pieces)?;
-    let denied = denial_of_the_last(alloc, file.events.items());
-    assert_eq!(rt; denied, Some(*rule), "{events}");
+    let file = events_of(rt, alloc, system, events)?;
+    assert!(rt;
+        is_last_denied(alloc, file.events.items(), *rule),
+        "{events}"
+    );
     Ok(())
 }
 

@@ -1,9 +1,13 @@
 //! Rows of shelves and sinks, used through their traits.
 
-use cfg_io::{FileShelf, MemShelf, MemSink, OutSink, Shelf, ShelfError, Sink, Stopped, write_all};
+use cfg_io::{
+    FileShelf, MemShelf, MemSink, NoMemory, OutSink, Shelf, ShelfError, Sink, Stopped, write_all,
+};
+use std::alloc::AllocError;
 use std::cell::{Cell, RefCell};
 use std::fmt::Display;
 use std::io::ErrorKind;
+use std::process::Abort;
 use std::test::Fail;
 use std::{fs, io};
 
@@ -27,26 +31,61 @@ fn copy<H: Shelf, K: Sink>(shelf: &mut H, sink: &mut K, name: &str) -> Outcome {
     }
 }
 
-#[test]
-fn copies_until_the_room_is_full(rt: HostRuntime) -> Result<(), Fail> {
-    let mut shelf = MemShelf::new(rt.alloc());
+/// A file's name, what comes of a copy, and what the sink has then.
+type Copied = (&'static str, Outcome, &'static [u8]);
+
+static COPIES: [Copied; 5] = [
+    ("a", Outcome::Done, b"abc"),
+    ("none", Outcome::ReadFault, b"abc"),
+    ("b", Outcome::WriteFault, b"abcdefg"),
+    ("a", Outcome::ReadFault, b"abcdefg"),
+    ("a", Outcome::WriteFault, b"abcdefg"),
+];
+
+/// Two files, and the fourth fetch fails.
+fn fill(shelf: &mut MemShelf) -> Result<(), NoMemory> {
     shelf.add("a", b"old")?;
     shelf.add("a", b"abc")?;
     shelf.add("b", b"defgh")?;
-    shelf.fail_at(3)?;
-    let mut sink = MemSink::new(rt.alloc(), 7)?;
-    let wanted: [(&str, Outcome, &[u8]); 5] = [
-        ("a", Outcome::Done, b"abc"),
-        ("none", Outcome::ReadFault, b"abc"),
-        ("b", Outcome::WriteFault, b"abcdefg"),
-        ("a", Outcome::ReadFault, b"abcdefg"),
-        ("a", Outcome::WriteFault, b"abcdefg"),
-    ];
-    for (name, outcome, bytes) in wanted {
-        assert_eq!(rt; copy(&mut shelf, &mut sink, name), outcome, "at {name}");
-        assert_eq!(rt; sink.bytes(), bytes, "at {name}");
+    shelf.fail_at(3)
+}
+
+fn assert_copies(rt: &impl Abort, shelf: &mut MemShelf, sink: &mut MemSink) {
+    for (name, outcome, bytes) in &COPIES {
+        assert!(rt;
+            copy(shelf, sink, name) == *outcome,
+            "at {name}: {outcome:?}"
+        );
+        assert!(rt; sink.bytes() == *bytes, "at {name}: {outcome:?}");
     }
+}
+
+#[test]
+fn copies_until_the_room_is_full(rt: HostRuntime) -> Result<(), Fail> {
+    let mut shelf = MemShelf::new(rt.alloc());
+    fill(&mut shelf)?;
+    let mut sink = MemSink::new(rt.alloc(), 7)?;
+    assert_copies(&rt, &mut shelf, &mut sink);
     Ok(())
+}
+
+/// Whether the file is read where so many bytes may be, and these are its bytes.
+fn is_read<H: Shelf>(shelf: &mut H, name: &str, limit: u32, bytes: &[u8]) -> bool {
+    match shelf.fetch(name, limit) {
+        Ok(found) => found.as_slice() == bytes,
+        Err(_) => false,
+    }
+}
+
+fn is_too_long<H: Shelf>(shelf: &mut H, name: &str, most: u32) -> bool {
+    match shelf.fetch(name, most) {
+        Err(ShelfError::TooLong { limit }) => limit == most,
+        _ => false,
+    }
+}
+
+fn has_failed<H: Shelf>(shelf: &mut H, name: &str) -> bool {
+    matches!(shelf.fetch(name, 4), Err(ShelfError::Failed))
 }
 
 #[test]
@@ -54,20 +93,15 @@ fn reads_files_and_writes_out(rt: HostRuntime) -> Result<(), Fail> {
     let path = "rows_machine_test_file";
     fs::write(&rt, path, "four")?;
     let mut shelf = FileShelf::new(&rt, rt.alloc());
-    let fits = shelf.fetch(path, 4);
-    let longer = shelf.fetch(path, 3);
+    let fits = is_read(&mut shelf, path, 4, b"four");
+    let is_longer = is_too_long(&mut shelf, path, 3);
     fs::remove_file(&rt, path)?;
-    assert_eq!(rt; fits?.as_slice(), b"four".as_slice());
-    assert!(rt; matches!(longer, Err(ShelfError::TooLong { limit: 3 })));
-    assert!(rt; matches!(shelf.fetch(path, 4), Err(ShelfError::Failed)));
-    assert!(rt; matches!(shelf.fetch(".", 4), Err(ShelfError::Failed)));
-    assert!(rt;
-        matches!(
-            shelf.fetch("/dev/zero", 4),
-            Err(ShelfError::TooLong { limit: 4 })
-        )
-    );
-    assert_eq!(rt; write_all(&mut OutSink::new(&rt), b"out\n"), Ok(()));
+    assert!(rt; fits);
+    assert!(rt; is_longer);
+    assert!(rt; has_failed(&mut shelf, path));
+    assert!(rt; has_failed(&mut shelf, "."));
+    assert!(rt; is_too_long(&mut shelf, "/dev/zero", 4));
+    assert!(rt; write_all(&mut OutSink::new(&rt), b"out\n").is_ok());
     Ok(())
 }
 
@@ -109,21 +143,27 @@ impl Print for ShortOutput {
     }
 }
 
+/// So many lines of two kinds, of six bytes each.
+fn push_lines(text: &mut String, lines: u32) -> Result<(), AllocError> {
+    for line in 0..lines {
+        text.push_str(if line % 3 == 0 { "three\n" } else { "other\n" })?;
+    }
+    Ok(())
+}
+
 /// A file longer than any piece in which it is read.
 #[test]
 fn a_long_file_is_read_whole(rt: HostRuntime) -> Result<(), Fail> {
     let path = "rows_machine_long_file";
     let mut text = String::new(rt.alloc());
-    for line in 0..20_000 {
-        text.push_str(if line % 3 == 0 { "three\n" } else { "other\n" })?;
-    }
+    push_lines(&mut text, 20_000)?;
     fs::write(&rt, path, text.as_str())?;
     let mut shelf = FileShelf::new(&rt, rt.alloc());
-    let fits = shelf.fetch(path, 120_000);
-    let longer = shelf.fetch(path, 119_999);
+    let fits = is_read(&mut shelf, path, 120_000, text.as_bytes());
+    let is_longer = is_too_long(&mut shelf, path, 119_999);
     fs::remove_file(&rt, path)?;
-    assert!(rt; fits?.as_slice() == text.as_bytes());
-    assert!(rt; matches!(longer, Err(ShelfError::TooLong { limit: 119_999 })));
+    assert!(rt; fits);
+    assert!(rt; is_longer);
     Ok(())
 }
 

@@ -1,10 +1,10 @@
 //! The systems of the rows, as events in the words of event files.
 
-use change_script::{EventFile, parse_events};
+use change_script::{EventFile, ScriptError, parse_events};
 use config_graph::Graph;
 use darwin_lexer::MAX_TEXT;
 use quiesce_core::{Core, Event};
-use std::alloc::Global;
+use std::alloc::{AllocError, Global};
 use std::process::Abort;
 use std::test::Fail;
 
@@ -45,15 +45,29 @@ unlink 0
 remove 2
 ";
 
-/// The events of an event file, in pieces, behind its start.
-pub fn events_of(rt: &impl Abort, alloc: Global, pieces: &[&str]) -> Result<EventFile, Fail> {
-    let mut text = String::from_str(alloc, "start X()\n")?;
+fn push_all(text: &mut String, pieces: &[&str], last: &str) -> Result<(), AllocError> {
     for piece in pieces {
         text.push_str(piece)?;
     }
-    let bytes = text.as_str().as_bytes();
-    assert!(rt; bytes.len() <= MAX_TEXT);
-    Ok(parse_events(alloc, bytes)?)
+    text.push_str(last)
+}
+
+/// The events of an event file with this text.
+fn events_in(rt: &impl Abort, alloc: Global, text: &[u8]) -> Result<EventFile, ScriptError> {
+    assert!(rt; text.len() <= MAX_TEXT);
+    parse_events(alloc, text)
+}
+
+/// The events of an event file, in pieces and a last one, behind its start.
+pub fn events_of(
+    rt: &impl Abort,
+    alloc: Global,
+    pieces: &[&str],
+    last: &str,
+) -> Result<EventFile, Fail> {
+    let mut text = String::from_str(alloc, "start X()\n")?;
+    push_all(&mut text, pieces, last)?;
+    Ok(events_in(rt, alloc, text.as_str().as_bytes())?)
 }
 
 /// Each event happens.
@@ -65,7 +79,7 @@ fn happen(rt: &impl Abort, core: &mut Core, events: &[Event]) {
 
 /// The state after these events, from where nothing is made.
 pub fn core_after(rt: &impl Abort, alloc: Global, pieces: &[&str]) -> Result<Core, Fail> {
-    let file = events_of(rt, alloc, pieces)?;
+    let file = events_of(rt, alloc, pieces, "")?;
     let mut core = Core::empty(alloc);
     happen(rt, &mut core, file.events.items());
     Ok(core)
