@@ -1,4 +1,3 @@
-pub mod Count
 pub mod Reading
 pub mod Shelf
 pub mod Sink

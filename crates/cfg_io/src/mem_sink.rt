@@ -1,7 +1,7 @@
 //! A sink in memory, with room for so many bytes.
 
 ghost use Rattle.std.specs.Prelude.{◌≡◌, ◌≤◌, ◌<◌, ◌+◌, ◌-◌, [], Some, IfOk, OnOk, OnErr, length, take, min};
-ghost use Rattle.cfg_io.specs.Count.{Rose};
+ghost use Rattle.base.specs.Count.{Rose};
 ghost use Rattle.cfg_io.specs.Sink.{taken_after};
 
 use crate::NoMemory;

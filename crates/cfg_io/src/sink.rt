@@ -1,7 +1,7 @@
 //! What every sink does.
 
 ghost use Rattle.std.specs.Prelude.{◌≡◌, ◌≤◌, ◌<◌, ℕ, List, Option, IfOk, OnOk, IfErr, OnErr, length, take};
-ghost use Rattle.cfg_io.specs.Count.{Rose};
+ghost use Rattle.base.specs.Count.{Rose};
 ghost use Rattle.cfg_io.specs.Sink.{taken_after, with_bytes};
 
 /// A sink took nothing of a piece.

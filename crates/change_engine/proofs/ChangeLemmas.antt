@@ -45,7 +45,7 @@ use Rattle.change_engine.specs.Calls.{HasAbandoned, HasBrokenOff, HasCommitted, 
 use Rattle.change_engine.specs.Draining.{Waits, WhereNoMemory, WherePending, left_lines, pending_items, root_item, root_line}
 use Rattle.change_engine.specs.declared.draining.PassError.{PassError}
 use Rattle.change_engine.specs.declared.draining.PassError.TheVariants.{NoMemory, Pending}
-use Rattle.change_engine.specs.Engines.{HasPlace, IsFor, IsOpen, IsPrepared, IsTold, MayCommit, Tells}
+use Rattle.change_engine.specs.Engines.{HasPlace, IsFor, IsOpen, IsPrepared, IsReadyToCommit, IsTold, Tells}
 use Rattle.change_engine.specs.Growing.{Grew}
 use Rattle.change_engine.specs.Layouts.{IsLayoutOf, place_in, port_of}
 use Rattle.change_engine.specs.Leaving.{IsRootLeft}
@@ -193,7 +193,7 @@ module _ {B : Type 0} (S : B → List Entry → Type 0) (R : B → Room) (runs :
       → change.reopen_lines.items ≡ lines_of_events change.reopens.items ++ to.Abandon ∷ []
   reopen_lines_for t moves plan new change h open_ = (is_for t moves plan new change h open_).reopen_lines
 
-  pub commit_may : (t : List Item) (moves : List Move) (plan : Plan) (new : Graph) (change : Change) (m : MayCommit S R e t moves plan new) → e.change ≡ Some change
+  pub commit_may : (t : List Item) (moves : List Move) (plan : Plan) (new : Graph) (change : Change) (m : IsReadyToCommit S R e t moves plan new) → e.change ≡ Some change
       → MayDoAll (entries t) (commit_events e.graph new plan (config_of (entries t))) → MayDoAll (entries t) change.events.items
   commit_may t moves plan new change m open_ may_ =
       subst (MayDoAll (entries t)) (sym ((is_for t moves plan new change m.is_open open_).events (config_of (entries t)) (told t m.is_open.tells))) may_

@@ -30,7 +30,7 @@ use Rattle.change_engine.specs.Ending.{unfinished_after}
 use Rattle.change_engine.specs.Running.{Counts, RunsOn, ScansUntil, ended_since, are_enough}
 use Rattle.change_engine.specs.Stopping.{Stops}
 use Rattle.change_engine.specs.Engines.{IsIdle, Tells}
-use Rattle.change_engine.specs.Finishing.{Finished, IsScanIn, Seen, all_entries}
+use Rattle.change_engine.specs.Finishing.{Finished, IsScanIn, ScanSeen, all_entries}
 use Rattle.change_engine.specs.Growing.{Grew}
 use Rattle.change_engine.specs.Layouts.{IsLayoutOf, live_at, port_of}
 use Rattle.change_engine.specs.Passivating.{silent_items}
@@ -97,7 +97,7 @@ module _ {B : Type 0} (S : B → List Entry → Type 0) where
 pub quiet_silently : (es : List Entry) (l : HistoryLine) → events_in es ≡ [] → events_in (entries (silent_items es ++ said l ∷ [])) ≡ []
 quiet_silently es l quiet = ap events_in (entries_both (silent_items es) (said l ∷ []) ∙ ap (λ zs. zs ++ []) (silent_entries es) ∙ append-nil es) ∙ quiet
 
-pub looks_and_scans_quiet : (looks : List Found) (scans : List Seen) → events_in (map look_entry looks ++ all_entries scans) ≡ []
+pub looks_and_scans_quiet : (looks : List Found) (scans : List ScanSeen) → events_in (map look_entry looks ++ all_entries scans) ≡ []
 looks_and_scans_quiet looks scans = filter_map-append event_in (map look_entry looks) (all_entries scans) ∙ ap (λ es. es ++ events_in (all_entries scans)) (looks_quiet looks) ∙ all_quiet scans
 
 pub in_ok : {A E : Type 0} (P Q : A → Type 0) → ((x : A) → P x → Q x) → (r : Result A E) → IfOk r P → IfOk r Q

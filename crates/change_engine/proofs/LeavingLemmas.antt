@@ -20,14 +20,14 @@ use Rattle.gate_records.specs.Records.{IsRecord}
 use Rattle.change_board.specs.Scans.{Found, look_entry, ports_of, scan_entries}
 use Rattle.change_board.specs.Transcripts.{entries}
 use Rattle.change_engine.specs.Leaving.{IsRootLeft}
-use Rattle.change_engine.specs.Passivating.{AreLivePorts, IsPassivation, IsRound, Passivation, Round, is_busy, last_look, left_after, passivation_items, root_of, root_ports, roots_of, round_items}
+use Rattle.change_engine.specs.Passivating.{AreLivePorts, IsPassivation, IsRound, Passivation, WaitingRound, is_busy, last_look, left_after, passivation_items, root_of, root_ports, roots_of, round_items}
 use Rattle.change_engine.specs.declared.passivating.LeftRoot.{LeftRoot}
 use Rattle.change_engine.proofs.Passing.{closes, looks_quiet, roots_cons, round_entries}
 use Rattle.change_engine.proofs.Rooting.{behind, busy_not_noted, in_map, in_right, look_root, roots_there, split, whole}
 use Rattle.change_engine.proofs.ItemLaws.{entries_both}
 
 -- what is left are the roots that the last look saw
-left_is_last : (first : List Found) (rounds : List Round) → left_after first rounds ≡ roots_of (last_look first rounds)
+left_is_last : (first : List Found) (rounds : List WaitingRound) → left_after first rounds ≡ roots_of (last_look first rounds)
 left_is_last first [] = refl
 left_is_last first (w ∷ rounds) = left_is_last w.found rounds
 
@@ -36,7 +36,7 @@ record LastLook (all : List Entry) (found : List Found) : Type 0 where
   before : List Entry
   parts : all ≡ before ++ map look_entry found
 
-looks_last : (es : List Entry) (first : List Found) (rounds : List Round) → LastLook ((es ++ map look_entry first) ++ entries (flat_map round_items rounds)) (last_look first rounds)
+looks_last : (es : List Entry) (first : List Found) (rounds : List WaitingRound) → LastLook ((es ++ map look_entry first) ++ entries (flat_map round_items rounds)) (last_look first rounds)
 looks_last es first [] = record { before = es; parts = append-nil (es ++ map look_entry first) }
 looks_last es first (w ∷ rounds) =
     let xs = es ++ map look_entry first in
@@ -50,7 +50,7 @@ looks_last es first (w ∷ rounds) =
     }
 
 -- what holds of the ports of the first look and goes from those of a look to those left holds of those of the last
-last_ports : (P : List ℕ → Type 0) → ((found : List Found) → P (ports_of found) → P (root_ports (roots_of found))) → (first : List Found) (before rounds : List Round)
+last_ports : (P : List ℕ → Type 0) → ((found : List Found) → P (ports_of found) → P (root_ports (roots_of found))) → (first : List Found) (before rounds : List WaitingRound)
     → EachAfter (IsRound first) before rounds → P (ports_of (last_look first before)) → P (ports_of (last_look first (before ++ rounds)))
 last_ports P step first before [] each h = subst (λ ws. P (ports_of (last_look first ws))) (sym (append-nil before)) h
 last_ports P step first before (w ∷ rounds) each h =
@@ -58,7 +58,7 @@ last_ports P step first before (w ∷ rounds) each h =
     subst P (sym (each.0.at_left ∙ ap root_ports (left_is_last first before))) (step (last_look first before) h) in
     subst (λ ws. P (ports_of (last_look first ws))) (append_assoc before (w ∷ []) rounds)
     (last_ports P step first (before ++ w ∷ []) rounds each.1
-    (subst (λ found. P (ports_of found)) (sym (fold_push (λ found (v : Round). v.found) first before w)) next))
+    (subst (λ found. P (ports_of found)) (sym (fold_push (λ found (v : WaitingRound). v.found) first before w)) next))
 
 -- a look is at each port once
 apart_left : (found : List Found) → Apart Differ (ports_of found) → Apart Differ (root_ports (roots_of found))

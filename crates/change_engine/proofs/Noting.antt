@@ -13,7 +13,7 @@ use Rattle.gate_records.specs.Notes.{found_next, is_found_drained, is_never_reop
 use Rattle.change_board.specs.Scans.{Found, look_entry, ports_of, scan_entries}
 use Rattle.change_board.specs.Sights.{Sight, sight_entry}
 use Rattle.change_board.specs.Transcripts.{entries}
-use Rattle.change_engine.specs.Passivating.{IsPassivation, IsRound, Passivation, Round, close_item, is_busy, left_after, look_item, passivation_items, root_of, root_ports, roots_of, round_items}
+use Rattle.change_engine.specs.Passivating.{IsPassivation, IsRound, Passivation, WaitingRound, close_item, is_busy, left_after, look_item, passivation_items, root_of, root_ports, roots_of, round_items}
 use Rattle.change_engine.specs.declared.passivating.LeftRoot.{LeftRoot}
 use Rattle.change_engine.proofs.Passing.{look_entries, roots_cons, round_entries}
 use Rattle.change_engine.proofs.ItemLaws.{entries_both}
@@ -64,7 +64,7 @@ module _ (p : ℕ) where
       (λ (rest : In (ports_of found) p). more_left f found (after b (map look_entry (f ∷ found))) (looks_find found (found_next p b (look_entry f)) rest))
       h
 
-  round_finds : (left : List LeftRoot) (w : Round) (b : Bool) → ports_of w.found ≡ root_ports left → Found_ b left → Found_ (after b (entries (round_items w))) (roots_of w.found)
+  round_finds : (left : List LeftRoot) (w : WaitingRound) (b : Bool) → ports_of w.found ≡ root_ports left → Found_ b left → Found_ (after b (entries (round_items w))) (roots_of w.found)
   round_finds left w b at_ h =
       let scan = scan_entries false w.moved w.sights w.scan in
       let parts : after b (entries (round_items w)) ≡ after (after b scan) (map look_entry w.found) =
@@ -74,11 +74,11 @@ module _ (p : ℕ) where
       (λ (i : In (root_ports left) p). looks_find w.found (after b scan) (subst (λ ps. In ps p) (sym at_) i))
       h)
 
-  rounds_find : (first : List Found) (before rounds : List Round) (b : Bool) → EachAfter (IsRound first) before rounds → Found_ b (left_after first before)
+  rounds_find : (first : List Found) (before rounds : List WaitingRound) (b : Bool) → EachAfter (IsRound first) before rounds → Found_ b (left_after first before)
       → Found_ (after b (entries (flat_map round_items rounds))) (left_after first (before ++ rounds))
   rounds_find first before [] b each h = subst (λ ws. Found_ b (left_after first ws)) (nothing before) h
     where
-      nothing : (ws : List Round) → ws ≡ ws ++ []
+      nothing : (ws : List WaitingRound) → ws ≡ ws ++ []
       nothing [] = refl
       nothing (w ∷ ws) = ap (λ vs. w ∷ vs) (nothing ws)
   rounds_find first before (w ∷ rounds) b each h =

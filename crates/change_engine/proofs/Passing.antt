@@ -26,7 +26,7 @@ use Rattle.change_board.specs.Scans.{AddsScan, Found, look_entry, ports_of, scan
 use Rattle.change_board.specs.Sights.{Sight, sight_entry}
 use Rattle.change_board.specs.Transcripts.{silent, told, entries, entry_in, lines}
 use Rattle.change_engine.specs.Growing.{Grew}
-use Rattle.change_engine.specs.Passivating.{AreLivePorts, AreMadePorts, IsPassivation, IsRound, Passed, Round, Rounded, close_item, is_busy, item_at, left_after, lines_by, look_item, passivation_items, root_of, root_ports, roots_by, roots_of, round_items, silent_items}
+use Rattle.change_engine.specs.Passivating.{AreLivePorts, AreMadePorts, IsPassivation, IsRound, Passed, Rounded, WaitingRound, close_item, is_busy, item_at, left_after, lines_by, look_item, passivation_items, root_of, root_ports, roots_by, roots_of, round_items, silent_items}
 use Rattle.change_engine.specs.declared.passivating.LeftRoot.{LeftRoot}
 use Rattle.change_engine.proofs.Growing.{grew_both}
 use Rattle.change_engine.proofs.ItemLaws.{entries_both, silent_entries, silent_lines, close_lines}
@@ -147,7 +147,7 @@ pub ports_push : (found : List Found) (f : Found) (ps : List ℕ) (i : ℕ) → 
 ports_push found f ps i h e same =
     map-append (λ (f : Found). f.port) found (f ∷ []) ∙ ap (λ qs. qs ++ f.port ∷ []) e ∙ ap (λ p. take i ps ++ p ∷ []) same ∙ sym (take_more ps i 0 h)
 
-pub items_more : (ps : List ℕ) (first : List Found) (rounds : List Round) (w : Round)
+pub items_more : (ps : List ℕ) (first : List Found) (rounds : List WaitingRound) (w : WaitingRound)
     → passivation_items ps (record { first = first; rounds = rounds ++ w ∷ [] }) ≡ passivation_items ps (record { first = first; rounds = rounds }) ++ round_items w
 items_more ps first rounds w =
     let some = flat_map round_items rounds in
@@ -156,13 +156,13 @@ items_more ps first rounds w =
     ap (λ ts. map close_item ps ++ map look_item first ++ ts) more_
     ∙ sym (append_assoc (map close_item ps ++ map look_item first) some (round_items w))
 
-pub round_entries : (w : Round) → entries (round_items w) ≡ scan_entries false w.moved w.sights w.scan ++ map look_entry w.found
+pub round_entries : (w : WaitingRound) → entries (round_items w) ≡ scan_entries false w.moved w.sights w.scan ++ map look_entry w.found
 round_entries w =
     let scan = scan_entries false w.moved w.sights w.scan in
     entries_both (silent_items scan) (map look_item w.found) ∙ ap (λ es. es ++ entries (map look_item w.found)) (silent_entries scan)
     ∙ ap (λ es. scan ++ es) (look_entries w.found)
 
-pub round_quiet : (w : Round) → events_in (entries (round_items w)) ≡ []
+pub round_quiet : (w : WaitingRound) → events_in (entries (round_items w)) ≡ []
 round_quiet w =
     let scan = scan_entries false w.moved w.sights w.scan in
     ap events_in (round_entries w) ∙ filter_map-append event_in scan (map look_entry w.found)
@@ -204,7 +204,7 @@ module _ {B : Type 0} (S : B → List Entry → Type 0) where
         grew = grew_both S b c d i i j (silent_items scan) (map look_item y.found) (grew_silent b c i scan x.adds) y.grew;
       }
 
-  pub went_on : (a b d : B) (h i j : List HistoryLine) (ps : List ℕ) (first : List Found) (rounds : List Round) (w : Round)
+  pub went_on : (a b d : B) (h i j : List HistoryLine) (ps : List ℕ) (first : List Found) (rounds : List WaitingRound) (w : WaitingRound)
       → Grew S a b h i (passivation_items ps (record { first = first; rounds = rounds })) → Grew S b d i j (round_items w)
       → Grew S a d h j (passivation_items ps (record { first = first; rounds = rounds ++ w ∷ [] }))
   went_on a b d h i j ps first rounds w g x =
@@ -237,7 +237,7 @@ module _ {B : Type 0} (S : B → List Entry → Type 0) where
             (subst (λ zs. AreMadePorts (config_of r) (root_ports zs)) (sym w.next_is) (roots_made (config_of r) w.round.found (subst (AreMadePorts (config_of r)) (sym w.at_left) m))),
       )
 
-pub passivation_more : (ps : List ℕ) (left : List LeftRoot) (k : ℕ) (first : List Found) (rounds : List Round) (w : Round) → IsPassivation ps k (record { first = first; rounds = rounds }) → length rounds ≡ k
+pub passivation_more : (ps : List ℕ) (left : List LeftRoot) (k : ℕ) (first : List Found) (rounds : List WaitingRound) (w : WaitingRound) → IsPassivation ps k (record { first = first; rounds = rounds }) → length rounds ≡ k
     → left ≡ left_after first rounds → (left ≡ [] → ⊥) → ports_of w.found ≡ root_ports left → IsPassivation ps (k + 1) (record { first = first; rounds = rounds ++ w ∷ [] })
 passivation_more ps left k first rounds w p all e some at_ = record {
   at_ports = p.at_ports;

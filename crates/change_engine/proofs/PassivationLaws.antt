@@ -21,7 +21,7 @@ use Rattle.gate_records.specs.Looks.{is_drained_word, serial_of}
 use Rattle.change_board.specs.Scans.{Found, scan_entries}
 use Rattle.change_board.specs.Transcripts.{silent, told, line_in, lines}
 use Rattle.change_engine.specs.Draining.{root_item}
-use Rattle.change_engine.specs.Passivating.{AreLivePorts, Passivation, Round, close_item, left_after, look_item, passivation_items, roots_of, round_items, silent_items}
+use Rattle.change_engine.specs.Passivating.{AreLivePorts, Passivation, WaitingRound, close_item, left_after, look_item, passivation_items, roots_of, round_items, silent_items}
 use Rattle.change_engine.specs.declared.passivating.LeftRoot.{LeftRoot}
 use Rattle.change_engine.proofs.ItemLaws.{close_lines, lines_both, silent_lines}
 
@@ -49,19 +49,19 @@ look_lines (f ∷ found) = ap (cons_option (line_in (look_item f))) (look_lines 
 
 -- ---- round after round
 
-pub left_more : (first : List Found) (rounds : List Round) (w : Round) → left_after first (rounds ++ w ∷ []) ≡ roots_of w.found
-left_more first rounds w = fold_push (λ left (v : Round). roots_of v.found) (roots_of first) rounds w
+pub left_more : (first : List Found) (rounds : List WaitingRound) (w : WaitingRound) → left_after first (rounds ++ w ∷ []) ≡ roots_of w.found
+left_more first rounds w = fold_push (λ left (v : WaitingRound). roots_of v.found) (roots_of first) rounds w
 
-round_lines : (w : Round) → lines (round_items w) ≡ map drained_line (drained_in w.found)
+round_lines : (w : WaitingRound) → lines (round_items w) ≡ map drained_line (drained_in w.found)
 round_lines w =
     let scan = scan_entries false w.moved w.sights w.scan in
     lines_both (silent_items scan) (map look_item w.found) ∙ ap (λ ls. ls ++ lines (map look_item w.found)) (silent_lines scan)
     ∙ look_lines w.found
 
-abbrev pub drained_by : Round → List Seen
+abbrev pub drained_by : WaitingRound → List Seen
 drained_by w = drained_in w.found
 
-rounds_lines : (rounds : List Round) → lines (flat_map round_items rounds) ≡ map drained_line (flat_map drained_by rounds)
+rounds_lines : (rounds : List WaitingRound) → lines (flat_map round_items rounds) ≡ map drained_line (flat_map drained_by rounds)
 rounds_lines [] = refl
 rounds_lines (w ∷ rounds) =
     lines_both (round_items w) (flat_map round_items rounds) ∙ ap (λ ls. ls ++ lines (flat_map round_items rounds)) (round_lines w)
@@ -71,7 +71,7 @@ rounds_lines (w ∷ rounds) =
 abbrev pub looks_of : Passivation → List (List Seen)
 looks_of how = drained_in how.first ∷ map drained_by how.rounds
 
-seen_rounds : (rounds : List Round) → seen_in_all (map drained_by rounds) ≡ flat_map drained_by rounds
+seen_rounds : (rounds : List WaitingRound) → seen_in_all (map drained_by rounds) ≡ flat_map drained_by rounds
 seen_rounds [] = refl
 seen_rounds (w ∷ rounds) = ap (λ xs. drained_by w ++ xs) (seen_rounds rounds)
 

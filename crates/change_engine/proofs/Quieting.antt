@@ -20,14 +20,14 @@ use Rattle.gate_records.specs.declared.entry.Entry.{Entry}
 use Rattle.gate_records.specs.Records.{AreAllNoted}
 use Rattle.change_board.specs.Transcripts.{said, entries, lines}
 use Rattle.change_engine.specs.Growing.{Grew}
-use Rattle.change_engine.specs.Passivating.{AreLivePorts, IsPassivation, Passivation, Round, close_item, left_after, look_item, passivation_items, round_items}
+use Rattle.change_engine.specs.Passivating.{AreLivePorts, IsPassivation, Passivation, WaitingRound, close_item, left_after, look_item, passivation_items, round_items}
 use Rattle.change_engine.proofs.Noting.{passivated_noted}
 use Rattle.change_engine.proofs.Passing.{close_entries, closes_events, config_over, live_same, look_entries, looks_quiet, round_quiet}
 use Rattle.change_engine.proofs.ItemLaws.{entries_both}
 use Rattle.change_engine.proofs.PassivationLaws.{same_here, closed_links}
 
 -- the events of a passivation are its closes
-pub rounds_quiet : (rounds : List Round) → events_in (entries (flat_map round_items rounds)) ≡ []
+pub rounds_quiet : (rounds : List WaitingRound) → events_in (entries (flat_map round_items rounds)) ≡ []
 rounds_quiet [] = refl
 rounds_quiet (w ∷ rounds) =
     ap (λ t. events_in (entries t)) (flat_map-cons round_items w rounds)

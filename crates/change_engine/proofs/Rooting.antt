@@ -32,7 +32,7 @@ use Rattle.change_board.specs.Scans.{Found, look_entry, ports_of, scan_entries}
 use Rattle.change_board.specs.Transcripts.{entries}
 use Rattle.gate_records.proofs.NoteLaws.{noted_is_drained}
 use Rattle.gate_records.proofs.RecordLaws.{config_is}
-use Rattle.change_engine.specs.Passivating.{AreLivePorts, IsPassivation, IsRound, Passivation, Round, close_item, is_busy, left_after, look_item, passivation_items, root_of, root_ports, roots_of, round_items}
+use Rattle.change_engine.specs.Passivating.{AreLivePorts, IsPassivation, IsRound, Passivation, WaitingRound, close_item, is_busy, left_after, look_item, passivation_items, root_of, root_ports, roots_of, round_items}
 use Rattle.change_engine.proofs.Passing.{close_entries, closes, closes_events, config_over, config_quiet, look_entries, looks_quiet, roots_cons, round_entries}
 use Rattle.change_engine.proofs.Quieting.{rounds_quiet}
 use Rattle.change_engine.proofs.ItemLaws.{entries_both}
@@ -171,23 +171,23 @@ roots_there (f ∷ found) p i = by (is_busy f) (roots_there found p) (subst (λ 
     by true rest (inr j) = inr (rest j)
     by false rest j = inr (rest j)
 
-rounds_there : (ports : List ℕ) (first : List Found) (before rounds : List Round) → EachAfter (IsRound first) before rounds → ((p : ℕ) → In (root_ports (left_after first before)) p → In ports p)
-    → (w : Round) → In rounds w → (f : Found) → In w.found f → In ports f.port
+rounds_there : (ports : List ℕ) (first : List Found) (before rounds : List WaitingRound) → EachAfter (IsRound first) before rounds → ((p : ℕ) → In (root_ports (left_after first before)) p → In ports p)
+    → (w : WaitingRound) → In rounds w → (f : Found) → In w.found f → In ports f.port
 rounds_there ports first before [] each left w i f j = absurd i
 rounds_there ports first before (v ∷ rounds) each left w (inl same) f j =
-    left f.port (subst (λ ps. In ps f.port) each.0.at_left (in_map (λ (g : Found). g.port) v.found f (subst (λ (u : Round). In u.found f) (sym same) j)))
+    left f.port (subst (λ ps. In ps f.port) each.0.at_left (in_map (λ (g : Found). g.port) v.found f (subst (λ (u : WaitingRound). In u.found f) (sym same) j)))
 rounds_there ports first before (v ∷ rounds) each left w (inr i) f j =
     rounds_there ports first (before ++ v ∷ []) rounds each.1
     (λ p k. left p (subst (λ ps. In ps p) each.0.at_left (roots_there v.found p (subst (λ xs. In (root_ports xs) p) (left_more first before v) k))))
     w i f j
 
-round_looks : (rounds : List Round) (w : Round) (f : Found) → In rounds w → In w.found f → In (entries (flat_map round_items rounds)) (look_entry f)
+round_looks : (rounds : List WaitingRound) (w : WaitingRound) (f : Found) → In rounds w → In w.found f → In (entries (flat_map round_items rounds)) (look_entry f)
 round_looks [] w f i j = absurd i
 round_looks (v ∷ rounds) w f i j =
     subst (λ es. In es (look_entry f)) (sym (ap entries (flat_map-cons round_items v rounds) ∙ entries_both (round_items v) (flat_map round_items rounds)))
     (⊎_elim
     (λ (same : v ≡ w). in_left (entries (round_items v)) (entries (flat_map round_items rounds)) (look_entry f)
-    (subst (λ es. In es (look_entry f)) (sym (round_entries v)) (in_right (scan_entries false v.moved v.sights v.scan) (map look_entry v.found) (look_entry f) (in_map look_entry v.found f (subst (λ (u : Round). In u.found f) (sym same) j)))))
+    (subst (λ es. In es (look_entry f)) (sym (round_entries v)) (in_right (scan_entries false v.moved v.sights v.scan) (map look_entry v.found) (look_entry f) (in_map look_entry v.found f (subst (λ (u : WaitingRound). In u.found f) (sym same) j)))))
     (λ (k : In rounds w). in_right (entries (round_items v)) (entries (flat_map round_items rounds)) (look_entry f) (round_looks rounds w f k j))
     i)
 
@@ -219,7 +219,7 @@ module _ (r : List Entry) (ports : List ℕ) (within : ℕ) (how : Passivation) 
       look_root f (subst (λ ps. In ps f.port) is.at_ports (in_map (λ (g : Found). g.port) how.first f i))
       (in_left (map look_entry how.first) (entries (flat_map round_items how.rounds)) (look_entry f) (in_map look_entry how.first f i))
 
-  pub round_root : (w : Round) (f : Found) → In how.rounds w → In w.found f → is_drained_word f.word ≡ false → has_root (unpack f.word) ≡ true
+  pub round_root : (w : WaitingRound) (f : Found) → In how.rounds w → In w.found f → is_drained_word f.word ≡ false → has_root (unpack f.word) ≡ true
   round_root w f i j =
       look_root f (rounds_there ports how.first [] how.rounds is.each_round first_there w i f j)
       (in_right (map look_entry how.first) (entries (flat_map round_items how.rounds)) (look_entry f) (round_looks how.rounds w f i j))

@@ -14,7 +14,7 @@ use Rattle.gate_records.specs.declared.entry.Entry.{Entry}
 use Rattle.gate_records.specs.Records.{Adds}
 use Rattle.change_board.specs.Scans.{AddsScan}
 use Rattle.change_board.specs.Transcripts.{Item, said, lines}
-use Rattle.change_engine.specs.Finishing.{Finished, IsScanIn, Scans, Seen, all_entries, count_of, rounds_in, seen_entries}
+use Rattle.change_engine.specs.Finishing.{Finished, IsScanIn, ScanSeen, Scans, all_entries, count_of, rounds_in, seen_entries}
 use Rattle.change_engine.specs.Passivating.{silent_items}
 use Rattle.change_engine.proofs.Growing.{adds_both}
 use Rattle.change_engine.proofs.Passing.{config_quiet, scan_quiet}
@@ -24,28 +24,28 @@ pub all_push : {A : Type 0} (P : A → Type 0) (xs : List A) (x : A) → AllByRe
 all_push P [] x h p = (p, tt)
 all_push P (y ∷ xs) x h p = (h.0, all_push P xs x h.1 p)
 
-pub entries_pushed : (scans : List Seen) (w : Seen) → all_entries (scans ++ w ∷ []) ≡ all_entries scans ++ seen_entries w
+pub entries_pushed : (scans : List ScanSeen) (w : ScanSeen) → all_entries (scans ++ w ∷ []) ≡ all_entries scans ++ seen_entries w
 entries_pushed scans w = flat_map-append seen_entries scans (w ∷ []) ∙ ap (λ es. all_entries scans ++ es) (append-nil (seen_entries w))
 
-pub all_quiet : (scans : List Seen) → events_in (all_entries scans) ≡ []
+pub all_quiet : (scans : List ScanSeen) → events_in (all_entries scans) ≡ []
 all_quiet [] = refl
 all_quiet (w ∷ scans) =
     ap events_in (flat_map-cons seen_entries w scans) ∙ filter_map-append event_in (seen_entries w) (all_entries scans)
     ∙ ap (λ es. es ++ events_in (all_entries scans)) (scan_quiet true w.answer.moved w.sights w.found) ∙ all_quiet scans
 
-pub rounds_pushed : (scans : List Seen) (w : Seen) → rounds_in (scans ++ w ∷ []) ≡ rounds_in scans + count_of w.answer
-rounds_pushed scans w = sum_by-append (λ (w : Seen). count_of w.answer) scans (w ∷ []) ∙ omega arith
+pub rounds_pushed : (scans : List ScanSeen) (w : ScanSeen) → rounds_in (scans ++ w ∷ []) ≡ rounds_in scans + count_of w.answer
+rounds_pushed scans w = sum_by-append (λ (w : ScanSeen). count_of w.answer) scans (w ∷ []) ∙ omega arith
 
 module _ {B : Type 0} (S : B → List Entry → Type 0) where
-  abbrev pub seen_by : (alone : Bool) (b c : B) (s : Scan) → AddsScan S alone b c true s → Seen
+  abbrev pub seen_by : (alone : Bool) (b c : B) (s : Scan) → AddsScan S alone b c true s → ScanSeen
   seen_by alone b c s x = record { answer = s; sights = x.sights; found = x.found }
 
-  pub scans_add : (alone : Bool) (a b c : B) (scans : List Seen) (s : Scan) (x : AddsScan S alone b c true s) → Adds S a b (all_entries scans) → Adds S a c (all_entries (scans ++ seen_by alone b c s x ∷ []))
+  pub scans_add : (alone : Bool) (a b c : B) (scans : List ScanSeen) (s : Scan) (x : AddsScan S alone b c true s) → Adds S a b (all_entries scans) → Adds S a c (all_entries (scans ++ seen_by alone b c s x ∷ []))
   scans_add alone a b c scans s x adds =
       let w = seen_by alone b c s x in
       subst (λ es. Adds S a c es) (sym (entries_pushed scans w)) (adds_both S a b c (all_entries scans) (seen_entries w) adds x.adds)
 
-  pub scans_are : (alone : Bool) (a b c : B) (scans : List Seen) (s : Scan) (x : AddsScan S alone b c true s) → Adds S a b (all_entries scans)
+  pub scans_are : (alone : Bool) (a b c : B) (scans : List ScanSeen) (s : Scan) (x : AddsScan S alone b c true s) → Adds S a b (all_entries scans)
       → ((r : List Entry) → S a r → AllByRecursion (IsScanIn alone (config_of r)) scans)
       → (r : List Entry) → S a r → AllByRecursion (IsScanIn alone (config_of r)) (scans ++ seen_by alone b c s x ∷ [])
   scans_are alone a b c scans s x adds are r h =

@@ -26,8 +26,8 @@ use Rattle.change_engine.specs.Breaking.{IsClosedOr, IsClosedStill}
 use Rattle.change_engine.specs.Carrying.{deed_items}
 use Rattle.change_engine.specs.Draining.{pending_items}
 use Rattle.change_engine.specs.Ending.{unfinished_after}
-use Rattle.change_engine.specs.Engines.{IsIdle, IsOpen, IsPlanned, IsPrepared, MayAbandon, MayCommit}
-use Rattle.change_engine.specs.Finishing.{EndsAfter, IsScanIn, Seen, all_entries, rounds_in}
+use Rattle.change_engine.specs.Engines.{IsIdle, IsOpen, IsPlanned, IsPrepared, IsReadyToCommit, MayAbandon}
+use Rattle.change_engine.specs.Finishing.{EndsAfter, IsScanIn, ScanSeen, all_entries, rounds_in}
 use Rattle.change_engine.specs.Leaving.{IsRootLeft}
 use Rattle.change_engine.specs.Passivating.{IsPassivation, Passivation, last_look, left_after, passivation_items, silent_items}
 use Rattle.change_engine.specs.Running.{RunsOn, ended_since, are_enough}
@@ -57,7 +57,7 @@ HasSkipped S old new name args = Continues S old new (said (to.Change name args)
 -- more transactions as ended, or a scan was the last.
 pub record HasRun {B : Type 0} (S : B → List Entry → Type 0) (alone : Bool) (old new : Engine B) (k ended : ℕ) : Type 0 where
   pub looks : List Found
-  pub scans : List Seen
+  pub scans : List ScanSeen
   pub at_ports : (t : List Item) → IsIdle S old t → ports_of looks ≡ all_ports (config_of (entries t))
   pub are_scans : (t : List Item) → IsIdle S old t → AllByRecursion (IsScanIn alone (config_of (entries t))) scans
   pub go_on : Each (RunsOn alone k (ended_in looks)) scans
@@ -70,7 +70,7 @@ pub record HasRun {B : Type 0} (S : B → List Entry → Type 0) (alone : Bool) 
 -- alone.
 pub record HasFinished {B : Type 0} (S : B → List Entry → Type 0) (alone : Bool) (old new : Engine B) (n rounds : ℕ)
     : Type 0 where
-  pub scans : List Seen
+  pub scans : List ScanSeen
   pub few : length scans ≤ n
   pub are_scans : (t : List Item) → IsIdle S old t → AllByRecursion (IsScanIn alone (config_of (entries t))) scans
   pub rounds_are : rounds ≡ rounds_in scans
@@ -99,7 +99,7 @@ pub record HasPassivated {B : Type 0} (S : B → List Entry → Type 0) (R : B �
   pub none_left : left_after how.first how.rounds ≡ []
   pub graph_is : new.graph ≡ old.graph
   pub opens : (t : List Item) (moves : List Move) (next_ : Graph) → IsOpen S R old t moves plan next_
-      → MayCommit S R new (t ++ passivation_items closed how) moves plan next_
+      → IsReadyToCommit S R new (t ++ passivation_items closed how) moves plan next_
 
 -- Passivate, given up: the first look and each of the rounds saw a root. These are the roots that the last look saw.
 pub record HasLeft {B : Type 0} (S : B → List Entry → Type 0) (R : B → Room) (old new : Engine B) (plan : Plan)
@@ -144,10 +144,10 @@ pub record HasBrokenOff {B : Type 0} (S : B → List Entry → Type 0) (R : B �
 pub record HasCommitted {B : Type 0} (S : B → List Entry → Type 0) (R : B → Room) (old new : Engine B) (plan : Plan)
     (next_ : Graph) : Type 0 where
   pub deeds : List Deed
-  pub events_are : (t : List Item) (moves : List Move) → MayCommit S R old t moves plan next_
+  pub events_are : (t : List Item) (moves : List Move) → IsReadyToCommit S R old t moves plan next_
       → map (λ (d : Deed). d.event) deeds ≡ commit_events old.graph next_ plan (config_of (entries t))
   pub graph_is : new.graph ≡ next_
-  pub goes : (t : List Item) (moves : List Move) → MayCommit S R old t moves plan next_
+  pub goes : (t : List Item) (moves : List Move) → IsReadyToCommit S R old t moves plan next_
       → IsIdle S new (t ++ (flat_map deed_items deeds ++ said to.Commit ∷ []))
 
 -- Abandon: what was closed was opened again.

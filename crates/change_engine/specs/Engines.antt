@@ -89,7 +89,7 @@ pub record IsPrepared {B : Type 0} (S : B → List Entry → Type 0) (R : B → 
   pub place : HasPlace e.history is_open.change
 
 -- its commit can't fail: what it closed is noted as drained, and the history has room
-pub record MayCommit {B : Type 0} (S : B → List Entry → Type 0) (R : B → Room) (e : Engine B) (t : List Item)
+pub record IsReadyToCommit {B : Type 0} (S : B → List Entry → Type 0) (R : B → Room) (e : Engine B) (t : List Item)
     (moves : List Move) (plan : Plan) (new : Graph) : Type 0 where
   pub is_open : IsOpen S R e t moves plan new
   pub may_ : MayCarryOut e.graph new moves plan (entries t)

@@ -15,19 +15,19 @@ use Rattle.change_engine.specs.Growing.{Grew}
 use Rattle.change_engine.specs.Passivating.{silent_items}
 
 -- a scan, by what it answered and saw
-pub record Seen : Type 0 where
+pub record ScanSeen : Type 0 where
   pub answer : Scan
   pub sights : List Sight
   pub found : List Found
 
-abbrev pub seen_entries : Seen → List Entry
+abbrev pub seen_entries : ScanSeen → List Entry
 seen_entries w = scan_entries true w.answer.moved w.sights w.found
 
-abbrev pub all_entries : List Seen → List Entry
+abbrev pub all_entries : List ScanSeen → List Entry
 all_entries scans = flat_map seen_entries scans
 
 -- the answer tells what was seen, in this configuration; on a board that is alone, each node was
-pub record IsScanIn (alone : Bool) (c : Configuration) (w : Seen) : Type 0 where
+pub record IsScanIn (alone : Bool) (c : Configuration) (w : ScanSeen) : Type 0 where
   pub all_sighted : alone ≡ true → SightsAll c w.sights
   pub at_ports : ports_of w.found ≡ all_ports c
   pub done : w.answer.done ≡ is_seen_at_rest c w.sights w.found
@@ -37,30 +37,30 @@ pub record IsScanIn (alone : Bool) (c : Configuration) (w : Seen) : Type 0 where
 abbrev pub count_of : Scan → ℕ
 count_of s = if not s.moved && s.done then 0 else 1
 
-abbrev pub rounds_in : List Seen → ℕ
-rounds_in scans = sum_by (λ (w : Seen). count_of w.answer) scans
+abbrev pub rounds_in : List ScanSeen → ℕ
+rounds_in scans = sum_by (λ (w : ScanSeen). count_of w.answer) scans
 
 -- none follows a scan that saw all at rest, nor one that moved nothing where nodes take turns in scans alone
 abbrev pub is_last : Bool → Scan → Bool
 is_last alone s = s.done || (alone && not s.moved)
 
-abbrev pub GoesOn : Bool → Seen → Type 0
+abbrev pub GoesOn : Bool → ScanSeen → Type 0
 GoesOn alone w = is_last alone w.answer ≡ false
 
 -- some of these scans was the last, or so many were made
-pub record EndsWith (alone : Bool) (scans : List Seen) : Type 0 where
-  pub before : List Seen
-  pub final : Seen
+pub record EndsWith (alone : Bool) (scans : List ScanSeen) : Type 0 where
+  pub before : List ScanSeen
+  pub final : ScanSeen
   pub parts : scans ≡ before ++ final ∷ []
   pub go_on : AllByRecursion (GoesOn alone) before
   pub ends : is_last alone final.answer ≡ true
 
-abbrev pub EndsAfter : Bool → ℕ → List Seen → Type 0
+abbrev pub EndsAfter : Bool → ℕ → List ScanSeen → Type 0
 EndsAfter alone n scans = EndsWith alone scans ⊎ ((length scans ≡ n) × AllByRecursion (GoesOn alone) scans)
 
 -- at most so many scans
 pub record Scans {B : Type 0} (S : B → List Entry → Type 0) (alone : Bool) (old new : B) (n rounds : ℕ) : Type 0 where
-  pub scans : List Seen
+  pub scans : List ScanSeen
   pub few : length scans ≤ n
   pub are_scans : (r : List Entry) → S old r → AllByRecursion (IsScanIn alone (config_of r)) scans
   pub rounds_are : rounds ≡ rounds_in scans
@@ -70,7 +70,7 @@ pub record Scans {B : Type 0} (S : B → List Entry → Type 0) (alone : Bool) (
 -- and the line that tells how many of them were rounds
 pub record Finished {B : Type 0} (S : B → List Entry → Type 0) (alone : Bool) (old new : B)
     (before after : List HistoryLine) (n rounds : ℕ) : Type 0 where
-  pub scans : List Seen
+  pub scans : List ScanSeen
   pub few : length scans ≤ n
   pub are_scans : (r : List Entry) → S old r → AllByRecursion (IsScanIn alone (config_of r)) scans
   pub rounds_are : rounds ≡ rounds_in scans

@@ -68,7 +68,7 @@ pub record Passed {B : Type 0} (S : B → List Entry → Type 0) (old new : B) (
   pub grew : Grew S old new before after (map look_item found)
 
 -- a round: a scan without begins, and a look at each port that isn't drained yet
-pub record Round : Type 0 where
+pub record WaitingRound : Type 0 where
   pub moved : Bool
   pub sights : List Sight
   pub scan : List Found
@@ -77,27 +77,27 @@ pub record Round : Type 0 where
 abbrev pub silent_items : List Entry → List Item
 silent_items es = map silent es
 
-abbrev pub round_items : Round → List Item
+abbrev pub round_items : WaitingRound → List Item
 round_items w = silent_items (scan_entries false w.moved w.sights w.scan) ++ map look_item w.found
 
 -- a round at the ports of these roots, and the roots that its look saw
 pub record Rounded {B : Type 0} (S : B → List Entry → Type 0) (old new : B) (before after : List HistoryLine)
     (left next : List LeftRoot) : Type 0 where
-  pub round : Round
+  pub round : WaitingRound
   pub at_left : ports_of round.found ≡ root_ports left
   pub next_is : next ≡ roots_of round.found
   pub grew : Grew S old new before after (round_items round)
 
 -- what is left after a first look and rounds
-abbrev pub left_after : List Found → List Round → List LeftRoot
-left_after first rounds = fold (λ left (w : Round). roots_of w.found) (roots_of first) rounds
+abbrev pub left_after : List Found → List WaitingRound → List LeftRoot
+left_after first rounds = fold (λ left (w : WaitingRound). roots_of w.found) (roots_of first) rounds
 
 -- what the last look saw
-abbrev pub last_look : List Found → List Round → List Found
-last_look first rounds = fold (λ found (w : Round). w.found) first rounds
+abbrev pub last_look : List Found → List WaitingRound → List Found
+last_look first rounds = fold (λ found (w : WaitingRound). w.found) first rounds
 
 -- where something is left, a round looks at it
-pub record IsRound (first : List Found) (before : List Round) (w : Round) : Type 0 where
+pub record IsRound (first : List Found) (before : List WaitingRound) (w : WaitingRound) : Type 0 where
   pub some_left : (left_after first before ≡ [] → ⊥)
   pub at_left : ports_of w.found ≡ root_ports (left_after first before)
 
@@ -106,7 +106,7 @@ close_item p = told (Did (event.Close p)) (to.Close p)
 
 pub record Passivation : Type 0 where
   pub first : List Found
-  pub rounds : List Round
+  pub rounds : List WaitingRound
 
 abbrev pub passivation_items : List ℕ → Passivation → List Item
 passivation_items ports w = map close_item ports ++ map look_item w.first ++ flat_map round_items w.rounds

@@ -11,7 +11,7 @@ use Rattle.gate_records.specs.declared.entry.Entry.{Entry}
 use Rattle.gate_records.specs.Looks.{ended_in_word}
 use Rattle.gate_records.specs.Records.{Adds}
 use Rattle.change_board.specs.Scans.{Found, ended_in, look_entry, ports_of}
-use Rattle.change_engine.specs.Finishing.{IsScanIn, Seen, all_entries}
+use Rattle.change_engine.specs.Finishing.{IsScanIn, ScanSeen, all_entries}
 
 -- how many transactions a look shows as ended
 abbrev pub ended_by : Look → ℕ
@@ -23,17 +23,17 @@ abbrev pub is_run_out : Bool → Scan → Bool
 is_run_out alone s = if alone then not s.moved else s.done
 
 -- how many ended from the looks, which showed so many as ended, to the last of the scans
-abbrev pub ended_since : ℕ → List Seen → ℕ
-ended_since shown scans = fold (λ n (w : Seen). w.answer.ended - shown) 0 scans
+abbrev pub ended_since : ℕ → List ScanSeen → ℕ
+ended_since shown scans = fold (λ n (w : ScanSeen). w.answer.ended - shown) 0 scans
 
-abbrev pub is_out_after : Bool → List Seen → Bool
-is_out_after alone scans = fold (λ b (w : Seen). is_run_out alone w.answer) false scans
+abbrev pub is_out_after : Bool → List ScanSeen → Bool
+is_out_after alone scans = fold (λ b (w : ScanSeen). is_run_out alone w.answer) false scans
 
-abbrev pub are_enough : Bool → ℕ → ℕ → List Seen → Bool
+abbrev pub are_enough : Bool → ℕ → ℕ → List ScanSeen → Bool
 are_enough alone k shown scans = nat_le k (ended_since shown scans) || is_out_after alone scans
 
 -- each scan is made where the run doesn't end before it
-abbrev pub RunsOn : Bool → ℕ → ℕ → List Seen → Seen → Type 0
+abbrev pub RunsOn : Bool → ℕ → ℕ → List ScanSeen → ScanSeen → Type 0
 RunsOn alone k shown before w = are_enough alone k shown before ≡ false
 
 -- a look at each of the first so many ports, and how many transactions they show as ended
@@ -46,7 +46,7 @@ pub record Counts {B : Type 0} (S : B → List Entry → Type 0) (old new : B) (
 -- scans until the run ends
 pub record ScansUntil {B : Type 0} (S : B → List Entry → Type 0) (alone : Bool) (old new : B) (shown k ended : ℕ)
     : Type 0 where
-  pub scans : List Seen
+  pub scans : List ScanSeen
   pub are_scans : (r : List Entry) → S old r → AllByRecursion (IsScanIn alone (config_of r)) scans
   pub go_on : Each (RunsOn alone k shown) scans
   pub ends : are_enough alone k shown scans ≡ true

@@ -9,7 +9,7 @@ ghost use Rattle.gate_records.specs.Entries.{config_of};
 ghost use Rattle.change_board.specs.Transcripts.{Item, entries};
 ghost use Rattle.change_engine.specs.Calls.{Continues, HasAbandoned, HasBrokenOff, HasCommitted, HasFinished, HasLeft, HasPassivated, HasPrepared, HasRun, HasShown, HasSkipped, HasStarted, HasStopped};
 ghost use Rattle.change_engine.specs.Draining.{WhereNoMemory, WherePending};
-ghost use Rattle.change_engine.specs.Engines.{IsIdle, IsPlanned, IsPrepared, MayAbandon, MayCommit};
+ghost use Rattle.change_engine.specs.Engines.{IsIdle, IsPlanned, IsPrepared, IsReadyToCommit, MayAbandon};
 ghost use Rattle.change_engine.specs.Growing.{BrokeOff};
 
 use crate::carrying::carry_out;
@@ -212,7 +212,7 @@ impl<B: Board + Drop> Engine<B> {
     /// Carries the plan out. It can't fail, and takes no memory.
     pub fn commit(&mut self, plan: Plan, new: Graph)
         requires passive { (t : List Item) × (moves : List Move)
-            × MayCommit B.stands_for B.room self.old t moves plan new }
+            × IsReadyToCommit B.stands_for B.room self.old t moves plan new }
         ensures { HasCommitted B.stands_for B.room self.old self.new plan new }
     {
         plans_may_be_carried_out();

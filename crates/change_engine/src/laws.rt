@@ -28,7 +28,7 @@ ghost use Rattle.change_engine.specs.Lists.{closed_by, commit_by, places_after, 
 ghost use Rattle.change_engine.specs.declared.layout.Layout.{Layout};
 ghost use Rattle.change_board.specs.Transcripts.{entries};
 ghost use Rattle.change_engine.specs.Planning.{MayCarryOut};
-ghost use Rattle.change_engine.specs.Passivating.{AreLivePorts, IsPassivation, Passivation, Round, left_after, passivation_items};
+ghost use Rattle.change_engine.specs.Passivating.{AreLivePorts, IsPassivation, Passivation, WaitingRound, left_after, passivation_items};
 
 use commit_laws::starts_can_not_fail;
 use plan_laws::{commits_can_not_fail, commits_leave_the_new_graph};
@@ -50,7 +50,7 @@ pub fn looks_behind_closes_find_roots()
         → IsRecord (r ++ entries (passivation_items ports how)) → AreLivePorts (config_of r) ports
         → IsPassivation ports within how → In how.first f → is_drained_word f.word ≡ false
         → IsTrue (has_root (unpack f.word)) }
-    ensures rounds { (r : List Entry) (ports : List ℕ) (within : ℕ) (how : Passivation) (w : Round) (f : Found)
+    ensures rounds { (r : List Entry) (ports : List ℕ) (within : ℕ) (how : Passivation) (w : WaitingRound) (f : Found)
         → IsRecord (r ++ entries (passivation_items ports how)) → AreLivePorts (config_of r) ports
         → IsPassivation ports within how → In how.rounds w → In w.found f → is_drained_word f.word ≡ false
         → IsTrue (has_root (unpack f.word)) }

@@ -139,7 +139,7 @@ pub record IsLawfulBy (statements : List Statement) (report : Report) (m : List 
   pub merge : Merge m report
   -- its events are a run of the change machine
   pub runs : IsRun (events m)
-  -- what is linked, unlinked and removed is quiescent then
+  -- the owner of a port that is linked or unlinked, and a node that is removed, is quiescent then
   pub quiescent : Each IsQuiescentAt m
   -- each transaction has ended once, with all that it needs; that each of these stands in the log of the node that does
   -- it is the merge's

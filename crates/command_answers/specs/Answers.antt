@@ -109,7 +109,7 @@ text_of (ran r) = report_text r
 text_of (summary lanes r) = summary_text lanes r
 
 -- some answer of a kind has this status and this text
-pub record Shows (Is : Answer → Type 0) (own : Status) (text : List ℕ) : Type 0 where
+pub record ShowsAnswer (Is : Answer → Type 0) (own : Status) (text : List ℕ) : Type 0 where
   pub answer : Answer
   pub is : Is answer
   pub has_status : own ≡ status_of answer

@@ -47,7 +47,7 @@ pub fn read_fault_line(alloc: Global, file: &str) -> Result<Vec<u8>, NoMemory>
     Ok(line)
 }
 
-/// The line of a file of events with a fault.
+/// The line of a script or of a file of events with a fault.
 pub fn script_line(alloc: Global, name: &str, fault: &ScriptError) -> Result<Vec<u8>, NoMemory>
     ensures { IfOk result (λ line. line.items ≡ lines.script_line name.now (lines.script_words fault.now)) }
 {
@@ -67,7 +67,7 @@ pub fn report_line(alloc: Global, name: &str, fault: &ReportFault) -> Result<Vec
     Ok(line)
 }
 
-/// The line of a file of events or a report that is too long.
+/// The line of a script, a file of events or a report that is too long.
 pub fn script_too_long_line(alloc: Global, name: &str) -> Result<Vec<u8>, NoMemory>
     ensures { IfOk result (λ line. line.items ≡ lines.script_line name.now (codes "TooLong" ∷ [])) }
 {

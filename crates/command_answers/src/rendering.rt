@@ -29,7 +29,7 @@ pub fn push_fault(line: &mut Vec<u8>, fault: &DescriptionFault) -> Result<(), No
     }
 }
 
-/// Writes a fault of a file of events.
+/// Writes a fault of a script or of a file of events.
 pub fn push_script_fault(line: &mut Vec<u8>, fault: &ScriptError) -> Result<(), NoMemory>
     ensures { OnOk result (line.new.items ≡ line.old.items ++ lines.spaced (lines.script_words fault.now)) }
 {

@@ -8,7 +8,7 @@ use Rattle.change_script.specs.declared.event_files.EventFile.{EventFile}
 use Rattle.change_script.specs.EventFiles.{IsEventFile}
 use Rattle.change_script.specs.ScriptFiles.{IsScript}
 use Rattle.change_script.specs.declared.script.Script.{Script}
-use Rattle.command_answers.specs.Answers.{Answer, Shows, refusal, description, script, read_fault, no_memory, graph, plan, report}
+use Rattle.command_answers.specs.Answers.{Answer, ShowsAnswer, description, graph, no_memory, plan, read_fault, refusal, report, script}
 use Rattle.command_answers.specs.RefusalLines.{elaborate_words, plan_words, script_words, report_words}
 use Rattle.command_answers.specs.declared.status.Status.{Status}
 use Rattle.command_words.specs.declared.words.Command.TheVariants as commands
@@ -130,7 +130,7 @@ module _ (file text : List ℕ) where
 
   pub query_given :
       (query : Query) (own : Status) (written : List ℕ) → AnswersQuery query text own written
-      → Shows (course_of_query file query (fetch_of file (Held text) ∷ [])) own written
+      → ShowsAnswer (course_of_query file query (fetch_of file (Held text) ∷ [])) own written
   query_given (queries.Graph call) own written is =
       let has = is.1.1 in
       let g = is.1.0 in
@@ -165,7 +165,7 @@ module _ (file text : List ℕ) where
 -- what is answered of a description, by its fetch
 pub describes :
     (file : List ℕ) (query : Query) (what : Fetched) (own : Status) (text : List ℕ) → DescriptionAnswers file query what own text
-    → Shows (course_of_query file query (fetch_of file what ∷ [])) own text
+    → ShowsAnswer (course_of_query file query (fetch_of file what ∷ [])) own text
 describes file query _ _ _ cannot_read = record { answer = refusal (read_fault file); is = failed; has_status = refl; has_text = refl }
 describes file query _ _ _ is_too_long =
     record { answer = refusal (description file (codes "TooLong" ∷ [])); is = too_long; has_status = refl; has_text = refl }
@@ -183,7 +183,7 @@ described_in_part file query what = fetched_alone what
 -- what is answered of a file of events that isn't one
 pub script_refused :
     (file name : List ℕ) (what : Fetched) (own : Status) (text : List ℕ) → ScriptAnswers name what own text
-    → Shows (course_of (commands.Replay file name) (fetch_of name what ∷ [])) own text
+    → ShowsAnswer (course_of (commands.Replay file name) (fetch_of name what ∷ [])) own text
 script_refused file name _ _ _ cannot_read_script = record { answer = refusal (read_fault name); is = failed; has_status = refl; has_text = refl }
 script_refused file name _ _ _ script_too_long =
     record { answer = refusal (script name (codes "TooLong" ∷ [])); is = too_long; has_status = refl; has_text = refl }
@@ -208,7 +208,7 @@ script_unread file name what = fetched_alone what
 -- what is answered of a script that isn't one
 pub statements_refused :
     (name : List ℕ) (what : Fetched) (own : Status) (text : List ℕ) → StatementsAnswers name what own text
-    → Shows (course_of (commands.Step name) (fetch_of name what ∷ [])) own text
+    → ShowsAnswer (course_of (commands.Step name) (fetch_of name what ∷ [])) own text
 statements_refused name _ _ _ cannot_read_statements = record { answer = refusal (read_fault name); is = failed; has_status = refl; has_text = refl }
 statements_refused name _ _ _ statements_too_long =
     record { answer = refusal (script name (codes "TooLong" ∷ [])); is = too_long; has_status = refl; has_text = refl }
@@ -233,7 +233,7 @@ statements_unread name what = fetched_alone what
 -- what is answered of a report
 pub upgrades :
     (file : List ℕ) (what : Fetched) (own : Status) (text : List ℕ) → ReportAnswers file what own text
-    → Shows (course_of (commands.Upgrade file) (report_fetch file what ∷ [])) own text
+    → ShowsAnswer (course_of (commands.Upgrade file) (report_fetch file what ∷ [])) own text
 upgrades file _ _ _ cannot_read_report = record { answer = refusal (read_fault file); is = failed; has_status = refl; has_text = refl }
 upgrades file _ _ _ report_too_long =
     record { answer = refusal (script file (codes "TooLong" ∷ [])); is = too_long; has_status = refl; has_text = refl }

@@ -7,7 +7,7 @@ use Rattle.quiesce_core.specs.Start.{started}
 use Rattle.quiesce_core.specs.State.{State}
 use Rattle.change_script.specs.declared.event_files.EventFile.{EventFile}
 use Rattle.event_replay.specs.Replay.{AreSettled, IsDenied}
-use Rattle.command_answers.specs.Answers.{Answer, denied, replay, Shows}
+use Rattle.command_answers.specs.Answers.{Answer, ShowsAnswer, denied, replay}
 use Rattle.command_answers.specs.declared.status.Status.{Status}
 use Rattle.command_runs.specs.Plans.{Starts}
 
@@ -20,7 +20,7 @@ pub data IsReplayed (s : State) (events : List Event) : Answer → Type 0 where
 
 -- the status and the text of such an answer
 abbrev pub Replays : State → List Event → Status → List ℕ → Type 0
-Replays s events own written = Shows (IsReplayed s events) own written
+Replays s events own written = ShowsAnswer (IsReplayed s events) own written
 
 -- the same from the start with the component that the file of events names
 pub record HasReplay (text : List ℕ) (script : EventFile) (own : Status) (written : List ℕ) : Type 0 where

@@ -3,7 +3,7 @@ use Rattle.std.specs.Prelude.{◌≡◌, ◌<◌, ℕ, List, [], ◌++◌, Optio
 use Rattle.std.specs.List.{AllByRecursion}
 use Rattle.cfg_io.specs.Shelf.{Files}
 use Rattle.cfg_io.specs.Sink.{with_bytes}
-use Rattle.cfg_io.specs.Count.{Rose}
+use Rattle.base.specs.Count.{Rose}
 use Rattle.command_answers.specs.declared.status.Status.{Status}
 use Rattle.command_answers.specs.declared.status.Status.TheVariants.{WriteFault}
 use Rattle.command_answers.specs.Answers.{Answer, refusal, usage, no_memory, status_of, text_of}

@@ -3,7 +3,7 @@
 ghost use Rattle.std.specs.Prelude.{◌≡◌, ◌≢◌, ◌≤◌, ◌∷◌, ◌++◌, ◌⊎◌, ◌↔◌, [], ℕ, ℤ, List, Option, Some, length};
 ghost use Rattle.std.specs.Prelude.{true, false, is_some};
 ghost use Rattle.std.specs.List.{list_any};
-ghost use Rattle.cfg_io.specs.Count.{Rose};
+ghost use Rattle.base.specs.Count.{Rose};
 ghost use Rattle.cfg_io.specs.Shelf.{Files};
 ghost use Rattle.cfg_io.specs.Sink.{with_bytes};
 ghost use Rattle.config_graph.specs.Graph.{Graph};
@@ -20,7 +20,7 @@ ghost use Rattle.change_script.specs.ScriptFiles.{IsScript};
 ghost use Rattle.change_script.specs.declared.script.Script.{Script as ScriptOf};
 ghost use Rattle.change_law.specs.Members.{is_pending};
 ghost use Rattle.change_law.specs.Scripts.{StatementsOf};
-ghost use Rattle.command_answers.specs.Answers.{Answer, Shows, refusal, no_memory, status_of, text_of, usage_line};
+ghost use Rattle.command_answers.specs.Answers.{Answer, ShowsAnswer, no_memory, refusal, status_of, text_of, usage_line};
 ghost use Rattle.command_answers.specs.Answers.{no_memory_line, help_text, version_text};
 ghost use Rattle.command_answers.specs.RefusalLines.{read_fault_line};
 ghost use Rattle.command_answers.specs.declared.status.Status.{Status};
@@ -266,7 +266,7 @@ pub fn what_is_not_refused_is_answered()
 pub fn courses_of_descriptions_are_by_one_file()
     ensures gives { (file : List ℕ) (query : Query) (given : Fetched) (own : Status) (text : List ℕ)
         → DescriptionAnswers file query given own text
-        → Shows (course_of_query file query (fetch_of file given ∷ [])) own text }
+        → ShowsAnswer (course_of_query file query (fetch_of file given ∷ [])) own text }
     ensures only { (file : List ℕ) (query : Query) (fetches : List Fetch) (answer : Answer)
         → course_of_query file query fetches answer
         → answer ≢ refusal no_memory
@@ -279,7 +279,7 @@ pub fn courses_of_descriptions_are_by_one_file()
 pub fn courses_of_replays_are_by_two_files()
     ensures refused { (file name : List ℕ) (given : Fetched) (own : Status) (text : List ℕ)
         → ScriptAnswers name given own text
-        → Shows (course_of (commands.Replay file name) (fetch_of name given ∷ [])) own text }
+        → ShowsAnswer (course_of (commands.Replay file name) (fetch_of name given ∷ [])) own text }
     ensures read { (file name bytes : List ℕ) (script : EventFile) (fetches : List Fetch) (answer : Answer)
         → IsEventFile bytes script
         → course_of_query file (queries.Replay script) fetches answer
@@ -293,7 +293,7 @@ pub fn courses_of_replays_are_by_two_files()
 pub fn courses_of_runs_are_by_their_lines()
     ensures refused { (name : List ℕ) (given : Fetched) (own : Status) (text : List ℕ)
         → StatementsAnswers name given own text
-        → Shows (course_of (commands.Step name) (fetch_of name given ∷ [])) own text }
+        → ShowsAnswer (course_of (commands.Step name) (fetch_of name given ∷ [])) own text }
     ensures read { (name bytes : List ℕ) (script : ScriptOf) (fetches : List Fetch) (answer : Answer)
         → IsScript bytes script
         → FollowsLines running begun (lines_of_script script.lines) fetches answer
@@ -306,7 +306,7 @@ pub fn courses_of_runs_are_by_their_lines()
 /// A law: the course of a report is what is answered of its file.
 pub fn courses_of_reports_are_by_one_file()
     ensures gives { (file : List ℕ) (given : Fetched) (own : Status) (text : List ℕ) → ReportAnswers file given own text
-        → Shows (course_of (commands.Upgrade file) (report_fetch file given ∷ [])) own text }
+        → ShowsAnswer (course_of (commands.Upgrade file) (report_fetch file given ∷ [])) own text }
     ensures short { (file : List ℕ) (given : Fetched)
         → course_of (commands.Upgrade file) [] (refusal no_memory)
         × course_of (commands.Upgrade file) (report_fetch file given ∷ []) (refusal no_memory) }

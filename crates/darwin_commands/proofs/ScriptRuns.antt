@@ -10,7 +10,7 @@ use Rattle.change_script.specs.Reports.{report_text}
 use Rattle.change_script.specs.declared.report.Report.{Report}
 use Rattle.command_answers.specs.Answers as values
 use Rattle.big_files.specs.BigFiles.{made_files, script_name}
-use Rattle.command_answers.specs.Answers.{Shows, ran, refusal, run_status, status_of, summary}
+use Rattle.command_answers.specs.Answers.{ShowsAnswer, ran, refusal, run_status, status_of, summary}
 use Rattle.command_answers.specs.Statuses.{is_of_run}
 use Rattle.command_answers.specs.Summaries.{summary_text}
 use Rattle.command_answers.specs.declared.status.Status.TheVariants as status
@@ -30,7 +30,7 @@ use Rattle.darwin_commands.specs.Coming.{ComesBy, EndsBy, EndsInSummary}
 module _ {E : Type 0} where
   -- the report of a run is answered
   pub shown : (statements : List Statement) (report : Report) (r : Result Answer E) → IsReportOf statements report → IfOk r (λ a. a.status ≡ run_status report.status)
-      → IfOk r (λ a. a.text.items ≡ report_text report) → IfOk r (λ a. Shows (EndsRun statements) a.status a.text.items)
+      → IfOk r (λ a. a.text.items ≡ report_text report) → IfOk r (λ a. ShowsAnswer (EndsRun statements) a.status a.text.items)
   shown statements report (Ok a) is status text =
       record { answer = ran report; is = inr (report, is, refl); has_status = status; has_text = text }
   shown statements report (Err e) is status text = tt
@@ -45,7 +45,7 @@ module _ {E : Type 0} where
 module _ {E : Type 0} (lanes : ℕ) where
   -- the same in summary
   pub summed : (statements : List Statement) (report : Report) (r : Result Answer E) → IsReportOf statements report → IfOk r (λ a. a.status ≡ run_status report.status)
-      → IfOk r (λ a. a.text.items ≡ summary_text lanes report) → IfOk r (λ a. Shows (EndsInSummary lanes statements) a.status a.text.items)
+      → IfOk r (λ a. a.text.items ≡ summary_text lanes report) → IfOk r (λ a. ShowsAnswer (EndsInSummary lanes statements) a.status a.text.items)
   summed statements report (Ok a) is status text =
       record { answer = summary lanes report; is = (report, is, refl); has_status = status; has_text = text }
   summed statements report (Err e) is status text = tt
@@ -53,10 +53,10 @@ module _ {E : Type 0} (lanes : ℕ) where
 module _ {E F : Type 0} (files : Option Files) (name : List ℕ) (failures failures' : List (List ℕ)) where
   -- what a script asks for was run
   pub asked_by : (start : Start) (steps : Vec Step) (r : Result Answer F) → Prepares {E = E} files name failures failures' (Ok (Asked start steps))
-      → IfOk r (λ a. Shows (EndsRun (statements_of start steps.items)) a.status a.text.items) → ComesBy files (course_of (commands.Step name)) failures failures' r
+      → IfOk r (λ a. ShowsAnswer (EndsRun (statements_of start steps.items)) a.status a.text.items) → ComesBy files (course_of (commands.Step name)) failures failures' r
   asked_by start steps r p shows = record { fetches = p.fetches; noted = p.noted; told = p.told; ends = of r shows }
     where
-      of : (r : Result Answer F) → IfOk r (λ a. Shows (EndsRun (statements_of start steps.items)) a.status a.text.items) → EndsBy (course_of (commands.Step name)) p.fetches r
+      of : (r : Result Answer F) → IfOk r (λ a. ShowsAnswer (EndsRun (statements_of start steps.items)) a.status a.text.items) → EndsBy (course_of (commands.Step name)) p.fetches r
       of (Ok a) h = record { answer = h.answer; is = p.leads h.answer h.is; has_status = h.has_status; has_text = h.has_text }
       of (Err e) h = p.leads (refusal values.no_memory) (inl refl)
 
@@ -98,7 +98,7 @@ module _ (lanes : ℕ) where
 
   module _ {E : Type 0} (F : Type 0) where
     pub big_asked : (start : Start) (steps : Vec Step) (r : Result Answer F) → Prepares {E = E} (Some (made_files lanes)) script_name [] [] (Ok (Asked start steps))
-        → IfOk r (λ a. Shows (EndsInSummary lanes (statements_of start steps.items)) a.status a.text.items) → EndsBy (SumsUp lanes) [] r
+        → IfOk r (λ a. ShowsAnswer (EndsInSummary lanes (statements_of start steps.items)) a.status a.text.items) → EndsBy (SumsUp lanes) [] r
     big_asked start steps (Ok a) p shows = record {
       answer = shows.answer;
       is = (

@@ -5,7 +5,7 @@ use Rattle.cfg_io.specs.Shelf.{Files}
 use Rattle.change_law.specs.Statements.{Statement}
 use Rattle.change_script.specs.declared.report.Report.{Report}
 use Rattle.command_answers.specs.Answers as values
-use Rattle.command_answers.specs.Answers.{Shows, refusal, no_memory, no_memory_line, summary}
+use Rattle.command_answers.specs.Answers.{ShowsAnswer, no_memory, no_memory_line, refusal, summary}
 use Rattle.command_answers.specs.declared.status.Status.{Status}
 use Rattle.command_answers.specs.declared.status.Status.TheVariants as status
 use Rattle.command_runs.specs.Courses.{FetchCourse}
@@ -24,7 +24,7 @@ result_text (Err _) = no_memory_line
 
 -- these fetches and this answer, or want of memory, are of the course
 abbrev pub EndsBy : {E : Type 0} → FetchCourse → List Fetch → Result Answer E → Type 0
-EndsBy course fetches (Ok answer) = Shows (course fetches) answer.status answer.text.items
+EndsBy course fetches (Ok answer) = ShowsAnswer (course fetches) answer.status answer.text.items
 EndsBy course fetches (Err _) = course fetches (refusal no_memory)
 
 -- the same of a shelf

@@ -2,7 +2,7 @@
 
 ghost use Rattle.std.specs.Prelude.{◌≡◌, ℕ, List, [], map, string_bytes, IfOk};
 ghost use Rattle.change_script.specs.Reports.{LogsAreMade};
-ghost use Rattle.command_answers.specs.Answers.{Shows};
+ghost use Rattle.command_answers.specs.Answers.{ShowsAnswer};
 ghost use Rattle.command_words.specs.CommandLine.{Asks};
 ghost use Rattle.command_words.specs.declared.words.Command.TheVariants as commands;
 ghost use Rattle.command_runs.specs.Commands.{SumsUp, course_of, course_of_query};
@@ -156,7 +156,7 @@ fn answer_big(alloc: Global, lanes: u32) -> Result<Answer, NoMemory>
 fn run_script(alloc: Global, start: Start, steps: Vec<Step>) -> Result<Answer, NoMemory>
     requires start { CanStart start }
     requires steps { CanDoAll (after_start start) steps.items }
-    ensures { IfOk result (λ answer. Shows (EndsRun (statements_of start steps.items)) answer.status answer.text.items) }
+    ensures { IfOk result (λ answer. ShowsAnswer (EndsRun (statements_of start steps.items)) answer.status answer.text.items) }
 {
     let report = report_of(alloc, start, steps)?;
     answer_run(alloc, &report)
@@ -166,7 +166,7 @@ fn run_script(alloc: Global, start: Start, steps: Vec<Step>) -> Result<Answer, N
 fn sum_up(alloc: Global, lanes: u32, start: Start, steps: Vec<Step>) -> Result<Answer, NoMemory>
     requires start { CanStart start }
     requires steps { CanDoAll (after_start start) steps.items }
-    ensures { IfOk result (λ answer. Shows (EndsInSummary lanes (statements_of start steps.items)) answer.status answer.text.items) }
+    ensures { IfOk result (λ answer. ShowsAnswer (EndsInSummary lanes (statements_of start steps.items)) answer.status answer.text.items) }
 {
     let report = report_of(alloc, start, steps)?;
     answer_summary(alloc, lanes, &report)

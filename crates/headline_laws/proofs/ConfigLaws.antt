@@ -19,7 +19,7 @@ use Rattle.change_board.specs.Sights.{Sight, sight_entry}
 use Rattle.change_board.specs.Steps.{Deed}
 use Rattle.change_board.specs.Transcripts.{Item, silent, told, said, entries, entry_in, lines}
 use Rattle.change_engine.specs.Carrying.{deed_items, sight_item}
-use Rattle.change_engine.specs.Finishing.{Seen, all_entries}
+use Rattle.change_engine.specs.Finishing.{ScanSeen, all_entries}
 use Rattle.change_engine.specs.Passivating.{silent_items}
 use Rattle.headline_laws.specs.Pieces.{config_at, events_of}
 use Rattle.headline_laws.proofs.ItemLemmas.{config_over, fair_events, fair_run, fair_scans}
@@ -72,13 +72,13 @@ quiet_config t es l h =
 quiet_events : (es : List Entry) → events_in (entries (silent_items es)) ≡ filter_map event_of [] → events_in es ≡ []
 quiet_events es h = ap events_in (sym (silent_entries es)) ∙ h
 
-pub run_config : (t : List Item) (looks : List Found) (scans : List Seen) (k ended : ℕ)
+pub run_config : (t : List Item) (looks : List Found) (scans : List ScanSeen) (k ended : ℕ)
     → config_at (t ++ (silent_items (map look_entry looks ++ all_entries scans) ++ said (to.Run k ended) ∷ [])) ≡ config_at t
 run_config t looks scans k ended =
     let es = map look_entry looks ++ all_entries scans in
     quiet_config t es (to.Run k ended) (quiet_events es (fair_events (silent_items es) (fair_run looks scans) ∙ ap (filter_map event_of) (silent_lines es)))
 
-pub finish_config : (t : List Item) (scans : List Seen) (n rounds : ℕ) → config_at (t ++ (silent_items (all_entries scans) ++ said (to.Finish n rounds) ∷ [])) ≡ config_at t
+pub finish_config : (t : List Item) (scans : List ScanSeen) (n rounds : ℕ) → config_at (t ++ (silent_items (all_entries scans) ++ said (to.Finish n rounds) ∷ [])) ≡ config_at t
 finish_config t scans n rounds =
     let es = all_entries scans in
     quiet_config t es (to.Finish n rounds) (quiet_events es (fair_events (silent_items es) (fair_scans scans) ∙ ap (filter_map event_of) (silent_lines es)))

@@ -23,7 +23,7 @@ use Rattle.gate_records.specs.declared.entry.Entry.TheVariants.{Looked}
 use Rattle.gate_records.specs.Looks.{ended_in_word}
 use Rattle.change_board.specs.Scans.{Found, all_ports, ended_in, look_entry, ports_of}
 use Rattle.change_board.specs.Sights.{sight_entry}
-use Rattle.change_engine.specs.Finishing.{IsScanIn, Seen, all_entries, seen_entries}
+use Rattle.change_engine.specs.Finishing.{IsScanIn, ScanSeen, all_entries, seen_entries}
 use Rattle.change_engine.specs.Running.{ended_since}
 
 -- ---- a port's word shows how many of its transactions ended
@@ -108,12 +108,12 @@ module _ (low high : ℕ → ℕ) where
   shown_least (f ∷ found) h =
       omega (arith, sum_by-cons (λ (g : Found). ended_in_word g.word) f found, sum_by-cons low f.port (ports_of found), h.0.0, shown_least found h.1)
 
-  seen_part : (w : Seen) → AllByRecursion IsBetween (seen_entries w) → AllByRecursion IsBetween (map look_entry w.found)
+  seen_part : (w : ScanSeen) → AllByRecursion IsBetween (seen_entries w) → AllByRecursion IsBetween (map look_entry w.found)
   seen_part w h = (both_parts (map sight_entry w.sights) (map look_entry w.found) h.1).1
 
   -- by how much the last of some scans shows more
-  last_shows : (alone : Bool) (scans : List Seen) (c : Configuration) (shown : ℕ) → AllByRecursion (IsScanIn alone c) scans → AllByRecursion IsBetween (all_entries scans) → sum_by low (all_ports c) ≤ shown
-      → (before : ℕ) → before ≤ sum_by high (all_ports c) - sum_by low (all_ports c) → fold (λ n (w : Seen). w.answer.ended - shown) before scans ≤ sum_by high (all_ports c) - sum_by low (all_ports c)
+  last_shows : (alone : Bool) (scans : List ScanSeen) (c : Configuration) (shown : ℕ) → AllByRecursion (IsScanIn alone c) scans → AllByRecursion IsBetween (all_entries scans) → sum_by low (all_ports c) ≤ shown
+      → (before : ℕ) → before ≤ sum_by high (all_ports c) - sum_by low (all_ports c) → fold (λ n (w : ScanSeen). w.answer.ended - shown) before scans ≤ sum_by high (all_ports c) - sum_by low (all_ports c)
   last_shows alone [] c shown are h least before fits = fits
   last_shows alone (w ∷ scans) c shown are h least before fits =
       let parts = both_parts (seen_entries w) (all_entries scans) h in
@@ -121,7 +121,7 @@ module _ (low high : ℕ → ℕ) where
       let same = ap (sum_by high) are.0.at_ports in
       last_shows alone scans c shown are.1 parts.1 least (w.answer.ended - shown) (omega (arith, are.0.ended, most, same, least))
 
-  pub run_shows : (alone : Bool) (looks : List Found) (scans : List Seen) (c : Configuration) → ports_of looks ≡ all_ports c → AllByRecursion (IsScanIn alone c) scans
+  pub run_shows : (alone : Bool) (looks : List Found) (scans : List ScanSeen) (c : Configuration) → ports_of looks ≡ all_ports c → AllByRecursion (IsScanIn alone c) scans
       → AllByRecursion IsBetween (map look_entry looks ++ all_entries scans) → ended_since (ended_in looks) scans ≤ sum_by high (all_ports c) - sum_by low (all_ports c)
   run_shows alone looks scans c at_ports are h =
       let parts = both_parts (map look_entry looks) (all_entries scans) h in

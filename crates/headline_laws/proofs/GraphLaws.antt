@@ -38,7 +38,7 @@ use Rattle.gate_records.proofs.RecordLaws.{config_is}
 use Rattle.change_engine.specs.Carrying.{deed_items, sight_item}
 use Rattle.change_engine.specs.Finishing.{all_entries, rounds_in}
 use Rattle.change_board.specs.Scans.{Found, look_entry, scan_entries}
-use Rattle.change_engine.specs.Passivating.{Passivation, Round, close_item, left_after, look_item, passivation_items, round_items, silent_items}
+use Rattle.change_engine.specs.Passivating.{Passivation, WaitingRound, close_item, left_after, look_item, passivation_items, round_items, silent_items}
 use Rattle.change_engine.specs.declared.passivating.LeftRoot.{LeftRoot}
 use Rattle.headline_laws.specs.Joining.{AreJoined, Joint, of_node, of_line, of_entry, item_of, items_in, member_of, members_in, moments_in}
 use Rattle.change_engine.specs.Draining.{pending_items, root_item}
@@ -224,7 +224,7 @@ none_closes : (ps : List ℕ) → list_any is_graph_item (map close_item ps) ≡
 none_closes [] = refl
 none_closes (p ∷ ps) = none_closes ps
 
-none_rounds : (rounds : List Round) → list_any is_graph_item (flat_map round_items rounds) ≡ false
+none_rounds : (rounds : List WaitingRound) → list_any is_graph_item (flat_map round_items rounds) ≡ false
 none_rounds [] = refl
 none_rounds (w ∷ rounds) =
     none_both (round_items w) (flat_map round_items rounds)

@@ -24,8 +24,8 @@ use Rattle.change_board.specs.Sights.{Sight, sight_entry}
 use Rattle.change_board.specs.Steps.{Deed}
 use Rattle.change_board.specs.Transcripts.{Item, silent, told, said, entries, lines, tells}
 use Rattle.change_engine.specs.Carrying.{deed_items, event_item, sight_item}
-use Rattle.change_engine.specs.Finishing.{Seen, all_entries, seen_entries}
-use Rattle.change_engine.specs.Passivating.{Passivation, Round, close_item, look_item, passivation_items, round_items, silent_items}
+use Rattle.change_engine.specs.Finishing.{ScanSeen, all_entries, seen_entries}
+use Rattle.change_engine.specs.Passivating.{Passivation, WaitingRound, close_item, look_item, passivation_items, round_items, silent_items}
 use Rattle.headline_laws.specs.Pieces.{config_at, events_of}
 use Rattle.change_engine.proofs.ItemLaws.{entries_both}
 
@@ -130,13 +130,13 @@ silent_both : (es fs : List Entry) → silent_items (es ++ fs) ≡ silent_items 
 silent_both [] fs = refl
 silent_both (e ∷ es) fs = ap (λ t. silent e ∷ t) (silent_both es fs)
 
-pub fair_scans : (scans : List Seen) → AreFair (silent_items (all_entries scans))
+pub fair_scans : (scans : List ScanSeen) → AreFair (silent_items (all_entries scans))
 fair_scans [] = tt
 fair_scans (w ∷ scans) =
     subst AreFair (sym (silent_both (seen_entries w) (all_entries scans)))
     (fair_both (silent_items (seen_entries w)) (silent_items (all_entries scans)) (fair_scan true w.answer.moved w.sights w.found) (fair_scans scans))
 
-pub fair_run : (looks : List Found) (scans : List Seen) → AreFair (silent_items (map look_entry looks ++ all_entries scans))
+pub fair_run : (looks : List Found) (scans : List ScanSeen) → AreFair (silent_items (map look_entry looks ++ all_entries scans))
 fair_run looks scans =
     subst AreFair (sym (silent_both (map look_entry looks) (all_entries scans)))
     (fair_both (silent_items (map look_entry looks)) (silent_items (all_entries scans)) (fair_look_entries looks) (fair_scans scans))
@@ -147,11 +147,11 @@ fair_closes : (ps : List ℕ) → AreFair (map close_item ps)
 fair_closes [] = tt
 fair_closes (p ∷ ps) = ((refl, refl), fair_closes ps)
 
-fair_round : (w : Round) → AreFair (round_items w)
+fair_round : (w : WaitingRound) → AreFair (round_items w)
 fair_round w =
     fair_both (silent_items (scan_entries false w.moved w.sights w.scan)) (map look_item w.found) (fair_scan false w.moved w.sights w.scan) (fair_looks w.found)
 
-fair_rounds : (rounds : List Round) → AreFair (flat_map round_items rounds)
+fair_rounds : (rounds : List WaitingRound) → AreFair (flat_map round_items rounds)
 fair_rounds [] = tt
 fair_rounds (w ∷ rounds) = fair_both (round_items w) (flat_map round_items rounds) (fair_round w) (fair_rounds rounds)
 

@@ -12,7 +12,7 @@ use Rattle.base.proofs.MapLaws.{count_by-append}
 use Rattle.change_law.specs.Changes.{AreLooks, PortsRise, seen_in_all}
 use Rattle.change_law.specs.Scene.{AreSeen, Seen}
 use Rattle.change_board.specs.Scans.{Found, ports_of}
-use Rattle.change_engine.specs.Passivating.{IsPassivation, IsRound, Passivation, Round, is_busy, left_after, root_of, root_ports, roots_of}
+use Rattle.change_engine.specs.Passivating.{IsPassivation, IsRound, Passivation, WaitingRound, is_busy, left_after, root_of, root_ports, roots_of}
 use Rattle.change_engine.specs.declared.passivating.LeftRoot.{LeftRoot}
 use Rattle.change_engine.proofs.PassivationLaws.{is_found, found_seen, drained_in, left_more, drained_by, looks_of, all_seen, seen_root}
 
@@ -49,7 +49,7 @@ module _ (p : ℕ) where
   parted (f ∷ found) = omega (arith, parted_here f (filter is_found found) (filter is_busy found) (is_found f), parted found, one_more f.port (ports_of found))
 
   -- a round parts what was left
-  parted_rounds : (first : List Found) (before rounds : List Round) → EachAfter (IsRound first) before rounds
+  parted_rounds : (first : List Found) (before rounds : List WaitingRound) → EachAfter (IsRound first) before rounds
       → seen_so_often (flat_map drained_by rounds) + listed_so_often (root_ports (left_after first (before ++ rounds))) ≡ listed_so_often (root_ports (left_after first before))
   parted_rounds first before [] each =
       let same = ap (λ ws. listed_so_often (root_ports (left_after first ws))) (append-nil before) in omega (arith, same)
@@ -136,7 +136,7 @@ left_rise found h =
     subst IsStrictlyIncreasing (sym (ports_left (filter is_busy found)))
     (rises_by (λ (f : Found). f.port) (filter is_busy found) (AllPairs-filter (λ (f : Found) (g : Found). f.port < g.port) is_busy found (rise_from found h)))
 
-rounds_rise : (first : List Found) (before rounds : List Round) → EachAfter (IsRound first) before rounds → IsStrictlyIncreasing (root_ports (left_after first before))
+rounds_rise : (first : List Found) (before rounds : List WaitingRound) → EachAfter (IsRound first) before rounds → IsStrictlyIncreasing (root_ports (left_after first before))
     → All PortsRise (map drained_by rounds)
 rounds_rise first before [] each rise = All-nil PortsRise
 rounds_rise first before (w ∷ rounds) each rise =

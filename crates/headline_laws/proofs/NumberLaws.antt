@@ -32,7 +32,7 @@ use Rattle.gate_records.specs.Records.{IsRecordOf, IsSo, Moment}
 use Rattle.change_board.specs.Scans.{Found, all_ports, ended_in, look_entry, ports_of}
 use Rattle.change_board.specs.Transcripts.{Item, silent, told, said, entries, line_in, lines, tells}
 use Rattle.change_engine.specs.Carrying.{deed_items, sight_item}
-use Rattle.change_engine.specs.Finishing.{IsScanIn, Seen, all_entries, rounds_in}
+use Rattle.change_engine.specs.Finishing.{IsScanIn, ScanSeen, all_entries, rounds_in}
 use Rattle.change_engine.specs.Passivating.{left_after, passivation_items, silent_items}
 use Rattle.change_engine.specs.Running.{ended_since}
 use Rattle.headline_laws.specs.Joining.{AreJoined, Joint, of_node, of_line, of_entry, item_of, items_in, member_of, members_in, moment_of, moments_in}
@@ -146,7 +146,7 @@ module _ (front back : List Joint) (es : List Entry) (are : items_in back ≡ si
       nodes_alone rest fs (tails_are (silent y) (silent g) (items_in rest) (silent_items fs) h) f.1
       ∙ ap (map by_node) (sym (ap (λ o. cons_option o (records.events (moments_in rest))) f.0))
 
-  ended_between : (alone : Bool) (looks : List Found) (scans : List Seen) (c : Configuration) → es ≡ map look_entry looks ++ all_entries scans → ports_of looks ≡ all_ports c → AllByRecursion (IsScanIn alone c) scans
+  ended_between : (alone : Bool) (looks : List Found) (scans : List ScanSeen) (c : Configuration) → es ≡ map look_entry looks ++ all_entries scans → ports_of looks ≡ all_ports c → AllByRecursion (IsScanIn alone c) scans
       → EndedSince (members_in (front ++ back)) (ended_since (ended_in looks) scans)
   ended_between alone looks scans c es_are at_ports scans_are =
       let later = records.events (moments_in back) in
@@ -180,7 +180,7 @@ record RunTold (before : List Item) (n : ℕ) : Type 0 where
   pre : List Item
   config : Configuration
   looks : List Found
-  scans : List Seen
+  scans : List ScanSeen
   parts : before ≡ pre ++ silent_items (map look_entry looks ++ all_entries scans)
   at_ports : ports_of looks ≡ all_ports config
   are_scans : AllByRecursion (IsScanIn alone config) scans

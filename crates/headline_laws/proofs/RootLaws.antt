@@ -32,7 +32,7 @@ use Rattle.change_board.specs.Scans.{Found, look_entry, scan_entries}
 use Rattle.change_board.specs.Transcripts.{Item, silent, told, said, entries, line_in, lines, tells}
 use Rattle.change_engine.specs.Carrying.{deed_items, sight_item}
 use Rattle.change_engine.specs.Finishing.{all_entries, rounds_in}
-use Rattle.change_engine.specs.Passivating.{IsPassivation, Passivation, Round, close_item, is_busy, left_after, look_item, passivation_items, root_of, roots_of, round_items, silent_items}
+use Rattle.change_engine.specs.Passivating.{IsPassivation, Passivation, WaitingRound, close_item, is_busy, left_after, look_item, passivation_items, root_of, roots_of, round_items, silent_items}
 use Rattle.change_engine.specs.declared.passivating.LeftRoot.{LeftRoot}
 use Rattle.headline_laws.specs.Joining.{AreJoined}
 use Rattle.change_engine.specs.Draining.{root_item}
@@ -88,12 +88,12 @@ found_root (f ∷ found) xs x ys h = by (is_busy f) refl xs h (λ zs e. found_ro
     by false e xs h rest = later (rest xs h)
 
 -- the last of some rounds
-record LastOf (rounds : List Round) : Type 0 where
-  front : List Round
-  round : Round
+record LastOf (rounds : List WaitingRound) : Type 0 where
+  front : List WaitingRound
+  round : WaitingRound
   are : rounds ≡ front ++ round ∷ []
 
-last_of : (w : Round) (rounds : List Round) → LastOf (w ∷ rounds)
+last_of : (w : WaitingRound) (rounds : List WaitingRound) → LastOf (w ∷ rounds)
 last_of w [] = record { front = []; round = w; are = refl }
 last_of w (v ∷ rounds) = let x = last_of v rounds in record { front = w ∷ x.front; round = x.round; are = ap (λ ws. w ∷ ws) x.are }
 
@@ -139,7 +139,7 @@ behind more_ items p k w = record {
   serial = w.serial;
 }
 
-seen_last : (first : List Found) (rounds : List Round) (xs : List LeftRoot) (x : LeftRoot) (ys : List LeftRoot) → left_after first rounds ≡ xs ++ x ∷ ys
+seen_last : (first : List Found) (rounds : List WaitingRound) (xs : List LeftRoot) (x : LeftRoot) (ys : List LeftRoot) → left_after first rounds ≡ xs ++ x ∷ ys
     → SeenAt (map look_item first ++ flat_map round_items rounds) x.port x.serial
 seen_last first [] xs x ys h = subst (λ t. SeenAt t x.port x.serial) (sym (append-nil (map look_item first))) (seen_in_pass first xs x ys h)
 seen_last first (v ∷ rounds) xs x ys h =
@@ -194,7 +194,7 @@ none_looks test h (f ∷ found) = by (is_drained_word f.word) (none_looks test h
     by true rest = ap (λ b. b || any_line test (map look_item found)) (h f.port (serial_of f.word)) ∙ rest
     by false rest = rest
 
-none_rounds : (test : HistoryLine → Bool) → ((p k : ℕ) → test (to.Drained p k) ≡ false) → (rounds : List Round) → any_line test (flat_map round_items rounds) ≡ false
+none_rounds : (test : HistoryLine → Bool) → ((p k : ℕ) → test (to.Drained p k) ≡ false) → (rounds : List WaitingRound) → any_line test (flat_map round_items rounds) ≡ false
 none_rounds test h [] = refl
 none_rounds test h (w ∷ rounds) =
     let scan = scan_entries false w.moved w.sights w.scan in

@@ -25,7 +25,7 @@ use Rattle.change_board.specs.Steps.{Deed}
 use Rattle.change_board.specs.Transcripts.{Item, said, entries, lines}
 use Rattle.change_engine.specs.Carrying.{deed_items, sight_item}
 use Rattle.change_engine.specs.Draining.{pending_items}
-use Rattle.change_engine.specs.Finishing.{EndsAfter, IsScanIn, Seen, all_entries, rounds_in}
+use Rattle.change_engine.specs.Finishing.{EndsAfter, IsScanIn, ScanSeen, all_entries, rounds_in}
 use Rattle.change_engine.specs.Passivating.{IsPassivation, Passivation, left_after, passivation_items, silent_items}
 use Rattle.change_engine.specs.Running.{RunsOn, ended_since, are_enough}
 use Rattle.change_engine.specs.declared.passivating.LeftRoot.{LeftRoot}
@@ -88,7 +88,7 @@ skip_items name args = said (to.Change name args) ∷ said to.Skipped ∷ []
 pub record AreRunItems (alone : Bool) (c : Configuration) (k : ℕ) (t : List Item) : Type 0 where
   pub looks : List Found
   pub at_ports : ports_of looks ≡ all_ports c
-  pub scans : List Seen
+  pub scans : List ScanSeen
   pub are_scans : AllByRecursion (IsScanIn alone c) scans
   pub go_on : Each (RunsOn alone k (ended_in looks)) scans
   pub ends : are_enough alone k (ended_in looks) scans ≡ true
@@ -98,7 +98,7 @@ pub record AreRunItems (alone : Bool) (c : Configuration) (k : ℕ) (t : List It
 
 -- A finish: scans alone.
 pub record AreFinishItems (alone : Bool) (c : Configuration) (n : ℕ) (t : List Item) : Type 0 where
-  pub scans : List Seen
+  pub scans : List ScanSeen
   pub few : length scans ≤ n
   pub are_scans : AllByRecursion (IsScanIn alone c) scans
   pub ends : EndsAfter alone n scans

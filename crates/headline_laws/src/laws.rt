@@ -50,7 +50,7 @@ pub fn logs_and_history_merge()
         → IsReport t m report → Merge members report }
 {}
 
-/// What is linked, unlinked or removed is quiescent then.
+/// The owner of a port that is linked or unlinked, and a node that is removed, is quiescent then.
 pub fn what_is_touched_is_quiescent()
     ensures quiescent { (alone : Bool) (statements : List Statement) (t : List Item) (m : List Moment)
         (members : List Member) → IsTranscript alone statements t → AreJoined t m members → IsRecordOf (entries t) m

@@ -1,6 +1,7 @@
 -- An inbox that was asked after hints were posted was asked since before.
 use Rattle.std.proofs.Common.{inl, inr, ◌≤◌, ℕ, arith, subst}
-use Rattle.port_queue.specs.Inboxes.{Counts, Rose}
+use Rattle.base.specs.Count.{Rose}
+use Rattle.port_queue.specs.Inboxes.{Counts}
 use Rattle.node_host.specs.Trying.{IsAsked, IsGrown, LookedAt}
 
 pub rose_since : (a b c : ℕ) → a ≤ b → Rose b c → Rose a c

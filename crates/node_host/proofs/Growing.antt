@@ -20,17 +20,17 @@ use Rattle.turn_laws.specs.Agreement.{Agrees, IsInTurn, expects}
 use Rattle.turn_laws.proofs.AgreementLaws.{agrees_next}
 use Rattle.node_host.specs.Hosted.{IsHosted, SeatSeen, node_of}
 use Rattle.node_host.specs.Moved.{Moved}
-use Rattle.node_host.specs.Lines.{Member, line_state, member_state, opens_with}
+use Rattle.node_host.specs.Lines.{LineNode, line_node_state, line_state, opens_with}
 
 -- the line goes on with it
 member_next : (k : Kind) (before : Option Kept) (first a : ℕ) (log : List Event) (e : Event)
-    → member_state k before (record { first = first; arg = a; log = log ++ e ∷ [] }) ≡ fold_next first (member_state k before (record { first = first; arg = a; log = log })) e
+    → line_node_state k before (record { first = first; arg = a; log = log ++ e ∷ [] }) ≡ fold_next first (line_node_state k before (record { first = first; arg = a; log = log })) e
 member_next k before first a log e = fold_push (fold_next first) (Some (at_rest k a (opens_with k before a))) log e
 
-line_next : (k : Kind) (before : Option Kept) (ms : List Member) (first a : ℕ) (log : List Event) (e : Event)
+line_next : (k : Kind) (before : Option Kept) (ms : List LineNode) (first a : ℕ) (log : List Event) (e : Event)
     → line_state k before ms (record { first = first; arg = a; log = log ++ e ∷ [] }) ≡ fold_next first (line_state k before ms (record { first = first; arg = a; log = log })) e
 line_next k before [] first a log e = member_next k before first a log e
-line_next k before (m ∷ ms) first a log e = by (member_state k before m) (λ s. line_next k (Some s.kept) ms first a log e)
+line_next k before (m ∷ ms) first a log e = by (line_node_state k before m) (λ s. line_next k (Some s.kept) ms first a log e)
   where
     by : (o : Option NodeState)
         → ((s : NodeState) → line_state k (Some s.kept) ms (record { first = first; arg = a; log = log ++ e ∷ [] }) ≡ fold_next first (line_state k (Some s.kept) ms (record { first = first; arg = a; log = log })) e)
@@ -39,7 +39,7 @@ line_next k before (m ∷ ms) first a log e = by (member_state k before m) (λ s
     by None rest = refl
     by (Some s) rest = rest s
 
-module _ (slot first : ℕ) (t : NodeState) (log : List Event) (line : List Member) (known : Known) (waiting : List (Option ℕ)) (seat : SeatSeen) (h : IsHosted slot first t log line known waiting seat) where
+module _ (slot first : ℕ) (t : NodeState) (log : List Event) (line : List LineNode) (known : Known) (waiting : List (Option ℕ)) (seat : SeatSeen) (h : IsHosted slot first t log line known waiting seat) where
   pub two_known : length known.ports ≡ 2
   two_known = ap (λ (w : Known). length w.ports) h.knows ∙ ports_of_log first log
 

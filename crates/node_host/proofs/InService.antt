@@ -29,7 +29,7 @@ use Rattle.port_gate.specs.Seats.{HasEndedCalls}
 use Rattle.turn_laws.proofs.AgreementLaws.{who_wants_asks_nothing}
 use Rattle.turn_laws.specs.Agreement.{HasNoCall, ServiceAgrees, ServicesAgree, expects}
 use Rattle.node_host.specs.Hosted.{IsHosted, SeatSeen}
-use Rattle.node_host.specs.Lines.{Member}
+use Rattle.node_host.specs.Lines.{LineNode}
 use Rattle.node_host.specs.Awaiting.{awaits}
 use Rattle.node_host.proofs.Growing.{expected_at, port_there, two_known}
 
@@ -121,7 +121,7 @@ not_called : (idle consequent : Bool) → (not idle && consequent) ≡ false →
 not_called true c h alone = alone refl
 not_called false c h alone = h
 
-module _ (slot first : ℕ) (t : NodeState) (log : List Event) (line : List Member) (known : Known) (waiting : List (Option ℕ)) (seat : SeatSeen) (h : IsHosted slot first t log line known waiting seat) where
+module _ (slot first : ℕ) (t : NodeState) (log : List Event) (line : List LineNode) (known : Known) (waiting : List (Option ℕ)) (seat : SeatSeen) (h : IsHosted slot first t log line known waiting seat) where
   abbrev known_port : (r : ℕ) → PortKnown
   known_port r = slice_index_or known.ports r port_at_start
 

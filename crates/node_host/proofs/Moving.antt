@@ -24,7 +24,7 @@ use Rattle.turns.specs.Turn.{awaits_call, does_next, ends, goes_on, has_reply, h
 use Rattle.turns.specs.World.{first_port}
 use Rattle.node_host.specs.Awaiting.{awaits}
 use Rattle.node_host.specs.Hosted.{IsHosted, SeatSeen, node_of}
-use Rattle.node_host.specs.Lines.{Member}
+use Rattle.node_host.specs.Lines.{LineNode}
 use Rattle.node_host.specs.Told.{IsTold, reply_at}
 use Rattle.node_host.proofs.Exactly.{first_is, own_known}
 use Rattle.node_host.proofs.Growing.{two_known}
@@ -118,7 +118,7 @@ module _ (o : Option State) (n : NodeAt) (known : Known) (s : State) (told : IsT
       let k = own_known o n known s told r within in
       ap (λ b. not b && (slice_index_or known.ports r port_at_start).consequent) k.idle ∙ ap (λ b. not (is_idle (exchange s (n.first + r)).phase) && b) k.consequent
 
-module _ (slot first : ℕ) (t : NodeState) (log : List Event) (line : List Member) (known : Known) (waiting : List (Option ℕ)) (seat : SeatSeen) (h : IsHosted slot first t log line known waiting seat)
+module _ (slot first : ℕ) (t : NodeState) (log : List Event) (line : List LineNode) (known : Known) (waiting : List (Option ℕ)) (seat : SeatSeen) (h : IsHosted slot first t log line known waiting seat)
     (o : Option State) (s : State) (tells : IsTold o (node_of slot first t) seat.known s) where
   told_here : IsTold o (node_of slot first t) known s
   told_here = subst (λ w. IsTold o (node_of slot first t) w s) (sym h.kept) tells

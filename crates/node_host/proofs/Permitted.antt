@@ -28,7 +28,7 @@ use Rattle.port_gate.specs.Moves.{Does}
 use Rattle.port_gate.specs.Noting.{CanCount}
 use Rattle.port_gate.specs.Seats.{IsOwn, MayBegin, MayCall, MayGive, MayHear, MaySendMore, NodeAt, has_heard, port_known, serial_served, serves}
 use Rattle.node_host.specs.Hosted.{IsHosted, SeatSeen, node_of}
-use Rattle.node_host.specs.Lines.{Member}
+use Rattle.node_host.specs.Lines.{LineNode}
 use Rattle.node_host.specs.Awaiting.{awaits}
 use Rattle.node_host.proofs.InService.{calls_ended, in_service, no_call}
 
@@ -74,7 +74,7 @@ take_folds first p k v x t t' provided free same =
 pub did_by : (n n' : NodeAt) (w w' : Known) (told told' : Option (List Event)) (s s' : Option State) (es es' : List Event) → n' ≡ n → es' ≡ es → Does n' es' w w' told told' s s' → Does n es w w' told told' s s'
 did_by n n' w w' told told' s s' es es' node events d = subst (λ x. Does n x w w' told told' s s') events (subst (λ m. Does m es' w w' told told' s s') node d)
 
-module _ (slot first : ℕ) (t : NodeState) (log : List Event) (line : List Member) (known : Known) (waiting : List (Option ℕ)) (seat : SeatSeen) (h : IsHosted slot first t log line known waiting seat) where
+module _ (slot first : ℕ) (t : NodeState) (log : List Event) (line : List LineNode) (known : Known) (waiting : List (Option ℕ)) (seat : SeatSeen) (h : IsHosted slot first t log line known waiting seat) where
   own : (r : ℕ) → r < length (row t.kind).requires_ → IsOwn (node_of slot first t) (first + r)
   own r within = record { from = omega arith; below = omega (arith, within) }
 

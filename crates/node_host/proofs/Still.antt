@@ -16,12 +16,12 @@ use Rattle.port_gate.specs.Moves.{Does}
 use Rattle.port_gate.specs.Seats.{NodeAt}
 use Rattle.turn_laws.specs.Agreement.{ServicesAgree}
 use Rattle.node_host.specs.Hosted.{IsHosted, SeatSeen, node_of}
-use Rattle.node_host.specs.Lines.{Member}
+use Rattle.node_host.specs.Lines.{LineNode}
 use Rattle.node_host.specs.Moved.{Moved}
 use Rattle.node_host.proofs.Composing.{told_nothing}
 use Rattle.node_host.proofs.InService.{agreeing}
 
-module _ (slot first : ℕ) (t : NodeState) (log : List Event) (line : List Member) (known : Known) (waiting : List (Option ℕ)) (seat : SeatSeen) (h : IsHosted slot first t log line known waiting seat) where
+module _ (slot first : ℕ) (t : NodeState) (log : List Event) (line : List LineNode) (known : Known) (waiting : List (Option ℕ)) (seat : SeatSeen) (h : IsHosted slot first t log line known waiting seat) where
   module _ (seat' : SeatSeen) (n n' : NodeAt) (s s' : Option State) (same : n ≡ node_of slot first t) (same' : n' ≡ n) (of_slot : n'.slot ≡ seat'.slot)
       (did : Does n [] seat.known seat'.known seat.told seat'.told s s') where
     pub hosted_still : IsHosted slot first t log line known waiting seat'

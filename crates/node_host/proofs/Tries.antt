@@ -2,6 +2,7 @@
 use Rattle.std.proofs.Common.{inl, inr, ◌≡◌, ◌∙◌, ◌⊎◌, ℕ, zero, suc, ◌+◌, ◌<◌, ◌≤◌, Bool, true, false, length, Option, Some, None, refl, sym, ap, subst, arith}
 use Rattle.std.specs.Prelude.{◌==◌, ◌&&◌, is_none, nat_lt}
 use Rattle.std.proofs.lemmas.Bool.{both_ways, eq-eqb, eqb-true}
+use Rattle.base.specs.Count.{Rose}
 use Rattle.config_graph.specs.Kinds.{row}
 use Rattle.component_trait.specs.States.{NodeState}
 use Rattle.quiesce_core.specs.Knowledge.{KnowsService}
@@ -14,7 +15,7 @@ use Rattle.quiesce_core.specs.declared.state.Service.{Service}
 use Rattle.turns.specs.Turn.{serves}
 use Rattle.port_gate.specs.Loads.{IsLed, IsLoaded, Load, Loads, TellsLoads, leads_to, shows_asked}
 use Rattle.port_gate.specs.Seats.{NodeAt}
-use Rattle.port_queue.specs.Inboxes.{Counts, Rose}
+use Rattle.port_queue.specs.Inboxes.{Counts}
 use Rattle.node_host.specs.Hosted.{node_of}
 use Rattle.node_host.specs.Posting.{GateSeen, HintOf, Hinted, IsSent, IsSentAfter, IsSentBy}
 use Rattle.node_host.specs.Told.{IsTold}

@@ -8,7 +8,7 @@ use Rattle.quiesce_core.specs.declared.event.Event.{Event}
 use Rattle.quiesce_core.specs.declared.known.Known.{Known}
 use Rattle.port_gate.specs.Seats.{IsWithinLimits, NodeAt}
 use Rattle.turn_laws.specs.Agreement.{Agrees}
-use Rattle.node_host.specs.Lines.{Member, line_state}
+use Rattle.node_host.specs.Lines.{LineNode, line_state}
 
 -- what contracts see of a seat: its slot, what it knows, and its events, where it tells them
 pub record SeatSeen : Type 0 where
@@ -21,7 +21,7 @@ node_of slot first t = record { slot = slot; kind = t.kind; first = first }
 
 -- The seat is the node's, knows its log, with nothing seen, and tells it where it tells events; the log leads the line on to the node's
 -- state, which agrees with what the log tells it; and each hint that waits is one of its requirements, for a node's slot.
-pub record IsHosted (slot first : ℕ) (t : NodeState) (log : List Event) (line : List Member) (known : Known) (waiting : List (Option ℕ)) (seat : SeatSeen) : Type 0 where
+pub record IsHosted (slot first : ℕ) (t : NodeState) (log : List Event) (line : List LineNode) (known : Known) (waiting : List (Option ℕ)) (seat : SeatSeen) : Type 0 where
   pub of_slot : seat.slot ≡ slot
   pub limits : IsWithinLimits (node_of slot first t)
   pub kept : known ≡ seat.known

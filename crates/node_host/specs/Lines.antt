@@ -6,8 +6,8 @@ use Rattle.component_trait.specs.Fold.{fold_of}
 use Rattle.component_trait.specs.States.{Kept, NodeState}
 use Rattle.component_trait.specs.Tables.{opening}
 
--- a member: its first port, its argument, which is 0 where its kind has none, and its events
-pub record Member : Type 0 where
+-- a node of a line: its first port, its argument, which is 0 where its kind has none, and its events
+pub record LineNode : Type 0 where
   pub first : ℕ
   pub arg : ℕ
   pub log : List Event
@@ -17,11 +17,11 @@ abbrev pub opens_with : Kind → Option Kept → ℕ → Kept
 opens_with k None a = opening k a
 opens_with k (Some kept) a = kept
 
--- what a member came to by its events; none where they aren't what its kind does
-abbrev pub member_state : Kind → Option Kept → Member → Option NodeState
-member_state k before m = fold_of k m.arg m.first (opens_with k before m.arg) m.log
+-- what a node of a line came to by its events; none where they aren't what its kind does
+abbrev pub line_node_state : Kind → Option Kept → LineNode → Option NodeState
+line_node_state k before m = fold_of k m.arg m.first (opens_with k before m.arg) m.log
 
--- what the last of a line came to; none where some member's events aren't what its kind does
-abbrev pub line_state : Kind → Option Kept → List Member → Member → Option NodeState
-line_state k before [] last = member_state k before last
-line_state k before (m ∷ ms) last = option_and_then (λ (s : NodeState). line_state k (Some s.kept) ms last) (member_state k before m)
+-- what the last of a line came to; none where some node's events aren't what its kind does
+abbrev pub line_state : Kind → Option Kept → List LineNode → LineNode → Option NodeState
+line_state k before [] last = line_node_state k before last
+line_state k before (m ∷ ms) last = option_and_then (λ (s : NodeState). line_state k (Some s.kept) ms last) (line_node_state k before m)

@@ -1,6 +1,7 @@
 -- Which move of a turn an event is, and what shows that each move before it wasn't possible, at a gate that tells no state too: what the
 -- node knows, the words that its seat loaded in the turn, and what was counted of its inbox.
 use Rattle.std.specs.Prelude.{◌≡◌, ◌≢◌, ◌⊎◌, ◌+◌, ◌-◌, ℕ, ◌<◌, ◌≤◌, Bool, true, false, not, ◌==◌, ◌||◌, nat_lt, length, Option, Some, None, is_some, slice_index_or, ⊤}
+use Rattle.base.specs.Count.{Rose}
 use Rattle.config_graph.specs.Kinds.{row}
 use Rattle.gate_word.specs.Phases.{is_in_more}
 use Rattle.gate_word.specs.Words.{is_message_to, is_missing, unpack}
@@ -14,7 +15,7 @@ use Rattle.quiesce_core.specs.declared.known.Known.{Known}
 use Rattle.quiesce_core.specs.declared.known.Served.{Served}
 use Rattle.port_gate.specs.Loads.{IsLed, IsLoaded, Load, Loads, TellsLoads, shows_asked}
 use Rattle.port_gate.specs.Seats.{NodeAt}
-use Rattle.port_queue.specs.Inboxes.{Counts, Rose}
+use Rattle.port_queue.specs.Inboxes.{Counts}
 use Rattle.node_host.specs.Awaiting.{awaits}
 
 -- the moves in their order: 1 replies, 2 goes on with the service, 3 takes a request up, 4 begins

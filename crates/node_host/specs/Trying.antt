@@ -1,6 +1,7 @@
 -- Hints that are posted or wait, and the look for the next one.
 use Rattle.std.specs.Prelude.{◌≡◌, ◌⊎◌, ◌≤◌, ◌==◌, ◌+◌, ℕ, Bool, true, false, List, Option, Some, None, slice_index_or, if◌then◌else◌}
-use Rattle.port_queue.specs.Inboxes.{Counts, Gave, Refused, Rose, after_post}
+use Rattle.base.specs.Count.{Rose}
+use Rattle.port_queue.specs.Inboxes.{Counts, Gave, Refused, after_post}
 
 -- what is counted of the node for which a hint was posted, or refused
 abbrev pub CountsTried : Bool → Counts → Counts → Type 0

@@ -1,9 +1,10 @@
 //! Hints for other nodes, and those that wait because an inbox was full.
 
 ghost use Rattle.std.specs.Prelude.{◌≡◌, ◌≢◌, ℕ, ◌+◌, ◌<◌, ◌≤◌, true, List, None, Some, length, slice_get, slice_index_or, slice_set, if◌then◌else◌};
+ghost use Rattle.base.specs.Count.{Rose};
 ghost use Rattle.config_graph.specs.Kinds.{row};
 ghost use Rattle.config_graph.specs.declared.TheConstants.{MAX_NODES, MAX_PORTS};
-ghost use Rattle.port_queue.specs.Inboxes.{Rose, after_post, has_room};
+ghost use Rattle.port_queue.specs.Inboxes.{after_post, has_room};
 ghost use Rattle.node_host.specs.Posting.{ArePosted, Reposted};
 ghost use Rattle.node_host.specs.Trying.{CountsTried, IsGrown, own_box, own_post};
 

@@ -10,13 +10,13 @@ use Rattle.quiesce_core.specs.declared.event.Event.{Event}
 use Rattle.quiesce_core.specs.declared.state.Slot.{Slot}
 use Rattle.node_table.specs.Entries.{SlotEntry, Predecessor, NodeSeen, gone, here}
 use Rattle.node_table.specs.Holding.{HoldsIn}
-use Rattle.node_table.specs.Lines.{IsPast, behind, first_of_line, member}
+use Rattle.node_table.specs.Lines.{IsPast, behind, first_of_line, predecessor}
 
 -- the slot of the first of a node's line
 abbrev root : ℕ → List Predecessor → ℕ
 root n ms = option_map_or (λ (m : Predecessor). m.slot) (slice_get ms 0) n
 
-root_before : (es : List Event) (n k : ℕ) (old : Slot) (ms : List Predecessor) → root n (ms ++ member es k old ∷ []) ≡ root k ms
+root_before : (es : List Event) (n k : ℕ) (old : Slot) (ms : List Predecessor) → root n (ms ++ predecessor es k old ∷ []) ≡ root k ms
 root_before es n k old [] = refl
 root_before es n k old (x ∷ ms) = refl
 
@@ -26,13 +26,13 @@ record Before (es : List Event) (n k : ℕ) (ms : List Predecessor) : Type 0 whe
   rest : List Predecessor
   past : IsPast es k rest
   low : k < n
-  all : ms ≡ rest ++ member es k old ∷ []
+  all : ms ≡ rest ++ predecessor es k old ∷ []
 
 before : (es : List Event) (n k : ℕ) (m : Slot) (ms : List Predecessor) → slot (state_after es).config n ≡ Some m → m.from ≡ Some k → IsPast es n ms → Before es n k ms
 before es _ k m _ at from (first_of_line n s is none_) = absurd (none-some k (sym none_ ∙ ap (λ (x : Slot). x.from) (same_Some s m (sym is ∙ at)) ∙ from))
 before es _ k m _ at from (behind n j s old ms is taken low was rest) =
     let same : j ≡ k = same_Some j k (sym taken ∙ ap (λ (x : Slot). x.from) (same_Some s m (sym is ∙ at)) ∙ from) in
-    subst (λ i. Before es n i (ms ++ member es j old ∷ [])) same (record { old = old; rest = ms; past = rest; low = low; all = refl })
+    subst (λ i. Before es n i (ms ++ predecessor es j old ∷ [])) same (record { old = old; rest = ms; past = rest; low = low; all = refl })
 
 nothing_before : (es : List Event) (n : ℕ) (m : Slot) (ms : List Predecessor) → slot (state_after es).config n ≡ Some m → m.from ≡ None → IsPast es n ms → ms ≡ []
 nothing_before es _ m _ at from (first_of_line n s is none_) = refl
@@ -44,7 +44,7 @@ root_once es _ _ ns (behind n k m old ms at from low was rest) other =
     let b = before es n k m ns at from other in
     root_before es n k old ms ∙ root_once es k ms b.rest rest b.past ∙ sym (ap (root n) b.all ∙ root_before es n k b.old b.rest)
 
--- a member of a line has a line of its own, from the same first on
+-- a predecessor of a line has a line of its own, from the same first on
 past_of_member : (es : List Event) (n : ℕ) (ms : List Predecessor) → IsPast es n ms → (i : ℕ) (x : Predecessor) → slice_get ms i ≡ Some x
     → (ns : List Predecessor) × IsPast es x.slot ns × (root x.slot ns ≡ root n ms) × (x.slot < n)
 past_of_member es _ _ (first_of_line n m at from) i x is = absurd (none-some x is)
@@ -53,10 +53,10 @@ past_of_member es _ _ (behind n k m old ms at from low was rest) i x is = ⊎_el
     let p = past_of_member es k ms rest i x earlier.1 in
     let lower = p.3 in
     (p.0, p.1, p.2 ∙ sym (root_before es n k old ms), omega (arith, lower, low)))
-    (λ (last : (i ≡ length ms) × (member es k old ≡ x)).
-    subst (λ (y : Predecessor). (ns : List Predecessor) × IsPast es y.slot ns × (root y.slot ns ≡ root n (ms ++ member es k old ∷ [])) × (y.slot < n)) last.1
+    (λ (last : (i ≡ length ms) × (predecessor es k old ≡ x)).
+    subst (λ (y : Predecessor). (ns : List Predecessor) × IsPast es y.slot ns × (root y.slot ns ≡ root n (ms ++ predecessor es k old ∷ [])) × (y.slot < n)) last.1
     (ms, rest, sym (root_before es n k old ms), low))
-    (slice_get-snoc ms (member es k old) x i is)
+    (slice_get-snoc ms (predecessor es k old) x i is)
 
 module _ (s : State) (nodes : List SlotEntry) (ends : List ℕ) (es : List Event) (h : HoldsIn s nodes ends es) (k : ℕ) (y : NodeSeen) (kept : slice_get nodes k ≡ Some (here y)) where
   end_at : (n : ℕ) (x : NodeSeen) → slice_get nodes n ≡ Some (here x) → slice_get ends (root n x.past) ≡ Some n

@@ -12,7 +12,7 @@ use Rattle.quiesce_core.specs.declared.known.Served.{Served}
 use Rattle.quiesce_core.proofs.KnownLaws.{service_of_log}
 use Rattle.turn_laws.specs.Agreement.{ServicesAgree}
 use Rattle.node_host.specs.Hosted.{IsHosted, SeatSeen}
-use Rattle.node_host.specs.Lines.{Member}
+use Rattle.node_host.specs.Lines.{LineNode}
 use Rattle.node_table.specs.Rooms.{has_past_room}
 use Rattle.node_table.specs.Seen.{is_node}
 use Rattle.node_table.specs.declared.held.Held.{Held}
@@ -23,7 +23,7 @@ agree_none far (Some v) None h is = absurd h
 agree_none far (Some v) (Some u) h is = absurd (cc)
 
 -- a node of which its seat knows no service is in none
-pub rests_told : (slot first : ℕ) (t : NodeState) (log : List Event) (line : List Member) (known : Known) (waiting : List (Option ℕ)) (seat : SeatSeen) → IsHosted slot first t log line known waiting seat → seat.known.service ≡ None → t.service ≡ None
+pub rests_told : (slot first : ℕ) (t : NodeState) (log : List Event) (line : List LineNode) (known : Known) (waiting : List (Option ℕ)) (seat : SeatSeen) → IsHosted slot first t log line known waiting seat → seat.known.service ≡ None → t.service ≡ None
 rests_told slot first t log line known waiting seat h is =
     agree_none _ t.service _ h.agrees.services (sym (ap (λ (w : Known). w.service) h.knows ∙ service_of_log first log) ∙ ap (λ (w : Known). w.service) h.kept ∙ is)
 

@@ -29,7 +29,7 @@ use Rattle.port_gate.specs.Core.{FitsCore}
 use Rattle.port_gate.proofs.SeatLaws.{seats_stay}
 use Rattle.node_table.specs.Entries.{Predecessor, NodeSeen}
 use Rattle.node_table.specs.Holding.{IsHere}
-use Rattle.node_table.specs.Lines.{IsPast, behind, first_of_line, member}
+use Rattle.node_table.specs.Lines.{IsPast, behind, first_of_line, predecessor}
 use Rattle.node_table.proofs.Slots.{IsStill, gone_does_nothing, log_same, slot_then}
 
 -- an event that is a step from where a run led
@@ -60,7 +60,7 @@ not_live c n m at gone = map_or_at (λ (x : Slot). x.live) (slot c n) false m at
 pub same_argument : (m new : Slot) → IsStill m new → argument_or_0 new.node.arg ≡ argument_or_0 m.node.arg
 same_argument m new same = ap (λ (x : Node). option_map_or (λ a. a) x.arg 0) same.node
 
-same_member : (es : List Event) (e : Event) (k : ℕ) (old new : Slot) → IsStill old new → done_by k (es ++ e ∷ []) ≡ done_by k es → member es k old ≡ member (es ++ e ∷ []) k new
+same_member : (es : List Event) (e : Event) (k : ℕ) (old new : Slot) → IsStill old new → done_by k (es ++ e ∷ []) ≡ done_by k es → predecessor es k old ≡ predecessor (es ++ e ∷ []) k new
 same_member es e k old new same log =
     ap (λ f. record { slot = k; first = f; arg = argument_or_0 old.node.arg; log = done_by k es }) (sym same.first)
     ∙ ap (λ a. record { slot = k; first = new.first_port; arg = a; log = done_by k es }) (sym (same_argument old new same))

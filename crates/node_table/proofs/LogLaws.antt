@@ -10,7 +10,7 @@ use Rattle.quiesce_core.specs.State.{State}
 use Rattle.quiesce_core.specs.declared.event.Event.{Event}
 use Rattle.node_table.specs.Entries.{SlotEntry, Predecessor, gone, here, log_in, past_log}
 use Rattle.node_table.specs.Holding.{HoldsIn}
-use Rattle.node_table.specs.Lines.{IsPast, behind, first_of_line, member}
+use Rattle.node_table.specs.Lines.{IsPast, behind, first_of_line, predecessor}
 use Rattle.node_table.specs.Worlds.{ShowsIn}
 use Rattle.turns.specs.World.{World}
 
@@ -18,8 +18,8 @@ past_logs : (es : List Event) (n : ℕ) (ms : List Predecessor) → IsPast es n 
 past_logs es _ _ (first_of_line n s at none_) i m is = absurd (none-some m is)
 past_logs es _ _ (behind n k s old ms at from low was rest) i m is = ⊎_elim
     (λ (before : (i < length ms) × (slice_get ms i ≡ Some m)). past_logs es k ms rest i m before.1)
-    (λ (last : (i ≡ length ms) × (member es k old ≡ m)). subst (λ (x : Predecessor). x.log ≡ done_by x.slot es) last.1 refl)
-    (slice_get-snoc ms (member es k old) m i is)
+    (λ (last : (i ≡ length ms) × (predecessor es k old ≡ m)). subst (λ (x : Predecessor). x.log ≡ done_by x.slot es) last.1 refl)
+    (slice_get-snoc ms (predecessor es k old) m i is)
 
 pub log_is : (s : State) (nodes : List SlotEntry) (ends : List ℕ) (es : List Event) → HoldsIn s nodes ends es → (n : ℕ) (x : SlotEntry) → slice_get nodes n ≡ Some x → log_in nodes ends x ≡ done_by n es
 log_is s nodes ends es h n (here x) at = (h.nodes_here n x at).log

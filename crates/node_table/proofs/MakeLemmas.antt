@@ -20,7 +20,7 @@ use Rattle.port_gate.specs.Core.{FitsCore}
 use Rattle.port_gate.proofs.SeatLaws.{new_seats_fit}
 use Rattle.node_table.specs.Entries.{SlotEntry, Predecessor, NodeSeen, gone, here, line_of}
 use Rattle.node_table.specs.Holding.{HoldsIn, IsGone, IsHere}
-use Rattle.node_table.specs.Lines.{IsPast, behind, first_of_line, member}
+use Rattle.node_table.specs.Lines.{IsPast, behind, first_of_line, predecessor}
 use Rattle.node_table.specs.declared.handed.Handed.{Handed}
 use Rattle.node_table.proofs.ChangeLemmas.{gone_then, here_same, run_then, step_there}
 use Rattle.node_table.proofs.Keeping.{config_then, here_then, next_of, state_then}
@@ -237,11 +237,11 @@ holds_made_from s t nodes ends es node k h st old x at_k f past_is g heir_is lin
     below_n : k < n'
     below_n = omega (arith, within, number_is s t nodes ends es node (Some k) h st x f)
 
-    -- the old node as a member, before and after
+    -- the old node as a predecessor, before and after
     still_k : IsHere (es ++ Make n' node (Some k) ∷ []) k old
     still_k = here_then es (Make n' node (Some k)) later k old here_k refl
 
-    member_is : m_k ≡ member (es ++ Make n' node (Some k) ∷ []) k still_k.made
+    member_is : m_k ≡ predecessor (es ++ Make n' node (Some k) ∷ []) k still_k.made
     member_is =
         ap (λ i. record { slot = k; first = i; arg = old.state.arg; log = old.log }) still_k.first
         ∙ ap (λ a. record { slot = k; first = still_k.made.first_port; arg = a; log = old.log }) still_k.arg

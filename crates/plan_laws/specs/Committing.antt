@@ -32,8 +32,8 @@ pub record TakesOver (old new : Graph) (plan : Plan) (c : Configuration) (m : Ne
   pub source : StandsAt c old.nodes k shift.old
   pub target : slice_get new.nodes shift.new ≡ Some m.node
 
--- After this run the change may commit: the graph is the old one, the plan leads from there to a sound graph, and each
--- port of each frozen node is closed and has no transaction but a consequent one.
+-- After this run the change may commit: the graph is the old one, the plan leads from there to a sound graph, nothing
+-- stands against it, and each port of each frozen node is closed and has no transaction but a consequent one.
 pub record MayCommit (old new : Graph) (moves : List Move) (plan : Plan) (es : List Event) : Type 0 where
   pub old_graph : IsGraph old
   pub new_graph : IsGraph new

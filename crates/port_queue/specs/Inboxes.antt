@@ -1,5 +1,6 @@
 -- Inboxes of hints, one a node: each is a list, with what was counted of its answers.
-use Rattle.std.specs.Prelude.{◌≡◌, ℕ, ◌-◌, ◌<◌, ◌≤◌, ◌^◌, Bool, nat_lt, List, [], ◌∷◌, ◌++◌, length, drop, slice_get, Option, Some, None, Result, Ok, Err, if◌then◌else◌}
+use Rattle.std.specs.Prelude.{◌≡◌, ℕ, Bool, nat_lt, List, [], ◌∷◌, ◌++◌, length, drop, slice_get, Option, Some, None, Result, Ok, Err, if◌then◌else◌}
+use Rattle.base.specs.Count.{Rose}
 use Rattle.port_queue.specs.declared.TheConstants.{MAX_HINTS}
 use Rattle.port_queue.specs.declared.hints.Full.{Full}
 
@@ -12,10 +13,6 @@ pub record Counts : Type 0 where
 
 abbrev pub no_counts : Counts
 no_counts = record { refused = 0; given = 0; last = None }
-
--- a count rose: it is higher than it was, unless it stood at the last value of a `u64`
-abbrev pub Rose : ℕ → ℕ → Type 0
-Rose old new = (old ≤ new) × (old < 2 ^ 64 - 1 → old < new)
 
 -- an answer that leaves the inbox as it is
 pub record Refused (old new : Counts) : Type 0 where

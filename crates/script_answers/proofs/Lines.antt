@@ -12,7 +12,7 @@ use Rattle.change_plan.specs.declared.plan_data.Move.{Move}
 use Rattle.change_script.specs.ScriptFiles.{is_file, is_start}
 use Rattle.change_script.specs.declared.script.Body.{Body}
 use Rattle.change_script.specs.declared.script.Body.TheVariants as bodies
-use Rattle.command_answers.specs.Answers.{Shows, description, read_fault, refusal}
+use Rattle.command_answers.specs.Answers.{ShowsAnswer, description, read_fault, refusal}
 use Rattle.command_answers.specs.DescriptionFaults.{MayRefuse, fault_words}
 use Rattle.command_answers.specs.RefusalLines.{description_line, read_fault_line}
 use Rattle.command_answers.specs.declared.error.DescriptionFault.{DescriptionFault}
@@ -158,7 +158,7 @@ found_marks way next body (Err e) found = tt
 
 -- a description that is refused
 pub text_refused : (file text : List ℕ) (fault : DescriptionFault) (answer : Answer) → MayRefuse (IsTextRefusal text) fault → IsRefusalFor file fault answer → (p : Progress) (rest : List RunLine)
-    → Shows (FollowsLines running p (uses file ∷ rest) (fetch_of file (Held text) ∷ [])) answer.status answer.text.items
+    → ShowsAnswer (FollowsLines running p (uses file ∷ rest) (fetch_of file (Held text) ∷ [])) answer.status answer.text.items
 text_refused file text fault answer may is p rest = record {
   answer = refusal (description file (fault_words fault));
   is = leads_on text [] (refusal (description file (fault_words fault))) (refused (fault_words fault) (may is.plain));
@@ -167,11 +167,11 @@ text_refused file text fault answer may is p rest = record {
 }
 
 pub too_long_refused : (file : List ℕ) (p : Progress) (rest : List RunLine)
-    → Shows (FollowsLines running p (uses file ∷ rest) (fetch_of file TooLong ∷ [])) status.Description (description_line file (codes "TooLong" ∷ []))
+    → ShowsAnswer (FollowsLines running p (uses file ∷ rest) (fetch_of file TooLong ∷ [])) status.Description (description_line file (codes "TooLong" ∷ []))
 too_long_refused file p rest = record { answer = refusal (description file (codes "TooLong" ∷ [])); is = too_long; has_status = refl; has_text = refl }
 
 pub failed_refused : (file : List ℕ) (p : Progress) (rest : List RunLine)
-    → Shows (FollowsLines running p (uses file ∷ rest) (fetch_of file Failed ∷ [])) status.ReadFault (read_fault_line file)
+    → ShowsAnswer (FollowsLines running p (uses file ∷ rest) (fetch_of file Failed ∷ [])) status.ReadFault (read_fault_line file)
 failed_refused file p rest = record { answer = refusal (read_fault file); is = failed; has_status = refl; has_text = refl }
 
 -- room for what a change creates

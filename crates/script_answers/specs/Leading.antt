@@ -6,7 +6,7 @@ use Rattle.change_script.specs.ScriptFiles.{is_file, is_start}
 use Rattle.change_script.specs.declared.script.Body.{Body}
 use Rattle.command_answers.specs.Answers as values
 use Rattle.command_answers.specs.Statuses.{is_of_run}
-use Rattle.command_answers.specs.Answers.{Shows, refusal, no_memory}
+use Rattle.command_answers.specs.Answers.{ShowsAnswer, no_memory, refusal}
 use Rattle.command_runs.specs.Descriptions.{IsChecked}
 use Rattle.command_runs.specs.Fetches.{Fetch, Gave, failed_names, fetch_of}
 use Rattle.command_runs.specs.Lines.{RunLine, uses, FollowsLines, Progress, running}
@@ -26,7 +26,7 @@ LeadOn p lines fetches way (Ok None) =
     × ((rest : List RunLine) (more : List Fetch) (answer : values.Answer) → FollowsLines running q rest more answer
     → FollowsLines running p (lines ++ rest) (fetches ++ more) answer)
 LeadOn p lines fetches way (Ok (Some answer)) =
-    (rest : List RunLine) → Shows (FollowsLines running p (lines ++ rest) fetches) answer.status answer.text.items
+    (rest : List RunLine) → ShowsAnswer (FollowsLines running p (lines ++ rest) fetches) answer.status answer.text.items
 LeadOn p lines fetches way (Err _) = (rest : List RunLine) → FollowsLines running p (lines ++ rest) fetches (refusal no_memory)
 
 -- the same by fetches whose failures the shelf notes, and which gave what its files hold
@@ -57,4 +57,4 @@ Describes file given (described.Checked checked) = (bytes : List ℕ) × (given 
 Describes file given (described.Refused answer) =
     IsOfNoRun answer
     × ((p : Progress) (rest : List RunLine)
-    → Shows (FollowsLines running p (uses file ∷ rest) (fetch_of file given ∷ [])) answer.status answer.text.items)
+    → ShowsAnswer (FollowsLines running p (uses file ∷ rest) (fetch_of file given ∷ [])) answer.status answer.text.items)

@@ -4,7 +4,7 @@ use Rattle.std.specs.List.{AllByRecursion}
 use Rattle.cfg_io.specs.Shelf.{Files}
 use Rattle.change_law.specs.Statements.{Statement}
 use Rattle.change_script.specs.declared.report.Report.{Report}
-use Rattle.command_answers.specs.Answers.{Shows, refusal, no_memory, ran}
+use Rattle.command_answers.specs.Answers.{ShowsAnswer, no_memory, ran, refusal}
 use Rattle.command_answers.specs.Answers as values
 use Rattle.command_runs.specs.Commands.{course_of}
 use Rattle.command_runs.specs.Courses.{FetchCourse}
@@ -25,7 +25,7 @@ EndsRun statements answer = (answer ≡ refusal no_memory) ⊎ ((r : Report) × 
 abbrev pub LeadsIn : {E : Type 0} → FetchCourse → List Fetch → Result Prepared E → Type 0
 LeadsIn course fetches (Ok (prepared.Asked start steps)) =
     (answer : values.Answer) → EndsRun (statements_of start steps.items) answer → course fetches answer
-LeadsIn course fetches (Ok (prepared.Refused answer)) = Shows (course fetches) answer.status answer.text.items
+LeadsIn course fetches (Ok (prepared.Refused answer)) = ShowsAnswer (course fetches) answer.status answer.text.items
 LeadsIn course fetches (Err _) = course fetches (refusal no_memory)
 
 -- the same of a shelf that notes the failures, and whose files the fetches gave

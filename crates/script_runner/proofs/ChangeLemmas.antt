@@ -16,7 +16,7 @@ use Rattle.change_board.specs.Steps.{Deed, Room}
 use Rattle.change_board.specs.Transcripts.{Item, said}
 use Rattle.change_engine.specs.Calls.{HasAbandoned, HasCommitted, HasLeft, HasPassivated, HasPrepared}
 use Rattle.change_engine.specs.Carrying.{deed_items}
-use Rattle.change_engine.specs.Engines.{IsIdle, IsOpen, IsPlanned, MayAbandon, MayCommit}
+use Rattle.change_engine.specs.Engines.{IsIdle, IsOpen, IsPlanned, IsReadyToCommit, MayAbandon}
 use Rattle.change_engine.specs.Passivating.{passivation_items}
 use Rattle.change_engine.specs.declared.engine.Engine.{Engine}
 use Rattle.change_engine.specs.declared.passivating.LeftRoot.{LeftRoot}
@@ -49,7 +49,7 @@ module _ {B : Type 0} (S : B → List Entry → Type 0) (R : B → Room) (alone 
       let p = passivation_items x.closed x.how in
       let rest = flat_map deed_items y.deeds ++ said to.Commit ∷ [] in
       let place : begun ++ p ≡ t ++ opened = append_assoc t (said (to.Change c.name c.args) ∷ []) p in
-      let may_ : MayCommit S R mid (begun ++ p) c.moves c.plan c.graph = x.opens begun c.moves c.graph open_ in
+      let may_ : IsReadyToCommit S R mid (begun ++ p) c.moves c.plan c.graph = x.opens begun c.moves c.graph open_ in
       let done_ : IsIdle S f ((begun ++ p) ++ rest) = y.goes (begun ++ p) c.moves may_ in
       let same_graph : mid.graph ≡ e.graph = x.graph_is ∙ prepared.graph_is in
       let events : map (λ (d : Deed). d.event) y.deeds ≡ commit_events e.graph c.graph c.plan (config_at (t ++ opened)) =

@@ -13,7 +13,7 @@ use Rattle.gate_records.specs.declared.entry.Entry.{Entry}
 use Rattle.change_board.specs.Scans.{look_entry}
 use Rattle.change_board.specs.Sights.{sight_entry}
 use Rattle.change_board.specs.Transcripts.{Item, said, entries, entry_in, lines}
-use Rattle.change_engine.specs.Finishing.{EndsAfter, EndsWith, GoesOn, IsScanIn, Seen, all_entries, count_of, is_last, rounds_in, seen_entries}
+use Rattle.change_engine.specs.Finishing.{EndsAfter, EndsWith, GoesOn, IsScanIn, ScanSeen, all_entries, count_of, is_last, rounds_in, seen_entries}
 use Rattle.change_engine.specs.Passivating.{silent_items}
 use Rattle.change_law.specs.Opening.{fold_of_node}
 use Rattle.change_law.specs.Serial.{FinishesAt, finish_ends}
@@ -51,13 +51,13 @@ module _ (stays : RestStays) (folds : AreFolds) (w : World) (n : ℕ) (c : Confi
   world j = after_rounds true w j
 
   -- what a scan behind so many rounds says
-  record Scanned (j : ℕ) (s : Seen) : Type 0 where
+  record Scanned (j : ℕ) (s : ScanSeen) : Type 0 where
     reached : IsReached (world (suc j))
     config : (world (suc j)).machine.config ≡ w.machine.config
     moved : s.answer.moved ≡ (round true (world j)).moved
     done : s.answer.done ≡ is_at_rest (world (suc j))
 
-  scanned : (j : ℕ) (s : Seen) → IsReached (world j) → (world j).machine.config ≡ w.machine.config → IsScanIn true c s → AreSo (world j) (seen_entries s) → Scanned j s
+  scanned : (j : ℕ) (s : ScanSeen) → IsReached (world j) → (world j).machine.config ≡ w.machine.config → IsScanIn true c s → AreSo (world j) (seen_entries s) → Scanned j s
   scanned j s r config is so =
       let next = round_goes_on (world j) true r in
       let v = world (suc j) in
@@ -83,7 +83,7 @@ module _ (stays : RestStays) (folds : AreFolds) (w : World) (n : ℕ) (c : Confi
 
   -- ---- scans behind which more follow
 
-  record GoneOn (b : List Seen) (j : ℕ) : Type 0 where
+  record GoneOn (b : List ScanSeen) (j : ℕ) : Type 0 where
     long : length b ≡ j
     reached : IsReached (world j)
     config : (world j).machine.config ≡ w.machine.config
@@ -92,10 +92,10 @@ module _ (stays : RestStays) (folds : AreFolds) (w : World) (n : ℕ) (c : Confi
     resting : (i : ℕ) → i < j → is_at_rest (world i) ≡ false
     rounds : rounds_in b ≡ j
 
-  rounds_pushed : (b : List Seen) (s : Seen) → rounds_in (b ++ s ∷ []) ≡ rounds_in b + count_of s.answer
+  rounds_pushed : (b : List ScanSeen) (s : ScanSeen) → rounds_in (b ++ s ∷ []) ≡ rounds_in b + count_of s.answer
   rounds_pushed b s =
-      let one = sum_by-cons (λ (x : Seen). count_of x.answer) s [] in
-      let both = sum_by-append (λ (x : Seen). count_of x.answer) b (s ∷ []) in
+      let one = sum_by-cons (λ (x : ScanSeen). count_of x.answer) s [] in
+      let both = sum_by-append (λ (x : ScanSeen). count_of x.answer) b (s ∷ []) in
       omega (arith, one, both)
 
   before_or_last : {P : ℕ → Type 0} (j : ℕ) → ((i : ℕ) → i < j → P i) → P j → (i : ℕ) → i < suc j → P i
@@ -104,10 +104,10 @@ module _ (stays : RestStays) (folds : AreFolds) (w : World) (n : ℕ) (c : Confi
       (λ (other : i ≡ j → ⊥). h i (omega (arith, low, other)))
       (cases_eq i j)
 
-  counted : (s : Seen) → s.answer.moved ≡ true → count_of s.answer ≡ 1
+  counted : (s : ScanSeen) → s.answer.moved ≡ true → count_of s.answer ≡ 1
   counted s moved = ap (λ m. cond (not m && s.answer.done) 0 1) moved
 
-  gone_next : (b : List Seen) (j : ℕ) (s : Seen) → GoneOn b j → GoesOn true s → IsScanIn true c s → AreSo (world j) (seen_entries s) → GoneOn (b ++ s ∷ []) (suc j)
+  gone_next : (b : List ScanSeen) (j : ℕ) (s : ScanSeen) → GoneOn b j → GoesOn true s → IsScanIn true c s → AreSo (world j) (seen_entries s) → GoneOn (b ++ s ∷ []) (suc j)
   gone_next b j s h on is so =
       let x = scanned j s h.reached h.config is so in
       let answer = neither s.answer.done s.answer.moved on in
@@ -125,16 +125,16 @@ module _ (stays : RestStays) (folds : AreFolds) (w : World) (n : ℕ) (c : Confi
       }
 
   -- so many more of them
-  record GoneAll (b ss : List Seen) (rest : List Entry) (j : ℕ) : Type 0 where
+  record GoneAll (b ss : List ScanSeen) (rest : List Entry) (j : ℕ) : Type 0 where
     number : ℕ
     gone : GoneOn (b ++ ss) number
     leads : fold play (world j) (all_entries ss) ≡ world number
     later : AreSo (world number) rest
 
-  entries_with : (s : Seen) (ss : List Seen) → all_entries (s ∷ ss) ≡ seen_entries s ++ all_entries ss
+  entries_with : (s : ScanSeen) (ss : List ScanSeen) → all_entries (s ∷ ss) ≡ seen_entries s ++ all_entries ss
   entries_with s ss = Rattle.std.proofs.lemmas.List.Concat.flat_map-cons seen_entries s ss
 
-  gone_all : (b ss : List Seen) (rest : List Entry) (j : ℕ) → GoneOn b j → AllByRecursion (GoesOn true) ss → AllByRecursion (IsScanIn true c) ss → AreSo (world j) (all_entries ss ++ rest) → GoneAll b ss rest j
+  gone_all : (b ss : List ScanSeen) (rest : List Entry) (j : ℕ) → GoneOn b j → AllByRecursion (GoesOn true) ss → AllByRecursion (IsScanIn true c) ss → AreSo (world j) (all_entries ss ++ rest) → GoneAll b ss rest j
   gone_all b [] rest j h on is so = record { number = j; gone = subst (λ bs. GoneOn bs j) (sym (append-nil b)) h; leads = refl; later = so }
   gone_all b (s ∷ ss) rest j h on is so =
       let split = so_parts (world j) (seen_entries s) (all_entries ss ++ rest) (subst (AreSo (world j)) (ap (λ es. es ++ rest) (entries_with s ss) ∙ append_assoc (seen_entries s) (all_entries ss) rest) so) in
@@ -158,17 +158,17 @@ module _ (stays : RestStays) (folds : AreFolds) (w : World) (n : ℕ) (c : Confi
       let other : (j == n) ≡ false = ne_eqb j n (λ e. absurd (omega (arith, low, e))) in
       λ i. (rest i || other i) || still i
 
-  gone_before : (b : List Seen) (j : ℕ) → GoneOn b j → j ≤ n → (i : ℕ) → i < j → finish_ends w n i ≡ false
+  gone_before : (b : List ScanSeen) (j : ℕ) → GoneOn b j → j ≤ n → (i : ℕ) → i < j → finish_ends w n i ≡ false
   gone_before b j h few i low = not_yet i (omega (arith, few, low)) (h.resting i low) (still_before i (λ k less. h.moved k (omega (arith, less, low))))
 
-  record Ended (scans : List Seen) (v : World) : Type 0 where
+  record Ended (scans : List ScanSeen) (v : World) : Type 0 where
     rounds : ℕ
     number : FirstAt (finish_ends w n) rounds
     leads : v ≡ world rounds
     told : rounds_in scans ≡ rounds
 
   -- all were made that were allowed
-  ended_by_number : (scans : List Seen) → GoneOn scans n → Ended scans (world n)
+  ended_by_number : (scans : List ScanSeen) → GoneOn scans n → Ended scans (world n)
   ended_by_number scans h = record {
     rounds = n;
     number = record {
@@ -179,7 +179,7 @@ module _ (stays : RestStays) (folds : AreFolds) (w : World) (n : ℕ) (c : Confi
     told = h.rounds;
   }
 
-  module _ (b : List Seen) (j : ℕ) (h : GoneOn b j) (s : Seen) (x : Scanned j s) (low : j < n) where
+  module _ (b : List ScanSeen) (j : ℕ) (h : GoneOn b j) (s : ScanSeen) (x : Scanned j s) (low : j < n) where
     earlier : (i : ℕ) → i < j → finish_ends w n i ≡ false
     earlier = gone_before b j h (omega (arith, low))
 
@@ -224,11 +224,11 @@ module _ (stays : RestStays) (folds : AreFolds) (w : World) (n : ℕ) (c : Confi
   none_gone : IsReached w → GoneOn [] 0
   none_gone r = record { long = refl; reached = r; config = refl; moved = λ i low. absurd (omega (arith, low)); resting = λ i low. absurd (omega (arith, low)); rounds = refl }
 
-  all_parts : (a b : List Seen) → AllByRecursion (IsScanIn true c) (a ++ b) → AllByRecursion (IsScanIn true c) a × AllByRecursion (IsScanIn true c) b
+  all_parts : (a b : List ScanSeen) → AllByRecursion (IsScanIn true c) (a ++ b) → AllByRecursion (IsScanIn true c) a × AllByRecursion (IsScanIn true c) b
   all_parts [] b h = (tt, h)
   all_parts (x ∷ a) b h = let rest = all_parts a b h.1 in ((h.0, rest.0), rest.1)
 
-  ended : (scans : List Seen) → IsReached w → length scans ≤ n → AllByRecursion (IsScanIn true c) scans → EndsAfter true n scans → AreSo w (all_entries scans) → Ended scans (fold play w (all_entries scans))
+  ended : (scans : List ScanSeen) → IsReached w → length scans ≤ n → AllByRecursion (IsScanIn true c) scans → EndsAfter true n scans → AreSo w (all_entries scans) → Ended scans (fold play w (all_entries scans))
   ended scans r few are ends so = ⊎_elim
       (λ (e : EndsWith true scans).
       let is = subst (AllByRecursion (IsScanIn true c)) e.parts are in
@@ -238,7 +238,7 @@ module _ (stays : RestStays) (folds : AreFolds) (w : World) (n : ℕ) (c : Confi
       let g = gone_all [] e.before (seen_entries e.final) 0 (none_gone r) e.go_on parts.0 (subst (AreSo w) made so) in
       let x = scanned g.number e.final g.gone.reached g.gone.config parts.1.0 g.later in
       let long = g.gone.long in
-      let all = ap (λ (xs : List Seen). length xs) e.parts ∙ length-append e.before (e.final ∷ []) in
+      let all = ap (λ (xs : List ScanSeen). length xs) e.parts ∙ length-append e.before (e.final ∷ []) in
       let by = ended_by e.before g.number g.gone e.final x (omega (arith, few, long, all)) e.final.answer.moved e.final.answer.done refl refl e.ends in
       subst (λ ss. Ended ss (fold play w (all_entries scans))) (sym e.parts)
       (subst (Ended (e.before ++ e.final ∷ []))

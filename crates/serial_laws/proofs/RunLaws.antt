@@ -11,7 +11,7 @@ use Rattle.gate_records.specs.declared.entry.Entry.{Entry}
 use Rattle.change_board.specs.Scans.{ended_in, look_entry}
 use Rattle.change_board.specs.Sights.{sight_entry}
 use Rattle.change_board.specs.Transcripts.{Item, said, entries, entry_in, lines}
-use Rattle.change_engine.specs.Finishing.{IsScanIn, Seen, all_entries, seen_entries}
+use Rattle.change_engine.specs.Finishing.{IsScanIn, ScanSeen, all_entries, seen_entries}
 use Rattle.change_engine.specs.Passivating.{silent_items}
 use Rattle.change_engine.specs.Running as engine
 use Rattle.change_law.specs.Serial.{run_ends}
@@ -32,16 +32,16 @@ use Rattle.change_engine.proofs.ItemLaws.{lines_both, silent_entries, silent_lin
 
 -- ---- a scan
 
-abbrev scan : Seen → List Entry
+abbrev scan : ScanSeen → List Entry
 scan s = seen_entries s
 
-pub scan_leads : (w : World) (s : Seen) → fold play w (scan s) ≡ (round true w).world
+pub scan_leads : (w : World) (s : ScanSeen) → fold play w (scan s) ≡ (round true w).world
 scan_leads w s =
     let v = (round true w).world in
     fold-append play v (map sight_entry s.sights) (map look_entry s.found)
     ∙ ap (λ u. fold play u (map look_entry s.found)) (sights_leave v s.sights) ∙ looks_leave v s.found
 
-pub true_scan : (w : World) (s : Seen) → AreSo w (scan s) → AreTrue (round true w).world s.found
+pub true_scan : (w : World) (s : ScanSeen) → AreSo w (scan s) → AreTrue (round true w).world s.found
 true_scan w s so =
     let v = (round true w).world in
     true_entries v s.found
@@ -52,7 +52,7 @@ module _ (w : World) (k : ℕ) (c : Configuration) (same : c ≡ w.machine.confi
   world j = after_rounds true w j
 
   -- after so many scans
-  pub record Ran (b : List Seen) (j : ℕ) : Type 0 where
+  pub record Ran (b : List ScanSeen) (j : ℕ) : Type 0 where
     pub long : length b ≡ j
     pub reached : IsReached (world j)
     pub config : (world j).machine.config ≡ w.machine.config
@@ -60,10 +60,10 @@ module _ (w : World) (k : ℕ) (c : Configuration) (same : c ≡ w.machine.confi
     pub out : engine.is_out_after true b ≡ stands_still true w j
     pub before : (i : ℕ) → i < j → run_ends w k i ≡ false
 
-  ends_so : (b : List Seen) (j : ℕ) → Ran b j → engine.are_enough true k (ended w) b ≡ run_ends w k j
+  ends_so : (b : List ScanSeen) (j : ℕ) → Ran b j → engine.are_enough true k (ended w) b ≡ run_ends w k j
   ends_so b j h = λ i. nat_le k (h.since i) || h.out i
 
-  ran_next : (b : List Seen) (j : ℕ) (s : Seen) → Ran b j → engine.RunsOn true k (ended w) b s → IsScanIn true c s → AreSo (world j) (scan s) → Ran (b ++ s ∷ []) (suc j)
+  ran_next : (b : List ScanSeen) (j : ℕ) (s : ScanSeen) → Ran b j → engine.RunsOn true k (ended w) b s → IsScanIn true c s → AreSo (world j) (scan s) → Ran (b ++ s ∷ []) (suc j)
   ran_next b j s h on is so =
       let next = round_goes_on (world j) true h.reached in
       let config : (world (suc j)).machine.config ≡ w.machine.config = next.config ∙ h.config in
@@ -74,20 +74,20 @@ module _ (w : World) (k : ℕ) (c : Configuration) (same : c ≡ w.machine.confi
         long = length-append b (s ∷ []) ∙ (let long = h.long in omega (arith, long));
         reached = next.reached;
         config = config;
-        since = fold_push (λ n (x : Seen). x.answer.ended - ended w) 0 b s ∙ ap (λ n. n - ended w) counted;
-        out = fold_push (λ o (x : Seen). engine.is_run_out true x.answer) false b s ∙ ap not so.0;
+        since = fold_push (λ n (x : ScanSeen). x.answer.ended - ended w) 0 b s ∙ ap (λ n. n - ended w) counted;
+        out = fold_push (λ o (x : ScanSeen). engine.is_run_out true x.answer) false b s ∙ ap not so.0;
         before = λ i low. ⊎_elim
             (λ (e : i ≡ j). subst (λ n. run_ends w k n ≡ false) (sym e) here)
             (λ (other : i ≡ j → ⊥). h.before i (omega (arith, low, other)))
             (cases_eq i j);
       }
 
-  pub record RanAll (b ss : List Seen) (j : ℕ) : Type 0 where
+  pub record RanAll (b ss : List ScanSeen) (j : ℕ) : Type 0 where
     pub number : ℕ
     pub ran : Ran (b ++ ss) number
     pub leads : fold play (world j) (all_entries ss) ≡ world number
 
-  ran_on : (b ss : List Seen) (j : ℕ) → Ran b j → EachAfter (engine.RunsOn true k (ended w)) b ss → AllByRecursion (IsScanIn true c) ss → AreSo (world j) (all_entries ss) → RanAll b ss j
+  ran_on : (b ss : List ScanSeen) (j : ℕ) → Ran b j → EachAfter (engine.RunsOn true k (ended w)) b ss → AllByRecursion (IsScanIn true c) ss → AreSo (world j) (all_entries ss) → RanAll b ss j
   ran_on b [] j h on is so = record { number = j; ran = subst (λ bs. Ran bs j) (sym (append-nil b)) h; leads = refl }
   ran_on b (s ∷ ss) j h on is so =
       let parts = so_parts (world j) (scan s) (all_entries ss) so in

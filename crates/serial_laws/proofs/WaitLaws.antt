@@ -6,7 +6,7 @@ use Rattle.std.proofs.lemmas.List.{append-nil, length-append, map-append}
 use Rattle.base.specs.Each.{EachAfter}
 use Rattle.change_board.specs.Scans.{Found, look_entry, ports_of, scan_entries}
 use Rattle.change_board.specs.Transcripts.{entries}
-use Rattle.change_engine.specs.Passivating.{IsPassivation, IsRound, Passivation, Round, close_item, is_busy, left_after, look_item, passivation_items, root_of, root_ports, roots_of, round_items, silent_items}
+use Rattle.change_engine.specs.Passivating.{IsPassivation, IsRound, Passivation, WaitingRound, close_item, is_busy, left_after, look_item, passivation_items, root_of, root_ports, roots_of, round_items, silent_items}
 use Rattle.change_engine.specs.declared.passivating.LeftRoot.{LeftRoot}
 use Rattle.change_law.specs.Scene.{Seen}
 use Rattle.change_law.specs.Serial.{after_changes, is_none_left, looks_after, seen_at}
@@ -98,7 +98,7 @@ some_there [] h = absurd (h refl)
 some_there (x ∷ xs) h = not_zero (length (root_ports xs))
 
 -- so many rounds after this world
-pub record Waits (v : World) (ports : List ℕ) (first : List Found) (b : List Round) (j : ℕ) : Type 0 where
+pub record Waits (v : World) (ports : List ℕ) (first : List Found) (b : List WaitingRound) (j : ℕ) : Type 0 where
   pub long : length b ≡ j
   pub seen : drained_in first ∷ map drained_by b ≡ (looks_after v ports j).seen
   pub left : map seen_root (left_after first b) ≡ map (seen_at (after_rounds false v j)) (looks_after v ports j).left
@@ -116,11 +116,11 @@ module _ (v : World) (ports : List ℕ) (first : List Found) where
     before = λ i low. absurd (omega (arith, low));
   }
 
-  pub left_ports : (b : List Round) (j : ℕ) → Waits v ports first b j → root_ports (left_after first b) ≡ (looks_after v ports j).left
+  pub left_ports : (b : List WaitingRound) (j : ℕ) → Waits v ports first b j → root_ports (left_after first b) ≡ (looks_after v ports j).left
   left_ports b j h =
       ports_of_roots (left_after first b) ∙ ap (map (λ (d : Seen). d.port)) h.left ∙ ports_seen (world j) (looks_after v ports j).left
 
-  waits_next : (b : List Round) (j : ℕ) (w : Round) → Waits v ports first b j → IsRound first b w → IsReached (world (suc j))
+  waits_next : (b : List WaitingRound) (j : ℕ) (w : WaitingRound) → Waits v ports first b j → IsRound first b w → IsReached (world (suc j))
       → AreTrue (world (suc j)) w.found → Waits v ports first (b ++ w ∷ []) (suc j)
   waits_next b j w h is r so =
       let u = world (suc j) in
@@ -139,13 +139,13 @@ module _ (v : World) (ports : List ℕ) (first : List Found) where
             (cases_eq i j);
       }
 
-  play_round : (j : ℕ) (w : Round) → play_items (world j) (round_items w) ≡ world (suc j)
+  play_round : (j : ℕ) (w : WaitingRound) → play_items (world j) (round_items w) ≡ world (suc j)
   play_round j w =
       play_both (world j) (silent_items (scan_entries false w.moved w.sights w.scan)) (map look_item w.found)
       ∙ ap (λ u. play_items u (map look_item w.found)) (play_scan (world j) false w.moved w.sights w.scan)
       ∙ play_looks (world (suc j)) w.found
 
-  true_round : (j : ℕ) (w : Round) → AreSo (world j) (entries (round_items w)) → AreTrue (world (suc j)) w.found
+  true_round : (j : ℕ) (w : WaitingRound) → AreSo (world j) (entries (round_items w)) → AreTrue (world (suc j)) w.found
   true_round j w h =
       let scan = silent_items (scan_entries false w.moved w.sights w.scan) in
       true_looks (world (suc j)) w.found
@@ -153,13 +153,13 @@ module _ (v : World) (ports : List ℕ) (first : List Found) where
       (so_items (world j) scan (map look_item w.found) h).1)
 
   -- all rounds of a wait
-  pub record Waited (b ws : List Round) (j : ℕ) : Type 0 where
+  pub record Waited (b ws : List WaitingRound) (j : ℕ) : Type 0 where
     pub number : ℕ
     pub waits : Waits v ports first (b ++ ws) number
     pub reached : IsReached (world number)
     pub played : play_items (world j) (flat_map round_items ws) ≡ world number
 
-  waits_on : (b ws : List Round) (j : ℕ) → Waits v ports first b j → EachAfter (IsRound first) b ws → IsReached (world j)
+  waits_on : (b ws : List WaitingRound) (j : ℕ) → Waits v ports first b j → EachAfter (IsRound first) b ws → IsReached (world j)
       → AreSo (world j) (entries (flat_map round_items ws)) → Waited b ws j
   waits_on b [] j h each r so = record {
     number = j;

@@ -3,13 +3,13 @@ use Rattle.std.specs.List.{AllByRecursion}
 use Rattle.gate_records.specs.Entries.{config_of}
 use Rattle.gate_records.specs.declared.entry.Entry.{Entry}
 use Rattle.gate_records.specs.Records.{Adds}
-use Rattle.change_engine.specs.Finishing.{GoesOn, IsScanIn, Seen, all_entries, rounds_in}
+use Rattle.change_engine.specs.Finishing.{GoesOn, IsScanIn, ScanSeen, all_entries, rounds_in}
 use Rattle.change_engine.proofs.finishing.make_scans.Given as goal
 
 abbrev pub invariant-loop-made : goal.invariant-loop-made
 invariant-loop-made g l = record {
   room : g.B.Board.room l.board ≡ g.B.Board.room l.fn.board;
-  scans : List Seen;
+  scans : List ScanSeen;
   all_scans : length scans ≡ l._made;
   are_scans : (r : List Entry) → g.B.Board.stands_for l.fn.board r → AllByRecursion (IsScanIn g.B.Board.alone (config_of r)) scans;
   go_on : AllByRecursion (GoesOn g.B.Board.alone) scans;

@@ -4,14 +4,14 @@ use Rattle.base.specs.Each.{Each}
 use Rattle.gate_records.specs.Entries.{config_of}
 use Rattle.gate_records.specs.declared.entry.Entry.{Entry}
 use Rattle.gate_records.specs.Records.{Adds}
-use Rattle.change_engine.specs.Finishing.{IsScanIn, Seen, all_entries}
+use Rattle.change_engine.specs.Finishing.{IsScanIn, ScanSeen, all_entries}
 use Rattle.change_engine.specs.Running.{RunsOn, ended_since, is_out_after}
 use Rattle.change_engine.proofs.running.scan_until.Given as goal
 
 abbrev pub invariant-loop-scan : goal.invariant-loop-scan
 invariant-loop-scan g l = record {
   room : g.B.Board.room l.board ≡ g.B.Board.room l.fn.board;
-  scans : List Seen;
+  scans : List ScanSeen;
   are_scans : (r : List Entry) → g.B.Board.stands_for l.fn.board r → AllByRecursion (IsScanIn g.B.Board.alone (config_of r)) scans;
   go_on : Each (RunsOn g.B.Board.alone l.k l.shown) scans;
   not_out : is_out_after g.B.Board.alone scans ≡ false;

@@ -12,10 +12,10 @@ pub host-requires-clause-opens : goal.host-requires-clause-opens
 host-requires-clause-opens c =
     let parts = c.into_parts-inner.ensures in
     opens_from (ghosts.state c.args.old.inner) (ghosts.state c.import.result) c.args.arg c.args.first_port _ _ _ c.args.old.hosted.folds (c.import.ensures.state ∙ ap (λ q. handed_over (ghosts.state q.0).kind c.args.arg (ghosts.state q.0).kept) parts)
-    (ap (map {B = line.Member} (λ p. record { first = p.first_port; arg = p.arg; log = p.log.items })) c.push_reserved.ensures.items
-    ∙ map_snoc {B = line.Member} (λ p. record { first = p.first_port; arg = p.arg; log = p.log.items }) c.into_parts-inner.result.3.items _
-    ∙ ap (λ q. map {B = line.Member} (λ p. record { first = p.first_port; arg = p.arg; log = p.log.items }) q.3.items ++ record { first = c.args.old.first_port; arg = c.unwrap_or-old_arg.result; log = q.2.items } ∷ []) parts
-    ∙ ap (λ a. map {B = line.Member} (λ p. record { first = p.first_port; arg = p.arg; log = p.log.items }) c.args.old.past.items ++ record { first = c.args.old.first_port; arg = a; log = c.args.old.log.items } ∷ [])
+    (ap (map {B = line.LineNode} (λ p. record { first = p.first_port; arg = p.arg; log = p.log.items })) c.push_reserved.ensures.items
+    ∙ map_snoc {B = line.LineNode} (λ p. record { first = p.first_port; arg = p.arg; log = p.log.items }) c.into_parts-inner.result.3.items _
+    ∙ ap (λ q. map {B = line.LineNode} (λ p. record { first = p.first_port; arg = p.arg; log = p.log.items }) q.3.items ++ record { first = c.args.old.first_port; arg = c.unwrap_or-old_arg.result; log = q.2.items } ∷ []) parts
+    ∙ ap (λ a. map {B = line.LineNode} (λ p. record { first = p.first_port; arg = p.arg; log = p.log.items }) c.args.old.past.items ++ record { first = c.args.old.first_port; arg = a; log = c.args.old.log.items } ∷ [])
     (arg_is _ (ghosts.state c.args.old.inner) _ c.arg.ensures.arg c.unwrap_or-old_arg.ensures c.requires.old_arg))
 
 pub host-requires-clause-past_slots : goal.host-requires-clause-past_slots

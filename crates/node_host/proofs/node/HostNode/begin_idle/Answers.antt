@@ -6,7 +6,7 @@ use Rattle.quiesce_core.specs.declared.event.Event.TheVariants as event
 use Rattle.node_host.specs.Hosted.{SeatSeen, node_of}
 use Rattle.node_host.specs.Posting.{Hinted, IsPosted}
 use Rattle.node_host.proofs.Replying.{index_is}
-use Rattle.node_host.specs.Lines.{Member}
+use Rattle.node_host.specs.Lines.{LineNode}
 use Rattle.config_graph.proofs.KindLaws.{two_requires}
 use Rattle.port_gate.specs.Seats.{MayBegin}
 use Rattle.node_host.proofs.Exactly.{begins_again, begins_begun, begins_closed, begins_spent, begins_unlinked}
@@ -22,7 +22,7 @@ pub begin-requires-clause-may : goal.begin-requires-clause-may
 begin-requires-clause-may g c =
     let h = c.args.self.now in
     let t = g.C.Component.state h.inner in
-    let line : List Member = map (λ p. record { first = p.first_port; arg = p.arg; log = p.log.items }) h.past.items in
+    let line : List LineNode = map (λ p. record { first = p.first_port; arg = p.arg; log = p.log.items }) h.past.items in
     let seat : SeatSeen = record { slot = g.S.GateSeat.slot_of h.seat; known = g.S.GateSeat.known h.seat; told = g.S.GateSeat.tells h.seat } in
     subst (λ m. MayBegin m seat.known (h.first_port + c.args.ask.require) c.args.ask.value) (sym c.requires.node)
     (may_begin h.slot h.first_port t h.log.items line h.known h.waiting seat h.hosted c.args.ask (slice_index_or h.known.ports c.args.ask.require port_at_start) c.requires.fits_ask refl c.requires.idle)
@@ -31,7 +31,7 @@ pub post-requires-clause-port : goal.post-requires-clause-port
 post-requires-clause-port g c =
     let h = c.args.self.now in
     let t = g.C.Component.state h.inner in
-    let line : List Member = map (λ p. record { first = p.first_port; arg = p.arg; log = p.log.items }) h.past.items in
+    let line : List LineNode = map (λ p. record { first = p.first_port; arg = p.arg; log = p.log.items }) h.past.items in
     let seat : SeatSeen = record { slot = g.S.GateSeat.slot_of h.seat; known = g.S.GateSeat.known h.seat; told = g.S.GateSeat.tells h.seat } in
     omega (arith, c.requires.fits_ask.require, h.hosted.limits.ports_within)
 
@@ -39,7 +39,7 @@ pub post-requires-clause-node : goal.post-requires-clause-node
 post-requires-clause-node g c =
     let h = c.args.self.now in
     let t = g.C.Component.state h.inner in
-    let line : List Member = map (λ p. record { first = p.first_port; arg = p.arg; log = p.log.items }) h.past.items in
+    let line : List LineNode = map (λ p. record { first = p.first_port; arg = p.arg; log = p.log.items }) h.past.items in
     let seat : SeatSeen = record { slot = g.S.GateSeat.slot_of h.seat; known = g.S.GateSeat.known h.seat; told = g.S.GateSeat.tells h.seat } in
     c.in-Begun.ensures.says.1
 
@@ -47,7 +47,7 @@ pub invariant_of-self-clause-hosted : goal.invariant_of-self-clause-hosted
 invariant_of-self-clause-hosted g c =
     let h = c.args.self.now in
     let t = g.C.Component.state h.inner in
-    let line : List Member = map (λ p. record { first = p.first_port; arg = p.arg; log = p.log.items }) h.past.items in
+    let line : List LineNode = map (λ p. record { first = p.first_port; arg = p.arg; log = p.log.items }) h.past.items in
     let seat : SeatSeen = record { slot = g.S.GateSeat.slot_of h.seat; known = g.S.GateSeat.known h.seat; told = g.S.GateSeat.tells h.seat } in
     let seat' : SeatSeen = record { slot = g.S.GateSeat.slot_of c.begin.new.seat; known = g.S.GateSeat.known c.begin.new.seat; told = g.S.GateSeat.tells c.begin.new.seat } in
     let two : c.args.ask.require < 2 = omega (arith, c.requires.fits_ask.require, two_requires t.kind) in
@@ -63,7 +63,7 @@ pub invariant_of-self-in-Closed-clause-hosted : goal.invariant_of-self-in-Closed
 invariant_of-self-in-Closed-clause-hosted g c =
     let h = c.args.self.now in
     let t = g.C.Component.state h.inner in
-    let line : List Member = map (λ p. record { first = p.first_port; arg = p.arg; log = p.log.items }) h.past.items in
+    let line : List LineNode = map (λ p. record { first = p.first_port; arg = p.arg; log = p.log.items }) h.past.items in
     let seat : SeatSeen = record { slot = g.S.GateSeat.slot_of h.seat; known = g.S.GateSeat.known h.seat; told = g.S.GateSeat.tells h.seat } in
     let seat' : SeatSeen = record { slot = g.S.GateSeat.slot_of c.begin.new.seat; known = g.S.GateSeat.known c.begin.new.seat; told = g.S.GateSeat.tells c.begin.new.seat } in
     hosted_still h.slot h.first_port t h.log.items line h.known h.waiting seat h.hosted seat' (g.G.PortGate.node c.args.gate.now h.seat) (g.G.PortGate.node c.begin.new.self c.begin.new.seat) (g.G.PortGate.state c.args.gate.now) (g.G.PortGate.state c.begin.new.self)
@@ -73,7 +73,7 @@ pub returns-in-Closed-clause-moved : goal.returns-in-Closed-clause-moved
 returns-in-Closed-clause-moved g c =
     let h = c.args.self.now in
     let t = g.C.Component.state h.inner in
-    let line : List Member = map (λ p. record { first = p.first_port; arg = p.arg; log = p.log.items }) h.past.items in
+    let line : List LineNode = map (λ p. record { first = p.first_port; arg = p.arg; log = p.log.items }) h.past.items in
     let seat : SeatSeen = record { slot = g.S.GateSeat.slot_of h.seat; known = g.S.GateSeat.known h.seat; told = g.S.GateSeat.tells h.seat } in
     let seat' : SeatSeen = record { slot = g.S.GateSeat.slot_of c.begin.new.seat; known = g.S.GateSeat.known c.begin.new.seat; told = g.S.GateSeat.tells c.begin.new.seat } in
     moved_still h.slot h.first_port t h.log.items line h.known h.waiting seat h.hosted seat' (g.G.PortGate.node c.args.gate.now h.seat) (g.G.PortGate.node c.begin.new.self c.begin.new.seat) (g.G.PortGate.state c.args.gate.now) (g.G.PortGate.state c.begin.new.self)
@@ -83,7 +83,7 @@ pub returns-in-Closed-clause-exact : goal.returns-in-Closed-clause-exact
 returns-in-Closed-clause-exact g c =
     let h = c.args.self.now in
     let t = g.C.Component.state h.inner in
-    let line : List Member = map (λ p. record { first = p.first_port; arg = p.arg; log = p.log.items }) h.past.items in
+    let line : List LineNode = map (λ p. record { first = p.first_port; arg = p.arg; log = p.log.items }) h.past.items in
     let seat : SeatSeen = record { slot = g.S.GateSeat.slot_of h.seat; known = g.S.GateSeat.known h.seat; told = g.S.GateSeat.tells h.seat } in
     λ s told. begins_closed (g.G.PortGate.state c.args.gate.now) (node_of h.slot h.first_port t) seat.known s told c.args.ask t c.in-Closed.word c.requires.wanted c.in-Closed.ensures.says
 
@@ -91,7 +91,7 @@ pub invariant_of-self-in-Unlinked-clause-hosted : goal.invariant_of-self-in-Unli
 invariant_of-self-in-Unlinked-clause-hosted g c =
     let h = c.args.self.now in
     let t = g.C.Component.state h.inner in
-    let line : List Member = map (λ p. record { first = p.first_port; arg = p.arg; log = p.log.items }) h.past.items in
+    let line : List LineNode = map (λ p. record { first = p.first_port; arg = p.arg; log = p.log.items }) h.past.items in
     let seat : SeatSeen = record { slot = g.S.GateSeat.slot_of h.seat; known = g.S.GateSeat.known h.seat; told = g.S.GateSeat.tells h.seat } in
     let seat' : SeatSeen = record { slot = g.S.GateSeat.slot_of c.begin.new.seat; known = g.S.GateSeat.known c.begin.new.seat; told = g.S.GateSeat.tells c.begin.new.seat } in
     hosted_still h.slot h.first_port t h.log.items line h.known h.waiting seat h.hosted seat' (g.G.PortGate.node c.args.gate.now h.seat) (g.G.PortGate.node c.begin.new.self c.begin.new.seat) (g.G.PortGate.state c.args.gate.now) (g.G.PortGate.state c.begin.new.self)
@@ -101,7 +101,7 @@ pub returns-in-Unlinked-clause-moved : goal.returns-in-Unlinked-clause-moved
 returns-in-Unlinked-clause-moved g c =
     let h = c.args.self.now in
     let t = g.C.Component.state h.inner in
-    let line : List Member = map (λ p. record { first = p.first_port; arg = p.arg; log = p.log.items }) h.past.items in
+    let line : List LineNode = map (λ p. record { first = p.first_port; arg = p.arg; log = p.log.items }) h.past.items in
     let seat : SeatSeen = record { slot = g.S.GateSeat.slot_of h.seat; known = g.S.GateSeat.known h.seat; told = g.S.GateSeat.tells h.seat } in
     let seat' : SeatSeen = record { slot = g.S.GateSeat.slot_of c.begin.new.seat; known = g.S.GateSeat.known c.begin.new.seat; told = g.S.GateSeat.tells c.begin.new.seat } in
     moved_still h.slot h.first_port t h.log.items line h.known h.waiting seat h.hosted seat' (g.G.PortGate.node c.args.gate.now h.seat) (g.G.PortGate.node c.begin.new.self c.begin.new.seat) (g.G.PortGate.state c.args.gate.now) (g.G.PortGate.state c.begin.new.self)
@@ -111,7 +111,7 @@ pub returns-in-Unlinked-clause-exact : goal.returns-in-Unlinked-clause-exact
 returns-in-Unlinked-clause-exact g c =
     let h = c.args.self.now in
     let t = g.C.Component.state h.inner in
-    let line : List Member = map (λ p. record { first = p.first_port; arg = p.arg; log = p.log.items }) h.past.items in
+    let line : List LineNode = map (λ p. record { first = p.first_port; arg = p.arg; log = p.log.items }) h.past.items in
     let seat : SeatSeen = record { slot = g.S.GateSeat.slot_of h.seat; known = g.S.GateSeat.known h.seat; told = g.S.GateSeat.tells h.seat } in
     λ s told. begins_unlinked (g.G.PortGate.state c.args.gate.now) (node_of h.slot h.first_port t) seat.known s told c.args.ask t c.in-Unlinked.word c.requires.wanted c.in-Unlinked.ensures.says
 
@@ -119,7 +119,7 @@ pub invariant_of-self-in-Again-clause-hosted : goal.invariant_of-self-in-Again-c
 invariant_of-self-in-Again-clause-hosted g c =
     let h = c.args.self.now in
     let t = g.C.Component.state h.inner in
-    let line : List Member = map (λ p. record { first = p.first_port; arg = p.arg; log = p.log.items }) h.past.items in
+    let line : List LineNode = map (λ p. record { first = p.first_port; arg = p.arg; log = p.log.items }) h.past.items in
     let seat : SeatSeen = record { slot = g.S.GateSeat.slot_of h.seat; known = g.S.GateSeat.known h.seat; told = g.S.GateSeat.tells h.seat } in
     let seat' : SeatSeen = record { slot = g.S.GateSeat.slot_of c.begin.new.seat; known = g.S.GateSeat.known c.begin.new.seat; told = g.S.GateSeat.tells c.begin.new.seat } in
     hosted_still h.slot h.first_port t h.log.items line h.known h.waiting seat h.hosted seat' (g.G.PortGate.node c.args.gate.now h.seat) (g.G.PortGate.node c.begin.new.self c.begin.new.seat) (g.G.PortGate.state c.args.gate.now) (g.G.PortGate.state c.begin.new.self)
@@ -129,7 +129,7 @@ pub returns-in-Again-clause-moved : goal.returns-in-Again-clause-moved
 returns-in-Again-clause-moved g c =
     let h = c.args.self.now in
     let t = g.C.Component.state h.inner in
-    let line : List Member = map (λ p. record { first = p.first_port; arg = p.arg; log = p.log.items }) h.past.items in
+    let line : List LineNode = map (λ p. record { first = p.first_port; arg = p.arg; log = p.log.items }) h.past.items in
     let seat : SeatSeen = record { slot = g.S.GateSeat.slot_of h.seat; known = g.S.GateSeat.known h.seat; told = g.S.GateSeat.tells h.seat } in
     let seat' : SeatSeen = record { slot = g.S.GateSeat.slot_of c.begin.new.seat; known = g.S.GateSeat.known c.begin.new.seat; told = g.S.GateSeat.tells c.begin.new.seat } in
     moved_still h.slot h.first_port t h.log.items line h.known h.waiting seat h.hosted seat' (g.G.PortGate.node c.args.gate.now h.seat) (g.G.PortGate.node c.begin.new.self c.begin.new.seat) (g.G.PortGate.state c.args.gate.now) (g.G.PortGate.state c.begin.new.self)
@@ -139,7 +139,7 @@ pub returns-in-Again-clause-exact : goal.returns-in-Again-clause-exact
 returns-in-Again-clause-exact g c =
     let h = c.args.self.now in
     let t = g.C.Component.state h.inner in
-    let line : List Member = map (λ p. record { first = p.first_port; arg = p.arg; log = p.log.items }) h.past.items in
+    let line : List LineNode = map (λ p. record { first = p.first_port; arg = p.arg; log = p.log.items }) h.past.items in
     let seat : SeatSeen = record { slot = g.S.GateSeat.slot_of h.seat; known = g.S.GateSeat.known h.seat; told = g.S.GateSeat.tells h.seat } in
     λ s told. begins_again (g.G.PortGate.state c.args.gate.now) (node_of h.slot h.first_port t) seat.known s told c.args.ask t c.in-Again.loaded c.in-Again.found c.in-Again.ensures.says
 
@@ -147,7 +147,7 @@ pub invariant_of-self-in-Spent-clause-hosted : goal.invariant_of-self-in-Spent-c
 invariant_of-self-in-Spent-clause-hosted g c =
     let h = c.args.self.now in
     let t = g.C.Component.state h.inner in
-    let line : List Member = map (λ p. record { first = p.first_port; arg = p.arg; log = p.log.items }) h.past.items in
+    let line : List LineNode = map (λ p. record { first = p.first_port; arg = p.arg; log = p.log.items }) h.past.items in
     let seat : SeatSeen = record { slot = g.S.GateSeat.slot_of h.seat; known = g.S.GateSeat.known h.seat; told = g.S.GateSeat.tells h.seat } in
     let seat' : SeatSeen = record { slot = g.S.GateSeat.slot_of c.begin.new.seat; known = g.S.GateSeat.known c.begin.new.seat; told = g.S.GateSeat.tells c.begin.new.seat } in
     hosted_still h.slot h.first_port t h.log.items line h.known h.waiting seat h.hosted seat' (g.G.PortGate.node c.args.gate.now h.seat) (g.G.PortGate.node c.begin.new.self c.begin.new.seat) (g.G.PortGate.state c.args.gate.now) (g.G.PortGate.state c.begin.new.self)
@@ -157,7 +157,7 @@ pub returns-in-Spent-clause-moved : goal.returns-in-Spent-clause-moved
 returns-in-Spent-clause-moved g c =
     let h = c.args.self.now in
     let t = g.C.Component.state h.inner in
-    let line : List Member = map (λ p. record { first = p.first_port; arg = p.arg; log = p.log.items }) h.past.items in
+    let line : List LineNode = map (λ p. record { first = p.first_port; arg = p.arg; log = p.log.items }) h.past.items in
     let seat : SeatSeen = record { slot = g.S.GateSeat.slot_of h.seat; known = g.S.GateSeat.known h.seat; told = g.S.GateSeat.tells h.seat } in
     let seat' : SeatSeen = record { slot = g.S.GateSeat.slot_of c.begin.new.seat; known = g.S.GateSeat.known c.begin.new.seat; told = g.S.GateSeat.tells c.begin.new.seat } in
     moved_still h.slot h.first_port t h.log.items line h.known h.waiting seat h.hosted seat' (g.G.PortGate.node c.args.gate.now h.seat) (g.G.PortGate.node c.begin.new.self c.begin.new.seat) (g.G.PortGate.state c.args.gate.now) (g.G.PortGate.state c.begin.new.self)
@@ -167,7 +167,7 @@ pub returns-in-Spent-clause-exact : goal.returns-in-Spent-clause-exact
 returns-in-Spent-clause-exact g c =
     let h = c.args.self.now in
     let t = g.C.Component.state h.inner in
-    let line : List Member = map (λ p. record { first = p.first_port; arg = p.arg; log = p.log.items }) h.past.items in
+    let line : List LineNode = map (λ p. record { first = p.first_port; arg = p.arg; log = p.log.items }) h.past.items in
     let seat : SeatSeen = record { slot = g.S.GateSeat.slot_of h.seat; known = g.S.GateSeat.known h.seat; told = g.S.GateSeat.tells h.seat } in
     λ s told. begins_spent (g.G.PortGate.state c.args.gate.now) (node_of h.slot h.first_port t) seat.known s told c.args.ask t c.in-Spent.serial c.requires.wanted c.in-Spent.ensures.says
 
@@ -175,7 +175,7 @@ pub returns-in-Begun-clause-moved : goal.returns-in-Begun-clause-moved
 returns-in-Begun-clause-moved g c =
     let h = c.args.self.now in
     let t = g.C.Component.state h.inner in
-    let line : List Member = map (λ p. record { first = p.first_port; arg = p.arg; log = p.log.items }) h.past.items in
+    let line : List LineNode = map (λ p. record { first = p.first_port; arg = p.arg; log = p.log.items }) h.past.items in
     let seat : SeatSeen = record { slot = g.S.GateSeat.slot_of h.seat; known = g.S.GateSeat.known h.seat; told = g.S.GateSeat.tells h.seat } in
     let seat' : SeatSeen = record { slot = g.S.GateSeat.slot_of c.begin.new.seat; known = g.S.GateSeat.known c.begin.new.seat; told = g.S.GateSeat.tells c.begin.new.seat } in
     let two : c.args.ask.require < 2 = omega (arith, c.requires.fits_ask.require, two_requires t.kind) in
@@ -190,7 +190,7 @@ pub returns-in-Begun-clause-exact : goal.returns-in-Begun-clause-exact
 returns-in-Begun-clause-exact g c =
     let h = c.args.self.now in
     let t = g.C.Component.state h.inner in
-    let line : List Member = map (λ p. record { first = p.first_port; arg = p.arg; log = p.log.items }) h.past.items in
+    let line : List LineNode = map (λ p. record { first = p.first_port; arg = p.arg; log = p.log.items }) h.past.items in
     let seat : SeatSeen = record { slot = g.S.GateSeat.slot_of h.seat; known = g.S.GateSeat.known h.seat; told = g.S.GateSeat.tells h.seat } in
     λ s told. begins_begun (g.G.PortGate.state c.args.gate.now) (node_of h.slot h.first_port t) seat.known s told c.args.ask t c.in-Begun.serial (g.G.PortGate.state c.begin.new.self) c.requires.wanted
     (did_by (node_of h.slot h.first_port t) (g.G.PortGate.node c.args.gate.now h.seat) seat.known (g.S.GateSeat.known c.begin.new.seat) seat.told (g.S.GateSeat.tells c.begin.new.seat) (g.G.PortGate.state c.args.gate.now) (g.G.PortGate.state c.begin.new.self) (event.Begin (h.first_port + c.args.ask.require) c.in-Begun.serial c.args.ask.value ∷ []) (event.Begin (h.first_port + c.args.ask.require) c.in-Begun.serial c.args.ask.value ∷ []) c.requires.node (refl) c.in-Begun.ensures.does).steps
@@ -199,7 +199,7 @@ pub returns-in-Begun-clause-hint : goal.returns-in-Begun-clause-hint
 returns-in-Begun-clause-hint g c =
     let h = c.args.self.now in
     let t = g.C.Component.state h.inner in
-    let line : List Member = map (λ p. record { first = p.first_port; arg = p.arg; log = p.log.items }) h.past.items in
+    let line : List LineNode = map (λ p. record { first = p.first_port; arg = p.arg; log = p.log.items }) h.past.items in
     let seat : SeatSeen = record { slot = g.S.GateSeat.slot_of h.seat; known = g.S.GateSeat.known h.seat; told = g.S.GateSeat.tells h.seat } in
     let old : Hinted = record { waiting = h.waiting; counts = g.H.Hints.counts c.args.hints.now; told = g.H.Hints.tells c.args.hints.now } in
     let new : Hinted = record { waiting = c.post.new.waiting; counts = g.H.Hints.counts c.post.new.hints; told = g.H.Hints.tells c.post.new.hints } in

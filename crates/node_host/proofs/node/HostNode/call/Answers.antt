@@ -6,7 +6,7 @@ use Rattle.quiesce_core.specs.declared.event.Event.TheVariants as event
 use Rattle.node_host.specs.Hosted.{SeatSeen, node_of}
 use Rattle.node_host.specs.Posting.{Hinted, IsPosted}
 use Rattle.node_host.proofs.Replying.{index_is}
-use Rattle.node_host.specs.Lines.{Member}
+use Rattle.node_host.specs.Lines.{LineNode}
 use Rattle.config_graph.proofs.KindLaws.{two_requires}
 use Rattle.port_gate.specs.Seats.{MayCall}
 use Rattle.node_host.proofs.Exactly.{calls_called, calls_missed}
@@ -22,7 +22,7 @@ pub call-requires-clause-may : goal.call-requires-clause-may
 call-requires-clause-may g c =
     let h = c.args.self.now in
     let t = g.C.Component.state h.inner in
-    let line : List Member = map (λ p. record { first = p.first_port; arg = p.arg; log = p.log.items }) h.past.items in
+    let line : List LineNode = map (λ p. record { first = p.first_port; arg = p.arg; log = p.log.items }) h.past.items in
     let seat : SeatSeen = record { slot = g.S.GateSeat.slot_of h.seat; known = g.S.GateSeat.known h.seat; told = g.S.GateSeat.tells h.seat } in
     subst (λ m. MayCall m seat.known (h.first_port + c.args.ask.require) c.args.ask.value) (sym c.requires.node)
     (may_call h.slot h.first_port t h.log.items line h.known h.waiting seat h.hosted c.args.served c.requires.served c.requires.heard c.requires.ended c.args.ask (slice_index_or h.known.ports c.args.ask.require port_at_start) c.requires.asks c.requires.fits_ask c.requires.depends refl (idle_to_call h.slot h.first_port t h.log.items line h.known h.waiting seat h.hosted c.args.ask (omega (arith, c.requires.fits_ask.require, two_requires t.kind)) c.requires.ended c.requires.asks))
@@ -31,7 +31,7 @@ pub answered-requires-clause-asked : goal.answered-requires-clause-asked
 answered-requires-clause-asked g c =
     let h = c.args.self.now in
     let t = g.C.Component.state h.inner in
-    let line : List Member = map (λ p. record { first = p.first_port; arg = p.arg; log = p.log.items }) h.past.items in
+    let line : List LineNode = map (λ p. record { first = p.first_port; arg = p.arg; log = p.log.items }) h.past.items in
     let seat : SeatSeen = record { slot = g.S.GateSeat.slot_of h.seat; known = g.S.GateSeat.known h.seat; told = g.S.GateSeat.tells h.seat } in
     (c.args.ask.value, c.requires.asks)
 
@@ -39,7 +39,7 @@ pub keep-requires-clause-count : goal.keep-requires-clause-count
 keep-requires-clause-count g c =
     let h = c.args.self.now in
     let t = g.C.Component.state h.inner in
-    let line : List Member = map (λ p. record { first = p.first_port; arg = p.arg; log = p.log.items }) h.past.items in
+    let line : List LineNode = map (λ p. record { first = p.first_port; arg = p.arg; log = p.log.items }) h.past.items in
     let seat : SeatSeen = record { slot = g.S.GateSeat.slot_of h.seat; known = g.S.GateSeat.known h.seat; told = g.S.GateSeat.tells h.seat } in
     can_miss h.slot h.first_port t h.log.items line h.known h.waiting seat h.hosted c.args.served c.requires.served c.requires.heard c.requires.ended (h.first_port + c.args.ask.require) c.args.ask c.requires.asks
 
@@ -47,7 +47,7 @@ pub keep-requires-in-Called-clause-count : goal.keep-requires-in-Called-clause-c
 keep-requires-in-Called-clause-count g c =
     let h = c.args.self.now in
     let t = g.C.Component.state h.inner in
-    let line : List Member = map (λ p. record { first = p.first_port; arg = p.arg; log = p.log.items }) h.past.items in
+    let line : List LineNode = map (λ p. record { first = p.first_port; arg = p.arg; log = p.log.items }) h.past.items in
     let seat : SeatSeen = record { slot = g.S.GateSeat.slot_of h.seat; known = g.S.GateSeat.known h.seat; told = g.S.GateSeat.tells h.seat } in
     can_call h.slot h.first_port t h.log.items line h.known h.waiting seat h.hosted c.args.served c.requires.served c.requires.heard c.requires.ended (h.first_port + c.args.ask.require) c.in-Called.serial c.args.ask.value c.args.ask c.requires.asks
 
@@ -55,7 +55,7 @@ pub post-requires-clause-port : goal.post-requires-clause-port
 post-requires-clause-port g c =
     let h = c.args.self.now in
     let t = g.C.Component.state h.inner in
-    let line : List Member = map (λ p. record { first = p.first_port; arg = p.arg; log = p.log.items }) h.past.items in
+    let line : List LineNode = map (λ p. record { first = p.first_port; arg = p.arg; log = p.log.items }) h.past.items in
     let seat : SeatSeen = record { slot = g.S.GateSeat.slot_of h.seat; known = g.S.GateSeat.known h.seat; told = g.S.GateSeat.tells h.seat } in
     omega (arith, c.requires.fits_ask.require, h.hosted.limits.ports_within)
 
@@ -63,7 +63,7 @@ pub post-requires-clause-node : goal.post-requires-clause-node
 post-requires-clause-node g c =
     let h = c.args.self.now in
     let t = g.C.Component.state h.inner in
-    let line : List Member = map (λ p. record { first = p.first_port; arg = p.arg; log = p.log.items }) h.past.items in
+    let line : List LineNode = map (λ p. record { first = p.first_port; arg = p.arg; log = p.log.items }) h.past.items in
     let seat : SeatSeen = record { slot = g.S.GateSeat.slot_of h.seat; known = g.S.GateSeat.known h.seat; told = g.S.GateSeat.tells h.seat } in
     c.in-Called.ensures.says.1
 
@@ -71,7 +71,7 @@ pub invariant_of-self-clause-hosted : goal.invariant_of-self-clause-hosted
 invariant_of-self-clause-hosted g c =
     let h = c.args.self.now in
     let t = g.C.Component.state h.inner in
-    let line : List Member = map (λ p. record { first = p.first_port; arg = p.arg; log = p.log.items }) h.past.items in
+    let line : List LineNode = map (λ p. record { first = p.first_port; arg = p.arg; log = p.log.items }) h.past.items in
     let seat : SeatSeen = record { slot = g.S.GateSeat.slot_of h.seat; known = g.S.GateSeat.known h.seat; told = g.S.GateSeat.tells h.seat } in
     let seat' : SeatSeen = record { slot = g.S.GateSeat.slot_of c.call.new.seat; known = g.S.GateSeat.known c.call.new.seat; told = g.S.GateSeat.tells c.call.new.seat } in
     let e : Event = event.Miss (h.first_port + c.args.ask.require) in
@@ -85,7 +85,7 @@ pub invariant_of-self-in-Called-clause-hosted : goal.invariant_of-self-in-Called
 invariant_of-self-in-Called-clause-hosted g c =
     let h = c.args.self.now in
     let t = g.C.Component.state h.inner in
-    let line : List Member = map (λ p. record { first = p.first_port; arg = p.arg; log = p.log.items }) h.past.items in
+    let line : List LineNode = map (λ p. record { first = p.first_port; arg = p.arg; log = p.log.items }) h.past.items in
     let seat : SeatSeen = record { slot = g.S.GateSeat.slot_of h.seat; known = g.S.GateSeat.known h.seat; told = g.S.GateSeat.tells h.seat } in
     let seat' : SeatSeen = record { slot = g.S.GateSeat.slot_of c.call.new.seat; known = g.S.GateSeat.known c.call.new.seat; told = g.S.GateSeat.tells c.call.new.seat } in
     let e : Event = event.Call (h.first_port + c.args.ask.require) c.in-Called.serial c.args.ask.value in
@@ -100,7 +100,7 @@ pub returns-in-Missed-clause-node : goal.returns-in-Missed-clause-node
 returns-in-Missed-clause-node g c =
     let h = c.args.self.now in
     let t = g.C.Component.state h.inner in
-    let line : List Member = map (λ p. record { first = p.first_port; arg = p.arg; log = p.log.items }) h.past.items in
+    let line : List LineNode = map (λ p. record { first = p.first_port; arg = p.arg; log = p.log.items }) h.past.items in
     let seat : SeatSeen = record { slot = g.S.GateSeat.slot_of h.seat; known = g.S.GateSeat.known h.seat; told = g.S.GateSeat.tells h.seat } in
     let seat' : SeatSeen = record { slot = g.S.GateSeat.slot_of c.call.new.seat; known = g.S.GateSeat.known c.call.new.seat; told = g.S.GateSeat.tells c.call.new.seat } in
     let e : Event = event.Miss (h.first_port + c.args.ask.require) in
@@ -114,7 +114,7 @@ pub returns-in-Missed-clause-moved : goal.returns-in-Missed-clause-moved
 returns-in-Missed-clause-moved g c =
     let h = c.args.self.now in
     let t = g.C.Component.state h.inner in
-    let line : List Member = map (λ p. record { first = p.first_port; arg = p.arg; log = p.log.items }) h.past.items in
+    let line : List LineNode = map (λ p. record { first = p.first_port; arg = p.arg; log = p.log.items }) h.past.items in
     let seat : SeatSeen = record { slot = g.S.GateSeat.slot_of h.seat; known = g.S.GateSeat.known h.seat; told = g.S.GateSeat.tells h.seat } in
     let seat' : SeatSeen = record { slot = g.S.GateSeat.slot_of c.call.new.seat; known = g.S.GateSeat.known c.call.new.seat; told = g.S.GateSeat.tells c.call.new.seat } in
     let e : Event = event.Miss (h.first_port + c.args.ask.require) in
@@ -128,7 +128,7 @@ pub returns-in-Called-clause-moved : goal.returns-in-Called-clause-moved
 returns-in-Called-clause-moved g c =
     let h = c.args.self.now in
     let t = g.C.Component.state h.inner in
-    let line : List Member = map (λ p. record { first = p.first_port; arg = p.arg; log = p.log.items }) h.past.items in
+    let line : List LineNode = map (λ p. record { first = p.first_port; arg = p.arg; log = p.log.items }) h.past.items in
     let seat : SeatSeen = record { slot = g.S.GateSeat.slot_of h.seat; known = g.S.GateSeat.known h.seat; told = g.S.GateSeat.tells h.seat } in
     let seat' : SeatSeen = record { slot = g.S.GateSeat.slot_of c.call.new.seat; known = g.S.GateSeat.known c.call.new.seat; told = g.S.GateSeat.tells c.call.new.seat } in
     let e : Event = event.Call (h.first_port + c.args.ask.require) c.in-Called.serial c.args.ask.value in
@@ -142,7 +142,7 @@ pub returns-in-Missed-clause-exact : goal.returns-in-Missed-clause-exact
 returns-in-Missed-clause-exact g c =
     let h = c.args.self.now in
     let t = g.C.Component.state h.inner in
-    let line : List Member = map (λ p. record { first = p.first_port; arg = p.arg; log = p.log.items }) h.past.items in
+    let line : List LineNode = map (λ p. record { first = p.first_port; arg = p.arg; log = p.log.items }) h.past.items in
     let seat : SeatSeen = record { slot = g.S.GateSeat.slot_of h.seat; known = g.S.GateSeat.known h.seat; told = g.S.GateSeat.tells h.seat } in
     λ s told. calls_missed (g.G.PortGate.state c.args.gate.now) (node_of h.slot h.first_port t) seat.known s told (h.first_port + c.args.ask.require) c.args.ask.value (g.G.PortGate.state c.call.new.self)
     (did_by (node_of h.slot h.first_port t) (g.G.PortGate.node c.args.gate.now h.seat) seat.known (g.S.GateSeat.known c.call.new.seat) seat.told (g.S.GateSeat.tells c.call.new.seat) (g.G.PortGate.state c.args.gate.now) (g.G.PortGate.state c.call.new.self) (event.Miss (h.first_port + c.args.ask.require) ∷ []) (event.Miss (h.first_port + c.args.ask.require) ∷ []) c.requires.node (refl) c.in-Missed.ensures.does).steps
@@ -151,7 +151,7 @@ pub returns-in-Called-clause-exact : goal.returns-in-Called-clause-exact
 returns-in-Called-clause-exact g c =
     let h = c.args.self.now in
     let t = g.C.Component.state h.inner in
-    let line : List Member = map (λ p. record { first = p.first_port; arg = p.arg; log = p.log.items }) h.past.items in
+    let line : List LineNode = map (λ p. record { first = p.first_port; arg = p.arg; log = p.log.items }) h.past.items in
     let seat : SeatSeen = record { slot = g.S.GateSeat.slot_of h.seat; known = g.S.GateSeat.known h.seat; told = g.S.GateSeat.tells h.seat } in
     λ s told. calls_called (g.G.PortGate.state c.args.gate.now) (node_of h.slot h.first_port t) seat.known s told (h.first_port + c.args.ask.require) c.in-Called.serial c.args.ask.value (g.G.PortGate.state c.call.new.self)
     (did_by (node_of h.slot h.first_port t) (g.G.PortGate.node c.args.gate.now h.seat) seat.known (g.S.GateSeat.known c.call.new.seat) seat.told (g.S.GateSeat.tells c.call.new.seat) (g.G.PortGate.state c.args.gate.now) (g.G.PortGate.state c.call.new.self) (event.Call (h.first_port + c.args.ask.require) c.in-Called.serial c.args.ask.value ∷ []) (event.Call (h.first_port + c.args.ask.require) c.in-Called.serial c.args.ask.value ∷ []) c.requires.node (refl) c.in-Called.ensures.does).steps
@@ -160,7 +160,7 @@ pub returns-in-Called-clause-hint : goal.returns-in-Called-clause-hint
 returns-in-Called-clause-hint g c =
     let h = c.args.self.now in
     let t = g.C.Component.state h.inner in
-    let line : List Member = map (λ p. record { first = p.first_port; arg = p.arg; log = p.log.items }) h.past.items in
+    let line : List LineNode = map (λ p. record { first = p.first_port; arg = p.arg; log = p.log.items }) h.past.items in
     let seat : SeatSeen = record { slot = g.S.GateSeat.slot_of h.seat; known = g.S.GateSeat.known h.seat; told = g.S.GateSeat.tells h.seat } in
     let old : Hinted = record { waiting = h.waiting; counts = g.H.Hints.counts c.args.hints.now; told = g.H.Hints.tells c.args.hints.now } in
     let new : Hinted = record { waiting = c.post.new.waiting; counts = g.H.Hints.counts c.post.new.hints; told = g.H.Hints.tells c.post.new.hints } in
@@ -179,7 +179,7 @@ pub returns-in-Missed-clause-loads : goal.returns-in-Missed-clause-loads
 returns-in-Missed-clause-loads g c =
     let h = c.args.self.now in
     let t = g.C.Component.state h.inner in
-    let line : List Member = map (λ p. record { first = p.first_port; arg = p.arg; log = p.log.items }) h.past.items in
+    let line : List LineNode = map (λ p. record { first = p.first_port; arg = p.arg; log = p.log.items }) h.past.items in
     let seat : SeatSeen = record { slot = g.S.GateSeat.slot_of h.seat; known = g.S.GateSeat.known h.seat; told = g.S.GateSeat.tells h.seat } in
     let idle = idle_to_call h.slot h.first_port t h.log.items line h.known h.waiting seat h.hosted c.args.ask (omega (arith, c.requires.fits_ask.require, two_requires t.kind)) c.requires.ended c.requires.asks in
     keeps_loaded 2 h.first_port c.args.ask.require (is_word c.in-Missed.word) h.known (g.S.GateSeat.loads h.seat) (g.S.GateSeat.loads c.call.new.seat) (ap not idle) c.in-Missed.ensures.loads
@@ -188,7 +188,7 @@ pub returns-in-Called-clause-loads : goal.returns-in-Called-clause-loads
 returns-in-Called-clause-loads g c =
     let h = c.args.self.now in
     let t = g.C.Component.state h.inner in
-    let line : List Member = map (λ p. record { first = p.first_port; arg = p.arg; log = p.log.items }) h.past.items in
+    let line : List LineNode = map (λ p. record { first = p.first_port; arg = p.arg; log = p.log.items }) h.past.items in
     let seat : SeatSeen = record { slot = g.S.GateSeat.slot_of h.seat; known = g.S.GateSeat.known h.seat; told = g.S.GateSeat.tells h.seat } in
     let idle = idle_to_call h.slot h.first_port t h.log.items line h.known h.waiting seat h.hosted c.args.ask (omega (arith, c.requires.fits_ask.require, two_requires t.kind)) c.requires.ended c.requires.asks in
     keeps_loaded 2 h.first_port c.args.ask.require (λ l. leads_to c.in-Called.target l && is_next c.in-Called.serial l) h.known (g.S.GateSeat.loads h.seat) (g.S.GateSeat.loads c.call.new.seat) (ap not idle) c.in-Called.ensures.loads

@@ -3,7 +3,7 @@ use Rattle.std.specs.Prelude.{map}
 use Rattle.quiesce_core.specs.declared.event.Event.{Event}
 use Rattle.quiesce_core.specs.declared.event.Event.TheVariants as event
 use Rattle.node_host.specs.Hosted.{SeatSeen, node_of}
-use Rattle.node_host.specs.Lines.{Member}
+use Rattle.node_host.specs.Lines.{LineNode}
 use Rattle.port_gate.specs.Seats.{serial_served}
 use Rattle.node_host.proofs.Exactly.{gives_next}
 use Rattle.node_host.proofs.Growing.{hosted_after, moved_after, node_after}
@@ -14,7 +14,7 @@ pub give-requires-clause-may : goal.give-requires-clause-may
 give-requires-clause-may g c =
     let h = c.args.self.now in
     let t = g.C.Component.state h.inner in
-    let line : List Member = map (λ p. record { first = p.first_port; arg = p.arg; log = p.log.items }) h.past.items in
+    let line : List LineNode = map (λ p. record { first = p.first_port; arg = p.arg; log = p.log.items }) h.past.items in
     let seat : SeatSeen = record { slot = g.S.GateSeat.slot_of h.seat; known = g.S.GateSeat.known h.seat; told = g.S.GateSeat.tells h.seat } in
     may_give h.slot h.first_port t h.log.items line h.known h.waiting seat h.hosted c.args.served c.requires.served c.requires.heard c.requires.ended c.args.value c.requires.small
 
@@ -22,7 +22,7 @@ pub given-requires : goal.given-requires
 given-requires g c =
     let h = c.args.self.now in
     let t = g.C.Component.state h.inner in
-    let line : List Member = map (λ p. record { first = p.first_port; arg = p.arg; log = p.log.items }) h.past.items in
+    let line : List LineNode = map (λ p. record { first = p.first_port; arg = p.arg; log = p.log.items }) h.past.items in
     let seat : SeatSeen = record { slot = g.S.GateSeat.slot_of h.seat; known = g.S.GateSeat.known h.seat; told = g.S.GateSeat.tells h.seat } in
     record { gave = (c.args.value, c.requires.gives) }
 
@@ -30,7 +30,7 @@ pub invariant_of-self-clause-hosted : goal.invariant_of-self-clause-hosted
 invariant_of-self-clause-hosted g c =
     let h = c.args.self.now in
     let t = g.C.Component.state h.inner in
-    let line : List Member = map (λ p. record { first = p.first_port; arg = p.arg; log = p.log.items }) h.past.items in
+    let line : List LineNode = map (λ p. record { first = p.first_port; arg = p.arg; log = p.log.items }) h.past.items in
     let seat : SeatSeen = record { slot = g.S.GateSeat.slot_of h.seat; known = g.S.GateSeat.known h.seat; told = g.S.GateSeat.tells h.seat } in
     let seat' : SeatSeen = record { slot = g.S.GateSeat.slot_of c.give.new.seat; known = g.S.GateSeat.known c.give.new.seat; told = g.S.GateSeat.tells c.give.new.seat } in
     let e : Event = event.Give c.args.served.port c.args.served.serial c.args.value in
@@ -44,7 +44,7 @@ pub returns-clause-node : goal.returns-clause-node
 returns-clause-node g c =
     let h = c.args.self.now in
     let t = g.C.Component.state h.inner in
-    let line : List Member = map (λ p. record { first = p.first_port; arg = p.arg; log = p.log.items }) h.past.items in
+    let line : List LineNode = map (λ p. record { first = p.first_port; arg = p.arg; log = p.log.items }) h.past.items in
     let seat : SeatSeen = record { slot = g.S.GateSeat.slot_of h.seat; known = g.S.GateSeat.known h.seat; told = g.S.GateSeat.tells h.seat } in
     let seat' : SeatSeen = record { slot = g.S.GateSeat.slot_of c.give.new.seat; known = g.S.GateSeat.known c.give.new.seat; told = g.S.GateSeat.tells c.give.new.seat } in
     let e : Event = event.Give c.args.served.port c.args.served.serial c.args.value in
@@ -58,7 +58,7 @@ pub returns-clause-moved : goal.returns-clause-moved
 returns-clause-moved g c =
     let h = c.args.self.now in
     let t = g.C.Component.state h.inner in
-    let line : List Member = map (λ p. record { first = p.first_port; arg = p.arg; log = p.log.items }) h.past.items in
+    let line : List LineNode = map (λ p. record { first = p.first_port; arg = p.arg; log = p.log.items }) h.past.items in
     let seat : SeatSeen = record { slot = g.S.GateSeat.slot_of h.seat; known = g.S.GateSeat.known h.seat; told = g.S.GateSeat.tells h.seat } in
     let seat' : SeatSeen = record { slot = g.S.GateSeat.slot_of c.give.new.seat; known = g.S.GateSeat.known c.give.new.seat; told = g.S.GateSeat.tells c.give.new.seat } in
     let e : Event = event.Give c.args.served.port c.args.served.serial c.args.value in
@@ -72,7 +72,7 @@ pub returns-clause-exact : goal.returns-clause-exact
 returns-clause-exact g c =
     let h = c.args.self.now in
     let t = g.C.Component.state h.inner in
-    let line : List Member = map (λ p. record { first = p.first_port; arg = p.arg; log = p.log.items }) h.past.items in
+    let line : List LineNode = map (λ p. record { first = p.first_port; arg = p.arg; log = p.log.items }) h.past.items in
     let seat : SeatSeen = record { slot = g.S.GateSeat.slot_of h.seat; known = g.S.GateSeat.known h.seat; told = g.S.GateSeat.tells h.seat } in
     λ s told. gives_next (g.G.PortGate.state c.args.gate.now) (node_of h.slot h.first_port t) seat.known s told c.args.served.port c.args.served.serial c.args.value (g.G.PortGate.state c.give.new.self)
     (did_by (node_of h.slot h.first_port t) (g.G.PortGate.node c.args.gate.now h.seat) seat.known (g.S.GateSeat.known c.give.new.seat) seat.told (g.S.GateSeat.tells c.give.new.seat) (g.G.PortGate.state c.args.gate.now) (g.G.PortGate.state c.give.new.self) (event.Give c.args.served.port c.args.served.serial c.args.value ∷ []) (event.Give c.args.served.port (serial_served seat.known) c.args.value ∷ []) c.requires.node (ap (λ k. event.Give c.args.served.port k c.args.value ∷ []) (serial_is h.slot h.first_port t h.log.items line h.known h.waiting seat h.hosted c.args.served c.requires.served)) c.give.ensures.does).steps

@@ -3,7 +3,7 @@ use Rattle.std.specs.Prelude.{is_some, map}
 use Rattle.std.proofs.lemmas.Bool.{both_ways}
 use Rattle.base.proofs.OptionLaws.{None-from_is_some}
 use Rattle.node_host.specs.Hosted.{SeatSeen}
-use Rattle.node_host.specs.Lines.{Member}
+use Rattle.node_host.specs.Lines.{LineNode}
 use Rattle.node_host.proofs.InService.{at_rest}
 use Rattle.node_host.proofs.Still.{free_known}
 use Rattle.node_host.proofs.node.HostNode.look.Goals as goal
@@ -12,7 +12,7 @@ pub take_or_begin-requires-clause-free : goal.take_or_begin-requires-clause-free
 take_or_begin-requires-clause-free g c =
     let h = c.args.self.now in
     let t = g.C.Component.state h.inner in
-    let line : List Member = map (λ p. record { first = p.first_port; arg = p.arg; log = p.log.items }) h.past.items in
+    let line : List LineNode = map (λ p. record { first = p.first_port; arg = p.arg; log = p.log.items }) h.past.items in
     let seat : SeatSeen = record { slot = g.S.GateSeat.slot_of h.seat; known = g.S.GateSeat.known h.seat; told = g.S.GateSeat.tells h.seat } in
     at_rest h.slot h.first_port t h.log.items line h.known h.waiting seat h.hosted (None-from_is_some h.known.service (sym c.is_some.ensures ∙ c.if-is_some.false))
 
@@ -20,6 +20,6 @@ pub returns-then-is_some-clause-looked : goal.returns-then-is_some-clause-looked
 returns-then-is_some-clause-looked g c =
     let h = c.args.self.now in
     let t = g.C.Component.state h.inner in
-    let line : List Member = map (λ p. record { first = p.first_port; arg = p.arg; log = p.log.items }) h.past.items in
+    let line : List LineNode = map (λ p. record { first = p.first_port; arg = p.arg; log = p.log.items }) h.past.items in
     let seat : SeatSeen = record { slot = g.S.GateSeat.slot_of h.seat; known = g.S.GateSeat.known h.seat; told = g.S.GateSeat.tells h.seat } in
     λ none_ free. absurd (both_ways (is_some h.known.service) (ap is_some (free_known h.slot h.first_port t h.log.items line h.known h.waiting seat h.hosted free)) (sym c.is_some.ensures ∙ c.if-is_some.true))

@@ -7,7 +7,7 @@ use Rattle.quiesce_core.specs.declared.event.Event.TheVariants as event
 use Rattle.port_gate.specs.Moves.{with_seen}
 use Rattle.port_gate.specs.declared.answers.SeeAnswer.TheVariants as see
 use Rattle.node_host.specs.Hosted.{SeatSeen, node_of}
-use Rattle.node_host.specs.Lines.{Member}
+use Rattle.node_host.specs.Lines.{LineNode}
 use Rattle.node_host.proofs.Growing.{busy_at, expected_at, hosted_after, moved_after, node_after, seat_two}
 use Rattle.node_host.proofs.Replying.{ask_folds, asked, ended, not_yet}
 use Rattle.quiesce_core.specs.declared.known.PortKnown.{PortKnown}
@@ -30,7 +30,7 @@ pub invariant_of-self-in-Answer-clause-hosted : goal.invariant_of-self-in-Answer
 invariant_of-self-in-Answer-clause-hosted g c =
     let h = c.args.self.now in
     let t = g.C.Component.state h.inner in
-    let line : List Member = map (λ p. record { first = p.first_port; arg = p.arg; log = p.log.items }) h.past.items in
+    let line : List LineNode = map (λ p. record { first = p.first_port; arg = p.arg; log = p.log.items }) h.past.items in
     let seat : SeatSeen = record { slot = g.S.GateSeat.slot_of h.seat; known = g.S.GateSeat.known h.seat; told = g.S.GateSeat.tells h.seat } in
     let seat' : SeatSeen = record { slot = g.S.GateSeat.slot_of c.end.new.seat; known = g.S.GateSeat.known c.end.new.seat; told = g.S.GateSeat.tells c.end.new.seat } in
     let two : c.args.require < 2 = omega (arith, c.requires.require, two_requires t.kind) in
@@ -49,7 +49,7 @@ pub invariant_of-self-in-More-clause-hosted : goal.invariant_of-self-in-More-cla
 invariant_of-self-in-More-clause-hosted g c =
     let h = c.args.self.now in
     let t = g.C.Component.state h.inner in
-    let line : List Member = map (λ p. record { first = p.first_port; arg = p.arg; log = p.log.items }) h.past.items in
+    let line : List LineNode = map (λ p. record { first = p.first_port; arg = p.arg; log = p.log.items }) h.past.items in
     let seat : SeatSeen = record { slot = g.S.GateSeat.slot_of h.seat; known = g.S.GateSeat.known h.seat; told = g.S.GateSeat.tells h.seat } in
     let seat' : SeatSeen = record { slot = g.S.GateSeat.slot_of c.ask.new.seat; known = g.S.GateSeat.known c.ask.new.seat; told = g.S.GateSeat.tells c.ask.new.seat } in
     let two : c.args.require < 2 = omega (arith, c.requires.require, two_requires t.kind) in
@@ -68,7 +68,7 @@ pub returns-in-Answer-clause-node : goal.returns-in-Answer-clause-node
 returns-in-Answer-clause-node g c =
     let h = c.args.self.now in
     let t = g.C.Component.state h.inner in
-    let line : List Member = map (λ p. record { first = p.first_port; arg = p.arg; log = p.log.items }) h.past.items in
+    let line : List LineNode = map (λ p. record { first = p.first_port; arg = p.arg; log = p.log.items }) h.past.items in
     let seat : SeatSeen = record { slot = g.S.GateSeat.slot_of h.seat; known = g.S.GateSeat.known h.seat; told = g.S.GateSeat.tells h.seat } in
     let seat' : SeatSeen = record { slot = g.S.GateSeat.slot_of c.end.new.seat; known = g.S.GateSeat.known c.end.new.seat; told = g.S.GateSeat.tells c.end.new.seat } in
     let two : c.args.require < 2 = omega (arith, c.requires.require, two_requires t.kind) in
@@ -87,7 +87,7 @@ pub returns-in-Answer-clause-moved : goal.returns-in-Answer-clause-moved
 returns-in-Answer-clause-moved g c =
     let h = c.args.self.now in
     let t = g.C.Component.state h.inner in
-    let line : List Member = map (λ p. record { first = p.first_port; arg = p.arg; log = p.log.items }) h.past.items in
+    let line : List LineNode = map (λ p. record { first = p.first_port; arg = p.arg; log = p.log.items }) h.past.items in
     let seat : SeatSeen = record { slot = g.S.GateSeat.slot_of h.seat; known = g.S.GateSeat.known h.seat; told = g.S.GateSeat.tells h.seat } in
     let seat' : SeatSeen = record { slot = g.S.GateSeat.slot_of c.end.new.seat; known = g.S.GateSeat.known c.end.new.seat; told = g.S.GateSeat.tells c.end.new.seat } in
     let two : c.args.require < 2 = omega (arith, c.requires.require, two_requires t.kind) in
@@ -106,7 +106,7 @@ pub returns-in-More-clause-moved : goal.returns-in-More-clause-moved
 returns-in-More-clause-moved g c =
     let h = c.args.self.now in
     let t = g.C.Component.state h.inner in
-    let line : List Member = map (λ p. record { first = p.first_port; arg = p.arg; log = p.log.items }) h.past.items in
+    let line : List LineNode = map (λ p. record { first = p.first_port; arg = p.arg; log = p.log.items }) h.past.items in
     let seat : SeatSeen = record { slot = g.S.GateSeat.slot_of h.seat; known = g.S.GateSeat.known h.seat; told = g.S.GateSeat.tells h.seat } in
     let seat' : SeatSeen = record { slot = g.S.GateSeat.slot_of c.ask.new.seat; known = g.S.GateSeat.known c.ask.new.seat; told = g.S.GateSeat.tells c.ask.new.seat } in
     let two : c.args.require < 2 = omega (arith, c.requires.require, two_requires t.kind) in

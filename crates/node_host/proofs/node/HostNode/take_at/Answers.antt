@@ -6,7 +6,7 @@ use Rattle.config_graph.specs.Kinds.{row}
 use Rattle.quiesce_core.specs.declared.event.Event.{Event}
 use Rattle.quiesce_core.specs.declared.event.Event.TheVariants as event
 use Rattle.node_host.specs.Hosted.{SeatSeen, node_of}
-use Rattle.node_host.specs.Lines.{Member}
+use Rattle.node_host.specs.Lines.{LineNode}
 use Rattle.node_host.proofs.Exactly.{takes_stale, takes_taken}
 use Rattle.node_host.proofs.Growing.{hosted_after, moved_after, node_after}
 use Rattle.node_host.proofs.Permitted.{did_by, take_folds}
@@ -17,7 +17,7 @@ pub take-requires-clause-may : goal.take-requires-clause-may
 take-requires-clause-may g c =
     let h = c.args.self.now in
     let t = g.C.Component.state h.inner in
-    let line : List Member = map (λ p. record { first = p.first_port; arg = p.arg; log = p.log.items }) h.past.items in
+    let line : List LineNode = map (λ p. record { first = p.first_port; arg = p.arg; log = p.log.items }) h.past.items in
     let seat : SeatSeen = record { slot = g.S.GateSeat.slot_of h.seat; known = g.S.GateSeat.known h.seat; told = g.S.GateSeat.tells h.seat } in
     record { free = ap (λ w. w.service) (sym h.hosted.kept) ∙ free_known h.slot h.first_port t h.log.items line h.known h.waiting seat h.hosted c.requires.free; made = c.requires.port }
 
@@ -25,7 +25,7 @@ pub serve-requires-clause-provide : goal.serve-requires-clause-provide
 serve-requires-clause-provide g c =
     let h = c.args.self.now in
     let t = g.C.Component.state h.inner in
-    let line : List Member = map (λ p. record { first = p.first_port; arg = p.arg; log = p.log.items }) h.past.items in
+    let line : List LineNode = map (λ p. record { first = p.first_port; arg = p.arg; log = p.log.items }) h.past.items in
     let seat : SeatSeen = record { slot = g.S.GateSeat.slot_of h.seat; known = g.S.GateSeat.known h.seat; told = g.S.GateSeat.tells h.seat } in
     subst (λ m. c.in-Taken.provide < length (row m.kind).provides) c.requires.node c.in-Taken.ensures.says.0
 
@@ -33,7 +33,7 @@ pub invariant_of-self-clause-hosted : goal.invariant_of-self-clause-hosted
 invariant_of-self-clause-hosted g c =
     let h = c.args.self.now in
     let t = g.C.Component.state h.inner in
-    let line : List Member = map (λ p. record { first = p.first_port; arg = p.arg; log = p.log.items }) h.past.items in
+    let line : List LineNode = map (λ p. record { first = p.first_port; arg = p.arg; log = p.log.items }) h.past.items in
     let seat : SeatSeen = record { slot = g.S.GateSeat.slot_of h.seat; known = g.S.GateSeat.known h.seat; told = g.S.GateSeat.tells h.seat } in
     let seat' : SeatSeen = record { slot = g.S.GateSeat.slot_of c.take.new.seat; known = g.S.GateSeat.known c.take.new.seat; told = g.S.GateSeat.tells c.take.new.seat } in
     hosted_still h.slot h.first_port t h.log.items line h.known h.waiting seat h.hosted seat' (g.G.PortGate.node c.args.gate.now h.seat) (g.G.PortGate.node c.take.new.self c.take.new.seat) (g.G.PortGate.state c.args.gate.now) (g.G.PortGate.state c.take.new.self)
@@ -43,7 +43,7 @@ pub returns-in-Stale-clause-moved : goal.returns-in-Stale-clause-moved
 returns-in-Stale-clause-moved g c =
     let h = c.args.self.now in
     let t = g.C.Component.state h.inner in
-    let line : List Member = map (λ p. record { first = p.first_port; arg = p.arg; log = p.log.items }) h.past.items in
+    let line : List LineNode = map (λ p. record { first = p.first_port; arg = p.arg; log = p.log.items }) h.past.items in
     let seat : SeatSeen = record { slot = g.S.GateSeat.slot_of h.seat; known = g.S.GateSeat.known h.seat; told = g.S.GateSeat.tells h.seat } in
     let seat' : SeatSeen = record { slot = g.S.GateSeat.slot_of c.take.new.seat; known = g.S.GateSeat.known c.take.new.seat; told = g.S.GateSeat.tells c.take.new.seat } in
     moved_still h.slot h.first_port t h.log.items line h.known h.waiting seat h.hosted seat' (g.G.PortGate.node c.args.gate.now h.seat) (g.G.PortGate.node c.take.new.self c.take.new.seat) (g.G.PortGate.state c.args.gate.now) (g.G.PortGate.state c.take.new.self)
@@ -53,7 +53,7 @@ pub returns-in-Stale-clause-exact : goal.returns-in-Stale-clause-exact
 returns-in-Stale-clause-exact g c =
     let h = c.args.self.now in
     let t = g.C.Component.state h.inner in
-    let line : List Member = map (λ p. record { first = p.first_port; arg = p.arg; log = p.log.items }) h.past.items in
+    let line : List LineNode = map (λ p. record { first = p.first_port; arg = p.arg; log = p.log.items }) h.past.items in
     let seat : SeatSeen = record { slot = g.S.GateSeat.slot_of h.seat; known = g.S.GateSeat.known h.seat; told = g.S.GateSeat.tells h.seat } in
     λ s later told. takes_stale (g.G.PortGate.state c.args.gate.now) (node_of h.slot h.first_port t) seat.known s told (c.args.port ∷ later) c.args.port c.in-Stale.word refl (subst (λ m. TakeSays (g.G.PortGate.state c.args.gate.now) m c.args.port (take.Stale c.in-Stale.word)) c.requires.node c.in-Stale.ensures.says)
 
@@ -61,7 +61,7 @@ pub invariant_of-self-in-Taken-clause-hosted : goal.invariant_of-self-in-Taken-c
 invariant_of-self-in-Taken-clause-hosted g c =
     let h = c.args.self.now in
     let t = g.C.Component.state h.inner in
-    let line : List Member = map (λ p. record { first = p.first_port; arg = p.arg; log = p.log.items }) h.past.items in
+    let line : List LineNode = map (λ p. record { first = p.first_port; arg = p.arg; log = p.log.items }) h.past.items in
     let seat : SeatSeen = record { slot = g.S.GateSeat.slot_of h.seat; known = g.S.GateSeat.known h.seat; told = g.S.GateSeat.tells h.seat } in
     let seat' : SeatSeen = record { slot = g.S.GateSeat.slot_of c.take.new.seat; known = g.S.GateSeat.known c.take.new.seat; told = g.S.GateSeat.tells c.take.new.seat } in
     let e : Event = event.Take c.args.port c.in-Taken.serial c.in-Taken.value in
@@ -75,7 +75,7 @@ pub returns-in-Taken-clause-node : goal.returns-in-Taken-clause-node
 returns-in-Taken-clause-node g c =
     let h = c.args.self.now in
     let t = g.C.Component.state h.inner in
-    let line : List Member = map (λ p. record { first = p.first_port; arg = p.arg; log = p.log.items }) h.past.items in
+    let line : List LineNode = map (λ p. record { first = p.first_port; arg = p.arg; log = p.log.items }) h.past.items in
     let seat : SeatSeen = record { slot = g.S.GateSeat.slot_of h.seat; known = g.S.GateSeat.known h.seat; told = g.S.GateSeat.tells h.seat } in
     let seat' : SeatSeen = record { slot = g.S.GateSeat.slot_of c.take.new.seat; known = g.S.GateSeat.known c.take.new.seat; told = g.S.GateSeat.tells c.take.new.seat } in
     let e : Event = event.Take c.args.port c.in-Taken.serial c.in-Taken.value in
@@ -89,7 +89,7 @@ pub returns-in-Taken-clause-moved : goal.returns-in-Taken-clause-moved
 returns-in-Taken-clause-moved g c =
     let h = c.args.self.now in
     let t = g.C.Component.state h.inner in
-    let line : List Member = map (λ p. record { first = p.first_port; arg = p.arg; log = p.log.items }) h.past.items in
+    let line : List LineNode = map (λ p. record { first = p.first_port; arg = p.arg; log = p.log.items }) h.past.items in
     let seat : SeatSeen = record { slot = g.S.GateSeat.slot_of h.seat; known = g.S.GateSeat.known h.seat; told = g.S.GateSeat.tells h.seat } in
     let seat' : SeatSeen = record { slot = g.S.GateSeat.slot_of c.take.new.seat; known = g.S.GateSeat.known c.take.new.seat; told = g.S.GateSeat.tells c.take.new.seat } in
     let e : Event = event.Take c.args.port c.in-Taken.serial c.in-Taken.value in
@@ -103,7 +103,7 @@ pub returns-in-Taken-clause-exact : goal.returns-in-Taken-clause-exact
 returns-in-Taken-clause-exact g c =
     let h = c.args.self.now in
     let t = g.C.Component.state h.inner in
-    let line : List Member = map (λ p. record { first = p.first_port; arg = p.arg; log = p.log.items }) h.past.items in
+    let line : List LineNode = map (λ p. record { first = p.first_port; arg = p.arg; log = p.log.items }) h.past.items in
     let seat : SeatSeen = record { slot = g.S.GateSeat.slot_of h.seat; known = g.S.GateSeat.known h.seat; told = g.S.GateSeat.tells h.seat } in
     λ s later told. takes_taken (g.G.PortGate.state c.args.gate.now) (node_of h.slot h.first_port t) seat.known s told (c.args.port ∷ later) c.args.port c.in-Taken.serial c.in-Taken.value (g.G.PortGate.state c.take.new.self) refl
     (did_by (node_of h.slot h.first_port t) (g.G.PortGate.node c.args.gate.now h.seat) seat.known (g.S.GateSeat.known c.take.new.seat) seat.told (g.S.GateSeat.tells c.take.new.seat) (g.G.PortGate.state c.args.gate.now) (g.G.PortGate.state c.take.new.self) (event.Take c.args.port c.in-Taken.serial c.in-Taken.value ∷ []) (event.Take c.args.port c.in-Taken.serial c.in-Taken.value ∷ []) c.requires.node (refl) c.in-Taken.ensures.does).steps

@@ -1,4 +1,4 @@
--- Counts of faults: numbers that never fall. A count that is kept in a `u64` stands still at its last value.
+-- Counts that never fall, as of faults. One that is kept in a `u64` stands still at its last value.
 use Rattle.std.specs.Prelude.{ℕ, ◌<◌, ◌≤◌, ◌-◌, ◌^◌}
 
 -- a count rose: it is higher than it was, unless it stood at the last value of a `u64`
