@@ -8,9 +8,10 @@ ghost use Rattle.change_script.specs.Reports.{event_text};
 use crate::line_end::{put_one, put_three};
 use quiesce_core::Event;
 
-/// How many lines are put at once, and how many bytes they take at most.
+/// How many lines are put at once.
 pub const LINES: usize = 64;
 
+/// The most bytes of so many lines, each of `LINE` bytes at most.
 pub const PIECE: usize = 4_608;
 
 /// Puts the line of an event of a target before the byte at `end`, and tells where it starts. None of another event.

@@ -1,7 +1,7 @@
 //! How much room the text of a report takes, so that its memory is taken once.
 //!
-//! Room is a bound by the lengths of names, paths and numbers, where lines of a log grow longer. Nothing rests on it but how
-//! often memory is taken.
+//! Room is an estimate by the lengths of names, paths and numbers: each line of a log is taken to be as long as its last.
+//! Nothing rests on it but how often memory is taken.
 
 ghost use Rattle.std.specs.Prelude.{◌≤◌};
 
@@ -10,16 +10,17 @@ use config_graph::{Graph, Node};
 use quiesce_core::Event;
 
 /// The most bytes of a line, names, paths and arguments left out.
-const LINE: usize = 64;
+const BARE_LINE: usize = 64;
 
-/// The most bytes of an argument, and of a number of a state, each with what parts it from the one before.
+/// The most bytes of an argument, with what parts it from the one before.
 const ARGUMENT: usize = 12;
 
+/// The same of a number of a state.
 const NUMBER: usize = 21;
 
-/// How many bytes the text of a report takes at most.
+/// About how many bytes the text of a report takes.
 pub fn text_room(report: &Report) -> usize {
-    let mut room = 3 * LINE;
+    let mut room = 3 * BARE_LINE;
     for line in report.history.items() {
         room = line_room(line).saturating_add(room);
         // the line above the log of a node has its path once more
@@ -36,15 +37,15 @@ fn line_room(line: &HistoryLine) -> usize {
         HistoryLine::Start { name, args } | HistoryLine::Change { name, args } => {
             system_room(name.as_bytes(), args.items())
         }
-        HistoryLine::Show { graph } => graph_room(graph).saturating_add(LINE),
-        line => path_room(line).saturating_add(LINE),
+        HistoryLine::Show { graph } => graph_room(graph).saturating_add(BARE_LINE),
+        line => path_room(line).saturating_add(BARE_LINE),
     }
 }
 
 fn system_room(name: &[u8], args: &[i32]) -> usize {
     name.len()
         .saturating_add(args.len().saturating_mul(ARGUMENT))
-        .saturating_add(LINE)
+        .saturating_add(BARE_LINE)
 }
 
 /// The path of the node that a line makes.
@@ -67,7 +68,7 @@ fn graph_room(graph: &Graph) -> usize {
     for node in nodes {
         room = path_len(node)
             .saturating_mul(3)
-            .saturating_add(3 * LINE)
+            .saturating_add(3 * BARE_LINE)
             .saturating_add(room);
     }
     for link in graph.links() {
@@ -79,7 +80,7 @@ fn graph_room(graph: &Graph) -> usize {
 }
 
 fn log_room(log: &NodeLog) -> usize {
-    let mut room = events_room(log.events.items()).saturating_add(2 * LINE);
+    let mut room = events_room(log.events.items()).saturating_add(2 * BARE_LINE);
     if let Last::State(numbers) = &log.last {
         room = numbers
             .items()
@@ -125,8 +126,8 @@ fn event_room(event: &Event) -> usize {
             serial,
             value,
         } => three_room(*port, *serial, *value),
-        Event::Make { node, .. } => path_len(node).saturating_add(LINE),
-        _ => LINE,
+        Event::Make { node, .. } => path_len(node).saturating_add(BARE_LINE),
+        _ => BARE_LINE,
     }
 }
 

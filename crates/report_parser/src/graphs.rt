@@ -78,7 +78,8 @@ fn has_no_cycle(alloc: Global, graph: &Graph) -> Result<bool, NoMemory>
     Ok(first_on_cycle(alloc, graph)?.is_none())
 }
 
-/// The graph of these nodes, with the links that the text says.
+/// The graph of these nodes, with the links that the text says. Links are read against the graph without links, which takes the nodes
+/// over, so that they are read once more for the graph itself.
 fn draw(alloc: Global, nodes: Vec<Node>, text: &[u8]) -> Result<Graph, NoMemory>
     requires few { length text.now < 2 ^ 31 }
     requires nodes { nodes.items ≡ nodes_in (lines text.now) }

@@ -7,9 +7,10 @@ use crate::version::Version;
 use change_script::{HistoryLine, Last};
 use quiesce_core::Event;
 
-/// Below which numbers the slots and the ports of a report of version 1 are.
+/// Below which number the slots of a report of version 1 are.
 const FIRST_SLOTS: u32 = 255;
 
+/// The same of its ports.
 const FIRST_PORTS: u32 = 1_024;
 
 /// Whether a report of this version can have this slot.

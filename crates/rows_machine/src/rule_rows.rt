@@ -1,4 +1,4 @@
-//! Rows of `apply`: of each event and each of its rules, events of which the rule denies the last.
+//! Rows of `apply`: of each event and each of its rules that a run can come to, events of which the rule denies the last.
 
 use crate::systems::{BANK, LINE, TWO, WITHOUT_SINK, events_of};
 use quiesce_core::{Core, CoreError, Event};

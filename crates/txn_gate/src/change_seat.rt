@@ -65,8 +65,8 @@ impl ChangeSeat {
         self.tables.target(port)
     }
 
-    /// Whether the port is noted: it was made and never reopened, or a look found it drained after it was last closed, and it wasn't
-    /// reopened since.
+    /// Whether the port is noted: it was never reopened, be it made or not, or a look found it drained after it was last closed, and
+    /// it wasn't reopened since.
     pub fn is_noted(&self, port: u32) -> bool
         ensures { result ≡ is_noted (change_of self.now.seat.me.0).entries port }
     {
@@ -74,7 +74,7 @@ impl ChangeSeat {
     }
 
     /// Whether the node is live, and each port of it and each that reaches it is noted: then it is settled, and stays so until a port
-    /// is reopened or linked (`notes_tell_of_the_state` of gate_rule).
+    /// is reopened or linked, or it is removed (`notes_tell_of_the_state` of gate_rule).
     pub fn settled(&self, node: u32) -> bool
         ensures { IsTrue result ↔ IsNoted (is_noted (change_of self.now.seat.me.0).entries) (config_of (change_of self.now.seat.me.0).entries) node }
     {
