@@ -23,7 +23,7 @@ use Rattle.quiesce_core.specs.Doers.{is_of_change}
 use Rattle.quiesce_core.specs.Live.{IsGraphOf}
 use Rattle.quiesce_core.specs.State.{Configuration}
 use Rattle.quiesce_core.specs.declared.event.Event.{Event}
-use Rattle.quiesce_core.specs.declared.event.Event.TheVariants.{Close, Reopen, Unlink, Remove, Link}
+use Rattle.quiesce_core.specs.declared.event.Event.TheVariants.{Reopen, Unlink, Remove, Link}
 use Rattle.change_script.specs.declared.report.HistoryLine.{HistoryLine}
 use Rattle.change_script.specs.declared.report.HistoryLine.TheVariants as to
 use Rattle.change_law.specs.Changes as law
@@ -46,7 +46,7 @@ use Rattle.headline_laws.proofs.ItemLemmas.{AreFair, fair_both, fair_config, fai
 use Rattle.headline_laws.proofs.LookLemmas.{all_are_seen, looks_are, none_left_seen}
 use Rattle.headline_laws.proofs.PortLaws.{closing_rise, config_more, live_ports_are, still_to_close}
 use Rattle.change_engine.proofs.ItemLaws.{lines_both, silent_lines, sight_lines, carried_lines}
-use Rattle.change_engine.proofs.PassivationLaws.{closed_events, no_events_drained, looks_of, all_seen, passivation_lines, seen_root, root_lines, reopen_lines}
+use Rattle.change_engine.proofs.PassivationLaws.{closed_events, no_events_drained, looks_of, passivation_lines, seen_root, root_lines, reopen_lines}
 
 -- ---- the events of starts and commits are all the change's
 

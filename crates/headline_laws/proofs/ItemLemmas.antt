@@ -17,7 +17,7 @@ use Rattle.change_law.specs.Members.{event_of}
 use Rattle.change_law.specs.Scene.{config_after}
 use Rattle.gate_records.specs.Entries.{config_of, event_in, events_in}
 use Rattle.gate_records.specs.declared.entry.Entry.{Entry}
-use Rattle.gate_records.specs.declared.entry.Entry.TheVariants.{Did, Looked}
+use Rattle.gate_records.specs.declared.entry.Entry.TheVariants.{Looked}
 use Rattle.gate_records.specs.Looks.{is_drained_word, serial_of}
 use Rattle.change_board.specs.Scans.{Found, look_entry, scan_entries}
 use Rattle.change_board.specs.Sights.{Sight, sight_entry}
