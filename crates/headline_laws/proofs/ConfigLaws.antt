@@ -83,6 +83,11 @@ finish_config t scans n rounds =
     let es = all_entries scans in
     quiet_config t es (to.Finish n rounds) (quiet_events es (fair_events (silent_items es) (fair_scans scans) ∙ ap (filter_map event_of) (silent_lines es)))
 
+pub scans_config : (t : List Item) (scans : List ScanSeen) → config_at (t ++ silent_items (all_entries scans)) ≡ config_at t
+scans_config t scans =
+    let es = all_entries scans in
+    config_over t (silent_items es) ∙ ap (change_all (config_at t)) (fair_events (silent_items es) (fair_scans scans) ∙ ap (filter_map event_of) (silent_lines es))
+
 pub sights_config : (t : List Item) (ss : List Sight) → config_at (t ++ map sight_item ss) ≡ config_at t
 sights_config t ss = config_over t (map sight_item ss) ∙ ap (change_all (config_at t)) (no_sights ss)
 

@@ -1,3 +1,4 @@
+pub mod BearingLaws
 pub mod ConfigLaws
 mod CountLemmas
 pub mod EndLaws
@@ -10,6 +11,7 @@ mod JoiningLemmas
 pub mod LawfulLaws
 mod LineLemmas
 mod LookLemmas
+mod LookingLemmas
 pub mod MadeLaws
 pub mod MergeLaws
 pub mod NumberLaws

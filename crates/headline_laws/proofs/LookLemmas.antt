@@ -44,7 +44,7 @@ module _ (p : ℕ) where
   parted_here f drained busy true = omega (arith, one_seen (found_seen f) (map found_seen drained))
   parted_here f drained busy false = omega (arith, one_more f.port (root_ports (map root_of busy)))
 
-  parted : (found : List Found) → seen_so_often (drained_in found) + listed_so_often (root_ports (roots_of found)) ≡ listed_so_often (ports_of found)
+  pub parted : (found : List Found) → seen_so_often (drained_in found) + listed_so_often (root_ports (roots_of found)) ≡ listed_so_often (ports_of found)
   parted [] = refl
   parted (f ∷ found) = omega (arith, parted_here f (filter is_found found) (filter is_busy found) (is_found f), parted found, one_more f.port (ports_of found))
 

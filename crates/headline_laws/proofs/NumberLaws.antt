@@ -1,4 +1,4 @@
--- A run ended with at least as many transactions as its line tells.
+-- A run ended with at least as many transactions as its line tells, and a finish made as many rounds.
 use Rattle.std.proofs.Common.{◌≡◌, ◌∙◌, ℕ, zero, suc, ◌+◌, ◌≤◌, Bool, true, false, cond, List, [], ◌∷◌, ◌++◌, append_assoc, length, map, Some, None, refl, sym, ap, subst, ⊎_elim, arith}
 use Rattle.std.specs.Prelude.{⊤, ◌||◌, ℤ, flat_map}
 use Rattle.std.specs.List.{AllByRecursion, cons_option, count_by, list_any, range_with_len, sum_by}
@@ -14,6 +14,7 @@ use Rattle.base.proofs.PlaceLaws.{heads_are, tails_are}
 use Rattle.change_plan.specs.declared.plan_data.Move.{Move}
 use Rattle.config_graph.specs.Graph.{Graph}
 use Rattle.quiesce_core.specs.Doers.{is_end_at}
+use Rattle.quiesce_core.specs.Rules.{is_live_port}
 use Rattle.quiesce_core.specs.Runs.{IsRun}
 use Rattle.quiesce_core.specs.State.{Configuration}
 use Rattle.quiesce_core.specs.declared.event.Event.{Event}
@@ -29,6 +30,7 @@ use Rattle.gate_records.specs.declared.entry.Entry.TheVariants.{Did, Looked, Sig
 use Rattle.gate_records.specs.Looks.{ended_in_word, is_drained_word, serial_of}
 use Rattle.gate_records.specs.Records as records
 use Rattle.gate_records.specs.Records.{IsRecordOf, IsSo, Moment}
+use Rattle.change_board.specs.Bearing.{WereLookedAt, looks_at}
 use Rattle.change_board.specs.Scans.{Found, all_ports, ended_in, look_entry, ports_of}
 use Rattle.change_board.specs.Transcripts.{Item, silent, told, said, entries, line_in, lines, tells}
 use Rattle.change_engine.specs.Carrying.{deed_items, sight_item}
@@ -39,13 +41,15 @@ use Rattle.headline_laws.specs.Joining.{AreJoined, Joint, of_node, of_line, of_e
 use Rattle.headline_laws.specs.Numbers.{IsEndedAt}
 use Rattle.change_engine.specs.Draining.{pending_items}
 use Rattle.headline_laws.specs.Pieces.{AreCommitItems, IsDone, AreAbandonItems, IsTranscript, AreChangeItems, Piece, config_at, items_of, opening_items}
+use Rattle.headline_laws.proofs.ConfigLaws.{scans_config}
 use Rattle.headline_laws.proofs.CountLemmas.{IsBetween, ended_at, ends_of_ports, run_shows}
 use Rattle.headline_laws.proofs.FollowLaws.{fair_transcript, items_pushed}
 use Rattle.headline_laws.proofs.ItemLemmas.{AreFair, is_aside}
 use Rattle.headline_laws.proofs.JoiningLemmas.{IsKnown, Lifted, each_both, fair_back, lifted}
 use Rattle.headline_laws.proofs.LawfulLaws.{all_known, line_there}
-use Rattle.headline_laws.proofs.LineLemmas.{any_line, none_both, none_deeds, none_passivation, none_roots, none_silent, silent_line}
-use Rattle.change_engine.proofs.ItemLaws.{sight_lines}
+use Rattle.headline_laws.proofs.LineLemmas.{any_line, none_both, none_deeds, none_passivation, none_roots, none_silent}
+use Rattle.headline_laws.proofs.LookingLemmas.{few_rounds, looked_scans}
+use Rattle.change_engine.proofs.ItemLaws.{sight_lines, silent_entries, silent_lines}
 
 -- ---- joints by their items
 
@@ -173,9 +177,9 @@ module _ (front back : List Joint) (es : List Entry) (are : items_in back ≡ si
         sums n (a + 1) h,
       )
 
--- ---- what each line of a run tells, by items
+-- ---- what each line of a run or a finish tells, by items
 
-record RunTold (before : List Item) (n : ℕ) : Type 0 where
+pub record RunTold (before : List Item) (n : ℕ) : Type 0 where
   alone : Bool
   pre : List Item
   config : Configuration
@@ -186,106 +190,127 @@ record RunTold (before : List Item) (n : ℕ) : Type 0 where
   are_scans : AllByRecursion (IsScanIn alone config) scans
   ended_is : n ≡ ended_since (ended_in looks) scans
 
-abbrev is_run_line : HistoryLine → Bool
-is_run_line (to.Run k n) = true
-is_run_line _ = false
+-- a line of a run or a finish
+abbrev is_number_line : HistoryLine → Bool
+is_number_line (to.Run k n) = true
+is_number_line (to.Finish n k) = true
+is_number_line _ = false
 
-abbrev IsRunTold : List Item → Item → Type 0
-IsRunTold before (said (to.Run k n)) = RunTold before n
-IsRunTold before _ = ⊤
+abbrev pub IsNumberTold : List Item → Item → Type 0
+IsNumberTold before (said (to.Run k n)) = RunTold before n
+IsNumberTold before (said (to.Finish n k)) = WereLookedAt before k
+IsNumberTold before _ = ⊤
 
-none_aside : (l : HistoryLine) → is_aside l ≡ false → is_run_line l ≡ false
+none_aside : (l : HistoryLine) → is_aside l ≡ false → is_number_line l ≡ false
 none_aside (to.Run k n) h = absurd (both_ways true h refl)
+none_aside (to.Finish n k) h = absurd (both_ways true h refl)
 none_aside _ h = refl
 
 abbrev line_test : Item → Bool
-line_test x = option_map_or is_run_line (line_in x) false
+line_test x = option_map_or is_number_line (line_in x) false
 
-none_here : (before : List Item) (x : Item) → line_test x ≡ false → IsRunTold before x
+none_here : (before : List Item) (x : Item) → line_test x ≡ false → IsNumberTold before x
 none_here before (said (to.Run k n)) h = absurd (both_ways true h refl)
+none_here before (said (to.Finish n k)) h = absurd (both_ways true h refl)
 none_here before _ h = tt
 
-first_line : (x : Item) (u : List Item) → any_line is_run_line (x ∷ u) ≡ (line_test x || any_line is_run_line u)
+first_line : (x : Item) (u : List Item) → any_line is_number_line (x ∷ u) ≡ (line_test x || any_line is_number_line u)
 first_line (silent y) u = refl
 first_line (told y l) u = refl
 first_line (said l) u = refl
 
-all_none : (before u : List Item) → any_line is_run_line u ≡ false → EachAfter IsRunTold before u
+all_none : (before u : List Item) → any_line is_number_line u ≡ false → EachAfter IsNumberTold before u
 all_none before [] h = tt
 all_none before (x ∷ u) h =
-    let w = or_parts (line_test x) (any_line is_run_line u) (sym (first_line x u) ∙ h) in (none_here before x w.0, all_none (before ++ x ∷ []) u w.1)
+    let w = or_parts (line_test x) (any_line is_number_line u) (sym (first_line x u) ∙ h) in (none_here before x w.0, all_none (before ++ x ∷ []) u w.1)
 
-tried_none : (before : List Item) (name : List ℕ) (args : List ℤ) (new : Graph) (within : ℕ) (moves : List Move) (u : List Item) → AreChangeItems before name args new within moves u → any_line is_run_line u ≡ false
+looked_since : (alone : Bool) (before : List Item) (scans : List ScanSeen) → AllByRecursion (IsScanIn alone (config_at before)) scans
+    → WereLookedAt (before ++ silent_items (all_entries scans)) (rounds_in scans)
+looked_since alone before scans are =
+    let es = all_entries scans in
+    record {
+      front = before;
+      since = silent_items es;
+      parts = refl;
+      no_line = silent_lines es;
+      enough = λ p live.
+          let often = looked_scans p alone (config_at before) (sym (ap (λ c. is_live_port c p) (scans_config before scans)) ∙ live) scans are in
+          omega (arith, few_rounds scans, often, ap (count_by (looks_at p)) (silent_entries es));
+    }
+
+tried_none : (before : List Item) (name : List ℕ) (args : List ℤ) (new : Graph) (within : ℕ) (moves : List Move) (u : List Item) → AreChangeItems before name args new within moves u → any_line is_number_line u ≡ false
 tried_none before name args new within moves u x =
     let opened = opening_items name args x.closed x.how in
     let left = left_after x.how.first x.how.rounds in
-    let rest : any_line is_run_line x.rest ≡ false =
+    let rest : any_line is_number_line x.rest ≡ false =
     ⊎_elim
     (λ (y : AreCommitItems (before ++ opened) x.old new x.plan left x.rest).
-    ap (any_line is_run_line) y.are ∙ none_both is_run_line (flat_map deed_items y.deeds) (said to.Commit ∷ []) (none_deeds is_run_line none_aside y.deeds) refl)
+    ap (any_line is_number_line) y.are ∙ none_both is_number_line (flat_map deed_items y.deeds) (said to.Commit ∷ []) (none_deeds is_number_line none_aside y.deeds) refl)
     (λ (y : (length x.how.rounds ≡ within) × AreAbandonItems x.closed within left x.rest).
-    ap (any_line is_run_line) y.1.are
-    ∙ none_both is_run_line (pending_items within left ++ flat_map deed_items y.1.deeds) (said to.Abandon ∷ [])
-    (none_both is_run_line (pending_items within left) (flat_map deed_items y.1.deeds) (none_roots is_run_line (λ p k. refl) left) (none_deeds is_run_line none_aside y.1.deeds)) refl)
+    ap (any_line is_number_line) y.1.are
+    ∙ none_both is_number_line (pending_items within left ++ flat_map deed_items y.1.deeds) (said to.Abandon ∷ [])
+    (none_both is_number_line (pending_items within left) (flat_map deed_items y.1.deeds) (none_roots is_number_line (λ p k. refl) left) (none_deeds is_number_line none_aside y.1.deeds)) refl)
     x.ends in
-    ap (any_line is_run_line) x.are ∙ none_both is_run_line opened x.rest (none_passivation is_run_line none_aside x.closed x.how) rest
+    ap (any_line is_number_line) x.are ∙ none_both is_number_line opened x.rest (none_passivation is_number_line none_aside x.closed x.how) rest
 
-piece_told : (alone : Bool) (before : List Item) (s : Statement) (u : List Item) → IsDone alone before s u → EachAfter IsRunTold before u
+piece_told : (alone : Bool) (before : List Item) (s : Statement) (u : List Item) → IsDone alone before s u → EachAfter IsNumberTold before u
 piece_told alone before (start name args g) u d =
-    subst (EachAfter IsRunTold before) (sym d.are) (all_none before (said (to.Start name args) ∷ flat_map deed_items d.deeds ++ said to.Commit ∷ [])
-    (none_both is_run_line (said (to.Start name args) ∷ flat_map deed_items d.deeds) (said to.Commit ∷ []) (none_deeds is_run_line none_aside d.deeds) refl))
+    subst (EachAfter IsNumberTold before) (sym d.are) (all_none before (said (to.Start name args) ∷ flat_map deed_items d.deeds ++ said to.Commit ∷ [])
+    (none_both is_number_line (said (to.Start name args) ∷ flat_map deed_items d.deeds) (said to.Commit ∷ []) (none_deeds is_number_line none_aside d.deeds) refl))
 piece_told alone before (change name args g within moves) u d = ⊎_elim
-    (λ (skipped : list_any is_pending (lines before) ≡ true). subst (EachAfter IsRunTold before) (sym (d.0 skipped)) (tt, (tt, tt)))
+    (λ (skipped : list_any is_pending (lines before) ≡ true). subst (EachAfter IsNumberTold before) (sym (d.0 skipped)) (tt, (tt, tt)))
     (λ (tried : list_any is_pending (lines before) ≡ false). all_none before u (tried_none before name args g within moves u (d.1 tried)))
     (cases_Bool (list_any is_pending (lines before)))
 piece_told alone before (run k) u d =
     let es = map look_entry d.looks ++ all_entries d.scans in
-    subst (EachAfter IsRunTold before) (sym d.are)
-    (each_joined IsRunTold before (silent_items es) (said (to.Run k d.ended) ∷ []) (all_none before (silent_items es) (none_silent is_run_line es))
+    subst (EachAfter IsNumberTold before) (sym d.are)
+    (each_joined IsNumberTold before (silent_items es) (said (to.Run k d.ended) ∷ []) (all_none before (silent_items es) (none_silent is_number_line es))
     (record { alone = alone; pre = before; config = config_at before; looks = d.looks; scans = d.scans; parts = refl; at_ports = d.at_ports; are_scans = d.are_scans; ended_is = d.ended_is }, tt))
 piece_told alone before (finish n) u d =
     let es = all_entries d.scans in
-    subst (EachAfter IsRunTold before) (sym d.are) (all_none before (silent_items es ++ said (to.Finish n (rounds_in d.scans)) ∷ []) (silent_line is_run_line es (to.Finish n (rounds_in d.scans))))
-piece_told alone before show u d = subst (EachAfter IsRunTold before) (sym d.are) (tt, tt)
+    subst (EachAfter IsNumberTold before) (sym d.are)
+    (each_joined IsNumberTold before (silent_items es) (said (to.Finish n (rounds_in d.scans)) ∷ []) (all_none before (silent_items es) (none_silent is_number_line es))
+    (looked_since alone before d.scans d.are_scans, tt))
+piece_told alone before show u d = subst (EachAfter IsNumberTold before) (sym d.are) (tt, tt)
 
-pieces_told : (alone : Bool) (before ps : List Piece) → EachAfter (λ qs (p : Piece). IsDone alone (items_of qs) p.statement p.items) before ps → EachAfter IsRunTold (items_of before) (items_of ps)
+pieces_told : (alone : Bool) (before ps : List Piece) → EachAfter (λ qs (p : Piece). IsDone alone (items_of qs) p.statement p.items) before ps → EachAfter IsNumberTold (items_of before) (items_of ps)
 pieces_told alone before [] each = tt
 pieces_told alone before (p ∷ ps) each =
-    each_joined IsRunTold (items_of before) p.items (items_of ps) (piece_told alone (items_of before) p.statement p.items each.0)
-    (subst (λ v. EachAfter IsRunTold v (items_of ps)) (items_pushed before p) (pieces_told alone (before ++ p ∷ []) ps each.1))
+    each_joined IsNumberTold (items_of before) p.items (items_of ps) (piece_told alone (items_of before) p.statement p.items each.0)
+    (subst (λ v. EachAfter IsNumberTold v (items_of ps)) (items_pushed before p) (pieces_told alone (before ++ p ∷ []) ps each.1))
 
-transcript_told : (alone : Bool) (statements : List Statement) (t : List Item) → IsTranscript alone statements t → Each IsRunTold t
+pub transcript_told : (alone : Bool) (statements : List Statement) (t : List Item) → IsTranscript alone statements t → Each IsNumberTold t
 transcript_told alone statements t x =
     let stopping = said to.Stop ∷ passivation_items x.stops.closed x.stops.how in
-    let none : any_line is_run_line x.stop ≡ false =
-    ap (any_line is_run_line) x.stops.are ∙ none_both is_run_line stopping (map sight_item x.stops.sights) (none_passivation is_run_line none_aside x.stops.closed x.stops.how)
-    (ap (list_any is_run_line) (sight_lines x.stops.sights)) in
-    subst (Each IsRunTold) x.are (each_joined IsRunTold [] (items_of x.pieces) x.stop (pieces_told alone [] x.pieces x.done) (all_none (items_of x.pieces) x.stop none))
+    let none : any_line is_number_line x.stop ≡ false =
+    ap (any_line is_number_line) x.stops.are ∙ none_both is_number_line stopping (map sight_item x.stops.sights) (none_passivation is_number_line none_aside x.stops.closed x.stops.how)
+    (ap (list_any is_number_line) (sight_lines x.stops.sights)) in
+    subst (Each IsNumberTold) x.are (each_joined IsNumberTold [] (items_of x.pieces) x.stop (pieces_told alone [] x.pieces x.done) (all_none (items_of x.pieces) x.stop none))
 
 -- ---- the members
 
-no_run_event : (e : Event) (l : HistoryLine) → line_of e ≡ Some l → is_run_line l ≡ false
-no_run_event (event.Make n node from) l h = sym (ap is_run_line (same_Some (to.Make n node from) l h))
-no_run_event (event.Link p n y) l h = sym (ap is_run_line (same_Some (to.Link p n y) l h))
-no_run_event (event.Unlink p) l h = sym (ap is_run_line (same_Some (to.Unlink p) l h))
-no_run_event (event.Remove n) l h = sym (ap is_run_line (same_Some (to.Remove n) l h))
-no_run_event (event.Close p) l h = sym (ap is_run_line (same_Some (to.Close p) l h))
-no_run_event (event.Reopen p) l h = sym (ap is_run_line (same_Some (to.Reopen p) l h))
-no_run_event _ l h = absurd (none-some l h)
+no_number_event : (e : Event) (l : HistoryLine) → line_of e ≡ Some l → is_number_line l ≡ false
+no_number_event (event.Make n node from) l h = sym (ap is_number_line (same_Some (to.Make n node from) l h))
+no_number_event (event.Link p n y) l h = sym (ap is_number_line (same_Some (to.Link p n y) l h))
+no_number_event (event.Unlink p) l h = sym (ap is_number_line (same_Some (to.Unlink p) l h))
+no_number_event (event.Remove n) l h = sym (ap is_number_line (same_Some (to.Remove n) l h))
+no_number_event (event.Close p) l h = sym (ap is_number_line (same_Some (to.Close p) l h))
+no_number_event (event.Reopen p) l h = sym (ap is_number_line (same_Some (to.Reopen p) l h))
+no_number_event _ l h = absurd (none-some l h)
 
-no_run_look : (p w : ℕ) (l : HistoryLine) (b : Bool) → cond b (Some (to.Drained p (serial_of w))) None ≡ Some l → is_run_line l ≡ false
-no_run_look p w l true h = sym (ap is_run_line (same_Some (to.Drained p (serial_of w)) l h))
-no_run_look p w l false h = absurd (none-some l h)
+no_number_look : (p w : ℕ) (l : HistoryLine) (b : Bool) → cond b (Some (to.Drained p (serial_of w))) None ≡ Some l → is_number_line l ≡ false
+no_number_look p w l true h = sym (ap is_number_line (same_Some (to.Drained p (serial_of w)) l h))
+no_number_look p w l false h = absurd (none-some l h)
 
-no_run_entry : (y : Entry) (l : HistoryLine) → tells y ≡ Some l → is_run_line l ≡ false
-no_run_entry (Did e) l h = no_run_event e l h
-no_run_entry (Looked p w) l h = no_run_look p w l (is_drained_word w) h
-no_run_entry (Sighted n es) l h = absurd (none-some l h)
-no_run_entry (Scanned b v) l h = absurd (none-some l h)
+no_number_entry : (y : Entry) (l : HistoryLine) → tells y ≡ Some l → is_number_line l ≡ false
+no_number_entry (Did e) l h = no_number_event e l h
+no_number_entry (Looked p w) l h = no_number_look p w l (is_drained_word w) h
+no_number_entry (Sighted n es) l h = absurd (none-some l h)
+no_number_entry (Scanned b v) l h = absurd (none-some l h)
 
-no_run_member : (before : List Member) (l : HistoryLine) → is_run_line l ≡ false → IsEndedAt before (of_history l)
-no_run_member before (to.Run k n) h = absurd (both_ways true h refl)
-no_run_member before _ h = tt
+no_number_member : (before : List Member) (l : HistoryLine) → is_number_line l ≡ false → IsEndedAt before (of_history l)
+no_number_member before (to.Run k n) h = absurd (both_ways true h refl)
+no_number_member before _ h = tt
 
 run_at : (before : List Joint) (j : Joint) (n : ℕ) → IsKnown before j → RunTold (items_in before) n → EndedSince (members_in before) n
 run_at before j n k x =
@@ -298,21 +323,21 @@ run_at before j n k x =
     (subst (EndedSince (members_in (w.front ++ w.back))) (sym x.ended_is)
     (ended_between w.front w.back es w.back_items so runs_ fair x.alone x.looks x.scans x.config refl x.at_ports x.are_scans))
 
-line_at : (before : List Joint) (j : Joint) (l : HistoryLine) → IsKnown before j → IsRunTold (items_in before) (said l) → IsEndedAt (members_in before) (of_history l)
+line_at : (before : List Joint) (j : Joint) (l : HistoryLine) → IsKnown before j → IsNumberTold (items_in before) (said l) → IsEndedAt (members_in before) (of_history l)
 line_at before j (to.Run k n) known_ h = run_at before j n known_ h
 line_at before j _ known_ h = tt
 
-member_at : (before : List Joint) (j : Joint) (x : Member) → member_of j ≡ Some x → Lifted item_of IsRunTold before j × IsKnown before j → IsEndedAt (members_in before) x
+member_at : (before : List Joint) (j : Joint) (x : Member) → member_of j ≡ Some x → Lifted item_of IsNumberTold before j × IsKnown before j → IsEndedAt (members_in before) x
 member_at before (of_node e) x h k = subst (IsEndedAt (members_in before)) (same_Some (by_node e) x h) tt
 member_at before (of_line l) x h k = subst (IsEndedAt (members_in before)) (sym (line_there l x h)) (line_at before (of_line l) l k.1 (k.0 (said l) refl))
 member_at before (of_entry y None) x h k = absurd (none-some x h)
 member_at before (of_entry y (Some l)) x h k =
-    subst (IsEndedAt (members_in before)) (sym (line_there l x h)) (no_run_member (members_in before) l (no_run_entry y l k.1.fair_here.0.1))
+    subst (IsEndedAt (members_in before)) (sym (line_there l x h)) (no_number_member (members_in before) l (no_number_entry y l k.1.fair_here.0.1))
 
 pub runs_ended : (alone : Bool) (statements : List Statement) (t : List Item) (m : List Moment) (ms : List Member) → IsTranscript alone statements t → AreJoined t m ms → IsRecordOf (entries t) m → Each IsEndedAt ms
 runs_ended alone statements t m ms x j is_of =
     let js = j.joint in
-    let told_ = lifted item_of IsRunTold [] js (subst (Each IsRunTold) (sym j.items_are) (transcript_told alone statements t x)) in
+    let told_ = lifted item_of IsNumberTold [] js (subst (Each IsNumberTold) (sym j.items_are) (transcript_told alone statements t x)) in
     subst (Each IsEndedAt) j.members_are
-    (each_carried member_of (λ before y. Lifted item_of IsRunTold before y × IsKnown before y) IsEndedAt (λ before y z e k. member_at before y z e k) [] js
-    (each_both (Lifted item_of IsRunTold) IsKnown [] js told_ (all_known t m ms (fair_transcript alone statements t x) j is_of)))
+    (each_carried member_of (λ before y. Lifted item_of IsNumberTold before y × IsKnown before y) IsEndedAt (λ before y z e k. member_at before y z e k) [] js
+    (each_both (Lifted item_of IsNumberTold) IsKnown [] js told_ (all_known t m ms (fair_transcript alone statements t x) j is_of)))

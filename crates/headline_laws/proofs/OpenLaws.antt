@@ -1,12 +1,14 @@
 -- What is told as open stood open from the close of its port on, to the last look at it.
-use Rattle.std.proofs.Common.{◌≡◌, ◌∙◌, ℕ, Bool, true, false, not, cond, List, [], ◌∷◌, ◌++◌, append_assoc, Option, Some, None, refl, sym, ap, subst}
+use Rattle.std.proofs.Common.{◌≡◌, ◌∙◌, ℕ, ◌+◌, ◌≤◌, Bool, true, false, not, cond, List, [], ◌∷◌, ◌++◌, append_assoc, Option, Some, None, refl, sym, ap, subst, ⊎_elim, arith}
 use Rattle.std.specs.Prelude.{◌||◌, ◌&&◌, ◌==◌, filter_map, All}
-use Rattle.std.specs.List.{cons_option, list_any}
-use Rattle.std.proofs.lemmas.Bool.{and_from, both_ways, eq-eqb, or_parts}
+use Rattle.std.specs.List.{cons_option, count_by, list_any}
+use Rattle.std.proofs.lemmas.Bool.{and_from, both_ways, cases_eq, eq-eqb, ne_eqb, or_parts}
 use Rattle.std.proofs.lemmas.List.Elements.{filter-append, filter_map-append}
+use Rattle.std.proofs.lemmas.List.Sums.{sum_by-cons}
 use Rattle.std.proofs.lemmas.Option.{none-some, same_Some}
 use Rattle.base.specs.Each.{Each}
 use Rattle.base.proofs.EachLaws.{each_parts}
+use Rattle.base.proofs.MapLaws.{count_by-append}
 use Rattle.base.proofs.PlaceLaws.{heads_are, tails_are}
 use Rattle.gate_word.specs.Words as words
 use Rattle.gate_word.specs.Phases.{is_idle}
@@ -38,13 +40,14 @@ use Rattle.gate_records.specs.declared.entry.Entry.TheVariants.{Did, Looked}
 use Rattle.gate_records.specs.Looks.{is_drained_word, serial_of}
 use Rattle.gate_records.specs.Records as records
 use Rattle.gate_records.specs.Records.{IsRecordOf, IsSo, Moment}
+use Rattle.change_board.specs.Bearing.{loads_root, looks_at}
 use Rattle.change_board.specs.Transcripts as transcripts
 use Rattle.change_board.specs.Transcripts.{Item, silent, told, said, entries, lines}
-use Rattle.headline_laws.specs.Joining.{AreJoined, Joint, of_node, of_line, of_entry, item_of, items_in, member_of, members_in}
+use Rattle.headline_laws.specs.Joining.{AreJoined, Joint, of_node, of_line, of_entry, item_of, items_in, member_of, members_in, moment_of, moments_in}
 use Rattle.headline_laws.proofs.ItemLemmas.{AreFair}
 use Rattle.headline_laws.proofs.JoiningLemmas.{IsKnown, member_events, member_lines}
 use Rattle.headline_laws.proofs.LawfulLaws.{all_known, by_nodes, runs}
-use Rattle.change_engine.proofs.ItemLaws.{lines_both}
+use Rattle.change_engine.proofs.ItemLaws.{entries_both, lines_both}
 
 -- ---- the place of an item in the joint list
 
@@ -127,6 +130,13 @@ of_silent (of_line k) e h = absurd (both_ways true (ap is_said (same_Some (said 
 of_silent (of_entry y None) e h = ap (λ z. of_entry z None) (same_Some y e (ap entry_of (same_Some (silent y) (silent e) h)))
 of_silent (of_entry y (Some k)) e h = absurd (none-some k (sym (ap line_of_item (same_Some (told y k) (silent e) h))))
 
+-- the moment of a joint's entry
+moment_there : (j : Joint) (y : Item) (x : Entry) → item_of j ≡ Some y → entry_of y ≡ Some x → moment_of j ≡ Some (records.entry x)
+moment_there (of_node e) y x h is = absurd (none-some y h)
+moment_there (of_line l) y x h is = absurd (none-some x (ap entry_of (same_Some (said l) y h) ∙ is))
+moment_there (of_entry z None) y x h is = ap (λ v. Some (records.entry v)) (same_Some z x (ap entry_of (same_Some (silent z) y h) ∙ is))
+moment_there (of_entry z (Some l)) y x h is = ap (λ v. Some (records.entry v)) (same_Some z x (ap entry_of (same_Some (told z l) y h) ∙ is))
+
 -- ---- a port's word that isn't drained, while it is closed
 
 root_by : (closed idle within : Bool) → closed ≡ true → (closed && (idle || within)) ≡ false → (not idle && not within) ≡ true
@@ -150,6 +160,13 @@ closed_by before after p run =
     let s = state_after before in
     ap (λ (v : State). (gate v.config p).closed) here.next
     ∙ ap (λ (y : Gate). y.closed) (put_here s.config p (record (gate s.config p) { closed = true }) (gate_place s p here.legal.live) refl refl)
+
+-- a look while a root is open loads it
+root_loads : (es : List Event) (p k w : ℕ) → IsRun es → w ≡ word_of (state_after es) p → has_root (state_after es) p k ≡ true → loads_root p k (Looked p w) ≡ true
+root_loads es p k w run so root =
+    let s = state_after es in
+    let fields : words.unpack w ≡ fields_of s p = ap words.unpack so ∙ port_words_decode s (runs_are_well_formed es run) p in
+    and_from (p == p) (words.has_root (words.unpack w) && serial_of w == k) (eq-eqb p p refl) (ap (λ (f : Word). words.has_root f && f.serial == k) fields ∙ root)
 
 node_reopens_none : (p : ℕ) (e : Event) → is_of_change e ≡ false → reopens p e ≡ false
 node_reopens_none p (event.Reopen q) h = absurd (both_ways true h refl)
@@ -275,6 +292,55 @@ module _ (t : List Item) (m : List Moment) (ms : List Member) (fair : AreFair t)
         ap (λ zs. has_root (state_after zs) p (serial_of w)) (events_parts front_members (of_history (to.Close p) ∷ x))
         ∙ root_since before_close es fs p (serial_of w) (subst IsRun all run_split) (ap (list_any (reopens p)) (sym both) ∙ not_reopened)
         (ap (λ zs. has_root (state_after zs) p (serial_of w)) (sym all) ∙ root_there)
+
+    -- ---- each look at the port from the close on loaded the root
+
+    loaded_between : (y1 : List Item) (y : Item) (y2 : List Item) (v : ℕ) → ys ≡ y1 ++ y ∷ y2 → entry_of y ≡ Some (Looked p v) → loads_root p (serial_of w) (Looked p v) ≡ true
+    loaded_between y1 y y2 v split is =
+        let third = at_item between y1 y y2 (second.before_items ∙ split) in
+        let there = front ++ closing ∷ third.before in
+        let behind_it = third.after ++ looking ∷ second.after in
+        let parts_there : j.joint ≡ there ++ third.here ∷ behind_it =
+        whole ∙ ap (λ k. front ++ closing ∷ k) (ap (λ k. k ++ looking ∷ second.after) third.parts ∙ append_assoc third.before (third.here ∷ third.after) (looking ∷ second.after))
+        ∙ sym (append_assoc front (closing ∷ third.before) (third.here ∷ behind_it)) in
+        let known_then = each_front IsKnown there third.here behind_it (subst (Each IsKnown) parts_there (all_known t m ms fair j is_of)) in
+        let so_far = members_in third.before in
+        let stood_then = stood_since so_far (members_in (third.here ∷ third.after)) (ap members_in third.parts ∙ filter_map-append member_of third.before (third.here ∷ third.after)) in
+        root_loads (records.events (moments_in there)) p (serial_of w) v known_then.is_of.runs (known_then.so (records.entry (Looked p v)) (moment_there third.here y (Looked p v) third.here_item is))
+        (ap (λ es. has_root (state_after es) p (serial_of w)) (sym (member_events there known_then.fair) ∙ ap members.events (filter_map-append member_of front (closing ∷ third.before))) ∙ stood_then)
+
+    abbrev loads : Entry → Bool
+    loads x = loads_root p (serial_of w) x
+
+    loads_as_often : (y1 y2 : List Item) → ys ≡ y1 ++ y2 → count_by loads (entries y2) ≡ count_by (looks_at p) (entries y2)
+    loads_as_often y1 [] split = refl
+    loads_as_often y1 (y ∷ y2) split = by (entry_of y) refl (loads_as_often (y1 ++ y ∷ []) y2 (split ∙ sym (append_assoc y1 (y ∷ []) y2)))
+      where
+        same : (x : Entry) → entry_of y ≡ Some x → loads x ≡ looks_at p x
+        same (Looked q v) is = ⊎_elim
+            (λ (e : q ≡ p). ap (λ i. loads (Looked i v)) e ∙ loaded_between y1 y y2 v split (is ∙ ap (λ i. Some (Looked i v)) e) ∙ sym (eq-eqb q p e))
+            (λ (e : q ≡ p → ⊥). ap (λ b. b && (words.has_root (words.unpack v) && serial_of v == serial_of w)) (ne_eqb q p e) ∙ sym (ne_eqb q p e))
+            (cases_eq q p)
+        same _ is = refl
+
+        by : (o : Option Entry) → entry_of y ≡ o → count_by loads (entries y2) ≡ count_by (looks_at p) (entries y2) → count_by loads (cons_option o (entries y2)) ≡ count_by (looks_at p) (cons_option o (entries y2))
+        by None is rest = rest
+        by (Some x) is rest = omega (
+          arith,
+          sum_by-cons (λ e. cond (loads e) 1 0) x (entries y2),
+          sum_by-cons (λ e. cond (looks_at p e) 1 0) x (entries y2),
+          ap {B = ℕ} (λ b. cond b 1 0) (same x is),
+          rest,
+        )
+
+    loaded_last : loads (Looked p w) ≡ true
+    loaded_last = root_loads (before_close ++ event.Close p ∷ members.events since) p (serial_of w) w run_split word_there root_there
+
+    pub loaded_often : (y1 y2 rest : List Item) → ys ≡ y1 ++ y2 → count_by (looks_at p) (entries y2) + 1 ≤ count_by loads (entries (y2 ++ silent (Looked p w) ∷ rest))
+    loaded_often y1 y2 rest split =
+        let both = ap (count_by loads) (entries_both y2 (silent (Looked p w) ∷ rest)) ∙ count_by-append loads (entries y2) (Looked p w ∷ entries rest) in
+        let last = sum_by-cons (λ e. cond (loads e) 1 0) (Looked p w) (entries rest) ∙ ap (λ b. cond b 1 0 + count_by loads (entries rest)) loaded_last in
+        omega (arith, both, last, loads_as_often y1 y2 split)
 
     -- the lines up to the look are those of the items up to it
     abbrev told_lines : List HistoryLine

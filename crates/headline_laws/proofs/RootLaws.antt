@@ -1,15 +1,17 @@
 -- Each line on what was open tells of a root that stood open where it says.
-use Rattle.std.proofs.Common.{◌≡◌, ◌∙◌, ℕ, ◌≤◌, Bool, true, false, cond, List, [], ◌∷◌, ◌++◌, append_assoc, length, map, Option, Some, None, refl, sym, ap, subst, ⊎_elim}
-use Rattle.std.specs.Prelude.{◌||◌, ◌==◌, ℤ, filter, filter_map, flat_map}
-use Rattle.std.specs.List.{cons_option, list_any}
+use Rattle.std.proofs.Common.{◌≡◌, ◌∙◌, ℕ, ◌+◌, ◌≤◌, Bool, true, false, cond, List, [], ◌∷◌, ◌++◌, append_assoc, length, map, Option, Some, None, refl, sym, ap, subst, ⊎_elim, arith}
+use Rattle.std.specs.Prelude.{⊤, ◌||◌, ◌==◌, ℤ, filter, filter_map, flat_map}
+use Rattle.std.specs.List.{cons_option, count_by, list_all, list_any}
 use Rattle.std.specs.Option.{option_map_or}
 use Rattle.std.proofs.lemmas.Bool.{both_ways, cases_Bool, eq-eqb, eqb-true, not-true, or_left, or_parts, or_right}
 use Rattle.std.proofs.lemmas.Grind.{flat_map-append}
 use Rattle.std.proofs.lemmas.List.{append-nil, map-append}
 use Rattle.std.proofs.lemmas.List.Folds.{list_any-append}
+use Rattle.std.proofs.lemmas.List.Sums.{sum_by-cons}
 use Rattle.std.proofs.lemmas.Option.{none-some, same_Some}
 use Rattle.base.specs.Each.{Each, EachAfter}
-use Rattle.base.proofs.EachLaws.{each_carried, each_joined}
+use Rattle.base.proofs.EachLaws.{each_carried, each_joined, each_weaker}
+use Rattle.base.proofs.MapLaws.{count_by-append}
 use Rattle.base.proofs.PlaceLaws.{heads_are, tails_are}
 use Rattle.change_plan.specs.declared.plan_data.Move.{Move}
 use Rattle.config_graph.specs.Graph.{Graph}
@@ -28,11 +30,12 @@ use Rattle.gate_records.specs.declared.entry.Entry.{Entry}
 use Rattle.gate_records.specs.declared.entry.Entry.TheVariants.{Did, Looked, Sighted, Scanned}
 use Rattle.gate_records.specs.Looks.{is_drained_word, serial_of}
 use Rattle.gate_records.specs.Records.{IsRecordOf, Moment}
+use Rattle.change_board.specs.Bearing.{SawRoot, loads_root, looks_at}
 use Rattle.change_board.specs.Scans.{Found, look_entry, scan_entries}
 use Rattle.change_board.specs.Transcripts.{Item, silent, told, said, entries, line_in, lines, tells}
 use Rattle.change_engine.specs.Carrying.{deed_items, sight_item}
 use Rattle.change_engine.specs.Finishing.{all_entries, rounds_in}
-use Rattle.change_engine.specs.Passivating.{IsPassivation, Passivation, WaitingRound, close_item, is_busy, left_after, look_item, passivation_items, root_of, roots_of, round_items, silent_items}
+use Rattle.change_engine.specs.Passivating.{IsPassivation, IsRound, Passivation, WaitingRound, close_item, is_busy, left_after, look_item, passivation_items, root_of, root_ports, roots_of, round_items, silent_items}
 use Rattle.change_engine.specs.declared.passivating.LeftRoot.{LeftRoot}
 use Rattle.headline_laws.specs.Joining.{AreJoined}
 use Rattle.change_engine.specs.Draining.{root_item}
@@ -40,8 +43,9 @@ use Rattle.headline_laws.specs.Pieces.{AreCommitItems, IsDone, AreAbandonItems, 
 use Rattle.headline_laws.proofs.ItemLemmas.{AreFair, IsFair, is_aside}
 use Rattle.headline_laws.proofs.LineLemmas.{any_line, both_lines, none_both, none_deeds, none_passivation, none_roots, none_silent, silent_line}
 use Rattle.headline_laws.proofs.LookLemmas.{all_are_seen}
-use Rattle.headline_laws.proofs.OpenLaws.{stood}
-use Rattle.change_engine.proofs.ItemLaws.{sight_lines}
+use Rattle.headline_laws.proofs.LookingLemmas.{left_was_looked_at}
+use Rattle.headline_laws.proofs.OpenLaws.{loaded_often, stood}
+use Rattle.change_engine.proofs.ItemLaws.{entries_both, sight_lines}
 use Rattle.change_engine.proofs.PassivationLaws.{left_more, looks_of, seen_root}
 use Rattle.headline_laws.proofs.FollowLaws.{items_pushed}
 
@@ -92,28 +96,32 @@ record LastOf (rounds : List WaitingRound) : Type 0 where
   front : List WaitingRound
   round : WaitingRound
   are : rounds ≡ front ++ round ∷ []
+  one_more : length rounds ≡ length front + 1
 
 last_of : (w : WaitingRound) (rounds : List WaitingRound) → LastOf (w ∷ rounds)
-last_of w [] = record { front = []; round = w; are = refl }
-last_of w (v ∷ rounds) = let x = last_of v rounds in record { front = w ∷ x.front; round = x.round; are = ap (λ ws. w ∷ ws) x.are }
+last_of w [] = record { front = []; round = w; are = refl; one_more = refl }
+last_of w (v ∷ rounds) =
+    let x = last_of v rounds in record { front = w ∷ x.front; round = x.round; are = ap (λ ws. w ∷ ws) x.are; one_more = omega (arith, x.one_more) }
 
 -- ---- the last look at a port at which a root is left
 
 abbrev looks_region : Passivation → List Item
 looks_region how = map look_item how.first ++ flat_map round_items how.rounds
 
-record SeenAt (items : List Item) (p k : ℕ) : Type 0 where
+-- before it, at least n looks at the port
+record SeenAt (items : List Item) (p k n : ℕ) : Type 0 where
   word : ℕ
   front : List Item
   back : List Item
   are : items ≡ front ++ silent (Looked p word) ∷ back
   busy : is_drained_word word ≡ false
   serial : serial_of word ≡ k
+  often : n ≤ count_by (looks_at p) (entries front)
 
 busy_look : (p w : ℕ) (b : Bool) → b ≡ false → cond b (told (Looked p w) (to.Drained p (serial_of w))) (silent (Looked p w)) ≡ silent (Looked p w)
 busy_look p w b e = ap (λ c. cond c (told (Looked p w) (to.Drained p (serial_of w))) (silent (Looked p w))) e
 
-seen_in_pass : (found : List Found) (xs : List LeftRoot) (x : LeftRoot) (ys : List LeftRoot) → roots_of found ≡ xs ++ x ∷ ys → SeenAt (map look_item found) x.port x.serial
+seen_in_pass : (found : List Found) (xs : List LeftRoot) (x : LeftRoot) (ys : List LeftRoot) → roots_of found ≡ xs ++ x ∷ ys → SeenAt (map look_item found) x.port x.serial 0
 seen_in_pass found xs x ys h =
     let w = found_root found xs x ys h in
     let busy : is_drained_word w.here.word ≡ false = not-true (is_drained_word w.here.word) w.busy in
@@ -127,31 +135,43 @@ seen_in_pass found xs x ys h =
           ∙ ap (λ y. map look_item w.front ++ y ∷ map look_item w.back) (same ∙ ap (λ q. silent (Looked q w.here.word)) port);
       busy = busy;
       serial = ap (λ (r : LeftRoot). r.serial) w.is_root;
+      often = omega arith;
     }
 
-behind : (more_ items : List Item) (p k : ℕ) → SeenAt items p k → SeenAt (more_ ++ items) p k
-behind more_ items p k w = record {
+behind : (more_ items : List Item) (p k n m : ℕ) → SeenAt items p k n → m ≤ count_by (looks_at p) (entries more_) + n → SeenAt (more_ ++ items) p k m
+behind more_ items p k n m w few = record {
   word = w.word;
   front = more_ ++ w.front;
   back = w.back;
   are = ap (λ t. more_ ++ t) w.are ∙ sym (append_assoc more_ w.front (silent (Looked p w.word) ∷ w.back));
   busy = w.busy;
   serial = w.serial;
+  often =
+      let both = ap (count_by (looks_at p)) (entries_both more_ w.front) ∙ count_by-append (looks_at p) (entries more_) (entries w.front) in
+      omega (arith, few, w.often, both);
 }
 
-seen_last : (first : List Found) (rounds : List WaitingRound) (xs : List LeftRoot) (x : LeftRoot) (ys : List LeftRoot) → left_after first rounds ≡ xs ++ x ∷ ys
-    → SeenAt (map look_item first ++ flat_map round_items rounds) x.port x.serial
-seen_last first [] xs x ys h = subst (λ t. SeenAt t x.port x.serial) (sym (append-nil (map look_item first))) (seen_in_pass first xs x ys h)
-seen_last first (v ∷ rounds) xs x ys h =
+root_listed : (xs : List LeftRoot) (x : LeftRoot) (ys : List LeftRoot) → 1 ≤ count_by (λ q. q == x.port) (root_ports (xs ++ x ∷ ys))
+root_listed [] x ys =
+    let here = sum_by-cons (λ q. cond (q == x.port) 1 0) x.port (root_ports ys) ∙ ap (λ b. cond b 1 0 + count_by (λ q. q == x.port) (root_ports ys)) (eq-eqb x.port x.port refl) in omega (arith, here)
+root_listed (y ∷ xs) x ys = omega (arith, sum_by-cons (λ q. cond (q == x.port) 1 0) y.port (root_ports (xs ++ x ∷ ys)), root_listed xs x ys)
+
+seen_last : (first : List Found) (rounds : List WaitingRound) (xs : List LeftRoot) (x : LeftRoot) (ys : List LeftRoot) → Each (IsRound first) rounds → left_after first rounds ≡ xs ++ x ∷ ys
+    → SeenAt (map look_item first ++ flat_map round_items rounds) x.port x.serial (length rounds)
+seen_last first [] xs x ys each h = subst (λ t. SeenAt t x.port x.serial 0) (sym (append-nil (map look_item first))) (seen_in_pass first xs x ys h)
+seen_last first (v ∷ rounds) xs x ys each h =
     let last = last_of v rounds in
     let w = last.round in
     let here : roots_of w.found ≡ xs ++ x ∷ ys = sym (left_more first last.front w) ∙ ap (left_after first) (sym last.are) ∙ h in
     let scan = silent_items (scan_entries false w.moved w.sights w.scan) in
-    let pass = behind scan (map look_item w.found) x.port x.serial (seen_in_pass w.found xs x ys here) in
-    let round_ = behind (flat_map round_items last.front) (round_items w) x.port x.serial pass in
+    let listed = subst (λ left. 1 ≤ count_by (λ q. q == x.port) (root_ports left)) (sym here) (root_listed xs x ys) in
+    let often = left_was_looked_at x.port first last.front w (subst (Each (IsRound first)) last.are each) listed in
+    let pass = behind scan (map look_item w.found) x.port x.serial 0 0 (seen_in_pass w.found xs x ys here) (omega arith) in
+    let round_ = behind (flat_map round_items last.front) (round_items w) x.port x.serial 0 (length last.front) pass (omega (arith, often.1)) in
     let all : flat_map round_items (v ∷ rounds) ≡ flat_map round_items last.front ++ round_items w =
     ap (flat_map round_items) last.are ∙ flat_map-append round_items last.front (w ∷ []) ∙ ap (λ t. flat_map round_items last.front ++ t) (append-nil (round_items w)) in
-    subst (λ t. SeenAt (map look_item first ++ t) x.port x.serial) (sym all) (behind (map look_item first) (flat_map round_items last.front ++ round_items w) x.port x.serial round_)
+    subst (λ t. SeenAt (map look_item first ++ t) x.port x.serial (length (v ∷ rounds))) (sym all)
+    (behind (map look_item first) (flat_map round_items last.front ++ round_items w) x.port x.serial (length last.front) (length (v ∷ rounds)) round_ (omega (arith, often.0, last.one_more)))
 
 -- ---- and the close of that port before it
 
@@ -165,6 +185,11 @@ record ClosedAt (ports : List ℕ) (how : Passivation) (p k : ℕ) : Type 0 wher
   serial : serial_of word ≡ k
   none_reopened : list_any (reopens p) (filter_map event_of (lines ys)) ≡ false
   behind_closes : list_any is_close (lines zs) ≡ false
+  closes : List Item
+  looks : List Item
+  ys_are : ys ≡ closes ++ looks
+  looks_are : looks_region how ≡ looks ++ silent (Looked p word) ∷ zs
+  often : length how.rounds ≤ count_by (looks_at p) (entries looks)
 
 -- a test of lines by their events
 abbrev reopens_line : ℕ → HistoryLine → Bool
@@ -233,7 +258,7 @@ closed_at ports within how xs x ys is h =
     let p = x.port in
     let c = port_closed ports within how xs x ys is h in
     let same : c.here ≡ p = eqb-true c.here p c.passes in
-    let s = seen_last how.first how.rounds xs x ys h in
+    let s = seen_last how.first how.rounds xs x ys is.each_round h in
     let shut = map close_item c.front in
     let more_ = map close_item c.back in
     let closes : map close_item ports ≡ shut ++ close_item p ∷ more_ =
@@ -253,13 +278,30 @@ closed_at ports within how xs x ys is h =
       none_reopened = by_lines p (lines (more_ ++ s.front))
           ∙ none_both (reopens_line p) more_ s.front (none_closes (reopens_line p) (λ q. refl) c.back) (looks (reopens_line p) (λ q k. refl)).0;
       behind_closes = (looks is_close (λ q k. refl)).1;
+      closes = more_;
+      looks = s.front;
+      ys_are = refl;
+      looks_are = s.are;
+      often = s.often;
     }
 
 -- ---- each line of a transcript
 
+-- what is told as open was seen at the port's last looks
+abbrev pub IsRootSeen : List Item → Item → Type 0
+IsRootSeen before (said (to.Root p k)) = SawRoot before p k
+IsRootSeen before _ = ⊤
+
+only_roots : (xs : List LeftRoot) → list_all is_root (lines (map root_item xs)) ≡ true
+only_roots [] = refl
+only_roots (x ∷ xs) = only_roots xs
+
 module _ (t : List Item) (m : List Moment) (ms : List Member) (fair : AreFair t) (j : AreJoined t m ms) (is_of : IsRecordOf (entries t) m) where
+  abbrev IsRootAt : List Item → ℕ → ℕ → Type 0
+  IsRootAt before p k = StoodOpen ms (lines before) p k × SawRoot before p k
+
   abbrev IsStoodAt : List Item → Item → Type 0
-  IsStoodAt before x = (p k : ℕ) → x ≡ said (to.Root p k) → StoodOpen ms (lines before) p k
+  IsStoodAt before x = (p k : ℕ) → x ≡ said (to.Root p k) → IsRootAt before p k
 
   abbrev line_test : Item → Bool
   line_test x = option_map_or is_root (line_in x) false
@@ -282,7 +324,8 @@ module _ (t : List Item) (m : List Moment) (ms : List Member) (fair : AreFair t)
   none_aside _ h = refl
 
   -- a root of a change that is given up
-  module _ (before : List Item) (name : List ℕ) (args : List ℤ) (ports : List ℕ) (within : ℕ) (how : Passivation) (is : IsPassivation ports within how) where
+  module _ (before : List Item) (name : List ℕ) (args : List ℤ) (ports : List ℕ) (within : ℕ) (how : Passivation) (is : IsPassivation ports within how)
+      (made : length how.rounds ≡ within) where
     abbrev opened : List Item
     opened = opening_items name args ports how
 
@@ -299,9 +342,15 @@ module _ (t : List Item) (m : List Moment) (ms : List Member) (fair : AreFair t)
         ap (λ u. before ++ said (to.Change name args) ∷ u) inner
         ∙ sym (append_assoc before (said (to.Change name args) ∷ c.xs) (close_item p ∷ (c.ys ++ look ∷ (c.zs ++ v))))
 
+    regions : (v : List Item) → before ++ (opened ++ v) ≡ (before ++ said (to.Change name args) ∷ map close_item ports) ++ looks_region how ++ v
+    regions v =
+        let shut = said (to.Change name args) ∷ map close_item ports in
+        ap (λ u. before ++ (said (to.Change name args) ∷ u ++ v)) (append_assoc (map close_item ports) (map look_item how.first) (flat_map round_items how.rounds))
+        ∙ sym (append_assoc before (shut ++ looks_region how) v) ∙ ap (λ u. u ++ v) (sym (append_assoc before shut (looks_region how)))
+
     root_stands : (front us : List LeftRoot) (x : LeftRoot) (after : List Item) → left ≡ front ++ x ∷ us
         → t ≡ before ++ (opened ++ (said (to.Pending within) ∷ map root_item front ++ after))
-        → StoodOpen ms (lines (before ++ (opened ++ said (to.Pending within) ∷ map root_item front))) x.port x.serial
+        → IsRootAt (before ++ (opened ++ said (to.Pending within) ∷ map root_item front)) x.port x.serial
     root_stands front us x after h whole =
         let p = x.port in
         let k = x.serial in
@@ -311,10 +360,22 @@ module _ (t : List Item) (m : List Moment) (ms : List Member) (fair : AreFair t)
         let xs = before ++ said (to.Change name args) ∷ c.xs in
         let parts : t ≡ xs ++ close_item p ∷ (c.ys ++ look ∷ ((c.zs ++ v) ++ after)) =
         whole ∙ regroup p k c (v ++ after) ∙ ap (λ u. xs ++ close_item p ∷ (c.ys ++ look ∷ u)) (sym (append_assoc c.zs v after)) in
-        let here = stood t m ms fair j is_of p c.word xs c.ys (c.zs ++ v) after parts c.busy c.none_reopened
-        (none_both is_close c.zs v c.behind_closes (none_roots is_close (λ q i. refl) front)) in
-        subst (λ i. StoodOpen ms (lines (before ++ (opened ++ v))) p i) c.serial
-        (subst (λ u. StoodOpen ms (lines u) p (serial_of c.word)) (sym (regroup p k c v)) here)
+        let none_closed = none_both is_close c.zs v c.behind_closes (none_roots is_close (λ q i. refl) front) in
+        let here = stood t m ms fair j is_of p c.word xs c.ys (c.zs ++ v) after parts c.busy c.none_reopened none_closed in
+        let often = loaded_often t m ms fair j is_of p c.word xs c.ys (c.zs ++ v) after parts c.busy c.none_reopened none_closed c.closes c.looks c.zs c.ys_are in
+        subst (λ i. IsRootAt (before ++ (opened ++ v)) p i) c.serial (
+          subst (λ u. StoodOpen ms (lines u) p (serial_of c.word)) (sym (regroup p k c v)) here,
+          record {
+            front = before ++ said (to.Change name args) ∷ map close_item ports;
+            since = looks_region how;
+            roots = map root_item front;
+            rounds = within;
+            parts = regions v;
+            only_roots = only_roots front;
+            behind_closes = none_region is_close (λ q i. refl) how;
+            enough = omega (arith, made, c.often, often, ap (λ u. count_by (loads_root p (serial_of c.word)) (entries u)) c.looks_are);
+          },
+        )
 
     abbrev root_port : Item → ℕ
     root_port (said (to.Root p k)) = p
@@ -337,8 +398,8 @@ module _ (t : List Item) (m : List Moment) (ms : List Member) (fair : AreFair t)
         let more_ : t ≡ before ++ (opened ++ (said (to.Pending within) ∷ map root_item (front ++ x ∷ []) ++ (map root_item back ++ after))) =
         whole ∙ ap (λ u. before ++ (opened ++ said (to.Pending within) ∷ u)) (sym (append_assoc (map root_item front) (root_item x ∷ []) (map root_item back ++ after))
         ∙ ap (λ u. u ++ (map root_item back ++ after)) (sym next)) in (
-          λ p k e. subst (λ i. StoodOpen ms (lines (before ++ (opened ++ v))) i k) (ap root_port e)
-              (subst (λ i. StoodOpen ms (lines (before ++ (opened ++ v))) x.port i) (ap root_serial e) (root_stands front back x (map root_item (x ∷ back) ++ after) h whole)),
+          λ p k e. subst (λ i. IsRootAt (before ++ (opened ++ v)) i k) (ap root_port e)
+              (subst (λ i. IsRootAt (before ++ (opened ++ v)) x.port i) (ap root_serial e) (root_stands front back x (map root_item (x ∷ back) ++ after) h whole)),
           subst (λ u. EachAfter IsStoodAt u (map root_item back)) place (roots_stand (front ++ x ∷ []) back after (h ∙ sym (append_assoc front (x ∷ []) back)) more_),
         )
 
@@ -349,7 +410,7 @@ module _ (t : List Item) (m : List Moment) (ms : List Member) (fair : AreFair t)
       subst (EachAfter IsStoodAt before) (sym x.are)
       (all_none before (opened_ ++ x.rest) (none_both is_root opened_ x.rest none_opened
       (ap (any_line is_root) y.are ∙ none_both is_root (flat_map deed_items y.deeds) (said to.Commit ∷ []) (none_deeds is_root none_aside y.deeds) refl))))
-      (λ (y : (length x.how.rounds ≡ within) × AreAbandonItems x.closed within left_ x.rest). given_up y.1)
+      (λ (y : (length x.how.rounds ≡ within) × AreAbandonItems x.closed within left_ x.rest). given_up y.0 y.1)
       x.ends
     where
       opened_ : List Item
@@ -361,8 +422,8 @@ module _ (t : List Item) (m : List Moment) (ms : List Member) (fair : AreFair t)
       none_opened : any_line is_root opened_ ≡ false
       none_opened = none_passivation is_root none_aside x.closed x.how
 
-      given_up : AreAbandonItems x.closed within left_ x.rest → EachAfter IsStoodAt before u
-      given_up y =
+      given_up : length x.how.rounds ≡ within → AreAbandonItems x.closed within left_ x.rest → EachAfter IsStoodAt before u
+      given_up made y =
           let did_ = flat_map deed_items y.deeds in
           let pend = said (to.Pending within) ∷ [] in
           let roots = map root_item left_ in
@@ -375,7 +436,7 @@ module _ (t : List Item) (m : List Moment) (ms : List Member) (fair : AreFair t)
           let first = all_none before opened_ none_opened in
           let second = all_none (before ++ opened_) pend refl in
           let third = subst (λ v. EachAfter IsStoodAt v roots) (sym (append_assoc before opened_ pend))
-          (roots_stand before name args x.closed within x.how x.is_passivation [] left_ (tail_ ++ after) refl whole_) in
+          (roots_stand before name args x.closed within x.how x.is_passivation made [] left_ (tail_ ++ after) refl whole_) in
           let fourth = all_none (((before ++ opened_) ++ pend) ++ roots) tail_ (none_both is_root did_ (said to.Abandon ∷ []) (none_deeds is_root none_aside y.deeds) refl) in
           subst (EachAfter IsStoodAt before) (sym u_is)
           (each_joined IsStoodAt before opened_ (pend ++ (roots ++ tail_)) first
@@ -452,8 +513,15 @@ module _ (t : List Item) (m : List Moment) (ms : List Member) (fair : AreFair t)
   line_stands before (said k) l h w = subst (StoodOpenWhereSaid ms (lines before)) (same_Some k l h) (by k w.1)
     where
       by : (k : HistoryLine) → IsStoodAt before (said k) → StoodOpenWhereSaid ms (lines before) k
-      by (to.Root p i) s = s p i refl
+      by (to.Root p i) s = (s p i refl).0
       by _ s = tt
+
+  root_seen : (before : List Item) (y : Item) → IsStoodAt before y → IsRootSeen before y
+  root_seen before (said (to.Root p i)) s = (s p i refl).1
+  root_seen before _ s = tt
+
+  pub roots_seen : (alone : Bool) (statements : List Statement) → IsTranscript alone statements t → Each IsRootSeen t
+  roots_seen alone statements x = each_weaker IsStoodAt IsRootSeen [] t root_seen (all_stand alone statements x)
 
   pub stood_open : (alone : Bool) (statements : List Statement) → IsTranscript alone statements t → Each (StoodOpenWhereSaid ms) (lines t)
   stood_open alone statements x =

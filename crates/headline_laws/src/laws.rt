@@ -3,6 +3,7 @@
 ghost use Rattle.std.specs.Prelude.{◌≡◌, ℕ, Bool, List, All};
 ghost use Rattle.base.specs.Each.{Each};
 ghost use Rattle.gate_records.specs.Records.{IsRecordOf, Moment};
+ghost use Rattle.change_board.specs.Bearing.{Bears};
 ghost use Rattle.change_board.specs.Transcripts.{Item, entries, lines};
 ghost use Rattle.change_law.specs.Endings.{status_of};
 ghost use Rattle.change_law.specs.Follows.{Follows};
@@ -114,4 +115,12 @@ pub fn joined_members_make_a_report_lawful()
 pub fn runs_ended_as_many_as_they_tell()
     ensures ended { (alone : Bool) (statements : List Statement) (t : List Item) (m : List Moment) (members : List Member)
         → IsTranscript alone statements t → AreJoined t m members → IsRecordOf (entries t) m → Each IsEndedAt members }
+{}
+
+/// The record bears the report's history: no event of it is left out, what is told of an entry is so at its place, and
+/// ports were looked at as often as the lines on open roots and on a finish say.
+pub fn records_bear_their_reports()
+    ensures bears { (alone : Bool) (statements : List Statement) (t : List Item) (m : List Moment) (report : Report)
+        → IsTranscript alone statements t → IsRecordOf (entries t) m → IsReport t m report
+        → Bears (entries t) report.history }
 {}
