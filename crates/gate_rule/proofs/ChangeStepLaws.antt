@@ -1,8 +1,8 @@
 -- The steps of the change keep the rule: each is shown by the trace with its event, look or sight.
-use Rattle.std.proofs.Common.{◌≡◌, ◌∙◌, ℕ, ◌+◌, ◌<◌, true, ◌&&◌, List, [], length, set, Option, Some, None, refl, sym, ap, subst, arith}
+use Rattle.std.proofs.Common.{◌≡◌, ◌∙◌, ℕ, ◌+◌, ◌<◌, true, ◌&&◌, List, [], ◌∷◌, length, set, Option, Some, None, refl, sym, ap, subst, arith}
 use Rattle.std.specs.Prelude.{◌==◌, bit_and, bit_or, bit_xor, nat_le, nat_lt, slice_index}
 use Rattle.std.proofs.lemmas.Bool.{and_parts, ltb-true}
-use Rattle.atomic_table.specs.Table.{Allows, State as Table, keeps}
+use Rattle.atomic_table.specs.Table.{Allows, keeps, step}
 use Rattle.config_graph.specs.Kinds.{row}
 use Rattle.config_graph.specs.declared.TheConstants.{MAX_NODES, MAX_PORTS}
 use Rattle.config_graph.specs.declared.node.Node.{Node}
@@ -12,7 +12,7 @@ use Rattle.gate_word.specs.SlotWords.{pack_slot}
 use Rattle.gate_word.specs.declared.operands.TheConstants.{ALL_BUT_CLOSED, CLOSED}
 use Rattle.gate_word.specs.declared.slot_word.SlotWord.{SlotWord}
 use Rattle.gate_records.specs.Entries.{config_of}
-use Rattle.gate_records.specs.Records.{IsRecordOf, May, events, state_at}
+use Rattle.gate_records.specs.Records.{IsRecordOf, May, entry, events, state_at}
 use Rattle.gate_records.specs.declared.entry.Entry.TheVariants.{Did, Looked}
 use Rattle.gate_records.proofs.NoteLaws.{may_is_allowed}
 use Rattle.gate_records.proofs.RecordLaws.{config_is}
@@ -28,22 +28,16 @@ use Rattle.quiesce_core.specs.declared.event.Event.TheVariants.{Close, Reopen, M
 use Rattle.quiesce_core.proofs.LegalLaws.{legal}
 use Rattle.quiesce_core.proofs.OperationLaws.{close_by, link_by, make_by, reopen_by, unlink_by}
 use Rattle.quiesce_core.proofs.RunLaws.{runs_are_well_formed}
-use Rattle.gate_rule.specs.Steps.{noted}
+use Rattle.gate_rule.specs.Growth.{ChangeProlongs, Gates, Prolongs}
+use Rattle.gate_rule.specs.Steps.{LooksAt, noted}
 use Rattle.gate_rule.specs.Views.{notes, of_change}
 use Rattle.gate_rule.specs.Traces.{Holds}
 use Rattle.gate_rule.specs.declared.view.ChangeView.{ChangeView}
 use Rattle.gate_rule.specs.declared.view.NodeView.{NodeView}
-use Rattle.gate_rule.specs.declared.view.View.{View}
+use Rattle.gate_rule.proofs.GrowthLaws.{With, prolonged, straight}
 use Rattle.gate_rule.proofs.TraceLaws.{changes, same_words, sees, shows_none, shows_port, shows_slot}
-use mathlib.Core.Option.{some}
+use mathlib.Core.Option.{none, some}
 use lib.ListN.{get_elem?}
-
-abbrev Gates : Type 0
-Gates = Table (Unit {0}) View
-
--- the rule of a table with these words
-abbrev With : Gates → ℕ → View → List ℕ → Type 0
-With t id v words = Holds (record { words = words; homes = t.homes; views = set t.views id v })
 
 module _ (nodes : List NodeView) (c : ChangeView) (t : Gates) (h : Holds t) (id : ℕ) (at : get_elem? t.views id ≡ some (of_change nodes c)) where
   abbrev s : State
@@ -67,19 +61,19 @@ module _ (nodes : List NodeView) (c : ChangeView) (t : Gates) (h : Holds t) (id 
 
   -- an event that changes a port's word to this; a slot's; and none, by a load
   turns : (e : Event) (p v : ℕ) → is_of_change e ≡ true → May c.entries e → p < MAX_PORTS → changed_port e ≡ Some p → changed_slot e ≡ None → v ≡ word_of (effect s e) p
-      → With t id (of_change nodes (notes c (Did e))) (set t.words p v)
+      → With t h id (of_change nodes (notes c (Did e))) (set t.words p v) (entry (Did e) ∷ [])
   turns e p v change may few port slot is =
       changes t h id t.homes nodes c e (set t.words p v) at change (allowed e may) (shows_port t.words s (effect s e) e w (then_ e may) h.shows p v few port slot is)
 
   fills : (e : Event) (n v : ℕ) → is_of_change e ≡ true → May c.entries e → n < MAX_NODES → changed_port e ≡ None → changed_slot e ≡ Some n → v ≡ slot_word_of (effect s e).config n
-      → With t id (of_change nodes (notes c (Did e))) (set t.words (MAX_PORTS + n) v)
+      → With t h id (of_change nodes (notes c (Did e))) (set t.words (MAX_PORTS + n) v) (entry (Did e) ∷ [])
   fills e n v change may few port slot is =
       changes t h id t.homes nodes c e (set t.words (MAX_PORTS + n) v) at change (allowed e may) (shows_slot t.words s (effect s e) e w (then_ e may) h.shows n v few port slot is)
 
   quietly : (e : Event) (i : ℕ) → is_of_change e ≡ true → May c.entries e → changed_port e ≡ None → changed_slot e ≡ None
-      → With t id (of_change nodes (notes c (Did e))) (set t.words i (slice_index t.words i))
+      → With t h id (of_change nodes (notes c (Did e))) (set t.words i (slice_index t.words i)) (entry (Did e) ∷ [])
   quietly e i change may port slot =
-      subst (With t id (of_change nodes (notes c (Did e)))) (sym (same_words t.words i))
+      subst (λ ws. With t h id (of_change nodes (notes c (Did e))) ws (entry (Did e) ∷ [])) (sym (same_words t.words i))
       (changes t h id t.homes nodes c e t.words at change (allowed e may) (shows_none t.words s (effect s e) e w (then_ e may) h.shows port slot))
 
   -- a port by which there is an event was made
@@ -88,98 +82,121 @@ module _ (nodes : List NodeView) (c : ChangeView) (t : Gates) (h : Holds t) (id 
       omega (arith, ltb-true p (length s.config.gates) (and_parts (nat_lt p (length s.config.gates)) (is_live s.config (owner s.config p)) live).0, w.sound.few_ports)
 
 module _ (slots id : ℕ) (nodes : List NodeView) (c : ChangeView) where
+  -- what the word of the new node's slot says
+  abbrev new_slot : Node → Option ℕ → SlotWord
+  new_slot node from = record { kind = node.kind; first_port = length (config_of c.entries).gates; arg = node.arg; from = from }
+
+  module _ (t : Gates) (h : Holds t) (at : get_elem? t.views id ≡ some (of_change nodes c)) where
+    abbrev s' : State
+    s' = state_at h.trace.moments
+
+    -- the run goes on by this event to a table with this word
+    abbrev By : Event → ℕ → ℕ → Type 0
+    By e i v = With t h id (of_change nodes (notes c (Did e))) (set t.words i v) (entry (Did e) ∷ [])
+
+    formed : IsWellFormed s'
+    formed = w nodes c t h id at
+
+    next : (e : Event) → May c.entries e → Step s' e (effect s' e)
+    next = then_ nodes c t h id at
+
+    close_moves : (p : ℕ) → May c.entries (Close p) → By (Close p) p (bit_or (slice_index t.words p) CLOSED)
+    close_moves p may =
+        let few = port_few nodes c t h id at p (legal s' (Close p) (allowed nodes c t h id at (Close p) may)).live in
+        turns nodes c t h id at (Close p) p (bit_or (slice_index t.words p) CLOSED) refl may few refl refl
+        (ap (λ x. bit_or x CLOSED) (h.shows.ports p few) ∙ sym (close_by s' (effect s' (Close p)) p formed (next (Close p) may)))
+
+    reopen_moves : (p : ℕ) → May c.entries (Reopen p) → By (Reopen p) p (bit_and (slice_index t.words p) ALL_BUT_CLOSED)
+    reopen_moves p may =
+        let few = port_few nodes c t h id at p (legal s' (Reopen p) (allowed nodes c t h id at (Reopen p) may)).live in
+        turns nodes c t h id at (Reopen p) p (bit_and (slice_index t.words p) ALL_BUT_CLOSED) refl may few refl refl
+        (ap (λ x. bit_and x ALL_BUT_CLOSED) (h.shows.ports p few) ∙ sym (reopen_by s' (effect s' (Reopen p)) p formed (next (Reopen p) may)))
+
+    pub look_moves : (p : ℕ) → p < MAX_PORTS
+        → With t h id (of_change nodes (notes c (Looked p (slice_index t.words p)))) (set t.words p (slice_index t.words p)) (entry (Looked p (slice_index t.words p)) ∷ [])
+    look_moves p few =
+        let x = Looked p (slice_index t.words p) in
+        subst (λ ws. With t h id (of_change nodes (notes c x)) ws (entry x ∷ [])) (sym (same_words t.words p)) (sees t h id t.homes nodes c x at refl (h.shows.ports p few))
+
+    link_moves : (p n x : ℕ) → May c.entries (Link p n x) → By (Link p n x) p (bit_xor (slice_index t.words p) (link_difference (record { node = n; provide = x })))
+    link_moves p n x may =
+        let few = port_few nodes c t h id at p (legal s' (Link p n x) (allowed nodes c t h id at (Link p n x) may)).live in
+        let d = link_difference (record { node = n; provide = x }) in
+        turns nodes c t h id at (Link p n x) p (bit_xor (slice_index t.words p) d) refl may few refl refl
+        (ap (λ k. bit_xor k d) (h.shows.ports p few) ∙ sym (link_by s' (effect s' (Link p n x)) p n x formed (next (Link p n x) may)))
+
+    unlink_moves : (p : ℕ) (to : Target) → target (config_of c.entries) p ≡ Some to → May c.entries (Unlink p) → By (Unlink p) p (bit_xor (slice_index t.words p) (link_difference to))
+    unlink_moves p to leads may =
+        let few = port_few nodes c t h id at p (legal s' (Unlink p) (allowed nodes c t h id at (Unlink p) may)).live in
+        let there : target s'.config p ≡ Some to = subst (λ k. target k p ≡ Some to) (config nodes c t h id at) leads in
+        turns nodes c t h id at (Unlink p) p (bit_xor (slice_index t.words p) (link_difference to)) refl may few refl refl
+        (ap (λ k. bit_xor k (link_difference to)) (h.shows.ports p few) ∙ sym (unlink_by s' (effect s' (Unlink p)) p to formed there (next (Unlink p) may)))
+
+    make_moves : (n : ℕ) (node : Node) (from : Option ℕ) → May c.entries (Make n node from)
+        → By (Make n node from) (MAX_PORTS + n) (bit_or (slice_index t.words (MAX_PORTS + n)) (pack_slot (new_slot node from)))
+    make_moves n node from may =
+        let e : Event = Make n node from in
+        let l = legal s' e (allowed nodes c t h id at e may) in
+        let room = (and_parts (n == length s'.config.slots && nat_lt n MAX_NODES) (nat_le (length s'.config.gates + length (row node.kind).requires_) MAX_PORTS) l.room).0 in
+        let few = ltb-true n MAX_NODES (and_parts (n == length s'.config.slots) (nat_lt n MAX_NODES) room).1 in
+        fills nodes c t h id at e n (bit_or (slice_index t.words (MAX_PORTS + n)) (pack_slot (new_slot node from))) refl may few refl refl
+        ((λ i. bit_or (h.shows.slots n few i) (pack_slot (record { kind = node.kind; first_port = length (config nodes c t h id at i).gates; arg = node.arg; from = from })))
+        ∙ sym (make_by s' (effect s' e) n node from formed (next e may)))
+
   -- ---- close and reopen
 
   pub closes : (p : ℕ) → May c.entries (Close p) → Allows Holds slots id (of_change nodes c, []) p (λ x. bit_or x CLOSED) (λ found new. new ≡ noted (of_change nodes c, []) (Did (Close p)))
-  closes p may t h _ at _ =
-      let few = port_few nodes c t h id at p (legal (state_at h.trace.moments) (Close p) (allowed nodes c t h id at (Close p) may)).live in
-      let s' = state_at h.trace.moments in (
-        of_change nodes (notes c (Did (Close p))),
-        keeps,
-        tt,
-        turns nodes c t h id at (Close p) p (bit_or (slice_index t.words p) CLOSED) refl may few refl refl
-            (ap (λ x. bit_or x CLOSED) (h.shows.ports p few) ∙ sym (close_by s' (effect s' (Close p)) p (w nodes c t h id at) (then_ nodes c t h id at (Close p) may))),
-        refl,
-      )
+  closes p may t h _ at _ = (of_change nodes (notes c (Did (Close p))), keeps, tt, (close_moves t h at p may).holds, refl)
 
   pub reopens : (p : ℕ) → May c.entries (Reopen p) → Allows Holds slots id (of_change nodes c, []) p (λ x. bit_and x ALL_BUT_CLOSED) (λ found new. new ≡ noted (of_change nodes c, []) (Did (Reopen p)))
-  reopens p may t h _ at _ =
-      let few = port_few nodes c t h id at p (legal (state_at h.trace.moments) (Reopen p) (allowed nodes c t h id at (Reopen p) may)).live in
-      let s' = state_at h.trace.moments in (
-        of_change nodes (notes c (Did (Reopen p))),
-        keeps,
-        tt,
-        turns nodes c t h id at (Reopen p) p (bit_and (slice_index t.words p) ALL_BUT_CLOSED) refl may few refl refl
-            (ap (λ x. bit_and x ALL_BUT_CLOSED) (h.shows.ports p few) ∙ sym (reopen_by s' (effect s' (Reopen p)) p (w nodes c t h id at) (then_ nodes c t h id at (Reopen p) may))),
-        refl,
-      )
+  reopens p may t h _ at _ = (of_change nodes (notes c (Did (Reopen p))), keeps, tt, (reopen_moves t h at p may).holds, refl)
+
+  pub close_prolongs : (p : ℕ) → May c.entries (Close p) → ChangeProlongs id nodes c p (λ x. bit_or x CLOSED) (Close p)
+  close_prolongs p may t h at v a is = prolonged t h id p _ _ _ (straight t h id _ _ _ (close_moves t h at p may)) v a is
+
+  pub reopen_prolongs : (p : ℕ) → May c.entries (Reopen p) → ChangeProlongs id nodes c p (λ x. bit_and x ALL_BUT_CLOSED) (Reopen p)
+  reopen_prolongs p may t h at v a is = prolonged t h id p _ _ _ (straight t h id _ _ _ (reopen_moves t h at p may)) v a is
 
   -- ---- look
 
   pub looks : (p : ℕ) → p < MAX_PORTS → Allows Holds slots id (of_change nodes c, []) p (λ x. x) (λ found new. new ≡ noted (of_change nodes c, []) (Looked p found))
-  looks p few t h _ at _ =
-      let found = slice_index t.words p in (
-        of_change nodes (notes c (Looked p found)),
-        keeps,
-        tt,
-        subst (With t id (of_change nodes (notes c (Looked p found)))) (sym (same_words t.words p)) (sees t h id t.homes nodes c (Looked p found) at refl (h.shows.ports p few)),
-        refl,
-      )
+  looks p few t h _ at _ = (of_change nodes (notes c (Looked p (slice_index t.words p))), keeps, tt, (look_moves t h at p few).holds, refl)
+
+  pub look_prolongs : (slots p : ℕ) → p < MAX_PORTS
+      → Prolongs id (of_change nodes c, []) p (λ x. x) (LooksAt (step slots p 0 0 none) (of_change nodes c, [])) (λ found. entry (Looked p found) ∷ [])
+  look_prolongs slots p few t h at v a is = prolonged t h id p _ _ _ (straight t h id _ _ _ (look_moves t h at p few)) v a is
 
   -- ---- link and unlink
 
   pub links : (p n x : ℕ) → May c.entries (Link p n x)
       → Allows Holds slots id (of_change nodes c, []) p (λ k. bit_xor k (link_difference (record { node = n; provide = x }))) (λ found new. new ≡ noted (of_change nodes c, []) (Did (Link p n x)))
-  links p n x may t h _ at _ =
-      let few = port_few nodes c t h id at p (legal (state_at h.trace.moments) (Link p n x) (allowed nodes c t h id at (Link p n x) may)).live in
-      let s' = state_at h.trace.moments in
-      let d = link_difference (record { node = n; provide = x }) in (
-        of_change nodes (notes c (Did (Link p n x))),
-        keeps,
-        tt,
-        turns nodes c t h id at (Link p n x) p (bit_xor (slice_index t.words p) d) refl may few refl refl
-            (ap (λ k. bit_xor k d) (h.shows.ports p few) ∙ sym (link_by s' (effect s' (Link p n x)) p n x (w nodes c t h id at) (then_ nodes c t h id at (Link p n x) may))),
-        refl,
-      )
+  links p n x may t h _ at _ = (of_change nodes (notes c (Did (Link p n x))), keeps, tt, (link_moves t h at p n x may).holds, refl)
 
   pub unlinks : (p : ℕ) (to : Target) → target (config_of c.entries) p ≡ Some to → May c.entries (Unlink p)
       → Allows Holds slots id (of_change nodes c, []) p (λ k. bit_xor k (link_difference to)) (λ found new. new ≡ noted (of_change nodes c, []) (Did (Unlink p)))
-  unlinks p to leads may t h _ at _ =
-      let few = port_few nodes c t h id at p (legal (state_at h.trace.moments) (Unlink p) (allowed nodes c t h id at (Unlink p) may)).live in
-      let s' = state_at h.trace.moments in
-      let there : target s'.config p ≡ Some to = subst (λ k. target k p ≡ Some to) (config nodes c t h id at) leads in (
-        of_change nodes (notes c (Did (Unlink p))),
-        keeps,
-        tt,
-        turns nodes c t h id at (Unlink p) p (bit_xor (slice_index t.words p) (link_difference to)) refl may few refl refl
-            (ap (λ k. bit_xor k (link_difference to)) (h.shows.ports p few) ∙ sym (unlink_by s' (effect s' (Unlink p)) p to (w nodes c t h id at) there (then_ nodes c t h id at (Unlink p) may))),
-        refl,
-      )
+  unlinks p to leads may t h _ at _ = (of_change nodes (notes c (Did (Unlink p))), keeps, tt, (unlink_moves t h at p to leads may).holds, refl)
+
+  pub link_prolongs : (p n x : ℕ) → May c.entries (Link p n x) → ChangeProlongs id nodes c p (λ k. bit_xor k (link_difference (record { node = n; provide = x }))) (Link p n x)
+  link_prolongs p n x may t h at v a is = prolonged t h id p _ _ _ (straight t h id _ _ _ (link_moves t h at p n x may)) v a is
+
+  pub unlink_prolongs : (p : ℕ) (to : Target) → target (config_of c.entries) p ≡ Some to → May c.entries (Unlink p)
+      → ChangeProlongs id nodes c p (λ k. bit_xor k (link_difference to)) (Unlink p)
+  unlink_prolongs p to leads may t h at v a is = prolonged t h id p _ _ _ (straight t h id _ _ _ (unlink_moves t h at p to leads may)) v a is
 
   -- ---- remove, by a load of word 0
 
   pub removes : (n i : ℕ) → May c.entries (Remove n) → Allows Holds slots id (of_change nodes c, []) i (λ x. x) (λ found new. new ≡ noted (of_change nodes c, []) (Did (Remove n)))
-  removes n i may t h _ at _ = (of_change nodes (notes c (Did (Remove n))), keeps, tt, quietly nodes c t h id at (Remove n) i refl may refl refl, refl)
+  removes n i may t h _ at _ = (of_change nodes (notes c (Did (Remove n))), keeps, tt, (quietly nodes c t h id at (Remove n) i refl may refl refl).holds, refl)
+
+  pub remove_prolongs : (n i : ℕ) → May c.entries (Remove n) → ChangeProlongs id nodes c i (λ x. x) (Remove n)
+  remove_prolongs n i may t h at v a is = prolonged t h id i _ _ _ (straight t h id _ _ _ (quietly nodes c t h id at (Remove n) i refl may refl refl)) v a is
 
   -- ---- make
 
-  -- what the word of the new node's slot says
-  abbrev new_slot : Node → Option ℕ → SlotWord
-  new_slot node from = record { kind = node.kind; first_port = length (config_of c.entries).gates; arg = node.arg; from = from }
-
   pub makes : (n : ℕ) (node : Node) (from : Option ℕ) → May c.entries (Make n node from)
       → Allows Holds slots id (of_change nodes c, []) (MAX_PORTS + n) (λ x. bit_or x (pack_slot (new_slot node from))) (λ found new. new ≡ noted (of_change nodes c, []) (Did (Make n node from)))
-  makes n node from may t h _ at _ =
-      let s' = state_at h.trace.moments in
-      let e : Event = Make n node from in
-      let l = legal s' e (allowed nodes c t h id at e may) in
-      let room = (and_parts (n == length s'.config.slots && nat_lt n MAX_NODES) (nat_le (length s'.config.gates + length (row node.kind).requires_) MAX_PORTS) l.room).0 in
-      let few = ltb-true n MAX_NODES (and_parts (n == length s'.config.slots) (nat_lt n MAX_NODES) room).1 in (
-        of_change nodes (notes c (Did e)),
-        keeps,
-        tt,
-        fills nodes c t h id at e n (bit_or (slice_index t.words (MAX_PORTS + n)) (pack_slot (new_slot node from))) refl may few refl refl
-            ((λ i. bit_or (h.shows.slots n few i) (pack_slot (record { kind = node.kind; first_port = length (config nodes c t h id at i).gates; arg = node.arg; from = from })))
-            ∙ sym (make_by s' (effect s' e) n node from (w nodes c t h id at) (then_ nodes c t h id at e may))),
-        refl,
-      )
+  makes n node from may t h _ at _ = (of_change nodes (notes c (Did (Make n node from))), keeps, tt, (make_moves t h at n node from may).holds, refl)
+
+  pub make_prolongs : (n : ℕ) (node : Node) (from : Option ℕ) → May c.entries (Make n node from)
+      → ChangeProlongs id nodes c (MAX_PORTS + n) (λ x. bit_or x (pack_slot (new_slot node from))) (Make n node from)
+  make_prolongs n node from may t h at v a is = prolonged t h id (MAX_PORTS + n) _ _ _ (straight t h id _ _ _ (make_moves t h at n node from may)) v a is

@@ -1,5 +1,6 @@
 pub mod KnowingLaws
 pub mod TraceLaws
+pub mod GrowthLaws
 pub mod FittingLaws
 pub mod NodeStepLaws
 pub mod ChangeStepLaws

@@ -4,8 +4,7 @@ use Rattle.std.specs.List.{AllByRecursion}
 use Rattle.std.specs.Prelude.{◌==◌, slice_index}
 use Rattle.std.specs.Option.{option_map}
 use Rattle.std.proofs.lemmas.Bool.{both_ways, cases_Bool, cases_lt, eqb-true}
-use Rattle.atomic_table.specs.Table.{Allows, State as Table, keeps}
-use Rattle.atomic_table.proofs.Lists.{set_again}
+use Rattle.atomic_table.specs.Table.{Allows, keeps, step}
 use Rattle.config_graph.specs.declared.TheConstants.{MAX_PORTS}
 use Rattle.gate_records.specs.Entries.{config_of}
 use Rattle.gate_records.specs.Records.{IsRecordOf, entry, events}
@@ -23,16 +22,17 @@ use Rattle.quiesce_core.specs.declared.known.Known.{Known}
 use Rattle.quiesce_core.specs.declared.known.Served.{Served}
 use Rattle.quiesce_core.specs.declared.state.Service.{Service}
 use Rattle.quiesce_core.proofs.RunLaws.{runs_are_consistent, runs_are_well_formed}
-use Rattle.gate_rule.specs.Merging.{AreAllAmong, IsOfRecord, MergeIntoRun}
+use Rattle.gate_rule.specs.Growth.{Prolongs}
+use Rattle.gate_rule.specs.Merging.{AreAllAmong, IsOfRecord, Meets, MergeIntoRun, Merges}
 use Rattle.gate_rule.specs.Steps.{noted}
 use Rattle.gate_rule.specs.Views.{is_among, log_in, notes, of_change}
 use Rattle.gate_rule.specs.Traces.{FitsNode, Holds, KnowsNode}
 use Rattle.gate_rule.specs.declared.view.ChangeView.{ChangeView}
 use Rattle.gate_rule.specs.declared.view.NodeView.{NodeView}
-use Rattle.gate_rule.specs.declared.view.View.{View}
+use Rattle.gate_rule.proofs.ChangeStepLaws.{look_moves}
+use Rattle.gate_rule.proofs.GrowthLaws.{prolonged, stays, straight}
 use Rattle.gate_rule.proofs.TraceLaws.{all_into, same_words, sees}
-use mathlib.Core.Option.{some}
-use lib.ListN.{get_elem?}
+use mathlib.Core.Option.{none}
 
 -- ---- a node that was removed services nothing
 
@@ -53,13 +53,6 @@ of_record es r n config w k knows = record {
   unserving = λ removed. removed_serves_nothing (state_after es) n.slot w k (ap (λ c. is_live c n.slot) (sym config) ∙ removed) n.made.first_port n.known knows.known;
 }
 
--- the view of a seat stays
-stays : (t : Table (Unit {0}) View) (h : Holds t) (id i : ℕ) (v : View) → get_elem? t.views id ≡ some v
-    → Holds (record { words = set t.words i (slice_index t.words i); homes = t.homes; views = set t.views id v })
-stays t h id i v at =
-    subst (λ ws. Holds (record { words = ws; homes = t.homes; views = set t.views id v })) (sym (same_words t.words i))
-    (subst (λ vs. Holds (record { words = t.words; homes = t.homes; views = vs })) (sym (set_again t.views id v at)) h)
-
 -- by any load the change learns that of the seat that it took in last
 pub meets : (slots id i : ℕ) (n : NodeView) (nodes : List NodeView) (c : ChangeView) → Allows Holds slots id (of_change (n ∷ nodes) c, []) i (λ x. x)
     (λ found new. (new ≡ (of_change (n ∷ nodes) c, [])) × IsOfRecord c.entries n)
@@ -71,9 +64,13 @@ meets slots id i n nodes c t h _ at _ =
       of_change (n ∷ nodes) c,
       keeps,
       tt,
-      stays t h id i (of_change (n ∷ nodes) c) at,
+      (stays t h id i (of_change (n ∷ nodes) c) at).holds,
       (refl, of_record es c.entries n (config_is c.entries h.trace.moments mine) (runs_are_well_formed es run) (runs_are_consistent es run) fit.nodes.0.knows),
     )
+
+pub meet_prolongs : (slots id i : ℕ) (n : NodeView) (nodes : List NodeView) (c : ChangeView)
+    → Prolongs id (of_change (n ∷ nodes) c, []) i (λ x. x) (Meets (step slots i 0 0 none) (of_change (n ∷ nodes) c, [])) (λ found. [])
+meet_prolongs slots id i n nodes c t h at v a then_ = prolonged t h id i _ _ _ (straight t h id _ _ _ (stays t h id i (of_change (n ∷ nodes) c) at)) v a then_.0
 
 -- ---- the events of the nodes that were taken in
 
@@ -116,7 +113,7 @@ merges slots id p nodes c few all t h _ at _ =
       of_change nodes (notes c x),
       keeps,
       tt,
-      subst (λ ws. Holds (record { words = ws; homes = t.homes; views = set t.views id (of_change nodes (notes c x)) })) (sym (same_words t.words p)) (sees t h id t.homes nodes c x at refl so),
+      subst (λ ws. Holds (record { words = ws; homes = t.homes; views = set t.views id (of_change nodes (notes c x)) })) (sym (same_words t.words p)) (sees t h id t.homes nodes c x at refl so).holds,
       (
         refl,
         record {
@@ -128,3 +125,7 @@ merges slots id p nodes c few all t h _ at _ =
         },
       ),
     )
+
+pub merge_prolongs : (slots id p : ℕ) (nodes : List NodeView) (c : ChangeView) → p < MAX_PORTS
+    → Prolongs id (of_change nodes c, []) p (λ x. x) (Merges (step slots p 0 0 none) (of_change nodes c, [])) (λ found. entry (Looked p found) ∷ [])
+merge_prolongs slots id p nodes c few t h at v a then_ = prolonged t h id p _ _ _ (straight t h id _ _ _ (look_moves slots id nodes c t h at p few)) v a then_.0

@@ -1,9 +1,9 @@
 -- The steps of nodes keep the rule: each is shown by the trace with its event, or by the same trace.
-use Rattle.std.proofs.Common.{◌≡◌, ◌∙◌, ℕ, ◌+◌, ◌<◌, ◌^◌, ◌%◌, Bool, true, false, ◌||◌, cond, List, [], set, Option, Some, None, refl, sym, ap, subst, arith}
+use Rattle.std.proofs.Common.{◌≡◌, ◌∙◌, ℕ, ◌+◌, ◌<◌, ◌^◌, ◌%◌, Bool, true, false, ◌||◌, cond, List, [], ◌∷◌, set, Option, Some, None, refl, sym, ap, subst, arith}
 use Rattle.std.specs.Prelude.{◌==◌, bit_xor, is_none, slice_index}
 use Rattle.std.proofs.lemmas.Bool.{both_ways, eqb-false, eqb-true}
 use Rattle.std.proofs.lemmas.Option.{same_Some}
-use Rattle.atomic_table.specs.Table.{Allows, State as Table, keeps}
+use Rattle.atomic_table.specs.Table.{Allows, keeps, step}
 use Rattle.config_graph.specs.declared.TheConstants.{MAX_PORTS}
 use Rattle.config_graph.specs.declared.node.Target.{Target}
 use Rattle.gate_word.specs.Operands.{call_difference, end_difference, message_difference}
@@ -13,7 +13,7 @@ use Rattle.gate_word.specs.declared.phase.Phase.{Phase}
 use Rattle.gate_word.specs.declared.phase.Phase.TheVariants as phase
 use Rattle.gate_word.specs.declared.word.Word.{Word}
 use Rattle.gate_word.proofs.OperandLaws.{call_turns}
-use Rattle.gate_records.specs.Records.{events, state_at}
+use Rattle.gate_records.specs.Records.{by_node, events, state_at}
 use Rattle.quiesce_core.specs.Doers.{is_of_change}
 use Rattle.quiesce_core.specs.Effect.{effect}
 use Rattle.quiesce_core.specs.Fields.{fields_of}
@@ -33,7 +33,8 @@ use Rattle.port_gate.specs.Moves.{with_seen}
 use Rattle.port_gate.specs.declared.answers.SeeAnswer.TheVariants as see
 use Rattle.port_gate.specs.Seats.{MayAsk, MayBegin, MayCall, MayEnd, MayGive, MayHear, MaySee, MaySendMore, MayTake, NodeAt, port_known, serial_served, value_seen}
 use Rattle.port_gate.proofs.AllowedLaws.{ask_allowed, ask_doer, begin_by_word, begin_doer, call_allowed, call_doer, end_allowed, end_doer, fits_seen, give_allowed, give_doer, hear_by_word, hear_doer, miss_by_word, miss_doer, more_allowed, more_doer}
-use Rattle.gate_rule.specs.Steps.{Seat, WasShown, did, looks, read, seen_in, value_served}
+use Rattle.gate_rule.specs.Growth.{ActProlongs, Gates, LoadProlongs, Prolongs, if_so}
+use Rattle.gate_rule.specs.Steps.{Begins, Hears, LoadsWord, LooksToCall, Seat, Sees, Takes, WasShown, did, looks, read, seen_in, value_served}
 use Rattle.gate_rule.specs.Steps.{sees as sees'}
 use Rattle.gate_rule.specs.Views.{does, node_at, of_node, reads}
 use Rattle.gate_rule.specs.Traces.{Holds, IsLoadedOf, KnowsNode, ShowsExchange}
@@ -41,20 +42,13 @@ use Rattle.gate_rule.specs.declared.view.LoadKind.{LoadKind}
 use Rattle.gate_rule.specs.declared.view.LoadKind.TheVariants as kinds
 use Rattle.gate_rule.specs.declared.view.LoadKind.TheVariants.{Own, Exchange}
 use Rattle.gate_rule.specs.declared.view.NodeView.{NodeView}
-use Rattle.gate_rule.specs.declared.view.View.{View}
 use Rattle.gate_rule.proofs.FittingLaws as fitting
+use Rattle.gate_rule.proofs.GrowthLaws.{Leads, With, picks, prolonged, straight}
 use Rattle.gate_rule.proofs.KnowingLaws.{read_known}
 use Rattle.gate_rule.proofs.TraceLaws.{acts, learns, same_words, shows_none, shows_port}
-use mathlib.Core.Option.{some}
+use mathlib.Core.Option.{none, some}
 use lib.ListN.{get_elem?}
 use prog.Atomic.{either}
-
-abbrev Gates : Type 0
-Gates = Table (Unit {0}) View
-
--- the rule of a table with these words
-abbrev With : Gates → ℕ → View → List ℕ → Type 0
-With t id v words = Holds (record { words = words; homes = t.homes; views = set t.views id v })
 
 module _ (n : NodeView) (t : Gates) (h : Holds t) (id : ℕ) (at : get_elem? t.views id ≡ some (of_node n)) where
   abbrev es : List Event
@@ -84,29 +78,29 @@ module _ (n : NodeView) (t : Gates) (h : Holds t) (id : ℕ) (at : get_elem? t.v
   has_read k p few = read_known es n k p (slice_index t.words p) (h.shows.ports p few)
 
   -- by a load it learns something
-  learnt : (n' : NodeView) (p : ℕ) → n'.slot ≡ n.slot → (KnowsNode es n → KnowsNode es n') → With t id (of_node n') (set t.words p (slice_index t.words p))
-  learnt n' p same knows = subst (With t id (of_node n')) (sym (same_words t.words p)) (learns t h id t.homes n n' at same knows)
+  learnt : (n' : NodeView) (p : ℕ) → n'.slot ≡ n.slot → (KnowsNode es n → KnowsNode es n') → With t h id (of_node n') (set t.words p (slice_index t.words p)) []
+  learnt n' p same knows = subst (λ ws. With t h id (of_node n') ws []) (sym (same_words t.words p)) (learns t h id t.homes n n' at same knows)
 
-  rests : (k : LoadKind) (p : ℕ) → p < MAX_PORTS → With t id (of_node (reading k p)) (set t.words p (slice_index t.words p))
+  rests : (k : LoadKind) (p : ℕ) → p < MAX_PORTS → With t h id (of_node (reading k p)) (set t.words p (slice_index t.words p)) []
   rests k p few = learnt (reading k p) p refl (has_read k p few)
 
   -- it learns something and does an event that changes the port's word to this
   moves_by : (n' : NodeView) → n'.slot ≡ n.slot → (KnowsNode es n → KnowsNode es n') → (e : Event) (p v : ℕ) → is_of_change e ≡ false → denial s e ≡ None → is_doer s n'.slot e ≡ true → p < MAX_PORTS
-      → changed_port e ≡ Some p → changed_slot e ≡ None → v ≡ word_of (effect s e) p → With t id (of_node (does n' e)) (set t.words p v)
-  moves_by n' same knows e p v by_node may does_ few port slot is =
-      acts t h id t.homes n n' e (set t.words p v) at same knows by_node may does_
+      → changed_port e ≡ Some p → changed_slot e ≡ None → v ≡ word_of (effect s e) p → With t h id (of_node (does n' e)) (set t.words p v) (by_node e ∷ [])
+  moves_by n' same knows e p v by_node_ may does_ few port slot is =
+      acts t h id t.homes n n' e (set t.words p v) at same knows by_node_ may does_
       (shows_port t.words s (effect s e) e (fitting.w es run n mine) (record { allowed = may; changed = refl }) h.shows p v few port slot is)
 
   moves : (e : Event) (p v : ℕ) → is_of_change e ≡ false → denial s e ≡ None → is_doer s n.slot e ≡ true → p < MAX_PORTS → changed_port e ≡ Some p → changed_slot e ≡ None
-      → v ≡ word_of (effect s e) p → With t id (of_node (does n e)) (set t.words p v)
+      → v ≡ word_of (effect s e) p → With t h id (of_node (does n e)) (set t.words p v) (by_node e ∷ [])
   moves = moves_by n refl (λ k. k)
 
   -- an event that changes no word, by a load
   takes_up : (k : LoadKind) (e : Event) (p : ℕ) → p < MAX_PORTS → is_of_change e ≡ false → denial s e ≡ None → is_doer s n.slot e ≡ true → changed_port e ≡ None → changed_slot e ≡ None
-      → With t id (of_node (does (reading k p) e)) (set t.words p (slice_index t.words p))
-  takes_up k e p few by_node may does_ port slot =
-      subst (With t id (of_node (does (reading k p) e))) (sym (same_words t.words p))
-      (acts t h id t.homes n (reading k p) e t.words at refl (has_read k p few) by_node may does_
+      → With t h id (of_node (does (reading k p) e)) (set t.words p (slice_index t.words p)) (by_node e ∷ [])
+  takes_up k e p few by_node_ may does_ port slot =
+      subst (λ ws. With t h id (of_node (does (reading k p) e)) ws (by_node e ∷ [])) (sym (same_words t.words p))
+      (acts t h id t.homes n (reading k p) e t.words at refl (has_read k p few) by_node_ may does_
       (shows_none t.words s (effect s e) e (fitting.w es run n mine) (record { allowed = may; changed = refl }) h.shows port slot))
 
 -- neither of two tests
@@ -118,20 +112,13 @@ some_if : (o : Option Target) → is_none o ≡ false → (t : Target) × (o ≡
 some_if None h = absurd (both_ways true h refl)
 some_if (Some t) h = (t, refl)
 
--- a seat that holds no slot
-abbrev alone : View → Seat
-alone v = (v, [])
-
--- by a test, the node does an event or stays
-picks : (t : Gates) (id : ℕ) (n n' : NodeView) (words : Bool → List ℕ) (b : Bool) → (b ≡ true → With t id (of_node n') (words true)) → (b ≡ false → With t id (of_node n) (words false))
-    → (v : View) × With t id v (words b) × (alone v ≡ cond b (alone (of_node n')) (alone (of_node n)))
-picks t id n n' words true moved stays = (of_node n', moved refl, refl)
-picks t id n n' words false moved stays = (of_node n, stays refl, refl)
-
 -- ---- load
 
 pub loads : (slots id p : ℕ) (n : NodeView) → p < MAX_PORTS → Allows Holds slots id (of_node n, []) p (λ x. x) (λ found new. (new ≡ (of_node (reads n Own p found), [])) × WasShown n p found)
-loads slots id p n few t h _ at _ = (of_node (reading n t h id at Own p), keeps, tt, rests n t h id at Own p few, (refl, shown n t h id at p few))
+loads slots id p n few t h _ at _ = (of_node (reading n t h id at Own p), keeps, tt, (rests n t h id at Own p few).holds, (refl, shown n t h id at p few))
+
+pub load_prolongs : (slots id p : ℕ) (n : NodeView) → p < MAX_PORTS → LoadProlongs id n p (LoadsWord (step slots p 0 0 none) (of_node n, [])) (λ found. [])
+load_prolongs slots id p n few t h at v a then_ = prolonged t h id p _ _ _ (straight t h id _ _ _ (rests n t h id at Own p few)) v a then_.0
 
 -- ---- take
 
@@ -142,7 +129,7 @@ module _ (n : NodeView) (p : ℕ) (may : MayTake n.known p) (t : Gates) (h : Hol
   abbrev take_event : Event
   take_event = Take p (unpack asked_at).serial (unpack asked_at).value
 
-  take_moves : is_message_to n.slot (unpack asked_at) ≡ true → With t id (of_node (does (reads n kinds.Take p asked_at) take_event)) (set t.words p asked_at)
+  take_moves : is_message_to n.slot (unpack asked_at) ≡ true → With t h id (of_node (does (reads n kinds.Take p asked_at) take_event)) (set t.words p asked_at) (by_node take_event ∷ [])
   take_moves asked =
       let es' = events h.trace.moments in
       let s' = state_at h.trace.moments in
@@ -155,17 +142,25 @@ module _ (n : NodeView) (p : ℕ) (may : MayTake n.known p) (t : Gates) (h : Hol
       (fitting.message_doer s' p n.slot (subst (λ x. is_message_to n.slot x ≡ true) (fields n t h id at p may.made) asked))
       refl refl
 
+  take_leads : Leads t h id (set t.words p asked_at) (if_so (is_message_to n.slot (unpack asked_at)) take_event)
+      (cond (is_message_to n.slot (unpack asked_at)) (did (read (of_node n, []) kinds.Take p asked_at) take_event) (read (of_node n, []) kinds.Take p asked_at))
+  take_leads =
+      let after = reading n t h id at kinds.Take p in
+      picks t h id (of_node (does after take_event)) (of_node after) (λ b. set t.words p asked_at) (by_node take_event ∷ []) (is_message_to n.slot (unpack asked_at))
+      take_moves (λ _. rests n t h id at kinds.Take p may.made)
+
 pub takes : (slots id p : ℕ) (n : NodeView) → MayTake n.known p
     → Allows Holds slots id (of_node n, []) p (λ x. x)
     (λ found new.
     (new ≡ cond (is_message_to n.slot (unpack found)) (did (read (of_node n, []) kinds.Take p found) (Take p (unpack found).serial (unpack found).value)) (read (of_node n, []) kinds.Take p found))
     × WasShown n p found)
 takes slots id p n may t h _ at _ =
-    let found = slice_index t.words p in
-    let after = reading n t h id at kinds.Take p in
-    let it = picks t id after (does after (take_event n p may t h id at)) (λ b. set t.words p found) (is_message_to n.slot (unpack found)) (take_moves n p may t h id at)
-    (λ _. rests n t h id at kinds.Take p may.made) in
-    (it.0, keeps, tt, it.1, (it.2, shown n t h id at p may.made))
+    let it = take_leads n p may t h id at in
+    (it.view, keeps, tt, it.goes_on.holds, (it.is, shown n t h id at p may.made))
+
+pub take_prolongs : (slots id p : ℕ) (n : NodeView) → MayTake n.known p
+    → LoadProlongs id n p (Takes (step slots p 0 0 none) (of_node n, [])) (λ found. if_so (is_message_to n.slot (unpack found)) (Take p (unpack found).serial (unpack found).value))
+take_prolongs slots id p n may t h at v a then_ = prolonged t h id p _ _ _ (take_leads n p may t h id at) v a then_.0
 
 -- ---- begin
 
@@ -178,7 +173,7 @@ module _ (n : NodeView) (p v old : ℕ) (may : MayBegin (node_at n) n.known p v)
     abbrev event : Event
     event = Begin p ((unpack old).serial + 1) v
 
-    begin_moves : slice_index t.words p ≡ old → With t id (of_node (does (reading n t h id at Exchange p) event)) (set t.words p (pack new_word))
+    begin_moves : slice_index t.words p ≡ old → With t h id (of_node (does (reading n t h id at Exchange p) event)) (set t.words p (pack new_word)) (by_node event ∷ [])
     begin_moves is =
         let es' = events h.trace.moments in
         let s' = state_at h.trace.moments in
@@ -196,22 +191,36 @@ module _ (n : NodeView) (p v old : ℕ) (may : MayBegin (node_at n) n.known p v)
         (ap (λ (x : Word). pack (record x { phase = phase.Asked; serial = (unpack old).serial + 1; value = v; consequent = false })) word
         ∙ sym (begin_by s' (effect s' event) p ((unpack old).serial + 1) v w (record { allowed = allowed; changed = refl })))
 
+    few : p < MAX_PORTS
+    few = fitting.port_below (events h.trace.moments) (run n t h id at) n (mine n t h id at) p may.own
+
+    abbrev begun_or_not : ℕ → Seat
+    begun_or_not found = cond (found == old) (did (read (of_node n, []) Exchange p found) event) (read (of_node n, []) Exchange p found)
+
+    begin_leads : Leads t h id (set t.words p (either (slice_index t.words p == old) (pack new_word) (slice_index t.words p))) (if_so (slice_index t.words p == old) event) (begun_or_not (slice_index t.words p))
+    begin_leads =
+        let found = slice_index t.words p in
+        let after = reading n t h id at Exchange p in
+        picks t h id (of_node (does after event)) (of_node after) (λ b. set t.words p (either b (pack new_word) found)) (by_node event ∷ []) (found == old)
+        (λ same. begin_moves (eqb-true found old same)) (λ _. rests n t h id at Exchange p few)
+
   pub begins : (slots id : ℕ) → Allows Holds slots id (of_node n, []) p (λ x. either (x == old) (pack new_word) x)
       (λ found new.
       (new ≡ cond (found == old) (did (read (of_node n, []) Exchange p found) (Begin p ((unpack old).serial + 1) v)) (read (of_node n, []) Exchange p found)) × WasShown n p found)
   begins slots id t h _ at _ =
-      let found = slice_index t.words p in
-      let few = fitting.port_below (events h.trace.moments) (run n t h id at) n (mine n t h id at) p may.own in
-      let after = reading n t h id at Exchange p in
-      let it = picks t id after (does after (Begin p ((unpack old).serial + 1) v)) (λ b. set t.words p (either b (pack new_word) found)) (found == old)
-      (λ same. begin_moves t h id at (eqb-true found old same)) (λ _. rests n t h id at Exchange p few) in
-      (it.0, keeps, tt, it.1, (it.2, shown n t h id at p few))
+      let it = begin_leads t h id at in
+      (it.view, keeps, tt, it.goes_on.holds, (it.is, shown n t h id at p (few t h id at)))
+
+  pub begin_prolongs : (slots id : ℕ) → Prolongs id (of_node n, []) p (λ x. either (x == old) (pack new_word) x) (Begins (Begin p ((unpack old).serial + 1) v) (step slots p old (pack new_word) none) (of_node n, []))
+      (λ found. if_so (found == old) (Begin p ((unpack old).serial + 1) v))
+  begin_prolongs slots id t h at w a then_ = prolonged t h id p _ _ _ (begin_leads t h id at) w a then_.0
 
 -- ---- give
 
 module _ (n : NodeView) (p v : ℕ) (may : MayGive n.known p v) (t : Gates) (h : Holds t) (id : ℕ) (at : get_elem? t.views id ≡ some (of_node n)) where
   give_moves : p < MAX_PORTS
-      → With t id (of_node (does n (Give p (serial_served n.known) v))) (set t.words p (bit_xor (slice_index t.words p) (message_difference phase.Asked (value_served n.known % 2 ^ 24) phase.Answered v)))
+      → With t h id (of_node (does n (Give p (serial_served n.known) v))) (set t.words p (bit_xor (slice_index t.words p) (message_difference phase.Asked (value_served n.known % 2 ^ 24) phase.Answered v)))
+      (by_node (Give p (serial_served n.known) v) ∷ [])
   give_moves few =
       let es' = events h.trace.moments in
       let s' = state_at h.trace.moments in
@@ -231,7 +240,13 @@ pub gives : (slots id p v : ℕ) (n : NodeView) → MayGive n.known p v
     → Allows Holds slots id (of_node n, []) p (λ x. bit_xor x (message_difference phase.Asked (value_served n.known % 2 ^ 24) phase.Answered v))
     (λ found new. new ≡ did (of_node n, []) (Give p (serial_served n.known) v))
 gives slots id p v n may t h _ at _ =
-    (of_node (does n (Give p (serial_served n.known) v)), keeps, tt, give_moves n p v may t h id at (fitting.serving_below (events h.trace.moments) (run n t h id at) n (mine n t h id at) p may.serving), refl)
+    (of_node (does n (Give p (serial_served n.known) v)), keeps, tt, (give_moves n p v may t h id at (fitting.serving_below (events h.trace.moments) (run n t h id at) n (mine n t h id at) p may.serving)).holds, refl)
+
+pub give_prolongs : (id p v : ℕ) (n : NodeView) → MayGive n.known p v
+    → ActProlongs id n p (message_difference phase.Asked (value_served n.known % 2 ^ 24) phase.Answered v) (Give p (serial_served n.known) v)
+give_prolongs id p v n may t h at w a is =
+    let few = fitting.serving_below (events h.trace.moments) (run n t h id at) n (mine n t h id at) p may.serving in
+    prolonged t h id p _ _ _ (straight t h id _ _ _ (give_moves n p v may t h id at few)) w a is
 
 -- ---- end
 
@@ -243,7 +258,7 @@ module _ (n : NodeView) (p : ℕ) (may : MayEnd (node_at n) n.known p) where
   end_event = End p port.serial (value_seen port)
 
   end_moves : (t : Gates) (h : Holds t) (id : ℕ) → get_elem? t.views id ≡ some (of_node n)
-      → With t id (of_node (does n end_event)) (set t.words p (bit_xor (slice_index t.words p) (end_difference (value_seen port % 2 ^ 24) port.consequent)))
+      → With t h id (of_node (does n end_event)) (set t.words p (bit_xor (slice_index t.words p) (end_difference (value_seen port % 2 ^ 24) port.consequent))) (by_node end_event ∷ [])
   end_moves t h id at =
       let es' = events h.trace.moments in
       let s' = state_at h.trace.moments in
@@ -262,7 +277,10 @@ module _ (n : NodeView) (p : ℕ) (may : MayEnd (node_at n) n.known p) where
       ∙ sym (end_by s' (effect s' end_event) p port.serial (value_seen port) w (record { allowed = allowed; changed = refl })))
 
   pub ends : (slots id : ℕ) → Allows Holds slots id (of_node n, []) p (λ x. bit_xor x (end_difference (value_seen port % 2 ^ 24) port.consequent)) (λ found new. new ≡ did (of_node n, []) end_event)
-  ends slots id t h _ at _ = (of_node (does n end_event), keeps, tt, end_moves t h id at, refl)
+  ends slots id t h _ at _ = (of_node (does n end_event), keeps, tt, (end_moves t h id at).holds, refl)
+
+  pub end_prolongs : (id : ℕ) → ActProlongs id n p (end_difference (value_seen port % 2 ^ 24) port.consequent) end_event
+  end_prolongs id t h at w a is = prolonged t h id p _ _ _ (straight t h id _ _ _ (end_moves t h id at)) w a is
 
 -- ---- see
 
@@ -312,15 +330,20 @@ sees slots id p n may t h _ at _ =
       of_node after,
       keeps,
       tt,
-      learnt n t h id at after p refl (see_knows n p may t h id at),
+      (learnt n t h id at after p refl (see_knows n p may t h id at)).holds,
       (refl, shown n t h id at p few),
     )
+
+pub see_prolongs : (slots id p : ℕ) (n : NodeView) → MaySee (node_at n) n.known p → LoadProlongs id n p (Sees (step slots p 0 0 none) (of_node n, [])) (λ found. [])
+see_prolongs slots id p n may t h at v a then_ =
+    prolonged t h id p _ _ _ (straight t h id _ _ _ (learnt n t h id at (seeing n p may t h id at) p refl (see_knows n p may t h id at))) v a then_.0
 
 -- ---- more
 
 module _ (n : NodeView) (p v : ℕ) (may : MaySendMore (node_at n) n.known p v) (t : Gates) (h : Holds t) (id : ℕ) (at : get_elem? t.views id ≡ some (of_node n)) where
   more_moves : p < MAX_PORTS
-      → With t id (of_node (does n (More p (serial_served n.known) v))) (set t.words p (bit_xor (slice_index t.words p) (message_difference phase.Asked (value_served n.known % 2 ^ 24) phase.More v)))
+      → With t h id (of_node (does n (More p (serial_served n.known) v))) (set t.words p (bit_xor (slice_index t.words p) (message_difference phase.Asked (value_served n.known % 2 ^ 24) phase.More v)))
+      (by_node (More p (serial_served n.known) v) ∷ [])
   more_moves few =
       let es' = events h.trace.moments in
       let s' = state_at h.trace.moments in
@@ -341,7 +364,13 @@ pub mores : (slots id p v : ℕ) (n : NodeView) → MaySendMore (node_at n) n.kn
     → Allows Holds slots id (of_node n, []) p (λ x. bit_xor x (message_difference phase.Asked (value_served n.known % 2 ^ 24) phase.More v))
     (λ found new. new ≡ did (of_node n, []) (More p (serial_served n.known) v))
 mores slots id p v n may t h _ at _ =
-    (of_node (does n (More p (serial_served n.known) v)), keeps, tt, more_moves n p v may t h id at (fitting.serving_below (events h.trace.moments) (run n t h id at) n (mine n t h id at) p may.give.serving), refl)
+    (of_node (does n (More p (serial_served n.known) v)), keeps, tt, (more_moves n p v may t h id at (fitting.serving_below (events h.trace.moments) (run n t h id at) n (mine n t h id at) p may.give.serving)).holds, refl)
+
+pub more_prolongs : (id p v : ℕ) (n : NodeView) → MaySendMore (node_at n) n.known p v
+    → ActProlongs id n p (message_difference phase.Asked (value_served n.known % 2 ^ 24) phase.More v) (More p (serial_served n.known) v)
+more_prolongs id p v n may t h at w a is =
+    let few = fitting.serving_below (events h.trace.moments) (run n t h id at) n (mine n t h id at) p may.give.serving in
+    prolonged t h id p _ _ _ (straight t h id _ _ _ (more_moves n p v may t h id at few)) w a is
 
 -- ---- ask
 
@@ -353,7 +382,8 @@ module _ (n : NodeView) (p v : ℕ) (may : MayAsk (node_at n) n.known p v) where
   ask_event = Ask p asking.serial v
 
   ask_moves : (t : Gates) (h : Holds t) (id : ℕ) → get_elem? t.views id ≡ some (of_node n)
-      → With t id (of_node (does n ask_event)) (set t.words p (bit_xor (slice_index t.words p) (message_difference phase.More (value_seen asking % 2 ^ 24) phase.Asked v)))
+      → With t h id (of_node (does n ask_event)) (set t.words p (bit_xor (slice_index t.words p) (message_difference phase.More (value_seen asking % 2 ^ 24) phase.Asked v)))
+      (by_node ask_event ∷ [])
   ask_moves t h id at =
       let es' = events h.trace.moments in
       let s' = state_at h.trace.moments in
@@ -372,7 +402,10 @@ module _ (n : NodeView) (p v : ℕ) (may : MayAsk (node_at n) n.known p v) where
       ∙ sym (ask_by s' (effect s' ask_event) p asking.serial v w (record { allowed = allowed; changed = refl })))
 
   pub asks : (slots id : ℕ) → Allows Holds slots id (of_node n, []) p (λ x. bit_xor x (message_difference phase.More (value_seen asking % 2 ^ 24) phase.Asked v)) (λ found new. new ≡ did (of_node n, []) ask_event)
-  asks slots id t h _ at _ = (of_node (does n ask_event), keeps, tt, ask_moves t h id at, refl)
+  asks slots id t h _ at _ = (of_node (does n ask_event), keeps, tt, (ask_moves t h id at).holds, refl)
+
+  pub ask_prolongs : (id : ℕ) → ActProlongs id n p (message_difference phase.More (value_seen asking % 2 ^ 24) phase.Asked v) ask_event
+  ask_prolongs id t h at w a is = prolonged t h id p _ _ _ (straight t h id _ _ _ (ask_moves t h id at)) w a is
 
 -- ---- hear
 
@@ -383,7 +416,7 @@ module _ (n : NodeView) (p : ℕ) (may : MayHear n.known p) (t : Gates) (h : Hol
   abbrev hear_event : Event
   hear_event = Hear p (serial_served n.known) (unpack heard_word).value
 
-  hear_moves : p < MAX_PORTS → is_asked (unpack heard_word).phase ≡ true → With t id (of_node (does (reads n kinds.Hear p heard_word) hear_event)) (set t.words p heard_word)
+  hear_moves : p < MAX_PORTS → is_asked (unpack heard_word).phase ≡ true → With t h id (of_node (does (reads n kinds.Hear p heard_word) hear_event)) (set t.words p heard_word) (by_node hear_event ∷ [])
   hear_moves few asked =
       let es' = events h.trace.moments in
       let s' = state_at h.trace.moments in
@@ -397,18 +430,28 @@ module _ (n : NodeView) (p : ℕ) (may : MayHear n.known p) (t : Gates) (h : Hol
       (hear_doer s' w c n.slot n.known fits p (serial_served n.known) (unpack heard_word).value may.serving)
       refl refl
 
+  heard_few : p < MAX_PORTS
+  heard_few = fitting.serving_below (events h.trace.moments) (run n t h id at) n (mine n t h id at) p may.serving
+
+  hear_leads : Leads t h id (set t.words p heard_word) (if_so (is_asked (unpack heard_word).phase) hear_event)
+      (cond (is_asked (unpack heard_word).phase) (did (read (of_node n, []) kinds.Hear p heard_word) hear_event) (read (of_node n, []) kinds.Hear p heard_word))
+  hear_leads =
+      let after = reading n t h id at kinds.Hear p in
+      picks t h id (of_node (does after hear_event)) (of_node after) (λ b. set t.words p heard_word) (by_node hear_event ∷ []) (is_asked (unpack heard_word).phase)
+      (hear_moves heard_few) (λ _. rests n t h id at kinds.Hear p heard_few)
+
 pub hears : (slots id p : ℕ) (n : NodeView) → MayHear n.known p
     → Allows Holds slots id (of_node n, []) p (λ x. x)
     (λ found new.
     (new ≡ cond (is_asked (unpack found).phase) (did (read (of_node n, []) kinds.Hear p found) (Hear p (serial_served n.known) (unpack found).value)) (read (of_node n, []) kinds.Hear p found))
     × WasShown n p found)
 hears slots id p n may t h _ at _ =
-    let found = slice_index t.words p in
-    let few = fitting.serving_below (events h.trace.moments) (run n t h id at) n (mine n t h id at) p may.serving in
-    let after = reading n t h id at kinds.Hear p in
-    let it = picks t id after (does after (hear_event n p may t h id at)) (λ b. set t.words p found) (is_asked (unpack found).phase) (hear_moves n p may t h id at few)
-    (λ _. rests n t h id at kinds.Hear p few) in
-    (it.0, keeps, tt, it.1, (it.2, shown n t h id at p few))
+    let it = hear_leads n p may t h id at in
+    (it.view, keeps, tt, it.goes_on.holds, (it.is, shown n t h id at p (heard_few n p may t h id at)))
+
+pub hear_prolongs : (slots id p : ℕ) (n : NodeView) → MayHear n.known p
+    → LoadProlongs id n p (Hears (step slots p 0 0 none) (of_node n, [])) (λ found. if_so (is_asked (unpack found).phase) (Hear p (serial_served n.known) (unpack found).value))
+hear_prolongs slots id p n may t h at v a then_ = prolonged t h id p _ _ _ (hear_leads n p may t h id at) v a then_.0
 
 -- ---- call
 
@@ -420,7 +463,7 @@ module _ (n : NodeView) (p v : ℕ) (may : MayCall (node_at n) n.known p v) wher
     abbrev calling : NodeView
     calling = looks n p call_word
 
-    miss_moves : is_missing (unpack call_word) ≡ true → With t id (of_node (does (reads n Own p call_word) (Miss p))) (set t.words p call_word)
+    miss_moves : is_missing (unpack call_word) ≡ true → With t h id (of_node (does (reads n Own p call_word) (Miss p))) (set t.words p call_word) (by_node (Miss p) ∷ [])
     miss_moves missing =
         let es' = events h.trace.moments in
         let s' = state_at h.trace.moments in
@@ -460,15 +503,23 @@ module _ (n : NodeView) (p v : ℕ) (may : MayCall (node_at n) n.known p v) wher
           loaded = λ l is. subst (λ l. IsLoadedOf s' n.slot l) (same_Some (record { port = p; word = call_word }) l is) here;
         }
 
+    call_few : p < MAX_PORTS
+    call_few = fitting.port_below (events h.trace.moments) (run n t h id at) n (mine n t h id at) p may.own
+
+    look_leads : Leads t h id (set t.words p call_word) (if_so (is_missing (unpack call_word)) (Miss p))
+        (cond (is_missing (unpack call_word)) (did (read (of_node n, []) Own p call_word) (Miss p)) (of_node calling, []))
+    look_leads =
+        picks t h id (of_node (does (reading n t h id at Own p) (Miss p))) (of_node calling) (λ b. set t.words p call_word) (by_node (Miss p) ∷ []) (is_missing (unpack call_word))
+        miss_moves (λ _. learnt n t h id at calling p refl loaded_knows)
+
   pub looks_to_call : (slots id : ℕ) → Allows Holds slots id (of_node n, []) p (λ x. x)
       (λ found new. (new ≡ cond (is_missing (unpack found)) (did (read (of_node n, []) Own p found) (Miss p)) (of_node (looks n p found), [])) × WasShown n p found)
   looks_to_call slots id t h _ at _ =
-      let found = slice_index t.words p in
-      let few = fitting.port_below (events h.trace.moments) (run n t h id at) n (mine n t h id at) p may.own in
-      let after = calling t h id at in
-      let it = picks t id after (does (reading n t h id at Own p) (Miss p)) (λ b. set t.words p found) (is_missing (unpack found)) (miss_moves t h id at)
-      (λ _. learnt n t h id at after p refl (loaded_knows t h id at)) in
-      (it.0, keeps, tt, it.1, (it.2, shown n t h id at p few))
+      let it = look_leads t h id at in
+      (it.view, keeps, tt, it.goes_on.holds, (it.is, shown n t h id at p (call_few t h id at)))
+
+  pub look_prolongs : (slots id : ℕ) → LoadProlongs id n p (LooksToCall (step slots p 0 0 none) (of_node n, [])) (λ found. if_so (is_missing (unpack found)) (Miss p))
+  look_prolongs slots id t h at w a then_ = prolonged t h id p _ _ _ (look_leads t h id at) w a then_.0
 
   -- the word that was loaded, by which it calls
   module _ (word : ℕ) (was : n.loaded ≡ Some (record { port = p; word = word })) (fit : FitsWord (unpack word)) (found_there : is_missing (unpack word) ≡ false) where
@@ -482,7 +533,7 @@ module _ (n : NodeView) (p v : ℕ) (may : MayCall (node_at n) n.known p v) wher
         (leads.0, leads.1, (let few = fit.serial in let apart = eqb-false (unpack word).serial last_serial parts.1 in omega (arith, few, apart)))
 
     call_moves : (t : Gates) (h : Holds t) (id : ℕ) → get_elem? t.views id ≡ some (of_node n)
-        → With t id (of_node (does n call_event)) (set t.words p (bit_xor (slice_index t.words p) (call_difference (unpack word) v)))
+        → With t h id (of_node (does n call_event)) (set t.words p (bit_xor (slice_index t.words p) (call_difference (unpack word) v))) (by_node call_event ∷ [])
     call_moves t h id at =
         let es' = events h.trace.moments in
         let s' = state_at h.trace.moments in
@@ -507,4 +558,7 @@ module _ (n : NodeView) (p v : ℕ) (may : MayCall (node_at n) n.known p v) wher
         ∙ sym (ap pack (port_word_follows s' (effect s' call_event) call_event w step p refl)))
 
     pub calls : (slots id : ℕ) → Allows Holds slots id (of_node n, []) p (λ x. bit_xor x (call_difference (unpack word) v)) (λ found new. new ≡ did (of_node n, []) call_event)
-    calls slots id t h _ at _ = (of_node (does n call_event), keeps, tt, call_moves t h id at, refl)
+    calls slots id t h _ at _ = (of_node (does n call_event), keeps, tt, (call_moves t h id at).holds, refl)
+
+    pub call_prolongs : (id : ℕ) → ActProlongs id n p (call_difference (unpack word) v) call_event
+    call_prolongs id t h at w a is = prolonged t h id p _ _ _ (straight t h id _ _ _ (call_moves t h id at)) w a is

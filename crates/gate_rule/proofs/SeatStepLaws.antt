@@ -5,9 +5,9 @@ use Rattle.std.specs.Prelude.{◌==◌, option_map, slice_index}
 use Rattle.std.specs.Option.{option_map_or}
 use Rattle.std.proofs.lemmas.Bool.{cases_eq, eq-eqb, false≢true, ne_eqb, or_right}
 use Rattle.std.proofs.lemmas.Option.{same_Some, slice_get_within}
-use Rattle.std.proofs.lemmas.List.{get_or-append-add, get_or-replicate, get_or_append_left, length-append, length-replicate, length-set}
-use Rattle.atomic_table.specs.Table.{Allows, Joins, Splits, State as Table, keeps, opening}
-use Rattle.atomic_table.proofs.Lists.{at_last, at_set, set_again, set_else}
+use Rattle.std.proofs.lemmas.List.{append-nil, get_or-append-add, get_or-replicate, get_or_append_left, length-append, length-replicate, length-set}
+use Rattle.atomic_table.specs.Table.{Allows, Joins, Splits, State as Table, keeps, opening, step}
+use Rattle.atomic_table.proofs.Lists.{at_last, at_set, set_else}
 use Rattle.base.proofs.OptionLaws.{option_map_some}
 use Rattle.base.proofs.PlaceLaws.{slice_get-there}
 use Rattle.config_graph.specs.declared.TheConstants.{MAX_NODES, MAX_PORTS}
@@ -28,12 +28,15 @@ use Rattle.quiesce_core.proofs.RunLaws.{runs_are_well_formed}
 use Rattle.quiesce_core.proofs.SoundnessLaws.{well_formed_empty}
 use Rattle.quiesce_core.proofs.WordLaws.{slot_words_of_runs}
 use Rattle.gate_rule.specs.Views.{given_out, is_among, new_seat, newest, nobody, notes, nothing_done, of_change, of_node, seat_again, unknown, with_seat, with_sight, without_seat}
+use Rattle.gate_rule.specs.Growth.{GoesOn, JoinProlongs, LoadProlongs, SplitProlongs}
+use Rattle.gate_rule.specs.Steps.{Adopts}
 use Rattle.gate_rule.specs.Traces.{first_words, AreSeated, FitsView, FitsChange, FitsNode, HasChange, HasSlot, Holds, IsTrace, IsThere, KnowsNode, Shows, Trace}
 use Rattle.gate_rule.specs.declared.view.ChangeView.{ChangeView}
 use Rattle.gate_rule.specs.declared.view.NodeView.{NodeView}
 use Rattle.gate_rule.specs.declared.view.View.{View}
-use Rattle.gate_rule.proofs.TraceLaws.{all_into, holds_joined, holds_parted, same_words, set_there, stays_there, there_before}
-use mathlib.Core.Option.{some, some-injective, some-ne-none}
+use Rattle.gate_rule.proofs.GrowthLaws.{prolonged, stays, straight}
+use Rattle.gate_rule.proofs.TraceLaws.{all_into, goes_on_joined, goes_on_parted, set_there, stays_there, there_before}
+use mathlib.Core.Option.{none, some, some-injective, some-ne-none}
 use lib.ListN.{get_elem?}
 
 -- ---- owners
@@ -136,8 +139,8 @@ module _ (id : ℕ) (nodes : List NodeView) (c : ChangeView) (more_ : c.seats < 
         loaded = λ l is. absurd (cc is);
       }
 
-  pub gives_seat : Splits Holds id (of_change nodes c) (without_seat (of_change nodes c)) (new_seat (of_change nodes c))
-  gives_seat t h at =
+  pub new_seat_prolongs : SplitProlongs id (of_change nodes c) (without_seat (of_change nodes c)) (new_seat (of_change nodes c))
+  new_seat_prolongs t h at =
       let w = h.trace in
       let fit = h.views id (of_change nodes c) at in
       let mine = fit.change c refl in
@@ -145,7 +148,7 @@ module _ (id : ℕ) (nodes : List NodeView) (c : ChangeView) (more_ : c.seats < 
       let node : (j : ℕ) (u : NodeView) → FitsNode w j u → FitsNode w' j u =
       λ j u f. other_owner w c.seats (length t.views) (w.seats + 1) j u (omega arith) (λ is. omega (arith, is, f.seated, mine.seats)) f in
       let c' : ChangeView = record c { seats = c.seats + 1 } in
-      holds_parted t w' id (of_change nodes c') (of_node (newest c)) t.homes
+      goes_on_parted t h w' refl id (of_change nodes c') (of_node (newest c)) t.homes
       (record { is_record = h.is_trace.is_record; unseated = λ n none_. h.is_trace.unseated n (omega (arith, none_)) })
       h.shows
       (λ j u apart there.
@@ -175,6 +178,9 @@ module _ (id : ℕ) (nodes : List NodeView) (c : ChangeView) (more_ : c.seats < 
       (parted w (w.seats + 1) t.views id (of_change nodes c) (of_change nodes c') (newest c) at h.seated (λ m _ among. among) (λ so. so)
       (λ m apart below. (let here = mine.seats in omega (arith, apart, below, here))))
 
+  pub gives_seat : Splits Holds id (of_change nodes c) (without_seat (of_change nodes c)) (new_seat (of_change nodes c))
+  gives_seat t h at = (new_seat_prolongs t h at).holds
+
 -- what the new seat reads of its slot's word
 pub adopts : (slots id : ℕ) (n : NodeView) → Allows Holds slots id (of_node n, []) (MAX_PORTS + n.slot) (λ x. x) (λ found new. (new ≡ (of_node n, [])) × (unpack_slot found ≡ Some n.made))
 adopts slots id n t h _ at _ =
@@ -187,16 +193,19 @@ adopts slots id n t h _ at _ =
       of_node n,
       keeps,
       tt,
-      subst (λ ws. Holds (record { words = ws; homes = t.homes; views = set t.views id (of_node n) })) (sym (same_words t.words (MAX_PORTS + n.slot)))
-          (subst (λ vs. Holds (record { words = t.words; homes = t.homes; views = vs })) (sym (set_again t.views id (of_node n) at)) h),
+      (stays t h id (MAX_PORTS + n.slot) (of_node n) at).holds,
       (refl, ap unpack_slot (h.shows.slots n.slot few) ∙ slot_words_of_runs es n.slot run ∙ fit.knows.made),
     )
+
+pub adopt_prolongs : (slots id : ℕ) (n : NodeView) → LoadProlongs id n (MAX_PORTS + n.slot) (Adopts (step slots (MAX_PORTS + n.slot) 0 0 none) (of_node n, [])) (λ found. [])
+adopt_prolongs slots id n t h at v a then_ = prolonged t h id (MAX_PORTS + n.slot) _ _ _ (straight t h id _ _ _ (stays t h id (MAX_PORTS + n.slot) (of_node n) at)) v a then_.0
 
 -- ---- a seat that is taken in, for good or for a sight
 
 module _ (id : ℕ) (nodes : List NodeView) (c : ChangeView) (other : ℕ) (n : NodeView) (t : Table (Unit {0}) View) (h : Holds t) (at : get_elem? t.views id ≡ some (of_change nodes c))
     (two : ¬ (other ≡ id)) (there : get_elem? t.views other ≡ some (of_node n)) (c' : ChangeView) (w' : Trace) (owner : w'.owner ≡ own h.trace.owner n.slot id) (change : w'.change ≡ h.trace.change)
     (seats : w'.seats ≡ h.trace.seats) (same : events w'.moments ≡ events h.trace.moments) (is_trace : IsTrace w') (seats' : c'.seats ≡ w'.seats) (entries' : c'.entries ≡ w'.entries)
+    (more_ : List Moment) (goes_on : w'.moments ≡ h.trace.moments ++ more_)
     (seated : AreSeated w' (set (set t.views id (of_change (n ∷ nodes) c')) other nobody)) where
   abbrev w : Trace
   w = h.trace
@@ -224,9 +233,9 @@ module _ (id : ℕ) (nodes : List NodeView) (c : ChangeView) (other : ℕ) (n : 
   all_moved : (j : ℕ) (us : List NodeView) → j ≢ other → AllByRecursion (FitsNode w j) us → AllByRecursion (FitsNode w' j) us
   all_moved j us apart fits = all_into (FitsNode w j) (FitsNode w' j) us (λ u f. moved j u (not_it j u apart f) f) fits
 
-  pub joins : Holds (record { words = t.words; homes = t.homes; views = set (set t.views id (of_change (n ∷ nodes) c')) other nobody })
+  joins : GoesOn t h (record { words = t.words; homes = t.homes; views = set (set t.views id (of_change (n ∷ nodes) c')) other nobody }) more_
   joins =
-      holds_joined t w' id other (of_change (n ∷ nodes) c') t.homes is_trace
+      goes_on_joined t h w' more_ goes_on id other (of_change (n ∷ nodes) c') t.homes is_trace
       (subst (λ es. Shows t.words (state_after es)) (sym same) h.shows)
       (λ j u not_id not_other there'.
       let f = h.views j u there' in
@@ -253,19 +262,23 @@ module _ (id : ℕ) (nodes : List NodeView) (c : ChangeView) (other : ℕ) (n : 
 elsewhere : (views : List View) (id other : ℕ) (v u : View) → ¬ (other ≡ id) → get_elem? (set views id v) other ≡ some u → get_elem? views other ≡ some u
 elsewhere views id other v u two at = ⊎_elim (λ (x : (other ≡ id) × (v ≡ u)). absurd (two x.0)) (λ x. x.1) (at_set views id other v u at)
 
-pub takes_seat : (id : ℕ) (nodes : List NodeView) (c : ChangeView) (other : ℕ) (n : NodeView)
-    → Joins Holds id (of_change nodes c) other (of_node n) (with_seat (of_change nodes c) (of_node n)) nobody
-takes_seat id nodes c other n t h at two at' =
+pub take_in_prolongs : (id : ℕ) (nodes : List NodeView) (c : ChangeView) (other : ℕ) (n : NodeView)
+    → JoinProlongs id (of_change nodes c) other (of_node n) (with_seat (of_change nodes c) (of_node n)) nobody []
+take_in_prolongs id nodes c other n t h at two at' =
     let w = h.trace in
     let mine = (h.views id (of_change nodes c) at).change c refl in
     let there = elsewhere t.views id other (with_seat (of_change nodes c) (of_node n)) (of_node n) two at' in
     joins id nodes c other n t h at two there c (record w { owner = own w.owner n.slot id }) refl refl refl refl
-    (record { is_record = h.is_trace.is_record; unseated = h.is_trace.unseated }) mine.seats mine.entries
+    (record { is_record = h.is_trace.is_record; unseated = h.is_trace.unseated }) mine.seats mine.entries [] (sym (append-nil w.moments))
     (joined w w.moments w.entries t.views id other nodes c c n two at there h.seated)
 
-pub takes_sight : (id : ℕ) (nodes : List NodeView) (c : ChangeView) (other : ℕ) (n : NodeView)
-    → Joins Holds id (of_change nodes c) other (of_node n) (with_sight (of_change nodes c) (of_node n)) nobody
-takes_sight id nodes c other n t h at two at' =
+pub takes_seat : (id : ℕ) (nodes : List NodeView) (c : ChangeView) (other : ℕ) (n : NodeView)
+    → Joins Holds id (of_change nodes c) other (of_node n) (with_seat (of_change nodes c) (of_node n)) nobody
+takes_seat id nodes c other n t h at two at' = (take_in_prolongs id nodes c other n t h at two at').holds
+
+pub sight_prolongs : (id : ℕ) (nodes : List NodeView) (c : ChangeView) (other : ℕ) (n : NodeView)
+    → JoinProlongs id (of_change nodes c) other (of_node n) (with_sight (of_change nodes c) (of_node n)) nobody (entry (Sighted n.slot n.log) ∷ [])
+sight_prolongs id nodes c other n t h at two at' =
     let w = h.trace in
     let x : Entry = Sighted n.slot n.log in
     let mine = (h.views id (of_change nodes c) at).change c refl in
@@ -277,13 +290,17 @@ takes_sight id nodes c other n t h at two at' =
       is_record = seen_more w.entries w.moments x h.is_trace.is_record refl theirs.knows.log;
       unseated = λ m none_. ap (done_by m) same ∙ h.is_trace.unseated m none_;
     })
-    mine.seats (ap (λ r. r ++ x ∷ []) mine.entries)
+    mine.seats (ap (λ r. r ++ x ∷ []) mine.entries) (entry x ∷ []) refl
     (joined w (w.moments ++ entry x ∷ []) (w.entries ++ x ∷ []) t.views id other nodes c (notes c x) n two at there h.seated)
 
+pub takes_sight : (id : ℕ) (nodes : List NodeView) (c : ChangeView) (other : ℕ) (n : NodeView)
+    → Joins Holds id (of_change nodes c) other (of_node n) (with_sight (of_change nodes c) (of_node n)) nobody
+takes_sight id nodes c other n t h at two at' = (sight_prolongs id nodes c other n t h at two at').holds
+
 -- and given out again
-pub gives_back : (id : ℕ) (n : NodeView) (nodes : List NodeView) (c : ChangeView)
-    → Splits Holds id (of_change (n ∷ nodes) c) (given_out (of_change (n ∷ nodes) c)) (seat_again (of_change (n ∷ nodes) c))
-gives_back id n nodes c t h at =
+pub give_out_prolongs : (id : ℕ) (n : NodeView) (nodes : List NodeView) (c : ChangeView)
+    → SplitProlongs id (of_change (n ∷ nodes) c) (given_out (of_change (n ∷ nodes) c)) (seat_again (of_change (n ∷ nodes) c))
+give_out_prolongs id n nodes c t h at =
     let w = h.trace in
     let fit = h.views id (of_change (n ∷ nodes) c) at in
     let mine = fit.change c refl in
@@ -291,7 +308,7 @@ gives_back id n nodes c t h at =
     let w' : Trace = record w { owner = own w.owner n.slot new } in
     let node : (j : ℕ) (u : NodeView) → u.slot ≢ n.slot → FitsNode w j u → FitsNode w' j u =
     λ j u apart f. other_owner w n.slot new w.seats j u (omega arith) apart f in
-    holds_parted t w' id (of_change nodes c) (of_node n) t.homes
+    goes_on_parted t h w' refl id (of_change nodes c) (of_node n) t.homes
     (record { is_record = h.is_trace.is_record; unseated = h.is_trace.unseated })
     h.shows
     (λ j u apart there.
@@ -313,6 +330,10 @@ gives_back id n nodes c t h at =
     })
     (parted w w.seats t.views id (of_change (n ∷ nodes) c) (of_change nodes c) n at h.seated (among_rest n nodes) (λ so. so) (λ m _ below. below))
 
+pub gives_back : (id : ℕ) (n : NodeView) (nodes : List NodeView) (c : ChangeView)
+    → Splits Holds id (of_change (n ∷ nodes) c) (given_out (of_change (n ∷ nodes) c)) (seat_again (of_change (n ∷ nodes) c))
+gives_back id n nodes c t h at = (give_out_prolongs id n nodes c t h at).holds
+
 -- ---- the beginning
 
 count_of : (a b x y : ℕ) → length (replicate a x ++ replicate b y) ≡ a + b
@@ -333,16 +354,22 @@ first_shows = record {
   slots = λ n few. back_of MAX_PORTS MAX_NODES CLOSED 0 n few;
 }
 
-pub begins : Holds (opening first_words [] (of_change [] nothing_done))
-begins = record {
-  trace = record { moments = []; entries = []; owner = λ n. 0; change = 0; seats = 0 };
-  is_trace = record { is_record = record { record_is = refl; runs = tt; so = tt }; unseated = λ n none_. refl };
-  shows = first_shows;
-  views = one;
-  seated = record { nodes = λ n few. absurd (omega (arith, few)); change = (of_change [] nothing_done, refl, refl) };
-}
+pub opens : (h : Holds (opening first_words [] (of_change [] nothing_done))) × (h.trace.moments ≡ [])
+opens = (
+  record {
+    trace = record { moments = []; entries = []; owner = λ n. 0; change = 0; seats = 0 };
+    is_trace = record { is_record = record { record_is = refl; runs = tt; so = tt }; unseated = λ n none_. refl };
+    shows = first_shows;
+    views = one;
+    seated = record { nodes = λ n few. absurd (omega (arith, few)); change = (of_change [] nothing_done, refl, refl) };
+  },
+  refl,
+)
   where
     one : (id : ℕ) (v : View) → get_elem? (of_change [] nothing_done ∷ []) id ≡ some v → FitsView (record { moments = []; entries = []; owner = λ n. 0; change = 0; seats = 0 }) id v
     one zero v e = subst (FitsView (record { moments = []; entries = []; owner = λ n. 0; change = 0; seats = 0 }) 0) (some-injective (of_change [] nothing_done) v e)
         (record { nodes = tt; apart = tt; change = λ c is. subst (λ (c : ChangeView). FitsChange (record { moments = []; entries = []; owner = λ n. 0; change = 0; seats = 0 }) 0 c) (same_Some nothing_done c is) (record { change = refl; seats = refl; entries = refl }) })
     one (suc n) v e = absurd (some-ne-none v (sym e))
+
+pub begins : Holds (opening first_words [] (of_change [] nothing_done))
+begins = opens.0

@@ -26,6 +26,7 @@ use Rattle.quiesce_core.specs.declared.event.Event.{Event}
 use Rattle.quiesce_core.proofs.RunLaws.{changes_are_of_no_node, done_by_more, runs_are_consistent, state_more}
 use Rattle.quiesce_core.proofs.WordLaws.{port_word_stays, slot_word_stays}
 use Rattle.gate_rule.specs.Views.{does, nobody, notes, of_change, of_node}
+use Rattle.gate_rule.specs.Growth.{GoesOn}
 use Rattle.gate_rule.specs.Traces.{AreSeated, FitsView, FitsChange, FitsNode, HasChange, HasSlot, Holds, IsTrace, IsThere, KnowsNode, Shows, Trace}
 use Rattle.gate_rule.specs.declared.view.ChangeView.{ChangeView}
 use Rattle.gate_rule.specs.declared.view.NodeView.{NodeView}
@@ -93,36 +94,43 @@ passes_view w w' id j v pass apart fits = record {
   change = λ c at. pass.change j c apart (fits.change c at);
 }
 
--- the rule holds of new words and a new view, where the others' views fit the new trace
-pub holds_next : (t : Table (Unit {0}) View) (h : Holds t) (w : Trace) (words : List ℕ) (homes : List (Maybe (Unit {0}))) (id : ℕ) (v : View) → IsTrace w → Shows words (state_at w.moments)
-    → Passes h.trace w id → FitsView w id v → AreSeated w (set t.views id v) → Holds (record { words = words; homes = homes; views = set t.views id v })
-holds_next t h w words homes id v is_trace shows pass fits seated = record {
-  trace = w;
-  is_trace = is_trace;
-  shows = shows;
-  views = λ j u at. ⊎_elim
-      (λ (x : (j ≡ id) × (v ≡ u)). subst (λ (y : ℕ × View). FitsView w y.0 y.1) (λ i. (sym x.0 i, x.1 i)) fits)
-      (λ (x : (j ≢ id) × (get_elem? t.views j ≡ some u)). passes_view h.trace w id j u pass x.0 (h.views j u x.1))
-      (at_set t.views id j v u at);
-  seated = seated;
+-- the rule holds of new words and a new view, where the others' views fit the new trace, which is the old one with these moments more
+goes_on_next : (t : Table (Unit {0}) View) (h : Holds t) (w : Trace) (more_ : List Moment) → w.moments ≡ h.trace.moments ++ more_ → (words : List ℕ) (homes : List (Maybe (Unit {0}))) (id : ℕ) (v : View)
+    → IsTrace w → Shows words (state_at w.moments) → Passes h.trace w id → FitsView w id v → AreSeated w (set t.views id v)
+    → GoesOn t h (record { words = words; homes = homes; views = set t.views id v }) more_
+goes_on_next t h w more_ is words homes id v is_trace shows pass fits seated = record {
+  holds = record {
+    trace = w;
+    is_trace = is_trace;
+    shows = shows;
+    views = λ j u at. ⊎_elim
+        (λ (x : (j ≡ id) × (v ≡ u)). subst (λ (y : ℕ × View). FitsView w y.0 y.1) (λ i. (sym x.0 i, x.1 i)) fits)
+        (λ (x : (j ≢ id) × (get_elem? t.views j ≡ some u)). passes_view h.trace w id j u pass x.0 (h.views j u x.1))
+        (at_set t.views id j v u at);
+    seated = seated;
+  };
+  moments = is;
 }
 
 -- a seat is taken in by another
-pub holds_joined : (t : Table (Unit {0}) View) (w : Trace) (id other : ℕ) (both : View) (homes : List (Maybe (Unit {0}))) → IsTrace w → Shows t.words (state_at w.moments)
-    → ((j : ℕ) (u : View) → j ≢ id → j ≢ other → get_elem? t.views j ≡ some u → FitsView w j u) → FitsView w id both
-    → AreSeated w (set (set t.views id both) other nobody) → Holds (record { words = t.words; homes = homes; views = set (set t.views id both) other nobody })
-holds_joined t w id other both homes is_trace shows others fits seated = record {
-  trace = w;
-  is_trace = is_trace;
-  shows = shows;
-  views = λ j u at. ⊎_elim
-      (λ (x : (j ≡ other) × (nobody ≡ u)). subst (FitsView w j) x.1 (record { nodes = tt; apart = tt; change = λ c is. absurd (cc is) }))
-      (λ (x : (j ≢ other) × (get_elem? (set t.views id both) j ≡ some u)). ⊎_elim
-      (λ (y : (j ≡ id) × (both ≡ u)). subst (λ (z : ℕ × View). FitsView w z.0 z.1) (λ i. (sym y.0 i, y.1 i)) fits)
-      (λ (y : (j ≢ id) × (get_elem? t.views j ≡ some u)). others j u y.0 x.0 y.1)
-      (at_set t.views id j both u x.1))
-      (at_set (set t.views id both) other j nobody u at);
-  seated = seated;
+pub goes_on_joined : (t : Table (Unit {0}) View) (h : Holds t) (w : Trace) (more_ : List Moment) → w.moments ≡ h.trace.moments ++ more_ → (id other : ℕ) (both : View) (homes : List (Maybe (Unit {0})))
+    → IsTrace w → Shows t.words (state_at w.moments) → ((j : ℕ) (u : View) → j ≢ id → j ≢ other → get_elem? t.views j ≡ some u → FitsView w j u) → FitsView w id both
+    → AreSeated w (set (set t.views id both) other nobody) → GoesOn t h (record { words = t.words; homes = homes; views = set (set t.views id both) other nobody }) more_
+goes_on_joined t h w more_ is id other both homes is_trace shows others fits seated = record {
+  holds = record {
+    trace = w;
+    is_trace = is_trace;
+    shows = shows;
+    views = λ j u at. ⊎_elim
+        (λ (x : (j ≡ other) × (nobody ≡ u)). subst (FitsView w j) x.1 (record { nodes = tt; apart = tt; change = λ c is. absurd (cc is) }))
+        (λ (x : (j ≢ other) × (get_elem? (set t.views id both) j ≡ some u)). ⊎_elim
+        (λ (y : (j ≡ id) × (both ≡ u)). subst (λ (z : ℕ × View). FitsView w z.0 z.1) (λ i. (sym y.0 i, y.1 i)) fits)
+        (λ (y : (j ≢ id) × (get_elem? t.views j ≡ some u)). others j u y.0 x.0 y.1)
+        (at_set t.views id j both u x.1))
+        (at_set (set t.views id both) other j nobody u at);
+    seated = seated;
+  };
+  moments = is;
 }
 
 -- a place of a list with one more view
@@ -132,23 +140,26 @@ at_more [] v u (suc n) e = absurd (some-ne-none u (sym e))
 at_more (x ∷ xs) v u zero e = inl e
 at_more (x ∷ xs) v u (suc n) e = ⊎_elim inl (λ y. inr (ap suc y.0, y.1)) (at_more xs v u n e)
 
--- a seat's view is cut in two
-pub holds_parted : (t : Table (Unit {0}) View) (w : Trace) (id : ℕ) (left right : View) (homes : List (Maybe (Unit {0}))) → IsTrace w → Shows t.words (state_at w.moments)
-    → ((j : ℕ) (u : View) → j ≢ id → get_elem? t.views j ≡ some u → FitsView w j u) → FitsView w id left → FitsView w (length t.views) right
-    → AreSeated w (set t.views id left ++ right ∷ []) → Holds (record { words = t.words; homes = homes; views = set t.views id left ++ right ∷ [] })
-holds_parted t w id left right homes is_trace shows others fits new seated = record {
-  trace = w;
-  is_trace = is_trace;
-  shows = shows;
-  views = λ j u at. ⊎_elim
-      (λ (x : get_elem? (set t.views id left) j ≡ some u). ⊎_elim
-      (λ (y : (j ≡ id) × (left ≡ u)). subst (λ (z : ℕ × View). FitsView w z.0 z.1) (λ i. (sym y.0 i, y.1 i)) fits)
-      (λ (y : (j ≢ id) × (get_elem? t.views j ≡ some u)). others j u y.0 y.1)
-      (at_set t.views id j left u x))
-      (λ (x : (j ≡ length (set t.views id left)) × (right ≡ u)).
-      subst (λ (z : ℕ × View). FitsView w z.0 z.1) (λ i. ((sym (length-set t.views id left) ∙ sym x.0) i, x.1 i)) new)
-      (at_more (set t.views id left) right u j at);
-  seated = seated;
+-- a seat's view is cut in two, which is none of the run's moments
+pub goes_on_parted : (t : Table (Unit {0}) View) (h : Holds t) (w : Trace) → w.moments ≡ h.trace.moments → (id : ℕ) (left right : View) (homes : List (Maybe (Unit {0}))) → IsTrace w
+    → Shows t.words (state_at w.moments) → ((j : ℕ) (u : View) → j ≢ id → get_elem? t.views j ≡ some u → FitsView w j u) → FitsView w id left → FitsView w (length t.views) right
+    → AreSeated w (set t.views id left ++ right ∷ []) → GoesOn t h (record { words = t.words; homes = homes; views = set t.views id left ++ right ∷ [] }) []
+goes_on_parted t h w is id left right homes is_trace shows others fits new seated = record {
+  holds = record {
+    trace = w;
+    is_trace = is_trace;
+    shows = shows;
+    views = λ j u at. ⊎_elim
+        (λ (x : get_elem? (set t.views id left) j ≡ some u). ⊎_elim
+        (λ (y : (j ≡ id) × (left ≡ u)). subst (λ (z : ℕ × View). FitsView w z.0 z.1) (λ i. (sym y.0 i, y.1 i)) fits)
+        (λ (y : (j ≢ id) × (get_elem? t.views j ≡ some u)). others j u y.0 y.1)
+        (at_set t.views id j left u x))
+        (λ (x : (j ≡ length (set t.views id left)) × (right ≡ u)).
+        subst (λ (z : ℕ × View). FitsView w z.0 z.1) (λ i. ((sym (length-set t.views id left) ∙ sym x.0) i, x.1 i)) new)
+        (at_more (set t.views id left) right u j at);
+    seated = seated;
+  };
+  moments = is ∙ sym (append-nil h.trace.moments);
 }
 
 -- ---- seats that are there
@@ -214,7 +225,7 @@ module _ (t : Table (Unit {0}) View) (h : Holds t) (id : ℕ) (homes : List (May
 
   -- the node of a seat learns something and does an event
   pub acts : (n n' : NodeView) (e : Event) (words : List ℕ) → get_elem? t.views id ≡ some (of_node n) → n'.slot ≡ n.slot → (KnowsNode es n → KnowsNode es n') → is_of_change e ≡ false → denial s e ≡ None
-      → is_doer s n'.slot e ≡ true → Shows words (effect s e) → Holds (record { words = words; homes = homes; views = set t.views id (of_node (does n' e)) })
+      → is_doer s n'.slot e ≡ true → Shows words (effect s e) → GoesOn t h (record { words = words; homes = homes; views = set t.views id (of_node (does n' e)) }) (by_node e ∷ [])
   acts n n' e words at same knows by_node_ may mine shows =
       let was = (h.views id (of_node n) at).nodes.0 in
       let fit : FitsNode w id n' = record { owned = ap w.owner same ∙ was.owned; seated = subst (λ i. i < w.seats) (sym same) was.seated; knows = knows was.knows } in
@@ -222,7 +233,7 @@ module _ (t : Table (Unit {0}) View) (h : Holds t) (id : ℕ) (homes : List (May
       let now = node_more w.entries w.moments e h.is_trace.is_record by_node_ may in
       let run : IsRun (es ++ e ∷ []) = subst IsRun more_ now.runs in
       let w' : Trace = record w { moments = w.moments ++ by_node e ∷ [] } in
-      holds_next t h w' words homes id (of_node (does n' e))
+      goes_on_next t h w' (by_node e ∷ []) refl words homes id (of_node (does n' e))
       (record {
         is_record = now;
         unseated = λ m none_. ap (done_by m) more_ ∙ done_still m es e (one_doer s n'.slot m e mine (λ at. omega (arith, at, none_, fit.seated))) ∙ h.is_trace.unseated m none_;
@@ -245,7 +256,7 @@ module _ (t : Table (Unit {0}) View) (h : Holds t) (id : ℕ) (homes : List (May
 
   -- the change does one
   pub changes : (nodes : List NodeView) (c : ChangeView) (e : Event) (words : List ℕ) → get_elem? t.views id ≡ some (of_change nodes c) → is_of_change e ≡ true → denial s e ≡ None
-      → Shows words (effect s e) → Holds (record { words = words; homes = homes; views = set t.views id (of_change nodes (notes c (Did e))) })
+      → Shows words (effect s e) → GoesOn t h (record { words = words; homes = homes; views = set t.views id (of_change nodes (notes c (Did e))) }) (entry (Did e) ∷ [])
   changes nodes c e words at change may shows =
       let fit = h.views id (of_change nodes c) at in
       let mine = fit.change c refl in
@@ -256,7 +267,7 @@ module _ (t : Table (Unit {0}) View) (h : Holds t) (id : ℕ) (homes : List (May
       let w' : Trace = record w { moments = w.moments ++ entry (Did e) ∷ []; entries = w.entries ++ Did e ∷ [] } in
       let node : (j : ℕ) (u : NodeView) → FitsNode w j u → FitsNode w' j u =
       λ j u f. record { owned = f.owned; seated = f.seated; knows = subst (λ es. KnowsNode es u) (sym more_) (known_stays es e run u f.knows (no_doer s u.slot e nobody_)) } in
-      holds_next t h w' words homes id (of_change nodes (notes c (Did e)))
+      goes_on_next t h w' (entry (Did e) ∷ []) refl words homes id (of_change nodes (notes c (Did e)))
       (record {
         is_record = now;
         unseated = λ m none_. ap (done_by m) more_ ∙ done_still m es e (no_doer s m e nobody_) ∙ h.is_trace.unseated m none_;
@@ -273,7 +284,7 @@ module _ (t : Table (Unit {0}) View) (h : Holds t) (id : ℕ) (homes : List (May
 
   -- the change sees something
   pub sees : (nodes : List NodeView) (c : ChangeView) (x : Entry) → get_elem? t.views id ≡ some (of_change nodes c) → event_in x ≡ None → IsSo w.moments (entry x)
-      → Holds (record { words = t.words; homes = homes; views = set t.views id (of_change nodes (notes c x)) })
+      → GoesOn t h (record { words = t.words; homes = homes; views = set t.views id (of_change nodes (notes c x)) }) (entry x ∷ [])
   sees nodes c x at quiet so =
       let fit = h.views id (of_change nodes c) at in
       let mine = fit.change c refl in
@@ -281,7 +292,7 @@ module _ (t : Table (Unit {0}) View) (h : Holds t) (id : ℕ) (homes : List (May
       let w' : Trace = record w { moments = w.moments ++ entry x ∷ []; entries = w.entries ++ x ∷ [] } in
       let node : (j : ℕ) (u : NodeView) → FitsNode w j u → FitsNode w' j u =
       λ j u f. record { owned = f.owned; seated = f.seated; knows = subst (λ es. KnowsNode es u) (sym more_) f.knows } in
-      holds_next t h w' t.words homes id (of_change nodes (notes c x))
+      goes_on_next t h w' (entry x ∷ []) refl t.words homes id (of_change nodes (notes c x))
       (record {
         is_record = seen_more w.entries w.moments x h.is_trace.is_record quiet so;
         unseated = λ m none_. ap (done_by m) more_ ∙ h.is_trace.unseated m none_;
@@ -298,10 +309,10 @@ module _ (t : Table (Unit {0}) View) (h : Holds t) (id : ℕ) (homes : List (May
 
   -- a node learns something of the trace as it is
   pub learns : (n n' : NodeView) → get_elem? t.views id ≡ some (of_node n) → n'.slot ≡ n.slot → (KnowsNode es n → KnowsNode es n')
-      → Holds (record { words = t.words; homes = homes; views = set t.views id (of_node n') })
+      → GoesOn t h (record { words = t.words; homes = homes; views = set t.views id (of_node n') }) []
   learns n n' at same knows =
       let fit = (h.views id (of_node n) at).nodes.0 in
-      holds_next t h w t.words homes id (of_node n') h.is_trace h.shows
+      goes_on_next t h w [] (sym (append-nil w.moments)) t.words homes id (of_node n') h.is_trace h.shows
       (record { nodes = λ j u apart f. f; change = λ j d apart f. f })
       (record {
         nodes = (record { owned = ap w.owner same ∙ fit.owned; seated = subst (λ i. i < w.seats) (sym same) fit.seated; knows = knows fit.knows }, tt);
