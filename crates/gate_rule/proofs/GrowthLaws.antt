@@ -21,12 +21,13 @@ With t h id v words more_ = GoesOn t h (record { words = words; homes = t.homes;
 abbrev pub alone : View → Seat
 alone v = (v, [])
 
--- and so it does by a step after which the seat is this
+-- the run goes on so by a step after which the seat is this one
 pub record Leads (t : Gates) (h : Holds t) (id : ℕ) (words : List ℕ) (more_ : List Moment) (new : Seat) : Type 0 where
   pub view : View
   pub goes_on : With t h id view words more_
   pub is : alone view ≡ new
 
+-- where there is one outcome
 pub straight : (t : Gates) (h : Holds t) (id : ℕ) (v : View) (words : List ℕ) (more_ : List Moment) → With t h id v words more_ → Leads t h id words more_ (alone v)
 straight t h id v words more_ goes_on = record { view = v; goes_on = goes_on; is = refl }
 
