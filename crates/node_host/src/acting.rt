@@ -1,4 +1,4 @@
-//! A node's turn.
+//! The moves of a turn, in their order.
 
 ghost use Rattle.std.specs.Prelude.{◌≡◌, ◌≢◌, ◌&&◌, true, false, ℕ, ◌<◌, ◌+◌, List, length, map, vec_capacity, is_none, slice_get, slice_index_or, None, Some, OnOk, IsOk, Ok, Err, if◌then◌else◌};
 ghost use Rattle.node_host.specs.Hosted.{node_of};

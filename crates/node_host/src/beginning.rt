@@ -14,7 +14,7 @@ ghost use Rattle.node_host.specs.Tried.{CannotBegin, Keeps, is_begin, is_move};
 ghost use Rattle.port_gate.specs.Loads.{TellsLoads};
 
 use crate::ending::port_known;
-use crate::keeping::{keep, place};
+use crate::keeping::{keep, seats_have_places};
 use crate::node::HostNode;
 use crate::posting::post;
 use component_trait::{Ask, Component};
@@ -51,7 +51,7 @@ impl<C: Component + Drop, S: GateSeat + Drop> HostNode<C, S> {
         ensures loads { TellsLoads (Keeps 4 self.old.first_port self.old.known) (S.loads self.old.seat) (S.loads self.new.seat) }
         ensures tried { result ≡ None → CannotBegin self.old.first_port (C.state self.old.inner) self.old.known (S.loads self.old.seat) (S.loads self.new.seat) }
     {
-        place(gate, &self.seat);
+        seats_have_places(gate, &self.seat);
         let port = self.first_port + ask.require;
         let value = ask.value;
         match gate.begin(&mut self.seat, port, value) {
@@ -113,7 +113,7 @@ impl<C: Component + Drop, S: GateSeat + Drop> HostNode<C, S> {
         ensures loads { TellsLoads (Keeps 4 self.old.first_port self.old.known) (S.loads self.old.seat) (S.loads self.new.seat) }
         ensures tried { result ≡ None → CannotBegin self.old.first_port (C.state self.old.inner) self.old.known (S.loads self.old.seat) (S.loads self.new.seat) }
     {
-        place(gate, &self.seat);
+        seats_have_places(gate, &self.seat);
         if !port_known(&self.known, ask.require).idle {
             return None;
         }

@@ -17,7 +17,7 @@ ghost use Rattle.turns.specs.Turn.{ends};
 ghost use Rattle.node_host.specs.Tried.{HasNoReply, HaveNoReplies, LoadsPort, Steps, is_move, is_reply_at};
 ghost use Rattle.port_gate.specs.Loads.{TellsLoads};
 
-use crate::keeping::{keep_ask, keep_end, place};
+use crate::keeping::{keep_ask, keep_end, seats_have_places};
 use crate::node::HostNode;
 use component_trait::Component;
 use port_gate::{GateSeat, PortGate, SeeAnswer};
@@ -71,7 +71,7 @@ impl<C: Component + Drop, S: GateSeat + Drop> HostNode<C, S> {
         ensures loads { TellsLoads (LoadsPort (self.old.first_port + require)) (S.loads self.old.seat) (S.loads self.new.seat) }
         ensures no_reply { result ≡ None → HasNoReply self.old.first_port self.old.known require (S.loads self.old.seat) (S.loads self.new.seat) }
     {
-        place(gate, &self.seat);
+        seats_have_places(gate, &self.seat);
         let known = port_known(&self.known, require);
         let first = self.first_port;
         let port = first + require;
@@ -124,7 +124,7 @@ impl<C: Component + Drop, S: GateSeat + Drop> HostNode<C, S> {
         ensures loads { TellsLoads (LoadsPort (self.old.first_port + require)) (S.loads self.old.seat) (S.loads self.new.seat) }
         ensures no_reply { result ≡ None → HasNoReply self.old.first_port self.old.known require (S.loads self.old.seat) (S.loads self.new.seat) }
     {
-        place(gate, &self.seat);
+        seats_have_places(gate, &self.seat);
         if port_known(&self.known, require).idle {
             return None;
         }

@@ -72,7 +72,7 @@ pub fn keep_ask(
 
 /// A seat that fits is one of a slot and of ports as one run has them.
 #[tactic(auto, using(crate::proofs::Placing::limits_of, crate::proofs::Placing::slot_of))]
-pub fn place<G: PortGate>(gate: &G, seat: &G::Seat)
+pub fn seats_have_places<G: PortGate>(gate: &G, seat: &G::Seat)
     requires fits { G.fits gate.now seat.now }
     ensures limits { IsWithinLimits (G.node gate.now seat.now) }
     ensures slot { (G.node gate.now seat.now).slot ≡ G.Seat.slot_of seat.now }

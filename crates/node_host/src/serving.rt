@@ -17,7 +17,7 @@ ghost use Rattle.turns.specs.Turn.{calls, does_next, hears, serves};
 ghost use Rattle.node_host.specs.Tried.{IsHeld, Keeps, is_move, shows_in_more};
 ghost use Rattle.port_gate.specs.Loads.{IsLed, TellsLoads};
 
-use crate::keeping::{keep, place};
+use crate::keeping::{keep, seats_have_places};
 use crate::node::HostNode;
 use crate::posting::post;
 use component_trait::{Ask, Component, Next};
@@ -58,7 +58,7 @@ impl<C: Component + Drop, S: GateSeat + Drop> HostNode<C, S> {
         ensures loads { TellsLoads (Keeps 2 self.old.first_port self.old.known) (S.loads self.old.seat) (S.loads self.new.seat) }
         ensures unheard { result ≡ None → TellsLoads (λ a b. IsLed served.port shows_in_more a.steps b.steps b.hear) (S.loads self.old.seat) (S.loads self.new.seat) }
     {
-        place(gate, &self.seat);
+        seats_have_places(gate, &self.seat);
         let port = served.port;
         let serial = served.serial;
         match gate.hear(&mut self.seat, port) {
@@ -111,7 +111,7 @@ impl<C: Component + Drop, S: GateSeat + Drop> HostNode<C, S> {
         ensures exact { (s : State) → IsTold (G.state gate.old) (node_of self.old.slot self.old.first_port (C.state self.old.inner)) (S.known self.old.seat) s → result ≡ does_next s self.old.first_port served.port (next.Give value) }
         ensures loads { TellsLoads (Keeps 2 self.old.first_port self.old.known) (S.loads self.old.seat) (S.loads self.new.seat) }
     {
-        place(gate, &self.seat);
+        seats_have_places(gate, &self.seat);
         let port = served.port;
         let serial = served.serial;
         gate.give(&mut self.seat, port, value);
@@ -160,7 +160,7 @@ impl<C: Component + Drop, S: GateSeat + Drop> HostNode<C, S> {
         ensures exact { (s : State) → IsTold (G.state gate.old) (node_of self.old.slot self.old.first_port (C.state self.old.inner)) (S.known self.old.seat) s → result ≡ does_next s self.old.first_port served.port (next.More value) }
         ensures loads { TellsLoads (Keeps 2 self.old.first_port self.old.known) (S.loads self.old.seat) (S.loads self.new.seat) }
     {
-        place(gate, &self.seat);
+        seats_have_places(gate, &self.seat);
         let port = served.port;
         let serial = served.serial;
         gate.more(&mut self.seat, port, value);
@@ -212,7 +212,7 @@ impl<C: Component + Drop, S: GateSeat + Drop> HostNode<C, S> {
         ensures loads { TellsLoads (Keeps 2 self.old.first_port self.old.known) (S.loads self.old.seat) (S.loads self.new.seat) }
         ensures acts { is_some result ≡ true }
     {
-        place(gate, &self.seat);
+        seats_have_places(gate, &self.seat);
         let port = self.first_port + ask.require;
         let value = ask.value;
         match gate.call(&mut self.seat, port, value) {

@@ -13,7 +13,7 @@ ghost use Rattle.turns.specs.Turn.{takes};
 ghost use Rattle.node_host.specs.Tried.{HasNoRequest, Keeps, is_move, is_stale_for};
 ghost use Rattle.port_gate.specs.Loads.{IsLed, TellsLoads};
 
-use crate::keeping::{keep, place};
+use crate::keeping::{keep, seats_have_places};
 use crate::node::HostNode;
 use component_trait::Component;
 use port_gate::{GateSeat, PortGate, TakeAnswer};
@@ -45,7 +45,7 @@ impl<C: Component + Drop, S: GateSeat + Drop> HostNode<C, S> {
         ensures loads { TellsLoads (Keeps 3 self.old.first_port self.old.known) (S.loads self.old.seat) (S.loads self.new.seat) }
         ensures stale { result ≡ None → TellsLoads (λ a b. IsLed port (is_stale_for self.old.slot) a.steps b.steps b.take) (S.loads self.old.seat) (S.loads self.new.seat) }
     {
-        place(gate, &self.seat);
+        seats_have_places(gate, &self.seat);
         match gate.take(&mut self.seat, port) {
             TakeAnswer::Stale { .. } => None,
             TakeAnswer::Taken {
@@ -106,7 +106,7 @@ impl<C: Component + Drop, S: GateSeat + Drop> HostNode<C, S> {
         ensures loads { TellsLoads (Keeps 3 self.old.first_port self.old.known) (S.loads self.old.seat) (S.loads self.new.seat) }
         ensures tried { result ≡ None → HasNoRequest self.old.slot (H.counts hints.old self.old.slot) (H.counts hints.new self.old.slot) (S.loads self.old.seat) (S.loads self.new.seat) }
     {
-        place(gate, &self.seat);
+        seats_have_places(gate, &self.seat);
         match hints.next(self.slot) {
             None => None,
             Some(port) => self.take_at(gate, port),
