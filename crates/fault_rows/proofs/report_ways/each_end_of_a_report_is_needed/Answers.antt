@@ -1,0 +1,16 @@
+use Rattle.std.proofs.Common.{refl}
+use Rattle.std.specs.Char.{encode_utf8}
+use Rattle.std.specs.Str.{chars, is_utf8}
+use Rattle.fault_rows.proofs.report_ways.each_end_of_a_report_is_needed.Goals as goal
+
+pub returns : goal.returns
+unfolding is_utf8 chars encode_utf8
+returns c = record {
+  unfinished = refl;
+  second_unfinished = refl;
+  no_status = refl;
+  status = refl;
+  big_status = refl;
+  line_behind = refl;
+  bytes_behind = refl;
+}

@@ -1,0 +1,17 @@
+use Rattle.std.proofs.Common.{refl}
+use Rattle.std.specs.Fmt.{digits}
+use Rattle.fault_rows.proofs.report_ways.each_fault_of_a_graph_is_needed.Goals as goal
+
+pub returns : goal.returns
+unfolding digits
+returns c = record {
+  falls = refl;
+  same_path = refl;
+  no_path = refl;
+  argument = refl;
+  no_argument = refl;
+  big_argument = refl;
+  no_port = refl;
+  no_target = refl;
+  cycle = refl;
+}

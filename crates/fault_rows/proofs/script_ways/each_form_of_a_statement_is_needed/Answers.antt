@@ -1,0 +1,25 @@
+use Rattle.std.proofs.Common.{refl}
+use Rattle.std.specs.Char.{encode_utf8}
+use Rattle.std.specs.Str.{chars, is_utf8}
+use Rattle.fault_rows.proofs.script_ways.each_form_of_a_statement_is_needed.Goals as goal
+
+pub returns : goal.returns
+unfolding is_utf8 chars encode_utf8
+returns c = record {
+  use_without_name = refl;
+  use_of_two = refl;
+  start_without_name = refl;
+  start_unclosed = refl;
+  start_and_more = refl;
+  run_without_count = refl;
+  run_and_more = refl;
+  change_without_to = refl;
+  change_without_within = refl;
+  change_without_moving = refl;
+  change_without_moves = refl;
+  change_and_more = refl;
+  finish_without_within = refl;
+  finish_and_more = refl;
+  show_and_more = refl;
+  end_and_more = refl;
+}
