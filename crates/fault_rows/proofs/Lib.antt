@@ -6,3 +6,4 @@ mod CycleLemmas
 mod ElaborationRows
 mod TextRows
 mod PlanRows
+mod PlanWays

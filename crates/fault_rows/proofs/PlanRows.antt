@@ -13,7 +13,7 @@ use Rattle.change_plan.specs.declared.error.PlanError.TheVariants.{NotRemoved, N
 use Rattle.change_plan.specs.declared.plan_data.Move.{Move}
 use Rattle.fault_rows.specs.Plans.{IsRefused, empty, fork_b, made, move, one, sink_a, sink_b, source_b}
 
-empty_is : IsGraph empty
+pub empty_is : IsGraph empty
 empty_is =
     record {
       paths_rise = λ i j d lt within. absurd (omega (arith, lt, within));
@@ -23,7 +23,7 @@ empty_is =
       few_ports = omega arith;
     }
 
-sink_a_is : IsGraph (one sink_a)
+pub sink_a_is : IsGraph (one sink_a)
 sink_a_is =
     record {
       paths_rise = λ i j d lt within. absurd (omega (arith, lt, within));
@@ -33,7 +33,7 @@ sink_a_is =
       few_ports = omega arith;
     }
 
-sink_b_is : IsGraph (one sink_b)
+pub sink_b_is : IsGraph (one sink_b)
 sink_b_is =
     record {
       paths_rise = λ i j d lt within. absurd (omega (arith, lt, within));
@@ -64,7 +64,7 @@ source_b_is =
     }
 
 -- no move stands before the first
-none_before : {P : Type 0} (k : ℕ) → k < 0 → P
+pub none_before : {P : Type 0} (k : ℕ) → k < 0 → P
 none_before k low = absurd (omega (arith, low))
 
 pub not_removed : IsRefused empty empty (move ∷ []) (made 0 0) (NotRemoved (codes "a"))

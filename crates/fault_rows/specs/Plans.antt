@@ -27,6 +27,9 @@ sink_a = record { path = codes "a"; kind = Sink; arg = None }
 abbrev pub sink_b : Node
 sink_b = record { path = codes "b"; kind = Sink; arg = None }
 
+abbrev pub sink_c : Node
+sink_c = record { path = codes "c"; kind = Sink; arg = None }
+
 abbrev pub fork_b : Node
 fork_b = record { path = codes "b"; kind = Fork; arg = None }
 
@@ -36,9 +39,18 @@ source_b = record { path = codes "b"; kind = Source; arg = Some 1 }
 abbrev pub one : Node → Graph
 one node = graph (node ∷ [])
 
--- the move from `a` to `b`
+abbrev pub two : Node → Node → Graph
+two node other = graph (node ∷ other ∷ [])
+
+-- the moves from `a` to `b` and to `c`, and from `b` to `c`
 abbrev pub move : Move
 move = record { from = codes "a"; to = codes "b" }
+
+abbrev pub a_to_c : Move
+a_to_c = record { from = codes "a"; to = codes "c" }
+
+abbrev pub b_to_c : Move
+b_to_c = record { from = codes "b"; to = codes "c" }
 
 abbrev pub made : ℕ → ℕ → Made
 made nodes ports = record { nodes = nodes; ports = ports }

@@ -1,5 +1,13 @@
-use Rattle.fault_rows.proofs.TextRows.{nested, not_expected}
+use Rattle.fault_rows.proofs.TextRows as rows
 use Rattle.fault_rows.proofs.needed.each_refusal_of_tokens_is_needed.Goals as goal
 
 pub returns : goal.returns
-returns c = record { unexpected = not_expected; too_nested = nested }
+returns c = record {
+  unexpected = rows.not_expected;
+  unfinished = rows.not_ended;
+  too_nested = rows.nested;
+  without_braces = rows.nested_bodies;
+  ranges = rows.nested_ranges;
+  parentheses = rows.nested_parentheses;
+  signs = rows.nested_signs;
+}
