@@ -1,5 +1,5 @@
 -- The further rows of plans: by which way a source isn't removed, a target isn't created, and an end stands twice.
-use Rattle.std.proofs.Common.{◌≡◌, ◌≢◌, ℕ, ◌<◌, false, List, [], ◌∷◌, Some, bytes_eq, codes, zero, suc, take, slice_get, refl, ap, subst, sym, ◌∙◌, inl, inr, arith, Contains}
+use Rattle.std.proofs.Common.{◌≡◌, ℕ, false, List, [], ◌∷◌, bytes_eq, codes, zero, suc, refl, ap, subst, sym, ◌∙◌, inl, inr, arith, Contains}
 use Rattle.std.specs.Cmp.Lexicographic.{slice_cmp}
 use Rattle.std.specs.Ordering.{nat_cmp}
 use Rattle.std.specs.declared.cmp.Ordering.TheVariants.{Less}
@@ -9,7 +9,7 @@ use Rattle.base.proofs.BytesLaws.{different_bytes}
 use Rattle.base.proofs.ContainsLaws.{Contains-at, Contains-cons_cases, Contains-one}
 use Rattle.config_graph.specs.Graph.{Graph, IsGraph, PathsRise}
 use Rattle.config_graph.specs.declared.node.Node.{Node}
-use Rattle.change_plan.specs.Moves.{IsFit, IsGoneAt, IsPathGone, MayMove, MayMoveAll, MovesFrom}
+use Rattle.change_plan.specs.Moves.{IsFit, IsPathGone, MayMove, MayMoveAll, MovesFrom}
 use Rattle.change_plan.specs.declared.error.PlanError.TheVariants.{NotRemoved, NotCreated, MovedTwice}
 use Rattle.change_plan.specs.declared.plan_data.Move.{Move}
 use Rattle.fault_rows.specs.Plans.{IsRefused, a_to_c, b_to_c, empty, made, move, one, sink_a, sink_b, sink_c, two}

@@ -50,8 +50,8 @@ without_braces = in_component (times 17 test)
 abbrev pub ranges : List Token
 ranges =
     in_component (times 17 (
-      token (Word Forall) ∷ token Name ∷ token (Sign Colon)
-      ∷ token (Number 0) ∷ token (Sign DotDot) ∷ token (Number 0) ∷ token (Sign OpenBrace) ∷ []
+    token (Word Forall) ∷ token Name ∷ token (Sign Colon)
+    ∷ token (Number 0) ∷ token (Sign DotDot) ∷ token (Number 0) ∷ token (Sign OpenBrace) ∷ []
     ))
 
 -- `when` and thirty-three times `(` and `-`

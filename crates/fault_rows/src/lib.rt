@@ -1,5 +1,5 @@
-//! Worked inputs of which each has a fault by one case of its definition, and none by another: so no case can be left
-//! out, or what it refuses would be taken.
+//! Worked inputs of which each has a fault by one case, or one way, of its definition, and by none but this: so none can
+//! be left out, or the input would be taken or have another fault.
 #![tactic(auto)]
 
 mod event_ways;
@@ -21,6 +21,7 @@ pub use report_ways::{
     each_end_of_a_report_is_needed, each_fault_of_a_graph_is_needed,
     each_limit_of_a_history_is_needed, each_limit_of_a_log_is_needed,
     each_line_of_a_history_is_needed, each_line_of_a_log_is_needed,
+    each_word_of_a_component_is_needed, each_word_of_a_history_is_needed,
 };
 pub use script_ways::{
     each_end_of_a_script_is_needed, each_form_of_a_statement_is_needed,

@@ -1,4 +1,5 @@
-//! Laws that no way is idle in which a report has a fault: of each there is a text that has the fault by this way alone.
+//! Laws that each way is needed in which a report has a fault: there is a text that has it by this way alone. By
+//! `report_parser::one_report_or_one_fault` these have no other fault, and are no reports.
 
 ghost use Rattle.std.specs.Prelude.{codes, decimal, ◌++◌};
 ghost use Rattle.std.specs.List.{flat_map, range_with_len};
@@ -57,6 +58,49 @@ pub fn each_end_of_a_report_is_needed()
     ensures big_status { IsReportFault (codes "report 2\nstatus 256\n") (BadLine 2) }
     ensures line_behind { IsReportFault (codes "report 2\nstatus 0\n\n") (BadLine 3) }
     ensures bytes_behind { IsReportFault (codes "report 2\nstatus 0\n?") (BadLine 3) }
+{}
+
+/// Each word of a history's line that isn't what its form asks for, each that is missing, and each that is too many: a
+/// number has no leading zero, and is below 2^32, but for the count of a `run` line, which is below 2^64.
+pub fn each_word_of_a_history_is_needed()
+    ensures verb { IsReportFault (codes "report 2\nclosed 0\n") (BadLine 2) }
+    ensures no_word { IsReportFault (codes "report 2\n\n") (BadLine 2) }
+    ensures leading_zero { IsReportFault (codes "report 2\nclose 01\n") (BadLine 2) }
+    ensures big { IsReportFault (codes "report 2\nclose 4294967296\n") (BadLine 2) }
+    ensures no_number { IsReportFault (codes "report 2\nclose\n") (BadLine 2) }
+    ensures second_number { IsReportFault (codes "report 2\nclose 0 0\n") (BadLine 2) }
+    ensures first_of_two { IsReportFault (codes "report 2\ndrained x 0\n") (BadLine 2) }
+    ensures second_of_two { IsReportFault (codes "report 2\ndrained 0 x\n") (BadLine 2) }
+    ensures third_of_two { IsReportFault (codes "report 2\ndrained 0 0 0\n") (BadLine 2) }
+    ensures first_of_three { IsReportFault (codes "report 2\nlink x 0 0\n") (BadLine 2) }
+    ensures second_of_three { IsReportFault (codes "report 2\nlink 0 x 0\n") (BadLine 2) }
+    ensures third_of_three { IsReportFault (codes "report 2\nlink 0 0 x\n") (BadLine 2) }
+    ensures fourth_of_three { IsReportFault (codes "report 2\nlink 0 0 0 0\n") (BadLine 2) }
+    ensures run { IsReportFault (codes "report 2\nrun 4294967296 0\n") (BadLine 2) }
+    ensures run_count { IsReportFault (codes "report 2\nrun 0 18446744073709551616\n") (BadLine 2) }
+    ensures bare_and_more { IsReportFault (codes "report 2\ncommit 0\n") (BadLine 2) }
+{}
+
+/// The same of the lines that have a component or a node: `start`, `change` and `make`.
+pub fn each_word_of_a_component_is_needed()
+    ensures no_parentheses { IsReportFault (codes "report 2\nstart A\n") (BadLine 2) }
+    ensures unclosed { IsReportFault (codes "report 2\nstart A(\n") (BadLine 2) }
+    ensures behind_parentheses { IsReportFault (codes "report 2\nstart A()x\n") (BadLine 2) }
+    ensures no_name { IsReportFault (codes "report 2\nstart ()\n") (BadLine 2) }
+    ensures argument { IsReportFault (codes "report 2\nstart A(x)\n") (BadLine 2) }
+    ensures second_argument { IsReportFault (codes "report 2\nstart A(0,)\n") (BadLine 2) }
+    ensures negative_zero { IsReportFault (codes "report 2\nstart A(-0)\n") (BadLine 2) }
+    ensures big_argument { IsReportFault (codes "report 2\nstart A(2147483648)\n") (BadLine 2) }
+    ensures small_argument { IsReportFault (codes "report 2\nstart A(-2147483649)\n") (BadLine 2) }
+    ensures start_and_more { IsReportFault (codes "report 2\nstart A() B\n") (BadLine 2) }
+    ensures change { IsReportFault (codes "report 2\nchange A\n") (BadLine 2) }
+    ensures slot { IsReportFault (codes "report 2\nmake x a sink()\n") (BadLine 2) }
+    ensures path { IsReportFault (codes "report 2\nmake 0  sink()\n") (BadLine 2) }
+    ensures kind { IsReportFault (codes "report 2\nmake 0 a A()\n") (BadLine 2) }
+    ensures made_argument { IsReportFault (codes "report 2\nmake 0 a source(x)\n") (BadLine 2) }
+    ensures from { IsReportFault (codes "report 2\nmake 0 a sink() to 1\n") (BadLine 2) }
+    ensures source { IsReportFault (codes "report 2\nmake 0 a sink() from x\n") (BadLine 2) }
+    ensures source_and_more { IsReportFault (codes "report 2\nmake 0 a sink() from 0 0\n") (BadLine 2) }
 {}
 
 /// Each slot and each port in the history of a report of version 1 that is beyond the limit.

@@ -1,4 +1,5 @@
-//! Laws that no way is idle in which a script has a fault: of each there is a text that has the fault by this way alone.
+//! Laws that each way is needed in which a script has a fault: there is a text that has it by this way alone. By
+//! `change_script::one_script_or_one_fault` these have no other fault, and are no scripts.
 
 ghost use Rattle.std.specs.Prelude.{[], ◌∷◌, ◌++◌, codes};
 ghost use Rattle.change_script.specs.ScriptFiles.{IsScriptFault};
@@ -49,6 +50,7 @@ pub fn each_word_of_a_statement_is_needed()
 
 /// Each word that a form lacks, or has too many.
 pub fn each_form_of_a_statement_is_needed()
+    ensures use_without_blank { IsScriptFault (codes "usea") (BadLine 1) }
     ensures use_without_name { IsScriptFault (codes "use") (BadLine 1) }
     ensures use_of_two { IsScriptFault (codes "use a b") (BadLine 1) }
     ensures start_without_name { IsScriptFault (codes "start") (BadLine 1) }

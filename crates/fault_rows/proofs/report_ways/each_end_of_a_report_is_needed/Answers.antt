@@ -1,10 +1,7 @@
 use Rattle.std.proofs.Common.{refl}
-use Rattle.std.specs.Char.{encode_utf8}
-use Rattle.std.specs.Str.{chars, is_utf8}
 use Rattle.fault_rows.proofs.report_ways.each_end_of_a_report_is_needed.Goals as goal
 
 pub returns : goal.returns
-unfolding is_utf8 chars encode_utf8
 returns c = record {
   unfinished = refl;
   second_unfinished = refl;

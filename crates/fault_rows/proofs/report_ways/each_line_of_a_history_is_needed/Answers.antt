@@ -1,10 +1,7 @@
 use Rattle.std.proofs.Common.{refl}
-use Rattle.std.specs.Char.{encode_utf8}
-use Rattle.std.specs.Str.{chars, is_utf8}
 use Rattle.fault_rows.proofs.report_ways.each_line_of_a_history_is_needed.Goals as goal
 
 pub returns : goal.returns
-unfolding is_utf8 chars encode_utf8
 returns c = record {
   no_form = refl;
   slot = refl;

@@ -1,11 +1,9 @@
 use Rattle.std.proofs.Common.{refl}
-use Rattle.std.specs.Char.{encode_utf8}
-use Rattle.std.specs.Str.{chars, is_utf8}
 use Rattle.fault_rows.proofs.script_ways.each_form_of_a_statement_is_needed.Goals as goal
 
 pub returns : goal.returns
-unfolding is_utf8 chars encode_utf8
 returns c = record {
+  use_without_blank = refl;
   use_without_name = refl;
   use_of_two = refl;
   start_without_name = refl;

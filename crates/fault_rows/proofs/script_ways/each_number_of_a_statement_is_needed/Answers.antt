@@ -1,10 +1,7 @@
 use Rattle.std.proofs.Common.{refl}
-use Rattle.std.specs.Char.{encode_utf8}
-use Rattle.std.specs.Str.{chars, is_utf8}
 use Rattle.fault_rows.proofs.script_ways.each_number_of_a_statement_is_needed.Goals as goal
 
 pub returns : goal.returns
-unfolding is_utf8 chars encode_utf8
 returns c = record {
   start_argument = refl;
   start_negative = refl;
