@@ -1,14 +1,44 @@
 -- How waits break off.
-use Rattle.std.proofs.Common.{◌≡◌, ℕ, ◌<◌, List, [], ◌++◌, length, ◌∙◌, inr, arith, Result, Ok, Err}
-use Rattle.std.specs.Prelude.{OnErr}
+use Rattle.std.proofs.Common.{◌≡◌, ℕ, ◌<◌, List, [], ◌∷◌, ◌++◌, append_assoc, length, sym, ap, ◌∙◌, subst, inl, inr, arith, Result, Ok, Err}
+use Rattle.std.specs.Prelude.{◌⊎◌, OnErr}
+use Rattle.std.proofs.lemmas.List.{append-nil}
+use Rattle.std.proofs.lemmas.List.Elements.{filter_map-append}
 use Rattle.change_script.specs.declared.report.HistoryLine.{HistoryLine}
+use Rattle.change_script.specs.declared.report.HistoryLine.TheVariants as to
+use Rattle.gate_records.specs.Entries.{event_in, events_in}
 use Rattle.gate_records.specs.declared.entry.Entry.{Entry}
-use Rattle.change_board.specs.Transcripts.{entries}
-use Rattle.change_engine.specs.Breaking.{BrokeInRound, BrokeInScan}
+use Rattle.gate_records.specs.Records.{Adds}
+use Rattle.change_board.specs.Transcripts.{entries, lines, said}
+use Rattle.change_engine.specs.Breaking.{BrokeInRound, BrokeInRun, BrokeInScan, BrokeInStop}
 use Rattle.change_engine.specs.Growing.{BrokeOff, Grew}
 use Rattle.change_engine.specs.Passivating.{IsPassivation, Passivation, left_after, passivation_items}
 
+pub stop_told : (h i j : List HistoryLine) (ports : List ℕ) (how : Passivation) → i ≡ h ++ to.Stop ∷ [] → j ≡ i ++ lines (passivation_items ports how) → j ≡ h ++ lines (said to.Stop ∷ passivation_items ports how)
+stop_told h i j ports how e f = f ∙ ap (λ ls. ls ++ lines (passivation_items ports how)) e ∙ append_assoc h (to.Stop ∷ []) (lines (passivation_items ports how))
+
 module _ {B : Type 0} (S Broke : B → List Entry → Type 0) where
+  -- looks and scans alone, before a call that breaks off or none
+  pub saw_alone : (a b : B) (es : List Entry) → events_in es ≡ [] → Adds S a b es → BrokeInRun S Broke a b
+  saw_alone a b es quiet x = record { seen = es; none_done = quiet; stands = λ r s. inl (x r s) }
+
+  pub broke_behind : (a b c : B) (es : List Entry) → events_in es ≡ [] → Adds S a b es → ((r : List Entry) → S b r → Broke c r) → BrokeInRun S Broke a c
+  broke_behind a b c es quiet x h = record { seen = es; none_done = quiet; stands = λ r s. inr (h (r ++ es) (x r s)) }
+
+  pub saw_before : (a b c : B) (es : List Entry) → events_in es ≡ [] → Adds S a b es → BrokeInRun S Broke b c → BrokeInRun S Broke a c
+  saw_before a b c es quiet x y = record {
+    seen = es ++ y.seen;
+    none_done = filter_map-append event_in es y.seen ∙ ap (λ zs. zs ++ events_in y.seen) quiet ∙ y.none_done;
+    stands = λ r s. subst (λ zs. S c zs ⊎ Broke c zs) (append_assoc r es y.seen) (y.stands (r ++ es) (x r s));
+  }
+
+  -- a stop behind its line
+  pub broke_in_stop : (a b : B) (h i j : List HistoryLine) (ports : List ℕ) (within : ℕ) (how : Passivation) → IsPassivation ports within how → i ≡ h ++ to.Stop ∷ [] → j ≡ i ++ lines (passivation_items ports how)
+      → ((r : List Entry) → S a r → S b (r ++ entries (passivation_items ports how)) ⊎ Broke b (r ++ entries (passivation_items ports how))) → BrokeInStop S Broke a b h j ports within
+  broke_in_stop a b h i j ports within how is e f stands = record { how = how; is_passivation = is; stands = stands; told_all = stop_told h i j ports how e f }
+
+  pub run_broke_off : (a b : B) → BrokeInRun S Broke a b → BrokeOff S Broke a b
+  run_broke_off a b x = record { more_ = x.seen; stands = x.stands }
+
   pub broke_off : (a b : B) (h i : List HistoryLine) (ports : List ℕ) (within : ℕ) → BrokeInRound S Broke a b h i ports within → BrokeOff S Broke a b
   broke_off a b h i ports within x = record { more_ = entries (passivation_items ports x.how); stands = λ r s. inr (x.broke r s) }
 
@@ -27,3 +57,7 @@ module _ {B : Type 0} (S Broke : B → List Entry → Type 0) where
 pub on_err : {A E P Q : Type 0} → (P → Q) → (r : Result A E) → OnErr r P → OnErr r Q
 on_err f (Ok x) h = tt
 on_err f (Err e) h = f h
+
+pub on_both_errs : {A E P Q R : Type 0} → (P → Q → R) → (r : Result A E) → OnErr r P → OnErr r Q → OnErr r R
+on_both_errs f (Ok x) h i = tt
+on_both_errs f (Err e) h i = f h i

@@ -424,6 +424,7 @@ module _ {B : Type 0} (S : B → List Entry → Type 0) (R : B → Room) (runs :
     fewer = x.fewer;
     some_left = x.some_left;
     graph_is = refl;
+    layout_is = refl;
     history_is = λ t moves new h. x.told_all ∙ ap (λ ls. ls ++ lines items) h.tells.history ∙ sym (lines_both t items);
     broke = λ t moves new h. subst (Broke b) (sym (entries_both t items)) (x.broke (entries t) h.tells.board);
     stay_closed = λ t moves new h p shut. subst (λ r. IsClosedStill r p) (sym (entries_both t items))

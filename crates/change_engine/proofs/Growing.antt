@@ -1,5 +1,5 @@
 -- How records and histories grow.
-use Rattle.std.proofs.Common.{List, ◌++◌, append_assoc, [], sym, ap, ◌∙◌, subst, inl, inr}
+use Rattle.std.proofs.Common.{◌≡◌, List, ◌++◌, append_assoc, [], sym, ap, ◌∙◌, subst, inl, inr}
 use Rattle.std.specs.Prelude.{◌⊎◌, OnErr, Result, Ok, Err}
 use Rattle.std.proofs.lemmas.List.{append-nil}
 use Rattle.change_script.specs.declared.report.HistoryLine.{HistoryLine}
@@ -18,6 +18,10 @@ module _ {B : Type 0} (S : B → List Entry → Type 0) where
     adds = subst (λ zs. Adds S a c zs) (sym (entries_both t u)) (adds_both a b c (entries t) (entries u) x.adds y.adds);
     adds_lines = y.adds_lines ∙ ap (λ zs. zs ++ lines u) x.adds_lines ∙ append_assoc h (lines t) (lines u) ∙ ap (λ zs. h ++ zs) (sym (lines_both t u));
   }
+
+-- nothing is told and recorded
+pub grew_none : {B : Type 0} (S : B → List Entry → Type 0) (a : B) (h i : List HistoryLine) → i ≡ h → Grew S a a h i []
+grew_none S a h i same = record { adds = λ r s. subst (S a) (sym (append-nil r)) s; adds_lines = same ∙ sym (append-nil h) }
 
 pub if_err : {A E P : Type 0} → P → (r : Result A E) → OnErr r P
 if_err h (Ok x) = tt

@@ -1,5 +1,5 @@
 -- Once nothing is left of a stop's passivation, each port of a live node is noted.
-use Rattle.std.proofs.Common.{◌≡◌, ℕ, Bool, true, false, cond, List, [], ◌∷◌, ◌++◌, append_assoc, length, map, refl, sym, ap, ◌∙◌, subst}
+use Rattle.std.proofs.Common.{◌≡◌, ℕ, Bool, true, false, cond, List, [], ◌∷◌, ◌++◌, length, map, refl, sym, ap, ◌∙◌, subst}
 use Rattle.std.specs.Prelude.{filter, flat_map}
 use Rattle.std.specs.List.{AllByRecursion, range_with_len}
 use Rattle.std.proofs.lemmas.List.{append-nil}
@@ -18,9 +18,10 @@ use Rattle.quiesce_core.specs.State.{Configuration}
 use Rattle.gate_records.specs.Entries.{config_of, event_in, events_in}
 use Rattle.gate_records.specs.declared.entry.Entry.{Entry}
 use Rattle.gate_records.specs.Records.{AreAllNoted}
-use Rattle.change_board.specs.Transcripts.{said, entries, lines}
+use Rattle.change_board.specs.Transcripts.{said, entries}
 use Rattle.change_engine.specs.Growing.{Grew}
 use Rattle.change_engine.specs.Passivating.{AreLivePorts, IsPassivation, Passivation, WaitingRound, close_item, left_after, look_item, passivation_items, round_items}
+use Rattle.change_engine.proofs.Breaking.{stop_told}
 use Rattle.change_engine.proofs.Noting.{passivated_noted}
 use Rattle.change_engine.proofs.Passing.{close_entries, closes_events, config_over, live_same, look_entries, looks_quiet, round_quiet}
 use Rattle.change_engine.proofs.ItemLaws.{entries_both}
@@ -74,5 +75,5 @@ pub stop_grew : {B : Type 0} (S : B → List Entry → Type 0) (a b : B) (h i j 
     → Grew S a b h j (said to.Stop ∷ passivation_items ports how)
 stop_grew S a b h i j ports how e g = record {
   adds = g.adds;
-  adds_lines = g.adds_lines ∙ ap (λ ls. ls ++ lines (passivation_items ports how)) e ∙ append_assoc h (to.Stop ∷ []) (lines (passivation_items ports how));
+  adds_lines = stop_told h i j ports how e g.adds_lines;
 }

@@ -7,7 +7,7 @@ use Rattle.gate_records.specs.declared.looking.Look.TheVariants.{Drained, Busy}
 use Rattle.gate_records.specs.Looks.{ended_in_word, is_drained_word, is_idle_word, look_of, serial_of}
 use Rattle.change_board.specs.Scans.{Found, ended_in}
 use Rattle.change_engine.specs.Finishing.{ScanSeen}
-use Rattle.change_engine.specs.Running.{ended_by, ended_since, is_out_after, is_run_out, are_enough}
+use Rattle.change_engine.specs.Running.{ended_by, ended_since, is_out_after, ends_run, are_enough}
 
 -- what a look answers shows as many transactions as ended as the word
 pub ended_looked : (w : ℕ) → ended_by (look_of w) ≡ ended_in_word w
@@ -23,8 +23,8 @@ looks_pushed looks f = sum_by-append (λ (f : Found). ended_in_word f.word) look
 pub since_pushed : (shown : ℕ) (scans : List ScanSeen) (w : ScanSeen) → ended_since shown (scans ++ w ∷ []) ≡ w.answer.ended - shown
 since_pushed shown scans w = fold_push (λ n (w : ScanSeen). w.answer.ended - shown) 0 scans w
 
-pub out_pushed : (alone : Bool) (scans : List ScanSeen) (w : ScanSeen) → is_out_after alone (scans ++ w ∷ []) ≡ is_run_out alone w.answer
-out_pushed alone scans w = fold_push (λ b (w : ScanSeen). is_run_out alone w.answer) false scans w
+pub out_pushed : (alone : Bool) (scans : List ScanSeen) (w : ScanSeen) → is_out_after alone (scans ++ w ∷ []) ≡ ends_run alone w.answer
+out_pushed alone scans w = fold_push (λ b (w : ScanSeen). ends_run alone w.answer) false scans w
 
 -- a run goes on where fewer ended than were asked for, and the last scan wasn't the last
 pub run_on : (alone : Bool) (k shown ended : ℕ) (scans : List ScanSeen) → ended ≡ ended_since shown scans → ended < k → is_out_after alone scans ≡ false → are_enough alone k shown scans ≡ false

@@ -22,7 +22,7 @@ use Rattle.change_board.specs.Scans.{Found, all_ports, ended_in, look_entry, por
 use Rattle.change_board.specs.Steps.{Deed, Room}
 use Rattle.change_board.specs.Transcripts.{Item, entries, lines, said}
 use Rattle.change_engine.specs.Beginning.{start_items}
-use Rattle.change_engine.specs.Breaking.{IsClosedOr, IsClosedStill}
+use Rattle.change_engine.specs.Breaking.{BrokeInRun, IsClosedOr, IsClosedStill}
 use Rattle.change_engine.specs.Carrying.{deed_items}
 use Rattle.change_engine.specs.Draining.{pending_items}
 use Rattle.change_engine.specs.Ending.{unfinished_after}
@@ -76,6 +76,14 @@ pub record HasFinished {B : Type 0} (S : B → List Entry → Type 0) (alone : B
   pub rounds_are : rounds ≡ rounds_in scans
   pub ends : EndsAfter alone n scans
   pub goes : Continues S old new (silent_items (all_entries scans) ++ said (to.Finish n rounds) ∷ [])
+
+-- Run and finish, broken off for want of memory: no event was done and no line told, and all that is kept is as it was.
+pub record HasRunUntold {B : Type 0} (S Broke : B → List Entry → Type 0) (old new : Engine B) : Type 0 where
+  pub broke : BrokeInRun S Broke old.board new.board
+  pub history_is : new.history.items ≡ old.history.items
+  pub graph_is : new.graph ≡ old.graph
+  pub layout_is : new.layout ≡ old.layout
+  pub change_is : new.change ≡ old.change
 
 -- Prepare: all memory is there, and the line that begins the change.
 pub record HasPrepared {B : Type 0} (S : B → List Entry → Type 0) (R : B → Room) (old new : Engine B) (name : List ℕ)
@@ -132,6 +140,7 @@ pub record HasBrokenOff {B : Type 0} (S : B → List Entry → Type 0) (R : B �
   pub fewer : length how.rounds < within
   pub some_left : left_after how.first how.rounds ≡ [] → ⊥
   pub graph_is : new.graph ≡ old.graph
+  pub layout_is : new.layout ≡ old.layout
   pub history_is : (t : List Item) (moves : List Move) (next_ : Graph) → IsOpen S R old t moves plan next_
       → new.history.items ≡ lines (t ++ passivation_items closed how)
   pub broke : (t : List Item) (moves : List Move) (next_ : Graph) → IsOpen S R old t moves plan next_

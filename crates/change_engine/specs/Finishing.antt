@@ -41,11 +41,11 @@ abbrev pub rounds_in : List ScanSeen → ℕ
 rounds_in scans = sum_by (λ (w : ScanSeen). count_of w.answer) scans
 
 -- none follows a scan that saw all at rest, nor one that moved nothing where nodes take turns in scans alone
-abbrev pub is_last : Bool → Scan → Bool
-is_last alone s = s.done || (alone && not s.moved)
+abbrev pub ends_finish : Bool → Scan → Bool
+ends_finish alone s = s.done || (alone && not s.moved)
 
 abbrev pub GoesOn : Bool → ScanSeen → Type 0
-GoesOn alone w = is_last alone w.answer ≡ false
+GoesOn alone w = ends_finish alone w.answer ≡ false
 
 -- some of these scans was the last, or so many were made
 pub record EndsWith (alone : Bool) (scans : List ScanSeen) : Type 0 where
@@ -53,7 +53,7 @@ pub record EndsWith (alone : Bool) (scans : List ScanSeen) : Type 0 where
   pub final : ScanSeen
   pub parts : scans ≡ before ++ final ∷ []
   pub go_on : AllByRecursion (GoesOn alone) before
-  pub ends : is_last alone final.answer ≡ true
+  pub ends : ends_finish alone final.answer ≡ true
 
 abbrev pub EndsAfter : Bool → ℕ → List ScanSeen → Type 0
 EndsAfter alone n scans = EndsWith alone scans ⊎ ((length scans ≡ n) × AllByRecursion (GoesOn alone) scans)

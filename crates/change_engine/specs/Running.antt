@@ -19,15 +19,15 @@ ended_by (Drained k idle) = if idle then k else k - 1
 ended_by (Busy w) = ended_in_word w
 
 -- None follows a scan that moved nothing where nodes take turns in scans alone; elsewhere, none that saw all at rest.
-abbrev pub is_run_out : Bool → Scan → Bool
-is_run_out alone s = if alone then not s.moved else s.done
+abbrev pub ends_run : Bool → Scan → Bool
+ends_run alone s = if alone then not s.moved else s.done
 
 -- how many ended from the looks, which showed so many as ended, to the last of the scans
 abbrev pub ended_since : ℕ → List ScanSeen → ℕ
 ended_since shown scans = fold (λ n (w : ScanSeen). w.answer.ended - shown) 0 scans
 
 abbrev pub is_out_after : Bool → List ScanSeen → Bool
-is_out_after alone scans = fold (λ b (w : ScanSeen). is_run_out alone w.answer) false scans
+is_out_after alone scans = fold (λ b (w : ScanSeen). ends_run alone w.answer) false scans
 
 abbrev pub are_enough : Bool → ℕ → ℕ → List ScanSeen → Bool
 are_enough alone k shown scans = nat_le k (ended_since shown scans) || is_out_after alone scans

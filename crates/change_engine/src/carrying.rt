@@ -13,7 +13,7 @@ use quiesce_core::Event;
 
 /// Does these events, in order, and appends lines to the history: the events' own lines, between others that are said
 /// before and behind them. It can't fail, and takes no memory.
-pub fn carry_out<B: Board>(
+pub(crate) fn carry_out<B: Board>(
     board: &mut B,
     history: &mut Vec<HistoryLine>,
     events: Vec<Event>,
@@ -26,5 +26,6 @@ pub fn carry_out<B: Board>(
         → CarriesOut B.stands_for board.old board.new history.old.items history.new.items head events.items tail }
 {
     do_steps(board, events);
+    // There is place for them, so that it can't fail.
     let _ = history.append(lines);
 }

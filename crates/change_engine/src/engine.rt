@@ -7,7 +7,7 @@ ghost use Rattle.config_graph.specs.Sound.{Sound};
 ghost use Rattle.config_graph.specs.declared.TheConstants.{MAX_NODES, MAX_PORTS};
 ghost use Rattle.gate_records.specs.Entries.{config_of};
 ghost use Rattle.change_board.specs.Transcripts.{Item, entries};
-ghost use Rattle.change_engine.specs.Calls.{Continues, HasAbandoned, HasBrokenOff, HasCommitted, HasFinished, HasLeft, HasPassivated, HasPrepared, HasRun, HasShown, HasSkipped, HasStarted, HasStopped};
+ghost use Rattle.change_engine.specs.Calls.{Continues, HasAbandoned, HasBrokenOff, HasCommitted, HasFinished, HasLeft, HasPassivated, HasPrepared, HasRun, HasRunUntold, HasShown, HasSkipped, HasStarted, HasStopped};
 ghost use Rattle.change_engine.specs.Draining.{WhereNoMemory, WherePending};
 ghost use Rattle.change_engine.specs.Engines.{IsIdle, IsPlanned, IsPrepared, IsReadyToCommit, MayAbandon};
 ghost use Rattle.change_engine.specs.Growing.{BrokeOff};
@@ -99,6 +99,7 @@ impl<B: Board + Drop> Engine<B> {
         ensures ok { IfOk result (λ ended. HasRun B.stands_for B.alone self.old self.new k ended) }
         ensures graph { self.new.graph ≡ self.old.graph }
         ensures err { OnErr result (BrokeOff B.stands_for B.broke_off self.old.board self.new.board) }
+        ensures untold { OnErr result (HasRunUntold B.stands_for B.broke_off self.old self.new) }
     {
         let shown = running::count_ended(&mut self.board, self.layout.port_count());
         let ended = running::scan_until(&mut self.board, shown, k)?;
@@ -113,6 +114,7 @@ impl<B: Board + Drop> Engine<B> {
         ensures ok { IfOk result (λ rounds. HasFinished B.stands_for B.alone self.old self.new n rounds) }
         ensures graph { self.new.graph ≡ self.old.graph }
         ensures err { OnErr result (BrokeOff B.stands_for B.broke_off self.old.board self.new.board) }
+        ensures untold { OnErr result (HasRunUntold B.stands_for B.broke_off self.old self.new) }
     {
         finishing::finish(&mut self.board, &mut self.history, n)
     }
@@ -191,10 +193,11 @@ impl<B: Board + Drop> Engine<B> {
         ensures stays_closed { IfErr result (WhereNoMemory
             (HasBrokenOff B.stands_for B.room B.broke_off self.old self.new plan.now rounds)) }
     {
+        // Asked for by the contract alone, which speaks of it: what it closes was listed when it was prepared.
         let _ = plan;
         let alloc = *self.history.allocator();
         let Some(mut change) = self.change.take() else {
-            return Ok(());
+            unreachable!()
         };
         let drained = draining::drain(
             &mut self.board,
@@ -216,9 +219,10 @@ impl<B: Board + Drop> Engine<B> {
         ensures { HasCommitted B.stands_for B.room self.old self.new plan new }
     {
         plans_may_be_carried_out();
+        // Asked for by the contract alone, which speaks of it: what its commit does was listed when it was prepared.
         let _ = plan;
         let Some(change) = self.change.take() else {
-            return;
+            unreachable!()
         };
         let mut lines = change.lines;
         carry_out(
@@ -237,9 +241,10 @@ impl<B: Board + Drop> Engine<B> {
             × MayAbandon B.stands_for B.room self.old t moves plan next }
         ensures { HasAbandoned B.stands_for B.room self.old self.new plan }
     {
+        // Asked for by the contract alone, which speaks of it: what it reopens was listed when it was prepared.
         let _ = plan;
         let Some(change) = self.change.take() else {
-            return;
+            unreachable!()
         };
         let mut lines = change.reopen_lines;
         carry_out(

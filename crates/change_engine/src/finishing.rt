@@ -1,7 +1,7 @@
 //! Running a system until its nodes are done.
 
 ghost use Rattle.std.specs.Prelude.{◌≡◌, ◌≤◌, IfOk, OnErr, OnOk};
-ghost use Rattle.change_engine.specs.Growing.{BrokeOff};
+ghost use Rattle.change_engine.specs.Breaking.{BrokeInRun};
 ghost use Rattle.change_engine.specs.Finishing as finishing;
 ghost use Rattle.change_engine.specs.Finishing.{Finished, Scans};
 
@@ -17,9 +17,10 @@ fn count_of(scan: Scan) -> u32
     if !scan.moved && scan.done { 0 } else { 1 }
 }
 
-/// Whether no scan need follow.
-fn is_last(alone: bool, scan: Scan) -> bool
-    ensures { result ≡ finishing.is_last alone scan }
+/// Whether a finish ends with this scan: all was seen at rest, or it can't come to that, since nothing moved where nodes
+/// take turns in scans alone.
+fn ends_finish(alone: bool, scan: Scan) -> bool
+    ensures { result ≡ finishing.ends_finish alone scan }
 {
     scan.done || alone && !scan.moved
 }
@@ -28,14 +29,14 @@ fn is_last(alone: bool, scan: Scan) -> bool
 fn make_scans<B: Board>(board: &mut B, n: u32) -> Result<u32, NoMemory>
     ensures ok { IfOk result (λ rounds. Scans B.stands_for B.alone board.old board.new n rounds) }
     ensures room { OnOk result (B.room board.new ≡ B.room board.old) }
-    ensures err { OnErr result (BrokeOff B.stands_for B.broke_off board.old board.new) }
+    ensures err { OnErr result (BrokeInRun B.stands_for B.broke_off board.old board.new) }
 {
     let alone = board.is_alone();
     let mut rounds = 0;
     for _made in 0..n {
         let seen = board.scan(true)?;
         rounds += count_of(seen);
-        if is_last(alone, seen) {
+        if ends_finish(alone, seen) {
             return Ok(rounds);
         }
     }
@@ -52,7 +53,8 @@ pub fn finish<B: Board>(
     ensures ok { IfOk result
         (λ rounds. Finished B.stands_for B.alone board.old board.new history.old.items history.new.items n rounds) }
     ensures room { OnOk result (B.room board.new ≡ B.room board.old) }
-    ensures err { OnErr result (BrokeOff B.stands_for B.broke_off board.old board.new) }
+    ensures err { OnErr result (BrokeInRun B.stands_for B.broke_off board.old board.new) }
+    ensures untold { OnErr result (history.new.items ≡ history.old.items) }
 {
     let rounds = make_scans(board, n)?;
     history.push(HistoryLine::Finish { n, rounds })?;

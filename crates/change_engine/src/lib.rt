@@ -19,7 +19,6 @@ mod starting;
 mod stopping;
 mod telling;
 
-pub use carrying::carry_out;
 pub use draining::PassError;
 pub use engine::{Change, Engine};
 pub use finishing::finish;

@@ -311,6 +311,7 @@ fn map_links(alloc: Global, links: &[Link]) -> Result<HashMap<(u32, u32), Link>,
         ≡ find (λ (l : PureLink). (i == l.from) && (r == l.require)) links.now) }
 {
     let mut by_start = HashMap::new(alloc);
+    // From the last to the first: an insert replaces, so of links that begin at one requirement the first stays.
     for behind in 0..links.len() {
         let link = links[links.len() - 1 - behind];
         by_start.insert((link.from, link.require), link)?;

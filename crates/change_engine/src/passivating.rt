@@ -52,7 +52,7 @@ pub(crate) fn put<T: Drop>(list: &mut Vec<T>, item: T)
     ensures len { vec_len list.new ≡ vec_len list.old + 1 }
     ensures capacity { vec_capacity list.old ≤ vec_capacity list.new }
 {
-    let _ = list.push(item);
+    list.push_reserved(item);
 }
 
 fn close_all<B: Board>(board: &mut B, history: &mut Vec<HistoryLine>, ports: &[u32])

@@ -3,7 +3,7 @@
 ghost use Rattle.std.specs.Prelude.{◌≡◌, ◌≤◌, length, List, IfOk, OnErr, OnOk};
 ghost use Rattle.gate_records.specs.Entries.{config_of};
 ghost use Rattle.gate_records.specs.declared.entry.Entry.{Entry};
-ghost use Rattle.change_engine.specs.Growing.{BrokeOff};
+ghost use Rattle.change_engine.specs.Breaking.{BrokeInRun};
 ghost use Rattle.change_engine.specs.Running as running;
 ghost use Rattle.change_engine.specs.Running.{Counts, ScansUntil};
 
@@ -31,9 +31,10 @@ fn ended_by(look: Look) -> u32
     }
 }
 
-/// Whether no scan need follow.
-fn is_run_out(alone: bool, scan: Scan) -> bool
-    ensures { result ≡ running.is_run_out alone scan }
+/// Whether a run ends with this scan, since later ones end no more transactions: where nodes take turns in scans alone
+/// it moved nothing, and elsewhere it saw all at rest.
+fn ends_run(alone: bool, scan: Scan) -> bool
+    ensures { result ≡ running.ends_run alone scan }
 {
     if alone { !scan.moved } else { scan.done }
 }
@@ -56,7 +57,7 @@ pub(crate) fn count_ended<B: Board>(board: &mut B, ports: u32) -> u64
 pub(crate) fn scan_until<B: Board>(board: &mut B, shown: u64, k: u32) -> Result<u64, NoMemory>
     ensures ok { IfOk result (λ ended. ScansUntil B.stands_for B.alone board.old board.new shown k ended) }
     ensures room { OnOk result (B.room board.new ≡ B.room board.old) }
-    ensures err { OnErr result (BrokeOff B.stands_for B.broke_off board.old board.new) }
+    ensures err { OnErr result (BrokeInRun B.stands_for B.broke_off board.old board.new) }
 {
     let alone = board.is_alone();
     let mut ended = 0u64;
@@ -66,7 +67,7 @@ pub(crate) fn scan_until<B: Board>(board: &mut B, shown: u64, k: u32) -> Result<
         }
         let seen = board.scan(true)?;
         ended = seen.ended.saturating_sub(shown);
-        if is_run_out(alone, seen) {
+        if ends_run(alone, seen) {
             return Ok(ended);
         }
     }

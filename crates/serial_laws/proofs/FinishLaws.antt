@@ -13,7 +13,7 @@ use Rattle.gate_records.specs.declared.entry.Entry.{Entry}
 use Rattle.change_board.specs.Scans.{look_entry}
 use Rattle.change_board.specs.Sights.{sight_entry}
 use Rattle.change_board.specs.Transcripts.{Item, said, entries, entry_in, lines}
-use Rattle.change_engine.specs.Finishing.{EndsAfter, EndsWith, GoesOn, IsScanIn, ScanSeen, all_entries, count_of, is_last, rounds_in, seen_entries}
+use Rattle.change_engine.specs.Finishing.{EndsAfter, EndsWith, GoesOn, IsScanIn, ScanSeen, all_entries, count_of, ends_finish, rounds_in, seen_entries}
 use Rattle.change_engine.specs.Passivating.{silent_items}
 use Rattle.change_law.specs.Opening.{fold_of_node}
 use Rattle.change_law.specs.Serial.{FinishesAt, finish_ends}

@@ -75,7 +75,7 @@ module _ (w : World) (k : ℕ) (c : Configuration) (same : c ≡ w.machine.confi
         reached = next.reached;
         config = config;
         since = fold_push (λ n (x : ScanSeen). x.answer.ended - ended w) 0 b s ∙ ap (λ n. n - ended w) counted;
-        out = fold_push (λ o (x : ScanSeen). engine.is_run_out true x.answer) false b s ∙ ap not so.0;
+        out = fold_push (λ o (x : ScanSeen). engine.ends_run true x.answer) false b s ∙ ap not so.0;
         before = λ i low. ⊎_elim
             (λ (e : i ≡ j). subst (λ n. run_ends w k n ≡ false) (sym e) here)
             (λ (other : i ≡ j → ⊥). h.before i (omega (arith, low, other)))

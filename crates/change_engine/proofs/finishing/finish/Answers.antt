@@ -1,5 +1,6 @@
-use Rattle.change_engine.proofs.Growing.{if_err, stands_on}
-use Rattle.change_engine.proofs.Scanning.{finished}
+use Rattle.change_engine.proofs.Breaking.{saw_alone}
+use Rattle.change_engine.proofs.Growing.{if_err}
+use Rattle.change_engine.proofs.Scanning.{all_quiet, finished}
 use Rattle.change_engine.proofs.finishing.finish.Goals as goal
 
 pub returns-clause-ok : goal.returns-clause-ok
@@ -9,4 +10,5 @@ returns-clause-ok g c =
 
 pub returns-in_err-push-clause-err : goal.returns-in_err-push-clause-err
 returns-in_err-push-clause-err g c =
-    if_err (stands_on g.B.Board.stands_for g.B.Board.broke_off c.args.board.now c.make_scans.new.board _ c.in_ok-rounds.ensures.ok.adds) c.from_residual-in_err-push.result
+    let x = c.in_ok-rounds.ensures.ok in
+    if_err (saw_alone g.B.Board.stands_for g.B.Board.broke_off c.args.board.now c.make_scans.new.board _ (all_quiet x.scans) x.adds) c.from_residual-in_err-push.result

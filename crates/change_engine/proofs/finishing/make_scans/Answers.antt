@@ -1,8 +1,9 @@
 use Rattle.std.proofs.Common.{◌≡◌, ◌+◌, ◌++◌, ◌∷◌, [], length, refl, sym, ap, ◌∙◌, subst, arith, inl, inr}
 use Rattle.std.proofs.lemmas.List.{append-nil, length-append}
-use Rattle.change_engine.specs.Finishing.{GoesOn, is_last, rounds_in}
-use Rattle.change_engine.proofs.Growing.{breaks, breaks_after, if_err}
-use Rattle.change_engine.proofs.Scanning.{all_push, rounds_pushed, scans_add, scans_are, seen_by}
+use Rattle.change_engine.specs.Finishing.{GoesOn, ends_finish, rounds_in}
+use Rattle.change_engine.proofs.Breaking.{broke_behind}
+use Rattle.change_engine.proofs.Growing.{if_err}
+use Rattle.change_engine.proofs.Scanning.{all_push, all_quiet, rounds_pushed, scans_add, scans_are, seen_by}
 use Rattle.change_engine.proofs.finishing.make_scans.Goals as goal
 
 pub loop-made-init : goal.loop-made-init
@@ -32,14 +33,14 @@ loop-made-preserved g c =
       scans = inv.scans ++ w ∷ [];
       all_scans = length-append inv.scans (w ∷ []) ∙ ap (λ k. k + 1) inv.all_scans;
       are_scans = scans_are S g.B.Board.alone a b d inv.scans s x inv.adds inv.are_scans;
-      go_on = all_push (GoesOn g.B.Board.alone) inv.scans w inv.go_on (ap (λ alone. is_last alone s) (sym c.is_alone-alone.ensures) ∙ sym c.if-is_last.ensures);
+      go_on = all_push (GoesOn g.B.Board.alone) inv.scans w inv.go_on (ap (λ alone. ends_finish alone s) (sym c.is_alone-alone.ensures) ∙ sym c.if-ends_finish.ensures);
       rounds_are = ap (λ k. k + c.count_of-rounds.result) inv.rounds_are ∙ ap (λ k. rounds_in inv.scans + k) c.count_of-rounds.ensures.value ∙ sym (rounds_pushed inv.scans w);
       few = omega (arith, inv.few, c.count_of-rounds.ensures.few);
       adds = scans_add S g.B.Board.alone a b d inv.scans s x inv.adds;
     }
 
-pub returns-then-is_last-clause-ok : goal.returns-then-is_last-clause-ok
-returns-then-is_last-clause-ok g c =
+pub returns-then-ends_finish-clause-ok : goal.returns-then-ends_finish-clause-ok
+returns-then-ends_finish-clause-ok g c =
     let S = g.B.Board.stands_for in
     let inv = c.loop-made.invariant in
     let a = c.args.board.now in
@@ -54,7 +55,7 @@ returns-then-is_last-clause-ok g c =
       few = omega (arith, long, c.loop-made-test);
       are_scans = scans_are S g.B.Board.alone a b d inv.scans s x inv.adds inv.are_scans;
       rounds_are = ap (λ k. k + c.count_of-rounds.result) inv.rounds_are ∙ ap (λ k. rounds_in inv.scans + k) c.count_of-rounds.ensures.value ∙ sym (rounds_pushed inv.scans w);
-      ends = inl (record { before = inv.scans; final = w; parts = refl; go_on = inv.go_on; ends = ap (λ alone. is_last alone s) (sym c.is_alone-alone.ensures) ∙ sym c.if-is_last.ensures });
+      ends = inl (record { before = inv.scans; final = w; parts = refl; go_on = inv.go_on; ends = ap (λ alone. ends_finish alone s) (sym c.is_alone-alone.ensures) ∙ sym c.if-ends_finish.ensures });
       adds = scans_add S g.B.Board.alone a b d inv.scans s x inv.adds;
     }
 
@@ -75,4 +76,5 @@ pub returns-in_err-seen-clause-err : goal.returns-in_err-seen-clause-err
 returns-in_err-seen-clause-err g c =
     let S = g.B.Board.stands_for in
     let K = g.B.Board.broke_off in
-    if_err (breaks_after S K c.args.board.now c.loop-made.board c.scan.new.self _ c.loop-made.invariant.adds (breaks S K c.loop-made.board c.scan.new.self c.in_err-seen.ensures.err)) c.from_residual.result
+    let inv = c.loop-made.invariant in
+    if_err (broke_behind S K c.args.board.now c.loop-made.board c.scan.new.self _ (all_quiet inv.scans) inv.adds c.in_err-seen.ensures.err) c.from_residual.result

@@ -1,10 +1,11 @@
 use Rattle.std.proofs.Common.{◌++◌, ◌∷◌, [], refl, sym, ap, ◌∙◌, subst, arith}
 use Rattle.std.proofs.lemmas.List.{append-nil}
 use Rattle.base.proofs.EachLaws.{each_pushed}
-use Rattle.change_engine.specs.Running.{RunsOn, is_run_out}
-use Rattle.change_engine.proofs.Growing.{breaks, breaks_after, if_err, stands_on}
+use Rattle.change_engine.specs.Running.{RunsOn, ends_run}
+use Rattle.change_engine.proofs.Breaking.{broke_behind, saw_alone}
+use Rattle.change_engine.proofs.Growing.{if_err}
 use Rattle.change_engine.proofs.RunLemmas.{out_pushed, run_enough, run_on, run_out, since_pushed}
-use Rattle.change_engine.proofs.Scanning.{scans_add, scans_are, seen_by}
+use Rattle.change_engine.proofs.Scanning.{all_quiet, scans_add, scans_are, seen_by}
 use Rattle.change_engine.proofs.running.scan_until.Goals as goal
 
 pub loop-scan-init : goal.loop-scan-init
@@ -38,7 +39,7 @@ loop-scan-preserved g c =
         run_on alone c.args.k c.args.shown c.loop-scan.ended inv.scans inv.ended_is
             (omega (arith, c.from.ensures, c.if-from-ended.false)) inv.not_out,
       );
-      not_out = out_pushed alone inv.scans w ∙ ap (λ one. is_run_out one s) (sym c.is_alone-alone.ensures) ∙ sym c.is_run_out.ensures ∙ c.if-is_run_out.false;
+      not_out = out_pushed alone inv.scans w ∙ ap (λ one. ends_run one s) (sym c.is_alone-alone.ensures) ∙ sym c.ends_run.ensures ∙ c.if-ends_run.false;
       ended_is = c.saturating_sub-ended.ensures ∙ sym (since_pushed c.args.shown inv.scans w);
       adds = scans_add S g.B.Board.alone a b d inv.scans s x inv.adds;
     }
@@ -56,8 +57,8 @@ returns-then-from-ended-clause-ok g c =
       adds = inv.adds;
     }
 
-pub returns-then-is_run_out-clause-ok : goal.returns-then-is_run_out-clause-ok
-returns-then-is_run_out-clause-ok g c =
+pub returns-then-ends_run-clause-ok : goal.returns-then-ends_run-clause-ok
+returns-then-ends_run-clause-ok g c =
     let S = g.B.Board.stands_for in
     let alone = g.B.Board.alone in
     let inv = c.loop-scan.invariant in
@@ -76,7 +77,7 @@ returns-then-is_run_out-clause-ok g c =
             (omega (arith, c.from.ensures, c.if-from-ended.false)) inv.not_out,
       );
       ends = run_out alone c.args.k c.args.shown (inv.scans ++ w ∷ [])
-          (out_pushed alone inv.scans w ∙ ap (λ one. is_run_out one s) (sym c.is_alone-alone.ensures) ∙ sym c.is_run_out.ensures ∙ c.if-is_run_out.true);
+          (out_pushed alone inv.scans w ∙ ap (λ one. ends_run one s) (sym c.is_alone-alone.ensures) ∙ sym c.ends_run.ensures ∙ c.if-ends_run.true);
       ended_is = c.saturating_sub-ended.ensures ∙ sym (since_pushed c.args.shown inv.scans w);
       adds = scans_add S g.B.Board.alone a b d inv.scans s x inv.adds;
     }
@@ -85,7 +86,10 @@ pub returns-in_err-seen-clause-err : goal.returns-in_err-seen-clause-err
 returns-in_err-seen-clause-err g c =
     let S = g.B.Board.stands_for in
     let K = g.B.Board.broke_off in
-    if_err (breaks_after S K c.args.board.now c.loop-scan.board c.scan.new.self _ c.loop-scan.invariant.adds (breaks S K c.loop-scan.board c.scan.new.self c.in_err-seen.ensures.err)) c.from_residual.result
+    let inv = c.loop-scan.invariant in
+    if_err (broke_behind S K c.args.board.now c.loop-scan.board c.scan.new.self _ (all_quiet inv.scans) inv.adds c.in_err-seen.ensures.err) c.from_residual.result
 
 pub returns-clause-err : goal.returns-clause-err
-returns-clause-err g c = stands_on g.B.Board.stands_for g.B.Board.broke_off c.args.board.now c.loop-scan.board _ c.loop-scan.invariant.adds
+returns-clause-err g c =
+    let inv = c.loop-scan.invariant in
+    saw_alone g.B.Board.stands_for g.B.Board.broke_off c.args.board.now c.loop-scan.board _ (all_quiet inv.scans) inv.adds

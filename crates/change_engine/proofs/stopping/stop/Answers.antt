@@ -1,4 +1,4 @@
-use Rattle.std.proofs.Common.{◌≡◌, ◌∷◌, ◌++◌, ◌-◌, ◌^◌, [], List, ℕ, length, true, vec_len, sym, ap, ◌∙◌, subst, arith, Result, Ok, Err}
+use Rattle.std.proofs.Common.{◌≡◌, ◌∷◌, ◌++◌, ◌-◌, ◌^◌, [], List, ℕ, length, true, vec_len, refl, sym, ap, ◌∙◌, subst, inl, inr, arith, Result, Ok, Err}
 use Rattle.std.specs.Prelude.{◌==◌, IfOk}
 use Rattle.std.proofs.lemmas.Bool.{eqb-true}
 use Rattle.base.proofs.MapLaws.{no_length}
@@ -8,8 +8,8 @@ use Rattle.change_board.specs.Transcripts.{entries}
 use Rattle.change_script.specs.declared.report.HistoryLine.TheVariants as to
 use Rattle.change_engine.specs.Passivating.{AreLivePorts, passivation_items}
 use Rattle.change_engine.specs.Stopping.{Stops}
-use Rattle.change_engine.proofs.Breaking.{broke_off, on_err}
-use Rattle.change_engine.proofs.Growing.{breaks, breaks_after, if_err, nothing_done, stands_on}
+use Rattle.change_engine.proofs.Breaking.{broke_in_stop, broke_off, on_err}
+use Rattle.change_engine.proofs.Growing.{breaks, breaks_after, grew_none, if_err, nothing_done, stands_on}
 use Rattle.change_engine.proofs.Quieting.{all_live, all_noted, stop_grew}
 use Rattle.change_engine.proofs.stopping.stop.Goals as goal
 
@@ -92,3 +92,33 @@ pub returns-in_err-passivate-clause-err : goal.returns-in_err-passivate-clause-e
 returns-in_err-passivate-clause-err g c =
     if_err (broke_off g.B.Board.stands_for g.B.Board.broke_off c.args.board.now c.passivate.new.board c.put.new.list.items c.passivate.new.history.items c.args.ports.now (2 ^ 64 - 1) c.in_err-passivate.ensures.err)
     c.from_residual-in_err-passivate.result
+
+pub returns-then-is_empty-clause-closes_alone : goal.returns-then-is_empty-clause-closes_alone
+returns-then-is_empty-clause-closes_alone g c =
+    let w = c.in_ok-passivate.ensures.ok in
+    let began = c.put.ensures.items ∙ ap (λ ls. ls ++ to.Stop ∷ []) c.reserve.ensures.items in
+    on_err (λ broke. inr (broke_in_stop g.B.Board.stands_for g.B.Board.broke_off c.args.board.now c.collect.new.self c.args.history.now.items c.put.new.list.items c.passivate.new.history.items
+    c.args.ports.now (2 ^ 64 - 1) w.how w.is_passivation began w.grew.adds_lines
+    (λ r s. inr (broke (r ++ entries (passivation_items c.args.ports.now w.how)) (w.grew.adds r s))))) c.collect.result c.collect.ensures.err
+
+pub returns-clause-closes_alone : goal.returns-clause-closes_alone
+returns-clause-closes_alone g c =
+    let w = c.in_ok-passivate.ensures.ok in
+    let began = c.put.ensures.items ∙ ap (λ ls. ls ++ to.Stop ∷ []) c.reserve.ensures.items in
+    inr (broke_in_stop g.B.Board.stands_for g.B.Board.broke_off c.args.board.now c.passivate.new.board c.args.history.now.items c.put.new.list.items c.passivate.new.history.items
+    c.args.ports.now (2 ^ 64 - 1) w.how w.is_passivation began w.grew.adds_lines (λ r s. inl (w.grew.adds r s)))
+
+pub returns-in_err-waiting-clause-closes_alone : goal.returns-in_err-waiting-clause-closes_alone
+returns-in_err-waiting-clause-closes_alone g c =
+    if_err (inl (grew_none g.B.Board.stands_for c.args.board.now c.args.history.now.items c.args.history.now.items refl)) c.from_residual.result
+
+pub returns-in_err-reserve-clause-closes_alone : goal.returns-in_err-reserve-clause-closes_alone
+returns-in_err-reserve-clause-closes_alone g c =
+    if_err (inl (grew_none g.B.Board.stands_for c.args.board.now c.args.history.now.items c.reserve.new.self.items c.reserve.ensures.items)) c.from_residual-in_err-reserve.result
+
+pub returns-in_err-passivate-clause-closes_alone : goal.returns-in_err-passivate-clause-closes_alone
+returns-in_err-passivate-clause-closes_alone g c =
+    let x = c.in_err-passivate.ensures.err in
+    let began = c.put.ensures.items ∙ ap (λ ls. ls ++ to.Stop ∷ []) c.reserve.ensures.items in
+    if_err (inr (broke_in_stop g.B.Board.stands_for g.B.Board.broke_off c.args.board.now c.passivate.new.board c.args.history.now.items c.put.new.list.items c.passivate.new.history.items
+    c.args.ports.now (2 ^ 64 - 1) x.how x.is_passivation began x.told_all (λ r s. inr (x.broke r s)))) c.from_residual-in_err-passivate.result
