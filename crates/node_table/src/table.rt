@@ -18,9 +18,9 @@ pub struct NodeTable {
     pub(crate) nodes: Vec<Held>,
     /// For the first slot of each line, the slot of the node that is at its end.
     pub(crate) line_ends: Vec<u32>,
-    /// For so many nodes more there is memory,
+    /// For so many nodes more there is memory.
     pub(crate) spare: u32,
-    /// each of which may take over the state of a node in a slot below this.
+    /// Below which slot the nodes are whose state one of those may take over.
     pub(crate) sources: u32,
     ghost node_room: { length nodes.items + spare ≤ vec_capacity nodes },
     ghost end_room: { length line_ends.items + spare ≤ vec_capacity line_ends },

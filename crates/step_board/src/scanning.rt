@@ -104,6 +104,7 @@ fn look_at<N: Nodes>(nodes: &N, port: u32, seen: PortsSeen) -> PortsSeen
     ensures few { result.ended ≤ (port + 1) * 2 ^ 24 }
 {
     let word = nodes.fields(port);
+    // `|` and `&` take both sides: each port is looked at in each scan, and a branch costs more than a test
     let idle = !nodes.is_live_port(port) | word.phase.is_idle();
     PortsSeen {
         idle: seen.idle & idle,
