@@ -5,7 +5,7 @@
 import answers
 import descriptions
 import evolving
-import model
+import graphs
 import reports
 import runs
 import scripts
@@ -105,7 +105,7 @@ def graph_lines(rng):
     links = {(above + owner.encode(), port.encode()): None for owner, port in system.ports()}
     for (owner, port), target in system.links.items():
         links[(above + owner.encode(), port.encode())] = (above + target.encode(), KINDS[system.nodes[target][0]][0][0].encode())
-    lines = model.graph_text((nodes, links)).split(b"\n")[:-1]
+    lines = graphs.graph_text((nodes, links)).split(b"\n")[:-1]
     pick = rng.random()
     if lines and pick < 0.1:
         edit_line(rng, lines, rng.randrange(len(lines)))

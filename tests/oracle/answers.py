@@ -4,7 +4,9 @@ Where several faults of a description hold, any of them may be named; all else h
 import functools
 import os
 
-import model
+import graphs
+import machine
+import plans
 import reports
 import runs
 import scripts
@@ -45,12 +47,18 @@ def graph(text, file, top, args):
     return found
 
 
+def room(file, made, wanted):
+    """Refuses a plan for which there is no room beside what was made."""
+    fault = plans.room_fault(made, wanted)
+    if fault:
+        raise Refusal(2, [b"description " + file + b": " + fault])
+
+
 def planned(file, old, new, made):
-    """The text of the plan between two graphs, where so many nodes and ports were made before."""
-    status, text = model.plan_text(old, new, made)
-    if status:
-        raise Refusal(2, [b"description " + file + b": " + text])
-    return text
+    """The plan between two graphs, where so many nodes and ports were made before."""
+    plan = plans.Plan(old, new)
+    room(file, made, plan.count_made())
+    return plan
 
 
 def usage(holds):
@@ -72,7 +80,7 @@ def flat(words, files):
     usage(len(words) >= 3 and words[1])
     top, args = called(words[2:])
     text = fetched(files, words[1], 2, b"description")
-    return model.graph_text(graph(text, words[1], top, args))
+    return graphs.graph_text(graph(text, words[1], top, args))
 
 
 def plan(words, files):
@@ -82,8 +90,8 @@ def plan(words, files):
     old, new = called(words[2:cut]), called(words[cut + 1 :])
     text = fetched(files, words[1], 2, b"description")
     first = graph(text, words[1], *old)
-    planned(words[1], model.EMPTY, first, (0, 0))
-    return planned(words[1], first, graph(text, words[1], *new), model.count_made(first))
+    planned(words[1], graphs.EMPTY, first, (0, 0))
+    return planned(words[1], first, graph(text, words[1], *new), graphs.count_made(first)).text()
 
 
 def replay(words, files):
@@ -94,19 +102,11 @@ def replay(words, files):
         raise Refusal(3, [b"script " + words[2] + b": " + fault.encode()])
     text = fetched(files, words[1], 2, b"description")
     found = graph(text, words[1], *begun)
-    planned(words[1], model.EMPTY, found, (0, 0))
-    status, answer = model.replayed(model.Machine(found), events)
+    planned(words[1], graphs.EMPTY, found, (0, 0))
+    status, answer = machine.replayed(machine.Machine(found), events)
     if status:
         raise Refusal(status, [answer[:-1]])
     return answer
-
-
-def room(file, made, wanted):
-    """Refuses a plan for which there is no room beside what was made."""
-    if made[0] + wanted[0] > model.MAX_NODES:
-        raise Refusal(2, [b"description " + file + b": NodesFull %d %d" % (made[0], wanted[0])])
-    if made[1] + wanted[1] > model.MAX_PORTS:
-        raise Refusal(2, [b"description " + file + b": PortsFull %d %d" % (made[1], wanted[1])])
 
 
 def call_text(name, args):
@@ -124,24 +124,24 @@ def used(files, name):
 
 def statements_of(said, files):
     """The statements of a script with their graphs and plans."""
-    made, count, last, text, file = [], (0, 0), model.EMPTY, None, None
+    made, count, last, text, file = [], (0, 0), graphs.EMPTY, None, None
     for statement in said:
         name = statement[0]
         if name == "use":
             file, text = statement[1], used(files, statement[1])
         elif name == "start":
             last = graph(text, file, statement[1], statement[2])
-            count = model.count_made(last)
+            count = graphs.count_made(last)
             room(file, (0, 0), count)
             made.append(("start", call_text(*statement[1:3]), last))
         elif name == "change":
             _, top, args, within, moves = statement
             new = graph(text, file, top, args)
-            fault = runs.move_fault(last, new, moves)
+            fault = plans.move_fault(last, new, moves)
             if fault:
                 raise Refusal(2, [b"description " + file + b": " + fault])
-            plan = runs.Plan(last, new, moves)
-            wanted = model.count_made(({path: new[0][path] for path in plan.created}, {port: None for port in new[1] if port[0] in set(plan.created)}))
+            plan = plans.Plan(last, new, moves)
+            wanted = plan.count_made()
             room(file, count, wanted)
             count = count[0] + wanted[0], count[1] + wanted[1]
             made.append(("change", call_text(top, args), plan, new, within))

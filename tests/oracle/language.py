@@ -6,12 +6,12 @@ faults hold the program may name any of them, so a set of faults comes out, each
 import re
 from collections import Counter
 
+from graphs import first_on_cycle
 from tables import KEYWORDS, KINDS, SIGNS
 
 LEAST, GREATEST = -(1 << 31), (1 << 31) - 1
 ARGUMENT_LIMIT = 1 << 24
 NAME_LIMIT, BODY_LIMIT, OPERAND_LIMIT, DEPTH_LIMIT, COUNT_LIMIT = 64, 16, 32, 32, 65536
-DEPENDS = {"place": {"left", "right"}, "map": {"next"}, "branch": {"from", "to"}}
 COMPARISONS = {
     "==": lambda a, b: a == b,
     "!=": lambda a, b: a != b,
@@ -625,19 +625,9 @@ class Elaboration:
                 self.targets[(path, name)] = end[:2] if is_node else None
 
     def cycles(self):
-        """The first node, by its path, from which dependent services lead back to itself."""
-        for path in sorted(self.nodes):
-            work, seen = [path], set()
-            while work:
-                here = work.pop()
-                for name in DEPENDS.get(self.nodes[here][0], ()):
-                    target = self.targets[(here, name)]
-                    if target and target[0] == path:
-                        self.faults.add("DependsCycle " + path)
-                        return
-                    if target and target[0] not in seen:
-                        seen.add(target[0])
-                        work.append(target[0])
+        path = first_on_cycle(self.graph())
+        if path is not None:
+            self.faults.add("DependsCycle " + path.decode())
 
     def graph(self):
         """The nodes and links as `forms.graph` reads them from a text."""

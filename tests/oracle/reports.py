@@ -5,7 +5,7 @@ As a number has one way to be written, a line of version 1 that is no heading of
 """
 import re
 
-import model
+from graphs import first_on_cycle
 from tables import KINDS
 
 LIMIT = 1 << 26
@@ -118,7 +118,7 @@ def is_sound(graph):
     for target in links.values():
         if target and (target[0] not in nodes or target[1].decode("latin-1") not in KINDS[nodes[target[0]][0]][0]):
             return False
-    return not any(model.is_on_cycle(graph, path) for path in nodes)
+    return first_on_cycle(graph) is None
 
 
 # ---- the text

@@ -1,53 +1,17 @@
 """Scripts once more: rounds, changes and reports, written plainly from the documents and apart from the proved code."""
-import model
+from graphs import EMPTY, graph_text
 from kinds import Behaviour
-from model import M, Machine, graph_text, kind_text, line_of
+from machine import M, Machine, line_of
 from tables import KINDS
 
 INBOX = 1024
-
-
-class Plan:
-    """What leads from one graph to another, by paths."""
-
-    def __init__(self, old, new, moves):
-        (old_nodes, old_links), (new_nodes, new_links) = old, new
-        stays = {path for path in old_nodes if new_nodes.get(path) == old_nodes[path]}
-
-        def kept(port, target, others):
-            return target is not None and port[0] in stays and target[0] in stays and others.get(port) == target
-
-        self.moves = {to: source for source, to in moves}
-        self.removed = [path for path in old_nodes if path not in stays]
-        self.created = [path for path in new_nodes if path not in stays]
-        self.unlinked = [port for port, target in old_links.items() if target and not kept(port, target, new_links)]
-        self.linked = [port for port, target in new_links.items() if target and not kept(port, target, old_links)]
-        touched = set(self.removed) | {port[0] for port in self.unlinked + self.linked if port[0] in stays}
-        self.frozen = model.enlarged(old, touched)
-
-
-def move_fault(old, new, moves):
-    """Why these moves can't be made, or None: the first move in order, and of it the first fault."""
-    stays = {path for path in old[0] if new[0].get(path) == old[0][path]}
-    for number, (source, to) in enumerate(moves):
-        if source not in old[0] or source in stays:
-            return b"NotRemoved " + source
-        if to not in new[0] or to in stays:
-            return b"NotCreated " + to
-        if old[0][source][0] != new[0][to][0]:
-            return b"KindsDiffer " + source + b" " + to
-        if any(source == other for other, _ in moves[:number]):
-            return b"MovedTwice " + source
-        if any(to == other for _, other in moves[:number]):
-            return b"MovedTwice " + to
-    return None
 
 
 class System:
     """A system that runs on one thread."""
 
     def __init__(self):
-        self.machine = Machine(model.EMPTY)
+        self.machine = Machine(EMPTY)
         self.behaviours, self.boxes, self.logs, self.heirs = [], [], [], {}
         self.waiting, self.ended, self.lines = {}, 0, []
 

@@ -1,4 +1,5 @@
-"""The tables of the language: each kind of nodes with its provisions, its requirements and whether it has an argument; keywords and signs."""
+"""The tables of the language: each kind of nodes with its provisions, its requirements and whether it has an argument; which requirements a kind's services depend
+on; keywords and signs."""
 KINDS = {
     "philosopher": ([], ["dine"], True),
     "place": (["dine"], ["left", "right"], True),
@@ -13,5 +14,6 @@ KINDS = {
     "asker": ([], ["sum"], True),
     "adder": (["sum"], [], False),
 }
+DEPENDS = {"place": {"left", "right"}, "map": {"next"}, "branch": {"from", "to"}}
 KEYWORDS = "component provide require inst array bind forall when int and or".split()
 SIGNS = "{ } ( ) [ ] ; : , . .. -- < > <= >= == != + - * / %".split()
