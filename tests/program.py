@@ -1,13 +1,15 @@
-"""How each script here is told which program it runs, and where what they share stands."""
+"""What the scripts of this folder share: which program they try, how they run it, and how they end."""
 import argparse
 import os
 import subprocess
 import sys
+from typing import NamedTuple, Optional
 
 HERE = os.path.dirname(os.path.abspath(__file__))
 TOP = os.path.dirname(HERE)
 BUILT = os.path.join(TOP, "crates", "darwin_run", "out", "darwin_run")
 SECONDS = 20
+SHOWN = 300
 
 
 def share_modules():
@@ -31,7 +33,73 @@ def path_of(given):
     return program
 
 
-def known(program, commands):
-    """Those of the commands that the program's help names."""
-    text = subprocess.run([program, "--help"], capture_output=True, timeout=SECONDS).stdout.decode()
-    return [command for command in commands if " %s " % command in text]
+class Ran(NamedTuple):
+    """How a run ended: its status, None where it had no end in time; what it wrote, None where its output went elsewhere; and what it
+    wrote to standard error."""
+
+    status: Optional[int]
+    text: Optional[bytes]
+    errors: bytes
+
+    def fault(self):
+        """Why no run may end so, or None."""
+        if self.status is None:
+            return "no end within %d seconds" % SECONDS
+        if self.status < 0:
+            return "ended by signal %d" % -self.status
+        return "wrote to standard error" if self.errors else None
+
+    def told(self):
+        return "status %s, %s, and %r to standard error" % (self.status, beginning(self.text), self.errors[:SHOWN])
+
+    def unlike(self, *wanted):
+        """What was wanted, each as (status, text), and what came, where that is none of them or there are errors; else None."""
+        if not self.errors and self[:2] in wanted:
+            return None
+        return "wanted %s; came %s" % (" or ".join("status %s, %s" % (status, beginning(text)) for status, text in wanted), self.told())
+
+
+def beginning(text):
+    """A text as it is shown: no more than its beginning, with its length."""
+    if text is None or len(text) <= SHOWN:
+        return repr(text)
+    return "%r and on, %d bytes" % (text[:SHOWN], len(text))
+
+
+def write(folder, files):
+    """Leaves these files in a folder, and no others."""
+    for name in os.listdir(folder):
+        os.remove(os.path.join(folder, name))
+    for name, text in files.items():
+        with open(os.path.join(folder, name), "wb") as file:
+            file.write(text if isinstance(text, bytes) else text.encode("utf-8", "surrogateescape"))
+
+
+def ran(program, folder, words, files=None, stdout=subprocess.PIPE, environment=None, before=None):
+    """A run in a folder, in which these files alone are left first where some are given. `before` is called in the run's own process."""
+    if files is not None:
+        write(folder, files)
+    try:
+        done = subprocess.run(
+            [program] + words, cwd=folder, env=environment, stdin=subprocess.DEVNULL, stdout=stdout, stderr=subprocess.PIPE, timeout=SECONDS, preexec_fn=before
+        )
+    except subprocess.TimeoutExpired:
+        return Ran(None, b"", b"")
+    return Ran(done.returncode, done.stdout, done.stderr)
+
+
+def want(program, commands):
+    """Fails where the program's help doesn't name each of these commands: their rows must not be passed over."""
+    came = ran(program, HERE, ["--help"])
+    if came.status != 0 or came.errors:
+        sys.exit("--help: %s" % came.told())
+    named = [word for line in came.text.decode().splitlines() for word in line.split()[1:2]]
+    missing = [command for command in commands if command not in named]
+    if missing:
+        sys.exit("the program's help doesn't name %s" % ", ".join(missing))
+
+
+def end(tried, failed):
+    """Prints how many passed and failed, and ends with status 1 where one failed or none was tried."""
+    print("%d passed, %d failed" % (tried - failed, failed) if tried else "nothing was tried")
+    sys.exit(0 if tried and not failed else 1)
