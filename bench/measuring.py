@@ -1,5 +1,6 @@
 """How the scripts of this folder measure: the least processor time (user and system) of a few runs of the whole program, start-up included, and the
 peak of its resident memory, which is never less than some 12 MiB, those of the script itself. Other work on the machine shows less in processor time than in wall time."""
+import argparse
 import os
 import statistics
 import subprocess
@@ -10,6 +11,21 @@ import time
 PROGRAM = "crates/darwin_run/out/darwin_run"
 TRIES = 3
 TURNS = 15
+
+
+def parser(document, program=PROGRAM):
+    """A parser of command lines that may name the program that is measured."""
+    made = argparse.ArgumentParser(description=document, formatter_class=argparse.RawDescriptionHelpFormatter)
+    made.add_argument("program", nargs="?", default=program, help="%s where nothing is said" % program)
+    return made
+
+
+def path_of(given):
+    """The whole path of the program that a command line names."""
+    program = os.path.abspath(given.program)
+    if not os.access(program, os.X_OK):
+        sys.exit("there is no program %s: `rt run` in its crate makes it" % program)
+    return program
 
 
 def measured(program, folder, words, files, status):
@@ -66,8 +82,7 @@ def beside(folder, title, files, ours, theirs):
     print("%-40s %10.1f %10.1f %8.2f" % (title, mine, other, mine / other))
 
 
-def in_a_folder(run):
-    """Runs this with the program that the command line names and a folder that is gone afterwards."""
-    program = os.path.abspath(sys.argv[1] if len(sys.argv) > 1 else PROGRAM)
+def in_a_folder(program, run):
+    """Runs this with the program and a folder that is gone afterwards."""
     with tempfile.TemporaryDirectory() as folder:
         run(program, folder)
