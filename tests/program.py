@@ -10,6 +10,7 @@ TOP = os.path.dirname(HERE)
 BUILT = os.path.join(TOP, "crates", "darwin_run", "out", "darwin_run")
 SECONDS = 20
 SHOWN = 300
+MOST = 4
 
 
 def share_modules():
@@ -47,23 +48,29 @@ class Ran(NamedTuple):
             return "no end within %d seconds" % SECONDS
         if self.status < 0:
             return "ended by signal %d" % -self.status
-        return "wrote to standard error" if self.errors else None
-
-    def told(self):
-        return "status %s, %s, and %r to standard error" % (self.status, beginning(self.text), self.errors[:SHOWN])
+        return "wrote %r to standard error" % self.errors[:SHOWN] if self.errors else None
 
     def unlike(self, *wanted):
-        """What was wanted, each as (status, text), and what came, where that is none of them or there are errors; else None."""
-        if not self.errors and self[:2] in wanted:
+        """Why no run may end so, or what was wanted, each as (status, text), and what came, where that is none of them; else None."""
+        if self.fault():
+            return self.fault()
+        if self[:2] in wanted:
             return None
-        return "wanted %s; came %s" % (" or ".join("status %s, %s" % (status, beginning(text)) for status, text in wanted), self.told())
+        at = max(parting(text or b"", self.text or b"") for _, text in wanted)
+        return "wanted %s; came %s" % (" or ".join(shown(*answer, at) for answer in wanted[:MOST]), shown(*self[:2], at))
 
 
-def beginning(text):
-    """A text as it is shown: no more than its beginning, with its length."""
+def parting(one, other):
+    """Where two texts part."""
+    return len(os.path.commonprefix([one, other]))
+
+
+def shown(status, text, at=0):
+    """A status and a text as they are shown: a short one whole, of a longer one a piece round this place."""
     if text is None or len(text) <= SHOWN:
-        return repr(text)
-    return "%r and on, %d bytes" % (text[:SHOWN], len(text))
+        return "status %d, %r" % (status, text)
+    first = max(0, at - SHOWN // 2)
+    return "status %d, %r at byte %d of %d" % (status, text[first : first + SHOWN], first, len(text))
 
 
 def write(folder, files):
@@ -92,7 +99,7 @@ def want(program, commands):
     """Fails where the program's help doesn't name each of these commands: their rows must not be passed over."""
     came = ran(program, HERE, ["--help"])
     if came.status != 0 or came.errors:
-        sys.exit("--help: %s" % came.told())
+        sys.exit("--help: %s" % (came.fault() or shown(came.status, came.text)))
     named = [word for line in came.text.decode().splitlines() for word in line.split()[1:2]]
     missing = [command for command in commands if command not in named]
     if missing:

@@ -206,11 +206,8 @@ def upgrade(words, files):
 COMMANDS = {b"flat": flat, b"plan": plan, b"replay": replay, b"step": step, b"big": big, b"upgrade": upgrade}
 
 
-def wrong(words, files, status, written):
-    """Why this isn't what the program may answer, or None."""
-    words = [os.fsencode(word) for word in words]
-    if words in ([b"--help"], [b"--version"]):
-        return None if status == 0 else "status 0 has to come"
+def may_come(words, files):
+    """What the program may answer to words and files, as (status, text), and whether any other fault of an elaboration may be named in its place."""
     try:
         for word in words:
             try:
@@ -219,12 +216,18 @@ def wrong(words, files, status, written):
                 usage(False)
         usage(words and words[0] in COMMANDS)
         answer = COMMANDS[words[0]](words, files)
-        wanted, is_open = {answer if isinstance(answer, tuple) else (0, answer)}, False
+        return {answer if isinstance(answer, tuple) else (0, answer)}, False
     except Refusal as refusal:
-        wanted, is_open = refusal.answers, refusal.is_open
-    if (status, written) in wanted:
+        return refusal.answers, refusal.is_open
+
+
+def wrong(words, files, came):
+    """Why this isn't how a run may end, or None."""
+    words = [os.fsencode(word) for word in words]
+    if words in ([b"--help"], [b"--version"]):
+        return came.unlike((0, came.text))
+    wanted, is_open = may_come(words, files)
+    named = came.text.rsplit(b": ", 1)[-1].split()
+    if is_open and not came.fault() and came.status == 2 and named and named[0].decode(errors="replace") in LATER:
         return None
-    named = written.rsplit(b": ", 1)[-1].split()
-    if is_open and status == 2 and named and named[0].decode() in LATER:
-        return None
-    return "wanted one of %r" % sorted(wanted)[:4]
+    return came.unlike(*sorted(wanted))
