@@ -206,15 +206,18 @@ def upgrade(words, files):
 COMMANDS = {b"flat": flat, b"plan": plan, b"replay": replay, b"step": step, b"big": big, b"upgrade": upgrade}
 
 
+def is_text(word):
+    try:
+        word.decode()
+    except UnicodeDecodeError:
+        return False
+    return True
+
+
 def may_come(words, files):
     """What the program may answer to words and files, as (status, text), and whether any other fault of an elaboration may be named in its place."""
     try:
-        for word in words:
-            try:
-                word.decode()
-            except UnicodeDecodeError:
-                usage(False)
-        usage(words and words[0] in COMMANDS)
+        usage(words and all(map(is_text, words)) and words[0] in COMMANDS)
         answer = COMMANDS[words[0]](words, files)
         return {answer if isinstance(answer, tuple) else (0, answer)}, False
     except Refusal as refusal:
