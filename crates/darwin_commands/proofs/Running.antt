@@ -18,9 +18,9 @@ use Rattle.command_runs.specs.declared.fetched.Fetched.TheVariants.{Held}
 use Rattle.command_runs.specs.declared.query.Query.{Query}
 use Rattle.command_runs.specs.declared.query.Query.TheVariants as queries
 use Rattle.command_runs.proofs.CourseLaws as courses
-use Rattle.file_answers.specs.Reading.{Reads}
+use Rattle.file_answers.specs.Reading.{ReadsEvents}
 use Rattle.file_answers.specs.declared.answer.Answer.{Answer}
-use Rattle.file_answers.specs.declared.scripts.Read.TheVariants.{Events, Refused}
+use Rattle.file_answers.specs.declared.scripts.ReadEvents.TheVariants.{Events, Refused}
 use Rattle.darwin_commands.specs.Coming.{result_status, result_text, EndsBy, ComesBy}
 
 -- a run by no fetch
@@ -125,7 +125,7 @@ module _ {E : Type 0} where
 
   pub replay_read :
       (files files' : Option Files) (file name : List ℕ) (given : Fetched) (script : EventFile) (failures before failures' : List (List ℕ)) (r : Result Answer E)
-      → files' ≡ files → before ≡ failures ++ failed_name (fetch_of name given) → Gave files (fetch_of name given) → Reads name given (Events script)
+      → files' ≡ files → before ≡ failures ++ failed_name (fetch_of name given) → Gave files (fetch_of name given) → ReadsEvents name given (Events script)
       → ComesBy files' (course_of_query file (queries.Replay script)) before failures' r → ComesBy files (course_of (commands.Replay file name)) failures failures' r
   replay_read files files' file name given script failures before failures' r same noted gave read by =
       replay_answers files file name read.0 script failures before failures' r
@@ -134,7 +134,7 @@ module _ {E : Type 0} where
 
   pub script_read :
       (files : Option Files) (file name : List ℕ) (given : Fetched) (answer : Answer) (failures failures' : List (List ℕ))
-      → failures' ≡ failures ++ failed_name (fetch_of name given) → Gave files (fetch_of name given) → Reads name given (Refused answer)
+      → failures' ≡ failures ++ failed_name (fetch_of name given) → Gave files (fetch_of name given) → ReadsEvents name given (Refused answer)
       → ComesBy {E = E} files (course_of (commands.Replay file name)) failures failures' (Ok answer)
   script_read files file name given answer failures failures' noted gave read = record {
     fetches = fetch_of name given ∷ [];

@@ -23,8 +23,8 @@ use command_runs::Query;
 use command_words::{Command, read_words};
 use config_graph::NoMemory;
 use file_answers::{
-    Answer, FILE_LIMIT, REPORT_LIMIT, Read, answer_run, answer_summary, describe, fetch_file,
-    read_script, upgrade,
+    Answer, FILE_LIMIT, REPORT_LIMIT, ReadEvents, answer_run, answer_summary, describe, fetch_file,
+    read_events, upgrade,
 };
 use node_table::NodeTable;
 use report_laws::reports_of_rounds_are_lawful;
@@ -115,9 +115,14 @@ fn answer_replay<H: Shelf>(
     ensures kept { H.files shelf.new ≡ H.files shelf.old }
 {
     let fetched = fetch_file(shelf, events, FILE_LIMIT)?;
-    match read_script(alloc, events, fetched)? {
-        Read::Events(script) => answer_description(alloc, shelf, file, &Query::Replay(script)),
-        Read::Refused(answer) => Ok(answer),
+    match read_events(alloc, events, fetched)? {
+        ReadEvents::Events(events) => answer_description(
+            alloc,
+            shelf,
+            file,
+            &Query::Replay(events),
+        ),
+        ReadEvents::Refused(answer) => Ok(answer),
     }
 }
 

@@ -65,7 +65,7 @@ pub reading_refused :
 reading_refused (queries.Graph call) text e refuses plain = by_text (fault_words e) (refuses plain)
 reading_refused (queries.Plan call target) text e refuses plain =
     starts_not (fault_words e) (has_no_graph (fault_words e) (by_text (fault_words e) (refuses plain)))
-reading_refused (queries.Replay script) text e refuses plain = has_no_graph (fault_words e) (by_text (fault_words e) (refuses plain))
+reading_refused (queries.Replay events) text e refuses plain = has_no_graph (fault_words e) (by_text (fault_words e) (refuses plain))
 
 -- the line that refuses what is wanted of a description
 pub query_refused :

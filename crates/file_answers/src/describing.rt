@@ -93,7 +93,7 @@ fn use_checked(
             status: Status::Ok,
             text: plan_between(alloc, checked, call, target)?,
         }),
-        Query::Replay(script) => replay_over(alloc, checked, script),
+        Query::Replay(events) => replay_over(alloc, checked, events),
     }
 }
 

@@ -16,4 +16,4 @@ pub use describing::{describe, refuse_description};
 pub use description::{checked_of, graph_of};
 pub use fetching::{FILE_LIMIT, REPORT_LIMIT, fetch_file};
 pub use reports::{answer_run, answer_summary, upgrade};
-pub use scripts::{Read, ReadScript, read_script, read_statements};
+pub use scripts::{ReadEvents, ReadScript, read_events, read_script};

@@ -25,15 +25,15 @@ use std::alloc::Global;
 pub fn replay_over(
     alloc: Global,
     checked: &Checked,
-    script: &EventFile,
+    file: &EventFile,
 ) -> Result<Answer, DescriptionFault>
     ensures replay { (text : List ℕ) → IsChecked text (description checked.now)
-        → IfOk result (λ answer. HasReplay text script.now answer.status answer.text.items) }
+        → IfOk result (λ answer. HasReplay text file.now answer.status answer.text.items) }
     ensures refused { (text : List ℕ) → IsChecked text (description checked.now)
-        → IfErr result (MayRefuse (RefusesStart text script.now.name script.now.args)) }
+        → IfErr result (MayRefuse (RefusesStart text file.now.name file.now.args)) }
 {
-    let graph = start(alloc, checked, script.name.as_bytes(), script.args.items())?;
-    Ok(replay_events(alloc, &graph, script.events.items())?)
+    let graph = start(alloc, checked, file.name.as_bytes(), file.args.items())?;
+    Ok(replay_events(alloc, &graph, file.events.items())?)
 }
 
 /// What events come to in a system that was started with the graph.

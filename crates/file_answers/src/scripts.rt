@@ -5,7 +5,7 @@ ghost use Rattle.change_script.specs.EventFiles.{IsFirstFault};
 ghost use Rattle.change_script.specs.ScriptFiles.{IsScriptFault};
 ghost use Rattle.command_runs.specs.Fetches.{FitsFileLimit, file_limit};
 ghost use Rattle.command_runs.specs.declared.fetched.Fetched.TheVariants.{Held};
-ghost use Rattle.file_answers.specs.Reading.{Reads, ReadsStatements};
+ghost use Rattle.file_answers.specs.Reading.{ReadsEvents, ReadsScript};
 
 use crate::answer::Answer;
 use change_script::{EventFile, Script, ScriptError, parse_events, parse_script};
@@ -16,7 +16,7 @@ use std::alloc::{AllocError, Global};
 
 /// What was read of a file of events.
 #[derive(Debug, Drop)]
-pub enum Read {
+pub enum ReadEvents {
     Events(EventFile),
     /// It isn't one.
     Refused(Answer),
@@ -31,17 +31,17 @@ pub enum ReadScript {
 }
 
 /// What a file of events says, or the line that refuses it.
-pub fn read_script(alloc: Global, name: &str, fetched: Fetched) -> Result<Read, NoMemory>
+pub fn read_events(alloc: Global, name: &str, fetched: Fetched) -> Result<ReadEvents, NoMemory>
     requires { FitsFileLimit file_limit fetched }
-    ensures { IfOk result (Reads name.now fetched) }
+    ensures { IfOk result (ReadsEvents name.now fetched) }
 {
     match fetched {
-        Fetched::Held(bytes) => read_bytes(alloc, name, bytes.items()),
-        Fetched::TooLong => Ok(Read::Refused(Answer {
+        Fetched::Held(bytes) => read_event_bytes(alloc, name, bytes.items()),
+        Fetched::TooLong => Ok(ReadEvents::Refused(Answer {
             status: Status::Script,
             text: script_too_long_line(alloc, name)?,
         })),
-        Fetched::Failed => Ok(Read::Refused(Answer {
+        Fetched::Failed => Ok(ReadEvents::Refused(Answer {
             status: Status::ReadFault,
             text: read_fault_line(alloc, name)?,
         })),
@@ -49,12 +49,12 @@ pub fn read_script(alloc: Global, name: &str, fetched: Fetched) -> Result<Read, 
 }
 
 /// What a script says, or the line that refuses it.
-pub fn read_statements(alloc: Global, name: &str, fetched: Fetched) -> Result<ReadScript, NoMemory>
+pub fn read_script(alloc: Global, name: &str, fetched: Fetched) -> Result<ReadScript, NoMemory>
     requires { FitsFileLimit file_limit fetched }
-    ensures { IfOk result (ReadsStatements name.now fetched) }
+    ensures { IfOk result (ReadsScript name.now fetched) }
 {
     match fetched {
-        Fetched::Held(bytes) => read_statement_bytes(alloc, name, bytes.items()),
+        Fetched::Held(bytes) => read_script_bytes(alloc, name, bytes.items()),
         Fetched::TooLong => Ok(ReadScript::Refused(Answer {
             status: Status::Script,
             text: script_too_long_line(alloc, name)?,
@@ -67,45 +67,45 @@ pub fn read_statements(alloc: Global, name: &str, fetched: Fetched) -> Result<Re
 }
 
 /// The same for the bytes of a file of events.
-fn read_bytes(alloc: Global, name: &str, bytes: &[u8]) -> Result<Read, NoMemory>
+fn read_event_bytes(alloc: Global, name: &str, bytes: &[u8]) -> Result<ReadEvents, NoMemory>
     requires { length bytes.now ≤ file_limit }
-    ensures { IfOk result (Reads name.now (Held bytes.now)) }
+    ensures { IfOk result (ReadsEvents name.now (Held bytes.now)) }
 {
     match parse_events(alloc, bytes) {
-        Ok(script) => Ok(Read::Events(script)),
-        Err(fault) => refuse_script(alloc, name, &fault),
+        Ok(events) => Ok(ReadEvents::Events(events)),
+        Err(fault) => refuse_events(alloc, name, &fault),
     }
 }
 
 /// The same for the bytes of a script.
-fn read_statement_bytes(alloc: Global, name: &str, bytes: &[u8]) -> Result<ReadScript, NoMemory>
+fn read_script_bytes(alloc: Global, name: &str, bytes: &[u8]) -> Result<ReadScript, NoMemory>
     requires { length bytes.now ≤ file_limit }
-    ensures { IfOk result (ReadsStatements name.now (Held bytes.now)) }
+    ensures { IfOk result (ReadsScript name.now (Held bytes.now)) }
 {
     match parse_script(alloc, bytes) {
         Ok(script) => Ok(ReadScript::Statements(script)),
-        Err(fault) => refuse_statements(alloc, name, &fault),
+        Err(fault) => refuse_script(alloc, name, &fault),
     }
 }
 
 /// The line that refuses a file of events.
-fn refuse_script(alloc: Global, name: &str, fault: &ScriptError) -> Result<Read, NoMemory>
+fn refuse_events(alloc: Global, name: &str, fault: &ScriptError) -> Result<ReadEvents, NoMemory>
     ensures { (bytes : List ℕ) → (fault.now ≢ ScriptError.NoMemory → IsFirstFault bytes fault.now)
-        → IfOk result (Reads name.now (Held bytes)) }
+        → IfOk result (ReadsEvents name.now (Held bytes)) }
 {
     if is_no_memory(fault) {
         return Err(AllocError);
     }
-    Ok(Read::Refused(Answer {
+    Ok(ReadEvents::Refused(Answer {
         status: Status::Script,
         text: script_line(alloc, name, fault)?,
     }))
 }
 
 /// The line that refuses a script.
-fn refuse_statements(alloc: Global, name: &str, fault: &ScriptError) -> Result<ReadScript, NoMemory>
+fn refuse_script(alloc: Global, name: &str, fault: &ScriptError) -> Result<ReadScript, NoMemory>
     ensures { (bytes : List ℕ) → (fault.now ≢ ScriptError.NoMemory → IsScriptFault bytes fault.now)
-        → IfOk result (ReadsStatements name.now (Held bytes)) }
+        → IfOk result (ReadsScript name.now (Held bytes)) }
 {
     if is_no_memory(fault) {
         return Err(AllocError);

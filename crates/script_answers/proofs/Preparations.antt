@@ -20,7 +20,7 @@ use Rattle.command_runs.specs.declared.fetched.Fetched.{Fetched}
 use Rattle.command_runs.specs.declared.fetched.Fetched.TheVariants.{Held}
 use Rattle.command_runs.proofs.CourseLaws as courses
 use Rattle.command_words.specs.declared.words.Command.TheVariants as commands
-use Rattle.file_answers.specs.Reading.{ReadsStatements}
+use Rattle.file_answers.specs.Reading.{ReadsScript}
 use Rattle.file_answers.specs.declared.answer.Answer.{Answer}
 use Rattle.file_answers.specs.declared.scripts.ReadScript.TheVariants as scripts
 use Rattle.script_answers.specs.Leading.{Took}
@@ -132,7 +132,7 @@ module _ {E : Type 0} (files : Option Files) (name : List ℕ) where
       of (Err e) leads = courses.statements_read name bytes script by.fetches (refusal no_memory) is leads
 
   pub read_prepared : (files' : Option Files) (given : Fetched) (script : Script) (failures between failures' : List (List ℕ)) (r : Result Prepared E) → files' ≡ files
-      → between ≡ failures ++ failed_name (fetch_of name given) → Gave files (fetch_of name given) → ReadsStatements name given (scripts.Statements script)
+      → between ≡ failures ++ failed_name (fetch_of name given) → Gave files (fetch_of name given) → ReadsScript name given (scripts.Statements script)
       → PreparesIn files' (FollowsLines running begun (lines_of_script script.lines)) between failures' r → Prepares files name failures failures' r
   read_prepared files' given script failures between failures' r same noted gave read by =
       statements_prepared read.0 script failures between failures' r (subst (λ g. between ≡ failures ++ failed_name (fetch_of name g)) read.1 noted)
@@ -140,7 +140,7 @@ module _ {E : Type 0} (files : Option Files) (name : List ℕ) where
       (subst (λ fs. PreparesIn fs (FollowsLines running begun (lines_of_script script.lines)) between failures' r) same by)
 
   pub refused_before : (given : Fetched) (answer : Answer) (failures failures' : List (List ℕ)) → failures' ≡ failures ++ failed_name (fetch_of name given)
-      → Gave files (fetch_of name given) → ReadsStatements name given (scripts.Refused answer) → Prepares {E = E} files name failures failures' (Ok (prepared.Refused answer))
+      → Gave files (fetch_of name given) → ReadsScript name given (scripts.Refused answer) → Prepares {E = E} files name failures failures' (Ok (prepared.Refused answer))
   refused_before given answer failures failures' noted gave read = record {
     fetches = fetch_of name given ∷ [];
     noted = one_noted (failed_name (fetch_of name given)) failures failures' noted;

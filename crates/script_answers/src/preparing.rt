@@ -11,7 +11,7 @@ use crate::way::Way;
 use cfg_io::Shelf;
 use change_script::Script;
 use config_graph::NoMemory;
-use file_answers::{Answer, FILE_LIMIT, ReadScript, fetch_file, read_statements};
+use file_answers::{Answer, FILE_LIMIT, ReadScript, fetch_file, read_script};
 use script_steps::{Start, Step};
 use std::alloc::Global;
 
@@ -31,7 +31,7 @@ pub fn prepare<H: Shelf>(alloc: Global, shelf: &mut H, name: &str) -> Result<Pre
     ensures refuses { IfOk result RefusesRun }
 {
     let fetched = fetch_file(shelf, name, FILE_LIMIT)?;
-    let read = read_statements(alloc, name, fetched)?;
+    let read = read_script(alloc, name, fetched)?;
     match read {
         ReadScript::Statements(script) => prepare_lines(alloc, shelf, script),
         ReadScript::Refused(answer) => Ok(Prepared::Refused(answer)),

@@ -5,17 +5,17 @@ use Rattle.darwin_commands.proofs.answering.answer_replay.Goals as goal
 
 pub returns-in-Events-clause-answers : goal.returns-in-Events-clause-answers
 returns-in-Events-clause-answers g c =
-    replay_read _ _ c.args.file.now c.args.events.now c.in_ok-fetched.fetched c.in-Events.script _ _ _ c.answer_description.result c.in_ok-fetched.ensures.kept
-    c.in_ok-fetched.ensures.fetches.0 c.in_ok-fetched.ensures.fetches.1 (rw c.in-Events.is at c.in_ok-script.ensures) c.answer_description.ensures.answers
+    replay_read _ _ c.args.file.now c.args.events.now c.in_ok-fetched.fetched c.in-Events.events _ _ _ c.answer_description.result c.in_ok-fetched.ensures.kept
+    c.in_ok-fetched.ensures.fetches.0 c.in_ok-fetched.ensures.fetches.1 (rw c.in-Events.is at c.in_ok-events.ensures) c.answer_description.ensures.answers
 
 pub returns-in-Refused-clause-answers : goal.returns-in-Refused-clause-answers
 returns-in-Refused-clause-answers g c =
     script_read _ c.args.file.now c.args.events.now c.in_ok-fetched.fetched c.in-Refused.answer _ _ c.in_ok-fetched.ensures.fetches.0
-    c.in_ok-fetched.ensures.fetches.1 (rw c.in-Refused.is at c.in_ok-script.ensures)
+    c.in_ok-fetched.ensures.fetches.1 (rw c.in-Refused.is at c.in_ok-events.ensures)
 
-pub returns-in_err-script-clause-answers : goal.returns-in_err-script-clause-answers
-returns-in_err-script-clause-answers g c =
-    let p = err_from_is_err_and c.from_residual-in_err-script.result c.from_residual-in_err-script.ensures.1 in
+pub returns-in_err-events-clause-answers : goal.returns-in_err-events-clause-answers
+returns-in_err-events-clause-answers g c =
+    let p = err_from_is_err_and c.from_residual-in_err-events.result c.from_residual-in_err-events.ensures.1 in
     rw p.1 (script_unread _ c.args.file.now c.args.events.now c.in_ok-fetched.fetched p.0 _ _ c.in_ok-fetched.ensures.fetches.0 c.in_ok-fetched.ensures.fetches.1)
 
 pub returns-in_err-fetched-clause-answers : goal.returns-in_err-fetched-clause-answers
