@@ -8,6 +8,7 @@ use Rattle.change_plan.specs.declared.error.PlanError.TheVariants.{NoMemory}
 use Rattle.command_answers.specs.DescriptionFaults.{MayRefuse, fault_words, is_no_memory}
 use Rattle.command_answers.specs.declared.error.DescriptionFault.{DescriptionFault}
 use Rattle.command_answers.specs.declared.error.DescriptionFault.TheVariants as fault
+use Rattle.command_answers.specs.declared.status.Status.{Status}
 use Rattle.command_words.specs.declared.words.TopCall.{TopCall}
 use Rattle.command_runs.specs.Descriptions.{HasGraph, IsTextRefusal, by_text}
 use Rattle.command_runs.specs.OneFile.{DescriptionAnswers, refused}
@@ -17,7 +18,7 @@ use Rattle.command_runs.specs.declared.fetched.Fetched.TheVariants.{Held}
 use Rattle.command_runs.specs.declared.query.Query.{Query}
 use Rattle.command_runs.specs.declared.query.Query.TheVariants as queries
 use Rattle.file_answers.specs.Planning.{IsFull}
-use Rattle.file_answers.specs.Refusals.{IsRefusalFor}
+use Rattle.file_answers.specs.Refusals.{IsLine, IsRefusalFor}
 use Rattle.file_answers.specs.declared.answer.Answer.{Answer}
 
 pub if_ok : {A E : Type 0} (r : Result A E) (P Q : A → Type 0) → ((a : A) → P a → Q a) → IfOk r P → IfOk r Q
@@ -27,6 +28,12 @@ if_ok (Err e) P Q leads holds = tt
 pub if_err : {A E : Type 0} (r : Result A E) (P Q : E → Type 0) → ((e : E) → P e → Q e) → IfErr r P → IfErr r Q
 if_err (Ok a) P Q leads holds = tt
 if_err (Err e) P Q leads holds = leads e holds
+
+-- what holds of a line and its status holds of the answer that is this line
+pub of_line :
+    {E : Type 0} (P : Status → List ℕ → Type 0) (s : Status) (line : List ℕ) (r : Result Answer E) → P s line → IfOk r (IsLine s line)
+    → IfOk r (λ answer. P answer.status answer.text.items)
+of_line P s line r holds = if_ok r (IsLine s line) (λ answer. P answer.status answer.text.items) (λ answer is. rw (is.status_is, is.text_is) holds)
 
 -- a refusal of a plan without moves
 pub full_words :

@@ -6,6 +6,7 @@ use Rattle.elaborator.specs.declared.error.ElabError.{ElabError}
 use Rattle.command_answers.specs.DescriptionFaults.{fault_words, is_no_memory}
 use Rattle.command_answers.specs.RefusalLines.{description_line, elaborate_words}
 use Rattle.command_answers.specs.declared.error.DescriptionFault.{DescriptionFault}
+use Rattle.command_answers.specs.declared.status.Status.{Status}
 use Rattle.command_answers.specs.declared.status.Status.TheVariants as status
 use Rattle.file_answers.specs.declared.answer.Answer.{Answer}
 
@@ -14,6 +15,11 @@ pub record NamesFault (tree : Tree) (name : Name) (args : List ℤ) (words : Lis
   pub fault : ElabError
   pub holds : Faults tree name args fault
   pub are : words ≡ elaborate_words fault
+
+-- the answer is this line, with this status
+pub record IsLine (own : Status) (line : List ℕ) (answer : Answer) : Type 0 where
+  pub status_is : answer.status ≡ own
+  pub text_is : answer.text.items ≡ line
 
 -- the answer is the line that names the fault, which is none of memory
 pub record IsRefusalFor (file : List ℕ) (fault : DescriptionFault) (answer : Answer) : Type 0 where

@@ -11,13 +11,11 @@ ghost use Rattle.command_runs.specs.declared.fetched.Fetched.TheVariants.{Held};
 ghost use Rattle.command_answers.specs.DescriptionFaults.{MayRefuse};
 ghost use Rattle.file_answers.specs.Refusals.{IsRefusalFor};
 
-use crate::answer::Answer;
+use crate::answer::{Answer, description_too_long, unreadable};
 use crate::description::{checked_of, graph_of_call};
 use crate::plans::plan_between;
 use crate::replaying::replay_over;
-use command_answers::{
-    DescriptionFault, Status, description_line, description_too_long_line, read_fault_line,
-};
+use command_answers::{DescriptionFault, Status, description_line};
 use command_runs::{Fetched, Query};
 use command_words::TopCall;
 use config_graph::{NoMemory, graph_text};
@@ -36,14 +34,8 @@ pub fn describe(
 {
     match fetched {
         Fetched::Held(text) => describe_text(alloc, file, query, text.items()),
-        Fetched::TooLong => Ok(Answer {
-            status: Status::Description,
-            text: description_too_long_line(alloc, file)?,
-        }),
-        Fetched::Failed => Ok(Answer {
-            status: Status::ReadFault,
-            text: read_fault_line(alloc, file)?,
-        }),
+        Fetched::TooLong => description_too_long(alloc, file),
+        Fetched::Failed => unreadable(alloc, file),
     }
 }
 

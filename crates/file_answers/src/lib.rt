@@ -11,7 +11,7 @@ mod replaying;
 mod reports;
 mod scripts;
 
-pub use answer::Answer;
+pub use answer::{Answer, description_too_long, unreadable};
 pub use describing::{describe, refuse_description};
 pub use description::{checked_of, graph_of};
 pub use fetching::{FILE_LIMIT, REPORT_LIMIT, fetch_file};

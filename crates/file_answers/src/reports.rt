@@ -1,6 +1,6 @@
 //! Reports.
 
-ghost use Rattle.std.specs.Prelude.{◌≡◌, ◌≢◌, ◌≤◌, ◌↔◌, ℕ, List, length, IfOk, IsTrue};
+ghost use Rattle.std.specs.Prelude.{◌≡◌, ◌≢◌, ◌≤◌, ℕ, List, length, IfOk};
 ghost use Rattle.report_parser.specs.Stages.{IsReportFault};
 ghost use Rattle.report_parser.specs.declared.error.ReportFault.TheVariants as faults;
 ghost use Rattle.change_script.specs.Reports as of_reports;
@@ -10,9 +10,9 @@ ghost use Rattle.command_runs.specs.Fetches.{FitsFileLimit, report_limit};
 ghost use Rattle.command_runs.specs.OneFile.{ReportAnswers};
 ghost use Rattle.command_runs.specs.declared.fetched.Fetched.TheVariants.{Held};
 
-use crate::answer::Answer;
+use crate::answer::{Answer, script_too_long, unreadable};
 use change_script::{Report, report_text};
-use command_answers::{Status, read_fault_line, report_line, script_too_long_line, summary_text};
+use command_answers::{Status, report_line, summary_text};
 use command_runs::Fetched;
 use config_graph::NoMemory;
 use report_parser::{ReportFault, parse_report};
@@ -25,14 +25,8 @@ pub fn upgrade(alloc: Global, name: &str, fetched: Fetched) -> Result<Answer, No
 {
     match fetched {
         Fetched::Held(bytes) => upgrade_bytes(alloc, name, bytes.items()),
-        Fetched::TooLong => Ok(Answer {
-            status: Status::Script,
-            text: script_too_long_line(alloc, name)?,
-        }),
-        Fetched::Failed => Ok(Answer {
-            status: Status::ReadFault,
-            text: read_fault_line(alloc, name)?,
-        }),
+        Fetched::TooLong => script_too_long(alloc, name),
+        Fetched::Failed => unreadable(alloc, name),
     }
 }
 
@@ -77,18 +71,11 @@ fn refuse_report(alloc: Global, name: &str, fault: &ReportFault) -> Result<Answe
     ensures { (bytes : List ℕ) → (fault.now ≢ faults.NoMemory → IsReportFault bytes fault.now)
         → IfOk result (λ answer. ReportAnswers name.now (Held bytes) answer.status answer.text.items) }
 {
-    if is_no_memory(fault) {
-        return Err(AllocError);
+    match fault {
+        ReportFault::NoMemory => Err(AllocError),
+        fault => Ok(Answer {
+            status: Status::Script,
+            text: report_line(alloc, name, fault)?,
+        }),
     }
-    Ok(Answer {
-        status: Status::Script,
-        text: report_line(alloc, name, fault)?,
-    })
-}
-
-/// Whether it is want of memory, and no fault of the report.
-fn is_no_memory(fault: &ReportFault) -> bool
-    ensures { IsTrue result ↔ (fault.now ≡ faults.NoMemory) }
-{
-    matches!(fault, ReportFault::NoMemory)
 }

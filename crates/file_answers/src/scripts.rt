@@ -1,15 +1,15 @@
 //! Files of events, and scripts.
 
-ghost use Rattle.std.specs.Prelude.{◌≡◌, ◌≢◌, ◌≤◌, ◌↔◌, ℕ, List, length, IfOk, IsTrue};
+ghost use Rattle.std.specs.Prelude.{◌≢◌, ◌≤◌, ℕ, List, length, IfOk};
 ghost use Rattle.change_script.specs.EventFiles.{IsFirstFault};
 ghost use Rattle.change_script.specs.ScriptFiles.{IsScriptFault};
 ghost use Rattle.command_runs.specs.Fetches.{FitsFileLimit, file_limit};
 ghost use Rattle.command_runs.specs.declared.fetched.Fetched.TheVariants.{Held};
 ghost use Rattle.file_answers.specs.Reading.{ReadsEvents, ReadsScript};
 
-use crate::answer::Answer;
+use crate::answer::{Answer, script_too_long, unreadable};
 use change_script::{EventFile, Script, ScriptError, parse_events, parse_script};
-use command_answers::{Status, read_fault_line, script_line, script_too_long_line};
+use command_answers::{Status, script_line};
 use command_runs::Fetched;
 use config_graph::NoMemory;
 use std::alloc::{AllocError, Global};
@@ -37,14 +37,8 @@ pub fn read_events(alloc: Global, name: &str, fetched: Fetched) -> Result<ReadEv
 {
     match fetched {
         Fetched::Held(bytes) => read_event_bytes(alloc, name, bytes.items()),
-        Fetched::TooLong => Ok(ReadEvents::Refused(Answer {
-            status: Status::Script,
-            text: script_too_long_line(alloc, name)?,
-        })),
-        Fetched::Failed => Ok(ReadEvents::Refused(Answer {
-            status: Status::ReadFault,
-            text: read_fault_line(alloc, name)?,
-        })),
+        Fetched::TooLong => Ok(ReadEvents::Refused(script_too_long(alloc, name)?)),
+        Fetched::Failed => Ok(ReadEvents::Refused(unreadable(alloc, name)?)),
     }
 }
 
@@ -55,14 +49,8 @@ pub fn read_script(alloc: Global, name: &str, fetched: Fetched) -> Result<ReadSc
 {
     match fetched {
         Fetched::Held(bytes) => read_script_bytes(alloc, name, bytes.items()),
-        Fetched::TooLong => Ok(ReadScript::Refused(Answer {
-            status: Status::Script,
-            text: script_too_long_line(alloc, name)?,
-        })),
-        Fetched::Failed => Ok(ReadScript::Refused(Answer {
-            status: Status::ReadFault,
-            text: read_fault_line(alloc, name)?,
-        })),
+        Fetched::TooLong => Ok(ReadScript::Refused(script_too_long(alloc, name)?)),
+        Fetched::Failed => Ok(ReadScript::Refused(unreadable(alloc, name)?)),
     }
 }
 
@@ -93,13 +81,13 @@ fn refuse_events(alloc: Global, name: &str, fault: &ScriptError) -> Result<ReadE
     ensures { (bytes : List ℕ) → (fault.now ≢ ScriptError.NoMemory → IsFirstFault bytes fault.now)
         → IfOk result (ReadsEvents name.now (Held bytes)) }
 {
-    if is_no_memory(fault) {
-        return Err(AllocError);
+    match fault {
+        ScriptError::NoMemory => Err(AllocError),
+        fault => Ok(ReadEvents::Refused(Answer {
+            status: Status::Script,
+            text: script_line(alloc, name, fault)?,
+        })),
     }
-    Ok(ReadEvents::Refused(Answer {
-        status: Status::Script,
-        text: script_line(alloc, name, fault)?,
-    }))
 }
 
 /// The line that refuses a script.
@@ -107,18 +95,11 @@ fn refuse_script(alloc: Global, name: &str, fault: &ScriptError) -> Result<ReadS
     ensures { (bytes : List ℕ) → (fault.now ≢ ScriptError.NoMemory → IsScriptFault bytes fault.now)
         → IfOk result (ReadsScript name.now (Held bytes)) }
 {
-    if is_no_memory(fault) {
-        return Err(AllocError);
+    match fault {
+        ScriptError::NoMemory => Err(AllocError),
+        fault => Ok(ReadScript::Refused(Answer {
+            status: Status::Script,
+            text: script_line(alloc, name, fault)?,
+        })),
     }
-    Ok(ReadScript::Refused(Answer {
-        status: Status::Script,
-        text: script_line(alloc, name, fault)?,
-    }))
-}
-
-/// Whether it is want of memory, and no fault of the file.
-fn is_no_memory(fault: &ScriptError) -> bool
-    ensures { IsTrue result ↔ (fault.now ≡ ScriptError.NoMemory) }
-{
-    matches!(fault, ScriptError::NoMemory)
 }

@@ -1,9 +1,13 @@
 -- A file that can't be read and one that is too long have lines of their own.
-use Rattle.command_runs.specs.OneFile.{cannot_read, is_too_long}
+use Rattle.command_runs.specs.OneFile.{DescriptionAnswers, cannot_read, is_too_long}
+use Rattle.file_answers.proofs.Planning.{of_line}
 use Rattle.file_answers.proofs.describing.describe.Goals as goal
 
-pub returns-in_ok-description_too_long_line-in-TooLong : goal.returns-in_ok-description_too_long_line-in-TooLong
-returns-in_ok-description_too_long_line-in-TooLong c = rw (c.in-TooLong.is, c.in_ok-description_too_long_line-in-TooLong.ensures) is_too_long
+pub returns-in-TooLong : goal.returns-in-TooLong
+returns-in-TooLong c =
+    rw c.in-TooLong.is
+    (of_line (DescriptionAnswers c.args.file.now c.args.query.now _) _ _ c.description_too_long.result is_too_long c.description_too_long.ensures)
 
-pub returns-in_ok-read_fault_line-in-Failed : goal.returns-in_ok-read_fault_line-in-Failed
-returns-in_ok-read_fault_line-in-Failed c = rw (c.in-Failed.is, c.in_ok-read_fault_line-in-Failed.ensures) cannot_read
+pub returns-in-Failed : goal.returns-in-Failed
+returns-in-Failed c =
+    rw c.in-Failed.is (of_line (DescriptionAnswers c.args.file.now c.args.query.now _) _ _ c.unreadable.result cannot_read c.unreadable.ensures)

@@ -1,9 +1,11 @@
 -- A file that can't be read and one that is too long have lines of their own.
-use Rattle.command_runs.specs.OneFile.{cannot_read_report, report_too_long}
+use Rattle.command_runs.specs.OneFile.{ReportAnswers, cannot_read_report, report_too_long}
+use Rattle.file_answers.proofs.Planning.{of_line}
 use Rattle.file_answers.proofs.reports.upgrade.Goals as goal
 
-pub returns-in_ok-script_too_long_line-in-TooLong : goal.returns-in_ok-script_too_long_line-in-TooLong
-returns-in_ok-script_too_long_line-in-TooLong c = rw (c.in-TooLong.is, c.in_ok-script_too_long_line-in-TooLong.ensures) report_too_long
+pub returns-in-TooLong : goal.returns-in-TooLong
+returns-in-TooLong c =
+    rw c.in-TooLong.is (of_line (ReportAnswers c.args.name.now _) _ _ c.script_too_long.result report_too_long c.script_too_long.ensures)
 
-pub returns-in_ok-read_fault_line-in-Failed : goal.returns-in_ok-read_fault_line-in-Failed
-returns-in_ok-read_fault_line-in-Failed c = rw (c.in-Failed.is, c.in_ok-read_fault_line-in-Failed.ensures) cannot_read_report
+pub returns-in-Failed : goal.returns-in-Failed
+returns-in-Failed c = rw c.in-Failed.is (of_line (ReportAnswers c.args.name.now _) _ _ c.unreadable.result cannot_read_report c.unreadable.ensures)

@@ -2,8 +2,12 @@
 use Rattle.command_runs.specs.OneFile.{cannot_read_statements, statements_too_long}
 use Rattle.file_answers.proofs.scripts.read_script.Goals as goal
 
-pub returns-in_ok-script_too_long_line-in-TooLong : goal.returns-in_ok-script_too_long_line-in-TooLong
-returns-in_ok-script_too_long_line-in-TooLong c = rw (c.in-TooLong.is, c.in_ok-script_too_long_line-in-TooLong.ensures) statements_too_long
+pub returns-in_ok-script_too_long-in-TooLong : goal.returns-in_ok-script_too_long-in-TooLong
+returns-in_ok-script_too_long-in-TooLong c =
+    let is = c.in_ok-script_too_long-in-TooLong.ensures in
+    rw (c.in-TooLong.is, is.status_is, is.text_is) statements_too_long
 
-pub returns-in_ok-read_fault_line-in-Failed : goal.returns-in_ok-read_fault_line-in-Failed
-returns-in_ok-read_fault_line-in-Failed c = rw (c.in-Failed.is, c.in_ok-read_fault_line-in-Failed.ensures) cannot_read_statements
+pub returns-in_ok-unreadable-in-Failed : goal.returns-in_ok-unreadable-in-Failed
+returns-in_ok-unreadable-in-Failed c =
+    let is = c.in_ok-unreadable-in-Failed.ensures in
+    rw (c.in-Failed.is, is.status_is, is.text_is) cannot_read_statements

@@ -1,12 +1,7 @@
 -- A fault that is no want of memory refuses the script with its line.
-use Rattle.std.proofs.Common.{◌≡◌, ◌∙◌, true, false, sym}
 use Rattle.command_runs.specs.OneFile.{statements_at_fault}
 use Rattle.file_answers.proofs.scripts.refuse_script.Goals as goal
 
-false_true : false ≡ true → ⊥
-false_true is = cc
-
-pub returns : goal.returns
-returns c bytes first =
-    rw c.in_ok-script_line.ensures
-    (statements_at_fault bytes c.args.fault.now (first (λ is. false_true (sym c.if-is_no_memory.false ∙ c.is_no_memory.ensures.1 is))))
+pub returns-in_ok-script_line-in_default : goal.returns-in_ok-script_line-in_default
+returns-in_ok-script_line-in_default c bytes first =
+    rw c.in_ok-script_line-in_default.ensures (statements_at_fault bytes c.args.fault.now (first c.in_default.not-NoMemory))
