@@ -5,11 +5,10 @@ ghost use Rattle.command_runs.specs.Fetches.{FitsFileLimit, file_limit};
 ghost use Rattle.command_runs.specs.declared.fetched.Fetched.TheVariants.{Held};
 ghost use Rattle.script_answers.specs.Leading.{Describes};
 
-use command_answers::{Status, description_too_long_line, read_fault_line};
 use command_runs::Fetched;
 use config_graph::NoMemory;
 use darwin_types::Checked;
-use file_answers::{Answer, checked_of, refuse_description};
+use file_answers::{Answer, checked_of, description_too_long, refuse_description, unreadable};
 use std::alloc::Global;
 
 /// What was read of a description.
@@ -26,14 +25,8 @@ pub fn read_description(alloc: Global, file: &str, fetched: Fetched) -> Result<D
 {
     match fetched {
         Fetched::Held(text) => read_text(alloc, file, text.items()),
-        Fetched::TooLong => Ok(Described::Refused(Answer {
-            status: Status::Description,
-            text: description_too_long_line(alloc, file)?,
-        })),
-        Fetched::Failed => Ok(Described::Refused(Answer {
-            status: Status::ReadFault,
-            text: read_fault_line(alloc, file)?,
-        })),
+        Fetched::TooLong => Ok(Described::Refused(description_too_long(alloc, file)?)),
+        Fetched::Failed => Ok(Described::Refused(unreadable(alloc, file)?)),
     }
 }
 

@@ -3,10 +3,12 @@ use Rattle.std.proofs.Common.{refl}
 use Rattle.script_answers.proofs.Lines.{failed_refused, too_long_refused}
 use Rattle.script_answers.proofs.describing.read_description.Goals as goal
 
-pub returns-in_ok-description_too_long_line-in-TooLong : goal.returns-in_ok-description_too_long_line-in-TooLong
-returns-in_ok-description_too_long_line-in-TooLong c =
-    rw (c.in-TooLong.is, c.in_ok-description_too_long_line-in-TooLong.ensures) (refl, λ p rest. too_long_refused c.args.file.now p rest)
+pub returns-in_ok-description_too_long-in-TooLong : goal.returns-in_ok-description_too_long-in-TooLong
+returns-in_ok-description_too_long-in-TooLong c =
+    let is = c.in_ok-description_too_long-in-TooLong.ensures in
+    rw (c.in-TooLong.is, is.status_is, is.text_is) (refl, λ p rest. too_long_refused c.args.file.now p rest)
 
-pub returns-in_ok-read_fault_line-in-Failed : goal.returns-in_ok-read_fault_line-in-Failed
-returns-in_ok-read_fault_line-in-Failed c =
-    rw (c.in-Failed.is, c.in_ok-read_fault_line-in-Failed.ensures) (refl, λ p rest. failed_refused c.args.file.now p rest)
+pub returns-in_ok-unreadable-in-Failed : goal.returns-in_ok-unreadable-in-Failed
+returns-in_ok-unreadable-in-Failed c =
+    let is = c.in_ok-unreadable-in-Failed.ensures in
+    rw (c.in-Failed.is, is.status_is, is.text_is) (refl, λ p rest. failed_refused c.args.file.now p rest)
