@@ -40,9 +40,8 @@ pub fn take_lines<H: Shelf>(
 {
     for line in lines {
         let refusal = take_line(alloc, shelf, way, line.body)?;
-        match refusal {
-            Some(answer) => return Ok(Some(answer)),
-            None => {}
+        if let Some(answer) = refusal {
+            return Ok(Some(answer));
         }
     }
     Ok(None)

@@ -35,7 +35,7 @@ loop-line-preserved g c =
     let p = subst (λ rs. IsPassed (g.H.Shelf.files c.args.shelf.now) (g.H.Shelf.files l.shelf) c.args.way.now l.way l.yielded rs (g.H.Shelf.failed c.args.shelf.now) (g.H.Shelf.failed l.shelf)) same
     l.invariant.2 in
     let took = c.take_line.ensures in
-    let none_ = c.in_ok-refusal.was ∙ ap Ok c.in-None-refusal.is in (
+    let none_ = c.in_ok-refusal.was ∙ ap Ok c.in_default.is in (
       tt,
       tt,
       passed_on _ _ _ l.way c.take_line.new.way l.yielded rest line _ _ _ p _ c.take_line.result none_ took.kept took.took
