@@ -111,8 +111,7 @@ fn push_elaborate_fault(line: &mut Vec<u8>, fault: &ElabError) -> Result<(), NoM
         ElabError::TopIsKind(name) => push_named(line, b"TopIsKind", name),
         ElabError::TopArgs { wanted, given } => {
             push_word(line, b"TopArgs")?;
-            push_number(line, *wanted)?;
-            push_number(line, *given)
+            push_numbers(line, *wanted, *given)
         }
         ElabError::OutOfRange(path, at) => push_placed_in(line, b"OutOfRange", path, *at),
         ElabError::ZeroDivisor(path, at) => push_placed_in(line, b"ZeroDivisor", path, *at),
@@ -254,18 +253,17 @@ fn push_named_in(
 }
 
 /// Writes two numbers, each after a space.
-fn push_numbers(line: &mut Vec<u8>, wanted: u32, given: u32) -> Result<(), NoMemory>
-    ensures { OnOk result (line.new.items ≡ line.old.items ++ lines.spaced (decimal wanted ∷ decimal given ∷ [])) }
+fn push_numbers(line: &mut Vec<u8>, first: u32, second: u32) -> Result<(), NoMemory>
+    ensures { OnOk result (line.new.items ≡ line.old.items ++ lines.spaced (decimal first ∷ decimal second ∷ [])) }
 {
-    push_number(line, wanted)?;
-    push_number(line, given)
+    push_number(line, first)?;
+    push_number(line, second)
 }
 
 /// Writes the name of a fault and the number of its line.
 fn push_line(line: &mut Vec<u8>, name: &[u8], number: u32) -> Result<(), NoMemory>
     ensures { OnOk result (line.new.items ≡ line.old.items ++ lines.spaced (name.now ∷ decimal number ∷ [])) }
 {
-    let mut digits = Buffer::new();
     push_word(line, name)?;
-    push_word(line, digits.format(number).as_bytes())
+    push_number(line, number)
 }
