@@ -25,7 +25,7 @@ use Rattle.command_runs.specs.Fetches.{Fetch, fetch_of, report_fetch}
 use Rattle.command_runs.specs.Lines.{RunLine, calls, Deed, draws, starts, changes, Progress, begun, with_description, with_called_graph, Allows, by_elaboration, by_deed, CallLeads, Aim, drawing, planning, replaying, running, Concludes, FollowsLines, uses}
 use Rattle.command_runs.specs.Plans.{Starts, RefusesStart, has_no_graph, is_full, HasPlan, RefusesPlan, starts_not, leads_nowhere, gets_full, made_of}
 use Rattle.command_runs.specs.Queries.{IsRefused, AnswersQuery}
-use Rattle.command_runs.specs.OneFile.{DescriptionAnswers, cannot_read, is_too_long, answered, ScriptAnswers, cannot_read_script, script_too_long, script_at_fault, StatementsAnswers, cannot_read_statements, statements_too_long, statements_at_fault, ReportAnswers, cannot_read_report, report_too_long, report_at_fault, upgraded}
+use Rattle.command_runs.specs.OneFile.{DescriptionAnswers, cannot_read, is_too_long, answered, EventsAnswers, cannot_read_events, events_file_too_long, events_file_at_fault, ScriptAnswers, cannot_read_script, script_file_too_long, script_file_at_fault, ReportAnswers, cannot_read_report, report_too_long, report_at_fault, upgraded}
 use Rattle.command_runs.specs.OneFile as files
 use Rattle.command_runs.specs.Scripts.{lines_of_script}
 use Rattle.command_runs.proofs.Courses.{first_made}
@@ -182,12 +182,12 @@ described_in_part file query what = fetched_alone what
 
 -- what is answered of a file of events that isn't one
 pub script_refused :
-    (file name : List ℕ) (what : Fetched) (own : Status) (text : List ℕ) → ScriptAnswers name what own text
+    (file name : List ℕ) (what : Fetched) (own : Status) (text : List ℕ) → EventsAnswers name what own text
     → ShowsAnswer (course_of (commands.Replay file name) (fetch_of name what ∷ [])) own text
-script_refused file name _ _ _ cannot_read_script = record { answer = refusal (read_fault name); is = failed; has_status = refl; has_text = refl }
-script_refused file name _ _ _ script_too_long =
+script_refused file name _ _ _ cannot_read_events = record { answer = refusal (read_fault name); is = failed; has_status = refl; has_text = refl }
+script_refused file name _ _ _ events_file_too_long =
     record { answer = refusal (script name (codes "TooLong" ∷ [])); is = too_long; has_status = refl; has_text = refl }
-script_refused file name _ _ _ (script_at_fault bytes fault first) =
+script_refused file name _ _ _ (events_file_at_fault bytes fault first) =
     let words = script_words fault in
     let what = refusal (script name words) in
     record { answer = what; is = leads_on bytes [] what (refused words (fault, first, refl)); has_status = refl; has_text = refl }
@@ -207,12 +207,12 @@ script_unread file name what = fetched_alone what
 
 -- what is answered of a script that isn't one
 pub statements_refused :
-    (name : List ℕ) (what : Fetched) (own : Status) (text : List ℕ) → StatementsAnswers name what own text
+    (name : List ℕ) (what : Fetched) (own : Status) (text : List ℕ) → ScriptAnswers name what own text
     → ShowsAnswer (course_of (commands.Step name) (fetch_of name what ∷ [])) own text
-statements_refused name _ _ _ cannot_read_statements = record { answer = refusal (read_fault name); is = failed; has_status = refl; has_text = refl }
-statements_refused name _ _ _ statements_too_long =
+statements_refused name _ _ _ cannot_read_script = record { answer = refusal (read_fault name); is = failed; has_status = refl; has_text = refl }
+statements_refused name _ _ _ script_file_too_long =
     record { answer = refusal (script name (codes "TooLong" ∷ [])); is = too_long; has_status = refl; has_text = refl }
-statements_refused name _ _ _ (statements_at_fault bytes fault first) =
+statements_refused name _ _ _ (script_file_at_fault bytes fault first) =
     let words = script_words fault in
     let what = refusal (script name words) in
     record { answer = what; is = leads_on bytes [] what (refused words (fault, first, refl)); has_status = refl; has_text = refl }

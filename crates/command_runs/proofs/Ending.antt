@@ -20,7 +20,7 @@ use Rattle.command_runs.specs.declared.fetched.Fetched.{Fetched}
 use Rattle.command_runs.specs.declared.fetched.Fetched.TheVariants.{Held}
 use Rattle.command_answers.specs.Answers.{status_of, text_of, help_text, version_text}
 use Rattle.command_runs.specs.Fetches.{Fetch, Gave, failed_names, fetch_of, report_fetch}
-use Rattle.command_runs.specs.OneFile.{DescriptionAnswers, cannot_read, is_too_long, refused, answered, ScriptAnswers, cannot_read_script, script_too_long, script_at_fault, ReportAnswers, cannot_read_report, report_too_long, report_at_fault, upgraded}
+use Rattle.command_runs.specs.OneFile.{DescriptionAnswers, cannot_read, is_too_long, refused, answered, EventsAnswers, cannot_read_events, events_file_too_long, events_file_at_fault, ReportAnswers, cannot_read_report, report_too_long, report_at_fault, upgraded}
 use Rattle.command_runs.specs.Runs.{Written, whole, stopped, Runs}
 use Rattle.command_runs.specs.Outcomes.{NamesFile, MentionsFile, HoldsFile, Ends, WroteFront}
 use Rattle.command_runs.proofs.Inverting.{Answer, of_words, AnswersCommand, no_form, answered_to, no_memory, Ran, from_words, Own, command_status, not_usage, not_write_fault, not_no_memory, not_unlawful}
@@ -60,18 +60,18 @@ description_failed file query _ _ _ (refused text why refuses) some = absurd (so
 description_failed file query _ _ _ (answered text own written gives) some = absurd (some refl)
 
 script_fault :
-    (name : List ℕ) (given : Fetched) (own : Status) (text : List ℕ) → ScriptAnswers name given own text
+    (name : List ℕ) (given : Fetched) (own : Status) (text : List ℕ) → EventsAnswers name given own text
     → own ≡ status.ReadFault → (failed_names (fetch_of name given ∷ []) ≡ name ∷ []) × (text ≡ read_fault_line name)
-script_fault name _ _ _ cannot_read_script is = (refl, refl)
-script_fault name _ _ _ script_too_long is = cc
-script_fault name _ _ _ (script_at_fault bytes fault first) is = cc
+script_fault name _ _ _ cannot_read_events is = (refl, refl)
+script_fault name _ _ _ events_file_too_long is = cc
+script_fault name _ _ _ (events_file_at_fault bytes fault first) is = cc
 
 script_failed :
-    (name : List ℕ) (given : Fetched) (own : Status) (text : List ℕ) → ScriptAnswers name given own text
+    (name : List ℕ) (given : Fetched) (own : Status) (text : List ℕ) → EventsAnswers name given own text
     → failed_names (fetch_of name given ∷ []) ≢ [] → own ≡ status.ReadFault
-script_failed name _ _ _ cannot_read_script some = refl
-script_failed name _ _ _ script_too_long some = absurd (some refl)
-script_failed name _ _ _ (script_at_fault bytes fault first) some = absurd (some refl)
+script_failed name _ _ _ cannot_read_events some = refl
+script_failed name _ _ _ events_file_too_long some = absurd (some refl)
+script_failed name _ _ _ (events_file_at_fault bytes fault first) some = absurd (some refl)
 
 report_fault :
     (name : List ℕ) (given : Fetched) (own : Status) (text : List ℕ) → ReportAnswers name given own text

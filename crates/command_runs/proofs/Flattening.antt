@@ -32,7 +32,7 @@ use Rattle.command_runs.specs.Queries.{IsRefused, AnswersQuery}
 use Rattle.command_runs.specs.declared.fetched.Fetched.{Fetched}
 use Rattle.command_runs.specs.declared.fetched.Fetched.TheVariants.{Failed}
 use Rattle.command_runs.specs.Fetches.{Fetch, failed_names, fetch_of, file_limit, Gave, report_fetch, report_limit}
-use Rattle.command_runs.specs.OneFile.{DescriptionAnswers, cannot_read, is_too_long, refused, answered, ScriptAnswers, cannot_read_script, script_too_long, script_at_fault, ReportAnswers, cannot_read_report, report_too_long, report_at_fault, upgraded}
+use Rattle.command_runs.specs.OneFile.{DescriptionAnswers, cannot_read, is_too_long, refused, answered, EventsAnswers, cannot_read_events, events_file_too_long, events_file_at_fault, ReportAnswers, cannot_read_report, report_too_long, report_at_fault, upgraded}
 use Rattle.command_runs.specs.Runs.{Written, whole, stopped}
 use Rattle.command_runs.specs.Outcomes.{Ends, Wants, Flattened, Planned, Replayed, DescriptionRefused, too_long, at_fault, ScriptRefused, events_too_long, events_at_fault, HoldsFile, MustRefuse, MustRefuseScript, NothingRefuses, EndsAsGiven, Upgraded, ReportRefused, is_longer, has_fault, RefusesScript, RefusesDescription, MustRefuseReport, NothingRefusesReport}
 use Rattle.command_runs.proofs.Inverting.{Answer, of_words, AnswersCommand, no_form, answered_to, no_memory, Ran, OfDescription, OfScript, OfReplay, OfReport}
@@ -166,11 +166,11 @@ module _ (files : Option Files) (taken taken' : Option (List ℕ)) where
       by (inr denial) = cc (denial, is)
 
   of_script_refusal :
-      (name : List ℕ) (given : Fetched) (own : Status) (text : List ℕ) → ScriptAnswers name given own text → own ≡ status.Script
+      (name : List ℕ) (given : Fetched) (own : Status) (text : List ℕ) → EventsAnswers name given own text → own ≡ status.Script
       → Gave files (fetch_of name given) → taken' ≡ with_bytes taken text → ScriptRefused files name taken taken'
-  of_script_refusal name _ _ _ cannot_read_script is gave took = cc
-  of_script_refusal name _ _ _ script_too_long is gave took = events_too_long (long_told files name gave) took
-  of_script_refusal name _ _ _ (script_at_fault bytes fault first) is gave took =
+  of_script_refusal name _ _ _ cannot_read_events is gave took = cc
+  of_script_refusal name _ _ _ events_file_too_long is gave took = events_too_long (long_told files name gave) took
+  of_script_refusal name _ _ _ (events_file_at_fault bytes fault first) is gave took =
       events_at_fault bytes fault (held_told files name bytes gave) (held_within files name bytes gave) first took
 
   no_script_status : (file : List ℕ) (query : Query) (given : Fetched) (own : Status) (text : List ℕ) → DescriptionAnswers file query given own text → own ≢ status.Script
@@ -183,18 +183,18 @@ module _ (files : Option Files) (taken taken' : Option (List ℕ)) where
       by (inl ok) = cc (ok, is)
       by (inr denial) = cc (denial, is)
 
-  script_not_given : (name : List ℕ) (given : Fetched) (own : Status) (text : List ℕ) (due : Status) → IsGiven due → ScriptAnswers name given own text → own ≢ due
-  script_not_given name _ _ _ _ well cannot_read_script is = cc
-  script_not_given name _ _ _ _ with_denial cannot_read_script is = cc
-  script_not_given name _ _ _ _ well script_too_long is = cc
-  script_not_given name _ _ _ _ with_denial script_too_long is = cc
-  script_not_given name _ _ _ _ well (script_at_fault bytes fault first) is = cc
-  script_not_given name _ _ _ _ with_denial (script_at_fault bytes fault first) is = cc
+  script_not_given : (name : List ℕ) (given : Fetched) (own : Status) (text : List ℕ) (due : Status) → IsGiven due → EventsAnswers name given own text → own ≢ due
+  script_not_given name _ _ _ _ well cannot_read_events is = cc
+  script_not_given name _ _ _ _ with_denial cannot_read_events is = cc
+  script_not_given name _ _ _ _ well events_file_too_long is = cc
+  script_not_given name _ _ _ _ with_denial events_file_too_long is = cc
+  script_not_given name _ _ _ _ well (events_file_at_fault bytes fault first) is = cc
+  script_not_given name _ _ _ _ with_denial (events_file_at_fault bytes fault first) is = cc
 
-  script_not_description : (name : List ℕ) (given : Fetched) (own : Status) (text : List ℕ) → ScriptAnswers name given own text → own ≢ status.Description
-  script_not_description name _ _ _ cannot_read_script is = cc
-  script_not_description name _ _ _ script_too_long is = cc
-  script_not_description name _ _ _ (script_at_fault bytes fault first) is = cc
+  script_not_description : (name : List ℕ) (given : Fetched) (own : Status) (text : List ℕ) → EventsAnswers name given own text → own ≢ status.Description
+  script_not_description name _ _ _ cannot_read_events is = cc
+  script_not_description name _ _ _ events_file_too_long is = cc
+  script_not_description name _ _ _ (events_file_at_fault bytes fault first) is = cc
 
   report_not_denied : (name : List ℕ) (given : Fetched) (own : Status) (text : List ℕ) → ReportAnswers name given own text → own ≢ status.Denied
   report_not_denied name _ _ _ cannot_read_report is = cc
@@ -469,10 +469,10 @@ module _ (words : List (List ℕ)) (files : Option Files) (failures failures' : 
 
     script_is_one :
         (name bytes : List ℕ) (file : EventFile) (given : Fetched) (own : Status) (text : List ℕ) → f name ≡ Some bytes → length bytes ≤ file_limit → IsEventFile bytes file
-        → ScriptAnswers name given own text → failed_names (fetch_of name given ∷ []) ≡ [] → Gave (Some f) (fetch_of name given) → ⊥
-    script_is_one name bytes file _ _ _ is within is_file cannot_read_script none gave = unread_script name none
-    script_is_one name bytes file _ _ _ is within is_file script_too_long none gave = within_not_long (f name) bytes is within gave.1
-    script_is_one name bytes file _ _ _ is within is_file (script_at_fault other fault first) none gave =
+        → EventsAnswers name given own text → failed_names (fetch_of name given ∷ []) ≡ [] → Gave (Some f) (fetch_of name given) → ⊥
+    script_is_one name bytes file _ _ _ is within is_file cannot_read_events none gave = unread_script name none
+    script_is_one name bytes file _ _ _ is within is_file events_file_too_long none gave = within_not_long (f name) bytes is within gave.1
+    script_is_one name bytes file _ _ _ is within is_file (events_file_at_fault other fault first) none gave =
         scripts.never_both bytes file fault is_file (subst (λ b. IsFirstFault b fault) (same_content (f name) other bytes gave.1 is) first)
 
     -- the same of a file of events, which the shelf tells
@@ -538,10 +538,10 @@ module _ (words : List (List ℕ)) (files : Option Files) (failures failures' : 
         (file name : List ℕ) → Asks words (commands.Replay file name) → MustRefuseScript (f name) → Ends result status.Script
     every_script file name asks must = ends (commands.Replay file name) status.Script asks of_answer
       where
-        of : (given : Fetched) (own : Status) (text : List ℕ) → ScriptAnswers name given own text → failed_names (fetch_of name given ∷ []) ≡ [] → own ≡ status.Script
-        of _ _ _ cannot_read_script none = absurd (unread_script name none)
-        of _ _ _ script_too_long none = refl
-        of _ _ _ (script_at_fault bytes fault first) none = refl
+        of : (given : Fetched) (own : Status) (text : List ℕ) → EventsAnswers name given own text → failed_names (fetch_of name given ∷ []) ≡ [] → own ≡ status.Script
+        of _ _ _ cannot_read_events none = absurd (unread_script name none)
+        of _ _ _ events_file_too_long none = refl
+        of _ _ _ (events_file_at_fault bytes fault first) none = refl
 
         of_answer : Answer (commands.Replay file name) run.fetches run.own run.text → run.own ≡ status.Script
         of_answer (inl s) = of s.given run.own run.text s.answer (sym (ap failed_names s.is) ∙ none_failed)

@@ -28,7 +28,7 @@ use Rattle.command_runs.specs.Courses.{not_fetched, fetched_alone, failed, too_l
 use Rattle.command_runs.specs.Courses as courses
 use Rattle.command_runs.specs.Fetches.{Fetch, fetch_of, failed_names, Gave, report_fetch}
 use Rattle.command_runs.specs.Lines.{RunLine, uses, calls, does, Progress, begun, with_description, with_statement, running, FollowsLines}
-use Rattle.command_runs.specs.OneFile.{DescriptionAnswers, cannot_read, is_too_long, refused, answered, ScriptAnswers, cannot_read_script, script_too_long, script_at_fault, StatementsAnswers, cannot_read_statements, statements_too_long, statements_at_fault, ReportAnswers, cannot_read_report, report_too_long, report_at_fault, upgraded}
+use Rattle.command_runs.specs.OneFile.{DescriptionAnswers, cannot_read, is_too_long, refused, answered, EventsAnswers, cannot_read_events, events_file_too_long, events_file_at_fault, ScriptAnswers, cannot_read_script, script_file_too_long, script_file_at_fault, ReportAnswers, cannot_read_report, report_too_long, report_at_fault, upgraded}
 use Rattle.command_runs.specs.Runs.{Written, AnswersWords, asked, Runs}
 use Rattle.command_runs.specs.Runs as runs
 use Rattle.command_runs.specs.Scripts.{lines_of_script}
@@ -93,7 +93,7 @@ pub record OfDescription (file : List ℕ) (query : Query) (fetches : List Fetch
 pub record OfScript (name : List ℕ) (fetches : List Fetch) (own : Status) (text : List ℕ) : Type 0 where
   pub given : Fetched
   pub is : fetches ≡ fetch_of name given ∷ []
-  pub answer : ScriptAnswers name given own text
+  pub answer : EventsAnswers name given own text
 
 pub record OfReplay (file name : List ℕ) (fetches : List Fetch) (own : Status) (text : List ℕ) : Type 0 where
   pub bytes : List ℕ
@@ -124,7 +124,7 @@ shown_text show (values.summary lanes r) = text_of (values.summary lanes r)
 -- an answer of a script: it isn't one, or its lines have an answer that isn't for want of memory
 pub data OfStep (show : Report → List ℕ) (name : List ℕ) : List Fetch → Status → List ℕ → Type 0 where
   of_statements :
-      (given : Fetched) (own : Status) (text : List ℕ) → StatementsAnswers name given own text → OfStep show name (fetch_of name given ∷ []) own text
+      (given : Fetched) (own : Status) (text : List ℕ) → ScriptAnswers name given own text → OfStep show name (fetch_of name given ∷ []) own text
   of_lines :
       (bytes : List ℕ) (parsed : Script) (fetches : List Fetch) (answer : values.Answer) → IsScript bytes parsed
       → FollowsLines running begun (lines_of_script parsed.lines) fetches answer → Own (status_of answer)
@@ -155,12 +155,12 @@ module _ (show : Report → List ℕ) (name : List ℕ) where
       → OfStep show name fetches (status_of answer) (shown_text show answer) ⊎ (answer ≡ refusal values.no_memory)
   from_script _ _ not_fetched = inr refl
   from_script _ _ (fetched_alone what) = inr refl
-  from_script _ _ failed = inl (of_statements Failed status.ReadFault (read_fault_line name) cannot_read_statements)
-  from_script _ _ too_long = inl (of_statements TooLong status.Script (script_line name (codes "TooLong" ∷ [])) statements_too_long)
+  from_script _ _ failed = inl (of_statements Failed status.ReadFault (read_fault_line name) cannot_read_script)
+  from_script _ _ too_long = inl (of_statements TooLong status.Script (script_line name (codes "TooLong" ∷ [])) script_file_too_long)
   from_script _ _ (leads_on bytes _ _ not_judged) = inr refl
   from_script _ _ (leads_on bytes _ _ (courses.refused words (fault, first, is))) =
       inl (of_statements (Held bytes) status.Script (script_line name words)
-      (subst (λ w. StatementsAnswers name (Held bytes) status.Script (script_line name w)) (sym is) (statements_at_fault bytes fault first)))
+      (subst (λ w. ScriptAnswers name (Held bytes) status.Script (script_line name w)) (sym is) (script_file_at_fault bytes fault first)))
   from_script _ _ (leads_on bytes _ _ (courses.gives parsed fetches answer is follows)) =
       by (follows_status begun (lines_of_script parsed.lines) fetches answer follows)
     where
@@ -238,14 +238,14 @@ from_command (commands.Plan file call target) fetches answer course = by fetches
     by _ _ (of_description what a d) = inl (record { given = what; is = refl; answer = d })
 from_command (commands.Replay file name) _ _ not_fetched = inr refl
 from_command (commands.Replay file name) _ _ (fetched_alone what) = inr refl
-from_command (commands.Replay file name) _ _ failed = inl (inl (record { given = Failed; is = refl; answer = cannot_read_script }))
-from_command (commands.Replay file name) _ _ too_long = inl (inl (record { given = TooLong; is = refl; answer = script_too_long }))
+from_command (commands.Replay file name) _ _ failed = inl (inl (record { given = Failed; is = refl; answer = cannot_read_events }))
+from_command (commands.Replay file name) _ _ too_long = inl (inl (record { given = TooLong; is = refl; answer = events_file_too_long }))
 from_command (commands.Replay file name) _ _ (leads_on bytes _ _ not_judged) = inr refl
 from_command (commands.Replay file name) _ _ (leads_on bytes _ _ (courses.refused words (fault, first, is))) =
     inl (inl (record {
       given = Held bytes;
       is = refl;
-      answer = subst (λ w. ScriptAnswers name (Held bytes) status.Script (script_line name w)) (sym is) (script_at_fault bytes fault first);
+      answer = subst (λ w. EventsAnswers name (Held bytes) status.Script (script_line name w)) (sym is) (events_file_at_fault bytes fault first);
     }))
 from_command (commands.Replay file name) _ _ (leads_on bytes _ _ (courses.gives events fetches answer is course)) =
     by fetches answer (from_query file (queries.Replay events) fetches answer course)
@@ -343,10 +343,10 @@ description_status file query _ _ _ (answered text own written gives) = by (give
     by (inl is) = rw is well
     by (inr is) = rw is denied
 
-pub script_status : (name : List ℕ) (given : Fetched) (own : Status) (text : List ℕ) → ScriptAnswers name given own text → Plain own
-script_status name _ _ _ cannot_read_script = read_fault
-script_status name _ _ _ script_too_long = script
-script_status name _ _ _ (script_at_fault bytes fault first) = script
+pub script_status : (name : List ℕ) (given : Fetched) (own : Status) (text : List ℕ) → EventsAnswers name given own text → Plain own
+script_status name _ _ _ cannot_read_events = read_fault
+script_status name _ _ _ events_file_too_long = script
+script_status name _ _ _ (events_file_at_fault bytes fault first) = script
 
 pub report_status : (name : List ℕ) (given : Fetched) (own : Status) (text : List ℕ) → ReportAnswers name given own text → Plain own
 report_status name _ _ _ cannot_read_report = read_fault
@@ -354,10 +354,10 @@ report_status name _ _ _ report_too_long = script
 report_status name _ _ _ (report_at_fault bytes fault first) = script
 report_status name _ _ _ (upgraded bytes r is) = well
 
-pub statements_status : (name : List ℕ) (given : Fetched) (own : Status) (text : List ℕ) → StatementsAnswers name given own text → Plain own
-statements_status name _ _ _ cannot_read_statements = read_fault
-statements_status name _ _ _ statements_too_long = script
-statements_status name _ _ _ (statements_at_fault bytes fault first) = script
+pub statements_status : (name : List ℕ) (given : Fetched) (own : Status) (text : List ℕ) → ScriptAnswers name given own text → Plain own
+statements_status name _ _ _ cannot_read_script = read_fault
+statements_status name _ _ _ script_file_too_long = script
+statements_status name _ _ _ (script_file_at_fault bytes fault first) = script
 
 step_status : (show : Report → List ℕ) (name : List ℕ) (fetches : List Fetch) (own : Status) (text : List ℕ) → OfStep show name fetches own text → Own own
 step_status show name _ _ _ (of_statements given own text answer) = plain own (statements_status name given own text answer)

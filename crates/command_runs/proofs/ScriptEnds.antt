@@ -19,7 +19,7 @@ use Rattle.command_runs.specs.declared.fetched.Fetched.TheVariants.{Held}
 use Rattle.command_runs.specs.Failures.{Uses}
 use Rattle.command_runs.specs.Fetches.{Fetch, fetch_of, failed_names, Gave}
 use Rattle.command_runs.specs.Lines.{Progress, begun, running}
-use Rattle.command_runs.specs.OneFile.{StatementsAnswers, cannot_read_statements, statements_too_long, statements_at_fault}
+use Rattle.command_runs.specs.OneFile.{ScriptAnswers, cannot_read_script, script_file_too_long, script_file_at_fault}
 use Rattle.command_runs.specs.Outcomes as outcomes
 use Rattle.command_runs.specs.Outcomes.{HoldsFile, TellsTooLong, MentionsFile, IsScriptOf, IsRunStatus, LineRefused, StatementsRefused, script_too_long, script_at_fault}
 use Rattle.command_runs.specs.RunReports.{IsReportOf}
@@ -73,10 +73,10 @@ no_run _ for_sink (inr (inr is)) = cc
 not_of_run : (n : ℕ) (due : Status) → IsOther due → run_status n ≢ due
 not_of_run n due other is = no_run due other (subst IsRunStatus is (run_is n))
 
-statements_other : (name : List ℕ) (given : Fetched) (own : Status) (text : List ℕ) → StatementsAnswers name given own text → IsOther own
-statements_other name _ _ _ cannot_read_statements = for_fetch
-statements_other name _ _ _ statements_too_long = for_statements
-statements_other name _ _ _ (statements_at_fault bytes fault first) = for_statements
+statements_other : (name : List ℕ) (given : Fetched) (own : Status) (text : List ℕ) → ScriptAnswers name given own text → IsOther own
+statements_other name _ _ _ cannot_read_script = for_fetch
+statements_other name _ _ _ script_file_too_long = for_statements
+statements_other name _ _ _ (script_file_at_fault bytes fault first) = for_statements
 
 -- ---- the ends
 
@@ -84,7 +84,7 @@ statements_other name _ _ _ (statements_at_fault bytes fault first) = for_statem
 pub data ScriptEnds (show : Report → List ℕ) (files : Option Files) (name : List ℕ) (fetches : List Fetch) : Status → List ℕ → Type 0 where
   is_none :
       (given : Fetched) (own : Status) (text : List ℕ) → failed_names fetches ≡ failed_names (fetch_of name given ∷ []) → Gave files (fetch_of name given)
-      → StatementsAnswers name given own text → ScriptEnds show files name fetches own text
+      → ScriptAnswers name given own text → ScriptEnds show files name fetches own text
   unread :
       (script : Script) (file : List ℕ) → IsScriptOf files name script → Uses (lines_of_script script.lines) file → failed_names fetches ≡ file ∷ []
       → ScriptEnds show files name fetches status.ReadFault (read_fault_line file)
@@ -127,9 +127,9 @@ module _ (show : Report → List ℕ) (files : Option Files) (name : List ℕ) (
   -- ---- what a status says
 
   pub not_denied : (own : Status) (text : List ℕ) → ScriptEnds show files name fetches own text → own ≢ status.Denied
-  not_denied _ _ (is_none _ _ _ names gave cannot_read_statements) is = cc
-  not_denied _ _ (is_none _ _ _ names gave statements_too_long) is = cc
-  not_denied _ _ (is_none _ _ _ names gave (statements_at_fault bytes fault first)) is = cc
+  not_denied _ _ (is_none _ _ _ names gave cannot_read_script) is = cc
+  not_denied _ _ (is_none _ _ _ names gave script_file_too_long) is = cc
+  not_denied _ _ (is_none _ _ _ names gave (script_file_at_fault bytes fault first)) is = cc
   not_denied _ _ (unread script file script_of used names) is = cc
   not_denied _ _ (refuses script file words script_of are none) is = cc
   not_denied _ _ (reports script end report script_of lead is_report none) is = not_of_run report.status status.Denied for_event is
@@ -137,18 +137,18 @@ module _ (show : Report → List ℕ) (files : Option Files) (name : List ℕ) (
   pub failed_file :
       (own : Status) (text : List ℕ) → ScriptEnds show files name fetches own text → own ≡ status.ReadFault
       → (file : List ℕ) × MentionsFile (HoldsFile files) (commands.Step name) file × (failed_names fetches ≡ file ∷ []) × (text ≡ read_fault_line file)
-  failed_file _ _ (is_none _ _ _ names gave cannot_read_statements) is = (name, inl refl, names, refl)
-  failed_file _ _ (is_none _ _ _ names gave statements_too_long) is = cc
-  failed_file _ _ (is_none _ _ _ names gave (statements_at_fault bytes fault first)) is = cc
+  failed_file _ _ (is_none _ _ _ names gave cannot_read_script) is = (name, inl refl, names, refl)
+  failed_file _ _ (is_none _ _ _ names gave script_file_too_long) is = cc
+  failed_file _ _ (is_none _ _ _ names gave (script_file_at_fault bytes fault first)) is = cc
   failed_file _ _ (unread script file script_of used names) is =
       (file, inr (script_of.bytes, script, script_of.told, script_of.is_script, used), names, refl)
   failed_file _ _ (refuses script file words script_of are none) is = cc
   failed_file _ _ (reports script end report script_of lead is_report none) is = absurd (not_of_run report.status status.ReadFault for_fetch is)
 
   pub any_failed : (own : Status) (text : List ℕ) → ScriptEnds show files name fetches own text → failed_names fetches ≢ [] → own ≡ status.ReadFault
-  any_failed _ _ (is_none _ _ _ names gave cannot_read_statements) some = refl
-  any_failed _ _ (is_none _ _ _ names gave statements_too_long) some = absurd (some names)
-  any_failed _ _ (is_none _ _ _ names gave (statements_at_fault bytes fault first)) some = absurd (some names)
+  any_failed _ _ (is_none _ _ _ names gave cannot_read_script) some = refl
+  any_failed _ _ (is_none _ _ _ names gave script_file_too_long) some = absurd (some names)
+  any_failed _ _ (is_none _ _ _ names gave (script_file_at_fault bytes fault first)) some = absurd (some names)
   any_failed _ _ (unread script file script_of used names) some = refl
   any_failed _ _ (refuses script file words script_of are none) some = absurd (some none)
   any_failed _ _ (reports script end report script_of lead is_report none) some = absurd (some none)
@@ -157,9 +157,9 @@ module _ (show : Report → List ℕ) (files : Option Files) (name : List ℕ) (
     pub statements_refused :
         (own : Status) (text : List ℕ) → ScriptEnds show files name fetches own text → own ≡ status.Script → taken' ≡ with_bytes taken text
         → StatementsRefused files name taken taken'
-    statements_refused _ _ (is_none _ _ _ names gave cannot_read_statements) is took = cc
-    statements_refused _ _ (is_none _ _ _ names gave statements_too_long) is took = script_too_long (long_told files name gave) took
-    statements_refused _ _ (is_none _ _ _ names gave (statements_at_fault bytes fault first)) is took =
+    statements_refused _ _ (is_none _ _ _ names gave cannot_read_script) is took = cc
+    statements_refused _ _ (is_none _ _ _ names gave script_file_too_long) is took = script_too_long (long_told files name gave) took
+    statements_refused _ _ (is_none _ _ _ names gave (script_file_at_fault bytes fault first)) is took =
         script_at_fault bytes fault (held_told files name bytes gave) (held_within files name bytes gave) first took
     statements_refused _ _ (unread script file script_of used names) is took = cc
     statements_refused _ _ (refuses script file words script_of are none) is took = cc
@@ -168,9 +168,9 @@ module _ (show : Report → List ℕ) (files : Option Files) (name : List ℕ) (
     pub line_refused :
         (own : Status) (text : List ℕ) → ScriptEnds show files name fetches own text → own ≡ status.Description → taken' ≡ with_bytes taken text
         → LineRefused files name taken taken'
-    line_refused _ _ (is_none _ _ _ names gave cannot_read_statements) is took = cc
-    line_refused _ _ (is_none _ _ _ names gave statements_too_long) is took = cc
-    line_refused _ _ (is_none _ _ _ names gave (statements_at_fault bytes fault first)) is took = cc
+    line_refused _ _ (is_none _ _ _ names gave cannot_read_script) is took = cc
+    line_refused _ _ (is_none _ _ _ names gave script_file_too_long) is took = cc
+    line_refused _ _ (is_none _ _ _ names gave (script_file_at_fault bytes fault first)) is took = cc
     line_refused _ _ (unread script file script_of used names) is took = cc
     line_refused _ _ (refuses script file words script_of are none) is took =
         record { script = script; is_script = script_of; file = file; words = words; refused = are; written = took }

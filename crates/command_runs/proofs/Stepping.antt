@@ -24,7 +24,7 @@ use Rattle.command_words.specs.declared.words.Command.TheVariants as commands
 use Rattle.command_words.specs.CommandLine.{Asks}
 use Rattle.command_runs.specs.Fetches.{Fetch, failed_names, file_limit, Gave}
 use Rattle.command_runs.specs.Lines.{begun}
-use Rattle.command_runs.specs.OneFile.{cannot_read_statements, statements_too_long, statements_at_fault}
+use Rattle.command_runs.specs.OneFile.{cannot_read_script, script_file_too_long, script_file_at_fault}
 use Rattle.command_runs.specs.Outcomes as outcomes
 use Rattle.command_runs.specs.Outcomes.{Ends, HoldsFile, TellsTooLong, IsScriptOf, IsRunStatus, EndsAsRun, MustRefuseStatements, MustRefuseLine, NothingRefusesLines}
 use Rattle.command_runs.specs.Runs.{Written, whole, stopped}
@@ -134,9 +134,9 @@ module _ (show : Report → List ℕ) (f : Files) (name : List ℕ) (fetches : L
       not_one script is = need_no_refusal (f name) is.bytes script must is.told is.within is.is_script
 
       of_end : (own : Status) (text : List ℕ) → ScriptEnds show (Some f) name fetches own text → own ≡ status.Script
-      of_end _ _ (is_none _ _ _ names gave cannot_read_statements) = absurd (failed_none name names)
-      of_end _ _ (is_none _ _ _ names gave statements_too_long) = refl
-      of_end _ _ (is_none _ _ _ names gave (statements_at_fault bytes fault first)) = refl
+      of_end _ _ (is_none _ _ _ names gave cannot_read_script) = absurd (failed_none name names)
+      of_end _ _ (is_none _ _ _ names gave script_file_too_long) = refl
+      of_end _ _ (is_none _ _ _ names gave (script_file_at_fault bytes fault first)) = refl
       of_end _ _ (unread script file is used names) = absurd (not_one script is)
       of_end _ _ (refuses script file ws is are none) = absurd (not_one script is)
       of_end _ _ (reports script end report is lead is_report none) = absurd (not_one script is)
@@ -157,9 +157,9 @@ module _ (show : Report → List ℕ) (f : Files) (name : List ℕ) (fetches : L
       r = refusing f name must
 
       of_end : (own : Status) (text : List ℕ) → ScriptEnds show (Some f) name fetches own text → own ≡ status.Description
-      of_end _ _ (is_none _ _ _ names gave cannot_read_statements) = absurd (failed_none name names)
-      of_end _ _ (is_none _ _ _ names gave statements_too_long) = absurd (within_not_long (f name) r.bytes r.holds r.within gave.1)
-      of_end _ _ (is_none _ _ _ names gave (statements_at_fault bytes fault first)) =
+      of_end _ _ (is_none _ _ _ names gave cannot_read_script) = absurd (failed_none name names)
+      of_end _ _ (is_none _ _ _ names gave script_file_too_long) = absurd (within_not_long (f name) r.bytes r.holds r.within gave.1)
+      of_end _ _ (is_none _ _ _ names gave (script_file_at_fault bytes fault first)) =
           absurd (scripts.never_both r.bytes r.script fault r.is_script (subst (λ b. IsScriptFault b fault) (same_content (f name) bytes r.bytes gave.1 r.holds) first))
       of_end _ _ (unread script file is used names) = absurd (failed_none file names)
       of_end _ _ (refuses script file ws is are none) = refl
@@ -176,9 +176,9 @@ module _ (show : Report → List ℕ) (f : Files) (name : List ℕ) (fetches : L
       l = leading f name nothing
 
       of_end : (own : Status) (text : List ℕ) → ScriptEnds show (Some f) name fetches own text → IsRunStatus own
-      of_end _ _ (is_none _ _ _ names gave cannot_read_statements) = absurd (failed_none name names)
-      of_end _ _ (is_none _ _ _ names gave statements_too_long) = absurd (within_not_long (f name) l.bytes l.holds l.within gave.1)
-      of_end _ _ (is_none _ _ _ names gave (statements_at_fault bytes fault first)) =
+      of_end _ _ (is_none _ _ _ names gave cannot_read_script) = absurd (failed_none name names)
+      of_end _ _ (is_none _ _ _ names gave script_file_too_long) = absurd (within_not_long (f name) l.bytes l.holds l.within gave.1)
+      of_end _ _ (is_none _ _ _ names gave (script_file_at_fault bytes fault first)) =
           absurd (l.right fault (subst (λ b. IsScriptFault b fault) (same_content (f name) bytes l.bytes gave.1 l.holds) first))
       of_end _ _ (unread script file is used names) = absurd (failed_none file names)
       of_end _ _ (refuses script file ws is are none) =

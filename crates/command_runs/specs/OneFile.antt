@@ -28,20 +28,20 @@ pub data DescriptionAnswers (file : List ℕ) (query : Query) : Fetched → Stat
       → DescriptionAnswers file query (Held text) own written
 
 -- of a file of events that isn't one
-pub data ScriptAnswers (name : List ℕ) : Fetched → Status → List ℕ → Type 0 where
-  cannot_read_script : ScriptAnswers name Failed status.ReadFault (read_fault_line name)
-  script_too_long : ScriptAnswers name TooLong status.Script (script_line name (codes "TooLong" ∷ []))
-  script_at_fault :
+pub data EventsAnswers (name : List ℕ) : Fetched → Status → List ℕ → Type 0 where
+  cannot_read_events : EventsAnswers name Failed status.ReadFault (read_fault_line name)
+  events_file_too_long : EventsAnswers name TooLong status.Script (script_line name (codes "TooLong" ∷ []))
+  events_file_at_fault :
       (bytes : List ℕ) (fault : ScriptError) → IsFirstFault bytes fault
-      → ScriptAnswers name (Held bytes) status.Script (script_line name (script_words fault))
+      → EventsAnswers name (Held bytes) status.Script (script_line name (script_words fault))
 
 -- of a script that isn't one
-pub data StatementsAnswers (name : List ℕ) : Fetched → Status → List ℕ → Type 0 where
-  cannot_read_statements : StatementsAnswers name Failed status.ReadFault (read_fault_line name)
-  statements_too_long : StatementsAnswers name TooLong status.Script (script_line name (codes "TooLong" ∷ []))
-  statements_at_fault :
+pub data ScriptAnswers (name : List ℕ) : Fetched → Status → List ℕ → Type 0 where
+  cannot_read_script : ScriptAnswers name Failed status.ReadFault (read_fault_line name)
+  script_file_too_long : ScriptAnswers name TooLong status.Script (script_line name (codes "TooLong" ∷ []))
+  script_file_at_fault :
       (bytes : List ℕ) (fault : ScriptError) → IsScriptFault bytes fault
-      → StatementsAnswers name (Held bytes) status.Script (script_line name (script_words fault))
+      → ScriptAnswers name (Held bytes) status.Script (script_line name (script_words fault))
 
 -- of a report
 pub data ReportAnswers (name : List ℕ) : Fetched → Status → List ℕ → Type 0 where

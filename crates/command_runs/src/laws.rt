@@ -38,7 +38,7 @@ ghost use Rattle.command_runs.specs.Commands.{TellsReport, course_of, course_of_
 ghost use Rattle.command_runs.specs.Failures.{FailsLast, Uses};
 ghost use Rattle.command_runs.specs.Lines.{Aim, RunLine, Progress, FollowsLines, begun, running};
 ghost use Rattle.command_runs.specs.Fetches.{Fetch, WasHeld, fetch_of, file_limit, report_fetch};
-ghost use Rattle.command_runs.specs.OneFile.{DescriptionAnswers, ReportAnswers, ScriptAnswers, StatementsAnswers};
+ghost use Rattle.command_runs.specs.OneFile.{DescriptionAnswers, EventsAnswers, ReportAnswers, ScriptAnswers};
 ghost use Rattle.command_runs.specs.declared.fetched.Fetched.{Fetched};
 ghost use Rattle.command_runs.specs.declared.fetched.Fetched.TheVariants.{Held};
 ghost use Rattle.command_runs.specs.Outcomes.{HoldsFile, NamesFile, Ends, WroteFront, Flattened, Planned, Replayed};
@@ -278,7 +278,7 @@ pub fn courses_of_descriptions_are_by_one_file()
 /// the description.
 pub fn courses_of_replays_are_by_two_files()
     ensures refused { (file name : List ℕ) (given : Fetched) (own : Status) (text : List ℕ)
-        → ScriptAnswers name given own text
+        → EventsAnswers name given own text
         → ShowsAnswer (course_of (commands.Replay file name) (fetch_of name given ∷ [])) own text }
     ensures read { (file name bytes : List ℕ) (script : EventFile) (fetches : List Fetch) (answer : Answer)
         → IsEventFile bytes script
@@ -292,7 +292,7 @@ pub fn courses_of_replays_are_by_two_files()
 /// A law: the course of a run is what is answered of its script, where that isn't one, and else that of its lines.
 pub fn courses_of_runs_are_by_their_lines()
     ensures refused { (name : List ℕ) (given : Fetched) (own : Status) (text : List ℕ)
-        → StatementsAnswers name given own text
+        → ScriptAnswers name given own text
         → ShowsAnswer (course_of (commands.Step name) (fetch_of name given ∷ [])) own text }
     ensures read { (name bytes : List ℕ) (script : ScriptOf) (fetches : List Fetch) (answer : Answer)
         → IsScript bytes script
