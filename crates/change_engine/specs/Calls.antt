@@ -77,7 +77,8 @@ pub record HasFinished {B : Type 0} (S : B → List Entry → Type 0) (alone : B
   pub ends : EndsAfter alone n scans
   pub goes : Continues S old new (silent_items (all_entries scans) ++ said (to.Finish n rounds) ∷ [])
 
--- Run and finish, broken off for want of memory: no event was done and no line told, and all that is kept is as it was.
+-- Run and finish, broken off for want of memory: no event was done and no line told, and the graph, the layout and the
+-- change are as they were.
 pub record HasRunUntold {B : Type 0} (S Broke : B → List Entry → Type 0) (old new : Engine B) : Type 0 where
   pub broke : BrokeInRun S Broke old.board new.board
   pub history_is : new.history.items ≡ old.history.items

@@ -28,7 +28,7 @@ use Rattle.quiesce_core.specs.declared.event.Event.TheVariants.{Close, Reopen, M
 use Rattle.quiesce_core.proofs.LegalLaws.{legal}
 use Rattle.quiesce_core.proofs.OperationLaws.{close_by, link_by, make_by, reopen_by, unlink_by}
 use Rattle.quiesce_core.proofs.RunLaws.{runs_are_well_formed}
-use Rattle.gate_rule.specs.Growth.{ChangeProlongs, Gates, Prolongs}
+use Rattle.gate_rule.specs.Growth.{ChangeProlongs, GatesTable, Prolongs}
 use Rattle.gate_rule.specs.Steps.{LooksAt, noted}
 use Rattle.gate_rule.specs.Views.{notes, of_change}
 use Rattle.gate_rule.specs.Traces.{Holds}
@@ -39,7 +39,7 @@ use Rattle.gate_rule.proofs.TraceLaws.{changes, same_words, sees, shows_none, sh
 use mathlib.Core.Option.{none, some}
 use lib.ListN.{get_elem?}
 
-module _ (nodes : List NodeView) (c : ChangeView) (t : Gates) (h : Holds t) (id : ℕ) (at : get_elem? t.views id ≡ some (of_change nodes c)) where
+module _ (nodes : List NodeView) (c : ChangeView) (t : GatesTable) (h : Holds t) (id : ℕ) (at : get_elem? t.views id ≡ some (of_change nodes c)) where
   abbrev s : State
   s = state_at h.trace.moments
 
@@ -86,7 +86,7 @@ module _ (slots id : ℕ) (nodes : List NodeView) (c : ChangeView) where
   abbrev new_slot : Node → Option ℕ → SlotWord
   new_slot node from = record { kind = node.kind; first_port = length (config_of c.entries).gates; arg = node.arg; from = from }
 
-  module _ (t : Gates) (h : Holds t) (at : get_elem? t.views id ≡ some (of_change nodes c)) where
+  module _ (t : GatesTable) (h : Holds t) (at : get_elem? t.views id ≡ some (of_change nodes c)) where
     abbrev s' : State
     s' = state_at h.trace.moments
 

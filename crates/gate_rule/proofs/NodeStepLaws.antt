@@ -33,7 +33,7 @@ use Rattle.port_gate.specs.Moves.{with_seen}
 use Rattle.port_gate.specs.declared.answers.SeeAnswer.TheVariants as see
 use Rattle.port_gate.specs.Seats.{MayAsk, MayBegin, MayCall, MayEnd, MayGive, MayHear, MaySee, MaySendMore, MayTake, NodeAt, port_known, serial_served, value_seen}
 use Rattle.port_gate.proofs.AllowedLaws.{ask_allowed, ask_doer, begin_by_word, begin_doer, call_allowed, call_doer, end_allowed, end_doer, fits_seen, give_allowed, give_doer, hear_by_word, hear_doer, miss_by_word, miss_doer, more_allowed, more_doer}
-use Rattle.gate_rule.specs.Growth.{ActProlongs, Gates, LoadProlongs, Prolongs, if_so}
+use Rattle.gate_rule.specs.Growth.{ActProlongs, GatesTable, LoadProlongs, Prolongs, if_so}
 use Rattle.gate_rule.specs.Steps.{Begins, Hears, LoadsWord, LooksToCall, Seat, Sees, Takes, WasShown, did, looks, read, seen_in, value_served}
 use Rattle.gate_rule.specs.Steps.{sees as sees'}
 use Rattle.gate_rule.specs.Views.{does, node_at, of_node, reads}
@@ -50,7 +50,7 @@ use mathlib.Core.Option.{none, some}
 use lib.ListN.{get_elem?}
 use prog.Atomic.{either}
 
-module _ (n : NodeView) (t : Gates) (h : Holds t) (id : ℕ) (at : get_elem? t.views id ≡ some (of_node n)) where
+module _ (n : NodeView) (t : GatesTable) (h : Holds t) (id : ℕ) (at : get_elem? t.views id ≡ some (of_node n)) where
   abbrev es : List Event
   es = events h.trace.moments
 
@@ -122,7 +122,7 @@ load_prolongs slots id p n few t h at v a then_ = prolonged t h id p _ _ _ (stra
 
 -- ---- take
 
-module _ (n : NodeView) (p : ℕ) (may : MayTake n.known p) (t : Gates) (h : Holds t) (id : ℕ) (at : get_elem? t.views id ≡ some (of_node n)) where
+module _ (n : NodeView) (p : ℕ) (may : MayTake n.known p) (t : GatesTable) (h : Holds t) (id : ℕ) (at : get_elem? t.views id ≡ some (of_node n)) where
   abbrev asked_at : ℕ
   asked_at = slice_index t.words p
 
@@ -169,7 +169,7 @@ module _ (n : NodeView) (p v old : ℕ) (may : MayBegin (node_at n) n.known p v)
   abbrev new_word : Word
   new_word = record (unpack old) { phase = phase.Asked; serial = (unpack old).serial + 1; value = v; consequent = false }
 
-  module _ (t : Gates) (h : Holds t) (id : ℕ) (at : get_elem? t.views id ≡ some (of_node n)) where
+  module _ (t : GatesTable) (h : Holds t) (id : ℕ) (at : get_elem? t.views id ≡ some (of_node n)) where
     abbrev event : Event
     event = Begin p ((unpack old).serial + 1) v
 
@@ -217,7 +217,7 @@ module _ (n : NodeView) (p v old : ℕ) (may : MayBegin (node_at n) n.known p v)
 
 -- ---- give
 
-module _ (n : NodeView) (p v : ℕ) (may : MayGive n.known p v) (t : Gates) (h : Holds t) (id : ℕ) (at : get_elem? t.views id ≡ some (of_node n)) where
+module _ (n : NodeView) (p v : ℕ) (may : MayGive n.known p v) (t : GatesTable) (h : Holds t) (id : ℕ) (at : get_elem? t.views id ≡ some (of_node n)) where
   give_moves : p < MAX_PORTS
       → With t h id (of_node (does n (Give p (serial_served n.known) v))) (set t.words p (bit_xor (slice_index t.words p) (message_difference phase.Asked (value_served n.known % 2 ^ 24) phase.Answered v)))
       (by_node (Give p (serial_served n.known) v) ∷ [])
@@ -257,7 +257,7 @@ module _ (n : NodeView) (p : ℕ) (may : MayEnd (node_at n) n.known p) where
   abbrev end_event : Event
   end_event = End p port.serial (value_seen port)
 
-  end_moves : (t : Gates) (h : Holds t) (id : ℕ) → get_elem? t.views id ≡ some (of_node n)
+  end_moves : (t : GatesTable) (h : Holds t) (id : ℕ) → get_elem? t.views id ≡ some (of_node n)
       → With t h id (of_node (does n end_event)) (set t.words p (bit_xor (slice_index t.words p) (end_difference (value_seen port % 2 ^ 24) port.consequent))) (by_node end_event ∷ [])
   end_moves t h id at =
       let es' = events h.trace.moments in
@@ -291,7 +291,7 @@ shows_of x k phase.Asked is packed busy = (ap is_asked (sym is), packed)
 shows_of x k phase.Answered is packed busy = (ap is_answered (sym is), refl)
 shows_of x k phase.More is packed busy = (ap is_in_more (sym is), refl)
 
-module _ (n : NodeView) (p : ℕ) (may : MaySee (node_at n) n.known p) (t : Gates) (h : Holds t) (id : ℕ) (at : get_elem? t.views id ≡ some (of_node n)) where
+module _ (n : NodeView) (p : ℕ) (may : MaySee (node_at n) n.known p) (t : GatesTable) (h : Holds t) (id : ℕ) (at : get_elem? t.views id ≡ some (of_node n)) where
   abbrev seen_word : ℕ
   seen_word = slice_index t.words p
 
@@ -340,7 +340,7 @@ see_prolongs slots id p n may t h at v a then_ =
 
 -- ---- more
 
-module _ (n : NodeView) (p v : ℕ) (may : MaySendMore (node_at n) n.known p v) (t : Gates) (h : Holds t) (id : ℕ) (at : get_elem? t.views id ≡ some (of_node n)) where
+module _ (n : NodeView) (p v : ℕ) (may : MaySendMore (node_at n) n.known p v) (t : GatesTable) (h : Holds t) (id : ℕ) (at : get_elem? t.views id ≡ some (of_node n)) where
   more_moves : p < MAX_PORTS
       → With t h id (of_node (does n (More p (serial_served n.known) v))) (set t.words p (bit_xor (slice_index t.words p) (message_difference phase.Asked (value_served n.known % 2 ^ 24) phase.More v)))
       (by_node (More p (serial_served n.known) v) ∷ [])
@@ -381,7 +381,7 @@ module _ (n : NodeView) (p v : ℕ) (may : MayAsk (node_at n) n.known p v) where
   abbrev ask_event : Event
   ask_event = Ask p asking.serial v
 
-  ask_moves : (t : Gates) (h : Holds t) (id : ℕ) → get_elem? t.views id ≡ some (of_node n)
+  ask_moves : (t : GatesTable) (h : Holds t) (id : ℕ) → get_elem? t.views id ≡ some (of_node n)
       → With t h id (of_node (does n ask_event)) (set t.words p (bit_xor (slice_index t.words p) (message_difference phase.More (value_seen asking % 2 ^ 24) phase.Asked v)))
       (by_node ask_event ∷ [])
   ask_moves t h id at =
@@ -409,7 +409,7 @@ module _ (n : NodeView) (p v : ℕ) (may : MayAsk (node_at n) n.known p v) where
 
 -- ---- hear
 
-module _ (n : NodeView) (p : ℕ) (may : MayHear n.known p) (t : Gates) (h : Holds t) (id : ℕ) (at : get_elem? t.views id ≡ some (of_node n)) where
+module _ (n : NodeView) (p : ℕ) (may : MayHear n.known p) (t : GatesTable) (h : Holds t) (id : ℕ) (at : get_elem? t.views id ≡ some (of_node n)) where
   abbrev heard_word : ℕ
   heard_word = slice_index t.words p
 
@@ -456,7 +456,7 @@ hear_prolongs slots id p n may t h at v a then_ = prolonged t h id p _ _ _ (hear
 -- ---- call
 
 module _ (n : NodeView) (p v : ℕ) (may : MayCall (node_at n) n.known p v) where
-  module _ (t : Gates) (h : Holds t) (id : ℕ) (at : get_elem? t.views id ≡ some (of_node n)) where
+  module _ (t : GatesTable) (h : Holds t) (id : ℕ) (at : get_elem? t.views id ≡ some (of_node n)) where
     abbrev call_word : ℕ
     call_word = slice_index t.words p
 
@@ -532,7 +532,7 @@ module _ (n : NodeView) (p v : ℕ) (may : MayCall (node_at n) n.known p v) wher
         let leads = some_if (unpack word).target parts.0 in
         (leads.0, leads.1, (let few = fit.serial in let apart = eqb-false (unpack word).serial last_serial parts.1 in omega (arith, few, apart)))
 
-    call_moves : (t : Gates) (h : Holds t) (id : ℕ) → get_elem? t.views id ≡ some (of_node n)
+    call_moves : (t : GatesTable) (h : Holds t) (id : ℕ) → get_elem? t.views id ≡ some (of_node n)
         → With t h id (of_node (does n call_event)) (set t.words p (bit_xor (slice_index t.words p) (call_difference (unpack word) v))) (by_node call_event ∷ [])
     call_moves t h id at =
         let es' = events h.trace.moments in

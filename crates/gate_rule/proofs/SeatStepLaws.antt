@@ -28,7 +28,7 @@ use Rattle.quiesce_core.proofs.RunLaws.{runs_are_well_formed}
 use Rattle.quiesce_core.proofs.SoundnessLaws.{well_formed_empty}
 use Rattle.quiesce_core.proofs.WordLaws.{slot_words_of_runs}
 use Rattle.gate_rule.specs.Views.{given_out, is_among, new_seat, newest, nobody, notes, nothing_done, of_change, of_node, seat_again, unknown, with_seat, with_sight, without_seat}
-use Rattle.gate_rule.specs.Growth.{GoesOn, JoinProlongs, LoadProlongs, SplitProlongs}
+use Rattle.gate_rule.specs.Growth.{JoinProlongs, LoadProlongs, RunGoesOn, SplitProlongs}
 use Rattle.gate_rule.specs.Steps.{Adopts}
 use Rattle.gate_rule.specs.Traces.{first_words, AreSeated, FitsView, FitsChange, FitsNode, HasChange, HasSlot, Holds, IsTrace, IsThere, KnowsNode, Shows, Trace}
 use Rattle.gate_rule.specs.declared.view.ChangeView.{ChangeView}
@@ -233,7 +233,7 @@ module _ (id : ℕ) (nodes : List NodeView) (c : ChangeView) (other : ℕ) (n : 
   all_moved : (j : ℕ) (us : List NodeView) → j ≢ other → AllByRecursion (FitsNode w j) us → AllByRecursion (FitsNode w' j) us
   all_moved j us apart fits = all_into (FitsNode w j) (FitsNode w' j) us (λ u f. moved j u (not_it j u apart f) f) fits
 
-  joins : GoesOn t h (record { words = t.words; homes = t.homes; views = set (set t.views id (of_change (n ∷ nodes) c')) other nobody }) more_
+  joins : RunGoesOn t h (record { words = t.words; homes = t.homes; views = set (set t.views id (of_change (n ∷ nodes) c')) other nobody }) more_
   joins =
       goes_on_joined t h w' more_ goes_on id other (of_change (n ∷ nodes) c') t.homes is_trace
       (subst (λ es. Shows t.words (state_after es)) (sym same) h.shows)

@@ -26,7 +26,7 @@ use Rattle.quiesce_core.specs.declared.event.Event.{Event}
 use Rattle.quiesce_core.proofs.RunLaws.{changes_are_of_no_node, done_by_more, runs_are_consistent, state_more}
 use Rattle.quiesce_core.proofs.WordLaws.{port_word_stays, slot_word_stays}
 use Rattle.gate_rule.specs.Views.{does, nobody, notes, of_change, of_node}
-use Rattle.gate_rule.specs.Growth.{GoesOn}
+use Rattle.gate_rule.specs.Growth.{RunGoesOn}
 use Rattle.gate_rule.specs.Traces.{AreSeated, FitsView, FitsChange, FitsNode, HasChange, HasSlot, Holds, IsTrace, IsThere, KnowsNode, Shows, Trace}
 use Rattle.gate_rule.specs.declared.view.ChangeView.{ChangeView}
 use Rattle.gate_rule.specs.declared.view.NodeView.{NodeView}
@@ -97,7 +97,7 @@ passes_view w w' id j v pass apart fits = record {
 -- the rule holds of new words and a new view, where the others' views fit the new trace, which is the old one with these moments more
 goes_on_next : (t : Table (Unit {0}) View) (h : Holds t) (w : Trace) (more_ : List Moment) → w.moments ≡ h.trace.moments ++ more_ → (words : List ℕ) (homes : List (Maybe (Unit {0}))) (id : ℕ) (v : View)
     → IsTrace w → Shows words (state_at w.moments) → Passes h.trace w id → FitsView w id v → AreSeated w (set t.views id v)
-    → GoesOn t h (record { words = words; homes = homes; views = set t.views id v }) more_
+    → RunGoesOn t h (record { words = words; homes = homes; views = set t.views id v }) more_
 goes_on_next t h w more_ is words homes id v is_trace shows pass fits seated = record {
   holds = record {
     trace = w;
@@ -115,7 +115,7 @@ goes_on_next t h w more_ is words homes id v is_trace shows pass fits seated = r
 -- a seat is taken in by another
 pub goes_on_joined : (t : Table (Unit {0}) View) (h : Holds t) (w : Trace) (more_ : List Moment) → w.moments ≡ h.trace.moments ++ more_ → (id other : ℕ) (both : View) (homes : List (Maybe (Unit {0})))
     → IsTrace w → Shows t.words (state_at w.moments) → ((j : ℕ) (u : View) → j ≢ id → j ≢ other → get_elem? t.views j ≡ some u → FitsView w j u) → FitsView w id both
-    → AreSeated w (set (set t.views id both) other nobody) → GoesOn t h (record { words = t.words; homes = homes; views = set (set t.views id both) other nobody }) more_
+    → AreSeated w (set (set t.views id both) other nobody) → RunGoesOn t h (record { words = t.words; homes = homes; views = set (set t.views id both) other nobody }) more_
 goes_on_joined t h w more_ is id other both homes is_trace shows others fits seated = record {
   holds = record {
     trace = w;
@@ -143,7 +143,7 @@ at_more (x ∷ xs) v u (suc n) e = ⊎_elim inl (λ y. inr (ap suc y.0, y.1)) (a
 -- a seat's view is cut in two, which is none of the run's moments
 pub goes_on_parted : (t : Table (Unit {0}) View) (h : Holds t) (w : Trace) → w.moments ≡ h.trace.moments → (id : ℕ) (left right : View) (homes : List (Maybe (Unit {0}))) → IsTrace w
     → Shows t.words (state_at w.moments) → ((j : ℕ) (u : View) → j ≢ id → get_elem? t.views j ≡ some u → FitsView w j u) → FitsView w id left → FitsView w (length t.views) right
-    → AreSeated w (set t.views id left ++ right ∷ []) → GoesOn t h (record { words = t.words; homes = homes; views = set t.views id left ++ right ∷ [] }) []
+    → AreSeated w (set t.views id left ++ right ∷ []) → RunGoesOn t h (record { words = t.words; homes = homes; views = set t.views id left ++ right ∷ [] }) []
 goes_on_parted t h w is id left right homes is_trace shows others fits new seated = record {
   holds = record {
     trace = w;
@@ -225,7 +225,7 @@ module _ (t : Table (Unit {0}) View) (h : Holds t) (id : ℕ) (homes : List (May
 
   -- the node of a seat learns something and does an event
   pub acts : (n n' : NodeView) (e : Event) (words : List ℕ) → get_elem? t.views id ≡ some (of_node n) → n'.slot ≡ n.slot → (KnowsNode es n → KnowsNode es n') → is_of_change e ≡ false → denial s e ≡ None
-      → is_doer s n'.slot e ≡ true → Shows words (effect s e) → GoesOn t h (record { words = words; homes = homes; views = set t.views id (of_node (does n' e)) }) (by_node e ∷ [])
+      → is_doer s n'.slot e ≡ true → Shows words (effect s e) → RunGoesOn t h (record { words = words; homes = homes; views = set t.views id (of_node (does n' e)) }) (by_node e ∷ [])
   acts n n' e words at same knows by_node_ may mine shows =
       let was = (h.views id (of_node n) at).nodes.0 in
       let fit : FitsNode w id n' = record { owned = ap w.owner same ∙ was.owned; seated = subst (λ i. i < w.seats) (sym same) was.seated; knows = knows was.knows } in
@@ -256,7 +256,7 @@ module _ (t : Table (Unit {0}) View) (h : Holds t) (id : ℕ) (homes : List (May
 
   -- the change does one
   pub changes : (nodes : List NodeView) (c : ChangeView) (e : Event) (words : List ℕ) → get_elem? t.views id ≡ some (of_change nodes c) → is_of_change e ≡ true → denial s e ≡ None
-      → Shows words (effect s e) → GoesOn t h (record { words = words; homes = homes; views = set t.views id (of_change nodes (notes c (Did e))) }) (entry (Did e) ∷ [])
+      → Shows words (effect s e) → RunGoesOn t h (record { words = words; homes = homes; views = set t.views id (of_change nodes (notes c (Did e))) }) (entry (Did e) ∷ [])
   changes nodes c e words at change may shows =
       let fit = h.views id (of_change nodes c) at in
       let mine = fit.change c refl in
@@ -284,7 +284,7 @@ module _ (t : Table (Unit {0}) View) (h : Holds t) (id : ℕ) (homes : List (May
 
   -- the change sees something
   pub sees : (nodes : List NodeView) (c : ChangeView) (x : Entry) → get_elem? t.views id ≡ some (of_change nodes c) → event_in x ≡ None → IsSo w.moments (entry x)
-      → GoesOn t h (record { words = t.words; homes = homes; views = set t.views id (of_change nodes (notes c x)) }) (entry x ∷ [])
+      → RunGoesOn t h (record { words = t.words; homes = homes; views = set t.views id (of_change nodes (notes c x)) }) (entry x ∷ [])
   sees nodes c x at quiet so =
       let fit = h.views id (of_change nodes c) at in
       let mine = fit.change c refl in
@@ -309,7 +309,7 @@ module _ (t : Table (Unit {0}) View) (h : Holds t) (id : ℕ) (homes : List (May
 
   -- a node learns something of the trace as it is
   pub learns : (n n' : NodeView) → get_elem? t.views id ≡ some (of_node n) → n'.slot ≡ n.slot → (KnowsNode es n → KnowsNode es n')
-      → GoesOn t h (record { words = t.words; homes = homes; views = set t.views id (of_node n') }) []
+      → RunGoesOn t h (record { words = t.words; homes = homes; views = set t.views id (of_node n') }) []
   learns n n' at same knows =
       let fit = (h.views id (of_node n) at).nodes.0 in
       goes_on_next t h w [] (sym (append-nil w.moments)) t.words homes id (of_node n') h.is_trace h.shows

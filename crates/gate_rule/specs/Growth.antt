@@ -16,11 +16,11 @@ use Rattle.gate_rule.specs.declared.view.View.{View}
 use mathlib.Core.Option.{some}
 use lib.ListN.{get_elem?}
 
-abbrev pub Gates : Type 0
-Gates = Table (Unit {0}) View
+abbrev pub GatesTable : Type 0
+GatesTable = Table (Unit {0}) View
 
 -- the run that is shown before is shown afterwards too, with these moments behind its own
-pub record GoesOn (t : Gates) (h : Holds t) (u : Gates) (more_ : List Moment) : Type 0 where
+pub record RunGoesOn (t : GatesTable) (h : Holds t) (u : GatesTable) (more_ : List Moment) : Type 0 where
   pub holds : Holds u
   pub moments : holds.trace.moments ≡ h.trace.moments ++ more_
 
@@ -29,8 +29,8 @@ pub record GoesOn (t : Gates) (h : Holds t) (u : Gates) (more_ : List Moment) : 
 -- Whatever the table is, and whichever run it shows: where the word i becomes f of what is found, and the seat so as `then_` says, the run
 -- goes on by the moments that there are by the word that is found.
 abbrev pub Prolongs : ℕ → Seat → ℕ → (ℕ → ℕ) → (ℕ → Seat → Type 0) → (ℕ → List Moment) → Type 0
-Prolongs id me i f then_ more_ = (t : Gates) (h : Holds t) → get_elem? t.views id ≡ some me.0 → (v : View) (a : Act (Unit {0})) → then_ (slice_index t.words i) (v, [])
-    → GoesOn t h (stepped t i (f (slice_index t.words i)) id [] v a) (more_ (slice_index t.words i))
+Prolongs id me i f then_ more_ = (t : GatesTable) (h : Holds t) → get_elem? t.views id ≡ some me.0 → (v : View) (a : Act (Unit {0})) → then_ (slice_index t.words i) (v, [])
+    → RunGoesOn t h (stepped t i (f (slice_index t.words i)) id [] v a) (more_ (slice_index t.words i))
 
 -- a load by a node's seat, which may be an event of the node
 abbrev pub LoadProlongs : ℕ → NodeView → ℕ → (ℕ → Seat → Type 0) → (ℕ → List Moment) → Type 0
@@ -56,10 +56,10 @@ ChangeProlongs id nodes c i f e = Prolongs id (of_change nodes c, []) i f (λ fo
 
 -- a view is cut in two: the run stays
 abbrev pub SplitProlongs : ℕ → View → View → View → Type 0
-SplitProlongs id v left right = (t : Gates) (h : Holds t) → get_elem? t.views id ≡ some v
-    → GoesOn t h (record { words = t.words; homes = t.homes; views = slice_set t.views id left ++ right ∷ [] }) []
+SplitProlongs id v left right = (t : GatesTable) (h : Holds t) → get_elem? t.views id ≡ some v
+    → RunGoesOn t h (record { words = t.words; homes = t.homes; views = slice_set t.views id left ++ right ∷ [] }) []
 
 -- a view is taken in by another
 abbrev pub JoinProlongs : ℕ → View → ℕ → View → View → View → List Moment → Type 0
-JoinProlongs id v other w both spent more_ = (t : Gates) (h : Holds t) → get_elem? t.views id ≡ some v → ¬ (other ≡ id) → get_elem? (slice_set t.views id both) other ≡ some w
-    → GoesOn t h (record { words = t.words; homes = t.homes; views = slice_set (slice_set t.views id both) other spent }) more_
+JoinProlongs id v other w both spent more_ = (t : GatesTable) (h : Holds t) → get_elem? t.views id ≡ some v → ¬ (other ≡ id) → get_elem? (slice_set t.views id both) other ≡ some w
+    → RunGoesOn t h (record { words = t.words; homes = t.homes; views = slice_set (slice_set t.views id both) other spent }) more_

@@ -18,7 +18,7 @@ ghost use Rattle.port_gate.specs.Seats.{MayAsk, MayBegin, MayCall, MayEnd, MayGi
 ghost use Rattle.quiesce_core.specs.Rules.{last_serial};
 ghost use Rattle.quiesce_core.specs.State as state;
 ghost use Rattle.quiesce_core.specs.declared.event.Event.TheVariants as event;
-ghost use Rattle.gate_rule.specs.Growth.{ActProlongs, ChangeProlongs, Gates, GoesOn, JoinProlongs, LoadProlongs, Prolongs, SplitProlongs, asked_word, if_so};
+ghost use Rattle.gate_rule.specs.Growth.{ActProlongs, ChangeProlongs, GatesTable, JoinProlongs, LoadProlongs, Prolongs, RunGoesOn, SplitProlongs, asked_word, if_so};
 ghost use Rattle.gate_rule.specs.Merging.{Meets, Merges};
 ghost use Rattle.gate_rule.specs.Steps.{Adopts, Begins, Hears, LoadsWord, LooksAt, LooksToCall, Sees, Takes, value_served};
 ghost use Rattle.gate_rule.specs.Traces.{Holds, first_words};
@@ -94,5 +94,5 @@ pub fn seat_steps_prolong_the_run()
 /// both: so from the beginning on, the run of each moment begins that of each later one.
 pub fn runs_open_and_go_on()
     ensures opens { (h : Holds (opening first_words [] (of_change [] nothing_done))) × (h.trace.moments ≡ []) }
-    ensures goes_on { (t u v : Gates) (h : Holds t) (these those : List Moment) (g : GoesOn t h u these) → GoesOn u g.holds v those → GoesOn t h v (these ++ those) }
+    ensures goes_on { (t u v : GatesTable) (h : Holds t) (these those : List Moment) (g : RunGoesOn t h u these) → RunGoesOn u g.holds v those → RunGoesOn t h v (these ++ those) }
 {}

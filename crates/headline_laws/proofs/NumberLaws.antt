@@ -1,4 +1,5 @@
--- A run ended with at least as many transactions as its line tells, and a finish made as many rounds.
+-- A run ended with at least as many transactions as its line tells, and behind a finish each live port was looked at at
+-- least as often as it tells rounds.
 use Rattle.std.proofs.Common.{◌≡◌, ◌∙◌, ℕ, zero, suc, ◌+◌, ◌≤◌, Bool, true, false, cond, List, [], ◌∷◌, ◌++◌, append_assoc, length, map, Some, None, refl, sym, ap, subst, ⊎_elim, arith}
 use Rattle.std.specs.Prelude.{⊤, ◌||◌, ℤ, flat_map}
 use Rattle.std.specs.List.{AllByRecursion, cons_option, count_by, list_any, range_with_len, sum_by}

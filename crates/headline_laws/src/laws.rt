@@ -118,7 +118,7 @@ pub fn runs_ended_as_many_as_they_tell()
 {}
 
 /// The record bears the report's history: no event of it is left out, what is told of an entry is so at its place, and
-/// ports were looked at as often as the lines on open roots and on a finish say.
+/// ports were looked at at least as often as the lines on open roots and on a finish say.
 pub fn records_bear_their_reports()
     ensures bears { (alone : Bool) (statements : List Statement) (t : List Item) (m : List Moment) (report : Report)
         → IsTranscript alone statements t → IsRecordOf (entries t) m → IsReport t m report
