@@ -403,6 +403,11 @@ class Check:
             self.faults.add("KindPorts " + here.name)
 
 
+def segment_of(name, at):
+    """The segment of an instance, by the value of its index where it is an array's."""
+    return name if at is None else "%s[%d]" % (name, at[0])
+
+
 def is_primitive(component):
     return all(statement[0] != "inst" for statement, _ in component.statements())
 
@@ -556,12 +561,13 @@ class Elaboration:
 
     def bind(self, here, left, right, place):
         """A reached binding entry, whose indexes are one-element tuples of a value, or None in it."""
-        found = [self.end(here, end, place) for end in (left, right)]
-        notes = [port[2] for _, _, port in (self.declared(here, end) for end in (left, right)) if port[2] is not None]
-        if len(notes) == 2 and notes[0] != notes[1]:
-            self.fault("Annotation", here, place)
-        if any(end and (None in (end[1] or ()) or None in (end[3] or ())) for end in (left, right)):
+        ends = [(end, self.instance(here, end, place)) for end in (left, right)]
+        if any(None in (index or ()) for end in (left, right) for index in (end[1], end[3])):
             return
+        notes = [self.declared(here, end)[2][2] for end, inner in ends if inner is not None]
+        if len(notes) == 2 and None not in notes and notes[0] != notes[1]:
+            self.fault("Annotation", here, place)
+        found = [None if inner is None else self.end(here, end, inner, place) for end, inner in ends]
         sides = [None if end is None else end[0] for end in found]
         forms = [("inner require", "inner provide"), ("inner require", "outer require"), ("outer provide", "inner provide")]
         if tuple(sides) in forms:
@@ -588,25 +594,29 @@ class Elaboration:
         component = self.components[component]
         return component, False, component.ports[port][0]
 
-    def end(self, here, end, place):
-        """An end as (its side, its key, its text), or None where it is none."""
-        name, at, port, by = end
-        _, is_array, (side, size, _, _) = self.declared(here, end)
+    def instance(self, here, end, place):
+        """The instance at which an end stands, or None where none is made there."""
+        name, at, _, _ = end
+        _, is_array, _ = self.declared(here, end)
         if is_array and at is not None:
             self.within(at[0], here.size(("array", name), here.component.arrays[name][0][0]), here, place)
+        if name is None:
+            return here
         if (at is not None) != is_array or at == (None,):
             return None
-        segment = name if at is None else "%s[%d]" % (name, at[0])
-        made = [here] if name is None else [inner for inner in here.made.get(segment, []) if inner is not None]
-        if not made:
-            return None
+        return next((inner for inner in here.made.get(segment_of(name, at), []) if inner is not None), None)
+
+    def end(self, here, end, inner, place):
+        """An end at an instance as (its side, its key, its text), or None where it is none."""
+        name, at, port, by = end
+        _, _, (side, size, _, _) = self.declared(here, end)
         if by is not None and size is not None:
-            self.within(by[0], made[0].size(("port", port), size), here, place)
-        if (by is not None) != (size is not None) or by == (None,):
+            self.within(by[0], inner.size(("port", port), size), here, place)
+        if (by is not None) != (size is not None):
             return None
         place_text = "" if by is None else "[%d]" % by[0]
         where = "outer" if name is None else "inner"
-        return "%s %s" % (where, side), (made[0].path, port, by and by[0]), ("" if name is None else segment + ".") + port + place_text
+        return "%s %s" % (where, side), (inner.path, port, by and by[0]), ("" if name is None else segment_of(name, at) + ".") + port + place_text
 
     def within(self, index, size, here, place):
         """An index is from 0 to the size less 1, where both have a value."""
