@@ -31,7 +31,7 @@ def described(text):
 
 def fetched(files, name, status, prefix, limit=LIMIT):
     """The bytes of a file that keeps the limit; where it doesn't, the refusal has this status and begins so."""
-    text = files.get(os.fsdecode(name))
+    text = files.get(os.fsdecode(name).removeprefix("./"))
     if text is None:
         raise Refusal(4, [b"read fault " + name])
     if len(text) > limit:
