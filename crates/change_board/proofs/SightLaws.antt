@@ -1,6 +1,6 @@
 -- What was seen of nodes, and what they have come to.
 use Rattle.std.proofs.Common.{◌≡◌, ℕ, zero, suc, ◌<◌, List, length, Option, Some, None, refl, ap, ◌∙◌}
-use Rattle.std.specs.Prelude.{option_map, option_and_then, slice_get}
+use Rattle.std.specs.Prelude.{option_map, option_and_then}
 use Rattle.std.specs.Option.{option_map_or}
 use Rattle.base.proofs.PlaceLaws.{slice_get-below}
 use Rattle.change_law.specs.Opening.{argument_of, fold_at, fold_of_node, fold_within}

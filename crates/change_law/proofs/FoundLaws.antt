@@ -33,7 +33,8 @@ use Rattle.change_law.specs.Found.{IsFound, came_to_rest, held_at, held_since, i
 use Rattle.change_law.specs.Lawful.{CameToRest, EndsAs, HeldSince, StoodOpen, StoodOpenWhereSaid, IsDrainedAt, IsFinishAt, IsGraphAt, IsGraphDescribed, IsLawfulBy, IsOfItsKind, IsOfRounds, IsRunAt, Lawful, Merge, Pace, on_threads, in_rounds, described, is_done, is_idle_after}
 use Rattle.change_law.specs.Members.{Member, by_node, of_history, events, is_close, is_root, lines, state_at, without_roots}
 use Rattle.change_law.specs.Opening.{fold_of_node}
-use Rattle.change_law.specs.Scene.{Seen, live_ports}
+use Rattle.commit_laws.specs.Steps.{live_ports}
+use Rattle.change_law.specs.Scene.{Seen}
 use Rattle.change_law.specs.Standing.{is_graph_of}
 use Rattle.change_law.specs.Statements.{Statement}
 use Rattle.change_law.specs.Told.{Told}

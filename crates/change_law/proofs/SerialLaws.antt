@@ -19,7 +19,7 @@ use Rattle.change_script.specs.declared.report.HistoryLine.TheVariants as to
 use Rattle.change_script.specs.declared.report.Report.{Report}
 use Rattle.change_law.specs.Changes.{drained_lines, opening_lines}
 use Rattle.change_law.specs.Members.{is_pending}
-use Rattle.change_law.specs.Scene.{live_ports}
+use Rattle.commit_laws.specs.Steps.{live_ports}
 use Rattle.change_law.specs.Serial.{ChangesTo, FinishesAt, IsPlayed, Played, Plays, RunsTo, Serial, ShowsGraph, StopsAt, after_changes, end_events, end_lines, finish_ends, is_none_left, lines_played, looks_after, report_of, run_ends, wait_ends, world_after}
 use Rattle.change_law.specs.Statements.{Statement, start, change, run, finish, show}
 use Rattle.change_law.proofs.PlanningLaws.{one_plan}

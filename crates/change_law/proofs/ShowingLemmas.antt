@@ -7,7 +7,7 @@ use Rattle.base.specs.Each.{Each, EachAfter}
 use Rattle.base.proofs.EachLaws.{each_at}
 use Rattle.config_graph.specs.Graph.{Graph}
 use Rattle.change_plan.specs.declared.plan_data.Plan.{Plan}
-use Rattle.commit_laws.specs.Steps.{is_shaping}
+use Rattle.commit_laws.specs.Steps.{is_shaping, live_ports}
 use Rattle.commit_laws.proofs.EndingLaws.{graph_stays}
 use Rattle.plan_laws.specs.Commit.{commit_events, ports_to_close}
 use Rattle.quiescence_laws.specs.Starts.{start_of}
@@ -24,7 +24,7 @@ use Rattle.change_law.specs.Changes.{IsCommitted, IsGivenUp, commit_lines, drain
 use Rattle.change_law.specs.Follows.{Follows, IsRight, Part, lines_of}
 use Rattle.change_law.specs.Lawful.{IsGraphAt, IsLawfulBy, IsOfItsKind, described}
 use Rattle.change_law.specs.Members.{Member, of_history, event_of, events, is_commit, is_pending, is_root, lines, lines_of_events, state_at, without_roots}
-use Rattle.change_law.specs.Scene.{config_after, drained_line, live_ports, root_line}
+use Rattle.change_law.specs.Scene.{config_after, drained_line, root_line}
 use Rattle.change_law.specs.Statements.{Statement, start, change, run, finish, show}
 use Rattle.change_law.proofs.GraphLemmas.{graph_is_one}
 use Rattle.change_law.proofs.MemberLaws.{all_parts, events_parts, lines_parts, none_happens}

@@ -1,6 +1,6 @@
 -- The stop closes every live port, and each is found drained: so nothing is open at the end.
-use Rattle.std.proofs.Common.{◌≡◌, ◌∙◌, ℕ, ◌<◌, Bool, true, false, ◌&&◌, ◌||◌, not, cond, List, [], ◌∷◌, ◌++◌, append_assoc, length, map, refl, ap, sym, subst, arith}
-use Rattle.std.specs.Prelude.{◌==◌, filter, filter_map, All}
+use Rattle.std.proofs.Common.{◌≡◌, ◌∙◌, ℕ, ◌<◌, Bool, true, false, ◌&&◌, ◌||◌, not, cond, List, [], ◌∷◌, ◌++◌, append_assoc, length, map, refl, ap, sym, subst, arith, lt-ltb}
+use Rattle.std.specs.Prelude.{◌==◌, filter, filter_map, nat_lt, All}
 use Rattle.std.specs.List.{list_any, range_with_len}
 use Rattle.std.proofs.lemmas.Bool.{and_from, both_ways, eq-eqb, eqb-true, or_parts, or_right}
 use Rattle.std.proofs.lemmas.List.Elements.{filter-append}
@@ -15,13 +15,14 @@ use Rattle.quiesce_core.specs.Doers.{is_of_change}
 use Rattle.quiesce_core.specs.Effect.{effect}
 use Rattle.quiesce_core.specs.Legal.{Legal}
 use Rattle.quiesce_core.specs.Runs.{IsRun, is_open_after, state_after}
+use Rattle.quiesce_core.specs.Rules.{is_live_port}
 use Rattle.quiesce_core.specs.State.{Configuration, State, empty, is_live, owner}
 use Rattle.quiesce_core.proofs.InductionLaws.{along}
 use Rattle.quiesce_core.proofs.TableLaws.{gate_place}
 use Rattle.quiescence_laws.specs.Drained.{is_drained}
 use Rattle.quiescence_laws.specs.Events.{reopens}
 use Rattle.quiescence_laws.proofs.DrainingLaws.{drained_stays}
-use Rattle.commit_laws.specs.Steps.{change_all, is_shaping}
+use Rattle.commit_laws.specs.Steps.{change_all, is_shaping, live_ports}
 use Rattle.commit_laws.proofs.EndingLaws.{none_open}
 use Rattle.commit_laws.proofs.TurningLaws.{SameLinks, live_still, same_turned}
 use Rattle.change_script.specs.declared.report.HistoryLine.{HistoryLine}
@@ -30,7 +31,7 @@ use Rattle.change_script.specs.declared.report.Report.{Report}
 use Rattle.change_law.specs.Follows.{Follows, IsStop, lines_of}
 use Rattle.change_law.specs.Lawful.{IsDrainedAt, IsOfItsKind, Merge}
 use Rattle.change_law.specs.Members.{Member, of_history, event_of, events, is_root, lines, state_at, without_roots}
-use Rattle.change_law.specs.Scene.{Seen, config_after, drained_line, live_ports}
+use Rattle.change_law.specs.Scene.{Seen, config_after, drained_line}
 use Rattle.change_law.specs.Statements.{Statement}
 use Rattle.change_law.proofs.TestLaws.{counted_some, some_counted}
 use Rattle.change_law.proofs.MemberLaws.{all_parts, LineIn, Split, config_of_lines, events_parts, events_without_roots, line_there, none_happens, split}
@@ -151,10 +152,13 @@ module _ (m : List Member) (before stop : List HistoryLine) (run : IsRun (events
       let c = config_after before in
       let live_before : is_live c (owner c p) ≡ true =
       sym (live_still c (state_at m).config same (owner c p)) ∙ ap (is_live (state_at m).config) (sym (same.owners p)) ∙ live in
+      let made_before : p < length c.gates = omega (arith, made, same.long) in
+      let live_port : is_live_port c p ≡ true =
+      and_from (nat_lt p (length c.gates)) (is_live c (owner c p)) (lt-ltb p (length c.gates) made_before) live_before in
       let listed : list_any (λ q. q == p) ports ≡ true =
-      any_kept (λ q. is_live c (owner c q)) (λ q. q == p) (range_with_len 0 (length c.gates))
-      (range_has (λ q. is_live c (owner c q) && q == p) 0 (length c.gates) p (omega arith) (omega (arith, made, same.long))
-      (and_from (is_live c (owner c p)) (p == p) live_before (eq-eqb p p refl))) in
+      any_kept (is_live_port c) (λ q. q == p) (range_with_len 0 (length c.gates))
+      (range_has (λ q. is_live_port c q && q == p) 0 (length c.gates) p (omega arith) (omega (arith, made_before))
+      (and_from (is_live_port c p) (p == p) live_port (eq-eqb p p refl))) in
       let seen : list_any (λ (d : Seen). d.port == p) is.seen ≡ true =
       counted_some (λ (d : Seen). d.port == p) is.seen (omega (arith, is.all_seen p, some_counted (λ q. q == p) ports listed)) in
       line_there (is_sighting p) parted.back

@@ -17,7 +17,8 @@ use Rattle.change_law.specs.Changes.{AreLooks, IsChange, IsCommitted, IsGivenUp,
 use Rattle.change_law.specs.Follows.{Follows, IsRight, Part, lines_of, skip_lines, stop_lines}
 use Rattle.change_law.specs.Members.{is_pending}
 use Rattle.change_law.specs.Planning.{can_be_planned, planned, rises}
-use Rattle.change_law.specs.Scene.{AreSeen, Seen, config_after, live_ports}
+use Rattle.commit_laws.specs.Steps.{live_ports}
+use Rattle.change_law.specs.Scene.{AreSeen, Seen, config_after}
 use Rattle.change_law.specs.Standing.{is_graph_of}
 use Rattle.change_law.specs.Statements.{Statement, start, change, run, finish, show}
 use Rattle.change_law.specs.Told.{Told, no_more, counted, shown_graph, looked, are_all_seen, are_looks, are_seen, can_change, can_follow, can_tell, can_tell_all, change_lines, end_lines, first_told, history_told, lines_told, told_lines, told_parts}

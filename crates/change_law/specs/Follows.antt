@@ -1,4 +1,5 @@
--- A history follows a script: it has the lines of each statement, one statement after the other, and then those of the stop.
+-- A history follows a script: it has the lines of each statement, one statement after the other, and then those of
+-- the stop.
 use Rattle.std.specs.Prelude.{◌≡◌, ℕ, ℤ, true, false, List, [], ◌∷◌, ◌++◌, map, flat_map}
 use Rattle.std.specs.List.{list_any}
 use Rattle.base.specs.Each.{Each}
@@ -8,7 +9,8 @@ use Rattle.change_script.specs.declared.report.HistoryLine.{HistoryLine}
 use Rattle.change_script.specs.declared.report.HistoryLine.TheVariants as to
 use Rattle.change_law.specs.Changes.{IsChange}
 use Rattle.change_law.specs.Members.{is_pending, lines_of_events}
-use Rattle.change_law.specs.Scene.{AreSeen, Seen, config_after, drained_line, live_ports}
+use Rattle.commit_laws.specs.Steps.{live_ports}
+use Rattle.change_law.specs.Scene.{AreSeen, Seen, config_after, drained_line}
 use Rattle.change_law.specs.Statements.{Statement, start, change, run, finish, show}
 
 -- one statement with its lines

@@ -22,7 +22,8 @@ use Rattle.change_law.specs.Endings.{moved_to, status_of}
 use Rattle.change_law.specs.Lawful.{Pace, on_threads, in_rounds, StoodOpenWhereSaid, described, is_done, is_idle_after, unfinished_of}
 use Rattle.change_law.specs.Members.{Member, by_node, of_history, events, lines, made_slot, state_at, without_roots}
 use Rattle.change_law.specs.Opening.{fold_of_node}
-use Rattle.change_law.specs.Scene.{Seen, live_ports}
+use Rattle.commit_laws.specs.Steps.{live_ports}
+use Rattle.change_law.specs.Scene.{Seen}
 use Rattle.change_law.specs.Standing.{is_graph_of}
 use Rattle.change_law.specs.Statements.{Statement}
 use Rattle.change_law.specs.Told.{Told, can_follow, history_told}

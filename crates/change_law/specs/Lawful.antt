@@ -28,7 +28,7 @@ use Rattle.change_law.specs.Endings.{moved_to, status_of}
 use Rattle.change_law.specs.Follows.{Follows}
 use Rattle.change_law.specs.Members.{Member, by_node, of_history, without_roots, events, is_close, lines, made_slot, state_at}
 use Rattle.change_law.specs.Opening.{fold_of_node}
-use Rattle.change_law.specs.Scene.{live_ports}
+use Rattle.commit_laws.specs.Steps.{live_ports}
 use Rattle.change_law.specs.Serial.{Serial}
 use Rattle.change_law.specs.Statements.{Statement, graph_of, is_finish}
 

@@ -2,8 +2,7 @@
 use Rattle.std.specs.Prelude.{◌≡◌, ℕ, ◌==◌, List, filter_map}
 use Rattle.std.specs.List.{count_by}
 use Rattle.commit_laws.specs.Steps.{change_all}
-use Rattle.plan_laws.specs.Commit.{ports_where}
-use Rattle.quiesce_core.specs.State.{Configuration, empty, is_live, owner}
+use Rattle.quiesce_core.specs.State.{Configuration, empty}
 use Rattle.change_script.specs.declared.report.HistoryLine.{HistoryLine}
 use Rattle.change_script.specs.declared.report.HistoryLine.TheVariants as to
 use Rattle.change_law.specs.Members.{event_of}
@@ -11,10 +10,6 @@ use Rattle.change_law.specs.Members.{event_of}
 -- the configuration: the lines that are events alone change it
 abbrev pub config_after : List HistoryLine → Configuration
 config_after history = change_all empty.config (filter_map event_of history)
-
--- the ports of live nodes, in order
-abbrev pub live_ports : Configuration → List ℕ
-live_ports c = ports_where (λ p. is_live c (owner c p)) c
 
 -- a port, with the serial that a look found there
 pub record Seen : Type 0 where

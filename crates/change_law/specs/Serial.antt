@@ -1,4 +1,5 @@
--- The report of a system on one thread, whose nodes take turns in rounds: what each line says is computed from the rounds.
+-- The report of a system on one thread, whose nodes take turns in rounds: what each line says is computed from the
+-- rounds.
 use Rattle.std.specs.Prelude.{◌≡◌, ℕ, zero, suc, ℤ, ◌-◌, Bool, true, false, not, ◌||◌, ◌&&◌, ◌==◌, nat_le, List, [], ◌∷◌, ◌++◌, map, length, filter, flat_map, find, fold, Option, None, if◌then◌else◌}
 use Rattle.std.specs.List.{list_any, range_with_len}
 use Rattle.std.specs.Option.{option_map_or}
@@ -29,7 +30,8 @@ use Rattle.change_law.specs.Changes.{commit_lines, drained_lines, opening_lines,
 use Rattle.change_law.specs.Endings.{moved_to, status_of}
 use Rattle.change_law.specs.Follows.{skip_lines, start_lines}
 use Rattle.change_law.specs.Members.{is_pending}
-use Rattle.change_law.specs.Scene.{Seen, live_ports}
+use Rattle.commit_laws.specs.Steps.{live_ports}
+use Rattle.change_law.specs.Scene.{Seen}
 use Rattle.change_law.specs.Statements.{Statement, start, change, run, finish, show, is_finish}
 
 -- the change does these events, one after the other
@@ -46,7 +48,8 @@ pub record RunsTo (w : World) (k : ℕ) (lines : List HistoryLine) (v : World) :
   pub world : v ≡ after_rounds true w rounds
   pub are : lines ≡ to.Run k (ended v - ended w) ∷ []
 
--- `finish within N`: rounds until each live node is done and no transaction is left, or N were made, or one moved nothing
+-- `finish within N`: rounds until each live node is done and no transaction is left, or N were made, or one moved
+-- nothing
 abbrev pub finish_ends : World → ℕ → ℕ → Bool
 finish_ends w n j = is_at_rest (after_rounds true w j) || j == n || stands_still true w j
 

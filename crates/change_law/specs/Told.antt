@@ -14,7 +14,8 @@ use Rattle.change_law.specs.Changes.{commit_lines, drained_lines, opening_lines,
 use Rattle.change_law.specs.Follows.{Part, lines_of, skip_lines, start_lines, stop_lines}
 use Rattle.change_law.specs.Members.{is_pending}
 use Rattle.change_law.specs.Planning.{can_be_planned, planned, rises}
-use Rattle.change_law.specs.Scene.{Seen, config_after, live_ports}
+use Rattle.commit_laws.specs.Steps.{live_ports}
+use Rattle.change_law.specs.Scene.{Seen, config_after}
 use Rattle.change_law.specs.Standing.{is_graph_of}
 use Rattle.change_law.specs.Statements.{Statement, start, change, run, finish, show}
 

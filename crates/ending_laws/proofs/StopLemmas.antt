@@ -8,14 +8,12 @@ use Rattle.std.proofs.lemmas.List.{length-append}
 use Rattle.std.proofs.lemmas.List.Elements.{All-head, All-tail}
 use Rattle.base.proofs.MapLaws.{count_by-append}
 use Rattle.commit_laws.specs.Lists.{In}
-use Rattle.commit_laws.proofs.MemberLaws.{selected}
-use Rattle.commit_laws.proofs.TurningLaws.{IsLivePort}
 use Rattle.drain_laws.specs.Advances.{is_advance, is_begin}
 use Rattle.gate_word.specs.Phases.{is_idle}
 use Rattle.quiesce_core.specs.Doers.{is_of_change}
 use Rattle.quiesce_core.specs.Rest.{rest}
 use Rattle.quiesce_core.specs.Runs.{IsRun, state_after}
-use Rattle.quiesce_core.specs.State.{Configuration, exchange, gate, is_live, owner}
+use Rattle.quiesce_core.specs.State.{exchange, gate}
 use Rattle.quiesce_core.specs.declared.event.Event.{Event}
 use Rattle.quiesce_core.specs.declared.event.Event.TheVariants as event
 use Rattle.quiescence_laws.specs.Drained.{is_drained}
@@ -28,13 +26,14 @@ use Rattle.change_script.specs.declared.report.HistoryLine.{HistoryLine}
 use Rattle.change_script.specs.declared.report.HistoryLine.TheVariants as to
 use Rattle.change_law.specs.Lawful.{IsOfItsKind}
 use Rattle.change_law.specs.Members.{Member, by_node, of_history, lines_of_events}
-use Rattle.change_law.specs.Scene.{live_ports}
+use Rattle.commit_laws.specs.Steps.{live_ports}
 use Rattle.change_law.specs.Serial.{after_changes, looks_after}
 use Rattle.change_law.proofs.FoundLaws.{events_of_nodes}
 use Rattle.change_law.proofs.MemberLaws.{all_parts, events_parts}
 use Rattle.change_law.proofs.TestLaws.{some_counted}
 use Rattle.report_laws.specs.Courses.{Course}
 use Rattle.report_laws.specs.Existing.{StopsEnd}
+use Rattle.report_laws.proofs.ClosedPortLaws.{all_live}
 use Rattle.report_laws.proofs.ClosingLaws.{shut, shut_at}
 use Rattle.report_laws.proofs.CourseLaws.{course_run, with_rounds}
 use Rattle.report_laws.proofs.EndingRoundLaws.{rounds_long, some_or_none}
@@ -132,10 +131,6 @@ stands rest_bounds history w m c =
     let few = few_events rest_bounds history u (m ++ map by_node first.later) first.course (suc n) in
     absurd (omega (arith, long, few)))
     (some_or_none (is_still w) n)
-
-all_live : (c : Configuration) (p : ℕ) → In (live_ports c) p → IsLivePort c p
-all_live c p i =
-    let s = selected (λ q. is_live c (owner c q)) 0 (length c.gates) p i in record { made = let low = s.below in omega arith; live = s.passes }
 
 none_in : (xs : List ℕ) → ((p : ℕ) → In xs p → ⊥) → (length xs == 0) ≡ true
 none_in [] h = refl

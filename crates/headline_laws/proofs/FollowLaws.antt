@@ -14,7 +14,7 @@ use Rattle.config_graph.specs.declared.node.Port.{Port}
 use Rattle.config_graph.specs.declared.node.Target.{Target}
 use Rattle.change_plan.specs.declared.plan_data.Move.{Move}
 use Rattle.change_plan.specs.declared.plan_data.Plan.{Plan}
-use Rattle.commit_laws.specs.Steps.{change_all}
+use Rattle.commit_laws.specs.Steps.{change_all, live_ports}
 use Rattle.commit_laws.specs.Work as work_
 use Rattle.plan_laws.specs.Commit.{commit_events, commit_steps, new_links, ports_to_close, reopened_ports, work}
 use Rattle.quiescence_laws.specs.Starts as starts
@@ -30,7 +30,7 @@ use Rattle.change_law.specs.Changes as law
 use Rattle.change_law.specs.Changes.{IsChange, commit_lines, drained_lines, opening_lines, pending_lines, seen_in_all}
 use Rattle.change_law.specs.Follows.{Follows, IsRight, IsStop, Part, lines_of, start_lines}
 use Rattle.change_law.specs.Members.{event_of, is_pending, lines_of_events}
-use Rattle.change_law.specs.Scene.{AreSeen, Seen, config_after, drained_line, live_ports, root_line}
+use Rattle.change_law.specs.Scene.{AreSeen, Seen, config_after, drained_line, root_line}
 use Rattle.change_law.specs.Statements.{Statement, start, change, run, finish, show}
 use Rattle.gate_records.specs.declared.entry.Entry.{Entry}
 use Rattle.change_board.specs.Steps.{Deed}
@@ -44,7 +44,7 @@ use Rattle.change_engine.specs.Draining.{pending_items, root_item}
 use Rattle.headline_laws.specs.Pieces.{AreCommitItems, IsDone, AreAbandonItems, AreStartItems, AreStopItems, IsTranscript, AreChangeItems, Piece, config_at, events_of, items_of, opening_items}
 use Rattle.headline_laws.proofs.ItemLemmas.{AreFair, fair_both, fair_config, fair_deeds, fair_passivation, fair_run, fair_scans, fair_sights}
 use Rattle.headline_laws.proofs.LookLemmas.{all_are_seen, looks_are, none_left_seen}
-use Rattle.headline_laws.proofs.PortLaws.{closing_rise, config_more, live_ports_are, still_to_close}
+use Rattle.headline_laws.proofs.PortLaws.{closing_rise, config_more, still_to_close}
 use Rattle.change_engine.proofs.ItemLaws.{lines_both, silent_lines, sight_lines, carried_lines}
 use Rattle.change_engine.proofs.PassivationLaws.{closed_events, no_events_drained, looks_of, passivation_lines, seen_root, root_lines, reopen_lines}
 
@@ -297,7 +297,7 @@ module _ (alone : Bool) where
 stop_right : (before t : List Item) → AreFair before → AreStopItems before t → IsStop (lines before) (lines t)
 stop_right before t fair x =
     let seen = seen_in_all (looks_of x.how) in
-    let closed_same : x.closed ≡ live_ports (config_after (lines before)) = x.closed_are ∙ live_ports_are (config_at before) ∙ ap live_ports (fair_config before fair) in
+    let closed_same : x.closed ≡ live_ports (config_after (lines before)) = x.closed_are ∙ ap live_ports (fair_config before fair) in
     record {
       seen = seen;
       are = ap lines x.are ∙ lines_both (said to.Stop ∷ passivation_items x.closed x.how) (map sight_item x.sights)

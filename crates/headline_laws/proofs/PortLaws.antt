@@ -8,8 +8,7 @@ use Rattle.std.proofs.lemmas.Bool.{and_from, and_parts, both_ways, or_cases}
 use Rattle.std.proofs.lemmas.List.Elements.{All-cons, All-nil, filter_agree, filter_map-append}
 use Rattle.std.proofs.lemmas.List.Kept.{IsStrictlyIncreasing-filter}
 use Rattle.std.proofs.lemmas.List.Sums.{fold-append}
-use Rattle.commit_laws.specs.Steps as steps
-use Rattle.commit_laws.specs.Steps.{change_all}
+use Rattle.commit_laws.specs.Steps.{change_all, live_ports}
 use Rattle.commit_laws.proofs.TurningLaws.{SameLinks}
 use Rattle.config_graph.specs.Graph.{Graph}
 use Rattle.change_plan.specs.declared.plan_data.Plan.{Plan}
@@ -19,20 +18,11 @@ use Rattle.quiesce_core.specs.declared.state.Slot.{Slot}
 use Rattle.quiesce_core.specs.Effect.{change_next}
 use Rattle.quiesce_core.specs.Rules.{is_live_port}
 use Rattle.quiesce_core.specs.State.{Configuration, empty, is_live, owner, slot}
-use Rattle.change_law.specs.Scene.{config_after, live_ports}
+use Rattle.change_law.specs.Scene.{config_after}
 use Rattle.change_law.specs.Members.{event_of}
 use Rattle.change_script.specs.declared.report.HistoryLine.{HistoryLine}
 use Rattle.change_law.proofs.TestLaws.{range_rises}
 use Rattle.change_engine.proofs.PassivationLaws.{same_here, closed_links}
-
--- two tests that agree on a range keep the same of it
-pub filter_range : (p q : ℕ → Bool) (a n : ℕ) → ((i : ℕ) → a ≤ i → i < a + n → p i ≡ q i) → filter p (range_with_len a n) ≡ filter q (range_with_len a n)
-filter_range p q a zero h = refl
-filter_range p q a (suc n) h =
-    let here : p a ≡ q a = h a (omega arith) (omega arith) in
-    let later : filter p (range_with_len (a + 1) n) ≡ filter q (range_with_len (a + 1) n) = filter_range p q (a + 1) n (λ i l u. h i (omega arith) (omega arith)) in
-    ap (λ b. cond b (a ∷ filter p (range_with_len (a + 1) n)) (filter p (range_with_len (a + 1) n))) here
-    ∙ ap (λ xs. cond (q a) (a ∷ xs) xs) later
 
 -- what each of a range that passes a test has
 all_in_range : (P : ℕ → Type 0) (test : ℕ → Bool) (a n : ℕ) → ((i : ℕ) → a ≤ i → i < a + n → test i ≡ true → P i) → All P (filter test (range_with_len a n))
@@ -45,11 +35,7 @@ all_in_range P test a (suc n) h = by (test a) refl (all_in_range P test (a + 1) 
 
 -- ---- the ports of a stop
 
--- the same list, whether it is asked that a port was made or taken from those made
-pub live_ports_are : (c : Configuration) → steps.live_ports c ≡ live_ports c
-live_ports_are c = filter_range (is_live_port c) (λ p. is_live c (owner c p)) 0 (length c.gates) (λ i l u. ap (λ b. b && is_live c (owner c i)) (lt-ltb i (length c.gates) (omega (arith, u))))
-
-pub live_ports_rise : (c : Configuration) → IsStrictlyIncreasing (steps.live_ports c)
+pub live_ports_rise : (c : Configuration) → IsStrictlyIncreasing (live_ports c)
 live_ports_rise c = IsStrictlyIncreasing-filter (is_live_port c) (range_with_len 0 (length c.gates)) (range_rises 0 (length c.gates))
 
 -- ---- the ports of a change

@@ -23,7 +23,7 @@ use Rattle.change_plan.specs.Refusals.{CanPlan}
 use Rattle.change_plan.specs.declared.plan_data.Move.{Move}
 use Rattle.change_plan.specs.declared.plan_data.Plan.{Plan}
 use Rattle.change_plan.proofs.SelectsLaws.{Selects-one}
-use Rattle.commit_laws.specs.Steps.{MayStepAll, change_all}
+use Rattle.commit_laws.specs.Steps.{MayStepAll, change_all, live_ports}
 use Rattle.commit_laws.proofs.MeanwhileLaws.{front_is_of_change}
 use Rattle.plan_laws.specs.Commit.{commit_events, commit_steps, is_frozen_or_new, ports_to_close, reopened_ports}
 use Rattle.plan_laws.specs.Committing.{MayCommit, made_in}
@@ -46,7 +46,7 @@ use Rattle.change_law.specs.Changes.{IsChange, IsCommitted, IsGivenUp, drained_l
 use Rattle.change_law.specs.Follows.{Follows, IsRight, Part, lines_of, start_lines}
 use Rattle.change_law.specs.Lawful.{IsGraphDescribed, IsOfItsKind, Merge, described, is_head}
 use Rattle.change_law.specs.Members.{Member, of_history, events, is_commit, is_pending, is_root, line_of, lines, lines_of_events, without_roots}
-use Rattle.change_law.specs.Scene.{Seen, config_after, drained_line, live_ports, root_line}
+use Rattle.change_law.specs.Scene.{Seen, config_after, drained_line, root_line}
 use Rattle.change_law.specs.Scripts.{more_made}
 use Rattle.change_law.specs.Statements.{Statement, start, change, run, finish, show, graph_of}
 use Rattle.change_law.proofs.MemberLaws.{all_parts, changes_are_lines, config_of_lines, events_without_roots, lines_parts}

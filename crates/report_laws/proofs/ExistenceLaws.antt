@@ -34,7 +34,7 @@ use Rattle.change_law.specs.Changes.{drained_lines}
 use Rattle.change_law.specs.Follows.{skip_lines, start_lines}
 use Rattle.change_law.specs.Lawful.{IsOfItsKind}
 use Rattle.change_law.specs.Members.{Member, is_pending}
-use Rattle.change_law.specs.Scene.{live_ports}
+use Rattle.commit_laws.specs.Steps.{live_ports}
 use Rattle.change_law.specs.Serial.{IsPlayed, Played, Plays, Serial, after_changes, finish_ends, is_none_left, lines_played, looks_after, report_of, run_ends, wait_ends, world_after}
 use Rattle.change_law.specs.Statements.{Statement, start, change, run, finish, show}
 use Rattle.report_laws.specs.Courses.{Course}

@@ -12,7 +12,7 @@ use Rattle.change_plan.specs.Refusals.{CanPlan}
 use Rattle.change_plan.specs.declared.plan_data.Move.{Move}
 use Rattle.change_plan.specs.declared.plan_data.Plan.{Plan}
 use Rattle.commit_laws.specs.Lists.{In}
-use Rattle.commit_laws.specs.Steps.{MayStepAll}
+use Rattle.commit_laws.specs.Steps.{MayStepAll, live_ports}
 use Rattle.commit_laws.proofs.MeanwhileLaws.{front_is_of_change}
 use Rattle.commit_laws.proofs.TurningLaws.{IsLivePort, SameLinks, same_graph}
 use Rattle.plan_laws.specs.Commit.{commit_events, is_frozen_or_new, is_one_of, ports_to_close}
@@ -22,6 +22,7 @@ use Rattle.quiesce_core.specs.declared.event.Event.TheVariants as event
 use Rattle.quiesce_core.specs.Doers.{is_of_change}
 use Rattle.quiesce_core.specs.Live.{AreLinked, IsGraphOf, IsLiveNode}
 use Rattle.quiesce_core.specs.Runs.{IsRun, state_after}
+use Rattle.quiesce_core.specs.Rules.{is_live_port}
 use Rattle.quiesce_core.specs.State.{Configuration, State, empty, owner}
 use Rattle.quiescence_laws.specs.Drained.{is_drained}
 use Rattle.quiescence_laws.specs.Starts.{start_of}
@@ -34,7 +35,7 @@ use Rattle.change_law.specs.Changes.{AreLooks, IsChange, IsCommitted, IsGivenUp,
 use Rattle.change_law.specs.Follows.{IsRight, IsStop, start_lines}
 use Rattle.change_law.specs.Lawful.{EndedSince}
 use Rattle.change_law.specs.Members.{Member, by_node, of_history, events, is_pending, lines_of_events}
-use Rattle.change_law.specs.Scene.{AreSeen, config_after, live_ports, root_line}
+use Rattle.change_law.specs.Scene.{AreSeen, config_after, root_line}
 use Rattle.change_law.specs.Serial.{ChangesTo, FinishesAt, Looks, Plays, RunsTo, ShowsGraph, StopsAt, after_changes, finish_ends, is_none_left, looks_after, seen_at, wait_ends}
 use Rattle.change_law.specs.Statements.{Statement, start, change, run, finish, show}
 use Rattle.change_law.proofs.MemberLaws.{events_parts}
@@ -399,7 +400,7 @@ stops_by h ls w v m c s =
     let opened = first ++ map to.Close ports in
     let base = first_members ++ map of_history (map to.Close ports) in
     let closed : Course opened s.waiting base = subst (λ u. Course opened u base) (sym s.waits) (shut first w first_members head ports live) in
-    let rise = where_rise (λ q. Rattle.quiesce_core.specs.State.is_live w.machine.config (owner w.machine.config q)) w.machine.config in
+    let rise = where_rise (is_live_port w.machine.config) w.machine.config in
     let waited = looked opened s.waiting base ports s.rounds closed in
     let l = looks_after s.waiting ports s.rounds in
     let none : l.left ≡ [] = no_length l.left (eqb-true (length l.left) 0 s.number.holds) in

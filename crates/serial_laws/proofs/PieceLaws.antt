@@ -9,7 +9,8 @@ use Rattle.change_engine.specs.Passivating.{left_after, passivation_items, root_
 use Rattle.change_engine.specs.declared.passivating.LeftRoot.{LeftRoot}
 use Rattle.change_law.specs.Changes.{commit_lines, drained_lines, opening_lines, pending_lines}
 use Rattle.change_law.specs.Members.{lines_of_events}
-use Rattle.change_law.specs.Scene.{live_ports, root_line}
+use Rattle.commit_laws.specs.Steps.{live_ports}
+use Rattle.change_law.specs.Scene.{root_line}
 use Rattle.change_law.specs.Serial.{ChangesTo, Looks, after_changes, is_none_left, looks_after, seen_at, wait_ends}
 use Rattle.change_law.specs.Statements.{change, show, start}
 use Rattle.change_plan.specs.declared.plan_data.Move.{Move}
@@ -29,7 +30,6 @@ use Rattle.serial_laws.proofs.WaitLaws.{Passed, left_ports, passes, some_there}
 use Rattle.serial_laws.proofs.WorldLaws.{AreSo, behind_both, config_behind, front_of_rounds, play_both, play_deeds, play_items, play_sights, reached_behind, so_behind, so_items}
 use Rattle.change_engine.proofs.ItemLaws.{lines_both, sight_lines, carried_lines}
 use Rattle.change_engine.proofs.PassivationLaws.{looks_of, passivation_lines, seen_root, root_lines, reopen_lines}
-use Rattle.headline_laws.proofs.PortLaws.{live_ports_are}
 
 -- ---- starts and shows
 
@@ -234,7 +234,7 @@ module _ (before t : List Item) (rounds : AreByRounds (before ++ t)) (x : AreSto
   drained = passes from x.closed x.within x.how (reached_behind before (front_of_rounds before t rounds)) stop_parts.0 x.is_passivation
 
   all_live : x.closed ≡ live_ports from.machine.config
-  all_live = x.closed_are ∙ live_ports_are (config_at before) ∙ ap live_ports (config_behind before (front_of_rounds before t rounds))
+  all_live = x.closed_are ∙ ap live_ports (config_behind before (front_of_rounds before t rounds))
 
   none_left : is_none_left shut x.closed drained.number ≡ true
   none_left = ap (λ (ps : List ℕ). length ps == 0)
