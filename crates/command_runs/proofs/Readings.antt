@@ -7,7 +7,7 @@ use Rattle.darwin_lexer.specs.Tokens.{IsTokens}
 use Rattle.darwin_parser.specs.Grammar.{IsUnit}
 use Rattle.darwin_parser.specs.Tree.{Tree}
 use Rattle.config_graph.specs.Graph.{Graph}
-use Rattle.darwin_types.specs.Faults.{Fault}
+use Rattle.darwin_types.specs.Faults.{HasFault}
 use Rattle.elaborator.specs.Faults.{Faults}
 use Rattle.command_runs.specs.Descriptions.{IsTree, IsChecked, HasGraph, IsTextRefusal, by_lexer, by_grammar, by_nesting, by_names, IsDescriptionRefusal, by_text, by_elaboration}
 
@@ -30,7 +30,7 @@ not_refused text tree _ checked (by_grammar tokens n parted unexpected) =
 not_refused text tree _ checked (by_nesting tokens n parted nested) =
     parsing.not_too_nested text tokens tree n (spelled_by text tree tokens checked.is_tree parted) nested
 not_refused text tree _ checked (by_names other e is fault) =
-    checked.sound e (subst (λ t. Fault t e) (one_tree text other tree is checked.is_tree) fault)
+    checked.sound e (subst (λ t. HasFault t e) (one_tree text other tree is checked.is_tree) fault)
 
 pub never_both :
     (text name : List ℕ) (args : List ℤ) (graph : Graph) (words : List (List ℕ))

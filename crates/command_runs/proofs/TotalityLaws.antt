@@ -16,7 +16,7 @@ use Rattle.darwin_parser.proofs.UnitLaws as parsing
 use Rattle.darwin_parser.specs.Grammar.{IsUnit}
 use Rattle.darwin_parser.specs.Refusals.{IsUnexpected, IsTooNested}
 use Rattle.darwin_parser.specs.Tree.{Name, Tree}
-use Rattle.darwin_types.specs.Faults.{Fault as NameFault, NoFault}
+use Rattle.darwin_types.specs.Faults.{HasFault, NoFault}
 use Rattle.darwin_types.specs.declared.error.TypeError.{TypeError}
 use Rattle.elaborator.specs.Elaboration.{HasNoFault, ElaboratesTo}
 use Rattle.elaborator.specs.Faults.{Faults}
@@ -164,13 +164,13 @@ settled_nodes s none = those (Settled s) (length s.config.slots) (λ t.
 -- ---- descriptions
 
 -- Laws of the crates below, as they stand there.
-module _ (names : (t : Tree) → NoFault t ⊎ ((e : TypeError) × NameFault t e)) (graphs : (tree : Tree) (name : Name) (args : List ℤ) → NoFault tree → ((f : ElabError) × Faults tree name args f) ⊎ ((g : Graph) × HasNoFault tree name args × ElaboratesTo tree name args g × Sound g)) where
+module _ (names : (t : Tree) → NoFault t ⊎ ((e : TypeError) × HasFault t e)) (graphs : (tree : Tree) (name : Name) (args : List ℤ) → NoFault tree → ((f : ElabError) × Faults tree name args f) ⊎ ((g : Graph) × HasNoFault tree name args × ElaboratesTo tree name args g × Sound g)) where
   pub text_or_refusal : (text : List ℕ) → ((tree : Tree) × IsChecked text tree) ⊎ ((words : List (List ℕ)) × IsTextRefusal text words)
   text_or_refusal text = by (lexing.always_one text)
     where
       named :
           (tokens : List Token) → IsTokens text tokens → (tree : Tree) → IsUnit text tokens tree
-          → NoFault tree ⊎ ((e : TypeError) × NameFault tree e)
+          → NoFault tree ⊎ ((e : TypeError) × HasFault tree e)
           → ((tree : Tree) × IsChecked text tree) ⊎ ((words : List (List ℕ)) × IsTextRefusal text words)
       named tokens parted tree unit (inl sound) =
           inl (tree, record { is_tree = record { tokens = tokens; parted = parted; spelled = unit }; sound = sound })

@@ -9,7 +9,7 @@ use Rattle.darwin_lexer.specs.Tokens.{IsTokens, FirstFault, refusal}
 use Rattle.darwin_parser.specs.Grammar.{IsUnit}
 use Rattle.darwin_parser.specs.Refusals.{IsUnexpected, IsTooNested}
 use Rattle.darwin_parser.specs.Tree.{Name, Tree}
-use Rattle.darwin_types.specs.Faults.{Fault as NameFault, NoFault}
+use Rattle.darwin_types.specs.Faults.{HasFault, NoFault}
 use Rattle.darwin_types.specs.declared.error.TypeError.{TypeError}
 use Rattle.config_graph.specs.Graph.{Graph}
 use Rattle.elaborator.specs.Elaboration.{HasNoFault, ElaboratesTo}
@@ -42,7 +42,7 @@ pub data IsTextRefusal (text : List ℕ) : List (List ℕ) → Type 0 where
   by_nesting :
       (tokens : List Token) (n : ℕ) → IsTokens text tokens → IsTooNested text tokens n
       → IsTextRefusal text (too_nested_words (place_at text tokens n))
-  by_names : (tree : Tree) (e : TypeError) → IsTree text tree → NameFault tree e → IsTextRefusal text (check_words e)
+  by_names : (tree : Tree) (e : TypeError) → IsTree text tree → HasFault tree e → IsTextRefusal text (check_words e)
 
 -- The graph of the component of a name with these arguments: no fault holds, and it is the one to which the
 -- description elaborates.

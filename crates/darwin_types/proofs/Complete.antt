@@ -12,9 +12,9 @@ use Rattle.darwin_types.specs.declared.error.TypeError.TheVariants.{TwoComponent
 use Rattle.darwin_types.specs.Scope.{has, component_named, entries_of, port_named, array_named, single_of, singles_of, instances_of, instance_component, Instantiation, made_by, lacks_port}
 use Rattle.darwin_types.specs.NameUses.{NameUse, value, variable, entry, binding_end, names_of, name_uses, port_uses, array_uses, body_uses}
 use Rattle.darwin_types.specs.Primitive.{is_like_kind}
-use Rattle.darwin_types.specs.Faults.{carried, FaultIn, Fault}
+use Rattle.darwin_types.specs.Faults.{carried, FaultIn, HasFault}
 use Rattle.darwin_types.specs.Faults.FaultIn.{two_params, two_ports, two_arrays, array_and_single, two_singles, two_values, unknown_value, unknown_array, unknown_instance, unknown_inner_port, unknown_outer_port, unknown_component, arg_count, unknown_kind, kind_ports}
-use Rattle.darwin_types.specs.Faults.Fault.{two_components, within}
+use Rattle.darwin_types.specs.Faults.HasFault.{two_components, within}
 use Rattle.darwin_types.specs.Check.{unless, clash_faults, call_faults, element_faults, entry_faults, inner_end_faults, outer_end_faults, is_first_like, use_faults, uses_faults, array_faults, arrays_faults, repeat_faults, port_faults, param_faults, array_name_faults, primitive_faults, kind_faults, declared_faults, component_faults, unit_faults}
 use Rattle.darwin_types.proofs.Repeats.{repeated_there}
 use Rattle.darwin_types.proofs.Judged.{repeat_faults-there}
@@ -177,7 +177,7 @@ module _ (t : Tree) (c : Component) where
       inl (in_kind fault (subst (λ b. Contains (cond b (primitive_faults c) []) fault) (sym primitive) (subst (λ o. Contains (option_map_or (λ k. unless (is_like_kind k c) (KindPorts c.name)) o (UnknownKind c.name ∷ [])) fault) (sym named) (to_unless (is_like_kind k c) fault h))))
 
 -- each fault of the description is one that a check may find
-pub unit_complete : (t : Tree) (e : TypeError) → Fault t e → Contains (unit_faults t) e
+pub unit_complete : (t : Tree) (e : TypeError) → HasFault t e → Contains (unit_faults t) e
 unit_complete t _ (two_components x h) =
     let names = map (λ c. c.name) t in
     let repeats = repeat_faults TwoComponents names in

@@ -15,9 +15,9 @@ use Rattle.darwin_types.specs.declared.error.TypeError.TheVariants.{TwoComponent
 use Rattle.darwin_types.specs.Scope.{has, component_named, entries_of, is_primitive, port_named, array_named, single_of, singles_of, instances_of, instance_component, Instantiation, made_by, lacks_port}
 use Rattle.darwin_types.specs.NameUses.{NameUse, value, variable, entry, binding_end, names_of, name_uses, port_uses, array_uses, body_uses}
 use Rattle.darwin_types.specs.Primitive.{is_like_kind}
-use Rattle.darwin_types.specs.Faults.{is_repeated, carried, FaultIn, Fault}
+use Rattle.darwin_types.specs.Faults.{is_repeated, carried, FaultIn, HasFault}
 use Rattle.darwin_types.specs.Faults.FaultIn.{two_params, two_ports, two_arrays, array_and_single, two_singles, two_values, unknown_value, unknown_array, unknown_instance, unknown_inner_port, unknown_outer_port, unknown_component, arg_count, unknown_kind, kind_ports}
-use Rattle.darwin_types.specs.Faults.Fault.{two_components, within}
+use Rattle.darwin_types.specs.Faults.HasFault.{two_components, within}
 use Rattle.darwin_types.specs.Check.{unless, value_faults, variable_faults, clash_faults, call_faults, entry_faults, inner_end_faults, outer_end_faults, is_first_like, use_faults, uses_faults, array_faults, arrays_faults, repeat_faults, port_faults, param_faults, array_name_faults, primitive_faults, kind_faults, declared_faults, component_faults, directory_faults, unit_faults}
 use Rattle.darwin_types.proofs.EntryUses.{entry_of_use}
 use Rattle.darwin_types.proofs.Found.{from_unless}
@@ -208,12 +208,12 @@ module _ (t : Tree) (c : Component) where
       ]
 
 -- each fault that a check may find stands in the description
-pub unit_sound : (t : Tree) (e : TypeError) → Contains (unit_faults t) e → Fault t e
+pub unit_sound : (t : Tree) (e : TypeError) → Contains (unit_faults t) e → HasFault t e
 unit_sound t e h =
     elim (Contains-append_cases (directory_faults t) (flat_map (component_faults t) t) e h) [
       | inl a ↦
           elim (Contains-append_cases (repeat_faults TwoComponents (map (λ c. c.name) t)) (flat_map port_faults t) e a) [
-            | inl b ↦ let w = repeated_from TwoComponents (map (λ c. c.name) t) e b in subst (Fault t) (sym w.2) (two_components w.0 w.1)
+            | inl b ↦ let w = repeated_from TwoComponents (map (λ c. c.name) t) e b in subst (HasFault t) (sym w.2) (two_components w.0 w.1)
             | inr b ↦
                 let w = Contains-from_flat_map port_faults t e b in
                 let r = repeated_from (TwoNames (w.0).name) (map (λ p. p.name) (w.0).ports) e w.2 in

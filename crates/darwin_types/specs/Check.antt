@@ -40,12 +40,14 @@ clash_faults c name component =
 -- of an instance with this name, component and number of arguments
 abbrev pub call_faults : Tree → Component → Name → Name → ℕ → List TypeError
 call_faults t c name component given =
-    option_map_or (λ wanted. unless (given == wanted) (ArgCount c.name name (carried wanted) (carried given))) (params_of_named t component) (UnknownComponent c.name component ∷ [])
+    option_map_or (λ wanted. unless (given == wanted) (ArgCount c.name name (carried wanted) (carried given)))
+    (params_of_named t component) (UnknownComponent c.name component ∷ [])
 
 -- of an element of an array, with arguments of its own or without
 abbrev pub element_faults : Tree → Component → Name → Option (List Expr) → List TypeError
 element_faults t c array args =
-    option_map_or (λ a. call_faults t c array a.component (length (unwrap_or (option_or args a.args) []))) (array_named c array) (UnknownName c.name array ∷ [])
+    option_map_or (λ a. call_faults t c array a.component (length (unwrap_or (option_or args a.args) [])))
+    (array_named c array) (UnknownName c.name array ∷ [])
 
 abbrev pub entry_faults : Tree → Component → InstEntry → List TypeError
 entry_faults t c (single name component args at) = clash_faults c name component ++ call_faults t c name component (length args)
@@ -53,7 +55,8 @@ entry_faults t c (element array index args at) = element_faults t c array args
 
 abbrev pub inner_end_faults : Tree → Component → Name → Name → List TypeError
 inner_end_faults t c inst port =
-    option_map_or (λ k. unless (not (lacks_port t k port)) (UnknownName c.name port)) (instance_component c inst) (UnknownName c.name inst ∷ [])
+    option_map_or (λ k. unless (not (lacks_port t k port)) (UnknownName c.name port)) (instance_component c inst)
+    (UnknownName c.name inst ∷ [])
 
 abbrev pub outer_end_faults : Component → Name → List TypeError
 outer_end_faults c port = unless (is_some (port_named c port)) (UnknownName c.name port)
@@ -140,7 +143,8 @@ kind_faults c = if is_primitive c then primitive_faults c else []
 -- of the names that a component uses, of its arrays, and of it as a kind
 abbrev pub declared_faults : Tree → Component → List TypeError
 declared_faults t c =
-    uses_faults t c (flat_map (port_uses c.params) c.ports) ++ (arrays_faults t c c.params c.arrays ++ (uses_faults t c (body_uses c.params c.body) ++ kind_faults c))
+    uses_faults t c (flat_map (port_uses c.params) c.ports)
+    ++ (arrays_faults t c c.params c.arrays ++ (uses_faults t c (body_uses c.params c.body) ++ kind_faults c))
 
 -- of a component but for its ports' names
 abbrev pub component_faults : Tree → Component → List TypeError

@@ -46,7 +46,8 @@ impl Checked {
     /// The place of the port with the name in the component at this place.
     pub fn port(&self, place: usize, name: &[u8]) -> Option<usize>
         requires { place < length (description self.now) }
-        ensures { option_map (λ c. position (λ p. bytes_eq name.now p.name) c.ports) (slice_get (description self.now) place)
+        ensures { option_map (λ c. position (λ p. bytes_eq name.now p.name) c.ports)
+            (slice_get (description self.now) place)
             ≡ Some result }
     {
         self.ports[place].position(name)

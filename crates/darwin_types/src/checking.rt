@@ -5,7 +5,7 @@ ghost use Rattle.std.specs.List.{flat_map};
 ghost use Rattle.base.specs.Answers.{Refuses};
 ghost use Rattle.darwin_parser.specs.Tree.{component_of, tree_of};
 ghost use Rattle.darwin_types.specs.declared.error.TypeError.TheVariants.{NoMemory};
-ghost use Rattle.darwin_types.specs.Faults.{Fault, NoFault};
+ghost use Rattle.darwin_types.specs.Faults.{HasFault, NoFault};
 ghost use Rattle.darwin_types.specs.Checked.{description, Takes};
 ghost use Rattle.darwin_types.specs.Check.{Judges, components_of, unit_faults, component_faults, param_faults, array_name_faults, names_of_arrays, names_of_components, names_of_ports, names_in_component};
 ghost use Rattle.darwin_types.specs.Scope.{is_primitive};
@@ -32,7 +32,7 @@ pub fn check(alloc: Global, unit: Unit) -> Result<Checked, TypeError>
     ensures no_fault { IfOk result (λ c. NoFault (tree_of unit)) }
     ensures every_unit { NoFault (tree_of unit) → Takes result (tree_of unit) }
     // A fault that is named stands.
-    ensures fault { IfErr result (Refuses NoMemory (Fault (tree_of unit))) }
+    ensures fault { IfErr result (Refuses NoMemory (HasFault (tree_of unit))) }
 {
     let index = check_components(alloc, unit.components.as_slice())?;
     let ComponentIndex {
@@ -75,9 +75,11 @@ fn check_components(alloc: Global, components: &[Component]) -> Result<Component
 /// Checks the components one by one, and says of each whether it is primitive.
 fn check_each(alloc: Global, directory: &Directory) -> Result<Vec<bool>, TypeError>
     ensures judged { Judges
-        (flat_map (component_faults (components_of directory.now.components.now)) (components_of directory.now.components.now))
+        (flat_map (component_faults (components_of directory.now.components.now))
+        (components_of directory.now.components.now))
         result }
-    ensures primitive { IfOk result (λ noted. noted.items ≡ map is_primitive (components_of directory.now.components.now)) }
+    ensures primitive { IfOk result
+        (λ noted. noted.items ≡ map is_primitive (components_of directory.now.components.now)) }
 {
     let mut primitive = Vec::new(alloc);
     for index in 0..directory.components.len() {

@@ -92,7 +92,8 @@ impl<'d, 'a> Declared<'d, 'a> {
     }
 
     fn check_values(&self, scope: &Names, exprs: &[Expr]) -> Result<(), TypeError>
-        ensures { Judges (uses_faults (tree_in self.now) (component_in self.now) (values scope.now (map expr_of exprs.now))) result }
+        ensures { Judges (uses_faults (tree_in self.now) (component_in self.now)
+            (values scope.now (map expr_of exprs.now))) result }
     {
         for value in exprs {
             self.check_value(scope, value)?;
@@ -101,7 +102,8 @@ impl<'d, 'a> Declared<'d, 'a> {
     }
 
     fn check_optional_value(&self, scope: &Names, value: &Option<Expr>) -> Result<(), TypeError>
-        ensures { Judges (uses_faults (tree_in self.now) (component_in self.now) (values scope.now (option_to_list (option_map expr_of value.now)))) result }
+        ensures { Judges (uses_faults (tree_in self.now) (component_in self.now)
+            (values scope.now (option_to_list (option_map expr_of value.now)))) result }
     {
         match value {
             None => Ok(()),
@@ -114,7 +116,8 @@ impl<'d, 'a> Declared<'d, 'a> {
         scope: &Names,
         args: &Option<Vec<Expr>>,
     ) -> Result<(), TypeError>
-        ensures { Judges (uses_faults (tree_in self.now) (component_in self.now) (values scope.now (args_of (option_map (λ l. map expr_of l.items) args.now)))) result }
+        ensures { Judges (uses_faults (tree_in self.now) (component_in self.now)
+            (values scope.now (args_of (option_map (λ l. map expr_of l.items) args.now)))) result }
     {
         match args {
             None => Ok(()),
@@ -167,7 +170,8 @@ impl<'d, 'a> Declared<'d, 'a> {
     }
 
     fn check_entry(&self, scope: &Names, entry: &InstEntry) -> Result<(), TypeError>
-        ensures { Judges (uses_faults (tree_in self.now) (component_in self.now) (entry_uses scope.now (entry_of entry.now))) result }
+        ensures { Judges (uses_faults (tree_in self.now) (component_in self.now)
+            (entry_uses scope.now (entry_of entry.now))) result }
     {
         match entry {
             InstEntry::Single {
@@ -194,7 +198,8 @@ impl<'d, 'a> Declared<'d, 'a> {
 
     /// A single instance with this number of arguments.
     fn check_single(&self, name: &Text, component: &Text, given: usize) -> Result<(), TypeError>
-        ensures { Judges (clash_faults (component_in self.now) name.now component.now ++ call_faults (tree_in self.now) (component_in self.now) name.now component.now given) result }
+        ensures { Judges (clash_faults (component_in self.now) name.now component.now ++ call_faults
+            (tree_in self.now) (component_in self.now) name.now component.now given) result }
     {
         self.check_clash(name, component)?;
         self.check_call(name, component, given)
@@ -203,7 +208,8 @@ impl<'d, 'a> Declared<'d, 'a> {
     /// An element is of an array; its own arguments take the place of the array's.
     fn check_element(&self, array: &Text, args: &Option<Vec<Expr>>) -> Result<(), TypeError>
         ensures { Judges
-            (element_faults (tree_in self.now) (component_in self.now) array.now (option_map (λ l. map expr_of l.items) args.now))
+            (element_faults (tree_in self.now) (component_in self.now) array.now
+            (option_map (λ l. map expr_of l.items) args.now))
             result }
     {
         match self.array(array) {
@@ -224,14 +230,16 @@ impl<'d, 'a> Declared<'d, 'a> {
     }
 
     fn check_binding(&self, scope: &Names, entry: &BindEntry) -> Result<(), TypeError>
-        ensures { Judges (uses_faults (tree_in self.now) (component_in self.now) (end_uses scope.now (binding_of entry.now).left ++ end_uses scope.now (binding_of entry.now).right)) result }
+        ensures { Judges (uses_faults (tree_in self.now) (component_in self.now) (end_uses scope.now
+            (binding_of entry.now).left ++ end_uses scope.now (binding_of entry.now).right)) result }
     {
         self.check_end(scope, &entry.left)?;
         self.check_end(scope, &entry.right)
     }
 
     fn check_end(&self, scope: &Names, end: &PortRef) -> Result<(), TypeError>
-        ensures { Judges (uses_faults (tree_in self.now) (component_in self.now) (end_uses scope.now (end_of end.now))) result }
+        ensures { Judges
+            (uses_faults (tree_in self.now) (component_in self.now) (end_uses scope.now (end_of end.now))) result }
     {
         self.check_end_port(end)?;
         self.check_optional_value(scope, &end.inst_index)?;
@@ -273,7 +281,8 @@ impl<'d, 'a> Declared<'d, 'a> {
 
     /// The sizes of ports, which see parameters alone.
     fn check_ports(&self, params: &Names, ports: &[PortDecl]) -> Result<(), TypeError>
-        ensures { Judges (uses_faults (tree_in self.now) (component_in self.now) (flat_map (port_uses params.now) (map port_of ports.now))) result }
+        ensures { Judges (uses_faults (tree_in self.now) (component_in self.now)
+            (flat_map (port_uses params.now) (map port_of ports.now))) result }
     {
         for port in ports {
             self.check_optional_value(params, &port.size)?;
@@ -283,7 +292,8 @@ impl<'d, 'a> Declared<'d, 'a> {
 
     /// The components of arrays, and their sizes and arguments, which see parameters alone.
     fn check_arrays(&self, params: &Names, arrays: &[ArrayDecl]) -> Result<(), TypeError>
-        ensures { Judges (arrays_faults (tree_in self.now) (component_in self.now) params.now (map array_of arrays.now)) result }
+        ensures { Judges
+            (arrays_faults (tree_in self.now) (component_in self.now) params.now (map array_of arrays.now)) result }
     {
         for array in arrays {
             self.check_array(params, array)?;
@@ -293,7 +303,8 @@ impl<'d, 'a> Declared<'d, 'a> {
 
     /// An array's component, size and arguments.
     fn check_array(&self, params: &Names, array: &ArrayDecl) -> Result<(), TypeError>
-        ensures { Judges (array_faults (tree_in self.now) (component_in self.now) params.now (array_of array.now)) result }
+        ensures { Judges (array_faults (tree_in self.now) (component_in self.now) params.now (array_of array.now))
+            result }
     {
         self.check_array_component(array)?;
         self.check_value(params, &array.size)?;
@@ -302,7 +313,8 @@ impl<'d, 'a> Declared<'d, 'a> {
 
     fn check_array_component(&self, array: &ArrayDecl) -> Result<(), TypeError>
         ensures { Judges
-            (unless (is_some (params_of_named (tree_in self.now) array.now.component)) (UnknownComponent (component_in self.now).name array.now.component))
+            (unless (is_some (params_of_named (tree_in self.now) array.now.component))
+            (UnknownComponent (component_in self.now).name array.now.component))
             result }
     {
         if self
@@ -319,7 +331,8 @@ impl<'d, 'a> Declared<'d, 'a> {
     /// The statements of a body, where these names are round it.
     #[cycle(statements)]
     fn check_body(&self, scope: &mut Names, body: &[Stmt]) -> Result<(), TypeError>
-        ensures judged { Judges (uses_faults (tree_in self.now) (component_in self.now) (body_uses scope.old (stmts_of body.now))) result }
+        ensures judged { Judges (uses_faults (tree_in self.now) (component_in self.now)
+            (body_uses scope.old (stmts_of body.now))) result }
         ensures scope_kept { OnOk result (scope.new ≡ scope.old) }
     {
         for stmt in body {
@@ -330,7 +343,8 @@ impl<'d, 'a> Declared<'d, 'a> {
 
     #[cycle(statements)]
     fn check_stmt(&self, scope: &mut Names, stmt: &Stmt) -> Result<(), TypeError>
-        ensures judged { Judges (uses_faults (tree_in self.now) (component_in self.now) (stmt_uses scope.old (stmt_of stmt.now))) result }
+        ensures judged { Judges
+            (uses_faults (tree_in self.now) (component_in self.now) (stmt_uses scope.old (stmt_of stmt.now))) result }
         ensures scope_kept { OnOk result (scope.new ≡ scope.old) }
     {
         match stmt {
@@ -364,7 +378,8 @@ impl<'d, 'a> Declared<'d, 'a> {
         body: &[Stmt],
     ) -> Result<(), TypeError>
         ensures judged { Judges
-            (variable_faults (component_in self.now) scope.old variable.now ++ uses_faults (tree_in self.now) (component_in self.now) (body_uses (scope.old ++ variable.now ∷ []) (stmts_of body.now)))
+            (variable_faults (component_in self.now) scope.old variable.now ++ uses_faults (tree_in self.now)
+            (component_in self.now) (body_uses (scope.old ++ variable.now ∷ []) (stmts_of body.now)))
             result }
         ensures scope_kept { OnOk result (scope.new ≡ scope.old) }
     {

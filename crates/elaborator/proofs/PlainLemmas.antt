@@ -8,7 +8,7 @@ use Rattle.config_graph.specs.declared.kind.Kind.{Kind}
 use Rattle.config_graph.specs.Kinds.{kind_named}
 use Rattle.darwin_parser.specs.declared.tree.Side.TheVariants.{Provide, Require}
 use Rattle.darwin_parser.specs.Tree.{Name, Tree, Component, Expr, PortDecl}
-use Rattle.darwin_types.specs.Faults.{NoFault, Fault as types}
+use Rattle.darwin_types.specs.Faults.{NoFault, HasFault as types}
 use Rattle.darwin_types.specs.Faults.FaultIn.{unknown_kind, kind_ports}
 use Rattle.darwin_types.specs.Primitive.{ports_of_kind, is_port_of, has_only_ports_of, has_ports_on, has_ports_of, is_bare, is_like_kind}
 use Rattle.darwin_types.specs.Scope.{component_named, is_primitive, has}

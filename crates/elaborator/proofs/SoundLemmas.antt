@@ -16,7 +16,7 @@ use Rattle.config_graph.specs.Sound.{HasItsArgument, Sound}
 use Rattle.darwin_parser.specs.Tree.{Name, Tree, Component}
 use Rattle.darwin_types.specs.Scope.{component_named, is_primitive}
 use Rattle.darwin_types.specs.Primitive.{params_of_kind, is_end, has_ports_of, is_bare, is_like_kind}
-use Rattle.darwin_types.specs.Faults.{NoFault, Fault as types}
+use Rattle.darwin_types.specs.Faults.{NoFault, HasFault as types}
 use Rattle.darwin_types.specs.Faults.FaultIn.{arg_count, kind_ports}
 use Rattle.darwin_walk.specs.Value.{Env, parameters}
 use Rattle.darwin_walk.specs.Instance.{Child, children, instance_faults}

@@ -14,7 +14,7 @@ use Rattle.darwin_types.specs.Scope.{has, component_named, entries_of, is_primit
 use Rattle.darwin_types.specs.Primitive.{is_like_kind}
 use Rattle.darwin_types.specs.NameUses.{NameUse, value, variable, binding_end, names_of, name_uses}
 use Rattle.darwin_types.specs.declared.error.TypeError.{TypeError}
-use Rattle.darwin_types.specs.Faults.{is_repeated, FaultIn, Fault, NoFault}
+use Rattle.darwin_types.specs.Faults.{is_repeated, FaultIn, HasFault, NoFault}
 use Rattle.darwin_types.specs.Faults as fault
 use Rattle.fault_rows.proofs.ListLaws.{all_have, one_left, one_of_two}
 use Rattle.fault_rows.specs.Checks.{Case, case_in, case_of}
@@ -166,7 +166,7 @@ none_in t c _ (fault.kind_ports k primitive named unlike) clear =
     either_way (is_primitive c) (option_map_or (λ k. is_like_kind k c) (kind_named c.name) true) primitive
     (ap (λ o. option_map_or (λ k. is_like_kind k c) o true) named ∙ unlike) clear
 
-pub none_of : (t : Tree) (e : TypeError) (f : Fault t e) → is_clear t (case_of f) ≡ true → ⊥
+pub none_of : (t : Tree) (e : TypeError) (f : HasFault t e) → is_clear t (case_of f) ≡ true → ⊥
 none_of t _ (fault.two_components x two) clear =
     repeated (names t) x (and_parts (clear_names t case.two_components) (list_all (clear_in t case.two_components) t) clear).0 two
 none_of t e (fault.within c _ there f) clear =
@@ -220,7 +220,7 @@ at_place case.kind_ports = refl
 abbrev pub leaves_alone : Tree → Case → Bool
 leaves_alone t c = list_all (λ d. place d == place c || is_clear t d) cases
 
-pub alone : (t : Tree) (c : Case) → leaves_alone t c ≡ true → (e : TypeError) (f : Fault t e) → case_of f ≡ c
+pub alone : (t : Tree) (c : Case) → leaves_alone t c ≡ true → (e : TypeError) (f : HasFault t e) → case_of f ≡ c
 alone t c left e f = one_left cases place at_place (is_clear t) c left (case_of f) (none_of t e f)
 
 -- where the tests refute all, there is no fault

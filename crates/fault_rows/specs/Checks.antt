@@ -3,7 +3,7 @@ use Rattle.std.specs.Prelude.{◌≡◌, [], ◌∷◌, None, codes}
 use Rattle.darwin_parser.specs.declared.tree.Side.TheVariants.{Provide}
 use Rattle.darwin_parser.specs.Tree.{Tree, num, var, Component, forall, when}
 use Rattle.darwin_types.specs.declared.error.TypeError.{TypeError}
-use Rattle.darwin_types.specs.Faults.{FaultIn, Fault}
+use Rattle.darwin_types.specs.Faults.{FaultIn, HasFault}
 use Rattle.darwin_types.specs.Faults as fault
 use Rattle.fault_rows.specs.Trees.{here, port, array, component, instance, instance_at, inner, outer, binding, row, unreached, idle}
 
@@ -45,16 +45,16 @@ case_in (fault.unknown_kind _ _) = unknown_kind
 case_in (fault.kind_ports _ _ _ _) = kind_ports
 
 -- the case by which a fault stands in a description
-abbrev pub case_of : {t : Tree} {e : TypeError} → Fault t e → Case
+abbrev pub case_of : {t : Tree} {e : TypeError} → HasFault t e → Case
 case_of (fault.two_components _ _) = two_components
 case_of (fault.within _ _ _ stands) = case_in stands
 
 -- a fault stands in the description by this case, and none by another
 pub record StandsAlone (t : Tree) (case : Case) : Type 0 where
   pub error : TypeError
-  pub stands : Fault t error
+  pub stands : HasFault t error
   pub by_case : case_of stands ≡ case
-  pub alone : (e : TypeError) (other : Fault t e) → case_of other ≡ case
+  pub alone : (e : TypeError) (other : HasFault t e) → case_of other ≡ case
 
 -- the description of a case
 abbrev pub description : Case → Tree

@@ -8,7 +8,7 @@ use Rattle.command_answers.specs.declared.error.DescriptionFault.{DescriptionFau
 use Rattle.command_answers.specs.declared.error.DescriptionFault.TheVariants as fault
 use Rattle.command_answers.specs.DescriptionFaults.{MayRefuse, is_no_memory}
 use Rattle.darwin_parser.specs.Tree.{Tree}
-use Rattle.darwin_types.specs.Faults.{Fault}
+use Rattle.darwin_types.specs.Faults.{HasFault}
 use Rattle.darwin_types.specs.declared.error.TypeError.{TypeError}
 use Rattle.darwin_types.specs.declared.error.TypeError.TheVariants as checking
 use Rattle.elaborator.specs.Faults.{Faults}
@@ -31,7 +31,7 @@ lexer_refuses text lexing.NoMemory bad comment long big is = absurd (cc)
 
 -- a refusal of the names of a tree
 pub checker_refuses :
-    (text : List ℕ) (tree : Tree) (e : TypeError) → (e ≢ checking.NoMemory → Fault tree e) → IsTree text tree → MayRefuse (IsTextRefusal text) (fault.Check e)
+    (text : List ℕ) (tree : Tree) (e : TypeError) → (e ≢ checking.NoMemory → HasFault tree e) → IsTree text tree → MayRefuse (IsTextRefusal text) (fault.Check e)
 checker_refuses text tree e faulty is memory = by_names tree e is (faulty (λ none. absurd (is_memory e none memory)))
   where
     is_memory : (e : TypeError) → e ≡ checking.NoMemory → is_no_memory (fault.Check e) ≢ false

@@ -18,7 +18,7 @@ use Rattle.darwin_types.specs.Scope.{component_named, entries_of, port_named, ar
 use Rattle.darwin_types.specs.Primitive.{ports_of_kind, is_port, has_port, is_port_of, has_only_ports_of, has_ports_on, has_ports_of, params_of_kind, is_end, is_bare, is_like_kind}
 use Rattle.darwin_types.specs.Faults.{is_repeated, FaultIn, NoFault}
 use Rattle.darwin_types.specs.Faults.FaultIn.{two_params, two_ports, two_arrays, array_and_single, two_singles, two_values, unknown_value, unknown_array, unknown_instance, unknown_inner_port, unknown_outer_port, unknown_component, arg_count, unknown_kind, kind_ports}
-use Rattle.darwin_types.specs.Faults.Fault.{two_components, within}
+use Rattle.darwin_types.specs.Faults.HasFault.{two_components, within}
 use Rattle.darwin_types.specs.declared.error.TypeError.{TypeError}
 use Rattle.order_laws.specs.Reordering.{Reordered, SamePort, SameArray, SameEntry, same_single, same_element, SameStmts, no_stmts, kept_stmt, swapped_stmts, through_stmts, SameComponent, SameDescription}
 use Rattle.order_laws.proofs.Finding.{Both, neither, both_there, hits, passes_once}

@@ -23,7 +23,7 @@ use Rattle.change_script.specs.declared.script.ScriptLine.{ScriptLine}
 use Rattle.change_script.proofs.ScriptOrderLaws.{StandsInOrder, file_above, has_with_one, script_stands, start_above}
 use Rattle.change_law.specs.Statements.{Statement, run, finish, show}
 use Rattle.darwin_parser.specs.Tree.{Name, Tree}
-use Rattle.darwin_types.specs.Faults.{Fault as NameFault, NoFault}
+use Rattle.darwin_types.specs.Faults.{HasFault, NoFault}
 use Rattle.darwin_types.specs.declared.error.TypeError.{TypeError}
 use Rattle.elaborator.specs.Elaboration.{HasNoFault, ElaboratesTo}
 use Rattle.elaborator.specs.Faults.{Faults}
@@ -184,7 +184,7 @@ module _ (f : Files) (p : Progress) (lines : List RunLine) where
       inr (p.file, words, refused_at (HoldsFile (Some f)) (TellsTooLong (Some f)) p lines (calls deed name args) p.file words (leads_nowhere deed name args words why))
 
 -- Laws of the crates below, as they stand there.
-module _ (names : (t : Tree) → NoFault t ⊎ ((e : TypeError) × NameFault t e)) (graphs : (tree : Tree) (name : Name) (args : List ℤ) → NoFault tree → ((e : ElabError) × Faults tree name args e) ⊎ ((g : Graph) × HasNoFault tree name args × ElaboratesTo tree name args g × Sound g)) (f : Files) where
+module _ (names : (t : Tree) → NoFault t ⊎ ((e : TypeError) × HasFault t e)) (graphs : (tree : Tree) (name : Name) (args : List ℤ) → NoFault tree → ((e : ElabError) × Faults tree name args e) ⊎ ((g : Graph) × HasNoFault tree name args × ElaboratesTo tree name args g × Sound g)) (f : Files) where
   -- what lines above have left for those below
   record Fits (above : List ScriptLine) (p : Progress) : Type 0 where
     pub used : has is_file above ≡ true → (tree : Tree) × (p.used ≡ Some tree) × NoFault tree
