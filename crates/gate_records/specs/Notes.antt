@@ -1,5 +1,5 @@
--- Which ports a record notes as drained: those that were never reopened since they were made, closed, and those that a
--- look found drained after they were last closed or reopened.
+-- Which ports a record notes as drained: those that were never reopened, since ports are made closed (so a port that
+-- was never made is among them), and those that a look found drained after they were last closed or reopened.
 use Rattle.std.specs.Prelude.{ℕ, Bool, false, not, ◌&&◌, ◌||◌, ◌==◌, List, fold}
 use Rattle.std.specs.List.{list_any}
 use Rattle.quiesce_core.specs.declared.event.Event.TheVariants.{Close, Reopen}
