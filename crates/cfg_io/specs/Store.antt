@@ -10,8 +10,8 @@ pub record SinkInMemory : Type 0 where
   pub room : ℕ
   pub faults : ℕ
 
--- a shelf in memory: its files as pairs of a name and bytes, the numbers of the fetches that are to fail, the number of its next fetch,
--- and the names on which it failed
+-- a shelf in memory: its files as pairs of a name and bytes, the numbers of the fetches that are to fail, the number
+-- of its next fetch, and the names on which it failed
 pub record ShelfInMemory : Type 0 where
   pub files : List (List ℕ × List ℕ)
   pub failing_fetches : List ℕ

@@ -1,5 +1,5 @@
--- How calls break off for want of memory: a run behind looks and scans alone; a wait in a scan, behind closes, looks and
--- rounds that left roots. What was closed stays closed.
+-- How calls break off for want of memory: a run behind looks and scans alone; a wait in a scan, behind closes, looks
+-- and rounds that left roots. What was closed stays closed.
 use Rattle.std.specs.Prelude.{◌≡◌, ◌⊎◌, ◌<◌, ℕ, List, [], ◌∷◌, ◌++◌, length, IsTrue}
 use Rattle.commit_laws.specs.Lists.{In}
 use Rattle.change_script.specs.declared.report.HistoryLine.{HistoryLine}
@@ -13,8 +13,8 @@ use Rattle.gate_records.specs.Records as records
 use Rattle.change_board.specs.Transcripts.{entries, lines, said}
 use Rattle.change_engine.specs.Passivating.{IsPassivation, Passivation, left_after, passivation_items}
 
--- No event of the change was done: the board stands for what was seen, looks, sights and the marks of scans, or a call of
--- it broke off behind that. So the configuration is as it was.
+-- No event of the change was done: the board stands for what was seen, looks, sights and the marks of scans, or a
+-- call of it broke off behind that. So the configuration is as it was.
 pub record BrokeInRun {B : Type 0} (S Broke : B → List Entry → Type 0) (old new : B) : Type 0 where
   pub seen : List Entry
   pub none_done : events_in seen ≡ []
@@ -36,8 +36,8 @@ pub record BrokeInRound {B : Type 0} (S Broke : B → List Entry → Type 0) (ol
   pub broke : (r : List Entry) → S old r → Broke new (r ++ entries (passivation_items ports how))
   pub told_all : after ≡ before ++ lines (passivation_items ports how)
 
--- A stop had begun: what it did and told, behind its line, is a passivation of these ports and no more. The board stands
--- for it, or a call of it broke off behind it.
+-- A stop had begun: what it did and told, behind its line, is a passivation of these ports and no more. The board
+-- stands for it, or a call of it broke off behind it.
 pub record BrokeInStop {B : Type 0} (S Broke : B → List Entry → Type 0) (old new : B) (before after : List HistoryLine)
     (ports : List ℕ) (within : ℕ) : Type 0 where
   pub how : Passivation

@@ -129,8 +129,8 @@ pub record HasLeft {B : Type 0} (S : B → List Entry → Type 0) (R : B → Roo
       → IsRootLeft closed (last_look how.first how.rounds)
       (entries (t ++ (passivation_items closed how ++ pending_items within left))) x
 
--- Passivate, broken off in a scan for want of memory: all ports were closed, and each look so far saw roots. All gates that
--- were closed then, and before, stay so.
+-- Passivate, broken off in a scan for want of memory: all ports were closed, and each look so far saw roots. All
+-- gates that were closed then, and before, stay so.
 pub record HasBrokenOff {B : Type 0} (S : B → List Entry → Type 0) (R : B → Room) (Broke : B → List Entry → Type 0)
     (old new : Engine B) (plan : Plan) (within : ℕ) : Type 0 where
   pub closed : List ℕ

@@ -56,7 +56,8 @@ pub record IsTold (layout : Layout) (g : Graph) (c : Configuration) : Type 0 whe
   pub graph : IsGraphOf c g
   pub sound : IsSound c
 
--- What was prepared is what the plan asks for, in each configuration that the layout tells: ports may be closed or open.
+-- What was prepared is what the plan asks for, in each configuration that the layout tells: ports may be closed or
+-- open.
 pub record IsFor (layout : Layout) (old new : Graph) (plan : Plan) (change : Change) : Type 0 where
   pub closed : (c : Configuration) → IsTold layout old c → change.closed.items ≡ ports_to_close old plan c
   pub events : (c : Configuration) → IsTold layout old c → change.events.items ≡ commit_events old new plan c

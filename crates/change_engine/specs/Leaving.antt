@@ -8,8 +8,8 @@ use Rattle.gate_records.specs.Notes.{is_noted}
 use Rattle.change_board.specs.Scans.{Found}
 use Rattle.change_engine.specs.declared.passivating.LeftRoot.{LeftRoot}
 
--- one that is left, by these looks: its port was closed and isn't noted as drained, and a look there loaded a word with a
--- root of that serial
+-- one that is left, by these looks: its port was closed and isn't noted as drained, and a look there loaded a word
+-- with a root of that serial
 pub record IsRootLeft (closed : List ℕ) (looks : List Found) (r : List Entry) (x : LeftRoot) : Type 0 where
   pub is_closed : In closed x.port
   pub not_noted : is_noted r x.port ≡ false

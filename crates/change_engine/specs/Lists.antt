@@ -1,5 +1,5 @@
--- What a plan's lists are on a board, by the layout of what was made there: which ports are closed, what the commit does, and
--- the layout after it.
+-- What a plan's lists are on a board, by the layout of what was made there: which ports are closed, what the commit
+-- does, and the layout after it.
 use Rattle.std.specs.Prelude.{ℕ, ◌+◌, Bool, false, not, ◌&&◌, ◌||◌, ◌==◌, nat_lt, List, [], ◌∷◌, ◌++◌, filter, filter_map, find, length, map, position, slice_get, Option, Some, None, option_map, option_and_then, if◌then◌else◌}
 use Rattle.std.specs.List.{list_any, range_with_len}
 use Rattle.std.specs.Option.{option_map_or}

@@ -107,8 +107,8 @@ impl<B: Board + Drop> Engine<B> {
         Ok(ended)
     }
 
-    /// Scans at most `n` times, and gives how many of the scans were rounds. It ends earlier where a scan saw all at rest,
-    /// or moved nothing on a board on which nodes take turns in scans alone.
+    /// Scans at most `n` times, and gives how many of the scans were rounds. It ends earlier where a scan saw all at
+    /// rest, or moved nothing on a board on which nodes take turns in scans alone.
     pub fn finish(&mut self, n: u32) -> Result<u32, NoMemory>
         requires idle { (t : List Item) × IsIdle B.stands_for self.old t }
         ensures ok { IfOk result (λ rounds. HasFinished B.stands_for B.alone self.old self.new n rounds) }
@@ -180,8 +180,8 @@ impl<B: Board + Drop> Engine<B> {
     }
 
     /// Closes each port of the nodes that the plan freezes, and makes rounds until each was found drained, at most so
-    /// many. Where roots are left then, it is answered which; the ports stay closed until the change is given up. Memory can
-    /// be wanting in a scan alone; the ports stay closed then.
+    /// many. Where roots are left then, it is answered which; the ports stay closed until the change is given up.
+    /// Memory can be wanting in a scan alone; the ports stay closed then.
     pub fn passivate(&mut self, plan: &Plan, rounds: u32) -> Result<(), PassError>
         requires prepared { (t : List Item) × (moves : List Move) × (next : Graph)
             × IsPrepared B.stands_for B.room self.old t moves plan.now next }

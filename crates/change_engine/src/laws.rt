@@ -41,8 +41,8 @@ pub fn passivated_ports_are_noted()
         → IsTrue (is_noted (r ++ entries (passivation_items ports how)) p) }
 {}
 
-/// A look at a port that is closed loads a word with a root, where it doesn't show the port drained; so do a passivation's
-/// looks. So what is left of a passivation are roots, of the serials that its last looks loaded.
+/// A look at a port that is closed loads a word with a root, where it doesn't show the port drained; so do a
+/// passivation's looks. So what is left of a passivation are roots, of the serials that its last looks loaded.
 pub fn looks_behind_closes_find_roots()
     ensures closed { (before after : List Entry) (p w : ℕ) → IsRecord (before ++ Looked p w ∷ after)
         → (gate (config_of before) p).closed ≡ true → is_drained_word w ≡ false → IsTrue (has_root (unpack w)) }
@@ -64,9 +64,9 @@ pub fn starts_may_be_done()
     starts_can_not_fail();
 }
 
-/// Each event of a plan's commit may be done on a board after those before it, where the record notes the ports of all
-/// nodes that the plan freezes: so on every board with the room that was reserved a commit can't fail. After it the graph
-/// is the new one.
+/// Each event of a plan's commit may be done on a board after those before it, where the record notes the ports of
+/// all nodes that the plan freezes: so on every board with the room that was reserved a commit can't fail. After it
+/// the graph is the new one.
 pub fn plans_may_be_carried_out()
     ensures may { (old new : Graph) (moves : List Move) (plan : Plan) (r : List Entry) → IsRecord r
         → MayCarryOut old new moves plan r → MayDoAll r (commit_events old new plan (config_of r)) }
@@ -94,8 +94,8 @@ pub fn layouts_tell_commits()
         → IsLayoutOf next (change_all c (commit_events old new plan c)) new }
 {}
 
-/// A board that has room for all nodes that a plan creates, each of which may take over the state of one made before, has
-/// room for the plan's commit; and a plan creates no more than a run may make.
+/// A board that has room for all nodes that a plan creates, each of which may take over the state of one made before,
+/// has room for the plan's commit; and a plan creates no more than a run may make.
 pub fn commits_have_room()
     ensures room { (old new : Graph) (plan : Plan) (c : Configuration) (room : Room) → length plan.create ≤ room.nodes
         → length c.slots ≤ room.sources → HasRoomForAll room (commit_events old new plan c) }

@@ -96,7 +96,8 @@ impl Layout {
         port: u32,
     ) -> Result<(), NoMemory>
         ensures { OnOk result (ports.new.items ≡ ports.old.items
-            ++ filter (λ p. is_among plan.now.freeze (lists.owner_place self.now.places.items self.now.ports.items p)) (port ∷ [])) }
+            ++ filter (λ p. is_among plan.now.freeze (lists.owner_place self.now.places.items self.now.ports.items p))
+            (port ∷ [])) }
     {
         if plan.freezes(self.owner_place(port)) {
             ports.push(port)?;
@@ -226,7 +227,8 @@ impl Layout {
         requires within { All (λ j. j < length new.now.nodes) plan.now.create }
         requires places { All (λ place. IsTrue (option_map_or (λ i. nat_lt i count) place true)) self.now.places.items }
         ensures { OnOk result (events.new.items ≡ events.old.items
-            ++ lists.makes_by self.now.places.items plan.now.moves new.now (length self.now.places.items) plan.now.create) }
+            ++ lists.makes_by self.now.places.items plan.now.moves new.now (length self.now.places.items)
+            plan.now.create) }
     {
         let slots = SlotIndex::of(*events.allocator(), count, &self.places)?;
         self.push_makes(events, &slots, new, plan)
@@ -359,7 +361,8 @@ impl Layout {
         new: &Graph,
         plan: &PlanIndex<'_>,
     ) -> Result<Vec<Option<u32>>, NoMemory>
-        ensures { IfOk result (λ places. places.items ≡ lists.places_after old.now new.now plan.now self.now.places.items) }
+        ensures { IfOk result
+            (λ places. places.items ≡ lists.places_after old.now new.now plan.now self.now.places.items) }
     {
         let mut places = Vec::with_capacity(alloc, self.places.len())?;
         for place in &self.places {
@@ -379,7 +382,8 @@ impl Layout {
     ) -> Result<Vec<Port>, NoMemory>
         requires few { length self.now.places.items + length plan.now.create < 2 ^ 32 }
         requires within { All (λ j. j < length new.now.nodes) plan.now.create }
-        ensures { IfOk result (λ ports. ports.items ≡ lists.ports_after new.now plan.now self.now.places.items self.now.ports.items) }
+        ensures { IfOk result
+            (λ ports. ports.items ≡ lists.ports_after new.now plan.now self.now.places.items self.now.ports.items) }
     {
         let mut ports = Vec::with_capacity(alloc, self.ports.len())?;
         ports.extend_from_slice(&self.ports)?;
@@ -411,8 +415,8 @@ impl Layout {
         Ok(Layout { places, ports })
     }
 
-    /// What the commit of a plan does, and what is made on the board after it. The plan leads from the old graph, to which the
-    /// layout belongs, to the new one.
+    /// What the commit of a plan does, and what is made on the board after it. The plan leads from the old graph, to
+    /// which the layout belongs, to the new one.
     pub(crate) fn list_commit(
         &self,
         alloc: Global,
@@ -421,9 +425,11 @@ impl Layout {
         plan: &PlanIndex<'_>,
     ) -> Result<Commit, NoMemory>
         requires few { length self.now.places.items + length plan.now.create < 2 ^ 32 }
-        requires few_ports { length (lists.ports_after new.now plan.now self.now.places.items self.now.ports.items) < 2 ^ 32 }
+        requires few_ports { length (lists.ports_after new.now plan.now self.now.places.items self.now.ports.items)
+            < 2 ^ 32 }
         requires within { All (λ j. j < length new.now.nodes) plan.now.create }
-        requires places { All (λ place. IsTrue (option_map_or (λ i. nat_lt i (length old.now.nodes)) place true)) self.now.places.items }
+        requires places { All (λ place. IsTrue (option_map_or (λ i. nat_lt i (length old.now.nodes)) place true))
+            self.now.places.items }
         ensures events { IfOk result (λ x. x.events.items
             ≡ lists.commit_by old.now new.now plan.now self.now.places.items self.now.ports.items) }
         ensures places { IfOk result

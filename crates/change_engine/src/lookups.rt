@@ -1,4 +1,5 @@
-//! Look-ups in a plan's lists and in a layout, by the places of nodes: each is filled once, and then answers in constant time.
+//! Look-ups in a plan's lists and in a layout, by the places of nodes: each is filled once, and then answers in
+//! constant time.
 
 ghost use Rattle.std.specs.Prelude.{◌≡◌, ◌^◌, ◌<◌, ◌==◌, ◌&&◌, ℕ, None, Some, false, find, length, nat_lt, option_map, slice_index_or, true, All, IfOk, IsTrue, if◌then◌else◌};
 ghost use Rattle.std.specs.List.{list_any};
@@ -233,7 +234,8 @@ impl<'a> Model for PortSet<'a> {
 
     ghost view = { λ s. s.ports.now };
 
-    ghost invariant = { λ s. (i r : ℕ) → contains (λ (a : ℕ × ℕ) (b : ℕ × ℕ). (a.0 == b.0) && (a.1 == b.1)) s.keys (i, r)
+    ghost invariant = { λ s. (i r : ℕ)
+        → contains (λ (a : ℕ × ℕ) (b : ℕ × ℕ). (a.0 == b.0) && (a.1 == b.1)) s.keys (i, r)
         ≡ list_any (λ (q : Port). (i == q.node) && (r == q.require)) s.ports.now };
 }
 
@@ -257,7 +259,8 @@ impl<'a> PortSet<'a> {
 }
 
 fn list_keys(alloc: Global, ports: &[Port]) -> Result<HashSet<(u32, u32)>, NoMemory>
-    ensures { IfOk result (λ s. (i r : ℕ) → bag.contains (λ (a : ℕ × ℕ) (b : ℕ × ℕ). (a.0 == b.0) && (a.1 == b.1)) s (i, r)
+    ensures { IfOk result (λ s. (i r : ℕ)
+        → bag.contains (λ (a : ℕ × ℕ) (b : ℕ × ℕ). (a.0 == b.0) && (a.1 == b.1)) s (i, r)
         ≡ list_any (λ (q : PurePort). (i == q.node) && (r == q.require)) ports.now) }
 {
     let mut keys = HashSet::new(alloc);

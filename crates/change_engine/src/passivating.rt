@@ -103,7 +103,8 @@ fn look_at<B: Board>(
     requires made { (r : List Entry) × B.stands_for board.old r × AreMadePorts (config_of r) ports.now }
     requires line_place { vec_len history.old + length ports.now ≤ vec_capacity history.old }
     requires root_place { length ports.now ≤ vec_capacity left.old }
-    ensures passed { Passed B.stands_for board.old board.new history.old.items history.new.items ports.now left.new.items }
+    ensures passed { Passed B.stands_for board.old board.new history.old.items history.new.items ports.now
+        left.new.items }
     ensures room { B.room board.new ≡ B.room board.old }
     ensures len { vec_len history.new + vec_len left.new ≡ vec_len history.old + length ports.now }
     ensures few { vec_len left.new ≤ length ports.now }

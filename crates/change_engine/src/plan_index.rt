@@ -93,7 +93,8 @@ impl<'a> PlanIndex<'a> {
 
     /// The place of the old graph from which a node's state is moved to a place of the new one.
     pub(crate) fn source(&self, place: u32) -> Option<u32>
-        ensures { result ≡ option_map (λ (s : PureShift). s.old) (find (λ (s : PureShift). s.new == place) self.now.moves) }
+        ensures { result ≡ option_map (λ (s : PureShift). s.old)
+            (find (λ (s : PureShift). s.new == place) self.now.moves) }
     {
         self.moves.source(place)
     }

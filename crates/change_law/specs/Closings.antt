@@ -1,4 +1,5 @@
--- For which change a port is closed: for the one whose line stands before the closes, and whose plan freezes the port's node.
+-- For which change a port is closed: for the one whose line stands before the closes, and whose plan freezes the
+-- port's node.
 use Rattle.std.specs.Prelude.{◌≡◌, ℕ, ℤ, List, ◌∷◌, ◌++◌, map, IsTrue}
 use Rattle.config_graph.specs.Graph.{Graph}
 use Rattle.change_plan.specs.Plans.{IsPlanOf}

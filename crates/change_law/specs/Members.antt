@@ -1,4 +1,5 @@
--- A run with changes as one list: of nodes' events, and of lines of the history, among which are the events of the change.
+-- A run with changes as one list: of nodes' events, and of lines of the history, among which are the events of the
+-- change.
 use Rattle.std.specs.Prelude.{ℕ, Bool, true, false, not, List, Option, Some, None, filter, filter_map}
 use Rattle.quiesce_core.specs.declared.event.Event.{Event}
 use Rattle.quiesce_core.specs.declared.event.Event.TheVariants as event

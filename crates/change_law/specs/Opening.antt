@@ -1,5 +1,5 @@
--- What a node has come to by a run: the fold of its own events, from what it was made with. A node whose `make` names another opens with
--- what that one kept at last, and with its own argument.
+-- What a node has come to by a run: the fold of its own events, from what it was made with. A node whose `make` names
+-- another opens with what that one kept at last, and with its own argument.
 use Rattle.std.specs.Prelude.{ℕ, zero, suc, List, Option, Some, None, option_map, option_and_then}
 use Rattle.std.specs.Option.{option_map_or}
 use Rattle.component_trait.specs.Fold.{fold_from}
@@ -25,9 +25,11 @@ fold_within es (suc fuel) n =
     option_and_then
     (λ (m : Slot).
     option_and_then (fold_at m (done_by n es))
-    (option_map_or (λ k. option_map (λ (s : NodeState). s.kept) (fold_within es fuel k)) m.from (Some (opening m.node.kind (argument_of m)))))
+    (option_map_or (λ k. option_map (λ (s : NodeState). s.kept) (fold_within es fuel k)) m.from
+    (Some (opening m.node.kind (argument_of m)))))
     (slot (state_after es).config n)
 
--- what the node in slot n has come to; none where an event of it, or of those whose state it took over, isn't what its kind does
+-- what the node in slot n has come to; none where an event of it, or of those whose state it took over, isn't what
+-- its kind does
 abbrev pub fold_of_node : List Event → ℕ → Option NodeState
 fold_of_node es n = fold_within es (suc n) n

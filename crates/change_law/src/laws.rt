@@ -45,9 +45,11 @@ pub fn transactions_end_once()
 /// The stop closes each live port and finds each drained, so no transaction is open at the end, and each has ended
 /// once: a report can't fail by that alone.
 pub fn nothing_is_open_at_the_end()
-    ensures nothing_open { (statements : List Statement) (report : Report) (m : List Member) → Follows statements report.history
+    ensures nothing_open { (statements : List Statement) (report : Report) (m : List Member)
+        → Follows statements report.history
         → Merge m report → IsRun (events m) → Each IsDrainedAt m → (p k : ℕ) → is_open_after (events m) p k ≡ false }
-    ensures ended_once { (statements : List Statement) (report : Report) (m : List Member) → Follows statements report.history
+    ensures ended_once { (statements : List Statement) (report : Report) (m : List Member)
+        → Follows statements report.history
         → Merge m report → IsRun (events m) → Each IsDrainedAt m → (p k : ℕ) → IsEndedOnce (events m) p k }
 {}
 
@@ -60,7 +62,8 @@ pub fn a_first_number_is_one()
 /// A script has one report on one thread: what `Serial` says of a report determines it. So does what a plan must be.
 pub fn there_is_one_report_of_rounds()
     ensures report { (statements : List Statement) (r s : Report) → Serial statements r → Serial statements s → r ≡ s }
-    ensures plan { (old new : Graph) (moves : List Move) (p q : Plan) → IsPlanOf old new moves p → IsPlanOf old new moves q → p ≡ q }
+    ensures plan { (old new : Graph) (moves : List Move) (p q : Plan) → IsPlanOf old new moves p
+        → IsPlanOf old new moves q → p ≡ q }
 {}
 
 /// A configuration has one graph: so the one that a commit must leave, and the one that is shown, is determined.
@@ -71,14 +74,16 @@ pub fn a_configuration_has_one_graph()
 /// At a `show` the graph is the described one of the last commit before it: between the two nothing is made, linked,
 /// unlinked or removed.
 pub fn a_show_is_of_the_last_commit()
-    ensures shown { (statements : List Statement) (report : Report) (m : List Member) → Follows statements report.history
+    ensures shown { (statements : List Statement) (report : Report) (m : List Member)
+        → Follows statements report.history
         → IsLawfulBy statements report m → (x y after : List Member) (g : Graph)
         → m ≡ x ++ of_history Commit ∷ (y ++ of_history (Show g) ∷ after) → list_any is_commit (lines y) ≡ false
         → described statements (lines x) ≡ Some g }
 {}
 
-/// Each `close` before the lines of the stop is one of those with which a change begins: of the change whose line stands
-/// before them, and whose plan freezes the port's node. So a node that no plan freezes isn't closed before the stop.
+/// Each `close` before the lines of the stop is one of those with which a change begins: of the change whose line
+/// stands before them, and whose plan freezes the port's node. So a node that no plan freezes isn't closed before the
+/// stop.
 pub fn only_frozen_nodes_are_closed_before_the_stop()
     ensures frozen { (statements : List Statement) (history : List HistoryLine) (follows : Follows statements history)
         (front back : List HistoryLine) (p : ℕ) → lines_of follows.parts ≡ front ++ Close p ∷ back
@@ -88,8 +93,10 @@ pub fn only_frozen_nodes_are_closed_before_the_stop()
 /// A node that was made from another begins with what that one kept at last, and with its own argument, whatever
 /// chain of nodes the state came through.
 pub fn a_moved_state_is_the_last_one()
-    ensures handed { (es : List Event) → IsRun es → (n k : ℕ) (m : Slot) → slot (state_after es).config n ≡ Some m → m.from ≡ Some k
-        → fold_of_node es n ≡ option_and_then (fold_at m (done_by n es)) (option_map (λ (s : NodeState). s.kept) (fold_of_node es k)) }
+    ensures handed { (es : List Event) → IsRun es → (n k : ℕ) (m : Slot) → slot (state_after es).config n ≡ Some m
+        → m.from ≡ Some k
+        → fold_of_node es n ≡ option_and_then (fold_at m (done_by n es))
+        (option_map (λ (s : NodeState). s.kept) (fold_of_node es k)) }
 {}
 
 /// What a plan must be, that its moves may be made, and what the graph of a configuration is are found by tests that

@@ -1,5 +1,5 @@
--- A change is given up after three rounds, in which one more port was found drained. Then nothing more is done, and the first of three
--- nodes that are not done is named.
+-- A change is given up after three rounds, in which one more port was found drained. Then nothing more is done, and
+-- the first of three nodes that are not done is named.
 use Rattle.std.specs.Prelude.{List, [], ◌∷◌, ◌++◌, codes, map, pos, Some, None}
 use Rattle.quiesce_core.specs.declared.event.Event.TheVariants as event
 use Rattle.change_script.specs.declared.report.HistoryLine.{HistoryLine}

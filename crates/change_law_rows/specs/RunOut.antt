@@ -1,5 +1,5 @@
--- Two sources of two items end one transaction each in one round, where one was asked for. Then they end what is left, and all is at rest
--- before nine have ended.
+-- Two sources of two items end one transaction each in one round, where one was asked for. Then they end what is
+-- left, and all is at rest before nine have ended.
 use Rattle.std.specs.Prelude.{List, [], ◌∷◌, ◌++◌, codes, drop, map, pos, take, None}
 use Rattle.quiesce_core.specs.declared.event.Event.TheVariants as event
 use Rattle.change_script.specs.declared.report.HistoryLine.{HistoryLine}

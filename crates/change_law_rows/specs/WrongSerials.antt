@@ -21,8 +21,8 @@ ahead =
       history = take 15 open_unordered.history ++ to.Root 0 2 ∷ drop 16 open_unordered.history;
     }
 
--- A root is said to be open that ended before the last port was closed: the buffer took a second item behind it, and the
--- source began a third before its port was closed.
+-- A root is said to be open that ended before the last port was closed: the buffer took a second item behind it, and
+-- the source began a third before its port was closed.
 abbrev pub log_of_a : NodeLog
 log_of_a =
     record {

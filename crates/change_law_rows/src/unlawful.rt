@@ -13,10 +13,10 @@ ghost use Rattle.change_law_rows.specs.WrongLogs as logs;
 ghost use Rattle.change_law_rows.specs.WrongLooks as looks;
 ghost use Rattle.change_law_rows.specs.WrongRuns as runs;
 
-/// None of these reports is lawful, at whatever pace. Each is refuted by one part of what `Lawful` asks: that the history
-/// follows the script, that it and the logs are parts of one list, that this list is a run, that the states are folds,
-/// that what is said to be drained is so, that what is said to be open stood so, that the graph is the one shown, that
-/// the first node that isn't done is named, the status, and the numbers of runs and finishes.
+/// None of these reports is lawful, at whatever pace. Each is refuted by one part of what `Lawful` asks: that the
+/// history follows the script, that it and the logs are parts of one list, that this list is a run, that the states
+/// are folds, that what is said to be drained is so, that what is said to be open stood so, that the graph is the one
+/// shown, that the first node that isn't done is named, the status, and the numbers of runs and finishes.
 pub fn wrong_reports_are_not_lawful()
     ensures lines { (pace : Pace ran.script) → Lawful ran.script pace ends.unseen → ⊥ }
     ensures logs { (pace : Pace wrong_lines.finishing_two) → Lawful wrong_lines.finishing_two pace logs.swapped → ⊥ }

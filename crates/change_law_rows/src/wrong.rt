@@ -85,7 +85,8 @@ pub fn wrong_runs_are_refuted()
     ensures idle { (pace : Pace run_out.script) (m : List Member) → Merge m runs.ended_idly → Each (IsRunAt pace) m
         → ⊥ }
     ensures rested_before { (m : List Member) → Merge m runs.rested_before → IsRun (events m)
-        → Each (IsRunAt {statements = runs.resting_small} on_threads) m → Each (IsFinishAt {statements = runs.resting_small} on_threads) m → ⊥ }
+        → Each (IsRunAt {statements = runs.resting_small} on_threads) m
+        → Each (IsFinishAt {statements = runs.resting_small} on_threads) m → ⊥ }
     ensures partly { (pace : Pace ran.script) (m : List Member) → Merge m runs.rested_partly → Each (IsFinishAt pace) m
         → ⊥ }
     ensures later { (pace : Pace finished_twice.script) (m : List Member) → Merge m finished_twice.finished_later
@@ -134,8 +135,8 @@ pub fn wrong_looks_are_refuted()
     open_roots_are_seen();
 }
 
-/// A port isn't drained with a serial to which it hasn't come, nor is such a root open. And a root isn't open that ended
-/// before the last port of its change was closed.
+/// A port isn't drained with a serial to which it hasn't come, nor is such a root open. And a root isn't open that
+/// ended before the last port of its change was closed.
 pub fn wrong_serials_are_refuted()
     ensures late { (m : List Member) → Merge m serials.late → IsRun (events m) → Each IsDrainedAt m → ⊥ }
     ensures ahead { (m : List Member) → Merge m serials.ahead → IsRun (events m) → Each IsDrainedAt m
@@ -144,10 +145,10 @@ pub fn wrong_serials_are_refuted()
         → Each (StoodOpenWhereSaid m) serials.between.history → ⊥ }
 {}
 
-/// A change that commits removes what it replaces before it makes another, which takes over no state unasked, and reopens
-/// what it made; one that is given up reopens what it closed, and in each of its looks the ports rise. The stop closes
-/// each live port, and finds no other drained; and each statement has its lines. A port isn't closed for a change that
-/// freezes nothing, nor before the change is named.
+/// A change that commits removes what it replaces before it makes another, which takes over no state unasked, and
+/// reopens what it made; one that is given up reopens what it closed, and in each of its looks the ports rise. The
+/// stop closes each live port, and finds no other drained; and each statement has its lines. A port isn't closed for
+/// a change that freezes nothing, nor before the change is named.
 pub fn wrong_closings_are_refuted()
     ensures left { Follows sights.replacing closings.left_closed → ⊥ }
     ensures kept { Follows sights.replacing closings.kept_closed → ⊥ }

@@ -1,4 +1,5 @@
--- What is there after a plan's steps: nodes as they are, by path, kind and argument, and connections between such nodes.
+-- What is there after a plan's steps: nodes as they are, by path, kind and argument, and connections between such
+-- nodes.
 use Rattle.std.specs.Prelude.{◌≡◌, ◌<◌, ◌⊎◌, ℕ, List, Some, slice_get, Contains}
 use Rattle.config_graph.specs.Graph.{Graph, requires_at, target_of}
 use Rattle.config_graph.specs.declared.node.Link.{Link}
@@ -35,7 +36,8 @@ NodeAfter old new p n = (Contains old.nodes n × (¬ IsAtOneOf old p.remove n)) 
 -- a connection that was there and isn't unlinked, or that is linked
 abbrev pub ConnectionAfter : Graph → Graph → Plan → Connection → Type 0
 ConnectionAfter old new p c =
-    ((l : Link) × Contains old.links l × Connects old l c × (¬ Contains p.unlink (link_port l))) ⊎ ((l : Link) × Contains p.link l × Connects new l c)
+    ((l : Link) × Contains old.links l × Connects old l c × (¬ Contains p.unlink (link_port l)))
+    ⊎ ((l : Link) × Contains p.link l × Connects new l c)
 
 -- node i of the old graph is in the new one, and there each of its ports has the same target
 pub record KeepsItsLinks (old new : Graph) (i : ℕ) : Type 0 where

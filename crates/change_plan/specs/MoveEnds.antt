@@ -1,5 +1,5 @@
--- The ends of moves: for each node of the old graph whether its state goes on, and for each of the new one from which node
--- its state comes.
+-- The ends of moves: for each node of the old graph whether its state goes on, and for each of the new one from which
+-- node its state comes.
 use Rattle.std.specs.Prelude.{◌≡◌, ◌↔◌, ℕ, Bool, List, Option, Some, None, length, All}
 use Rattle.std.specs.List.{slice_index_or}
 use Rattle.config_graph.specs.Graph.{Graph}

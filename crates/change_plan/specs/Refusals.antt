@@ -1,5 +1,5 @@
--- Why there is no plan: the first move in order that can't be made, and in it the first of its faults; or else too many nodes
--- or ports.
+-- Why there is no plan: the first move in order that can't be made, and in it the first of its faults; or else too
+-- many nodes or ports.
 use Rattle.std.specs.Prelude.{◌≡◌, ◌⊎◌, ℕ, List, Some, length, slice_get, sum_by, take}
 use Rattle.config_graph.specs.Graph.{Graph, requires_at}
 use Rattle.config_graph.specs.declared.node.Made.{Made}
@@ -51,7 +51,8 @@ pub record CreatesSoMany (old new : Graph) (nodes ports : ℕ) : Type 0 where
 -- why these can't be planned
 abbrev pub IsRefusal : Graph → Graph → List Move → Made → PlanError → Type 0
 IsRefusal old new moves made e =
-    FirstMoveFault old new moves e ⊎ (MayMoveAll old new moves (length moves) × ((nodes : ℕ) × (ports : ℕ) × CreatesSoMany old new nodes ports × RoomFault made nodes ports e))
+    FirstMoveFault old new moves e ⊎ (MayMoveAll old new moves (length moves)
+    × ((nodes : ℕ) × (ports : ℕ) × CreatesSoMany old new nodes ports × RoomFault made nodes ports e))
 
 -- nothing stands against a plan
 pub record CanPlan (old new : Graph) (moves : List Move) (made : Made) : Type 0 where

@@ -1,5 +1,5 @@
--- The nodes of the old graph that a change touches, which have to be quiescent for it, and those that it freezes, so that
--- these become quiescent (Kramer and Magee 1990).
+-- The nodes of the old graph that a change touches, which have to be quiescent for it, and those that it freezes, so
+-- that these become quiescent (Kramer and Magee 1990).
 use Rattle.std.specs.Prelude.{◌≡◌, ◌<◌, ◌⊎◌, ℕ, Option, Some, None}
 use Rattle.config_graph.specs.Graph.{Graph, requires_at, target_of}
 use Rattle.config_graph.specs.Enlarged.{Enlarged}

@@ -35,8 +35,8 @@ pub fn what_is_not_frozen_keeps_its_links()
         → (i : ℕ) → i < length old.nodes → (¬ Contains p.freeze i) → KeepsItsLinks old new i }
 {}
 
-/// A law: each port that a plan unlinks is one of a node that it freezes, and each link that it makes begins at a node that it
-/// creates or freezes.
+/// A law: each port that a plan unlinks is one of a node that it freezes, and each link that it makes begins at a
+/// node that it creates or freezes.
 pub fn only_what_is_frozen_or_created_is_linked_anew()
     ensures unlinked { (old new : Graph) (p : Plan) → IsGraph old → IsGraph new
         → HasStepsBetween old new p
@@ -58,8 +58,8 @@ pub fn a_state_goes_to_one_node_of_its_kind()
         → (s t : Shift) → Contains shifts s → Contains shifts t → s.new ≡ t.new → s ≡ t }
 {}
 
-/// A law: where no path holds a space or a line feed, two plans between the same graphs freeze, unlink, remove, create and link
-/// the same if their texts are equal. Of moves a text says nothing.
+/// A law: where no path holds a space or a line feed, two plans between the same graphs freeze, unlink, remove,
+/// create and link the same if their texts are equal. Of moves a text says nothing.
 pub fn texts_tell_plans()
     ensures { (old new : Graph) (p q : Plan) → IsGraph old → IsGraph new
         → All (λ n. IsOneWord n.path) old.nodes → All (λ n. IsOneWord n.path) new.nodes

@@ -16,8 +16,8 @@ use crate::{Move, PlanError, Shift};
 use config_graph::{Graph, NoMemory};
 use std::alloc::Global;
 
-/// The ends of moves, marked: for each node of the old graph whether its state goes on, and for each of the new one from which
-/// node its state comes.
+/// The ends of moves, marked: for each node of the old graph whether its state goes on, and for each of the new one
+/// from which node its state comes.
 #[derive(Debug, Drop)]
 struct Ends {
     sources: Vec<bool>,

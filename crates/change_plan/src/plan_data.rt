@@ -19,8 +19,9 @@ pub struct Shift {
     pub new: u32,
 }
 
-/// The steps from one graph to another. Indexes in `unlink`, `remove` and `freeze` are those of the old graph, in `create` and
-/// `link` those of the new one. All are in the order of paths, and the ports of a node in that of its kind.
+/// The steps from one graph to another. Indexes in `unlink`, `remove` and `freeze` are those of the old graph, in
+/// `create` and `link` those of the new one. All are in the order of paths, and the ports of a node in that of its
+/// kind.
 #[derive(Debug, Drop)]
 pub struct Plan {
     /// The ports of the old links that the new graph hasn't.

@@ -17,8 +17,8 @@ use config_graph::{Graph, List, Made};
 use passive_set::enlarged;
 use std::alloc::Global;
 
-/// The plan from the old graph to the new one, with these moves, where so many nodes and ports were made before. A node of both
-/// graphs is the same exactly where path, kind and argument are equal.
+/// The plan from the old graph to the new one, with these moves, where so many nodes and ports were made before. A
+/// node of both graphs is the same exactly where path, kind and argument are equal.
 ///
 /// Time grows with the nodes, ports and moves and the bytes of their paths, each path found by halving.
 pub fn plan(

@@ -8,8 +8,8 @@ ghost use Rattle.change_plan.specs.declared.error.PlanError.{PlanError};
 use crate::PlanError;
 use config_graph::{Graph, MAX_NODES, MAX_PORTS, Made};
 
-/// Tests whether all nodes and ports of a graph can be made after those that were made. A refusal is `NodesFull`, or else
-/// `PortsFull`, and says how many were made and how many the graph has.
+/// Tests whether all nodes and ports of a graph can be made after those that were made. A refusal is `NodesFull`, or
+/// else `PortsFull`, and says how many were made and how many the graph has.
 pub fn require_room(graph: &Graph, made: Made) -> Result<(), PlanError>
     ensures accepted { OnOk result (HasRoomFor made graph.now) }
     ensures accepts { HasRoomFor made graph.now → IsOk result }

@@ -9,8 +9,8 @@ use crate::{OldPort, Plan};
 use config_graph::{Graph, Link, NoMemory, kind_text};
 use std::alloc::Global;
 
-/// The text of a plan: a line for each node that is frozen, each port that is unlinked, each node that is removed, each that is
-/// created, and each link.
+/// The text of a plan: a line for each node that is frozen, each port that is unlinked, each node that is removed,
+/// each that is created, and each link.
 pub fn plan_text(alloc: Global, old: &Graph, new: &Graph, plan: &Plan) -> Result<Vec<u8>, NoMemory>
     requires { IsPlanWithin old.now new.now plan.now }
     ensures { IfOk result (λ text. text.items ≡ plan_text old.now new.now plan.now) }

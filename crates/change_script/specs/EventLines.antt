@@ -60,7 +60,8 @@ abbrev pub target_verbs : List EventVerb
 target_verbs = verbs.Target target.Take ∷ verbs.Target target.More ∷ verbs.Target target.Hear ∷ verbs.Target target.Give ∷ []
 
 abbrev pub single_verbs : List EventVerb
-single_verbs = verbs.Single singles.Miss ∷ verbs.Single singles.Close ∷ verbs.Single singles.Reopen ∷ verbs.Single singles.Unlink ∷ verbs.Single singles.Remove ∷ []
+single_verbs = verbs.Single singles.Miss ∷ verbs.Single singles.Close ∷ verbs.Single singles.Reopen
+    ∷ verbs.Single singles.Unlink ∷ verbs.Single singles.Remove ∷ []
 
 abbrev pub event_verbs : List EventVerb
 event_verbs = verbs.Start ∷ (owner_verbs ++ (target_verbs ++ (single_verbs ++ (verbs.Link ∷ verbs.Make ∷ []))))
@@ -121,7 +122,13 @@ pub record MakeWords : Type 0 where
 -- the bytes of the words that the code found
 abbrev pub words_of : MakeLine → MakeWords
 words_of line =
-    record { slot = line.slot.now; path = line.path.now; kind = line.kind.now; arg = option_copied line.arg; from = option_copied line.from }
+    record {
+      slot = line.slot.now;
+      path = line.path.now;
+      kind = line.kind.now;
+      arg = option_copied line.arg;
+      from = option_copied line.from;
+    }
 
 -- `from` SLOT, or nothing
 abbrev pub source : List ScriptToken → Option (Option (List ℕ))
@@ -193,7 +200,8 @@ abbrev pub meaning_of_named : Option EventVerb → List ScriptToken → Result E
 meaning_of_named None rest = Err Bad
 meaning_of_named (Some verb) rest = meaning_of verb rest
 
--- a start, an event, or what is wrong; a line of a form, whose words are what the form asks for, has no number above its limit
+-- a start, an event, or what is wrong; a line of a form, whose words are what the form asks for, has no number above
+-- its limit
 abbrev pub meaning : List ScriptToken → Result EventLine LineFault
 meaning (word name ∷ rest) = meaning_of_named (event_verb_named name) rest
 meaning _ = Err Bad

@@ -1,4 +1,5 @@
--- What is wrong with a line, of which the form is looked at before the size of its numbers, and how a text's refusal names it.
+-- What is wrong with a line, of which the form is looked at before the size of its numbers, and how a text's refusal
+-- names it.
 use Rattle.std.specs.Prelude.{◌≡◌, ℕ, Result, Ok, Err}
 use Rattle.change_script.specs.declared.error.LineFault.{LineFault}
 use Rattle.change_script.specs.declared.error.LineFault.TheVariants.{Bad, Big}

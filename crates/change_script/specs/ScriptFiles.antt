@@ -61,7 +61,8 @@ is_out_of_order above body =
 abbrev pub is_full : List ScriptLine → Bool
 is_full above = nat_le 256 (length above)
 
--- what is wrong with a line of this number and meaning below these: the form, a limit, the count of statements, or the order, the first that is
+-- what is wrong with a line of this number and meaning below these: the form, a limit, the count of statements, or
+-- the order, the first that is
 abbrev pub fault_in : List ScriptLine → ℕ → Result Body LineFault → Option ScriptError
 fault_in above number (Err fault) = Some (fault_with number fault)
 fault_in above number (Ok body) =
@@ -100,7 +101,8 @@ lack lines = if has is_start lines then (if ends_with_end lines then None else S
 abbrev pub fault_in_lines : List Line → Option ScriptError
 fault_in_lines lines = option_or (first_fault (line_faults [] lines)) (lack (said lines))
 
--- No line of the text is at fault, nothing is missing, and the script has the statements of the text with the numbers of their lines.
+-- No line of the text is at fault, nothing is missing, and the script has the statements of the text with the numbers
+-- of their lines.
 abbrev pub IsScript : List ℕ → Script → Type 0
 IsScript text script = (fault_in_lines (statements text) ≡ None) × (script.lines ≡ said (statements text))
 

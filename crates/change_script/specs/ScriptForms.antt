@@ -49,7 +49,8 @@ abbrev pub IsSpelled : List ℕ → Words → Type 0
 IsSpelled line (file name) = UsesFile line name
 IsSpelled line words = IsSpelledBy (tokens line) words
 
--- Names are names of the language, arguments integers, numbers numbers and paths paths, and the name of a file is UTF-8.
+-- Names are names of the language, arguments integers, numbers numbers and paths paths, and the name of a file is
+-- UTF-8.
 abbrev pub are_paths : Ends → Bool
 are_paths moved = is_path moved.from && is_path moved.to
 

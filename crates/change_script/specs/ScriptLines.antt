@@ -43,7 +43,8 @@ meaning_of (Some words) = if are_right words then (if keep_limits words then Ok 
 abbrev pub meaning : List ℕ → Result Body LineFault
 meaning line = meaning_of (words_in line)
 
--- The same by the forms: the line has a form, the numbers in it keep their limits, and the statement is that of the form; or some number doesn't.
+-- The same by the forms: the line has a form, the numbers in it keep their limits, and the statement is that of the
+-- form; or some number doesn't.
 abbrev pub LineMeans : List ℕ → Body → Type 0
 LineMeans line body = (words : Words) × HasForm line words × (keep_limits words ≡ true) × (body ≡ body_of words)
 

@@ -7,4 +7,5 @@ use Rattle.change_script.specs.ScriptFiles.{has, is_file, is_start, is_finish, i
 -- which kinds of statements stand in these lines
 abbrev pub IsAbove : List ScriptLine → Above → Type 0
 IsAbove lines above =
-    (above.file ≡ has is_file lines) × (above.start ≡ has is_start lines) × (above.finish ≡ has is_finish lines) × (above.«end» ≡ has is_end lines)
+    (above.file ≡ has is_file lines) × (above.start ≡ has is_start lines) × (above.finish ≡ has is_finish lines)
+    × (above.«end» ≡ has is_end lines)

@@ -158,6 +158,7 @@ abbrev pub words_or_file : Option (List ℕ) → List ScriptToken → Option Wor
 words_or_file None tokens = words_in_tokens tokens
 words_or_file (Some name) tokens = Some (file name)
 
--- The words of a line, where it has a form: a `use` line is told by its bytes, since FILE may have signs in it, and the others by their tokens.
+-- The words of a line, where it has a form: a `use` line is told by its bytes, since FILE may have signs in it, and
+-- the others by their tokens.
 abbrev pub words_in : List ℕ → Option Words
 words_in line = words_or_file (file_in line) (tokens line)

@@ -46,7 +46,8 @@ IsWrittenPath path = (is_word path ≡ true) × (is_path path ≡ true) × (path
 abbrev pub IsWrittenMove : Move → Type 0
 IsWrittenMove moved = IsWrittenPath moved.from × IsWrittenPath moved.to
 
--- Names and paths are of one word and have their forms, numbers keep their limits, and a file's name is UTF-8 without a blank.
+-- Names and paths are of one word and have their forms, numbers keep their limits, and a file's name is UTF-8 without
+-- a blank.
 abbrev pub CanBeStated : Body → Type 0
 CanBeStated (bodies.File name) = (is_utf8 name ≡ true) × (is_blankless name ≡ true)
 CanBeStated (bodies.Start name args) = IsWrittenName name × AllByRecursion IsInteger args

@@ -52,7 +52,8 @@ abbrev pub is_word : List ℕ → Bool
 is_word [] = true
 is_word (byte ∷ bytes) = begins_word (byte ∷ bytes) && is_word bytes
 
--- the tokens with this byte before them: it is the first of their first word where the word goes on with it, and else a word by itself
+-- the tokens with this byte before them: it is the first of their first word where the word goes on with it, and else
+-- a word by itself
 abbrev pub onto_word : ℕ → Bool → List ScriptToken → List ScriptToken
 onto_word byte true (word bytes ∷ tokens) = word (byte ∷ bytes) ∷ tokens
 onto_word byte goes_on tokens = word (byte ∷ []) ∷ tokens

@@ -23,8 +23,8 @@ abbrev pub from_words : Option ℕ → List (List ℕ)
 from_words None = []
 from_words (Some slot) = codes "from" ∷ decimal slot ∷ []
 
--- `begin PORT SERIAL VALUE` and so on, `miss PORT` and so on, `make SLOT PATH KIND(ARG)` with `from SLOT` where it has one,
--- `link PORT SLOT PROVIDE`, and `remove SLOT`
+-- `begin PORT SERIAL VALUE` and so on, `miss PORT` and so on, `make SLOT PATH KIND(ARG)` with `from SLOT` where it
+-- has one, `link PORT SLOT PROVIDE`, and `remove SLOT`
 abbrev pub written : Event → List ℕ
 written (events.Begin port serial value) = with_three (codes "begin") port serial value
 written (events.Call port serial value) = with_three (codes "call") port serial value

@@ -16,7 +16,8 @@ type Found<'a> = (Vec<&'a [u8]>, &'a [u8]);
 
 /// The words between the opening parenthesis, which is behind, and the closing one, and what stands behind that.
 pub fn arguments(alloc: Global, line: &[u8]) -> Result<Option<Found<'_>>, NoMemory>
-    ensures { IfOk result (λ found. option_map (λ pair. (map (λ word. word.now) pair.0.items, tokens pair.1.now)) found ≡ arguments (tokens line.now)) }
+    ensures { IfOk result (λ found. option_map (λ pair. (map (λ word. word.now) pair.0.items, tokens pair.1.now))
+        found ≡ arguments (tokens line.now)) }
 {
     match after_sign(line, b')') {
         Some(rest) => Ok(Some((Vec::new(alloc), rest))),
@@ -25,7 +26,8 @@ pub fn arguments(alloc: Global, line: &[u8]) -> Result<Option<Found<'_>>, NoMemo
 }
 
 fn more_arguments(alloc: Global, line: &[u8]) -> Result<Option<Found<'_>>, NoMemory>
-    ensures { IfOk result (λ found. option_map (λ pair. (map (λ word. word.now) pair.0.items, tokens pair.1.now)) found ≡ more_arguments (tokens line.now)) }
+    ensures { IfOk result (λ found. option_map (λ pair. (map (λ word. word.now) pair.0.items, tokens pair.1.now))
+        found ≡ more_arguments (tokens line.now)) }
 {
     let mut words = Vec::new(alloc);
     let mut rest = line;

@@ -6,7 +6,8 @@ ghost use Rattle.std.specs.List.{prefix_len, slice_split};
 /// The bytes before the first byte `at`, and those behind it where it is there.
 pub fn cut(bytes: &[u8], at: u8) -> (&[u8], Option<&[u8]>)
     ensures cut { MatchOption result.1 (slice_split (λ byte. byte == at) bytes.now ≡ result.0.now ∷ [])
-        (λ behind. slice_split (λ byte. byte == at) bytes.now ≡ result.0.now ∷ slice_split (λ byte. byte == at) behind.now) }
+        (λ behind. slice_split (λ byte. byte == at) bytes.now ≡ result.0.now ∷ slice_split (λ byte. byte == at)
+        behind.now) }
     ensures shorter { IfSome result.1 (λ behind. length behind.now < length bytes.now) }
 {
     let len = len_before(bytes, at);

@@ -29,8 +29,10 @@ pub fn parse_events(alloc: Global, text: &[u8]) -> Result<EventFile, ScriptError
     ensures file { IfOk result (λ file. IsEventFile text.now file) }
     ensures few { IfOk result (λ file. length file.events ≤ length text.now) }
     ensures fault { IfErr result (λ fault. fault ≢ ScriptError.NoMemory → IsFirstFault text.now fault) }
-    ensures whenever_file { (file : EventFile) → IsEventFile text.now file → IsOkAnd result (λ found. found ≡ file) ⊎ IsErrOf result ScriptError.NoMemory }
-    ensures whenever_fault { (fault : ScriptError) → IsFirstFault text.now fault → IsErrOf result fault ⊎ IsErrOf result ScriptError.NoMemory }
+    ensures whenever_file { (file : EventFile) → IsEventFile text.now file
+        → IsOkAnd result (λ found. found ≡ file) ⊎ IsErrOf result ScriptError.NoMemory }
+    ensures whenever_fault { (fault : ScriptError) → IsFirstFault text.now fault
+        → IsErrOf result fault ⊎ IsErrOf result ScriptError.NoMemory }
 {
     let Some(first) = next_statement(text, 1) else {
         return Err(ScriptError::NoStart);
@@ -47,7 +49,8 @@ pub fn parse_events(alloc: Global, text: &[u8]) -> Result<EventFile, ScriptError
 /// The component and the arguments of the first line.
 fn start_of(alloc: Global, line: &[u8], number: u32) -> Result<(Text, List<i32>), ScriptError>
     ensures read { IfOk result (λ start. of_lines.meaning (tokens line.now) ≡ Ok (EventLine.Start start.0 start.1)) }
-    ensures fault { IfErr result (λ fault. fault ≢ ScriptError.NoMemory → fault_in true number (of_lines.meaning (tokens line.now)) ≡ Some fault) }
+    ensures fault { IfErr result (λ fault. fault ≢ ScriptError.NoMemory
+        → fault_in true number (of_lines.meaning (tokens line.now)) ≡ Some fault) }
 {
     match meaning(alloc, line) {
         Ok(EventLine::Start { name, args }) => Ok((name, args)),
@@ -61,7 +64,8 @@ fn events_of(alloc: Global, text: &[u8], number: u32) -> Result<Vec<Event>, Scri
     requires { number + length text.now < 2 ^ 32 }
     ensures read { IfOk result (λ events. read_events (statements_from number text.now) ≡ Ok events.items) }
     ensures few { IfOk result (λ events. length events.items ≤ length text.now) }
-    ensures fault { IfErr result (λ fault. fault ≢ ScriptError.NoMemory → read_events (statements_from number text.now) ≡ Err fault) }
+    ensures fault { IfErr result (λ fault. fault ≢ ScriptError.NoMemory
+        → read_events (statements_from number text.now) ≡ Err fault) }
 {
     let mut events = Vec::new(alloc);
     let mut rest = text;
@@ -79,7 +83,8 @@ fn events_of(alloc: Global, text: &[u8], number: u32) -> Result<Vec<Event>, Scri
 /// The event of a line behind the first.
 fn event_of(alloc: Global, line: &[u8], number: u32) -> Result<Event, ScriptError>
     ensures read { IfOk result (λ event. event_at number (of_lines.meaning (tokens line.now)) ≡ Ok event) }
-    ensures fault { IfErr result (λ fault. fault ≢ ScriptError.NoMemory → event_at number (of_lines.meaning (tokens line.now)) ≡ Err fault) }
+    ensures fault { IfErr result (λ fault. fault ≢ ScriptError.NoMemory
+        → event_at number (of_lines.meaning (tokens line.now)) ≡ Err fault) }
 {
     match meaning(alloc, line) {
         Ok(EventLine::Event(event)) => Ok(event),

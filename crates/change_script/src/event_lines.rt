@@ -227,7 +227,8 @@ fn start(alloc: Global, line: &[u8]) -> Result<EventLine, LineError>
 
 /// The words up to the closing parenthesis, which ends the line.
 fn last_arguments(alloc: Global, line: &[u8]) -> Result<Option<Vec<&[u8]>>, NoMemory>
-    ensures { IfOk result (λ found. option_map (λ words. map (λ word. word.now) words.items) found ≡ at_end (arguments (tokens line.now))) }
+    ensures { IfOk result (λ found. option_map (λ words. map (λ word. word.now) words.items) found ≡ at_end
+        (arguments (tokens line.now))) }
 {
     match arguments(alloc, line)? {
         Some((words, rest)) if is_end(rest) => Ok(Some(words)),

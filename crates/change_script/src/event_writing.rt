@@ -48,7 +48,8 @@ fn put_of_target(piece: &mut [u8], end: usize, event: &Event) -> Option<usize>
     }
 }
 
-/// Puts the line of an event of a node before the byte at `end`, and tells where it starts. None of an event of the change.
+/// Puts the line of an event of a node before the byte at `end`, and tells where it starts. None of an event of the
+/// change.
 pub fn put_event(piece: &mut [u8], end: usize, event: &Event) -> Option<usize>
     requires room { 72 ≤ end }
     requires within { end ≤ length piece.old }
@@ -83,7 +84,8 @@ pub fn put_event(piece: &mut [u8], end: usize, event: &Event) -> Option<usize>
     }
 }
 
-/// Puts the lines of events of nodes at the end of a piece, and tells where they start. None where one is of the change.
+/// Puts the lines of events of nodes at the end of a piece, and tells where they start. None where one is of the
+/// change.
 pub fn put_events(piece: &mut [u8], events: &[Event]) -> Option<usize>
     requires room { length events.now * 72 ≤ length piece.old }
     ensures some { is_some result ≡ list_all (λ event. not (is_of_change event)) events.now }

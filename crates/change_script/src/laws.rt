@@ -14,15 +14,19 @@ ghost use Rattle.change_script.specs.Tokens.{arrow, begins_word, is_blank, is_si
 
 /// A text is one event file, or has one first fault, and never both.
 pub fn one_file_or_one_fault()
-    ensures one_file { (text : List ℕ) (file other : EventFile) → IsEventFile text file → IsEventFile text other → file ≡ other }
-    ensures one_fault { (text : List ℕ) (fault other : ScriptError) → IsFirstFault text fault → IsFirstFault text other → fault ≡ other }
-    ensures never_both { (text : List ℕ) (file : EventFile) (fault : ScriptError) → IsEventFile text file → IsFirstFault text fault → ⊥ }
-    ensures always_one { (text : List ℕ) → ((file : EventFile) × IsEventFile text file) ⊎ ((fault : ScriptError) × IsFirstFault text fault) }
+    ensures one_file { (text : List ℕ) (file other : EventFile) → IsEventFile text file → IsEventFile text other
+        → file ≡ other }
+    ensures one_fault { (text : List ℕ) (fault other : ScriptError) → IsFirstFault text fault
+        → IsFirstFault text other → fault ≡ other }
+    ensures never_both { (text : List ℕ) (file : EventFile) (fault : ScriptError) → IsEventFile text file
+        → IsFirstFault text fault → ⊥ }
+    ensures always_one { (text : List ℕ) → ((file : EventFile) × IsEventFile text file)
+        ⊎ ((fault : ScriptError) × IsFirstFault text fault) }
     ensures no_want_of_memory { (text : List ℕ) → IsFirstFault text ScriptError.NoMemory → ⊥ }
 {}
 
-/// What the tokens of a line are, from its front on: a blank is none, a sign is one, and so are all the bytes of a word,
-/// which go up to the next blank or sign.
+/// What the tokens of a line are, from its front on: a blank is none, a sign is one, and so are all the bytes of a
+/// word, which go up to the next blank or sign.
 pub fn words_are_longest()
     ensures blank { (byte : ℕ) (rest : List ℕ) → is_blank byte ≡ true → tokens (byte ∷ rest) ≡ tokens rest }
     ensures sign { (byte : ℕ) (rest : List ℕ) → is_sign byte ≡ true → tokens (byte ∷ rest) ≡ sign byte ∷ tokens rest }

@@ -21,7 +21,8 @@ pub struct NextLine<'a> {
 pub fn next_statement(text: &[u8], number: u32) -> Option<NextLine<'_>>
     requires { number + length text.now < 2 ^ 32 }
     ensures { MatchOption result (statements_from number text.now ≡ [])
-        (λ found. (statements_from number text.now ≡ record { number = found.number; bytes = found.bytes.now } ∷ statements_from (found.number + 1) found.rest.now)
+        (λ found. (statements_from number text.now ≡ record { number = found.number; bytes = found.bytes.now }
+        ∷ statements_from (found.number + 1) found.rest.now)
         × (number ≤ found.number) × (found.number + 1 + length found.rest.now ≤ number + length text.now)) }
 {
     let mut number = number;
@@ -45,7 +46,8 @@ pub fn next_statement(text: &[u8], number: u32) -> Option<NextLine<'_>>
 /// The first line of `text`, and what stands behind its line feed.
 fn cut_line(text: &[u8]) -> (&[u8], &[u8])
     requires { 0 < length text.now }
-    ensures cut { (number : ℕ) → statements_from number text.now ≡ statements_of number (result.0.now ∷ lines result.1.now) }
+    ensures cut { (number : ℕ)
+        → statements_from number text.now ≡ statements_of number (result.0.now ∷ lines result.1.now) }
     ensures shorter { length result.1.now < length text.now }
 {
     match cut(text, b'\n') {

@@ -52,8 +52,8 @@ pub enum HistoryLine {
     Reopen {
         port: u32,
     },
-    /// A look found the port closed, and no transaction there that its owner began by itself. Its last serial is this; a
-    /// call of a service may be under way.
+    /// A look found the port closed, and no transaction there that its owner began by itself. Its last serial is
+    /// this; a call of a service may be under way.
     Drained {
         port: u32,
         serial: u32,

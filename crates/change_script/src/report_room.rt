@@ -1,7 +1,7 @@
 //! How much room the text of a report takes, so that its memory is taken once.
 //!
-//! Room is an estimate by the lengths of names, paths and numbers: each line of a log is taken to be as long as its last.
-//! Nothing rests on it but how often memory is taken.
+//! Room is an estimate by the lengths of names, paths and numbers: each line of a log is taken to be as long as its
+//! last. Nothing rests on it but how often memory is taken.
 
 ghost use Rattle.std.specs.Prelude.{◌≤◌};
 
@@ -60,8 +60,8 @@ fn path_len(node: &Node) -> usize {
     node.path.as_bytes().len()
 }
 
-/// A node's path stands in its own line and in that of each of its ports, of which there are two at most; and in the line
-/// of each port that is linked to it.
+/// A node's path stands in its own line and in that of each of its ports, of which there are two at most; and in the
+/// line of each port that is linked to it.
 fn graph_room(graph: &Graph) -> usize {
     let nodes = graph.nodes();
     let mut room = 0usize;

@@ -55,7 +55,8 @@ fn list_made(alloc: Global, history: &[HistoryLine]) -> Result<Vec<MadeNode<'_>>
 
 /// Adds the node of a `make` line.
 fn push_made<'a>(made: &mut Vec<MadeNode<'a>>, line: &'a HistoryLine) -> Result<(), NoMemory>
-    ensures { OnOk result (map made_of made.new.items ≡ map made_of made.old.items ++ option_to_list (made_by line.now)) }
+    ensures { OnOk result
+        (map made_of made.new.items ≡ map made_of made.old.items ++ option_to_list (made_by line.now)) }
 {
     if let HistoryLine::Make { slot, node, .. } = line {
         made.push(MadeNode {
@@ -79,7 +80,8 @@ fn path_of<'a>(made: &[MadeNode<'a>], slot: u32) -> &'a [u8]
 
 /// The path at the slot's own place, where the slots so far were numbered in order.
 fn path_at_place<'a>(made: &[MadeNode<'a>], slot: u32) -> Option<&'a [u8]>
-    ensures { IfSome result (λ path. (node : MadeNode) × (slice_get made.now slot ≡ Some node) × (node.slot ≡ slot) × (node.path.now ≡ path.now)) }
+    ensures { IfSome result (λ path. (node : MadeNode) × (slice_get made.now slot ≡ Some node) × (node.slot ≡ slot)
+        × (node.path.now ≡ path.now)) }
 {
     let node = made.get(slot as usize)?;
     if node.slot == slot {
@@ -212,7 +214,8 @@ fn push_show(text: &mut Vec<u8>, graph: &Graph) -> Result<(), NoMemory>
 /// The log of each node.
 fn push_logs(text: &mut Vec<u8>, made: &[MadeNode<'_>], logs: &[NodeLog]) -> Result<(), NoMemory>
     requires { All (λ log. length (filter (λ m. m.slot == log.slot) (map made_of made.now)) ≡ 1) logs.now }
-    ensures { OnOk result (text.new.items ≡ text.old.items ++ flat_map (log_text second (map made_of made.now)) logs.now) }
+    ensures { OnOk result
+        (text.new.items ≡ text.old.items ++ flat_map (log_text second (map made_of made.now)) logs.now) }
 {
     for log in logs {
         push_log(text, path_of(made, log.slot), log)?;
@@ -222,7 +225,8 @@ fn push_logs(text: &mut Vec<u8>, made: &[MadeNode<'_>], logs: &[NodeLog]) -> Res
 
 /// `log SLOT PATH`, a line for each event, and the last line.
 fn push_log(text: &mut Vec<u8>, path: &[u8], log: &NodeLog) -> Result<(), NoMemory>
-    ensures { OnOk result (text.new.items ≡ text.old.items ++ (ended (log_head second path.now log.now.slot) ++ flat_map event_text log.now.events ++ last_text log.now.last)) }
+    ensures { OnOk result (text.new.items ≡ text.old.items ++ (ended (log_head second path.now log.now.slot)
+        ++ flat_map event_text log.now.events ++ last_text log.now.last)) }
 {
     push_head(text, log.slot, path)?;
     push_events(text, log.events.items())?;

@@ -33,8 +33,10 @@ pub fn parse_script(alloc: Global, text: &[u8]) -> Result<Script, ScriptError>
     ensures script { IfOk result (λ script. IsScript text.now script) }
     ensures few { IfOk result (λ script. length script.lines ≤ MAX_STATEMENTS) }
     ensures fault { IfErr result (λ fault. fault ≢ ScriptError.NoMemory → IsScriptFault text.now fault) }
-    ensures whenever_script { (script : Script) → IsScript text.now script → IsOkAnd result (λ found. found ≡ script) ⊎ IsErrOf result ScriptError.NoMemory }
-    ensures whenever_fault { (fault : ScriptError) → IsScriptFault text.now fault → IsErrOf result fault ⊎ IsErrOf result ScriptError.NoMemory }
+    ensures whenever_script { (script : Script) → IsScript text.now script
+        → IsOkAnd result (λ found. found ≡ script) ⊎ IsErrOf result ScriptError.NoMemory }
+    ensures whenever_fault { (fault : ScriptError) → IsScriptFault text.now fault
+        → IsErrOf result fault ⊎ IsErrOf result ScriptError.NoMemory }
 {
     let lines = lines_of(alloc, text)?;
     match lack(&lines) {
@@ -51,7 +53,8 @@ fn lines_of(alloc: Global, text: &[u8]) -> Result<Vec<ScriptLine>, ScriptError>
     ensures right { IfOk result (λ lines. first_fault (line_faults [] (statements text.now)) ≡ None) }
     ensures read { IfOk result (λ lines. lines.items ≡ said (statements text.now)) }
     ensures few { IfOk result (λ lines. length lines.items ≤ MAX_STATEMENTS) }
-    ensures fault { IfErr result (λ fault. fault ≢ ScriptError.NoMemory → first_fault (line_faults [] (statements text.now)) ≡ Some fault) }
+    ensures fault { IfErr result (λ fault. fault ≢ ScriptError.NoMemory
+        → first_fault (line_faults [] (statements text.now)) ≡ Some fault) }
 {
     let mut lines = Vec::new(alloc);
     let mut above = Above {
@@ -89,7 +92,8 @@ fn statement_of(
     ensures read { IfOk result (λ body. of_lines.meaning line.now ≡ Ok body) }
     ensures right { IfOk result (λ body. fault_in lines.now number (Ok body) ≡ None) }
     ensures few { IfOk result (λ body. length lines.now < MAX_STATEMENTS) }
-    ensures fault { IfErr result (λ fault. fault ≢ ScriptError.NoMemory → fault_in lines.now number (of_lines.meaning line.now) ≡ Some fault) }
+    ensures fault { IfErr result (λ fault. fault ≢ ScriptError.NoMemory
+        → fault_in lines.now number (of_lines.meaning line.now) ≡ Some fault) }
 {
     match meaning(alloc, line) {
         Ok(body) => in_its_place(lines, above, body, number),
@@ -121,7 +125,8 @@ fn in_its_place(
 impl Above {
     /// The same with this statement.
     fn and(self, body: &Body) -> Above
-        ensures { (lines : List ScriptLine) (number : ℕ) → IsAbove lines self → IsAbove (lines ++ record { number = number; body = body.now } ∷ []) result }
+        ensures { (lines : List ScriptLine) (number : ℕ) → IsAbove lines self
+            → IsAbove (lines ++ record { number = number; body = body.now } ∷ []) result }
     {
         Above {
             file: self.file || is_file(body),

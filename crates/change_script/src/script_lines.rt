@@ -104,7 +104,8 @@ fn body_of(alloc: Global, words: &StatementWords<'_>) -> Result<Body, NoMemory>
 fn start_of(alloc: Global, name: &[u8], args: &[&[u8]]) -> Result<Body, NoMemory>
     requires integers { list_all of_numbers.is_integer (map (λ word. word.now) args.now) ≡ true }
     requires fit { list_all of_numbers.integer_fits (map (λ word. word.now) args.now) ≡ true }
-    ensures { IfOk result (λ body. body ≡ Body.Start name.now (map of_numbers.integer (map (λ word. word.now) args.now))) }
+    ensures { IfOk result
+        (λ body. body ≡ Body.Start name.now (map of_numbers.integer (map (λ word. word.now) args.now))) }
 {
     let args = integer_values(alloc, args)?;
     let name = Text::from_bytes(alloc, name)?;
@@ -123,7 +124,8 @@ fn change_of(
 ) -> Result<Body, NoMemory>
     requires integers { list_all of_numbers.is_integer (map (λ word. word.now) args.now) ≡ true }
     requires fit { list_all of_numbers.integer_fits (map (λ word. word.now) args.now) ≡ true }
-    ensures { IfOk result (λ body. body ≡ Body.Change name.now (map of_numbers.integer (map (λ word. word.now) args.now)) within (map move_of (map ends_of moves.now))) }
+    ensures { IfOk result (λ body. body ≡ Body.Change name.now
+        (map of_numbers.integer (map (λ word. word.now) args.now)) within (map move_of (map ends_of moves.now))) }
 {
     let args = integer_values(alloc, args)?;
     let moves = moves_of(alloc, moves)?;

@@ -183,7 +183,8 @@ fn one_word(line: &[u8]) -> Option<&[u8]>
 
 /// The word behind `within`, and what stands behind it.
 fn within_at(line: &[u8]) -> Option<(&[u8], &[u8])>
-    ensures { option_map (λ pair. (pair.0.now, of_tokens.tokens pair.1.now)) result ≡ within_at (of_tokens.tokens line.now) }
+    ensures { option_map (λ pair. (pair.0.now, of_tokens.tokens pair.1.now)) result ≡ within_at
+        (of_tokens.tokens line.now) }
 {
     let (preposition, line) = first_word(line)?;
     let (count, line) = first_word(line)?;
@@ -209,7 +210,11 @@ fn start_words(alloc: Global, line: &[u8]) -> Result<Option<StatementWords<'_>>,
 
 /// Nothing, or the arguments in parentheses; and what stands behind them.
 fn optional_arguments(alloc: Global, line: &[u8]) -> Result<Option<(Vec<&[u8]>, &[u8])>, NoMemory>
-    ensures { IfOk result (λ found. option_map (λ pair. (map (λ word. word.now) pair.0.items, of_tokens.tokens pair.1.now)) found ≡ optional_arguments (of_tokens.tokens line.now)) }
+    ensures { IfOk result (λ found. option_map (λ pair. (
+      map (λ word. word.now) pair.0.items,
+      of_tokens.tokens
+          pair.1.now,
+    )) found ≡ optional_arguments (of_tokens.tokens line.now)) }
 {
     match after_sign(line, b'(') {
         Some(rest) => arguments(alloc, rest),
@@ -232,7 +237,8 @@ fn change_words(alloc: Global, line: &[u8]) -> Result<Option<StatementWords<'_>>
 
 /// `to` C, and what stands behind.
 fn change_head(line: &[u8]) -> Option<(&[u8], &[u8])>
-    ensures { option_map (λ pair. (pair.0.now, of_tokens.tokens pair.1.now)) result ≡ change_head (of_tokens.tokens line.now) }
+    ensures { option_map (λ pair. (pair.0.now, of_tokens.tokens pair.1.now)) result ≡ change_head
+        (of_tokens.tokens line.now) }
 {
     let (preposition, line) = first_word(line)?;
     let (name, line) = first_word(line)?;
@@ -250,7 +256,8 @@ fn change_with<'a>(
     args: Vec<&'a [u8]>,
     line: &'a [u8],
 ) -> Result<Option<StatementWords<'a>>, NoMemory>
-    ensures { IfOk result (λ found. option_map words_of found ≡ change_within name.now (map (λ word. word.now) args.entry.items) (within_at (of_tokens.tokens line.now))) }
+    ensures { IfOk result (λ found. option_map words_of found ≡ change_within name.now
+        (map (λ word. word.now) args.entry.items) (within_at (of_tokens.tokens line.now))) }
 {
     match within_and_moves(alloc, line)? {
         Some((within, moves)) => Ok(Some(StatementWords::Change {
@@ -268,7 +275,8 @@ fn within_and_moves(
     alloc: Global,
     line: &[u8],
 ) -> Result<Option<(&[u8], Vec<MoveWords<'_>>)>, NoMemory>
-    ensures { IfOk result (λ found. option_map (λ pair. (pair.0.now, map ends_of pair.1.items)) found ≡ within_and_moves (within_at (of_tokens.tokens line.now))) }
+    ensures { IfOk result (λ found. option_map (λ pair. (pair.0.now, map ends_of pair.1.items)) found
+        ≡ within_and_moves (within_at (of_tokens.tokens line.now))) }
 {
     let Some((within, line)) = within_at(line) else {
         return Ok(None);
@@ -281,7 +289,8 @@ fn within_and_moves(
 
 /// Nothing, or `moving` and moves.
 fn moves_in(alloc: Global, line: &[u8]) -> Result<Option<Vec<MoveWords<'_>>>, NoMemory>
-    ensures { IfOk result (λ found. option_map (λ moves. map ends_of moves.items) found ≡ moves_in (of_tokens.tokens line.now)) }
+    ensures { IfOk result
+        (λ found. option_map (λ moves. map ends_of moves.items) found ≡ moves_in (of_tokens.tokens line.now)) }
 {
     if is_end(line) {
         return Ok(Some(Vec::new(alloc)));
@@ -294,7 +303,8 @@ fn moves_in(alloc: Global, line: &[u8]) -> Result<Option<Vec<MoveWords<'_>>>, No
 
 /// PATH -> PATH {, PATH -> PATH}
 fn more_moves(alloc: Global, line: &[u8]) -> Result<Option<Vec<MoveWords<'_>>>, NoMemory>
-    ensures { IfOk result (λ found. option_map (λ moves. map ends_of moves.items) found ≡ more_moves (of_tokens.tokens line.now)) }
+    ensures { IfOk result
+        (λ found. option_map (λ moves. map ends_of moves.items) found ≡ more_moves (of_tokens.tokens line.now)) }
 {
     let mut moves = Vec::new(alloc);
     let mut rest = line;
@@ -315,7 +325,8 @@ fn more_moves(alloc: Global, line: &[u8]) -> Result<Option<Vec<MoveWords<'_>>>, 
 
 /// PATH -> PATH, and what stands behind.
 fn first_move(line: &[u8]) -> Option<(MoveWords<'_>, &[u8])>
-    ensures moved { option_map (λ pair. (ends_of pair.0, of_tokens.tokens pair.1.now)) result ≡ first_move (of_tokens.tokens line.now) }
+    ensures moved { option_map (λ pair. (ends_of pair.0, of_tokens.tokens pair.1.now)) result ≡ first_move
+        (of_tokens.tokens line.now) }
     ensures shorter { IfSome result (λ pair. length pair.1.now < length line.now) }
 {
     let (from, line) = first_word(line)?;

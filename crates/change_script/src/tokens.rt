@@ -6,7 +6,8 @@ ghost use Rattle.change_script.specs.Tokens.{ScriptToken, arrow, begins_arrow, b
 
 /// The word that comes first in `line`, and what stands behind it; `None` where no word comes first.
 pub fn first_word(line: &[u8]) -> Option<(&[u8], &[u8])>
-    ensures none { IfNone result ((bytes : List ℕ) (more : List ScriptToken) → tokens line.now ≡ word bytes ∷ more → ⊥) }
+    ensures none { IfNone result ((bytes : List ℕ) (more : List ScriptToken) → tokens line.now ≡ word bytes ∷ more
+        → ⊥) }
     ensures found { IfSome result (λ found. tokens line.now ≡ word found.0.now ∷ tokens found.1.now) }
     ensures shorter { IfSome result (λ found. length found.1.now < length line.now) }
 {

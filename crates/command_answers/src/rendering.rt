@@ -191,7 +191,8 @@ fn push_path(line: &mut Vec<u8>, path: &Text) -> Result<(), NoMemory>
 
 /// Writes two paths, each after a space.
 fn push_paths(line: &mut Vec<u8>, from: &Text, to: &Text) -> Result<(), NoMemory>
-    ensures { OnOk result (line.new.items ≡ line.old.items ++ lines.spaced (lines.path_word from.now ∷ lines.path_word to.now ∷ [])) }
+    ensures { OnOk result
+        (line.new.items ≡ line.old.items ++ lines.spaced (lines.path_word from.now ∷ lines.path_word to.now ∷ [])) }
 {
     push_path(line, from)?;
     push_path(line, to)
@@ -207,7 +208,8 @@ fn push_placed(line: &mut Vec<u8>, name: &[u8], at: At) -> Result<(), NoMemory>
 
 /// Writes the name of a fault, the path of an instance, and a place.
 fn push_placed_in(line: &mut Vec<u8>, name: &[u8], path: &Text, at: At) -> Result<(), NoMemory>
-    ensures { OnOk result (line.new.items ≡ line.old.items ++ lines.spaced (name.now ∷ lines.path_word path.now ∷ lines.place_word at ∷ [])) }
+    ensures { OnOk result (line.new.items ≡ line.old.items ++ lines.spaced
+        (name.now ∷ lines.path_word path.now ∷ lines.place_word at ∷ [])) }
 {
     push_word(line, name)?;
     push_path(line, path)?;
@@ -224,7 +226,8 @@ fn push_pathed(line: &mut Vec<u8>, name: &[u8], path: &Text) -> Result<(), NoMem
 
 /// Writes the name of a fault, the path of an instance, and an end of a binding in it.
 fn push_end_in(line: &mut Vec<u8>, name: &[u8], path: &Text, end: &Text) -> Result<(), NoMemory>
-    ensures { OnOk result (line.new.items ≡ line.old.items ++ lines.spaced (name.now ∷ lines.path_word path.now ∷ end.now ∷ [])) }
+    ensures { OnOk result
+        (line.new.items ≡ line.old.items ++ lines.spaced (name.now ∷ lines.path_word path.now ∷ end.now ∷ [])) }
 {
     push_word(line, name)?;
     push_path(line, path)?;

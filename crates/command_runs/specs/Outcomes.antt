@@ -50,7 +50,8 @@ MentionsFile Holds (commands.Plan file call target) name = name ≡ file
 MentionsFile Holds (commands.Replay file events) name = (name ≡ file) ⊎ (name ≡ events)
 MentionsFile Holds (commands.Upgrade file) name = name ≡ file
 MentionsFile Holds (commands.Step script) name =
-    (name ≡ script) ⊎ ((bytes : List ℕ) × (lines : Script) × Holds script bytes × IsScript bytes lines × Uses (lines_of_script lines.lines) name)
+    (name ≡ script) ⊎ ((bytes : List ℕ) × (lines : Script) × Holds script bytes × IsScript bytes lines
+    × Uses (lines_of_script lines.lines) name)
 MentionsFile Holds (commands.Big lanes) name = ⊥
 
 -- the words name the file
@@ -95,8 +96,8 @@ pub record IsScriptOf (files : Option Files) (name : List ℕ) (script : Script)
   pub within : length bytes ≤ file_limit
   pub is_script : IsScript bytes script
 
--- The script was run: its statements have the graphs to which the descriptions elaborate that the files hold, and what is
--- shown of the report of their run was written. The run ended as the report says.
+-- The script was run: its statements have the graphs to which the descriptions elaborate that the files hold, and
+-- what is shown of the report of their run was written. The run ended as the report says.
 pub record RanShowing (show : Report → List ℕ) (files : Option Files) (name : List ℕ) (own : Status) (taken taken' : Option (List ℕ))
     : Type 0 where
   pub script : Script
@@ -125,8 +126,8 @@ pub record LineRefused (files : Option Files) (name : List ℕ) (taken taken' : 
   pub refused : AreRefused (HoldsFile files) (TellsTooLong files) (lines_of_script script.lines) begun file words
   pub written : taken' ≡ with_bytes taken (description_line file words)
 
--- The script is too long, or the fault of its first line at fault was named, or what it lacks; and the line that says so
--- was written.
+-- The script is too long, or the fault of its first line at fault was named, or what it lacks; and the line that says
+-- so was written.
 pub data StatementsRefused (files : Option Files) (name : List ℕ) (taken taken' : Option (List ℕ)) : Type 0 where
   script_too_long :
       TellsTooLong files name → taken' ≡ with_bytes taken (script_line name (codes "TooLong" ∷ []))
@@ -168,7 +169,8 @@ abbrev pub Wants : Option Files → List (List ℕ) → List ℕ → Query → T
 Wants files words file (queries.Graph call) = Asks words (commands.Flat file call)
 Wants files words file (queries.Plan call target) = Asks words (commands.Plan file call target)
 Wants files words file (queries.Replay script) =
-    (name bytes : List ℕ) × Asks words (commands.Replay file name) × HoldsFile files name bytes × (length bytes ≤ file_limit) × IsEventFile bytes script
+    (name bytes : List ℕ) × Asks words (commands.Replay file name) × HoldsFile files name bytes
+    × (length bytes ≤ file_limit) × IsEventFile bytes script
 
 -- The file holds a description that has a graph for the component and its arguments, and the text of this graph was
 -- written.
@@ -223,7 +225,8 @@ NothingRefuses query file = IsSomeAnd file (λ text. (length text ≤ file_limit
 -- the bytes give this status for what is wanted, unless memory ran out or the sink failed
 abbrev pub EndsAsGiven : Query → Option (List ℕ) → Status → Type 0
 EndsAsGiven query file result =
-    IsSomeAnd file (λ text. (written : List ℕ) × AnswersQuery query text result written) ⊎ (result ≡ status.NoMemory) ⊎ (result ≡ status.WriteFault)
+    IsSomeAnd file (λ text. (written : List ℕ) × AnswersQuery query text result written) ⊎ (result ≡ status.NoMemory)
+    ⊎ (result ≡ status.WriteFault)
 
 -- The file of events is too long, or the fault of its first line at fault was named; and the line that says so was
 -- written.

@@ -18,6 +18,7 @@ IsRefused (queries.Replay script) text words = RefusesStart text script.name scr
 
 -- the bytes give this status and text
 abbrev pub AnswersQuery : Query → List ℕ → Status → List ℕ → Type 0
-AnswersQuery (queries.Graph call) text own written = (own ≡ status.Ok) × ((graph : Graph) × HasGraph text call.top call.args graph × (written ≡ graph_text graph))
+AnswersQuery (queries.Graph call) text own written = (own ≡ status.Ok)
+    × ((graph : Graph) × HasGraph text call.top call.args graph × (written ≡ graph_text graph))
 AnswersQuery (queries.Plan call target) text own written = (own ≡ status.Ok) × HasPlan text call target written
 AnswersQuery (queries.Replay script) text own written = HasReplay text script own written

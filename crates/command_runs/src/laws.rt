@@ -62,10 +62,12 @@ use report_parser::{a_text_tells_its_report, one_report_or_one_fault};
 /// A law of runs: Usage comes where the words have none of the forms, with its line, and nowhere else.
 pub fn usage_is_of_words_without_a_form()
     ensures only { (words : List (List ℕ)) (files : Option Files) (failures failures' : List (List ℕ))
-        (taken taken' : Option (List ℕ)) (faults faults' : ℕ) (result : Status) → Runs words files failures failures' taken taken' faults faults' result
+        (taken taken' : Option (List ℕ)) (faults faults' : ℕ) (result : Status)
+        → Runs words files failures failures' taken taken' faults faults' result
         → result ≡ Usage → HasNoForm words × (taken' ≡ with_bytes taken usage_line) }
     ensures always { (words : List (List ℕ)) (files : Option Files) (failures failures' : List (List ℕ))
-        (taken taken' : Option (List ℕ)) (faults faults' : ℕ) (result : Status) → Runs words files failures failures' taken taken' faults faults' result
+        (taken taken' : Option (List ℕ)) (faults faults' : ℕ) (result : Status)
+        → Runs words files failures failures' taken taken' faults faults' result
         → HasNoForm words → Ends result Usage }
 {}
 
@@ -73,11 +75,14 @@ pub fn usage_is_of_words_without_a_form()
 /// words name or a `use` line of the script that they name, and the line names it.
 pub fn read_faults_are_failed_fetches()
     ensures only { (words : List (List ℕ)) (files : Option Files) (failures failures' : List (List ℕ))
-        (taken taken' : Option (List ℕ)) (faults faults' : ℕ) (result : Status) → Runs words files failures failures' taken taken' faults faults' result
-        → result ≡ ReadFault → (file : List ℕ) × NamesFile (HoldsFile files) words file × (failures' ≡ failures ++ file ∷ [])
+        (taken taken' : Option (List ℕ)) (faults faults' : ℕ) (result : Status)
+        → Runs words files failures failures' taken taken' faults faults' result
+        → result ≡ ReadFault → (file : List ℕ) × NamesFile (HoldsFile files) words file
+        × (failures' ≡ failures ++ file ∷ [])
         × (taken' ≡ with_bytes taken (read_fault_line file)) }
     ensures always { (words : List (List ℕ)) (files : Option Files) (failures failures' : List (List ℕ))
-        (taken taken' : Option (List ℕ)) (faults faults' : ℕ) (result : Status) → Runs words files failures failures' taken taken' faults faults' result
+        (taken taken' : Option (List ℕ)) (faults faults' : ℕ) (result : Status)
+        → Runs words files failures failures' taken taken' faults faults' result
         → failures' ≢ failures → Ends result ReadFault }
 {}
 
@@ -85,40 +90,50 @@ pub fn read_faults_are_failed_fetches()
 /// another status could have had.
 pub fn write_faults_are_failed_puts()
     ensures only { (words : List (List ℕ)) (files : Option Files) (failures failures' : List (List ℕ))
-        (taken taken' : Option (List ℕ)) (faults faults' : ℕ) (result : Status) → Runs words files failures failures' taken taken' faults faults' result
+        (taken taken' : Option (List ℕ)) (faults faults' : ℕ) (result : Status)
+        → Runs words files failures failures' taken taken' faults faults' result
         → result ≡ WriteFault → Rose faults faults' × WroteFront words files failures failures' taken taken' }
     ensures always { (words : List (List ℕ)) (files : Option Files) (failures failures' : List (List ℕ))
-        (taken taken' : Option (List ℕ)) (faults faults' : ℕ) (result : Status) → Runs words files failures failures' taken taken' faults faults' result
+        (taken taken' : Option (List ℕ)) (faults faults' : ℕ) (result : Status)
+        → Runs words files failures failures' taken taken' faults faults' result
         → result ≢ WriteFault → faults' ≡ faults }
 {}
 
 /// A law of runs: with NoMemory goes its line, and no status of a command that is not here comes.
 pub fn want_of_memory_has_its_line()
     ensures line { (words : List (List ℕ)) (files : Option Files) (failures failures' : List (List ℕ))
-        (taken taken' : Option (List ℕ)) (faults faults' : ℕ) (result : Status) → Runs words files failures failures' taken taken' faults faults' result
+        (taken taken' : Option (List ℕ)) (faults faults' : ℕ) (result : Status)
+        → Runs words files failures failures' taken taken' faults faults' result
         → result ≡ NoMemory → taken' ≡ with_bytes taken no_memory_line }
     ensures no_other { (words : List (List ℕ)) (files : Option Files) (failures failures' : List (List ℕ))
-        (taken taken' : Option (List ℕ)) (faults faults' : ℕ) (result : Status) → Runs words files failures failures' taken taken' faults faults' result
+        (taken taken' : Option (List ℕ)) (faults faults' : ℕ) (result : Status)
+        → Runs words files failures failures' taken taken' faults faults' result
         → result ≢ Unlawful }
 {}
 
-/// A law of runs: the run of a script ends with Ok, Pending or Unfinished, and comes with the text of its report, or with
-/// its summary where the script was made: Pending exactly where the report says that a change was given up, Unfinished
-/// exactly where it names a node that wasn't done and no such change. The two come for no other command.
+/// A law of runs: the run of a script ends with Ok, Pending or Unfinished, and comes with the text of its report, or
+/// with its summary where the script was made: Pending exactly where the report says that a change was given up,
+/// Unfinished exactly where it names a node that wasn't done and no such change. The two come for no other command.
 pub fn runs_end_by_their_reports()
     ensures ran { (words : List (List ℕ)) (files : Option Files) (failures failures' : List (List ℕ))
-        (taken taken' : Option (List ℕ)) (faults faults' : ℕ) (result : Status) → Runs words files failures failures' taken taken' faults faults' result
+        (taken taken' : Option (List ℕ)) (faults faults' : ℕ) (result : Status)
+        → Runs words files failures failures' taken taken' faults faults' result
         → (name : List ℕ) → Asks words (commands.Step name) → IsRunStatus result → Ran files name result taken taken' }
     ensures summed { (words : List (List ℕ)) (files : Option Files) (failures failures' : List (List ℕ))
-        (taken taken' : Option (List ℕ)) (faults faults' : ℕ) (result : Status) → Runs words files failures failures' taken taken' faults faults' result
+        (taken taken' : Option (List ℕ)) (faults faults' : ℕ) (result : Status)
+        → Runs words files failures failures' taken taken' faults faults' result
         → (lanes : ℕ) → Asks words (commands.Big lanes) → IsRunStatus result → SummedUp lanes result taken taken' }
     ensures only { (words : List (List ℕ)) (files : Option Files) (failures failures' : List (List ℕ))
-        (taken taken' : Option (List ℕ)) (faults faults' : ℕ) (result : Status) → Runs words files failures failures' taken taken' faults faults' result
+        (taken taken' : Option (List ℕ)) (faults faults' : ℕ) (result : Status)
+        → Runs words files failures failures' taken taken' faults faults' result
         → (result ≡ Pending) ⊎ (result ≡ Unfinished)
         → ((name : List ℕ) × Asks words (commands.Step name)) ⊎ ((lanes : ℕ) × Asks words (commands.Big lanes)) }
-    ensures pending { (show : Report → List ℕ) (files : Option Files) (name : List ℕ) (own : Status) (taken taken' : Option (List ℕ))
-        (r : RanShowing show files name own taken taken') → (own ≡ Pending) ↔ (list_any is_pending r.report.history ≡ true) }
-    ensures unfinished { (show : Report → List ℕ) (files : Option Files) (name : List ℕ) (own : Status) (taken taken' : Option (List ℕ))
+    ensures pending { (show : Report → List ℕ) (files : Option Files) (name : List ℕ) (own : Status)
+        (taken taken' : Option (List ℕ))
+        (r : RanShowing show files name own taken taken')
+        → (own ≡ Pending) ↔ (list_any is_pending r.report.history ≡ true) }
+    ensures unfinished { (show : Report → List ℕ) (files : Option Files) (name : List ℕ) (own : Status)
+        (taken taken' : Option (List ℕ))
         (r : RanShowing show files name own taken taken')
         → (own ≡ Unfinished)
         ↔ ((list_any is_pending r.report.history ≡ false) × (is_some r.report.unfinished ≡ true)) }
@@ -135,11 +150,13 @@ pub fn lines_that_lead_on_are_statements()
 /// A law of runs: the program's own texts are written where they are asked for.
 pub fn own_texts_are_written()
     ensures helped { (words : List (List ℕ)) (files : Option Files) (failures failures' : List (List ℕ))
-        (taken taken' : Option (List ℕ)) (faults faults' : ℕ) (result : Status) → Runs words files failures failures' taken taken' faults faults' result
+        (taken taken' : Option (List ℕ)) (faults faults' : ℕ) (result : Status)
+        → Runs words files failures failures' taken taken' faults faults' result
         → Asks words commands.Help
         → Ends result Status.Ok × (result ≡ Status.Ok → taken' ≡ with_bytes taken help_text) }
     ensures versioned { (words : List (List ℕ)) (files : Option Files) (failures failures' : List (List ℕ))
-        (taken taken' : Option (List ℕ)) (faults faults' : ℕ) (result : Status) → Runs words files failures failures' taken taken' faults faults' result
+        (taken taken' : Option (List ℕ)) (faults faults' : ℕ) (result : Status)
+        → Runs words files failures failures' taken taken' faults faults' result
         → Asks words commands.Version
         → Ends result Status.Ok × (result ≡ Status.Ok → taken' ≡ with_bytes taken version_text) }
 {}
@@ -148,19 +165,23 @@ pub fn own_texts_are_written()
 /// report.
 pub fn what_is_asked_for_is_written()
     ensures flattened { (words : List (List ℕ)) (files : Option Files) (failures failures' : List (List ℕ))
-        (taken taken' : Option (List ℕ)) (faults faults' : ℕ) (result : Status) → Runs words files failures failures' taken taken' faults faults' result
+        (taken taken' : Option (List ℕ)) (faults faults' : ℕ) (result : Status)
+        → Runs words files failures failures' taken taken' faults faults' result
         → (file : List ℕ) (call : TopCall) → Asks words (commands.Flat file call) → result ≡ Status.Ok
         → Flattened files file call taken taken' }
     ensures planned { (words : List (List ℕ)) (files : Option Files) (failures failures' : List (List ℕ))
-        (taken taken' : Option (List ℕ)) (faults faults' : ℕ) (result : Status) → Runs words files failures failures' taken taken' faults faults' result
+        (taken taken' : Option (List ℕ)) (faults faults' : ℕ) (result : Status)
+        → Runs words files failures failures' taken taken' faults faults' result
         → (file : List ℕ) (call target : TopCall) → Asks words (commands.Plan file call target) → result ≡ Status.Ok
         → Planned files file call target taken taken' }
     ensures replayed { (words : List (List ℕ)) (files : Option Files) (failures failures' : List (List ℕ))
-        (taken taken' : Option (List ℕ)) (faults faults' : ℕ) (result : Status) → Runs words files failures failures' taken taken' faults faults' result
+        (taken taken' : Option (List ℕ)) (faults faults' : ℕ) (result : Status)
+        → Runs words files failures failures' taken taken' faults faults' result
         → (file events : List ℕ) → Asks words (commands.Replay file events) → result ≡ Status.Ok
         → Replayed files file events Status.Ok taken taken' }
     ensures upgraded { (words : List (List ℕ)) (files : Option Files) (failures failures' : List (List ℕ))
-        (taken taken' : Option (List ℕ)) (faults faults' : ℕ) (result : Status) → Runs words files failures failures' taken taken' faults faults' result
+        (taken taken' : Option (List ℕ)) (faults faults' : ℕ) (result : Status)
+        → Runs words files failures failures' taken taken' faults faults' result
         → (file : List ℕ) → Asks words (commands.Upgrade file) → result ≡ Status.Ok → Upgraded files file taken taken' }
 {}
 
@@ -168,11 +189,13 @@ pub fn what_is_asked_for_is_written()
 /// first such event and its first failing rule.
 pub fn denials_are_of_first_events()
     ensures only { (words : List (List ℕ)) (files : Option Files) (failures failures' : List (List ℕ))
-        (taken taken' : Option (List ℕ)) (faults faults' : ℕ) (result : Status) → Runs words files failures failures' taken taken' faults faults' result
+        (taken taken' : Option (List ℕ)) (faults faults' : ℕ) (result : Status)
+        → Runs words files failures failures' taken taken' faults faults' result
         → result ≡ Denied → (file events : List ℕ) × Asks words (commands.Replay file events)
         × Replayed files file events Denied taken taken' }
     ensures always { (words : List (List ℕ)) (files : Files) (failures failures' : List (List ℕ))
-        (taken taken' : Option (List ℕ)) (faults faults' : ℕ) (result : Status) → Runs words (Some files) failures failures' taken taken' faults faults' result
+        (taken taken' : Option (List ℕ)) (faults faults' : ℕ) (result : Status)
+        → Runs words (Some files) failures failures' taken taken' faults faults' result
         → failures' ≡ failures → (file : List ℕ) (script : EventFile) (text : List ℕ) (graph : Graph) (number rule : ℕ)
         → Wants (Some files) words file (queries.Replay script) → files file ≡ Some text → length text ≤ file_limit
         → Starts text script.name script.args graph → IsDenied (started graph) script.events number rule
@@ -183,24 +206,30 @@ pub fn denials_are_of_first_events()
 /// else; the line names the first fault, or what a script lacks.
 pub fn scripts_are_refused_for_their_first_fault()
     ensures only { (words : List (List ℕ)) (files : Option Files) (failures failures' : List (List ℕ))
-        (taken taken' : Option (List ℕ)) (faults faults' : ℕ) (result : Status) → Runs words files failures failures' taken taken' faults faults' result
+        (taken taken' : Option (List ℕ)) (faults faults' : ℕ) (result : Status)
+        → Runs words files failures failures' taken taken' faults faults' result
         → result ≡ Script → RefusesScript words files taken taken' }
     ensures always { (words : List (List ℕ)) (files : Files) (failures failures' : List (List ℕ))
-        (taken taken' : Option (List ℕ)) (faults faults' : ℕ) (result : Status) → Runs words (Some files) failures failures' taken taken' faults faults' result
+        (taken taken' : Option (List ℕ)) (faults faults' : ℕ) (result : Status)
+        → Runs words (Some files) failures failures' taken taken' faults faults' result
         → failures' ≡ failures → (file events : List ℕ) → Asks words (commands.Replay file events)
         → MustRefuseScript (files events)
         → Ends result Script }
     ensures always_report { (words : List (List ℕ)) (files : Files) (failures failures' : List (List ℕ))
-        (taken taken' : Option (List ℕ)) (faults faults' : ℕ) (result : Status) → Runs words (Some files) failures failures' taken taken' faults faults' result
+        (taken taken' : Option (List ℕ)) (faults faults' : ℕ) (result : Status)
+        → Runs words (Some files) failures failures' taken taken' faults faults' result
         → failures' ≡ failures → (file : List ℕ) → Asks words (commands.Upgrade file) → MustRefuseReport (files file)
         → Ends result Script }
     ensures always_script { (words : List (List ℕ)) (files : Files) (failures failures' : List (List ℕ))
-        (taken taken' : Option (List ℕ)) (faults faults' : ℕ) (result : Status) → Runs words (Some files) failures failures' taken taken' faults faults' result
+        (taken taken' : Option (List ℕ)) (faults faults' : ℕ) (result : Status)
+        → Runs words (Some files) failures failures' taken taken' faults faults' result
         → failures' ≡ failures → (name : List ℕ) → Asks words (commands.Step name) → MustRefuseStatements (files name)
         → Ends result Script }
     ensures always_made { (words : List (List ℕ)) (files : Option Files) (failures failures' : List (List ℕ))
-        (taken taken' : Option (List ℕ)) (faults faults' : ℕ) (result : Status) → Runs words files failures failures' taken taken' faults faults' result
-        → (lanes : ℕ) → Asks words (commands.Big lanes) → MustRefuseStatements (Some (script lanes)) → Ends result Script }
+        (taken taken' : Option (List ℕ)) (faults faults' : ℕ) (result : Status)
+        → Runs words files failures failures' taken taken' faults faults' result
+        → (lanes : ℕ) → Asks words (commands.Big lanes) → MustRefuseStatements (Some (script lanes))
+        → Ends result Script }
 {
     one_report_or_one_fault();
 }
@@ -209,19 +238,23 @@ pub fn scripts_are_refused_for_their_first_fault()
 /// nowhere else; the line names a fault that holds, of a script the first line that leads nowhere.
 pub fn descriptions_are_refused_for_faults_that_hold()
     ensures only { (words : List (List ℕ)) (files : Option Files) (failures failures' : List (List ℕ))
-        (taken taken' : Option (List ℕ)) (faults faults' : ℕ) (result : Status) → Runs words files failures failures' taken taken' faults faults' result
+        (taken taken' : Option (List ℕ)) (faults faults' : ℕ) (result : Status)
+        → Runs words files failures failures' taken taken' faults faults' result
         → result ≡ Description → RefusesDescription words files taken taken' }
     ensures always { (words : List (List ℕ)) (files : Files) (failures failures' : List (List ℕ))
-        (taken taken' : Option (List ℕ)) (faults faults' : ℕ) (result : Status) → Runs words (Some files) failures failures' taken taken' faults faults' result
+        (taken taken' : Option (List ℕ)) (faults faults' : ℕ) (result : Status)
+        → Runs words (Some files) failures failures' taken taken' faults faults' result
         → failures' ≡ failures → (file : List ℕ) (query : Query) → Wants (Some files) words file query
         → MustRefuse query (files file)
         → Ends result Description }
     ensures always_line { (words : List (List ℕ)) (files : Files) (failures failures' : List (List ℕ))
-        (taken taken' : Option (List ℕ)) (faults faults' : ℕ) (result : Status) → Runs words (Some files) failures failures' taken taken' faults faults' result
+        (taken taken' : Option (List ℕ)) (faults faults' : ℕ) (result : Status)
+        → Runs words (Some files) failures failures' taken taken' faults faults' result
         → failures' ≡ failures → (name : List ℕ) → Asks words (commands.Step name) → MustRefuseLine files (files name)
         → Ends result Description }
     ensures always_made_line { (words : List (List ℕ)) (files : Option Files) (failures failures' : List (List ℕ))
-        (taken taken' : Option (List ℕ)) (faults faults' : ℕ) (result : Status) → Runs words files failures failures' taken taken' faults faults' result
+        (taken taken' : Option (List ℕ)) (faults faults' : ℕ) (result : Status)
+        → Runs words files failures failures' taken taken' faults faults' result
         → (lanes : ℕ) → Asks words (commands.Big lanes) → MustRefuseLine (made_files lanes) (Some (script lanes))
         → Ends result Description }
 {
@@ -232,31 +265,39 @@ pub fn descriptions_are_refused_for_faults_that_hold()
 /// report is at fault, with its text; and where nothing refuses a script and its lines, with the report of its run.
 pub fn what_is_not_refused_is_answered()
     ensures complete { (words : List (List ℕ)) (files : Files) (failures failures' : List (List ℕ))
-        (taken taken' : Option (List ℕ)) (faults faults' : ℕ) (result : Status) → Runs words (Some files) failures failures' taken taken' faults faults' result
+        (taken taken' : Option (List ℕ)) (faults faults' : ℕ) (result : Status)
+        → Runs words (Some files) failures failures' taken taken' faults faults' result
         → failures' ≡ failures → (file : List ℕ) (query : Query) → Wants (Some files) words file query
         → NothingRefuses query (files file)
         → EndsAsGiven query (files file) result }
     ensures every_answer { (words : List (List ℕ)) (files : Files) (failures failures' : List (List ℕ))
-        (taken taken' : Option (List ℕ)) (faults faults' : ℕ) (result : Status) → Runs words (Some files) failures failures' taken taken' faults faults' result
+        (taken taken' : Option (List ℕ)) (faults faults' : ℕ) (result : Status)
+        → Runs words (Some files) failures failures' taken taken' faults faults' result
         → failures' ≡ failures → (file : List ℕ) (query : Query) (text : List ℕ) (own : Status) (written : List ℕ)
         → Wants (Some files) words file query → files file ≡ Some text → length text ≤ file_limit
         → AnswersQuery query text own written → Ends result own }
     ensures every_graph { (words : List (List ℕ)) (files : Files) (failures failures' : List (List ℕ))
-        (taken taken' : Option (List ℕ)) (faults faults' : ℕ) (result : Status) → Runs words (Some files) failures failures' taken taken' faults faults' result
+        (taken taken' : Option (List ℕ)) (faults faults' : ℕ) (result : Status)
+        → Runs words (Some files) failures failures' taken taken' faults faults' result
         → failures' ≡ failures → (file : List ℕ) (call : TopCall) (text : List ℕ) (graph : Graph)
         → Asks words (commands.Flat file call)
         → files file ≡ Some text → length text ≤ file_limit → HasGraph text call.top call.args graph
         → Ends result Status.Ok }
     ensures complete_report { (words : List (List ℕ)) (files : Files) (failures failures' : List (List ℕ))
-        (taken taken' : Option (List ℕ)) (faults faults' : ℕ) (result : Status) → Runs words (Some files) failures failures' taken taken' faults faults' result
-        → failures' ≡ failures → (file : List ℕ) → Asks words (commands.Upgrade file) → NothingRefusesReport (files file)
+        (taken taken' : Option (List ℕ)) (faults faults' : ℕ) (result : Status)
+        → Runs words (Some files) failures failures' taken taken' faults faults' result
+        → failures' ≡ failures → (file : List ℕ) → Asks words (commands.Upgrade file)
+        → NothingRefusesReport (files file)
         → Ends result Status.Ok }
     ensures complete_script { (words : List (List ℕ)) (files : Files) (failures failures' : List (List ℕ))
-        (taken taken' : Option (List ℕ)) (faults faults' : ℕ) (result : Status) → Runs words (Some files) failures failures' taken taken' faults faults' result
-        → failures' ≡ failures → (name : List ℕ) → Asks words (commands.Step name) → NothingRefusesLines files (files name)
+        (taken taken' : Option (List ℕ)) (faults faults' : ℕ) (result : Status)
+        → Runs words (Some files) failures failures' taken taken' faults faults' result
+        → failures' ≡ failures → (name : List ℕ) → Asks words (commands.Step name)
+        → NothingRefusesLines files (files name)
         → EndsAsRun result }
     ensures complete_big { (words : List (List ℕ)) (files : Option Files) (failures failures' : List (List ℕ))
-        (taken taken' : Option (List ℕ)) (faults faults' : ℕ) (result : Status) → Runs words files failures failures' taken taken' faults faults' result
+        (taken taken' : Option (List ℕ)) (faults faults' : ℕ) (result : Status)
+        → Runs words files failures failures' taken taken' faults faults' result
         → (lanes : ℕ) → Asks words (commands.Big lanes) → NothingRefusesLines (made_files lanes) (Some (script lanes))
         → EndsAsRun result }
 {}
@@ -336,9 +377,9 @@ pub fn what_bytes_give_is_one()
     one_report_or_one_fault();
 }
 
-/// A law: nothing hides behind want of memory. Of each text a graph of a component stands or a refusal, and a start or a
-/// refusal of it; there is room for a graph, or none; and each text is one of a report, or has a fault. That what is
-/// wanted of a text is neither refused nor answered can't be.
+/// A law: nothing hides behind want of memory. Of each text a graph of a component stands or a refusal, and a start
+/// or a refusal of it; there is room for a graph, or none; and each text is one of a report, or has a fault. That
+/// what is wanted of a text is neither refused nor answered can't be.
 pub fn what_is_wanted_is_refused_or_answered()
     ensures graphs { (text name : List ℕ) (args : List ℤ) → ((g : Graph) × HasGraph text name args g)
         ⊎ ((words : List (List ℕ)) × IsDescriptionRefusal text name args words) }

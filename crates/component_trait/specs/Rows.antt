@@ -1,6 +1,6 @@
 -- Short logs of each kind, with the numbers of the state to which they lead, and whether the node is done then.
--- `None`: no node of the kind has such a log. The first port of each node is 7; ports 3 and 4 are others' ports that are
--- linked to it.
+-- `None`: no node of the kind has such a log. The first port of each node is 7; ports 3 and 4 are others' ports that
+-- are linked to it.
 use Rattle.std.specs.Prelude.{◌≡◌, ℕ, Bool, true, false, List, [], ◌∷◌, Option, Some, None, option_map}
 use Rattle.config_graph.specs.declared.kind.Kind.{Kind}
 use Rattle.config_graph.specs.declared.kind.Kind.TheVariants.{Philosopher, Place, Fork, Source, Map, Buffer, Sink}

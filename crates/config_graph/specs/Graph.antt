@@ -1,6 +1,7 @@
--- Configurations as flat graphs (Kramer and Magee 1990: nodes and directed connections): a list of nodes, ordered by their
--- paths, and a list of links, ordered by their ports. Nodes are named by their places in the list, from 0. A port is a
--- required service of a node; ports are numbered through all nodes in order, each node's requirements in the order of its kind.
+-- Configurations as flat graphs (Kramer and Magee 1990: nodes and directed connections): a list of nodes, ordered by
+-- their paths, and a list of links, ordered by their ports. Nodes are named by their places in the list, from 0. A
+-- port is a required service of a node; ports are numbered through all nodes in order, each node's requirements in
+-- the order of its kind.
 use Rattle.std.specs.Prelude.{◌≡◌, ℕ, ◌+◌, ◌<◌, ◌^◌, Bool, false, ◌&&◌, ◌==◌, List, map, length, take, Option, option_map, slice_get, find, filter, filter_map, flat_map, position, sum_by, bytes_eq, All, AllPairs}
 use Rattle.std.specs.List.{enumerate_from, range_with_len}
 use Rattle.std.specs.Option.{option_map_or}

@@ -111,7 +111,8 @@ fn answer_replay<H: Shelf>(
     file: &str,
     events: &str,
 ) -> Result<Answer, NoMemory>
-    ensures answers { ComesBy (H.files shelf.old) (course_of (commands.Replay file.now events.now)) (H.failed shelf.old) (H.failed shelf.new) result }
+    ensures answers { ComesBy (H.files shelf.old) (course_of (commands.Replay file.now events.now))
+        (H.failed shelf.old) (H.failed shelf.new) result }
     ensures kept { H.files shelf.new ≡ H.files shelf.old }
 {
     let fetched = fetch_file(shelf, events, FILE_LIMIT)?;
@@ -128,7 +129,8 @@ fn answer_replay<H: Shelf>(
 
 /// Fetches a report, and answers its text in the version that is written today.
 fn answer_report<H: Shelf>(alloc: Global, shelf: &mut H, file: &str) -> Result<Answer, NoMemory>
-    ensures answers { ComesBy (H.files shelf.old) (course_of (commands.Upgrade file.now)) (H.failed shelf.old) (H.failed shelf.new) result }
+    ensures answers { ComesBy (H.files shelf.old) (course_of (commands.Upgrade file.now)) (H.failed shelf.old)
+        (H.failed shelf.new) result }
     ensures kept { H.files shelf.new ≡ H.files shelf.old }
 {
     let fetched = fetch_file(shelf, file, REPORT_LIMIT)?;
@@ -137,7 +139,8 @@ fn answer_report<H: Shelf>(alloc: Global, shelf: &mut H, file: &str) -> Result<A
 
 /// Fetches a script and what it uses, runs it, and answers the report.
 fn answer_script<H: Shelf>(alloc: Global, shelf: &mut H, name: &str) -> Result<Answer, NoMemory>
-    ensures answers { ComesBy (H.files shelf.old) (course_of (commands.Step name.now)) (H.failed shelf.old) (H.failed shelf.new) result }
+    ensures answers { ComesBy (H.files shelf.old) (course_of (commands.Step name.now)) (H.failed shelf.old)
+        (H.failed shelf.new) result }
     ensures kept { H.files shelf.new ≡ H.files shelf.old }
 {
     match prepare(alloc, shelf, name)? {
@@ -161,7 +164,8 @@ fn answer_big(alloc: Global, lanes: u32) -> Result<Answer, NoMemory>
 fn run_script(alloc: Global, start: Start, steps: Vec<Step>) -> Result<Answer, NoMemory>
     requires start { CanStart start }
     requires steps { CanDoAll (after_start start) steps.items }
-    ensures { IfOk result (λ answer. ShowsAnswer (EndsRun (statements_of start steps.items)) answer.status answer.text.items) }
+    ensures { IfOk result
+        (λ answer. ShowsAnswer (EndsRun (statements_of start steps.items)) answer.status answer.text.items) }
 {
     let report = report_of(alloc, start, steps)?;
     answer_run(alloc, &report)
@@ -171,7 +175,8 @@ fn run_script(alloc: Global, start: Start, steps: Vec<Step>) -> Result<Answer, N
 fn sum_up(alloc: Global, lanes: u32, start: Start, steps: Vec<Step>) -> Result<Answer, NoMemory>
     requires start { CanStart start }
     requires steps { CanDoAll (after_start start) steps.items }
-    ensures { IfOk result (λ answer. ShowsAnswer (EndsInSummary lanes (statements_of start steps.items)) answer.status answer.text.items) }
+    ensures { IfOk result (λ answer. ShowsAnswer (EndsInSummary lanes (statements_of start steps.items))
+        answer.status answer.text.items) }
 {
     let report = report_of(alloc, start, steps)?;
     answer_summary(alloc, lanes, &report)

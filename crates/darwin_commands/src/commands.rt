@@ -44,11 +44,12 @@ pub fn still<H: Shelf, K: Sink>(
         → result ≡ Status.Ok → Replayed (H.files shelf.old) file events Status.Ok (K.taken out.old) (K.taken out.new) }
     ensures upgraded { (file : List ℕ) → Asks (map string_bytes words.now) (commands.Upgrade file) → result ≡ Status.Ok
         → Upgraded (H.files shelf.old) file (K.taken out.old) (K.taken out.new) }
-    // Of `step` the text of the report of the script's run, and the status that the report tells. The report is the one of
-    // rounds for the statements of the script over the graphs of its descriptions, and it is lawful for them.
+    // Of `step` the text of the report of the script's run, and the status that the report tells. The report is the
+    // one of rounds for the statements of the script over the graphs of its descriptions, and it is lawful for them.
     ensures ran { (name : List ℕ) → Asks (map string_bytes words.now) (commands.Step name) → IsRunStatus result
         → Ran (H.files shelf.old) name result (K.taken out.old) (K.taken out.new) }
-    // Of `big` the summary of such a report, of the script and the description that it makes, which it fetches from nowhere.
+    // Of `big` the summary of such a report, of the script and the description that it makes, which it fetches from
+    // nowhere.
     ensures summed { (lanes : ℕ) → Asks (map string_bytes words.now) (commands.Big lanes) → IsRunStatus result
         → SummedUp lanes result (K.taken out.old) (K.taken out.new) }
     // The first event that is no step is denied, with its first failing rule.
@@ -62,7 +63,8 @@ pub fn still<H: Shelf, K: Sink>(
         → EndsAsGiven query (files file) result }
     // Where nothing refuses the script and its lines, it is run.
     ensures complete_script { (name : List ℕ) (files : Files) → Asks (map string_bytes words.now) (commands.Step name)
-        → H.files shelf.old ≡ Some files → H.failed shelf.new ≡ H.failed shelf.old → NothingRefusesLines files (files name)
+        → H.files shelf.old ≡ Some files → H.failed shelf.new ≡ H.failed shelf.old
+        → NothingRefusesLines files (files name)
         → EndsAsRun result }
     // And so is the script that is made, of which nothing is refused.
     ensures complete_big { (lanes : ℕ) → Asks (map string_bytes words.now) (commands.Big lanes) → EndsAsRun result }

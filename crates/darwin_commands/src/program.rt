@@ -44,7 +44,8 @@ pub fn run_program<H: Shelf, K: Sink>(
         × (H.failed shelf.new ≡ H.failed shelf.old)) }
     // No fetch changes the files. Words that name no file fetch none: the shelf is as it was.
     ensures kept { H.files shelf.new ≡ H.files shelf.old }
-    ensures untouched { IfOk args (λ args. AskForNoFile (map string_bytes (drop 1 (into_iter_items args))) → shelf.new ≡ shelf.old) }
+    ensures untouched { IfOk args (λ args. AskForNoFile (map string_bytes (drop 1 (into_iter_items args)))
+        → shelf.new ≡ shelf.old) }
     ensures unread { OnErr args (shelf.new ≡ shelf.old) }
 {
     exit_code(run_args(alloc, args, shelf, out))
@@ -68,7 +69,8 @@ fn run_args<H: Shelf, K: Sink>(
         (K.taken out.old) (K.taken out.new) (K.faults out.old) (K.faults out.new) result
         × (H.failed shelf.new ≡ H.failed shelf.old)) }
     ensures kept { H.files shelf.new ≡ H.files shelf.old }
-    ensures untouched { IfOk args (λ args. AskForNoFile (map string_bytes (drop 1 (into_iter_items args))) → shelf.new ≡ shelf.old) }
+    ensures untouched { IfOk args (λ args. AskForNoFile (map string_bytes (drop 1 (into_iter_items args)))
+        → shelf.new ≡ shelf.old) }
     ensures unread { OnErr args (shelf.new ≡ shelf.old) }
 {
     match args {

@@ -1,4 +1,5 @@
--- The words of the language with their bytes: which bytes are blanks, letters and digits, the eleven keywords, and the twenty-three signs.
+-- The words of the language with their bytes: which bytes are blanks, letters and digits, the eleven keywords, and
+-- the twenty-three signs.
 use Rattle.std.specs.Prelude.{ℕ, Bool, ◌==◌, ◌||◌, nat_eq, Option, Some, None, List, [], ◌∷◌, ◌++◌, find, codes}
 use Rattle.std.specs.List.{starts_with}
 use Rattle.std.specs.Str.{bytes_eq}

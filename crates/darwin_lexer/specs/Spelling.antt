@@ -1,4 +1,5 @@
--- What each piece of a text is, apart from how it is found: how the tokens are spelled, what a blank and a comment are, and when a front is at fault.
+-- What each piece of a text is, apart from how it is found: how the tokens are spelled, what a blank and a comment
+-- are, and when a front is at fault.
 use Rattle.std.specs.Prelude.{◌≡◌, ◌≢◌, ℕ, ◌+◌, ◌-◌, ◌<◌, ◌≤◌, ◌⊎◌, ◌==◌, Bool, true, false, not, nat_eq, List, [], ◌∷◌, take, drop, length, codes, slice_index}
 use Rattle.std.specs.List.{starts_with, AllPass}
 use Rattle.std.specs.Char.{is_ascii_digit}
@@ -47,7 +48,8 @@ opens_line_comment text = starts_with nat_eq text (codes "//")
 abbrev pub opens_block_comment : List ℕ → Bool
 opens_block_comment text = starts_with nat_eq text (codes "/*")
 
--- No comment begins a text, its first n bytes are a token of this kind, and no more bytes of it are a token of any kind.
+-- No comment begins a text, its first n bytes are a token of this kind, and no more bytes of it are a token of any
+-- kind.
 pub record IsLongest (text : List ℕ) (kind : TokenKind) (n : ℕ) : Type 0 where
   pub no_line_comment : opens_line_comment text ≡ false
   pub no_block_comment : opens_block_comment text ≡ false

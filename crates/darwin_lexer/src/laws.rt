@@ -19,7 +19,8 @@ pub fn one_reading()
     ensures never_both { (text : List ℕ) (tokens : List Token) (fault : LexicalFault) (at : At)
         → IsTokens text tokens → FirstFault text fault at → ⊥ }
     ensures always_one { (text : List ℕ)
-        → ((tokens : List Token) × IsTokens text tokens) ⊎ ((fault : LexicalFault) × (at : At) × FirstFault text fault at) }
+        → ((tokens : List Token) × IsTokens text tokens)
+        ⊎ ((fault : LexicalFault) × (at : At) × FirstFault text fault at) }
 {}
 
 /// What stands at the front of a text is a blank, a comment or a token that can't be longer, or is at

@@ -1,5 +1,6 @@
--- The grammar of descriptions, one definition a production: which tokens spell which tree. The numbers say how deep operands and
--- statements may nest. Chains of one level group to the left, comparisons don't chain, and a place is that of the first token.
+-- The grammar of descriptions, one definition a production: which tokens spell which tree. The numbers say how deep
+-- operands and statements may nest. Chains of one level group to the left, comparisons don't chain, and a place is
+-- that of the first token.
 use Rattle.std.specs.Prelude.{◌≡◌, ℕ, zero, suc, List, [], ◌∷◌, ◌++◌, Option, Some, None, fold, unwrap_or}
 use Rattle.std.specs.List.{flat_map}
 use Rattle.darwin_lexer.specs.declared.token.At.{At}
@@ -237,7 +238,15 @@ module _ (text : List ℕ) (operands : ℕ) where
         owner ← port_end
         sign signs.Dot
         port ← port_end
-        give (owner.0, record { inst = Some (bytes_of text owner.0); inst_index = owner.1; port = bytes_of text port.0; port_index = port.1 }))
+        give (
+          owner.0,
+          record {
+            inst = Some (bytes_of text owner.0);
+            inst_index = owner.1;
+            port = bytes_of text port.0;
+            port_index = port.1;
+          },
+        ))
 
   -- bindentry = end "--" end ";"
   unfoldable pub bindentry : Lang BindEntry
@@ -350,7 +359,8 @@ module _ (text : List ℕ) (operands : ℕ) where
     inside ← parts statements_nested
     give (component_of t x parameters inside)
 
--- unit = { component }, with operands in at most so many parentheses and minus signs, and statements in at most so many bodies
+-- unit = { component }, with operands in at most so many parentheses and minus signs, and statements in at most so
+-- many bodies
 unfoldable pub IsUnitWithin : ℕ → ℕ → List ℕ → List Token → Tree → Type 0
 IsUnitWithin operands statements_nested text = many (component text operands statements_nested)
 

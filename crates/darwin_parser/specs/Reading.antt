@@ -191,7 +191,8 @@ nested_over factor =
       pure e)
 
 unfoldable pub note_token : Reader Token
-note_token = choose (sees kinds.Name) (expect kinds.Name) (choose (sees (kinds.Word words.Int)) (expect (kinds.Word words.Int)) (expect (kinds.Sign signs.Comma)))
+note_token = choose (sees kinds.Name) (expect kinds.Name)
+    (choose (sees (kinds.Word words.Int)) (expect (kinds.Word words.Int)) (expect (kinds.Sign signs.Comma)))
 
 module _ (text : List ℕ) where
   unfoldable pub name : Reader Name

@@ -18,16 +18,16 @@ pub record UnitBegins (levels : ℕ) (text : List ℕ) (front : List Token) : Ty
   pub tree : Tree
   pub unit : IsUnitLifted levels text (front ++ others) tree
 
--- Token n can't stand there: a unit begins with the tokens before it, and none does with it as well, however deep units may nest. Where n is the
--- count of tokens, they aren't a unit yet.
+-- Token n can't stand there: a unit begins with the tokens before it, and none does with it as well, however deep
+-- units may nest. Where n is the count of tokens, they aren't a unit yet.
 pub record IsUnexpected (text : List ℕ) (tokens : List Token) (n : ℕ) : Type 0 where
   pub within : n ≤ length tokens
   pub before : UnitBegins 0 text (take n tokens)
   pub refused : n < length tokens → (levels : ℕ) → UnitBegins levels text (take (n + 1) tokens) → ⊥
   pub unfinished : n ≡ length tokens → (levels : ℕ) (tree : Tree) → IsUnitLifted levels text tokens tree → ⊥
 
--- Token n opens one level too many: a unit begins with the tokens before it, none does with it as well, and one would if
--- units nested one level deeper.
+-- Token n opens one level too many: a unit begins with the tokens before it, none does with it as well, and one would
+-- if units nested one level deeper.
 pub record IsTooNested (text : List ℕ) (tokens : List Token) (n : ℕ) : Type 0 where
   pub within : n < length tokens
   pub before : UnitBegins 0 text (take n tokens)

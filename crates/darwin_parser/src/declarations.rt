@@ -71,7 +71,8 @@ impl Source<'_> {
 
     #[tactic(auto, unfolding(crate::specs::Reading::component))]
     fn component(&self, tokens: &mut Tokens<'_>) -> Result<Component, Stop>
-        ensures reads { Reads component_of (reading.component self.now.text.now 32 16 tokens.old.rest.now) result tokens.new.rest.now }
+        ensures reads { Reads component_of (reading.component self.now.text.now 32 16 tokens.old.rest.now)
+            result tokens.new.rest.now }
         ensures shorter { OnOk result (length tokens.new.rest.now < length tokens.old.rest.now) }
     {
         let at = tokens.word(Keyword::Component)?.at;
@@ -96,7 +97,8 @@ impl Source<'_> {
     /// `[ "(" [ param {"," param} ] ")" ]`
     #[tactic(auto, unfolding(crate::specs::Reading::params, crate::specs::Reading::after))]
     fn params(&self, tokens: &mut Tokens<'_>) -> Result<Vec<Text>, Stop>
-        ensures reads { Reads (λ v. v.items) (reading.params self.now.text.now tokens.old.rest.now) result tokens.new.rest.now }
+        ensures reads { Reads (λ v. v.items) (reading.params self.now.text.now tokens.old.rest.now) result
+            tokens.new.rest.now }
         ensures shorter { OnOk result (length tokens.new.rest.now ≤ length tokens.old.rest.now) }
     {
         if !tokens.sees_sign(Sign::OpenParen) {
@@ -114,7 +116,8 @@ impl Source<'_> {
     /// `param {"," param}`
     #[tactic(auto, unfolding(crate::specs::Reading::param_list))]
     fn param_list(&self, tokens: &mut Tokens<'_>) -> Result<Vec<Text>, Stop>
-        ensures reads { Reads (λ v. v.items) (reading.param_list self.now.text.now tokens.old.rest.now) result tokens.new.rest.now }
+        ensures reads { Reads (λ v. v.items) (reading.param_list self.now.text.now tokens.old.rest.now) result
+            tokens.new.rest.now }
         ensures shorter { OnOk result (length tokens.new.rest.now < length tokens.old.rest.now) }
     {
         let mut params = Vec::new(self.alloc);
@@ -129,7 +132,8 @@ impl Source<'_> {
     /// `"int" NAME`
     #[tactic(auto, unfolding(crate::specs::Reading::param))]
     fn param(&self, tokens: &mut Tokens<'_>) -> Result<Text, Stop>
-        ensures reads { Reads (λ x. x) (reading.param self.now.text.now tokens.old.rest.now) result tokens.new.rest.now }
+        ensures reads { Reads (λ x. x) (reading.param self.now.text.now tokens.old.rest.now) result
+            tokens.new.rest.now }
         ensures shorter { OnOk result (length tokens.new.rest.now < length tokens.old.rest.now) }
     {
         tokens.word(Keyword::Int)?;
@@ -138,7 +142,8 @@ impl Source<'_> {
 
     /// `{ item } "}"`
     fn parts(&self, tokens: &mut Tokens<'_>) -> Result<Parts, Stop>
-        ensures reads { Reads parts_of (reading.parts self.now.text.now 32 16 tokens.old.rest.now) result tokens.new.rest.now }
+        ensures reads { Reads parts_of (reading.parts self.now.text.now 32 16 tokens.old.rest.now) result
+            tokens.new.rest.now }
         ensures shorter { OnOk result (length tokens.new.rest.now < length tokens.old.rest.now) }
     {
         let mut parts = Parts::new(self.alloc);
@@ -152,7 +157,8 @@ impl Source<'_> {
     /// `ports | arrays | statement`
     #[tactic(auto, unfolding(crate::specs::Reading::item))]
     fn item(&self, tokens: &mut Tokens<'_>) -> Result<Item, Stop>
-        ensures reads { Reads item_of (reading.item self.now.text.now 32 16 tokens.old.rest.now) result tokens.new.rest.now }
+        ensures reads { Reads item_of (reading.item self.now.text.now 32 16 tokens.old.rest.now) result
+            tokens.new.rest.now }
         ensures shorter { OnOk result (length tokens.new.rest.now < length tokens.old.rest.now) }
     {
         if tokens.sees_word(Keyword::Provide) {
@@ -169,7 +175,8 @@ impl Source<'_> {
     /// `("provide" | "require") port {"," port} ";"`
     #[tactic(auto, unfolding(crate::specs::Reading::port_list))]
     fn ports(&self, tokens: &mut Tokens<'_>, side: Side) -> Result<Vec<PortDecl>, Stop>
-        ensures reads { Reads (λ v. map port_of v.items) (reading.port_list self.now.text.now 32 side tokens.old.rest.now) result tokens.new.rest.now }
+        ensures reads { Reads (λ v. map port_of v.items)
+            (reading.port_list self.now.text.now 32 side tokens.old.rest.now) result tokens.new.rest.now }
         ensures shorter { OnOk result (length tokens.new.rest.now < length tokens.old.rest.now) }
     {
         let at = tokens.word(side_word(side))?.at;
@@ -181,7 +188,8 @@ impl Source<'_> {
     /// `port {"," port}`
     #[tactic(auto, unfolding(crate::specs::Reading::ports_at))]
     fn ports_at(&self, tokens: &mut Tokens<'_>, side: Side, at: At) -> Result<Vec<PortDecl>, Stop>
-        ensures reads { Reads (λ v. map port_of v.items) (reading.ports_at self.now.text.now 32 side at tokens.old.rest.now) result tokens.new.rest.now }
+        ensures reads { Reads (λ v. map port_of v.items)
+            (reading.ports_at self.now.text.now 32 side at tokens.old.rest.now) result tokens.new.rest.now }
         ensures shorter { OnOk result (length tokens.new.rest.now < length tokens.old.rest.now) }
     {
         let mut ports = Vec::new(self.alloc);
@@ -196,7 +204,8 @@ impl Source<'_> {
     /// `NAME [ "[" expr "]" ] [ "<" note { note } ">" ]`
     #[tactic(auto, unfolding(crate::specs::Reading::port))]
     fn port(&self, tokens: &mut Tokens<'_>, side: Side, at: At) -> Result<PortDecl, Stop>
-        ensures reads { Reads port_of (reading.port self.now.text.now 32 side at tokens.old.rest.now) result tokens.new.rest.now }
+        ensures reads { Reads port_of (reading.port self.now.text.now 32 side at tokens.old.rest.now) result
+            tokens.new.rest.now }
         ensures shorter { OnOk result (length tokens.new.rest.now < length tokens.old.rest.now) }
     {
         let name = self.name(tokens)?;
@@ -214,7 +223,8 @@ impl Source<'_> {
     /// `[ "<" note { note } ">" ]`
     #[tactic(auto, unfolding(crate::specs::Reading::notes))]
     fn notes(&self, tokens: &mut Tokens<'_>) -> Result<Option<Vec<Text>>, Stop>
-        ensures reads { Reads (option_map (λ v. v.items)) (reading.notes self.now.text.now tokens.old.rest.now) result tokens.new.rest.now }
+        ensures reads { Reads (option_map (λ v. v.items)) (reading.notes self.now.text.now tokens.old.rest.now)
+            result tokens.new.rest.now }
         ensures shorter { OnOk result (length tokens.new.rest.now ≤ length tokens.old.rest.now) }
     {
         if !tokens.sees_sign(Sign::Less) {
@@ -226,7 +236,8 @@ impl Source<'_> {
     /// `"<" note { note } ">"`
     #[tactic(auto, unfolding(crate::specs::Reading::note_list))]
     fn note_list(&self, tokens: &mut Tokens<'_>) -> Result<Vec<Text>, Stop>
-        ensures reads { Reads (λ v. v.items) (reading.note_list self.now.text.now tokens.old.rest.now) result tokens.new.rest.now }
+        ensures reads { Reads (λ v. v.items) (reading.note_list self.now.text.now tokens.old.rest.now) result
+            tokens.new.rest.now }
         ensures shorter { OnOk result (length tokens.new.rest.now < length tokens.old.rest.now) }
     {
         tokens.sign(Sign::Less)?;
@@ -252,7 +263,8 @@ impl Source<'_> {
     /// `"array" arrayentry { arrayentry }`
     #[tactic(auto, unfolding(crate::specs::Reading::array_list))]
     fn arrays(&self, tokens: &mut Tokens<'_>) -> Result<Vec<ArrayDecl>, Stop>
-        ensures reads { Reads (λ v. map array_of v.items) (reading.array_list self.now.text.now 32 tokens.old.rest.now) result tokens.new.rest.now }
+        ensures reads { Reads (λ v. map array_of v.items)
+            (reading.array_list self.now.text.now 32 tokens.old.rest.now) result tokens.new.rest.now }
         ensures shorter { OnOk result (length tokens.new.rest.now < length tokens.old.rest.now) }
     {
         tokens.word(Keyword::Array)?;
@@ -268,7 +280,8 @@ impl Source<'_> {
     /// `NAME "[" expr "]" ":" NAME [ args ] ";"`
     #[tactic(auto, unfolding(crate::specs::Reading::arrayentry))]
     fn array(&self, tokens: &mut Tokens<'_>) -> Result<ArrayDecl, Stop>
-        ensures reads { Reads array_of (reading.arrayentry self.now.text.now 32 tokens.old.rest.now) result tokens.new.rest.now }
+        ensures reads { Reads array_of (reading.arrayentry self.now.text.now 32 tokens.old.rest.now) result
+            tokens.new.rest.now }
         ensures shorter { OnOk result (length tokens.new.rest.now < length tokens.old.rest.now) }
     {
         let name = tokens.name()?;

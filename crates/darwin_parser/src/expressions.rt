@@ -18,7 +18,8 @@ pub const MAX_OPERAND_NESTING: usize = 32;
 impl Source<'_> {
     #[tactic(auto, unfolding(crate::specs::Reading::expr, crate::specs::Reading::expr_over))]
     pub fn expr(&self, tokens: &mut Tokens<'_>) -> Result<Expr, Stop>
-        ensures reads { Reads expr_of (reading.expr self.now.text.now 32 tokens.old.rest.now) result tokens.new.rest.now }
+        ensures reads { Reads expr_of (reading.expr self.now.text.now 32 tokens.old.rest.now) result
+            tokens.new.rest.now }
         ensures shorter { OnOk result (length tokens.new.rest.now < length tokens.old.rest.now) }
     {
         self.chain(tokens, Level::Or, MAX_OPERAND_NESTING)
@@ -27,7 +28,8 @@ impl Source<'_> {
     /// `"[" expr "]"`
     #[tactic(auto, unfolding(crate::specs::Reading::bracketed))]
     pub fn bracketed(&self, tokens: &mut Tokens<'_>) -> Result<Expr, Stop>
-        ensures reads { Reads expr_of (reading.bracketed self.now.text.now 32 tokens.old.rest.now) result tokens.new.rest.now }
+        ensures reads { Reads expr_of (reading.bracketed self.now.text.now 32 tokens.old.rest.now) result
+            tokens.new.rest.now }
         ensures shorter { OnOk result (length tokens.new.rest.now < length tokens.old.rest.now) }
     {
         tokens.sign(Sign::OpenBracket)?;
@@ -39,7 +41,8 @@ impl Source<'_> {
     /// `[ "[" expr "]" ]`
     #[tactic(auto, unfolding(crate::specs::Reading::index))]
     pub fn index(&self, tokens: &mut Tokens<'_>) -> Result<Option<Expr>, Stop>
-        ensures reads { Reads (option_map expr_of) (reading.index self.now.text.now 32 tokens.old.rest.now) result tokens.new.rest.now }
+        ensures reads { Reads (option_map expr_of) (reading.index self.now.text.now 32 tokens.old.rest.now)
+            result tokens.new.rest.now }
         ensures shorter { OnOk result (length tokens.new.rest.now ≤ length tokens.old.rest.now) }
     {
         if !tokens.sees_sign(Sign::OpenBracket) {
@@ -51,7 +54,8 @@ impl Source<'_> {
     /// `expr {"," expr}`
     #[tactic(auto, unfolding(crate::specs::Reading::exprs))]
     fn exprs(&self, tokens: &mut Tokens<'_>) -> Result<Vec<Expr>, Stop>
-        ensures reads { Reads (λ v. map expr_of v.items) (reading.exprs self.now.text.now 32 tokens.old.rest.now) result tokens.new.rest.now }
+        ensures reads { Reads (λ v. map expr_of v.items) (reading.exprs self.now.text.now 32 tokens.old.rest.now)
+            result tokens.new.rest.now }
         ensures shorter { OnOk result (length tokens.new.rest.now < length tokens.old.rest.now) }
     {
         let mut exprs = Vec::new(self.alloc);
@@ -66,7 +70,8 @@ impl Source<'_> {
     /// `"(" [ expr {"," expr} ] ")"`
     #[tactic(auto, unfolding(crate::specs::Reading::arg_list, crate::specs::Reading::after))]
     fn arg_list(&self, tokens: &mut Tokens<'_>) -> Result<Vec<Expr>, Stop>
-        ensures reads { Reads (λ v. map expr_of v.items) (reading.arg_list self.now.text.now 32 tokens.old.rest.now) result tokens.new.rest.now }
+        ensures reads { Reads (λ v. map expr_of v.items) (reading.arg_list self.now.text.now 32 tokens.old.rest.now)
+            result tokens.new.rest.now }
         ensures shorter { OnOk result (length tokens.new.rest.now < length tokens.old.rest.now) }
     {
         tokens.sign(Sign::OpenParen)?;
@@ -81,7 +86,8 @@ impl Source<'_> {
     /// `[ args ]`
     #[tactic(auto, unfolding(crate::specs::Reading::args))]
     fn args(&self, tokens: &mut Tokens<'_>) -> Result<Option<Vec<Expr>>, Stop>
-        ensures reads { Reads (option_map (λ v. map expr_of v.items)) (reading.args self.now.text.now 32 tokens.old.rest.now) result tokens.new.rest.now }
+        ensures reads { Reads (option_map (λ v. map expr_of v.items))
+            (reading.args self.now.text.now 32 tokens.old.rest.now) result tokens.new.rest.now }
         ensures shorter { OnOk result (length tokens.new.rest.now ≤ length tokens.old.rest.now) }
     {
         if !tokens.sees_sign(Sign::OpenParen) {
@@ -93,7 +99,8 @@ impl Source<'_> {
     /// `[ args ] ";"`
     #[tactic(auto, unfolding(crate::specs::Reading::last_args))]
     pub fn last_args(&self, tokens: &mut Tokens<'_>) -> Result<Option<Vec<Expr>>, Stop>
-        ensures reads { Reads (option_map (λ v. map expr_of v.items)) (reading.last_args self.now.text.now 32 tokens.old.rest.now) result tokens.new.rest.now }
+        ensures reads { Reads (option_map (λ v. map expr_of v.items))
+            (reading.last_args self.now.text.now 32 tokens.old.rest.now) result tokens.new.rest.now }
         ensures shorter { OnOk result (length tokens.new.rest.now < length tokens.old.rest.now) }
     {
         let args = self.args(tokens)?;
@@ -105,7 +112,8 @@ impl Source<'_> {
     #[cycle(expression)]
     #[tactic(auto, unfolding(crate::specs::Reading::chain))]
     fn chain(&self, tokens: &mut Tokens<'_>, level: Level, nesting: usize) -> Result<Expr, Stop>
-        ensures reads { Reads expr_of (reading.chain level (reading.operand_over (reading.factor self.now.text.now nesting) level) tokens.old.rest.now) result tokens.new.rest.now }
+        ensures reads { Reads expr_of (reading.chain level (reading.operand_over
+            (reading.factor self.now.text.now nesting) level) tokens.old.rest.now) result tokens.new.rest.now }
         ensures shorter { OnOk result (length tokens.new.rest.now < length tokens.old.rest.now) }
     {
         let mut left = self.operand(tokens, level, nesting)?;
@@ -124,7 +132,8 @@ impl Source<'_> {
         level: Level,
         nesting: usize,
     ) -> Result<(Op, Expr), Stop>
-        ensures reads { Reads (λ p. (p.0, expr_of p.1)) (reading.next_operand level (reading.operand_over (reading.factor self.now.text.now nesting) level) tokens.old.rest.now) result tokens.new.rest.now }
+        ensures reads { Reads (λ p. (p.0, expr_of p.1)) (reading.next_operand level (reading.operand_over
+            (reading.factor self.now.text.now nesting) level) tokens.old.rest.now) result tokens.new.rest.now }
         ensures shorter { OnOk result (length tokens.new.rest.now < length tokens.old.rest.now) }
     {
         let op = tokens.operator(level)?;
@@ -136,7 +145,8 @@ impl Source<'_> {
     #[cycle(expression)]
     #[tactic(auto, unfolding(crate::specs::Reading::operand_over))]
     fn operand(&self, tokens: &mut Tokens<'_>, level: Level, nesting: usize) -> Result<Expr, Stop>
-        ensures reads { Reads expr_of (reading.operand_over (reading.factor self.now.text.now nesting) level tokens.old.rest.now) result tokens.new.rest.now }
+        ensures reads { Reads expr_of (reading.operand_over (reading.factor self.now.text.now nesting) level
+            tokens.old.rest.now) result tokens.new.rest.now }
         ensures shorter { OnOk result (length tokens.new.rest.now < length tokens.old.rest.now) }
     {
         match level {
@@ -151,7 +161,8 @@ impl Source<'_> {
     #[cycle(expression)]
     #[tactic(auto, unfolding(crate::specs::Reading::comparison))]
     fn comparison(&self, tokens: &mut Tokens<'_>, nesting: usize) -> Result<Expr, Stop>
-        ensures reads { Reads expr_of (reading.comparison (reading.operand_over (reading.factor self.now.text.now nesting) Level.Comparison) tokens.old.rest.now) result tokens.new.rest.now }
+        ensures reads { Reads expr_of (reading.comparison (reading.operand_over (reading.factor self.now.text.now
+            nesting) Level.Comparison) tokens.old.rest.now) result tokens.new.rest.now }
         ensures shorter { OnOk result (length tokens.new.rest.now < length tokens.old.rest.now) }
     {
         let left = self.operand(tokens, Level::Comparison, nesting)?;
@@ -165,7 +176,8 @@ impl Source<'_> {
     /// `NUMBER | NAME | "(" expr ")" | "-" factor`
     #[cycle(expression)]
     fn factor(&self, tokens: &mut Tokens<'_>, nesting: usize) -> Result<Expr, Stop>
-        ensures reads { Reads expr_of (reading.factor self.now.text.now nesting tokens.old.rest.now) result tokens.new.rest.now }
+        ensures reads { Reads expr_of (reading.factor self.now.text.now nesting tokens.old.rest.now) result
+            tokens.new.rest.now }
         ensures shorter { OnOk result (length tokens.new.rest.now < length tokens.old.rest.now) }
     {
         if tokens.sees_nested() {
@@ -178,7 +190,8 @@ impl Source<'_> {
     /// An operand in parentheses or under a minus sign, where it may still nest.
     #[cycle(expression)]
     fn nested(&self, tokens: &mut Tokens<'_>, nesting: usize) -> Result<Expr, Stop>
-        ensures reads { Reads expr_of (reading.nested self.now.text.now nesting tokens.old.rest.now) result tokens.new.rest.now }
+        ensures reads { Reads expr_of (reading.nested self.now.text.now nesting tokens.old.rest.now) result
+            tokens.new.rest.now }
         ensures shorter { OnOk result (length tokens.new.rest.now < length tokens.old.rest.now) }
     {
         if nesting == 0 {
@@ -191,7 +204,8 @@ impl Source<'_> {
     #[cycle(expression)]
     #[tactic(auto, unfolding(crate::specs::Reading::nested_over, crate::specs::Reading::after, crate::specs::Reading::expr_over))]
     fn nested_over(&self, tokens: &mut Tokens<'_>, nesting: usize) -> Result<Expr, Stop>
-        ensures reads { Reads expr_of (reading.nested_over (reading.factor self.now.text.now nesting) tokens.old.rest.now) result tokens.new.rest.now }
+        ensures reads { Reads expr_of (reading.nested_over (reading.factor self.now.text.now nesting)
+            tokens.old.rest.now) result tokens.new.rest.now }
         ensures shorter { OnOk result (length tokens.new.rest.now < length tokens.old.rest.now) }
     {
         if tokens.eat(Sign::Minus) {
@@ -207,7 +221,8 @@ impl Source<'_> {
     /// `NUMBER | NAME`
     #[tactic(auto, unfolding(crate::specs::Reading::simple))]
     fn simple(&self, tokens: &mut Tokens<'_>) -> Result<Expr, Stop>
-        ensures reads { Reads expr_of (reading.simple self.now.text.now tokens.old.rest.now) result tokens.new.rest.now }
+        ensures reads { Reads expr_of (reading.simple self.now.text.now tokens.old.rest.now) result
+            tokens.new.rest.now }
         ensures shorter { OnOk result (length tokens.new.rest.now < length tokens.old.rest.now) }
     {
         if tokens.sees_number() {

@@ -23,10 +23,12 @@ pub fn parse(alloc: Global, text: &[u8], tokens: &[Token]) -> Result<Unit, Parse
     ensures every_unit { (tree : Tree) → IsUnit text.now tokens.now tree → Gives result (Ok tree) }
     // A token is refused exactly where it can't stand.
     ensures unexpected { (n : ℕ) → IsErrOf result (ParseError.Expected n) → IsUnexpected text.now tokens.now n }
-    ensures every_unexpected { (n : ℕ) → IsUnexpected text.now tokens.now n → Gives result (Err (ParseError.Expected n)) }
+    ensures every_unexpected { (n : ℕ) → IsUnexpected text.now tokens.now n
+        → Gives result (Err (ParseError.Expected n)) }
     // A token is too nested exactly where it opens one level too many.
     ensures too_nested { (n : ℕ) → IsErrOf result (ParseError.TooNested n) → IsTooNested text.now tokens.now n }
-    ensures every_too_nested { (n : ℕ) → IsTooNested text.now tokens.now n → Gives result (Err (ParseError.TooNested n)) }
+    ensures every_too_nested { (n : ℕ) → IsTooNested text.now tokens.now n
+        → Gives result (Err (ParseError.TooNested n)) }
 {
     let source = Source { alloc, text };
     match source.unit(&mut Tokens { rest: tokens }) {

@@ -20,7 +20,8 @@ impl Source<'_> {
     /// The entries of a list, each as a statement, or a single `forall` or `when`.
     #[cycle(statement)]
     pub fn statement(&self, tokens: &mut Tokens<'_>, nesting: usize) -> Result<Vec<Stmt>, Stop>
-        ensures reads { Reads (λ v. map stmt_of v.items) (reading.statement self.now.text.now 32 nesting tokens.old.rest.now) result tokens.new.rest.now }
+        ensures reads { Reads (λ v. map stmt_of v.items)
+            (reading.statement self.now.text.now 32 nesting tokens.old.rest.now) result tokens.new.rest.now }
         ensures shorter { OnOk result (length tokens.new.rest.now < length tokens.old.rest.now) }
     {
         if tokens.sees_block() {
@@ -33,7 +34,8 @@ impl Source<'_> {
     /// A `forall` or a `when`, where it may still nest.
     #[cycle(statement)]
     fn block(&self, tokens: &mut Tokens<'_>, nesting: usize) -> Result<Vec<Stmt>, Stop>
-        ensures reads { Reads (λ v. map stmt_of v.items) (reading.block self.now.text.now 32 nesting tokens.old.rest.now) result tokens.new.rest.now }
+        ensures reads { Reads (λ v. map stmt_of v.items)
+            (reading.block self.now.text.now 32 nesting tokens.old.rest.now) result tokens.new.rest.now }
         ensures shorter { OnOk result (length tokens.new.rest.now < length tokens.old.rest.now) }
     {
         if nesting == 0 {
@@ -45,7 +47,8 @@ impl Source<'_> {
     #[cycle(statement)]
     #[tactic(auto, unfolding(crate::specs::Reading::block_over))]
     fn block_over(&self, tokens: &mut Tokens<'_>, nesting: usize) -> Result<Vec<Stmt>, Stop>
-        ensures reads { Reads (λ v. map stmt_of v.items) (reading.block_over self.now.text.now 32 (reading.statement self.now.text.now 32 nesting) tokens.old.rest.now) result tokens.new.rest.now }
+        ensures reads { Reads (λ v. map stmt_of v.items) (reading.block_over self.now.text.now
+            32 (reading.statement self.now.text.now 32 nesting) tokens.old.rest.now) result tokens.new.rest.now }
         ensures shorter { OnOk result (length tokens.new.rest.now < length tokens.old.rest.now) }
     {
         let stmt = if tokens.sees_word(Keyword::Forall) {
@@ -62,7 +65,8 @@ impl Source<'_> {
     #[cycle(statement)]
     #[tactic(auto, unfolding(crate::specs::Reading::forall_over))]
     fn forall(&self, tokens: &mut Tokens<'_>, nesting: usize) -> Result<Stmt, Stop>
-        ensures reads { Reads stmt_of (reading.forall_over self.now.text.now 32 (reading.statement self.now.text.now 32 nesting) tokens.old.rest.now) result tokens.new.rest.now }
+        ensures reads { Reads stmt_of (reading.forall_over self.now.text.now 32
+            (reading.statement self.now.text.now 32 nesting) tokens.old.rest.now) result tokens.new.rest.now }
         ensures shorter { OnOk result (length tokens.new.rest.now < length tokens.old.rest.now) }
     {
         let at = tokens.word(Keyword::Forall)?.at;
@@ -85,7 +89,8 @@ impl Source<'_> {
     #[cycle(statement)]
     #[tactic(auto, unfolding(crate::specs::Reading::when_over))]
     fn when(&self, tokens: &mut Tokens<'_>, nesting: usize) -> Result<Stmt, Stop>
-        ensures reads { Reads stmt_of (reading.when_over self.now.text.now 32 (reading.statement self.now.text.now 32 nesting) tokens.old.rest.now) result tokens.new.rest.now }
+        ensures reads { Reads stmt_of (reading.when_over self.now.text.now 32
+            (reading.statement self.now.text.now 32 nesting) tokens.old.rest.now) result tokens.new.rest.now }
         ensures shorter { OnOk result (length tokens.new.rest.now < length tokens.old.rest.now) }
     {
         let at = tokens.word(Keyword::When)?.at;
@@ -98,7 +103,8 @@ impl Source<'_> {
     #[cycle(statement)]
     #[tactic(auto, unfolding(crate::specs::Reading::body_over, crate::specs::Reading::after))]
     fn body(&self, tokens: &mut Tokens<'_>, nesting: usize) -> Result<Vec<Stmt>, Stop>
-        ensures reads { Reads (λ v. map stmt_of v.items) (reading.body_over (reading.statement self.now.text.now 32 nesting) tokens.old.rest.now) result tokens.new.rest.now }
+        ensures reads { Reads (λ v. map stmt_of v.items) (reading.body_over
+            (reading.statement self.now.text.now 32 nesting) tokens.old.rest.now) result tokens.new.rest.now }
         ensures shorter { OnOk result (length tokens.new.rest.now < length tokens.old.rest.now) }
     {
         if tokens.eat(Sign::OpenBrace) {
@@ -111,7 +117,8 @@ impl Source<'_> {
     /// `{ statement } "}"`
     #[cycle(statement)]
     fn block_body(&self, tokens: &mut Tokens<'_>, nesting: usize) -> Result<Vec<Stmt>, Stop>
-        ensures reads { Reads (λ v. map stmt_of v.items) (reading.block_body (reading.statement self.now.text.now 32 nesting) tokens.old.rest.now) result tokens.new.rest.now }
+        ensures reads { Reads (λ v. map stmt_of v.items) (reading.block_body
+            (reading.statement self.now.text.now 32 nesting) tokens.old.rest.now) result tokens.new.rest.now }
         ensures shorter { OnOk result (length tokens.new.rest.now < length tokens.old.rest.now) }
     {
         let mut body = Vec::new(self.alloc);
@@ -124,7 +131,8 @@ impl Source<'_> {
 
     #[tactic(auto, unfolding(crate::specs::Reading::listing))]
     fn listing(&self, tokens: &mut Tokens<'_>) -> Result<Vec<Stmt>, Stop>
-        ensures reads { Reads (λ v. map stmt_of v.items) (reading.listing self.now.text.now 32 tokens.old.rest.now) result tokens.new.rest.now }
+        ensures reads { Reads (λ v. map stmt_of v.items) (reading.listing self.now.text.now 32 tokens.old.rest.now)
+            result tokens.new.rest.now }
         ensures shorter { OnOk result (length tokens.new.rest.now < length tokens.old.rest.now) }
     {
         if tokens.sees_word(Keyword::Inst) {
@@ -137,7 +145,8 @@ impl Source<'_> {
     /// `"inst" instentry { instentry }`
     #[tactic(auto, unfolding(crate::specs::Reading::instances))]
     fn instances(&self, tokens: &mut Tokens<'_>) -> Result<Vec<Stmt>, Stop>
-        ensures reads { Reads (λ v. map stmt_of v.items) (reading.instances self.now.text.now 32 tokens.old.rest.now) result tokens.new.rest.now }
+        ensures reads { Reads (λ v. map stmt_of v.items) (reading.instances self.now.text.now 32 tokens.old.rest.now)
+            result tokens.new.rest.now }
         ensures shorter { OnOk result (length tokens.new.rest.now < length tokens.old.rest.now) }
     {
         tokens.word(Keyword::Inst)?;
@@ -153,7 +162,8 @@ impl Source<'_> {
     /// `NAME ":" NAME [ args ] ";" | NAME "[" expr "]" [ args ] ";"`
     #[tactic(auto, unfolding(crate::specs::Reading::instentry, crate::specs::Reading::after))]
     fn instance(&self, tokens: &mut Tokens<'_>) -> Result<InstEntry, Stop>
-        ensures reads { Reads entry_of (reading.instentry self.now.text.now 32 tokens.old.rest.now) result tokens.new.rest.now }
+        ensures reads { Reads entry_of (reading.instentry self.now.text.now 32 tokens.old.rest.now) result
+            tokens.new.rest.now }
         ensures shorter { OnOk result (length tokens.new.rest.now < length tokens.old.rest.now) }
     {
         let name = tokens.name()?;
@@ -166,7 +176,8 @@ impl Source<'_> {
 
     #[tactic(auto, unfolding(crate::specs::Reading::single_after))]
     fn single(&self, tokens: &mut Tokens<'_>, name: Token) -> Result<InstEntry, Stop>
-        ensures reads { Reads entry_of (reading.single_after self.now.text.now 32 name tokens.old.rest.now) result tokens.new.rest.now }
+        ensures reads { Reads entry_of (reading.single_after self.now.text.now 32 name tokens.old.rest.now)
+            result tokens.new.rest.now }
         ensures shorter { OnOk result (length tokens.new.rest.now < length tokens.old.rest.now) }
     {
         let component = self.name(tokens)?;
@@ -181,7 +192,8 @@ impl Source<'_> {
 
     #[tactic(auto, unfolding(crate::specs::Reading::element_after))]
     fn element(&self, tokens: &mut Tokens<'_>, array: Token) -> Result<InstEntry, Stop>
-        ensures reads { Reads entry_of (reading.element_after self.now.text.now 32 array tokens.old.rest.now) result tokens.new.rest.now }
+        ensures reads { Reads entry_of (reading.element_after self.now.text.now 32 array tokens.old.rest.now)
+            result tokens.new.rest.now }
         ensures shorter { OnOk result (length tokens.new.rest.now < length tokens.old.rest.now) }
     {
         let index = self.bracketed(tokens)?;
@@ -197,7 +209,8 @@ impl Source<'_> {
     /// `"bind" bindentry { bindentry }`
     #[tactic(auto, unfolding(crate::specs::Reading::bindings))]
     fn bindings(&self, tokens: &mut Tokens<'_>) -> Result<Vec<Stmt>, Stop>
-        ensures reads { Reads (λ v. map stmt_of v.items) (reading.bindings self.now.text.now 32 tokens.old.rest.now) result tokens.new.rest.now }
+        ensures reads { Reads (λ v. map stmt_of v.items) (reading.bindings self.now.text.now 32 tokens.old.rest.now)
+            result tokens.new.rest.now }
         ensures shorter { OnOk result (length tokens.new.rest.now < length tokens.old.rest.now) }
     {
         tokens.word(Keyword::Bind)?;
@@ -213,7 +226,8 @@ impl Source<'_> {
     /// `end "--" end ";"`
     #[tactic(auto, unfolding(crate::specs::Reading::bindentry))]
     fn binding(&self, tokens: &mut Tokens<'_>) -> Result<BindEntry, Stop>
-        ensures reads { Reads binding_of (reading.bindentry self.now.text.now 32 tokens.old.rest.now) result tokens.new.rest.now }
+        ensures reads { Reads binding_of (reading.bindentry self.now.text.now 32 tokens.old.rest.now) result
+            tokens.new.rest.now }
         ensures shorter { OnOk result (length tokens.new.rest.now < length tokens.old.rest.now) }
     {
         let (first, left) = self.end_before(tokens, Sign::DashDash)?;
@@ -228,7 +242,8 @@ impl Source<'_> {
     /// An end, with its first token, and this sign after it.
     #[tactic(auto, unfolding(crate::specs::Reading::end_before))]
     fn end_before(&self, tokens: &mut Tokens<'_>, sign: Sign) -> Result<(Token, PortRef), Stop>
-        ensures reads { Reads (λ p. (p.0, end_of p.1)) (reading.end_before self.now.text.now 32 (kinds.Sign sign) tokens.old.rest.now) result tokens.new.rest.now }
+        ensures reads { Reads (λ p. (p.0, end_of p.1)) (reading.end_before self.now.text.now 32 (kinds.Sign sign)
+            tokens.old.rest.now) result tokens.new.rest.now }
         ensures shorter { OnOk result (length tokens.new.rest.now < length tokens.old.rest.now) }
     {
         let end = self.end(tokens)?;
@@ -239,7 +254,8 @@ impl Source<'_> {
     /// `[ NAME [ "[" expr "]" ] "." ] NAME [ "[" expr "]" ]`, with its first token.
     #[tactic(auto, unfolding(crate::specs::Reading::bind_end, crate::specs::Reading::after))]
     fn end(&self, tokens: &mut Tokens<'_>) -> Result<(Token, PortRef), Stop>
-        ensures reads { Reads (λ p. (p.0, end_of p.1)) (reading.bind_end self.now.text.now 32 tokens.old.rest.now) result tokens.new.rest.now }
+        ensures reads { Reads (λ p. (p.0, end_of p.1)) (reading.bind_end self.now.text.now 32 tokens.old.rest.now)
+            result tokens.new.rest.now }
         ensures shorter { OnOk result (length tokens.new.rest.now < length tokens.old.rest.now) }
     {
         let (first, name, index) = self.port_end(tokens)?;
@@ -265,7 +281,8 @@ impl Source<'_> {
     /// `NAME [ "[" expr "]" ]`, with the token of the name.
     #[tactic(auto, unfolding(crate::specs::Reading::port_end))]
     fn port_end(&self, tokens: &mut Tokens<'_>) -> Result<(Token, Text, Option<Expr>), Stop>
-        ensures reads { Reads (λ p. (p.0, option_map expr_of p.2)) (reading.port_end self.now.text.now 32 tokens.old.rest.now) result tokens.new.rest.now }
+        ensures reads { Reads (λ p. (p.0, option_map expr_of p.2))
+            (reading.port_end self.now.text.now 32 tokens.old.rest.now) result tokens.new.rest.now }
         ensures named { IfOk result (λ p. p.1 ≡ bytes_of self.now.text.now p.0) }
         ensures shorter { OnOk result (length tokens.new.rest.now < length tokens.old.rest.now) }
     {

@@ -1,5 +1,5 @@
--- What is reached in an instance, as the language says it: a statement is reached where the variables round it have integers of
--- their ranges and each `when` round it is true.
+-- What is reached in an instance, as the language says it: a statement is reached where the variables round it have
+-- integers of their ranges and each `when` round it is true.
 use Rattle.std.specs.Prelude.{◌≡◌, ◌≢◌, ℤ, pos, ◌≤ℤ◌, List, [], ◌∷◌, map, Contains}
 use Rattle.darwin_lexer.specs.declared.token.At.{At}
 use Rattle.darwin_parser.specs.Tree.{Name, Expr, Stmt, inst, bind, forall, when, Stmts, then}

@@ -1,4 +1,5 @@
--- How the code's answers and values stand for those of the definitions, and a chain of operations as it is gone through.
+-- How the code's answers and values stand for those of the definitions, and a chain of operations as it is gone
+-- through.
 use Rattle.std.specs.Prelude.{◌≡◌, ℕ, ◌+◌, ◌≤◌, ℤ, List, [], ◌∷◌, map, sum_by, Result, Ok, Err, IfOk, FitsSigned}
 use Rattle.std.specs.Int.{w32}
 use Rattle.darwin_parser.specs.Tree.{Expr, num, var, neg, op, expr_of}

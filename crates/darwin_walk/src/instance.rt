@@ -35,8 +35,10 @@ pub fn walk<'a>(
     ensures walked { IfOk result (IsWalked (component_of component.now) (env_of parameters.now) room) }
 
     // The fault that is named is one of the instance's, and all else that is refused is too much.
-    ensures fault { (f : ShownFault) → result ≡ Err (WalkError.Fault f) → Contains (instance_faults (component_of component.now) (env_of parameters.now)) f }
-    ensures too_many { result ≡ Err WalkError.TooMany → room < count (component_of component.now) (env_of parameters.now) }
+    ensures fault { (f : ShownFault) → result ≡ Err (WalkError.Fault f)
+        → Contains (instance_faults (component_of component.now) (env_of parameters.now)) f }
+    ensures too_many { result ≡ Err WalkError.TooMany
+        → room < count (component_of component.now) (env_of parameters.now) }
 {
     walk_with(alloc, component, parameters, room)
 }
@@ -48,7 +50,9 @@ fn walk_with<'a>(
     parameters: &[Variable<'a>],
     room: u64,
 ) -> Result<Walked<'a>, WalkError>
-    ensures { JudgesPart (instance_faults (component_of component.now) (env_of parameters.now)) (room < count (component_of component.now) (env_of parameters.now)) (IsWalked (component_of component.now) (env_of parameters.now) room) result }
+    ensures { JudgesPart (instance_faults (component_of component.now) (env_of parameters.now))
+        (room < count (component_of component.now) (env_of parameters.now))
+        (IsWalked (component_of component.now) (env_of parameters.now) room) result }
 {
     let index = by_name(alloc, parameters)?;
     let env = Environment {
@@ -66,7 +70,9 @@ fn walk_within<'a>(
     env: &Environment<'a, '_>,
     room: u64,
 ) -> Result<Walked<'a>, WalkError>
-    ensures { JudgesPart (instance_faults (component_of component.now) (env_at env.now)) (room < count (component_of component.now) (env_at env.now)) (IsWalked (component_of component.now) (env_at env.now) room) result }
+    ensures { JudgesPart (instance_faults (component_of component.now) (env_at env.now))
+        (room < count (component_of component.now) (env_at env.now))
+        (IsWalked (component_of component.now) (env_at env.now) room) result }
 {
     let port_sizes = port_sizes_of(alloc, &component.ports, env)?;
     let arrays = arrays_with_sizes(alloc, &component.arrays, env)?;
@@ -125,7 +131,8 @@ fn port_sizes_of(
     ports: &[PortDecl],
     env: &Environment,
 ) -> Result<Vec<Option<i32>>, WalkError>
-    ensures { JudgesPart (port_size_faults (env_at env.now) (map port_of ports.now)) ⊥ (λ sizes. map Some sizes.items ≡ map (λ p. index_value p.size (env_at env.now)) (map port_of ports.now)) result }
+    ensures { JudgesPart (port_size_faults (env_at env.now) (map port_of ports.now)) ⊥ (λ sizes.
+        map Some sizes.items ≡ map (λ p. index_value p.size (env_at env.now)) (map port_of ports.now)) result }
 {
     let mut sizes = Vec::with_capacity(alloc, ports.len())?;
     for port in ports {
@@ -140,7 +147,9 @@ fn arrays_with_sizes<'a>(
     arrays: &'a [ArrayDecl],
     env: &Environment,
 ) -> Result<Vec<Array<'a>>, WalkError>
-    ensures { JudgesPart (array_size_faults (env_at env.now) (map array_of arrays.now)) ⊥ (λ xs. (map (λ a. array_of a.decl.now) xs.items ≡ map array_of arrays.now) × All (HasSize (env_at env.now)) xs.items) result }
+    ensures { JudgesPart (array_size_faults (env_at env.now) (map array_of arrays.now))
+        ⊥ (λ xs. (map (λ a. array_of a.decl.now) xs.items ≡ map array_of arrays.now)
+        × All (HasSize (env_at env.now)) xs.items) result }
 {
     let mut with_sizes = Vec::new(alloc);
     for decl in arrays {

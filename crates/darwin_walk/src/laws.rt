@@ -11,10 +11,11 @@ pub fn ranges_have_their_integers()
     ensures { (a b z : ℤ) → Contains (integers_to a b) z ↔ ((a ≤ℤ z) × (z ≤ℤ b)) }
 {}
 
-/// What is reached in an instance is the sizes of its ports and arrays, and what its reached statements are: those whose
-/// variables have integers of their ranges, and round which each `when` is true.
+/// What is reached in an instance is the sizes of its ports and arrays, and what its reached statements are: those
+/// whose variables have integers of their ranges, and round which each `when` is true.
 pub fn what_is_reached()
-    ensures statements { (body : Stmts) (env : Env) (r : Reached) → Contains (reached_in body env) r ↔ ReachedIn body env r }
+    ensures statements { (body : Stmts) (env : Env) (r : Reached)
+        → Contains (reached_in body env) r ↔ ReachedIn body env r }
     ensures component { (c : Component) (env : Env) (r : Reached) → Contains (reached_in_component c env) r
         ↔ (((p : PortDecl) × Contains c.ports p × Contains (port_size env p) r)
         ⊎ ((a : ArrayDecl) × Contains c.arrays a × (r ≡ array_size env a))

@@ -60,7 +60,8 @@ impl Array<'_> {
 /// The array of the name.
 pub(crate) fn array_at<'a>(scope: &Scope<'a, '_>, name: &Text) -> Option<Array<'a>>
     requires { IsScope scope.now }
-    ensures { MatchOption result (array_named (component_of scope.now.component.now) name.now ≡ None) (λ a. IsArray scope.now name.now a) }
+    ensures { MatchOption result (array_named (component_of scope.now.component.now) name.now ≡ None)
+        (λ a. IsArray scope.now name.now a) }
 {
     scope.arrays.get(name.as_bytes()).copied()
 }
@@ -72,7 +73,8 @@ pub(crate) fn value_at(
     env: &Environment,
     at: At,
 ) -> Result<i32, WalkError>
-    ensures { JudgesPart (value_fault at (value_of (expr_of expr.now) (env_at env.now))) ⊥ (λ z. (value_of (expr_of expr.now) (env_at env.now) ≡ integer z) × FitsSigned w32 z) result }
+    ensures { JudgesPart (value_fault at (value_of (expr_of expr.now) (env_at env.now))) ⊥
+        (λ z. (value_of (expr_of expr.now) (env_at env.now) ≡ integer z) × FitsSigned w32 z) result }
 {
     match worth(alloc, expr, env) {
         Ok(z) => Ok(z),
@@ -89,7 +91,8 @@ pub(crate) fn values_at(
     env: &Environment,
     at: At,
 ) -> Result<Vec<i32>, WalkError>
-    ensures { JudgesPart (flat_map (value_fault at) (values_of (exprs_of exprs.now) (env_at env.now))) ⊥ (λ zs. integers (values_of (exprs_of exprs.now) (env_at env.now)) ≡ Some zs.items) result }
+    ensures { JudgesPart (flat_map (value_fault at) (values_of (exprs_of exprs.now) (env_at env.now))) ⊥
+        (λ zs. integers (values_of (exprs_of exprs.now) (env_at env.now)) ≡ Some zs.items) result }
 {
     let mut worths = Vec::new(alloc);
     for expr in exprs {
@@ -114,7 +117,9 @@ pub(crate) fn element_at<'a>(
     at: At,
 ) -> Result<ElementIndex<'a>, WalkError>
     requires { IsScope scope.now }
-    ensures { JudgesPart (element_index_faults (component_of scope.now.component.now) (env_at scope.now.parameters.now) name.now at (value_of (expr_of index.now) (env_at env.now))) ⊥ (IsElementIndex scope.now name.now (value_of (expr_of index.now) (env_at env.now))) result }
+    ensures { JudgesPart (element_index_faults (component_of scope.now.component.now)
+        (env_at scope.now.parameters.now) name.now at (value_of (expr_of index.now) (env_at env.now))) ⊥
+        (IsElementIndex scope.now name.now (value_of (expr_of index.now) (env_at env.now))) result }
 {
     let index = value_at(scope.alloc, index, env, at)?;
     let array = array_at(scope, name);
@@ -134,7 +139,9 @@ fn inner_at<'a>(
     at: At,
 ) -> Result<Option<Segment<'a>>, WalkError>
     requires { IsScope scope.now }
-    ensures { JudgesPart (inner_index_faults (component_of scope.now.component.now) (env_at scope.now.parameters.now) at name.now (option_map expr_of index.now) (env_at env.now)) ⊥ (λ s. inner_value name.now (option_map expr_of index.now) (env_at env.now) ≡ Some (option_map segment_of s)) result }
+    ensures { JudgesPart (inner_index_faults (component_of scope.now.component.now) (env_at scope.now.parameters.now)
+        at name.now (option_map expr_of index.now) (env_at env.now)) ⊥ (λ s. inner_value name.now
+        (option_map expr_of index.now) (env_at env.now) ≡ Some (option_map segment_of s)) result }
 {
     match (name, index) {
         (None, _) => Ok(None),
@@ -156,7 +163,8 @@ pub(crate) fn index_at(
     env: &Environment,
     at: At,
 ) -> Result<Option<i32>, WalkError>
-    ensures { JudgesPart (option_map_or (λ i. value_fault at (value_of (expr_of i) (env_at env.now))) index.now []) ⊥ (λ i. index_value (option_map expr_of index.now) (env_at env.now) ≡ Some i) result }
+    ensures { JudgesPart (option_map_or (λ i. value_fault at (value_of (expr_of i) (env_at env.now))) index.now [])
+        ⊥ (λ i. index_value (option_map expr_of index.now) (env_at env.now) ≡ Some i) result }
 {
     match index {
         None => Ok(None),
@@ -172,7 +180,9 @@ pub(crate) fn end_at<'a>(
     at: At,
 ) -> Result<End<'a>, WalkError>
     requires { IsScope scope.now }
-    ensures { JudgesPart (end_index_faults (component_of scope.now.component.now) (env_at scope.now.parameters.now) at (ref_of end.now) (env_at env.now)) ⊥ (λ e. end_value (ref_of end.now) (env_at env.now) ≡ Some (walked_end e)) result }
+    ensures { JudgesPart (end_index_faults (component_of scope.now.component.now) (env_at scope.now.parameters.now) at
+        (ref_of end.now) (env_at env.now)) ⊥ (λ e. end_value (ref_of end.now) (env_at env.now) ≡ Some (walked_end e))
+        result }
 {
     let inner = inner_at(scope, &end.inst, &end.inst_index, env, at)?;
     let index = index_at(scope.alloc, &end.port_index, env, at)?;

@@ -23,7 +23,8 @@ use std::alloc::Global;
 
 /// Counts a turn or an entry.
 fn count_one(walked: &mut Walked, room: u64) -> Result<(), WalkError>
-    ensures { JudgesPart [] (room < walked.old.count + 1) (λ _. (walked.old.count < room) × (walked.new ≡ record walked.old { count = walked.old.count + 1 })) result }
+    ensures { JudgesPart [] (room < walked.old.count + 1) (λ _. (walked.old.count < room)
+        × (walked.new ≡ record walked.old { count = walked.old.count + 1 })) result }
 {
     if walked.count >= room {
         return Err(WalkError::TooMany);
@@ -40,7 +41,10 @@ fn element_arguments_at<'a>(
     env: &Environment<'a, '_>,
     at: At,
 ) -> Result<Vec<i32>, WalkError>
-    ensures { JudgesPart (flat_map (value_fault at) (element_arguments (parameters_at scope.now) (array_of array.now.decl.now) (option_map (λ l. exprs_of l.items) args.now) (env_at env.now))) ⊥ (λ zs. integers (element_arguments (parameters_at scope.now) (array_of array.now.decl.now) (option_map (λ l. exprs_of l.items) args.now) (env_at env.now)) ≡ Some zs.items) result }
+    ensures { JudgesPart (flat_map (value_fault at) (element_arguments (parameters_at scope.now)
+        (array_of array.now.decl.now) (option_map (λ l. exprs_of l.items) args.now) (env_at env.now)))
+        ⊥ (λ zs. integers (element_arguments (parameters_at scope.now) (array_of array.now.decl.now)
+        (option_map (λ l. exprs_of l.items) args.now) (env_at env.now)) ≡ Some zs.items) result }
 {
     match (args, &array.decl.args) {
         (Some(own), _) => values_at(scope.alloc, own, env, at),
@@ -59,7 +63,8 @@ fn element_child<'a>(
     at: At,
 ) -> Result<Option<Child<'a>>, WalkError>
     requires { IsScope scope.now }
-    ensures { Makes scope.now (made (element name.now (expr_of index.now) (option_map (λ l. exprs_of l.items) args.now) at) (env_at env.now)) result }
+    ensures { Makes scope.now (made (element name.now (expr_of index.now)
+        (option_map (λ l. exprs_of l.items) args.now) at) (env_at env.now)) result }
 {
     let element = element_at(scope, name, index, env, at)?;
     let Some(array) = element.array else {
@@ -173,7 +178,8 @@ struct Integers {
 impl Integers {
     /// Takes the first integer off.
     fn take_next(&mut self) -> Option<i32>
-        ensures taken { MatchOption result (integers_to self.old.low self.old.high ≡ []) (λ z. integers_to self.old.low self.old.high ≡ z ∷ integers_to self.new.low self.new.high) }
+        ensures taken { MatchOption result (integers_to self.old.low self.old.high ≡ [])
+            (λ z. integers_to self.old.low self.old.high ≡ z ∷ integers_to self.new.low self.new.high) }
         ensures fits { IfSome result (λ z. FitsSigned w32 z) }
     {
         if self.low > self.high {
@@ -198,7 +204,8 @@ impl Integers {
 
 /// Refuses as many turns as there is no room for: each counts, whatever it reaches.
 fn check_room(left: &Integers, walked: &Walked, room: u64) -> Result<(), WalkError>
-    ensures { JudgesPart [] (room < walked.now.count + length (integers_to left.now.low left.now.high)) (λ _. length (integers_to left.now.low left.now.high) ≤ room - walked.now.count) result }
+    ensures { JudgesPart [] (room < walked.now.count + length (integers_to left.now.low left.now.high))
+        (λ _. length (integers_to left.now.low left.now.high) ≤ room - walked.now.count) result }
 {
     if left.count() > room.saturating_sub(walked.count) {
         return Err(WalkError::TooMany);
@@ -214,7 +221,9 @@ fn integers_at(
     env: &Environment,
     at: At,
 ) -> Result<Integers, WalkError>
-    ensures { JudgesPart (value_fault at (value_of (expr_of low.now) (env_at env.now)) ++ value_fault at (value_of (expr_of high.now) (env_at env.now))) ⊥ (λ e. range (value_of (expr_of low.now) (env_at env.now)) (value_of (expr_of high.now) (env_at env.now)) ≡ integers_to e.low e.high) result }
+    ensures { JudgesPart (value_fault at (value_of (expr_of low.now) (env_at env.now)) ++ value_fault at
+        (value_of (expr_of high.now) (env_at env.now))) ⊥ (λ e. range (value_of (expr_of low.now) (env_at env.now))
+        (value_of (expr_of high.now) (env_at env.now)) ≡ integers_to e.low e.high) result }
 {
     let low = value_at(alloc, low, env, at)?;
     let high = value_at(alloc, high, env, at)?;
@@ -226,7 +235,8 @@ fn integers_at(
 
 /// Whether a test is true.
 fn test_at(alloc: Global, test: &Expr, env: &Environment, at: At) -> Result<bool, WalkError>
-    ensures { JudgesPart (value_fault at (value_of (expr_of test.now) (env_at env.now))) ⊥ (λ b. test_holds (value_of (expr_of test.now) (env_at env.now)) ≡ b) result }
+    ensures { JudgesPart (value_fault at (value_of (expr_of test.now) (env_at env.now))) ⊥
+        (λ b. test_holds (value_of (expr_of test.now) (env_at env.now)) ≡ b) result }
 {
     Ok(value_at(alloc, test, env, at)? != 0)
 }
@@ -242,7 +252,8 @@ fn turn_all<'a>(
     body: &'a [Stmt],
 ) -> Result<(), WalkError>
     requires { IsScope scope.now }
-    ensures { Walks scope.now (turns (stmts_of body.now) (env_at env.now) name.now (integers_to left.low left.high)) walked.old walked.new result }
+    ensures { Walks scope.now (turns (stmts_of body.now) (env_at env.now) name.now (integers_to left.low left.high))
+        walked.old walked.new result }
 {
     check_room(&left, walked, scope.room)?;
     let mut variables = Vec::from_slice(scope.alloc, env.variables)?;
@@ -269,7 +280,8 @@ fn when<'a>(
     body: &'a [Stmt],
 ) -> Result<(), WalkError>
     requires { IsScope scope.now }
-    ensures { Walks scope.now (cond holds (reached_in (stmts_of body.now) (env_at env.now)) []) walked.old walked.new result }
+    ensures { Walks scope.now (cond holds (reached_in (stmts_of body.now) (env_at env.now)) []) walked.old
+        walked.new result }
 {
     if holds {
         statements(scope, env, walked, body)

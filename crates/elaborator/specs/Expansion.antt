@@ -40,7 +40,8 @@ pub record IsMapped (e : Expansion) : Type 0 where
 
 -- the sizes are those of the ports at their places: none of one that has none
 abbrev pub AreSizes : pure.Instance → List (Option ℤ) → Type 0
-AreSizes i sizes = (k : ℕ) (d : PortDecl) → slice_get i.component.ports k ≡ Some d → index_value d.size i.env ≡ Some (option_flatten (slice_get sizes k))
+AreSizes i sizes = (k : ℕ) (d : PortDecl) → slice_get i.component.ports k ≡ Some d
+    → index_value d.size i.env ≡ Some (option_flatten (slice_get sizes k))
 
 -- an instance that is opened has its bindings, and sizes of its ports
 pub record IsShown (i : Instance) : Type 0 where
@@ -51,8 +52,10 @@ pub record IsShown (i : Instance) : Type 0 where
 pub record IsNumbering (e : Expansion) : Type 0 where
   pub is_expanded : IsExpanded (expanded_of e)
   pub few : length e.instances.items ≤ 65537
-  pub primitive : (n : ℕ) (i : Instance) → slice_get e.instances.items n ≡ Some i → i.is_primitive ≡ is_primitive (component_of i.component.now)
-  pub bindings : (n : ℕ) (i : Instance) → slice_get e.instances.items n ≡ Some i → map binding_of i.bindings.items ≡ bindings_in (instance_in i)
+  pub primitive : (n : ℕ) (i : Instance) → slice_get e.instances.items n ≡ Some i
+      → i.is_primitive ≡ is_primitive (component_of i.component.now)
+  pub bindings : (n : ℕ) (i : Instance) → slice_get e.instances.items n ≡ Some i
+      → map binding_of i.bindings.items ≡ bindings_in (instance_in i)
   pub sizes : (n : ℕ) (i : Instance) → slice_get e.instances.items n ≡ Some i → AreSizes (instance_in i) i.port_sizes.items
   pub mapped : IsMapped e
   pub top : (i : Instance) → slice_get e.instances.items 0 ≡ Some i → i.maker ≡ None

@@ -25,12 +25,17 @@ pub record IsTop (tree : Tree) (i : code.Instance) : Type 0 where
 
 -- the faults that are found while instances are made
 pub data GrowthFault (tree : Tree) (top : Instance) : ElabError → Type 0 where
-  out_of_range : (i : Instance) (at : At) → Inst tree top i → Contains (own_faults tree i) (shown.OutOfRange at) → GrowthFault tree top (error.OutOfRange i.path at)
-  zero_divisor : (i : Instance) (at : At) → Inst tree top i → Contains (own_faults tree i) (shown.ZeroDivisor at) → GrowthFault tree top (error.ZeroDivisor i.path at)
-  bad_index : (i : Instance) (at : At) → Inst tree top i → Contains (own_faults tree i) (shown.BadIndex at) → GrowthFault tree top (error.BadIndex i.path at)
-  two_instances : (i : Instance) (path : Path) → Inst tree top i → Twice (paths_in tree i) path → GrowthFault tree top (error.TwoInstances path)
+  out_of_range : (i : Instance) (at : At) → Inst tree top i → Contains (own_faults tree i) (shown.OutOfRange at)
+      → GrowthFault tree top (error.OutOfRange i.path at)
+  zero_divisor : (i : Instance) (at : At) → Inst tree top i → Contains (own_faults tree i) (shown.ZeroDivisor at)
+      → GrowthFault tree top (error.ZeroDivisor i.path at)
+  bad_index : (i : Instance) (at : At) → Inst tree top i → Contains (own_faults tree i) (shown.BadIndex at)
+      → GrowthFault tree top (error.BadIndex i.path at)
+  two_instances : (i : Instance) (path : Path) → Inst tree top i → Twice (paths_in tree i) path
+      → GrowthFault tree top (error.TwoInstances path)
   two_apart :
-      (i j : Instance) (path : Path) → Inst tree top i → Inst tree top j → i ≢ j → Contains (paths_in tree i) path → Contains (paths_in tree j) path
+      (i j : Instance) (path : Path) → Inst tree top i → Inst tree top j → i ≢ j → Contains (paths_in tree i) path
+      → Contains (paths_in tree j) path
       → GrowthFault tree top (error.TwoInstances path)
   too_deep : (i : Instance) → Inst tree top i → i.depth ≡ 33 → GrowthFault tree top (error.TooDeep i.path)
   too_many : CountsMore tree top 65536 → GrowthFault tree top error.TooMany
@@ -40,7 +45,8 @@ pub record IsClear (tree : Tree) (top : Instance) : Type 0 where
   pub no_fault : (i : Instance) → Inst tree top i → own_faults tree i ≡ []
   pub once : (i : Instance) (path : Path) → Inst tree top i → ¬ Twice (paths_in tree i) path
   pub apart :
-      (i j : Instance) (path : Path) → Inst tree top i → Inst tree top j → Contains (paths_in tree i) path → Contains (paths_in tree j) path → i ≡ j
+      (i j : Instance) (path : Path) → Inst tree top i → Inst tree top j → Contains (paths_in tree i) path
+      → Contains (paths_in tree j) path → i ≡ j
   pub shallow : (i : Instance) → Inst tree top i → i.depth < 33
   pub few : total tree top ≤ 65536
 

@@ -45,7 +45,8 @@ port_index_faults tree i at e = option_map_or faults_at (resolve tree i e) []
 
 -- the faults of values and of indexes of instances, in an instance
 abbrev pub own_faults : Tree → Instance → List Fault
-own_faults tree i = if is_expanded i then instance_faults i.component i.env ++ flat_map (kind_argument_faults tree) (children i.component i.env) else []
+own_faults tree i = if is_expanded i then instance_faults i.component i.env
+    ++ flat_map (kind_argument_faults tree) (children i.component i.env) else []
 
 -- those, and the faults of indexes of ports
 abbrev pub faults_in : Tree → Instance → List Fault
@@ -55,7 +56,8 @@ faults_in tree i =
 -- the notes of two ports differ, where both have one
 pub data NotesDiffer (x y : Option NamedPort) : Type 0 where
   differ :
-      (m n : NamedPort) (note note' : List Name) → x ≡ Some m → y ≡ Some n → m.decl.note ≡ Some note → n.decl.note ≡ Some note' → note ≢ note'
+      (m n : NamedPort) (note note' : List Name) → x ≡ Some m → y ≡ Some n → m.decl.note ≡ Some note
+      → n.decl.note ≡ Some note' → note ≢ note'
       → NotesDiffer x y
 
 -- an element stands at two places of a list
@@ -104,8 +106,8 @@ pub data Faults (tree : Tree) (name : Name) (arguments : List ℤ) : ElabError �
       (top i : Instance) (p q : Pair) → top_instance tree name arguments ≡ Some top → Inst tree top i
       → Contains (pairs_in tree i) p → Contains (pairs_in tree i) q → p.source ≡ q.source → p.target ≢ q.target
       → Faults tree name arguments (error.BoundTwice i.path (end_bytes p.end))
-  -- a reached binding gives no pair: it is of another form, or names an instance that isn't made, or an index is missing
-  -- or stands where none belongs
+  -- a reached binding gives no pair: it is of another form, or names an instance that isn't made, or an index is
+  -- missing or stands where none belongs
   bad_binding :
       (top i : Instance) (b : Binding) → top_instance tree name arguments ≡ Some top → Inst tree top i
       → Contains (bindings_in i) b → pair_of tree i b ≡ [] → Faults tree name arguments (error.BadBinding i.path b.at)
@@ -119,7 +121,8 @@ pub data Faults (tree : Tree) (name : Name) (arguments : List ℤ) : ElabError �
       (top i : Instance) → top_instance tree name arguments ≡ Some top → Inst tree top i → i.depth ≡ 33
       → Faults tree name arguments (error.TooDeep i.path)
   -- more than 65,536 turns are taken and entries reached, each instance counted once
-  too_many : (top : Instance) → top_instance tree name arguments ≡ Some top → CountsMore tree top 65536 → Faults tree name arguments error.TooMany
+  too_many : (top : Instance) → top_instance tree name arguments ≡ Some top → CountsMore tree top 65536
+      → Faults tree name arguments error.TooMany
   -- nodes lie on cycles of depended-on links; the first by its path is named
   depends_cycle :
       (top : Instance) (g : Graph) (i : ℕ) (n : Node) → top_instance tree name arguments ≡ Some top → IsElab tree top g

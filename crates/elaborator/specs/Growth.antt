@@ -28,14 +28,15 @@ pub record IsGrown (tree : Tree) (top : Instance) (made : List NumberedInstance)
   pub first : slice_get made 0 ≡ Some (record { instance = top; maker = None })
   pub maker :
       (n : ℕ) (x : NumberedInstance) → slice_get made (suc n) ≡ Some x
-      → (m : ℕ) × (y : NumberedInstance) × (x.maker ≡ Some m) × (m < suc n) × (m < opened) × (slice_get made m ≡ Some y) × Contains (made_in tree y.instance) x.instance
+      → (m : ℕ) × (y : NumberedInstance) × (x.maker ≡ Some m) × (m < suc n) × (m < opened)
+      × (slice_get made m ≡ Some y) × Contains (made_in tree y.instance) x.instance
   pub below :
       (m : ℕ) (y : NumberedInstance) (j : Instance) → m < opened → slice_get made m ≡ Some y → Contains (made_in tree y.instance) j
       → (n : ℕ) × (slice_get made n ≡ Some (made_by m j))
   pub clear : (m : ℕ) (y : NumberedInstance) → m < opened → slice_get made m ≡ Some y → IsWalkedClean tree y.instance
 
--- the instances level by level, where one level is half opened: those of the levels before, those of this level that are
--- opened, those of it that are not, and those that the opened ones of it make
+-- the instances level by level, where one level is half opened: those of the levels before, those of this level that
+-- are opened, those of it that are not, and those that the opened ones of it make
 pub record IsSpread (tree : Tree) (top : Instance) (made : List Instance) (opened room : ℕ) : Type 0 where
   pub before : List Instance
   pub done : List Instance

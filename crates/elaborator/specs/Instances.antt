@@ -17,7 +17,8 @@ pub record Instance : Type 0 where
   -- the values of its parameters
   pub env : Env
 
--- the instance at the top, where the component is there and composite, and has as many parameters as there are arguments
+-- the instance at the top, where the component is there and composite, and has as many parameters as there are
+-- arguments
 abbrev pub top_instance : Tree → Name → List ℤ → Option Instance
 top_instance tree name arguments = option_and_then instance (component_named tree name)
   where

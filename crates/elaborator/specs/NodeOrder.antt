@@ -17,7 +17,8 @@ pub record AreListed (e : Expanded) (count : ℕ) (nodes : List Listed) : Type 0
   pub stands :
       (x : Listed) → Contains nodes x
       → (i : Instance) × (x.number < count) × Numbered e x.number i × (is_primitive i.component ≡ true) × (i.path ≡ x.path.now)
-  pub all : (m : ℕ) (i : Instance) → m < count → Numbered e m i → is_primitive i.component ≡ true → (x : Listed) × Contains nodes x × (x.number ≡ m)
+  pub all : (m : ℕ) (i : Instance) → m < count → Numbered e m i → is_primitive i.component ≡ true → (x : Listed)
+      × Contains nodes x × (x.number ≡ m)
   pub rising : AllPairs (λ (x y : Listed). x.number < y.number) nodes
   pub few : length nodes ≤ count
 

@@ -36,7 +36,8 @@ pub record IsExpanded (e : Expanded) : Type 0 where
   -- an instance is of the component that has the name
   pub named : (n : ℕ) (i : Instance) → Numbered e n i → component_named e.tree i.component.name ≡ Some i.component
   -- the top is no node
-  pub composite_top : (n : ℕ) (i : Instance) → slice_get e.made n ≡ Some (record { instance = i; maker = None }) → is_primitive i.component ≡ false
+  pub composite_top : (n : ℕ) (i : Instance) → slice_get e.made n ≡ Some (record { instance = i; maker = None })
+      → is_primitive i.component ≡ false
 
 -- the instances are those of the elaboration with this top
 pub record IsOf (e : Expanded) (top : Instance) : Type 0 where
@@ -45,7 +46,8 @@ pub record IsOf (e : Expanded) (top : Instance) : Type 0 where
 
 -- the answer to a search for an instance of a path among those made in an instance
 abbrev pub IsChild : Expanded → ℕ → Path → Option ℕ → Type 0
-IsChild e m path r = (i : Instance) → Numbered e m i → MatchOption r (find (is_at path) (made_in e.tree i) ≡ None) (λ n. (j : Instance) × NumberedIn e m n j × (find (is_at path) (made_in e.tree i) ≡ Some j))
+IsChild e m path r = (i : Instance) → Numbered e m i → MatchOption r (find (is_at path) (made_in e.tree i) ≡ None)
+    (λ n. (j : Instance) × NumberedIn e m n j × (find (is_at path) (made_in e.tree i) ≡ Some j))
   where
     is_at : Path → Instance → Bool
     is_at path j = bytes_eq path j.path

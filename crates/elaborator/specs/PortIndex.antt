@@ -64,7 +64,8 @@ AreLawful tree i bs = (b : Binding) → Contains bs b → (p : Pair) × IsLawful
 -- the index has these pairs and no others
 pub record IsIndex (e : Expanded) (pairs : List Pair) (targets : List (PortId × PortId)) : Type 0 where
   pub sound : (k t : PortId) → chain_target targets k ≡ Some t → (p : Pair) × Contains pairs p × IsPort e k p.source × IsPort e t p.target
-  pub complete : (p : Pair) → Contains pairs p → (k t : PortId) × IsPort e k p.source × IsPort e t p.target × (chain_target targets k ≡ Some t)
+  pub complete : (p : Pair) → Contains pairs p → (k t : PortId) × IsPort e k p.source × IsPort e t p.target
+      × (chain_target targets k ≡ Some t)
 
 -- another pair of the same source has another target
 pub record Clashes (pairs : List Pair) (p : Pair) : Type 0 where

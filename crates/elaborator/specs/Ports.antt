@@ -31,7 +31,8 @@ Stands e n false m i = (m ≡ n) × Numbered e m i
 
 -- the answer to where the port of an end stands
 abbrev pub Standing : Expanded → ℕ → Instance → Option Segment → Option ℕ → Type 0
-Standing e n i inner r = MatchOption r (instance_at e.tree i inner ≡ None) (λ m. (j : Instance) × (instance_at e.tree i inner ≡ Some j) × Stands e n (is_some inner) m j)
+Standing e n i inner r = MatchOption r (instance_at e.tree i inner ≡ None) (λ m. (j : Instance)
+    × (instance_at e.tree i inner ≡ Some j) × Stands e n (is_some inner) m j)
 
 -- what the code's answer names, where the port is one of this instance
 abbrev pub named_of : Instance → code.Named → NamedPort

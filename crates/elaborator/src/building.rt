@@ -26,7 +26,8 @@ pub fn build_graph(alloc: Global, expansion: &mut Expansion) -> Result<Graph, El
     requires kept { IsNumbering expansion.old }
     requires of_top { (top : Instance) × IsOf (expanded_of expansion.old) top }
     ensures { (top : Instance) → IsOf (expanded_of expansion.old) top
-        → Answers NoMemory (IsBuilt (expanded_of expansion.old) top) (BuildFault (expanded_of expansion.old) top) result }
+        → Answers NoMemory (IsBuilt (expanded_of expansion.old) top) (BuildFault (expanded_of expansion.old) top)
+        result }
 {
     let targets = index_bindings(alloc, expansion)?;
     let graph = join(alloc, expansion, &targets)?;

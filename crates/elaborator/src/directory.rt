@@ -43,7 +43,8 @@ impl<'a> Directory<'a> {
 
     /// The component with the name.
     pub fn find(&self, name: &[u8]) -> Option<Entry<'a>>
-        ensures { MatchOption result (component_named (tree_of self.now.unit.now) name.now ≡ None) (IsEntry (tree_of self.now.unit.now) name.now) }
+        ensures { MatchOption result (component_named (tree_of self.now.unit.now) name.now ≡ None)
+            (IsEntry (tree_of self.now.unit.now) name.now) }
     {
         let place = self.checked.component(name)?;
         let is_primitive = self.checked.is_primitive(place);
@@ -55,7 +56,8 @@ impl<'a> Directory<'a> {
 
     /// The place of the port with the name in the component of a name.
     pub fn port_place(&self, component: &[u8], name: &[u8]) -> Option<usize>
-        ensures { (c : PureComponent) → component_named (tree_of self.now.unit.now) component.now ≡ Some c → result ≡ place_of name.now c.ports }
+        ensures { (c : PureComponent) → component_named (tree_of self.now.unit.now) component.now ≡ Some c
+            → result ≡ place_of name.now c.ports }
     {
         let place = self.checked.component(component)?;
         self.checked.port(place, name)

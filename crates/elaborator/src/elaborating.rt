@@ -76,7 +76,9 @@ fn top_of<'a>(
     name: &[u8],
     args: &[i32],
 ) -> Result<Instance<'a>, ElabError>
-    ensures { Answers NoMemory (λ i. IsTop (tree_of directory.now.unit.now) i × (top_instance (tree_of directory.now.unit.now) name.now args.now ≡ Some (instance_in i))) (Faults (tree_of directory.now.unit.now) name.now args.now) result }
+    ensures { Answers NoMemory (λ i. IsTop (tree_of directory.now.unit.now) i
+        × (top_instance (tree_of directory.now.unit.now) name.now args.now ≡ Some (instance_in i)))
+        (Faults (tree_of directory.now.unit.now) name.now args.now) result }
 {
     let Some(entry) = directory.find(name) else {
         return Err(ElabError::NoTop(Text::from_bytes(alloc, name)?));

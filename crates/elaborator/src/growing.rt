@@ -41,7 +41,8 @@ pub(crate) fn expand<'a>(
     top: Instance<'a>,
 ) -> Result<Expansion<'a>, ElabError>
     requires { IsTop (tree_of directory.unit.now) top }
-    ensures { Answers NoMemory (IsWhole directory.entry.unit.now top.entry) (GrowthFault (tree_of directory.entry.unit.now) (instance_in top.entry)) result }
+    ensures { Answers NoMemory (IsWhole directory.entry.unit.now top.entry)
+        (GrowthFault (tree_of directory.entry.unit.now) (instance_in top.entry)) result }
 {
     let mut growth = top_alone(alloc, directory, top)?;
     while (growth.opened as usize) < growth.expansion.instances.len() {
@@ -57,7 +58,8 @@ fn top_alone<'a>(
     top: Instance<'a>,
 ) -> Result<Growth<'a>, AllocError>
     requires { IsTop (tree_of directory.unit.now) top }
-    ensures { IfOk result (λ growth. (growth.expansion.directory.unit ≡ directory.entry.unit) × IsGrowth (instance_in top.entry) growth) }
+    ensures { IfOk result (λ growth. (growth.expansion.directory.unit ≡ directory.entry.unit)
+        × IsGrowth (instance_in top.entry) growth) }
 {
     let mut instances = Vec::new(alloc);
     instances.push(top)?;
@@ -79,7 +81,8 @@ impl<'a> Growth<'a> {
         requires within { self.old.opened < length self.old.expansion.instances.items }
         requires growth { (top : PureInstance) × IsGrowth top self.old }
         ensures { (top : PureInstance) → IsGrowth top self.old
-            → Answers NoMemory (λ _. (self.new.expansion.directory.unit ≡ self.old.expansion.directory.unit) × (self.new.opened ≡ self.old.opened + 1) × IsGrowth top self.new)
+            → Answers NoMemory (λ _. (self.new.expansion.directory.unit ≡ self.old.expansion.directory.unit)
+            × (self.new.opened ≡ self.old.opened + 1) × IsGrowth top self.new)
             (GrowthFault (tree_of self.old.expansion.directory.unit.now) top) result }
     {
         let found = self.find_next(alloc)?;
@@ -98,8 +101,10 @@ impl<'a> Growth<'a> {
         requires growth { (top : PureInstance) × IsGrowth top self.now }
         ensures { (top : PureInstance) (next : shown.Instance) → IsGrowth top self.now
             → slice_get self.now.expansion.instances.items self.now.opened ≡ Some next
-            → Answers NoMemory (λ found. (next.depth < 33) × (own_faults (tree_of self.now.expansion.directory.unit.now) (instance_in next) ≡ [])
-            × IsFound (tree_of self.now.expansion.directory.unit.now) (instance_in next) self.now.opened self.now.room found)
+            → Answers NoMemory (λ found. (next.depth < 33)
+            × (own_faults (tree_of self.now.expansion.directory.unit.now) (instance_in next) ≡ [])
+            × IsFound (tree_of self.now.expansion.directory.unit.now) (instance_in next) self.now.opened
+            self.now.room found)
             (GrowthFault (tree_of self.now.expansion.directory.unit.now) top) result }
     {
         let next = &self.expansion.instances[self.opened as usize];
@@ -122,7 +127,8 @@ impl<'a> Expansion<'a> {
         requires mapped { IsMapped self.old }
         requires few { length self.old.instances.items + length made.items ≤ 65537 }
         ensures { Answers NoMemory (λ _. IsExtended self.old made.entry.items self.new)
-            (λ f. (path : Path) × (f ≡ TwoInstances path) × IsClash (self.old.instances.items ++ made.entry.items) (length self.old.instances.items) path) result }
+            (λ f. (path : Path) × (f ≡ TwoInstances path)
+            × IsClash (self.old.instances.items ++ made.entry.items) (length self.old.instances.items) path) result }
     {
         for instance in made {
             self.add(instance)?;
@@ -135,7 +141,8 @@ impl<'a> Expansion<'a> {
         requires mapped { IsMapped self.old }
         requires few { length self.old.instances.items < 65537 }
         ensures { Answers NoMemory (λ _. IsExtended self.old (instance.entry ∷ []) self.new)
-            (λ f. (f ≡ TwoInstances instance.entry.path) × IsClash (self.old.instances.items ++ instance.entry ∷ []) (length self.old.instances.items) instance.entry.path) result }
+            (λ f. (f ≡ TwoInstances instance.entry.path) × IsClash (self.old.instances.items ++ instance.entry ∷ [])
+            (length self.old.instances.items) instance.entry.path) result }
     {
         let path = instance.path.as_bytes();
         let before = self.numbers.enter(path)?;

@@ -27,13 +27,15 @@ pub fn instances_are_those_of_the_list()
     ensures { (tree : Tree) (top i : Instance) → top.depth ≡ 0 → Inst tree top i ↔ Contains (instances tree top) i }
 {}
 
-/// Where no path is made twice, no instance stands twice in the list, and different instances count for more than a limit
-/// exactly where the sum over the list is above it.
+/// Where no path is made twice, no instance stands twice in the list, and different instances count for more than a
+/// limit exactly where the sum over the list is above it.
 pub fn each_instance_is_counted_once()
-    ensures once { (tree : Tree) (name : Name) (arguments : List ℤ) (top : Instance) → top_instance tree name arguments ≡ Some top
+    ensures once { (tree : Tree) (name : Name) (arguments : List ℤ) (top : Instance)
+        → top_instance tree name arguments ≡ Some top
         → ((path : Path) → ¬ Faults tree name arguments (TwoInstances path))
         → (i : Instance) → ¬ Twice (instances tree top) i }
-    ensures sum { (tree : Tree) (name : Name) (arguments : List ℤ) (top : Instance) → top_instance tree name arguments ≡ Some top
+    ensures sum { (tree : Tree) (name : Name) (arguments : List ℤ) (top : Instance)
+        → top_instance tree name arguments ≡ Some top
         → ((path : Path) → ¬ Faults tree name arguments (TwoInstances path))
         → (limit : ℕ) → CountsMore tree top limit ↔ limit < total tree top }
 {}
@@ -41,14 +43,16 @@ pub fn each_instance_is_counted_once()
 /// Where no path is made twice, an instance that isn't the top is told by its path, with its component
 /// and the values of its parameters.
 pub fn an_instance_is_told_by_its_path()
-    ensures { (tree : Tree) (name : Name) (arguments : List ℤ) (top : Instance) → top_instance tree name arguments ≡ Some top
+    ensures { (tree : Tree) (name : Name) (arguments : List ℤ) (top : Instance)
+        → top_instance tree name arguments ≡ Some top
         → ((path : Path) → ¬ Faults tree name arguments (TwoInstances path))
         → (i j : Instance) → Inst tree top i → Inst tree top j → 0 < i.depth → 0 < j.depth → i.path ≡ j.path → i ≡ j }
 {}
 
 /// A description has one graph at most with this top and these arguments.
 pub fn one_graph()
-    ensures { (tree : Tree) (name : Name) (arguments : List ℤ) (g h : Graph) → ElaboratesTo tree name arguments g → ElaboratesTo tree name arguments h → g ≡ h }
+    ensures { (tree : Tree) (name : Name) (arguments : List ℤ) (g h : Graph) → ElaboratesTo tree name arguments g
+        → ElaboratesTo tree name arguments h → g ≡ h }
 {}
 
 /// Some fault of an elaboration holds, or none does and there is a graph, which may be run.
@@ -61,7 +65,8 @@ pub fn a_graph_or_a_fault()
 /// Where no path is made twice and no end is bound twice, bindings lead from a requirement of a node to
 /// one provision of a node at most.
 pub fn one_provision()
-    ensures { (tree : Tree) (name : Name) (arguments : List ℤ) (top : Instance) (a b c : Node) (require provide other : ℕ)
+    ensures { (tree : Tree) (name : Name) (arguments : List ℤ) (top : Instance) (a b c : Node)
+        (require provide other : ℕ)
         → top_instance tree name arguments ≡ Some top
         → ((path : Path) → ¬ Faults tree name arguments (TwoInstances path))
         → ((path name_of_end : Path) → ¬ Faults tree name arguments (BoundTwice path name_of_end))
@@ -74,7 +79,8 @@ pub fn one_provision()
 pub fn links_join_what_bindings_do()
     ensures joined { (tree : Tree) (name : Name) (arguments : List ℤ) (top : Instance) (g : Graph) (l : Link)
         → top_instance tree name arguments ≡ Some top → ElaboratesTo tree name arguments g → Contains g.links l
-        → (x y : Port) × IsRequirementAt tree top g.nodes l.from l.require x × IsProvisionAt tree top g.nodes l.to l.provide y × BoundThrough tree top x y }
+        → (x y : Port) × IsRequirementAt tree top g.nodes l.from l.require x
+        × IsProvisionAt tree top g.nodes l.to l.provide y × BoundThrough tree top x y }
     ensures one_a_requirement { (tree : Tree) (name : Name) (arguments : List ℤ) (g : Graph) (k l : Link)
         → ElaboratesTo tree name arguments g → Contains g.links k → Contains g.links l
         → k.from ≡ l.from → k.require ≡ l.require → k ≡ l }

@@ -30,7 +30,8 @@ pub fn links_of(
     requires nodes { AreNodes (expanded_of expansion.now) nodes.now }
     requires indexed { IsIndexed (expanded_of expansion.now) targets.now }
     ensures { (top : Instance) → IsOf (expanded_of expansion.now) top
-        → IfOk result (λ links. AreLinks (expanded_of expansion.now).tree top (nodes_in (expanded_of expansion.now) nodes.now.instances.items) links.items) }
+        → IfOk result (λ links. AreLinks (expanded_of expansion.now).tree top
+        (nodes_in (expanded_of expansion.now) nodes.now.instances.items) links.items) }
 {
     let mut links = Vec::new(alloc);
     for from in 0..nodes.instances.len() {
@@ -52,8 +53,10 @@ fn add_links(
     requires nodes { AreNodes (expanded_of expansion.now) nodes.now }
     requires indexed { IsIndexed (expanded_of expansion.now) targets.now }
     ensures { (top : Instance) → IsOf (expanded_of expansion.now) top
-        → AreFirstLinks (expanded_of expansion.now).tree top (nodes_in (expanded_of expansion.now) nodes.now.instances.items) from 0 links.old.items
-        → OnOk result (AreFirstLinks (expanded_of expansion.now).tree top (nodes_in (expanded_of expansion.now) nodes.now.instances.items) (from + 1) 0 links.new.items) }
+        → AreFirstLinks (expanded_of expansion.now).tree top
+        (nodes_in (expanded_of expansion.now) nodes.now.instances.items) from 0 links.old.items
+        → OnOk result (AreFirstLinks (expanded_of expansion.now).tree top
+        (nodes_in (expanded_of expansion.now) nodes.now.instances.items) (from + 1) 0 links.new.items) }
 {
     for require in 0..nodes.kinds[from as usize].requires_() {
         if let Some(target) = target_of(expansion, nodes, targets, from, require) {
@@ -82,7 +85,8 @@ fn target_of(
     requires nodes { AreNodes (expanded_of expansion.now) nodes.now }
     requires indexed { IsIndexed (expanded_of expansion.now) targets.now }
     ensures { (top : Instance) → IsOf (expanded_of expansion.now) top
-        → IsTargeted (expanded_of expansion.now).tree top (nodes_in (expanded_of expansion.now) nodes.now.instances.items) from require result }
+        → IsTargeted (expanded_of expansion.now).tree top
+        (nodes_in (expanded_of expansion.now) nodes.now.instances.items) from require result }
 {
     let instance = nodes.instances[from as usize];
     let name = nodes.kinds[from as usize].require_name(require);
@@ -107,7 +111,8 @@ fn provision_at(expansion: &Expansion, nodes: &Nodes, id: PortId) -> Option<Targ
     requires port { (x : Port) × IsPort (expanded_of expansion.now) id x }
     requires kept { IsNumbering expansion.now }
     requires nodes { AreNodes (expanded_of expansion.now) nodes.now }
-    ensures { IsProvided (expanded_of expansion.now) (nodes_in (expanded_of expansion.now) nodes.now.instances.items) id result }
+    ensures { IsProvided (expanded_of expansion.now) (nodes_in (expanded_of expansion.now) nodes.now.instances.items)
+        id result }
 {
     let node = nodes.places[id.instance as usize]?;
     if id.index.is_some() {

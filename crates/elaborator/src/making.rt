@@ -35,7 +35,8 @@ fn make<'a>(
     child: &Child<'a>,
 ) -> Result<Option<Instance<'a>>, ElabError>
     requires { within.now.depth < 33 }
-    ensures { JudgesAt within.now.path (kind_argument_faults (tree_of directory.now.unit.now) (child_of child.now)) ⊥ (IsMade (tree_of directory.now.unit.now) (instance_in within.now) number (child_of child.now)) result }
+    ensures { JudgesAt within.now.path (kind_argument_faults (tree_of directory.now.unit.now) (child_of child.now))
+        ⊥ (IsMade (tree_of directory.now.unit.now) (instance_in within.now) number (child_of child.now)) result }
 {
     let Some(entry) = directory.find(child.component.as_bytes()) else {
         return Ok(None);
@@ -65,7 +66,9 @@ pub(crate) fn make_all<'a>(
     children: &[Child<'a>],
 ) -> Result<Vec<Instance<'a>>, ElabError>
     requires { within.now.depth < 33 }
-    ensures { JudgesAt within.now.path (flat_map (kind_argument_faults (tree_of directory.now.unit.now)) (map child_of children.now)) ⊥ (AreMade (tree_of directory.now.unit.now) (instance_in within.now) number (map child_of children.now)) result }
+    ensures { JudgesAt within.now.path (flat_map (kind_argument_faults (tree_of directory.now.unit.now))
+        (map child_of children.now)) ⊥ (AreMade (tree_of directory.now.unit.now) (instance_in within.now)
+        number (map child_of children.now)) result }
 {
     let mut made = Vec::with_capacity(alloc, children.len())?;
     for child in children {

@@ -64,7 +64,8 @@ fn in_path_order(alloc: Global, expansion: &Expansion) -> Result<Vec<u32>, Alloc
 /// The nodes, in the order of their numbers.
 fn list_nodes<'e>(alloc: Global, expansion: &'e Expansion) -> Result<Vec<Listed<'e>>, AllocError>
     requires { IsNumbering expansion.now }
-    ensures { IfOk result (λ listed. AreListed (expanded_of expansion.now) (length (expanded_of expansion.now).made) listed.items) }
+    ensures { IfOk result
+        (λ listed. AreListed (expanded_of expansion.now) (length (expanded_of expansion.now).made) listed.items) }
 {
     let mut listed = Vec::new(alloc);
     for number in 0..expansion.len() {
@@ -92,7 +93,8 @@ impl Nodes {
         requires within { number < length self.old.places.items }
         ensures kinds { OnOk result (self.new.kinds.items ≡ self.old.kinds.items ++ kind ∷ []) }
         ensures instances { OnOk result (self.new.instances.items ≡ self.old.instances.items ++ number ∷ []) }
-        ensures places { OnOk result (self.new.places.items ≡ slice_set self.old.places.items number (Some (length self.old.instances.items))) }
+        ensures places { OnOk result (self.new.places.items ≡ slice_set self.old.places.items number
+            (Some (length self.old.instances.items))) }
     {
         let place = self.instances.len() as u32;
         self.kinds.push(kind)?;

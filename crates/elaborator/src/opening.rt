@@ -41,7 +41,9 @@ pub(crate) fn open_instance<'a>(
     requires depth { instance.now.depth < 33 }
     requires plain { instance.now.is_primitive ≡ true → AreSizes (instance_in instance.now) [] }
     requires primitive { instance.now.is_primitive ≡ is_primitive (component_of instance.now.component.now) }
-    ensures { JudgesAt instance.now.path (own_faults (tree_of directory.now.unit.now) (instance_in instance.now)) (room < count_in (instance_in instance.now)) (IsFound (tree_of directory.now.unit.now) (instance_in instance.now) number room) result }
+    ensures { JudgesAt instance.now.path (own_faults (tree_of directory.now.unit.now) (instance_in instance.now))
+        (room < count_in (instance_in instance.now))
+        (IsFound (tree_of directory.now.unit.now) (instance_in instance.now) number room) result }
 {
     if instance.is_primitive {
         return Ok(Found {
@@ -69,7 +71,10 @@ pub(crate) fn open_instance<'a>(
 
 /// Walks the statements of an instance.
 fn walk_in<'a>(alloc: Global, instance: &Instance<'a>, room: u64) -> Result<Walked<'a>, ElabError>
-    ensures { JudgesAt instance.now.path (instance_faults (component_of instance.now.component.now) (env_of instance.now.env.items)) (room < count (component_of instance.now.component.now) (env_of instance.now.env.items)) (IsWalked (component_of instance.now.component.now) (env_of instance.now.env.items) room) result }
+    ensures { JudgesAt instance.now.path
+        (instance_faults (component_of instance.now.component.now) (env_of instance.now.env.items))
+        (room < count (component_of instance.now.component.now) (env_of instance.now.env.items))
+        (IsWalked (component_of instance.now.component.now) (env_of instance.now.env.items) room) result }
 {
     match walk(alloc, instance.component, instance.env.as_slice(), room) {
         Ok(walked) => Ok(walked),

@@ -33,7 +33,8 @@ pub struct Pair<'a> {
 /// Indexes the bindings of all instances.
 pub fn index_bindings(alloc: Global, expansion: &Expansion) -> Result<Targets, ElabError>
     requires { IsNumbering expansion.now }
-    ensures { Answers NoMemory (λ targets. IsIndexed (expanded_of expansion.now) targets) (BindingFault (expanded_of expansion.now)) result }
+    ensures { Answers NoMemory (λ targets. IsIndexed (expanded_of expansion.now) targets)
+        (BindingFault (expanded_of expansion.now)) result }
 {
     let mut targets = Targets::new(alloc);
     for number in 0..expansion.len() {
@@ -53,8 +54,10 @@ fn index_instance(
     requires kept { IsNumbering expansion.now }
     ensures { (i : Instance) (pairs : List PurePair) → Numbered (expanded_of expansion.now) number i
         → IsIndex (expanded_of expansion.now) pairs targets.old → AreBefore (expanded_of expansion.now) number pairs
-        → Answers NoMemory (λ _. IsIndex (expanded_of expansion.now) (pairs ++ pairs_in (expanded_of expansion.now).tree i) targets.new
-        × AreLawful (expanded_of expansion.now).tree i (bindings_in i)) (BindingFault (expanded_of expansion.now)) result }
+        → Answers NoMemory
+        (λ _. IsIndex (expanded_of expansion.now) (pairs ++ pairs_in (expanded_of expansion.now).tree i) targets.new
+        × AreLawful (expanded_of expansion.now).tree i (bindings_in i)) (BindingFault (expanded_of expansion.now))
+        result }
 {
     let instance = expansion.instance(number);
     for binding in &instance.bindings {
@@ -100,7 +103,8 @@ fn pair_of_binding<'a>(
     requires within { number < length (expanded_of expansion.now).made }
     requires kept { IsNumbering expansion.now }
     ensures { (i : Instance) → Numbered (expanded_of expansion.now) number i
-        → Answers NoMemory (λ x. (p : PurePair) × IsLawful (expanded_of expansion.now).tree i (binding_of binding.now) p × IsPair (expanded_of expansion.now) x p)
+        → Answers NoMemory (λ x. (p : PurePair) × IsLawful (expanded_of expansion.now).tree i (binding_of binding.now)
+        p × IsPair (expanded_of expansion.now) x p)
         (FaultOf (expanded_of expansion.now).tree i (binding_of binding.now)) result }
 {
     let Some(left) = find_named(alloc, expansion, number, binding.left)? else {
@@ -164,10 +168,12 @@ fn check_index(
     requires within { number < length (expanded_of expansion.now).made }
     requires port_within { port.now.id.instance < length (expanded_of expansion.now).made }
     requires kept { IsNumbering expansion.now }
-    ensures { (i j : Instance) → Numbered (expanded_of expansion.now) number i → Numbered (expanded_of expansion.now) port.now.id.instance j
+    ensures { (i j : Instance) → Numbered (expanded_of expansion.now) number i
+        → Numbered (expanded_of expansion.now) port.now.id.instance j
         → slice_get j.component.ports port.now.id.port ≡ Some (port_of port.now.decl.now)
         → Answers NoMemory (λ _. bad_index binding.now.at (named_of j port.now) ≡ [])
-        (λ f. (bad_index binding.now.at (named_of j port.now) ≡ shown.BadIndex binding.now.at ∷ []) × (f ≡ BadIndex i.path binding.now.at)) result }
+        (λ f. (bad_index binding.now.at (named_of j port.now) ≡ shown.BadIndex binding.now.at ∷ [])
+        × (f ≡ BadIndex i.path binding.now.at)) result }
 {
     if port.has_bad_index(expansion) {
         let path = expansion.instance(number).path.try_clone()?;
@@ -188,7 +194,8 @@ fn check_notes(
     requires kept { IsNumbering expansion.now }
     ensures { (i : Instance) → Numbered (expanded_of expansion.now) number i
         → Answers NoMemory (λ _. ¬ NotesDifferIn (port_of left.now.decl.now) (port_of right.now.decl.now))
-        (λ f. NotesDifferIn (port_of left.now.decl.now) (port_of right.now.decl.now) × (f ≡ Annotation i.path binding.now.at)) result }
+        (λ f. NotesDifferIn (port_of left.now.decl.now) (port_of right.now.decl.now)
+        × (f ≡ Annotation i.path binding.now.at)) result }
 {
     if left.differs_in_note(right) {
         let path = expansion.instance(number).path.try_clone()?;

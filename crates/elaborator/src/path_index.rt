@@ -63,7 +63,8 @@ impl PathIndex {
     pub fn find_from(&self, start: Option<u32>, instances: &[Instance], path: &[u8]) -> Option<u32>
         requires { IsStart (map (λ (i : shown.Instance). i.path) instances.now) self.now.before.items start }
         ensures { MatchOption result
-            ((n : ℕ) → LeadsTo self.now.before.items n start → slice_get (map (λ (i : shown.Instance). i.path) instances.now) n ≢ Some path.now)
+            ((n : ℕ) → LeadsTo self.now.before.items n start
+            → slice_get (map (λ (i : shown.Instance). i.path) instances.now) n ≢ Some path.now)
             (λ n. (0 < n) × (slice_get (map (λ (i : shown.Instance). i.path) instances.now) n ≡ Some path.now)) }
     {
         let mut next = start;

@@ -64,7 +64,8 @@ pub fn find_named<'a>(
     requires within { number < length (expanded_of expansion.now).made }
     requires kept { IsNumbering expansion.now }
     ensures { (i : Instance) → Numbered (expanded_of expansion.now) number i
-        → IfOk result (ResolvesTo (expanded_of expansion.now) number (resolve (expanded_of expansion.now).tree i (walked_end end.entry))) }
+        → IfOk result (ResolvesTo (expanded_of expansion.now) number
+        (resolve (expanded_of expansion.now).tree i (walked_end end.entry))) }
 {
     let Some(instance) = instance_at(alloc, expansion, number, end.inner)? else {
         return Ok(None);
@@ -132,7 +133,8 @@ impl Named<'_> {
     pub fn has_bad_index(&self, expansion: &Expansion) -> bool
         requires within { self.now.id.instance < length (expanded_of expansion.now).made }
         requires kept { IsNumbering expansion.now }
-        ensures { (i : Instance) → Numbered (expanded_of expansion.now) self.now.id.instance i → slice_get i.component.ports self.now.id.port ≡ Some (port_of self.now.decl.now)
+        ensures { (i : Instance) → Numbered (expanded_of expansion.now) self.now.id.instance i
+            → slice_get i.component.ports self.now.id.port ≡ Some (port_of self.now.decl.now)
             → (at : Place) → bad_index at (named_of i self.now) ≡ (if result then BadIndex at ∷ [] else []) }
     {
         let Some(index) = self.id.index else {
@@ -148,7 +150,8 @@ impl Named<'_> {
     fn size(&self, expansion: &Expansion) -> Option<i32>
         requires within { self.now.id.instance < length (expanded_of expansion.now).made }
         requires kept { IsNumbering expansion.now }
-        ensures { (i : Instance) → Numbered (expanded_of expansion.now) self.now.id.instance i → slice_get i.component.ports self.now.id.port ≡ Some (port_of self.now.decl.now)
+        ensures { (i : Instance) → Numbered (expanded_of expansion.now) self.now.id.instance i
+            → slice_get i.component.ports self.now.id.port ≡ Some (port_of self.now.decl.now)
             → (at : Place) → bad_index at (named_of i self.now) ≡ sized_fault at result self.now.id.index }
     {
         expansion.instance(self.id.instance).port_size(self.id.port)

@@ -11,9 +11,9 @@ use drain_laws::rest_bounds_all;
 use hint_laws::rounds_move_what_is_open;
 use report_laws::a_sound_script_has_a_report_where_stops_end;
 
-/// In every world that is reached, once all ports of live nodes are closed each of them is found drained after some number
-/// of rounds in which no node begins: a round moves while a transaction is open, and what moves brings it nearer to its
-/// end.
+/// In every world that is reached, once all ports of live nodes are closed each of them is found drained after some
+/// number of rounds in which no node begins: a round moves while a transaction is open, and what moves brings it
+/// nearer to its end.
 pub fn stops_come_to_an_end()
     ensures end { StopsEnd }
 {

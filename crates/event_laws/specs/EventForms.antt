@@ -89,7 +89,8 @@ numbers (link port slot provide) = port ∷ slot ∷ provide ∷ []
 numbers (unlink port) = port ∷ []
 numbers (remove slot) = slot ∷ []
 
--- Numbers are numbers; of a start the name is one of the language and arguments are integers; of a made node the path is one.
+-- Numbers are numbers; of a start the name is one of the language and arguments are integers; of a made node the path
+-- is one.
 abbrev pub others_are_right : Form → Bool
 others_are_right (start name args) = is_name name && list_all is_integer args
 others_are_right (make slot path kind arg from) = is_path path

@@ -31,8 +31,10 @@ use elaborator::paths_are_words;
 /// A line has one form at most, and what it means is said by its form alone: a line without one is bad, and one with a
 /// number outside its limit is too big.
 pub fn only_forms_mean()
-    ensures one_form { (line : List ℕ) (form other : Form) → HasEventForm line form → HasEventForm line other → form ≡ other }
-    ensures means { (line : List ℕ) (statement : EventLine) → (meaning (tokens line) ≡ Ok statement) ↔ MeansEvent line statement }
+    ensures one_form { (line : List ℕ) (form other : Form) → HasEventForm line form → HasEventForm line other
+        → form ≡ other }
+    ensures means { (line : List ℕ) (statement : EventLine)
+        → (meaning (tokens line) ≡ Ok statement) ↔ MeansEvent line statement }
     ensures too_big { (line : List ℕ) → (meaning (tokens line) ≡ Err Big) ↔ IsTooBigEvent line }
     ensures bad { (line : List ℕ) → (meaning (tokens line) ≡ Err Bad) ↔ ((form : Form) → HasEventForm line form → ⊥) }
 {}
@@ -56,18 +58,20 @@ pub fn a_written_file_is_read()
     fronts_as_spelled();
 }
 
-/// What the lines of a text say, one by one: a line counts, whatever it says, from 1 on; the last needs no line feed. An
-/// empty line and a comment say nothing, and what is passed over at both ends of a line, also a carriage return before
-/// the line feed, means nothing. What is left is the line itself.
+/// What the lines of a text say, one by one: a line counts, whatever it says, from 1 on; the last needs no line feed.
+/// An empty line and a comment say nothing, and what is passed over at both ends of a line, also a carriage return
+/// before the line feed, means nothing. What is left is the line itself.
 pub fn lines_say_what_is_between_their_margins()
     ensures from_one { (text : List ℕ) → lines_of text ≡ statements_from 1 text }
     ensures line { (number : ℕ) (line rest : List ℕ) → is_one_line line ≡ true
         → statements_from number (line ++ (10 ∷ rest)) ≡ said number line ++ statements_from (number + 1) rest }
-    ensures last { (number : ℕ) (line : List ℕ) → is_one_line line ≡ true → statements_from number line ≡ said number line }
+    ensures last { (number : ℕ) (line : List ℕ) → is_one_line line ≡ true
+        → statements_from number line ≡ said number line }
     ensures margins { (number : ℕ) (left line right : List ℕ) → are_margins left ≡ true → are_margins right ≡ true
         → said number (left ++ (line ++ right)) ≡ said number line }
     ensures empty { (number : ℕ) (blanks : List ℕ) → are_margins blanks ≡ true → said number blanks ≡ [] }
-    ensures comment { (number : ℕ) (left rest : List ℕ) → are_margins left ≡ true → said number (left ++ (35 ∷ rest)) ≡ [] }
+    ensures comment { (number : ℕ) (left rest : List ℕ) → are_margins left ≡ true
+        → said number (left ++ (35 ∷ rest)) ≡ [] }
     ensures itself { (number first last : ℕ) (more front : List ℕ) → first ∷ more ≡ front ++ (last ∷ [])
         → is_margin first ≡ false → is_margin last ≡ false → first ≢ 35
         → said number (first ∷ more) ≡ record { number = number; bytes = first ∷ more } ∷ [] }
@@ -78,7 +82,8 @@ pub fn lines_say_what_is_between_their_margins()
 pub fn paths_of_nodes_are_paths()
     ensures { (text : List ℕ) (tokens : List Token) (tree : Tree) (name : Name) (arguments : List ℤ) (g : Graph)
         → IsTokens text tokens → IsUnit text tokens tree → AllByRecursion IsInteger arguments
-        → HasNoFault tree name arguments → ElaboratesTo tree name arguments g → All (λ n. IsWrittenPath n.path) g.nodes }
+        → HasNoFault tree name arguments → ElaboratesTo tree name arguments g
+        → All (λ n. IsWrittenPath n.path) g.nodes }
 {
     fronts_as_spelled();
     names_are_those_of_the_language();

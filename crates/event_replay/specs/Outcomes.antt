@@ -1,4 +1,5 @@
--- What becomes of events in a state: the first that is no step is denied, or all are steps to a state that the text shows.
+-- What becomes of events in a state: the first that is no step is denied, or all are steps to a state that the text
+-- shows.
 use Rattle.std.specs.Prelude.{List, length}
 use Rattle.quiesce_core.specs.declared.event.Event.{Event}
 use Rattle.quiesce_core.specs.Runs.{Steps}

@@ -7,7 +7,8 @@ use Rattle.quiesce_core.specs.Runs.{Steps}
 use Rattle.quiesce_core.specs.Settled.{Settled}
 use Rattle.quiesce_core.specs.State.{State}
 
--- the events before one are steps to a state in which it is denied; it has this number, from 1, and this is the first of its rules that fails
+-- the events before one are steps to a state in which it is denied; it has this number, from 1, and this is the first
+-- of its rules that fails
 pub record IsDenied (s : State) (events : List Event) (number rule : ℕ) : Type 0 where
   pub before : List Event
   pub event : Event

@@ -1,5 +1,5 @@
--- The text of a replay: how many events there were, the transactions that haven't ended, how many events can follow until they
--- have, and the settled nodes.
+-- The text of a replay: how many events there were, the transactions that haven't ended, how many events can follow
+-- until they have, and the settled nodes.
 use Rattle.std.specs.Prelude.{◌≡◌, ◌-◌, ◌^◌, ℕ, Bool, List, [], ◌++◌, min, flat_map, codes, decimal, if◌then◌else◌}
 use Rattle.std.specs.Option.{option_map_or}
 use Rattle.quiesce_core.specs.declared.state.OpenTxn.{OpenTxn}

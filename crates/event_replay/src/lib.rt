@@ -1,4 +1,5 @@
-//! Events replayed over a system that was started with a graph: which of them is denied, or what is open and settled after all.
+//! Events replayed over a system that was started with a graph: which of them is denied, or what is open and settled
+//! after all.
 #![tactic(auto)]
 
 mod applying;

@@ -91,7 +91,8 @@ fn stage(stage: Stage) -> &'static [u8]
 /// A line for each of these nodes.
 fn push_settled(text: &mut Vec<u8>, core: &Core, nodes: &[u32]) -> Result<(), NoMemory>
     requires { All (λ n. n < length core.now.state.config.slots) nodes.now }
-    ensures { OnOk result (text.new.items ≡ text.old.items ++ flat_map (text_of.settled_line core.now.state) nodes.now) }
+    ensures { OnOk result
+        (text.new.items ≡ text.old.items ++ flat_map (text_of.settled_line core.now.state) nodes.now) }
 {
     for slot in nodes {
         push_node(text, core, *slot)?;

@@ -52,7 +52,8 @@ case_of (fault.too_deep _ _ _ _ _) = too_deep
 case_of (fault.too_many _ _ _) = too_many
 case_of (fault.depends_cycle _ _ _ _ _ _ _ _) = depends_cycle
 
--- nothing is wrong with the names of the description, a fault of its elaboration holds by this case, and none by another
+-- nothing is wrong with the names of the description, a fault of its elaboration holds by this case, and none by
+-- another
 pub record StandsAlone (q : Query) (case : Case) : Type 0 where
   pub checked : NoFault q.tree
   pub error : ElabError
@@ -93,11 +94,12 @@ query bad_index =
 -- component A { inst x:B; inst x:B; } component B { when 0 inst e:B; }
 query two_instances =
     of_tree (composite [] (instance (codes "x") (codes "B") [] ∷ instance (codes "x") (codes "B") [] ∷ []) ∷ with_ports [] ∷ [])
--- Instances of two instances have one path by themselves only where a name has a full stop in it, as none of a text has:
--- component A { inst x.y:B; inst x:C; } component B { when 0 inst e:B; } component C { inst y:B; }
+-- Instances of two instances have one path by themselves only where a name has a full stop in it, as none of a text
+-- has: component A { inst x.y:B; inst x:C; } component B { when 0 inst e:B; } component C { inst y:B; }
 query two_apart =
     of_tree (composite [] (instance (codes "x.y") (codes "B") [] ∷ instance (codes "x") (codes "C") [] ∷ []) ∷ with_ports [] ∷ component (codes "C") [] [] [] (row (instance (codes "y") (codes "B") [] ∷ [])) ∷ [])
--- component A { provide r; inst x:B; bind r -- x.p; bind r -- x.q; } component B { provide p; provide q; when 0 inst e:B; }
+-- component A { provide r; inst x:B; bind r -- x.p; bind r -- x.q; } component B { provide p; provide q; when 0 inst
+-- e:B; }
 query bound_twice =
     of_tree (composite (port Provide (codes "r") None ∷ []) (instance (codes "x") (codes "B") [] ∷ binding (outer (codes "r")) (inner (codes "x") (codes "p")) ∷ binding (outer (codes "r")) (inner (codes "x") (codes "q")) ∷ []) ∷ with_ports (port Provide (codes "p") None ∷ port Provide (codes "q") None ∷ []) ∷ [])
 -- component A { provide r; bind r -- r; when 0 inst e:A; }

@@ -1,5 +1,5 @@
-//! Laws that each way is needed in which a file of events has a fault: there is a text that has it by this way alone. By
-//! `change_script::one_file_or_one_fault` these have no other fault, and are no files of events.
+//! Laws that each way is needed in which a file of events has a fault: there is a text that has it by this way alone.
+//! By `change_script::one_file_or_one_fault` these have no other fault, and are no files of events.
 
 ghost use Rattle.std.specs.Prelude.{codes};
 ghost use Rattle.change_script.specs.EventFiles.{IsFirstFault};

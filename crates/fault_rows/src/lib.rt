@@ -1,5 +1,5 @@
-//! Worked inputs of which each has a fault by one case, or one way, of its definition, and by none but this: so none can
-//! be left out, or the input would be taken or have another fault.
+//! Worked inputs of which each has a fault by one case, or one way, of its definition, and by none but this: so none
+//! can be left out, or the input would be taken or have another fault.
 #![tactic(auto)]
 
 mod event_ways;

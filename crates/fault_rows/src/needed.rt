@@ -54,9 +54,9 @@ pub fn each_case_of_an_elaboration_is_needed()
     ensures { (case : elaborations.Case) → elaborations.StandsAlone (elaborations.query case) case }
 {}
 
-/// For each refusal of a plan there are two graphs and moves that have it. A source isn't removed, or a target created,
-/// where no node is there, where the node is in both graphs, and where it has another path; and the moves may have either
-/// end twice. By `change_plan::a_plan_or_a_refusal` they have no other, and no plan.
+/// For each refusal of a plan there are two graphs and moves that have it. A source isn't removed, or a target
+/// created, where no node is there, where the node is in both graphs, and where it has another path; and the moves
+/// may have either end twice. By `change_plan::a_plan_or_a_refusal` they have no other, and no plan.
 pub fn each_refusal_of_a_plan_is_needed()
     ensures not_removed { IsRefused empty empty (move ∷ []) (made 0 0) (NotRemoved (codes "a")) }
     ensures source_stays { IsRefused (one sink_a) (one sink_a) (move ∷ []) (made 0 0) (NotRemoved (codes "a")) }
@@ -72,8 +72,8 @@ pub fn each_refusal_of_a_plan_is_needed()
     ensures ports_full { IsRefused empty (one source_b) [] (made 0 4096) (PortsFull 4096 1) }
 {}
 
-/// For each refusal of a script there is a text that has it. By `change_script::one_script_or_one_fault` it has no other,
-/// and is no script.
+/// For each refusal of a script there is a text that has it. By `change_script::one_script_or_one_fault` it has no
+/// other, and is no script.
 pub fn each_refusal_of_a_script_is_needed()
     ensures bad_line { IsScriptFault (codes "?") (BadLine 1) }
     ensures too_big { IsScriptFault (codes "run 4294967296") (NumberTooBig 1) }
@@ -83,8 +83,9 @@ pub fn each_refusal_of_a_script_is_needed()
     ensures no_end { IsScriptFault (codes "use a\nstart A") NoEnd }
 {}
 
-/// For each refusal of a report there is a text that has it: of its first line, of one within, of what stands
-/// behind the last, and of a text that ends too soon. By `report_parser::one_report_or_one_fault` these have no other, and are no reports.
+/// For each refusal of a report there is a text that has it: of its first line, of one within, of what stands behind
+/// the last, and of a text that ends too soon. By `report_parser::one_report_or_one_fault` these have no other, and
+/// are no reports.
 pub fn each_refusal_of_a_report_is_needed()
     ensures bad_line { IsReportFault (codes "?\n") (faults.BadLine 1) }
     ensures bad_version { IsReportFault (codes "report 3\n") (faults.BadLine 1) }

@@ -47,7 +47,8 @@ fn describe_text(
     text: &[u8],
 ) -> Result<Answer, NoMemory>
     requires { length text.now ≤ file_limit }
-    ensures { IfOk result (λ answer. DescriptionAnswers file.now query.now (Held text.now) answer.status answer.text.items) }
+    ensures { IfOk result
+        (λ answer. DescriptionAnswers file.now query.now (Held text.now) answer.status answer.text.items) }
 {
     match answer_of(alloc, query, text) {
         Ok(answer) => Ok(answer),

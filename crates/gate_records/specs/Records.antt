@@ -54,8 +54,8 @@ pub record IsRecord (r : List Entry) : Type 0 where
   pub moments : List Moment
   pub is_of : IsRecordOf r moments
 
--- the record of the front of a run, whose last events are nodes' and follow the record's last entry; a call that broke off
--- may have let nodes take turns
+-- the record of the front of a run, whose last events are nodes' and follow the record's last entry; a call that
+-- broke off may have let nodes take turns
 pub record IsRecordCut (r : List Entry) : Type 0 where
   pub moments : List Moment
   pub later : List Event

@@ -1,5 +1,5 @@
-//! Records of what a change does and sees while nodes are at work: of which runs they are, which ports they note as drained,
-//! and what a change may do by them.
+//! Records of what a change does and sees while nodes are at work: of which runs they are, which ports they note as
+//! drained, and what a change may do by them.
 #![tactic(auto)]
 
 mod entry;

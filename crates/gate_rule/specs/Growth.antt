@@ -1,5 +1,5 @@
--- How the run goes on. By each step its moments get at most one more at their end, the one that is named for the step, and the words and
--- views after the step show the run so continued: so a moment's place, once fixed, stays.
+-- How the run goes on. By each step its moments get at most one more at their end, the one that is named for the
+-- step, and the words and views after the step show the run so continued: so a moment's place, once fixed, stays.
 use Rattle.std.specs.Prelude.{◌≡◌, ℕ, ◌+◌, Bool, false, List, [], ◌∷◌, ◌++◌, bit_xor, slice_index, slice_set, if◌then◌else◌}
 use Rattle.atomic_table.specs.Table.{Act, State as Table, stepped}
 use Rattle.gate_records.specs.Records.{Moment, by_node, entry}
@@ -26,10 +26,11 @@ pub record RunGoesOn (t : GatesTable) (h : Holds t) (u : GatesTable) (more_ : Li
 
 -- ---- a step on a word
 
--- Whatever the table is, and whichever run it shows: where the word i becomes f of what is found, and the seat so as `then_` says, the run
--- goes on by the moments that there are by the word that is found.
+-- Whatever the table is, and whichever run it shows: where the word i becomes f of what is found, and the seat so as
+-- `then_` says, the run goes on by the moments that there are by the word that is found.
 abbrev pub Prolongs : ℕ → Seat → ℕ → (ℕ → ℕ) → (ℕ → Seat → Type 0) → (ℕ → List Moment) → Type 0
-Prolongs id me i f then_ more_ = (t : GatesTable) (h : Holds t) → get_elem? t.views id ≡ some me.0 → (v : View) (a : Act (Unit {0})) → then_ (slice_index t.words i) (v, [])
+Prolongs id me i f then_ more_ = (t : GatesTable) (h : Holds t) → get_elem? t.views id ≡ some me.0
+    → (v : View) (a : Act (Unit {0})) → then_ (slice_index t.words i) (v, [])
     → RunGoesOn t h (stepped t i (f (slice_index t.words i)) id [] v a) (more_ (slice_index t.words i))
 
 -- a load by a node's seat, which may be an event of the node
@@ -46,11 +47,13 @@ asked_word old v = pack (record (unpack old) { phase = phase.Asked; serial = (un
 
 -- an exclusive or with this operand is the node's event
 abbrev pub ActProlongs : ℕ → NodeView → ℕ → ℕ → Event → Type 0
-ActProlongs id n p operand e = Prolongs id (of_node n, []) p (λ x. bit_xor x operand) (λ found new. new ≡ did (of_node n, []) e) (λ found. by_node e ∷ [])
+ActProlongs id n p operand e = Prolongs id (of_node n, []) p (λ x. bit_xor x operand)
+    (λ found new. new ≡ did (of_node n, []) e) (λ found. by_node e ∷ [])
 
 -- what becomes of a word is the change's event
 abbrev pub ChangeProlongs : ℕ → List NodeView → ChangeView → ℕ → (ℕ → ℕ) → Event → Type 0
-ChangeProlongs id nodes c i f e = Prolongs id (of_change nodes c, []) i f (λ found new. new ≡ noted (of_change nodes c, []) (Did e)) (λ found. entry (Did e) ∷ [])
+ChangeProlongs id nodes c i f e = Prolongs id (of_change nodes c, []) i f
+    (λ found new. new ≡ noted (of_change nodes c, []) (Did e)) (λ found. entry (Did e) ∷ [])
 
 -- ---- seats that are given out and taken in
 
@@ -61,5 +64,6 @@ SplitProlongs id v left right = (t : GatesTable) (h : Holds t) → get_elem? t.v
 
 -- a view is taken in by another
 abbrev pub JoinProlongs : ℕ → View → ℕ → View → View → View → List Moment → Type 0
-JoinProlongs id v other w both spent more_ = (t : GatesTable) (h : Holds t) → get_elem? t.views id ≡ some v → ¬ (other ≡ id) → get_elem? (slice_set t.views id both) other ≡ some w
+JoinProlongs id v other w both spent more_ = (t : GatesTable) (h : Holds t) → get_elem? t.views id ≡ some v
+    → ¬ (other ≡ id) → get_elem? (slice_set t.views id both) other ≡ some w
     → RunGoesOn t h (record { words = t.words; homes = t.homes; views = slice_set (slice_set t.views id both) other spent }) more_

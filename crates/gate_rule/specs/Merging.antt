@@ -1,5 +1,5 @@
--- What the change learns of the nodes whose seats it took in: of one, that its record made it so, and that it services nothing once
--- its record removed it; of all, that their events and its record are one run.
+-- What the change learns of the nodes whose seats it took in: of one, that its record made it so, and that it
+-- services nothing once its record removed it; of all, that their events and its record are one run.
 use Rattle.std.specs.Prelude.{◌≡◌, ℕ, ◌<◌, false, List, Some, None, option_map, IsTrue}
 use Rattle.atomic_table.specs.Table.{Step}
 use Rattle.gate_records.specs.Entries.{config_of}
@@ -22,8 +22,8 @@ pub record IsOfRecord (r : List Entry) (n : NodeView) : Type 0 where
 abbrev pub AreAllAmong : ℕ → List NodeView → Type 0
 AreAllAmong seats nodes = (n : ℕ) → n < seats → IsTrue (is_among nodes n)
 
--- The record and the nodes' events, in order, merge into one run: it has no other event, each look stands where the port's word is
--- the one that was loaded, and each sight where the node's events so far are those that it has.
+-- The record and the nodes' events, in order, merge into one run: it has no other event, each look stands where the
+-- port's word is the one that was loaded, and each sight where the node's events so far are those that it has.
 pub record MergeIntoRun (r : List Entry) (nodes : List NodeView) : Type 0 where
   pub moments : List Moment
   pub is_record : IsRecordOf r moments
@@ -35,4 +35,5 @@ Meets st me found new = (new ≡ me) × IsOfRecord (change_of me.0).entries (nod
 
 -- a look of the change, which took all seats in
 abbrev pub Merges : Step (Unit {0}) → Seat → ℕ → Seat → Type 0
-Merges st me found new = (new ≡ noted me (Looked st.word found)) × MergeIntoRun (notes (change_of me.0) (Looked st.word found)).entries me.0.nodes
+Merges st me found new = (new ≡ noted me (Looked st.word found))
+    × MergeIntoRun (notes (change_of me.0) (Looked st.word found)).entries me.0.nodes

@@ -73,12 +73,14 @@ LoadsWord st me found new = (new ≡ read me Own st.word found) × WasShown (nod
 -- an exchange is the event, where it found the word that it expects
 abbrev pub Begins : Event → Step (Unit {0}) → Seat → ℕ → Seat → Type 0
 Begins e st me found new =
-    (new ≡ (if found == st.first then did (read me Exchange st.word found) e else read me Exchange st.word found)) × WasShown (node_of me.0) st.word found
+    (new ≡ (if found == st.first then did (read me Exchange st.word found) e else read me Exchange st.word found))
+    × WasShown (node_of me.0) st.word found
 
 -- a load takes what is asked of the node
 abbrev pub Takes : Step (Unit {0}) → Seat → ℕ → Seat → Type 0
 Takes st me found new =
-    (new ≡ (if is_message_to (node_of me.0).slot (unpack found) then did (read me kinds.Take st.word found) (Take st.word (unpack found).serial (unpack found).value)
+    (new ≡ (if is_message_to (node_of me.0).slot (unpack found)
+    then did (read me kinds.Take st.word found) (Take st.word (unpack found).serial (unpack found).value)
     else read me kinds.Take st.word found))
     × WasShown (node_of me.0) st.word found
 
@@ -95,13 +97,15 @@ looks n p w = record (reads n Own p w) { loaded = Some (record { port = p; word 
 
 abbrev pub LooksToCall : Step (Unit {0}) → Seat → ℕ → Seat → Type 0
 LooksToCall st me found new =
-    (new ≡ (if is_missing (unpack found) then did (read me Own st.word found) (Miss st.word) else (of_node (looks (node_of me.0) st.word found), [])))
+    (new ≡ (if is_missing (unpack found) then did (read me Own st.word found) (Miss st.word)
+    else (of_node (looks (node_of me.0) st.word found), [])))
     × WasShown (node_of me.0) st.word found
 
 -- a load hears the further message
 abbrev pub Hears : Step (Unit {0}) → Seat → ℕ → Seat → Type 0
 Hears st me found new =
-    (new ≡ (if is_asked (unpack found).phase then did (read me kinds.Hear st.word found) (Hear st.word (serial_served (node_of me.0).known) (unpack found).value)
+    (new ≡ (if is_asked (unpack found).phase then did (read me kinds.Hear st.word found)
+    (Hear st.word (serial_served (node_of me.0).known) (unpack found).value)
     else read me kinds.Hear st.word found))
     × WasShown (node_of me.0) st.word found
 

@@ -1,7 +1,8 @@
--- Traces, and what of them words and seats show. A trace is what was done and seen so far, in one order, and who has which seat. It is
--- that of a run where each event may happen after those before it, each look loaded the word that its port had there, and each sight has
--- the events that its node had done. The words of ports and slots are those of the state then; what a seat knows of its node are the
--- node's own events, and what the state has of it; and the change knows the record.
+-- Traces, and what of them words and seats show. A trace is what was done and seen so far, in one order, and who has
+-- which seat. It is that of a run where each event may happen after those before it, each look loaded the word that
+-- its port had there, and each sight has the events that its node had done. The words of ports and slots are those of
+-- the state then; what a seat knows of its node are the node's own events, and what the state has of it; and the
+-- change knows the record.
 use Rattle.std.specs.Prelude.{◌≡◌, ◌≢◌, ⊤, ℕ, ◌+◌, ◌<◌, ◌≤◌, true, List, [], ◌∷◌, ◌++◌, replicate, length, slice_index, Some, is_some, option_map, IsTrue}
 use Rattle.std.specs.List.{AllByRecursion}
 use Rattle.atomic_table.specs.Table.{State as Table}
@@ -28,8 +29,8 @@ use Rattle.gate_rule.specs.declared.view.View.{View}
 use mathlib.Core.Option.{some}
 use lib.ListN.{get_elem?}
 
--- what was done and seen, and what of it the change has in its record; which seat has the node of each slot, which is the change's, and
--- for how many slots seats were given out
+-- what was done and seen, and what of it the change has in its record; which seat has the node of each slot, which is
+-- the change's, and for how many slots seats were given out
 pub record Trace : Type 0 where
   pub moments : List Moment
   pub entries : List Entry
@@ -52,8 +53,8 @@ pub record Shows (words : List ℕ) (s : State) : Type 0 where
 abbrev pub ShowsExchange : Word → Exchange → Type 0
 ShowsExchange w x = record w { phase = x.phase; consequent = is_some x.within; serial = x.serial; value = x.value } ≡ w
 
--- But for what the change turns, the word that node n loaded at its idle port is the port's still; and it leads where the port does
--- while the node is in a service.
+-- But for what the change turns, the word that node n loaded at its idle port is the port's still; and it leads where
+-- the port does while the node is in a service.
 pub record IsLoadedOf (s : State) (n : ℕ) (l : Loaded) : Type 0 where
   pub made : l.port < length s.config.gates
   pub owned : owner s.config l.port ≡ n
@@ -66,11 +67,12 @@ pub record WasLoaded (n : ℕ) (es : List Event) (l : LoadStep) : Type 0 where
   pub done : l.done ≡ length (done_by n es)
   pub word : l.word ≡ word_of (state_after es) l.port
 
--- Each word of a list was loaded at a place of the run, in that order: the run goes on from the place of the one before it to its own
--- place, and then by the rest.
+-- Each word of a list was loaded at a place of the run, in that order: the run goes on from the place of the one
+-- before it to its own place, and then by the rest.
 abbrev pub AreLoaded : ℕ → List Event → List Event → List LoadStep → Type 0
 AreLoaded n es rest [] = ⊤
-AreLoaded n es rest (l ∷ ls) = (next : List Event) × (later : List Event) × (rest ≡ next ++ later) × WasLoaded n (es ++ next) l × AreLoaded n (es ++ next) later ls
+AreLoaded n es rest (l ∷ ls) = (next : List Event) × (later : List Event) × (rest ≡ next ++ later)
+    × WasLoaded n (es ++ next) l × AreLoaded n (es ++ next) later ls
 
 -- what is known of a node after these events
 pub record KnowsNode (es : List Event) (n : NodeView) : Type 0 where

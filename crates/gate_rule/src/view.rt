@@ -44,7 +44,8 @@ pub struct NodeView {
     pub loaded: Option<Loaded>,
 }
 
-/// What the change knows: for how many of the nodes that it made, the first ones, the seats were given out; and what it did and saw.
+/// What the change knows: for how many of the nodes that it made, the first ones, the seats were given out; and what
+/// it did and saw.
 pub struct ChangeView {
     pub seats: u32,
     pub entries: LinkedList<Entry>,

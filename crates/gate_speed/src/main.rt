@@ -1,5 +1,5 @@
-//! How long a transaction at the gates takes, in one thread and in two, beside four bare atomic exchanges of one word. Without a word
-//! it measures nothing.
+//! How long a transaction at the gates takes, in one thread and in two, beside four bare atomic exchanges of one
+//! word. Without a word it measures nothing.
 #![tactic(auto)]
 
 ghost use Rattle.std.specs.Prelude.{◌≡◌, IfOk};
@@ -19,7 +19,8 @@ const TIMES: u32 = 4_000_000;
 
 /// New gates with a source that leads to a sink.
 fn gates_of_two(alloc: Global) -> Result<(Gates, Seated, Seated), Unmade>
-    ensures { IfOk result (λ r. (r.1.seat.seat.table_id ≡ r.0.words.shared.table_id) × (r.2.seat.seat.table_id ≡ r.0.words.shared.table_id)) }
+    ensures { IfOk result (λ r. (r.1.seat.seat.table_id ≡ r.0.words.shared.table_id)
+        × (r.2.seat.seat.table_id ≡ r.0.words.shared.table_id)) }
 {
     let (gates, mut change) = Gates::new(alloc)?;
     gates.reserve(&mut change, 2)?;
@@ -49,7 +50,8 @@ fn exchange(rt: &impl Wait, word: &AtomicU64, from: u64, to: u64) {
     }
 }
 
-/// One of two threads' exchanges: from the one number to the other, and from that which the other thread makes back to the first.
+/// One of two threads' exchanges: from the one number to the other, and from that which the other thread makes back
+/// to the first.
 fn exchange_by_turns(rt: &impl Wait, word: &AtomicU64, first: (u64, u64), second: (u64, u64)) {
     for _ in 0..TIMES {
         exchange(rt, word, first.0, first.1);

@@ -32,7 +32,8 @@ end_difference u consequent = difference (record blank { phase = phase.Answered;
 abbrev pub link_difference : Target → ℕ
 link_difference t = difference blank (record blank { target = Some t })
 
--- A field is turned: where `from` and `to` have it alike, it stays; else it was as `from` has it, and is as `to` has it.
+-- A field is turned: where `from` and `to` have it alike, it stays; else it was as `from` has it, and is as `to` has
+-- it.
 abbrev pub IsTurned : {A : Type 0} → A → A → A → A → Type 0
 IsTurned from to old new = ((from ≡ to) × (new ≡ old)) ⊎ ((old ≡ from) × (new ≡ to))
 

@@ -8,8 +8,8 @@ use Rattle.config_graph.specs.declared.kind.Kind.{Kind}
 use Rattle.gate_word.specs.declared.slot_word.SlotWord.{SlotWord}
 use Rattle.gate_word.specs.Packs.{spell, bits, plus_one, less_one}
 
--- the widths of the fields, from bit 0 on: 4 bits for one more than the kind's number, 16 for the first port, 24 for the
--- argument, 10 for one more than the slot whose state was taken over
+-- the widths of the fields, from bit 0 on: 4 bits for one more than the kind's number, 16 for the first port, 24 for
+-- the argument, 10 for one more than the slot whose state was taken over
 abbrev pub slot_widths : List ℕ
 slot_widths = 4 ∷ 16 ∷ 24 ∷ 10 ∷ []
 

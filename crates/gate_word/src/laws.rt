@@ -21,7 +21,8 @@ use config_graph::Kind;
 /// in slot 2; and the word of a slot in which a map that adds 10 was made from the node of slot 0, with port 2 as its
 /// first.
 pub fn worked_words()
-    ensures unmade { pack (record { closed = true; phase = Phase.Idle; consequent = false; target = None; serial = 0; value = 0 })
+    ensures unmade { pack
+        (record { closed = true; phase = Phase.Idle; consequent = false; target = None; serial = 0; value = 0 })
         ≡ 0x8000_0000_0000_0000 }
     ensures begun { let first : Target = record { node = 0; provide = 0 } in
         pack (record {
@@ -43,7 +44,8 @@ pub fn worked_words()
           value = 11;
         })
         ≡ 0x300c_0000_0100_000b }
-    ensures made { pack_slot (record { kind = Kind.Map; first_port = 2; arg = Some 10; from = Some 0 }) ≡ 0x1000_00a0_0025 }
+    ensures made { pack_slot (record { kind = Kind.Map; first_port = 2; arg = Some 10; from = Some 0 })
+        ≡ 0x1000_00a0_0025 }
 {}
 
 /// Operands as they are worked out by hand: of the answer 7 to a message of value 1, and of a link to the node in
@@ -63,8 +65,8 @@ pub fn words_are_sums()
         + 2 ^ 44 * plus_one w.from }
 {}
 
-/// Words are numbers of 64 bits, and the word of a slot in which a node was made isn't 0. Values and arguments fill their
-/// fields, and so do serials, the last among them.
+/// Words are numbers of 64 bits, and the word of a slot in which a node was made isn't 0. Values and arguments fill
+/// their fields, and so do serials, the last among them.
 pub fn words_have_their_room()
     ensures port { (w : Word) → FitsWord w → pack w < 2 ^ 64 }
     ensures slot { (w : SlotWord) → FitsSlotWord w → pack_slot w < 2 ^ 54 }

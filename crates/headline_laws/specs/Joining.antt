@@ -1,5 +1,5 @@
--- What was told and what was done, as one list: items of a transcript and moments of a run that have the same entries are joined so that
--- each entry stands once. The members of a lawful report are those of such a list.
+-- What was told and what was done, as one list: items of a transcript and moments of a run that have the same entries
+-- are joined so that each entry stands once. The members of a lawful report are those of such a list.
 use Rattle.std.specs.Prelude.{◌≡◌, List, filter_map, Option, Some, None, if◌then◌else◌}
 use Rattle.quiesce_core.specs.declared.event.Event.{Event}
 use Rattle.change_script.specs.declared.report.HistoryLine.{HistoryLine}

@@ -1,5 +1,5 @@
--- What is done and told of each statement of a script, on any board, in one order: entries of the board's record, and lines of the
--- history.
+-- What is done and told of each statement of a script, on any board, in one order: entries of the board's record, and
+-- lines of the history.
 use Rattle.std.specs.Prelude.{◌≡◌, ◌≤◌, ◌<◌, ◌⊎◌, ℕ, ℤ, Bool, true, false, List, [], ◌∷◌, ◌++◌, map, length, flat_map}
 use Rattle.std.specs.List.{AllByRecursion, list_any}
 use Rattle.base.specs.Each.{Each}
@@ -83,8 +83,8 @@ pub record AreChangeItems (before : List Item) (name : List ℕ) (args : List �
 abbrev pub skip_items : List ℕ → List ℤ → List Item
 skip_items name args = said (to.Change name args) ∷ said to.Skipped ∷ []
 
--- A run: looks at all ports, and scans in which nodes may begin transactions, until the ports show so many more as ended, or a scan
--- was the last; and the line that tells how many ended.
+-- A run: looks at all ports, and scans in which nodes may begin transactions, until the ports show so many more as
+-- ended, or a scan was the last; and the line that tells how many ended.
 pub record AreRunItems (alone : Bool) (c : Configuration) (k : ℕ) (t : List Item) : Type 0 where
   pub looks : List Found
   pub at_ports : ports_of looks ≡ all_ports c

@@ -20,8 +20,8 @@ logs_in m n = map (λ k. done_by k (events m)) (range_with_len 0 n)
 abbrev pub taken_in : Report → List (List Event)
 taken_in report = map (λ (l : NodeLog). l.events) report.logs
 
--- The history has the transcript's lines, and there is a log of each node made, with what it did, which ends with its last state or tells
--- where that went. The first live node that isn't done is named where there is a finish.
+-- The history has the transcript's lines, and there is a log of each node made, with what it did, which ends with its
+-- last state or tells where that went. The first live node that isn't done is named where there is a finish.
 pub record IsReport (t : List Item) (m : List Moment) (report : Report) : Type 0 where
   pub history_is : report.history ≡ lines t
   pub slots : map (λ (l : NodeLog). l.slot) report.logs ≡ range_with_len 0 (length (config_at t).slots)

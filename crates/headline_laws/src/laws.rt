@@ -33,7 +33,8 @@ pub fn records_and_transcripts_join()
 
 /// The events of these members are a run of the machine.
 pub fn joined_members_are_a_run()
-    ensures runs { (alone : Bool) (statements : List Statement) (t : List Item) (m : List Moment) (members : List Member)
+    ensures runs { (alone : Bool) (statements : List Statement) (t : List Item) (m : List Moment)
+        (members : List Member)
         → IsTranscript alone statements t → AreJoined t m members → IsRecordOf (entries t) m → IsRun (events members) }
 {}
 
@@ -46,7 +47,8 @@ pub fn what_is_told_as_drained_is_so()
 
 /// The logs and the history are parts of these members, and nothing else is.
 pub fn logs_and_history_merge()
-    ensures merge { (alone : Bool) (statements : List Statement) (t : List Item) (m : List Moment) (members : List Member)
+    ensures merge { (alone : Bool) (statements : List Statement) (t : List Item) (m : List Moment)
+        (members : List Member)
         (report : Report) → IsTranscript alone statements t → AreJoined t m members → IsRecordOf (entries t) m
         → IsReport t m report → Merge members report }
 {}
@@ -70,7 +72,8 @@ pub fn each_transaction_ends_once()
 /// Each log is one of its node's kind, from what the node was made with, and ends with its last state or tells to which
 /// node that went.
 pub fn logs_have_folds()
-    ensures folds { (alone : Bool) (statements : List Statement) (t : List Item) (m : List Moment) (members : List Member)
+    ensures folds { (alone : Bool) (statements : List Statement) (t : List Item) (m : List Moment)
+        (members : List Member)
         (report : Report) → IsTranscript alone statements t → AreJoined t m members → IsRecordOf (entries t) m
         → IsReport t m report → All (IsFolded members report.history) report.logs }
 {}
@@ -82,12 +85,13 @@ pub fn graphs_are_those_described()
         → Each (IsGraphAt statements) members }
 {}
 
-/// The first live node that isn't done is named, where the script has a finish; and the status says whether a change was
-/// given up or a node wasn't done.
+/// The first live node that isn't done is named, where the script has a finish; and the status says whether a change
+/// was given up or a node wasn't done.
 pub fn reports_name_what_is_undone()
     ensures unfinished { (alone : Bool) (statements : List Statement) (t : List Item) (m : List Moment)
         (members : List Member) (report : Report) → IsTranscript alone statements t → AreJoined t m members
-        → IsRecordOf (entries t) m → IsReport t m report → report.unfinished ≡ unfinished_of statements (events members) }
+        → IsRecordOf (entries t) m → IsReport t m report
+        → report.unfinished ≡ unfinished_of statements (events members) }
     ensures status { (t : List Item) (m : List Moment) (report : Report) → IsReport t m report
         → report.status ≡ status_of report.history report.unfinished }
 {}
@@ -99,12 +103,13 @@ pub fn what_is_told_as_open_stood_open()
         → IsRecordOf (entries t) m → IsReport t m report → Each (StoodOpenWhereSaid members) report.history }
 {}
 
-/// All of these together: the report follows the script, and is lawful by these members, as far as that isn't a matter of
-/// the numbers of `run` and `finish` lines.
+/// All of these together: the report follows the script, and is lawful by these members, as far as that isn't a
+/// matter of the numbers of `run` and `finish` lines.
 pub fn joined_members_make_a_report_lawful()
     ensures follows { (alone : Bool) (statements : List Statement) (t : List Item) (m : List Moment) (report : Report)
         → IsTranscript alone statements t → IsReport t m report → Follows statements report.history }
-    ensures lawful { (alone : Bool) (statements : List Statement) (t : List Item) (m : List Moment) (members : List Member)
+    ensures lawful { (alone : Bool) (statements : List Statement) (t : List Item) (m : List Moment)
+        (members : List Member)
         (report : Report) → IsTranscript alone statements t → AreJoined t m members → IsRecordOf (entries t) m
         → IsReport t m report → IsLawfulBy statements report members }
 {
@@ -113,7 +118,8 @@ pub fn joined_members_make_a_report_lawful()
 
 /// At least so many transactions as the line of a run tells ended since the line before it.
 pub fn runs_ended_as_many_as_they_tell()
-    ensures ended { (alone : Bool) (statements : List Statement) (t : List Item) (m : List Moment) (members : List Member)
+    ensures ended { (alone : Bool) (statements : List Statement) (t : List Item) (m : List Moment)
+        (members : List Member)
         → IsTranscript alone statements t → AreJoined t m members → IsRecordOf (entries t) m → Each IsEndedAt members }
 {}
 

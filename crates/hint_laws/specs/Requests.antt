@@ -1,4 +1,5 @@
--- Hints, and the requests that they tell of. A request waits at a port that is asked and that its target doesn't service yet.
+-- Hints, and the requests that they tell of. A request waits at a port that is asked and that its target doesn't
+-- service yet.
 use Rattle.std.specs.Prelude.{◌≡◌, ℕ, ◌+◌, ◌==◌, ◌&&◌, Bool, false, not, Option, None, option_and_then, slice_get, slice_index_or, if◌then◌else◌}
 use Rattle.std.specs.List.{count_by}
 use Rattle.std.specs.Option.{option_map_or}

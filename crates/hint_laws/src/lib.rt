@@ -1,5 +1,5 @@
-//! Laws of hints: they tell of the requests that wait, and of no others; so a world at rest stays as it is, and rounds move
-//! while a transaction is open.
+//! Laws of hints: they tell of the requests that wait, and of no others; so a world at rest stays as it is, and
+//! rounds move while a transaction is open.
 #![tactic(auto)]
 
 mod hinting;

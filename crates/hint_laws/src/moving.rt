@@ -23,8 +23,8 @@ pub fn rounds_move_what_is_open()
     who_wants_asks_nothing();
 }
 
-/// So it is in every world behind a round, and events of the change keep it so: of worlds that rounds and changes reach,
-/// none has a hint that waits for a node whose inbox is empty.
+/// So it is in every world behind a round, and events of the change keep it so: of worlds that rounds and changes
+/// reach, none has a hint that waits for a node whose inbox is empty.
 pub fn hints_are_posted_in_rounds()
     ensures round { (w : World) (allowed : Bool) → IsReached w → ArePosted (round allowed w).world }
     ensures change { (w : World) (e : Event) → is_of_change e ≡ true → ArePosted w → ArePosted (with_event w e) }

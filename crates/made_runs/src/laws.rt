@@ -30,18 +30,20 @@ pub fn made_descriptions_have_no_fault()
 
 /// A law: nothing of what is made is refused, neither the script nor a line of it.
 pub fn made_lines_are_not_refused()
-    ensures { (lanes : ℕ) → 1 ≤ lanes → lanes ≤ MAX_LANES → NothingRefusesLines (made_files lanes) (Some (script lanes)) }
+    ensures { (lanes : ℕ) → 1 ≤ lanes → lanes ≤ MAX_LANES
+        → NothingRefusesLines (made_files lanes) (Some (script lanes)) }
 {
     a_graph_or_a_fault();
     lines_lead_or_are_refused();
     made_scripts_are_scripts();
 }
 
-/// A law of runs: what is made is run, and ends by its report, unless memory ran out or the sink failed. So nothing that is
-/// made is ever refused.
+/// A law of runs: what is made is run, and ends by its report, unless memory ran out or the sink failed. So nothing
+/// that is made is ever refused.
 pub fn made_runs_are_not_refused()
     ensures { (words : List (List ℕ)) (files : Option Files) (failures failures' : List (List ℕ))
-        (taken taken' : Option (List ℕ)) (faults faults' : ℕ) (result : Status) → Runs words files failures failures' taken taken' faults faults' result
+        (taken taken' : Option (List ℕ)) (faults faults' : ℕ) (result : Status)
+        → Runs words files failures failures' taken taken' faults faults' result
         → (lanes : ℕ) → Asks words (commands.Big lanes) → EndsAsRun result }
 {
     made_lines_are_not_refused();

@@ -19,8 +19,9 @@ pub record SeatSeen : Type 0 where
 abbrev pub node_of : ℕ → ℕ → NodeState → NodeAt
 node_of slot first t = record { slot = slot; kind = t.kind; first = first }
 
--- The seat is the node's, knows its log, with nothing seen, and tells it where it tells events; the log leads the line on to the node's
--- state, which agrees with what the log tells it; and each hint that waits is one of its requirements, for a node's slot.
+-- The seat is the node's, knows its log, with nothing seen, and tells it where it tells events; the log leads the
+-- line on to the node's state, which agrees with what the log tells it; and each hint that waits is one of its
+-- requirements, for a node's slot.
 pub record IsHosted (slot first : ℕ) (t : NodeState) (log : List Event) (line : List LineNode) (known : Known) (waiting : List (Option ℕ)) (seat : SeatSeen) : Type 0 where
   pub of_slot : seat.slot ≡ slot
   pub limits : IsWithinLimits (node_of slot first t)

@@ -22,5 +22,6 @@ services_prop ports (Some w) (Some u) = service_prop ports w u
 agrees_prop : (first : ℕ) (t : NodeState) (u : Option Served) (far : ℕ → OwnPort) → IsProp (Agrees first t u far)
 agrees_prop first t u far = Prim.hlevel (props, services_prop)
 
-pub hosted_prop : (slot first : ℕ) (t : NodeState) (log : List Event) (line : List LineNode) (known : Known) (waiting : List (Option ℕ)) (seat : SeatSeen) → IsProp (IsHosted slot first t log line known waiting seat)
+pub hosted_prop : (slot first : ℕ) (t : NodeState) (log : List Event) (line : List LineNode) (known : Known)
+    (waiting : List (Option ℕ)) (seat : SeatSeen) → IsProp (IsHosted slot first t log line known waiting seat)
 hosted_prop slot first t log line known waiting seat = Prim.hlevel (props, agrees_prop)

@@ -18,8 +18,8 @@ pub record Hinted : Type 0 where
   pub counts : ℕ → Counts
   pub told : ℕ → Option (List ℕ)
 
--- The hint of requirement r for node m was posted, or its inbox was full and was counted so, and it waits. A way that tells the inbox
--- posts it exactly where that has room. All other inboxes are as they were.
+-- The hint of requirement r for node m was posted, or its inbox was full and was counted so, and it waits. A way that
+-- tells the inbox posts it exactly where that has room. All other inboxes are as they were.
 pub record IsPosted (first r m : ℕ) (old new : Hinted) : Type 0 where
   pub posted : Bool
   pub waits : new.waiting ≡ slice_set old.waiting r (if posted then None else Some m)
@@ -29,7 +29,8 @@ pub record IsPosted (first r m : ℕ) (old new : Hinted) : Type 0 where
   pub counts : (other : ℕ) → other ≢ m → new.counts other ≡ old.counts other
   pub told : (other : ℕ) → other ≢ m → new.told other ≡ old.told other
 
--- what contracts see of a gate: its state, where it tells that, and what the node's seat tells of its loads before and after
+-- what contracts see of a gate: its state, where it tells that, and what the node's seat tells of its loads before
+-- and after
 pub record GateSeen : Type 0 where
   pub state : Option State
   pub before : Option Loads
@@ -87,8 +88,8 @@ pub record IsSentAfter (g : GateSeen) (slot first : ℕ) (asked : Bool) (e : Opt
   pub looked : Looked asked slot old between
   pub sent : HintOf g first e between new
 
--- The inbox is asked exactly where the node is in no service and neither replied nor went on with one: where the rule says so, if the
--- gate tells its state.
+-- The inbox is asked exactly where the node is in no service and neither replied nor went on with one: where the rule
+-- says so, if the gate tells its state.
 pub record IsSentBy (g : GateSeen) (n : NodeAt) (known : Known) (rule : State → Bool) (e : Option Event) (old new : Hinted) : Type 0 where
   pub asked : Bool
   pub exact : asked ≡ (is_passed 2 e && is_none known.service)

@@ -1,5 +1,5 @@
--- Which move of a turn an event is, and what shows that each move before it wasn't possible, at a gate that tells no state too: what the
--- node knows, the words that its seat loaded in the turn, and what was counted of its inbox.
+-- Which move of a turn an event is, and what shows that each move before it wasn't possible, at a gate that tells no
+-- state too: what the node knows, the words that its seat loaded in the turn, and what was counted of its inbox.
 use Rattle.std.specs.Prelude.{◌≡◌, ◌≢◌, ◌⊎◌, ◌+◌, ◌-◌, ℕ, ◌<◌, ◌≤◌, Bool, true, false, not, ◌==◌, ◌||◌, nat_lt, length, Option, Some, None, is_some, slice_index_or, ⊤}
 use Rattle.base.specs.Count.{Rose}
 use Rattle.config_graph.specs.Kinds.{row}
@@ -78,18 +78,21 @@ shows_in_more l = is_in_more (unpack l.word).phase
 -- a call of the service is left to end, or its intermediate reply is unanswered, as the last `hear` shows
 abbrev pub IsHeld : Known → Option Served → Option Loads → Option Loads → Type 0
 IsHeld w None old new = ⊤
-IsHeld w (Some u) old new = (awaits w ≡ true) ⊎ ((u.heard ≡ false) × TellsLoads (λ a b. IsLed u.port shows_in_more a.steps b.steps b.hear) old new)
+IsHeld w (Some u) old new = (awaits w ≡ true)
+    ⊎ ((u.heard ≡ false) × TellsLoads (λ a b. IsLed u.port shows_in_more a.steps b.steps b.hear) old new)
 
 -- ---- the next request
 
 abbrev pub is_stale_for : ℕ → Load → Bool
 is_stale_for n l = not (is_message_to n (unpack l.word))
 
--- The inbox was asked and was empty; or it gave a hint, at whose port nothing is asked of the node, as the last `take` shows.
+-- The inbox was asked and was empty; or it gave a hint, at whose port nothing is asked of the node, as the last
+-- `take` shows.
 abbrev pub HasNoRequest : ℕ → Counts → Counts → Option Loads → Option Loads → Type 0
 HasNoRequest n counts counts' old new =
     Rose counts.refused counts'.refused
-    ⊎ (Rose counts.given counts'.given × (p : ℕ) × (counts'.last ≡ Some p) × TellsLoads (λ a b. IsLed p (is_stale_for n) a.steps b.steps b.take) old new)
+    ⊎ (Rose counts.given counts'.given × (p : ℕ) × (counts'.last ≡ Some p)
+    × TellsLoads (λ a b. IsLed p (is_stale_for n) a.steps b.steps b.take) old new)
 
 -- ---- a beginning
 
@@ -98,7 +101,8 @@ abbrev pub bars_begin : Load → Bool
 bars_begin l = ((unpack l.word).closed || is_missing (unpack l.word)) || is_some l.found
 
 abbrev pub CannotBegin : ℕ → NodeState → Known → Option Loads → Option Loads → Type 0
-CannotBegin first t w old new = (a : Ask) → moves.wants t ≡ Some a → (is_busy w a.require ≡ true) ⊎ TellsLoads (IsLoaded (first + a.require) bars_begin) old new
+CannotBegin first t w old new = (a : Ask) → moves.wants t ≡ Some a → (is_busy w a.require ≡ true)
+    ⊎ TellsLoads (IsLoaded (first + a.require) bars_begin) old new
 
 -- ---- all moves
 

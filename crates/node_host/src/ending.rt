@@ -36,7 +36,8 @@ pub fn port_known(known: &Known, require: u32) -> PortKnown
 fn hand_in<C: Component>(inner: &mut C, first_port: u32, require: u32, known: PortKnown, value: u32)
     requires expected { expects known.consequent first_port (C.state inner.old) (first_port + require) ≡ true }
     requires small { value < VALUE_LIMIT }
-    ensures folds { (serial : ℕ) → after_event first_port (C.state inner.old) (event.End (first_port + require) serial value) ≡ Some (C.state inner.new) }
+    ensures folds { (serial : ℕ) → after_event first_port (C.state inner.old)
+        (event.End (first_port + require) serial value) ≡ Some (C.state inner.new) }
     ensures room { C.has_room inner.old → C.has_room inner.new }
 {
     if known.consequent {
@@ -51,25 +52,36 @@ impl<C: Component + Drop, S: GateSeat + Drop> HostNode<C, S> {
     #[inline(never)]
     fn reply_at_busy<G: PortGate<Seat = S>>(&mut self, gate: &mut G, require: u32) -> Option<Event>
         requires fits { G.fits gate.old self.old.seat }
-        requires node { G.node gate.old self.old.seat ≡ node_of self.old.slot self.old.first_port (C.state self.old.inner) }
+        requires node { G.node gate.old self.old.seat ≡ node_of self.old.slot self.old.first_port
+            (C.state self.old.inner) }
         requires require { require < length (row (C.state self.old.inner).kind).requires_ }
         requires busy { (slice_index_or self.old.known.ports require port_at_start).idle ≡ false }
         requires room { length self.old.log.items < vec_capacity self.old.log }
         ensures fits { G.fits gate.new self.new.seat }
         ensures spare { G.spare gate.new ≡ G.spare gate.old }
-        ensures node { G.node gate.new self.new.seat ≡ node_of self.new.slot self.new.first_port (C.state self.new.inner) }
-        ensures others { (other : S) → S.slot_of other ≢ self.old.slot → G.fits gate.old other → G.fits gate.new other × (G.node gate.new other ≡ G.node gate.old other) }
-        ensures moved { Moved (node_of self.old.slot self.old.first_port (C.state self.old.inner)) result (C.state self.old.inner) (C.state self.new.inner) self.old.log.items self.new.log.items (record { slot = S.slot_of self.old.seat; known = S.known self.old.seat; told = S.tells self.old.seat }) (record { slot = S.slot_of self.new.seat; known = S.known self.new.seat; told = S.tells self.new.seat }) (G.state gate.old) (G.state gate.new) }
+        ensures node { G.node gate.new self.new.seat ≡ node_of self.new.slot self.new.first_port
+            (C.state self.new.inner) }
+        ensures others { (other : S) → S.slot_of other ≢ self.old.slot → G.fits gate.old other
+            → G.fits gate.new other × (G.node gate.new other ≡ G.node gate.old other) }
+        ensures moved { Moved (node_of self.old.slot self.old.first_port (C.state self.old.inner)) result
+            (C.state self.old.inner) (C.state self.new.inner) self.old.log.items self.new.log.items
+            (record { slot = S.slot_of self.old.seat; known = S.known self.old.seat; told = S.tells self.old.seat })
+            (record { slot = S.slot_of self.new.seat; known = S.known self.new.seat; told = S.tells self.new.seat })
+            (G.state gate.old) (G.state gate.new) }
         ensures place { (self.new.slot ≡ self.old.slot) × (self.new.first_port ≡ self.old.first_port) }
         ensures past { self.new.past ≡ self.old.past }
         ensures waiting { self.new.waiting ≡ self.old.waiting }
         ensures room { result ≡ None → (self.new.log ≡ self.old.log) × (self.new.inner ≡ self.old.inner) }
         ensures asks_nothing { is_asking result ≡ false }
-        ensures exact { (s : State) → IsTold (G.state gate.old) (node_of self.old.slot self.old.first_port (C.state self.old.inner)) (S.known self.old.seat) s → result ≡ reply_at s (C.state self.old.inner) (self.old.first_port + require) }
+        ensures exact { (s : State) → IsTold (G.state gate.old)
+            (node_of self.old.slot self.old.first_port (C.state self.old.inner)) (S.known self.old.seat) s
+            → result ≡ reply_at s (C.state self.old.inner) (self.old.first_port + require) }
         ensures known { result ≡ None → self.new.known ≡ self.old.known }
         ensures replies { is_reply_at (self.old.first_port + require) result ≡ true }
-        ensures loads { TellsLoads (LoadsPort (self.old.first_port + require)) (S.loads self.old.seat) (S.loads self.new.seat) }
-        ensures no_reply { result ≡ None → HasNoReply self.old.first_port self.old.known require (S.loads self.old.seat) (S.loads self.new.seat) }
+        ensures loads { TellsLoads (LoadsPort (self.old.first_port + require)) (S.loads self.old.seat)
+            (S.loads self.new.seat) }
+        ensures no_reply { result ≡ None
+            → HasNoReply self.old.first_port self.old.known require (S.loads self.old.seat) (S.loads self.new.seat) }
     {
         seats_have_places(gate, &self.seat);
         let known = port_known(&self.known, require);
@@ -105,24 +117,35 @@ impl<C: Component + Drop, S: GateSeat + Drop> HostNode<C, S> {
     #[inline(always)]
     fn reply_at<G: PortGate<Seat = S>>(&mut self, gate: &mut G, require: u32) -> Option<Event>
         requires fits { G.fits gate.old self.old.seat }
-        requires node { G.node gate.old self.old.seat ≡ node_of self.old.slot self.old.first_port (C.state self.old.inner) }
+        requires node { G.node gate.old self.old.seat ≡ node_of self.old.slot self.old.first_port
+            (C.state self.old.inner) }
         requires require { require < length (row (C.state self.old.inner).kind).requires_ }
         requires room { length self.old.log.items < vec_capacity self.old.log }
         ensures fits { G.fits gate.new self.new.seat }
         ensures spare { G.spare gate.new ≡ G.spare gate.old }
-        ensures node { G.node gate.new self.new.seat ≡ node_of self.new.slot self.new.first_port (C.state self.new.inner) }
-        ensures others { (other : S) → S.slot_of other ≢ self.old.slot → G.fits gate.old other → G.fits gate.new other × (G.node gate.new other ≡ G.node gate.old other) }
-        ensures moved { Moved (node_of self.old.slot self.old.first_port (C.state self.old.inner)) result (C.state self.old.inner) (C.state self.new.inner) self.old.log.items self.new.log.items (record { slot = S.slot_of self.old.seat; known = S.known self.old.seat; told = S.tells self.old.seat }) (record { slot = S.slot_of self.new.seat; known = S.known self.new.seat; told = S.tells self.new.seat }) (G.state gate.old) (G.state gate.new) }
+        ensures node { G.node gate.new self.new.seat ≡ node_of self.new.slot self.new.first_port
+            (C.state self.new.inner) }
+        ensures others { (other : S) → S.slot_of other ≢ self.old.slot → G.fits gate.old other
+            → G.fits gate.new other × (G.node gate.new other ≡ G.node gate.old other) }
+        ensures moved { Moved (node_of self.old.slot self.old.first_port (C.state self.old.inner)) result
+            (C.state self.old.inner) (C.state self.new.inner) self.old.log.items self.new.log.items
+            (record { slot = S.slot_of self.old.seat; known = S.known self.old.seat; told = S.tells self.old.seat })
+            (record { slot = S.slot_of self.new.seat; known = S.known self.new.seat; told = S.tells self.new.seat })
+            (G.state gate.old) (G.state gate.new) }
         ensures place { (self.new.slot ≡ self.old.slot) × (self.new.first_port ≡ self.old.first_port) }
         ensures past { self.new.past ≡ self.old.past }
         ensures waiting { self.new.waiting ≡ self.old.waiting }
         ensures room { result ≡ None → (self.new.log ≡ self.old.log) × (self.new.inner ≡ self.old.inner) }
         ensures asks_nothing { is_asking result ≡ false }
-        ensures exact { (s : State) → IsTold (G.state gate.old) (node_of self.old.slot self.old.first_port (C.state self.old.inner)) (S.known self.old.seat) s → result ≡ reply_at s (C.state self.old.inner) (self.old.first_port + require) }
+        ensures exact { (s : State) → IsTold (G.state gate.old)
+            (node_of self.old.slot self.old.first_port (C.state self.old.inner)) (S.known self.old.seat) s
+            → result ≡ reply_at s (C.state self.old.inner) (self.old.first_port + require) }
         ensures known { result ≡ None → self.new.known ≡ self.old.known }
         ensures replies { is_reply_at (self.old.first_port + require) result ≡ true }
-        ensures loads { TellsLoads (LoadsPort (self.old.first_port + require)) (S.loads self.old.seat) (S.loads self.new.seat) }
-        ensures no_reply { result ≡ None → HasNoReply self.old.first_port self.old.known require (S.loads self.old.seat) (S.loads self.new.seat) }
+        ensures loads { TellsLoads (LoadsPort (self.old.first_port + require)) (S.loads self.old.seat)
+            (S.loads self.new.seat) }
+        ensures no_reply { result ≡ None
+            → HasNoReply self.old.first_port self.old.known require (S.loads self.old.seat) (S.loads self.new.seat) }
     {
         seats_have_places(gate, &self.seat);
         if port_known(&self.known, require).idle {
@@ -134,24 +157,34 @@ impl<C: Component + Drop, S: GateSeat + Drop> HostNode<C, S> {
     /// Ends or replies at the lower of two ports at which a reply stands.
     fn reply_at_either<G: PortGate<Seat = S>>(&mut self, gate: &mut G) -> Option<Event>
         requires fits { G.fits gate.old self.old.seat }
-        requires node { G.node gate.old self.old.seat ≡ node_of self.old.slot self.old.first_port (C.state self.old.inner) }
+        requires node { G.node gate.old self.old.seat ≡ node_of self.old.slot self.old.first_port
+            (C.state self.old.inner) }
         requires room { length self.old.log.items < vec_capacity self.old.log }
         requires two { length (row (C.state self.old.inner).kind).requires_ ≡ 2 }
         ensures fits { G.fits gate.new self.new.seat }
         ensures spare { G.spare gate.new ≡ G.spare gate.old }
-        ensures node { G.node gate.new self.new.seat ≡ node_of self.new.slot self.new.first_port (C.state self.new.inner) }
-        ensures others { (other : S) → S.slot_of other ≢ self.old.slot → G.fits gate.old other → G.fits gate.new other × (G.node gate.new other ≡ G.node gate.old other) }
-        ensures moved { Moved (node_of self.old.slot self.old.first_port (C.state self.old.inner)) result (C.state self.old.inner) (C.state self.new.inner) self.old.log.items self.new.log.items (record { slot = S.slot_of self.old.seat; known = S.known self.old.seat; told = S.tells self.old.seat }) (record { slot = S.slot_of self.new.seat; known = S.known self.new.seat; told = S.tells self.new.seat }) (G.state gate.old) (G.state gate.new) }
+        ensures node { G.node gate.new self.new.seat ≡ node_of self.new.slot self.new.first_port
+            (C.state self.new.inner) }
+        ensures others { (other : S) → S.slot_of other ≢ self.old.slot → G.fits gate.old other
+            → G.fits gate.new other × (G.node gate.new other ≡ G.node gate.old other) }
+        ensures moved { Moved (node_of self.old.slot self.old.first_port (C.state self.old.inner)) result
+            (C.state self.old.inner) (C.state self.new.inner) self.old.log.items self.new.log.items
+            (record { slot = S.slot_of self.old.seat; known = S.known self.old.seat; told = S.tells self.old.seat })
+            (record { slot = S.slot_of self.new.seat; known = S.known self.new.seat; told = S.tells self.new.seat })
+            (G.state gate.old) (G.state gate.new) }
         ensures place { (self.new.slot ≡ self.old.slot) × (self.new.first_port ≡ self.old.first_port) }
         ensures past { self.new.past ≡ self.old.past }
         ensures waiting { self.new.waiting ≡ self.old.waiting }
         ensures room { result ≡ None → (self.new.log ≡ self.old.log) × (self.new.inner ≡ self.old.inner) }
         ensures asks_nothing { is_asking result ≡ false }
-        ensures exact { (s : State) → IsTold (G.state gate.old) (node_of self.old.slot self.old.first_port (C.state self.old.inner)) (S.known self.old.seat) s → result ≡ ends s self.old.slot (C.state self.old.inner) }
+        ensures exact { (s : State) → IsTold (G.state gate.old)
+            (node_of self.old.slot self.old.first_port (C.state self.old.inner)) (S.known self.old.seat) s
+            → result ≡ ends s self.old.slot (C.state self.old.inner) }
         ensures known { result ≡ None → self.new.known ≡ self.old.known }
         ensures number { is_move 1 result ≡ true }
         ensures steps { TellsLoads Steps (S.loads self.old.seat) (S.loads self.new.seat) }
-        ensures tried { HaveNoReplies (node_of self.old.slot self.old.first_port (C.state self.old.inner)) self.old.known result (S.loads self.old.seat) (S.loads self.new.seat) }
+        ensures tried { HaveNoReplies (node_of self.old.slot self.old.first_port (C.state self.old.inner))
+            self.old.known result (S.loads self.old.seat) (S.loads self.new.seat) }
     {
         match self.reply_at(gate, 0) {
             Some(event) => Some(event),
@@ -162,23 +195,33 @@ impl<C: Component + Drop, S: GateSeat + Drop> HostNode<C, S> {
     /// Ends or replies at the lowest of its ports at which a reply stands.
     pub fn end_or_ask<G: PortGate<Seat = S>>(&mut self, gate: &mut G) -> Option<Event>
         requires fits { G.fits gate.old self.old.seat }
-        requires node { G.node gate.old self.old.seat ≡ node_of self.old.slot self.old.first_port (C.state self.old.inner) }
+        requires node { G.node gate.old self.old.seat ≡ node_of self.old.slot self.old.first_port
+            (C.state self.old.inner) }
         requires room { length self.old.log.items < vec_capacity self.old.log }
         ensures fits { G.fits gate.new self.new.seat }
         ensures spare { G.spare gate.new ≡ G.spare gate.old }
-        ensures node { G.node gate.new self.new.seat ≡ node_of self.new.slot self.new.first_port (C.state self.new.inner) }
-        ensures others { (other : S) → S.slot_of other ≢ self.old.slot → G.fits gate.old other → G.fits gate.new other × (G.node gate.new other ≡ G.node gate.old other) }
-        ensures moved { Moved (node_of self.old.slot self.old.first_port (C.state self.old.inner)) result (C.state self.old.inner) (C.state self.new.inner) self.old.log.items self.new.log.items (record { slot = S.slot_of self.old.seat; known = S.known self.old.seat; told = S.tells self.old.seat }) (record { slot = S.slot_of self.new.seat; known = S.known self.new.seat; told = S.tells self.new.seat }) (G.state gate.old) (G.state gate.new) }
+        ensures node { G.node gate.new self.new.seat ≡ node_of self.new.slot self.new.first_port
+            (C.state self.new.inner) }
+        ensures others { (other : S) → S.slot_of other ≢ self.old.slot → G.fits gate.old other
+            → G.fits gate.new other × (G.node gate.new other ≡ G.node gate.old other) }
+        ensures moved { Moved (node_of self.old.slot self.old.first_port (C.state self.old.inner)) result
+            (C.state self.old.inner) (C.state self.new.inner) self.old.log.items self.new.log.items
+            (record { slot = S.slot_of self.old.seat; known = S.known self.old.seat; told = S.tells self.old.seat })
+            (record { slot = S.slot_of self.new.seat; known = S.known self.new.seat; told = S.tells self.new.seat })
+            (G.state gate.old) (G.state gate.new) }
         ensures place { (self.new.slot ≡ self.old.slot) × (self.new.first_port ≡ self.old.first_port) }
         ensures past { self.new.past ≡ self.old.past }
         ensures waiting { self.new.waiting ≡ self.old.waiting }
         ensures room { result ≡ None → (self.new.log ≡ self.old.log) × (self.new.inner ≡ self.old.inner) }
         ensures asks_nothing { is_asking result ≡ false }
-        ensures exact { (s : State) → IsTold (G.state gate.old) (node_of self.old.slot self.old.first_port (C.state self.old.inner)) (S.known self.old.seat) s → result ≡ ends s self.old.slot (C.state self.old.inner) }
+        ensures exact { (s : State) → IsTold (G.state gate.old)
+            (node_of self.old.slot self.old.first_port (C.state self.old.inner)) (S.known self.old.seat) s
+            → result ≡ ends s self.old.slot (C.state self.old.inner) }
         ensures known { result ≡ None → self.new.known ≡ self.old.known }
         ensures number { is_move 1 result ≡ true }
         ensures steps { TellsLoads Steps (S.loads self.old.seat) (S.loads self.new.seat) }
-        ensures tried { HaveNoReplies (node_of self.old.slot self.old.first_port (C.state self.old.inner)) self.old.known result (S.loads self.old.seat) (S.loads self.new.seat) }
+        ensures tried { HaveNoReplies (node_of self.old.slot self.old.first_port (C.state self.old.inner))
+            self.old.known result (S.loads self.old.seat) (S.loads self.new.seat) }
     {
         match self.inner.kind().requires_() {
             0 => None,

@@ -40,13 +40,15 @@ pub struct HostNode<C: Component + Drop, S: GateSeat + Drop> {
     pub known: Known,
     /// For each requirement the node for which a hint waits, which found that node's inbox full.
     pub waiting: [Option<u32>; 2],
-    ghost hosted: { IsHosted slot first_port (C.state inner) log.items (map (λ p. record { first = p.first_port; arg = p.arg; log = p.log.items }) past.items) known waiting (record { slot = S.slot_of seat; known = S.known seat; told = S.tells seat }) } by { hosted_prop _ _ _ _ _ _ _ _ },
+    ghost hosted: { IsHosted slot first_port (C.state inner) log.items
+        (map (λ p. record { first = p.first_port; arg = p.arg; log = p.log.items }) past.items) known waiting (record
+        { slot = S.slot_of seat; known = S.known seat; told = S.tells seat }) } by { hosted_prop _ _ _ _ _ _ _ _ },
     ghost past_slots: { (k : ℕ) (p : _) → slice_get past.items k ≡ Some p → S.slot_of p.seat ≡ p.slot },
 }
 
 impl<C: Component + Drop, S: GateSeat + Drop> HostNode<C, S> {
-    /// The node in a slot, which has done nothing, with its component in no service. What it opens with is what the last of its past came
-    /// to keep, or else what its kind and argument say.
+    /// The node in a slot, which has done nothing, with its component in no service. What it opens with is what the
+    /// last of its past came to keep, or else what its kind and argument say.
     #[tactic(auto, using(crate::proofs::Opening::hosted_at_first))]
     pub fn host(
         alloc: Global,
@@ -61,7 +63,9 @@ impl<C: Component + Drop, S: GateSeat + Drop> HostNode<C, S> {
         requires known { S.known seat ≡ nothing_known }
         requires tells { (es : List Event) → S.tells seat ≡ Some es → es ≡ [] }
         requires rests { (C.state inner).service ≡ None }
-        requires opens { line_state (C.state inner).kind None (map (λ p. record { first = p.first_port; arg = p.arg; log = p.log.items }) past.items) (record { first = first_port; arg = (C.state inner).arg; log = [] }) ≡ Some (C.state inner) }
+        requires opens { line_state (C.state inner).kind None
+            (map (λ p. record { first = p.first_port; arg = p.arg; log = p.log.items }) past.items)
+            (record { first = first_port; arg = (C.state inner).arg; log = [] }) ≡ Some (C.state inner) }
         requires past_slots { (k : ℕ) (p : _) → slice_get past.items k ≡ Some p → S.slot_of p.seat ≡ p.slot }
         ensures place { (result.slot ≡ slot) × (result.first_port ≡ first_port) }
         ensures inner { result.inner ≡ inner }

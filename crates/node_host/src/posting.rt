@@ -13,8 +13,8 @@ use component_trait::Component;
 use port_gate::GateSeat;
 use port_queue::Hints;
 
-/// Posts the hint for a node at the port of one requirement; where that node's inbox is full, it waits. The answer says whether it was
-/// posted.
+/// Posts the hint for a node at the port of one requirement; where that node's inbox is full, it waits. The answer
+/// says whether it was posted.
 pub fn post<H: Hints>(
     waiting: &mut [Option<u32>; 2],
     hints: &mut H,
@@ -28,7 +28,8 @@ pub fn post<H: Hints>(
     ensures waiting { waiting.new ≡ slice_set waiting.old require (if result then None else Some node) }
     ensures counts { CountsTried result (H.counts hints.old node) (H.counts hints.new node) }
     ensures full { (held : List ℕ) → H.tells hints.old node ≡ Some held → result ≡ has_room held }
-    ensures posted { (held : List ℕ) → H.tells hints.old node ≡ Some held → H.tells hints.new node ≡ Some (after_post held (first_port + require)) }
+    ensures posted { (held : List ℕ) → H.tells hints.old node ≡ Some held
+        → H.tells hints.new node ≡ Some (after_post held (first_port + require)) }
     ensures others { (other : ℕ) → other ≢ node → H.counts hints.new other ≡ H.counts hints.old other }
     ensures other_inboxes { (other : ℕ) → other ≢ node → H.tells hints.new other ≡ H.tells hints.old other }
 {
@@ -41,13 +42,20 @@ impl<C: Component + Drop, S: GateSeat + Drop> HostNode<C, S> {
     /// Posts the hint that waits at one requirement, if one does.
     fn post_at<H: Hints>(&mut self, hints: &mut H, require: u32)
         requires { require < 2 }
-        ensures same { (self.new.inner ≡ self.old.inner) × (self.new.seat ≡ self.old.seat) × (self.new.log ≡ self.old.log) × (self.new.past ≡ self.old.past) × (self.new.known ≡ self.old.known) }
+        ensures same { (self.new.inner ≡ self.old.inner) × (self.new.seat ≡ self.old.seat)
+            × (self.new.log ≡ self.old.log) × (self.new.past ≡ self.old.past) × (self.new.known ≡ self.old.known) }
         ensures place { (self.new.slot ≡ self.old.slot) × (self.new.first_port ≡ self.old.first_port) }
-        ensures reposted { Reposted (slice_index_or self.old.waiting require None) self.old.first_port require (record { waiting = self.old.waiting; counts = H.counts hints.old; told = H.tells hints.old }) (record { waiting = self.new.waiting; counts = H.counts hints.new; told = H.tells hints.new }) }
-        ensures own { (held : List ℕ) → H.tells hints.old self.old.slot ≡ Some held → H.tells hints.new self.old.slot ≡ Some (own_post self.old.slot (self.old.first_port + require) (slice_index_or self.old.waiting require None) held) }
+        ensures reposted { Reposted (slice_index_or self.old.waiting require None) self.old.first_port require
+            (record { waiting = self.old.waiting; counts = H.counts hints.old; told = H.tells hints.old })
+            (record { waiting = self.new.waiting; counts = H.counts hints.new; told = H.tells hints.new }) }
+        ensures own { (held : List ℕ) → H.tells hints.old self.old.slot ≡ Some held
+            → H.tells hints.new self.old.slot ≡ Some (own_post self.old.slot (self.old.first_port + require)
+            (slice_index_or self.old.waiting require None) held) }
         ensures grown { (node : ℕ) → IsGrown (H.counts hints.old node) (H.counts hints.new node) }
-        ensures others { (other : ℕ) → other ≢ require → slice_index_or self.new.waiting other None ≡ slice_index_or self.old.waiting other None }
-        ensures refused { (node : ℕ) → slice_index_or self.new.waiting require None ≡ Some node → Rose (H.counts hints.old node).refused (H.counts hints.new node).refused }
+        ensures others { (other : ℕ) → other ≢ require
+            → slice_index_or self.new.waiting other None ≡ slice_index_or self.old.waiting other None }
+        ensures refused { (node : ℕ) → slice_index_or self.new.waiting require None ≡ Some node
+            → Rose (H.counts hints.old node).refused (H.counts hints.new node).refused }
     {
         let waiting = self.waiting[require as usize];
         match waiting {
@@ -60,12 +68,17 @@ impl<C: Component + Drop, S: GateSeat + Drop> HostNode<C, S> {
 
     /// Posts its waiting hints, by port. Those that find a full inbox go on waiting.
     pub fn post_waiting<H: Hints>(&mut self, hints: &mut H)
-        ensures same { (self.new.inner ≡ self.old.inner) × (self.new.seat ≡ self.old.seat) × (self.new.log ≡ self.old.log) × (self.new.past ≡ self.old.past) × (self.new.known ≡ self.old.known) }
+        ensures same { (self.new.inner ≡ self.old.inner) × (self.new.seat ≡ self.old.seat)
+            × (self.new.log ≡ self.old.log) × (self.new.past ≡ self.old.past) × (self.new.known ≡ self.old.known) }
         ensures place { (self.new.slot ≡ self.old.slot) × (self.new.first_port ≡ self.old.first_port) }
-        ensures posted { ArePosted self.old.first_port (record { waiting = self.old.waiting; counts = H.counts hints.old; told = H.tells hints.old }) (record { waiting = self.new.waiting; counts = H.counts hints.new; told = H.tells hints.new }) }
-        ensures own { (held : List ℕ) → H.tells hints.old self.old.slot ≡ Some held → H.tells hints.new self.old.slot ≡ Some (own_box self.old.slot self.old.first_port self.old.waiting held) }
+        ensures posted { ArePosted self.old.first_port
+            (record { waiting = self.old.waiting; counts = H.counts hints.old; told = H.tells hints.old })
+            (record { waiting = self.new.waiting; counts = H.counts hints.new; told = H.tells hints.new }) }
+        ensures own { (held : List ℕ) → H.tells hints.old self.old.slot ≡ Some held → H.tells hints.new self.old.slot
+            ≡ Some (own_box self.old.slot self.old.first_port self.old.waiting held) }
         ensures grown { (node : ℕ) → IsGrown (H.counts hints.old node) (H.counts hints.new node) }
-        ensures refused { (require node : ℕ) → require < 2 → slice_index_or self.new.waiting require None ≡ Some node → Rose (H.counts hints.old node).refused (H.counts hints.new node).refused }
+        ensures refused { (require node : ℕ) → require < 2 → slice_index_or self.new.waiting require None ≡ Some node
+            → Rose (H.counts hints.old node).refused (H.counts hints.new node).refused }
     {
         self.post_at(hints, 0);
         self.post_at(hints, 1);

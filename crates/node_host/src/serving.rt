@@ -40,23 +40,34 @@ impl<C: Component + Drop, S: GateSeat + Drop> HostNode<C, S> {
         requires served { self.old.known.service ≡ Some served }
         requires waits { served.heard ≡ false }
         requires fits { G.fits gate.old self.old.seat }
-        requires node { G.node gate.old self.old.seat ≡ node_of self.old.slot self.old.first_port (C.state self.old.inner) }
+        requires node { G.node gate.old self.old.seat ≡ node_of self.old.slot self.old.first_port
+            (C.state self.old.inner) }
         requires room { length self.old.log.items < vec_capacity self.old.log }
         ensures fits { G.fits gate.new self.new.seat }
         ensures spare { G.spare gate.new ≡ G.spare gate.old }
-        ensures node { G.node gate.new self.new.seat ≡ node_of self.new.slot self.new.first_port (C.state self.new.inner) }
-        ensures others { (other : S) → S.slot_of other ≢ self.old.slot → G.fits gate.old other → G.fits gate.new other × (G.node gate.new other ≡ G.node gate.old other) }
-        ensures moved { Moved (node_of self.old.slot self.old.first_port (C.state self.old.inner)) result (C.state self.old.inner) (C.state self.new.inner) self.old.log.items self.new.log.items (record { slot = S.slot_of self.old.seat; known = S.known self.old.seat; told = S.tells self.old.seat }) (record { slot = S.slot_of self.new.seat; known = S.known self.new.seat; told = S.tells self.new.seat }) (G.state gate.old) (G.state gate.new) }
+        ensures node { G.node gate.new self.new.seat ≡ node_of self.new.slot self.new.first_port
+            (C.state self.new.inner) }
+        ensures others { (other : S) → S.slot_of other ≢ self.old.slot → G.fits gate.old other
+            → G.fits gate.new other × (G.node gate.new other ≡ G.node gate.old other) }
+        ensures moved { Moved (node_of self.old.slot self.old.first_port (C.state self.old.inner)) result
+            (C.state self.old.inner) (C.state self.new.inner) self.old.log.items self.new.log.items
+            (record { slot = S.slot_of self.old.seat; known = S.known self.old.seat; told = S.tells self.old.seat })
+            (record { slot = S.slot_of self.new.seat; known = S.known self.new.seat; told = S.tells self.new.seat })
+            (G.state gate.old) (G.state gate.new) }
         ensures place { (self.new.slot ≡ self.old.slot) × (self.new.first_port ≡ self.old.first_port) }
         ensures past { self.new.past ≡ self.old.past }
         ensures room { result ≡ None → (self.new.log ≡ self.old.log) × (self.new.inner ≡ self.old.inner) }
         ensures waiting { self.new.waiting ≡ self.old.waiting }
         ensures asks_nothing { is_asking result ≡ false }
-        ensures exact { (s : State) → IsTold (G.state gate.old) (node_of self.old.slot self.old.first_port (C.state self.old.inner)) (S.known self.old.seat) s → result ≡ hears s served.port }
+        ensures exact { (s : State) → IsTold (G.state gate.old)
+            (node_of self.old.slot self.old.first_port (C.state self.old.inner)) (S.known self.old.seat) s
+            → result ≡ hears s served.port }
         ensures known { result ≡ None → self.new.known ≡ self.old.known }
         ensures number { is_move 2 result ≡ true }
-        ensures loads { TellsLoads (Keeps 2 self.old.first_port self.old.known) (S.loads self.old.seat) (S.loads self.new.seat) }
-        ensures unheard { result ≡ None → TellsLoads (λ a b. IsLed served.port shows_in_more a.steps b.steps b.hear) (S.loads self.old.seat) (S.loads self.new.seat) }
+        ensures loads { TellsLoads (Keeps 2 self.old.first_port self.old.known) (S.loads self.old.seat)
+            (S.loads self.new.seat) }
+        ensures unheard { result ≡ None → TellsLoads (λ a b. IsLed served.port shows_in_more a.steps b.steps b.hear)
+            (S.loads self.old.seat) (S.loads self.new.seat) }
     {
         seats_have_places(gate, &self.seat);
         let port = served.port;
@@ -97,19 +108,29 @@ impl<C: Component + Drop, S: GateSeat + Drop> HostNode<C, S> {
         requires gives { moves.next (C.state self.old.inner) ≡ Some (next.Give value) }
         requires small { value < VALUE_LIMIT }
         requires fits { G.fits gate.old self.old.seat }
-        requires node { G.node gate.old self.old.seat ≡ node_of self.old.slot self.old.first_port (C.state self.old.inner) }
+        requires node { G.node gate.old self.old.seat ≡ node_of self.old.slot self.old.first_port
+            (C.state self.old.inner) }
         requires room { length self.old.log.items < vec_capacity self.old.log }
         ensures fits { G.fits gate.new self.new.seat }
         ensures spare { G.spare gate.new ≡ G.spare gate.old }
-        ensures node { G.node gate.new self.new.seat ≡ node_of self.new.slot self.new.first_port (C.state self.new.inner) }
-        ensures others { (other : S) → S.slot_of other ≢ self.old.slot → G.fits gate.old other → G.fits gate.new other × (G.node gate.new other ≡ G.node gate.old other) }
-        ensures moved { Moved (node_of self.old.slot self.old.first_port (C.state self.old.inner)) result (C.state self.old.inner) (C.state self.new.inner) self.old.log.items self.new.log.items (record { slot = S.slot_of self.old.seat; known = S.known self.old.seat; told = S.tells self.old.seat }) (record { slot = S.slot_of self.new.seat; known = S.known self.new.seat; told = S.tells self.new.seat }) (G.state gate.old) (G.state gate.new) }
+        ensures node { G.node gate.new self.new.seat ≡ node_of self.new.slot self.new.first_port
+            (C.state self.new.inner) }
+        ensures others { (other : S) → S.slot_of other ≢ self.old.slot → G.fits gate.old other
+            → G.fits gate.new other × (G.node gate.new other ≡ G.node gate.old other) }
+        ensures moved { Moved (node_of self.old.slot self.old.first_port (C.state self.old.inner)) result
+            (C.state self.old.inner) (C.state self.new.inner) self.old.log.items self.new.log.items
+            (record { slot = S.slot_of self.old.seat; known = S.known self.old.seat; told = S.tells self.old.seat })
+            (record { slot = S.slot_of self.new.seat; known = S.known self.new.seat; told = S.tells self.new.seat })
+            (G.state gate.old) (G.state gate.new) }
         ensures place { (self.new.slot ≡ self.old.slot) × (self.new.first_port ≡ self.old.first_port) }
         ensures past { self.new.past ≡ self.old.past }
         ensures waiting { self.new.waiting ≡ self.old.waiting }
         ensures event { result ≡ Some (event.Give served.port served.serial value) }
-        ensures exact { (s : State) → IsTold (G.state gate.old) (node_of self.old.slot self.old.first_port (C.state self.old.inner)) (S.known self.old.seat) s → result ≡ does_next s self.old.first_port served.port (next.Give value) }
-        ensures loads { TellsLoads (Keeps 2 self.old.first_port self.old.known) (S.loads self.old.seat) (S.loads self.new.seat) }
+        ensures exact { (s : State) → IsTold (G.state gate.old)
+            (node_of self.old.slot self.old.first_port (C.state self.old.inner)) (S.known self.old.seat) s
+            → result ≡ does_next s self.old.first_port served.port (next.Give value) }
+        ensures loads { TellsLoads (Keeps 2 self.old.first_port self.old.known) (S.loads self.old.seat)
+            (S.loads self.new.seat) }
     {
         seats_have_places(gate, &self.seat);
         let port = served.port;
@@ -146,19 +167,29 @@ impl<C: Component + Drop, S: GateSeat + Drop> HostNode<C, S> {
         requires sends { moves.next (C.state self.old.inner) ≡ Some (next.More value) }
         requires small { value < VALUE_LIMIT }
         requires fits { G.fits gate.old self.old.seat }
-        requires node { G.node gate.old self.old.seat ≡ node_of self.old.slot self.old.first_port (C.state self.old.inner) }
+        requires node { G.node gate.old self.old.seat ≡ node_of self.old.slot self.old.first_port
+            (C.state self.old.inner) }
         requires room { length self.old.log.items < vec_capacity self.old.log }
         ensures fits { G.fits gate.new self.new.seat }
         ensures spare { G.spare gate.new ≡ G.spare gate.old }
-        ensures node { G.node gate.new self.new.seat ≡ node_of self.new.slot self.new.first_port (C.state self.new.inner) }
-        ensures others { (other : S) → S.slot_of other ≢ self.old.slot → G.fits gate.old other → G.fits gate.new other × (G.node gate.new other ≡ G.node gate.old other) }
-        ensures moved { Moved (node_of self.old.slot self.old.first_port (C.state self.old.inner)) result (C.state self.old.inner) (C.state self.new.inner) self.old.log.items self.new.log.items (record { slot = S.slot_of self.old.seat; known = S.known self.old.seat; told = S.tells self.old.seat }) (record { slot = S.slot_of self.new.seat; known = S.known self.new.seat; told = S.tells self.new.seat }) (G.state gate.old) (G.state gate.new) }
+        ensures node { G.node gate.new self.new.seat ≡ node_of self.new.slot self.new.first_port
+            (C.state self.new.inner) }
+        ensures others { (other : S) → S.slot_of other ≢ self.old.slot → G.fits gate.old other
+            → G.fits gate.new other × (G.node gate.new other ≡ G.node gate.old other) }
+        ensures moved { Moved (node_of self.old.slot self.old.first_port (C.state self.old.inner)) result
+            (C.state self.old.inner) (C.state self.new.inner) self.old.log.items self.new.log.items
+            (record { slot = S.slot_of self.old.seat; known = S.known self.old.seat; told = S.tells self.old.seat })
+            (record { slot = S.slot_of self.new.seat; known = S.known self.new.seat; told = S.tells self.new.seat })
+            (G.state gate.old) (G.state gate.new) }
         ensures place { (self.new.slot ≡ self.old.slot) × (self.new.first_port ≡ self.old.first_port) }
         ensures past { self.new.past ≡ self.old.past }
         ensures waiting { self.new.waiting ≡ self.old.waiting }
         ensures event { result ≡ Some (event.More served.port served.serial value) }
-        ensures exact { (s : State) → IsTold (G.state gate.old) (node_of self.old.slot self.old.first_port (C.state self.old.inner)) (S.known self.old.seat) s → result ≡ does_next s self.old.first_port served.port (next.More value) }
-        ensures loads { TellsLoads (Keeps 2 self.old.first_port self.old.known) (S.loads self.old.seat) (S.loads self.new.seat) }
+        ensures exact { (s : State) → IsTold (G.state gate.old)
+            (node_of self.old.slot self.old.first_port (C.state self.old.inner)) (S.known self.old.seat) s
+            → result ≡ does_next s self.old.first_port served.port (next.More value) }
+        ensures loads { TellsLoads (Keeps 2 self.old.first_port self.old.known) (S.loads self.old.seat)
+            (S.loads self.new.seat) }
     {
         seats_have_places(gate, &self.seat);
         let port = served.port;
@@ -197,19 +228,35 @@ impl<C: Component + Drop, S: GateSeat + Drop> HostNode<C, S> {
         requires depends { depends_on (C.state self.old.inner).kind 0 ask.require ≡ true }
         requires fits_ask { FitsRequest (C.state self.old.inner).kind ask }
         requires fits { G.fits gate.old self.old.seat }
-        requires node { G.node gate.old self.old.seat ≡ node_of self.old.slot self.old.first_port (C.state self.old.inner) }
+        requires node { G.node gate.old self.old.seat ≡ node_of self.old.slot self.old.first_port
+            (C.state self.old.inner) }
         requires room { length self.old.log.items < vec_capacity self.old.log }
         ensures fits { G.fits gate.new self.new.seat }
         ensures spare { G.spare gate.new ≡ G.spare gate.old }
-        ensures node { G.node gate.new self.new.seat ≡ node_of self.new.slot self.new.first_port (C.state self.new.inner) }
-        ensures others { (other : S) → S.slot_of other ≢ self.old.slot → G.fits gate.old other → G.fits gate.new other × (G.node gate.new other ≡ G.node gate.old other) }
-        ensures moved { Moved (node_of self.old.slot self.old.first_port (C.state self.old.inner)) result (C.state self.old.inner) (C.state self.new.inner) self.old.log.items self.new.log.items (record { slot = S.slot_of self.old.seat; known = S.known self.old.seat; told = S.tells self.old.seat }) (record { slot = S.slot_of self.new.seat; known = S.known self.new.seat; told = S.tells self.new.seat }) (G.state gate.old) (G.state gate.new) }
+        ensures node { G.node gate.new self.new.seat ≡ node_of self.new.slot self.new.first_port
+            (C.state self.new.inner) }
+        ensures others { (other : S) → S.slot_of other ≢ self.old.slot → G.fits gate.old other
+            → G.fits gate.new other × (G.node gate.new other ≡ G.node gate.old other) }
+        ensures moved { Moved (node_of self.old.slot self.old.first_port (C.state self.old.inner)) result
+            (C.state self.old.inner) (C.state self.new.inner) self.old.log.items self.new.log.items
+            (record { slot = S.slot_of self.old.seat; known = S.known self.old.seat; told = S.tells self.old.seat })
+            (record { slot = S.slot_of self.new.seat; known = S.known self.new.seat; told = S.tells self.new.seat })
+            (G.state gate.old) (G.state gate.new) }
         ensures place { (self.new.slot ≡ self.old.slot) × (self.new.first_port ≡ self.old.first_port) }
         ensures past { self.new.past ≡ self.old.past }
-        ensures hint { HintOf (record { state = G.state gate.old; before = S.loads self.old.seat; after = S.loads self.new.seat }) self.old.first_port result (record { waiting = self.old.waiting; counts = H.counts hints.old; told = H.tells hints.old }) (record { waiting = self.new.waiting; counts = H.counts hints.new; told = H.tells hints.new }) }
-        ensures exact { (s : State) → IsTold (G.state gate.old) (node_of self.old.slot self.old.first_port (C.state self.old.inner)) (S.known self.old.seat) s → result ≡ calls s (self.old.first_port + ask.require) ask.value }
+        ensures hint { HintOf (record {
+          state = G.state gate.old;
+          before = S.loads self.old.seat;
+          after = S.loads self.new.seat;
+        }) self.old.first_port result
+            (record { waiting = self.old.waiting; counts = H.counts hints.old; told = H.tells hints.old })
+            (record { waiting = self.new.waiting; counts = H.counts hints.new; told = H.tells hints.new }) }
+        ensures exact { (s : State) → IsTold (G.state gate.old)
+            (node_of self.old.slot self.old.first_port (C.state self.old.inner)) (S.known self.old.seat) s
+            → result ≡ calls s (self.old.first_port + ask.require) ask.value }
         ensures number { is_move 2 result ≡ true }
-        ensures loads { TellsLoads (Keeps 2 self.old.first_port self.old.known) (S.loads self.old.seat) (S.loads self.new.seat) }
+        ensures loads { TellsLoads (Keeps 2 self.old.first_port self.old.known) (S.loads self.old.seat)
+            (S.loads self.new.seat) }
         ensures acts { is_some result ≡ true }
     {
         seats_have_places(gate, &self.seat);
@@ -264,19 +311,35 @@ impl<C: Component + Drop, S: GateSeat + Drop> HostNode<C, S> {
         requires heard { served.heard ≡ true }
         requires ended { awaits self.old.known ≡ false }
         requires fits { G.fits gate.old self.old.seat }
-        requires node { G.node gate.old self.old.seat ≡ node_of self.old.slot self.old.first_port (C.state self.old.inner) }
+        requires node { G.node gate.old self.old.seat ≡ node_of self.old.slot self.old.first_port
+            (C.state self.old.inner) }
         requires room { length self.old.log.items < vec_capacity self.old.log }
         ensures fits { G.fits gate.new self.new.seat }
         ensures spare { G.spare gate.new ≡ G.spare gate.old }
-        ensures node { G.node gate.new self.new.seat ≡ node_of self.new.slot self.new.first_port (C.state self.new.inner) }
-        ensures others { (other : S) → S.slot_of other ≢ self.old.slot → G.fits gate.old other → G.fits gate.new other × (G.node gate.new other ≡ G.node gate.old other) }
-        ensures moved { Moved (node_of self.old.slot self.old.first_port (C.state self.old.inner)) result (C.state self.old.inner) (C.state self.new.inner) self.old.log.items self.new.log.items (record { slot = S.slot_of self.old.seat; known = S.known self.old.seat; told = S.tells self.old.seat }) (record { slot = S.slot_of self.new.seat; known = S.known self.new.seat; told = S.tells self.new.seat }) (G.state gate.old) (G.state gate.new) }
+        ensures node { G.node gate.new self.new.seat ≡ node_of self.new.slot self.new.first_port
+            (C.state self.new.inner) }
+        ensures others { (other : S) → S.slot_of other ≢ self.old.slot → G.fits gate.old other
+            → G.fits gate.new other × (G.node gate.new other ≡ G.node gate.old other) }
+        ensures moved { Moved (node_of self.old.slot self.old.first_port (C.state self.old.inner)) result
+            (C.state self.old.inner) (C.state self.new.inner) self.old.log.items self.new.log.items
+            (record { slot = S.slot_of self.old.seat; known = S.known self.old.seat; told = S.tells self.old.seat })
+            (record { slot = S.slot_of self.new.seat; known = S.known self.new.seat; told = S.tells self.new.seat })
+            (G.state gate.old) (G.state gate.new) }
         ensures place { (self.new.slot ≡ self.old.slot) × (self.new.first_port ≡ self.old.first_port) }
         ensures past { self.new.past ≡ self.old.past }
-        ensures hint { HintOf (record { state = G.state gate.old; before = S.loads self.old.seat; after = S.loads self.new.seat }) self.old.first_port result (record { waiting = self.old.waiting; counts = H.counts hints.old; told = H.tells hints.old }) (record { waiting = self.new.waiting; counts = H.counts hints.new; told = H.tells hints.new }) }
-        ensures exact { (s : State) → IsTold (G.state gate.old) (node_of self.old.slot self.old.first_port (C.state self.old.inner)) (S.known self.old.seat) s → result ≡ option_and_then (does_next s self.old.first_port served.port) (moves.next (C.state self.old.inner)) }
+        ensures hint { HintOf (record {
+          state = G.state gate.old;
+          before = S.loads self.old.seat;
+          after = S.loads self.new.seat;
+        }) self.old.first_port result
+            (record { waiting = self.old.waiting; counts = H.counts hints.old; told = H.tells hints.old })
+            (record { waiting = self.new.waiting; counts = H.counts hints.new; told = H.tells hints.new }) }
+        ensures exact { (s : State) → IsTold (G.state gate.old)
+            (node_of self.old.slot self.old.first_port (C.state self.old.inner)) (S.known self.old.seat) s → result
+            ≡ option_and_then (does_next s self.old.first_port served.port) (moves.next (C.state self.old.inner)) }
         ensures number { is_move 2 result ≡ true }
-        ensures loads { TellsLoads (Keeps 2 self.old.first_port self.old.known) (S.loads self.old.seat) (S.loads self.new.seat) }
+        ensures loads { TellsLoads (Keeps 2 self.old.first_port self.old.known) (S.loads self.old.seat)
+            (S.loads self.new.seat) }
         ensures acts { is_some result ≡ true }
     {
         match self.inner.next() {
@@ -296,23 +359,40 @@ impl<C: Component + Drop, S: GateSeat + Drop> HostNode<C, S> {
         requires served { self.old.known.service ≡ Some served }
         requires ended { awaits self.old.known ≡ false }
         requires fits { G.fits gate.old self.old.seat }
-        requires node { G.node gate.old self.old.seat ≡ node_of self.old.slot self.old.first_port (C.state self.old.inner) }
+        requires node { G.node gate.old self.old.seat ≡ node_of self.old.slot self.old.first_port
+            (C.state self.old.inner) }
         requires room { length self.old.log.items < vec_capacity self.old.log }
         ensures fits { G.fits gate.new self.new.seat }
         ensures spare { G.spare gate.new ≡ G.spare gate.old }
-        ensures node { G.node gate.new self.new.seat ≡ node_of self.new.slot self.new.first_port (C.state self.new.inner) }
-        ensures others { (other : S) → S.slot_of other ≢ self.old.slot → G.fits gate.old other → G.fits gate.new other × (G.node gate.new other ≡ G.node gate.old other) }
-        ensures moved { Moved (node_of self.old.slot self.old.first_port (C.state self.old.inner)) result (C.state self.old.inner) (C.state self.new.inner) self.old.log.items self.new.log.items (record { slot = S.slot_of self.old.seat; known = S.known self.old.seat; told = S.tells self.old.seat }) (record { slot = S.slot_of self.new.seat; known = S.known self.new.seat; told = S.tells self.new.seat }) (G.state gate.old) (G.state gate.new) }
+        ensures node { G.node gate.new self.new.seat ≡ node_of self.new.slot self.new.first_port
+            (C.state self.new.inner) }
+        ensures others { (other : S) → S.slot_of other ≢ self.old.slot → G.fits gate.old other
+            → G.fits gate.new other × (G.node gate.new other ≡ G.node gate.old other) }
+        ensures moved { Moved (node_of self.old.slot self.old.first_port (C.state self.old.inner)) result
+            (C.state self.old.inner) (C.state self.new.inner) self.old.log.items self.new.log.items
+            (record { slot = S.slot_of self.old.seat; known = S.known self.old.seat; told = S.tells self.old.seat })
+            (record { slot = S.slot_of self.new.seat; known = S.known self.new.seat; told = S.tells self.new.seat })
+            (G.state gate.old) (G.state gate.new) }
         ensures place { (self.new.slot ≡ self.old.slot) × (self.new.first_port ≡ self.old.first_port) }
         ensures past { self.new.past ≡ self.old.past }
         ensures room { result ≡ None → (self.new.log ≡ self.old.log) × (self.new.inner ≡ self.old.inner) }
-        ensures hint { HintOf (record { state = G.state gate.old; before = S.loads self.old.seat; after = S.loads self.new.seat }) self.old.first_port result (record { waiting = self.old.waiting; counts = H.counts hints.old; told = H.tells hints.old }) (record { waiting = self.new.waiting; counts = H.counts hints.new; told = H.tells hints.new }) }
+        ensures hint { HintOf (record {
+          state = G.state gate.old;
+          before = S.loads self.old.seat;
+          after = S.loads self.new.seat;
+        }) self.old.first_port result
+            (record { waiting = self.old.waiting; counts = H.counts hints.old; told = H.tells hints.old })
+            (record { waiting = self.new.waiting; counts = H.counts hints.new; told = H.tells hints.new }) }
         ensures quiet { result ≡ None → (hints.new ≡ hints.old) × (self.new.waiting ≡ self.old.waiting) }
-        ensures exact { (s : State) → IsTold (G.state gate.old) (node_of self.old.slot self.old.first_port (C.state self.old.inner)) (S.known self.old.seat) s → result ≡ serves s self.old.slot (C.state self.old.inner) }
+        ensures exact { (s : State) → IsTold (G.state gate.old)
+            (node_of self.old.slot self.old.first_port (C.state self.old.inner)) (S.known self.old.seat) s
+            → result ≡ serves s self.old.slot (C.state self.old.inner) }
         ensures known { result ≡ None → self.new.known ≡ self.old.known }
         ensures number { is_move 2 result ≡ true }
-        ensures loads { TellsLoads (Keeps 2 self.old.first_port self.old.known) (S.loads self.old.seat) (S.loads self.new.seat) }
-        ensures held { result ≡ None → IsHeld self.old.known (Some served) (S.loads self.old.seat) (S.loads self.new.seat) }
+        ensures loads { TellsLoads (Keeps 2 self.old.first_port self.old.known) (S.loads self.old.seat)
+            (S.loads self.new.seat) }
+        ensures held { result ≡ None
+            → IsHeld self.old.known (Some served) (S.loads self.old.seat) (S.loads self.new.seat) }
     {
         if served.heard {
             self.go_on(gate, hints, served)
@@ -328,23 +408,40 @@ impl<C: Component + Drop, S: GateSeat + Drop> HostNode<C, S> {
         hints: &mut H,
     ) -> Option<Event>
         requires fits { G.fits gate.old self.old.seat }
-        requires node { G.node gate.old self.old.seat ≡ node_of self.old.slot self.old.first_port (C.state self.old.inner) }
+        requires node { G.node gate.old self.old.seat ≡ node_of self.old.slot self.old.first_port
+            (C.state self.old.inner) }
         requires room { length self.old.log.items < vec_capacity self.old.log }
         ensures fits { G.fits gate.new self.new.seat }
         ensures spare { G.spare gate.new ≡ G.spare gate.old }
-        ensures node { G.node gate.new self.new.seat ≡ node_of self.new.slot self.new.first_port (C.state self.new.inner) }
-        ensures others { (other : S) → S.slot_of other ≢ self.old.slot → G.fits gate.old other → G.fits gate.new other × (G.node gate.new other ≡ G.node gate.old other) }
-        ensures moved { Moved (node_of self.old.slot self.old.first_port (C.state self.old.inner)) result (C.state self.old.inner) (C.state self.new.inner) self.old.log.items self.new.log.items (record { slot = S.slot_of self.old.seat; known = S.known self.old.seat; told = S.tells self.old.seat }) (record { slot = S.slot_of self.new.seat; known = S.known self.new.seat; told = S.tells self.new.seat }) (G.state gate.old) (G.state gate.new) }
+        ensures node { G.node gate.new self.new.seat ≡ node_of self.new.slot self.new.first_port
+            (C.state self.new.inner) }
+        ensures others { (other : S) → S.slot_of other ≢ self.old.slot → G.fits gate.old other
+            → G.fits gate.new other × (G.node gate.new other ≡ G.node gate.old other) }
+        ensures moved { Moved (node_of self.old.slot self.old.first_port (C.state self.old.inner)) result
+            (C.state self.old.inner) (C.state self.new.inner) self.old.log.items self.new.log.items
+            (record { slot = S.slot_of self.old.seat; known = S.known self.old.seat; told = S.tells self.old.seat })
+            (record { slot = S.slot_of self.new.seat; known = S.known self.new.seat; told = S.tells self.new.seat })
+            (G.state gate.old) (G.state gate.new) }
         ensures place { (self.new.slot ≡ self.old.slot) × (self.new.first_port ≡ self.old.first_port) }
         ensures past { self.new.past ≡ self.old.past }
         ensures room { result ≡ None → (self.new.log ≡ self.old.log) × (self.new.inner ≡ self.old.inner) }
-        ensures hint { HintOf (record { state = G.state gate.old; before = S.loads self.old.seat; after = S.loads self.new.seat }) self.old.first_port result (record { waiting = self.old.waiting; counts = H.counts hints.old; told = H.tells hints.old }) (record { waiting = self.new.waiting; counts = H.counts hints.new; told = H.tells hints.new }) }
+        ensures hint { HintOf (record {
+          state = G.state gate.old;
+          before = S.loads self.old.seat;
+          after = S.loads self.new.seat;
+        }) self.old.first_port result
+            (record { waiting = self.old.waiting; counts = H.counts hints.old; told = H.tells hints.old })
+            (record { waiting = self.new.waiting; counts = H.counts hints.new; told = H.tells hints.new }) }
         ensures quiet { result ≡ None → (hints.new ≡ hints.old) × (self.new.waiting ≡ self.old.waiting) }
-        ensures exact { (s : State) → IsTold (G.state gate.old) (node_of self.old.slot self.old.first_port (C.state self.old.inner)) (S.known self.old.seat) s → result ≡ serves s self.old.slot (C.state self.old.inner) }
+        ensures exact { (s : State) → IsTold (G.state gate.old)
+            (node_of self.old.slot self.old.first_port (C.state self.old.inner)) (S.known self.old.seat) s
+            → result ≡ serves s self.old.slot (C.state self.old.inner) }
         ensures known { result ≡ None → self.new.known ≡ self.old.known }
         ensures number { is_move 2 result ≡ true }
-        ensures loads { TellsLoads (Keeps 2 self.old.first_port self.old.known) (S.loads self.old.seat) (S.loads self.new.seat) }
-        ensures held { result ≡ None → IsHeld self.old.known self.old.known.service (S.loads self.old.seat) (S.loads self.new.seat) }
+        ensures loads { TellsLoads (Keeps 2 self.old.first_port self.old.known) (S.loads self.old.seat)
+            (S.loads self.new.seat) }
+        ensures held { result ≡ None
+            → IsHeld self.old.known self.old.known.service (S.loads self.old.seat) (S.loads self.new.seat) }
     {
         if awaits_call(&self.known) {
             return None;

@@ -13,8 +13,8 @@ pub record Predecessor : Type 0 where
   pub arg : ℕ
   pub log : List Event
 
--- a node: its slot and its first port, its state, what its seat knows, all that it did, the earlier nodes of its line, and for
--- each requirement the node for which a hint waits
+-- a node: its slot and its first port, its state, what its seat knows, all that it did, the earlier nodes of its
+-- line, and for each requirement the node for which a hint waits
 pub record NodeSeen : Type 0 where
   pub slot : ℕ
   pub first : ℕ

@@ -10,8 +10,9 @@ use Rattle.node_table.specs.Entries.{SlotEntry, Predecessor, NodeSeen, gone, her
 use Rattle.node_table.specs.Lines.{IsPast}
 use Rattle.node_table.specs.declared.handed.Handed.{Handed}
 
--- The node is the one that was made in slot n, and its log is all that it did in the run; before it stand the nodes from which its state
--- was handed on. Where it is live its seat fits the machine's state, and where it was removed it is in no service.
+-- The node is the one that was made in slot n, and its log is all that it did in the run; before it stand the nodes
+-- from which its state was handed on. Where it is live its seat fits the machine's state, and where it was removed it
+-- is in no service.
 pub record IsHere (es : List Event) (n : ℕ) (x : NodeSeen) : Type 0 where
   pub made : Slot
   pub there : slot (state_after es).config n ≡ Some made
@@ -25,7 +26,8 @@ pub record IsHere (es : List Event) (n : ℕ) (x : NodeSeen) : Type 0 where
   pub rests : made.live ≡ false → x.state.service ≡ None
   pub told : x.known.service ≡ None → x.state.service ≡ None
 
--- The state of the node in slot n was handed over to the heir, and its log lies in the past of the node at the end of its line.
+-- The state of the node in slot n was handed over to the heir, and its log lies in the past of the node at the end of
+-- its line.
 pub record IsGone (es : List Event) (nodes : List SlotEntry) (ends : List ℕ) (n : ℕ) (x : Handed) : Type 0 where
   pub taker : Slot
   pub heir : slot (state_after es).config x.heir ≡ Some taker
@@ -48,7 +50,8 @@ pub record HasLog (nodes : List SlotEntry) (ends : List ℕ) (x : Handed) : Type
   pub old : Predecessor
   pub old_is : slice_get last.past x.place ≡ Some old
 
--- These events are a run, which led to the machine's state. There is one entry for each node made, and each line has its end.
+-- These events are a run, which led to the machine's state. There is one entry for each node made, and each line has
+-- its end.
 pub record HoldsIn (s : State) (nodes : List SlotEntry) (ends : List ℕ) (es : List Event) : Type 0 where
   pub runs : IsRun es
   pub state : s ≡ state_after es

@@ -1,4 +1,5 @@
--- The line of a node: the earlier nodes from which its state was handed on, the earliest first, by the configuration of a run.
+-- The line of a node: the earlier nodes from which its state was handed on, the earliest first, by the configuration
+-- of a run.
 use Rattle.std.specs.Prelude.{◌≡◌, ℕ, ◌<◌, List, [], ◌∷◌, ◌++◌, Some, None}
 use Rattle.component_trait.specs.Making.{argument_or_0}
 use Rattle.quiesce_core.specs.Runs.{done_by, state_after}

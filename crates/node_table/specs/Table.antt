@@ -20,8 +20,9 @@ machine t = t.gate.core.state
 abbrev pub entries : (AnyNode → NodeState) → NodeTable → List SlotEntry
 entries state_of t = map (seen state_of) t.nodes.items
 
--- All is as in this world: the machine's state, what each node has come to, the hints in the inboxes and those that wait; and what each
--- node made did in the world's events is its log, wherever that lies. The second argument tells what the inboxes hold.
+-- All is as in this world: the machine's state, what each node has come to, the hints in the inboxes and those that
+-- wait; and what each node made did in the world's events is its log, wherever that lies. The second argument tells
+-- what the inboxes hold.
 abbrev pub ShowsWorld : (AnyNode → NodeState) → (PlainHints → ℕ → Option (List ℕ)) → NodeTable → World → Type 0
 ShowsWorld state_of tells t w = ShowsIn (machine t) (entries state_of t) t.line_ends.items (tells t.hints) w
 

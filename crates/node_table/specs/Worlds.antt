@@ -7,15 +7,16 @@ use Rattle.turns.specs.World.{World, inbox, state_of, waiting_of}
 use Rattle.node_table.specs.Entries.{SlotEntry, NodeSeen, here}
 use Rattle.node_table.specs.Holding.{HoldsIn}
 
--- The node has come to the state that the world says, and the hints of it wait that wait there, for nodes that were made.
+-- The node has come to the state that the world says, and the hints of it wait that wait there, for nodes that were
+-- made.
 pub record IsShown (w : World) (n : ℕ) (x : NodeSeen) : Type 0 where
   pub state : state_of w n ≡ Some x.state
   pub two : length x.waiting ≡ 2
   pub waits : waiting_of w n ≡ take (length (row x.state.kind).requires_) x.waiting
   pub own : (r m : ℕ) → slice_get x.waiting r ≡ Some (Some m) → (r < length (row x.state.kind).requires_) × (m < length w.inboxes)
 
--- The world is reached by allowed events of the change and turns of nodes; its events are the run that the entries hold after, and its
--- inboxes hold what those of the table hold.
+-- The world is reached by allowed events of the change and turns of nodes; its events are the run that the entries
+-- hold after, and its inboxes hold what those of the table hold.
 pub record ShowsIn (s : State) (nodes : List SlotEntry) (ends : List ℕ) (tells : ℕ → Option (List ℕ)) (w : World) : Type 0 where
   pub reached : IsReached w
   pub holds : HoldsIn s nodes ends w.events

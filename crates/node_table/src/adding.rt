@@ -36,7 +36,8 @@ fn first_of_line(node: &HostNode<AnyNode, CoreSeat>) -> u32
 impl NodeTable {
     /// Nothing is made.
     pub fn new(alloc: Global) -> Result<NodeTable, NoMemory>
-        ensures shows { IfOk result (λ t. ShowsWorld ⟦<AnyNode as Component>⟧.state ⟦<PlainHints as Hints>⟧.tells t nowhere) }
+        ensures shows { IfOk result
+            (λ t. ShowsWorld ⟦<AnyNode as Component>⟧.state ⟦<PlainHints as Hints>⟧.tells t nowhere) }
     {
         let hints = PlainHints::new(alloc)?;
         Ok(NodeTable {
@@ -55,8 +56,10 @@ impl NodeTable {
         requires spare { 0 < self.old.spare }
         requires line { line ≤ length self.old.line_ends.items }
         ensures nodes { self.new.nodes.items ≡ self.old.nodes.items ++ held.Node host ∷ [] }
-        ensures ends { self.new.line_ends.items ≡ slice_set (self.old.line_ends.items ++ host.slot ∷ []) line host.slot }
-        ensures others { (self.new.gate ≡ self.old.gate) × (self.new.hints ≡ self.old.hints) × (self.new.sources ≡ self.old.sources) }
+        ensures ends { self.new.line_ends.items ≡ slice_set (self.old.line_ends.items ++ host.slot ∷ [])
+            line host.slot }
+        ensures others { (self.new.gate ≡ self.old.gate) × (self.new.hints ≡ self.old.hints)
+            × (self.new.sources ≡ self.old.sources) }
         ensures spare { self.new.spare + 1 ≡ self.old.spare }
     {
         self.line_ends.push_reserved(host.slot);
@@ -70,8 +73,11 @@ impl NodeTable {
         requires node { is_node (slice_get self.old.nodes.items slot) ≡ true }
         requires source { slot < self.old.sources }
         ensures was { slice_get self.old.nodes.items slot ≡ Some (held.Node result) }
-        ensures nodes { self.new.nodes.items ≡ slice_set self.old.nodes.items slot (held.Handed (record { heir = heir; line = line_at (held.Node result); place = length result.past.items })) }
-        ensures others { (self.new.gate ≡ self.old.gate) × (self.new.hints ≡ self.old.hints) × (self.new.line_ends ≡ self.old.line_ends) × (self.new.sources ≡ self.old.sources) × (self.new.spare ≡ self.old.spare) }
+        ensures nodes { self.new.nodes.items ≡ slice_set self.old.nodes.items slot (held.Handed
+            (record { heir = heir; line = line_at (held.Node result); place = length result.past.items })) }
+        ensures others { (self.new.gate ≡ self.old.gate) × (self.new.hints ≡ self.old.hints)
+            × (self.new.line_ends ≡ self.old.line_ends) × (self.new.sources ≡ self.old.sources)
+            × (self.new.spare ≡ self.old.spare) }
         ensures room { has_past_room (held.Node result) ≡ true }
     {
         let (line, place) = match &self.nodes[slot as usize] {
@@ -87,9 +93,13 @@ impl NodeTable {
 
     /// Makes the first node of a line.
     fn make_first(&mut self, node: Node)
-        requires allowed { (w : World) × ShowsWorld ⟦<AnyNode as Component>⟧.state ⟦<PlainHints as Hints>⟧.tells self.old w × (denial w.machine (event.Make (length w.machine.config.slots) node None) ≡ None) }
+        requires allowed { (w : World) × ShowsWorld ⟦<AnyNode as Component>⟧.state ⟦<PlainHints as Hints>⟧.tells
+            self.old w × (denial w.machine (event.Make (length w.machine.config.slots) node None) ≡ None) }
         requires room { 0 < spare self.old }
-        ensures shows { (w : World) → ShowsWorld ⟦<AnyNode as Component>⟧.state ⟦<PlainHints as Hints>⟧.tells self.old w → ShowsWorld ⟦<AnyNode as Component>⟧.state ⟦<PlainHints as Hints>⟧.tells self.new (with_event w (event.Make (length w.machine.config.slots) node None)) }
+        ensures shows { (w : World)
+            → ShowsWorld ⟦<AnyNode as Component>⟧.state ⟦<PlainHints as Hints>⟧.tells self.old w
+            → ShowsWorld ⟦<AnyNode as Component>⟧.state ⟦<PlainHints as Hints>⟧.tells self.new
+            (with_event w (event.Make (length w.machine.config.slots) node None)) }
         ensures room { (spare self.new + 1 ≡ spare self.old) × (sources self.new ≡ sources self.old) }
     {
         let made = self.gate.core.made();
@@ -100,9 +110,13 @@ impl NodeTable {
 
     /// Makes a node that takes over the state of the one in a slot.
     fn make_from(&mut self, node: Node, source: u32)
-        requires allowed { (w : World) × ShowsWorld ⟦<AnyNode as Component>⟧.state ⟦<PlainHints as Hints>⟧.tells self.old w × (denial w.machine (event.Make (length w.machine.config.slots) node (Some source)) ≡ None) }
+        requires allowed { (w : World) × ShowsWorld ⟦<AnyNode as Component>⟧.state ⟦<PlainHints as Hints>⟧.tells
+            self.old w × (denial w.machine (event.Make (length w.machine.config.slots) node (Some source)) ≡ None) }
         requires room { (0 < spare self.old) × (source < sources self.old) }
-        ensures shows { (w : World) → ShowsWorld ⟦<AnyNode as Component>⟧.state ⟦<PlainHints as Hints>⟧.tells self.old w → ShowsWorld ⟦<AnyNode as Component>⟧.state ⟦<PlainHints as Hints>⟧.tells self.new (with_event w (event.Make (length w.machine.config.slots) node (Some source))) }
+        ensures shows { (w : World)
+            → ShowsWorld ⟦<AnyNode as Component>⟧.state ⟦<PlainHints as Hints>⟧.tells self.old w
+            → ShowsWorld ⟦<AnyNode as Component>⟧.state ⟦<PlainHints as Hints>⟧.tells self.new
+            (with_event w (event.Make (length w.machine.config.slots) node (Some source))) }
         ensures room { (spare self.new + 1 ≡ spare self.old) × (sources self.new ≡ sources self.old) }
     {
         let made = self.gate.core.made();
@@ -113,11 +127,16 @@ impl NodeTable {
         self.add(line, host);
     }
 
-    /// Makes a node in the next slot, which takes over the state of the one in slot `from` where there is one. It takes no memory.
+    /// Makes a node in the next slot, which takes over the state of the one in slot `from` where there is one. It
+    /// takes no memory.
     pub fn make(&mut self, node: Node, from: Option<u32>)
-        requires allowed { (w : World) × ShowsWorld ⟦<AnyNode as Component>⟧.state ⟦<PlainHints as Hints>⟧.tells self.old w × (denial w.machine (event.Make (length w.machine.config.slots) node from) ≡ None) }
+        requires allowed { (w : World) × ShowsWorld ⟦<AnyNode as Component>⟧.state ⟦<PlainHints as Hints>⟧.tells
+            self.old w × (denial w.machine (event.Make (length w.machine.config.slots) node from) ≡ None) }
         requires room { HasRoom self.old from }
-        ensures shows { (w : World) → ShowsWorld ⟦<AnyNode as Component>⟧.state ⟦<PlainHints as Hints>⟧.tells self.old w → ShowsWorld ⟦<AnyNode as Component>⟧.state ⟦<PlainHints as Hints>⟧.tells self.new (with_event w (event.Make (length w.machine.config.slots) node from)) }
+        ensures shows { (w : World)
+            → ShowsWorld ⟦<AnyNode as Component>⟧.state ⟦<PlainHints as Hints>⟧.tells self.old w
+            → ShowsWorld ⟦<AnyNode as Component>⟧.state ⟦<PlainHints as Hints>⟧.tells self.new
+            (with_event w (event.Make (length w.machine.config.slots) node from)) }
         ensures room { (spare self.new + 1 ≡ spare self.old) × (sources self.new ≡ sources self.old) }
     {
         match from {

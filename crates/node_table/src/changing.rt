@@ -18,8 +18,11 @@ impl NodeTable {
     fn perform(&mut self, event: &Event)
         requires by_change { is_of_change event.now ≡ true }
         requires no_make { is_make event.now ≡ false }
-        requires allowed { (w : World) × ShowsWorld ⟦<AnyNode as Component>⟧.state ⟦<PlainHints as Hints>⟧.tells self.old w × (denial w.machine event.now ≡ None) }
-        ensures shows { (w : World) → ShowsWorld ⟦<AnyNode as Component>⟧.state ⟦<PlainHints as Hints>⟧.tells self.old w → ShowsWorld ⟦<AnyNode as Component>⟧.state ⟦<PlainHints as Hints>⟧.tells self.new (with_event w event.now) }
+        requires allowed { (w : World) × ShowsWorld ⟦<AnyNode as Component>⟧.state ⟦<PlainHints as Hints>⟧.tells
+            self.old w × (denial w.machine event.now ≡ None) }
+        ensures shows { (w : World)
+            → ShowsWorld ⟦<AnyNode as Component>⟧.state ⟦<PlainHints as Hints>⟧.tells self.old w → ShowsWorld
+            ⟦<AnyNode as Component>⟧.state ⟦<PlainHints as Hints>⟧.tells self.new (with_event w event.now) }
         ensures room { KeepsRoom self.old self.new }
     {
         self.gate.core.perform(event);
@@ -27,24 +30,34 @@ impl NodeTable {
 
     /// Lets no node begin a transaction at the port any more.
     pub fn close(&mut self, port: u32)
-        requires allowed { (w : World) × ShowsWorld ⟦<AnyNode as Component>⟧.state ⟦<PlainHints as Hints>⟧.tells self.old w × (denial w.machine (event.Close port) ≡ None) }
-        ensures shows { (w : World) → ShowsWorld ⟦<AnyNode as Component>⟧.state ⟦<PlainHints as Hints>⟧.tells self.old w → ShowsWorld ⟦<AnyNode as Component>⟧.state ⟦<PlainHints as Hints>⟧.tells self.new (with_event w (event.Close port)) }
+        requires allowed { (w : World) × ShowsWorld ⟦<AnyNode as Component>⟧.state ⟦<PlainHints as Hints>⟧.tells
+            self.old w × (denial w.machine (event.Close port) ≡ None) }
+        ensures shows { (w : World)
+            → ShowsWorld ⟦<AnyNode as Component>⟧.state ⟦<PlainHints as Hints>⟧.tells self.old w → ShowsWorld
+            ⟦<AnyNode as Component>⟧.state ⟦<PlainHints as Hints>⟧.tells self.new (with_event w (event.Close port)) }
         ensures room { KeepsRoom self.old self.new }
     {
         self.perform(&Event::Close { port });
     }
 
     pub fn reopen(&mut self, port: u32)
-        requires allowed { (w : World) × ShowsWorld ⟦<AnyNode as Component>⟧.state ⟦<PlainHints as Hints>⟧.tells self.old w × (denial w.machine (event.Reopen port) ≡ None) }
-        ensures shows { (w : World) → ShowsWorld ⟦<AnyNode as Component>⟧.state ⟦<PlainHints as Hints>⟧.tells self.old w → ShowsWorld ⟦<AnyNode as Component>⟧.state ⟦<PlainHints as Hints>⟧.tells self.new (with_event w (event.Reopen port)) }
+        requires allowed { (w : World) × ShowsWorld ⟦<AnyNode as Component>⟧.state ⟦<PlainHints as Hints>⟧.tells
+            self.old w × (denial w.machine (event.Reopen port) ≡ None) }
+        ensures shows { (w : World)
+            → ShowsWorld ⟦<AnyNode as Component>⟧.state ⟦<PlainHints as Hints>⟧.tells self.old w → ShowsWorld
+            ⟦<AnyNode as Component>⟧.state ⟦<PlainHints as Hints>⟧.tells self.new (with_event w (event.Reopen port)) }
         ensures room { KeepsRoom self.old self.new }
     {
         self.perform(&Event::Reopen { port });
     }
 
     pub fn link(&mut self, port: u32, node: u32, provide: u32)
-        requires allowed { (w : World) × ShowsWorld ⟦<AnyNode as Component>⟧.state ⟦<PlainHints as Hints>⟧.tells self.old w × (denial w.machine (event.Link port node provide) ≡ None) }
-        ensures shows { (w : World) → ShowsWorld ⟦<AnyNode as Component>⟧.state ⟦<PlainHints as Hints>⟧.tells self.old w → ShowsWorld ⟦<AnyNode as Component>⟧.state ⟦<PlainHints as Hints>⟧.tells self.new (with_event w (event.Link port node provide)) }
+        requires allowed { (w : World) × ShowsWorld ⟦<AnyNode as Component>⟧.state ⟦<PlainHints as Hints>⟧.tells
+            self.old w × (denial w.machine (event.Link port node provide) ≡ None) }
+        ensures shows { (w : World)
+            → ShowsWorld ⟦<AnyNode as Component>⟧.state ⟦<PlainHints as Hints>⟧.tells self.old w
+            → ShowsWorld ⟦<AnyNode as Component>⟧.state ⟦<PlainHints as Hints>⟧.tells self.new
+            (with_event w (event.Link port node provide)) }
         ensures room { KeepsRoom self.old self.new }
     {
         self.perform(&Event::Link {
@@ -55,8 +68,11 @@ impl NodeTable {
     }
 
     pub fn unlink(&mut self, port: u32)
-        requires allowed { (w : World) × ShowsWorld ⟦<AnyNode as Component>⟧.state ⟦<PlainHints as Hints>⟧.tells self.old w × (denial w.machine (event.Unlink port) ≡ None) }
-        ensures shows { (w : World) → ShowsWorld ⟦<AnyNode as Component>⟧.state ⟦<PlainHints as Hints>⟧.tells self.old w → ShowsWorld ⟦<AnyNode as Component>⟧.state ⟦<PlainHints as Hints>⟧.tells self.new (with_event w (event.Unlink port)) }
+        requires allowed { (w : World) × ShowsWorld ⟦<AnyNode as Component>⟧.state ⟦<PlainHints as Hints>⟧.tells
+            self.old w × (denial w.machine (event.Unlink port) ≡ None) }
+        ensures shows { (w : World)
+            → ShowsWorld ⟦<AnyNode as Component>⟧.state ⟦<PlainHints as Hints>⟧.tells self.old w → ShowsWorld
+            ⟦<AnyNode as Component>⟧.state ⟦<PlainHints as Hints>⟧.tells self.new (with_event w (event.Unlink port)) }
         ensures room { KeepsRoom self.old self.new }
     {
         self.perform(&Event::Unlink { port });
@@ -64,8 +80,11 @@ impl NodeTable {
 
     /// Removes a node. It is kept, with its log, and another may take its state over.
     pub fn remove(&mut self, slot: u32)
-        requires allowed { (w : World) × ShowsWorld ⟦<AnyNode as Component>⟧.state ⟦<PlainHints as Hints>⟧.tells self.old w × (denial w.machine (event.Remove slot) ≡ None) }
-        ensures shows { (w : World) → ShowsWorld ⟦<AnyNode as Component>⟧.state ⟦<PlainHints as Hints>⟧.tells self.old w → ShowsWorld ⟦<AnyNode as Component>⟧.state ⟦<PlainHints as Hints>⟧.tells self.new (with_event w (event.Remove slot)) }
+        requires allowed { (w : World) × ShowsWorld ⟦<AnyNode as Component>⟧.state ⟦<PlainHints as Hints>⟧.tells
+            self.old w × (denial w.machine (event.Remove slot) ≡ None) }
+        ensures shows { (w : World)
+            → ShowsWorld ⟦<AnyNode as Component>⟧.state ⟦<PlainHints as Hints>⟧.tells self.old w → ShowsWorld
+            ⟦<AnyNode as Component>⟧.state ⟦<PlainHints as Hints>⟧.tells self.new (with_event w (event.Remove slot)) }
         ensures room { KeepsRoom self.old self.new }
     {
         self.perform(&Event::Remove { node: slot });

@@ -12,11 +12,17 @@ use component_trait::Component;
 use port_queue::{Hints, PlainHints};
 use state_handover::AnyNode;
 
-/// A law: a world that a table shows is reached by allowed events of the change and turns of nodes, its events are a run, its machine's
-/// state is the table's, and the logs that the table keeps are what each node did.
+/// A law: a world that a table shows is reached by allowed events of the change and turns of nodes, its events are a
+/// run, its machine's state is the table's, and the logs that the table keeps are what each node did.
 pub fn tables_show_worlds()
-    ensures reached { (t : NodeTable) (w : World) → ShowsWorld ⟦<AnyNode as Component>⟧.state ⟦<PlainHints as Hints>⟧.tells t w → IsReached w }
-    ensures run { (t : NodeTable) (w : World) → ShowsWorld ⟦<AnyNode as Component>⟧.state ⟦<PlainHints as Hints>⟧.tells t w → IsRun w.events }
-    ensures machine { (t : NodeTable) (w : World) → ShowsWorld ⟦<AnyNode as Component>⟧.state ⟦<PlainHints as Hints>⟧.tells t w → w.machine ≡ machine t }
-    ensures logs { (t : NodeTable) (w : World) → ShowsWorld ⟦<AnyNode as Component>⟧.state ⟦<PlainHints as Hints>⟧.tells t w → logs ⟦<AnyNode as Component>⟧.state t ≡ map (λ n. done_by n w.events) (range_with_len 0 (length w.machine.config.slots)) }
+    ensures reached { (t : NodeTable) (w : World)
+        → ShowsWorld ⟦<AnyNode as Component>⟧.state ⟦<PlainHints as Hints>⟧.tells t w → IsReached w }
+    ensures run { (t : NodeTable) (w : World)
+        → ShowsWorld ⟦<AnyNode as Component>⟧.state ⟦<PlainHints as Hints>⟧.tells t w → IsRun w.events }
+    ensures machine { (t : NodeTable) (w : World)
+        → ShowsWorld ⟦<AnyNode as Component>⟧.state ⟦<PlainHints as Hints>⟧.tells t w → w.machine ≡ machine t }
+    ensures logs { (t : NodeTable) (w : World)
+        → ShowsWorld ⟦<AnyNode as Component>⟧.state ⟦<PlainHints as Hints>⟧.tells t w
+        → logs ⟦<AnyNode as Component>⟧.state t ≡ map (λ n. done_by n w.events)
+        (range_with_len 0 (length w.machine.config.slots)) }
 {}

@@ -45,8 +45,8 @@ pub fn host_first(
     )
 }
 
-/// A node that has done nothing, and takes over the state and the past of one of its kind, with an argument of its own. There is room
-/// for one more in that past.
+/// A node that has done nothing, and takes over the state and the past of one of its kind, with an argument of its
+/// own. There is room for one more in that past.
 pub fn host_from(
     alloc: Global,
     old: HostNode<AnyNode, CoreSeat>,
@@ -55,15 +55,23 @@ pub fn host_from(
     arg: Option<u32>,
 ) -> HostNode<AnyNode, CoreSeat>
     requires rests { (⟦<AnyNode as Component>⟧.state old.inner).service ≡ None }
-    requires old_arg { option_map_or (λ a. a) (argument (⟦<AnyNode as Component>⟧.state old.inner)) 0 ≡ (⟦<AnyNode as Component>⟧.state old.inner).arg }
+    requires old_arg { option_map_or (λ a. a) (argument (⟦<AnyNode as Component>⟧.state old.inner))
+        0 ≡ (⟦<AnyNode as Component>⟧.state old.inner).arg }
     requires fits { FitsKind (⟦<AnyNode as Component>⟧.state old.inner).kind arg }
-    requires limits { IsWithinLimits (record { slot = slot; kind = (⟦<AnyNode as Component>⟧.state old.inner).kind; first = first_port }) }
+    requires limits { IsWithinLimits
+        (record { slot = slot; kind = (⟦<AnyNode as Component>⟧.state old.inner).kind; first = first_port }) }
     requires room { length old.past.items < vec_capacity old.past }
     ensures place { (result.slot ≡ slot) × (result.first_port ≡ first_port) }
-    ensures state { ⟦<AnyNode as Component>⟧.state result.inner ≡ handed_over (⟦<AnyNode as Component>⟧.state old.inner).kind arg (⟦<AnyNode as Component>⟧.state old.inner).kept }
+    ensures state { ⟦<AnyNode as Component>⟧.state result.inner ≡ handed_over
+        (⟦<AnyNode as Component>⟧.state old.inner).kind arg (⟦<AnyNode as Component>⟧.state old.inner).kept }
     ensures known { result.seat.known ≡ nothing_known }
     ensures log { result.log.items ≡ [] }
-    ensures past { past_in (held.Node result) ≡ past_in (held.Node old) ++ record { slot = old.slot; first = old.first_port; arg = (⟦<AnyNode as Component>⟧.state old.inner).arg; log = old.log.items } ∷ [] }
+    ensures past { past_in (held.Node result) ≡ past_in (held.Node old) ++ record {
+      slot = old.slot;
+      first = old.first_port;
+      arg = (⟦<AnyNode as Component>⟧.state old.inner).arg;
+      log = old.log.items;
+    } ∷ [] }
     ensures waiting { result.waiting ≡ None ∷ None ∷ [] }
 {
     let old_slot = old.slot;

@@ -77,7 +77,8 @@ impl NodeTable {
     /// The log of a node that was handed over.
     fn past_log(&self, handed: Handed) -> &[Event]
         requires there { ∥ HasLog (entries ⟦<AnyNode as Component>⟧.state self.now) self.now.line_ends.items handed ∥₁ }
-        ensures { result.now ≡ log_in (entries ⟦<AnyNode as Component>⟧.state self.now) self.now.line_ends.items (gone handed) }
+        ensures { result.now ≡ log_in (entries ⟦<AnyNode as Component>⟧.state self.now) self.now.line_ends.items
+            (gone handed) }
     {
         let end = self.line_ends[handed.line as usize];
         match &self.nodes[end as usize] {
@@ -89,8 +90,10 @@ impl NodeTable {
     /// All that the node in a slot did, whether it is live, was removed or handed its state over.
     pub fn log(&self, slot: u32) -> &[Event]
         requires made { slot < length (machine self.now).config.slots }
-        requires some { ∥ ((w : World) × ShowsWorld ⟦<AnyNode as Component>⟧.state ⟦<PlainHints as Hints>⟧.tells self.now w) ∥₁ }
-        ensures log { (w : World) → ShowsWorld ⟦<AnyNode as Component>⟧.state ⟦<PlainHints as Hints>⟧.tells self.now w → result.now ≡ done_by slot w.events }
+        requires some { ∥ ((w : World)
+            × ShowsWorld ⟦<AnyNode as Component>⟧.state ⟦<PlainHints as Hints>⟧.tells self.now w) ∥₁ }
+        ensures log { (w : World) → ShowsWorld ⟦<AnyNode as Component>⟧.state ⟦<PlainHints as Hints>⟧.tells self.now w
+            → result.now ≡ done_by slot w.events }
         ensures by_slot { result.now ≡ slice_index_or (logs ⟦<AnyNode as Component>⟧.state self.now) slot [] }
     {
         match &self.nodes[slot as usize] {
@@ -99,12 +102,17 @@ impl NodeTable {
         }
     }
 
-    /// The component in a slot, in the state to which all that its node did has led it; none where another took its state over.
+    /// The component in a slot, in the state to which all that its node did has led it; none where another took its
+    /// state over.
     pub fn component(&self, slot: u32) -> Option<&AnyNode>
         requires made { slot < length (machine self.now).config.slots }
-        requires some { ∥ ((w : World) × ShowsWorld ⟦<AnyNode as Component>⟧.state ⟦<PlainHints as Hints>⟧.tells self.now w) ∥₁ }
-        ensures state { (w : World) → ShowsWorld ⟦<AnyNode as Component>⟧.state ⟦<PlainHints as Hints>⟧.tells self.now w → IfSome result (λ node. state_of w slot ≡ Some (⟦<AnyNode as Component>⟧.state node.now)) }
-        ensures handed { (result ≡ None) ↔ ∥ ((n : ℕ) × (m : Slot) × (state.slot (machine self.now).config n ≡ Some m) × (m.from ≡ Some slot)) ∥₁ }
+        requires some { ∥ ((w : World)
+            × ShowsWorld ⟦<AnyNode as Component>⟧.state ⟦<PlainHints as Hints>⟧.tells self.now w) ∥₁ }
+        ensures state { (w : World)
+            → ShowsWorld ⟦<AnyNode as Component>⟧.state ⟦<PlainHints as Hints>⟧.tells self.now w
+            → IfSome result (λ node. state_of w slot ≡ Some (⟦<AnyNode as Component>⟧.state node.now)) }
+        ensures handed { (result ≡ None) ↔ ∥ ((n : ℕ) × (m : Slot) × (state.slot (machine self.now).config n ≡ Some m)
+            × (m.from ≡ Some slot)) ∥₁ }
     {
         match &self.nodes[slot as usize] {
             Held::Node(node) => Some(&node.inner),

@@ -32,7 +32,8 @@ fn reserve_past(held: &mut Held) -> Result<(), NoMemory>
 fn reserve_pasts(nodes: &mut [Held]) -> Result<(), NoMemory>
     ensures seen { (states : PureNode → NodeState) → map (seen states) nodes.new ≡ map (seen states) nodes.old }
     ensures room { OnOk result ((k : ℕ) (h : _) → slice_get nodes.new k ≡ Some h → has_past_room h ≡ true) }
-    ensures kept { (k : ℕ) (h h' : _) → slice_get nodes.old k ≡ Some h → has_past_room h ≡ true → slice_get nodes.new k ≡ Some h' → has_past_room h' ≡ true }
+    ensures kept { (k : ℕ) (h h' : _) → slice_get nodes.old k ≡ Some h → has_past_room h ≡ true
+        → slice_get nodes.new k ≡ Some h' → has_past_room h' ≡ true }
 {
     for slot in 0..nodes.len() {
         reserve_past(&mut nodes[slot])?;
@@ -41,15 +42,18 @@ fn reserve_pasts(nodes: &mut [Held]) -> Result<(), NoMemory>
 }
 
 impl NodeTable {
-    /// Takes the memory for so many nodes more, each of which may take over the state of one that was made so far. After want of memory
-    /// all is as it was, and some of the memory may stay taken.
+    /// Takes the memory for so many nodes more, each of which may take over the state of one that was made so far.
+    /// After want of memory all is as it was, and some of the memory may stay taken.
     pub fn reserve(&mut self, nodes: u32) -> Result<(), NoMemory>
-        requires few { (w : World) × ShowsWorld ⟦<AnyNode as Component>⟧.state ⟦<PlainHints as Hints>⟧.tells self.old w × (length w.machine.config.slots + nodes ≤ MAX_NODES) }
+        requires few { (w : World) × ShowsWorld ⟦<AnyNode as Component>⟧.state ⟦<PlainHints as Hints>⟧.tells
+            self.old w × (length w.machine.config.slots + nodes ≤ MAX_NODES) }
         ensures nodes { OnOk result (nodes ≤ spare self.new) }
         ensures sources { OnOk result (length (machine self.old).config.slots ≤ sources self.new) }
         ensures kept_nodes { spare self.old ≤ spare self.new }
         ensures kept_sources { sources self.old ≤ sources self.new }
-        ensures shows { (w : World) → ShowsWorld ⟦<AnyNode as Component>⟧.state ⟦<PlainHints as Hints>⟧.tells self.old w → ShowsWorld ⟦<AnyNode as Component>⟧.state ⟦<PlainHints as Hints>⟧.tells self.new w }
+        ensures shows { (w : World)
+            → ShowsWorld ⟦<AnyNode as Component>⟧.state ⟦<PlainHints as Hints>⟧.tells self.old w
+            → ShowsWorld ⟦<AnyNode as Component>⟧.state ⟦<PlainHints as Hints>⟧.tells self.new w }
     {
         self.gate.core.reserve(nodes)?;
         self.nodes.try_reserve(nodes as usize)?;

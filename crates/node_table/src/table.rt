@@ -8,8 +8,8 @@ use port_gate::CoreGate;
 use port_queue::PlainHints;
 use std::alloc::Global;
 
-/// The nodes of a system on one thread, by slot, with the gate over the change machine and the inboxes. It keeps each node that was
-/// made: what it did stays.
+/// The nodes of a system on one thread, by slot, with the gate over the change machine and the inboxes. It keeps each
+/// node that was made: what it did stays.
 #[derive(Drop)]
 pub struct NodeTable {
     pub(crate) alloc: Global,

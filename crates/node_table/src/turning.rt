@@ -19,10 +19,16 @@ impl NodeTable {
     /// Gives a live node its turn, in which it may begin a transaction or not. After want of memory all is as it was.
     pub fn turn(&mut self, slot: u32, begins: bool) -> Result<Turn, NoMemory>
         requires live { is_live (machine self.old).config slot ≡ true }
-        requires some { ∥ ((w : World) × ShowsWorld ⟦<AnyNode as Component>⟧.state ⟦<PlainHints as Hints>⟧.tells self.old w) ∥₁ }
-        ensures shows { OnOk result ((w : World) → ShowsWorld ⟦<AnyNode as Component>⟧.state ⟦<PlainHints as Hints>⟧.tells self.old w → ShowsWorld ⟦<AnyNode as Component>⟧.state ⟦<PlainHints as Hints>⟧.tells self.new (turn w slot begins).world) }
-        ensures event { OnOk result ((w : World) → ShowsWorld ⟦<AnyNode as Component>⟧.state ⟦<PlainHints as Hints>⟧.tells self.old w → event_of result ≡ (turn w slot begins).event) }
-        ensures memory { OnErr result ((w : World) → ShowsWorld ⟦<AnyNode as Component>⟧.state ⟦<PlainHints as Hints>⟧.tells self.old w → ShowsWorld ⟦<AnyNode as Component>⟧.state ⟦<PlainHints as Hints>⟧.tells self.new w) }
+        requires some { ∥ ((w : World)
+            × ShowsWorld ⟦<AnyNode as Component>⟧.state ⟦<PlainHints as Hints>⟧.tells self.old w) ∥₁ }
+        ensures shows { OnOk result ((w : World)
+            → ShowsWorld ⟦<AnyNode as Component>⟧.state ⟦<PlainHints as Hints>⟧.tells self.old w → ShowsWorld
+            ⟦<AnyNode as Component>⟧.state ⟦<PlainHints as Hints>⟧.tells self.new (turn w slot begins).world) }
+        ensures event { OnOk result ((w : World) → ShowsWorld ⟦<AnyNode as Component>⟧.state
+            ⟦<PlainHints as Hints>⟧.tells self.old w → event_of result ≡ (turn w slot begins).event) }
+        ensures memory { OnErr result ((w : World)
+            → ShowsWorld ⟦<AnyNode as Component>⟧.state ⟦<PlainHints as Hints>⟧.tells self.old w
+            → ShowsWorld ⟦<AnyNode as Component>⟧.state ⟦<PlainHints as Hints>⟧.tells self.new w) }
         ensures room { KeepsRoom self.old self.new }
     {
         match &mut self.nodes[slot as usize] {

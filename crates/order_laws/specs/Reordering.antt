@@ -1,5 +1,5 @@
--- Descriptions that say the same in another order: the components, and in a component the ports, the arrays and the statements, in the
--- bodies of `forall` and `when` too, may stand in any order and at any places of the text.
+-- Descriptions that say the same in another order: the components, and in a component the ports, the arrays and the
+-- statements, in the bodies of `forall` and `when` too, may stand in any order and at any places of the text.
 use Rattle.std.specs.Prelude.{◌≡◌, List, [], ◌∷◌, Option}
 use Rattle.darwin_lexer.specs.declared.token.At.{At}
 use Rattle.darwin_parser.specs.Tree.{Name, Tree, Expr, PortDecl, ArrayDecl, InstEntry, BindEntry, Stmt, inst, bind, forall, when, Stmts, end, then, Component}
@@ -29,8 +29,10 @@ pub record SameArray (a b : ArrayDecl) : Type 0 where
 
 -- the same entry of an instance at any place
 pub data SameEntry : InstEntry → InstEntry → Type 0 where
-  same_single : (name component : Name) (args : List Expr) (at at' : At) → SameEntry (single name component args at) (single name component args at')
-  same_element : (array : Name) (index : Expr) (args : Option (List Expr)) (at at' : At) → SameEntry (element array index args at) (element array index args at')
+  same_single : (name component : Name) (args : List Expr) (at at' : At)
+      → SameEntry (single name component args at) (single name component args at')
+  same_element : (array : Name) (index : Expr) (args : Option (List Expr)) (at at' : At)
+      → SameEntry (element array index args at) (element array index args at')
 
 -- the same binding at any place
 pub record SameBinding (b c : BindEntry) : Type 0 where

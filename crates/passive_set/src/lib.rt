@@ -1,4 +1,5 @@
-//! Passive sets (Kramer and Magee 1990): which nodes have to be passive while a change unlinks, removes or links others.
+//! Passive sets (Kramer and Magee 1990): which nodes have to be passive while a change unlinks, removes or links
+//! others.
 #![tactic(auto)]
 
 mod marks;

@@ -92,8 +92,8 @@ fn add_incoming(graph: &Graph, node: u32, provide: u32, set: &mut PortSet) -> Re
     Ok(())
 }
 
-/// Adds the ports whose transactions may lead to one of a port here: again and again, those that are linked to a provision
-/// that depends on a port of the set, until there are no more.
+/// Adds the ports whose transactions may lead to one of a port here: again and again, those that are linked to a
+/// provision that depends on a port of the set, until there are no more.
 fn add_dependent(graph: &Graph, set: &mut PortSet) -> Result<(), NoMemory>
     requires graph { IsGraph graph.now }
     requires room { set.old.room ≡ length (ports graph.now.nodes) }

@@ -32,7 +32,8 @@ IsWordAt (Some s) p w = w ≡ word_of s p
 abbrev pub may_begin : Word → Bool
 may_begin w = not w.closed && not (is_missing w)
 
--- the cause of a refusal, by the word that it carries; a gate that tells its state answers it exactly where that holds of the state
+-- the cause of a refusal, by the word that it carries; a gate that tells its state answers it exactly where that
+-- holds of the state
 pub record HasWord (s : Option State) (p w : ℕ) (shows : Word → Bool) : Type 0 where
   pub cause : shows (unpack w) ≡ true
   pub there : IsWordAt s p w

@@ -15,7 +15,8 @@ use Rattle.port_gate.specs.declared.answers.SeeAnswer.TheVariants as see
 use Rattle.port_gate.specs.declared.answers.TakeAnswer.{TakeAnswer}
 use Rattle.port_gate.specs.declared.answers.TakeAnswer.TheVariants.{Stale, Taken}
 
--- a word that was loaded, in which of the seat's steps, and the other word that an exchange then found in its place, if it did
+-- a word that was loaded, in which of the seat's steps, and the other word that an exchange then found in its place,
+-- if it did
 pub record Load : Type 0 where
   pub word : ℕ
   pub found : Option ℕ
@@ -26,8 +27,8 @@ pub record Led : Type 0 where
   pub port : ℕ
   pub load : Load
 
--- How many steps a seat made; of each of its own ports what `begin`, `call` or `see` last loaded; and the loads of the last `take` and
--- the last `hear`.
+-- How many steps a seat made; of each of its own ports what `begin`, `call` or `see` last loaded; and the loads of
+-- the last `take` and the last `hear`.
 pub record Loads : Type 0 where
   pub steps : ℕ
   pub at : ℕ → Option Load
@@ -135,7 +136,8 @@ see_shows (see.More v) l = is_in_more (unpack l.word).phase && (unpack l.word).v
 see_shows (see.NotYet w) l = is_word w l
 
 abbrev pub take_shows : ℕ → TakeAnswer → Load → Bool
-take_shows n (Taken x k v) l = is_message_to n (unpack l.word) && (is_asked_through x l && ((unpack l.word).serial == k && (unpack l.word).value == v))
+take_shows n (Taken x k v) l = is_message_to n (unpack l.word)
+    && (is_asked_through x l && ((unpack l.word).serial == k && (unpack l.word).value == v))
 take_shows n (Stale w) l = is_word w l
 
 abbrev pub hear_shows : HearAnswer → Load → Bool

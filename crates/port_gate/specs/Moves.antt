@@ -1,4 +1,5 @@
--- What a call at a gate does: events of the node, which its seat knows from then on, and steps of the state where the gate tells it.
+-- What a call at a gate does: events of the node, which its seat knows from then on, and steps of the state where the
+-- gate tells it.
 use Rattle.std.specs.Prelude.{◌≡◌, ℕ, ◌-◌, true, false, List, [], ◌∷◌, ◌++◌, Option, Some, None, option_map, fold, slice_set}
 use Rattle.quiesce_core.specs.Knowledge.{known_next}
 use Rattle.quiesce_core.specs.Runs.{Step, is_doer}
@@ -65,8 +66,8 @@ Leads n (Some s) [] t = t ≡ Some s
 Leads n (Some s) (e ∷ []) t = (u : State) × (t ≡ Some u) × Step s e u × (is_doer s n e ≡ true)
 Leads n (Some s) (e ∷ f ∷ es) t = ⊥
 
--- the node at a seat did these events: its seat knows them, has them at the end of its events where it tells these, and they are
--- steps of the state where the gate tells that
+-- the node at a seat did these events: its seat knows them, has them at the end of its events where it tells these,
+-- and they are steps of the state where the gate tells that
 pub record Does (n : NodeAt) (es : List Event) (known known' : Known) (told told' : Option (List Event)) (state state' : Option State) : Type 0 where
   pub knows : known' ≡ fold (known_next n.first) known es
   pub events : told' ≡ option_map (λ log. log ++ es) told

@@ -29,7 +29,8 @@ pub record IsOwn (n : NodeAt) (p : ℕ) : Type 0 where
 abbrev pub port_known : NodeAt → Known → ℕ → PortKnown
 port_known n w p = slice_index_or w.ports (p - n.first) port_at_start
 
--- whether it services the port, and whether the last message of its service was heard; nothing holds where it services nothing
+-- whether it services the port, and whether the last message of its service was heard; nothing holds where it
+-- services nothing
 abbrev pub serves : Known → ℕ → Bool
 serves w p = option_map_or (λ (u : Served). u.port == p) w.service false
 

@@ -153,8 +153,10 @@ impl CoreGate {
         ensures slot { seat.new.slot ≡ seat.old.slot }
         ensures config { self.new.core.state.config ≡ self.old.core.state.config }
         ensures spare { self.new.core.spare ≡ self.old.core.spare }
-        ensures others { (n : ℕ) (w : Knows) → n ≢ seat.old.slot → FitsCore self.old.core.state n w → FitsCore self.new.core.state n w }
-        ensures does { Does (node_at self.old.core.state.config seat.old.slot) (event.now ∷ []) seat.old.known seat.new.known None None (Some self.old.core.state) (Some self.new.core.state) }
+        ensures others { (n : ℕ) (w : Knows) → n ≢ seat.old.slot → FitsCore self.old.core.state n w
+            → FitsCore self.new.core.state n w }
+        ensures does { Does (node_at self.old.core.state.config seat.old.slot) (event.now ∷ []) seat.old.known
+            seat.new.known None None (Some self.old.core.state) (Some self.new.core.state) }
     {
         self.holds();
         let first_port = self.first_port(seat.slot);
@@ -174,8 +176,10 @@ impl CoreGate {
         ensures slot { seat.new.slot ≡ seat.old.slot }
         ensures config { self.new.core.state.config ≡ self.old.core.state.config }
         ensures spare { self.new.core.spare ≡ self.old.core.spare }
-        ensures others { (n : ℕ) (w : Knows) → n ≢ seat.old.slot → FitsCore self.old.core.state n w → FitsCore self.new.core.state n w }
-        ensures does { Does (node_at self.old.core.state.config seat.old.slot) (events_of_call port 0 result) seat.old.known seat.new.known None None (Some self.old.core.state) (Some self.new.core.state) }
+        ensures others { (n : ℕ) (w : Knows) → n ≢ seat.old.slot → FitsCore self.old.core.state n w
+            → FitsCore self.new.core.state n w }
+        ensures does { Does (node_at self.old.core.state.config seat.old.slot) (events_of_call port 0 result)
+            seat.old.known seat.new.known None None (Some self.old.core.state) (Some self.new.core.state) }
         ensures says { CallSays (Some self.old.core.state) port result }
     {
         self.holds();

@@ -32,8 +32,8 @@ pub trait GateSeat {
 }
 
 /// A gate, at which nodes do their events. A seat that fits is one of a node of this gate, of the kind and with the
-/// first port that `node` says; after each call it still fits, and so does each seat of another slot that fitted before.
-/// No call takes memory, or uses up what there is.
+/// first port that `node` says; after each call it still fits, and so does each seat of another slot that fitted
+/// before. No call takes memory, or uses up what there is.
 pub trait PortGate {
     type Seat: GateSeat;
 
@@ -55,10 +55,14 @@ pub trait PortGate {
         ensures fits { fits self.new seat.new }
         ensures node { node self.new seat.new ≡ node self.old seat.old }
         ensures spare { spare self.new ≡ spare self.old }
-        ensures others { (other : Self.Seat) → Self.Seat.slot_of other ≢ Self.Seat.slot_of seat.old → fits self.old other → fits self.new other × (node self.new other ≡ node self.old other) }
-        ensures does { Does (node self.old seat.old) (moves.events_of_begin port value result) (Self.Seat.known seat.old) (Self.Seat.known seat.new) (Self.Seat.tells seat.old) (Self.Seat.tells seat.new) (state self.old) (state self.new) }
+        ensures others { (other : Self.Seat) → Self.Seat.slot_of other ≢ Self.Seat.slot_of seat.old
+            → fits self.old other → fits self.new other × (node self.new other ≡ node self.old other) }
+        ensures does { Does (node self.old seat.old) (moves.events_of_begin port value result)
+            (Self.Seat.known seat.old) (Self.Seat.known seat.new) (Self.Seat.tells seat.old)
+            (Self.Seat.tells seat.new) (state self.old) (state self.new) }
         ensures says { BeginSays (state self.old) port result }
-        ensures loads { TellsLoads (LoadsAt port (begin_shows result)) (Self.Seat.loads seat.old) (Self.Seat.loads seat.new) };
+        ensures loads { TellsLoads (LoadsAt port (begin_shows result)) (Self.Seat.loads seat.old)
+            (Self.Seat.loads seat.new) };
 
     /// Makes a call of the service that the node is in, whether the gate is closed or not.
     fn call(&mut self, seat: &mut Self::Seat, port: u32, value: u32) -> CallAnswer
@@ -67,10 +71,14 @@ pub trait PortGate {
         ensures fits { fits self.new seat.new }
         ensures node { node self.new seat.new ≡ node self.old seat.old }
         ensures spare { spare self.new ≡ spare self.old }
-        ensures others { (other : Self.Seat) → Self.Seat.slot_of other ≢ Self.Seat.slot_of seat.old → fits self.old other → fits self.new other × (node self.new other ≡ node self.old other) }
-        ensures does { Does (node self.old seat.old) (moves.events_of_call port value result) (Self.Seat.known seat.old) (Self.Seat.known seat.new) (Self.Seat.tells seat.old) (Self.Seat.tells seat.new) (state self.old) (state self.new) }
+        ensures others { (other : Self.Seat) → Self.Seat.slot_of other ≢ Self.Seat.slot_of seat.old
+            → fits self.old other → fits self.new other × (node self.new other ≡ node self.old other) }
+        ensures does { Does (node self.old seat.old) (moves.events_of_call port value result)
+            (Self.Seat.known seat.old) (Self.Seat.known seat.new) (Self.Seat.tells seat.old)
+            (Self.Seat.tells seat.new) (state self.old) (state self.new) }
         ensures says { CallSays (state self.old) port result }
-        ensures loads { TellsLoads (LoadsAt port (call_shows result)) (Self.Seat.loads seat.old) (Self.Seat.loads seat.new) };
+        ensures loads { TellsLoads (LoadsAt port (call_shows result)) (Self.Seat.loads seat.old)
+            (Self.Seat.loads seat.new) };
 
     /// Takes a request up that is asked of the node at another's port.
     fn take(&mut self, seat: &mut Self::Seat, port: u32) -> TakeAnswer
@@ -79,10 +87,14 @@ pub trait PortGate {
         ensures fits { fits self.new seat.new }
         ensures node { node self.new seat.new ≡ node self.old seat.old }
         ensures spare { spare self.new ≡ spare self.old }
-        ensures others { (other : Self.Seat) → Self.Seat.slot_of other ≢ Self.Seat.slot_of seat.old → fits self.old other → fits self.new other × (node self.new other ≡ node self.old other) }
-        ensures does { Does (node self.old seat.old) (moves.events_of_take port result) (Self.Seat.known seat.old) (Self.Seat.known seat.new) (Self.Seat.tells seat.old) (Self.Seat.tells seat.new) (state self.old) (state self.new) }
+        ensures others { (other : Self.Seat) → Self.Seat.slot_of other ≢ Self.Seat.slot_of seat.old
+            → fits self.old other → fits self.new other × (node self.new other ≡ node self.old other) }
+        ensures does { Does (node self.old seat.old) (moves.events_of_take port result) (Self.Seat.known seat.old)
+            (Self.Seat.known seat.new) (Self.Seat.tells seat.old) (Self.Seat.tells seat.new) (state self.old)
+            (state self.new) }
         ensures says { TakeSays (state self.old) (node self.old seat.old) port result }
-        ensures loads { TellsLoads (LoadsTake port (take_shows (node self.old seat.old).slot result)) (Self.Seat.loads seat.old) (Self.Seat.loads seat.new) };
+        ensures loads { TellsLoads (LoadsTake port (take_shows (node self.old seat.old).slot result))
+            (Self.Seat.loads seat.old) (Self.Seat.loads seat.new) };
 
     /// Answers the request that the node services.
     fn give(&mut self, seat: &mut Self::Seat, port: u32, value: u32)
@@ -91,8 +103,11 @@ pub trait PortGate {
         ensures fits { fits self.new seat.new }
         ensures node { node self.new seat.new ≡ node self.old seat.old }
         ensures spare { spare self.new ≡ spare self.old }
-        ensures others { (other : Self.Seat) → Self.Seat.slot_of other ≢ Self.Seat.slot_of seat.old → fits self.old other → fits self.new other × (node self.new other ≡ node self.old other) }
-        ensures does { Does (node self.old seat.old) (moves.events_of_give port value (Self.Seat.known seat.old)) (Self.Seat.known seat.old) (Self.Seat.known seat.new) (Self.Seat.tells seat.old) (Self.Seat.tells seat.new) (state self.old) (state self.new) }
+        ensures others { (other : Self.Seat) → Self.Seat.slot_of other ≢ Self.Seat.slot_of seat.old
+            → fits self.old other → fits self.new other × (node self.new other ≡ node self.old other) }
+        ensures does { Does (node self.old seat.old) (moves.events_of_give port value (Self.Seat.known seat.old))
+            (Self.Seat.known seat.old) (Self.Seat.known seat.new) (Self.Seat.tells seat.old)
+            (Self.Seat.tells seat.new) (state self.old) (state self.new) }
         ensures loads { TellsLoads LoadsNothing (Self.Seat.loads seat.old) (Self.Seat.loads seat.new) };
 
     /// Looks for a reply at a port of the node's own that isn't idle. It is no event.
@@ -102,12 +117,15 @@ pub trait PortGate {
         ensures fits { fits self.new seat.new }
         ensures node { node self.new seat.new ≡ node self.old seat.old }
         ensures spare { spare self.new ≡ spare self.old }
-        ensures others { (other : Self.Seat) → Self.Seat.slot_of other ≢ Self.Seat.slot_of seat.old → fits self.old other → fits self.new other × (node self.new other ≡ node self.old other) }
-        ensures known { Self.Seat.known seat.new ≡ moves.with_seen (node self.old seat.old) port result (Self.Seat.known seat.old) }
+        ensures others { (other : Self.Seat) → Self.Seat.slot_of other ≢ Self.Seat.slot_of seat.old
+            → fits self.old other → fits self.new other × (node self.new other ≡ node self.old other) }
+        ensures known { Self.Seat.known seat.new ≡ moves.with_seen (node self.old seat.old) port result
+            (Self.Seat.known seat.old) }
         ensures events { Self.Seat.tells seat.new ≡ Self.Seat.tells seat.old }
         ensures state { state self.new ≡ state self.old }
         ensures says { SeeSays (state self.old) port result }
-        ensures loads { TellsLoads (LoadsAt port (see_shows result)) (Self.Seat.loads seat.old) (Self.Seat.loads seat.new) };
+        ensures loads { TellsLoads (LoadsAt port (see_shows result)) (Self.Seat.loads seat.old)
+            (Self.Seat.loads seat.new) };
 
     /// Ends a transaction whose answer was seen.
     fn end(&mut self, seat: &mut Self::Seat, port: u32)
@@ -116,8 +134,11 @@ pub trait PortGate {
         ensures fits { fits self.new seat.new }
         ensures node { node self.new seat.new ≡ node self.old seat.old }
         ensures spare { spare self.new ≡ spare self.old }
-        ensures others { (other : Self.Seat) → Self.Seat.slot_of other ≢ Self.Seat.slot_of seat.old → fits self.old other → fits self.new other × (node self.new other ≡ node self.old other) }
-        ensures does { Does (node self.old seat.old) (moves.events_of_end (node self.old seat.old) port (Self.Seat.known seat.old)) (Self.Seat.known seat.old) (Self.Seat.known seat.new) (Self.Seat.tells seat.old) (Self.Seat.tells seat.new) (state self.old) (state self.new) }
+        ensures others { (other : Self.Seat) → Self.Seat.slot_of other ≢ Self.Seat.slot_of seat.old
+            → fits self.old other → fits self.new other × (node self.new other ≡ node self.old other) }
+        ensures does { Does (node self.old seat.old) (moves.events_of_end (node self.old seat.old)
+            port (Self.Seat.known seat.old)) (Self.Seat.known seat.old) (Self.Seat.known seat.new)
+            (Self.Seat.tells seat.old) (Self.Seat.tells seat.new) (state self.old) (state self.new) }
         ensures loads { TellsLoads LoadsNothing (Self.Seat.loads seat.old) (Self.Seat.loads seat.new) };
 
     /// Sends an intermediate reply for the request that the node services.
@@ -127,8 +148,11 @@ pub trait PortGate {
         ensures fits { fits self.new seat.new }
         ensures node { node self.new seat.new ≡ node self.old seat.old }
         ensures spare { spare self.new ≡ spare self.old }
-        ensures others { (other : Self.Seat) → Self.Seat.slot_of other ≢ Self.Seat.slot_of seat.old → fits self.old other → fits self.new other × (node self.new other ≡ node self.old other) }
-        ensures does { Does (node self.old seat.old) (moves.events_of_more port value (Self.Seat.known seat.old)) (Self.Seat.known seat.old) (Self.Seat.known seat.new) (Self.Seat.tells seat.old) (Self.Seat.tells seat.new) (state self.old) (state self.new) }
+        ensures others { (other : Self.Seat) → Self.Seat.slot_of other ≢ Self.Seat.slot_of seat.old
+            → fits self.old other → fits self.new other × (node self.new other ≡ node self.old other) }
+        ensures does { Does (node self.old seat.old) (moves.events_of_more port value (Self.Seat.known seat.old))
+            (Self.Seat.known seat.old) (Self.Seat.known seat.new) (Self.Seat.tells seat.old)
+            (Self.Seat.tells seat.new) (state self.old) (state self.new) }
         ensures loads { TellsLoads LoadsNothing (Self.Seat.loads seat.old) (Self.Seat.loads seat.new) };
 
     /// Replies to an intermediate reply that was seen.
@@ -138,8 +162,11 @@ pub trait PortGate {
         ensures fits { fits self.new seat.new }
         ensures node { node self.new seat.new ≡ node self.old seat.old }
         ensures spare { spare self.new ≡ spare self.old }
-        ensures others { (other : Self.Seat) → Self.Seat.slot_of other ≢ Self.Seat.slot_of seat.old → fits self.old other → fits self.new other × (node self.new other ≡ node self.old other) }
-        ensures does { Does (node self.old seat.old) (moves.events_of_ask (node self.old seat.old) port value (Self.Seat.known seat.old)) (Self.Seat.known seat.old) (Self.Seat.known seat.new) (Self.Seat.tells seat.old) (Self.Seat.tells seat.new) (state self.old) (state self.new) }
+        ensures others { (other : Self.Seat) → Self.Seat.slot_of other ≢ Self.Seat.slot_of seat.old
+            → fits self.old other → fits self.new other × (node self.new other ≡ node self.old other) }
+        ensures does { Does (node self.old seat.old) (moves.events_of_ask (node self.old seat.old)
+            port value (Self.Seat.known seat.old)) (Self.Seat.known seat.old) (Self.Seat.known seat.new)
+            (Self.Seat.tells seat.old) (Self.Seat.tells seat.new) (state self.old) (state self.new) }
         ensures loads { TellsLoads LoadsNothing (Self.Seat.loads seat.old) (Self.Seat.loads seat.new) };
 
     /// Looks for the further message for which the node's service waits.
@@ -149,11 +176,16 @@ pub trait PortGate {
         ensures fits { fits self.new seat.new }
         ensures node { node self.new seat.new ≡ node self.old seat.old }
         ensures spare { spare self.new ≡ spare self.old }
-        ensures others { (other : Self.Seat) → Self.Seat.slot_of other ≢ Self.Seat.slot_of seat.old → fits self.old other → fits self.new other × (node self.new other ≡ node self.old other) }
-        ensures does { Does (node self.old seat.old) (moves.events_of_hear port (Self.Seat.known seat.old) result) (Self.Seat.known seat.old) (Self.Seat.known seat.new) (Self.Seat.tells seat.old) (Self.Seat.tells seat.new) (state self.old) (state self.new) }
+        ensures others { (other : Self.Seat) → Self.Seat.slot_of other ≢ Self.Seat.slot_of seat.old
+            → fits self.old other → fits self.new other × (node self.new other ≡ node self.old other) }
+        ensures does { Does (node self.old seat.old) (moves.events_of_hear port (Self.Seat.known seat.old) result)
+            (Self.Seat.known seat.old) (Self.Seat.known seat.new) (Self.Seat.tells seat.old)
+            (Self.Seat.tells seat.new) (state self.old) (state self.new) }
         ensures says { HearSays (state self.old) port result }
-        ensures loads { TellsLoads (LoadsHear port (hear_shows result)) (Self.Seat.loads seat.old) (Self.Seat.loads seat.new) };
+        ensures loads { TellsLoads (LoadsHear port (hear_shows result)) (Self.Seat.loads seat.old)
+            (Self.Seat.loads seat.new) };
 
     /// A law: a seat that fits is one of a slot and of ports as one run has them.
-    ghost within: { (gate : Self) (seat : Self.Seat) → fits gate seat → IsWithinLimits (node gate seat) × ((node gate seat).slot ≡ Self.Seat.slot_of seat) };
+    ghost within: { (gate : Self) (seat : Self.Seat) → fits gate seat → IsWithinLimits (node gate seat)
+        × ((node gate seat).slot ≡ Self.Seat.slot_of seat) };
 }

@@ -12,9 +12,11 @@ ghost use Rattle.quiesce_core.specs.declared.event.Event.{Event};
 ghost use Rattle.quiesce_core.specs.declared.event.Event.TheVariants.{Make};
 ghost use Rattle.quiesce_core.specs.declared.known.Known.{Known};
 
-/// A law: a seat with the knowledge of no events fits the node that was just made, and a seat that fits goes on fitting through all
-/// that its node doesn't do, a change's events among it, as long as the node is live.
+/// A law: a seat with the knowledge of no events fits the node that was just made, and a seat that fits goes on
+/// fitting through all that its node doesn't do, a change's events among it, as long as the node is live.
 pub fn seats_of_live_nodes_fit()
-    ensures new { (s t : State) (n : ℕ) (node : Node) (from : Option ℕ) → IsWellFormed s → Step s (Make n node from) t → FitsCore t n nothing_known }
-    ensures others { (s t : State) (e : Event) (n : ℕ) (w : Known) → IsWellFormed s → IsConsistent s → Step s e t → is_doer s n e ≡ false → is_live t.config n ≡ true → FitsCore s n w → FitsCore t n w }
+    ensures new { (s t : State) (n : ℕ) (node : Node) (from : Option ℕ) → IsWellFormed s → Step s (Make n node from) t
+        → FitsCore t n nothing_known }
+    ensures others { (s t : State) (e : Event) (n : ℕ) (w : Known) → IsWellFormed s → IsConsistent s → Step s e t
+        → is_doer s n e ≡ false → is_live t.config n ≡ true → FitsCore s n w → FitsCore t n w }
 {}

@@ -25,7 +25,8 @@ pub fn unknown() -> Known
     }
 }
 
-/// The owner did one more event: what is known of the port then. It changes in place, since a copy costs more than the rest.
+/// The owner did one more event: what is known of the port then. It changes in place, since a copy costs more than
+/// the rest.
 #[inline(always)]
 fn note_port(port: &mut PortKnown, number: u32, event: &Event)
     ensures { port.new ≡ knowledge.port_known_next number port.old event.now }
@@ -108,7 +109,8 @@ fn note_ports(ports: &mut [PortKnown; 2], first_port: u32, event: &Event)
     note_port(&mut ports[1], first_port + 1, event);
 }
 
-/// The node at whose seat it is, and whose first port this is, did one more event. Only a call is told of a port and of the service.
+/// The node at whose seat it is, and whose first port this is, did one more event. Only a call is told of a port and
+/// of the service.
 #[inline(always)]
 #[tactic(auto, using(crate::proofs::NotingLaws::ports_stay))]
 pub fn note(known: &mut Known, first_port: u32, event: &Event)

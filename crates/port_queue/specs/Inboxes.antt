@@ -4,8 +4,8 @@ use Rattle.base.specs.Count.{Rose}
 use Rattle.port_queue.specs.declared.TheConstants.{MAX_HINTS}
 use Rattle.port_queue.specs.declared.hints.Full.{Full}
 
--- What a way into the inboxes counts of a node: its None and Full answers and the hints that it gave, which never fall; and the last
--- hint that it gave.
+-- What a way into the inboxes counts of a node: its None and Full answers and the hints that it gave, which never
+-- fall; and the last hint that it gave.
 pub record Counts : Type 0 where
   pub refused : ℕ
   pub given : ℕ

@@ -25,7 +25,8 @@ pub trait Hints {
         requires port { port < MAX_PORTS }
         ensures counts { CountsPost (counts self.old node) result (counts self.new node) }
         ensures full { (held : List ℕ) → tells self.old node ≡ Some held → (IsOk result ↔ (has_room held ≡ true)) }
-        ensures posted { (held : List ℕ) → tells self.old node ≡ Some held → tells self.new node ≡ Some (after_post held port) }
+        ensures posted { (held : List ℕ) → tells self.old node ≡ Some held
+            → tells self.new node ≡ Some (after_post held port) }
         ensures others { (other : ℕ) → other ≢ node → counts self.new other ≡ counts self.old other }
         ensures other_inboxes { (other : ℕ) → other ≢ node → tells self.new other ≡ tells self.old other };
 
@@ -35,7 +36,8 @@ pub trait Hints {
         ensures port { IfSome result (λ port. port < MAX_PORTS) }
         ensures counts { CountsNext (counts self.old node) result (counts self.new node) }
         ensures front { (held : List ℕ) → tells self.old node ≡ Some held → result ≡ front held }
-        ensures taken { (held : List ℕ) → tells self.old node ≡ Some held → tells self.new node ≡ Some (after_next held) }
+        ensures taken { (held : List ℕ) → tells self.old node ≡ Some held
+            → tells self.new node ≡ Some (after_next held) }
         ensures others { (other : ℕ) → other ≢ node → counts self.new other ≡ counts self.old other }
         ensures other_inboxes { (other : ℕ) → other ≢ node → tells self.new other ≡ tells self.old other };
 }

@@ -29,7 +29,8 @@ impl Model for Inbox {
 
     ghost Value = { Box };
 
-    ghost view = { λ b. record { held = b.ports.items; counts = record { refused = b.refused; given = b.given; last = b.last } } };
+    ghost view = { λ b.
+        record { held = b.ports.items; counts = record { refused = b.refused; given = b.given; last = b.last } } };
 
     ghost invariant = { λ b. IsWithin b.ports.items (deque_len b.ports) (deque_capacity b.ports) };
 }

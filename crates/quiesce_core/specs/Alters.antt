@@ -1,5 +1,5 @@
--- What an event changes, told place by place: of each slot the node made there and its service, of each port its gate and its
--- exchange. All else stays.
+-- What an event changes, told place by place: of each slot the node made there and its service, of each port its gate
+-- and its exchange. All else stays.
 use Rattle.std.specs.Prelude.{◌≡◌, ℕ, ◌+◌, ◌-◌, Bool, true, false, ◌&&◌, ◌==◌, nat_lt, nat_le, length, Option, Some, None, option_map, if◌then◌else◌}
 use Rattle.config_graph.specs.Kinds.{row}
 use Rattle.quiesce_core.specs.declared.event.Event.{Event}
@@ -12,7 +12,8 @@ use Rattle.gate_word.specs.declared.phase.Phase.TheVariants as phase
 use Rattle.quiesce_core.specs.State.{Configuration, State, slot, gate, owner, exchange, service}
 use Rattle.quiesce_core.specs.Runs.{is_doer}
 
--- whether a message goes over port p by the event, or its transaction ends: Take and Hear take a message up, and Miss sends none
+-- whether a message goes over port p by the event, or its transaction ends: Take and Hear take a message up, and Miss
+-- sends none
 abbrev pub is_message_at : ℕ → Event → Bool
 is_message_at p (Begin q k v) = q == p
 is_message_at p (Call q k v) = q == p

@@ -1,5 +1,5 @@
--- What a node knows from its own events alone: what it services, and how far each port of its own has come; and that the state has
--- of it exactly that.
+-- What a node knows from its own events alone: what it services, and how far each port of its own has come; and that
+-- the state has of it exactly that.
 use Rattle.std.specs.Prelude.{◌≡◌, ℕ, ◌+◌, Bool, true, false, not, ◌==◌, List, [], ◌∷◌, length, slice_get, Option, Some, None, is_some, option_map, fold, if◌then◌else◌, ⊤}
 use Rattle.quiesce_core.specs.declared.event.Event.{Event}
 use Rattle.quiesce_core.specs.declared.event.Event.TheVariants.{Begin, Call, Take, Give, End, More, Ask, Hear, Miss}

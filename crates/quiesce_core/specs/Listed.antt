@@ -1,4 +1,5 @@
--- What the graph of the live nodes is built from: their slots in the order of their paths, the places that they get, and their links.
+-- What the graph of the live nodes is built from: their slots in the order of their paths, the places that they get,
+-- and their links.
 use Rattle.std.specs.Prelude.{◌≡◌, ◌↔◌, ℕ, ◌<◌, ◌≤◌, true, List, [], length, Option, Some, None, slice_get, slice_index_or, option_map, option_and_then}
 use Rattle.std.specs.Option.{option_map_or}
 use Rattle.std.specs.Ordering.{nat_cmp}
@@ -18,7 +19,8 @@ path_at c n = option_map_or (λ (m : Slot). m.node.path) (slot c n) []
 pub record InPathOrder (c : Configuration) (order : List ℕ) : Type 0 where
   pub live : (a n : ℕ) → slice_get order a ≡ Some n → is_live c n ≡ true
   pub all : (n : ℕ) → is_live c n ≡ true → (a : ℕ) × (slice_get order a ≡ Some n)
-  pub rising : (a b m n : ℕ) → a < b → slice_get order a ≡ Some m → slice_get order b ≡ Some n → slice_cmp nat_cmp (path_at c m) (path_at c n) ≡ Less
+  pub rising : (a b m n : ℕ) → a < b → slice_get order a ≡ Some m → slice_get order b ≡ Some n
+      → slice_cmp nat_cmp (path_at c m) (path_at c n) ≡ Less
   pub few : length order ≤ length c.slots
 
 -- the places of the first so many slots of the order; no other slot has one
@@ -35,6 +37,7 @@ abbrev pub link_in : Configuration → List (Option ℕ) → ℕ → Option Link
 link_in c places p =
     option_and_then
     (λ (t : Target). option_and_then
-    (λ i. option_map (λ j. record { from = i; require = (gate c p).require; to = j; provide = t.provide }) (slice_index_or places t.node None))
+    (λ i. option_map (λ j. record { from = i; require = (gate c p).require; to = j; provide = t.provide })
+    (slice_index_or places t.node None))
     (slice_index_or places (owner c p) None))
     (target c p)

@@ -1,5 +1,5 @@
--- Which ports reach a node, and whether links close a cycle (Kramer and Magee 1990: a node is passive together with the nodes whose
--- transactions can lead to it).
+-- Which ports reach a node, and whether links close a cycle (Kramer and Magee 1990: a node is passive together with
+-- the nodes whose transactions can lead to it).
 use Rattle.std.specs.Prelude.{◌≡◌, ℕ, zero, suc, ◌+◌, ◌<◌, ◌≤◌, Bool, true, false, not, ◌&&◌, ◌||◌, ◌==◌, length, Some, IsTrue}
 use Rattle.std.specs.List.{list_any, list_all, range_with_len}
 use Rattle.std.specs.Option.{option_map_or}
@@ -27,7 +27,8 @@ wiring_of c = record {
 abbrev pub reaches_within : Configuration → ℕ → ℕ → ℕ → Bool
 reaches_within c n zero p = false
 reaches_within c n (suc k) p =
-    option_map_or (λ (t : Target). t.node == n || list_any (λ q. depends c t.node t.provide q && reaches_within c n k q) (ports_of c t.node)) (target c p) false
+    option_map_or (λ (t : Target). t.node == n || list_any (λ q. depends c t.node t.provide q
+    && reaches_within c n k q) (ports_of c t.node)) (target c p) false
 
 -- whether a port reaches the node; where there is no cycle, it does so over no more links than this
 unfoldable pub reaches : Configuration → ℕ → ℕ → Bool
@@ -36,7 +37,8 @@ reaches c n p = reaches_within c n (suc (length c.slots)) p
 -- whether so many calls can be made one within another, the first from a node
 abbrev pub can_walk : Configuration → ℕ → ℕ → Bool
 can_walk c zero n = true
-can_walk c (suc k) n = list_any (λ p. is_depended c n p && option_map_or (λ (t : Target). can_walk c k t.node) (target c p) false) (ports_of c n)
+can_walk c (suc k) n = list_any (λ p. is_depended c n p
+    && option_map_or (λ (t : Target). can_walk c k t.node) (target c p) false) (ports_of c n)
 
 -- whether there is no cycle: from no node can more steps be made than there are nodes
 unfoldable pub has_no_cycle : Configuration → Bool

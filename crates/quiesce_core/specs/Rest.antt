@@ -15,15 +15,16 @@ abbrev pub greatest : (ℕ → ℕ) → List ℕ → ℕ
 greatest f [] = 0
 greatest f (x ∷ xs) = max (f x) (greatest f xs)
 
--- The events of one transaction with provision x of node m, its consequents among them, at most: the Take, the Give and the End, three
--- for each intermediate reply, and for each call itself and the events of the provision to which it leads. Of a chain of
--- dependent provisions, so many are looked at.
+-- The events of one transaction with provision x of node m, its consequents among them, at most: the Take, the Give
+-- and the End, three for each intermediate reply, and for each call itself and the events of the provision to which
+-- it leads. Of a chain of dependent provisions, so many are looked at.
 abbrev pub full_within : Configuration → ℕ → ℕ → ℕ → ℕ
 full_within c zero m x = 0
 full_within c (suc k) m x =
     3 + 3 * mores_allowed c m x
     + calls_allowed c m x
-    * greatest (λ p. 1 + option_map_or (λ (t : Target). full_within c k t.node t.provide) (target c p) 0) (filter (depends c m x) (ports_of c m))
+    * greatest (λ p. 1 + option_map_or (λ (t : Target). full_within c k t.node t.provide) (target c p) 0)
+    (filter (depends c m x) (ports_of c m))
 
 -- all of it: where there is no cycle, no chain is longer
 unfoldable pub full : Configuration → ℕ → ℕ → ℕ
@@ -37,7 +38,8 @@ events_through c p = 1 + option_map_or (λ (t : Target). full c t.node t.provide
 abbrev pub call_events : Configuration → ℕ → ℕ → ℕ
 call_events c m x = greatest (events_through c) (filter (depends c m x) (ports_of c m))
 
--- the replies and messages still due in a service: the reply and the End, a further message to be heard, and before that to be sent
+-- the replies and messages still due in a service: the reply and the End, a further message to be heard, and before
+-- that to be sent
 abbrev pub messages_due : Service → Phase → ℕ
 messages_due v ph = if v.heard then 2 else if is_in_more ph then 4 else 3
 

@@ -1,5 +1,5 @@
--- The numbered rules of the change machine: what has to hold for each event. An event may happen where each of its rules holds, and
--- else it is denied by the first that fails.
+-- The numbered rules of the change machine: what has to hold for each event. An event may happen where each of its
+-- rules holds, and else it is denied by the first that fails.
 use Rattle.std.specs.Prelude.{ℕ, ◌+◌, Bool, true, false, not, ◌&&◌, ◌||◌, ◌==◌, nat_lt, nat_le, List, [], ◌∷◌, length, Option, Some, None, is_some, is_none, bytes_eq, if◌then◌else◌}
 use Rattle.std.specs.List.{list_any, list_all, range_with_len}
 use Rattle.std.specs.Option.{option_map_or}
@@ -60,7 +60,8 @@ serves_through s n p = option_map_or (λ (v : Service). depends s.config n (prov
 
 -- whether node n made fewer calls in its service than its kind allows
 abbrev pub has_calls_left : State → ℕ → Bool
-has_calls_left s n = option_map_or (λ (v : Service). nat_lt v.calls (calls_allowed s.config n (provision s.config v.port))) (service s n) false
+has_calls_left s n = option_map_or
+    (λ (v : Service). nat_lt v.calls (calls_allowed s.config n (provision s.config v.port))) (service s n) false
 
 -- whether a service is there in which the last message was heard
 abbrev pub was_heard : Option Service → Bool
@@ -82,13 +83,15 @@ calls_have_ended s p =
 -- whether fewer intermediate replies were made in the port's service than the kind of its target allows
 abbrev pub has_mores_left : State → ℕ → Bool
 has_mores_left s p =
-    option_map_or (λ t. option_map_or (λ (v : Service). nat_lt v.mores (mores_allowed s.config t.node t.provide)) (service s t.node) false) (target s.config p) false
+    option_map_or (λ t. option_map_or (λ (v : Service). nat_lt v.mores (mores_allowed s.config t.node t.provide))
+    (service s t.node) false) (target s.config p) false
 
 -- whether the port is closed and has no transaction
 abbrev pub is_quiet : State → ℕ → Bool
 is_quiet s p = (gate s.config p).closed && is_idle (exchange s p).phase
 
--- whether a node is settled: it is live, it services nothing, and its own ports and those that reach it are closed and idle
+-- whether a node is settled: it is live, it services nothing, and its own ports and those that reach it are closed
+-- and idle
 abbrev pub is_settled : State → ℕ → Bool
 is_settled s n =
     is_live s.config n
@@ -117,7 +120,8 @@ is_kind j k = (row j).number == (row k).number
 abbrev pub was_moved : Configuration → ℕ → Bool
 was_moved c k = list_any (λ (m : Slot). option_map_or (λ f. f == k) m.from false) c.slots
 
--- whether the state of the node in slot k can go over to a node of this kind: it was removed, and has gone over to no other
+-- whether the state of the node in slot k can go over to a node of this kind: it was removed, and has gone over to no
+-- other
 abbrev pub can_move : Configuration → ℕ → Kind → Bool
 can_move c k kind = option_map_or (λ (m : Slot). not m.live && is_kind m.node.kind kind) (slot c k) false && not (was_moved c k)
 
@@ -133,7 +137,8 @@ is_apart c n =
 -- the rules of an event, by their numbers, in the order in which they are looked at, and whether each holds
 abbrev pub rules_at : State → Event → List (ℕ × Bool)
 rules_at s (Begin p k v) =
-    (1, is_live_port s.config p) ∷ (2, is_open s.config p) ∷ (3, is_linked s.config p) ∷ (4, is_idle (exchange s p).phase) ∷ (5, is_next_serial s p k)
+    (1, is_live_port s.config p) ∷ (2, is_open s.config p) ∷ (3, is_linked s.config p)
+    ∷ (4, is_idle (exchange s p).phase) ∷ (5, is_next_serial s p k)
     ∷ (6, is_value v) ∷ []
 rules_at s (Call p k v) =
     (1, is_live_port s.config p) ∷ (7, serves_through s (owner s.config p) p) ∷ (8, has_calls_left s (owner s.config p))
@@ -163,7 +168,8 @@ rules_at s (Make n node from) =
     (18, has_room s.config n node) ∷ (19, not (is_path_taken s.config node.path) && has_its_argument node)
     ∷ (26, option_map_or (λ k. can_move s.config k node.kind) from true) ∷ []
 rules_at s (Link p n x) =
-    (1, is_live_port s.config p) ∷ (20, not (is_linked s.config p)) ∷ (21, has_provision s.config n x) ∷ (22, is_settled s (owner s.config p))
+    (1, is_live_port s.config p) ∷ (20, not (is_linked s.config p)) ∷ (21, has_provision s.config n x)
+    ∷ (22, is_settled s (owner s.config p))
     ∷ (23, has_no_cycle (with_target s.config p (Some (record { node = n; provide = x })))) ∷ []
 rules_at s (Unlink p) = (1, is_live_port s.config p) ∷ (3, is_linked s.config p) ∷ (22, is_settled s (owner s.config p)) ∷ []
 rules_at s (Remove n) = (24, is_live s.config n) ∷ (22, is_settled s n) ∷ (25, is_apart s.config n) ∷ []

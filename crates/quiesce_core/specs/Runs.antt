@@ -1,5 +1,5 @@
--- Steps and runs of the change machine, who does an event, and the transactions of a run (Kramer and Magee 1990: an exchange
--- between two nodes, of whose completion the initiator is aware).
+-- Steps and runs of the change machine, who does an event, and the transactions of a run (Kramer and Magee 1990: an
+-- exchange between two nodes, of whose completion the initiator is aware).
 use Rattle.std.specs.Prelude.{◌≡◌, ℕ, Bool, true, false, not, ◌&&◌, ◌==◌, List, [], ◌∷◌, ◌++◌, Option, Some, None, is_none, option_map, fold, if◌then◌else◌}
 use Rattle.std.specs.List.{list_any}
 use Rattle.std.specs.Option.{option_map_or}
@@ -75,8 +75,8 @@ abbrev pub is_end_of : ℕ → ℕ → Event → Bool
 is_end_of p k (End q j v) = q == p && j == k
 is_end_of p k _ = false
 
--- A transaction of a run is a port and a serial that a Begin or Call of it names. It engages two nodes, the port's owner and its
--- target at that event.
+-- A transaction of a run is a port and a serial that a Begin or Call of it names. It engages two nodes, the port's
+-- owner and its target at that event.
 pub record Begun (es : List Event) (p k : ℕ) : Type 0 where
   pub before : List Event
   pub event : Event
@@ -94,7 +94,8 @@ target_at_begin es p k b = option_map (λ (t : Target). t.node) (target (state_a
 abbrev pub is_open_after : List Event → ℕ → ℕ → Bool
 is_open_after es p k = list_any (is_begin_of p k) es && not (list_any (is_end_of p k) es)
 
--- The root of a transaction: itself where it was begun, and where it was called that of the transaction that its owner serviced.
+-- The root of a transaction: itself where it was begun, and where it was called that of the transaction that its
+-- owner serviced.
 pub data HasRoot (es : List Event) : ℕ → ℕ → ℕ → ℕ → Type 0 where
   root : (p k v : ℕ) (before after : List Event) → es ≡ before ++ Begin p k v ∷ after → HasRoot es p k p k
   consequent : (p k v q j : ℕ) (before after : List Event) (w : Service) → es ≡ before ++ Call p k v ∷ after

@@ -17,6 +17,7 @@ reaches_through c n t = list_any (λ q. depends c t.node t.provide q && reaches 
 abbrev pub reaches_from : Configuration → ℕ → Target → Bool
 reaches_from c n t = t.node == n || reaches_through c n t
 
--- whether node m leads to node n, in any number of steps: it is n, or one of its ports on which a provision depends reaches n
+-- whether node m leads to node n, in any number of steps: it is n, or one of its ports on which a provision depends
+-- reaches n
 abbrev pub leads_up : Configuration → ℕ → ℕ → Bool
 leads_up c n m = m == n || list_any (λ q. is_depended c m q && reaches c n q) (ports_of c m)

@@ -43,4 +43,5 @@ pub record Quiescent (es : List Event) (n : ℕ) : Type 0 where
   pub services_nothing : service (state_after es) n ≡ None
   -- no open transaction has it as its target, and none that is begun or called later has
   pub targets_none : (p k : ℕ) (b : Begun es p k) → is_open_after es p k ≡ true → target_at_begin es p k b ≡ Some n → ⊥
-  pub targets_none_later : (more_ : List Event) → Continues es more_ → (p k : ℕ) (b : Begun more_ p k) → later_target es more_ p k b ≡ Some n → ⊥
+  pub targets_none_later : (more_ : List Event) → Continues es more_ → (p k : ℕ) (b : Begun more_ p k)
+      → later_target es more_ p k b ≡ Some n → ⊥

@@ -1,5 +1,5 @@
--- The state of a system that was started as a graph says: its nodes in slots 0, 1 and on, their ports numbered in that order, linked,
--- open and idle.
+-- The state of a system that was started as a graph says: its nodes in slots 0, 1 and on, their ports numbered in
+-- that order, linked, open and idle.
 use Rattle.std.specs.Prelude.{ℕ, true, false, List, map, Option, None}
 use Rattle.std.specs.List.{enumerate_from}
 use Rattle.config_graph.specs.Graph.{Graph, first_port, ports, target_of}

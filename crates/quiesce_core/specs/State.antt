@@ -1,6 +1,7 @@
--- A state of a system that is changed while it runs: a configuration, which the change alone alters, and the traffic in it, which
--- the nodes alone alter. Nodes are named by their slots and ports by their numbers, through all nodes made. Look-ups are total:
--- what was not made looks fresh, that is closed, idle, unlinked and with serial 0, and services nothing.
+-- A state of a system that is changed while it runs: a configuration, which the change alone alters, and the traffic
+-- in it, which the nodes alone alter. Nodes are named by their slots and ports by their numbers, through all nodes
+-- made. Look-ups are total: what was not made looks fresh, that is closed, idle, unlinked and with serial 0, and
+-- services nothing.
 use Rattle.std.specs.Prelude.{ℕ, Bool, true, false, List, [], length, Option, None, slice_get, slice_index_or, option_and_then}
 use Rattle.std.specs.List.{range_with_len}
 use Rattle.std.specs.Option.{option_map_or}
@@ -60,7 +61,8 @@ target c p = (gate c p).target
 abbrev pub provision : Configuration → ℕ → ℕ
 provision c p = option_map_or (λ (t : Target). t.provide) (target c p) 0
 
--- how many services a node provides, and how many calls and intermediate replies one service by a provision makes at most
+-- how many services a node provides, and how many calls and intermediate replies one service by a provision makes at
+-- most
 abbrev pub provides : Configuration → ℕ → ℕ
 provides c n = option_map_or (λ (m : Slot). length (row m.node.kind).provides) (slot c n) 0
 

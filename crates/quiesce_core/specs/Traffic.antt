@@ -14,7 +14,8 @@ pub record IsServing (s : State) (n : ℕ) (v : Service) : Type 0 where
   pub calls : v.calls ≤ calls_allowed s.config n provide
   pub mores : v.mores ≤ mores_allowed s.config n provide
 
--- port p has a transaction that belongs to the service of port q: p's owner services q, by a provision that depends on p
+-- port p has a transaction that belongs to the service of port q: p's owner services q, by a provision that depends
+-- on p
 pub record IsConsequent (s : State) (p q : ℕ) : Type 0 where
   pub busy : is_idle (exchange s p).phase ≡ false
   pub serving : Service

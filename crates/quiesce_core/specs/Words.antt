@@ -80,11 +80,13 @@ changed_slot (Link p n x) = None
 changed_slot (Unlink p) = None
 changed_slot (Remove n) = None
 
--- the rule by which a root is denied at an idle port of a live node, by what the port shows: it is closed, unlinked or spent
+-- the rule by which a root is denied at an idle port of a live node, by what the port shows: it is closed, unlinked
+-- or spent
 abbrev pub root_denial : Word → Option ℕ
 root_denial w = if w.closed then Some 2 else if is_none w.target then Some 3 else if is_spent w then Some 5 else None
 
--- what the owner of an idle port knows before it calls there: its service may call through the port, and heard the last message
+-- what the owner of an idle port knows before it calls there: its service may call through the port, and heard the
+-- last message
 pub record CallsThrough (s : State) (p : ℕ) : Type 0 where
   pub live : IsTrue (is_live_port s.config p)
   pub serves_through : IsTrue (serves_through s (owner s.config p) p)

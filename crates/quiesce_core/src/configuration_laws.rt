@@ -35,8 +35,8 @@ pub fn live_nodes_change()
         → (m : ℕ) → slot d m ≡ slot c m }
 {}
 
-/// Where ports lead after a link, an unlink, a make and a removal. Of all events a link and an unlink alone change where a port leads,
-/// and each changes it at its own port alone.
+/// Where ports lead after a link, an unlink, a make and a removal. Of all events a link and an unlink alone change
+/// where a port leads, and each changes it at its own port alone.
 pub fn targets_change()
     ensures linked { (c d : Configuration) (q n x : ℕ) → Reconfigures c (Link q n x) d → (p : ℕ)
         → target d p ≡ (if q == p then Some (record { node = n; provide = x }) else target c p) }
@@ -49,32 +49,36 @@ pub fn targets_change()
         → target d p ≡ target c p }
 {}
 
-/// After every run each node from which another took its state over was removed, is of its kind, and gave it to no other. In a system
-/// that was just started none took any over, and each step keeps it so.
+/// After every run each node from which another took its state over was removed, is of its kind, and gave it to no
+/// other. In a system that was just started none took any over, and each step keeps it so.
 pub fn sources_are_gone()
     ensures runs { (es : List Event) → IsRun es → SourcesAreGone (state_after es).config }
     ensures started { (g : Graph) → SourcesAreGone (started g).config }
     ensures steps { (s t : State) (e : Event) → SourcesAreGone s.config → Step s e t → SourcesAreGone t.config }
 {}
 
-/// The graph after an event is told by the nodes and links before it: a make adds its node, a removal takes its node away, a link adds
-/// a link between live nodes, an unlink takes that of its port away, and all other events leave the graph.
+/// The graph after an event is told by the nodes and links before it: a make adds its node, a removal takes its node
+/// away, a link adds a link between live nodes, an unlink takes that of its port away, and all other events leave the
+/// graph.
 pub fn graphs_follow_events()
     ensures { (s t : State) (e : Event) → IsWellFormed s → Step s e t → (g : Graph)
         → IsGraphOf t.config g ↔ IsGraphBy (IsNodeNext s.config e) (AreLinkedNext s.config e) g }
 {}
 
-/// After every run there is a graph of the live nodes and their links, and each is sound (`one_graph`: it is the only one).
+/// After every run there is a graph of the live nodes and their links, and each is sound (`one_graph`: it is the only
+/// one).
 pub fn graphs_of_runs()
     ensures there { (es : List Event) → IsRun es → (g : Graph) × IsGraphOf (state_after es).config g × Sound g }
     ensures sound { (c : Configuration) (g : Graph) → IsSound c → AreNamed c → IsGraphOf c g → Sound g }
 {}
 
-/// What was made stays as it was made, whatever happens: a node its slot, first port, path, kind and argument, a port its owner and
-/// the requirement that it is. A node that was removed stays removed, and all that its slot says of it stays.
+/// What was made stays as it was made, whatever happens: a node its slot, first port, path, kind and argument, a port
+/// its owner and the requirement that it is. A node that was removed stays removed, and all that its slot says of it
+/// stays.
 pub fn what_was_made_stays()
     ensures nodes { (c d : Configuration) (e : Event) → Reconfigures c e d → (n : ℕ) (m : Slot) → n < length c.slots
-        → slot d n ≡ Some m → (old : Slot) × (slot c n ≡ Some old) × (old.first_port ≡ m.first_port) × (old.node ≡ m.node) }
+        → slot d n ≡ Some m → (old : Slot) × (slot c n ≡ Some old) × (old.first_port ≡ m.first_port)
+        × (old.node ≡ m.node) }
     ensures owners { (c d : Configuration) (e : Event) → Reconfigures c e d → (p : ℕ) → p < length c.gates
         → owner d p ≡ owner c p }
     ensures requirements { (c d : Configuration) (e : Event) → Reconfigures c e d → (p : ℕ) → p < length c.gates
@@ -91,9 +95,9 @@ pub fn ports_are_numbered()
     ensures linked { (c : Configuration) (p : ℕ) (t : Target) → target c p ≡ Some t → p < length c.gates }
 {}
 
-/// A change keeps a configuration sound, whatever the traffic: a node is made where there is room for it and its ports; a port that
-/// was made is closed or opened, leads nowhere, or leads to a provision of a live node where that closes no cycle; and a node to
-/// which no port leads is removed.
+/// A change keeps a configuration sound, whatever the traffic: a node is made where there is room for it and its
+/// ports; a port that was made is closed or opened, leads nowhere, or leads to a provision of a live node where that
+/// closes no cycle; and a node to which no port leads is removed.
 pub fn changes_keep_configurations_sound()
     ensures made { (c : Configuration) (node : Node) (from : Option ℕ) → IsSound c → length c.slots < MAX_NODES
         → length c.gates + length (row node.kind).requires_ ≤ MAX_PORTS → IsSound (with_node c node from) }

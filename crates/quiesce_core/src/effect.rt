@@ -52,7 +52,8 @@ impl Tables {
         requires well_formed { IsWellFormed (state_of self.old) }
         requires live { rules.is_live_port (state_of self.old).config port ≡ true }
         requires left { rules.has_calls_left (state_of self.old) (state.owner (state_of self.old).config port) ≡ true }
-        ensures state { state_of self.new ≡ effect.with_call (state_of self.old) (state.owner (state_of self.old).config port) }
+        ensures state { state_of self.new ≡ effect.with_call (state_of self.old)
+            (state.owner (state_of self.old).config port) }
         ensures room { KeepsRoom self.old self.new }
     {
         let owner = self.gate(port).owner;
@@ -211,7 +212,9 @@ impl Tables {
     fn count_more(&mut self, port: u32)
         requires well_formed { IsWellFormed (state_of self.old) }
         requires left { rules.has_mores_left (state_of self.old) port ≡ true }
-        ensures state { state_of self.new ≡ effect.with_target_service (state_of self.old) port (option_map (λ (w : Service). record w { mores = w.mores + 1; heard = false }) (state.target_service (state_of self.old) port)) }
+        ensures state { state_of self.new ≡ effect.with_target_service (state_of self.old)
+            port (option_map (λ (w : Service). record w { mores = w.mores + 1; heard = false })
+            (state.target_service (state_of self.old) port)) }
         ensures room { KeepsRoom self.old self.new }
     {
         if let Some(service) = self.target_service(port) {
@@ -227,7 +230,8 @@ impl Tables {
     #[tactic(auto, using(crate::proofs::TableLaws::places))]
     pub fn set_closed(&mut self, port: u32, closed: bool)
         requires { rules.is_live_port (state_of self.old).config port ≡ true }
-        ensures state { state_of self.new ≡ record (state_of self.old) { config = effect.with_closed (state_of self.old).config port closed } }
+        ensures state { state_of self.new ≡ record (state_of self.old)
+            { config = effect.with_closed (state_of self.old).config port closed } }
         ensures room { KeepsRoom self.old self.new }
     {
         let gate = Gate {
@@ -240,7 +244,8 @@ impl Tables {
     #[tactic(auto, using(crate::proofs::TableLaws::places))]
     pub fn set_target(&mut self, port: u32, target: Option<Target>)
         requires { rules.is_live_port (state_of self.old).config port ≡ true }
-        ensures state { state_of self.new ≡ record (state_of self.old) { config = effect.with_target (state_of self.old).config port target } }
+        ensures state { state_of self.new ≡ record (state_of self.old)
+            { config = effect.with_target (state_of self.old).config port target } }
         ensures room { KeepsRoom self.old self.new }
     {
         let gate = Gate {

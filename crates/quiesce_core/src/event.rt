@@ -2,8 +2,8 @@
 
 use config_graph::Node;
 
-/// An event, done by a port's owner (`Begin`, `Call`, `Miss`, `Ask`, `End`), by its target (`Take`, `Give`, `More`, `Hear`), or by
-/// the change (all others).
+/// An event, done by a port's owner (`Begin`, `Call`, `Miss`, `Ask`, `End`), by its target (`Take`, `Give`, `More`,
+/// `Hear`), or by the change (all others).
 #[derive(Debug, Drop, PartialEq, Eq)]
 pub enum Event {
     /// The owner begins a transaction of its own, a root, with a request of this value.

@@ -17,16 +17,16 @@ ghost use Rattle.quiesce_core.specs.Traffic.{IsConsistent};
 ghost use Rattle.quiesce_core.specs.WellFormed.{IsWellFormed};
 ghost use Rattle.quiesce_core.specs.Worked.{its_answer, further_message, consequent_call};
 
-/// In every run a node's own events tell it exactly what the state has of it: what it services, and how far each of its ports has
-/// come.
+/// In every run a node's own events tell it exactly what the state has of it: what it services, and how far each of
+/// its ports has come.
 pub fn nodes_know()
     ensures by_number { (es : List Event) → IsRun es → (n : ℕ) → Knows (state_after es) n (done_by n es) }
     ensures by_index { (es : List Event) → IsRun es → (n first : ℕ)
         → IsKnown (state_after es) n first (known_after first (done_by n es)) }
 {}
 
-/// What a log tells by the indexes of requirements grows by one event as `known_next` says, and is what it tells of the service and of
-/// each port by its number. It tells of no reply that was seen: a look at a port is no event.
+/// What a log tells by the indexes of requirements grows by one event as `known_next` says, and is what it tells of
+/// the service and of each port by its number. It tells of no reply that was seen: a look at a port is no event.
 pub fn logs_tell()
     ensures more_ { (first : ℕ) (es : List Event) (e : Event)
         → known_after first (es ++ e ∷ []) ≡ known_next first (known_after first es) e }
@@ -43,8 +43,8 @@ pub fn logs_tell()
         → slice_get (known_after first es).ports r ≡ Some k → k.seen ≡ None }
 {}
 
-/// A step that a node does moves what it knows as its log's fold does, and a step that it doesn't do leaves what it knows true: what
-/// it has seen at a port stands there until it replies. A node that was just made knows of nothing.
+/// A step that a node does moves what it knows as its log's fold does, and a step that it doesn't do leaves what it
+/// knows true: what it has seen at a port stands there until it replies. A node that was just made knows of nothing.
 pub fn steps_keep_what_is_known()
     ensures own { (s t : State) (e : Event) (n first : ℕ) (w : Known) → IsWellFormed s → IsConsistent s
         → Step s e t → n < length s.config.slots → is_doer s n e ≡ true → IsKnown s n first w
@@ -55,7 +55,8 @@ pub fn steps_keep_what_is_known()
         → Step s (Make n node from) t → IsKnown t n (length s.config.gates) nothing_known }
 {}
 
-/// Of the rules of its own events a node that is in a service can judge these by what it knows: 14, 29 and 30, 7, 8, 28, and 16.
+/// Of the rules of its own events a node that is in a service can judge these by what it knows: 14, 29 and 30, 7, 8,
+/// 28, and 16.
 pub fn nodes_judge_rules()
     ensures taken { (s : State) (n : ℕ) (m : Slot) (k : Known) (u : Served) → KnowsItsService s n m k u
         → is_taken s u.port ≡ true }

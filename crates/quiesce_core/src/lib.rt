@@ -1,6 +1,6 @@
-//! The change machine: the events of a system that is changed while it runs, the rules by which they may happen, and a state
-//! that is led through them. Transactions, passive and quiescent nodes are those of Kramer and Magee (The evolving philosophers
-//! problem: dynamic change management, 1990).
+//! The change machine: the events of a system that is changed while it runs, the rules by which they may happen, and
+//! a state that is led through them. Transactions, passive and quiescent nodes are those of Kramer and Magee (The
+//! evolving philosophers problem: dynamic change management, 1990).
 #![tactic(auto)]
 
 mod configuration_laws;

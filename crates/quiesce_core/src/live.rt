@@ -31,14 +31,16 @@ impl Tables {
 
     /// How the nodes of two slots stand in the order of their paths.
     fn by_path(&self, slot: u32, other: u32) -> Ordering
-        ensures { result ≡ slice_cmp nat_cmp (path_at (state_of self.now).config slot) (path_at (state_of self.now).config other) }
+        ensures { result ≡ slice_cmp nat_cmp (path_at (state_of self.now).config slot)
+            (path_at (state_of self.now).config other) }
     {
         self.path(slot).cmp(self.path(other))
     }
 
     fn live_slots(&self) -> Result<Vec<u32>, NoMemory>
         requires { length (state_of self.now).config.slots ≤ MAX_NODES }
-        ensures { IfOk result (λ v. v.items ≡ filter (state.is_live (state_of self.now).config) (range_with_len 0 (length (state_of self.now).config.slots))) }
+        ensures { IfOk result (λ v. v.items ≡ filter (state.is_live (state_of self.now).config)
+            (range_with_len 0 (length (state_of self.now).config.slots))) }
     {
         let alloc = *self.slots.allocator();
         let slots = self.slots.len() as u32;
@@ -73,7 +75,8 @@ impl Tables {
     /// Copies of the nodes in these slots.
     fn nodes_in(&self, order: &[u32]) -> Result<Vec<Node>, NoMemory>
         requires order { InPathOrder (state_of self.now).config order.now }
-        ensures { IfOk result (λ nodes. AreNodesOf (state_of self.now).config order.now (length order.now) nodes.items) }
+        ensures { IfOk result
+            (λ nodes. AreNodesOf (state_of self.now).config order.now (length order.now) nodes.items) }
     {
         let alloc = *self.slots.allocator();
         let mut nodes = Vec::with_capacity(alloc, order.len())?;
@@ -101,7 +104,8 @@ impl Tables {
 
     fn links_in(&self, places: &[Option<u32>]) -> Result<Vec<Link>, NoMemory>
         requires { length (state_of self.now).config.gates ≤ MAX_PORTS }
-        ensures { IfOk result (λ links. links.items ≡ filter_map (link_in (state_of self.now).config places.now) (range_with_len 0 (length (state_of self.now).config.gates))) }
+        ensures { IfOk result (λ links. links.items ≡ filter_map (link_in (state_of self.now).config places.now)
+            (range_with_len 0 (length (state_of self.now).config.gates))) }
     {
         let alloc = *self.gates.allocator();
         let ports = self.gates.len() as u32;
@@ -110,8 +114,8 @@ impl Tables {
             .collect(alloc)
     }
 
-    /// The graph of the live nodes and their links. Time grows with the number of nodes and ports, and for the order of the paths with
-    /// that of the nodes times its logarithm.
+    /// The graph of the live nodes and their links. Time grows with the number of nodes and ports, and for the order
+    /// of the paths with that of the nodes times its logarithm.
     pub fn graph(&self) -> Result<Graph, NoMemory>
         requires sound { IsSound (state_of self.now).config }
         requires named { AreNamed (state_of self.now).config }

@@ -27,8 +27,8 @@ use gate_word::LAST_SERIAL;
 use std::alloc::Global;
 use std::marker::Model;
 
-/// The state of a system that is changed while it runs. Contracts see the state, and for how many nodes memory is reserved. The state
-/// of each is well formed and consistent, and its nodes are named apart: `made` tells it.
+/// The state of a system that is changed while it runs. Contracts see the state, and for how many nodes memory is
+/// reserved. The state of each is well formed and consistent, and its nodes are named apart: `made` tells it.
 #[derive(Debug, Drop)]
 pub struct Core {
     tables: Tables,
@@ -57,8 +57,8 @@ impl Core {
         }
     }
 
-    /// The system that was started as the graph says: its nodes are in slots 0, 1 and on, their ports numbered in that order,
-    /// linked, open and idle.
+    /// The system that was started as the graph says: its nodes are in slots 0, 1 and on, their ports numbered in
+    /// that order, linked, open and idle.
     pub fn of(alloc: Global, graph: &Graph) -> Result<Core, NoMemory>
         requires sound { Sound graph.now }
         requires few_nodes { length graph.now.nodes ≤ MAX_NODES }
@@ -112,13 +112,15 @@ impl Core {
         self.tables.perform(event);
     }
 
-    /// Lets the event happen where each of its rules holds. A refused event leaves the state as it is, and no room that was reserved
-    /// is lost.
+    /// Lets the event happen where each of its rules holds. A refused event leaves the state as it is, and no room
+    /// that was reserved is lost.
     ///
-    /// The time of a make, link, unlink or remove grows with the number of nodes and ports made. That of the other events doesn't.
+    /// The time of a make, link, unlink or remove grows with the number of nodes and ports made. That of the other
+    /// events doesn't.
     pub fn apply(&mut self, event: &Event) -> Result<(), CoreError>
         ensures ok { OnOk result (Step self.old.state event.now self.new.state) }
-        ensures denied { (rule : ℕ) → (result ≡ Err (CoreError.Denied rule)) ↔ (denial self.old.state event.now ≡ Some rule) }
+        ensures denied { (rule : ℕ)
+            → (result ≡ Err (CoreError.Denied rule)) ↔ (denial self.old.state event.now ≡ Some rule) }
         ensures no_memory { result ≡ Err CoreError.NoMemory → is_make event.now ≡ true }
         ensures refused { OnErr result (self.new.state ≡ self.old.state) }
         ensures spare { is_make event.now ≡ false → self.new.spare ≡ self.old.spare }
@@ -139,8 +141,8 @@ impl Core {
         Ok(())
     }
 
-    /// How many nodes and how many ports were made. It tells too that the state of each machine is well formed and consistent, and
-    /// its nodes named apart.
+    /// How many nodes and how many ports were made. It tells too that the state of each machine is well formed and
+    /// consistent, and its nodes named apart.
     pub fn made(&self) -> Made
         ensures nodes { result.nodes ≡ length self.now.state.config.slots }
         ensures ports { result.ports ≡ length self.now.state.config.gates }
@@ -197,8 +199,8 @@ impl Core {
         self.tables.is_live(node)
     }
 
-    /// Whether the node is settled: its ports and those that reach it are closed and idle, and it services nothing. What follows from
-    /// that stands in the laws of runs.
+    /// Whether the node is settled: its ports and those that reach it are closed and idle, and it services nothing.
+    /// What follows from that stands in the laws of runs.
     pub fn settled(&self, node: u32) -> bool
         requires { IsTrue (state.is_live self.now.state.config node) }
         ensures test { result ≡ is_settled self.now.state node }
@@ -218,7 +220,8 @@ impl Core {
     /// The serial of the port's next transaction, or `None` where its transactions are spent.
     pub fn next_serial(&self, port: u32) -> Option<u32>
         requires { port < length self.now.state.config.gates }
-        ensures { SomeIff result (¬ ((state.exchange self.now.state port).serial ≡ last_serial)) ((state.exchange self.now.state port).serial + 1) }
+        ensures { SomeIff result (¬ ((state.exchange self.now.state port).serial ≡ last_serial))
+            ((state.exchange self.now.state port).serial + 1) }
     {
         let serial = self.tables.exchange(port).serial;
         if serial == LAST_SERIAL {

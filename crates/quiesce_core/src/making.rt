@@ -65,7 +65,8 @@ impl Tables {
         requires room { (spare : ℕ) × (0 < spare) × HasRoomToMake self.old spare }
         requires few { length self.old.slots.items < MAX_NODES }
         requires ports { length self.old.gates.items + length (row node.kind).requires_ ≤ MAX_PORTS }
-        ensures state { state_of self.new ≡ effect.effect (state_of self.old) (event.Make (length self.old.slots.items) node from) }
+        ensures state { state_of self.new ≡ effect.effect (state_of self.old)
+            (event.Make (length self.old.slots.items) node from) }
         ensures room { (spare : ℕ) → HasRoomToMake self.old (spare + 1) → HasRoomToMake self.new spare }
     {
         let owner = self.slots.len() as u32;

@@ -14,7 +14,8 @@ use config_graph::NoMemory;
 impl Tables {
     /// How far the transaction of the port has come, or `None` where it has none.
     fn stage(&self, port: u32) -> Option<Stage>
-        ensures { result ≡ open_.stage_of (state.exchange (state_of self.now) port).phase (rules.is_taken (state_of self.now) port) }
+        ensures { result ≡ open_.stage_of (state.exchange (state_of self.now) port).phase
+            (rules.is_taken (state_of self.now) port) }
     {
         match self.exchange(port).phase {
             Phase::Idle => None,

@@ -22,7 +22,8 @@ impl Tables {
     /// The ports of a node.
     pub fn ports_of(&self, node: u32) -> Range<u32>
         requires { IsSound (state_of self.now).config }
-        ensures ports { range_with_len result.start (result.end - result.start) ≡ state.ports_of (state_of self.now).config node }
+        ensures ports { range_with_len result.start (result.end - result.start) ≡ state.ports_of
+            (state_of self.now).config node }
         ensures order { result.start ≤ result.end }
         ensures made { result.end ≤ length (state_of self.now).config.gates }
     {
@@ -44,7 +45,8 @@ impl Tables {
     #[cycle(reaching)]
     fn reaches(&self, node: u32, port: u32, depth: u32, known: &mut [Option<bool>]) -> bool
         requires sound { IsSound (state_of self.now).config }
-        requires deep { (t : Target) → state.target (state_of self.now).config port ≡ Some t → reach.can_walk (state_of self.now).config depth t.node ≡ false }
+        requires deep { (t : Target) → state.target (state_of self.now).config port ≡ Some t
+            → reach.can_walk (state_of self.now).config depth t.node ≡ false }
         requires made { port < length known.old }
         requires room { length (state_of self.now).config.gates ≤ length known.old }
         requires known { AreKnown (state_of self.now).config node known.old }
@@ -101,11 +103,13 @@ impl Tables {
         known: &mut [Option<bool>],
     ) -> bool
         requires sound { IsSound (state_of self.now).config }
-        requires deep { (t : Target) → state.target (state_of self.now).config port ≡ Some t → reach.can_walk (state_of self.now).config depth t.node ≡ false }
+        requires deep { (t : Target) → state.target (state_of self.now).config port ≡ Some t
+            → reach.can_walk (state_of self.now).config depth t.node ≡ false }
         requires made { port < length known.old }
         requires room { length (state_of self.now).config.gates ≤ length known.old }
         requires known { AreKnown (state_of self.now).config node known.old }
-        ensures value { result ≡ (rules.is_quiet (state_of self.now) port || not (reach.reaches (state_of self.now).config node port)) }
+        ensures value { result
+            ≡ (rules.is_quiet (state_of self.now) port || not (reach.reaches (state_of self.now).config node port)) }
         ensures known { AreKnown (state_of self.now).config node known.new }
     {
         if self.is_quiet(port) {
@@ -117,7 +121,9 @@ impl Tables {
     /// Whether each port that reaches the node is closed and idle. Where all ports are, none is searched for.
     fn reaching_ports_are_quiet(&self, node: u32) -> bool
         requires { IsSound (state_of self.now).config }
-        ensures { result ≡ list_all (λ p. rules.is_quiet (state_of self.now) p || not (reach.reaches (state_of self.now).config node p)) (range_with_len 0 (length (state_of self.now).config.gates)) }
+        ensures { result ≡ list_all
+            (λ p. rules.is_quiet (state_of self.now) p || not (reach.reaches (state_of self.now).config node p))
+            (range_with_len 0 (length (state_of self.now).config.gates)) }
     {
         let ports = self.gates.len() as u32;
         if self.are_quiet(&(0..ports)) {
@@ -130,7 +136,9 @@ impl Tables {
     #[tactic(auto, using(crate::proofs::ReachLaws::searched))]
     fn searched_ports_are_quiet(&self, node: u32) -> bool
         requires { IsSound (state_of self.now).config }
-        ensures { result ≡ list_all (λ p. rules.is_quiet (state_of self.now) p || not (reach.reaches (state_of self.now).config node p)) (range_with_len 0 (length (state_of self.now).config.gates)) }
+        ensures { result ≡ list_all
+            (λ p. rules.is_quiet (state_of self.now) p || not (reach.reaches (state_of self.now).config node p))
+            (range_with_len 0 (length (state_of self.now).config.gates)) }
     {
         let mut known = [None; PLACES];
         let depth = self.walk_bound();
@@ -144,7 +152,8 @@ impl Tables {
     }
 
     fn are_quiet(&self, ports: &Range<u32>) -> bool
-        ensures { result ≡ list_all (λ p. rules.is_quiet (state_of self.now) p) (range_with_len ports.now.start (ports.now.end - ports.now.start)) }
+        ensures { result ≡ list_all (λ p. rules.is_quiet (state_of self.now) p)
+            (range_with_len ports.now.start (ports.now.end - ports.now.start)) }
     {
         (ports.start..ports.end).all(|port| self.is_quiet(port))
     }
@@ -161,7 +170,8 @@ impl Tables {
 
     /// Whether none of these ports has a transaction that belongs to the port's service.
     fn have_ended(&self, port: u32, ports: &Range<u32>) -> bool
-        ensures { result ≡ list_all (λ q. not (rules.is_called_within (state_of self.now) port q)) (range_with_len ports.now.start (ports.now.end - ports.now.start)) }
+        ensures { result ≡ list_all (λ q. not (rules.is_called_within (state_of self.now) port q))
+            (range_with_len ports.now.start (ports.now.end - ports.now.start)) }
     {
         (ports.start..ports.end).all(|own| !self.is_called_within(port, own))
     }
@@ -197,11 +207,13 @@ impl Tables {
         known: &mut [Option<bool>],
     ) -> bool
         requires sound { IsSound (state_of self.now).config }
-        requires deep { (t : Target) → state.target (state_of self.now).config port ≡ Some t → reach.can_walk (state_of self.now).config depth t.node ≡ false }
+        requires deep { (t : Target) → state.target (state_of self.now).config port ≡ Some t
+            → reach.can_walk (state_of self.now).config depth t.node ≡ false }
         requires made { port < length known.old }
         requires room { length (state_of self.now).config.gates ≤ length known.old }
         requires known { AreKnown (state_of self.now).config other known.old }
-        ensures value { result ≡ (state.is_depended (state_of self.now).config node port && reach.reaches (state_of self.now).config other port) }
+        ensures value { result ≡ (state.is_depended (state_of self.now).config node port && reach.reaches
+            (state_of self.now).config other port) }
         ensures known { AreKnown (state_of self.now).config other known.new }
     {
         if !self.is_depended(node, port) {
@@ -241,13 +253,15 @@ impl Tables {
     }
 
     fn are_unlinked(&self, ports: &Range<u32>) -> bool
-        ensures { result ≡ list_all (λ p. is_none (state.target (state_of self.now).config p)) (range_with_len ports.now.start (ports.now.end - ports.now.start)) }
+        ensures { result ≡ list_all (λ p. is_none (state.target (state_of self.now).config p))
+            (range_with_len ports.now.start (ports.now.end - ports.now.start)) }
     {
         (ports.start..ports.end).all(|port| !self.is_linked(port))
     }
 
     fn leads_at(&self, port: u32, node: u32) -> bool
-        ensures { not result ≡ option_map_or (λ t. not (t.node == node)) (state.target (state_of self.now).config port) true }
+        ensures { not result ≡ option_map_or (λ t. not (t.node == node))
+            (state.target (state_of self.now).config port) true }
     {
         match self.gate(port).target {
             Some(target) => target.node == node,
@@ -257,7 +271,9 @@ impl Tables {
 
     fn is_led_to_by_none(&self, node: u32) -> bool
         requires { IsSound (state_of self.now).config }
-        ensures { result ≡ list_all (λ p. option_map_or (λ t. not (t.node == node)) (state.target (state_of self.now).config p) true) (range_with_len 0 (length (state_of self.now).config.gates)) }
+        ensures { result ≡ list_all
+            (λ p. option_map_or (λ t. not (t.node == node)) (state.target (state_of self.now).config p) true)
+            (range_with_len 0 (length (state_of self.now).config.gates)) }
     {
         let ports = self.gates.len() as u32;
         (0..ports).all(|port| !self.leads_at(port, node))

@@ -16,7 +16,8 @@ use config_graph::{MAX_NODES, Target};
 const NODES: usize = MAX_NODES as usize;
 
 impl Tables {
-    /// The events of a transaction with the target's provision, at most. They are noted in `known`; no walk has `depth` steps.
+    /// The events of a transaction with the target's provision, at most. They are noted in `known`; no walk has
+    /// `depth` steps.
     #[cycle(filling)]
     fn full(&self, target: Target, depth: u32, known: &mut [Option<u128>]) -> u128
         requires sound { IsSound (state_of self.now).config }
@@ -96,7 +97,8 @@ impl Tables {
         requires there { LeadsToProvision (state_of self.now).config target }
         requires room { length (state_of self.now).config.slots ≤ length known.old }
         requires known { AreCounted (state_of self.now).config known.old }
-        ensures value { result ≡ capped (rest.service_rest (state_of self.now).config target.node target.provide service.now phase) }
+        ensures value { result ≡ capped
+            (rest.service_rest (state_of self.now).config target.node target.provide service.now phase) }
         ensures known { AreCounted (state_of self.now).config known.new }
     {
         let depth = self.walk_bound();
@@ -135,7 +137,8 @@ impl Tables {
         requires sound { IsSound (state_of self.now).config }
         requires room { length (state_of self.now).config.slots ≤ length known.old }
         requires known { AreCounted (state_of self.now).config known.old }
-        ensures value { result ≡ capped (rest.port_rest (state_of self.now) port (state.exchange (state_of self.now) port).phase) }
+        ensures value { result ≡ capped
+            (rest.port_rest (state_of self.now) port (state.exchange (state_of self.now) port).phase) }
         ensures known { AreCounted (state_of self.now).config known.new }
     {
         match self.exchange(port).phase {

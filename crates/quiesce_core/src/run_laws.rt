@@ -17,8 +17,8 @@ ghost use Rattle.config_graph.specs.declared.kind.Kind.TheVariants.{Buffer};
 ghost use Rattle.config_graph.specs.declared.node.Target.{Target};
 ghost use Rattle.quiesce_core.specs.Traffic.{IsConsistent};
 
-/// A run goes on with an event exactly where no rule denies it in the state that the run has led to. Each front of a run is a run, and
-/// whether events are a run can be computed.
+/// A run goes on with an event exactly where no rule denies it in the state that the run has led to. Each front of a
+/// run is a run, and whether events are a run can be computed.
 pub fn runs_grow()
     ensures more { (es : List Event) (e : Event)
         → IsRun (es ++ e ∷ []) ↔ (IsRun es × (denial (state_after es) e ≡ None)) }
@@ -33,8 +33,8 @@ pub fn logs_grow()
         → done_by n (es ++ e ∷ []) ≡ done_by n es ++ (if is_doer (state_after es) n e then e ∷ [] else []) }
 {}
 
-/// In a state that is consistent, so at each place of a run, an event that may happen is one of the change exactly where no node does
-/// it: each other one has its doer.
+/// In a state that is consistent, so at each place of a run, an event that may happen is one of the change exactly
+/// where no node does it: each other one has its doer.
 pub fn changes_are_of_no_node()
     ensures in_states { (s : State) (e : Event) → IsConsistent s → denial s e ≡ None
         → (is_of_change e ≡ true) ↔ (doer s e ≡ None) }
@@ -42,17 +42,17 @@ pub fn changes_are_of_no_node()
         → (is_of_change e ≡ true) ↔ (doer (state_after before) e ≡ None) }
 {}
 
-/// The change alone makes the configuration: what its events make of it goes by the configuration alone, and other events leave it as
-/// it is. So the configuration after events is that after those of the change.
+/// The change alone makes the configuration: what its events make of it goes by the configuration alone, and other
+/// events leave it as it is. So the configuration after events is that after those of the change.
 pub fn changes_make_the_configuration()
     ensures next { (s : State) (e : Event) → (effect s e).config ≡ change_next s.config e }
     ensures kept { (s : State) (e : Event) → is_of_change e ≡ false → (effect s e).config ≡ s.config }
     ensures after { (es : List Event) → (state_after es).config ≡ configuration_after (filter is_of_change es) }
 {}
 
-/// The values that the events of a transaction carry: a request is taken with the value with which it was begun or called, a further
-/// message is heard with that with which it was sent, and a transaction ends with that with which it was answered. A reply stands at
-/// the port until its owner sends or ends upon it.
+/// The values that the events of a transaction carry: a request is taken with the value with which it was begun or
+/// called, a further message is heard with that with which it was sent, and a transaction ends with that with which
+/// it was answered. A reply stands at the port until its owner sends or ends upon it.
 pub fn values_carry()
     ensures begun { (before between after : List Event) (p k v w : ℕ)
         → IsRun (before ++ Begin p k v ∷ between ++ Take p k w ∷ after) → w ≡ v }
@@ -64,14 +64,16 @@ pub fn values_carry()
         → IsRun (before ++ Give p k v ∷ between ++ End p k w ∷ after) → w ≡ v }
     ensures replied { (before between : List Event) (p k v : ℕ) → IsRun (before ++ More p k v ∷ between)
         → list_any (is_ask_at p) between ≡ false
-        → StandsThere (state_after (before ++ More p k v ∷ between)) p true v × ((exchange (state_after (before ++ More p k v ∷ between)) p).serial ≡ k) }
+        → StandsThere (state_after (before ++ More p k v ∷ between)) p true v
+        × ((exchange (state_after (before ++ More p k v ∷ between)) p).serial ≡ k) }
     ensures answered { (before between : List Event) (p k v : ℕ) → IsRun (before ++ Give p k v ∷ between)
         → list_any (is_end_at p) between ≡ false
-        → StandsThere (state_after (before ++ Give p k v ∷ between)) p false v × ((exchange (state_after (before ++ Give p k v ∷ between)) p).serial ≡ k) }
+        → StandsThere (state_after (before ++ Give p k v ∷ between)) p false v
+        × ((exchange (state_after (before ++ Give p k v ∷ between)) p).serial ≡ k) }
 {}
 
-/// A transaction engages the node that begins or calls it and the one to which the port leads then. These are two, but where a buffer
-/// is linked to itself.
+/// A transaction engages the node that begins or calls it and the one to which the port leads then. These are two,
+/// but where a buffer is linked to itself.
 pub fn transactions_engage_two_nodes()
     ensures target { (es : List Event) (p k : ℕ) (b : Begun es p k) → IsRun es
         → (n : ℕ) × (target_at_begin es p k b ≡ Some n) }
@@ -82,8 +84,8 @@ pub fn transactions_engage_two_nodes()
         → t.node ≡ owner c p → slot c (owner c p) ≡ Some m → m.node.kind ≡ Buffer }
 {}
 
-/// After every run a service has made no more calls, missed ones among them, and no more intermediate replies than the kind of its node
-/// allows by the provision that it is in.
+/// After every run a service has made no more calls, missed ones among them, and no more intermediate replies than
+/// the kind of its node allows by the provision that it is in.
 pub fn services_keep_their_bounds()
     ensures calls { (es : List Event) (n : ℕ) (v : Service) → IsRun es → service (state_after es) n ≡ Some v
         → v.calls ≤ calls_allowed (state_after es).config n (provision (state_after es).config v.port) }

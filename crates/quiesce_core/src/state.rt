@@ -1,4 +1,5 @@
-//! What a state is made of: of each slot the node made there and what it services, of each port its gate and its exchange.
+//! What a state is made of: of each slot the node made there and what it services, of each port its gate and its
+//! exchange.
 
 use config_graph::{Node, Target};
 pub use gate_word::Phase;

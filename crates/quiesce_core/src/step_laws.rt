@@ -26,8 +26,8 @@ pub fn targets_stay()
         → service s n ≡ Some v → owner s.config p ≡ n → target t.config p ≡ target s.config p }
 {}
 
-/// An answer stands at its port until the owner's End, and an intermediate reply until the owner's Ask. A request that was taken stays
-/// so until it is answered.
+/// An answer stands at its port until the owner's End, and an intermediate reply until the owner's Ask. A request
+/// that was taken stays so until it is answered.
 pub fn replies_stay()
     ensures answered { (s t : State) (e : Event) (p : ℕ) → IsWellFormed s → IsConsistent s → Step s e t
         → is_answered (exchange s p).phase ≡ true → is_end_at p e ≡ false → exchange t p ≡ exchange s p }
@@ -39,7 +39,8 @@ pub fn replies_stay()
 
 /// A port that isn't idle was made, is linked, and its owner is live.
 pub fn busy_ports_are_linked_and_live()
-    ensures made { (s : State) (p : ℕ) → IsConsistent s → is_idle (exchange s p).phase ≡ false → p < length s.config.gates }
+    ensures made { (s : State) (p : ℕ) → IsConsistent s → is_idle (exchange s p).phase ≡ false
+        → p < length s.config.gates }
     ensures linked { (s : State) (p : ℕ) → IsConsistent s → is_idle (exchange s p).phase ≡ false
         → IsTrue (is_linked s.config p) }
     ensures live { (s : State) (p : ℕ) → IsConsistent s → is_idle (exchange s p).phase ≡ false
@@ -48,7 +49,8 @@ pub fn busy_ports_are_linked_and_live()
 
 /// A port is taken exactly where its target services it. No node services an idle port, or one that was answered.
 pub fn taken_ports_are_serviced()
-    ensures taken { (s : State) (p : ℕ) → IsTrue (is_taken s p) ↔ ((t : Target) × (v : Service) × (target s.config p ≡ Some t)
+    ensures taken { (s : State) (p : ℕ)
+        → IsTrue (is_taken s p) ↔ ((t : Target) × (v : Service) × (target s.config p ≡ Some t)
         × (service s t.node ≡ Some v) × (v.port ≡ p)) }
     ensures idle { (s : State) (p : ℕ) → IsConsistent s → is_idle (exchange s p).phase ≡ true
         → (m : ℕ) (v : Service) → service s m ≡ Some v → v.port ≡ p → ⊥ }

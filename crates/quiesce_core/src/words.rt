@@ -43,9 +43,11 @@ pub fn words_of_states_decode()
 
 /// So they do after every run.
 pub fn words_of_runs_decode()
-    ensures port { (es : List Event) (p : ℕ) → IsRun es → unpack (word_of (state_after es) p) ≡ fields_of (state_after es) p }
+    ensures port { (es : List Event) (p : ℕ) → IsRun es
+        → unpack (word_of (state_after es) p) ≡ fields_of (state_after es) p }
     ensures slot { (es : List Event) (n : ℕ) → IsRun es
-        → unpack_slot (slot_word_of (state_after es).config n) ≡ option_map slot_fields_of (slot (state_after es).config n) }
+        → unpack_slot (slot_word_of (state_after es).config n) ≡ option_map slot_fields_of
+        (slot (state_after es).config n) }
 {}
 
 /// What each event makes of the words. An event of a port but Take, Hear and Miss changes its word, as `fields_after`
@@ -53,14 +55,17 @@ pub fn words_of_runs_decode()
 pub fn words_follow_events()
     ensures port { (s t : State) (e : Event) → IsWellFormed s → Step s e t → (p : ℕ) → changed_port e ≡ Some p
         → fields_of t p ≡ fields_after e (fields_of s p) }
-    ensures other_ports { (s t : State) (e : Event) → IsWellFormed s → Step s e t → (p : ℕ) → (¬ changed_port e ≡ Some p)
+    ensures other_ports { (s t : State) (e : Event) → IsWellFormed s → Step s e t → (p : ℕ)
+        → (¬ changed_port e ≡ Some p)
         → fields_of t p ≡ fields_of s p }
     ensures unmade { (s t : State) (n : ℕ) (node : Node) (from : Option ℕ) → Step s (Event.Make n node from) t
         → slot_word_of s.config n ≡ 0 }
-    ensures made { (s t : State) (n : ℕ) (node : Node) (from : Option ℕ) → IsWellFormed s → Step s (Event.Make n node from) t
+    ensures made { (s t : State) (n : ℕ) (node : Node) (from : Option ℕ) → IsWellFormed s
+        → Step s (Event.Make n node from) t
         → slot_word_of t.config n
         ≡ pack_slot (record { kind = node.kind; first_port = length s.config.gates; arg = node.arg; from = from }) }
-    ensures other_slots { (s t : State) (e : Event) → IsWellFormed s → Step s e t → (n : ℕ) → (¬ changed_slot e ≡ Some n)
+    ensures other_slots { (s t : State) (e : Event) → IsWellFormed s → Step s e t → (n : ℕ)
+        → (¬ changed_slot e ≡ Some n)
         → slot_word_of t.config n ≡ slot_word_of s.config n }
 {}
 
@@ -75,11 +80,12 @@ pub fn words_tell_of_transactions()
 {}
 
 /// By which operation of the gates, with which operand, each step comes to the word of `words_follow_events`. A Begin
-/// compares and exchanges; a Call, a reply, a further message and an End turn fields by exclusive or, and so do Link and
-/// Unlink; Close and Make set bits, and Reopen clears one.
+/// compares and exchanges; a Call, a reply, a further message and an End turn fields by exclusive or, and so do Link
+/// and Unlink; Close and Make set bits, and Reopen clears one.
 pub fn words_follow_operations()
     ensures begin { (s t : State) (p k v : ℕ) → IsWellFormed s → Step s (Event.Begin p k v) t
-        → word_of t p ≡ pack (record (fields_of s p) { phase = Phase.Asked; serial = k; value = v; consequent = false }) }
+        → word_of t p ≡ pack
+        (record (fields_of s p) { phase = Phase.Asked; serial = k; value = v; consequent = false }) }
     ensures call { (s t : State) (p k v : ℕ) → IsWellFormed s → Step s (Event.Call p k v) t
         → word_of t p ≡ bit_xor (word_of s p) (call_difference (fields_of s p) v) }
     ensures give { (s t : State) (p k v : ℕ) → IsWellFormed s → IsConsistent s → Step s (Event.Give p k v) t
@@ -96,9 +102,11 @@ pub fn words_follow_operations()
         → word_of t p ≡ bit_and (word_of s p) ALL_BUT_CLOSED }
     ensures link { (s t : State) (p n x : ℕ) → IsWellFormed s → Step s (Event.Link p n x) t
         → word_of t p ≡ bit_xor (word_of s p) (link_difference (record { node = n; provide = x })) }
-    ensures unlink { (s t : State) (p : ℕ) (to : Target) → IsWellFormed s → target s.config p ≡ Some to → Step s (Event.Unlink p) t
+    ensures unlink { (s t : State) (p : ℕ) (to : Target) → IsWellFormed s → target s.config p ≡ Some to
+        → Step s (Event.Unlink p) t
         → word_of t p ≡ bit_xor (word_of s p) (link_difference to) }
-    ensures make { (s t : State) (n : ℕ) (node : Node) (from : Option ℕ) → IsWellFormed s → Step s (Event.Make n node from) t
+    ensures make { (s t : State) (n : ℕ) (node : Node) (from : Option ℕ) → IsWellFormed s
+        → Step s (Event.Make n node from) t
         → slot_word_of t.config n ≡ bit_or (slot_word_of s.config n)
         (pack_slot (record { kind = node.kind; first_port = length s.config.gates; arg = node.arg; from = from })) }
 {}
@@ -131,5 +139,6 @@ pub fn words_judge_events()
     ensures ask { (s : State) (p v : ℕ) → IsWellFormed s → IsConsistent s → IsTrue (is_value v)
         → let w = unpack (word_of s p) in IsTrue (is_in_more w.phase) → denial s (Event.Ask p w.serial v) ≡ None }
     ensures end { (s : State) (p : ℕ) → IsWellFormed s → IsConsistent s
-        → let w = unpack (word_of s p) in IsTrue (is_answered w.phase) → denial s (Event.End p w.serial w.value) ≡ None }
+        → let w = unpack (word_of s p) in IsTrue (is_answered w.phase)
+        → denial s (Event.End p w.serial w.value) ≡ None }
 {}

@@ -27,7 +27,8 @@ all_reaching test s n = list_all (λ p. test s p || not (reaches s.config n p)) 
 
 abbrev pub all_direct : (State → ℕ → Bool) → State → ℕ → Bool
 all_direct test s n =
-    list_all (λ p. test s p || not (option_map_or (λ (t : Target). t.node == n) (target s.config p) false)) (range_with_len 0 (length s.config.gates))
+    list_all (λ p. test s p || not (option_map_or (λ (t : Target). t.node == n) (target s.config p) false))
+    (range_with_len 0 (length s.config.gates))
 
 abbrev pub services_none : State → ℕ → Bool
 services_none s n = is_none (service s n)

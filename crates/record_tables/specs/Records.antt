@@ -18,7 +18,8 @@ bare_slot m = record { node = bare_node m.node.kind; first_port = m.first_port; 
 abbrev pub bare : Configuration → Configuration
 bare c = record { slots = map bare_slot c.slots; gates = c.gates }
 
--- what a record says of a port: whether it was reopened, and whether a look found it drained since it was last closed or reopened
+-- what a record says of a port: whether it was reopened, and whether a look found it drained since it was last closed
+-- or reopened
 abbrev pub note_of : List Entry → ℕ → PortNote
 note_of r p = record { reopened = list_any (reopens p) (events_in r); found = is_found_drained r p }
 

@@ -104,7 +104,8 @@ impl Links {
     /// The ports of a node.
     pub fn ports_of(&self, node: u32) -> Range<u32>
         requires { IsSound (config_in self.now) }
-        ensures ports { range_with_len result.start (result.end - result.start) ≡ state.ports_of (config_in self.now) node }
+        ensures ports { range_with_len result.start (result.end - result.start) ≡ state.ports_of (config_in self.now)
+            node }
         ensures order { result.start ≤ result.end }
         ensures made { result.end ≤ length self.now.gates.items }
     {

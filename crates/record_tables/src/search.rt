@@ -19,7 +19,8 @@ use std::ops::Range;
 const PLACES: usize = MAX_PORTS as usize;
 
 fn are_noted(notes: &[PortNote], ports: &Range<u32>) -> bool
-    ensures { result ≡ list_all (noted_in notes.now) (range_with_len ports.now.start (ports.now.end - ports.now.start)) }
+    ensures { result ≡ list_all (noted_in notes.now)
+        (range_with_len ports.now.start (ports.now.end - ports.now.start)) }
 {
     (ports.start..ports.end).all(|port| note_at(notes, port).is_noted())
 }
@@ -37,7 +38,8 @@ impl Links {
     #[cycle(reaching)]
     fn reaches(&self, node: u32, port: u32, depth: u32, known: &mut [Option<bool>]) -> bool
         requires sound { IsSound (config_in self.now) }
-        requires deep { (t : Target) → state.target (config_in self.now) port ≡ Some t → reach.can_walk (config_in self.now) depth t.node ≡ false }
+        requires deep { (t : Target) → state.target (config_in self.now) port ≡ Some t
+            → reach.can_walk (config_in self.now) depth t.node ≡ false }
         requires made { port < length known.old }
         requires room { length (config_in self.now).gates ≤ length known.old }
         requires known { AreKnown (config_in self.now) node known.old }
@@ -95,7 +97,8 @@ impl Links {
         known: &mut [Option<bool>],
     ) -> bool
         requires sound { IsSound (config_in self.now) }
-        requires deep { (t : Target) → state.target (config_in self.now) port ≡ Some t → reach.can_walk (config_in self.now) depth t.node ≡ false }
+        requires deep { (t : Target) → state.target (config_in self.now) port ≡ Some t
+            → reach.can_walk (config_in self.now) depth t.node ≡ false }
         requires made { port < length known.old }
         requires room { length (config_in self.now).gates ≤ length known.old }
         requires known { AreKnown (config_in self.now) node known.old }
@@ -108,11 +111,13 @@ impl Links {
         !self.reaches(node, port, depth, known)
     }
 
-    /// Whether each port that reaches the node is noted: a search from each port that isn't. Each port is searched from once.
+    /// Whether each port that reaches the node is noted: a search from each port that isn't. Each port is searched
+    /// from once.
     #[tactic(auto, using(quiesce_core::proofs::ReachLaws::searched))]
     fn reaching_are_noted(&self, notes: &[PortNote], node: u32) -> bool
         requires { IsSound (config_in self.now) }
-        ensures { result ≡ list_all (λ p. noted_in notes.now p || not (reach.reaches (config_in self.now) node p)) (range_with_len 0 (length (config_in self.now).gates)) }
+        ensures { result ≡ list_all (λ p. noted_in notes.now p || not (reach.reaches (config_in self.now) node p))
+            (range_with_len 0 (length (config_in self.now).gates)) }
     {
         let mut known = [None; PLACES];
         let depth = self.walk_bound();

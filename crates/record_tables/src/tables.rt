@@ -21,8 +21,8 @@ use gate_word::Word;
 use std::alloc::Global;
 use std::marker::Model;
 
-/// The nodes and ports that a record makes, where its ports lead, and which it notes as drained. Contracts see a configuration
-/// and notes, and of which records they are (`IsTableOf`).
+/// The nodes and ports that a record makes, where its ports lead, and which it notes as drained. Contracts see a
+/// configuration and notes, and of which records they are (`IsTableOf`).
 #[derive(Debug, Drop)]
 pub struct RecordTables {
     links: Links,
@@ -89,7 +89,8 @@ impl RecordTables {
         note_at(self.notes.as_slice(), port).is_noted()
     }
 
-    /// Whether the node is live, and all its ports and all that reach it are noted. Time grows with the ports that were made.
+    /// Whether the node is live, and all its ports and all that reach it are noted. Time grows with the ports that
+    /// were made.
     pub fn settled(&self, node: u32) -> bool
         ensures { (r : List Entry) → IsTableOf self.now r → IsTrue result ↔ IsNoted (is_noted r) (config_of r) node }
     {
@@ -99,7 +100,8 @@ impl RecordTables {
     /// The record has that a node is made.
     pub fn make(&mut self, node: &Node, from: Option<u32>)
         requires { (r : List Entry) × (n : ℕ) × IsTableOf self.old r × May r (event.Make n node.now from) }
-        ensures { (r : List Entry) (n : ℕ) → IsTableOf self.old r → IsTableOf self.new (r ++ Did (event.Make n node.now from) ∷ []) }
+        ensures { (r : List Entry) (n : ℕ) → IsTableOf self.old r
+            → IsTableOf self.new (r ++ Did (event.Make n node.now from) ∷ []) }
     {
         self.links.add(node.kind);
     }
@@ -137,7 +139,8 @@ impl RecordTables {
     pub fn link(&mut self, port: u32, to: Target)
         requires { (r : List Entry) × IsTableOf self.old r × May r (event.Link port to.node to.provide) }
         ensures fits { FitsTarget to }
-        ensures tables { (r : List Entry) → IsTableOf self.old r → IsTableOf self.new (r ++ Did (event.Link port to.node to.provide) ∷ []) }
+        ensures tables { (r : List Entry) → IsTableOf self.old r
+            → IsTableOf self.new (r ++ Did (event.Link port to.node to.provide) ∷ []) }
     {
         self.links.set_target(port, Some(to));
     }
@@ -147,7 +150,8 @@ impl RecordTables {
         requires { (r : List Entry) × IsTableOf self.old r × May r (event.Unlink port) }
         ensures was { (r : List Entry) → IsTableOf self.old r → target (config_of r) port ≡ Some result }
         ensures fits { FitsTarget result }
-        ensures tables { (r : List Entry) → IsTableOf self.old r → IsTableOf self.new (r ++ Did (event.Unlink port) ∷ []) }
+        ensures tables { (r : List Entry) → IsTableOf self.old r
+            → IsTableOf self.new (r ++ Did (event.Unlink port) ∷ []) }
     {
         let was = self.links.gate(port).target;
         self.links.set_target(port, None);

@@ -14,8 +14,8 @@ ghost use Rattle.report_laws.specs.SoundStatements.{AreSound, IsSoundGraph};
 use drain_laws::rest_falls_by_steps;
 use plan_laws::{commits_can_not_fail, commits_leave_the_new_graph, each_plan_may_commit};
 
-/// From a sound graph, where the moves may be made, there is a plan, and it is found by tests. So each change of a sound
-/// script has one.
+/// From a sound graph, where the moves may be made, there is a plan, and it is found by tests. So each change of a
+/// sound script has one.
 pub fn sound_scripts_have_plans()
     ensures found { (old new : Graph) (moves : List Move) → IsSoundGraph old → MayMoveAll old new moves (length moves)
         → can_be_planned old new moves ≡ true }

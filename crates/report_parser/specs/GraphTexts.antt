@@ -1,4 +1,5 @@
--- The graph that lines show: nodes and links are read from them as they come, and the lines show this graph where they are its text and it is sound.
+-- The graph that lines show: nodes and links are read from them as they come, and the lines show this graph where
+-- they are its text and it is sound.
 use Rattle.std.specs.Prelude.{ℕ, ◌+◌, ◌-◌, zero, suc, ◌==◌, Bool, true, false, not, ◌&&◌, nat_lt, if◌then◌else◌, List, [], ◌∷◌, ◌++◌, bytes_eq, filter_map, flat_map, is_some, length, replicate, slice_index_or, take, Option, Some, None}
 use Rattle.std.specs.List.{list_all, range_with_len, suffix_len}
 use Rattle.std.specs.Option.{option_and_then}
@@ -91,11 +92,13 @@ is_sound_node node = is_one_piece node.path && fits_kind (is_some (row node.kind
 abbrev pub search : Graph → ℕ → ℕ → Visited → Visited
 search graph zero next seen = seen
 search graph (suc fuel) next seen =
-    if nat_lt next (length seen.reached) then search graph fuel (next + 1) (see_all (successors graph (slice_index_or seen.reached next 0)) seen) else seen
+    if nat_lt next (length seen.reached) then search graph fuel (next + 1)
+    (see_all (successors graph (slice_index_or seen.reached next 0)) seen) else seen
 
 abbrev pub leads_back : Graph → ℕ → Bool
 leads_back graph node =
-    slice_index_or (search graph (length graph.nodes) 0 (see_all (successors graph node) (seen_of (replicate (length graph.nodes) false) []))).bits node false
+    slice_index_or (search graph (length graph.nodes) 0
+    (see_all (successors graph node) (seen_of (replicate (length graph.nodes) false) []))).bits node false
 
 -- whether no way leads from a node back to it
 abbrev pub has_no_cycle : Graph → Bool
@@ -103,7 +106,8 @@ has_no_cycle graph = list_all (λ node. not (leads_back graph node)) (range_with
 
 -- whether these lines are the text of this graph, and it is sound
 abbrev pub shows : List (List ℕ) → Graph → Bool
-shows shown graph = paths_rise graph.nodes && list_all is_sound_node graph.nodes && bytes_eq (graph_text graph) (flat_map ended shown) && has_no_cycle graph
+shows shown graph = paths_rise graph.nodes && list_all is_sound_node graph.nodes
+    && bytes_eq (graph_text graph) (flat_map ended shown) && has_no_cycle graph
 
 -- the graph that lines show, where they show one
 abbrev pub graph_in : List (List ℕ) → Option Graph

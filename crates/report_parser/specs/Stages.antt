@@ -1,4 +1,5 @@
--- How a report is read from the lines of its text, in stages: each reads as many lines as fit, and the next names the line that doesn't.
+-- How a report is read from the lines of its text, in stages: each reads as many lines as fit, and the next names the
+-- line that doesn't.
 use Rattle.std.specs.Prelude.{◌≡◌, ℕ, ◌+◌, ◌==◌, Bool, true, false, ◌&&◌, if◌then◌else◌, List, [], ◌∷◌, ◌++◌, bytes_eq, codes, length, Option, Some, None, option_map, Result, Ok, Err}
 use Rattle.quiesce_core.specs.declared.event.Event.{Event}
 use Rattle.change_script.specs.Reports.{SlotPath, log_head, makes}
@@ -97,7 +98,8 @@ shown_in past more =
 -- a line of one form of its own
 abbrev pub said_in : Version → List HistoryLine → Behind → List ℕ → Option Past
 said_in version past behind line =
-    option_map (with_line past) (keeping (λ says. line_keeps version says && stands (length (makes past)) behind says) (line_in (words line)))
+    option_map (with_line past)
+    (keeping (λ says. line_keeps version says && stands (length (makes past)) behind says) (line_in (words line)))
 
 -- the history with its next line, where the line fits; `show` stands for the lines of its graph
 abbrev pub past_with : Version → List HistoryLine → Behind → List ℕ → List (List ℕ) → Option Past
@@ -109,7 +111,8 @@ past_with version past behind line more =
 abbrev pub history_from : Version → List HistoryLine → Behind → ℕ → List (List ℕ) → Front (List HistoryLine)
 history_from version past behind number [] = front past number []
 history_from version past behind number (line ∷ more) =
-    goes_on (past_with version past behind line more) (λ next. history_from version next.0 next.1 (number + 1) more) (front past number (line ∷ more))
+    goes_on (past_with version past behind line more) (λ next. history_from version next.0 next.1 (number + 1) more)
+    (front past number (line ∷ more))
 
 -- an event of a node
 abbrev pub event_of : Version → List ℕ → Option Event
@@ -200,7 +203,8 @@ after_history version rest past =
 abbrev pub after_version : List ℕ → Front Version → Result Found ReportFault
 after_version rest version = after_history version.read rest (history_from version.read [] behinds.Other version.number version.left)
 
--- The report of a text and its version; or the first line that can't stand in its place, or that the text ends too soon.
+-- The report of a text and its version; or the first line that can't stand in its place, or that the text ends too
+-- soon.
 abbrev pub reading : List ℕ → Result Found ReportFault
 reading text = finish (version_from 1 (lines text)) (after_version (tail text))
 

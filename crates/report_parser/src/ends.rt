@@ -14,7 +14,8 @@ use report_reader::{status_line, unfinished_line};
 /// The version that the first line says.
 pub fn version(rest: Rest<'_>) -> Result<(Version, Rest<'_>), ReportFault>
     requires { HasRoom rest }
-    ensures read { IfOk result (λ found. version_from rest.entry.number (lines rest.entry.text.now) ≡ Ok (leaving found.0 found.1)) }
+    ensures read { IfOk result
+        (λ found. version_from rest.entry.number (lines rest.entry.text.now) ≡ Ok (leaving found.0 found.1)) }
     ensures follows { IfOk result (λ found. Follows rest.entry found.1) }
     ensures fault { IfErr result (λ fault. version_from rest.entry.number (lines rest.entry.text.now) ≡ Err fault) }
 {
@@ -56,7 +57,8 @@ fn unfinished_in(version: Version, line: &[u8]) -> Option<u32>
 /// The exit status.
 pub fn status(rest: Rest<'_>) -> Result<(u8, Rest<'_>), ReportFault>
     requires { HasRoom rest }
-    ensures read { IfOk result (λ found. status_from rest.entry.number (lines rest.entry.text.now) ≡ Ok (leaving found.0 found.1)) }
+    ensures read { IfOk result
+        (λ found. status_from rest.entry.number (lines rest.entry.text.now) ≡ Ok (leaving found.0 found.1)) }
     ensures follows { IfOk result (λ found. Follows rest.entry found.1) }
     ensures fault { IfErr result (λ fault. status_from rest.entry.number (lines rest.entry.text.now) ≡ Err fault) }
 {

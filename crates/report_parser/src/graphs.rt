@@ -55,7 +55,8 @@ pub fn read_graph(alloc: Global, text: &[u8]) -> Result<Option<Graph>, NoMemory>
 fn is_shown(alloc: Global, graph: &Graph, text: &[u8]) -> Result<bool, NoMemory>
     requires whole { tail text.now ≡ [] }
     requires within { All (IsLinkWithin graph.now.nodes) graph.now.links }
-    ensures { IfOk result (λ is. is ≡ (bytes_eq (drawn_text graph.now) (flat_map ended (lines text.now)) && has_no_cycle graph.now)) }
+    ensures { IfOk result
+        (λ is. is ≡ (bytes_eq (drawn_text graph.now) (flat_map ended (lines text.now)) && has_no_cycle graph.now)) }
 {
     if is_text_of(alloc, graph, text)? {
         has_no_cycle(alloc, graph)
@@ -78,8 +79,8 @@ fn has_no_cycle(alloc: Global, graph: &Graph) -> Result<bool, NoMemory>
     Ok(first_on_cycle(alloc, graph)?.is_none())
 }
 
-/// The graph of these nodes, with the links that the text says. Links are read against the graph without links, which takes the nodes
-/// over, so that they are read once more for the graph itself.
+/// The graph of these nodes, with the links that the text says. Links are read against the graph without links, which
+/// takes the nodes over, so that they are read once more for the graph itself.
 fn draw(alloc: Global, nodes: Vec<Node>, text: &[u8]) -> Result<Graph, NoMemory>
     requires few { length text.now < 2 ^ 31 }
     requires nodes { nodes.items ≡ nodes_in (lines text.now) }

@@ -44,7 +44,8 @@ pub fn read_history<'a>(
 ) -> Result<Rest<'a>, NoMemory>
     requires room { HasRoom rest }
     requires empty { history.old.items ≡ [] }
-    ensures read { IfOk result (λ found. history_from version [] behinds.Other rest.entry.number (lines rest.entry.text.now)
+    ensures read { IfOk result
+        (λ found. history_from version [] behinds.Other rest.entry.number (lines rest.entry.text.now)
         ≡ leaving history.new.items found) }
     ensures follows { IfOk result (λ found. Follows rest.entry found) }
 {
@@ -67,8 +68,8 @@ pub fn read_history<'a>(
 /// How many bytes a line of a history has at least.
 const SHORTEST_LINE: usize = 4;
 
-/// How many lines may be of a history: those before the first that begins or ends all logs, or is too short, without those
-/// of graphs. So what is taken for them keeps in proportion to their length, whatever they say.
+/// How many lines may be of a history: those before the first that begins or ends all logs, or is too short, without
+/// those of graphs. So what is taken for them keeps in proportion to their length, whatever they say.
 fn count_lines(text: &[u8]) -> usize {
     let mut count = 0;
     let mut left = text;
@@ -101,8 +102,10 @@ fn push_line(
     requires room { HasRoom behind }
     requires few { place.made + 1 ≤ behind.number }
     ensures { IfOk result (λ found. MatchOption found
-        ((past_with version history.old.items place.behind line.now (lines behind.entry.text.now) ≡ None) × (history.new.items ≡ history.old.items))
-        (λ next. (past_with version history.old.items place.behind line.now (lines behind.entry.text.now) ≡ Some (history.new.items, next.behind))
+        ((past_with version history.old.items place.behind line.now (lines behind.entry.text.now) ≡ None)
+        × (history.new.items ≡ history.old.items))
+        (λ next. (past_with version history.old.items place.behind line.now (lines behind.entry.text.now)
+        ≡ Some (history.new.items, next.behind))
         × (next.made ≡ length (makes history.new.items)) × (next.made ≤ place.made + 1))) }
 {
     if place.behind == Behind::Show && is_graph_line(line) {

@@ -29,11 +29,13 @@ pub fn read_logs<'a>(
     rest: Rest<'a>,
 ) -> Result<Rest<'a>, ReportFault>
     requires { HasRoom rest }
-    ensures read { IfOk result (λ found. logs_from version (makes history.now) logs.old.items rest.entry.number (lines rest.entry.text.now)
+    ensures read { IfOk result
+        (λ found. logs_from version (makes history.now) logs.old.items rest.entry.number (lines rest.entry.text.now)
         ≡ Ok (leaving logs.new.items found)) }
     ensures follows { IfOk result (λ found. Follows rest.entry found) }
     ensures fault { IfErr result (λ fault. fault ≢ faults.NoMemory
-        → logs_from version (makes history.now) logs.old.items rest.entry.number (lines rest.entry.text.now) ≡ Err fault) }
+        → logs_from version (makes history.now) logs.old.items rest.entry.number (lines rest.entry.text.now)
+        ≡ Err fault) }
 {
     let mut left = rest;
     for line in history {
@@ -51,11 +53,13 @@ fn read_log_of<'a>(
     rest: Rest<'a>,
 ) -> Result<Rest<'a>, ReportFault>
     requires { HasRoom rest }
-    ensures read { IfOk result (λ found. logs_from version (makes (line.now ∷ [])) logs.old.items rest.entry.number (lines rest.entry.text.now)
+    ensures read { IfOk result (λ found. logs_from version (makes (line.now ∷ [])) logs.old.items rest.entry.number
+        (lines rest.entry.text.now)
         ≡ Ok (leaving logs.new.items found)) }
     ensures follows { IfOk result (λ found. Follows rest.entry found) }
     ensures fault { IfErr result (λ fault. fault ≢ faults.NoMemory
-        → logs_from version (makes (line.now ∷ [])) logs.old.items rest.entry.number (lines rest.entry.text.now) ≡ Err fault) }
+        → logs_from version (makes (line.now ∷ [])) logs.old.items rest.entry.number (lines rest.entry.text.now)
+        ≡ Err fault) }
 {
     let HistoryLine::Make { slot, node, .. } = line else {
         return Ok(rest);
@@ -74,11 +78,13 @@ fn read_log<'a>(
     rest: Rest<'a>,
 ) -> Result<(NodeLog, Rest<'a>), ReportFault>
     requires { HasRoom rest }
-    ensures read { IfOk result (λ found. log_from version (record { slot = slot; path = path.now }) rest.entry.number (lines rest.entry.text.now)
+    ensures read { IfOk result (λ found. log_from version (record { slot = slot; path = path.now }) rest.entry.number
+        (lines rest.entry.text.now)
         ≡ Ok (leaving found.0 found.1)) }
     ensures follows { IfOk result (λ found. Follows rest.entry found.1) }
     ensures fault { IfErr result (λ fault. fault ≢ faults.NoMemory
-        → log_from version (record { slot = slot; path = path.now }) rest.entry.number (lines rest.entry.text.now) ≡ Err fault) }
+        → log_from version (record { slot = slot; path = path.now }) rest.entry.number (lines rest.entry.text.now)
+        ≡ Err fault) }
 {
     let rest = read_head(alloc, version, slot, path, rest)?;
     let (events, rest) = read_events(alloc, version, rest)?;
@@ -96,11 +102,13 @@ fn read_head<'a>(
     rest: Rest<'a>,
 ) -> Result<Rest<'a>, ReportFault>
     requires { HasRoom rest }
-    ensures read { IfOk result (λ found. head_from version (record { slot = slot; path = path.now }) rest.entry.number (lines rest.entry.text.now)
+    ensures read { IfOk result (λ found. head_from version (record { slot = slot; path = path.now }) rest.entry.number
+        (lines rest.entry.text.now)
         ≡ Ok (leaving (record { slot = slot; path = path.now }) found)) }
     ensures follows { IfOk result (λ found. Follows rest.entry found) }
     ensures fault { IfErr result (λ fault. fault ≢ faults.NoMemory
-        → head_from version (record { slot = slot; path = path.now }) rest.entry.number (lines rest.entry.text.now) ≡ Err fault) }
+        → head_from version (record { slot = slot; path = path.now }) rest.entry.number (lines rest.entry.text.now)
+        ≡ Err fault) }
 {
     let Some((line, behind)) = next_line(rest) else {
         return Err(ReportFault::Short);
@@ -135,7 +143,8 @@ fn read_events<'a>(
     rest: Rest<'a>,
 ) -> Result<(Vec<Event>, Rest<'a>), NoMemory>
     requires { HasRoom rest }
-    ensures read { IfOk result (λ found. events_from version [] rest.entry.number (lines rest.entry.text.now) ≡ leaving found.0.items found.1) }
+    ensures read { IfOk result (λ found. events_from version [] rest.entry.number (lines rest.entry.text.now)
+        ≡ leaving found.0.items found.1) }
     ensures follows { IfOk result (λ found. Follows rest.entry found.1) }
 {
     let mut events = Vec::with_capacity(alloc, count_events(rest.text))?;
@@ -186,7 +195,8 @@ fn read_last<'a>(
     rest: Rest<'a>,
 ) -> Result<(Last, Rest<'a>), ReportFault>
     requires { HasRoom rest }
-    ensures read { IfOk result (λ found. last_from version rest.entry.number (lines rest.entry.text.now) ≡ Ok (leaving found.0 found.1)) }
+    ensures read { IfOk result
+        (λ found. last_from version rest.entry.number (lines rest.entry.text.now) ≡ Ok (leaving found.0 found.1)) }
     ensures follows { IfOk result (λ found. Follows rest.entry found.1) }
     ensures fault { IfErr result (λ fault. fault ≢ faults.NoMemory
         → last_from version rest.entry.number (lines rest.entry.text.now) ≡ Err fault) }

@@ -20,9 +20,9 @@ use std::alloc::Global;
 /// How many bytes the text of a report has at most.
 pub const MAX_REPORT: usize = 67_108_864;
 
-/// The report whose text this is, in either version; or the first line that can't stand in its place, or that the text
-/// ends too soon. Its time grows with the text's length, but for a graph that is shown and has a cycle: there it is that
-/// of the search for the first node on one.
+/// The report whose text this is, in either version; or the first line that can't stand in its place, or that the
+/// text ends too soon. Its time grows with the text's length, but for a graph that is shown and has a cycle: there it
+/// is that of the search for the first node on one.
 pub fn parse_report(alloc: Global, text: &[u8]) -> Result<Report, ReportFault>
     requires { length text.now ≤ MAX_REPORT }
     ensures report { IfOk result (λ report. (version : Version) × IsReportText version text.now report) }
@@ -77,7 +77,16 @@ fn fill(
     requires few { length text.now ≤ MAX_REPORT }
     requires no_history { history.old.items ≡ [] }
     requires no_logs { logs.old.items ≡ [] }
-    ensures read { IfOk result (λ ends. reading text.now ≡ Ok (record { version = ends.version; report = record { history = history.new.items; logs = logs.new.items; unfinished = ends.unfinished; status = ends.status } })) }
+    ensures read { IfOk result (λ ends. reading text.now ≡ Ok
+        (record {
+          version = ends.version;
+          report = record {
+            history = history.new.items;
+            logs = logs.new.items;
+            unfinished = ends.unfinished;
+            status = ends.status;
+          };
+        })) }
     ensures fault { IfErr result (λ fault. fault ≢ faults.NoMemory → reading text.now ≡ Err fault) }
 {
     let (version, rest) = version(Rest { number: 1, text })?;

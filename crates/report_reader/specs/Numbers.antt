@@ -30,7 +30,8 @@ below_zero (Some value) = if value == 0 then None else Some (neg_ℤ (pos value)
 
 -- the integer that a word writes, behind a `-` where it is below 0
 abbrev pub plain_integer : List ℕ → Option ℤ
-plain_integer word = if slice_index word 0 == 45 then below_zero (plain 2147483648 (drop 1 word)) else option_map pos (plain 2147483647 word)
+plain_integer word = if slice_index word 0 == 45 then below_zero (plain 2147483648 (drop 1 word))
+    else option_map pos (plain 2147483647 word)
 
 -- the one, two or three numbers that words are
 abbrev pub one_in : ℕ → List (List ℕ) → Option ℕ

@@ -60,7 +60,8 @@ bare_verbs = verbs.Bare bares.Commit ∷ verbs.Bare bares.Abandon ∷ verbs.Bare
 
 abbrev pub one_number_verbs : List HistoryVerb
 one_number_verbs =
-    verbs.OneNumber singles.Unlink ∷ verbs.OneNumber singles.Remove ∷ verbs.OneNumber singles.Close ∷ verbs.OneNumber singles.Reopen ∷ verbs.OneNumber singles.Pending ∷ []
+    verbs.OneNumber singles.Unlink ∷ verbs.OneNumber singles.Remove ∷ verbs.OneNumber singles.Close
+    ∷ verbs.OneNumber singles.Reopen ∷ verbs.OneNumber singles.Pending ∷ []
 
 abbrev pub two_numbers_verbs : List HistoryVerb
 two_numbers_verbs = verbs.TwoNumbers doubles.Drained ∷ verbs.TwoNumbers doubles.Root ∷ verbs.TwoNumbers doubles.Finish ∷ []

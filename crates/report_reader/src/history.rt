@@ -18,7 +18,8 @@ use std::alloc::Global;
 /// What a line of a history says, or `None` where it is none, or shows a graph.
 pub fn history_line(alloc: Global, line: &[u8]) -> Result<Option<HistoryLine>, NoMemory>
     ensures line { IfOk result (λ found. IfSome found (λ says. (ended line.now ≡ history_text says) × IsLine says)) }
-    ensures whenever_line { IfOk result (λ found. (says : HistoryLine) → IsLine says → ended line.now ≡ history_text says
+    ensures whenever_line { IfOk result (λ found. (says : HistoryLine) → IsLine says
+        → ended line.now ≡ history_text says
         → found ≡ Some says) }
 {
     read_line(alloc, line)

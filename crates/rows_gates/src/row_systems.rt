@@ -29,9 +29,11 @@ fn make_three(
     requires here { change.old.seat.table_id ≡ gates.now.words.shared.table_id }
     requires fresh { (change_of change.old.seat.me.0).entries ≡ [] }
     ensures here { change.new.seat.table_id ≡ change.old.seat.table_id }
-    ensures seats { IfOk result (λ r. (r.0.seat.seat.table_id ≡ change.old.seat.table_id) × (r.1.seat.seat.table_id ≡ change.old.seat.table_id)
+    ensures seats { IfOk result (λ r. (r.0.seat.seat.table_id ≡ change.old.seat.table_id)
+        × (r.1.seat.seat.table_id ≡ change.old.seat.table_id)
         × (r.2.seat.seat.table_id ≡ change.old.seat.table_id)) }
-    ensures made { IfOk result (λ _. (n : ℕ) × (m : ℕ) × (k : ℕ) × ((change_of change.new.seat.me.0).entries ≡ made_three n m k first.now second.now third.now)) }
+    ensures made { IfOk result (λ _. (n : ℕ) × (m : ℕ) × (k : ℕ)
+        × ((change_of change.new.seat.me.0).entries ≡ made_three n m k first.now second.now third.now)) }
 {
     if first.path == third.path || second.path == third.path {
         return Err(Unfit);
@@ -45,7 +47,8 @@ fn make_three(
 pub fn close(gates: &Gates, change: &mut ChangeSeat, port: u32) -> Result<(), Unfit>
     requires here { change.old.seat.table_id ≡ gates.now.words.shared.table_id }
     ensures here { change.new.seat.table_id ≡ change.old.seat.table_id }
-    ensures unfit { IfErr result (λ _. (is_live_port (config_of (change_of change.old.seat.me.0).entries) port ≡ false) × (change.new ≡ change.old)) }
+    ensures unfit { IfErr result (λ _. (is_live_port (config_of (change_of change.old.seat.me.0).entries)
+        port ≡ false) × (change.new ≡ change.old)) }
 {
     if !change.is_live_port(port) {
         return Err(Unfit);
@@ -58,7 +61,8 @@ pub fn close(gates: &Gates, change: &mut ChangeSeat, port: u32) -> Result<(), Un
 pub fn look(gates: &Gates, change: &mut ChangeSeat, port: u32) -> Result<Look, Unfit>
     requires here { change.old.seat.table_id ≡ gates.now.words.shared.table_id }
     ensures here { change.new.seat.table_id ≡ change.old.seat.table_id }
-    ensures unfit { IfErr result (λ _. (length (config_of (change_of change.old.seat.me.0).entries).gates ≤ port) × (change.new ≡ change.old)) }
+    ensures unfit { IfErr result (λ _. (length (config_of (change_of change.old.seat.me.0).entries).gates ≤ port)
+        × (change.new ≡ change.old)) }
 {
     if port >= change.made().ports {
         return Err(Unfit);
@@ -75,7 +79,8 @@ pub fn make_later(
     later: &Node,
 ) -> Result<Seated, Unfit>
     requires here { change.old.seat.table_id ≡ gates.now.words.shared.table_id }
-    requires opened { (n : ℕ) × (m : ℕ) × ((change_of change.old.seat.me.0).entries ≡ opened_two n m first.now second.now) }
+    requires opened { (n : ℕ) × (m : ℕ)
+        × ((change_of change.old.seat.me.0).entries ≡ opened_two n m first.now second.now) }
     ensures here { change.new.seat.table_id ≡ change.old.seat.table_id }
     ensures seat { IfOk result (λ r. r.seat.seat.table_id ≡ change.old.seat.table_id) }
 {
@@ -94,7 +99,8 @@ pub fn apart(
     requires here { change.old.seat.table_id ≡ gates.now.words.shared.table_id }
     requires fresh { (change_of change.old.seat.me.0).entries ≡ [] }
     ensures here { change.new.seat.table_id ≡ change.old.seat.table_id }
-    ensures seats { IfOk result (λ r. (r.0.seat.seat.table_id ≡ change.old.seat.table_id) × (r.1.seat.seat.table_id ≡ change.old.seat.table_id)) }
+    ensures seats { IfOk result (λ r. (r.0.seat.seat.table_id ≡ change.old.seat.table_id)
+        × (r.1.seat.seat.table_id ≡ change.old.seat.table_id)) }
 {
     let source = node(alloc, b"s", Kind::Source, Some(9))?;
     let sink = node(alloc, b"t", Kind::Sink, None)?;
@@ -102,8 +108,8 @@ pub fn apart(
     Ok(made)
 }
 
-/// A map in slot 0 with port 0, a source in slot 1 with port 1, and a sink in slot 2. The source leads to the map, and the map to the
-/// sink where `whole`; the ports that lead somewhere are open.
+/// A map in slot 0 with port 0, a source in slot 1 with port 1, and a sink in slot 2. The source leads to the map,
+/// and the map to the sink where `whole`; the ports that lead somewhere are open.
 pub fn line(
     alloc: Global,
     gates: &Gates,
@@ -113,7 +119,8 @@ pub fn line(
     requires here { change.old.seat.table_id ≡ gates.now.words.shared.table_id }
     requires fresh { (change_of change.old.seat.me.0).entries ≡ [] }
     ensures here { change.new.seat.table_id ≡ change.old.seat.table_id }
-    ensures seats { IfOk result (λ r. (r.0.seat.seat.table_id ≡ change.old.seat.table_id) × (r.1.seat.seat.table_id ≡ change.old.seat.table_id)
+    ensures seats { IfOk result (λ r. (r.0.seat.seat.table_id ≡ change.old.seat.table_id)
+        × (r.1.seat.seat.table_id ≡ change.old.seat.table_id)
         × (r.2.seat.seat.table_id ≡ change.old.seat.table_id)) }
 {
     let map = node(alloc, b"m", Kind::Map, Some(10))?;
@@ -139,7 +146,8 @@ fn link_three(
 )
     requires here { change.old.seat.table_id ≡ gates.now.words.shared.table_id }
     requires kinds { (first.now.kind ≡ kind.Map) × (second.now.kind ≡ kind.Source) × (third.now.kind ≡ kind.Sink) }
-    requires made { (n : ℕ) × (m : ℕ) × (k : ℕ) × ((change_of change.old.seat.me.0).entries ≡ made_three n m k first.now second.now third.now) }
+    requires made { (n : ℕ) × (m : ℕ) × (k : ℕ)
+        × ((change_of change.old.seat.me.0).entries ≡ made_three n m k first.now second.now third.now) }
     ensures here { change.new.seat.table_id ≡ change.old.seat.table_id }
 {
     let (_, _, _) = (first, second, third);
@@ -163,7 +171,8 @@ fn are_all_noted(change: &ChangeSeat) -> bool
     true
 }
 
-/// The seats of the only two nodes are collected, once all ports are drained, and all that was done and seen is merged into one run.
+/// The seats of the only two nodes are collected, once all ports are drained, and all that was done and seen is
+/// merged into one run.
 pub fn finish_two(
     gates: &Gates,
     change: &mut ChangeSeat,
@@ -171,10 +180,14 @@ pub fn finish_two(
     second: Seated,
 ) -> Result<(), Unfit>
     requires here { change.old.seat.table_id ≡ gates.now.words.shared.table_id }
-    requires seats { (first.seat.seat.table_id ≡ gates.now.words.shared.table_id) × (second.seat.seat.table_id ≡ gates.now.words.shared.table_id) }
-    ensures merged { IfOk result (λ _. MergeIntoRun (change_of change.new.seat.me.0).entries change.new.seat.me.0.nodes) }
-    ensures unfit { IfErr result (λ _. (length (config_of (change_of change.old.seat.me.0).entries).slots ≡ 2 → (node_of first.seat.seat.me.0).slot ≡ 0
-        → (node_of second.seat.seat.me.0).slot ≡ 1 → AreAllNoted (change_of change.old.seat.me.0).entries → ⊥) × (change.new ≡ change.old)) }
+    requires seats { (first.seat.seat.table_id ≡ gates.now.words.shared.table_id)
+        × (second.seat.seat.table_id ≡ gates.now.words.shared.table_id) }
+    ensures merged { IfOk result
+        (λ _. MergeIntoRun (change_of change.new.seat.me.0).entries change.new.seat.me.0.nodes) }
+    ensures unfit { IfErr result (λ _. (length (config_of (change_of change.old.seat.me.0).entries).slots ≡ 2
+        → (node_of first.seat.seat.me.0).slot ≡ 0
+        → (node_of second.seat.seat.me.0).slot ≡ 1 → AreAllNoted (change_of change.old.seat.me.0).entries
+        → ⊥) × (change.new ≡ change.old)) }
 {
     if change.made().nodes != 2 || first.seat.slot() != 0 || second.seat.slot() != 1 {
         return Err(Unfit);

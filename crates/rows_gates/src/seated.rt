@@ -42,7 +42,8 @@ impl Seated {
     pub fn begin(&mut self, gates: &Gates, port: u32, value: u32) -> Result<BeginAnswer, Unfit>
         requires here { self.old.seat.seat.table_id ≡ gates.now.words.shared.table_id }
         ensures here { self.new.seat.seat.table_id ≡ self.old.seat.seat.table_id }
-        ensures unfit { IfErr result (λ _. (MayBegin (node_at (node_of self.old.seat.seat.me.0)) self.old.seat.known port value → ⊥) × (self.new ≡ self.old)) }
+        ensures unfit { IfErr result (λ _. (MayBegin (node_at (node_of self.old.seat.seat.me.0)) self.old.seat.known
+            port value → ⊥) × (self.new ≡ self.old)) }
     {
         let known = self.port_known(port)?;
         if !known.idle || value >= VALUE_LIMIT {
@@ -54,7 +55,8 @@ impl Seated {
     /// What is known of a port of its own.
     fn port_known(&self, port: u32) -> Result<PortKnown, Unfit>
         ensures own { IfOk result (λ _. IsOwn (node_at (node_of self.now.seat.seat.me.0)) port) }
-        ensures known { IfOk result (λ k. k ≡ seats.port_known (node_at (node_of self.now.seat.seat.me.0)) self.now.seat.known port) }
+        ensures known { IfOk result
+            (λ k. k ≡ seats.port_known (node_at (node_of self.now.seat.seat.me.0)) self.now.seat.known port) }
         ensures unfit { IfErr result (λ _. IsOwn (node_at (node_of self.now.seat.seat.me.0)) port → ⊥) }
     {
         let first = self.seat.first_port();
@@ -73,7 +75,8 @@ impl Seated {
     pub fn call(&mut self, gates: &Gates, port: u32, value: u32) -> Result<CallAnswer, Unfit>
         requires here { self.old.seat.seat.table_id ≡ gates.now.words.shared.table_id }
         ensures here { self.new.seat.seat.table_id ≡ self.old.seat.seat.table_id }
-        ensures unfit { IfErr result (λ _. (MayCall (node_at (node_of self.old.seat.seat.me.0)) self.old.seat.known port value → ⊥) × (self.new ≡ self.old)) }
+        ensures unfit { IfErr result (λ _. (MayCall (node_at (node_of self.old.seat.seat.me.0)) self.old.seat.known
+            port value → ⊥) × (self.new ≡ self.old)) }
     {
         let known = self.port_known(port)?;
         if !known.idle || value >= VALUE_LIMIT {
@@ -107,7 +110,8 @@ impl Seated {
     pub fn give(&mut self, gates: &Gates, port: u32, value: u32) -> Result<(), Unfit>
         requires here { self.old.seat.seat.table_id ≡ gates.now.words.shared.table_id }
         ensures here { self.new.seat.seat.table_id ≡ self.old.seat.seat.table_id }
-        ensures unfit { IfErr result (λ _. (MayGive self.old.seat.known port value → MAX_PORTS ≤ port) × (self.new ≡ self.old)) }
+        ensures unfit { IfErr result (λ _. (MayGive self.old.seat.known port value → MAX_PORTS ≤ port)
+            × (self.new ≡ self.old)) }
     {
         if port >= MAX_PORTS || value >= VALUE_LIMIT {
             return Err(Unfit);
@@ -126,7 +130,8 @@ impl Seated {
     pub fn see(&mut self, gates: &Gates, port: u32) -> Result<SeeAnswer, Unfit>
         requires here { self.old.seat.seat.table_id ≡ gates.now.words.shared.table_id }
         ensures here { self.new.seat.seat.table_id ≡ self.old.seat.seat.table_id }
-        ensures unfit { IfErr result (λ _. (MaySee (node_at (node_of self.old.seat.seat.me.0)) self.old.seat.known port → ⊥) × (self.new ≡ self.old)) }
+        ensures unfit { IfErr result (λ _. (MaySee (node_at (node_of self.old.seat.seat.me.0)) self.old.seat.known
+            port → ⊥) × (self.new ≡ self.old)) }
     {
         let known = self.port_known(port)?;
         if known.idle {
@@ -139,7 +144,8 @@ impl Seated {
     pub fn end(&mut self, gates: &Gates, port: u32) -> Result<(), Unfit>
         requires here { self.old.seat.seat.table_id ≡ gates.now.words.shared.table_id }
         ensures here { self.new.seat.seat.table_id ≡ self.old.seat.seat.table_id }
-        ensures unfit { IfErr result (λ _. (MayEnd (node_at (node_of self.old.seat.seat.me.0)) self.old.seat.known port → ⊥) × (self.new ≡ self.old)) }
+        ensures unfit { IfErr result (λ _. (MayEnd (node_at (node_of self.old.seat.seat.me.0)) self.old.seat.known
+            port → ⊥) × (self.new ≡ self.old)) }
     {
         let known = self.port_known(port)?;
         if known.seen.is_none() || known.more {

@@ -37,8 +37,11 @@ pub(crate) fn make(gates: &Gates, change: &mut ChangeSeat, node: &Node) -> Resul
     requires new_path { is_path_taken (config_of (change_of change.old.seat.me.0).entries) node.now.path ≡ false }
     ensures here { change.new.seat.table_id ≡ change.old.seat.table_id }
     ensures seat { IfOk result (λ r. r.seat.seat.table_id ≡ change.old.seat.table_id) }
-    ensures made { IfOk result (λ _. (n : ℕ) × ((change_of change.new.seat.me.0).entries ≡ (change_of change.old.seat.me.0).entries ++ Did (event.Make n node.now None) ∷ [])) }
-    ensures unfit { IfErr result (λ _. (0 < change.old.spare → CanMake (config_of (change_of change.old.seat.me.0).entries) (length (config_of (change_of change.old.seat.me.0).entries).slots) node.now None → ⊥)
+    ensures made { IfOk result (λ _. (n : ℕ) × ((change_of change.new.seat.me.0).entries
+        ≡ (change_of change.old.seat.me.0).entries ++ Did (event.Make n node.now None) ∷ [])) }
+    ensures unfit { IfErr result
+        (λ _. (0 < change.old.spare → CanMake (config_of (change_of change.old.seat.me.0).entries)
+        (length (config_of (change_of change.old.seat.me.0).entries).slots) node.now None → ⊥)
         × (change.new ≡ change.old)) }
 {
     let made = change.made();
@@ -70,8 +73,10 @@ pub(crate) fn make_two(
     requires here { change.old.seat.table_id ≡ gates.now.words.shared.table_id }
     requires fresh { (change_of change.old.seat.me.0).entries ≡ [] }
     ensures here { change.new.seat.table_id ≡ change.old.seat.table_id }
-    ensures seats { IfOk result (λ r. (r.0.seat.seat.table_id ≡ change.old.seat.table_id) × (r.1.seat.seat.table_id ≡ change.old.seat.table_id)) }
-    ensures made { IfOk result (λ _. (n : ℕ) × (m : ℕ) × ((change_of change.new.seat.me.0).entries ≡ made_two n m first.now second.now)) }
+    ensures seats { IfOk result (λ r. (r.0.seat.seat.table_id ≡ change.old.seat.table_id)
+        × (r.1.seat.seat.table_id ≡ change.old.seat.table_id)) }
+    ensures made { IfOk result (λ _. (n : ℕ) × (m : ℕ)
+        × ((change_of change.new.seat.me.0).entries ≡ made_two n m first.now second.now)) }
 {
     if first.path == second.path {
         return Err(Unfit);
@@ -85,8 +90,10 @@ pub(crate) fn make_two(
 pub fn reopen(gates: &Gates, change: &mut ChangeSeat, port: u32) -> Result<(), Unfit>
     requires here { change.old.seat.table_id ≡ gates.now.words.shared.table_id }
     ensures here { change.new.seat.table_id ≡ change.old.seat.table_id }
-    ensures reopened { IfOk result (λ _. (change_of change.new.seat.me.0).entries ≡ (change_of change.old.seat.me.0).entries ++ Did (event.Reopen port) ∷ []) }
-    ensures unfit { IfErr result (λ _. (is_live_port (config_of (change_of change.old.seat.me.0).entries) port ≡ false) × (change.new ≡ change.old)) }
+    ensures reopened { IfOk result (λ _. (change_of change.new.seat.me.0).entries
+        ≡ (change_of change.old.seat.me.0).entries ++ Did (event.Reopen port) ∷ []) }
+    ensures unfit { IfErr result (λ _. (is_live_port (config_of (change_of change.old.seat.me.0).entries)
+        port ≡ false) × (change.new ≡ change.old)) }
 {
     if !change.is_live_port(port) {
         return Err(Unfit);
@@ -101,7 +108,8 @@ fn link_two(gates: &Gates, change: &mut ChangeSeat, first: &Node, second: &Node)
     requires kinds { (first.now.kind ≡ kind.Source) × (second.now.kind ≡ kind.Sink) }
     requires made { (n : ℕ) × (m : ℕ) × ((change_of change.old.seat.me.0).entries ≡ made_two n m first.now second.now) }
     ensures here { change.new.seat.table_id ≡ change.old.seat.table_id }
-    ensures linked { (n : ℕ) × (m : ℕ) × ((change_of change.new.seat.me.0).entries ≡ made_two n m first.now second.now ++ Did (event.Link 0 1 0) ∷ []) }
+    ensures linked { (n : ℕ) × (m : ℕ) × ((change_of change.new.seat.me.0).entries ≡ made_two n m first.now
+        second.now ++ Did (event.Link 0 1 0) ∷ []) }
 {
     let (_, _) = (first, second);
     gates.link(change, 0, 1, 0);
@@ -118,8 +126,10 @@ pub(crate) fn open_two(
     requires kinds { (first.now.kind ≡ kind.Source) × (second.now.kind ≡ kind.Sink) }
     requires fresh { (change_of change.old.seat.me.0).entries ≡ [] }
     ensures here { change.new.seat.table_id ≡ change.old.seat.table_id }
-    ensures seats { IfOk result (λ r. (r.0.seat.seat.table_id ≡ change.old.seat.table_id) × (r.1.seat.seat.table_id ≡ change.old.seat.table_id)) }
-    ensures opened { IfOk result (λ _. (n : ℕ) × (m : ℕ) × ((change_of change.new.seat.me.0).entries ≡ opened_two n m first.now second.now)) }
+    ensures seats { IfOk result (λ r. (r.0.seat.seat.table_id ≡ change.old.seat.table_id)
+        × (r.1.seat.seat.table_id ≡ change.old.seat.table_id)) }
+    ensures opened { IfOk result (λ _. (n : ℕ) × (m : ℕ)
+        × ((change_of change.new.seat.me.0).entries ≡ opened_two n m first.now second.now)) }
 {
     let made = make_two(gates, change, first, second)?;
     link_two(gates, change, first, second);
@@ -136,7 +146,8 @@ pub fn pipe(
     requires here { change.old.seat.table_id ≡ gates.now.words.shared.table_id }
     requires fresh { (change_of change.old.seat.me.0).entries ≡ [] }
     ensures here { change.new.seat.table_id ≡ change.old.seat.table_id }
-    ensures seats { IfOk result (λ r. (r.0.seat.seat.table_id ≡ change.old.seat.table_id) × (r.1.seat.seat.table_id ≡ change.old.seat.table_id)) }
+    ensures seats { IfOk result (λ r. (r.0.seat.seat.table_id ≡ change.old.seat.table_id)
+        × (r.1.seat.seat.table_id ≡ change.old.seat.table_id)) }
 {
     let source = node(alloc, b"s", Kind::Source, Some(9))?;
     let sink = node(alloc, b"t", Kind::Sink, None)?;

@@ -17,8 +17,8 @@ use txn_gate::{ChangeSeat, Gates};
 
 const TIMES: u32 = 100_000;
 
-/// Closes the port, looks at it and opens it again until the source has done all. Returns how often that was. It yields, so that all
-/// go on where there is one processor.
+/// Closes the port, looks at it and opens it again until the source has done all. Returns how often that was. It
+/// yields, so that all go on where there is one processor.
 fn turn<R: Wait>(
     rt: &R,
     gates: &Gates,
@@ -91,8 +91,10 @@ fn all_at_once<R: Threads + Wait + Sync>(
             (Seated, Result<Tally, Unfit>),
             (ChangeSeat, Result<u32, Unfit>),
         )
-            requires { (sink.seat.seat.table_id ≡ gates.now.words.shared.table_id) × (change.seat.table_id ≡ gates.now.words.shared.table_id) }
-            ensures { (result.0.0.seat.seat.table_id ≡ gates.entry.now.words.shared.table_id) × (result.1.0.seat.table_id ≡ gates.entry.now.words.shared.table_id) }
+            requires { (sink.seat.seat.table_id ≡ gates.now.words.shared.table_id)
+                × (change.seat.table_id ≡ gates.now.words.shared.table_id) }
+            ensures { (result.0.0.seat.seat.table_id ≡ gates.entry.now.words.shared.table_id)
+                × (result.1.0.seat.table_id ≡ gates.entry.now.words.shared.table_id) }
         {
             thread::join(
                 rt,
@@ -116,7 +118,8 @@ fn all_at_once<R: Threads + Wait + Sync>(
     (first, second, third)
 }
 
-/// Each of the values 0 to 99,999 was taken up once, and each answered by the next number; all of it and what the change saw is one run.
+/// Each of the values 0 to 99,999 was taken up once, and each answered by the next number; all of it and what the
+/// change saw is one run.
 #[test]
 fn three_threads(rt: HostRuntime) -> Result<(), Fail> {
     let (gates, mut change) = Gates::new(rt.alloc())?;

@@ -9,8 +9,8 @@ use config_graph::{
 use std::alloc::Global;
 use std::test::Fail;
 
-/// A kind's number, name, provided and required services, whether it has an argument, and the calls and intermediate replies of one
-/// service.
+/// A kind's number, name, provided and required services, whether it has an argument, and the calls and intermediate
+/// replies of one service.
 type Columns = (u32, &'static str, u32, u32, bool, u32, u32);
 
 static KINDS: [Columns; 12] = [

@@ -1,4 +1,5 @@
-//! Rows of the change machine's state: words, what is left to happen, nodes made in reserve, and the graph of what is live.
+//! Rows of the change machine's state: words, what is left to happen, nodes made in reserve, and the graph of what is
+//! live.
 
 ghost use Rattle.std.specs.Prelude.{◌≡◌, None};
 ghost use Rattle.quiesce_core.specs.declared.event.Event.TheVariants as event;

@@ -1,4 +1,5 @@
-//! Rows of `apply`: of each event and each of its rules that a run can come to, events of which the rule denies the last.
+//! Rows of `apply`: of each event and each of its rules that a run can come to, events of which the rule denies the
+//! last.
 
 use crate::systems::{BANK, LINE, TWO, WITHOUT_SINK, events_of};
 use quiesce_core::{Core, CoreError, Event};
@@ -15,8 +16,8 @@ link 0 1 0
 /// Events, and the rule that denies the last of them.
 type Denied = (&'static str, u32);
 
-// Only a call or a miss by rule 29 and an intermediate reply by rule 16 have no row: no kind makes both calls and intermediate
-// replies, so no run ends there.
+// Only a call or a miss by rule 29 and an intermediate reply by rule 16 have no row: no kind makes both calls and
+// intermediate replies, so no run ends there.
 static REQUESTS: [Denied; 16] = [
     ("begin 2 1 1", 1),
     ("close 1\nbegin 1 1 1", 2),

@@ -38,7 +38,8 @@ fn happens(rt: &impl Abort, core: &mut Core, event: &Event)
 /// An event happens that no node does: seats of nodes that are live go on fitting.
 fn changes(rt: &impl Abort, core: &mut Core, event: &Event)
     requires by_no_node { (n : ℕ) → is_doer core.old.state n event.now ≡ false }
-    ensures others { (n : ℕ) (w : Knows) → FitsCore core.old.state n w → is_live core.new.state.config n ≡ true → FitsCore core.new.state n w }
+    ensures others { (n : ℕ) (w : Knows) → FitsCore core.old.state n w → is_live core.new.state.config n ≡ true
+        → FitsCore core.new.state n w }
 {
     seats_of_live_nodes_fit();
     happens(rt, core, event);
@@ -47,7 +48,8 @@ fn changes(rt: &impl Abort, core: &mut Core, event: &Event)
 /// A node is made in this slot, and its seat fits; so do those of nodes that are live.
 fn make_node(rt: &impl Abort, core: &mut Core, slot: u32, node: Node)
     ensures fits { FitsCore core.new.state slot nothing_known }
-    ensures others { (n : ℕ) (w : Knows) → FitsCore core.old.state n w → is_live core.new.state.config n ≡ true → FitsCore core.new.state n w }
+    ensures others { (n : ℕ) (w : Knows) → FitsCore core.old.state n w → is_live core.new.state.config n ≡ true
+        → FitsCore core.new.state n w }
 {
     seats_of_live_nodes_fit();
     let event = Event::Make {
@@ -65,7 +67,8 @@ fn lives(rt: &impl Abort, core: &Core, slot: u32)
     assert_eq!(rt; core.is_live(slot), true);
 }
 
-/// An event of the change happens, after which the two nodes are live: their seats, at which they did nothing, still fit.
+/// An event of the change happens, after which the two nodes are live: their seats, at which they did nothing, still
+/// fit.
 fn changes_both(rt: &impl Abort, core: &mut Core, event: &Event)
     requires by_no_node { (n : ℕ) → is_doer core.old.state n event.now ≡ false }
     requires left { FitsCore core.old.state 0 nothing_known }
@@ -135,7 +138,8 @@ fn hosted(
 ) -> Host
     requires fits { FitsCore gate.now.core.state slot nothing_known }
     ensures fits { FitsCore gate.now.core.state result.seat.slot result.seat.known }
-    ensures node { node_at gate.now.core.state.config result.seat.slot ≡ node_of result.slot result.first_port (⟦<AnyNode as Component>⟧.state result.inner) }
+    ensures node { node_at gate.now.core.state.config result.seat.slot ≡ node_of result.slot result.first_port
+        (⟦<AnyNode as Component>⟧.state result.inner) }
     ensures slot { (result.slot ≡ slot) × (result.seat.slot ≡ slot) }
 {
     assert_eq!(rt; arg.is_some(), kind.has_arg());
@@ -165,14 +169,18 @@ fn round(
     b: &mut Host,
 ) -> Result<bool, NoMemory>
     requires fits_a { FitsCore gate.old.core.state a.old.seat.slot a.old.seat.known }
-    requires node_a { node_at gate.old.core.state.config a.old.seat.slot ≡ node_of a.old.slot a.old.first_port (⟦<AnyNode as Component>⟧.state a.old.inner) }
+    requires node_a { node_at gate.old.core.state.config a.old.seat.slot ≡ node_of a.old.slot a.old.first_port
+        (⟦<AnyNode as Component>⟧.state a.old.inner) }
     requires fits_b { FitsCore gate.old.core.state b.old.seat.slot b.old.seat.known }
-    requires node_b { node_at gate.old.core.state.config b.old.seat.slot ≡ node_of b.old.slot b.old.first_port (⟦<AnyNode as Component>⟧.state b.old.inner) }
+    requires node_b { node_at gate.old.core.state.config b.old.seat.slot ≡ node_of b.old.slot b.old.first_port
+        (⟦<AnyNode as Component>⟧.state b.old.inner) }
     requires apart { a.old.slot ≢ b.old.slot }
     ensures fits_a { OnOk result (FitsCore gate.new.core.state a.new.seat.slot a.new.seat.known) }
-    ensures node_a { OnOk result (node_at gate.new.core.state.config a.new.seat.slot ≡ node_of a.new.slot a.new.first_port (⟦<AnyNode as Component>⟧.state a.new.inner)) }
+    ensures node_a { OnOk result (node_at gate.new.core.state.config a.new.seat.slot ≡ node_of a.new.slot
+        a.new.first_port (⟦<AnyNode as Component>⟧.state a.new.inner)) }
     ensures fits_b { OnOk result (FitsCore gate.new.core.state b.new.seat.slot b.new.seat.known) }
-    ensures node_b { OnOk result (node_at gate.new.core.state.config b.new.seat.slot ≡ node_of b.new.slot b.new.first_port (⟦<AnyNode as Component>⟧.state b.new.inner)) }
+    ensures node_b { OnOk result (node_at gate.new.core.state.config b.new.seat.slot ≡ node_of b.new.slot
+        b.new.first_port (⟦<AnyNode as Component>⟧.state b.new.inner)) }
     ensures slots { OnOk result ((a.new.slot ≡ a.old.slot) × (b.new.slot ≡ b.old.slot)) }
 {
     let first = a.turn(gate, hints, true)?;
@@ -189,9 +197,11 @@ fn rounds(
     most: u32,
 ) -> Result<u32, NoMemory>
     requires fits_a { FitsCore gate.old.core.state a.old.seat.slot a.old.seat.known }
-    requires node_a { node_at gate.old.core.state.config a.old.seat.slot ≡ node_of a.old.slot a.old.first_port (⟦<AnyNode as Component>⟧.state a.old.inner) }
+    requires node_a { node_at gate.old.core.state.config a.old.seat.slot ≡ node_of a.old.slot a.old.first_port
+        (⟦<AnyNode as Component>⟧.state a.old.inner) }
     requires fits_b { FitsCore gate.old.core.state b.old.seat.slot b.old.seat.known }
-    requires node_b { node_at gate.old.core.state.config b.old.seat.slot ≡ node_of b.old.slot b.old.first_port (⟦<AnyNode as Component>⟧.state b.old.inner) }
+    requires node_b { node_at gate.old.core.state.config b.old.seat.slot ≡ node_of b.old.slot b.old.first_port
+        (⟦<AnyNode as Component>⟧.state b.old.inner) }
     requires apart { a.old.slot ≢ b.old.slot }
     ensures few { IfOk result (λ n. n ≤ most) }
 {

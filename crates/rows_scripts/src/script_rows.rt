@@ -1,4 +1,5 @@
-//! Rows of `parse_script`: each form at its first and last lawful values, each fault at its first unlawful one, and orders.
+//! Rows of `parse_script`: each form at its first and last lawful values, each fault at its first unlawful one, and
+//! orders.
 
 ghost use Rattle.std.specs.Prelude.{◌≤◌, length};
 

@@ -1,4 +1,5 @@
-//! Worked rows of `step` and `big`: scripts that are run over files in memory, with the texts and statuses that must come.
+//! Worked rows of `step` and `big`: scripts that are run over files in memory, with the texts and statuses that must
+//! come.
 #![tactic(auto)]
 
 #[cfg(test)]

@@ -31,13 +31,16 @@ use ending_laws::a_sound_script_has_a_report;
 use report_laws::reports_of_rounds_are_lawful;
 use waiting_laws::changes_drain_within_what_is_left;
 
-/// A law: the statements of a script are sound, since its graphs are those of descriptions. So they have a report, by which
-/// a run of them may end.
+/// A law: the statements of a script are sound, since its graphs are those of descriptions. So they have a report, by
+/// which a run of them may end.
 pub fn a_script_has_a_report()
-    ensures sound { (files : Option Files) (bytes : List ℕ) (script : Script) (statements : List Statement) → IsScript bytes script
+    ensures sound { (files : Option Files) (bytes : List ℕ) (script : Script) (statements : List Statement)
+        → IsScript bytes script
         → StatementsOf (Elaborates (HoldsFile files)) script statements → AreSound statements }
-    ensures exists { (files : Option Files) (bytes : List ℕ) (script : Script) (statements : List Statement) → IsScript bytes script
-        → StatementsOf (Elaborates (HoldsFile files)) script statements → (report : Report) × IsReportOf statements report }
+    ensures exists { (files : Option Files) (bytes : List ℕ) (script : Script) (statements : List Statement)
+        → IsScript bytes script
+        → StatementsOf (Elaborates (HoldsFile files)) script statements
+        → (report : Report) × IsReportOf statements report }
 {
     a_graph_or_a_fault();
     one_graph();
@@ -45,8 +48,8 @@ pub fn a_script_has_a_report()
     reports_of_rounds_are_lawful();
 }
 
-/// A law: in a run of a script, a change that may wait for at least as many rounds as events are left when its ports are
-/// closed finds them all drained, and is committed. So one that is given up could wait for fewer.
+/// A law: in a run of a script, a change that may wait for at least as many rounds as events are left when its ports
+/// are closed finds them all drained, and is committed. So one that is given up could wait for fewer.
 pub fn changes_of_a_run_drain_in_time()
     ensures fetched { (files : Option Files) (name : List ℕ) (own : Status) (taken t : Option (List ℕ))
         → (ran : Ran files name own taken t) → Each DrainsInTime ran.is_report.serial.parts }
@@ -57,8 +60,8 @@ pub fn changes_of_a_run_drain_in_time()
     changes_drain_within_what_is_left();
 }
 
-/// A law: a run of a script is a function of the files, and that of a made script one of the number of its lanes. Two runs
-/// that end by a report write the same text, and end with the same status.
+/// A law: a run of a script is a function of the files, and that of a made script one of the number of its lanes. Two
+/// runs that end by a report write the same text, and end with the same status.
 pub fn a_script_has_one_run()
     ensures fetched { (files : Files) (name : List ℕ) (own other : Status) (taken t also : Option (List ℕ))
         → Ran (Some files) name own taken t → Ran (Some files) name other taken also → (own ≡ other) × (t ≡ also) }
@@ -66,11 +69,12 @@ pub fn a_script_has_one_run()
         → SummedUp lanes own taken t → SummedUp lanes other taken also → (own ≡ other) × (t ≡ also) }
 {}
 
-/// A law: the lines of a script lead to one end at most, and none of them is refused then. That they neither lead on nor
-/// stop can't be, where the shelf has each file that they use.
+/// A law: the lines of a script lead to one end at most, and none of them is refused then. That they neither lead on
+/// nor stop can't be, where the shelf has each file that they use.
 pub fn lines_lead_or_are_refused()
     ensures one_end { (files : Files) (lines : List RunLine) (end other : Progress)
-        → LeadTo (HoldsFile (Some files)) begun lines end → LeadTo (HoldsFile (Some files)) begun lines other → end ≡ other }
+        → LeadTo (HoldsFile (Some files)) begun lines end → LeadTo (HoldsFile (Some files)) begun lines other
+        → end ≡ other }
     ensures never_both { (files : Files) (lines : List RunLine) (end : Progress) (used : List ℕ) (words : List (List ℕ))
         → LeadTo (HoldsFile (Some files)) begun lines end
         → ¬ AreRefused (HoldsFile (Some files)) (TellsTooLong (Some files)) lines begun used words }
@@ -78,17 +82,19 @@ pub fn lines_lead_or_are_refused()
         → ((file : List ℕ) → Uses (lines_of_script script.lines) file → (text : List ℕ) × (files file ≡ Some text))
         → ¬ (((end : Progress) → ¬ LeadTo (HoldsFile (Some files)) begun (lines_of_script script.lines) end)
         × ((used : List ℕ) (words : List (List ℕ))
-        → ¬ AreRefused (HoldsFile (Some files)) (TellsTooLong (Some files)) (lines_of_script script.lines) begun used words)) }
+        → ¬ AreRefused (HoldsFile (Some files)) (TellsTooLong (Some files)) (lines_of_script script.lines)
+        begun used words)) }
 {
     a_fault_or_none();
     a_graph_or_a_fault();
 }
 
 /// A law: what is asked of a file so that it must be refused as a script, that a line of it must be refused, or that
-/// nothing is refused: no two of these hold of the same bytes, and that none holds can't be. So for each text one of three
-/// answers is due, where memory lasts.
+/// nothing is refused: no two of these hold of the same bytes, and that none holds can't be. So for each text one of
+/// three answers is due, where memory lasts.
 pub fn each_script_is_refused_or_run()
-    ensures whole_or_line { (files : Files) (bytes : List ℕ) → MustRefuseStatements (Some bytes) → ¬ MustRefuseLine files (Some bytes) }
+    ensures whole_or_line { (files : Files) (bytes : List ℕ) → MustRefuseStatements (Some bytes)
+        → ¬ MustRefuseLine files (Some bytes) }
     ensures whole_or_nothing { (files : Files) (bytes : List ℕ) → MustRefuseStatements (Some bytes)
         → ¬ NothingRefusesLines files (Some bytes) }
     ensures line_or_nothing { (files : Files) (bytes : List ℕ) → MustRefuseLine files (Some bytes)
@@ -105,7 +111,8 @@ pub fn made_scripts_are_scripts()
 /// A law of runs: what is made is never refused as a script.
 pub fn made_scripts_are_not_refused()
     ensures { (words : List (List ℕ)) (files : Option Files) (failures failures' : List (List ℕ))
-        (taken taken' : Option (List ℕ)) (faults faults' : ℕ) (result : Status) → Runs words files failures failures' taken taken' faults faults' result
+        (taken taken' : Option (List ℕ)) (faults faults' : ℕ) (result : Status)
+        → Runs words files failures failures' taken taken' faults faults' result
         → (lanes : ℕ) → Asks words (commands.Big lanes) → result ≢ Status.Script }
 {
     scripts_are_refused_for_their_first_fault();

@@ -1,4 +1,5 @@
--- Which lines may stand where: a start and a change need a description, and a start stands once, above the statements of the run.
+-- Which lines may stand where: a start and a change need a description, and a start stands once, above the statements
+-- of the run.
 use Rattle.std.specs.Prelude.{◌≡◌, ⊤, Bool, true, false, ◌||◌, List, [], ◌∷◌}
 use Rattle.std.specs.Str.{IsUtf8}
 use Rattle.change_script.specs.ScriptFiles.{is_file, is_start}

@@ -33,7 +33,8 @@ pub fn take_lines<H: Shelf>(
 ) -> Result<Option<Answer>, NoMemory>
     requires { MayAllStand (is_some way.old.used) (is_some way.old.start) lines.items }
     ensures took { (p : Progress) → IsAt way.old p
-        → Took (H.files shelf.old) p (lines_of_script lines.items) (H.failed shelf.old) (H.failed shelf.new) way.new result }
+        → Took (H.files shelf.old) p (lines_of_script lines.items) (H.failed shelf.old) (H.failed shelf.new)
+        way.new result }
     ensures begun { IfOk result (λ found. found ≡ None → IsSome way.new.start) }
     ensures refuses { IfOk result (λ found. IfSome found IsOfNoRun) }
     ensures kept { H.files shelf.new ≡ H.files shelf.old }
@@ -154,7 +155,8 @@ fn do_step(way: &mut Way, step: Step) -> Result<Option<Answer>, NoMemory>
     requires begun { IsSome way.old.start }
     requires not_change { IsNoChange step }
     ensures lead { (p : Progress) → IsAt way.old p → LeadOn p (does (statement_of step) ∷ []) [] way.new result }
-    ensures marks { (body : Statement) → is_file body ≡ false → is_start body ≡ false → MarksOnward way.old way.new body result }
+    ensures marks { (body : Statement) → is_file body ≡ false → is_start body ≡ false
+        → MarksOnward way.old way.new body result }
     ensures refuses { IfOk result (λ found. IfSome found IsOfNoRun) }
 {
     way.add_step(step)?;
@@ -166,7 +168,8 @@ fn refuse(alloc: Global, way: &Way, fault: &DescriptionFault) -> Result<Option<A
     ensures found { IfOk result IsSome }
     ensures refuses { IfOk result (λ found. IfSome found IsOfNoRun) }
     ensures lead { (p : Progress) (deed : Deed) (name : Items ℕ) (args : Items ℤ) → IsAt way.now p
-        → MayRefuse (IsCallRefusal p deed name args) fault.now → LeadOn p (calls deed name args ∷ []) [] way.now result }
+        → MayRefuse (IsCallRefusal p deed name args) fault.now
+        → LeadOn p (calls deed name args ∷ []) [] way.now result }
 {
     Ok(Some(refuse_description(alloc, way.file.as_str(), fault)?))
 }

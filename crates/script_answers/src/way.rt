@@ -65,7 +65,8 @@ impl Way {
     pub fn add_change(&mut self, change: Replacement) -> Result<(), NoMemory>
         requires { HasRoom self.old.made (length change.plan.create)
             (sum_by (requires_at change.graph.nodes) change.plan.create) }
-        ensures added { OnOk result (HasAdded self.old (to_do.Change change) (made_with_change self.old.made change) self.new) }
+        ensures added { OnOk result
+            (HasAdded self.old (to_do.Change change) (made_with_change self.old.made change) self.new) }
         ensures graph { IsGraph change.graph }
     {
         self.made = with_created(self.made, &change.graph, change.plan.create.items());

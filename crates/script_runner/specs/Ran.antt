@@ -1,4 +1,5 @@
--- What a run of a script leaves: its report, and the board, whose record and the report's history are told by one transcript.
+-- What a run of a script leaves: its report, and the board, whose record and the report's history are told by one
+-- transcript.
 use Rattle.std.specs.Prelude.{◌≡◌, Bool, List, map, length, All}
 use Rattle.std.specs.List.{range_with_len}
 use Rattle.quiesce_core.specs.declared.event.Event.{Event}

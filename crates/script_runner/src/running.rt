@@ -42,7 +42,8 @@ fn go_through<B: Board + Drop>(
 ) -> Result<bool, NoMemory>
     requires prepared { (t : List Item) × (moves : List Move)
         × IsPrepared B.stands_for B.room engine.old t moves plan graph }
-    ensures { IfOk result (λ given_up. WentThrough B.stands_for B.room engine.old engine.new plan graph within given_up) }
+    ensures { IfOk result
+        (λ given_up. WentThrough B.stands_for B.room engine.old engine.new plan graph within given_up) }
 {
     match engine.passivate(&plan, within) {
         Ok(()) => {
@@ -117,7 +118,8 @@ pub fn run_statements<B: Board + Drop>(
     requires start { CanStart start }
     requires steps { CanDoAll (after_start start) steps.items }
     requires board { B.stands_for board [] }
-    ensures ok { IfOk result (λ x. HasCarriedOut B.stands_for B.alone B.taken (statements_of start steps.items) x.0 x.1) }
+    ensures ok { IfOk result
+        (λ x. HasCarriedOut B.stands_for B.alone B.taken (statements_of start steps.items) x.0 x.1) }
     ensures follows { IfOk result (λ x. Follows (statements_of start steps.items) x.0.history) }
     ensures logs { IfOk result (λ x. LogsAreMade x.0) }
 {

@@ -1,5 +1,5 @@
--- What is asked of a run, and when it may be asked: each change has a plan from the graph that was named before it, and there is room
--- for all that it makes.
+-- What is asked of a run, and when it may be asked: each change has a plan from the graph that was named before it,
+-- and there is room for all that it makes.
 use Rattle.std.specs.Prelude.{⊤, List, [], ◌∷◌, length, map, sum_by}
 use Rattle.config_graph.specs.Graph.{Graph, IsGraph, ports, requires_at}
 use Rattle.config_graph.specs.Sound.{Sound}
@@ -25,7 +25,8 @@ statement_of steps.Show = statements.show
 abbrev pub statements_of : Start → List Step → List Statement
 statements_of s steps = statements.start s.name s.args s.graph ∷ map statement_of steps
 
--- what stands above a step: the graph that was named last, and how many nodes and ports were made if each change was committed
+-- what stands above a step: the graph that was named last, and how many nodes and ports were made if each change was
+-- committed
 pub record Above : Type 0 where
   pub graph : Graph
   pub made : Made

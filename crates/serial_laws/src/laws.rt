@@ -42,8 +42,8 @@ pub fn runs_are_played()
         → IsPlayedBehind before (run k) t }
 {}
 
-/// And those of a finish: it makes as many rounds, since a scan that moves nothing where all is at rest leaves all as it
-/// is.
+/// And those of a finish: it makes as many rounds, since a scan that moves nothing where all is at rest leaves all as
+/// it is.
 pub fn finishes_are_played()
     ensures finish { (before t : List Item) (n : ℕ) → AreByRounds (before ++ t) → IsDone true before (finish n) t
         → IsPlayedBehind before (finish n) t }

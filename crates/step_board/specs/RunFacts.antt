@@ -74,16 +74,19 @@ with_event_events w (Unlink p) = refl
 with_event_events w (Remove n) = refl
 
 -- an event of the change
-pub plays_did : (r : List Entry) (w : World) (e : Event) → EndsIn r w → is_of_change e ≡ true → denial w.machine e ≡ None → EndsIn (r ++ Did e ∷ []) (with_event w e)
+pub plays_did : (r : List Entry) (w : World) (e : Event) → EndsIn r w → is_of_change e ≡ true
+    → denial w.machine e ≡ None → EndsIn (r ++ Did e ∷ []) (with_event w e)
 plays_did r w e h change allowed = record {
   reached = IsReached.by_change w e h.reached change allowed;
   moments = h.moments ++ entry (Did e) ∷ [];
   is_of = did_more r h.moments e h.is_of change (ap (λ s. denial s e) (state_here r w h) ∙ allowed);
-  events_are = filter_map-append event_at h.moments (entry (Did e) ∷ []) ∙ ap (λ es. es ++ e ∷ []) h.events_are ∙ sym (with_event_events w e);
+  events_are = filter_map-append event_at h.moments (entry (Did e) ∷ []) ∙ ap (λ es. es ++ e ∷ []) h.events_are
+      ∙ sym (with_event_events w e);
 }
 
 -- an entry that is no event, and leaves the world
-pub plays_seen : (r : List Entry) (w : World) (x : Entry) → (h : EndsIn r w) → event_in x ≡ None → IsSo h.moments (entry x) → EndsIn (r ++ x ∷ []) w
+pub plays_seen : (r : List Entry) (w : World) (x : Entry) → (h : EndsIn r w) → event_in x ≡ None
+    → IsSo h.moments (entry x) → EndsIn (r ++ x ∷ []) w
 plays_seen r w x h quiet so = record {
   reached = h.reached;
   moments = h.moments ++ entry x ∷ [];
@@ -97,7 +100,8 @@ record Between (r : List Entry) (m : List Moment) (later : List Event) : Type 0 
   is_of : IsRecordOf r moments
   events_are : events moments ≡ events m ++ later
 
-between : (r : List Entry) (m : List Moment) (later : List Event) → IsRecordOf r m → All (λ e. is_of_change e ≡ false) later → IsRun (events m ++ later) → Between r m later
+between : (r : List Entry) (m : List Moment) (later : List Event) → IsRecordOf r m
+    → All (λ e. is_of_change e ≡ false) later → IsRun (events m ++ later) → Between r m later
 between r m [] h by_nodes run = record { moments = m; is_of = h; events_are = sym (append-nil (events m)) }
 between r m (e ∷ later) h by_nodes run =
     let parts = append_assoc (events m) (e ∷ []) later in
@@ -115,7 +119,13 @@ run_on r w v h g = subst IsRun (g.events_are ∙ ap (λ es. es ++ g.later) (sym 
 pub plays_on : (r : List Entry) (w v : World) → EndsIn r w → WentOn w v → EndsIn r v
 plays_on r w v h g =
     let b = between r h.moments g.later h.is_of g.by_nodes (run_on r w v h g) in
-    record { reached = g.reached; moments = b.moments; is_of = b.is_of; events_are = b.events_are ∙ ap (λ es. es ++ g.later) h.events_are ∙ sym g.events_are }
+    record {
+      reached = g.reached;
+      moments = b.moments;
+      is_of = b.is_of;
+      events_are = b.events_are ∙ ap (λ es. es
+          ++ g.later) h.events_are ∙ sym g.events_are;
+    }
 
 pub cut_here : (r : List Entry) (w v : World) → EndsIn r w → WentOn w v → IsRecordCut r
 cut_here r w v h g = record { moments = h.moments; later = g.later; is_of = h.is_of; by_nodes = g.by_nodes; runs_on = run_on r w v h g }

@@ -63,7 +63,8 @@ went_turn w n begins r live = by (turn w n begins).event refl
         }
 
 -- one more of the nodes that are live at the front of a round
-pub went_next : (w : World) (begins : Bool) (r : Round) (n : ℕ) → WentOn w r.world → is_live w.machine.config n ≡ true → WentOn w (give_turn begins r n).world
+pub went_next : (w : World) (begins : Bool) (r : Round) (n : ℕ) → WentOn w r.world → is_live w.machine.config n ≡ true
+    → WentOn w (give_turn begins r n).world
 went_next w begins r n h live =
     went_both w r.world (turn r.world n begins).world h
     (went_turn r.world n begins h.reached (ap (λ (c : Configuration). is_live c n) h.config ∙ live))

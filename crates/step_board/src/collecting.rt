@@ -40,7 +40,8 @@ fn no_heirs(alloc: Global, count: u32) -> Result<Vec<Option<u32>>, NoMemory>
 
 /// Which node took over the state of each, by slot.
 fn find_heirs<N: Nodes>(alloc: Global, nodes: &N) -> Result<Vec<Option<u32>>, NoMemory>
-    ensures { IfOk result (λ heirs. AreHeirs (N.machine nodes.now).config (length (N.machine nodes.now).config.slots) heirs.items) }
+    ensures { IfOk result
+        (λ heirs. AreHeirs (N.machine nodes.now).config (length (N.machine nodes.now).config.slots) heirs.items) }
 {
     let made = nodes.made().nodes;
     let mut heirs = no_heirs(alloc, made)?;

@@ -27,7 +27,8 @@ use quiesce_core::Event;
 use std::alloc::Global;
 
 /// The nodes of a system on one thread, with the change machine that they share. Contracts see which worlds they are:
-/// the machine's state, what each node has come to, the hints in the inboxes and those that wait, and all events so far.
+/// the machine's state, what each node has come to, the hints in the inboxes and those that wait, and all events so
+/// far.
 pub trait Nodes {
     /// All is as in this world.
     ghost shows: { Self → World → Type 0 };
@@ -86,10 +87,11 @@ pub trait Nodes {
         requires made { slot < length (machine self.now).config.slots }
         requires kept { heir_of (machine self.now).config slot ≡ None }
         requires some { ShowsSome shows self.now }
-        ensures { IfOk result (λ xs. (w : World) → shows self.now w → option_map moves.numbers (state_of w slot) ≡ Some xs.items) };
+        ensures { IfOk result (λ xs. (w : World) → shows self.now w
+            → option_map moves.numbers (state_of w slot) ≡ Some xs.items) };
 
-    /// Gives a live node a turn, in which it may begin a transaction or not. Tells whether it moved. After want of memory
-    /// all is as it was.
+    /// Gives a live node a turn, in which it may begin a transaction or not. Tells whether it moved. After want of
+    /// memory all is as it was.
     fn turn(&mut self, slot: u32, begins: bool) -> Result<bool, NoMemory>
         requires live { IsTrue (state.is_live (machine self.old).config slot) }
         requires some { ShowsSome shows self.old }
@@ -122,8 +124,8 @@ pub trait Nodes {
         ensures shows { (w : World) → shows self.old w → shows self.new (with_event w (event.Remove slot)) }
         ensures room { room self.new ≡ room self.old };
 
-    /// Takes the memory for so many nodes more, each of which may take over the state of one that was made so far. Where
-    /// that fails, all is as it was, and some of the memory may stay taken.
+    /// Takes the memory for so many nodes more, each of which may take over the state of one that was made so far.
+    /// Where that fails, all is as it was, and some of the memory may stay taken.
     fn reserve(&mut self, nodes: u32) -> Result<(), NoMemory>
         requires few { (w : World) × shows self.old w × (length w.machine.config.slots + nodes ≤ MAX_NODES) }
         ensures nodes { OnOk result (nodes ≤ (room self.new).nodes) }
@@ -135,9 +137,11 @@ pub trait Nodes {
     /// Makes a node in the next slot, which takes over the state of the one in slot `from` where there is one. It takes
     /// no memory.
     fn make(&mut self, node: Node, from: Option<u32>)
-        requires may { (w : World) × shows self.old w × (denial w.machine (event.Make (length w.machine.config.slots) node from) ≡ None) }
+        requires may { (w : World) × shows self.old w
+            × (denial w.machine (event.Make (length w.machine.config.slots) node from) ≡ None) }
         requires room { HasRoom (room self.old) from }
-        ensures shows { (w : World) → shows self.old w → shows self.new (with_event w (event.Make (length w.machine.config.slots) node from)) }
+        ensures shows { (w : World) → shows self.old w
+            → shows self.new (with_event w (event.Make (length w.machine.config.slots) node from)) }
         ensures room { room self.new ≡ less_one (room self.old) };
 
     /// A world that they show is reached by allowed events of the change and turns of nodes.

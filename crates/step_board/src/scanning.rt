@@ -99,7 +99,8 @@ fn ended_by(word: Word) -> u32
 fn look_at<N: Nodes>(nodes: &N, port: u32, seen: PortsSeen) -> PortsSeen
     requires made { port < length (N.machine nodes.now).config.gates }
     requires few { seen.ended ≤ port * 2 ^ 24 }
-    ensures idle { result.idle ≡ (seen.idle && is_idle_if_live (N.machine nodes.now).config (found_at (N.machine nodes.now) port)) }
+    ensures idle { result.idle
+        ≡ (seen.idle && is_idle_if_live (N.machine nodes.now).config (found_at (N.machine nodes.now) port)) }
     ensures ended { result.ended ≡ seen.ended + ended_in_word (word_of (N.machine nodes.now) port) }
     ensures few { result.ended ≤ (port + 1) * 2 ^ 24 }
 {
@@ -114,7 +115,8 @@ fn look_at<N: Nodes>(nodes: &N, port: u32, seen: PortsSeen) -> PortsSeen
 
 /// Looks once at each port made.
 pub fn look_at_ports<N: Nodes>(nodes: &N) -> PortsSeen
-    ensures idle { result.idle ≡ list_all (is_idle_if_live (N.machine nodes.now).config) (found_all (N.machine nodes.now)) }
+    ensures idle { result.idle ≡ list_all (is_idle_if_live (N.machine nodes.now).config)
+        (found_all (N.machine nodes.now)) }
     ensures ended { result.ended ≡ ended_in (found_all (N.machine nodes.now)) }
 {
     let mut seen = PortsSeen {

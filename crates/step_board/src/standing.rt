@@ -16,8 +16,8 @@ use gate_records::Look;
 use report_laws::states_are_folds_of_own_events;
 use std::alloc::Global;
 
-/// A board that stands on nodes of one thread, and gets every one of them: in a scan each live node has one turn, in the
-/// order of slots. It stands for a record where playing the record by such rounds leads to what the nodes are.
+/// A board that stands on nodes of one thread, and gets every one of them: in a scan each live node has one turn, in
+/// the order of slots. It stands for a record where playing the record by such rounds leads to what the nodes are.
 #[derive(Drop)]
 pub struct StepBoard<N: Nodes + Drop> {
     alloc: Global,
@@ -34,11 +34,13 @@ impl<N: Nodes + Drop> StepBoard<N> {
         StepBoard { alloc, nodes }
     }
 
-    /// Lets the board go. A record for which it stands, and the logs that it keeps, are parts of one run, in which nodes
-    /// took turns in whole rounds alone, at the marks of scans.
+    /// Lets the board go. A record for which it stands, and the logs that it keeps, are parts of one run, in which
+    /// nodes took turns in whole rounds alone, at the marks of scans.
     pub fn close_down(self)
-        ensures merge { (r : List Entry) → ⟦<StepBoard<N> as Board>⟧.stands_for self r → AreParts r (⟦<StepBoard<N> as Board>⟧.taken self) }
-        ensures rounds { (r : List Entry) → ⟦<StepBoard<N> as Board>⟧.stands_for self r → AreOfRounds r (⟦<StepBoard<N> as Board>⟧.taken self) }
+        ensures merge { (r : List Entry) → ⟦<StepBoard<N> as Board>⟧.stands_for self r
+            → AreParts r (⟦<StepBoard<N> as Board>⟧.taken self) }
+        ensures rounds { (r : List Entry) → ⟦<StepBoard<N> as Board>⟧.stands_for self r
+            → AreOfRounds r (⟦<StepBoard<N> as Board>⟧.taken self) }
     {
         let _ = self.alloc;
     }
@@ -115,7 +117,8 @@ impl<N: Nodes + Drop> Board for StepBoard<N> {
 
     ghost is_of_run = { λ b r h. agreeing.is_of_run N.shows b.nodes r h };
 
-    ghost one_configuration = { λ b r q h k. agreeing.one_configuration N.shows N.machine N.machine_is b.nodes r q h k };
+    ghost one_configuration = { λ b r q h k. agreeing.one_configuration N.shows N.machine N.machine_is b.nodes
+        r q h k };
 
     ghost is_of_run_cut = { λ b r h. agreeing.is_of_run_cut N.shows b.nodes r h };
 }

@@ -122,7 +122,8 @@ impl Nodes for NodeTable {
         self.make(node, from);
     }
 
-    ghost are_reached = { λ t w h. facts.is_reached ⟦<AnyNode as Component>⟧.state ⟦<PlainHints as Hints>⟧.tells t w h };
+    ghost are_reached = { λ t w h. facts.is_reached ⟦<AnyNode as Component>⟧.state ⟦<PlainHints as Hints>⟧.tells
+        t w h };
 
     ghost machine_is = { λ t w h. facts.machine_is ⟦<AnyNode as Component>⟧.state ⟦<PlainHints as Hints>⟧.tells t w h };
 

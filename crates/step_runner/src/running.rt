@@ -31,7 +31,8 @@ pub fn run_in_rounds<N: Nodes + Drop>(
     requires steps { CanDoAll (after_start start) steps.items }
     requires board { ⟦<StepBoard<N> as Board>⟧.stands_for board [] }
     ensures follows { IfOk result (λ r. Follows (statements_of start steps.items) r.history) }
-    ensures lawful { IfOk result (λ r. (members : List Member) × IsLawfulBy (statements_of start steps.items) r members) }
+    ensures lawful { IfOk result (λ r. (members : List Member)
+        × IsLawfulBy (statements_of start steps.items) r members) }
     ensures serial { IfOk result (λ r. Serial (statements_of start steps.items) r) }
     ensures logs { IfOk result LogsAreMade }
 {

@@ -1,5 +1,5 @@
-//! How long a run takes alone, from its first scan to its last: four lanes of a source, a map and a sink on one thread. Each word is
-//! a count of items that each source sends; without a word it measures nothing.
+//! How long a run takes alone, from its first scan to its last: four lanes of a source, a map and a sink on one
+//! thread. Each word is a count of items that each source sends; without a word it measures nothing.
 #![tactic(auto)]
 
 ghost use Rattle.std.specs.Prelude.{IfOk};
@@ -75,7 +75,8 @@ fn start_of(alloc: Global, items: u32) -> Result<Start, Unmeasured>
     }
 }
 
-/// How many transactions ended until a scan moved nothing, and how long that took: neither the start nor a report is in it.
+/// How many transactions ended until a scan moved nothing, and how long that took: neither the start nor a report is
+/// in it.
 fn run_alone(rt: &impl Clock, alloc: Global, start: Start) -> Result<(u64, Duration), Unmeasured>
     requires { CanStart start }
 {

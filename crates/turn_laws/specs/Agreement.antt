@@ -1,4 +1,5 @@
--- How a node's state agrees with what its own events tell it of the machine: of the service that it is in, and of its ports.
+-- How a node's state agrees with what its own events tell it of the machine: of the service that it is in, and of its
+-- ports.
 use Rattle.std.specs.Prelude.{◌≡◌, ℕ, ◌+◌, ◌<◌, ◌≤◌, Bool, true, false, not, length, Option, Some, None, ⊤, if◌then◌else◌}
 use Rattle.std.specs.List.{All}
 use Rattle.component_trait.specs.Fold.{calls_at, wants_at}
@@ -13,8 +14,8 @@ use Rattle.quiesce_core.specs.declared.known.Served.{Served}
 abbrev pub HasNoCall : (ℕ → OwnPort) → Type 0
 HasNoCall ports = (p : ℕ) → (ports p).idle ≡ false → (ports p).consequent ≡ false
 
--- A service agrees: it waits where the last message wasn't heard. Each call and each intermediate reply but the last one has brought its
--- answer or further message, and where that was heard and no call is open, the last one too.
+-- A service agrees: it waits where the last message wasn't heard. Each call and each intermediate reply but the last
+-- one has brought its answer or further message, and where that was heard and no call is open, the last one too.
 pub record ServiceAgrees (ports : ℕ → OwnPort) (w : Service) (u : Served) : Type 0 where
   pub waits : w.waits ≡ not u.heard
   pub all_but_one : u.calls + u.mores ≤ length w.answers + 1
@@ -26,7 +27,8 @@ ServicesAgree ports None (Some u) = ⊥
 ServicesAgree ports (Some w) None = ⊥
 ServicesAgree ports (Some w) (Some u) = ServiceAgrees ports w u
 
--- whether the node expects an answer at the port: that of a call, which its service asks for next, or of a transaction that it wants
+-- whether the node expects an answer at the port: that of a call, which its service asks for next, or of a
+-- transaction that it wants
 abbrev pub expects : Bool → ℕ → NodeState → ℕ → Bool
 expects consequent first t p = if consequent then calls_at first t p else wants_at first t p
 
@@ -39,8 +41,8 @@ pub record Agrees (first : ℕ) (t : NodeState) (u : Option Served) (far : ℕ �
 abbrev pub ports_next : (ℕ → OwnPort) → Event → ℕ → OwnPort
 ports_next ports e = λ p. own_port_next p (ports p) e
 
--- What a turn sees to before it does an event: a port on which a transaction begins is idle, and one on which it ends isn't; and no
--- call is open where a service goes on.
+-- What a turn sees to before it does an event: a port on which a transaction begins is idle, and one on which it ends
+-- isn't; and no call is open where a service goes on.
 abbrev pub IsInTurn : (ℕ → OwnPort) → Event → Type 0
 IsInTurn ports (Begin p k v) = (ports p).idle ≡ true
 IsInTurn ports (End p k v) = (ports p).idle ≡ false

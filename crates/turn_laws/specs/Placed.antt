@@ -13,8 +13,8 @@ use Rattle.quiesce_core.specs.declared.event.Event.{Event}
 use Rattle.quiesce_core.specs.declared.state.Slot.{Slot}
 use Rattle.turn_laws.specs.Agreement.{Agrees, HandsSmall, IsInTurn, IsSmall}
 
--- Node n, which was made as m and is live, did these events, which tell what the machine's state has of it, and has come to this
--- state, which agrees with them.
+-- Node n, which was made as m and is live, did these events, which tell what the machine's state has of it, and has
+-- come to this state, which agrees with them.
 pub record IsPlaced (s : State) (n : ℕ) (m : Slot) (t : NodeState) (es : List Event) : Type 0 where
   pub formed : IsWellFormed s
   pub consistent : IsConsistent s

@@ -1,5 +1,5 @@
-//! Laws of nodes' turns: a node's own events, and the state to which they lead it, agree with the machine, and so the event of its turn
-//! is allowed.
+//! Laws of nodes' turns: a node's own events, and the state to which they lead it, agree with the machine, and so the
+//! event of its turn is allowed.
 #![tactic(auto)]
 
 mod agreeing;

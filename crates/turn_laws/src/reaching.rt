@@ -11,10 +11,11 @@ ghost use Rattle.turn_laws.specs.Reached.{IsReached};
 ghost use Rattle.turns.specs.Turn.{turn};
 ghost use Rattle.turns.specs.World.{World, first_port, state_of};
 
-/// In every world that is reached, the event of a live node's turn is denied by no rule, is that node's own, and its fold goes on with
-/// it. So the events of the world are a run, and the machine's state is that after them.
+/// In every world that is reached, the event of a live node's turn is denied by no rule, is that node's own, and its
+/// fold goes on with it. So the events of the world are a run, and the machine's state is that after them.
 pub fn turns_are_allowed()
-    ensures allowed { (w : World) (n : ℕ) (begins : Bool) (e : Event) → IsReached w → IsTrue (is_live w.machine.config n)
+    ensures allowed { (w : World) (n : ℕ) (begins : Bool) (e : Event) → IsReached w
+        → IsTrue (is_live w.machine.config n)
         → (turn w n begins).event ≡ Some e → denial w.machine e ≡ None }
     ensures own { (w : World) (n : ℕ) (begins : Bool) (e : Event) → IsReached w → IsTrue (is_live w.machine.config n)
         → (turn w n begins).event ≡ Some e → (is_of_change e ≡ false) × (doer w.machine e ≡ Some n) }

@@ -1,5 +1,5 @@
--- A node's turn: it posts what waits, and makes the first of four moves that is possible. It ends a transaction of its own that has a
--- reply; it goes on with its service; it takes up the next request; or it begins what it wants.
+-- A node's turn: it posts what waits, and makes the first of four moves that is possible. It ends a transaction of
+-- its own that has a reply; it goes on with its service; it takes up the next request; or it begins what it wants.
 use Rattle.std.specs.Prelude.{ℕ, ◌+◌, ◌-◌, Bool, false, not, ◌&&◌, ◌||◌, ◌==◌, List, [], ◌∷◌, ◌++◌, drop, find, fold, Option, Some, None, option_map, option_and_then, is_none, is_some, slice_set, if◌then◌else◌}
 use Rattle.std.specs.List.{enumerate_from, list_any}
 use Rattle.std.specs.Option.{option_map_or}
@@ -30,8 +30,8 @@ has_reply s p = is_answered (exchange s p).phase || is_in_more (exchange s p).ph
 abbrev pub ends : State → ℕ → NodeState → Option Event
 ends s n t = option_map (reply_to s t) (find (has_reply s) (ports_of s.config n))
 
--- Move 2: where it is in a service of which no call is left to end, it hears a further message where it waits for one, and else does
--- what its kind does next.
+-- Move 2: where it is in a service of which no call is left to end, it hears a further message where it waits for
+-- one, and else does what its kind does next.
 abbrev pub is_call : State → ℕ → Bool
 is_call s p = not (is_idle (exchange s p).phase) && is_some (exchange s p).within
 
@@ -68,7 +68,8 @@ takes s n (p ∷ box) = if is_for s n p then Some (event.Take p (exchange s p).s
 -- Move 4: it begins what it wants on an idle port, whose gate is open.
 abbrev pub begins_at : State → ℕ → ℕ → Option Event
 begins_at s p v =
-    if is_idle (exchange s p).phase && is_open s.config p && not (is_missing s p) then Some (event.Begin p ((exchange s p).serial + 1) v) else None
+    if is_idle (exchange s p).phase && is_open s.config p
+    && not (is_missing s p) then Some (event.Begin p ((exchange s p).serial + 1) v) else None
 
 abbrev pub begins : State → ℕ → NodeState → Option Event
 begins s n t = option_and_then (λ (a : Ask). begins_at s (first_port s n + a.require) a.value) (moves.wants t)

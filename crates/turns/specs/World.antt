@@ -1,6 +1,6 @@
--- All that a system of one thread is while its nodes take turns: the machine's state, what each node made has come to by its own
--- events, and the hints. A hint tells a node that a request waits for it at a port. It lies in the node's inbox, or waits with the
--- node that would post it while that inbox is full.
+-- All that a system of one thread is while its nodes take turns: the machine's state, what each node made has come to
+-- by its own events, and the hints. A hint tells a node that a request waits for it at a port. It lies in the node's
+-- inbox, or waits with the node that would post it while that inbox is full.
 use Rattle.std.specs.Prelude.{ℕ, List, [], ◌∷◌, ◌++◌, length, replicate, Option, Some, None, option_map, slice_set, slice_index_or}
 use Rattle.std.specs.Option.{option_map_or}
 use Rattle.config_graph.specs.Kinds.{row}
@@ -14,7 +14,8 @@ use Rattle.quiesce_core.specs.declared.event.Event.{Event}
 use Rattle.quiesce_core.specs.declared.event.Event.TheVariants.{Make}
 use Rattle.quiesce_core.specs.declared.state.Slot.{Slot}
 
--- All lists are by slot, of all nodes made: `waiting` has for each requirement of a node the node for which its hint waits.
+-- All lists are by slot, of all nodes made: `waiting` has for each requirement of a node the node for which its hint
+-- waits.
 pub record World : Type 0 where
   pub machine : State
   pub folds : List (Option NodeState)

@@ -9,8 +9,8 @@ ghost use Rattle.turns.specs.Turn.{turn};
 ghost use Rattle.turns.specs.World.{World};
 ghost use Rattle.turns.specs.Rows.{line, sums};
 
-/// A source of three items leads through a map that adds ten to a sink: each item takes six rounds, and all is at rest after the
-/// last of them.
+/// A source of three items leads through a map that adds ten to a sink: each item takes six rounds, and all is at
+/// rest after the last of them.
 pub fn a_line_comes_to_rest()
     ensures not_before { is_at_rest (after_rounds true line 17) ≡ false }
     ensures at_rest { is_at_rest (after_rounds true line 18) ≡ true }
@@ -32,10 +32,12 @@ pub fn sums_take_a_further_message()
 
 /// A turn makes one event at most, and posting a hint is none.
 pub fn a_turn_is_one_event_at_most()
-    ensures turn { (w : World) (n : ℕ) (allowed : Bool) → without_hints (turn w n allowed).world ≡ without_hints (after_move w n (turn w n allowed).event) }
+    ensures turn { (w : World) (n : ℕ) (allowed : Bool)
+        → without_hints (turn w n allowed).world ≡ without_hints (after_move w n (turn w n allowed).event) }
 {}
 
 /// A round in which no node moves leaves the machine and all that nodes have come to as they were.
 pub fn a_round_without_a_move_changes_nothing()
-    ensures stands { (w : World) (allowed : Bool) → (round allowed w).moved ≡ false → without_hints (round allowed w).world ≡ without_hints w }
+    ensures stands { (w : World) (allowed : Bool) → (round allowed w).moved ≡ false
+        → without_hints (round allowed w).world ≡ without_hints w }
 {}

@@ -38,8 +38,8 @@ leads_in w = option_map_or (λ (t : Target). t.node) (unpack w).target 0
 abbrev pub provision_in : ℕ → ℕ
 provision_in w = option_map_or (λ (t : Target). t.provide) (unpack w).target 0
 
--- The word that was loaded may refuse a beginning. Else the exchange was tried: the node began where it found that word; and where
--- it found another, the answer is by this.
+-- The word that was loaded may refuse a beginning. Else the exchange was tried: the node began where it found that
+-- word; and where it found another, the answer is by this.
 abbrev pub refused_in : ℕ → Option BeginAnswer
 refused_in l =
     if (unpack l).closed then Some (Closed l)
@@ -68,7 +68,8 @@ heard_in w = if is_asked (unpack w).phase then hear.Heard (unpack w).value else 
 
 -- ---- what calls loaded
 
--- The call loaded this word, and nothing else; by it the answer is what it is, and the node learnt or did what that says.
+-- The call loaded this word, and nothing else; by it the answer is what it is, and the node learnt or did what that
+-- says.
 pub record ByWord {A : Type 0} (k : LoadKind) (p : ℕ) (says : ℕ → A) (does_ : A → NodeView → NodeView) (answer : A) (old new : NodeView) : Type 0 where
   pub word : ℕ
   pub answered : answer ≡ says word

@@ -14,7 +14,14 @@ pub record IsHere (seat gates : TableId) : Type 0 where
   pub words : gates.words ≡ MAX_PORTS + MAX_NODES
 
 -- so a seat's node is within the limits of a run, in the slot that the seat says
-pub within_limits : (n : NodeView) (slot first : ℕ) → n.slot ≡ slot → n.made.first_port ≡ first → slot < MAX_NODES → first + length (row n.made.kind).requires_ ≤ MAX_PORTS
+pub within_limits : (n : NodeView) (slot first : ℕ) → n.slot ≡ slot → n.made.first_port ≡ first → slot < MAX_NODES
+    → first + length (row n.made.kind).requires_ ≤ MAX_PORTS
     → IsWithinLimits (node_at n) × ((node_at n).slot ≡ slot)
-within_limits n slot first slot_is first_is few ports =
-    (record { slot_within = subst (λ k. k < MAX_NODES) (sym slot_is) few; ports_within = subst (λ k. k + length (row n.made.kind).requires_ ≤ MAX_PORTS) (sym first_is) ports }, slot_is)
+within_limits n slot first slot_is first_is few ports = (
+  record {
+    slot_within = subst (λ k. k < MAX_NODES) (sym slot_is) few;
+    ports_within = subst (λ k. k + length
+        (row n.made.kind).requires_ ≤ MAX_PORTS) (sym first_is) ports;
+  },
+  slot_is,
+)

@@ -1,5 +1,5 @@
--- What the seat of a node tells of its loads, as gates do: how many there were, the last at each own port, and those of the last
--- `take` and the last `hear`.
+-- What the seat of a node tells of its loads, as gates do: how many there were, the last at each own port, and those
+-- of the last `take` and the last `hear`.
 use Rattle.std.specs.Prelude.{ℕ, ◌+◌, ◌==◌, List, Some, None, fold, if◌then◌else◌, option_map}
 use Rattle.port_gate.specs.Loads.{Load, Loads}
 use Rattle.gate_rule.specs.declared.view.LoadKind.{LoadKind}

@@ -52,7 +52,8 @@ impl Gates {
     /// Nothing is made: each port's word is closed, idle and unlinked, and each slot's word is 0.
     pub fn new(alloc: Global) -> Result<(Gates, ChangeSeat), NoMemory>
         ensures here { IfOk result (λ r. r.1.seat.table_id ≡ r.0.words.shared.table_id) }
-        ensures change { IfOk result (λ r. (change_of r.1.seat.me.0 ≡ nothing_done) × (r.1.seat.me.0.nodes ≡ []) × (r.1.spare ≡ 0)) }
+        ensures change { IfOk result (λ r. (change_of r.1.seat.me.0 ≡ nothing_done) × (r.1.seat.me.0.nodes ≡ [])
+            × (r.1.spare ≡ 0)) }
     {
         let fresh = fresh_words(alloc)?;
         let tables = RecordTables::new(alloc)?;
@@ -79,18 +80,24 @@ impl Gates {
         Ok(())
     }
 
-    /// The change makes the node of the next slot, with its ports behind those made before, and gives its seat out. The seat reads
-    /// from its slot's word what was made. It takes no memory: there is room for it.
+    /// The change makes the node of the next slot, with its ports behind those made before, and gives its seat out.
+    /// The seat reads from its slot's word what was made. It takes no memory: there is room for it.
     pub fn make_node(&self, seat: &mut ChangeSeat, node: &Node, from: Option<u32>) -> NodeSeat
         requires here { seat.old.seat.table_id ≡ self.now.words.shared.table_id }
         requires spare { 0 < seat.old.spare }
-        requires may { CanMake (config_of (change_of seat.old.seat.me.0).entries) (length (config_of (change_of seat.old.seat.me.0).entries).slots) node.now from }
-        ensures here { (seat.new.seat.table_id ≡ seat.old.seat.table_id) × (result.seat.table_id ≡ seat.old.seat.table_id) }
+        requires may { CanMake (config_of (change_of seat.old.seat.me.0).entries)
+            (length (config_of (change_of seat.old.seat.me.0).entries).slots) node.now from }
+        ensures here { (seat.new.seat.table_id ≡ seat.old.seat.table_id)
+            × (result.seat.table_id ≡ seat.old.seat.table_id) }
         ensures change { change_of seat.new.seat.me.0
-            ≡ record (notes (change_of seat.old.seat.me.0) (Did (event.Make (length (config_of (change_of seat.old.seat.me.0).entries).slots) node.now from))) { seats = (change_of seat.old.seat.me.0).seats + 1 } }
+            ≡ record (notes (change_of seat.old.seat.me.0)
+            (Did (event.Make (length (config_of (change_of seat.old.seat.me.0).entries).slots) node.now from)))
+            { seats = (change_of seat.old.seat.me.0).seats + 1 } }
         ensures nodes { seat.new.seat.me.0.nodes ≡ seat.old.seat.me.0.nodes }
         ensures spare { seat.new.spare + 1 ≡ seat.old.spare }
-        ensures node { node_of result.seat.me.0 ≡ made_node (length (config_of (change_of seat.old.seat.me.0).entries).slots) (length (config_of (change_of seat.old.seat.me.0).entries).gates) node.now from }
+        ensures node { node_of result.seat.me.0 ≡ made_node
+            (length (config_of (change_of seat.old.seat.me.0).entries).slots)
+            (length (config_of (change_of seat.old.seat.me.0).entries).gates) node.now from }
     {
         let Made { nodes, ports } = seat.made();
         let made = SlotWord {
@@ -117,13 +124,24 @@ impl Gates {
         requires spare { 0 < seat.old.spare }
         requires slot { slot ≡ length (config_of (change_of seat.old.seat.me.0).entries).slots }
         requires may { CanMake (config_of (change_of seat.old.seat.me.0).entries) slot node.now from }
-        requires made { made ≡ record { kind = node.now.kind; first_port = length (config_of (change_of seat.old.seat.me.0).entries).gates; arg = node.now.arg; from = from } }
+        requires made { made ≡ record {
+          kind = node.now.kind;
+          first_port = length (config_of
+              (change_of seat.old.seat.me.0).entries).gates;
+          arg = node.now.arg;
+          from = from;
+        } }
         ensures here { (seat.new.seat.table_id ≡ seat.old.seat.table_id) × (result.table_id ≡ seat.old.seat.table_id) }
         ensures change { change_of seat.new.seat.me.0
-            ≡ record (notes (change_of seat.old.seat.me.0) (Did (event.Make slot node.now from))) { seats = (change_of seat.old.seat.me.0).seats + 1 } }
+            ≡ record (notes (change_of seat.old.seat.me.0) (Did (event.Make slot node.now from)))
+            { seats = (change_of seat.old.seat.me.0).seats + 1 } }
         ensures nodes { seat.new.seat.me.0.nodes ≡ seat.old.seat.me.0.nodes }
         ensures spare { seat.new.spare + 1 ≡ seat.old.spare }
-        ensures node { result.me ≡ (of_node (made_node slot (length (config_of (change_of seat.old.seat.me.0).entries).gates) node.now from), []) }
+        ensures node { result.me ≡ (
+          of_node
+              (made_node slot (length (config_of (change_of seat.old.seat.me.0).entries).gates) node.now from),
+          [],
+        ) }
     {
         seat.tables.make(node, from);
         steps::make::<E>(&self.words, &mut seat.seat, slot, made.pack(), node, from);
@@ -185,7 +203,9 @@ impl Gates {
         requires here { seat.old.seat.table_id ≡ self.now.words.shared.table_id }
         requires made { port < length (config_of (change_of seat.old.seat.me.0).entries).gates }
         ensures here { seat.new.seat.table_id ≡ seat.old.seat.table_id }
-        ensures change { (word : ℕ) × (change_of seat.new.seat.me.0 ≡ notes (change_of seat.old.seat.me.0) (Looked port word)) × (result ≡ look_of word) }
+        ensures change { (word : ℕ)
+            × (change_of seat.new.seat.me.0 ≡ notes (change_of seat.old.seat.me.0) (Looked port word))
+            × (result ≡ look_of word) }
         ensures nodes { seat.new.seat.me.0.nodes ≡ seat.old.seat.me.0.nodes }
         ensures spare { seat.new.spare ≡ seat.old.spare }
     {
@@ -197,9 +217,11 @@ impl Gates {
     /// The change links a port of a live node that is noted with all that reach it.
     pub fn link(&self, seat: &mut ChangeSeat, port: u32, node: u32, provide: u32)
         requires here { seat.old.seat.table_id ≡ self.now.words.shared.table_id }
-        requires may { MayLink (is_noted (change_of seat.old.seat.me.0).entries) (config_of (change_of seat.old.seat.me.0).entries) port node provide }
+        requires may { MayLink (is_noted (change_of seat.old.seat.me.0).entries)
+            (config_of (change_of seat.old.seat.me.0).entries) port node provide }
         ensures here { seat.new.seat.table_id ≡ seat.old.seat.table_id }
-        ensures change { change_of seat.new.seat.me.0 ≡ notes (change_of seat.old.seat.me.0) (Did (event.Link port node provide)) }
+        ensures change { change_of seat.new.seat.me.0 ≡ notes (change_of seat.old.seat.me.0)
+            (Did (event.Link port node provide)) }
         ensures nodes { seat.new.seat.me.0.nodes ≡ seat.old.seat.me.0.nodes }
         ensures spare { seat.new.spare ≡ seat.old.spare }
     {
@@ -211,7 +233,8 @@ impl Gates {
     /// The change unlinks such a port.
     pub fn unlink(&self, seat: &mut ChangeSeat, port: u32)
         requires here { seat.old.seat.table_id ≡ self.now.words.shared.table_id }
-        requires may { MayUnlink (is_noted (change_of seat.old.seat.me.0).entries) (config_of (change_of seat.old.seat.me.0).entries) port }
+        requires may { MayUnlink (is_noted (change_of seat.old.seat.me.0).entries)
+            (config_of (change_of seat.old.seat.me.0).entries) port }
         ensures here { seat.new.seat.table_id ≡ seat.old.seat.table_id }
         ensures change { change_of seat.new.seat.me.0 ≡ notes (change_of seat.old.seat.me.0) (Did (event.Unlink port)) }
         ensures nodes { seat.new.seat.me.0.nodes ≡ seat.old.seat.me.0.nodes }
@@ -224,7 +247,8 @@ impl Gates {
     /// The change removes such a node, which is linked to none and none to it.
     pub fn remove(&self, seat: &mut ChangeSeat, node: u32)
         requires here { seat.old.seat.table_id ≡ self.now.words.shared.table_id }
-        requires may { MayRemove (is_noted (change_of seat.old.seat.me.0).entries) (config_of (change_of seat.old.seat.me.0).entries) node }
+        requires may { MayRemove (is_noted (change_of seat.old.seat.me.0).entries)
+            (config_of (change_of seat.old.seat.me.0).entries) node }
         ensures here { seat.new.seat.table_id ≡ seat.old.seat.table_id }
         ensures change { change_of seat.new.seat.me.0 ≡ notes (change_of seat.old.seat.me.0) (Did (event.Remove node)) }
         ensures nodes { seat.new.seat.me.0.nodes ≡ seat.old.seat.me.0.nodes }

@@ -15,8 +15,8 @@ use crate::steps::AnySeat;
 use config_graph::{Made, Target};
 use record_tables::RecordTables;
 
-/// The change's seat: its steps at the gates are the change's events, looks and sights. Contracts see its record of them
-/// (`change_of`). Each node that was made got its seat.
+/// The change's seat: its steps at the gates are the change's events, looks and sights. Contracts see its record of
+/// them (`change_of`). Each node that was made got its seat.
 #[derive(Drop)]
 pub struct ChangeSeat {
     pub tables: RecordTables,
@@ -65,18 +65,19 @@ impl ChangeSeat {
         self.tables.target(port)
     }
 
-    /// Whether the port is noted: it was never reopened, be it made or not, or a look found it drained after it was last closed, and
-    /// it wasn't reopened since.
+    /// Whether the port is noted: it was never reopened, be it made or not, or a look found it drained after it was
+    /// last closed, and it wasn't reopened since.
     pub fn is_noted(&self, port: u32) -> bool
         ensures { result ≡ is_noted (change_of self.now.seat.me.0).entries port }
     {
         self.tables.is_noted(port)
     }
 
-    /// Whether the node is live, and each port of it and each that reaches it is noted: then it is settled, and stays so until a port
-    /// is reopened or linked, or it is removed (`notes_tell_of_the_state` of gate_rule).
+    /// Whether the node is live, and each port of it and each that reaches it is noted: then it is settled, and stays
+    /// so until a port is reopened or linked, or it is removed (`notes_tell_of_the_state` of gate_rule).
     pub fn settled(&self, node: u32) -> bool
-        ensures { IsTrue result ↔ IsNoted (is_noted (change_of self.now.seat.me.0).entries) (config_of (change_of self.now.seat.me.0).entries) node }
+        ensures { IsTrue result ↔ IsNoted (is_noted (change_of self.now.seat.me.0).entries)
+            (config_of (change_of self.now.seat.me.0).entries) node }
     {
         self.tables.settled(node)
     }

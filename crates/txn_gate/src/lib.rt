@@ -1,4 +1,5 @@
-//! Gates: an atomic word for each port and each slot, at which nodes and a change take their steps, from any number of threads.
+//! Gates: an atomic word for each port and each slot, at which nodes and a change take their steps, from any number
+//! of threads.
 #![tactic(auto)]
 
 mod answering;

@@ -33,8 +33,11 @@ impl Gates {
         requires may { MayCall (node_at (node_of seat.old.seat.me.0)) seat.old.known port value }
         ensures here { seat.new.seat.table_id ≡ seat.old.seat.table_id }
         ensures node { node_at (node_of seat.new.seat.me.0) ≡ node_at (node_of seat.old.seat.me.0) }
-        ensures does { Does (node_at (node_of seat.old.seat.me.0)) (moves.events_of_call port value result) seat.old.known seat.new.known (Some (node_of seat.old.seat.me.0).log) (Some (node_of seat.new.seat.me.0).log) None None }
-        ensures words { ByWord kinds.Own port called_in (λ a n. after n (moves.events_of_call port value a)) result (node_of seat.old.seat.me.0) (node_of seat.new.seat.me.0) }
+        ensures does { Does (node_at (node_of seat.old.seat.me.0)) (moves.events_of_call port value result)
+            seat.old.known seat.new.known (Some (node_of seat.old.seat.me.0).log)
+            (Some (node_of seat.new.seat.me.0).log) None None }
+        ensures words { ByWord kinds.Own port called_in (λ a n. after n (moves.events_of_call port value a))
+            result (node_of seat.old.seat.me.0) (node_of seat.new.seat.me.0) }
         ensures says { CallSays None port result }
     {
         let loaded = self.call_word(seat, port, value);
@@ -46,7 +49,8 @@ impl Gates {
         requires here { seat.old.seat.table_id ≡ self.now.words.shared.table_id }
         requires may { MayCall (node_at (node_of seat.old.seat.me.0)) seat.old.known port value }
         ensures here { seat.new.seat.table_id ≡ seat.old.seat.table_id }
-        ensures node { node_of seat.new.seat.me.0 ≡ after (reads (node_of seat.old.seat.me.0) kinds.Own port result) (moves.events_of_call port value (called_in result)) }
+        ensures node { node_of seat.new.seat.me.0 ≡ after (reads (node_of seat.old.seat.me.0) kinds.Own port result)
+            (moves.events_of_call port value (called_in result)) }
     {
         let loaded = self.look_to_call(seat, port, value);
         if !is_missing(loaded) {
@@ -60,8 +64,10 @@ impl Gates {
         requires here { seat.old.seat.table_id ≡ self.now.words.shared.table_id }
         requires may { MayCall (node_at (node_of seat.old.seat.me.0)) seat.old.known port value }
         ensures here { seat.new.seat.table_id ≡ seat.old.seat.table_id }
-        ensures missed { fields.is_missing (unpack result) ≡ true → node_of seat.new.seat.me.0 ≡ does (reads (node_of seat.old.seat.me.0) kinds.Own port result) (event.Miss port) }
-        ensures found { fields.is_missing (unpack result) ≡ false → node_of seat.new.seat.me.0 ≡ looks (node_of seat.old.seat.me.0) port result }
+        ensures missed { fields.is_missing (unpack result) ≡ true → node_of seat.new.seat.me.0 ≡ does
+            (reads (node_of seat.old.seat.me.0) kinds.Own port result) (event.Miss port) }
+        ensures found { fields.is_missing (unpack result) ≡ false
+            → node_of seat.new.seat.me.0 ≡ looks (node_of seat.old.seat.me.0) port result }
     {
         let loaded = steps::look_to_call(&self.words, &mut seat.seat, port, value);
         if is_missing(loaded) {
@@ -101,7 +107,8 @@ impl Gates {
         requires here { seat.old.seat.table_id ≡ self.now.words.shared.table_id }
         requires may { MaySendMore (node_at (node_of seat.old.seat.me.0)) seat.old.known port value }
         ensures here { seat.new.seat.table_id ≡ seat.old.seat.table_id }
-        ensures node { node_of seat.new.seat.me.0 ≡ after (node_of seat.old.seat.me.0) (moves.events_of_more port value seat.old.known) }
+        ensures node { node_of seat.new.seat.me.0 ≡ after (node_of seat.old.seat.me.0)
+            (moves.events_of_more port value seat.old.known) }
     {
         let operand = more_operand(seat.value_served(), value);
         let serial = seat.serial_served();
@@ -122,7 +129,8 @@ impl Gates {
         requires here { seat.old.seat.table_id ≡ self.now.words.shared.table_id }
         requires may { MayAsk (node_at (node_of seat.old.seat.me.0)) seat.old.known port value }
         ensures here { seat.new.seat.table_id ≡ seat.old.seat.table_id }
-        ensures node { node_of seat.new.seat.me.0 ≡ after (node_of seat.old.seat.me.0) (moves.events_of_ask (node_at (node_of seat.old.seat.me.0)) port value seat.old.known) }
+        ensures node { node_of seat.new.seat.me.0 ≡ after (node_of seat.old.seat.me.0)
+            (moves.events_of_ask (node_at (node_of seat.old.seat.me.0)) port value seat.old.known) }
     {
         let known = port_known(seat.known, port - seat.first_port);
         let serial = known.serial;
@@ -145,8 +153,11 @@ impl Gates {
         requires may { MayHear seat.old.known port }
         ensures here { seat.new.seat.table_id ≡ seat.old.seat.table_id }
         ensures node { node_at (node_of seat.new.seat.me.0) ≡ node_at (node_of seat.old.seat.me.0) }
-        ensures does { Does (node_at (node_of seat.old.seat.me.0)) (moves.events_of_hear port seat.old.known result) seat.old.known seat.new.known (Some (node_of seat.old.seat.me.0).log) (Some (node_of seat.new.seat.me.0).log) None None }
-        ensures words { ByWord kinds.Hear port heard_in (λ a n. after n (moves.events_of_hear port n.known a)) result (node_of seat.old.seat.me.0) (node_of seat.new.seat.me.0) }
+        ensures does { Does (node_at (node_of seat.old.seat.me.0)) (moves.events_of_hear port seat.old.known result)
+            seat.old.known seat.new.known (Some (node_of seat.old.seat.me.0).log)
+            (Some (node_of seat.new.seat.me.0).log) None None }
+        ensures words { ByWord kinds.Hear port heard_in (λ a n. after n (moves.events_of_hear port n.known a))
+            result (node_of seat.old.seat.me.0) (node_of seat.new.seat.me.0) }
         ensures says { HearSays None port result }
     {
         let found = self.hear_word(seat, port);
@@ -159,8 +170,10 @@ impl Gates {
         requires may { MayHear seat.old.known port }
         ensures here { seat.new.seat.table_id ≡ seat.old.seat.table_id }
         ensures heard { is_asked (unpack result).phase ≡ true
-            → node_of seat.new.seat.me.0 ≡ does (reads (node_of seat.old.seat.me.0) kinds.Hear port result) (event.Hear port (serial_served seat.old.known) (unpack result).value) }
-        ensures kept { is_asked (unpack result).phase ≡ false → node_of seat.new.seat.me.0 ≡ reads (node_of seat.old.seat.me.0) kinds.Hear port result }
+            → node_of seat.new.seat.me.0 ≡ does (reads (node_of seat.old.seat.me.0) kinds.Hear port result)
+            (event.Hear port (serial_served seat.old.known) (unpack result).value) }
+        ensures kept { is_asked (unpack result).phase ≡ false
+            → node_of seat.new.seat.me.0 ≡ reads (node_of seat.old.seat.me.0) kinds.Hear port result }
         ensures shown { WasShown (node_of seat.old.seat.me.0) port result }
     {
         let serial = seat.serial_served();

@@ -33,7 +33,9 @@ impl Gates {
         requires may { MayBegin (node_at (node_of seat.old.seat.me.0)) seat.old.known port value }
         ensures here { seat.new.seat.table_id ≡ seat.old.seat.table_id }
         ensures node { node_at (node_of seat.new.seat.me.0) ≡ node_at (node_of seat.old.seat.me.0) }
-        ensures does { Does (node_at (node_of seat.old.seat.me.0)) (moves.events_of_begin port value result) seat.old.known seat.new.known (Some (node_of seat.old.seat.me.0).log) (Some (node_of seat.new.seat.me.0).log) None None }
+        ensures does { Does (node_at (node_of seat.old.seat.me.0)) (moves.events_of_begin port value result)
+            seat.old.known seat.new.known (Some (node_of seat.old.seat.me.0).log)
+            (Some (node_of seat.new.seat.me.0).log) None None }
         ensures words { ByWords port value result (node_of seat.old.seat.me.0) (node_of seat.new.seat.me.0) }
         ensures says { BeginSays None port result }
     {
@@ -71,7 +73,8 @@ impl Gates {
         requires may { MayBegin (node_at (node_of seat.old.seat.me.0)) seat.old.known port value }
         requires open { refused_in loaded ≡ None }
         ensures here { seat.new.seat.table_id ≡ seat.old.seat.table_id }
-        ensures words { ByWord kinds.Exchange port (exchanged_in loaded) (λ a n. after n (moves.events_of_begin port value a)) result (node_of seat.old.seat.me.0) (node_of seat.new.seat.me.0) }
+        ensures words { ByWord kinds.Exchange port (exchanged_in loaded) (λ a n. after n
+            (moves.events_of_begin port value a)) result (node_of seat.old.seat.me.0) (node_of seat.new.seat.me.0) }
     {
         let word = Word::of(loaded);
         let found = self.exchange_word::<Brand>(seat, port, value, loaded, word);
@@ -96,8 +99,10 @@ impl Gates {
         requires linked { (t : Linked) × (word.target ≡ Some t) }
         requires unspent { word.serial < last_serial }
         ensures here { seat.new.seat.table_id ≡ seat.old.seat.table_id }
-        ensures begun { result ≡ loaded → node_of seat.new.seat.me.0 ≡ does (reads (node_of seat.old.seat.me.0) kinds.Exchange port result) E.event }
-        ensures kept { result ≢ loaded → node_of seat.new.seat.me.0 ≡ reads (node_of seat.old.seat.me.0) kinds.Exchange port result }
+        ensures begun { result ≡ loaded → node_of seat.new.seat.me.0 ≡ does
+            (reads (node_of seat.old.seat.me.0) kinds.Exchange port result) E.event }
+        ensures kept { result ≢ loaded
+            → node_of seat.new.seat.me.0 ≡ reads (node_of seat.old.seat.me.0) kinds.Exchange port result }
     {
         let serial = word.serial + 1;
         let asked = Word {
@@ -135,8 +140,10 @@ impl Gates {
         requires may { MayTake seat.old.known port }
         ensures here { seat.new.seat.table_id ≡ seat.old.seat.table_id }
         ensures node { node_at (node_of seat.new.seat.me.0) ≡ node_at (node_of seat.old.seat.me.0) }
-        ensures does { Does (node_at (node_of seat.old.seat.me.0)) (moves.events_of_take port result) seat.old.known seat.new.known (Some (node_of seat.old.seat.me.0).log) (Some (node_of seat.new.seat.me.0).log) None None }
-        ensures words { ByWord kinds.Take port (taken_in (node_of seat.old.seat.me.0).slot) (λ a n. after n (moves.events_of_take port a)) result (node_of seat.old.seat.me.0) (node_of seat.new.seat.me.0) }
+        ensures does { Does (node_at (node_of seat.old.seat.me.0)) (moves.events_of_take port result) seat.old.known
+            seat.new.known (Some (node_of seat.old.seat.me.0).log) (Some (node_of seat.new.seat.me.0).log) None None }
+        ensures words { ByWord kinds.Take port (taken_in (node_of seat.old.seat.me.0).slot) (λ a n.
+            after n (moves.events_of_take port a)) result (node_of seat.old.seat.me.0) (node_of seat.new.seat.me.0) }
         ensures says { TakeSays None (node_at (node_of seat.old.seat.me.0)) port result }
     {
         let found = self.take_word(seat, port);
@@ -150,8 +157,10 @@ impl Gates {
         ensures here { seat.new.seat.table_id ≡ seat.old.seat.table_id }
         ensures slot { seat.new.slot ≡ seat.old.slot }
         ensures taken { is_message_to seat.old.slot (unpack result) ≡ true
-            → node_of seat.new.seat.me.0 ≡ does (reads (node_of seat.old.seat.me.0) kinds.Take port result) (event.Take port (unpack result).serial (unpack result).value) }
-        ensures kept { is_message_to seat.old.slot (unpack result) ≡ false → node_of seat.new.seat.me.0 ≡ reads (node_of seat.old.seat.me.0) kinds.Take port result }
+            → node_of seat.new.seat.me.0 ≡ does (reads (node_of seat.old.seat.me.0) kinds.Take port result)
+            (event.Take port (unpack result).serial (unpack result).value) }
+        ensures kept { is_message_to seat.old.slot (unpack result) ≡ false
+            → node_of seat.new.seat.me.0 ≡ reads (node_of seat.old.seat.me.0) kinds.Take port result }
         ensures shown { WasShown (node_of seat.old.seat.me.0) port result }
     {
         let found = steps::take(&self.words, &mut seat.seat, port);
@@ -177,7 +186,8 @@ impl Gates {
         requires here { seat.old.seat.table_id ≡ self.now.words.shared.table_id }
         requires may { MayGive seat.old.known port value }
         ensures here { seat.new.seat.table_id ≡ seat.old.seat.table_id }
-        ensures node { node_of seat.new.seat.me.0 ≡ after (node_of seat.old.seat.me.0) (moves.events_of_give port value seat.old.known) }
+        ensures node { node_of seat.new.seat.me.0 ≡ after (node_of seat.old.seat.me.0)
+            (moves.events_of_give port value seat.old.known) }
     {
         let operand = give_operand(seat.value_served(), value);
         let serial = seat.serial_served();
@@ -199,8 +209,12 @@ impl Gates {
         requires may { MaySee (node_at (node_of seat.old.seat.me.0)) seat.old.known port }
         ensures here { seat.new.seat.table_id ≡ seat.old.seat.table_id }
         ensures node { node_at (node_of seat.new.seat.me.0) ≡ node_at (node_of seat.old.seat.me.0) }
-        ensures known { seat.new.known ≡ moves.with_seen (node_at (node_of seat.old.seat.me.0)) port result seat.old.known }
-        ensures words { ByWord kinds.Own port seen_in (λ a n. record n { known = moves.with_seen (node_at n) port a n.known }) result (node_of seat.old.seat.me.0) (node_of seat.new.seat.me.0) }
+        ensures known { seat.new.known ≡ moves.with_seen (node_at (node_of seat.old.seat.me.0)) port result
+            seat.old.known }
+        ensures words { ByWord kinds.Own port seen_in (λ a n. record n {
+          known = moves.with_seen (node_at n)
+              port a n.known;
+        }) result (node_of seat.old.seat.me.0) (node_of seat.new.seat.me.0) }
         ensures says { SeeSays None port result }
     {
         let found = steps::see(&self.words, &mut seat.seat, port);
@@ -216,7 +230,8 @@ impl Gates {
         requires here { seat.old.seat.table_id ≡ self.now.words.shared.table_id }
         requires may { MayEnd (node_at (node_of seat.old.seat.me.0)) seat.old.known port }
         ensures here { seat.new.seat.table_id ≡ seat.old.seat.table_id }
-        ensures node { node_of seat.new.seat.me.0 ≡ after (node_of seat.old.seat.me.0) (moves.events_of_end (node_at (node_of seat.old.seat.me.0)) port seat.old.known) }
+        ensures node { node_of seat.new.seat.me.0 ≡ after (node_of seat.old.seat.me.0)
+            (moves.events_of_end (node_at (node_of seat.old.seat.me.0)) port seat.old.known) }
     {
         let known = port_known(seat.known, port - seat.first_port);
         let serial = known.serial;

@@ -15,8 +15,8 @@ use config_graph::VALUE_LIMIT;
 use port_gate::GateSeat;
 use quiesce_core::{Known, PortKnown};
 
-/// A node's seat: its steps at the gates are its node's events. Contracts see all that it knows of its node (`node_of`): slot, kind,
-/// argument, first port, source, what the node knows of itself, and its events in order.
+/// A node's seat: its steps at the gates are its node's events. Contracts see all that it knows of its node
+/// (`node_of`): slot, kind, argument, first port, source, what the node knows of itself, and its events in order.
 #[derive(Drop)]
 pub struct NodeSeat {
     pub slot: u32,
@@ -55,8 +55,8 @@ impl NodeSeat {
         }
     }
 
-    /// The value of the last message there, 0 where it services none. A value has 24 bits: the rule of the gates says so of each
-    /// that a seat knows, and the remainder tells it here.
+    /// The value of the last message there, 0 where it services none. A value has 24 bits: the rule of the gates says
+    /// so of each that a seat knows, and the remainder tells it here.
     pub(crate) fn value_served(&self) -> u32
         ensures value { result ≡ value_served self.now.known % 2 ^ 24 }
         ensures small { result < 2 ^ 24 }

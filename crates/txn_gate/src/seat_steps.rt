@@ -88,7 +88,8 @@ pub fn sight(words: &Words, seat: &mut AnySeat, node: AnySeat)
     words.shared.join_seat::<Sighting>(seat, node);
 }
 
-/// The change learns of the node whose seat it took in last. A join tells its caller nothing, so this is a load of its own.
+/// The change learns of the node whose seat it took in last. A join tells its caller nothing, so this is a load of
+/// its own.
 pub fn meet(words: &Words, seat: &mut AnySeat)
     requires here { IsHere seat.old.table_id words.now.shared.table_id }
     requires change { IsChange seat.old.me }

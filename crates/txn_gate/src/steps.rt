@@ -54,7 +54,8 @@ pub fn load(words: &Words, seat: &mut AnySeat, port: u32) -> u64
     words.shared.load::<Loading>(seat, port as usize)
 }
 
-/// A node begins a transaction of its own where the word is still the one that it loaded. Returns the word that is found.
+/// A node begins a transaction of its own where the word is still the one that it loaded. Returns the word that is
+/// found.
 pub fn begin<E: Names>(
     words: &Words,
     seat: &mut AnySeat,
@@ -71,7 +72,8 @@ pub fn begin<E: Names>(
     requires opened { (unpack loaded).closed ≡ false }
     requires linked { (t : Linked) × ((unpack loaded).target ≡ Some t) }
     requires unspent { (unpack loaded).serial < last_serial }
-    requires asked { asked ≡ pack (record (unpack loaded) { phase = phases.Asked; serial = (unpack loaded).serial + 1; value = value; consequent = false }) }
+    requires asked { asked ≡ pack (record (unpack loaded)
+        { phase = phases.Asked; serial = (unpack loaded).serial + 1; value = value; consequent = false }) }
     ensures here { seat.new.table_id ≡ seat.old.table_id }
     ensures begun { result ≡ loaded → seat.new.me ≡ did (read seat.old.me kinds.Exchange port result) E.event }
     ensures kept { result ≢ loaded → seat.new.me ≡ read seat.old.me kinds.Exchange port result }
@@ -89,8 +91,10 @@ pub fn take(words: &Words, seat: &mut AnySeat, port: u32) -> u64
     requires may { MayTake (node_of seat.old.me.0).known port }
     ensures here { seat.new.table_id ≡ seat.old.table_id }
     ensures taken { is_message_to (node_of seat.old.me.0).slot (unpack result) ≡ true
-        → seat.new.me ≡ did (read seat.old.me kinds.Take port result) (event.Take port (unpack result).serial (unpack result).value) }
-    ensures kept { is_message_to (node_of seat.old.me.0).slot (unpack result) ≡ false → seat.new.me ≡ read seat.old.me kinds.Take port result }
+        → seat.new.me ≡ did (read seat.old.me kinds.Take port result)
+        (event.Take port (unpack result).serial (unpack result).value) }
+    ensures kept { is_message_to (node_of seat.old.me.0).slot (unpack result) ≡ false
+        → seat.new.me ≡ read seat.old.me kinds.Take port result }
     ensures shown { WasShown (node_of seat.old.me.0) port result }
 {
     words.shared.load::<Taking>(seat, port as usize)
@@ -116,7 +120,8 @@ pub fn give<E: Names>(words: &Words, seat: &mut AnySeat, port: u32, value: u32, 
     requires node { IsNode seat.old.me }
     requires may { MayGive (node_of seat.old.me.0).known port value }
     requires port { port < MAX_PORTS }
-    requires operand { operand ≡ message_difference phases.Asked (value_served (node_of seat.old.me.0).known % 2 ^ 24) phases.Answered value }
+    requires operand { operand ≡ message_difference phases.Asked (value_served (node_of seat.old.me.0).known % 2 ^ 24)
+        phases.Answered value }
     ensures here { seat.new.table_id ≡ seat.old.table_id }
     ensures me { seat.new.me ≡ did seat.old.me E.event }
 {
@@ -127,13 +132,15 @@ pub fn give<E: Names>(words: &Words, seat: &mut AnySeat, port: u32, value: u32, 
 
 /// A node ends a transaction whose answer it saw.
 pub fn end<E: Names>(words: &Words, seat: &mut AnySeat, port: u32, operand: u64)
-    requires event { E.event ≡ event.End port (port_known (node_at (node_of seat.old.me.0)) (node_of seat.old.me.0).known port).serial
+    requires event { E.event ≡ event.End port
+        (port_known (node_at (node_of seat.old.me.0)) (node_of seat.old.me.0).known port).serial
         (value_seen (port_known (node_at (node_of seat.old.me.0)) (node_of seat.old.me.0).known port)) }
     requires here { IsHere seat.old.table_id words.now.shared.table_id }
     requires node { IsNode seat.old.me }
     requires may { MayEnd (node_at (node_of seat.old.me.0)) (node_of seat.old.me.0).known port }
     requires port { port < MAX_PORTS }
-    requires operand { operand ≡ end_difference (value_seen (port_known (node_at (node_of seat.old.me.0)) (node_of seat.old.me.0).known port) % 2 ^ 24)
+    requires operand { operand ≡ end_difference
+        (value_seen (port_known (node_at (node_of seat.old.me.0)) (node_of seat.old.me.0).known port) % 2 ^ 24)
         (port_known (node_at (node_of seat.old.me.0)) (node_of seat.old.me.0).known port).consequent }
     ensures here { seat.new.table_id ≡ seat.old.table_id }
     ensures me { seat.new.me ≡ did seat.old.me E.event }
@@ -150,7 +157,8 @@ pub fn more<E: Names>(words: &Words, seat: &mut AnySeat, port: u32, value: u32, 
     requires node { IsNode seat.old.me }
     requires may { MaySendMore (node_at (node_of seat.old.me.0)) (node_of seat.old.me.0).known port value }
     requires port { port < MAX_PORTS }
-    requires operand { operand ≡ message_difference phases.Asked (value_served (node_of seat.old.me.0).known % 2 ^ 24) phases.More value }
+    requires operand { operand ≡ message_difference phases.Asked (value_served (node_of seat.old.me.0).known % 2 ^ 24)
+        phases.More value }
     ensures here { seat.new.table_id ≡ seat.old.table_id }
     ensures me { seat.new.me ≡ did seat.old.me E.event }
 {
@@ -161,12 +169,15 @@ pub fn more<E: Names>(words: &Words, seat: &mut AnySeat, port: u32, value: u32, 
 
 /// A node replies to an intermediate reply that it saw.
 pub fn ask<E: Names>(words: &Words, seat: &mut AnySeat, port: u32, value: u32, operand: u64)
-    requires event { E.event ≡ event.Ask port (port_known (node_at (node_of seat.old.me.0)) (node_of seat.old.me.0).known port).serial value }
+    requires event { E.event ≡ event.Ask port
+        (port_known (node_at (node_of seat.old.me.0)) (node_of seat.old.me.0).known port).serial value }
     requires here { IsHere seat.old.table_id words.now.shared.table_id }
     requires node { IsNode seat.old.me }
     requires may { MayAsk (node_at (node_of seat.old.me.0)) (node_of seat.old.me.0).known port value }
     requires port { port < MAX_PORTS }
-    requires operand { operand ≡ message_difference phases.More (value_seen (port_known (node_at (node_of seat.old.me.0)) (node_of seat.old.me.0).known port) % 2 ^ 24) phases.Asked value }
+    requires operand { operand ≡ message_difference phases.More
+        (value_seen (port_known (node_at (node_of seat.old.me.0)) (node_of seat.old.me.0).known port) % 2 ^ 24)
+        phases.Asked value }
     ensures here { seat.new.table_id ≡ seat.old.table_id }
     ensures me { seat.new.me ≡ did seat.old.me E.event }
 {
@@ -183,7 +194,8 @@ pub fn hear(words: &Words, seat: &mut AnySeat, port: u32) -> u64
     requires port { port < MAX_PORTS }
     ensures here { seat.new.table_id ≡ seat.old.table_id }
     ensures heard { is_asked (unpack result).phase ≡ true
-        → seat.new.me ≡ did (read seat.old.me kinds.Hear port result) (event.Hear port (serial_served (node_of seat.old.me.0).known) (unpack result).value) }
+        → seat.new.me ≡ did (read seat.old.me kinds.Hear port result)
+        (event.Hear port (serial_served (node_of seat.old.me.0).known) (unpack result).value) }
     ensures kept { is_asked (unpack result).phase ≡ false → seat.new.me ≡ read seat.old.me kinds.Hear port result }
     ensures shown { WasShown (node_of seat.old.me.0) port result }
 {
@@ -197,8 +209,10 @@ pub fn look_to_call(words: &Words, seat: &mut AnySeat, port: u32, value: u32) ->
     requires may { MayCall (node_at (node_of seat.old.me.0)) (node_of seat.old.me.0).known port value }
     requires port { port < MAX_PORTS }
     ensures here { seat.new.table_id ≡ seat.old.table_id }
-    ensures missed { is_missing (unpack result) ≡ true → seat.new.me ≡ did (read seat.old.me kinds.Own port result) (event.Miss port) }
-    ensures found { is_missing (unpack result) ≡ false → seat.new.me ≡ (of_node (looks (node_of seat.old.me.0) port result), []) }
+    ensures missed { is_missing (unpack result) ≡ true
+        → seat.new.me ≡ did (read seat.old.me kinds.Own port result) (event.Miss port) }
+    ensures found { is_missing (unpack result) ≡ false
+        → seat.new.me ≡ (of_node (looks (node_of seat.old.me.0) port result), []) }
     ensures shown { WasShown (node_of seat.old.me.0) port result }
 {
     let _ = value;
@@ -284,7 +298,12 @@ pub fn make<E: Names>(
 )
     requires event { E.event ≡ event.Make slot node.now from }
     requires may { May (change_of seat.old.me.0).entries (event.Make slot node.now from) }
-    requires word { word ≡ pack_slot (record { kind = node.now.kind; first_port = length (config_of (change_of seat.old.me.0).entries).gates; arg = node.now.arg; from = from }) }
+    requires word { word ≡ pack_slot (record {
+      kind = node.now.kind;
+      first_port = length (config_of (change_of seat.old.me.0).entries).gates;
+      arg = node.now.arg;
+      from = from;
+    }) }
     requires here { IsHere seat.old.table_id words.now.shared.table_id }
     requires change { IsChange seat.old.me }
     requires slot { slot < MAX_NODES }

@@ -8,8 +8,8 @@ use crate::gates::Gates;
 use crate::node_seat::NodeSeat;
 use port_gate::{BeginAnswer, CallAnswer, HearAnswer, PortGate, SeeAnswer, TakeAnswer};
 
-/// The gates as one worker's gate. A seat fits where it is of these gates, and what each call says is what the gates' own says. It
-/// tells no state: others act meanwhile.
+/// The gates as one worker's gate. A seat fits where it is of these gates, and what each call says is what the gates'
+/// own says. It tells no state: others act meanwhile.
 #[derive(Drop)]
 pub struct TableGate<'g> {
     pub gates: &'g Gates,
@@ -70,5 +70,6 @@ impl<'g> PortGate for TableGate<'g> {
         self.gates.hear(seat, port)
     }
 
-    ghost within = { λ gate seat fits. within_limits (node_of seat.seat.me.0) seat.slot seat.first_port seat.slot_is seat.first_is seat.slot_within seat.ports_within };
+    ghost within = { λ gate seat fits. within_limits (node_of seat.seat.me.0) seat.slot seat.first_port seat.slot_is
+        seat.first_is seat.slot_within seat.ports_within };
 }

@@ -17,9 +17,9 @@ use drain_laws::{nothing_is_left_where_none_is_open, rest_falls_by_steps};
 use hint_laws::{hints_are_posted_in_rounds, rounds_move_what_is_open};
 use plan_laws::{commits_can_not_fail, commits_leave_the_new_graph, each_plan_may_commit};
 
-/// From a world that is reached, in which no hint waits for a node whose inbox is empty, no transaction is open any more
-/// after at most as many rounds as are events left of what is open, where no node begins one meanwhile: each of these
-/// rounds moves, and each move is one of those events.
+/// From a world that is reached, in which no hint waits for a node whose inbox is empty, no transaction is open any
+/// more after at most as many rounds as are events left of what is open, where no node begins one meanwhile: each of
+/// these rounds moves, and each move is one of those events.
 pub fn rounds_drain_what_is_left()
     ensures drained { (w : World) → IsReached w → ArePosted w
         → (j : ℕ) × (j ≤ rest w.machine) × IsAllIdle (after_rounds false w j).machine }
