@@ -95,6 +95,12 @@ def node_in(line):
     return words[1], node
 
 
+def has_form(line):
+    """Whether a line is `node PATH KIND(ARG)`, or `port` and two words."""
+    words = line.split(b" ")
+    return len(words) == 3 and (words[0] == b"port" or words[0] == b"node" and kind_in(words[2]) is not None)
+
+
 def graph_in(lines):
     """The nodes, whose paths rise and aren't empty, and the links that lines show, which may lead anywhere, or None."""
     nodes, links, lines, last = {}, {}, list(lines), b""
@@ -166,11 +172,12 @@ class Reader:
             is_behind_pending = is_open or words[0] == b"pending"
 
     def show(self):
-        """A graph, which is judged as a whole once a line stands behind it."""
+        """A graph, which is judged as a whole once a line stands behind it, and before by the forms of its lines."""
         first = end = self.at + 1
         while end < len(self.lines) and self.lines[end].split(b" ")[0] in (b"node", b"port"):
             end += 1
         if end == len(self.lines):
+            self.take(all(map(has_form, self.lines[first:end])))
             raise Fault("Short")
         graph = graph_in(self.lines[first:end])
         self.take(graph is not None and is_sound(graph))

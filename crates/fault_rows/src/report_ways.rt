@@ -31,6 +31,9 @@ pub fn each_fault_of_a_graph_is_needed()
     ensures no_port { IsReportFault (codes "report 2\nshow\nnode a source(1)\nstop\n") (BadLine 2) }
     ensures no_target { IsReportFault (codes "report 2\nshow\nnode a source(1)\nport a.out b.in\nstop\n") (BadLine 2) }
     ensures cycle { IsReportFault (codes "report 2\nshow\nnode a map(1)\nport a.next a.in\nstop\n") (BadLine 2) }
+    ensures cut_off { IsReportFault (codes "report 2\nshow\nnode a source(1)\n") Short }
+    ensures cut_off_node { IsReportFault (codes "report 2\nshow\nnode a\n") (BadLine 2) }
+    ensures cut_off_port { IsReportFault (codes "report 2\nshow\nnode a source(1)\nport a.out\n") (BadLine 2) }
 {}
 
 /// Each way in which the log of a node can't be read: its first line isn't that of the node, an event has no form, or

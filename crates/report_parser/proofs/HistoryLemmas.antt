@@ -1,6 +1,7 @@
 -- The history of a report: what is written is read, and what is read was written.
 use Rattle.std.proofs.Common.{◌≡◌, ◌+◌, ◌&&◌, ℕ, Bool, true, false, inl, inr, ◌⊎◌, List, [], ◌∷◌, ◌++◌, length, Option, Some, None, IfSome, option_map, codes, bytes_eq, refl, sym, ap, subst, ◌∙◌, append_assoc, cond}
 use Rattle.std.specs.Prelude.{flat_map}
+use Rattle.std.specs.List.{list_all}
 use Rattle.std.proofs.lemmas.Bool.{and_parts, cases_Bool, cond-true, cond-false, eq-eqb, eqb-true, false≢true}
 use Rattle.std.proofs.lemmas.List.{append-nil}
 use Rattle.base.specs.Each.{EachAfter}
@@ -24,7 +25,7 @@ use Rattle.report_reader.proofs.ReadingLaws.{line_of, line_says}
 use Rattle.report_parser.specs.declared.history.Behind.{Behind}
 use Rattle.report_parser.specs.declared.history.Behind.TheVariants as behinds
 use Rattle.report_parser.specs.declared.version.Version.{Version}
-use Rattle.report_parser.specs.GraphTexts.{behind_graph, graph_in, graph_lines}
+use Rattle.report_parser.specs.GraphTexts.{behind_graph, graph_in, graph_lines, has_form}
 use Rattle.report_parser.specs.Limits.{line_keeps}
 use Rattle.report_parser.specs.ReportTexts.{CanBeShown, CanStand, IsOneLine, StandsBehind, ends_pending, is_pending_or_root, is_root}
 use Rattle.report_parser.specs.Stages.{Front, Past, behind_line, front, goes_on, history_from, is_after_pending, is_after_show, keeping, past_with, shown_in, stands, with_line}
@@ -378,10 +379,14 @@ module _ (version : Version) (past : List HistoryLine) (behind : Behind) (line :
   fits_graph None is show e = none_some next e
   fits_graph (Some graph) is show e = shows graph show is (sym (some_is (past ++ history.Show graph ∷ [], behinds.Show) next e))
 
+  unjudged_next : (b : Bool) → cond b (Some (past, behinds.Show)) None ≡ Some next → next ≡ (past, behinds.Show)
+  unjudged_next true e = sym (some_is (past, behinds.Show) next e)
+  unjudged_next false e = none_some next e
+
   fits_shown : line ≡ codes "show" → shown_in past more ≡ Some next → Fits version past behind line more next
   fits_shown show e =
       elim (cases_Bool (no_parts (behind_graph more))) [
-        | inl none ↦ unjudged (no_lines (behind_graph more) none) (sym (some_is (past, behinds.Show) next (sym (cond-true _ _ _ none) ∙ e)))
+        | inl none ↦ unjudged (no_lines (behind_graph more) none) (unjudged_next (list_all has_form (graph_lines more)) (sym (cond-true _ _ _ none) ∙ e))
         | inr some ↦ fits_graph (graph_in (graph_lines more)) refl show (sym (cond-false _ _ _ some) ∙ e)
       ]
 

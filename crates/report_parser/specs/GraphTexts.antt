@@ -1,6 +1,6 @@
 -- The graph that lines show: nodes and links are read from them as they come, and the lines show this graph where
 -- they are its text and it is sound.
-use Rattle.std.specs.Prelude.{ℕ, ◌+◌, ◌-◌, zero, suc, ◌==◌, Bool, true, false, not, ◌&&◌, nat_lt, if◌then◌else◌, List, [], ◌∷◌, ◌++◌, bytes_eq, filter_map, flat_map, is_some, length, replicate, slice_index_or, take, Option, Some, None}
+use Rattle.std.specs.Prelude.{ℕ, ◌+◌, ◌-◌, zero, suc, ◌==◌, Bool, true, false, not, ◌&&◌, nat_lt, if◌then◌else◌, List, [], ◌∷◌, ◌++◌, ◌||◌, bytes_eq, filter_map, flat_map, is_some, length, replicate, slice_index_or, take, Option, Some, None}
 use Rattle.std.specs.List.{list_all, range_with_len, suffix_len}
 use Rattle.std.specs.Option.{option_and_then}
 use Rattle.std.specs.Ordering.{is_lt, nat_cmp}
@@ -26,6 +26,10 @@ graph_lines (line ∷ more) = if is_graph_line (words line) then line ∷ graph_
 abbrev pub behind_graph : List (List ℕ) → List (List ℕ)
 behind_graph [] = []
 behind_graph (line ∷ more) = if is_graph_line (words line) then behind_graph more else line ∷ more
+
+-- whether a line has a form of those of a graph's text: `node PATH KIND(ARG)`, or `port` and two words
+abbrev pub has_form : List ℕ → Bool
+has_form line = is_some (node_in (words line)) || is_some (target_in (words line))
 
 -- the nodes of lines, and the words for the targets of ports
 abbrev pub nodes_in : List (List ℕ) → List Node

@@ -1,6 +1,7 @@
 -- How a report is read from the lines of its text, in stages: each reads as many lines as fit, and the next names the
 -- line that doesn't.
 use Rattle.std.specs.Prelude.{◌≡◌, ℕ, ◌+◌, ◌==◌, Bool, true, false, ◌&&◌, if◌then◌else◌, List, [], ◌∷◌, ◌++◌, bytes_eq, codes, length, Option, Some, None, option_map, Result, Ok, Err}
+use Rattle.std.specs.List.{list_all}
 use Rattle.quiesce_core.specs.declared.event.Event.{Event}
 use Rattle.change_script.specs.Reports.{SlotPath, log_head, makes}
 use Rattle.change_script.specs.declared.report.HistoryLine.{HistoryLine}
@@ -20,7 +21,7 @@ use Rattle.report_parser.specs.declared.version.Version.{Version}
 use Rattle.report_parser.specs.declared.version.Version.TheVariants as versions
 use Rattle.report_parser.specs.Limits.{event_keeps, is_slot, last_keeps, line_keeps}
 use Rattle.report_parser.specs.ReportTexts.{is_pending_or_root, written_by}
-use Rattle.report_parser.specs.GraphTexts.{behind_graph, graph_in, graph_lines}
+use Rattle.report_parser.specs.GraphTexts.{behind_graph, graph_in, graph_lines, has_form}
 use Rattle.report_parser.specs.TextLines.{lines, tail}
 
 -- what was read, the number of the next line, and the lines that are left
@@ -89,10 +90,11 @@ Past = List HistoryLine × Behind
 abbrev pub with_line : List HistoryLine → HistoryLine → Past
 with_line past says = (past ++ says ∷ [], behind_line says)
 
--- `show` before these lines: the graph is judged where a line stands behind its text
+-- `show` before these lines: the graph is judged where a line stands behind its text; of one that is cut off each line
+-- has the form of one
 abbrev pub shown_in : List HistoryLine → List (List ℕ) → Option Past
 shown_in past more =
-    if is_end (behind_graph more) then Some (past, behinds.Show)
+    if is_end (behind_graph more) then (if list_all has_form (graph_lines more) then Some (past, behinds.Show) else None)
     else option_map (λ graph. (past ++ history.Show graph ∷ [], behinds.Show)) (graph_in (graph_lines more))
 
 -- a line of one form of its own

@@ -6,7 +6,7 @@ ghost use Rattle.change_script.specs.Reports.{ended};
 ghost use Rattle.config_graph.specs.Graph.{IsLinkWithin, ports as ports_of};
 ghost use Rattle.config_graph.specs.GraphText.{graph_text as drawn_text};
 ghost use Rattle.config_graph.specs.Kinds.{row};
-ghost use Rattle.report_parser.specs.GraphTexts.{behind_dot, behind_graph, comes_before, drawn, graph_in, graph_lines, fits_kind, has_no_cycle, is_sound_node, is_one_piece, is_path_byte, link_from, links_by, nodes_in, path_of, paths_rise, target_named, targets_in};
+ghost use Rattle.report_parser.specs.GraphTexts.{behind_dot, behind_graph, comes_before, drawn, graph_in, graph_lines, fits_kind, has_form, has_no_cycle, is_sound_node, is_one_piece, is_path_byte, link_from, links_by, nodes_in, path_of, paths_rise, target_named, targets_in};
 ghost use Rattle.report_parser.specs.TextLines.{lines, tail};
 
 use crate::rest::first_line;
@@ -31,6 +31,26 @@ pub fn split_graph(text: &[u8]) -> (&[u8], &[u8])
         left = behind;
     }
     (&text[..text.len() - left.len()], left)
+}
+
+/// Whether each line has a form of those of a graph's text.
+pub fn have_forms(alloc: Global, text: &[u8]) -> Result<bool, NoMemory>
+    ensures { IfOk result (λ all. all ≡ list_all has_form (lines text.now)) }
+{
+    let mut left = text;
+    'lines: while let Some((line, behind)) = first_line(left) {
+        if !has_form(alloc, line)? {
+            return Ok(false);
+        }
+        left = behind;
+    }
+    Ok(true)
+}
+
+fn has_form(alloc: Global, line: &[u8]) -> Result<bool, NoMemory>
+    ensures { IfOk result (λ has. has ≡ has_form line.now) }
+{
+    Ok(node_line(alloc, line)?.is_some() || target_word(line).is_some())
 }
 
 /// The graph that lines show, or `None` where they are the text of no sound graph. No line feed is missing.

@@ -8,7 +8,7 @@ ghost use Rattle.report_parser.specs.Rests.{Follows, HasRoom, leaving};
 ghost use Rattle.report_parser.specs.Stages.{behind_line, history_from, past_with, said_in, shown_in, stands};
 ghost use Rattle.report_parser.specs.TextLines.{lines};
 
-use crate::graphs::{read_graph, split_graph};
+use crate::graphs::{have_forms, read_graph, split_graph};
 use crate::limits::line_keeps;
 use crate::readings::line_said;
 use crate::rest::{Rest, first_line, has_no_line, next_line};
@@ -118,7 +118,7 @@ fn push_line(
     }
 }
 
-/// A graph that is shown. It is judged where a line stands behind its own.
+/// A graph that is shown. It is judged where a line stands behind its own; else each of these has a form of one.
 fn push_shown(
     alloc: Global,
     history: &mut Vec<HistoryLine>,
@@ -138,7 +138,8 @@ fn push_shown(
     };
     let (shown, more) = split_graph(behind.text);
     if has_no_line(more) {
-        return Ok(Some(next));
+        let fits = have_forms(alloc, shown)?;
+        return Ok(if fits { Some(next) } else { None });
     }
     let Some(graph) = read_graph(alloc, shown)? else {
         return Ok(None);

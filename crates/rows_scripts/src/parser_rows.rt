@@ -61,7 +61,7 @@ static LINES: [Row; 15] = [
 ];
 
 /// Graphs that are shown.
-static GRAPHS: [Row; 12] = [
+static GRAPHS: [Row; 15] = [
     ("report 2|show|status 0|", "", 0),
     (
         "report 2|show|node a source(1)|port a.out b.in|node b sink()|status 0|",
@@ -70,6 +70,9 @@ static GRAPHS: [Row; 12] = [
     ),
     ("report 2|stop|node a sink()|", "BadLine", 3),
     ("report 2|show|node a sink(1)|", "Short", 0),
+    ("report 2|show|node a sink(1)|port", "Short", 0),
+    ("report 2|show|node a sink()|node|", "BadLine", 2),
+    ("report 2|show|node a source(1)|port a.out|", "BadLine", 2),
     ("report 2|show|node a sink(1)|stop|", "BadLine", 2),
     ("report 2|show|node a source(1)|stop|", "BadLine", 2),
     (

@@ -14,4 +14,7 @@ returns c = record {
   no_port = refl;
   no_target = refl;
   cycle = refl;
+  cut_off = refl;
+  cut_off_node = refl;
+  cut_off_port = refl;
 }
