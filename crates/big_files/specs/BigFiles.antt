@@ -1,5 +1,6 @@
 -- The files of `big`: a description of lanes, each a source, a map, a buffer, a map and a sink in a row, and the
--- script of a run that starts so many lanes, changes the first map of each, and ends when all are done.
+-- script of a run that starts so many lanes, changes the first map of each, and ends when all are done or 100,000 rounds
+-- are made.
 use Rattle.std.specs.Prelude.{◌*◌, ℕ, List, ◌++◌, Some, codes, decimal, if◌then◌else◌}
 use Rattle.std.specs.Str.{bytes_eq}
 use Rattle.cfg_io.specs.Shelf.{Files}

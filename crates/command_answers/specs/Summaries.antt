@@ -1,5 +1,5 @@
--- The summary of a run: how many nodes were made and how many times a change was committed, how many values the sinks
--- keep at the end, and how the run ended.
+-- The summary of a run: how many nodes were made, how many `commit` lines there are (that of the start is one), how many
+-- values the sinks keep at the end, and how the run ended.
 use Rattle.std.specs.Prelude.{ℕ, Bool, true, false, List, [], ◌++◌, codes, filter, flat_map, length, slice_get, if◌then◌else◌}
 use Rattle.std.specs.Option.{option_map_or}
 use Rattle.config_graph.specs.declared.kind.Kind.{Kind}

@@ -202,7 +202,7 @@ impl Integers {
     }
 }
 
-/// Refuses as many turns as there is no room for: each counts, whatever it reaches.
+/// Refuses more turns than there is room for: each counts, whatever it reaches.
 fn check_room(left: &Integers, walked: &Walked, room: u64) -> Result<(), WalkError>
     ensures { JudgesPart [] (room < walked.now.count + length (integers_to left.now.low left.now.high))
         (λ _. length (integers_to left.now.low left.now.high) ≤ room - walked.now.count) result }

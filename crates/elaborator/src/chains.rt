@@ -16,7 +16,8 @@ pub struct PortId {
     pub index: Option<i32>,
 }
 
-/// The longest chain leads from a requirement of depth 33 outward to depth 1, across, and inward again.
+/// More steps than any chain takes: the longest leads from a requirement of depth 32 outward to depth 1, across, and
+/// inward again, in 63.
 const CHAIN_STEPS: u32 = 68;
 
 /// What each source is bound to. Contracts see the pairs of sources and targets.

@@ -7,9 +7,9 @@ use darwin_lexer::At;
 use std::alloc::{AllocError, AllocFailed};
 
 /// A fault of an elaboration. The first text is the path of the composite instance in which the fault
-/// stands, and the place is that of the statement or declaration; in `TwoInstances` and `TooDeep` the
-/// path is that of the instance, in `DependsCycle` that of the node. A number above 4,294,967,295 is
-/// carried as that.
+/// stands, and the place is that of the statement or declaration; in `NoTop` and `TopIsKind` it is the
+/// component's name; in `TwoInstances` and `TooDeep` the path is that of the instance, in `DependsCycle`
+/// that of the node. A number above 4,294,967,295 is carried as that.
 #[derive(Debug, Drop)]
 pub enum ElabError {
     /// No component has the name.

@@ -55,7 +55,7 @@ pub fn one_graph()
         → ElaboratesTo tree name arguments h → g ≡ h }
 {}
 
-/// Some fault of an elaboration holds, or none does and there is a graph, which may be run.
+/// Where no name is at fault, some fault of an elaboration holds, or none does and there is a graph, which may be run.
 pub fn a_graph_or_a_fault()
     ensures { (tree : Tree) (name : Name) (arguments : List ℤ) → NoFault tree
         → ((f : ElabError) × Faults tree name arguments f)

@@ -20,7 +20,8 @@ pub fn each_line_of_a_history_is_needed()
 {}
 
 /// Each way in which lines behind `show` show no graph: their paths don't rise, a node's path or argument is none, they
-/// aren't the text of the graph that they tell, or a cycle is in it.
+/// aren't the text of the graph that they tell, or a cycle is in it. Where the text ends among them it is short if each
+/// has a form of a graph's line, and else the `show` line is bad.
 pub fn each_fault_of_a_graph_is_needed()
     ensures falls { IsReportFault (codes "report 2\nshow\nnode b sink()\nnode a sink()\nstop\n") (BadLine 2) }
     ensures same_path { IsReportFault (codes "report 2\nshow\nnode a sink()\nnode a sink()\nstop\n") (BadLine 2) }
