@@ -64,8 +64,8 @@ pub fn turn_at_gates<C: Component + Drop, H: Hints>(
     ensures looked { result ≡ Ok turn.Still → (C.state node.old.inner).service ≡ None
         → IsAsked (H.counts hints.old node.old.slot) (H.counts hints.new node.old.slot) }
     ensures tried { OnOk result (IsTried (node_of node.old.slot node.old.first_port (C.state node.old.inner))
-        (C.state node.old.inner) node.old.known begins (event_of result) (H.counts hints.old node.old.slot)
-        (H.counts hints.new node.old.slot) (Some (loads_of (views.node_of node.old.seat.seat.me.0).loads))
+        (C.state node.old.inner) node.old.known begins (event_of result)
+        (Some (loads_of (views.node_of node.old.seat.seat.me.0).loads))
         (Some (loads_of (views.node_of node.new.seat.seat.me.0).loads))) }
     ensures no_begin { begins ≡ false → is_begin (event_of result) ≡ false }
 {

@@ -4,7 +4,7 @@ use Rattle.base.specs.Count.{Rose}
 use Rattle.port_queue.specs.Inboxes.{Counts}
 use Rattle.node_host.specs.Trying.{IsAsked, IsGrown, LookedAt}
 
-pub rose_since : (a b c : ℕ) → a ≤ b → Rose b c → Rose a c
+rose_since : (a b c : ℕ) → a ≤ b → Rose b c → Rose a c
 rose_since a b c few rose = (omega (arith, few, rose.0), λ short. grind (arith, few, rose.0, rose.1, short))
 
 pub asked_since : (a b c : Counts) → IsGrown a b → LookedAt b c → IsAsked a c

@@ -7,7 +7,7 @@ use Rattle.quiesce_core.specs.declared.event.Event.{Event}
 use Rattle.quiesce_core.specs.declared.event.Event.TheVariants.{Begin, Call}
 use Rattle.node_host.specs.Posting.{GateSeen, HintOf, Hinted, is_asking}
 
-hint_free : (g : GateSeen) (first : ℕ) (e : Option Event) (old new : Hinted) → is_asking e ≡ false → new ≡ old → HintOf g first e old new
+pub hint_free : (g : GateSeen) (first : ℕ) (e : Option Event) (old new : Hinted) → is_asking e ≡ false → new ≡ old → HintOf g first e old new
 hint_free g first None old new h same = same
 hint_free g first (Some (Begin p k v)) old new h same = absurd (both_ways true h refl)
 hint_free g first (Some (Call p k v)) old new h same = absurd (both_ways true h refl)

@@ -1,8 +1,7 @@
 -- That the moves before the one that was made aren't possible, put together from what each call shows.
-use Rattle.std.proofs.Common.{inl, inr, ◌≡◌, ◌∙◌, ◌⊎◌, ℕ, zero, suc, ◌+◌, ◌<◌, ◌≤◌, Bool, true, false, length, Option, Some, None, refl, sym, ap, subst, arith}
-use Rattle.std.specs.Prelude.{◌==◌, ◌&&◌, is_none, nat_lt}
-use Rattle.std.proofs.lemmas.Bool.{both_ways, eq-eqb, eqb-true}
-use Rattle.base.specs.Count.{Rose}
+use Rattle.std.proofs.Common.{inl, inr, ◌≡◌, ◌∙◌, ◌⊎◌, ℕ, zero, suc, ◌+◌, ◌<◌, Bool, true, false, length, Option, Some, None, refl, sym, ap, subst, arith}
+use Rattle.std.specs.Prelude.{◌&&◌, is_none, nat_lt}
+use Rattle.std.proofs.lemmas.Bool.{both_ways, eqb-true}
 use Rattle.config_graph.specs.Kinds.{row}
 use Rattle.component_trait.specs.States.{NodeState}
 use Rattle.quiesce_core.specs.Knowledge.{KnowsService}
@@ -17,12 +16,11 @@ use Rattle.port_gate.specs.Loads.{IsLed, IsLoaded, Load, Loads, TellsLoads, lead
 use Rattle.port_gate.specs.Seats.{NodeAt}
 use Rattle.port_queue.specs.Inboxes.{Counts}
 use Rattle.node_host.specs.Hosted.{node_of}
-use Rattle.node_host.specs.Posting.{GateSeen, HintOf, Hinted, IsSent, IsSentAfter, IsSentBy}
+use Rattle.node_host.specs.Posting.{GateSeen, HintOf, Hinted, IsLooked, IsSent, IsSentAfter, IsSentBy, Looked, is_asking}
 use Rattle.node_host.specs.Told.{IsTold}
-use Rattle.node_host.specs.Tried.{AreLaterTried, AreMovesTried, CannotBegin, HasNoReply, HasNoRequest, HaveNoReplies, IsHeld, IsTried, Keeps, LoadsPort, Steps, bars_begin, is_busy, is_move, is_passed, is_reply_at, is_stale_for, move_number, passed_ports, shows_in_more}
-use Rattle.node_host.specs.Trying.{CountsTried, IsGrown}
-use Rattle.node_host.proofs.Asked.{rose_since}
-use Rattle.node_host.proofs.Loading.{keeps_steps, led_kept, led_since, loaded_kept, loaded_since, then_so}
+use Rattle.node_host.specs.Tried.{CannotBegin, HasNoReply, HasNoRequest, HaveNoReplies, IsHeld, IsTried, Keeps, LoadsPort, Steps, bars_begin, is_busy, is_move, is_passed, is_reply_at, is_stale_for, move_number, passed_ports, shows_in_more}
+use Rattle.node_host.proofs.Hinting.{hint_free}
+use Rattle.node_host.proofs.Loading.{led_kept, led_since, loaded_kept, loaded_since, then_so}
 
 -- ---- numbers of moves
 
@@ -79,10 +77,10 @@ led_over p shows first w a b c kept led =
     then_so (λ x y. IsLed p shows x.steps y.steps y.hear) (Keeps 3 first w) (λ x y. IsLed p shows x.steps y.steps y.hear)
     (λ x y z l s. led_kept p shows x.steps y.steps z.steps y.hear z.hear s.steps (s.hear (omega arith)) l) a b c led kept
 
-held_kept : (first : ℕ) (w : Known) (o : Option Served) (a b c : Option Loads) → TellsLoads (Keeps 3 first w) b c → IsHeld w o a b → IsHeld w o a c
-held_kept first w None a b c kept h = h
-held_kept first w (Some u) a b c kept (inl left) = inl left
-held_kept first w (Some u) a b c kept (inr waits) = inr (waits.0, led_over u.port shows_in_more first w a b c kept waits.1)
+pub held_kept : (first : ℕ) (v w : Known) (o : Option Served) (a b c : Option Loads) → TellsLoads (Keeps 3 first v) b c → IsHeld w o a b → IsHeld w o a c
+held_kept first v w None a b c kept h = h
+held_kept first v w (Some u) a b c kept (inl left) = inl left
+held_kept first v w (Some u) a b c kept (inr waits) = inr (waits.0, led_over u.port shows_in_more first v a b c kept waits.1)
 
 held_since : (w : Known) (o : Option Served) (a b c : Option Loads) → TellsLoads Steps a b → IsHeld w o b c → IsHeld w o a c
 held_since w None a b c steps h = h
@@ -96,61 +94,25 @@ held_since w (Some u) a b c steps (inr waits) =
 
 -- ---- the next request
 
--- counts that an event's own hint may change
-pub record After (old new : Counts) : Type 0 where
-  pub refused : old.refused ≤ new.refused
-  pub given : new.given ≡ old.given
-  pub last : new.last ≡ old.last
-
-rose_on : (a b c : ℕ) → Rose a b → b ≤ c → Rose a c
-rose_on a b c rose few = (omega (arith, few, rose.0), λ short. grind (arith, few, rose.0, rose.1, short))
-
-request_kept : (n first : ℕ) (w : Known) (c c1 c2 : Counts) (a b d : Option Loads) → After c1 c2 → TellsLoads (Keeps 4 first w) b d → HasNoRequest n c c1 a b → HasNoRequest n c c2 a d
-request_kept n first w c c1 c2 a b d on kept (inl empty) = inl (rose_on c.refused c1.refused c2.refused empty on.refused)
-request_kept n first w c c1 c2 a b d on kept (inr (rose, p, last, led)) =
+pub request_kept : (n first : ℕ) (w : Known) (c c' : Counts) (a b d : Option Loads) → TellsLoads (Keeps 4 first w) b d → HasNoRequest n c c' a b → HasNoRequest n c c' a d
+request_kept n first w c c' a b d kept (inl empty) = inl empty
+request_kept n first w c c' a b d kept (inr (p, gave, led)) =
     inr (
-      subst (λ i. Rose c.given i) (sym on.given) rose,
       p,
-      on.last ∙ last,
+      gave,
       then_so (λ x y. IsLed p (is_stale_for n) x.steps y.steps y.take) (Keeps 4 first w) (λ x y. IsLed p (is_stale_for n) x.steps y.steps y.take)
           (λ x y z l s. led_kept p (is_stale_for n) x.steps y.steps z.steps y.take z.take s.steps (s.take (omega arith)) l) a b d led kept,
     )
 
 request_since : (n : ℕ) (c c' : Counts) (a b d : Option Loads) → TellsLoads Steps a b → HasNoRequest n c c' b d → HasNoRequest n c c' a d
 request_since n c c' a b d steps (inl empty) = inl empty
-request_since n c c' a b d steps (inr (rose, p, last, led)) =
+request_since n c c' a b d steps (inr (p, gave, led)) =
     inr (
-      rose,
       p,
-      last,
+      gave,
       then_so Steps (λ x y. IsLed p (is_stale_for n) x.steps y.steps y.take) (λ x y. IsLed p (is_stale_for n) x.steps y.steps y.take)
           (λ x y z s l. led_since p (is_stale_for n) x.steps y.steps z.steps z.take s l) a b d steps led,
     )
-
-request_grown : (n : ℕ) (c c1 c2 : Counts) (a b : Option Loads) → IsGrown c c1 → HasNoRequest n c1 c2 a b → HasNoRequest n c c2 a b
-request_grown n c c1 c2 a b grown (inl empty) = inl (rose_since c.refused c1.refused c2.refused grown.0 empty)
-request_grown n c c1 c2 a b grown (inr (rose, p, last, led)) = inr (subst (λ k. Rose k c2.given) grown.1 rose, p, last, led)
-
--- what the hint of an event leaves of what is counted of a node
-after_same : (c : Counts) → After c c
-after_same c = record { refused = omega arith; given = refl; last = refl }
-
-after_tried : (posted : Bool) (c c' : Counts) → CountsTried posted c c' → After c c'
-after_tried true c c' h = subst (λ x. After c x) (sym h) (after_same c)
-after_tried false c c' h = record { refused = h.refused.0; given = h.given; last = h.last }
-
-after_sent : (g : GateSeen) (first p n : ℕ) (old new : Hinted) → IsSent g first p old new → After (old.counts n) (new.counts n)
-after_sent g first p n old new h = by (n == h.target) refl
-  where
-    by : (b : Bool) → (n == h.target) ≡ b → After (old.counts n) (new.counts n)
-    by true is = subst (λ i. After (old.counts i) (new.counts i)) (sym (eqb-true n h.target is)) (after_tried h.posted.posted (old.counts h.target) (new.counts h.target) h.posted.tried)
-    by false is = subst (λ x. After (old.counts n) x) (sym (h.posted.counts n (λ same. both_ways (n == h.target) is (eq-eqb n h.target same)))) (after_same (old.counts n))
-
-pub after_hint : (g : GateSeen) (first n : ℕ) (e : Option Event) (old new : Hinted) → HintOf g first e old new → After (old.counts n) (new.counts n)
-after_hint g first n None old new h = subst (λ (x : Hinted). After (old.counts n) (x.counts n)) (sym h) (after_same (old.counts n))
-after_hint g first n (Some (Begin p k v)) old new h = after_sent g first p n old new h
-after_hint g first n (Some (Call p k v)) old new h = after_sent g first p n old new h
-after_hint g first n (Some e) old new h = subst (λ (x : Hinted). After (old.counts n) (x.counts n)) (sym h) (after_same (old.counts n))
 
 -- ---- a beginning
 
@@ -180,114 +142,47 @@ hint_since s a b c first (Some (Begin p k v)) old new steps h = sent_since s a b
 hint_since s a b c first (Some (Call p k v)) old new steps h = sent_since s a b c first p old new steps h
 hint_since s a b c first (Some e) old new steps h = h
 
--- ---- all moves
-
-module _ (n : NodeAt) (t : NodeState) (w : Known) (allowed : Bool) where
-  pub later_then : (o : Option Event) (c c1 c2 : Counts) (a b d : Option Loads) → HasNoRequest n.slot c c1 a b → TellsLoads (Keeps 3 n.first w) a b → (o ≡ None → allowed ≡ true → CannotBegin n.first t w b d)
-      → TellsLoads (Keeps 4 n.first w) b d → After c1 c2 → AreLaterTried n t w allowed o c c2 a d
-  later_then o c c1 c2 a b d asked kept cannot later on = record {
-    request = λ after free. request_kept n.slot n.first w c c1 c2 a b d on later asked;
-    begin = λ none_ may. cannot_since n.first t w a b d (keeps_steps 3 n.first w a b kept) (cannot none_ may);
-  }
-
-  later_since : (o : Option Event) (c c' : Counts) (a b d : Option Loads) → TellsLoads Steps a b → AreLaterTried n t w allowed o c c' b d → AreLaterTried n t w allowed o c c' a d
-  later_since o c c' a b d steps h = record {
-    request = λ after free. request_since n.slot c c' a b d steps (h.request after free);
-    begin = λ none_ may. cannot_since n.first t w a b d steps (h.begin none_ may);
-  }
-
-  pub moves_then : (o : Option Event) (c c' : Counts) (a b d : Option Loads) → IsHeld w w.service a b → TellsLoads (Keeps 2 n.first w) a b → TellsLoads (Keeps 3 n.first w) b d
-      → AreLaterTried n t w allowed o c c' b d → AreMovesTried n t w allowed o c c' a d
-  moves_then o c c' a b d held steps kept later = record {
-    service = λ after. held_kept n.first w w.service a b d kept held;
-    later = later_since o c c' a b d (keeps_steps 2 n.first w a b steps) later;
-  }
-
-  moves_since : (o : Option Event) (c c' : Counts) (a b d : Option Loads) → TellsLoads Steps a b → AreMovesTried n t w allowed o c c' b d → AreMovesTried n t w allowed o c c' a d
-  moves_since o c c' a b d steps h = record {
-    service = λ after. held_since w w.service a b d steps (h.service after);
-    later = later_since o c c' a b d steps h.later;
-  }
-
-  pub tried_then : (o : Option Event) (c c' : Counts) (a b d : Option Loads) → HaveNoReplies n w None a b → TellsLoads Steps a b → TellsLoads (Keeps 2 n.first w) b d → is_passed 1 o ≡ true
-      → AreMovesTried n t w allowed o c c' b d → IsTried n t w allowed o c c' a d
-  tried_then o c c' a b d replies steps kept passed moves = record {
-    replies = λ r below. no_reply_kept 2 n.first r w a b d kept (replies r (subst (λ k. r < k) (all_passed n o passed) below));
-    further = moves_since o c c' a b d steps moves;
-  }
-
-  pub tried_grown : (o : Option Event) (c c1 c2 : Counts) (a b : Option Loads) → IsGrown c c1 → IsTried n t w allowed o c1 c2 a b → IsTried n t w allowed o c c2 a b
-  tried_grown o c c1 c2 a b grown h = record {
-    replies = h.replies;
-    further = record {
-      service = h.further.service;
-      later = record { request = λ after free. request_grown n.slot c c1 c2 a b grown (h.further.later.request after free); begin = h.further.later.begin };
-    };
-  }
-
 -- ---- of a node that is as it was
-
-later_as : (slot slot' first first' : ℕ) (t t' : NodeState) (w w' : Known) (allowed : Bool) (o : Option Event) (old old' new : ℕ → Counts) (a b : Option Loads) → slot' ≡ slot → first' ≡ first → t' ≡ t → w' ≡ w → old' ≡ old
-    → AreLaterTried (node_of slot' first' t') t' w' allowed o (old' slot') (new slot') a b → AreLaterTried (node_of slot first t) t w allowed o (old slot) (new slot) a b
-later_as slot slot' first first' t t' w w' allowed o old old' new a b es ef et ew eo h =
-    subst (λ c. AreLaterTried (node_of slot first t) t w allowed o (c slot) (new slot) a b) eo
-    (subst (λ x. AreLaterTried (node_of slot first t) t x allowed o (old' slot) (new slot) a b) ew
-    (subst (λ x. AreLaterTried (node_of slot first x) x w' allowed o (old' slot) (new slot) a b) et
-    (subst (λ x. AreLaterTried (node_of slot x t') t' w' allowed o (old' slot) (new slot) a b) ef
-    (subst (λ x. AreLaterTried (node_of x first' t') t' w' allowed o (old' x) (new x) a b) es h))))
-
-moves_as : (slot slot' first first' : ℕ) (t t' : NodeState) (w w' : Known) (allowed : Bool) (o : Option Event) (old new : ℕ → Counts) (a b : Option Loads) → slot' ≡ slot → first' ≡ first → t' ≡ t → w' ≡ w
-    → AreMovesTried (node_of slot' first' t') t' w' allowed o (old slot') (new slot') a b → AreMovesTried (node_of slot first t) t w allowed o (old slot) (new slot) a b
-moves_as slot slot' first first' t t' w w' allowed o old new a b es ef et ew h =
-    subst (λ x. AreMovesTried (node_of slot first t) t x allowed o (old slot) (new slot) a b) ew
-    (subst (λ x. AreMovesTried (node_of slot first x) x w' allowed o (old slot) (new slot) a b) et
-    (subst (λ x. AreMovesTried (node_of slot x t') t' w' allowed o (old slot) (new slot) a b) ef
-    (subst (λ x. AreMovesTried (node_of x first' t') t' w' allowed o (old x) (new x) a b) es h)))
-
-tried_as : (slot slot' first first' : ℕ) (t t' : NodeState) (w w' : Known) (allowed : Bool) (o : Option Event) (old new : ℕ → Counts) (a a' b : Option Loads) → slot' ≡ slot → first' ≡ first → t' ≡ t → w' ≡ w → a' ≡ a
-    → IsTried (node_of slot' first' t') t' w' allowed o (old slot') (new slot') a' b → IsTried (node_of slot first t) t w allowed o (old slot) (new slot) a b
-tried_as slot slot' first first' t t' w w' allowed o old new a a' b es ef et ew ea h =
-    subst (λ x. IsTried (node_of slot first t) t w allowed o (old slot) (new slot) x b) ea
-    (subst (λ x. IsTried (node_of slot first t) t x allowed o (old slot) (new slot) a' b) ew
-    (subst (λ x. IsTried (node_of slot first x) x w' allowed o (old slot) (new slot) a' b) et
-    (subst (λ x. IsTried (node_of slot x t') t' w' allowed o (old slot) (new slot) a' b) ef
-    (subst (λ x. IsTried (node_of x first' t') t' w' allowed o (old x) (new x) a' b) es h))))
-
--- the turn of a node whose waiting hints were posted
-pub tried_posted : (slot slot' first first' : ℕ) (t t' : NodeState) (w w' : Known) (allowed : Bool) (o : Option Event) (old mid new : ℕ → Counts) (a a' b : Option Loads) → slot' ≡ slot → first' ≡ first → t' ≡ t → w' ≡ w → a' ≡ a
-    → IsGrown (old slot) (mid slot) → IsTried (node_of slot' first' t') t' w' allowed o (mid slot') (new slot') a' b → IsTried (node_of slot first t) t w allowed o (old slot) (new slot) a b
-tried_posted slot slot' first first' t t' w w' allowed o old mid new a a' b es ef et ew ea grown h =
-    tried_grown (node_of slot first t) t w allowed o (old slot) (mid slot) (new slot) a b grown (tried_as slot slot' first first' t t' w w' allowed o mid new a a' b es ef et ew ea h)
 
 keeps_as : (k first first' : ℕ) (w w' : Known) (a b : Option Loads) → first' ≡ first → w' ≡ w → TellsLoads (Keeps k first' w') a b → TellsLoads (Keeps k first w) a b
 keeps_as k first first' w w' a b ef ew h = subst (λ x. TellsLoads (Keeps k first x) a b) ew (subst (λ x. TellsLoads (Keeps k x w') a b) ef h)
 
--- one function after another that did nothing: the begin after a look for a request
-pub begun_after_look : (slot first first' : ℕ) (t t' : NodeState) (w w' : Known) (allowed : Bool) (o : Option Event) (c c1 c2 : Counts) (a b d : Option Loads) → first' ≡ first → t' ≡ t → w' ≡ w
-    → HasNoRequest slot c c1 a b → TellsLoads (Keeps 3 first w) a b → (o ≡ None → allowed ≡ true → CannotBegin first' t' w' b d) → TellsLoads (Keeps 4 first' w') b d → After c1 c2
-    → AreLaterTried (node_of slot first t) t w allowed o c c2 a d
-begun_after_look slot first first' t t' w w' allowed o c c1 c2 a b d ef et ew asked kept cannot later on =
-    later_then (node_of slot first t) t w allowed o c c1 c2 a b d asked kept
-    (λ none_ may. subst (λ x. CannotBegin first t x b d) ew (subst (λ x. CannotBegin first x w' b d) et (subst (λ x. CannotBegin x t' w' b d) ef (cannot none_ may))))
-    (keeps_as 4 first first' w w' b d ef ew later) on
-
--- the later moves after the service
-pub later_after_service : (slot slot' first first' : ℕ) (t t' : NodeState) (w w' : Known) (allowed : Bool) (o : Option Event) (old old' new : ℕ → Counts) (a b d : Option Loads) → slot' ≡ slot → first' ≡ first → t' ≡ t → w' ≡ w → old' ≡ old
-    → IsHeld w w.service a b → TellsLoads (Keeps 2 first w) a b → TellsLoads (Keeps 3 first' w') b d → AreLaterTried (node_of slot' first' t') t' w' allowed o (old' slot') (new slot') b d
-    → AreMovesTried (node_of slot first t) t w allowed o (old slot) (new slot) a d
-later_after_service slot slot' first first' t t' w w' allowed o old old' new a b d es ef et ew eo held kept later tried =
-    moves_then (node_of slot first t) t w allowed o (old slot) (new slot) a b d held kept (keeps_as 3 first first' w w' b d ef ew later)
-    (later_as slot slot' first first' t t' w w' allowed o old old' new b d es ef et ew eo tried)
+-- what follows a function that did nothing couldn't begin
+pub cannot_after : (first first' : ℕ) (t t' : NodeState) (w w' : Known) (allowed : Bool) (o : Option Event) (a b d : Option Loads) → first' ≡ first → t' ≡ t → w' ≡ w → TellsLoads Steps a b
+    → (o ≡ None → allowed ≡ true → CannotBegin first' t' w' b d) → o ≡ None → allowed ≡ true → CannotBegin first t w a d
+cannot_after first first' t t' w w' allowed o a b d ef et ew steps cannot none_ may =
+    cannot_since first t w a b d steps (subst (λ x. CannotBegin first t x b d) ew (subst (λ x. CannotBegin first x w' b d) et (subst (λ x. CannotBegin x t' w' b d) ef (cannot none_ may))))
 
 -- all moves after the replies
-pub moves_after_replies : (slot slot' first first' : ℕ) (t t' : NodeState) (w w' : Known) (allowed : Bool) (o : Option Event) (old new : ℕ → Counts) (a b d : Option Loads) → slot' ≡ slot → first' ≡ first → t' ≡ t → w' ≡ w
-    → HaveNoReplies (node_of slot first t) w None a b → TellsLoads Steps a b → TellsLoads (Keeps 2 first' w') b d → is_passed 1 o ≡ true
-    → AreMovesTried (node_of slot' first' t') t' w' allowed o (old slot') (new slot') b d → IsTried (node_of slot first t) t w allowed o (old slot) (new slot) a d
-moves_after_replies slot slot' first first' t t' w w' allowed o old new a b d es ef et ew replies steps kept passed moves =
-    tried_then (node_of slot first t) t w allowed o (old slot) (new slot) a b d replies steps (keeps_as 2 first first' w w' b d ef ew kept) passed
-    (moves_as slot slot' first first' t t' w w' allowed o old new b d es ef et ew moves)
+pub tried_after_replies : (slot first first' : ℕ) (t t' : NodeState) (w w' : Known) (allowed : Bool) (o : Option Event) (a b d : Option Loads) → first' ≡ first → t' ≡ t → w' ≡ w
+    → HaveNoReplies (node_of slot first t) w None a b → TellsLoads Steps a b → TellsLoads (Keeps 2 first' w') b d → is_passed 1 o ≡ true → (is_passed 2 o ≡ true → IsHeld w' w'.service b d)
+    → (o ≡ None → allowed ≡ true → CannotBegin first' t' w' b d) → IsTried (node_of slot first t) t w allowed o a d
+tried_after_replies slot first first' t t' w w' allowed o a b d ef et ew replies steps kept passed held cannot = record {
+  replies = λ r below. no_reply_kept 2 first r w a b d (keeps_as 2 first first' w w' b d ef ew kept) (replies r (subst (λ k. r < k) (all_passed (node_of slot first t) o passed) below));
+  service = λ after. held_since w w.service a b d steps (subst (λ (x : Known). IsHeld x x.service b d) ew (held after));
+  begin = cannot_after first first' t t' w w' allowed o a b d ef et ew steps cannot;
+}
+
+-- the turn of a node whose waiting hints were posted
+pub tried_posted : (slot slot' first first' : ℕ) (t t' : NodeState) (w w' : Known) (allowed : Bool) (o : Option Event) (a a' b : Option Loads) → slot' ≡ slot → first' ≡ first → t' ≡ t → w' ≡ w → a' ≡ a
+    → IsTried (node_of slot' first' t') t' w' allowed o a' b → IsTried (node_of slot first t) t w allowed o a b
+tried_posted slot slot' first first' t t' w w' allowed o a a' b es ef et ew ea h =
+    subst (λ x. IsTried (node_of slot first t) t w allowed o x b) ea
+    (subst (λ x. IsTried (node_of slot first t) t x allowed o a' b) ew
+    (subst (λ x. IsTried (node_of slot first x) x w' allowed o a' b) et
+    (subst (λ x. IsTried (node_of slot x t') t' w' allowed o a' b) ef
+    (subst (λ x. IsTried (node_of x first' t') t' w' allowed o a' b) es h))))
 
 -- ---- the hints of such a node
+
+after_since : (s : Option State) (a b d : Option Loads) (slot first : ℕ) (asked : Bool) (e : Option Event) (old new : Hinted) → TellsLoads Steps a b → IsSentAfter (record { state = s; before = b; after = d }) slot first asked e old new
+    → IsSentAfter (record { state = s; before = a; after = d }) slot first asked e old new
+after_since s a b d slot first asked e old new steps h = record {
+  between = h.between;
+  looked = h.looked;
+  request = λ yes_ passed. request_since slot (old.counts slot) (h.between.counts slot) a b d steps (h.request yes_ passed);
+  sent = hint_since s a b d first e h.between new steps h.sent;
+}
 
 pub sent_as : (s s' : Option State) (a b d : Option Loads) (slot slot' first first' : ℕ) (w w' : Known) (e : Option Event) (old old' new : Hinted) → s' ≡ s → slot' ≡ slot → first' ≡ first → w' ≡ w → old' ≡ old → TellsLoads Steps a b
     → IsSentAfter (record { state = s'; before = b; after = d }) slot' first' (is_none w'.service) e old' new → IsSentAfter (record { state = s; before = a; after = d }) slot first (is_none w.service) e old new
@@ -297,7 +192,7 @@ sent_as s s' a b d slot slot' first first' w w' e old old' new st es ef ew eo st
     let three = subst (λ x. IsSentAfter (record { state = s; before = b; after = d }) slot x (is_none w'.service) e old' new) ef two in
     let four = subst (λ (x : Known). IsSentAfter (record { state = s; before = b; after = d }) slot first (is_none x.service) e old' new) ew three in
     let five = subst (λ x. IsSentAfter (record { state = s; before = b; after = d }) slot first (is_none w.service) e x new) eo four in
-    record { between = five.between; looked = five.looked; sent = hint_since s a b d first e five.between new steps five.sent }
+    after_since s a b d slot first (is_none w.service) e old new steps five
 
 pub sent_by_as : (s s' : Option State) (a b d : Option Loads) (n n' : NodeAt) (w w' : Known) (rule rule' : State → Bool) (e : Option Event) (old old' new : Hinted) → s' ≡ s → n' ≡ n → w' ≡ w → old' ≡ old → TellsLoads Steps a b
     → ((x : State) → IsTold s n w x → rule' x ≡ rule x)
@@ -311,8 +206,26 @@ sent_by_as s s' a b d n n' w w' rule rule' e old old' new st en ew eo steps same
       asked = four.asked;
       exact = four.exact;
       ruled = λ x told. four.ruled x told ∙ same x told;
-      after = record { between = four.after.between; looked = four.after.looked; sent = hint_since s a b d n.first e four.after.between new steps four.after.sent };
+      after = after_since s a b d n.slot n.first four.asked e old new steps four.after;
     }
+
+-- the inbox wasn't asked
+pub sent_unasked : (g : GateSeen) (slot first : ℕ) (asked : Bool) (e : Option Event) (old new : Hinted) → asked ≡ false → HintOf g first e old new → IsSentAfter g slot first asked e old new
+sent_unasked g slot first asked e old new is h = record {
+  between = old;
+  looked = subst (λ b. Looked b slot old old) (sym is) refl;
+  request = λ yes_ passed. absurd (both_ways asked is yes_);
+  sent = h;
+}
+
+-- the request at the hint that it gave was taken up
+pub sent_taken : (g : GateSeen) (slot first : ℕ) (e : Event) (old new : Hinted) → IsLooked slot old new → is_move 3 (Some e) ≡ true → is_asking (Some e) ≡ false → IsSentAfter g slot first true (Some e) old new
+sent_taken g slot first e old new looks number quiet = record {
+  between = new;
+  looked = looks;
+  request = λ yes_ passed. absurd (both_ways (is_passed 3 (Some e)) (ap (nat_lt 3) (eqb-true (move_number e) 3 number)) passed);
+  sent = hint_free g first (Some e) new new quiet refl;
+}
 
 -- where a gate tells its state, a service is known exactly where there is one
 same_none : (s : State) (o : Option Service) (u : Option Served) → KnowsService s o u → is_none u ≡ is_none o
@@ -340,5 +253,5 @@ sent_before_look g n w rule k e old new below number ruled h = record {
   asked = false;
   exact = ap (λ b. b && is_none w.service) (sym (ap (nat_lt 2) (eqb-true (move_number e) k number) ∙ below));
   ruled = λ s told. sym (ruled s told);
-  after = record { between = old; looked = refl; sent = h };
+  after = sent_unasked g n.slot n.first false (Some e) old new refl h;
 }

@@ -9,7 +9,7 @@ use Rattle.quiesce_core.specs.declared.event.Event.{Event}
 use Rattle.quiesce_core.specs.declared.event.Event.TheVariants.{Begin, Call}
 use Rattle.quiesce_core.specs.declared.known.Known.{Known}
 use Rattle.node_host.specs.Told.{IsTold}
-use Rattle.node_host.specs.Tried.{is_passed}
+use Rattle.node_host.specs.Tried.{HasNoRequest, is_passed}
 use Rattle.node_host.specs.Trying.{CountsTried}
 
 -- what contracts see of the inboxes of all nodes, and of the hints of one node that wait
@@ -82,10 +82,13 @@ abbrev pub Looked : Bool → ℕ → Hinted → Hinted → Type 0
 Looked true slot old new = IsLooked slot old new
 Looked false slot old new = new ≡ old
 
--- where the inbox was asked, it was so before the event, whose hint is sent then
+-- Where the inbox was asked, it was so before the event, whose hint is sent then; and if no request was taken up,
+-- then none waits there.
 pub record IsSentAfter (g : GateSeen) (slot first : ℕ) (asked : Bool) (e : Option Event) (old new : Hinted) : Type 0 where
   pub between : Hinted
   pub looked : Looked asked slot old between
+  pub request : asked ≡ true → is_passed 3 e ≡ true
+      → HasNoRequest slot (old.counts slot) (between.counts slot) g.before g.after
   pub sent : HintOf g first e between new
 
 -- The inbox is asked exactly where the node is in no service and neither replied nor went on with one: where the rule

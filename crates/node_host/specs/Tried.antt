@@ -1,7 +1,6 @@
 -- Which move of a turn an event is, and what shows that each move before it wasn't possible, at a gate that tells no
 -- state too: what the node knows, the words that its seat loaded in the turn, and what was counted of its inbox.
 use Rattle.std.specs.Prelude.{◌≡◌, ◌≢◌, ◌⊎◌, ◌+◌, ◌-◌, ℕ, ◌<◌, ◌≤◌, Bool, true, false, not, ◌==◌, ◌||◌, nat_lt, length, Option, Some, None, is_some, slice_index_or, ⊤}
-use Rattle.base.specs.Count.{Rose}
 use Rattle.config_graph.specs.Kinds.{row}
 use Rattle.gate_word.specs.Phases.{is_in_more}
 use Rattle.gate_word.specs.Words.{is_message_to, is_missing, unpack}
@@ -15,7 +14,7 @@ use Rattle.quiesce_core.specs.declared.known.Known.{Known}
 use Rattle.quiesce_core.specs.declared.known.Served.{Served}
 use Rattle.port_gate.specs.Loads.{IsLed, IsLoaded, Load, Loads, TellsLoads, shows_asked}
 use Rattle.port_gate.specs.Seats.{NodeAt}
-use Rattle.port_queue.specs.Inboxes.{Counts}
+use Rattle.port_queue.specs.Inboxes.{Counts, Gave, Refused}
 use Rattle.node_host.specs.Awaiting.{awaits}
 
 -- the moves in their order: 1 replies, 2 goes on with the service, 3 takes a request up, 4 begins
@@ -87,12 +86,12 @@ abbrev pub is_stale_for : ℕ → Load → Bool
 is_stale_for n l = not (is_message_to n (unpack l.word))
 
 -- The inbox was asked and was empty; or it gave a hint, at whose port nothing is asked of the node, as the last
--- `take` shows.
+-- `take` shows. The counts are those just before it was asked and just after: a hint that was posted raises the same
+-- count where it is refused.
 abbrev pub HasNoRequest : ℕ → Counts → Counts → Option Loads → Option Loads → Type 0
 HasNoRequest n counts counts' old new =
-    Rose counts.refused counts'.refused
-    ⊎ (Rose counts.given counts'.given × (p : ℕ) × (counts'.last ≡ Some p)
-    × TellsLoads (λ a b. IsLed p (is_stale_for n) a.steps b.steps b.take) old new)
+    Refused counts counts'
+    ⊎ ((p : ℕ) × Gave counts p counts' × TellsLoads (λ a b. IsLed p (is_stale_for n) a.steps b.steps b.take) old new)
 
 -- ---- a beginning
 
@@ -116,16 +115,9 @@ pub record Keeps (number : ℕ) (first : ℕ) (w : Known) (old new : Loads) : Ty
 abbrev pub Steps : Loads → Loads → Type 0
 Steps old new = old.steps ≤ new.steps
 
--- those of the moves from 3 on that were passed over aren't possible
-pub record AreLaterTried (n : NodeAt) (t : NodeState) (w : Known) (allowed : Bool) (e : Option Event) (counts counts' : Counts) (old new : Option Loads) : Type 0 where
-  pub request : is_passed 3 e ≡ true → w.service ≡ None → HasNoRequest n.slot counts counts' old new
-  pub begin : e ≡ None → allowed ≡ true → CannotBegin n.first t w old new
-
-pub record AreMovesTried (n : NodeAt) (t : NodeState) (w : Known) (allowed : Bool) (e : Option Event) (counts counts' : Counts) (old new : Option Loads) : Type 0 where
-  pub service : is_passed 2 e ≡ true → IsHeld w w.service old new
-  pub later : AreLaterTried n t w allowed e counts counts' old new
-
--- each move before the one that was made isn't possible; nor is any where none was
-pub record IsTried (n : NodeAt) (t : NodeState) (w : Known) (allowed : Bool) (e : Option Event) (counts counts' : Counts) (old new : Option Loads) : Type 0 where
+-- Each move before the one that was made isn't possible; nor is any where none was. That no request waits is said
+-- where the inbox is asked (`IsSentAfter`).
+pub record IsTried (n : NodeAt) (t : NodeState) (w : Known) (allowed : Bool) (e : Option Event) (old new : Option Loads) : Type 0 where
   pub replies : HaveNoReplies n w e old new
-  pub further : AreMovesTried n t w allowed e counts counts' old new
+  pub service : is_passed 2 e ≡ true → IsHeld w w.service old new
+  pub begin : e ≡ None → allowed ≡ true → CannotBegin n.first t w old new

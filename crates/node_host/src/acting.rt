@@ -1,6 +1,6 @@
 //! The moves of a turn, in their order.
 
-ghost use Rattle.std.specs.Prelude.{◌≡◌, ◌≢◌, ◌&&◌, true, false, ℕ, ◌<◌, ◌+◌, List, length, map, vec_capacity, is_none, slice_get, slice_index_or, None, Some, OnOk, IsOk, Ok, Err, if◌then◌else◌};
+ghost use Rattle.std.specs.Prelude.{◌≡◌, ◌≢◌, ◌&&◌, true, false, ℕ, ◌<◌, ◌+◌, List, length, vec_capacity, is_none, None, Some, if◌then◌else◌};
 ghost use Rattle.node_host.specs.Hosted.{node_of};
 ghost use Rattle.node_host.specs.Moved.{Moved};
 ghost use Rattle.node_host.specs.Posting.{IsSentAfter, IsSentBy};
@@ -8,7 +8,7 @@ ghost use Rattle.node_host.specs.Told.{IsTold};
 ghost use Rattle.node_host.specs.Trying.{LookedAt};
 ghost use Rattle.quiesce_core.specs.State.{State, service};
 ghost use Rattle.turns.specs.Turn.{begins, looks, move_of, or_else, serves, takes};
-ghost use Rattle.node_host.specs.Tried.{AreLaterTried, AreMovesTried, IsTried, Keeps, is_begin, is_passed};
+ghost use Rattle.node_host.specs.Tried.{CannotBegin, IsHeld, IsTried, Keeps, is_begin, is_passed};
 ghost use Rattle.port_gate.specs.Loads.{TellsLoads};
 
 use crate::node::HostNode;
@@ -60,9 +60,8 @@ impl<C: Component + Drop, S: GateSeat + Drop> HostNode<C, S> {
         ensures passed { is_passed 2 result ≡ true }
         ensures loads { TellsLoads (Keeps 3 self.old.first_port self.old.known) (S.loads self.old.seat)
             (S.loads self.new.seat) }
-        ensures tried { AreLaterTried (node_of self.old.slot self.old.first_port (C.state self.old.inner))
-            (C.state self.old.inner) self.old.known allowed result (H.counts hints.old self.old.slot)
-            (H.counts hints.new self.old.slot) (S.loads self.old.seat) (S.loads self.new.seat) }
+        ensures tried { result ≡ None → allowed ≡ true → CannotBegin self.old.first_port (C.state self.old.inner)
+            self.old.known (S.loads self.old.seat) (S.loads self.new.seat) }
         ensures no_begin { allowed ≡ false → is_begin result ≡ false }
     {
         match self.take_next(gate, hints) {
@@ -113,9 +112,8 @@ impl<C: Component + Drop, S: GateSeat + Drop> HostNode<C, S> {
         ensures passed { is_passed 2 result ≡ true }
         ensures loads { TellsLoads (Keeps 3 self.old.first_port self.old.known) (S.loads self.old.seat)
             (S.loads self.new.seat) }
-        ensures tried { AreLaterTried (node_of self.old.slot self.old.first_port (C.state self.old.inner))
-            (C.state self.old.inner) self.old.known allowed result (H.counts hints.old self.old.slot)
-            (H.counts hints.new self.old.slot) (S.loads self.old.seat) (S.loads self.new.seat) }
+        ensures tried { result ≡ None → allowed ≡ true → CannotBegin self.old.first_port (C.state self.old.inner)
+            self.old.known (S.loads self.old.seat) (S.loads self.new.seat) }
         ensures no_begin { allowed ≡ false → is_begin result ≡ false }
     {
         if self.known.service.is_some() {
@@ -167,9 +165,10 @@ impl<C: Component + Drop, S: GateSeat + Drop> HostNode<C, S> {
         ensures passed { is_passed 1 result ≡ true }
         ensures loads { TellsLoads (Keeps 2 self.old.first_port self.old.known) (S.loads self.old.seat)
             (S.loads self.new.seat) }
-        ensures tried { AreMovesTried (node_of self.old.slot self.old.first_port (C.state self.old.inner))
-            (C.state self.old.inner) self.old.known allowed result (H.counts hints.old self.old.slot)
-            (H.counts hints.new self.old.slot) (S.loads self.old.seat) (S.loads self.new.seat) }
+        ensures held { is_passed 2 result ≡ true
+            → IsHeld self.old.known self.old.known.service (S.loads self.old.seat) (S.loads self.new.seat) }
+        ensures tried { result ≡ None → allowed ≡ true → CannotBegin self.old.first_port (C.state self.old.inner)
+            self.old.known (S.loads self.old.seat) (S.loads self.new.seat) }
         ensures no_begin { allowed ≡ false → is_begin result ≡ false }
     {
         match self.serve(gate, hints) {
@@ -179,7 +178,7 @@ impl<C: Component + Drop, S: GateSeat + Drop> HostNode<C, S> {
     }
 
     /// The first move that is possible, once its waiting hints are posted.
-    pub fn act<G: PortGate<Seat = S>, H: Hints>(
+    pub(crate) fn act<G: PortGate<Seat = S>, H: Hints>(
         &mut self,
         gate: &mut G,
         hints: &mut H,
@@ -218,8 +217,7 @@ impl<C: Component + Drop, S: GateSeat + Drop> HostNode<C, S> {
             → H.tells hints.old self.old.slot ≡ Some held
             → result ≡ move_of s self.old.slot (C.state self.old.inner) held allowed }
         ensures tried { IsTried (node_of self.old.slot self.old.first_port (C.state self.old.inner))
-            (C.state self.old.inner) self.old.known allowed result (H.counts hints.old self.old.slot)
-            (H.counts hints.new self.old.slot) (S.loads self.old.seat) (S.loads self.new.seat) }
+            (C.state self.old.inner) self.old.known allowed result (S.loads self.old.seat) (S.loads self.new.seat) }
         ensures no_begin { allowed ≡ false → is_begin result ≡ false }
     {
         match self.end_or_ask(gate) {

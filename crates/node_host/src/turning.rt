@@ -1,6 +1,6 @@
 //! A node's turn.
 
-ghost use Rattle.std.specs.Prelude.{◌≡◌, ◌≢◌, ℕ, ◌+◌, ◌<◌, false, List, length, map, vec_capacity, slice_index_or, None, Some, OnOk, OnErr, IsOk, Ok};
+ghost use Rattle.std.specs.Prelude.{◌≡◌, ◌≢◌, ℕ, ◌+◌, ◌<◌, false, List, length, vec_capacity, None, Some, OnOk, OnErr, Ok};
 ghost use Rattle.node_host.specs.Hosted.{node_of};
 ghost use Rattle.node_host.specs.Moved.{Moved};
 ghost use Rattle.node_host.specs.Posting.{IsHinted};
@@ -23,7 +23,7 @@ use quiesce_core::Event;
 #[derive(Debug, Drop, PartialEq, Eq)]
 pub enum Turn {
     Moved(Event),
-    /// No move was possible.
+    /// Each move was tried in this turn and none was found possible.
     Still,
 }
 
@@ -38,9 +38,9 @@ fn reserve(log: &mut Vec<Event>) -> Result<(), NoMemory>
 
 impl<C: Component + Drop, S: GateSeat + Drop> HostNode<C, S> {
     /// The node's next move at a gate: the first that is possible. It posts, by port, its hints that wait; then it
-    /// ends or answers a transaction of its own, goes on with its service, takes the next request up, or begins what
-    /// it wants, where that is allowed. It takes its memory first, for which it wants none where its log and its
-    /// component have room.
+    /// ends, or replies in, a transaction at the lowest of its ports at which a reply stands, goes on with its service,
+    /// takes the next request up, or begins what it wants, where that is allowed. It takes its memory first, for which
+    /// it wants none where its log and its component have room.
     #[tactic(auto, using(crate::proofs::Asked::asked_since))]
     pub fn turn<G: PortGate<Seat = S>, H: Hints>(
         &mut self,
@@ -83,8 +83,8 @@ impl<C: Component + Drop, S: GateSeat + Drop> HostNode<C, S> {
         ensures looked { result ≡ Ok turn.Still → (C.state self.old.inner).service ≡ None
             → IsAsked (H.counts hints.old self.old.slot) (H.counts hints.new self.old.slot) }
         ensures tried { OnOk result (IsTried (node_of self.old.slot self.old.first_port (C.state self.old.inner))
-            (C.state self.old.inner) self.old.known begins (event_of result) (H.counts hints.old self.old.slot)
-            (H.counts hints.new self.old.slot) (S.loads self.old.seat) (S.loads self.new.seat)) }
+            (C.state self.old.inner) self.old.known begins (event_of result) (S.loads self.old.seat)
+            (S.loads self.new.seat)) }
         ensures no_begin { begins ≡ false → is_begin (event_of result) ≡ false }
     {
         reserve(&mut self.log)?;

@@ -4,7 +4,7 @@ use Rattle.node_host.specs.Hosted.{SeatSeen, node_of}
 use Rattle.node_host.specs.Posting.{GateSeen, Hinted}
 use Rattle.node_host.proofs.Composing.{same_known, same_machine, same_node, same_state}
 use Rattle.node_host.proofs.Hinting.{without_hint}
-use Rattle.node_host.proofs.Tries.{moves_after_replies, sent_before_look, sent_by_as}
+use Rattle.node_host.proofs.Tries.{sent_before_look, sent_by_as, tried_after_replies}
 use Rattle.quiesce_core.specs.State.{service}
 use Rattle.turns.specs.Turn.{looks, serves}
 use Rattle.node_host.proofs.node.HostNode.act.Goals as goal
@@ -63,6 +63,5 @@ returns-in-None-clause-tried g c =
     let b = g.S.GateSeat.loads m.seat in
     let k = c.work.new.self in
     let d = g.S.GateSeat.loads k.seat in
-    moves_after_replies h.slot m.slot h.first_port m.first_port t tm h.known m.known c.args.allowed c.work.result (g.H.Hints.counts c.args.hints.now) (g.H.Hints.counts c.work.new.hints) a b d
-    c.in-None.ensures.place.0 c.in-None.ensures.place.1 (same_state (node_of h.slot h.first_port t) t tm h.log.items m.log.items seat seatm (g.G.PortGate.state c.args.gate.now) (g.G.PortGate.state c.end_or_ask.new.gate) c.in-None.ensures.moved) (c.in-None.ensures.known refl)
-    c.in-None.ensures.tried c.in-None.ensures.steps c.work.ensures.loads c.work.ensures.passed c.work.ensures.tried
+    tried_after_replies h.slot h.first_port m.first_port t tm h.known m.known c.args.allowed c.work.result a b d c.in-None.ensures.place.1 (same_state (node_of h.slot h.first_port t) t tm h.log.items m.log.items seat seatm (g.G.PortGate.state c.args.gate.now) (g.G.PortGate.state c.end_or_ask.new.gate) c.in-None.ensures.moved) (c.in-None.ensures.known refl)
+    c.in-None.ensures.tried c.in-None.ensures.steps c.work.ensures.loads c.work.ensures.passed c.work.ensures.held c.work.ensures.tried

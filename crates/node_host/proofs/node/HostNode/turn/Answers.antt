@@ -8,6 +8,6 @@ returns-in-Some-clause-tried g c =
     let p = c.post_waiting.new.self in
     let k = c.act.new.self in
     tried_posted h.slot p.slot h.first_port p.first_port (g.C.Component.state h.inner) (g.C.Component.state p.inner) h.known p.known c.args.begins (Some c.in-Some.event)
-    (g.H.Hints.counts c.args.hints.now) (g.H.Hints.counts c.post_waiting.new.hints) (g.H.Hints.counts c.act.new.hints) (g.S.GateSeat.loads h.seat) (g.S.GateSeat.loads p.seat) (g.S.GateSeat.loads k.seat)
+    (g.S.GateSeat.loads h.seat) (g.S.GateSeat.loads p.seat) (g.S.GateSeat.loads k.seat)
     c.post_waiting.ensures.place.0 c.post_waiting.ensures.place.1 (ap (λ x. g.C.Component.state x) c.post_waiting.ensures.same.0 ∙ c.room.ensures.state) c.post_waiting.ensures.same.4
-    (ap (λ x. g.S.GateSeat.loads x) c.post_waiting.ensures.same.1) (c.post_waiting.ensures.grown h.slot) c.in-Some.ensures.tried
+    (ap (λ x. g.S.GateSeat.loads x) c.post_waiting.ensures.same.1) c.in-Some.ensures.tried

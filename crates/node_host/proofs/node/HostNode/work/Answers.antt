@@ -4,7 +4,7 @@ use Rattle.node_host.specs.Hosted.{SeatSeen, node_of}
 use Rattle.node_host.specs.Posting.{GateSeen, Hinted}
 use Rattle.node_host.proofs.Composing.{same_machine, same_state}
 use Rattle.node_host.proofs.Loading.{keeps_steps}
-use Rattle.node_host.proofs.Tries.{later_after_service, sent_after_service, sent_as, sent_before_look}
+use Rattle.node_host.proofs.Tries.{cannot_after, held_kept, sent_after_service, sent_as, sent_before_look}
 use Rattle.quiesce_core.specs.State.{service}
 use Rattle.turns.specs.Turn.{serves}
 use Rattle.node_host.proofs.node.HostNode.work.Goals as goal
@@ -58,7 +58,13 @@ returns-in-None-clause-tried g c =
     let b = g.S.GateSeat.loads m.seat in
     let k = c.look.new.self in
     let d = g.S.GateSeat.loads k.seat in
-    later_after_service h.slot m.slot h.first_port m.first_port t tm h.known m.known c.args.allowed c.look.result (g.H.Hints.counts c.args.hints.now) (g.H.Hints.counts c.serve.new.hints) (g.H.Hints.counts c.look.new.hints) a b d
-    c.in-None.ensures.place.0 c.in-None.ensures.place.1 (same_state (node_of h.slot h.first_port t) t tm h.log.items m.log.items seat seatm (g.G.PortGate.state c.args.gate.now) (g.G.PortGate.state c.serve.new.gate) c.in-None.ensures.moved) (c.in-None.ensures.known refl)
-    (ap (λ x. g.H.Hints.counts x) (c.in-None.ensures.quiet refl).0)
-    (c.in-None.ensures.held refl) c.in-None.ensures.loads c.look.ensures.loads c.look.ensures.tried
+    cannot_after h.first_port m.first_port t tm h.known m.known c.args.allowed c.look.result a b d c.in-None.ensures.place.1
+    (same_state (node_of h.slot h.first_port t) t tm h.log.items m.log.items seat seatm (g.G.PortGate.state c.args.gate.now) (g.G.PortGate.state c.serve.new.gate) c.in-None.ensures.moved) (c.in-None.ensures.known refl)
+    (keeps_steps 2 h.first_port h.known a b c.in-None.ensures.loads) c.look.ensures.tried
+
+pub returns-in-None-clause-held : goal.returns-in-None-clause-held
+returns-in-None-clause-held g c =
+    let h = c.args.self.now in
+    let m = c.serve.new.self in
+    let k = c.look.new.self in
+    λ passed. held_kept m.first_port m.known h.known h.known.service (g.S.GateSeat.loads h.seat) (g.S.GateSeat.loads m.seat) (g.S.GateSeat.loads k.seat) c.look.ensures.loads (c.in-None.ensures.held refl)
