@@ -1,7 +1,5 @@
 -- What a turn answers.
 use Rattle.std.specs.Prelude.{Option, Some, None, Result, Ok, Err}
-use Rattle.quiesce_core.specs.Effect.{effect}
-use Rattle.quiesce_core.specs.State.{State}
 use Rattle.quiesce_core.specs.declared.event.Event.{Event}
 use Rattle.node_host.specs.declared.turning.Turn.{Turn}
 use Rattle.node_host.specs.declared.turning.Turn.TheVariants.{Moved, Still}
@@ -11,8 +9,3 @@ abbrev pub event_of : {E : Type 0} → Result Turn E → Option Event
 event_of (Ok (Moved e)) = Some e
 event_of (Ok Still) = None
 event_of (Err n) = None
-
--- the machine's state after the event of a turn, if it had one
-abbrev pub state_then : State → Option Event → State
-state_then s None = s
-state_then s (Some e) = effect s e

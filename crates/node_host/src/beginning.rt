@@ -1,6 +1,6 @@
 //! A node's last move: it begins what it wants.
 
-ghost use Rattle.std.specs.Prelude.{◌≡◌, ◌≢◌, ℕ, ◌<◌, List, length, map, vec_capacity, slice_index_or, None, Some, if◌then◌else◌, true, false};
+ghost use Rattle.std.specs.Prelude.{◌≡◌, ◌≢◌, ◌<◌, length, vec_capacity, slice_index_or, None, Some, if◌then◌else◌, true, false};
 ghost use Rattle.component_trait.specs.Bounds.{FitsRequest};
 ghost use Rattle.component_trait.specs.Moves as moves;
 ghost use Rattle.node_host.specs.Hosted.{node_of};
@@ -157,7 +157,7 @@ impl<C: Component + Drop, S: GateSeat + Drop> HostNode<C, S> {
     /// Begins what the component wants, where that port is idle and the gate lets it, and posts the hint.
     #[inline(always)]
     #[tactic(auto, using(crate::proofs::Exactly::begins_nothing))]
-    pub fn begin_wanted<G: PortGate<Seat = S>, H: Hints>(
+    pub(crate) fn begin_wanted<G: PortGate<Seat = S>, H: Hints>(
         &mut self,
         gate: &mut G,
         hints: &mut H,
@@ -204,7 +204,7 @@ impl<C: Component + Drop, S: GateSeat + Drop> HostNode<C, S> {
 
     /// Begins what the component wants, where that is allowed.
     #[inline(always)]
-    pub fn begin_if<G: PortGate<Seat = S>, H: Hints>(
+    pub(crate) fn begin_if<G: PortGate<Seat = S>, H: Hints>(
         &mut self,
         gate: &mut G,
         hints: &mut H,

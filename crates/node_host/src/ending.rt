@@ -1,6 +1,6 @@
-//! A node's first move: it ends a transaction of its own that is answered, or replies to an intermediate reply.
+//! A node's first move: it ends, or replies in, a transaction at the lowest of its ports at which a reply stands.
 
-ghost use Rattle.std.specs.Prelude.{◌≡◌, ◌≢◌, ℕ, ◌+◌, ◌<◌, true, false, length, map, slice_index_or, vec_capacity, None, Some};
+ghost use Rattle.std.specs.Prelude.{◌≡◌, ◌≢◌, ℕ, ◌+◌, ◌<◌, true, false, length, slice_index_or, vec_capacity, None, Some};
 ghost use Rattle.config_graph.specs.Kinds.{row};
 ghost use Rattle.component_trait.specs.Fold.{after_event};
 ghost use Rattle.component_trait.specs.Moves as moves;
@@ -24,7 +24,7 @@ use port_gate::{GateSeat, PortGate, SeeAnswer};
 use quiesce_core::{Event, Known, PortKnown};
 
 /// What is known of the port of this requirement.
-pub fn port_known(known: &Known, require: u32) -> PortKnown
+pub(crate) fn port_known(known: &Known, require: u32) -> PortKnown
     requires { require < 2 }
     ensures { result ≡ slice_index_or known.now.ports require port_at_start }
 {
@@ -193,7 +193,7 @@ impl<C: Component + Drop, S: GateSeat + Drop> HostNode<C, S> {
     }
 
     /// Ends or replies at the lowest of its ports at which a reply stands.
-    pub fn end_or_ask<G: PortGate<Seat = S>>(&mut self, gate: &mut G) -> Option<Event>
+    pub(crate) fn end_or_ask<G: PortGate<Seat = S>>(&mut self, gate: &mut G) -> Option<Event>
         requires fits { G.fits gate.old self.old.seat }
         requires node { G.node gate.old self.old.seat ≡ node_of self.old.slot self.old.first_port
             (C.state self.old.inner) }

@@ -11,7 +11,7 @@ use quiesce_core::{Event, Known};
 
 /// Puts an event at the end of a log that has room for it, and into what is known.
 #[inline(always)]
-pub fn keep(log: &mut Vec<Event>, known: &mut Known, first_port: u32, event: Event)
+pub(crate) fn keep(log: &mut Vec<Event>, known: &mut Known, first_port: u32, event: Event)
     requires room { length log.old.items < vec_capacity log.old }
     requires small { first_port < 2 ^ 31 }
     requires count { CanCount known.old.service event }
@@ -22,9 +22,9 @@ pub fn keep(log: &mut Vec<Event>, known: &mut Known, first_port: u32, event: Eve
     log.push_reserved(event);
 }
 
-/// Keeps the end of a transaction of its own.
+/// Keeps the end of a transaction at one of its ports.
 #[inline(always)]
-pub fn keep_end(
+pub(crate) fn keep_end(
     log: &mut Vec<Event>,
     known: &mut Known,
     first_port: u32,
@@ -48,7 +48,7 @@ pub fn keep_end(
 
 /// Keeps a further message in one.
 #[inline(always)]
-pub fn keep_ask(
+pub(crate) fn keep_ask(
     log: &mut Vec<Event>,
     known: &mut Known,
     first_port: u32,

@@ -3,7 +3,6 @@
 
 mod acting;
 mod beginning;
-mod core_turn;
 mod ending;
 mod keeping;
 mod node;
@@ -12,6 +11,5 @@ mod serving;
 mod taking;
 mod turning;
 
-pub use core_turn::turn_at_core;
 pub use node::{HostNode, Past};
 pub use turning::Turn;

@@ -1,8 +1,7 @@
 //! Hints for other nodes, and those that wait because an inbox was full.
 
-ghost use Rattle.std.specs.Prelude.{◌≡◌, ◌≢◌, ℕ, ◌+◌, ◌<◌, ◌≤◌, true, List, None, Some, length, slice_get, slice_index_or, slice_set, if◌then◌else◌};
+ghost use Rattle.std.specs.Prelude.{◌≡◌, ◌≢◌, ℕ, ◌+◌, ◌<◌, List, None, Some, slice_index_or, slice_set, if◌then◌else◌};
 ghost use Rattle.base.specs.Count.{Rose};
-ghost use Rattle.config_graph.specs.Kinds.{row};
 ghost use Rattle.config_graph.specs.declared.TheConstants.{MAX_NODES, MAX_PORTS};
 ghost use Rattle.port_queue.specs.Inboxes.{after_post, has_room};
 ghost use Rattle.node_host.specs.Posting.{ArePosted, Reposted};
@@ -15,7 +14,7 @@ use port_queue::Hints;
 
 /// Posts the hint for a node at the port of one requirement; where that node's inbox is full, it waits. The answer
 /// says whether it was posted.
-pub fn post<H: Hints>(
+pub(crate) fn post<H: Hints>(
     waiting: &mut [Option<u32>; 2],
     hints: &mut H,
     first_port: u32,
@@ -67,7 +66,7 @@ impl<C: Component + Drop, S: GateSeat + Drop> HostNode<C, S> {
     }
 
     /// Posts its waiting hints, by port. Those that find a full inbox go on waiting.
-    pub fn post_waiting<H: Hints>(&mut self, hints: &mut H)
+    pub(crate) fn post_waiting<H: Hints>(&mut self, hints: &mut H)
         ensures same { (self.new.inner ≡ self.old.inner) × (self.new.seat ≡ self.old.seat)
             × (self.new.log ≡ self.old.log) × (self.new.past ≡ self.old.past) × (self.new.known ≡ self.old.known) }
         ensures place { (self.new.slot ≡ self.old.slot) × (self.new.first_port ≡ self.old.first_port) }

@@ -1,7 +1,7 @@
 //! A node's second move: it goes on with its service.
 
-ghost use Rattle.std.specs.Prelude.{◌≡◌, ◌≢◌, ℕ, ◌+◌, ◌<◌, true, false, List, length, map, vec_capacity, option_and_then, is_some, None, Some};
-ghost use Rattle.config_graph.specs.Kinds.{depends_on, row};
+ghost use Rattle.std.specs.Prelude.{◌≡◌, ◌≢◌, ◌+◌, ◌<◌, true, false, length, vec_capacity, option_and_then, is_some, None, Some};
+ghost use Rattle.config_graph.specs.Kinds.{depends_on};
 ghost use Rattle.component_trait.specs.Bounds.{FitsRequest};
 ghost use Rattle.component_trait.specs.Moves as moves;
 ghost use Rattle.component_trait.specs.declared.next.Next.TheVariants as next;
@@ -402,7 +402,7 @@ impl<C: Component + Drop, S: GateSeat + Drop> HostNode<C, S> {
     }
 
     /// Goes on with the service that it is in, if no call of it is left to end.
-    pub fn serve<G: PortGate<Seat = S>, H: Hints>(
+    pub(crate) fn serve<G: PortGate<Seat = S>, H: Hints>(
         &mut self,
         gate: &mut G,
         hints: &mut H,

@@ -1,6 +1,6 @@
 //! A node's third move: it takes up the request at the next hint.
 
-ghost use Rattle.std.specs.Prelude.{◌≡◌, ◌≢◌, false, ℕ, ◌<◌, ◌∷◌, List, length, map, vec_capacity, is_none, None, Some, true};
+ghost use Rattle.std.specs.Prelude.{◌≡◌, ◌≢◌, false, ℕ, ◌<◌, ◌∷◌, List, length, vec_capacity, None, Some, true};
 ghost use Rattle.config_graph.specs.declared.TheConstants.{MAX_PORTS};
 ghost use Rattle.node_host.specs.Hosted.{node_of};
 ghost use Rattle.node_host.specs.Moved.{Moved};
@@ -87,7 +87,7 @@ impl<C: Component + Drop, S: GateSeat + Drop> HostNode<C, S> {
     /// Takes the next hint, and the request up that waits at its port for this node. Only a node that is in no
     /// service does so.
     #[tactic(auto, using(crate::proofs::Looking::looked))]
-    pub fn take_next<G: PortGate<Seat = S>, H: Hints>(
+    pub(crate) fn take_next<G: PortGate<Seat = S>, H: Hints>(
         &mut self,
         gate: &mut G,
         hints: &mut H,
