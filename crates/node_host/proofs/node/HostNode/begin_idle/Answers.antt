@@ -30,17 +30,10 @@ begin-requires-clause-may g c =
 pub post-requires-clause-port : goal.post-requires-clause-port
 post-requires-clause-port g c =
     let h = c.args.self.now in
-    let t = g.C.Component.state h.inner in
-    let line : List LineNode = map (λ p. record { first = p.first_port; arg = p.arg; log = p.log.items }) h.past.items in
-    let seat : SeatSeen = record { slot = g.S.GateSeat.slot_of h.seat; known = g.S.GateSeat.known h.seat; told = g.S.GateSeat.tells h.seat } in
     omega (arith, c.requires.fits_ask.require, h.hosted.limits.ports_within)
 
 pub post-requires-clause-node : goal.post-requires-clause-node
 post-requires-clause-node g c =
-    let h = c.args.self.now in
-    let t = g.C.Component.state h.inner in
-    let line : List LineNode = map (λ p. record { first = p.first_port; arg = p.arg; log = p.log.items }) h.past.items in
-    let seat : SeatSeen = record { slot = g.S.GateSeat.slot_of h.seat; known = g.S.GateSeat.known h.seat; told = g.S.GateSeat.tells h.seat } in
     c.in-Begun.ensures.says.1
 
 pub invariant_of-self-clause-hosted : goal.invariant_of-self-clause-hosted
@@ -83,7 +76,6 @@ pub returns-in-Closed-clause-exact : goal.returns-in-Closed-clause-exact
 returns-in-Closed-clause-exact g c =
     let h = c.args.self.now in
     let t = g.C.Component.state h.inner in
-    let line : List LineNode = map (λ p. record { first = p.first_port; arg = p.arg; log = p.log.items }) h.past.items in
     let seat : SeatSeen = record { slot = g.S.GateSeat.slot_of h.seat; known = g.S.GateSeat.known h.seat; told = g.S.GateSeat.tells h.seat } in
     λ s told. begins_closed (g.G.PortGate.state c.args.gate.now) (node_of h.slot h.first_port t) seat.known s told c.args.ask t c.in-Closed.word c.requires.wanted c.in-Closed.ensures.says
 
@@ -111,7 +103,6 @@ pub returns-in-Unlinked-clause-exact : goal.returns-in-Unlinked-clause-exact
 returns-in-Unlinked-clause-exact g c =
     let h = c.args.self.now in
     let t = g.C.Component.state h.inner in
-    let line : List LineNode = map (λ p. record { first = p.first_port; arg = p.arg; log = p.log.items }) h.past.items in
     let seat : SeatSeen = record { slot = g.S.GateSeat.slot_of h.seat; known = g.S.GateSeat.known h.seat; told = g.S.GateSeat.tells h.seat } in
     λ s told. begins_unlinked (g.G.PortGate.state c.args.gate.now) (node_of h.slot h.first_port t) seat.known s told c.args.ask t c.in-Unlinked.word c.requires.wanted c.in-Unlinked.ensures.says
 
@@ -139,7 +130,6 @@ pub returns-in-Again-clause-exact : goal.returns-in-Again-clause-exact
 returns-in-Again-clause-exact g c =
     let h = c.args.self.now in
     let t = g.C.Component.state h.inner in
-    let line : List LineNode = map (λ p. record { first = p.first_port; arg = p.arg; log = p.log.items }) h.past.items in
     let seat : SeatSeen = record { slot = g.S.GateSeat.slot_of h.seat; known = g.S.GateSeat.known h.seat; told = g.S.GateSeat.tells h.seat } in
     λ s told. begins_again (g.G.PortGate.state c.args.gate.now) (node_of h.slot h.first_port t) seat.known s told c.args.ask t c.in-Again.loaded c.in-Again.found c.in-Again.ensures.says
 
@@ -167,7 +157,6 @@ pub returns-in-Spent-clause-exact : goal.returns-in-Spent-clause-exact
 returns-in-Spent-clause-exact g c =
     let h = c.args.self.now in
     let t = g.C.Component.state h.inner in
-    let line : List LineNode = map (λ p. record { first = p.first_port; arg = p.arg; log = p.log.items }) h.past.items in
     let seat : SeatSeen = record { slot = g.S.GateSeat.slot_of h.seat; known = g.S.GateSeat.known h.seat; told = g.S.GateSeat.tells h.seat } in
     λ s told. begins_spent (g.G.PortGate.state c.args.gate.now) (node_of h.slot h.first_port t) seat.known s told c.args.ask t c.in-Spent.serial c.requires.wanted c.in-Spent.ensures.says
 
@@ -190,7 +179,6 @@ pub returns-in-Begun-clause-exact : goal.returns-in-Begun-clause-exact
 returns-in-Begun-clause-exact g c =
     let h = c.args.self.now in
     let t = g.C.Component.state h.inner in
-    let line : List LineNode = map (λ p. record { first = p.first_port; arg = p.arg; log = p.log.items }) h.past.items in
     let seat : SeatSeen = record { slot = g.S.GateSeat.slot_of h.seat; known = g.S.GateSeat.known h.seat; told = g.S.GateSeat.tells h.seat } in
     λ s told. begins_begun (g.G.PortGate.state c.args.gate.now) (node_of h.slot h.first_port t) seat.known s told c.args.ask t c.in-Begun.serial (g.G.PortGate.state c.begin.new.self) c.requires.wanted
     (did_by (node_of h.slot h.first_port t) (g.G.PortGate.node c.args.gate.now h.seat) seat.known (g.S.GateSeat.known c.begin.new.seat) seat.told (g.S.GateSeat.tells c.begin.new.seat) (g.G.PortGate.state c.args.gate.now) (g.G.PortGate.state c.begin.new.self) (event.Begin (h.first_port + c.args.ask.require) c.in-Begun.serial c.args.ask.value ∷ []) (event.Begin (h.first_port + c.args.ask.require) c.in-Begun.serial c.args.ask.value ∷ []) c.requires.node (refl) c.in-Begun.ensures.does).steps
@@ -198,9 +186,6 @@ returns-in-Begun-clause-exact g c =
 pub returns-in-Begun-clause-hint : goal.returns-in-Begun-clause-hint
 returns-in-Begun-clause-hint g c =
     let h = c.args.self.now in
-    let t = g.C.Component.state h.inner in
-    let line : List LineNode = map (λ p. record { first = p.first_port; arg = p.arg; log = p.log.items }) h.past.items in
-    let seat : SeatSeen = record { slot = g.S.GateSeat.slot_of h.seat; known = g.S.GateSeat.known h.seat; told = g.S.GateSeat.tells h.seat } in
     let old : Hinted = record { waiting = h.waiting; counts = g.H.Hints.counts c.args.hints.now; told = g.H.Hints.tells c.args.hints.now } in
     let new : Hinted = record { waiting = c.post.new.waiting; counts = g.H.Hints.counts c.post.new.hints; told = g.H.Hints.tells c.post.new.hints } in
     let posted : IsPosted h.first_port c.args.ask.require c.in-Begun.target old new = record {

@@ -29,10 +29,6 @@ call-requires-clause-may g c =
 
 pub answered-requires-clause-asked : goal.answered-requires-clause-asked
 answered-requires-clause-asked g c =
-    let h = c.args.self.now in
-    let t = g.C.Component.state h.inner in
-    let line : List LineNode = map (λ p. record { first = p.first_port; arg = p.arg; log = p.log.items }) h.past.items in
-    let seat : SeatSeen = record { slot = g.S.GateSeat.slot_of h.seat; known = g.S.GateSeat.known h.seat; told = g.S.GateSeat.tells h.seat } in
     (c.args.ask.value, c.requires.asks)
 
 pub keep-requires-clause-count : goal.keep-requires-clause-count
@@ -54,17 +50,10 @@ keep-requires-in-Called-clause-count g c =
 pub post-requires-clause-port : goal.post-requires-clause-port
 post-requires-clause-port g c =
     let h = c.args.self.now in
-    let t = g.C.Component.state h.inner in
-    let line : List LineNode = map (λ p. record { first = p.first_port; arg = p.arg; log = p.log.items }) h.past.items in
-    let seat : SeatSeen = record { slot = g.S.GateSeat.slot_of h.seat; known = g.S.GateSeat.known h.seat; told = g.S.GateSeat.tells h.seat } in
     omega (arith, c.requires.fits_ask.require, h.hosted.limits.ports_within)
 
 pub post-requires-clause-node : goal.post-requires-clause-node
 post-requires-clause-node g c =
-    let h = c.args.self.now in
-    let t = g.C.Component.state h.inner in
-    let line : List LineNode = map (λ p. record { first = p.first_port; arg = p.arg; log = p.log.items }) h.past.items in
-    let seat : SeatSeen = record { slot = g.S.GateSeat.slot_of h.seat; known = g.S.GateSeat.known h.seat; told = g.S.GateSeat.tells h.seat } in
     c.in-Called.ensures.says.1
 
 pub invariant_of-self-clause-hosted : goal.invariant_of-self-clause-hosted
@@ -142,7 +131,6 @@ pub returns-in-Missed-clause-exact : goal.returns-in-Missed-clause-exact
 returns-in-Missed-clause-exact g c =
     let h = c.args.self.now in
     let t = g.C.Component.state h.inner in
-    let line : List LineNode = map (λ p. record { first = p.first_port; arg = p.arg; log = p.log.items }) h.past.items in
     let seat : SeatSeen = record { slot = g.S.GateSeat.slot_of h.seat; known = g.S.GateSeat.known h.seat; told = g.S.GateSeat.tells h.seat } in
     λ s told. calls_missed (g.G.PortGate.state c.args.gate.now) (node_of h.slot h.first_port t) seat.known s told (h.first_port + c.args.ask.require) c.args.ask.value (g.G.PortGate.state c.call.new.self)
     (did_by (node_of h.slot h.first_port t) (g.G.PortGate.node c.args.gate.now h.seat) seat.known (g.S.GateSeat.known c.call.new.seat) seat.told (g.S.GateSeat.tells c.call.new.seat) (g.G.PortGate.state c.args.gate.now) (g.G.PortGate.state c.call.new.self) (event.Miss (h.first_port + c.args.ask.require) ∷ []) (event.Miss (h.first_port + c.args.ask.require) ∷ []) c.requires.node (refl) c.in-Missed.ensures.does).steps
@@ -151,7 +139,6 @@ pub returns-in-Called-clause-exact : goal.returns-in-Called-clause-exact
 returns-in-Called-clause-exact g c =
     let h = c.args.self.now in
     let t = g.C.Component.state h.inner in
-    let line : List LineNode = map (λ p. record { first = p.first_port; arg = p.arg; log = p.log.items }) h.past.items in
     let seat : SeatSeen = record { slot = g.S.GateSeat.slot_of h.seat; known = g.S.GateSeat.known h.seat; told = g.S.GateSeat.tells h.seat } in
     λ s told. calls_called (g.G.PortGate.state c.args.gate.now) (node_of h.slot h.first_port t) seat.known s told (h.first_port + c.args.ask.require) c.in-Called.serial c.args.ask.value (g.G.PortGate.state c.call.new.self)
     (did_by (node_of h.slot h.first_port t) (g.G.PortGate.node c.args.gate.now h.seat) seat.known (g.S.GateSeat.known c.call.new.seat) seat.told (g.S.GateSeat.tells c.call.new.seat) (g.G.PortGate.state c.args.gate.now) (g.G.PortGate.state c.call.new.self) (event.Call (h.first_port + c.args.ask.require) c.in-Called.serial c.args.ask.value ∷ []) (event.Call (h.first_port + c.args.ask.require) c.in-Called.serial c.args.ask.value ∷ []) c.requires.node (refl) c.in-Called.ensures.does).steps
@@ -159,9 +146,6 @@ returns-in-Called-clause-exact g c =
 pub returns-in-Called-clause-hint : goal.returns-in-Called-clause-hint
 returns-in-Called-clause-hint g c =
     let h = c.args.self.now in
-    let t = g.C.Component.state h.inner in
-    let line : List LineNode = map (λ p. record { first = p.first_port; arg = p.arg; log = p.log.items }) h.past.items in
-    let seat : SeatSeen = record { slot = g.S.GateSeat.slot_of h.seat; known = g.S.GateSeat.known h.seat; told = g.S.GateSeat.tells h.seat } in
     let old : Hinted = record { waiting = h.waiting; counts = g.H.Hints.counts c.args.hints.now; told = g.H.Hints.tells c.args.hints.now } in
     let new : Hinted = record { waiting = c.post.new.waiting; counts = g.H.Hints.counts c.post.new.hints; told = g.H.Hints.tells c.post.new.hints } in
     let posted : IsPosted h.first_port c.args.ask.require c.in-Called.target old new = record {

@@ -1,8 +1,7 @@
-use Rattle.std.proofs.Common.{◌∙◌, List, sym, ap}
-use Rattle.std.specs.Prelude.{length, map}
+use Rattle.std.proofs.Common.{◌∙◌, sym, ap}
+use Rattle.std.specs.Prelude.{length}
 use Rattle.config_graph.specs.Kinds.{row}
 use Rattle.node_host.specs.Hosted.{SeatSeen, node_of}
-use Rattle.node_host.specs.Lines.{LineNode}
 use Rattle.node_host.proofs.Moving.{ends_at_one}
 use Rattle.node_host.proofs.node.HostNode.end_or_ask.Goals as goal
 
@@ -10,6 +9,5 @@ pub returns-in-1-clause-exact : goal.returns-in-1-clause-exact
 returns-in-1-clause-exact g c =
     let h = c.args.self.now in
     let t = g.C.Component.state h.inner in
-    let line : List LineNode = map (λ p. record { first = p.first_port; arg = p.arg; log = p.log.items }) h.past.items in
     let seat : SeatSeen = record { slot = g.S.GateSeat.slot_of h.seat; known = g.S.GateSeat.known h.seat; told = g.S.GateSeat.tells h.seat } in
     λ s told. ends_at_one (g.G.PortGate.state c.args.gate.now) (node_of h.slot h.first_port t) seat.known s told t c.reply_at.result (ap (λ k. length (row k).requires_) (sym c.kind.ensures) ∙ sym c.requires_.ensures ∙ c.in-1.is) (c.reply_at.ensures.exact s told)

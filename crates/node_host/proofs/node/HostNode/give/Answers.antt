@@ -20,10 +20,6 @@ give-requires-clause-may g c =
 
 pub given-requires : goal.given-requires
 given-requires g c =
-    let h = c.args.self.now in
-    let t = g.C.Component.state h.inner in
-    let line : List LineNode = map (λ p. record { first = p.first_port; arg = p.arg; log = p.log.items }) h.past.items in
-    let seat : SeatSeen = record { slot = g.S.GateSeat.slot_of h.seat; known = g.S.GateSeat.known h.seat; told = g.S.GateSeat.tells h.seat } in
     record { gave = (c.args.value, c.requires.gives) }
 
 pub invariant_of-self-clause-hosted : goal.invariant_of-self-clause-hosted

@@ -52,7 +52,6 @@ pub returns-in-NotYet-clause-exact : goal.returns-in-NotYet-clause-exact
 returns-in-NotYet-clause-exact g c =
     let h = c.args.self.now in
     let t = g.C.Component.state h.inner in
-    let line : List LineNode = map (λ p. record { first = p.first_port; arg = p.arg; log = p.log.items }) h.past.items in
     let seat : SeatSeen = record { slot = g.S.GateSeat.slot_of h.seat; known = g.S.GateSeat.known h.seat; told = g.S.GateSeat.tells h.seat } in
     λ s told. hears_not_yet (g.G.PortGate.state c.args.gate.now) (node_of h.slot h.first_port t) seat.known s told c.args.served.port c.in-NotYet.word c.in-NotYet.ensures.says
 

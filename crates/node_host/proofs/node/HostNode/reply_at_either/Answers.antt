@@ -1,7 +1,5 @@
-use Rattle.std.proofs.Common.{◌≡◌, ◌∙◌, ◌+◌, List, true, refl, sym, ap, subst}
-use Rattle.std.specs.Prelude.{map}
+use Rattle.std.proofs.Common.{◌≡◌, ◌∙◌, ◌+◌, true, refl, sym, ap, subst}
 use Rattle.node_host.specs.Hosted.{SeatSeen, node_of}
-use Rattle.node_host.specs.Lines.{LineNode}
 use Rattle.node_host.specs.Told.{IsTold, reply_at}
 use Rattle.node_host.specs.Tried.{HasNoReply, LoadsPort, is_reply_at}
 use Rattle.port_gate.specs.Loads.{TellsLoads}
@@ -15,7 +13,6 @@ pub returns-in-Some-clause-exact : goal.returns-in-Some-clause-exact
 returns-in-Some-clause-exact g c =
     let h = c.args.self.now in
     let t = g.C.Component.state h.inner in
-    let line : List LineNode = map (λ p. record { first = p.first_port; arg = p.arg; log = p.log.items }) h.past.items in
     let seat : SeatSeen = record { slot = g.S.GateSeat.slot_of h.seat; known = g.S.GateSeat.known h.seat; told = g.S.GateSeat.tells h.seat } in
     λ s told. ends_at_left (g.G.PortGate.state c.args.gate.now) (node_of h.slot h.first_port t) seat.known s told t c.in-Some.event c.requires.two (c.in-Some.ensures.exact s told)
 
@@ -23,7 +20,6 @@ pub returns-in-None-clause-moved : goal.returns-in-None-clause-moved
 returns-in-None-clause-moved g c =
     let h = c.args.self.now in
     let t = g.C.Component.state h.inner in
-    let line : List LineNode = map (λ p. record { first = p.first_port; arg = p.arg; log = p.log.items }) h.past.items in
     let seat : SeatSeen = record { slot = g.S.GateSeat.slot_of h.seat; known = g.S.GateSeat.known h.seat; told = g.S.GateSeat.tells h.seat } in
     let m = c.reply_at.new.self in
     let tm = g.C.Component.state m.inner in
@@ -37,7 +33,6 @@ pub returns-in-None-clause-exact : goal.returns-in-None-clause-exact
 returns-in-None-clause-exact g c = λ s told.
     let h = c.args.self.now in
     let t = g.C.Component.state h.inner in
-    let line : List LineNode = map (λ p. record { first = p.first_port; arg = p.arg; log = p.log.items }) h.past.items in
     let seat : SeatSeen = record { slot = g.S.GateSeat.slot_of h.seat; known = g.S.GateSeat.known h.seat; told = g.S.GateSeat.tells h.seat } in
     let m = c.reply_at.new.self in
     let tm = g.C.Component.state m.inner in

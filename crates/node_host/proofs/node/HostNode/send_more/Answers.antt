@@ -29,10 +29,6 @@ keep-requires-clause-count g c =
 
 pub more_given-requires : goal.more_given-requires
 more_given-requires g c =
-    let h = c.args.self.now in
-    let t = g.C.Component.state h.inner in
-    let line : List LineNode = map (λ p. record { first = p.first_port; arg = p.arg; log = p.log.items }) h.past.items in
-    let seat : SeatSeen = record { slot = g.S.GateSeat.slot_of h.seat; known = g.S.GateSeat.known h.seat; told = g.S.GateSeat.tells h.seat } in
     record { sent = (c.args.value, c.requires.sends) }
 
 pub invariant_of-self-clause-hosted : goal.invariant_of-self-clause-hosted

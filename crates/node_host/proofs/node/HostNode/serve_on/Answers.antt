@@ -25,7 +25,4 @@ returns-else-served-clause-exact g c =
 pub returns-else-served-clause-hint : goal.returns-else-served-clause-hint
 returns-else-served-clause-hint g c =
     let h = c.args.self.now in
-    let t = g.C.Component.state h.inner in
-    let line : List LineNode = map (λ p. record { first = p.first_port; arg = p.arg; log = p.log.items }) h.past.items in
-    let seat : SeatSeen = record { slot = g.S.GateSeat.slot_of h.seat; known = g.S.GateSeat.known h.seat; told = g.S.GateSeat.tells h.seat } in
     without_hint (record { state = g.G.PortGate.state c.args.gate.now; before = g.S.GateSeat.loads h.seat; after = g.S.GateSeat.loads c.hear.new.self.seat }) h.first_port c.hear.result h.waiting c.hear.new.self.waiting (g.H.Hints.counts c.args.hints.now) (g.H.Hints.tells c.args.hints.now) (c.hear.ensures.asks_nothing) c.hear.ensures.waiting

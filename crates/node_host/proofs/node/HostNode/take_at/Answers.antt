@@ -23,10 +23,6 @@ take-requires-clause-may g c =
 
 pub serve-requires-clause-provide : goal.serve-requires-clause-provide
 serve-requires-clause-provide g c =
-    let h = c.args.self.now in
-    let t = g.C.Component.state h.inner in
-    let line : List LineNode = map (λ p. record { first = p.first_port; arg = p.arg; log = p.log.items }) h.past.items in
-    let seat : SeatSeen = record { slot = g.S.GateSeat.slot_of h.seat; known = g.S.GateSeat.known h.seat; told = g.S.GateSeat.tells h.seat } in
     subst (λ m. c.in-Taken.provide < length (row m.kind).provides) c.requires.node c.in-Taken.ensures.says.0
 
 pub invariant_of-self-clause-hosted : goal.invariant_of-self-clause-hosted
@@ -53,7 +49,6 @@ pub returns-in-Stale-clause-exact : goal.returns-in-Stale-clause-exact
 returns-in-Stale-clause-exact g c =
     let h = c.args.self.now in
     let t = g.C.Component.state h.inner in
-    let line : List LineNode = map (λ p. record { first = p.first_port; arg = p.arg; log = p.log.items }) h.past.items in
     let seat : SeatSeen = record { slot = g.S.GateSeat.slot_of h.seat; known = g.S.GateSeat.known h.seat; told = g.S.GateSeat.tells h.seat } in
     λ s later told. takes_stale (g.G.PortGate.state c.args.gate.now) (node_of h.slot h.first_port t) seat.known s told (c.args.port ∷ later) c.args.port c.in-Stale.word refl (subst (λ m. TakeSays (g.G.PortGate.state c.args.gate.now) m c.args.port (take.Stale c.in-Stale.word)) c.requires.node c.in-Stale.ensures.says)
 
@@ -103,7 +98,6 @@ pub returns-in-Taken-clause-exact : goal.returns-in-Taken-clause-exact
 returns-in-Taken-clause-exact g c =
     let h = c.args.self.now in
     let t = g.C.Component.state h.inner in
-    let line : List LineNode = map (λ p. record { first = p.first_port; arg = p.arg; log = p.log.items }) h.past.items in
     let seat : SeatSeen = record { slot = g.S.GateSeat.slot_of h.seat; known = g.S.GateSeat.known h.seat; told = g.S.GateSeat.tells h.seat } in
     λ s later told. takes_taken (g.G.PortGate.state c.args.gate.now) (node_of h.slot h.first_port t) seat.known s told (c.args.port ∷ later) c.args.port c.in-Taken.serial c.in-Taken.value (g.G.PortGate.state c.take.new.self) refl
     (did_by (node_of h.slot h.first_port t) (g.G.PortGate.node c.args.gate.now h.seat) seat.known (g.S.GateSeat.known c.take.new.seat) seat.told (g.S.GateSeat.tells c.take.new.seat) (g.G.PortGate.state c.args.gate.now) (g.G.PortGate.state c.take.new.self) (event.Take c.args.port c.in-Taken.serial c.in-Taken.value ∷ []) (event.Take c.args.port c.in-Taken.serial c.in-Taken.value ∷ []) c.requires.node (refl) c.in-Taken.ensures.does).steps
