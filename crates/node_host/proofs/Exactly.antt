@@ -34,6 +34,7 @@ use Rattle.port_gate.specs.Answers.{BeginSays, HasWord, HearSays, IsSpentAt, Tak
 use Rattle.port_gate.specs.Core.{node_in}
 use Rattle.port_gate.specs.Moves.{Leads}
 use Rattle.port_gate.specs.Seats.{NodeAt}
+use Rattle.port_gate.specs.declared.answers.BeginAnswer.{BeginAnswer}
 use Rattle.port_gate.specs.declared.answers.BeginAnswer.TheVariants as begin
 use Rattle.port_gate.specs.declared.answers.HearAnswer.TheVariants as hear
 use Rattle.port_gate.specs.declared.answers.TakeAnswer.TheVariants as take
@@ -41,6 +42,7 @@ use Rattle.port_queue.specs.Inboxes.{front}
 use Rattle.turns.specs.Turn.{begins, begins_at, calls, does_next, hears, is_for, takes}
 use Rattle.turns.specs.World.{first_port}
 use Rattle.node_host.specs.Told.{IsTold}
+use Rattle.node_host.proofs.Refused.{IsRefused}
 
 -- a step that the gate told is allowed, and the node's
 stepped : (n : ℕ) (s : State) (o t : Option State) (e : Event) → o ≡ Some s → Leads n o (e ∷ []) t → Legal s e × (is_doer s n e ≡ true)
@@ -132,7 +134,7 @@ module _ (o : Option State) (n : NodeAt) (known : Known) (s : State) (told : IsT
       begins_not p a.value (false_left (is_idle (exchange s p).phase && is_open s.config p) (not (is_missing s p)) (false_left (is_idle (exchange s p).phase) (is_open s.config p) (sym (own_known a.require within).idle ∙ busy)))
       ∙ sym (begins_if a t wanted)
 
-  pub begins_closed : (a : Request) (t : NodeState) (word : ℕ) → moves.wants t ≡ Some a → BeginSays o (n.first + a.require) (begin.Closed word) → None ≡ begins s n.slot t
+  begins_closed : (a : Request) (t : NodeState) (word : ℕ) → moves.wants t ≡ Some a → BeginSays o (n.first + a.require) (begin.Closed word) → None ≡ begins s n.slot t
   begins_closed a t word wanted says =
       let p : ℕ = n.first + a.require in
       let closed = word_there s told.formed p word (λ x. x.closed) (subst (λ x. BeginSays x p (begin.Closed word)) told.told says) in
@@ -143,7 +145,7 @@ module _ (o : Option State) (n : NodeAt) (known : Known) (s : State) (told : IsT
   unlinked_is_missing None spent h = refl
   unlinked_is_missing (Some x) spent h = absurd (both_ways false refl h)
 
-  pub begins_unlinked : (a : Request) (t : NodeState) (word : ℕ) → moves.wants t ≡ Some a → BeginSays o (n.first + a.require) (begin.Unlinked word) → None ≡ begins s n.slot t
+  begins_unlinked : (a : Request) (t : NodeState) (word : ℕ) → moves.wants t ≡ Some a → BeginSays o (n.first + a.require) (begin.Unlinked word) → None ≡ begins s n.slot t
   begins_unlinked a t word wanted says =
       let p : ℕ = n.first + a.require in
       let shown = word_there s told.formed p word (λ x. not x.closed && is_none x.target) (subst (λ x. BeginSays x p (begin.Unlinked word)) told.told says) in
@@ -155,7 +157,7 @@ module _ (o : Option State) (n : NodeAt) (known : Known) (s : State) (told : IsT
   spent_is_missing true spent h = h
   spent_is_missing false spent h = refl
 
-  pub begins_spent : (a : Request) (t : NodeState) (k : ℕ) → moves.wants t ≡ Some a → BeginSays o (n.first + a.require) (begin.Spent k) → None ≡ begins s n.slot t
+  begins_spent : (a : Request) (t : NodeState) (k : ℕ) → moves.wants t ≡ Some a → BeginSays o (n.first + a.require) (begin.Spent k) → None ≡ begins s n.slot t
   begins_spent a t k wanted says =
       let p : ℕ = n.first + a.require in
       let shown : IsSpentAt (Some s) p = (subst (λ x. BeginSays x p (begin.Spent k)) told.told says).1 in
@@ -163,8 +165,15 @@ module _ (o : Option State) (n : NodeAt) (known : Known) (s : State) (told : IsT
       (false_right (is_idle (exchange s p).phase && is_open s.config p) (not (is_missing s p)) (ap not (spent_is_missing (is_linked s.config p) ((exchange s p).serial == last_serial) (eq-eqb (exchange s p).serial last_serial shown.2))))
       ∙ sym (begins_if a t wanted)
 
-  pub begins_again : (a : Request) (t : NodeState) (i j : ℕ) → BeginSays o (n.first + a.require) (begin.Again i j) → None ≡ begins s n.slot t
+  begins_again : (a : Request) (t : NodeState) (i j : ℕ) → BeginSays o (n.first + a.require) (begin.Again i j) → None ≡ begins s n.slot t
   begins_again a t i j says = absurd (none-some s (sym says.0 ∙ told.told))
+
+  pub begins_refused : (a : Request) (t : NodeState) (r : BeginAnswer) → IsRefused r → moves.wants t ≡ Some a → BeginSays o (n.first + a.require) r → None ≡ begins s n.slot t
+  begins_refused a t (begin.Begun k x) refused wanted says = absurd (refused k x refl)
+  begins_refused a t (begin.Closed w) refused wanted says = begins_closed a t w wanted says
+  begins_refused a t (begin.Unlinked w) refused wanted says = begins_unlinked a t w wanted says
+  begins_refused a t (begin.Spent k) refused wanted says = begins_spent a t k wanted says
+  begins_refused a t (begin.Again i f) refused wanted says = begins_again a t i f says
 
   fresh_serial : (k serial : ℕ) → (k == serial + 1 && nat_le k last_serial) ≡ true → (k ≡ serial + 1) × ((serial == last_serial) ≡ false)
   fresh_serial k serial h =

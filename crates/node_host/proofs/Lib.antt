@@ -13,6 +13,7 @@ mod Moving
 mod Opening
 mod Permitted
 mod Placing
+mod Refused
 mod Replying
 mod Still
 mod Tries

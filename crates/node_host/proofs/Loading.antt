@@ -43,11 +43,12 @@ led_kept p shows a b c o o' few same h = record { led = h.led; there = same ∙ 
 loaded_as : (p : ℕ) (shows shows' : Load → Bool) → ((l : Load) → shows l ≡ true → shows' l ≡ true) → (a b : Loads) → IsLoaded p shows a b → IsLoaded p shows' a b
 loaded_as p shows shows' f a b h = record { load = h.load; there = h.there; now = record { after = h.now.after; until = h.now.until; shown = f h.load h.now.shown } }
 
+pub loads_as : (p : ℕ) (shows shows' : Load → Bool) → ((l : Load) → shows l ≡ true → shows' l ≡ true) → (a b : Option Loads) → TellsLoads (LoadsAt p shows) a b → TellsLoads (IsLoaded p shows') a b
+loads_as p shows shows' f a b loads = as_so (LoadsAt p shows) (IsLoaded p shows') (λ x y did. loaded_as p shows shows' f x y did.loaded) a b loads
+
 -- what was loaded shows the first of two things that the answer shows
 pub loads_first : (p : ℕ) (shows more_ : Load → Bool) (a b : Option Loads) → TellsLoads (LoadsAt p (λ l. shows l && more_ l)) a b → TellsLoads (IsLoaded p shows) a b
-loads_first p shows more_ a b loads =
-    as_so (LoadsAt p (λ l. shows l && more_ l)) (IsLoaded p shows)
-    (λ x y did. loaded_as p (λ l. shows l && more_ l) shows (λ l h. (and_parts (shows l) (more_ l) h).0) x y did.loaded) a b loads
+loads_first p shows more_ a b loads = loads_as p (λ l. shows l && more_ l) shows (λ l h. (and_parts (shows l) (more_ l) h).0) a b loads
 
 -- ---- what calls leave
 

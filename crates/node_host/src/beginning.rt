@@ -71,36 +71,31 @@ impl<C: Component + Drop, S: GateSeat + Drop> HostNode<C, S> {
         seats_have_places(gate, &self.seat);
         let port = self.first_port + ask.require;
         let value = ask.value;
-        match gate.begin(&mut self.seat, port, value) {
-            BeginAnswer::Begun { serial, target } => {
-                keep(
-                    &mut self.log,
-                    &mut self.known,
-                    self.first_port,
-                    Event::Begin {
-                        port,
-                        serial,
-                        value,
-                    },
-                );
-                post(
-                    &mut self.waiting,
-                    hints,
-                    self.first_port,
-                    ask.require,
-                    target,
-                );
-                Some(Event::Begin {
-                    port,
-                    serial,
-                    value,
-                })
-            }
-            BeginAnswer::Closed { .. } => None,
-            BeginAnswer::Unlinked { .. } => None,
-            BeginAnswer::Again { .. } => None,
-            BeginAnswer::Spent { .. } => None,
-        }
+        let BeginAnswer::Begun { serial, target } = gate.begin(&mut self.seat, port, value) else {
+            return None;
+        };
+        keep(
+            &mut self.log,
+            &mut self.known,
+            self.first_port,
+            Event::Begin {
+                port,
+                serial,
+                value,
+            },
+        );
+        post(
+            &mut self.waiting,
+            hints,
+            self.first_port,
+            ask.require,
+            target,
+        );
+        Some(Event::Begin {
+            port,
+            serial,
+            value,
+        })
     }
 
     /// Begins this, which the component wants, where that port is idle and the gate lets it, and posts the hint.

@@ -1,4 +1,4 @@
-use Rattle.std.proofs.Common.{◌∙◌, ◌+◌, ◌<◌, List, [], ◌∷◌, refl, sym, subst, arith}
+use Rattle.std.proofs.Common.{inr, ◌∙◌, ◌+◌, ◌<◌, List, [], ◌∷◌, refl, sym, subst, arith}
 use Rattle.std.specs.Prelude.{map, slice_index_or}
 use Rattle.quiesce_core.specs.Knowledge.{port_at_start}
 use Rattle.quiesce_core.specs.declared.event.Event.{Event}
@@ -9,13 +9,17 @@ use Rattle.node_host.proofs.Replying.{index_is}
 use Rattle.node_host.specs.Lines.{LineNode}
 use Rattle.config_graph.proofs.KindLaws.{two_requires}
 use Rattle.port_gate.specs.Seats.{MayBegin}
-use Rattle.node_host.proofs.Exactly.{begins_again, begins_begun, begins_closed, begins_spent, begins_unlinked}
+use Rattle.node_host.proofs.Exactly.{begins_begun, begins_refused}
 use Rattle.node_host.proofs.Growing.{hosted_after, moved_after}
 use Rattle.node_host.proofs.Idle.{idle_at}
-use Rattle.port_gate.specs.Loads.{is_begun, leads_to}
+use Rattle.port_gate.specs.Loads.{IsLoaded, TellsLoads, is_begun, leads_to}
 use Rattle.node_host.proofs.Loading.{loads_first}
+use Rattle.node_host.proofs.Refused.{loads_bar}
+use Rattle.node_host.specs.Tried.{bars_begin}
+use Rattle.component_trait.specs.declared.next.Ask.{Ask}
+use Rattle.std.proofs.lemmas.Option.{same_Some}
 use Rattle.node_host.proofs.Permitted.{begin_folds, did_by, may_begin}
-use Rattle.node_host.proofs.Still.{hosted_still, hosted_waiting, moved_still}
+use Rattle.node_host.proofs.Still.{hosted_waiting}
 use Rattle.node_host.proofs.node.HostNode.begin_idle.Goals as goal
 
 pub begin-requires-clause-may : goal.begin-requires-clause-may
@@ -36,8 +40,8 @@ pub post-requires-clause-node : goal.post-requires-clause-node
 post-requires-clause-node g c =
     c.in-Begun.ensures.says.1
 
-pub invariant_of-self-clause-hosted : goal.invariant_of-self-clause-hosted
-invariant_of-self-clause-hosted g c =
+pub invariant_of-self-2-clause-hosted : goal.invariant_of-self-2-clause-hosted
+invariant_of-self-2-clause-hosted g c =
     let h = c.args.self.now in
     let t = g.C.Component.state h.inner in
     let line : List LineNode = map (λ p. record { first = p.first_port; arg = p.arg; log = p.log.items }) h.past.items in
@@ -52,116 +56,8 @@ invariant_of-self-clause-hosted g c =
     (idle_at h.slot h.first_port t h.log.items line h.known h.waiting seat h.hosted c.args.ask.require (slice_index_or h.known.ports c.args.ask.require port_at_start) two refl c.requires.idle) (begin_folds h.first_port c.in-Begun.serial c.args.ask t c.requires.wanted) c.keep.ensures.logged c.keep.ensures.known)
     c.post.new.waiting c.args.ask.require c.in-Begun.target c.post.result c.post.ensures.waiting c.requires.fits_ask.require c.in-Begun.ensures.says.1
 
-pub invariant_of-self-in-Closed-clause-hosted : goal.invariant_of-self-in-Closed-clause-hosted
-invariant_of-self-in-Closed-clause-hosted g c =
-    let h = c.args.self.now in
-    let t = g.C.Component.state h.inner in
-    let line : List LineNode = map (λ p. record { first = p.first_port; arg = p.arg; log = p.log.items }) h.past.items in
-    let seat : SeatSeen = record { slot = g.S.GateSeat.slot_of h.seat; known = g.S.GateSeat.known h.seat; told = g.S.GateSeat.tells h.seat } in
-    let seat' : SeatSeen = record { slot = g.S.GateSeat.slot_of c.begin.new.seat; known = g.S.GateSeat.known c.begin.new.seat; told = g.S.GateSeat.tells c.begin.new.seat } in
-    hosted_still h.slot h.first_port t h.log.items line h.known h.waiting seat h.hosted seat' (g.G.PortGate.node c.args.gate.now h.seat) (g.G.PortGate.node c.begin.new.self c.begin.new.seat) (g.G.PortGate.state c.args.gate.now) (g.G.PortGate.state c.begin.new.self)
-    c.requires.node c.begin.ensures.node (g.met.G.PortGate.within c.begin.new.self c.begin.new.seat c.begin.ensures.fits).1 c.in-Closed.ensures.does
-
-pub returns-in-Closed-clause-moved : goal.returns-in-Closed-clause-moved
-returns-in-Closed-clause-moved g c =
-    let h = c.args.self.now in
-    let t = g.C.Component.state h.inner in
-    let line : List LineNode = map (λ p. record { first = p.first_port; arg = p.arg; log = p.log.items }) h.past.items in
-    let seat : SeatSeen = record { slot = g.S.GateSeat.slot_of h.seat; known = g.S.GateSeat.known h.seat; told = g.S.GateSeat.tells h.seat } in
-    let seat' : SeatSeen = record { slot = g.S.GateSeat.slot_of c.begin.new.seat; known = g.S.GateSeat.known c.begin.new.seat; told = g.S.GateSeat.tells c.begin.new.seat } in
-    moved_still h.slot h.first_port t h.log.items line h.known h.waiting seat h.hosted seat' (g.G.PortGate.node c.args.gate.now h.seat) (g.G.PortGate.node c.begin.new.self c.begin.new.seat) (g.G.PortGate.state c.args.gate.now) (g.G.PortGate.state c.begin.new.self)
-    c.requires.node c.begin.ensures.node (g.met.G.PortGate.within c.begin.new.self c.begin.new.seat c.begin.ensures.fits).1 c.in-Closed.ensures.does
-
-pub returns-in-Closed-clause-exact : goal.returns-in-Closed-clause-exact
-returns-in-Closed-clause-exact g c =
-    let h = c.args.self.now in
-    let t = g.C.Component.state h.inner in
-    let seat : SeatSeen = record { slot = g.S.GateSeat.slot_of h.seat; known = g.S.GateSeat.known h.seat; told = g.S.GateSeat.tells h.seat } in
-    λ s told. begins_closed (g.G.PortGate.state c.args.gate.now) (node_of h.slot h.first_port t) seat.known s told c.args.ask t c.in-Closed.word c.requires.wanted c.in-Closed.ensures.says
-
-pub invariant_of-self-in-Unlinked-clause-hosted : goal.invariant_of-self-in-Unlinked-clause-hosted
-invariant_of-self-in-Unlinked-clause-hosted g c =
-    let h = c.args.self.now in
-    let t = g.C.Component.state h.inner in
-    let line : List LineNode = map (λ p. record { first = p.first_port; arg = p.arg; log = p.log.items }) h.past.items in
-    let seat : SeatSeen = record { slot = g.S.GateSeat.slot_of h.seat; known = g.S.GateSeat.known h.seat; told = g.S.GateSeat.tells h.seat } in
-    let seat' : SeatSeen = record { slot = g.S.GateSeat.slot_of c.begin.new.seat; known = g.S.GateSeat.known c.begin.new.seat; told = g.S.GateSeat.tells c.begin.new.seat } in
-    hosted_still h.slot h.first_port t h.log.items line h.known h.waiting seat h.hosted seat' (g.G.PortGate.node c.args.gate.now h.seat) (g.G.PortGate.node c.begin.new.self c.begin.new.seat) (g.G.PortGate.state c.args.gate.now) (g.G.PortGate.state c.begin.new.self)
-    c.requires.node c.begin.ensures.node (g.met.G.PortGate.within c.begin.new.self c.begin.new.seat c.begin.ensures.fits).1 c.in-Unlinked.ensures.does
-
-pub returns-in-Unlinked-clause-moved : goal.returns-in-Unlinked-clause-moved
-returns-in-Unlinked-clause-moved g c =
-    let h = c.args.self.now in
-    let t = g.C.Component.state h.inner in
-    let line : List LineNode = map (λ p. record { first = p.first_port; arg = p.arg; log = p.log.items }) h.past.items in
-    let seat : SeatSeen = record { slot = g.S.GateSeat.slot_of h.seat; known = g.S.GateSeat.known h.seat; told = g.S.GateSeat.tells h.seat } in
-    let seat' : SeatSeen = record { slot = g.S.GateSeat.slot_of c.begin.new.seat; known = g.S.GateSeat.known c.begin.new.seat; told = g.S.GateSeat.tells c.begin.new.seat } in
-    moved_still h.slot h.first_port t h.log.items line h.known h.waiting seat h.hosted seat' (g.G.PortGate.node c.args.gate.now h.seat) (g.G.PortGate.node c.begin.new.self c.begin.new.seat) (g.G.PortGate.state c.args.gate.now) (g.G.PortGate.state c.begin.new.self)
-    c.requires.node c.begin.ensures.node (g.met.G.PortGate.within c.begin.new.self c.begin.new.seat c.begin.ensures.fits).1 c.in-Unlinked.ensures.does
-
-pub returns-in-Unlinked-clause-exact : goal.returns-in-Unlinked-clause-exact
-returns-in-Unlinked-clause-exact g c =
-    let h = c.args.self.now in
-    let t = g.C.Component.state h.inner in
-    let seat : SeatSeen = record { slot = g.S.GateSeat.slot_of h.seat; known = g.S.GateSeat.known h.seat; told = g.S.GateSeat.tells h.seat } in
-    λ s told. begins_unlinked (g.G.PortGate.state c.args.gate.now) (node_of h.slot h.first_port t) seat.known s told c.args.ask t c.in-Unlinked.word c.requires.wanted c.in-Unlinked.ensures.says
-
-pub invariant_of-self-in-Again-clause-hosted : goal.invariant_of-self-in-Again-clause-hosted
-invariant_of-self-in-Again-clause-hosted g c =
-    let h = c.args.self.now in
-    let t = g.C.Component.state h.inner in
-    let line : List LineNode = map (λ p. record { first = p.first_port; arg = p.arg; log = p.log.items }) h.past.items in
-    let seat : SeatSeen = record { slot = g.S.GateSeat.slot_of h.seat; known = g.S.GateSeat.known h.seat; told = g.S.GateSeat.tells h.seat } in
-    let seat' : SeatSeen = record { slot = g.S.GateSeat.slot_of c.begin.new.seat; known = g.S.GateSeat.known c.begin.new.seat; told = g.S.GateSeat.tells c.begin.new.seat } in
-    hosted_still h.slot h.first_port t h.log.items line h.known h.waiting seat h.hosted seat' (g.G.PortGate.node c.args.gate.now h.seat) (g.G.PortGate.node c.begin.new.self c.begin.new.seat) (g.G.PortGate.state c.args.gate.now) (g.G.PortGate.state c.begin.new.self)
-    c.requires.node c.begin.ensures.node (g.met.G.PortGate.within c.begin.new.self c.begin.new.seat c.begin.ensures.fits).1 c.in-Again.ensures.does
-
-pub returns-in-Again-clause-moved : goal.returns-in-Again-clause-moved
-returns-in-Again-clause-moved g c =
-    let h = c.args.self.now in
-    let t = g.C.Component.state h.inner in
-    let line : List LineNode = map (λ p. record { first = p.first_port; arg = p.arg; log = p.log.items }) h.past.items in
-    let seat : SeatSeen = record { slot = g.S.GateSeat.slot_of h.seat; known = g.S.GateSeat.known h.seat; told = g.S.GateSeat.tells h.seat } in
-    let seat' : SeatSeen = record { slot = g.S.GateSeat.slot_of c.begin.new.seat; known = g.S.GateSeat.known c.begin.new.seat; told = g.S.GateSeat.tells c.begin.new.seat } in
-    moved_still h.slot h.first_port t h.log.items line h.known h.waiting seat h.hosted seat' (g.G.PortGate.node c.args.gate.now h.seat) (g.G.PortGate.node c.begin.new.self c.begin.new.seat) (g.G.PortGate.state c.args.gate.now) (g.G.PortGate.state c.begin.new.self)
-    c.requires.node c.begin.ensures.node (g.met.G.PortGate.within c.begin.new.self c.begin.new.seat c.begin.ensures.fits).1 c.in-Again.ensures.does
-
-pub returns-in-Again-clause-exact : goal.returns-in-Again-clause-exact
-returns-in-Again-clause-exact g c =
-    let h = c.args.self.now in
-    let t = g.C.Component.state h.inner in
-    let seat : SeatSeen = record { slot = g.S.GateSeat.slot_of h.seat; known = g.S.GateSeat.known h.seat; told = g.S.GateSeat.tells h.seat } in
-    λ s told. begins_again (g.G.PortGate.state c.args.gate.now) (node_of h.slot h.first_port t) seat.known s told c.args.ask t c.in-Again.loaded c.in-Again.found c.in-Again.ensures.says
-
-pub invariant_of-self-in-Spent-clause-hosted : goal.invariant_of-self-in-Spent-clause-hosted
-invariant_of-self-in-Spent-clause-hosted g c =
-    let h = c.args.self.now in
-    let t = g.C.Component.state h.inner in
-    let line : List LineNode = map (λ p. record { first = p.first_port; arg = p.arg; log = p.log.items }) h.past.items in
-    let seat : SeatSeen = record { slot = g.S.GateSeat.slot_of h.seat; known = g.S.GateSeat.known h.seat; told = g.S.GateSeat.tells h.seat } in
-    let seat' : SeatSeen = record { slot = g.S.GateSeat.slot_of c.begin.new.seat; known = g.S.GateSeat.known c.begin.new.seat; told = g.S.GateSeat.tells c.begin.new.seat } in
-    hosted_still h.slot h.first_port t h.log.items line h.known h.waiting seat h.hosted seat' (g.G.PortGate.node c.args.gate.now h.seat) (g.G.PortGate.node c.begin.new.self c.begin.new.seat) (g.G.PortGate.state c.args.gate.now) (g.G.PortGate.state c.begin.new.self)
-    c.requires.node c.begin.ensures.node (g.met.G.PortGate.within c.begin.new.self c.begin.new.seat c.begin.ensures.fits).1 c.in-Spent.ensures.does
-
-pub returns-in-Spent-clause-moved : goal.returns-in-Spent-clause-moved
-returns-in-Spent-clause-moved g c =
-    let h = c.args.self.now in
-    let t = g.C.Component.state h.inner in
-    let line : List LineNode = map (λ p. record { first = p.first_port; arg = p.arg; log = p.log.items }) h.past.items in
-    let seat : SeatSeen = record { slot = g.S.GateSeat.slot_of h.seat; known = g.S.GateSeat.known h.seat; told = g.S.GateSeat.tells h.seat } in
-    let seat' : SeatSeen = record { slot = g.S.GateSeat.slot_of c.begin.new.seat; known = g.S.GateSeat.known c.begin.new.seat; told = g.S.GateSeat.tells c.begin.new.seat } in
-    moved_still h.slot h.first_port t h.log.items line h.known h.waiting seat h.hosted seat' (g.G.PortGate.node c.args.gate.now h.seat) (g.G.PortGate.node c.begin.new.self c.begin.new.seat) (g.G.PortGate.state c.args.gate.now) (g.G.PortGate.state c.begin.new.self)
-    c.requires.node c.begin.ensures.node (g.met.G.PortGate.within c.begin.new.self c.begin.new.seat c.begin.ensures.fits).1 c.in-Spent.ensures.does
-
-pub returns-in-Spent-clause-exact : goal.returns-in-Spent-clause-exact
-returns-in-Spent-clause-exact g c =
-    let h = c.args.self.now in
-    let t = g.C.Component.state h.inner in
-    let seat : SeatSeen = record { slot = g.S.GateSeat.slot_of h.seat; known = g.S.GateSeat.known h.seat; told = g.S.GateSeat.tells h.seat } in
-    λ s told. begins_spent (g.G.PortGate.state c.args.gate.now) (node_of h.slot h.first_port t) seat.known s told c.args.ask t c.in-Spent.serial c.requires.wanted c.in-Spent.ensures.says
-
-pub returns-in-Begun-clause-moved : goal.returns-in-Begun-clause-moved
-returns-in-Begun-clause-moved g c =
+pub returns-clause-moved : goal.returns-clause-moved
+returns-clause-moved g c =
     let h = c.args.self.now in
     let t = g.C.Component.state h.inner in
     let line : List LineNode = map (λ p. record { first = p.first_port; arg = p.arg; log = p.log.items }) h.past.items in
@@ -175,16 +71,16 @@ returns-in-Begun-clause-moved g c =
     (did_by (node_of h.slot h.first_port t) (g.G.PortGate.node c.args.gate.now h.seat) seat.known seat'.known seat.told seat'.told (g.G.PortGate.state c.args.gate.now) (g.G.PortGate.state c.begin.new.self) (e ∷ []) (event.Begin (h.first_port + c.args.ask.require) c.in-Begun.serial c.args.ask.value ∷ []) c.requires.node (refl) c.in-Begun.ensures.does)
     (idle_at h.slot h.first_port t h.log.items line h.known h.waiting seat h.hosted c.args.ask.require (slice_index_or h.known.ports c.args.ask.require port_at_start) two refl c.requires.idle) (begin_folds h.first_port c.in-Begun.serial c.args.ask t c.requires.wanted) c.keep.ensures.logged c.keep.ensures.known
 
-pub returns-in-Begun-clause-exact : goal.returns-in-Begun-clause-exact
-returns-in-Begun-clause-exact g c =
+pub returns-clause-exact : goal.returns-clause-exact
+returns-clause-exact g c =
     let h = c.args.self.now in
     let t = g.C.Component.state h.inner in
     let seat : SeatSeen = record { slot = g.S.GateSeat.slot_of h.seat; known = g.S.GateSeat.known h.seat; told = g.S.GateSeat.tells h.seat } in
     λ s told. begins_begun (g.G.PortGate.state c.args.gate.now) (node_of h.slot h.first_port t) seat.known s told c.args.ask t c.in-Begun.serial (g.G.PortGate.state c.begin.new.self) c.requires.wanted
     (did_by (node_of h.slot h.first_port t) (g.G.PortGate.node c.args.gate.now h.seat) seat.known (g.S.GateSeat.known c.begin.new.seat) seat.told (g.S.GateSeat.tells c.begin.new.seat) (g.G.PortGate.state c.args.gate.now) (g.G.PortGate.state c.begin.new.self) (event.Begin (h.first_port + c.args.ask.require) c.in-Begun.serial c.args.ask.value ∷ []) (event.Begin (h.first_port + c.args.ask.require) c.in-Begun.serial c.args.ask.value ∷ []) c.requires.node (refl) c.in-Begun.ensures.does).steps
 
-pub returns-in-Begun-clause-hint : goal.returns-in-Begun-clause-hint
-returns-in-Begun-clause-hint g c =
+pub returns-clause-hint : goal.returns-clause-hint
+returns-clause-hint g c =
     let h = c.args.self.now in
     let old : Hinted = record { waiting = h.waiting; counts = g.H.Hints.counts c.args.hints.now; told = g.H.Hints.tells c.args.hints.now } in
     let new : Hinted = record { waiting = c.post.new.waiting; counts = g.H.Hints.counts c.post.new.hints; told = g.H.Hints.tells c.post.new.hints } in
@@ -198,3 +94,17 @@ returns-in-Begun-clause-hint g c =
       told = c.post.ensures.other_inboxes;
     } in
     record { target = c.in-Begun.target; leads = c.in-Begun.ensures.says.2; loaded = loads_first (h.first_port + c.args.ask.require) (leads_to c.in-Begun.target) (is_begun c.in-Begun.serial) (g.S.GateSeat.loads h.seat) (g.S.GateSeat.loads c.begin.new.seat) c.in-Begun.ensures.loads; posted = subst (λ r. IsPosted h.first_port r c.in-Begun.target old new) (sym (index_is h.first_port c.args.ask.require)) posted }
+
+pub returns-in_default-clause-exact : goal.returns-in_default-clause-exact
+returns-in_default-clause-exact g c =
+    let h = c.args.self.now in
+    let t = g.C.Component.state h.inner in
+    λ s told. begins_refused (g.G.PortGate.state c.args.gate.now) (node_of h.slot h.first_port t) (g.S.GateSeat.known h.seat) s told c.args.ask t c.begin.result c.in_default.not-Begun c.requires.wanted c.begin.ensures.says
+
+pub returns-in_default-clause-tried : goal.returns-in_default-clause-tried
+returns-in_default-clause-tried g c =
+    let h = c.args.self.now in
+    let a = g.S.GateSeat.loads h.seat in
+    let b = g.S.GateSeat.loads c.begin.new.seat in
+    λ none_ x wants. inr (subst (λ (y : Ask). TellsLoads (IsLoaded (h.first_port + y.require) bars_begin) a b) (same_Some c.args.ask x (sym c.requires.wanted ∙ wants))
+    (loads_bar (g.G.PortGate.state c.args.gate.now) (h.first_port + c.args.ask.require) c.begin.result a b c.in_default.not-Begun c.begin.ensures.says c.begin.ensures.loads))
