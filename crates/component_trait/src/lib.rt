@@ -16,7 +16,7 @@ pub use laws::{
     what_is_wanted_stays, who_wants_asks_nothing,
 };
 pub use next::{Ask, Next};
-pub use serving::{Serving, hand, wait, waits};
+pub use serving::{Serving, hand, reply, wait, waits};
 
 /// Amounts that are paid are below this number, so that twice an amount and one is a value.
 pub const AMOUNT_LIMIT: u32 = 8_388_608;

@@ -1,6 +1,6 @@
 //! The service that a node is in.
 
-ghost use Rattle.std.specs.Prelude.{◌≡◌, ◌<◌, [], false, length, slice_get, IfSome, Some, option_map};
+ghost use Rattle.std.specs.Prelude.{◌≡◌, ◌<◌, [], false, length, slice_get, IfSome, IsSome, Some, option_map};
 ghost use Rattle.std.specs.Option.{option_map_or};
 ghost use Rattle.component_trait.specs.States.{Service};
 ghost use Rattle.component_trait.specs.Moves.{with_answer, with_wait};
@@ -99,6 +99,18 @@ impl Serving {
         ensures { self.new ≡ with_wait self.old }
     {
         self.waits = true;
+    }
+}
+
+/// The reply that serving decided on, of the service that there is.
+pub fn reply(service: &Option<Serving>) -> u32
+    requires { IsSome service.now }
+    ensures reply { option_map (λ (w : Service). w.reply) service.now ≡ Some result }
+    ensures small { result < VALUE_LIMIT }
+{
+    match service {
+        Some(service) => service.reply(),
+        None => unreachable!(),
     }
 }
 

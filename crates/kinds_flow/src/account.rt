@@ -10,7 +10,7 @@ ghost use Rattle.component_trait.specs.Tables.{serve};
 ghost use Rattle.config_graph.specs.declared.TheConstants.{VALUE_LIMIT};
 ghost use Rattle.component_trait.specs.declared.next.Next.TheVariants as next;
 
-use component_trait::{Next, Serving};
+use component_trait::{Next, Serving, reply};
 
 /// An account: its argument, with which a new one opens; its balance; and its service.
 #[derive(Debug, Drop)]
@@ -75,10 +75,7 @@ impl Account {
         ensures next { moves.next (account_state self.now) ≡ Some result }
         ensures fits { FitsNext kind.Account result }
     {
-        match &self.service {
-            Some(service) => Next::Give(service.reply()),
-            None => Next::Give(0),
-        }
+        Next::Give(reply(&self.service))
     }
 
     /// Its service gave its answer.

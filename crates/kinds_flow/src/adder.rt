@@ -44,7 +44,7 @@ impl Adder {
     {
         match &self.service {
             Some(service) => add_up(service),
-            None => Next::Give(0),
+            None => unreachable!(),
         }
     }
 

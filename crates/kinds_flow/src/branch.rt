@@ -47,7 +47,7 @@ impl Branch {
     {
         match &self.service {
             Some(service) => transfer(service),
-            None => Next::Give(0),
+            None => unreachable!(),
         }
     }
 

@@ -69,7 +69,7 @@ impl Map {
     {
         match &self.service {
             Some(service) => pass_on(self.k, service),
-            None => Next::Give(0),
+            None => unreachable!(),
         }
     }
 
@@ -101,7 +101,7 @@ impl Map {
 
 /// What comes next where a map serves that adds k.
 fn pass_on(k: u32, service: &Serving) -> Next
-    requires waits { service.now.waits ≡ false }
+    requires goes_on { service.now.waits ≡ false }
     requires small { k < VALUE_LIMIT }
     ensures next { next_of kind.Map k service.now.value service.now.reply service.now.answers ≡ result }
     ensures fits { FitsNext kind.Map result }

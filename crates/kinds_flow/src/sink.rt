@@ -9,7 +9,7 @@ ghost use Rattle.component_trait.specs.States.{at_rest, nothing};
 ghost use Rattle.config_graph.specs.declared.TheConstants.{VALUE_LIMIT};
 ghost use Rattle.component_trait.specs.declared.next.Next.TheVariants as next;
 
-use component_trait::{Next, Serving};
+use component_trait::{Next, Serving, reply};
 use config_graph::NoMemory;
 use std::alloc::Global;
 
@@ -63,10 +63,7 @@ impl Sink {
         ensures next { moves.next (sink_state self.now) ≡ Some result }
         ensures fits { FitsNext kind.Sink result }
     {
-        match &self.service {
-            Some(service) => Next::Give(service.reply()),
-            None => Next::Give(0),
-        }
+        Next::Give(reply(&self.service))
     }
 
     /// Its service gave its answer.

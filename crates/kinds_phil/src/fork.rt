@@ -10,7 +10,7 @@ ghost use Rattle.component_trait.specs.Tables.{serve};
 ghost use Rattle.config_graph.specs.declared.TheConstants.{VALUE_LIMIT};
 ghost use Rattle.component_trait.specs.declared.next.Next.TheVariants as next;
 
-use component_trait::{Next, Serving};
+use component_trait::{Next, Serving, reply};
 
 /// A fork: whether it is held, and its service.
 #[derive(Debug, Drop)]
@@ -49,10 +49,7 @@ impl Fork {
         ensures next { moves.next (fork_state self.now) ≡ Some result }
         ensures fits { FitsNext kind.Fork result }
     {
-        match &self.service {
-            Some(service) => Next::Give(service.reply()),
-            None => Next::Give(0),
-        }
+        Next::Give(reply(&self.service))
     }
 
     /// Its service gave its answer.

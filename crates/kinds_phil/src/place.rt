@@ -72,7 +72,7 @@ impl Place {
     {
         match &self.service {
             Some(service) => dine(self.first, service),
-            None => Next::Give(0),
+            None => unreachable!(),
         }
     }
 
