@@ -1,6 +1,6 @@
 //! Inboxes of hints, one a node.
 
-ghost use Rattle.std.specs.Prelude.{◌≡◌, ◌≢◌, ℕ, ◌<◌, ◌↔◌, true, false, List, Option, Some, IfSome, IsOk};
+ghost use Rattle.std.specs.Prelude.{◌≡◌, ◌≢◌, ℕ, ◌<◌, ◌↔◌, true, List, Option, Some, IfSome, IsOk};
 ghost use Rattle.config_graph.specs.declared.TheConstants.{MAX_NODES, MAX_PORTS};
 ghost use Rattle.port_queue.specs.Inboxes.{Counts, CountsNext, CountsPost, after_next, after_post, front, has_room};
 
