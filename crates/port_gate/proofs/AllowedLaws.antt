@@ -32,7 +32,7 @@ use Rattle.quiesce_core.proofs.StabilityLaws.{busy_is_live}
 use Rattle.quiesce_core.proofs.StateLaws.{served_busy, target_service_is}
 use Rattle.gate_word.proofs.PhaseLaws.{answered_not_more, asked_busy, more_not_answered, serving_busy}
 use Rattle.quiesce_core.proofs.LegalLaws.{allowed, legal}
-use Rattle.quiesce_core.proofs.RunLaws.{effect_config}
+use Rattle.quiesce_core.proofs.RunLaws.{node_events_keep_the_configuration}
 use Rattle.quiesce_core.proofs.WordLaws.{port_words_decode, port_words_fit}
 use Rattle.port_gate.specs.Answers.{HasWord, IsSpentAt, IsTargetAt, SeeSays}
 use Rattle.port_gate.specs.Looks.{WordShows}
@@ -46,7 +46,7 @@ use Rattle.std.proofs.lemmas.Option.{same_Some}
 use Rattle.base.proofs.PlaceLaws.{slice_get-set_cases}
 use Rattle.port_gate.specs.Core.{FitsCore, node_at}
 use Rattle.port_gate.specs.Seats.{HasEndedCalls, IsOwn, MayAsk, MayBegin, MayCall, MayEnd, MayGive, MayHear, MaySee, MaySendMore, MayTake, NodeAt, has_calls_left, has_heard, has_mores_left, port_known, serial_served, serves, value_seen}
-use Rattle.port_gate.proofs.CoreLemmas.{and_intro, change_next_kept, fits_by_others, fits_by_own, known_there, made_slot, node_is, own_known, own_live, owner_is}
+use Rattle.port_gate.proofs.CoreLemmas.{and_intro, fits_by_others, fits_by_own, known_there, made_slot, node_is, own_known, own_live, owner_is}
 
 one_doer : (o : Option ℕ) (n m : ℕ) → option_map_or (λ i. i == n) o false ≡ true → (m ≡ n → ⊥) → option_map_or (λ i. i == m) o false ≡ false
 one_doer None n m does other = absurd (false≢true does)
@@ -98,7 +98,7 @@ others_fit_then s t e n m w wf con step by_node does other fits =
     subst (λ u. FitsCore u m w) (sym step.changed) (fits_by_others s wf con m w fits e (legal s e step.allowed) by_node (one_doer (doer s e) n m does other))
 
 pub config_then : (s t : State) (e : Event) → Step s e t → is_of_change e ≡ false → t.config ≡ s.config
-config_then s t e step by_node = ap (λ (u : State). u.config) step.changed ∙ effect_config s e ∙ change_next_kept s.config e by_node
+config_then s t e step by_node = ap (λ (u : State). u.config) step.changed ∙ node_events_keep_the_configuration s e by_node
 
 -- what is serviced, and by whom
 serving_in : (o : Option Served) (p : ℕ) → option_map_or (λ (u : Served). u.port == p) o false ≡ true → (u : Served) × (o ≡ Some u) × (u.port ≡ p)

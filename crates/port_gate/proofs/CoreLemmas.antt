@@ -2,10 +2,10 @@
 use Rattle.std.proofs.Common.{◌≡◌, ◌∙◌, ℕ, suc, ◌+◌, ◌-◌, ◌^◌, ◌<◌, Bool, true, false, ◌&&◌, List, [], ◌∷◌, length, Option, Some, None, refl, ap, sym, subst, arith, rules}
 use Rattle.std.specs.Prelude.{slice_get}
 use Rattle.std.specs.Option.{option_map_or}
-use Rattle.std.proofs.lemmas.Bool.{false≢true, lt-ltb, true≢false}
+use Rattle.std.proofs.lemmas.Bool.{false≢true, lt-ltb}
 use Rattle.std.proofs.lemmas.Option.{slice_get-get_or, slice_get_within}
 use Rattle.config_graph.proofs.KindLaws.{two_requires}
-use Rattle.quiesce_core.specs.Effect.{change_next, effect}
+use Rattle.quiesce_core.specs.Effect.{effect}
 use Rattle.quiesce_core.specs.Doers.{is_of_change}
 use Rattle.quiesce_core.specs.Knowledge.{IsKnown, IsPortKnown, known_next, ports_known_next, port_at_start}
 use Rattle.quiesce_core.specs.Legal.{Legal}
@@ -19,10 +19,9 @@ use Rattle.quiesce_core.specs.declared.event.Event.{Event}
 use Rattle.quiesce_core.specs.declared.known.Known.{Known}
 use Rattle.quiesce_core.specs.declared.known.PortKnown.{PortKnown}
 use Rattle.quiesce_core.specs.declared.state.Slot.{Slot}
-use Rattle.quiesce_core.specs.declared.event.Event.TheVariants.{Begin, Call, Take, Give, End, More, Ask, Hear, Miss, Close, Reopen, Make, Link, Unlink, Remove}
 use Rattle.quiesce_core.proofs.KnownLaws.{known_by_others, known_by_own}
 use Rattle.quiesce_core.proofs.ReachLaws.{owner_of}
-use Rattle.quiesce_core.proofs.RunLaws.{effect_config}
+use Rattle.quiesce_core.proofs.RunLaws.{node_events_keep_the_configuration}
 use Rattle.port_gate.specs.Core.{FitsCore, node_at, node_in}
 use Rattle.port_gate.specs.Seats.{IsOwn, IsWithinLimits, NodeAt, port_known}
 
@@ -32,24 +31,6 @@ and_intro {a} {b} x y = ap (λ t. t && b) x ∙ y
 pub live_in : (o : Option Slot) → option_map_or (λ (m : Slot). m.live) o false ≡ true → (m : Slot) × (o ≡ Some m)
 live_in None e = absurd (false≢true e)
 live_in (Some m) e = (m, refl)
-
--- an event of nodes leaves the configuration
-pub change_next_kept : (c : Configuration) (e : Event) → is_of_change e ≡ false → change_next c e ≡ c
-change_next_kept c (Begin p k v) h = refl
-change_next_kept c (Call p k v) h = refl
-change_next_kept c (Miss p) h = refl
-change_next_kept c (Take p k v) h = refl
-change_next_kept c (Give p k v) h = refl
-change_next_kept c (More p k v) h = refl
-change_next_kept c (Ask p k v) h = refl
-change_next_kept c (Hear p k v) h = refl
-change_next_kept c (End p k v) h = refl
-change_next_kept c (Close p) h = absurd (true≢false h)
-change_next_kept c (Reopen p) h = absurd (true≢false h)
-change_next_kept c (Make n node from) h = absurd (true≢false h)
-change_next_kept c (Link p n x) h = absurd (true≢false h)
-change_next_kept c (Unlink p) h = absurd (true≢false h)
-change_next_kept c (Remove n) h = absurd (true≢false h)
 
 ports_in_a_row : (p : ℕ) (xs : List PortKnown) (e : Event) → length (ports_known_next p xs e) ≡ length xs
 ports_in_a_row p [] e = refl
@@ -98,7 +79,7 @@ module _ (s : State) (wf : IsWellFormed s) (con : IsConsistent s) where
 
     -- an event of nodes leaves it so, with what it makes known: to the node that does it, and to no other
     node_stays : (e : Event) → is_of_change e ≡ false → (effect s e).config ≡ s.config
-    node_stays e kept = effect_config s e ∙ change_next_kept s.config e kept
+    node_stays = node_events_keep_the_configuration s
 
     pub fits_by_own : (e : Event) → Legal s e → is_of_change e ≡ false → is_doer s n e ≡ true → FitsCore (effect s e) n (known_next (node_at s.config n).first w e)
     fits_by_own e l kept does =

@@ -1,7 +1,6 @@
 //! The gate over the change machine's state.
 
 ghost use Rattle.std.specs.Prelude.{◌≡◌, ◌≢◌, ◌<◌, ◌^◌, ℕ, slice_index_or, [], ◌∷◌, true, false, Some, None};
-ghost use Rattle.gate_word.specs.Phases as phases;
 ghost use Rattle.gate_word.specs.Phases.{is_idle};
 ghost use Rattle.gate_word.specs.Words.{FitsWord, is_missing};
 ghost use Rattle.port_gate.specs.Looks.{WordShows};
@@ -19,7 +18,7 @@ ghost use Rattle.port_gate.specs.Moves.{Does};
 ghost use Rattle.port_gate.specs.Noting.{CanCount};
 ghost use Rattle.port_gate.specs.Answers.{CallSays};
 ghost use Rattle.port_gate.specs.Moves.{events_of_call};
-ghost use Rattle.port_gate.specs.Seats.{MayCall, serial_served, value_seen};
+ghost use Rattle.port_gate.specs.Seats.{MayCall, serial_served};
 
 use crate::answers::{BeginAnswer, CallAnswer, HearAnswer, SeeAnswer, TakeAnswer};
 use crate::gate::{GateSeat, PortGate};
@@ -259,7 +258,7 @@ impl PortGate for CoreGate {
         self.holds();
         let word = self.fields(port);
         match word.target {
-            Some(target) if word.phase == Phase::Asked && target.node == seat.slot => {
+            Some(target) if word.phase.is_asked() && target.node == seat.slot => {
                 let serial = word.serial;
                 let value = word.value;
                 self.act(
@@ -308,7 +307,7 @@ impl PortGate for CoreGate {
     fn end(&mut self, seat: &mut CoreSeat, port: u32) {
         self.holds();
         let known = seat.port_known(port - self.first_port(seat.slot));
-        let value = seen_or_0(known);
+        let value = known.seen.unwrap_or(0);
         let serial = known.serial;
         self.act(
             seat,
@@ -352,7 +351,7 @@ impl PortGate for CoreGate {
     fn hear(&mut self, seat: &mut CoreSeat, port: u32) -> HearAnswer {
         self.holds();
         let word = self.fields(port);
-        if !is_asked(word.phase) {
+        if !word.phase.is_asked() {
             return HearAnswer::NotYet { word: word.pack() };
         }
         let serial = seat.serial_served();
@@ -381,21 +380,5 @@ fn look(word: Word) -> SeeAnswer
         Phase::Answered => SeeAnswer::Answer { value: word.value },
         Phase::More => SeeAnswer::More { value: word.value },
         _ => SeeAnswer::NotYet { word: word.pack() },
-    }
-}
-
-fn is_asked(phase: Phase) -> bool
-    ensures { result ≡ phases.is_asked phase }
-{
-    matches!(phase, Phase::Asked)
-}
-
-/// The value that was seen at a port, 0 where none was.
-fn seen_or_0(port: PortKnown) -> u32
-    ensures { result ≡ value_seen port }
-{
-    match port.seen {
-        Some(value) => value,
-        None => 0,
     }
 }

@@ -1,7 +1,6 @@
 //! The trait of gates, and that of their seats.
 
-ghost use Rattle.std.specs.Prelude.{◌≡◌, ◌≢◌, ◌<◌, ℕ, List, Option, []};
-ghost use Rattle.config_graph.specs.declared.TheConstants.{MAX_NODES};
+ghost use Rattle.std.specs.Prelude.{◌≡◌, ◌≢◌, ℕ, List, Option};
 ghost use Rattle.port_gate.specs.Answers.{BeginSays, CallSays, HearSays, SeeSays, TakeSays};
 ghost use Rattle.port_gate.specs.Loads.{Loads, LoadsAt, LoadsHear, LoadsNothing, LoadsTake, TellsLoads, begin_shows, call_shows, hear_shows, see_shows, take_shows};
 ghost use Rattle.port_gate.specs.Moves as moves;
