@@ -99,7 +99,7 @@ sends_in s w v h = by w.waits refl (next_of s.kind s.arg w.value w.reply w.answe
     by false goes (next.Give m) is =
         absurd (false≢true (sym (ap (λ b. is_more v (if b then None else Some (next_of s.kind s.arg w.value w.reply w.answers))) goes ∙ ap (λ n. is_more v (Some n)) is) ∙ h))
 
-where_so_then : (b : Bool) (x t : NodeState) → where_so b x ≡ Some t → (b ≡ true) × (x ≡ t)
+pub where_so_then : (b : Bool) (x t : NodeState) → where_so b x ≡ Some t → (b ≡ true) × (x ≡ t)
 where_so_then true x t e = (refl, same_Some x t e)
 where_so_then false x t e = absurd (none-some t e)
 

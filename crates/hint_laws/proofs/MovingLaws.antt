@@ -3,7 +3,7 @@ use Rattle.std.proofs.Common.{rules, ◌≡◌, ◌∙◌, ℕ, zero, suc, ◌+�
 use Rattle.std.specs.Prelude.{◌==◌, find, is_none, is_some, nat_lt, option_and_then, option_map, slice_get}
 use Rattle.std.specs.List.{Contains, list_all, list_any, range_with_len}
 use Rattle.std.specs.Option.{option_map_or}
-use Rattle.std.proofs.lemmas.Bool.{and_from, and_parts, both_ways, cases_Bool, cases_eq, eq-eqb, eqb-true, false_from_ne_true, or_left, or_right, true_from_ne_false}
+use Rattle.std.proofs.lemmas.Bool.{and_from, and_parts, both_ways, cases_Bool, cases_eq, eq-eqb, eqb-true, false_from_ne_true, not-true, or_left, or_right, true_from_ne_false}
 use Rattle.std.proofs.lemmas.Option.{none-some, same_Some}
 use Rattle.base.proofs.ContainsLaws.{Contains-filter, Contains-from_filter, Contains-here, Contains-there}
 use Rattle.base.proofs.FindLaws.{is_some-find}
@@ -307,11 +307,7 @@ module _ (possible : SomeEventIsPossible) (law : WhoWantsAsksNothing) (w : World
       no_replies p l.live (or_right (is_answered (exchange s p).phase) (is_in_more (exchange s p).phase) l.in_more)
   none_possible (event.Give p k v) on l between = (no_further p l.taken l.calls_ended).0 l.heard
   none_possible (event.Hear p k v) on l between =
-      (no_further p l.taken between).1 (true_from_not_false (was_heard (target_service s p)) l.unheard) l.asked
-    where
-      true_from_not_false : (b : Bool) → not b ≡ true → b ≡ false
-      true_from_not_false true h = absurd (both_ways false refl h)
-      true_from_not_false false h = refl
+      (no_further p l.taken between).1 (not-true (was_heard (target_service s p)) l.unheard) l.asked
   none_possible (event.Take p k v) on l between =
       let t = Some-from_is_some (target s.config p) (traffic.linked p (asked_busy (exchange s p).phase l.asked)) in
       no_requests p l.asked l.untaken l.free t.0 t.1

@@ -9,7 +9,7 @@ use Rattle.std.proofs.lemmas.Option.{none-some}
 use Rattle.base.proofs.ContainsLaws.{Contains-cons_cases, Contains-here, Contains-nil, Contains-there}
 use Rattle.base.proofs.MapLaws.{no_length}
 use Rattle.component_trait.specs.States.{NodeState}
-use Rattle.quiesce_core.specs.State.{Configuration, State, exchange, is_live, service}
+use Rattle.quiesce_core.specs.State.{State, exchange, is_live, service}
 use Rattle.quiesce_core.specs.declared.event.Event.{Event}
 use Rattle.quiesce_core.specs.declared.event.Event.TheVariants.{Take}
 use Rattle.quiesce_core.specs.declared.state.Slot.{Slot}

@@ -10,6 +10,7 @@ use Rattle.component_trait.specs.Moves as moves
 use Rattle.component_trait.specs.Moves.{with_wait, with_answer}
 use Rattle.component_trait.specs.States.{Kept, NodeState, Service}
 use Rattle.component_trait.specs.Tables.{serve, wants}
+use Rattle.component_trait.proofs.FoldLaws.{where_so_then}
 use Rattle.component_trait.specs.declared.next.Ask.{Ask as Request}
 use Rattle.component_trait.specs.declared.next.Next.{Next}
 use Rattle.component_trait.specs.declared.next.Next.TheVariants as next
@@ -20,10 +21,6 @@ use Rattle.quiesce_core.specs.declared.event.Event.TheVariants.{Begin, Call, Tak
 use Rattle.quiesce_core.specs.declared.known.Served.{Served}
 use Rattle.turn_laws.specs.Agreement.{Agrees, HandsSmall, HasNoCall, IsInTurn, IsSmall, ServiceIsSmall, ServicesAgree, expects, ports_next}
 use Rattle.turn_laws.proofs.KindTables.{ended_small, node, pushed_small, served_small, wanting_asks_nothing, wants_stay}
-
-where_so_then : (b : Bool) (x t : NodeState) → where_so b x ≡ Some t → (b ≡ true) × (x ≡ t)
-where_so_then true x t e = (refl, same_Some x t e)
-where_so_then false x t e = absurd (none-some t e)
 
 -- a request is at one port
 pub same_request : (first p q : ℕ) (o : Option Request) → is_request_at first p o ≡ true → is_request_at first q o ≡ true → p ≡ q

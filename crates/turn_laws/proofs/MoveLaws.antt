@@ -3,7 +3,7 @@ use Rattle.std.proofs.Common.{zero, suc, inl, inr, ◌⊎◌, ◌≡◌, ◌∙�
 use Rattle.std.specs.Prelude.{not, ◌==◌, ◌&&◌, ◌||◌, nat_lt, nat_le, find, option_map, option_and_then, is_none, is_some}
 use Rattle.std.specs.List.{list_all, range_with_len}
 use Rattle.std.specs.Option.{option_map_or}
-use Rattle.std.proofs.lemmas.Bool.{and_from, and_parts, both_ways, eq-eqb, eqb-false, eqb-true, le-leb, lt-ltb}
+use Rattle.std.proofs.lemmas.Bool.{and_from, and_parts, both_ways, eq-eqb, eqb-false, eqb-true, le-leb, lt-ltb, not-true}
 use Rattle.std.proofs.lemmas.Option.{none-some, same_Some}
 use Rattle.base.proofs.OptionLaws.{None-from_is_none, option_map_some, true_from_not, map_or_at, map_or_true}
 use Rattle.config_graph.specs.Kinds.{calls_of, depends_on, mores_of, row}
@@ -105,10 +105,6 @@ right_of : (a b : Bool) → a ≡ false → (a || b) ≡ true → b ≡ true
 right_of true b e h = absurd (both_ways true e refl)
 right_of false b e h = h
 
-not_true : (b : Bool) → not b ≡ true → b ≡ false
-not_true true h = absurd (both_ways false refl h)
-not_true false h = refl
-
 not_false : (b : Bool) → b ≡ false → not b ≡ true
 not_false true h = absurd (both_ways true h refl)
 not_false false h = refl
@@ -207,7 +203,7 @@ module _ (s : State) (n : ℕ) (m : Slot) (t : NodeState) (es : List Event) (at 
   request_goes_on x p is within small wanted h =
       let both = and_parts (is_idle (exchange s p).phase && is_open s.config p) (not (is_missing s p)) h in
       let idle = and_parts (is_idle (exchange s p).phase) (is_open s.config p) both.0 in
-      let there = found_not_missing (target s.config p) ((exchange s p).serial == last_serial) (not_true (is_missing s p) both.1) in
+      let there = found_not_missing (target s.config p) ((exchange s p).serial == last_serial) (not-true (is_missing s p) both.1) in
       let o : IsPortOf s.config n p = subst (IsPortOf s.config n) is (own_port_of x.require within) in
       record {
         allowed = record {

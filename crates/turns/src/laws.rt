@@ -1,6 +1,6 @@
 //! Laws of turns and rounds.
 
-ghost use Rattle.std.specs.Prelude.{◌≡◌, ℕ, Bool, true, false, List, [], ◌∷◌, ◌++◌, drop, option_to_list};
+ghost use Rattle.std.specs.Prelude.{◌≡◌, ℕ, Bool, true, false, [], ◌∷◌, drop};
 ghost use Rattle.quiesce_core.specs.Runs.{done_by};
 ghost use Rattle.quiesce_core.specs.declared.event.Event.TheVariants.{Begin, Call, Take, Give, End, More, Ask, Hear};
 ghost use Rattle.turns.specs.Round.{after_rounds, is_at_rest, round, stands_still};
