@@ -42,10 +42,11 @@ done_by_none s e n none_ = ap (λ o. option_map_or (λ m. m == n) o false) none_
 
 pub gone_then : (es : List Event) (e : Event) → IsNext es e → (nodes : List SlotEntry) (ends : List ℕ) (n : ℕ) (x : Handed) → IsGone es nodes ends n x → IsGone (es ++ e ∷ []) nodes ends n x
 gone_then es e next nodes ends n x h =
-    let new = still_there es e next x.heir h.taker h.heir in
+    let new = still_there es e next h.heir h.taker h.there in
     record {
+      heir = h.heir;
       taker = new.0;
-      heir = new.1;
+      there = new.1;
       from = new.2.from ∙ h.from;
       at = h.at;
       end_is = h.end_is;
@@ -146,8 +147,9 @@ module _ (t : State) (nodes : List SlotEntry) (ends : List ℕ) (es : List Event
       (λ (same : g.at ≡ n).
       let is : x ≡ g.last = here_same nodes n x g.last at (subst (λ i. slice_get nodes i ≡ Some (here g.last)) same g.last_is) in
       record {
-        taker = g.taker;
         heir = g.heir;
+        taker = g.taker;
+        there = g.there;
         from = g.from;
         at = n;
         end_is = g.end_is ∙ ap Some same;
@@ -159,8 +161,9 @@ module _ (t : State) (nodes : List SlotEntry) (ends : List ℕ) (es : List Event
         slot_is = g.slot_is;
       })
       (λ (other : g.at ≢ n). record {
-        taker = g.taker;
         heir = g.heir;
+        taker = g.taker;
+        there = g.there;
         from = g.from;
         at = g.at;
         end_is = g.end_is;

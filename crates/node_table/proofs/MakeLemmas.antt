@@ -164,8 +164,9 @@ holds_made_first s t nodes ends es node h st x f none_before =
     (λ j y at.
     let g = gone_then es (Make k node None) later nodes ends j y (h.nodes_gone j y at) in
     record {
-      taker = g.taker;
       heir = g.heir;
+      taker = g.taker;
+      there = g.there;
       from = g.from;
       at = g.at;
       end_is = slice_get-set_other (ends ++ k ∷ []) k k y.line (apart y.line g.at g.end_is) ∙ slice_get-front ends (k ∷ []) y.line g.at g.end_is;
@@ -186,9 +187,9 @@ line_on slot k (y ∷ ms) m d is = refl
 pub holds_made_from : (s t : State) (nodes : List SlotEntry) (ends : List ℕ) (es : List Event) (node : Node) (k : ℕ) → HoldsIn s nodes ends es → Step s (Make (length (state_after es).config.slots) node (Some k)) t
     → (old x : NodeSeen) → slice_get nodes k ≡ Some (here old) → IsFresh (state_after es) (length (state_after es).config.slots) node x
     → x.past ≡ old.past ++ record { slot = k; first = old.first; arg = old.state.arg; log = old.log } ∷ []
-    → (g : Handed) → g.heir ≡ length (state_after es).config.slots → g.line ≡ line_of old → g.place ≡ length old.past
+    → (g : Handed) → g.line ≡ line_of old → g.place ≡ length old.past
     → HoldsIn t (set nodes k (gone g) ++ here x ∷ []) (set (ends ++ length (state_after es).config.slots ∷ []) (line_of old) (length (state_after es).config.slots)) (es ++ Make (length (state_after es).config.slots) node (Some k) ∷ [])
-holds_made_from s t nodes ends es node k h st old x at_k f past_is g heir_is line_is place_is =
+holds_made_from s t nodes ends es node k h st old x at_k f past_is g line_is place_is =
     made_holds s t nodes ends es node (Some k) h st x f mid l (length-set nodes k (gone g)) line low past_then_
     old_here old_gone
   where
@@ -272,8 +273,9 @@ holds_made_from s t nodes ends es node k h st old x at_k f past_is g heir_is lin
     gone_k : (y : Handed) → g ≡ y → IsGone (es ++ Make n' node (Some k) ∷ []) (mid ++ here x ∷ []) ends' k y
     gone_k y is = subst (λ z. IsGone (es ++ Make n' node (Some k) ∷ []) (mid ++ here x ∷ []) ends' k z) is
         (record {
+          heir = n';
           taker = fresh_slot (state_after es).config node (Some k);
-          heir = ap (slot (state_after (es ++ Make n' node (Some k) ∷ [])).config) heir_is ∙ there s t nodes ends es node (Some k) h st x f;
+          there = there s t nodes ends es node (Some k) h st x f;
           from = refl;
           at = n';
           end_is = ap (slice_get ends') line_is ∙ end_then;
@@ -293,8 +295,9 @@ holds_made_from s t nodes ends es node k h st old x at_k f past_is g heir_is lin
         let is : old ≡ q.last = here_same nodes k old q.last at_k (subst (λ i. slice_get nodes i ≡ Some (here q.last)) same q.last_is) in
         let of_line : l ≡ y.line = ap line_of is ∙ q.of_line in
         record {
-          taker = q.taker;
           heir = q.heir;
+          taker = q.taker;
+          there = q.there;
           from = q.from;
           at = n';
           end_is = ap (slice_get ends') (sym of_line) ∙ end_then;
@@ -306,8 +309,9 @@ holds_made_from s t nodes ends es node k h st old x at_k f past_is g heir_is lin
           slot_is = q.slot_is;
         })
         (λ (apart : q.at ≢ k). record {
-          taker = q.taker;
           heir = q.heir;
+          taker = q.taker;
+          there = q.there;
           from = q.from;
           at = q.at;
           end_is = slice_get-set_other (ends ++ n' ∷ []) l n' y.line (λ same. apart (one_end y.line q.at q.end_is same)) ∙ slice_get-front ends (n' ∷ []) y.line q.at q.end_is;

@@ -2,7 +2,7 @@
 use Rattle.std.proofs.Common.{◌≡◌, ◌∙◌, ◌⊎◌, ℕ, ◌+◌, ◌^◌, ◌<◌, ◌≤◌, Bool, true, false, not, ◌&&◌, cond, List, [], ◌∷◌, ◌++◌, length, map, set, Option, Some, None, refl, ap, sym, subst, ⊎_elim, inl, inr, arith, length-append}
 use Rattle.std.specs.Prelude.{slice_get, is_some, is_none, option_map, nat_le, nat_lt, ◌==◌, find, IfSome}
 use Rattle.std.specs.Option.{option_map_or}
-use Rattle.std.proofs.lemmas.Bool.{and_parts, eq-eqb, eqb-true, false≢true, leb-true, ltb-true}
+use Rattle.std.proofs.lemmas.Bool.{and_parts, eq-eqb, eqb-true, false≢true, leb-true, ltb-true, not-true}
 use Rattle.std.proofs.lemmas.List.{length-map, length-set}
 use Rattle.std.proofs.lemmas.Option.{same_Some}
 use Rattle.base.proofs.OptionLaws.{map_or_at, map_or_true}
@@ -99,11 +99,7 @@ source_of s n node k may =
     let here_ = (and_parts (option_map_or (λ (m : Slot). not m.live && is_kind m.node.kind node.kind) (slot s.config k) false) (not (was_moved s.config k)) l.moves).0 in
     let found = map_or_true (λ (m : Slot). not m.live && is_kind m.node.kind node.kind) (slot s.config k) here_ in
     let both = and_parts (not found.0.live) (is_kind found.0.node.kind node.kind) found.2 in
-    record { old = found.0; there = found.1; removed = gone found.0.live both.0; kind_is = same_kind found.0.node.kind node.kind both.1 }
-  where
-    gone : (b : Bool) → not b ≡ true → b ≡ false
-    gone true h = absurd (false≢true h)
-    gone false h = refl
+    record { old = found.0; there = found.1; removed = not-true found.0.live both.0; kind_is = same_kind found.0.node.kind node.kind both.1 }
 
 -- ---- what is shown then
 
@@ -148,14 +144,14 @@ module _ (S : AnyNode → NodeState) (s t : State) (xs xs' : List Held) (ends en
 
   pub shown_from : (k : ℕ) (old : Held) (y : NodeSeen) (g : Handed) → Step s (Make (length s.config.slots) node (Some k)) t → slice_get xs k ≡ Some old → seen S old ≡ here y
       → x.past ≡ y.past ++ record { slot = k; first = y.first; arg = y.state.arg; log = y.log } ∷ [] → x.state ≡ handed_over y.state.kind node.arg y.state.kept → y.state.kind ≡ node.kind
-      → g.heir ≡ length s.config.slots → g.line ≡ line_of y → g.place ≡ length y.past → line ≡ line_of y → xs' ≡ set xs k (held.Handed g) ++ new ∷ [] → ends' ≡ set (ends ++ slot_ ∷ []) line slot_
+      → g.line ≡ line_of y → g.place ≡ length y.past → line ≡ line_of y → xs' ≡ set xs k (held.Handed g) ++ new ∷ [] → ends' ≡ set (ends ++ slot_ ∷ []) line slot_
       → ShowsIn t' (map (seen S) xs') ends' tells' (with_event w (Make (length w.machine.config.slots) node (Some k)))
-  shown_from k old y g step at old_is past_is state_is kind_is heir_is g_line g_place line_is nodes_are ends_are =
+  shown_from k old y g step at old_is past_is state_is kind_is g_line g_place line_is nodes_are ends_are =
       let step' : Step s (Make n node (Some k)) t = subst (λ (u : State). Step s (Make (length u.config.slots) node (Some k)) t) h.holds.state step in
       let at_entry : slice_get nodes k ≡ Some (here y) = slice_get-map_at (seen S) xs k old at ∙ ap Some old_is in
       let mid : List SlotEntry = set nodes k (gone g) in
       let within : k < length nodes = slice_get-below nodes k (here y) at_entry in
-      let held_ = holds_made_from s t nodes ends w.events node k h.holds step' y x at_entry fresh past_is g (heir_is ∙ ap (λ (u : State). length u.config.slots) h.holds.state) g_line g_place in
+      let held_ = holds_made_from s t nodes ends w.events node k h.holds step' y x at_entry fresh past_is g g_line g_place in
       let count : length mid ≡ n = length-set nodes k (gone g) ∙ h.holds.made in
       let all =
       shows_made s t nodes (mid ++ here x ∷ []) ends (set (ends ++ n ∷ []) (line_of y) n) tells w n node (Some k) h step' held_ x h.holds.made (length-append mid (here x ∷ []) ∙ ap (λ i. i + 1) (length-set nodes k (gone g)))
@@ -198,7 +194,7 @@ module _ (S : AnyNode → NodeState) (s : State) (xs : List Held) (ends : List �
           let g = h.holds.nodes_gone k y (slice_get-map_at (seen S) xs k (held.Handed y) at) in
           let moves = (and_parts (option_map_or (λ (m : Slot). not m.live && is_kind m.node.kind node.kind) (slot s.config k) false) (not (was_moved s.config k)) (can_make s n node (Some k) may).moves).1 in
           absurd (not_both_ways (was_moved s.config k)
-          (any_at (λ (m : Slot). option_map_or (λ i. i == k) m.from false) s.config.slots y.heir g.taker (ap (λ (u : State). slot u.config y.heir) h.holds.state ∙ g.heir) (map_or_at (λ i. i == k) g.taker.from false k g.from ∙ eq-eqb k k refl)) moves)
+          (any_at (λ (m : Slot). option_map_or (λ i. i == k) m.from false) s.config.slots g.heir g.taker (ap (λ (u : State). slot u.config g.heir) h.holds.state ∙ g.there) (map_or_at (λ i. i == k) g.taker.from false k g.from ∙ eq-eqb k k refl)) moves)
         where
           not_both_ways : (b : Bool) → b ≡ true → not b ≡ true → ⊥
           not_both_ways true h k = false≢true k

@@ -47,7 +47,7 @@ module _ (S : AnyNode → NodeState) (s : State) (xs : List Held) (ends : List �
   pub taken_over : (y : Handed) → seen S h ≡ gone y → ∥ ((w : World) × ShowsIn s (map (seen S) xs) ends tells w) ∥₁ → ∥ ((k : ℕ) × (m : Slot) × (slot s.config k ≡ Some m) × (m.from ≡ Some n)) ∥₁
   taken_over y is some_ = ∥∥₁_map some_
       (λ (p : (w : World) × ShowsIn s (map (seen S) xs) ends tells w).
-      let g = p.1.holds.nodes_gone n y (entry_at S s xs ends tells n h (gone y) at is) in (y.heir, g.taker, ap (λ (u : State). slot u.config y.heir) p.1.holds.state ∙ g.heir, g.from))
+      let g = p.1.holds.nodes_gone n y (entry_at S s xs ends tells n h (gone y) at is) in (g.heir, g.taker, ap (λ (u : State). slot u.config g.heir) p.1.holds.state ∙ g.there, g.from))
 
   pub not_taken_over : (x : NodeSeen) → seen S h ≡ here x → ∥ ((w : World) × ShowsIn s (map (seen S) xs) ends tells w) ∥₁ → ∥ ((k : ℕ) × (m : Slot) × (slot s.config k ≡ Some m) × (m.from ≡ Some n)) ∥₁ → ⊥
   not_taken_over x is some_ taken = ∥∥₁_elim some_ (Prim.hlevel props)

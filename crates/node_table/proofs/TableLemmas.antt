@@ -80,7 +80,7 @@ module _ (S : AnyNode → NodeState) (s : State) (xs : List Held) (ends : List �
       (λ (p : (w : World) × In w).
       let h = p.1.holds in
       let g = h.nodes_gone n y (slice_get-map_at (seen S) xs n held at ∙ ap Some is) in
-      let source = (sources_are_gone p.0.events h.runs).gone y.heir n g.taker g.heir g.from in
+      let source = (sources_are_gone p.0.events h.runs).gone g.heir n g.taker g.there g.from in
       both_ways (is_live s.config n)
       (map_or_at (λ (m : Slot). m.live) (slot s.config n) false source.old (ap (λ (u : State). slot u.config n) h.state ∙ source.there) ∙ source.removed)
       live)

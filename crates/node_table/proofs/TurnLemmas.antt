@@ -51,9 +51,6 @@ use Rattle.node_table.proofs.Hinting.{Agree, SameBut, looked_agrees, own_is, pos
 abbrev pub gate_of : State → Option Loads → Option Loads → GateSeen
 gate_of s before after = record { state = Some s; before = before; after = after }
 
-config_kept : (s : State) (e : Event) → is_of_change e ≡ false → (effect s e).config ≡ s.config
-config_kept s e of_node = node_events_keep_the_configuration s e of_node
-
 -- the port of a request is one of the node's own, and leads to a node that was made
 record Requests (s : State) (n first r p target_ : ℕ) : Type 0 where
   own : p - first < r
@@ -90,7 +87,7 @@ module _ (v : World) (n r : ℕ) (h h' : Hinted) (first : ℕ) (s : State) (lo l
       → Agree (do_event v n e) n r h' × SameBut (with_event_of v n e) (do_event v n e) n
   request_sent e p of_node asks sent made own =
       let q = requests_by s n first p sent.target m wf there first_is made own sent.leads in
-      let first_then : first_port (effect v.machine e) n ≡ first = ap (λ (c : Configuration). option_map_or (λ (x : Slot). x.first_port) (slot c n) 0) (config_kept v.machine e of_node) ∙ first_port_is in
+      let first_then : first_port (effect v.machine e) n ≡ first = ap (λ (c : Configuration). option_map_or (λ (x : Slot). x.first_port) (slot c n) 0) (node_events_keep_the_configuration v.machine e of_node) ∙ first_port_is in
       subst (λ (o : Option Request). Agree (post_request (with_event_of v n e) n o) n r h' × SameBut (with_event_of v n e) (post_request (with_event_of v n e) n o) n)
       (sym (asks ∙ request_is p sent.target sent.leads))
       (posted_agrees (with_event_of v n e) n r (p - first) sent.target h h' first (agree_after e) sent.posted (subst (λ i. p - first < i) kind q.own) (subst (λ i. sent.target < i) (sym many) q.made) waiting first_then)

@@ -26,11 +26,12 @@ pub record IsHere (es : List Event) (n : ℕ) (x : NodeSeen) : Type 0 where
   pub rests : made.live ≡ false → x.state.service ≡ None
   pub told : x.known.service ≡ None → x.state.service ≡ None
 
--- The state of the node in slot n was handed over to the heir, and its log lies in the past of the node at the end of
+-- The state of the node in slot n was handed over to its heir, and its log lies in the past of the node at the end of
 -- its line.
 pub record IsGone (es : List Event) (nodes : List SlotEntry) (ends : List ℕ) (n : ℕ) (x : Handed) : Type 0 where
+  pub heir : ℕ
   pub taker : Slot
-  pub heir : slot (state_after es).config x.heir ≡ Some taker
+  pub there : slot (state_after es).config heir ≡ Some taker
   pub from : taker.from ≡ Some n
   pub at : ℕ
   pub end_is : slice_get ends x.line ≡ Some at

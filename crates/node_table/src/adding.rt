@@ -69,12 +69,12 @@ impl NodeTable {
     }
 
     /// Takes the node out of a slot, whose log lies behind that of its heir from now on.
-    fn take_out(&mut self, slot: u32, heir: u32) -> HostNode<AnyNode, CoreSeat>
+    fn take_out(&mut self, slot: u32) -> HostNode<AnyNode, CoreSeat>
         requires node { is_node (slice_get self.old.nodes.items slot) ≡ true }
         requires source { slot < self.old.sources }
         ensures was { slice_get self.old.nodes.items slot ≡ Some (held.Node result) }
         ensures nodes { self.new.nodes.items ≡ slice_set self.old.nodes.items slot (held.Handed
-            (record { heir = heir; line = line_at (held.Node result); place = length result.past.items })) }
+            (record { line = line_at (held.Node result); place = length result.past.items })) }
         ensures others { (self.new.gate ≡ self.old.gate) × (self.new.hints ≡ self.old.hints)
             × (self.new.line_ends ≡ self.old.line_ends) × (self.new.sources ≡ self.old.sources)
             × (self.new.spare ≡ self.old.spare) }
@@ -84,7 +84,7 @@ impl NodeTable {
             Held::Node(node) => (first_of_line(node), node.past.len()),
             Held::Handed(_) => unreachable!(),
         };
-        let handed = Held::Handed(Handed { heir, line, place });
+        let handed = Held::Handed(Handed { line, place });
         match mem::replace(&mut self.nodes[slot as usize], handed) {
             Held::Node(node) => node,
             Held::Handed(_) => unreachable!(),
@@ -120,7 +120,7 @@ impl NodeTable {
         ensures room { (spare self.new + 1 ≡ spare self.old) × (sources self.new ≡ sources self.old) }
     {
         let made = self.gate.core.made();
-        let old = self.take_out(source, made.nodes);
+        let old = self.take_out(source);
         let line = first_of_line(&old);
         let host = host_from(self.alloc, old, made.nodes, made.ports, node.arg);
         self.gate.core.make(node, Some(source));

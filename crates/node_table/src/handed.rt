@@ -3,8 +3,6 @@
 /// Where the log of a node lies whose state was handed over.
 #[derive(Clone, Copy, Debug, PartialEq, Eq)]
 pub struct Handed {
-    /// The slot of the node that took the state over.
-    pub heir: u32,
     /// The slot of the first node of its line.
     pub line: u32,
     /// Its place in the past of the node at the end of the line, from 0.

@@ -1,6 +1,6 @@
 //! How nodes are made.
 
-ghost use Rattle.std.specs.Prelude.{◌≡◌, ◌+◌, ◌<◌, ◌++◌, ◌∷◌, [], None, length, map, vec_capacity};
+ghost use Rattle.std.specs.Prelude.{◌≡◌, ◌+◌, ◌<◌, ◌++◌, ◌∷◌, [], None, length, vec_capacity};
 ghost use Rattle.std.specs.Option.{option_map_or};
 ghost use Rattle.component_trait.specs.States.{argument};
 ghost use Rattle.component_trait.specs.Making.{handed_over, new_node};
@@ -13,7 +13,7 @@ ghost use Rattle.node_table.specs.declared.held.Held.TheVariants as held;
 use component_trait::Component;
 use config_graph::Kind;
 use node_host::{HostNode, Past};
-use port_gate::{CoreSeat, GateSeat};
+use port_gate::CoreSeat;
 use state_handover::{AnyNode, import, make};
 use std::alloc::Global;
 

@@ -69,6 +69,6 @@ returns-clause-shows c = λ w h.
     (subst (λ g. Step g.core.state (Make (length g.core.state.config.slots) c.args.node (Some c.args.source)) c.make.new.self.state) was.others.0 c.make.ensures.step)
     was.was refl
     (host.past ∙ ap (λ i. map {B = Predecessor} (λ p. record { slot = p.slot; first = p.first_port; arg = p.arg; log = p.log.items }) c.take_out-old.result.past.items ++ record { slot = i; first = c.take_out-old.result.first_port; arg = (ghosts.state c.take_out-old.result.inner).arg; log = c.take_out-old.result.log.items } ∷ []) place)
-    host.state kind c.made-made.ensures.nodes (sym same) (sym (length-map c.take_out-old.result.past.items (λ p. record { slot = p.slot; first = p.first_port; arg = p.arg; log = p.log.items })))
+    host.state kind (sym same) (sym (length-map c.take_out-old.result.past.items (λ p. record { slot = p.slot; first = p.first_port; arg = p.arg; log = p.log.items })))
     (c.first_of_line-line.ensures ∙ sym same) (c.add.ensures.nodes ∙ ap (λ l. l ++ held.Node c.host_from-host.result ∷ []) was.nodes)
     (c.add.ensures.ends ∙ ap (λ e. set (e.items ++ c.host_from-host.result.slot ∷ []) c.first_of_line-line.result c.host_from-host.result.slot) was.others.2)
