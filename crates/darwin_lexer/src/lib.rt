@@ -9,7 +9,6 @@ mod place;
 mod token;
 mod words;
 
-pub use front::{MAX_NAME, MAX_NUMBER};
 pub use laws::{fronts_as_spelled, limit_of_a_text, one_reading, tokens_in_order};
 pub use lexing::{MAX_TEXT, lex};
 pub use naming::is_name;

@@ -5,7 +5,7 @@ ghost use Rattle.darwin_lexer.specs.Keywords.{keyword_bytes, keyword_of, one_byt
 
 use crate::token::{Keyword, Sign, TokenKind};
 
-pub const KEYWORDS: [Keyword; 11] = [
+const KEYWORDS: [Keyword; 11] = [
     Keyword::Component,
     Keyword::Provide,
     Keyword::Require,
