@@ -1,6 +1,6 @@
 //! Components with their parameters, ports and arrays.
 
-ghost use Rattle.std.specs.Prelude.{◌≡◌, ◌<◌, ◌≤◌, [], ◌∷◌, length, map, option_map, OnOk};
+ghost use Rattle.std.specs.Prelude.{◌≡◌, ◌<◌, ◌≤◌, length, map, option_map, OnOk};
 ghost use Rattle.darwin_parser.specs.Tree.{port_of, array_of, component_of, tree_of};
 ghost use Rattle.darwin_parser.specs.Grammar.{no_parts, with_item, side_word};
 ghost use Rattle.darwin_parser.specs.Views.{item_of, parts_of};

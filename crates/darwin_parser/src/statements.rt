@@ -1,6 +1,6 @@
 //! Statements: instances, bindings, and the bodies of `forall` and `when`.
 
-ghost use Rattle.std.specs.Prelude.{◌≡◌, ◌<◌, ◌≤◌, [], ◌∷◌, length, map, option_map, IfOk, OnOk};
+ghost use Rattle.std.specs.Prelude.{◌≡◌, ◌<◌, length, map, option_map, IfOk, OnOk};
 ghost use Rattle.darwin_lexer.specs.Tokens.{bytes_of};
 ghost use Rattle.darwin_lexer.specs.declared.token.TokenKind.TheVariants as kinds;
 ghost use Rattle.darwin_parser.specs.Tree.{expr_of, entry_of, end_of, binding_of, stmt_of};
