@@ -4,7 +4,7 @@ ghost use Rattle.std.specs.Prelude.{◌≡◌, ◌++◌, [], ◌∷◌, OnOk, ma
 ghost use Rattle.std.specs.List.{flat_map};
 ghost use Rattle.std.specs.Option.{option_to_list, option_map_or, option_or};
 ghost use Rattle.darwin_parser.specs.Tree.{expr_of, entry_of, end_of, binding_of, stmt_of, stmts_of, array_of, port_of};
-ghost use Rattle.darwin_types.specs.NameUses.{values, args_of, entry_uses, end_uses, stmt_uses, body_uses, port_uses, array_uses};
+ghost use Rattle.darwin_types.specs.NameUses.{values, args_of, entry_uses, end_uses, stmt_uses, body_uses, port_uses};
 ghost use Rattle.darwin_types.specs.Scope.{has, is_primitive as is_primitive_component, array_named, port_named, params_of_named};
 ghost use Rattle.darwin_types.specs.Check.{Judges, declared_faults, kind_faults, value_faults, variable_faults, clash_faults, call_faults, element_faults, end_faults, outer_end_faults, inner_end_faults, uses_faults, array_faults, arrays_faults, names_in_component, names_of_arrays, FindsInstances, is_first_like, unless};
 ghost use Rattle.darwin_types.specs.declared.error.TypeError.TheVariants.{UnknownName, UnknownComponent};

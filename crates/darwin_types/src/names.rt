@@ -2,7 +2,6 @@
 
 ghost use Rattle.std.specs.Prelude.{◌≡◌, ◌++◌, [], ◌∷◌, IfOk, IfSome, ◌<◌, not, map, option_map, bytes_eq, position, take, length, ◌-◌};
 ghost use Rattle.std.specs.Bool.{OnTrue, OnFalse};
-ghost use Rattle.std.specs.List.{list_any};
 ghost use Rattle.darwin_types.specs.Scope.{has};
 ghost use Rattle.darwin_types.specs.Check.{Judges, repeat_fault, repeat_faults};
 

@@ -8,7 +8,8 @@ ghost use Rattle.darwin_types.specs.Scope.{has};
 ghost use Rattle.darwin_types.specs.Check.{Judges, primitive_faults};
 
 use crate::{TypeError, refusal};
-use config_graph::{Kind, Text, kind_of};
+use base::Text;
+use config_graph::{Kind, kind_of};
 use darwin_parser::{Component, PortDecl, Side, Stmt};
 
 /// A primitive component is declared as the kind whose name it has.
