@@ -1,14 +1,13 @@
 //! The walk of an instance.
 
-ghost use Rattle.std.specs.Prelude.{◌≡◌, ◌≤◌, ◌<◌, [], Some, map, All, IfOk, Contains};
-ghost use Rattle.std.specs.List.{flat_map};
+ghost use Rattle.std.specs.Prelude.{◌≡◌, ◌<◌, [], Some, map, All, IfOk, Contains};
 ghost use Rattle.darwin_parser.specs.Tree.{component_of, array_of, port_of};
 ghost use Rattle.darwin_walk.specs.Value.{parameters};
 ghost use Rattle.darwin_walk.specs.Spine.{env_of};
 ghost use Rattle.darwin_walk.specs.Environment.{env_at};
 ghost use Rattle.darwin_walk.specs.Reached.{count};
 ghost use Rattle.darwin_walk.specs.Instance.{index_value, port_sizes, children, bindings, instance_faults};
-ghost use Rattle.darwin_walk.specs.Walked.{JudgesPart, IsWalked, child_of, binding_of};
+ghost use Rattle.darwin_walk.specs.Walked.{JudgesPart, IsWalked};
 ghost use Rattle.darwin_walk.specs.Scope.{HasSize, array_size_faults, port_size_faults};
 ghost use Rattle.darwin_walk.specs.declared.fault.Fault.{Fault as ShownFault};
 
