@@ -10,7 +10,7 @@ use Rattle.config_graph.specs.Cycles.{FirstOnCycle}
 use Rattle.darwin_lexer.specs.declared.token.At.{At}
 use Rattle.darwin_parser.specs.Tree.{Name, Tree, Component, Expr}
 use Rattle.darwin_types.specs.Scope.{component_named, is_primitive}
-use Rattle.darwin_walk.specs.Value.{Value, integer, out_of_range, zero_divisor, parameters, value}
+use Rattle.darwin_walk.specs.Value.{Env, Value, integer, out_of_range, zero_divisor, parameters, value}
 use Rattle.darwin_walk.specs.Instance.{End, Binding, index_fault}
 use Rattle.darwin_walk.specs.declared.fault.Fault.{Fault}
 use Rattle.darwin_walk.specs.declared.fault.Fault.TheVariants as shown
@@ -18,7 +18,7 @@ use Rattle.elaborator.specs.Paths.{Path, end_bytes}
 use Rattle.elaborator.specs.Instances.{Instance, top_instance, Inst}
 use Rattle.elaborator.specs.Bindings.{NamedPort, resolve, bindings_in}
 use Rattle.elaborator.specs.Graph.{IsElab}
-use Rattle.elaborator.specs.Faults.{own_faults, port_index_faults, faults_in, CountsMore, Faults, Faults as fault}
+use Rattle.elaborator.specs.Faults.{named_index_faults, own_faults, port_index_faults, sized_index_faults, faults_in, CountsMore, Faults, Faults as fault}
 use Rattle.elaborator.specs.Numbering.{Expanded, IsOf}
 use Rattle.base.specs.Answers.{Answers, Refuses}
 use Rattle.elaborator.specs.PortIndex.{FaultOf, FaultOf as of, BindingFault, BindingFault as binding}
@@ -82,18 +82,14 @@ only_bad_index at size i f there = by size i there
 port_fault : (tree : Tree) (i : Instance) (at : At) (e : End) (f : Fault) → Contains (port_index_faults tree i at e) f → f ≡ shown.BadIndex at
 port_fault tree i at e f there = by (resolve tree i e) there
   where
-    indexed : Instance → Option Expr → Option ℤ → List Fault
-    indexed j (Some size) (Some index) = index_fault at (value size j.env) (integer index)
-    indexed j _ _ = []
+    by_size : (env : Env) (size : Option Expr) (index : Option ℤ) → Contains (sized_index_faults at env size index) f → f ≡ shown.BadIndex at
+    by_size env (Some size) (Some index) there = only_bad_index at (value size env) (integer index) f there
+    by_size env (Some size) None there = absurd (Contains-nil f there)
+    by_size env None index there = absurd (Contains-nil f there)
 
-    by_size : (j : Instance) (size : Option Expr) (index : Option ℤ) → Contains (indexed j size index) f → f ≡ shown.BadIndex at
-    by_size j (Some size) (Some index) there = only_bad_index at (value size j.env) (integer index) f there
-    by_size j (Some size) None there = absurd (Contains-nil f there)
-    by_size j None index there = absurd (Contains-nil f there)
-
-    by : (o : Option NamedPort) → Contains (option_map_or (λ x. indexed x.instance x.decl.size x.index) o []) f → f ≡ shown.BadIndex at
+    by : (o : Option NamedPort) → Contains (option_map_or (named_index_faults at) o []) f → f ≡ shown.BadIndex at
     by None there = absurd (Contains-nil f there)
-    by (Some x) there = by_size x.instance x.decl.size x.index there
+    by (Some x) there = by_size x.instance.env x.decl.size x.index there
 
 abbrev binding_port_faults : Tree → Instance → Binding → List Fault
 binding_port_faults tree i b = port_index_faults tree i b.at b.left ++ port_index_faults tree i b.at b.right

@@ -12,7 +12,7 @@ use Rattle.darwin_lexer.specs.declared.token.TokenKind.TheVariants as kinds
 use Rattle.darwin_lexer.specs.Tokens.{bytes_of}
 use Rattle.darwin_parser.specs.Tree.{Name, ArrayDecl, InstEntry, single, element, Stmt, inst, bind, Component, Tree}
 use Rattle.darwin_parser.specs.Language as lang
-use Rattle.darwin_parser.specs.Language.{Lang, Joined, ◌>>=◌, ◌or◌}
+use Rattle.darwin_parser.specs.Language.{Lang, ◌>>=◌, ◌or◌}
 use Rattle.darwin_parser.specs.Grammar as grammar
 use Rattle.darwin_parser.specs.Grammar.{Item, ports, arrays, statements, ComponentParts, no_parts, with_item, body_of, IsUnit, IsUnitWithin}
 use Rattle.darwin_types.specs.Scope.{array_named, entries_of, entries_of_stmt}

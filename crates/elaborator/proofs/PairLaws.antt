@@ -1,5 +1,5 @@
 -- The pairs that bindings give.
-use Rattle.std.proofs.Common.{◌≡◌, ◌≢◌, ◌∙◌, ℕ, ℤ, Bool, true, false, List, [], ◌∷◌, ◌++◌, Option, Some, None, refl, ap, sym, subst}
+use Rattle.std.proofs.Common.{◌≡◌, ◌≢◌, ◌∙◌, ℕ, true, false, List, [], ◌∷◌, ◌++◌, Option, Some, None, refl, ap, sym, subst}
 use Rattle.std.proofs.lemmas.Option.{same_Some}
 use Rattle.darwin_lexer.specs.declared.token.At.{At}
 use Rattle.darwin_parser.specs.declared.tree.Side.{Side}
@@ -7,10 +7,10 @@ use Rattle.darwin_parser.specs.Tree.{Name, Tree, Expr}
 use Rattle.darwin_walk.specs.Instance.{End, Binding}
 use Rattle.elaborator.specs.Instances.{Instance}
 use Rattle.elaborator.specs.Bindings.{NamedPort, resolve, named_port, may_lead, Pair, pair_of}
-use Rattle.elaborator.specs.Faults.{port_index_faults, NotesDiffer}
+use Rattle.elaborator.specs.Faults.{named_index_faults, port_index_faults, NotesDiffer}
 use Rattle.elaborator.specs.Faults.NotesDiffer.{differ}
 use Rattle.elaborator.specs.Numbering.{Expanded}
-use Rattle.elaborator.specs.Ports.{IsPort, IsNamed, named_of, bad_index, NotesDifferIn}
+use Rattle.elaborator.specs.Ports.{IsPort, IsNamed, named_of, NotesDifferIn}
 use Rattle.darwin_walk.specs.declared.fault.Fault.TheVariants as shown
 use Rattle.std.specs.List.{Contains}
 use Rattle.std.proofs.lemmas.List.Elements.{Contains-append_left, Contains-append_right}
@@ -58,19 +58,8 @@ pub pair-no_right : (tree : Tree) (i : Instance) (b : Binding) (x : NamedPort) �
 pair-no_right tree i b x left right = rw (left, right) refl
 
 -- the faults of the index of a port that is named
-faults_of_port :
-    (tree : Tree) (i : Instance) (at : At) (e : End) (inner : Bool) (j : Instance) (side : Side) (name : Name) (size : Option Expr)
-    (note : Option (List Name)) (place : At) (index : Option ℤ)
-    → resolve tree i e ≡ Some (record { is_inner = inner; instance = j; decl = record { side = side; name = name; size = size; note = note; at = place }; index = index })
-    → port_index_faults tree i at e ≡ bad_index at (record { is_inner = inner; instance = j; decl = record { side = side; name = name; size = size; note = note; at = place }; index = index })
-faults_of_port tree i at e inner j side name None said place None is = rw is refl
-faults_of_port tree i at e inner j side name None said place (Some k) is = rw is refl
-faults_of_port tree i at e inner j side name (Some size) said place None is = rw is refl
-faults_of_port tree i at e inner j side name (Some size) said place (Some k) is = rw is refl
-
-pub port_faults-named : (tree : Tree) (i : Instance) (at : At) (e : End) (x : NamedPort) → resolve tree i e ≡ Some x → port_index_faults tree i at e ≡ bad_index at x
-port_faults-named tree i at e x is =
-    faults_of_port tree i at e x.is_inner x.instance x.decl.side x.decl.name x.decl.size x.decl.note x.decl.at x.index is
+pub port_faults-named : (tree : Tree) (i : Instance) (at : At) (e : End) (x : NamedPort) → resolve tree i e ≡ Some x → port_index_faults tree i at e ≡ named_index_faults at x
+port_faults-named tree i at e x is = rw is refl
 
 -- notes that differ, taken apart
 notes_of :
@@ -101,14 +90,14 @@ fault_of_form tree i b none f is = subst (FaultOf tree i b) (sym is) (bad_bindin
 
 pub fault_of_left_index :
     (tree : Tree) (i : Instance) (b : Binding) (x : NamedPort) → resolve tree i b.left ≡ Some x → (f : ElabError)
-    → (bad_index b.at x ≡ shown.BadIndex b.at ∷ []) × (f ≡ error.BadIndex i.path b.at) → FaultOf tree i b f
+    → (named_index_faults b.at x ≡ shown.BadIndex b.at ∷ []) × (f ≡ error.BadIndex i.path b.at) → FaultOf tree i b f
 fault_of_left_index tree i b x left f is =
     let there = subst (λ fs. Contains fs (shown.BadIndex b.at)) (sym (port_faults-named tree i b.at b.left x left ∙ is.0)) (Contains-here (shown.BadIndex b.at) []) in
     subst (FaultOf tree i b) (sym is.1) (FaultOf.bad_index b.at (Contains-append_left _ (port_index_faults tree i b.at b.right) _ there))
 
 pub fault_of_right_index :
     (tree : Tree) (i : Instance) (b : Binding) (x : NamedPort) → resolve tree i b.right ≡ Some x → (f : ElabError)
-    → (bad_index b.at x ≡ shown.BadIndex b.at ∷ []) × (f ≡ error.BadIndex i.path b.at) → FaultOf tree i b f
+    → (named_index_faults b.at x ≡ shown.BadIndex b.at ∷ []) × (f ≡ error.BadIndex i.path b.at) → FaultOf tree i b f
 fault_of_right_index tree i b x right f is =
     let there = subst (λ fs. Contains fs (shown.BadIndex b.at)) (sym (port_faults-named tree i b.at b.right x right ∙ is.0)) (Contains-here (shown.BadIndex b.at) []) in
     subst (FaultOf tree i b) (sym is.1) (FaultOf.bad_index b.at (Contains-append_right (port_index_faults tree i b.at b.left) _ _ there))
@@ -120,7 +109,7 @@ fault_of_notes tree i b x y left right f is = subst (FaultOf tree i b) (sym is.1
 
 pub lawful :
     (tree : Tree) (i : Instance) (b : Binding) (x y : NamedPort) (p : Pair) → resolve tree i b.left ≡ Some x → resolve tree i b.right ≡ Some y
-    → pair_of tree i b ≡ p ∷ [] → bad_index b.at x ≡ [] → bad_index b.at y ≡ [] → ¬ NotesDifferIn x.decl y.decl → IsLawful tree i b p
+    → pair_of tree i b ≡ p ∷ [] → named_index_faults b.at x ≡ [] → named_index_faults b.at y ≡ [] → ¬ NotesDifferIn x.decl y.decl → IsLawful tree i b p
 lawful tree i b x y p left right is first second notes = record {
   is_pair = is;
   indexes = ap (λ fs. fs ++ port_index_faults tree i b.at b.right) (port_faults-named tree i b.at b.left x left ∙ first) ∙ port_faults-named tree i b.at b.right y right ∙ second;

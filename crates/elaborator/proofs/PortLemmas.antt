@@ -13,14 +13,14 @@ use Rattle.darwin_parser.specs.declared.tree.PortDecl as code_port
 use Rattle.darwin_lexer.specs.declared.token.At.{At}
 use Rattle.darwin_walk.specs.Value.{Value, integer, out_of_range, zero_divisor, value}
 use Rattle.darwin_walk.specs.Instance.{End, index_fault, index_value}
-use Rattle.darwin_walk.specs.declared.fault.Fault.{Fault}
 use Rattle.darwin_walk.specs.Walked.{segment_of, walked_end}
 use Rattle.darwin_walk.specs.declared.walked.End as code_end
 use Rattle.elaborator.specs.Instances.{Instance}
 use Rattle.elaborator.specs.Bindings.{NamedPort, instance_at, resolve}
 use Rattle.elaborator.specs.Numbering.{Expanded, NumberedInstance, Numbered}
 use Rattle.elaborator.specs.Expansion.{expanded_of, made_of, instance_in, AreSizes}
-use Rattle.elaborator.specs.Ports.{place_of, Stands, ResolvesTo, bad_index, sized_fault, NotesDifferIn}
+use Rattle.elaborator.specs.Faults.{named_index_faults, sized_index_faults}
+use Rattle.elaborator.specs.Ports.{place_of, Stands, ResolvesTo, sized_fault, NotesDifferIn}
 use Rattle.elaborator.specs.declared.instance.Instance as code_instance
 use Rattle.elaborator.specs.declared.instance.Expansion.{Expansion}
 use Rattle.base.proofs.FindLaws.{find-at_position, find-no_position}
@@ -105,16 +105,12 @@ named_found e n m k i j x end d inner at stands is place stands_at is_inner =
 -- the fault of an index, by the size that is kept of the port
 pub bad-sized :
     (i : Instance) (sizes : List (Option ℤ)) (n : NamedPort) (port : ℕ) (size : Option ℤ) → AreSizes i sizes → n.instance ≡ i → slice_get n.instance.component.ports port ≡ Some n.decl
-    → size ≡ option_flatten (slice_get sizes port) → (at : At) → bad_index at n ≡ sized_fault at size n.index
+    → size ≡ option_flatten (slice_get sizes port) → (at : At) → named_index_faults at n ≡ sized_fault at size n.index
 bad-sized i sizes n port size all same declared kept at =
     by n.decl.size size n.index
     (subst (λ (j : Instance). index_value n.decl.size j.env ≡ Some (option_flatten (slice_get sizes port))) (sym same)
     (all port n.decl (ap (λ (j : Instance). slice_get j.component.ports port) (sym same) ∙ declared)) ∙ ap Some (sym kept))
   where
-    indexed : Option Expr → Option ℤ → List Fault
-    indexed (Some size) (Some index) = index_fault at (value size n.instance.env) (integer index)
-    indexed _ _ = []
-
     some_integer : Value → Option (Option ℤ)
     some_integer (integer w) = Some (Some w)
     some_integer _ = None
@@ -129,7 +125,7 @@ bad-sized i sizes n port size all same declared kept at =
     nowhere out_of_range e = none-some None e
     nowhere zero_divisor e = none-some None e
 
-    by : (s : Option Expr) (size index : Option ℤ) → index_value s n.instance.env ≡ Some size → indexed s index ≡ sized_fault at size index
+    by : (s : Option Expr) (size index : Option ℤ) → index_value s n.instance.env ≡ Some size → sized_index_faults at n.instance.env s index ≡ sized_fault at size index
     by None None index e = refl
     by None (Some z) index e = absurd (none-some z (same_Some None (Some z) e))
     by (Some s) None index e = absurd (nowhere (value s n.instance.env) e)

@@ -6,7 +6,7 @@ use Rattle.darwin_lexer.specs.declared.token.At.{At}
 use Rattle.darwin_parser.specs.Tree.{Name, Tree, Component, Expr}
 use Rattle.darwin_types.specs.Scope.{component_named, is_primitive}
 use Rattle.config_graph.specs.declared.node.Node.{Node}
-use Rattle.darwin_walk.specs.Value.{integer, value}
+use Rattle.darwin_walk.specs.Value.{Env, integer, value}
 use Rattle.darwin_walk.specs.Instance.{Child, End, Binding, index_fault, children, instance_faults}
 use Rattle.darwin_walk.specs.declared.fault.Fault.{Fault}
 use Rattle.darwin_walk.specs.declared.fault.Fault.TheVariants as shown
@@ -32,16 +32,17 @@ kind_argument_faults tree child =
     child.arguments [])
     (component_named tree child.component) []
 
--- an index of a port isn't from 0 to the size less 1
-abbrev pub port_index_faults : Tree → Instance → At → End → List Fault
-port_index_faults tree i at e = option_map_or faults_at (resolve tree i e) []
-  where
-    indexed : Instance → Option Expr → Option ℤ → List Fault
-    indexed j (Some size) (Some index) = index_fault at (value size j.env) (integer index)
-    indexed j _ _ = []
+-- an index of a port of this size isn't from 0 to the size less 1
+abbrev pub sized_index_faults : At → Env → Option Expr → Option ℤ → List Fault
+sized_index_faults at env (Some size) (Some index) = index_fault at (value size env) (integer index)
+sized_index_faults at env _ _ = []
 
-    faults_at : NamedPort → List Fault
-    faults_at x = indexed x.instance x.decl.size x.index
+-- so of a port that is named, and of the port that an end names, where it names one
+abbrev pub named_index_faults : At → NamedPort → List Fault
+named_index_faults at x = sized_index_faults at x.instance.env x.decl.size x.index
+
+abbrev pub port_index_faults : Tree → Instance → At → End → List Fault
+port_index_faults tree i at e = option_map_or (named_index_faults at) (resolve tree i e) []
 
 -- the faults of values and of indexes of instances, in an instance
 abbrev pub own_faults : Tree → Instance → List Fault

@@ -1,8 +1,8 @@
 -- The ports that ends of bindings name, by numbers and by what they stand for.
 use Rattle.std.specs.Prelude.{◌≡◌, ◌≢◌, ℕ, Bool, true, false, ℤ, List, [], Option, Some, None, MatchOption, is_some, slice_get, position, bytes_eq}
 use Rattle.darwin_lexer.specs.declared.token.At.{At}
-use Rattle.darwin_parser.specs.Tree.{Name, Expr, PortDecl, port_of}
-use Rattle.darwin_walk.specs.Value.{integer, value}
+use Rattle.darwin_parser.specs.Tree.{Name, PortDecl, port_of}
+use Rattle.darwin_walk.specs.Value.{integer}
 use Rattle.darwin_walk.specs.Instance.{Segment, index_fault}
 use Rattle.darwin_walk.specs.declared.fault.Fault.{Fault}
 use Rattle.elaborator.specs.Instances.{Instance}
@@ -46,14 +46,6 @@ pub record IsNamed (e : Expanded) (n : ℕ) (x : code.Named) (i : Instance) : Ty
 -- the answer to what an end names
 abbrev pub ResolvesTo : Expanded → ℕ → Option NamedPort → Option code.Named → Type 0
 ResolvesTo e n named r = MatchOption r (named ≡ None) (λ x. (i : Instance) × (named ≡ Some (named_of i x)) × IsNamed e n x i)
-
--- the fault of the index of what an end names
-abbrev pub bad_index : At → NamedPort → List Fault
-bad_index at x = indexed x.decl.size x.index
-  where
-    indexed : Option Expr → Option ℤ → List Fault
-    indexed (Some size) (Some index) = index_fault at (value size x.instance.env) (integer index)
-    indexed _ _ = []
 
 -- the fault of an index of a port of this size, where both have a value
 abbrev pub sized_fault : At → Option ℤ → Option ℤ → List Fault

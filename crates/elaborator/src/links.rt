@@ -1,6 +1,6 @@
 //! The links of an elaboration: from each requirement of a node to the provision to which bindings lead.
 
-ghost use Rattle.std.specs.Prelude.{◌≡◌, ◌+◌, ◌<◌, length, IfOk, OnOk};
+ghost use Rattle.std.specs.Prelude.{◌+◌, ◌<◌, length, IfOk, OnOk};
 ghost use Rattle.config_graph.specs.Graph.{requires_at};
 ghost use Rattle.elaborator.specs.Instances.{Instance};
 ghost use Rattle.elaborator.specs.Bindings.{Port};

@@ -1,11 +1,10 @@
 //! The nodes of an elaboration: its instances of primitive components.
 
-ghost use Rattle.std.specs.Prelude.{◌≡◌, ◌<◌, ◌≤◌, [], ◌∷◌, ◌++◌, length, map, option_map, slice_set, IfOk, OnOk, Some};
+ghost use Rattle.std.specs.Prelude.{◌≡◌, ◌<◌, [], ◌∷◌, ◌++◌, length, map, option_map, slice_set, IfOk, OnOk, Some};
 ghost use Rattle.darwin_parser.specs.Tree.{component_of};
 ghost use Rattle.darwin_types.specs.Scope.{is_primitive};
 ghost use Rattle.config_graph.specs.declared.node.Node.{Node as NodeValue};
 ghost use Rattle.elaborator.specs.Graph.{node_of, node_with, natural};
-ghost use Rattle.elaborator.specs.Numbering.{Numbered};
 ghost use Rattle.elaborator.specs.Expansion.{expanded_of, instance_in, IsNumbering};
 ghost use Rattle.elaborator.specs.NodeOrder.{nodes_in, AreNodes, AreListed, IsInOrder};
 ghost use Rattle.elaborator.specs.declared.nodes.Listed as shown;

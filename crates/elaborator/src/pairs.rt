@@ -10,7 +10,8 @@ ghost use Rattle.elaborator.specs.Bindings.{Pair as PurePair, resolve, pair_of, 
 ghost use Rattle.elaborator.specs.Numbering.{Expanded, Numbered};
 ghost use Rattle.elaborator.specs.Expansion.{expanded_of, IsNumbering};
 ghost use Rattle.elaborator.specs.Paths.{end_bytes};
-ghost use Rattle.elaborator.specs.Ports.{ResolvesTo, named_of, bad_index, NotesDifferIn};
+ghost use Rattle.elaborator.specs.Faults.{named_index_faults};
+ghost use Rattle.elaborator.specs.Ports.{ResolvesTo, named_of, NotesDifferIn};
 ghost use Rattle.elaborator.specs.PortIndex.{IsPair, FaultOf, IsLawful, AreLawful, IsIndex, IsIndexed, AreBefore, Clashes, BindingFault};
 ghost use Rattle.elaborator.specs.declared.error.ElabError.TheVariants.{NoMemory, BoundTwice, BadBinding, BadIndex, Annotation};
 
@@ -171,8 +172,8 @@ fn check_index(
     ensures { (i j : Instance) → Numbered (expanded_of expansion.now) number i
         → Numbered (expanded_of expansion.now) port.now.id.instance j
         → slice_get j.component.ports port.now.id.port ≡ Some (port_of port.now.decl.now)
-        → Answers NoMemory (λ _. bad_index binding.now.at (named_of j port.now) ≡ [])
-        (λ f. (bad_index binding.now.at (named_of j port.now) ≡ shown.BadIndex binding.now.at ∷ [])
+        → Answers NoMemory (λ _. named_index_faults binding.now.at (named_of j port.now) ≡ [])
+        (λ f. (named_index_faults binding.now.at (named_of j port.now) ≡ shown.BadIndex binding.now.at ∷ [])
         × (f ≡ BadIndex i.path binding.now.at)) result }
 {
     if port.has_bad_index(expansion) {

@@ -10,7 +10,8 @@ ghost use Rattle.elaborator.specs.Instances.{Instance};
 ghost use Rattle.elaborator.specs.Bindings.{resolve, is_form};
 ghost use Rattle.elaborator.specs.Numbering.{Numbered};
 ghost use Rattle.elaborator.specs.Expansion.{expanded_of, IsNumbering};
-ghost use Rattle.elaborator.specs.Ports.{Standing, ResolvesTo, bad_index, place_of};
+ghost use Rattle.elaborator.specs.Faults.{named_index_faults};
+ghost use Rattle.elaborator.specs.Ports.{Standing, ResolvesTo, place_of};
 
 use crate::chains::PortId;
 use crate::directory::Directory;
@@ -135,7 +136,7 @@ impl Named<'_> {
         requires kept { IsNumbering expansion.now }
         ensures { (i : Instance) → Numbered (expanded_of expansion.now) self.now.id.instance i
             → slice_get i.component.ports self.now.id.port ≡ Some (port_of self.now.decl.now)
-            → (at : Place) → bad_index at (named_of i self.now) ≡ (if result then BadIndex at ∷ [] else []) }
+            → (at : Place) → named_index_faults at (named_of i self.now) ≡ (if result then BadIndex at ∷ [] else []) }
     {
         let Some(index) = self.id.index else {
             return false;
@@ -152,7 +153,7 @@ impl Named<'_> {
         requires kept { IsNumbering expansion.now }
         ensures { (i : Instance) → Numbered (expanded_of expansion.now) self.now.id.instance i
             → slice_get i.component.ports self.now.id.port ≡ Some (port_of self.now.decl.now)
-            → (at : Place) → bad_index at (named_of i self.now) ≡ sized_fault at result self.now.id.index }
+            → (at : Place) → named_index_faults at (named_of i self.now) ≡ sized_fault at result self.now.id.index }
     {
         expansion.instance(self.id.instance).port_size(self.id.port)
     }
