@@ -30,8 +30,8 @@ const NOTED: &str = "component Noted { inst s:source(1); t:sink;\nbind s.out -- 
 const NOTED_THROUGH: &str = "component Through { inst s:source(1); b:Box; bind s.out -- b.in; }
 component Box { provide in; inst t:sink; bind in -- t.in; }";
 
-/// Bindings of each lawful form, with their ends in either order.
-static LAWFUL_BINDINGS: [Elaborated; 7] = [
+/// Bindings across and outward, with their ends in either order.
+static ACROSS_AND_OUTWARD: [Elaborated; 7] = [
     (
         &[
             "component Top { inst s:source(1); t:sink; bind s.out -- t.in; }",
@@ -85,8 +85,8 @@ static LAWFUL_BINDINGS: [Elaborated; 7] = [
     ),
 ];
 
-/// Bindings of each lawful form, with their ends in either order.
-static FURTHER_LAWFUL_BINDINGS: [Elaborated; 7] = [
+/// Bindings inward and of elements, with their ends in either order.
+static INWARD_AND_OF_ELEMENTS: [Elaborated; 7] = [
     (
         &[INWARD, "bind in -- t.in; }", KINDS],
         "Top",
@@ -144,8 +144,8 @@ static FURTHER_LAWFUL_BINDINGS: [Elaborated; 7] = [
     ),
 ];
 
-/// Bindings of no lawful form.
-static UNLAWFUL_BINDINGS: [Elaborated; 8] = [
+/// Bindings of two sides that may not meet, and of instances that aren't made.
+static WRONG_SIDES: [Elaborated; 9] = [
     (
         &[
             "component Top { inst s:source(1); u:source(2);\nbind s.out -- u.out; }",
@@ -218,10 +218,19 @@ static UNLAWFUL_BINDINGS: [Elaborated; 8] = [
         &[],
         "BadBinding . 2:6",
     ),
+    (
+        &[
+            "component Top { array B[2]:Box; inst B[1]; } component Box { require out; inst t:sink;\nbind t.in -- out; }",
+            KINDS,
+        ],
+        "Top",
+        &[],
+        "BadBinding B[1] 2:6",
+    ),
 ];
 
-/// Bindings of no lawful form.
-static FURTHER_UNLAWFUL_BINDINGS: [Elaborated; 7] = [
+/// Bindings with an index that is missing, that may not be there or that is out of place.
+static WRONG_INDEXES: [Elaborated; 6] = [
     (
         &[
             "component Top { inst s:source(1); t:sink;\nbind s.out -- t[0].in; }",
@@ -275,15 +284,6 @@ static FURTHER_UNLAWFUL_BINDINGS: [Elaborated; 7] = [
         "Top",
         &[],
         "BadIndex . 2:6",
-    ),
-    (
-        &[
-            "component Top { array B[2]:Box; inst B[1]; } component Box { require out; inst t:sink;\nbind t.in -- out; }",
-            KINDS,
-        ],
-        "Top",
-        &[],
-        "BadBinding B[1] 2:6",
     ),
 ];
 
@@ -428,23 +428,23 @@ static ORDER_AND_RINGS: [Elaborated; 5] = [
 ];
 
 #[test]
-fn lawful_bindings_lead(rt: HostRuntime) -> Result<(), Fail> {
-    assert_outcomes(&rt, rt.alloc(), &LAWFUL_BINDINGS)
+fn bindings_lead_across_and_outward(rt: HostRuntime) -> Result<(), Fail> {
+    assert_outcomes(&rt, rt.alloc(), &ACROSS_AND_OUTWARD)
 }
 
 #[test]
-fn further_lawful_bindings_lead(rt: HostRuntime) -> Result<(), Fail> {
-    assert_outcomes(&rt, rt.alloc(), &FURTHER_LAWFUL_BINDINGS)
+fn bindings_lead_inward_and_between_elements(rt: HostRuntime) -> Result<(), Fail> {
+    assert_outcomes(&rt, rt.alloc(), &INWARD_AND_OF_ELEMENTS)
 }
 
 #[test]
-fn unlawful_bindings_are_refused(rt: HostRuntime) -> Result<(), Fail> {
-    assert_outcomes(&rt, rt.alloc(), &UNLAWFUL_BINDINGS)
+fn sides_that_may_not_meet_are_refused(rt: HostRuntime) -> Result<(), Fail> {
+    assert_outcomes(&rt, rt.alloc(), &WRONG_SIDES)
 }
 
 #[test]
-fn further_unlawful_bindings_are_refused(rt: HostRuntime) -> Result<(), Fail> {
-    assert_outcomes(&rt, rt.alloc(), &FURTHER_UNLAWFUL_BINDINGS)
+fn indexes_out_of_place_are_refused(rt: HostRuntime) -> Result<(), Fail> {
+    assert_outcomes(&rt, rt.alloc(), &WRONG_INDEXES)
 }
 
 #[test]

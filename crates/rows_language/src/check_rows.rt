@@ -1,11 +1,9 @@
 //! Rows of `check`: each fault with descriptions that have it and no other, and the nearest ones that have none.
 
-use crate::reading::unit_of;
-use base::Text;
+use crate::reading::{unit_of, word};
 use darwin_types::{Checked, TypeError, check};
 use std::alloc::{AllocError, Global};
 use std::process::Abort;
-use std::str;
 use std::test::Fail;
 
 /// A text behind the kinds, and what a check answers.
@@ -140,10 +138,6 @@ static PRIMITIVE: [Row; 10] = [
     ),
     ("component adder(int n) { require p; inst s:sink; }", "4"),
 ];
-
-fn word(text: &Text) -> &str {
-    str::from_utf8(text.as_bytes()).unwrap_or("?")
-}
 
 /// The fault in words.
 fn fault(alloc: Global, error: &TypeError) -> Result<String, AllocError> {

@@ -35,8 +35,8 @@ const ONE_TWICE: &str = "component Twice(int n) { inst a:Turns(n); inst a:Turns(
 const RANGE_ENDS: &str =
     "component Ends(int a, int b) { array A[2]:sink; forall i:a..b inst A[i - a]; }";
 
-/// How deep instances may lie, and how much may be counted.
-static DEPTHS_AND_COUNTS: [Elaborated; 5] = [
+/// How deep instances may lie, and how many turns they may count together.
+static DEPTHS_AND_TURNS: [Elaborated; 4] = [
     (
         &[DEEP, KINDS],
         "Deep",
@@ -56,17 +56,17 @@ static DEPTHS_AND_COUNTS: [Elaborated; 5] = [
         "node a.t sink()\nnode b.t sink()\n",
     ),
     (&[BOTH_AND_ONE, TURNS], "Both", &[32766], "TooMany"),
+];
+
+/// Entries and turns that are counted where they are stated, and the ends of ranges.
+static ENTRIES_AND_RANGES: [Elaborated; 9] = [
+    (&[ONE_TWICE, TURNS], "Twice", &[40000], "TwoInstances a"),
     (
         &[BOUND_OFTEN, KINDS],
         "Often",
         &[32767],
         "node s source(1)\nport s.out t.in\nnode t sink()\n",
     ),
-];
-
-/// How deep instances may lie, and how much may be counted.
-static FURTHER_DEPTHS_AND_COUNTS: [Elaborated; 8] = [
-    (&[ONE_TWICE, TURNS], "Twice", &[40000], "TwoInstances a"),
     (&[BOUND_OFTEN, KINDS], "Often", &[32768], "TooMany"),
     (
         &[NESTED_TURNS, KINDS],
@@ -102,11 +102,11 @@ static FURTHER_DEPTHS_AND_COUNTS: [Elaborated; 8] = [
 ];
 
 #[test]
-fn depths_and_counts_have_limits(rt: HostRuntime) -> Result<(), Fail> {
-    assert_outcomes(&rt, rt.alloc(), &DEPTHS_AND_COUNTS)
+fn depths_and_turns_have_limits(rt: HostRuntime) -> Result<(), Fail> {
+    assert_outcomes(&rt, rt.alloc(), &DEPTHS_AND_TURNS)
 }
 
 #[test]
-fn further_depths_and_counts_have_limits(rt: HostRuntime) -> Result<(), Fail> {
-    assert_outcomes(&rt, rt.alloc(), &FURTHER_DEPTHS_AND_COUNTS)
+fn entries_and_ranges_have_limits(rt: HostRuntime) -> Result<(), Fail> {
+    assert_outcomes(&rt, rt.alloc(), &ENTRIES_AND_RANGES)
 }

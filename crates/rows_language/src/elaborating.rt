@@ -1,6 +1,6 @@
 //! How a description is elaborated: a text, its top with arguments, and the text of its graph or the fault.
 
-use crate::reading::unit_of;
+use crate::reading::{unit_of, word};
 use base::Text;
 use config_graph::{Graph, graph_text};
 use darwin_lexer::At;
@@ -24,10 +24,6 @@ pub type Elaborated = (
     &'static [i32],
     &'static str,
 );
-
-fn word(text: &Text) -> &str {
-    str::from_utf8(text.as_bytes()).unwrap_or("?")
-}
 
 /// The path of an instance; that of the top is written as a full stop.
 fn written(path: &Text) -> &str {

@@ -12,8 +12,8 @@ const END: &str = "); }";
 const ARGUMENT_WITHIN: &str =
     "component Box(int n) {\ninst s:source(n); } component Top(int n) { inst b:Box(n); }";
 
-/// Values: their ends, signs and arguments of kinds.
-static VALUES: [Elaborated; 9] = [
+/// Each operation at the ends of the integers, and past them.
+static ENDS: [Elaborated; 11] = [
     (
         &[VALUE, "a + b == 2147483647", END, KINDS],
         "V",
@@ -68,10 +68,6 @@ static VALUES: [Elaborated; 9] = [
         &[-2147483648, 1],
         "node s source(1)\nport s.out -\n",
     ),
-];
-
-/// Values: their ends, signs and arguments of kinds.
-static FURTHER_VALUES: [Elaborated; 9] = [
     (
         &[VALUE, "a / b == 0", END, KINDS],
         "V",
@@ -84,6 +80,10 @@ static FURTHER_VALUES: [Elaborated; 9] = [
         &[-2147483648, -1],
         "node s source(0)\nport s.out -\n",
     ),
+];
+
+/// Quotients and remainders, by the signs of both sides.
+static QUOTIENTS: [Elaborated; 8] = [
     (
         &[VALUE, "a / b + 10", END, KINDS],
         "V",
@@ -125,17 +125,17 @@ static FURTHER_VALUES: [Elaborated; 9] = [
         "V",
         &[7, -2],
         "node s source(11)\nport s.out -\n",
+    ),
+    (
+        &[VALUE, "a % b + 10", END, KINDS],
+        "V",
+        &[-7, -2],
+        "node s source(9)\nport s.out -\n",
     ),
 ];
 
-/// Values: their ends, signs and arguments of kinds.
-static LAST_VALUES: [Elaborated; 9] = [
-    (
-        &[VALUE, "a % b + 10", END, KINDS],
-        "V",
-        &[-7, -2],
-        "node s source(9)\nport s.out -\n",
-    ),
+/// Division by 0, sides that aren't valued, and arguments of kinds.
+static DECISIONS_AND_ARGUMENTS: [Elaborated; 8] = [
     (
         &[VALUE, "a / b", END, KINDS],
         "V",
@@ -182,16 +182,16 @@ static LAST_VALUES: [Elaborated; 9] = [
 ];
 
 #[test]
-fn values_have_ends_and_signs(rt: HostRuntime) -> Result<(), Fail> {
-    assert_outcomes(&rt, rt.alloc(), &VALUES)
+fn values_have_ends(rt: HostRuntime) -> Result<(), Fail> {
+    assert_outcomes(&rt, rt.alloc(), &ENDS)
 }
 
 #[test]
-fn further_values_have_ends_and_signs(rt: HostRuntime) -> Result<(), Fail> {
-    assert_outcomes(&rt, rt.alloc(), &FURTHER_VALUES)
+fn quotients_and_remainders_have_signs(rt: HostRuntime) -> Result<(), Fail> {
+    assert_outcomes(&rt, rt.alloc(), &QUOTIENTS)
 }
 
 #[test]
-fn last_values_have_ends_and_signs(rt: HostRuntime) -> Result<(), Fail> {
-    assert_outcomes(&rt, rt.alloc(), &LAST_VALUES)
+fn sides_decide_and_arguments_have_a_range(rt: HostRuntime) -> Result<(), Fail> {
+    assert_outcomes(&rt, rt.alloc(), &DECISIONS_AND_ARGUMENTS)
 }
