@@ -32,7 +32,7 @@ use Rattle.quiesce_core.specs.SameWiring.{IsPortAt}
 use Rattle.quiesce_core.specs.WellFormed.{StandInARow, LeadsToProvision, IsWithinBounds, IsSound, IsWellFormed}
 use Rattle.quiesce_core.specs.Named.{AreNamed}
 use Rattle.config_graph.proofs.PathLaws.{irreflexive}
-use Rattle.quiesce_core.proofs.LiveLinks.{IsLiveLink, linked_at}
+use Rattle.quiesce_core.proofs.LiveLinkLaws.{IsLiveLink, linked_at}
 use Rattle.quiesce_core.specs.Live.{StandsAt, IsGraphOf}
 use Rattle.config_graph.specs.declared.node.Link.{Link}
 use Rattle.quiesce_core.specs.Start.{slot_of, gate_of, no_service, no_exchange, started}

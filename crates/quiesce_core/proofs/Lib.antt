@@ -26,7 +26,7 @@ pub mod WordLaws
 pub mod OperationLaws
 pub mod LoadLaws
 pub mod OrderLemmas
-pub mod LiveLinks
+pub mod LiveLinkLaws
 pub mod SameWiringLaws
 pub mod LiveLemmas
 pub mod NamedLemmas

@@ -33,7 +33,7 @@ use Rattle.quiesce_core.specs.Live.{StandsAt, IsGraphOf}
 use Rattle.quiesce_core.specs.Listed.{path_at, InPathOrder, ArePlaces, AreNodesOf, link_in}
 use Rattle.quiesce_core.proofs.CycleLaws.{cycles_are_found}
 use Rattle.base.proofs.OptionLaws.{map_or_at}
-use Rattle.quiesce_core.proofs.LiveLinks.{IsLiveLink, linked_at}
+use Rattle.quiesce_core.proofs.LiveLinkLaws.{IsLiveLink, linked_at}
 use Rattle.quiesce_core.proofs.SameWiringLaws.{to_configuration}
 use Rattle.quiesce_core.proofs.ConfigurationLaws.{linked_made, port_is}
 use Rattle.quiesce_core.proofs.OrderLemmas.{live_at, range_at}

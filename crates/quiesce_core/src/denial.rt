@@ -231,7 +231,7 @@ impl Tables {
         ])
     }
 
-    /// The search for the ports that reach the owner is made only where the other rules before it hold.
+    /// Whether a link closes a cycle can be asked only of a port that was made, so the rules before are looked at first.
     fn denies_link(&self, port: u32, node: u32, provide: u32) -> Option<u32>
         requires { IsSound (state_of self.now).config }
         ensures { result ≡ rules.denial (state_of self.now) (Event.Link port node provide) }

@@ -9,7 +9,7 @@ ghost use Rattle.quiesce_core.specs.Rules.{denial, has_provision, is_linked, is_
 ghost use Rattle.quiesce_core.specs.Legal.{Legal};
 ghost use Rattle.quiesce_core.specs.Reach.{has_no_cycle, reaches, wiring_of};
 ghost use Rattle.config_graph.specs.Wiring.{HasNoCycle, Reach};
-ghost use Rattle.quiesce_core.specs.Runs.{IsRun, Step, Steps, doer, done_by, state_after};
+ghost use Rattle.quiesce_core.specs.Runs.{IsRun, Step, Steps, state_after};
 ghost use Rattle.quiesce_core.specs.Effect.{effect};
 ghost use Rattle.quiesce_core.specs.Named.{AreNamed};
 ghost use Rattle.quiesce_core.specs.Start.{started};

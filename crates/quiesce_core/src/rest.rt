@@ -6,7 +6,7 @@ ghost use Rattle.quiesce_core.specs.Reach as reach;
 ghost use Rattle.quiesce_core.specs.State as state;
 ghost use Rattle.quiesce_core.specs.Rest as rest;
 ghost use Rattle.quiesce_core.specs.Counted.{capped, events_within, AreCounted};
-ghost use Rattle.quiesce_core.specs.WellFormed.{IsSound, IsWellFormed, LeadsToProvision};
+ghost use Rattle.quiesce_core.specs.WellFormed.{IsSound, LeadsToProvision};
 ghost use Rattle.quiesce_core.specs.Tables.{state_of};
 
 use crate::state::{Phase, Service};

@@ -1,6 +1,6 @@
 //! The rules' tests.
 
-ghost use Rattle.std.specs.Prelude.{◌≡◌, ◌<◌, ◌≤◌, length};
+ghost use Rattle.std.specs.Prelude.{◌≡◌, ◌<◌};
 ghost use Rattle.quiesce_core.specs.State as state;
 ghost use Rattle.quiesce_core.specs.Rules as rules;
 ghost use Rattle.quiesce_core.specs.Tables.{state_of};

@@ -1,6 +1,6 @@
 //! The state in tables: of each slot its node and service, of each port its gate and exchange.
 
-ghost use Rattle.std.specs.Prelude.{◌≡◌, slice_get, option_map};
+ghost use Rattle.std.specs.Prelude.{◌≡◌, option_map};
 ghost use Rattle.quiesce_core.specs.State as state;
 ghost use Rattle.quiesce_core.specs.Tables.{state_of};
 ghost use Rattle.quiesce_core.specs.WellFormed.{IsWellFormed};
