@@ -5,9 +5,11 @@ use Rattle.std.specs.List.{list_any}
 use Rattle.std.proofs.lemmas.Bool.{and_parts, and_from, both_ways, cases_Bool, eq-eqb, not_from_false, or_cases, or_left, or_right, true_from_ne_false}
 use Rattle.config_graph.specs.declared.node.Target.{Target}
 use Rattle.quiesce_core.specs.declared.event.Event.{Event}
+use Rattle.quiesce_core.specs.declared.event.Event.TheVariants.{Reopen}
 use Rattle.quiesce_core.specs.declared.state.Service.{Service}
 use Rattle.quiesce_core.specs.State.{State, is_live, gate, owner, target, provision, depends, is_depended, exchange, service}
 use Rattle.gate_word.specs.Phases.{is_idle}
+use Rattle.quiesce_core.specs.Doers.{is_of_change}
 use Rattle.quiesce_core.specs.Reach.{IsPortOf, can_walk, wiring_of}
 use Rattle.config_graph.specs.Wiring.{Reach, direct, through}
 use Rattle.quiesce_core.specs.Rules.{is_quiet}
@@ -26,6 +28,11 @@ use Rattle.quiesce_core.proofs.StateLaws.{busy_made}
 use Rattle.quiescence_laws.proofs.RootLaws.{old_further, has_no_root}
 use Rattle.quiescence_laws.proofs.Stillness.{Concerns}
 use Rattle.gate_word.proofs.PhaseLaws.{serving_busy}
+
+-- reopenings are the change's alone
+pub no_node_reopens : (p : ℕ) (e : Event) → is_of_change e ≡ false → reopens p e ≡ false
+no_node_reopens p (Reopen q) h = absurd (both_ways true h refl)
+no_node_reopens p _ h = refl
 
 -- idle or consequent, where there is no root
 rootless : (s : State) (p : ℕ) → (has_root s p (exchange s p).serial ≡ true → ⊥) → (is_idle (exchange s p).phase || is_some (exchange s p).within) ≡ true

@@ -65,7 +65,8 @@ opened s p k q j named busy serial =
     let both = and_parts (q == p) (j == k) named in
     subst (λ i. IsOpen (exchange s i) k) (eqb-true q p both.0) (record { busy = busy; serial = sym (eqb-true j (exchange s q).serial serial) ∙ eqb-true j k both.1 })
 
-last_named : (s : State) (q j v : ℕ) → (j == (exchange s q).serial && v == (exchange s q).value) ≡ true → (j == (exchange s q).serial) ≡ true
+-- a message that is the last one has its serial
+pub last_named : (s : State) (q j v : ℕ) → (j == (exchange s q).serial && v == (exchange s q).value) ≡ true → (j == (exchange s q).serial) ≡ true
 last_named s q j v h = (and_parts (j == (exchange s q).serial) (v == (exchange s q).value) h).0
 
 of_initiator_open : (s : State) (e : Event) (p k : ℕ) → Legal s e → is_of_initiator p k e ≡ true → IsOpen (exchange s p) k
