@@ -16,6 +16,7 @@ use Rattle.base.proofs.OptionLaws.{map_or_true}
 use Rattle.quiesce_core.proofs.StateLaws.{taken_busy}
 use Rattle.gate_word.proofs.PhaseLaws.{asked_busy, more_busy, answered_busy, serving_busy}
 use Rattle.quiescence_laws.specs.Events.{is_of_initiator, is_of_target}
+use Rattle.quiescence_laws.proofs.LogLaws.{last_named}
 use Rattle.drain_laws.specs.Advances.{is_advance, is_begin, advanced_port}
 use Rattle.quiesce_core.specs.Doers.{is_of_change}
 use Rattle.drain_laws.specs.Belongs.{belongs, is_event_of, singleton, open_in}
@@ -87,9 +88,6 @@ its_own s p k q j named serial =
     let both = and_parts (q == p) (j == k) named in
     let same : (exchange s q).serial ≡ k = sym (eqb-true j (exchange s q).serial serial) ∙ eqb-true j k both.1 in
     member_belongs (singleton p k) s q (and_from (q == p) ((exchange s q).serial == k) both.0 (eq-eqb (exchange s q).serial k same))
-
-last_named : (s : State) (q j v : ℕ) → (j == (exchange s q).serial && v == (exchange s q).value) ≡ true → (j == (exchange s q).serial) ≡ true
-last_named s q j v h = (and_parts (j == (exchange s q).serial) (v == (exchange s q).value) h).0
 
 pub of_the_named : (s : State) (e : Event) (p k : ℕ) → Legal s e → (is_of_initiator p k e || is_of_target p k e) ≡ true → is_event_of (singleton p k) s e ≡ true
 of_the_named s (Take q j v) p k l h = its_own s p k q j h (last_named s q j v l.message)

@@ -1,6 +1,6 @@
 //! The definitions on small runs.
 
-ghost use Rattle.std.specs.Prelude.{◌≡◌, List, [], ◌∷◌, ◌++◌, None};
+ghost use Rattle.std.specs.Prelude.{◌≡◌, [], ◌∷◌, ◌++◌, None};
 ghost use Rattle.quiesce_core.specs.declared.event.Event.TheVariants.{Begin, Call, Take};
 ghost use Rattle.quiesce_core.specs.Rest.{full};
 ghost use Rattle.quiesce_core.specs.Runs.{state_after};
