@@ -5,13 +5,14 @@ use Rattle.std.specs.Option.{option_map_or}
 use Rattle.std.proofs.lemmas.Bool.{and_from, both_ways, eqb-true, not_from_false, false_from_ne_true}
 use Rattle.std.proofs.lemmas.Option.{same_Some, slice_get_within}
 use Rattle.config_graph.specs.Graph.{Graph}
+use Rattle.config_graph.specs.GraphBy.{AreLinkedAt}
 use Rattle.config_graph.specs.Sound.{Sound}
 use Rattle.config_graph.specs.declared.node.Node.{Node}
 use Rattle.config_graph.specs.declared.node.Target.{Target}
 use Rattle.quiesce_core.specs.declared.event.Event.{Event}
 use Rattle.quiesce_core.specs.declared.event.Event.TheVariants as event
 use Rattle.quiesce_core.specs.declared.state.Slot.{Slot}
-use Rattle.quiesce_core.specs.Live.{IsGraphOf, IsLiveAt, StandsAt}
+use Rattle.quiesce_core.specs.Live.{AreLinked, IsGraphOf, IsLiveAt, StandsAt}
 use Rattle.base.proofs.PlaceLaws.{slice_get-there}
 use Rattle.commit_laws.specs.Fitting.{Fits, KeptLink, PathsApart}
 use Rattle.quiesce_core.specs.Rules.{can_move, is_kind, was_moved}
@@ -24,6 +25,7 @@ use Rattle.quiesce_core.specs.Effect.{change_next}
 use Rattle.commit_laws.specs.Work.{AreNumbered, NewLink, NewNode, Work, link_new, make_new, work_of}
 use Rattle.commit_laws.proofs.BetweenLaws.{Ground, between_start}
 use Rattle.quiesce_core.proofs.ConfigurationLaws.{linked_made}
+use Rattle.quiesce_core.proofs.LiveLinkLaws.{linked_at}
 use Rattle.commit_laws.proofs.LinkingLemmas.{Linking, graph_is, link_may, link_next}
 use Rattle.commit_laws.proofs.MakingLaws.{Making, make_may, make_next}
 use Rattle.commit_laws.proofs.MemberLaws.{any_there}
@@ -128,7 +130,7 @@ module _ (c : Configuration) (new : Graph) (sound : Sound new) (Touched : ℕ �
       λ l. (h.nodes l.0 node l.1).0,
     );
     part = λ p t e. fits_now p t (h.links p t e);
-    whole = are.all_links;
+    whole = λ i r j x e. ⊎_elim (λ (w : AreLinkedAt (AreLinked d) new.nodes i r j x). inl ((linked_at d new.nodes i r j x).1 w)) inr (are.all_links i r j x e);
     to_link = are.to_link;
     apart = are.links_apart;
     kept = h.kept;

@@ -5,7 +5,6 @@ pub mod BetweenLaws
 pub mod CarryingLaws
 pub mod CommitLaws
 pub mod EndingLaws
-pub mod FittingLaws
 pub mod GateLaws
 pub mod LinkingLemmas
 pub mod MakingLaws

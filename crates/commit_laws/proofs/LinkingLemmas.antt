@@ -11,11 +11,11 @@ use Rattle.quiesce_core.specs.declared.state.Gate.{Gate}
 use Rattle.quiesce_core.specs.declared.state.Slot.{Slot}
 use Rattle.quiesce_core.specs.Effect.{with_target}
 use Rattle.quiesce_core.specs.Live.{IsGraphOf, IsLiveNode, StandsAt}
-use Rattle.commit_laws.specs.Fitting.{Fits, IsLiveLink, KeptLink, LinksFit, Stands}
-use Rattle.commit_laws.proofs.FittingLaws.{linked_at}
+use Rattle.commit_laws.specs.Fitting.{Fits, KeptLink, LinksFit, Stands}
 use Rattle.quiesce_core.specs.Reach.{has_no_cycle}
 use Rattle.quiesce_core.specs.State.{Configuration, gate, is_live, owner, provides, slot, target}
 use Rattle.base.proofs.OptionLaws.{map_or_at}
+use Rattle.quiesce_core.proofs.LiveLinkLaws.{IsLiveLink, linked_at}
 use Rattle.quiesce_core.proofs.SoundnessLaws.{put_here, put_owner, put_require}
 use Rattle.quiesce_core.proofs.ReachLaws.{owner_of}
 use Rattle.commit_laws.specs.Lists.{Apart, In}

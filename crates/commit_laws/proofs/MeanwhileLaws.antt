@@ -2,7 +2,7 @@
 use Rattle.std.proofs.Common.{◌≡◌, ℕ, Bool, true, false, cond, ◌||◌, List, [], ◌∷◌, ◌++◌, None, refl, sym, ap, ◌∙◌, subst, ⊎_elim}
 use Rattle.std.specs.Prelude.{fold, filter}
 use Rattle.std.specs.List.{list_any}
-use Rattle.std.proofs.lemmas.Bool.{both_ways, cases_Bool, or_parts}
+use Rattle.std.proofs.lemmas.Bool.{cases_Bool, or_parts}
 use Rattle.quiesce_core.specs.declared.event.Event.{Event}
 use Rattle.quiesce_core.specs.declared.event.Event.TheVariants.{Begin, Call, Take, Give, End, More, Ask, Hear, Miss, Close, Reopen, Make, Link, Unlink, Remove}
 use Rattle.quiesce_core.specs.Doers.{is_of_change}
@@ -12,27 +12,10 @@ use Rattle.quiesce_core.specs.Runs.{IsRun, state_after}
 use Rattle.quiesce_core.specs.State.{Configuration, State, empty}
 use Rattle.quiescence_laws.specs.Drained.{is_drained}
 use Rattle.quiescence_laws.specs.Events.{reopens}
-use Rattle.quiescence_laws.proofs.DrainingLaws.{drained_stays}
+use Rattle.quiescence_laws.proofs.DrainingLaws.{drained_stays, no_node_reopens}
 use Rattle.commit_laws.specs.Steps.{MayStep, MayStepAll, change_all}
 use Rattle.commit_laws.proofs.AllowedLemmas.{step_allowed}
 use Rattle.quiesce_core.proofs.RunLaws.{change_only, effect_config, runs_grow}
-
-node_opens_none : (p : ℕ) (e : Event) → is_of_change e ≡ false → reopens p e ≡ false
-node_opens_none p (Begin q k v) h = refl
-node_opens_none p (Call q k v) h = refl
-node_opens_none p (Miss q) h = refl
-node_opens_none p (Take q k v) h = refl
-node_opens_none p (Give q k v) h = refl
-node_opens_none p (More q k v) h = refl
-node_opens_none p (Ask q k v) h = refl
-node_opens_none p (Hear q k v) h = refl
-node_opens_none p (End q k v) h = refl
-node_opens_none p (Close q) h = absurd (both_ways true h refl)
-node_opens_none p (Reopen q) h = absurd (both_ways true h refl)
-node_opens_none p (Make n node from) h = absurd (both_ways true h refl)
-node_opens_none p (Link q n x) h = absurd (both_ways true h refl)
-node_opens_none p (Unlink q) h = absurd (both_ways true h refl)
-node_opens_none p (Remove n) h = absurd (both_ways true h refl)
 
 -- the configuration after events is the one that the change's own events make
 pub config_after : (s : State) (es : List Event) → (fold effect s es).config ≡ change_all s.config (filter is_of_change es)
@@ -54,7 +37,7 @@ none_reopened p (e ∷ es) h = ⊎_elim
     ap (λ b. b || list_any (reopens p) es) parts.0 ∙ none_reopened p es parts.1)
     (λ (k : is_of_change e ≡ false).
     let here = sym (ap (λ b. list_any (reopens p) (cond b (e ∷ filter is_of_change es) (filter is_of_change es))) k) ∙ h in
-    ap (λ b. b || list_any (reopens p) es) (node_opens_none p e k) ∙ none_reopened p es here)
+    ap (λ b. b || list_any (reopens p) es) (no_node_reopens p e k) ∙ none_reopened p es here)
     (cases_Bool (is_of_change e))
 
 pub may_at : (noted : ℕ → Bool) (c : Configuration) (done : List Event) (e : Event) (left : List Event) → MayStepAll noted c (done ++ e ∷ left) → MayStep noted (change_all c done) e

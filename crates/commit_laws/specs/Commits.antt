@@ -3,18 +3,19 @@
 use Rattle.std.specs.Prelude.{◌≡◌, ◌⊎◌, ℕ, ◌+◌, ◌<◌, ◌≤◌, Bool, true, List, length, Some, None, Contains}
 use Rattle.config_graph.specs.Cycles.{IsLinked}
 use Rattle.config_graph.specs.Graph.{Graph}
+use Rattle.config_graph.specs.GraphBy.{AreLinkedAt}
 use Rattle.config_graph.specs.Sound.{Sound}
 use Rattle.config_graph.specs.Wiring.{Reach}
 use Rattle.config_graph.specs.declared.TheConstants.{MAX_NODES, MAX_PORTS}
 use Rattle.config_graph.specs.declared.node.Node.{Node}
 use Rattle.config_graph.specs.declared.node.Target.{Target}
 use Rattle.quiesce_core.specs.declared.state.Slot.{Slot}
-use Rattle.quiesce_core.specs.Live.{IsLiveAt}
+use Rattle.quiesce_core.specs.Live.{AreLinked, IsLiveAt}
 use Rattle.quiesce_core.specs.Reach.{wiring_of}
 use Rattle.quiesce_core.specs.Rules.{has_its_argument, is_kind}
 use Rattle.quiesce_core.specs.State.{Configuration, owner, slot, target}
 use Rattle.quiesce_core.specs.WellFormed.{LeadsToProvision}
-use Rattle.commit_laws.specs.Fitting.{Fits, IsLiveLink, KeptLink, Stands}
+use Rattle.commit_laws.specs.Fitting.{Fits, KeptLink, Stands}
 use Rattle.commit_laws.specs.Lists.{Apart, In}
 use Rattle.commit_laws.specs.Steps.{change_all}
 use Rattle.commit_laws.specs.Work.{AreNumbered, NewLink, NewNode, Work, end_of, ports_wanted, work_of}
@@ -22,10 +23,6 @@ use Rattle.commit_laws.specs.Work.{AreNumbered, NewLink, NewNode, Work, end_of, 
 -- a node that is touched, or was made since c
 abbrev pub Changed : Configuration → (ℕ → Type 0) → ℕ → Type 0
 Changed c Touched n = Touched n ⊎ (length c.slots ≤ n)
-
--- how members of a list are apart: not one number, one path, one source, one port
-abbrev pub Differ : ℕ → ℕ → Type 0
-Differ p q = q ≡ p → ⊥
 
 -- a port of a touched node that is linked, and whose link isn't one of the new graph
 pub record IsToUnlink (c : Configuration) (new : Graph) (Touched : ℕ → Type 0) (p : ℕ) : Type 0 where
@@ -40,6 +37,10 @@ pub record IsToRemove (c : Configuration) (new : Graph) (Touched : ℕ → Type 
   pub live : IsLiveAt c n node
   pub touched : Touched n
   pub gone : Contains new.nodes node → ⊥
+
+-- how members of a list are apart: not one number, one path, one source, one port
+abbrev pub Differ : ℕ → ℕ → Type 0
+Differ p q = q ≡ p → ⊥
 
 abbrev pub OtherPath : NewNode → NewNode → Type 0
 OtherPath m k = k.node.path ≡ m.node.path → ⊥
@@ -92,7 +93,7 @@ pub record AreLinks
     (c : Configuration) (new : Graph) (Touched : ℕ → Type 0) (d : Configuration) (links : List NewLink) : Type 0 where
   pub to_link : (l : NewLink) → In links l → IsToLink c new Touched d l
   pub all_links : (i r j x : ℕ) → IsLinked new i r j x
-      → IsLiveLink d new.nodes i r j x ⊎ ((l : NewLink) × In links l × Stands d new l.port (end_of l) i r j x)
+      → AreLinkedAt (AreLinked d) new.nodes i r j x ⊎ ((l : NewLink) × In links l × Stands d new l.port (end_of l) i r j x)
   pub links_apart : Apart OtherPort links
 
 -- the ports that are known to be drained: all those of touched nodes, those that reach one, and those not made yet

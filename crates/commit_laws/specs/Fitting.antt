@@ -1,5 +1,5 @@
 -- How a configuration lies in a graph: which of its links are links of the graph, and when it is a part of it.
-use Rattle.std.specs.Prelude.{◌≡◌, ℕ, List, Some, Contains}
+use Rattle.std.specs.Prelude.{◌≡◌, ℕ, Some, Contains}
 use Rattle.config_graph.specs.Cycles.{IsLinked}
 use Rattle.config_graph.specs.Graph.{Graph}
 use Rattle.config_graph.specs.declared.node.Node.{Node}
@@ -40,12 +40,3 @@ PathsApart d = (n k : ℕ) (a b : Node) → IsLiveAt d n a → IsLiveAt d k b �
 pub record IsPart (d : Configuration) (g : Graph) : Type 0 where
   pub nodes : (n : ℕ) (node : Node) → IsLiveAt d n node → Contains g.nodes node
   pub links : LinksFit d g
-
--- a port is linked: it is requirement r of the live node at place i, and leads to provision x of that at place j
-pub record IsLiveLink (d : Configuration) (nodes : List Node) (i r j x : ℕ) : Type 0 where
-  pub port : ℕ
-  pub to : ℕ
-  pub leads : target d port ≡ Some (record { node = to; provide = x })
-  pub requirement : (gate d port).require ≡ r
-  pub from_there : StandsAt d nodes (owner d port) i
-  pub to_there : StandsAt d nodes to j

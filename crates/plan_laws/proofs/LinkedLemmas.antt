@@ -16,6 +16,7 @@ use Rattle.change_plan.proofs.StepLaws.{kept, linked_touched}
 use Rattle.change_plan.proofs.SelectsLaws.{Selects-has, Selects-only, Selects-part}
 use Rattle.config_graph.specs.Cycles.{IsLinked}
 use Rattle.config_graph.specs.Graph.{Graph, IsLinkWithin, link_at, provides_of, requires_of}
+use Rattle.config_graph.specs.GraphBy.{AreLinkedAt}
 use Rattle.config_graph.specs.Kinds.{row}
 use Rattle.config_graph.specs.declared.node.Link.{Link}
 use Rattle.config_graph.specs.declared.node.Node.{Node}
@@ -24,8 +25,8 @@ use Rattle.config_graph.proofs.IncomingLaws.{link_at-own}
 use Rattle.config_graph.proofs.NumberingLaws.{within_list}
 use Rattle.config_graph.proofs.OrderLaws.{one_link-in_order}
 use Rattle.quiesce_core.specs.declared.state.Slot.{Slot}
-use Rattle.quiesce_core.specs.Live.{IsLiveAt, IsLiveNode, StandsAt}
-use Rattle.commit_laws.specs.Fitting.{Fits, IsLiveLink, KeptLink, Stands}
+use Rattle.quiesce_core.specs.Live.{AreLinked, IsLiveAt, IsLiveNode, StandsAt}
+use Rattle.commit_laws.specs.Fitting.{Fits, KeptLink, Stands}
 use Rattle.quiesce_core.specs.State.{Configuration, gate, owner, slot, target}
 use Rattle.quiesce_core.specs.WellFormed.{LeadsToProvision}
 use Rattle.base.proofs.ContainsLaws.{Contains-at}
@@ -37,6 +38,7 @@ use Rattle.commit_laws.specs.Lists.{In}
 use Rattle.commit_laws.specs.Work.{NewLink, NewNode, end_of}
 use Rattle.commit_laws.proofs.AcyclicLaws.{one_place}
 use Rattle.quiesce_core.proofs.ConfigurationLaws.{linked_made}
+use Rattle.quiesce_core.proofs.LiveLinkLaws.{IsLiveLink, linked_at}
 use Rattle.commit_laws.proofs.MakingLaws.{Making}
 use Rattle.plan_laws.proofs.PlannedLemmas.{PortOf, kept_if, link_if, linked_if, old_link, port_of_link}
 use Rattle.commit_laws.proofs.MemberLaws.{map_apart, map_in, mapped}
@@ -234,12 +236,12 @@ module _ (old new : Graph) (plan : Plan) (c : Configuration) (ready : IsReady ol
       the_new_link : ℕ → Link → ℕ → NewLink
       the_new_link p k n = record { port = p; node = n; provide = k.provide }
 
-  all_links : (i r j x : ℕ) → IsLinked new i r j x → IsLiveLink d new.nodes i r j x ⊎ ((l : NewLink) × In (new_links new plan d) l × Stands d new l.port (end_of l) i r j x)
+  all_links : (i r j x : ℕ) → IsLinked new i r j x → AreLinkedAt (AreLinked d) new.nodes i r j x ⊎ ((l : NewLink) × In (new_links new plan d) l × Stands d new l.port (end_of l) i r j x)
   all_links i r j x e =
       let w = link_if new i r j x e in
       let k = w.link in
       ⊎_elim
-      (λ (stays : IsKeptLink new old k). inl (kept_link k w.there stays i r j x w.from w.require w.to w.provide))
+      (λ (stays : IsKeptLink new old k). inl ((linked_at d new.nodes i r j x).0 (kept_link k w.there stays i r j x w.from w.require w.to w.provide)))
       (λ (lost : ¬ IsKeptLink new old k).
       let listed = Selects-has (λ m. ¬ IsKeptLink new old m) new.links plan.link ready.steps.link k w.there lost in
       let found = new_link_found k listed in

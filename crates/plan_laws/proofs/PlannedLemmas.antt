@@ -28,10 +28,10 @@ use Rattle.config_graph.proofs.NumberingLaws.{within_list}
 use Rattle.config_graph.proofs.OrderLaws.{one_link-in_order}
 use Rattle.quiesce_core.specs.declared.state.Slot.{Slot}
 use Rattle.quiesce_core.specs.Live.{IsLiveAt, StandsAt}
-use Rattle.commit_laws.proofs.FittingLaws.{linked_at}
 use Rattle.quiesce_core.specs.Rules.{is_kind}
 use Rattle.quiesce_core.specs.State.{Configuration, gate, is_live, owner, slot, target}
 use Rattle.quiesce_core.proofs.CycleLaws.{made_below}
+use Rattle.quiesce_core.proofs.LiveLinkLaws.{linked_at}
 use Rattle.base.proofs.OptionLaws.{map_or_true}
 use Rattle.base.proofs.ContainsLaws.{Contains-from_map, Contains-at, at_some_place}
 use Rattle.plan_laws.specs.Commit.{is_at, is_one_of, is_unlinked_by, makes_from, node_at, node_path, slot_at, source_of, work}
