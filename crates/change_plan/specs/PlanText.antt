@@ -39,4 +39,8 @@ link_line new l =
 
 abbrev pub plan_text : Graph → Graph → Plan → List ℕ
 plan_text old new p =
-    flat_map (step_line (codes "freeze ") old) p.freeze ++ flat_map (unlink_line old) p.unlink ++ flat_map (step_line (codes "remove ") old) p.remove ++ flat_map (create_line new) p.create ++ flat_map (link_line new) p.link
+    flat_map (step_line (codes "freeze ") old) p.freeze
+    ++ flat_map (unlink_line old) p.unlink
+    ++ flat_map (step_line (codes "remove ") old) p.remove
+    ++ flat_map (create_line new) p.create
+    ++ flat_map (link_line new) p.link

@@ -1,6 +1,6 @@
 //! Which nodes of the old graph a change touches.
 
-ghost use Rattle.std.specs.Prelude.{◌≡◌, ◌<◌, ◌↔◌, IfOk, IsTrue, Some, length, slice_get};
+ghost use Rattle.std.specs.Prelude.{◌<◌, ◌↔◌, IfOk, IsTrue, Some, length};
 ghost use Rattle.std.specs.List.{range_with_len};
 ghost use Rattle.config_graph.specs.Graph.{IsGraph, requires_at, target_of};
 ghost use Rattle.change_plan.specs.Differences.{IsTwin};

@@ -1,6 +1,6 @@
 //! The text of a plan.
 
-ghost use Rattle.std.specs.Prelude.{◌≡◌, ◌<◌, ◌++◌, All, IfOk, OnOk, length, slice_get, Some, flat_map};
+ghost use Rattle.std.specs.Prelude.{◌≡◌, ◌<◌, ◌++◌, All, IfOk, OnOk, length, flat_map};
 ghost use Rattle.config_graph.specs.Graph.{IsLinkWithin, provides_at, requires_at};
 ghost use Rattle.change_plan.specs.PlanWithin.{IsPlanWithin};
 ghost use Rattle.change_plan.specs.PlanText.{create_line, link_line, step_line, plan_text, port_text, provision_text, unlink_line};
