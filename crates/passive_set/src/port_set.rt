@@ -1,6 +1,6 @@
 //! Sets of ports, by number, that keep the order in which the ports were added.
 
-ghost use Rattle.std.specs.Prelude.{◌≡◌, ◌<◌, ◌≤◌, ◌^◌, [], length, slice_get, IfOk, IfSome, OnOk, All};
+ghost use Rattle.std.specs.Prelude.{◌≡◌, ◌<◌, ◌^◌, [], slice_get, IfOk, IfSome, OnOk, All};
 ghost use Rattle.passive_set.specs.Ports.{Adds};
 
 use config_graph::NoMemory;
