@@ -1,5 +1,5 @@
 -- A commit as it is carried out: each event may happen in its order, and what holds at each place.
-use Rattle.std.proofs.Common.{◌≡◌, ℕ, ◌<◌, ◌≤◌, Bool, true, false, List, [], ◌∷◌, ◌++◌, map, length, Option, Some, None, refl, sym, ap, ◌∙◌, subst, inl, inr, ⊎_elim, arith}
+use Rattle.std.proofs.Common.{◌≡◌, ℕ, ◌<◌, ◌≤◌, Bool, true, false, List, [], ◌∷◌, ◌++◌, map, length, Option, Some, None, refl, sym, ap, ◌∙◌, subst, inl, inr, ⊎_elim, arith, Contains}
 use Rattle.std.specs.Prelude.{◌⊎◌, ◌||◌, filter}
 use Rattle.std.specs.List.{list_any}
 use Rattle.std.proofs.lemmas.Bool.{both_ways, or_parts}
@@ -124,7 +124,7 @@ module _ (c : Configuration) (new : Graph) (Touched : ℕ → Type 0) (noted : �
   module _ (p : ℕ) (low : p < length c.gates) (untouched : Touched (owner c p) → ⊥) where
     target_kept : (d : Configuration) → Between c Touched d → ((p : ℕ) (t : Target) → KeptLink c new p t → target d p ≡ Some t) → (o : Option Target) → target c p ≡ o → (u : Option Target) → target d p ≡ u → u ≡ o
     target_kept d b kept (Some t) e u f = ⊎_elim
-        (λ (i : In w.unlinks p). absurd (untouched (k.is_work.unlinks p i).touched))
+        (λ (i : Contains w.unlinks p). absurd (untouched (k.is_work.unlinks p i).touched))
         (λ (l : KeptLink c new p t). sym f ∙ kept p t l)
         (k.is_work.all_unlinks p t e)
     target_kept d b kept None e None f = refl

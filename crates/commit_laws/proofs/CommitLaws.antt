@@ -14,7 +14,7 @@ use Rattle.quiesce_core.specs.declared.event.Event.TheVariants as event
 use Rattle.quiesce_core.specs.declared.state.Slot.{Slot}
 use Rattle.quiesce_core.specs.Live.{AreLinked, IsGraphOf, IsLiveAt, StandsAt}
 use Rattle.base.proofs.PlaceLaws.{slice_get-there}
-use Rattle.commit_laws.specs.Fitting.{Fits, KeptLink, PathsApart}
+use Rattle.commit_laws.specs.Fitting.{Fits, KeptLink, PathsApart, Stands}
 use Rattle.quiesce_core.specs.Rules.{can_move, is_kind, was_moved}
 use Rattle.quiesce_core.specs.State.{Configuration, gate, is_live, owner, slot, target}
 use Rattle.base.proofs.OptionLaws.{map_or_at, map_or_true}
@@ -22,17 +22,17 @@ use Rattle.base.proofs.ContainsLaws.{Contains-at}
 use Rattle.commit_laws.specs.Lists.{In}
 use Rattle.commit_laws.specs.Steps.{MayStepAll, change_all}
 use Rattle.quiesce_core.specs.Effect.{change_next}
-use Rattle.commit_laws.specs.Work.{AreNumbered, NewLink, NewNode, Work, link_new, make_new, work_of}
+use Rattle.commit_laws.specs.Work.{AreNumbered, NewLink, NewNode, Work, end_of, link_new, make_new, work_of}
 use Rattle.commit_laws.proofs.BetweenLaws.{Ground, between_start}
 use Rattle.quiesce_core.proofs.ConfigurationLaws.{linked_made}
 use Rattle.quiesce_core.proofs.LiveLinkLaws.{linked_at}
 use Rattle.commit_laws.proofs.LinkingLemmas.{Linking, graph_is, link_may, link_next}
 use Rattle.commit_laws.proofs.MakingLaws.{Making, make_may, make_next}
-use Rattle.commit_laws.proofs.MemberLaws.{any_there}
+use Rattle.commit_laws.proofs.MemberLaws.{any_there, contains_in, in_contains, pairs_apart}
 use Rattle.commit_laws.proofs.PhaseLemmas.{EachConfig, each_then, may_then, phase_each, phase_ends, phase_may}
 use Rattle.commit_laws.proofs.RemovingLemmas.{Removing, live_is, remove_may, remove_next}
 use Rattle.commit_laws.proofs.UnlinkingLemmas.{Unlinking, unlink_may, unlink_next}
-use Rattle.commit_laws.specs.Commits.{AreLinks, IsSource, IsWork}
+use Rattle.commit_laws.specs.Commits.{AreLinks, Differ, IsSource, IsWork, OtherPath, OtherPort, OtherSource}
 
 -- only what was removed has gone over to another node
 abbrev pub SourcesAreGone : Configuration → Type 0
@@ -48,10 +48,10 @@ module _ (c : Configuration) (new : Graph) (sound : Sound new) (Touched : ℕ �
   unlinking = record {
     between = between_start c Touched noted ground;
     slots_stay = refl;
-    unlinks = λ p i. (is.unlinks p i, refl);
-    apart = is.unlinks_apart;
+    unlinks = λ p i. (is.unlinks p (in_contains w.unlinks p i), refl);
+    apart = pairs_apart Differ w.unlinks is.unlinks_apart;
     kept = λ p t k. k.leads;
-    rest = is.all_unlinks;
+    rest = λ p t e. ⊎_elim (λ (i : Contains w.unlinks p). inl (contains_in w.unlinks p i)) inr (is.all_unlinks p t e);
   }
 
   same_live : (d : Configuration) → d.slots ≡ c.slots → (n : ℕ) (node : Node) → IsLiveAt d n node → IsLiveAt c n node
@@ -65,11 +65,12 @@ module _ (c : Configuration) (new : Graph) (sound : Sound new) (Touched : ℕ �
     between = h.between;
     links = λ p t e. ⊎_elim (λ (i : In [] p). absurd i) (λ (k : KeptLink c new p t). k) (h.rest p t e);
     kept = h.kept;
-    nodes = λ n node l. let l' = same_live d h.slots_stay n node l in (l', is.all_removes n node l');
+    nodes = λ n node l. let l' = same_live d h.slots_stay n node l in
+        (l', ⊎_elim (λ (i : Contains w.removes n). inl (contains_in w.removes n i)) inr (is.all_removes n node l'));
     stays = λ n node l i. live_same d h.slots_stay n node l;
-    to_remove = λ n i. (is.removes n i, λ node l. live_same d h.slots_stay n node l);
+    to_remove = λ n i. (is.removes n (in_contains w.removes n i), λ node l. live_same d h.slots_stay n node l);
     dead = λ n i. inl i;
-    apart = is.removes_apart;
+    apart = pairs_apart Differ w.removes is.removes_apart;
   }
 
   -- sources can be moved once they are removed
@@ -77,7 +78,7 @@ module _ (c : Configuration) (new : Graph) (sound : Sound new) (Touched : ℕ �
       → (m : NewNode) (k : ℕ) → IsSource c w.removes m k → can_move d k m.node.kind ≡ true
   movable d h slots_are m k s =
       let kept = h.between.slots k s.made s.there in
-      let dead : is_live d k ≡ false = ⊎_elim (λ (i : In [] k). absurd i) (λ (f : is_live d k ≡ false). f) (h.dead k s.removed) in
+      let dead : is_live d k ≡ false = ⊎_elim (λ (i : In [] k). absurd i) (λ (f : is_live d k ≡ false). f) (h.dead k (contains_in w.removes k s.removed)) in
       let not_live : kept.now.live ≡ false = sym (map_or_at (λ (x : Slot). x.live) (slot d k) false kept.now kept.found) ∙ dead in
       and_from (option_map_or (λ (x : Slot). not x.live && is_kind x.node.kind m.node.kind) (slot d k) false) (not (was_moved d k))
       (map_or_at (λ (x : Slot). not x.live && is_kind x.node.kind m.node.kind) (slot d k) false kept.now kept.found
@@ -97,17 +98,17 @@ module _ (c : Configuration) (new : Graph) (sound : Sound new) (Touched : ℕ �
     nodes = λ n node l.
         let old = h.nodes n node l in
         let there = ⊎_elim (λ (i : In [] n). absurd i) (λ (s : Contains new.nodes node). s) old.1 in
-        (there, λ m i same. (is.makes m i).1 n node old.0 there same);
+        (there, λ m i same. (is.makes m (in_contains w.makes m i)).1 n node old.0 there same);
     stays = h.stays;
     all = λ node i. ⊎_elim
         (λ (l : (n : ℕ) × IsLiveAt c n node). inl (l.0, h.stays l.0 node l.1 i))
-        (λ (m : (m : NewNode) × In w.makes m × (m.node ≡ node)). inr m)
+        (λ (m : (m : NewNode) × Contains w.makes m × (m.node ≡ node)). inr (m.0, contains_in w.makes m.0 m.1, m.2))
         (is.all_makes node i);
-    to_make = λ m i. ((is.makes m i).0, is.arguments m i);
+    to_make = λ m i. let there = in_contains w.makes m i in ((is.makes m there).0, is.arguments m there);
     numbered = subst (λ k. AreNumbered k w.makes) (sym slots_long) is.numbered;
-    apart = is.makes_apart;
-    sources = λ m i k e. movable d h slots_are m k (is.sources m i k e);
-    other_sources = is.other_sources;
+    apart = pairs_apart OtherPath w.makes is.makes_apart;
+    sources = λ m i k e. movable d h slots_are m k (is.sources m (in_contains w.makes m i) k e);
+    other_sources = pairs_apart OtherSource w.makes is.other_sources;
     room_nodes = omega (arith, slots_long, is.room_nodes);
     room_ports = omega (arith, gates_long, is.room_ports);
     more_slots = omega (arith, slots_long);
@@ -130,9 +131,10 @@ module _ (c : Configuration) (new : Graph) (sound : Sound new) (Touched : ℕ �
       λ l. (h.nodes l.0 node l.1).0,
     );
     part = λ p t e. fits_now p t (h.links p t e);
-    whole = λ i r j x e. ⊎_elim (λ (w : AreLinkedAt (AreLinked d) new.nodes i r j x). inl ((linked_at d new.nodes i r j x).1 w)) inr (are.all_links i r j x e);
-    to_link = are.to_link;
-    apart = are.links_apart;
+    whole = λ i r j x e. ⊎_elim (λ (w : AreLinkedAt (AreLinked d) new.nodes i r j x). inl ((linked_at d new.nodes i r j x).1 w))
+        (λ (l : (l : NewLink) × Contains links l × Stands d new l.port (end_of l) i r j x). inr (l.0, contains_in links l.0 l.1, l.2)) (are.all_links i r j x e);
+    to_link = λ l i. are.to_link l (in_contains links l i);
+    apart = pairs_apart OtherPort links are.links_apart;
     kept = h.kept;
   }
     where

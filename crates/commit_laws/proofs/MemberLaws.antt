@@ -1,10 +1,10 @@
 -- Members of lists, and of lists that are selected from a range of numbers.
-use Rattle.std.proofs.Common.{◌≡◌, ℕ, zero, suc, ◌+◌, ◌<◌, ◌≤◌, Bool, true, false, cond, List, [], ◌∷◌, Option, Some, None, refl, sym, ap, ◌∙◌, subst, inl, inr, ⊎_elim, arith, Contains}
+use Rattle.std.proofs.Common.{◌≡◌, ℕ, zero, suc, ◌+◌, ◌<◌, ◌≤◌, Bool, true, false, cond, List, [], ◌∷◌, get_or, Option, Some, None, refl, sym, ap, ◌∙◌, subst, inl, inr, ⊎_elim, arith, Contains}
 use Rattle.std.specs.Prelude.{filter, filter_map, slice_get}
-use Rattle.std.specs.List.{list_any, range_with_len}
-use Rattle.std.proofs.lemmas.List.Elements.{Contains-append_right, Contains-get_or}
+use Rattle.std.specs.List.{AllPairs, list_any, range_with_len}
+use Rattle.std.proofs.lemmas.List.Elements.{Contains-get_or}
 use Rattle.std.proofs.lemmas.Bool.{both_ways, cases_Bool, cases_eq, or_cases, or_left, or_right}
-use Rattle.base.proofs.ContainsLaws.{Contains-at, at_some_place}
+use Rattle.base.proofs.ContainsLaws.{Contains-at, Contains-here, Contains-there, at_some_place}
 use Rattle.commit_laws.specs.Lists.{Apart, In}
 use Rattle.commit_laws.specs.Commits.{Differ}
 
@@ -102,15 +102,30 @@ any_if f xs x there h = let w = at_some_place xs x there in at f xs w.0 x w.1 h
 pub any_of : {A : Type 0} (f : A → Bool) (xs : List A) → list_any f xs ≡ true → (x : A) × Contains xs x × (f x ≡ true)
 any_of f xs h = let w = any_there f xs h in (w.1, Contains-at xs w.0 w.1 w.2, w.3)
 
--- members, told twice
+-- members, and how they are apart, told twice
 
-pub in_contains : (js : List ℕ) (j : ℕ) → In js j → Contains js j
-in_contains [] j h = absurd h
-in_contains (i ∷ js) j h = ⊎_elim
-    (λ (here : i ≡ j). subst (Contains (i ∷ js)) here (Contains-get_or (i ∷ js) 0 i (omega arith)))
-    (λ (later : In js j). Contains-append_right (i ∷ []) js j (in_contains js j later)) h
+pub in_contains : {A : Type 0} (xs : List A) (x : A) → In xs x → Contains xs x
+in_contains [] x h = absurd h
+in_contains (y ∷ xs) x h = ⊎_elim
+    (λ (here : y ≡ x). subst (Contains (y ∷ xs)) here (Contains-here y xs))
+    (λ (later : In xs x). Contains-there y x xs (in_contains xs x later)) h
 
 pub contains_in : {A : Type 0} (xs : List A) (x : A) → Contains xs x → In xs x
 contains_in [] x h = absurd (omega (arith, h.1))
 contains_in (y ∷ xs) x (zero, low, same) = inl same
 contains_in (y ∷ xs) x (suc k, low, same) = inr (contains_in xs x (k, omega arith, same))
+
+pub pairs_apart : {A : Type 0} (R : A → A → Type 0) (xs : List A) → AllPairs R xs → Apart R xs
+pairs_apart R [] h = tt
+pairs_apart R (x ∷ xs) h = (
+  λ y there. let (k, low, same) = in_contains xs y there in subst (R x) same (h 0 (suc k) y (omega arith) (omega (arith, low))),
+  pairs_apart R xs (λ i j d below low. h (suc i) (suc j) d (omega (arith, below)) (omega (arith, low))),
+)
+
+pub apart_pairs : {A : Type 0} (R : A → A → Type 0) (xs : List A) → Apart R xs → AllPairs R xs
+apart_pairs R [] h i j d below low = absurd (omega (arith, low))
+apart_pairs R (x ∷ xs) h zero zero d below low = absurd (omega (arith, below))
+apart_pairs R (x ∷ xs) h zero (suc j) d below low =
+    h.0 (get_or xs j d) (contains_in xs (get_or xs j d) (Contains-get_or xs j d (omega (arith, low))))
+apart_pairs R (x ∷ xs) h (suc i) zero d below low = absurd (omega (arith, below))
+apart_pairs R (x ∷ xs) h (suc i) (suc j) d below low = apart_pairs R xs h.1 i j d (omega (arith, below)) (omega (arith, low))

@@ -1,6 +1,7 @@
 -- What a commit needs: lists of what it unlinks, removes, makes and links lead from a configuration to a graph, and
 -- the ports of the nodes that it touches, and those that reach them, are known to be drained (Kramer and Magee 1990).
 use Rattle.std.specs.Prelude.{◌≡◌, ◌⊎◌, ℕ, ◌+◌, ◌<◌, ◌≤◌, Bool, true, List, length, Some, None, Contains}
+use Rattle.std.specs.List.{AllPairs}
 use Rattle.config_graph.specs.Cycles.{IsLinked}
 use Rattle.config_graph.specs.Graph.{Graph}
 use Rattle.config_graph.specs.GraphBy.{AreLinkedAt}
@@ -16,7 +17,6 @@ use Rattle.quiesce_core.specs.Rules.{has_its_argument, is_kind}
 use Rattle.quiesce_core.specs.State.{Configuration, owner, slot, target}
 use Rattle.quiesce_core.specs.WellFormed.{LeadsToProvision}
 use Rattle.commit_laws.specs.Fitting.{Fits, KeptLink, Stands}
-use Rattle.commit_laws.specs.Lists.{Apart, In}
 use Rattle.commit_laws.specs.Steps.{change_all}
 use Rattle.commit_laws.specs.Work.{AreNumbered, NewLink, NewNode, Work, end_of, ports_wanted, work_of}
 
@@ -62,7 +62,7 @@ pub record IsToLink
 
 -- the state in slot k goes over to a node to be made: k has a node of its kind, which is removed
 pub record IsSource (c : Configuration) (removes : List ℕ) (m : NewNode) (k : ℕ) : Type 0 where
-  pub removed : In removes k
+  pub removed : Contains removes k
   pub made : Slot
   pub there : slot c k ≡ Some made
   pub kind : is_kind made.node.kind m.node.kind ≡ true
@@ -70,31 +70,32 @@ pub record IsSource (c : Configuration) (removes : List ℕ) (m : NewNode) (k : 
 -- this work leads from c to the nodes of the new graph and to no link that it hasn't: it unlinks and removes exactly
 -- what the graph hasn't, and makes exactly the nodes that c hasn't, in the slots that come next, where there is room
 pub record IsWork (c : Configuration) (new : Graph) (Touched : ℕ → Type 0) (w : Work) : Type 0 where
-  pub unlinks : (p : ℕ) → In w.unlinks p → IsToUnlink c new Touched p
-  pub all_unlinks : (p : ℕ) (t : Target) → target c p ≡ Some t → In w.unlinks p ⊎ KeptLink c new p t
-  pub unlinks_apart : Apart Differ w.unlinks
-  pub removes : (n : ℕ) → In w.removes n → IsToRemove c new Touched n
-  pub all_removes : (n : ℕ) (node : Node) → IsLiveAt c n node → In w.removes n ⊎ Contains new.nodes node
-  pub removes_apart : Apart Differ w.removes
-  pub makes : (m : NewNode) → In w.makes m → Contains new.nodes m.node
+  pub unlinks : (p : ℕ) → Contains w.unlinks p → IsToUnlink c new Touched p
+  pub all_unlinks : (p : ℕ) (t : Target) → target c p ≡ Some t → Contains w.unlinks p ⊎ KeptLink c new p t
+  pub unlinks_apart : AllPairs Differ w.unlinks
+  pub removes : (n : ℕ) → Contains w.removes n → IsToRemove c new Touched n
+  pub all_removes : (n : ℕ) (node : Node) → IsLiveAt c n node → Contains w.removes n ⊎ Contains new.nodes node
+  pub removes_apart : AllPairs Differ w.removes
+  pub makes : (m : NewNode) → Contains w.makes m → Contains new.nodes m.node
       × ((n : ℕ) (node : Node) → IsLiveAt c n node → Contains new.nodes node → m.node.path ≡ node.path → ⊥)
   pub all_makes : (node : Node) → Contains new.nodes node
-      → ((n : ℕ) × IsLiveAt c n node) ⊎ ((m : NewNode) × In w.makes m × (m.node ≡ node))
-  pub makes_apart : Apart OtherPath w.makes
-  pub arguments : (m : NewNode) → In w.makes m → has_its_argument m.node ≡ true
+      → ((n : ℕ) × IsLiveAt c n node) ⊎ ((m : NewNode) × Contains w.makes m × (m.node ≡ node))
+  pub makes_apart : AllPairs OtherPath w.makes
+  pub arguments : (m : NewNode) → Contains w.makes m → has_its_argument m.node ≡ true
   pub numbered : AreNumbered (length c.slots) w.makes
-  pub sources : (m : NewNode) → In w.makes m → (k : ℕ) → m.from ≡ Some k → IsSource c w.removes m k
-  pub other_sources : Apart OtherSource w.makes
+  pub sources : (m : NewNode) → Contains w.makes m → (k : ℕ) → m.from ≡ Some k → IsSource c w.removes m k
+  pub other_sources : AllPairs OtherSource w.makes
   pub room_nodes : length c.slots + length w.makes ≤ MAX_NODES
   pub room_ports : length c.gates + ports_wanted w.makes ≤ MAX_PORTS
 
 -- these links lead from d to the new graph: they are exactly those that d hasn't
 pub record AreLinks
     (c : Configuration) (new : Graph) (Touched : ℕ → Type 0) (d : Configuration) (links : List NewLink) : Type 0 where
-  pub to_link : (l : NewLink) → In links l → IsToLink c new Touched d l
+  pub to_link : (l : NewLink) → Contains links l → IsToLink c new Touched d l
   pub all_links : (i r j x : ℕ) → IsLinked new i r j x
-      → AreLinkedAt (AreLinked d) new.nodes i r j x ⊎ ((l : NewLink) × In links l × Stands d new l.port (end_of l) i r j x)
-  pub links_apart : Apart OtherPort links
+      → AreLinkedAt (AreLinked d) new.nodes i r j x
+      ⊎ ((l : NewLink) × Contains links l × Stands d new l.port (end_of l) i r j x)
+  pub links_apart : AllPairs OtherPort links
 
 -- the ports that are known to be drained: all those of touched nodes, those that reach one, and those not made yet
 pub record AreNoted (c : Configuration) (Touched : ℕ → Type 0) (noted : ℕ → Bool) : Type 0 where

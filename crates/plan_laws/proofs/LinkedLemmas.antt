@@ -41,7 +41,7 @@ use Rattle.quiesce_core.proofs.ConfigurationLaws.{linked_made}
 use Rattle.quiesce_core.proofs.LiveLinkLaws.{IsLiveLink, linked_at}
 use Rattle.commit_laws.proofs.MakingLaws.{Making}
 use Rattle.plan_laws.proofs.PlannedLemmas.{PortOf, kept_if, link_if, linked_if, old_link, port_of_link}
-use Rattle.commit_laws.proofs.MemberLaws.{map_apart, map_in, mapped}
+use Rattle.commit_laws.proofs.MemberLaws.{apart_pairs, contains_in, in_contains, map_apart, map_in, mapped}
 use Rattle.plan_laws.proofs.StandingLemmas.{in_if_stands, one_slot, stands_if_in, stands_if_slot}
 use Rattle.commit_laws.specs.Commits.{AreLinks, Changed, IsToLink, OtherPort}
 
@@ -236,7 +236,7 @@ module _ (old new : Graph) (plan : Plan) (c : Configuration) (ready : IsReady ol
       the_new_link : ℕ → Link → ℕ → NewLink
       the_new_link p k n = record { port = p; node = n; provide = k.provide }
 
-  all_links : (i r j x : ℕ) → IsLinked new i r j x → AreLinkedAt (AreLinked d) new.nodes i r j x ⊎ ((l : NewLink) × In (new_links new plan d) l × Stands d new l.port (end_of l) i r j x)
+  all_links : (i r j x : ℕ) → IsLinked new i r j x → AreLinkedAt (AreLinked d) new.nodes i r j x ⊎ ((l : NewLink) × Contains (new_links new plan d) l × Stands d new l.port (end_of l) i r j x)
   all_links i r j x e =
       let w = link_if new i r j x e in
       let k = w.link in
@@ -247,7 +247,7 @@ module _ (old new : Graph) (plan : Plan) (c : Configuration) (ready : IsReady ol
       let found = new_link_found k listed in
       inr (
         found.0,
-        found.1,
+        in_contains (new_links new plan d) found.0 found.1,
         record {
           from_there = subst (StandsAt d new.nodes (owner d found.0.port)) w.from found.2.from_there;
           requirement = found.2.requirement ∙ w.require;
@@ -291,7 +291,7 @@ module _ (old new : Graph) (plan : Plan) (c : Configuration) (ready : IsReady ol
   pub are_links : AreLinks c new (IsTouchedSlot old new c) d (new_links new plan d)
   are_links = record {
     to_link = λ l i.
-        let m = mapped (new_link_of new plan d) 0 (length d.gates) l i in
+        let m = mapped (new_link_of new plan d) 0 (length d.gates) l (contains_in (new_links new plan d) l i) in
         let j = is_new_link m.at l m.is in
         to_link_of l m.at j.port_is (record {
           made = let low = m.below in omega arith;
@@ -301,6 +301,6 @@ module _ (old new : Graph) (plan : Plan) (c : Configuration) (ready : IsReady ol
           leads = provided m.at l j;
         });
     all_links = all_links;
-    links_apart = map_apart (new_link_of new plan d) OtherPort
-        (λ p q x y below is_x is_y same. let a = (is_new_link p x is_x).port_is in let b = (is_new_link q y is_y).port_is in absurd (omega (arith, below, a, b, same))) 0 (length d.gates);
+    links_apart = apart_pairs OtherPort (new_links new plan d) (map_apart (new_link_of new plan d) OtherPort
+        (λ p q x y below is_x is_y same. let a = (is_new_link p x is_x).port_is in let b = (is_new_link q y is_y).port_is in absurd (omega (arith, below, a, b, same))) 0 (length d.gates));
   }

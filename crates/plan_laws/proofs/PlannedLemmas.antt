@@ -43,7 +43,7 @@ use Rattle.commit_laws.specs.Lists.{Apart, In}
 use Rattle.commit_laws.specs.Work.{AreNumbered, NewNode}
 use Rattle.quiesce_core.proofs.ConfigurationLaws.{linked_made}
 use Rattle.commit_laws.proofs.MakingLaws.{argument_test}
-use Rattle.commit_laws.proofs.MemberLaws.{contains_in, in_contains, any_if, any_of, select, select_apart, selected}
+use Rattle.commit_laws.proofs.MemberLaws.{apart_pairs, contains_in, in_contains, any_if, any_of, select, select_apart, selected}
 use Rattle.plan_laws.proofs.RisingLemmas.{selects_apart}
 use Rattle.plan_laws.proofs.StandingLemmas.{in_if_stands, one_port, one_slot, stands_if_in, stands_if_live, stands_if_slot, stands_live_at}
 use Rattle.commit_laws.specs.Commits.{Differ, IsToRemove, IsToUnlink, IsWork, OtherPath, OtherSource}
@@ -290,14 +290,14 @@ module _ (old new : Graph) (plan : Plan) (c : Configuration) (ready : IsReady ol
 
   pub is_work : IsWork c new (IsTouchedSlot old new c) (work old new plan c)
   is_work = record {
-    unlinks = unlink_is;
-    all_unlinks = all_unlinks;
-    unlinks_apart = select_apart (is_unlinked_by old plan c) 0 (length c.gates);
-    removes = remove_is;
-    all_removes = all_removes;
-    removes_apart = select_apart (is_one_of old plan.remove c) 0 (length c.slots);
+    unlinks = λ p there. unlink_is p (contains_in (work old new plan c).unlinks p there);
+    all_unlinks = λ p t e. ⊎_elim (λ (i : In (work old new plan c).unlinks p). inl (in_contains (work old new plan c).unlinks p i)) inr (all_unlinks p t e);
+    unlinks_apart = apart_pairs Differ (work old new plan c).unlinks (select_apart (is_unlinked_by old plan c) 0 (length c.gates));
+    removes = λ n there. remove_is n (contains_in (work old new plan c).removes n there);
+    all_removes = λ n node l. ⊎_elim (λ (i : In (work old new plan c).removes n). inl (in_contains (work old new plan c).removes n i)) inr (all_removes n node l);
+    removes_apart = apart_pairs Differ (work old new plan c).removes (select_apart (is_one_of old plan.remove c) 0 (length c.slots));
     makes = λ m h.
-        let w = makes_are m h in (
+        let w = makes_listed m h in (
           subst (Contains new.nodes) (sym w.4) (Contains-at new.nodes w.0 w.1 w.3),
           λ n node l there same.
               let at = at_some_place new.nodes node there in
@@ -311,33 +311,36 @@ module _ (old new : Graph) (plan : Plan) (c : Configuration) (ready : IsReady ol
         let at = at_some_place new.nodes node there in
         let listed = Selects-has (IsGone new old) (range_with_len 0 (length new.nodes)) plan.create ready.steps.create at.0 (Contains-places (length new.nodes) at.0 (slice_get_within new.nodes at.0 node at.1)) (record { node = node; here = at.1; gone = missing }) in
         let w = makes_have (length c.slots) plan.create at.0 (contains_in plan.create at.0 listed) in
-        inr (w.0, w.1, w.2 ∙ node_is new at.0 node at.1))
+        inr (w.0, in_contains (work old new plan c).makes w.0 w.1, w.2 ∙ node_is new at.0 node at.1))
         (has_node old.nodes node);
-    makes_apart = apart_paths (length c.slots) plan.create (λ j h. in_contains plan.create j h) create_apart;
-    arguments = λ m h. let w = makes_are m h in argument_test m.node (subst HasItsArgument (sym w.4) (All-contains HasItsArgument new.nodes w.1 ready.new_sound.arguments (Contains-at new.nodes w.0 w.1 w.3)));
+    makes_apart = apart_pairs OtherPath (work old new plan c).makes (apart_paths (length c.slots) plan.create (λ j h. in_contains plan.create j h) create_apart);
+    arguments = λ m h. let w = makes_listed m h in argument_test m.node (subst HasItsArgument (sym w.4) (All-contains HasItsArgument new.nodes w.1 ready.new_sound.arguments (Contains-at new.nodes w.0 w.1 w.3)));
     numbered = numbered (length c.slots) plan.create;
     sources = λ m h k e.
-        let w = makes_are m h in
+        let w = makes_listed m h in
         let s = source_is m w.0 k w.6 e in
         let kinds = ready.moves.one_kind s.0 s.1 in
         let gone = ready.moves.removed s.0 s.1 in
         let source : kinds.source ≡ s.3.made.node = same_Some kinds.source s.3.made.node (sym kinds.there ∙ s.3.stands) in
         let goal_ : kinds.target ≡ w.1 = same_Some kinds.target w.1 (sym kinds.here ∙ ap (slice_get new.nodes) s.2 ∙ w.3) in
         record {
-          removed = removes_gone k s.0.old s.3 gone;
+          removed = in_contains (work old new plan c).removes k (removes_gone k s.0.old s.3 gone);
           made = s.3.made;
           there = s.3.there;
           kind = same_kind s.3.made.node m.node (sym (ap (λ (x : Node). x.kind) source) ∙ kinds.same_kind ∙ ap (λ (x : Node). x.kind) goal_ ∙ sym (ap (λ (x : Node). x.kind) w.4));
         };
-    other_sources = makes_apart OtherSource Differ (λ i j m n other m_is n_is m_from n_from k em en.
+    other_sources = apart_pairs OtherSource (work old new plan c).makes (makes_apart OtherSource Differ (λ i j m n other m_is n_is m_from n_from k em en.
         let s = source_is m i k m_from em in
         let t = source_is n j k n_from en in
         let same = one_path old.nodes ready.old_graph.paths_rise s.0.old t.0.old s.3.made.node t.3.made.node s.3.stands t.3.stands (ap (λ (x : Slot). x.node.path) (same_Some s.3.made t.3.made (sym s.3.there ∙ t.3.there))) in
-        other (sym t.2 ∙ sym (ready.moves.one_source s.0 t.0 s.1 t.1 same) ∙ s.2)) (length c.slots) plan.create create_apart;
+        other (sym t.2 ∙ sym (ready.moves.one_source s.0 t.0 s.1 t.1 same) ∙ s.2)) (length c.slots) plan.create create_apart);
     room_nodes = omega (arith, ready.room_nodes, makes_long (length c.slots) plan.create);
     room_ports = ready.room_ports;
   }
     where
+      makes_listed : (m : NewNode) → Contains (work old new plan c).makes m → (j : ℕ) × (node : Node) × In plan.create j × (slice_get new.nodes j ≡ Some node) × (m.node ≡ node) × (¬ Contains old.nodes node) × (m.from ≡ source_of old plan c j)
+      makes_listed m there = makes_are m (contains_in (work old new plan c).makes m there)
+
       apart_paths : (k : ℕ) (js : List ℕ) → ((j : ℕ) → In js j → Contains plan.create j) → Apart Differ js → Apart OtherPath (makes_from old new plan c k js)
       apart_paths k [] all h = tt
       apart_paths k (j ∷ js) all h = (
