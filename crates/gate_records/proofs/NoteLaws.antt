@@ -11,14 +11,13 @@ use Rattle.commit_laws.specs.Steps.{MayStep}
 use Rattle.commit_laws.proofs.MeanwhileLaws.{allowed_meanwhile, none_reopened}
 use Rattle.quiesce_core.specs.declared.event.Event.{Event}
 use Rattle.quiesce_core.specs.declared.event.Event.TheVariants.{Begin, Call, Take, Give, End, More, Ask, Hear, Miss, Close, Reopen, Make, Link, Unlink, Remove}
-use Rattle.quiesce_core.specs.Doers.{is_of_change}
 use Rattle.quiesce_core.specs.Rules.{denial}
 use Rattle.quiesce_core.specs.Runs.{IsRun, state_after}
 use Rattle.quiesce_core.proofs.RunLaws.{fronts_are_runs, runs_are_well_formed}
 use Rattle.quiesce_core.proofs.WordLaws.{words_tell_drained}
 use Rattle.quiescence_laws.specs.Drained.{is_drained}
 use Rattle.quiescence_laws.specs.Events.{reopens}
-use Rattle.quiescence_laws.proofs.DrainingLaws.{drained_stays}
+use Rattle.quiescence_laws.proofs.DrainingLaws.{drained_stays, no_node_reopens}
 use Rattle.gate_records.specs.Entries.{event_in, events_in}
 use Rattle.gate_records.specs.declared.entry.Entry.{Entry}
 use Rattle.gate_records.specs.declared.entry.Entry.TheVariants.{Did, Looked, Sighted, Scanned}
@@ -30,23 +29,6 @@ use Rattle.gate_records.proofs.RecordLaws.{changes_of, config_is, quiet_events}
 -- an event that doesn't reopen the port
 stays : (es : List Event) (e : Event) (p : ℕ) → IsRun (es ++ e ∷ []) → reopens p e ≡ false → is_drained (state_after es) p ≡ true → is_drained (state_after (es ++ e ∷ [])) p ≡ true
 stays es e p run other h = drained_stays es (e ∷ []) p run (ap (λ b. b || false) other) h
-
-node_reopens_none : (p : ℕ) (e : Event) → is_of_change e ≡ false → reopens p e ≡ false
-node_reopens_none p (Reopen q) h = absurd (both_ways true h refl)
-node_reopens_none p (Begin q k v) h = refl
-node_reopens_none p (Call q k v) h = refl
-node_reopens_none p (Miss q) h = refl
-node_reopens_none p (Take q k v) h = refl
-node_reopens_none p (Give q k v) h = refl
-node_reopens_none p (More q k v) h = refl
-node_reopens_none p (Ask q k v) h = refl
-node_reopens_none p (Hear q k v) h = refl
-node_reopens_none p (End q k v) h = refl
-node_reopens_none p (Close q) h = refl
-node_reopens_none p (Make n made from) h = refl
-node_reopens_none p (Link q n x) h = refl
-node_reopens_none p (Unlink q) h = refl
-node_reopens_none p (Remove n) h = refl
 
 -- an event of the change behind which the port still counts as found drained
 did_found : (p : ℕ) (b : Bool) (e : Event) → found_next p b (Did e) ≡ true → (reopens p e ≡ false) × (b ≡ true)
@@ -83,7 +65,7 @@ module _ (p : ℕ) where
       let parts = filter_map-append event_at ms (by_node e ∷ []) in
       let same = filter_map-append entry_at ms (by_node e ∷ []) ∙ append-nil (entries ms) in
       subst (λ es. is_drained (state_after es) p ≡ true) (sym parts)
-      (stays (events ms) e p (subst IsRun parts run) (node_reopens_none p e so) (sound (sym (ap (λ r. is_found_drained r p) same) ∙ found)))
+      (stays (events ms) e p (subst IsRun parts run) (no_node_reopens p e so) (sound (sym (ap (λ r. is_found_drained r p) same) ∙ found)))
   next_sound ms (entry (Did e)) run so sound found =
       let parts = filter_map-append event_at ms (entry (Did e) ∷ []) in
       let n = did_found p (is_found_drained (entries ms) p) e (sym (found_at ms (Did e)) ∙ found) in

@@ -14,7 +14,7 @@ use Rattle.gate_records.specs.declared.entry.Entry.{Entry}
 use Rattle.gate_records.specs.declared.entry.Entry.TheVariants.{Did, Looked, Sighted, Scanned}
 use Rattle.gate_records.specs.Notes.{is_noted}
 
--- a moment of a run on a board: an event of a node, or an entry
+-- a moment of a run: an event of a node, or an entry
 pub data Moment : Type 0 where
   by_node : Event → Moment
   entry : Entry → Moment
