@@ -2,7 +2,7 @@
 use Rattle.std.proofs.Common.{◌≡◌, Bool, true, false, not, List, [], ◌∷◌, ◌++◌, refl}
 use Rattle.std.specs.Prelude.{◌==◌, All}
 use Rattle.std.specs.List.{list_all}
-use Rattle.std.proofs.lemmas.Bool.{and_parts, both_ways, eqb-true}
+use Rattle.std.proofs.lemmas.Bool.{and_parts, both_ways, eqb-true, not-true}
 use Rattle.std.proofs.lemmas.List.Elements.{All-cons, All-nil}
 use Rattle.base.specs.Each.{EachAfter}
 use Rattle.quiesce_core.specs.Doers.{is_of_change}
@@ -27,11 +27,7 @@ all_by P test sound (x ∷ xs) h = let w = and_parts (test x) (list_all test xs)
 -- of its kind, and drained where it is said to be
 
 pub of_its_kind : (x : Member) → is_of_its_kind x ≡ true → IsOfItsKind x
-of_its_kind (by_node e) h = by (is_of_change e) h
-  where
-    by : (b : Bool) → not b ≡ true → b ≡ false
-    by true k = absurd (both_ways false refl k)
-    by false k = refl
+of_its_kind (by_node e) h = not-true (is_of_change e) h
 of_its_kind (of_history l) h = tt
 
 pub drained_at : (before : List Member) (x : Member) → is_drained_at before x ≡ true → IsDrainedAt before x

@@ -1,5 +1,5 @@
 -- Before the stop a port is closed only for a change, and its node is one that the change's plan freezes.
-use Rattle.std.proofs.Common.{◌≡◌, ◌∙◌, ℕ, Bool, true, false, ◌||◌, List, [], ◌∷◌, ◌++◌, append_assoc, length, map, Some, refl, sym, ap, subst, ⊎_elim, inl, inr, Contains}
+use Rattle.std.proofs.Common.{◌≡◌, ◌∙◌, ℕ, Bool, true, false, List, [], ◌∷◌, ◌++◌, append_assoc, length, map, Some, refl, sym, ap, subst, ⊎_elim, inl, inr, Contains}
 use Rattle.std.specs.Prelude.{◌⊎◌, ℤ, filter_map}
 use Rattle.std.specs.List.{enumerate_from, list_any, range_with_len}
 use Rattle.std.proofs.lemmas.Bool.{both_ways, cases_Bool, or_right}
@@ -35,15 +35,9 @@ use Rattle.change_law.specs.Members.{is_close, is_pending, lines_of_events}
 use Rattle.change_law.specs.Scene.{config_after, drained_line, root_line}
 use Rattle.change_law.specs.Statements.{Statement, start, change, run, finish, show}
 use Rattle.change_law.proofs.MemberLaws.{parted_at}
+use Rattle.change_law.proofs.TestLaws.{none_both, none_mapped}
 
 -- which lists close no port
-
-none_joined : {A : Type 0} (t : A → Bool) (xs ys : List A) → list_any t xs ≡ false → list_any t ys ≡ false → list_any t (xs ++ ys) ≡ false
-none_joined t xs ys a b = list_any-append t xs ys ∙ (λ i. a i || b i)
-
-none_mapped : {A B : Type 0} (t : B → Bool) (f : A → B) → ((x : A) → t (f x) ≡ false) → (xs : List A) → list_any t (map f xs) ≡ false
-none_mapped t f h [] = refl
-none_mapped t f h (x ∷ xs) = (λ i. h x i || list_any t (map f xs)) ∙ none_mapped t f h xs
 
 abbrev closes : Event → Bool
 closes (event.Close p) = true
@@ -81,39 +75,39 @@ start_closes_none : (name : List ℕ) (args : List ℤ) (g : Graph) → list_any
 start_closes_none name args g =
     let nodes = enumerate_from 0 g.nodes in
     let all = enumerate_from 0 (ports g.nodes) in
-    none_joined is_close (lines_of_events (starts.start_of g)) (to.Commit ∷ [])
+    none_both is_close (lines_of_events (starts.start_of g)) (to.Commit ∷ [])
     (none_of_events (starts.start_of g)
-    (none_joined closes (map starts.make_of nodes ++ filter_map (starts.link_of g) all) (map starts.reopen_of all)
-    (none_joined closes (map starts.make_of nodes) (filter_map (starts.link_of g) all) (none_mapped closes starts.make_of (λ x. refl) nodes) (links_close_none g all))
+    (none_both closes (map starts.make_of nodes ++ filter_map (starts.link_of g) all) (map starts.reopen_of all)
+    (none_both closes (map starts.make_of nodes) (filter_map (starts.link_of g) all) (none_mapped closes starts.make_of (λ x. refl) nodes) (links_close_none g all))
     (none_mapped closes starts.reopen_of (λ x. refl) all))) refl
 
 -- what follows the closes of a change
 
 work_closes_none : (w : work.Work) → list_any closes (work.work_of w) ≡ false
 work_closes_none w =
-    none_joined closes (map event.Unlink w.unlinks) (map event.Remove w.removes ++ map work.make_new w.makes) (none_mapped closes event.Unlink (λ x. refl) w.unlinks)
-    (none_joined closes (map event.Remove w.removes) (map work.make_new w.makes) (none_mapped closes event.Remove (λ x. refl) w.removes) (none_mapped closes work.make_new (λ x. refl) w.makes))
+    none_both closes (map event.Unlink w.unlinks) (map event.Remove w.removes ++ map work.make_new w.makes) (none_mapped closes event.Unlink (λ x. refl) w.unlinks)
+    (none_both closes (map event.Remove w.removes) (map work.make_new w.makes) (none_mapped closes event.Remove (λ x. refl) w.removes) (none_mapped closes work.make_new (λ x. refl) w.makes))
 
 commit_closes_none : (old new : Graph) (plan : Plan) (c : Configuration) → list_any closes (commit_events old new plan c) ≡ false
 commit_closes_none old new plan c =
     let does = work.work_of (commit.work old new plan c) in
     let links = new_links new plan (change_all c does) in
     let ports = reopened_ports old new plan c in
-    none_joined closes (commit_steps old new plan c) (map event.Reopen ports)
-    (none_joined closes does (map work.link_new links) (work_closes_none (commit.work old new plan c)) (none_mapped closes work.link_new (λ x. refl) links))
+    none_both closes (commit_steps old new plan c) (map event.Reopen ports)
+    (none_both closes does (map work.link_new links) (work_closes_none (commit.work old new plan c)) (none_mapped closes work.link_new (λ x. refl) links))
     (none_mapped closes event.Reopen (λ x. refl) ports)
 
 ends_close_none : (old new : Graph) (plan : Plan) (within : ℕ) (c : Configuration) (closed : List ℕ) (rest : List HistoryLine)
     → IsCommitted old new plan within c rest ⊎ IsGivenUp closed within rest → list_any is_close rest ≡ false
 ends_close_none old new plan within c closed rest (inl e) =
     ap (list_any is_close) e.are
-    ∙ none_joined is_close (drained_lines e.looks) (commit_lines old new plan c) (none_mapped is_close drained_line (λ d. refl) (seen_in_all e.looks))
-    (none_joined is_close (lines_of_events (commit_events old new plan c)) (to.Commit ∷ []) (none_of_events (commit_events old new plan c) (commit_closes_none old new plan c)) refl)
+    ∙ none_both is_close (drained_lines e.looks) (commit_lines old new plan c) (none_mapped is_close drained_line (λ d. refl) (seen_in_all e.looks))
+    (none_both is_close (lines_of_events (commit_events old new plan c)) (to.Commit ∷ []) (none_of_events (commit_events old new plan c) (commit_closes_none old new plan c)) refl)
 ends_close_none old new plan within c closed rest (inr e) =
     ap (list_any is_close) e.are
-    ∙ none_joined is_close (drained_lines e.looks) (pending_lines within e.left closed) (none_mapped is_close drained_line (λ d. refl) (seen_in_all e.looks))
-    (none_joined is_close (map root_line e.left ++ map to.Reopen closed) (to.Abandon ∷ [])
-    (none_joined is_close (map root_line e.left) (map to.Reopen closed) (none_mapped is_close root_line (λ d. refl) e.left) (none_mapped is_close to.Reopen (λ p. refl) closed)) refl)
+    ∙ none_both is_close (drained_lines e.looks) (pending_lines within e.left closed) (none_mapped is_close drained_line (λ d. refl) (seen_in_all e.looks))
+    (none_both is_close (map root_line e.left ++ map to.Reopen closed) (to.Abandon ∷ [])
+    (none_both is_close (map root_line e.left) (map to.Reopen closed) (none_mapped is_close root_line (λ d. refl) e.left) (none_mapped is_close to.Reopen (λ p. refl) closed)) refl)
 
 -- a place in a list that is mapped
 

@@ -39,7 +39,7 @@ use Rattle.change_law.specs.Standing.{is_graph_of}
 use Rattle.change_law.specs.Statements.{Statement}
 use Rattle.change_law.specs.Told.{Told}
 use Rattle.change_law.proofs.Checking.{all_by, drained_at, each_by, no_root_said, of_its_kind}
-use Rattle.change_law.proofs.MemberLaws.{events_parts}
+use Rattle.change_law.proofs.MemberLaws.{events_of_nodes, events_parts}
 use Rattle.change_law.proofs.RunningLaws.{ended_once, quiet}
 use Rattle.change_law.proofs.StandingLaws.{graph_by}
 use Rattle.change_law.proofs.StopLemmas.{none_open_at_end}
@@ -87,10 +87,6 @@ since_parts (x ∷ m) = by (list_any is_line (x ∷ m)) refl (since_parts m)
         → x ∷ m ≡ cond b (x ∷ up_to_line m) [] ++ map by_node (cond b (since_line m) (events (x ∷ m)))
     by true e rest = ap (λ k. x ∷ k) rest
     by false e rest = no_line (x ∷ m) e
-
-pub events_of_nodes : (es : List Event) → events (map by_node es) ≡ es
-events_of_nodes [] = refl
-events_of_nodes (e ∷ es) = ap (λ k. e ∷ k) (events_of_nodes es)
 
 map_parts : (xs ys : List Event) → map by_node (xs ++ ys) ≡ map by_node xs ++ map by_node ys
 map_parts [] ys = refl

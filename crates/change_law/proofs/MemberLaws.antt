@@ -1,5 +1,5 @@
 -- Lists of members: their places and parts, their events and their lines, and what their configuration comes from.
-use Rattle.std.proofs.Common.{◌≡◌, ◌∙◌, Bool, true, false, ◌||◌, cond, List, [], ◌∷◌, ◌++◌, append_assoc, Option, Some, None, refl, ap, sym, subst, inl, inr}
+use Rattle.std.proofs.Common.{◌≡◌, ◌∙◌, Bool, true, false, ◌||◌, cond, List, [], ◌∷◌, ◌++◌, append_assoc, Option, Some, None, map, refl, ap, sym, subst, inl, inr}
 use Rattle.std.specs.Prelude.{◌⊎◌, filter, filter_map, fold, not, All}
 use Rattle.std.specs.List.{cons_option, list_any}
 use Rattle.std.proofs.lemmas.Bool.{both_ways, or_parts}
@@ -49,6 +49,16 @@ events_parts m k = filter_map-append event_in m k
 pub lines_parts : (m k : List Member) → lines (m ++ k) ≡ lines m ++ lines k
 lines_parts m k = filter_map-append line_in m k
 
+-- nodes do events and tell no lines
+
+pub events_of_nodes : (es : List Event) → events (map by_node es) ≡ es
+events_of_nodes [] = refl
+events_of_nodes (e ∷ es) = ap (λ k. e ∷ k) (events_of_nodes es)
+
+pub lines_of_nodes : (es : List Event) → lines (map by_node es) ≡ []
+lines_of_nodes [] = refl
+lines_of_nodes (e ∷ es) = lines_of_nodes es
+
 -- where the lines are two lists, so are the members
 pub record Split (m : List Member) (a b : List HistoryLine) : Type 0 where
   pub front : List Member
@@ -94,7 +104,7 @@ line_there test (by_node e ∷ m) h = later_line test (by_node e) m (line_there 
 line_there test (of_history l ∷ m) h = here_or_later test l m (test l) refl h (line_there test m)
 
 -- a line that is an event is one of the change
-kept_change : (l : HistoryLine) (es : List Event) → filter is_of_change (cons_option (event_of l) es) ≡ cons_option (event_of l) (filter is_of_change es)
+pub kept_change : (l : HistoryLine) (es : List Event) → filter is_of_change (cons_option (event_of l) es) ≡ cons_option (event_of l) (filter is_of_change es)
 kept_change (to.Make n made from) es = refl
 kept_change _ es = refl
 

@@ -33,7 +33,8 @@ use Rattle.change_plan.specs.declared.plan_data.Plan.{Plan}
 use Rattle.change_plan.specs.declared.plan_data.Shift.{Shift}
 use Rattle.change_plan.proofs.SelectsLaws.{Contains-places, Selects-one}
 use Rattle.change_law.specs.Planning.{all_shifts, are_one, can_be_planned, gone_links, gone_nodes, have_one_kind, is_fit, is_fit_as, is_frozen, is_gone, is_gone_at, is_kept_link, is_lacking, is_led, is_node, is_relinked, is_relinked_as, is_same_link, is_same_target, is_shift, is_touched, is_twin, leads_elsewhere, leads_no_further, leads_to, leads_within, may_move, may_move_all, may_move_at, planned, rises, shifts, shifts_to}
-use Rattle.change_law.proofs.TestLaws.{all_have, any_has, has_any, range_rises, rise_if, selects_by}
+use Rattle.commit_laws.proofs.MemberLaws.{any_if, any_of}
+use Rattle.change_law.proofs.TestLaws.{all_have, range_rises, rise_if, selects_by}
 
 -- nodes and links of both graphs
 
@@ -52,8 +53,8 @@ twin_decides g h i j =
 
 node_there : (m : Node) (nodes : List Node) → Decides (list_any (is_node m) nodes) (Contains nodes m)
 node_there m nodes = (
-  λ e. let w = any_has (is_node m) nodes e in subst (Contains nodes) (sym ((node_decides m w.0).0 w.2)) w.1,
-  λ there. has_any (is_node m) nodes m there ((node_decides m m).1 refl),
+  λ e. let w = any_of (is_node m) nodes e in subst (Contains nodes) (sym ((node_decides m w.0).0 w.2)) w.1,
+  λ there. any_if (is_node m) nodes m there ((node_decides m m).1 refl),
 )
 
 lacking_decides : (h : Graph) (o : Option Node) → Decides (is_lacking h o) ((n : Node) × (o ≡ Some n) × (¬ Contains h.nodes n))
@@ -76,8 +77,8 @@ same_link_decides g h k l =
 
 kept_link_decides : (g h : Graph) (k : Link) → Decides (is_kept_link g h k) (IsKeptLink g h k)
 kept_link_decides g h k = (
-  λ e. let w = any_has (is_same_link g h k) h.links e in (w.0, w.1, (same_link_decides g h k w.0).0 w.2),
-  λ (w : IsKeptLink g h k). has_any (is_same_link g h k) h.links w.0 w.1 ((same_link_decides g h k w.0).1 w.2),
+  λ e. let w = any_of (is_same_link g h k) h.links e in (w.0, w.1, (same_link_decides g h k w.0).0 w.2),
+  λ (w : IsKeptLink g h k). any_if (is_same_link g h k) h.links w.0 w.1 ((same_link_decides g h k w.0).1 w.2),
 )
 
 nodes_gone : (g h : Graph) → GoneNodes g h (gone_nodes g h)
@@ -151,7 +152,7 @@ module _ (g : Graph) (Set : ℕ → Type 0) (set : ℕ → Bool) (decides : (n :
       by further (Some t) h f = ⊎_elim
           (λ (here : set t.node ≡ true). (t.node, (decides t.node).0 here, direct {x = t.provide} h))
           (λ (later : list_any (goes_on k t) g.links ≡ true).
-          let w = any_has (goes_on k t) g.links later in
+          let w = any_of (goes_on k t) g.links later in
           let l = w.0 in
           let both = (and_parts (l.from == t.node) (depends_at g.nodes t.node t.provide l.require && leads_within g set k t.node l.require) w.2).1 in
           let parts = and_parts (depends_at g.nodes t.node t.provide l.require) (leads_within g set k t.node l.require) both in
@@ -199,7 +200,7 @@ module _ (g : Graph) (Set : ℕ → Type 0) (set : ℕ → Bool) (decides : (n :
         let from : (l.from == m) ≡ true = (Decides-eqb l.from m).1 (w.2 ∙ depends.0) in
         no_more p.node p.require t linked
         (ap (λ o. option_map_or (λ (t : Target). set t.node || list_any (goes_on (length g.nodes) t) g.links) o false) linked
-        ∙ or_right (set m) _ (has_any (goes_on (length g.nodes) t) g.links l w.1
+        ∙ or_right (set m) _ (any_if (goes_on (length g.nodes) t) g.links l w.1
         (and_from (l.from == m) _ from (and_from (depends_at g.nodes m x l.require) _ depends_so leads_so))))
 
     begins : (n : ℕ) (i r : ℕ) → Set n → Reach (graph_wiring g) n (record { node = i; require = r }) → (l : Link) × Contains g.links l × (l.from ≡ i) × (leads i l.require ≡ true)
@@ -220,14 +221,14 @@ module _ (old new : Graph) (asked : List Move) (h : can_be_planned old new asked
   frozen_decides : (i : ℕ) → Decides (is_frozen old new i) (Frozen old new i)
   frozen_decides i =
       Decides-or _ _ (touched_decides old new i) (
-        λ e. let w = any_has (λ (l : Link). l.from == i && leads_to old (is_touched old new) i l.require) old.links e in
+        λ e. let w = any_of (λ (l : Link). l.from == i && leads_to old (is_touched old new) i l.require) old.links e in
             let both = and_parts (w.0.from == i) (leads_to old (is_touched old new) i w.0.require) w.2 in
             let led = leads_if old (IsTouched old new) (is_touched old new) (touched_decides old new) (length old.nodes) i w.0.require both.1 in
             (led.0, w.0.require, led.1, led.2),
         λ (w : (n : ℕ) × (q : ℕ) × IsTouched old new n × Reach (graph_wiring old) n (record { node = i; require = q })).
             let b = begins old (IsTouched old new) (is_touched old new) (touched_decides old new)
             (all_have (leads_no_further old (is_touched old new)) old.links further_and_rise.0) w.0 i w.1 w.2 w.3 in
-            has_any (λ (l : Link). l.from == i && leads_to old (is_touched old new) i l.require) old.links b.0 b.1
+            any_if (λ (l : Link). l.from == i && leads_to old (is_touched old new) i l.require) old.links b.0 b.1
             (and_from (b.0.from == i) _ ((Decides-eqb b.0.from i).1 b.2) b.3),
       )
 
@@ -280,8 +281,8 @@ led_decides old new s m =
 
 pub shift_decides : (old new : Graph) (moves : List Move) (s : Shift) → Decides (is_shift old new moves s) (IsShift old new moves s)
 shift_decides old new moves s = (
-  λ e. let w = any_has (is_led old new s) moves e in record { move = w.0; there = w.1; leads = (led_decides old new s w.0).0 w.2 },
-  λ (w : IsShift old new moves s). has_any (is_led old new s) moves w.move w.there ((led_decides old new s w.move).1 w.leads),
+  λ e. let w = any_of (is_led old new s) moves e in record { move = w.0; there = w.1; leads = (led_decides old new s w.0).0 w.2 },
+  λ (w : IsShift old new moves s). any_if (is_led old new s) moves w.move w.there ((led_decides old new s w.move).1 w.leads),
 )
 
 module _ (old new : Graph) (asked : List Move) (h : rises (map (λ (s : Shift). s.new) (shifts old new asked)) ≡ true) where
@@ -313,7 +314,7 @@ one_kind a b m n is_m is_n h = (kind_decides m.kind n.kind).0 (sym (λ i. have_o
 
 fit_if : (old new : Graph) (m : Move) → is_fit old new m ≡ true → IsFit old new m
 fit_if old new m h =
-    let w = any_has (is_fit_as old new m) (all_shifts old new) h in
+    let w = any_of (is_fit_as old new m) (all_shifts old new) h in
     let both = and_parts (is_led old new w.0 m) (have_one_kind (slice_get old.nodes w.0.old) (slice_get new.nodes w.0.new)) w.2 in
     let leads = (led_decides old new w.0 m).0 both.0 in
     record {

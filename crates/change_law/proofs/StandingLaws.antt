@@ -27,7 +27,8 @@ use Rattle.quiesce_core.proofs.ConfigurationLaws.{linked_made}
 use Rattle.change_law.specs.Planning.{are_one, is_node}
 use Rattle.change_law.specs.Standing.{are_links, are_links_listed, comes_before, has_link, is_graph_of, is_in_graph, is_less, is_link_listed, is_linked_somewhere, is_listed, is_live_as, is_somewhere, is_target, leads_so, paths_rise, stands}
 use Rattle.change_law.proofs.Checking.{all_by}
-use Rattle.change_law.proofs.TestLaws.{all_have, any_has}
+use Rattle.commit_laws.proofs.MemberLaws.{any_of}
+use Rattle.change_law.proofs.TestLaws.{all_have}
 
 less : (o : Ordering) → is_less o ≡ true → o ≡ Less
 less Less h = refl
@@ -125,14 +126,14 @@ module _ (c : Configuration) (g : Graph) where
     paths_rise = rise g.nodes first.0;
     nodes_are = λ node. (
       λ there.
-          let w = any_has (is_live_as (Some node)) c.slots (all_have (is_somewhere c) g.nodes third.0 node there) in
+          let w = any_of (is_live_as (Some node)) c.slots (all_have (is_somewhere c) g.nodes third.0 node there) in
           let at = at_some_place c.slots w.0 w.1 in
           let v = live_as w.0 (Some node) node refl w.2 in
           (at.0, record { made = w.0; there = at.1; live = v.0; is_node = v.1 }),
       λ (w : IsLiveNode c node).
           let m = w.1.made in
           let e = then_so m.live (list_any (is_node m.node) g.nodes) (all_have (is_listed g) c.slots fourth.0 m (Contains-at c.slots w.0 m w.1.there)) w.1.live in
-          let v = any_has (is_node m.node) g.nodes e in
+          let v = any_of (is_node m.node) g.nodes e in
           subst (Contains g.nodes) (sym ((node_decides m.node v.0).0 v.2) ∙ w.1.is_node) v.1,
     );
     links_are = λ i r j x. (λ linked. has i r j x linked, λ w. had i r j x w);

@@ -21,7 +21,7 @@ use Rattle.quiesce_core.proofs.InductionLaws.{along}
 use Rattle.quiesce_core.proofs.TableLaws.{gate_place}
 use Rattle.quiescence_laws.specs.Drained.{is_drained}
 use Rattle.quiescence_laws.specs.Events.{reopens}
-use Rattle.quiescence_laws.proofs.DrainingLaws.{drained_stays}
+use Rattle.quiescence_laws.proofs.DrainingLaws.{drained_stays, no_node_reopens}
 use Rattle.commit_laws.specs.Steps.{change_all, is_shaping, live_ports}
 use Rattle.commit_laws.proofs.EndingLaws.{none_open}
 use Rattle.commit_laws.proofs.TurningLaws.{SameLinks, live_still, same_turned}
@@ -77,10 +77,6 @@ no_node_shapes (event.Link p n x) h = absurd (both_ways true h refl)
 no_node_shapes (event.Unlink p) h = absurd (both_ways true h refl)
 no_node_shapes (event.Remove n) h = absurd (both_ways true h refl)
 no_node_shapes _ h = refl
-
-no_node_reopens : (p : ℕ) (e : Event) → is_of_change e ≡ false → reopens p e ≡ false
-no_node_reopens p (event.Reopen q) h = absurd (both_ways true h refl)
-no_node_reopens p _ h = refl
 
 -- while nothing shapes the configuration its nodes and links stay
 

@@ -1,30 +1,16 @@
 -- Tests that decide, of lists and of parts of lists.
-use Rattle.std.proofs.Common.{◌≡◌, ◌∙◌, ℕ, zero, suc, ◌+◌, ◌<◌, get_or, ◌≤◌, Bool, true, false, ◌||◌, cond, List, [], ◌∷◌, filter, refl, sym, ap, subst, ⊎_elim, arith, Contains, Decides}
+use Rattle.std.proofs.Common.{◌≡◌, ◌∙◌, ℕ, zero, suc, ◌+◌, ◌<◌, get_or, ◌≤◌, Bool, true, false, ◌||◌, cond, List, [], ◌∷◌, ◌++◌, filter, map, refl, sym, ap, subst, ⊎_elim, arith, Contains, Decides}
 use Rattle.std.specs.Prelude.{nat_lt}
 use Rattle.std.specs.List.{count_by, list_all, list_any, range_with_len}
 use Rattle.std.specs.List.Sorted.{IsStrictlyIncreasing}
-use Rattle.std.proofs.lemmas.Bool.{and_parts, both_ways, ltb-true, or_cases, or_left, or_right}
+use Rattle.std.proofs.lemmas.Bool.{and_parts, both_ways, ltb-true}
+use Rattle.std.proofs.lemmas.List.Folds.{list_any-append}
 use Rattle.std.proofs.lemmas.List.Sums.{sum_by-cons}
 use Rattle.std.proofs.lemmas.List.FromFn.{get_or-range_with_len, length-range_with_len}
-use Rattle.base.proofs.ContainsLaws.{Contains-cons_cases, Contains-here, Contains-nil, Contains-there}
+use Rattle.base.proofs.ContainsLaws.{Contains-cons_cases, Contains-nil}
 use Rattle.change_plan.specs.Selects.{Selects}
 use Rattle.change_plan.specs.Selects.Selects.{ends, skips, takes}
 use Rattle.change_law.specs.Planning.{rises}
-
--- one of a list passes
-pub any_has : {A : Type 0} (p : A → Bool) (xs : List A) → list_any p xs ≡ true → (x : A) × Contains xs x × (p x ≡ true)
-any_has p [] h = absurd (both_ways false refl h)
-any_has {A} p (x ∷ xs) h = ⊎_elim
-    (λ (here : p x ≡ true). (x, Contains-here x xs, here))
-    (λ (later : list_any p xs ≡ true). let w = any_has p xs later in (w.0, Contains-there x w.0 xs w.1, w.2))
-    (or_cases (p x) (list_any p xs) h)
-
-pub has_any : {A : Type 0} (p : A → Bool) (xs : List A) (x : A) → Contains xs x → p x ≡ true → list_any p xs ≡ true
-has_any p [] x h e = absurd (Contains-nil x h)
-has_any p (y ∷ xs) x h e = ⊎_elim
-    (λ (here : x ≡ y). or_left (p y) (list_any p xs) (ap p (sym here) ∙ e))
-    (λ (later : Contains xs x). or_right (p y) (list_any p xs) (has_any p xs x later e))
-    (Contains-cons_cases y xs x h)
 
 -- each of a list passes
 pub all_have : {A : Type 0} (p : A → Bool) (xs : List A) → list_all p xs ≡ true → (x : A) → Contains xs x → p x ≡ true
@@ -81,3 +67,19 @@ counted_some t (x ∷ xs) h = by (t x) refl (counted_some t xs)
     by false e rest =
         let one = sum_by-cons (λ y. cond (t y) 1 0) x xs ∙ ap (λ b. cond b 1 0 + count_by t xs) e in
         ap (λ b. b || list_any t xs) e ∙ rest (omega (arith, one, h))
+
+-- tests that none of a list passes
+
+pub none_both : {A : Type 0} (t : A → Bool) (xs ys : List A) → list_any t xs ≡ false → list_any t ys ≡ false → list_any t (xs ++ ys) ≡ false
+none_both t xs ys a b = list_any-append t xs ys ∙ (λ i. a i || b i)
+
+pub none_mapped : {A B : Type 0} (t : B → Bool) (f : A → B) → ((x : A) → t (f x) ≡ false) → (xs : List A) → list_any t (map f xs) ≡ false
+none_mapped t f h [] = refl
+none_mapped t f h (x ∷ xs) = (λ i. h x i || list_any t (map f xs)) ∙ none_mapped t f h xs
+
+pub none_counted : {A : Type 0} (t : A → Bool) (xs : List A) → list_any t xs ≡ false → count_by t xs ≡ 0
+none_counted {A} t xs h = by (count_by t xs) refl
+  where
+    by : (n : ℕ) → count_by t xs ≡ n → n ≡ 0
+    by zero e = refl
+    by (suc n) e = absurd (both_ways (list_any t xs) h (counted_some t xs (omega (arith, e))))

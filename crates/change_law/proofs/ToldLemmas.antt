@@ -1,5 +1,5 @@
 -- A history that was computed follows its script.
-use Rattle.std.proofs.Common.{◌≡◌, ◌∙◌, ℕ, zero, suc, ◌+◌, Bool, true, false, ◌||◌, cond, List, [], ◌∷◌, ◌++◌, append_assoc, map, length, drop, refl, sym, ap, subst, ⊎_elim, inl, inr, arith}
+use Rattle.std.proofs.Common.{◌≡◌, ◌∙◌, ℕ, ◌+◌, Bool, true, false, ◌||◌, cond, List, [], ◌∷◌, ◌++◌, append_assoc, map, length, drop, refl, sym, ap, subst, ⊎_elim, inl, inr, arith}
 use Rattle.std.specs.Prelude.{◌==◌, ◌⊎◌, ℤ, nat_le}
 use Rattle.std.specs.List.{count_by, list_all, list_any}
 use Rattle.std.proofs.lemmas.Bool.{and_parts, both_ways, cases_Bool, eqb-true, leb-true, or_parts}
@@ -21,18 +21,12 @@ use Rattle.commit_laws.specs.Steps.{live_ports}
 use Rattle.change_law.specs.Scene.{AreSeen, Seen, config_after}
 use Rattle.change_law.specs.Standing.{is_graph_of}
 use Rattle.change_law.specs.Statements.{Statement, start, change, run, finish, show}
-use Rattle.change_law.specs.Told.{Told, no_more, counted, shown_graph, looked, are_all_seen, are_looks, are_seen, can_change, can_follow, can_tell, can_tell_all, change_lines, end_lines, first_told, history_told, lines_told, told_lines, told_parts}
+use Rattle.change_law.specs.Told.{Told, no_more, counted, shown_graph, looked, are_all_seen, are_looks, are_seen, can_change, can_follow, can_tell, can_tell_all, change_lines, lines_after_closes, first_told, history_told, lines_told, told_lines, told_parts}
 use Rattle.change_law.proofs.Checking.{all_by}
 use Rattle.change_law.proofs.PlanningLaws.{moves_lead_so, planned_so}
 use Rattle.change_law.proofs.StandingLaws.{graph_by}
-use Rattle.change_law.proofs.TestLaws.{all_have, any_has, counted_some, rise_if}
-
-none_counted : {A : Type 0} (t : A → Bool) (xs : List A) → list_any t xs ≡ false → count_by t xs ≡ 0
-none_counted {A} t xs h = by (count_by t xs) refl
-  where
-    by : (n : ℕ) → count_by t xs ≡ n → n ≡ 0
-    by zero e = refl
-    by (suc n) e = absurd (both_ways (list_any t xs) h (counted_some t xs (omega (arith, e))))
+use Rattle.commit_laws.proofs.MemberLaws.{any_of}
+use Rattle.change_law.proofs.TestLaws.{all_have, none_counted, rise_if}
 
 abbrev all_ports : List ℕ → List Seen → List ℕ
 all_ports ports seen = ports ++ map (λ (d : Seen). d.port) seen
@@ -43,7 +37,7 @@ same_count ports seen q = count_by (λ (d : Seen). d.port == q) seen == count_by
 pub seen_if : (ports : List ℕ) (seen : List Seen) → are_seen ports seen ≡ true → AreSeen ports seen
 seen_if ports seen h p = ⊎_elim
     (λ (there : list_any (λ q. q == p) (all_ports ports seen) ≡ true).
-    let w = any_has (λ q. q == p) (all_ports ports seen) there in
+    let w = any_of (λ q. q == p) (all_ports ports seen) there in
     subst (λ q. count_by (λ (d : Seen). d.port == q) seen ≡ count_by (λ r. r == q) ports) (eqb-true w.0 p w.2)
     (eqb-true (count_by (λ (d : Seen). d.port == w.0) seen) (count_by (λ r. r == w.0) ports) (all_have (same_count ports seen) (all_ports ports seen) h w.0 w.1)))
     (λ (none : list_any (λ q. q == p) (all_ports ports seen) ≡ false).
@@ -65,8 +59,8 @@ looks_if within looks h =
 
 ends_so : (old new : Graph) (plan : Plan) (within : ℕ) (c closed : Configuration) (looks : List (List Seen)) (left : List Seen)
     → AreLooks within looks → are_all_seen old plan c closed looks left ≡ true
-    → IsCommitted old new plan within closed (end_lines old new plan within (ports_to_close old plan c) closed looks left)
-    ⊎ IsGivenUp (ports_to_close old plan c) within (end_lines old new plan within (ports_to_close old plan c) closed looks left)
+    → IsCommitted old new plan within closed (lines_after_closes old new plan within (ports_to_close old plan c) closed looks left)
+    ⊎ IsGivenUp (ports_to_close old plan c) within (lines_after_closes old new plan within (ports_to_close old plan c) closed looks left)
 ends_so old new plan within c closed looks [] are seen =
     inl (record { looks = looks; are_looks = are; all_seen = seen_if (ports_to_close old plan closed) (seen_in_all looks) seen; are = refl })
 ends_so old new plan within c closed looks (e ∷ left) are seen =
@@ -94,7 +88,7 @@ changes_so before name args old new within moves looks left h =
       plan = plan;
       moves_lead = moves_lead_so old new moves second.0;
       is_plan = planned_so old new moves second.0;
-      rest = end_lines old new plan within (ports_to_close old plan c) closed looks left;
+      rest = lines_after_closes old new plan within (ports_to_close old plan c) closed looks left;
       are = refl;
       ends = ends_so old new plan within c closed looks left (looks_if within looks third.0) third.1;
     }

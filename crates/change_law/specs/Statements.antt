@@ -1,5 +1,5 @@
 -- The statements of a script, each start and change with the graph that its description elaborates to. What a report
--- must be follows from these; which statements a script with its files has is said where the elaborator is known.
+-- must be follows from these; which statements a script has is `StatementsOf` (Scripts).
 use Rattle.std.specs.Prelude.{ℕ, ℤ, Bool, true, false, List, Option, Some, None}
 use Rattle.config_graph.specs.Graph.{Graph}
 use Rattle.change_plan.specs.declared.plan_data.Move.{Move}

@@ -27,10 +27,11 @@ pub data Told : Type 0 where
   looked : (old : Graph) (looks : List (List Seen)) (left : List Seen) → Told
 
 -- the lines of a change after its closes: it is committed where no root was left
-abbrev pub end_lines : Graph → Graph → Plan → ℕ → List ℕ → Configuration → List (List Seen) → List Seen
+abbrev pub lines_after_closes : Graph → Graph → Plan → ℕ → List ℕ → Configuration → List (List Seen) → List Seen
     → List HistoryLine
-end_lines old new plan within closed c looks [] = drained_lines looks ++ commit_lines old new plan c
-end_lines old new plan within closed c looks (d ∷ left) = drained_lines looks ++ pending_lines within (d ∷ left) closed
+lines_after_closes old new plan within closed c looks [] = drained_lines looks ++ commit_lines old new plan c
+lines_after_closes old new plan within closed c looks (d ∷ left) =
+    drained_lines looks ++ pending_lines within (d ∷ left) closed
 
 -- the configuration when a change has closed its ports
 abbrev pub config_closed : List HistoryLine → List ℕ → List ℤ → Graph → Plan → Configuration
@@ -41,7 +42,7 @@ abbrev pub change_lines :
     List HistoryLine → List ℕ → List ℤ → Graph → Graph → Plan → ℕ → List (List Seen) → List Seen → List HistoryLine
 change_lines before name args old new plan within looks left =
     opening_lines name args old plan (config_after before)
-    ++ end_lines old new plan within (ports_to_close old plan (config_after before))
+    ++ lines_after_closes old new plan within (ports_to_close old plan (config_after before))
     (config_closed before name args old plan) looks left
 
 abbrev pub told_lines : List HistoryLine → Statement → Told → List HistoryLine

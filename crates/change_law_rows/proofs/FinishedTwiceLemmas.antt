@@ -26,7 +26,8 @@ use Rattle.change_law.proofs.SerialLaws.{one_serial}
 use Rattle.change_law_rows.specs.FinishedTwice.{finished_at_once, finished_later, report, script}
 use Rattle.change_law_rows.specs.Ran as ran
 use Rattle.change_law_rows.specs.WrongRuns.{rested_partly}
-use Rattle.plan_laws.specs.Systems.{source_at, two_of}
+use Rattle.plan_laws.specs.Systems.{source_at}
+use Rattle.change_law_rows.specs.Systems.{two_of}
 use Rattle.change_law_rows.proofs.LaterSerialLemmas.{two_started}
 use Rattle.change_law_rows.proofs.SerialLemmas.{first_at, ran_is_serial}
 use Rattle.change_law_rows.proofs.WrongLineLemmas.{never_rests, rounds_in}

@@ -16,7 +16,7 @@ use Rattle.change_law.proofs.StandingLaws.{graph_by}
 use Rattle.change_law_rows.specs.GivenUpLater as later
 use Rattle.change_law_rows.specs.RunOut as run_out
 use Rattle.change_law_rows.specs.Stuck as stuck
-use Rattle.plan_laws.specs.Systems.{lone, three, two_of}
+use Rattle.change_law_rows.specs.Systems.{lone, three, two_of}
 use Rattle.change_law_rows.proofs.SerialLemmas.{first_at}
 
 -- a source that leads nowhere

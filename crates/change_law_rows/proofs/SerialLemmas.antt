@@ -2,7 +2,7 @@
 use Rattle.std.proofs.Common.{◌≡◌, ℕ, Bool, true, false, not, [], ◌∷◌, drop, map, take, refl, arith}
 use Rattle.std.specs.Prelude.{codes, fold, pos}
 use Rattle.std.specs.List.{list_all, list_any, range_with_len}
-use Rattle.std.proofs.lemmas.Bool.{both_ways}
+use Rattle.std.proofs.lemmas.Bool.{both_ways, not-true}
 use Rattle.base.proofs.RangeLaws.{all_in_range}
 use Rattle.quiesce_core.specs.declared.event.Event.TheVariants.{Close}
 use Rattle.quiescence_laws.specs.Starts.{start_of}
@@ -19,17 +19,14 @@ use Rattle.change_law_rows.specs.GivenUp as given_up
 use Rattle.change_law_rows.specs.Ran as ran_line
 use Rattle.change_law_rows.specs.Shown as shown_sink
 use Rattle.change_law_rows.specs.Summed as summed_up
-use Rattle.plan_laws.specs.Systems.{line, lone, one, sums}
+use Rattle.plan_laws.specs.Systems.{line}
+use Rattle.change_law_rows.specs.Systems.{lone, one, sums}
 use Rattle.change_law_rows.specs.Waited as waited
-
-no_test : (b : Bool) → not b ≡ true → b ≡ false
-no_test true h = absurd (both_ways false refl h)
-no_test false h = refl
 
 -- found by computing
 pub first_at : (test : ℕ → Bool) (n : ℕ) → test n ≡ true → list_all (λ j. not (test j)) (range_with_len 0 n) ≡ true → FirstAt test n
 first_at test n holds before =
-    record { holds = holds; before = λ j l. no_test (test j) (all_in_range (λ i. not (test i)) 0 n j before (omega arith) (omega (arith, l))) }
+    record { holds = holds; before = λ j l. not-true (test j) (all_in_range (λ i. not (test i)) 0 n j before (omega arith) (omega (arith, l))) }
 
 abbrev started : World
 started = fold with_event nowhere (start_of (line 10))

@@ -24,7 +24,8 @@ use Rattle.change_law.specs.Planning.{planned}
 use Rattle.change_law.specs.Scene.{Seen, config_after, drained_line, root_line}
 use Rattle.change_law.specs.Statements.{change}
 use Rattle.change_law.proofs.StandingLaws.{graph_by}
-use Rattle.plan_laws.specs.Systems.{line, one, pair}
+use Rattle.plan_laws.specs.Systems.{line}
+use Rattle.change_law_rows.specs.Systems.{one, pair}
 use Rattle.change_law_rows.specs.WrongChanges.{closed_for_nothing, keeping_line, keeping_sink, looked_again, looking_once, m_to_m, moving_nowhere, skipped_for_nothing}
 use Rattle.change_law_rows.proofs.StatementLemmas.{after_start, known}
 

@@ -20,7 +20,7 @@ use Rattle.change_law.specs.Statements.{change, finish, show}
 use Rattle.change_law.proofs.StandingLaws.{graph_by}
 use Rattle.change_law_rows.specs.Alone as alone
 use Rattle.change_law_rows.specs.Shown as shown
-use Rattle.plan_laws.specs.Systems.{lone, lone_of, one, three}
+use Rattle.change_law_rows.specs.Systems.{lone, lone_of, one, three}
 use Rattle.change_law_rows.specs.WrongClosings.{kept_closed, left_closed, made_too_soon, moved_unasked, replacing_three, seen_elsewhere, seen_falling, unclosed, unshown}
 use Rattle.change_law_rows.specs.WrongSights.{closing, replacing}
 use Rattle.change_law_rows.proofs.StatementLemmas.{after_start, known}

@@ -21,7 +21,8 @@ use Rattle.change_script.specs.declared.report.HistoryLine.TheVariants as to
 use Rattle.change_law.specs.Lawful.{EndedSince, IsDrainedAt, IsRunAt, Merge, Pace}
 use Rattle.change_law.specs.Members.{Member, of_history, event_of, events, lines, without_roots}
 use Rattle.change_law.proofs.MemberLaws.{at_line, events_parts, lines_parts}
-use Rattle.change_law.proofs.TestLaws.{any_has, has_any, some_counted}
+use Rattle.commit_laws.proofs.MemberLaws.{any_if, any_of}
+use Rattle.change_law.proofs.TestLaws.{some_counted}
 use Rattle.change_law_rows.specs.WrongLooks.{hasty, looking_hastily}
 use Rattle.change_law_rows.proofs.PlaceLemmas.{passes_there}
 use Rattle.change_law_rows.proofs.WrongLogLemmas.{AreFew, ends_by_sources, few_behind, some_log}
@@ -40,8 +41,8 @@ an_end p k _ h = absurd (both_ways false refl h)
 none_ended : (es : List Event) (p k : ℕ) → count_by is_end es ≡ 0 → list_any (is_end_of p k) es ≡ false
 none_ended es p k none = ⊎_elim
     (λ (h : list_any (is_end_of p k) es ≡ true).
-    let w = any_has (is_end_of p k) es h in
-    let some_ = some_counted is_end es (has_any is_end es w.0 w.1 (an_end p k w.0 w.2)) in
+    let w = any_of (is_end_of p k) es h in
+    let some_ = some_counted is_end es (any_if is_end es w.0 w.1 (an_end p k w.0 w.2)) in
     absurd (omega (arith, none, some_)))
     (λ (h : list_any (is_end_of p k) es ≡ false). h)
     (cases_Bool (list_any (is_end_of p k) es))

@@ -30,13 +30,14 @@ use Rattle.change_law.specs.Members.{Member, by_node, of_history, events, lines,
 use Rattle.change_law.specs.Scene.{Seen, config_after, drained_line}
 use Rattle.change_law.specs.Statements.{Statement, finish, start}
 use Rattle.change_law.proofs.SerialLaws.{one_serial}
-use Rattle.change_law.proofs.MemberLaws.{all_parts, at_line, config_of_lines, events_parts, lines_parts}
+use Rattle.change_law.proofs.MemberLaws.{all_parts, at_line, config_of_lines, events_parts, lines_of_nodes, lines_parts}
 use Rattle.change_law.proofs.StandingLaws.{graph_by}
 use Rattle.change_law.proofs.TestLaws.{counted_some}
 use Rattle.change_law_rows.specs.Alone.{log_0, report, report_of, script, start_lines as lone_starts, stop_lines as lone_stops}
 use Rattle.change_law_rows.specs.Ran as ran
 use Rattle.change_law_rows.specs.Shown as shown
-use Rattle.plan_laws.specs.Systems.{line, lone, one, sink_t, source_at}
+use Rattle.plan_laws.specs.Systems.{line, sink_t, source_at}
+use Rattle.change_law_rows.specs.Systems.{lone, one}
 use Rattle.change_law_rows.specs.WrongLines.{finishing_two, never_reopened, outrun, shown_wrongly, starting, two_sinks, unseen}
 use Rattle.change_law_rows.specs.WrongLogs.{hurried}
 use Rattle.change_law_rows.proofs.SerialLemmas.{alone_is_serial}
@@ -114,10 +115,6 @@ none_from s n (e ∷ es) more_ h = by (is_doer s n e) h (none_from (effect s e) 
         → (if b then e ∷ done_from (effect s e) n es else done_from (effect s e) n es) ≡ []
     by true k rest = absurd (cc k)
     by false k rest = rest k
-
-pub lines_of_nodes : (es : List Event) → lines (map by_node es) ≡ []
-lines_of_nodes [] = refl
-lines_of_nodes (e ∷ es) = lines_of_nodes es
 
 -- where the node of a slot does nothing, and isn't done so, nothing comes to rest before a line
 pub never_rests : (n : ℕ) (x : Slot) → ((es : List Event) → slot (state_after es).config n ≡ Some x → done_by n es ≡ [] → is_done es n ≡ false) → (starts : List HistoryLine) → is_live (config_after starts) n ≡ true

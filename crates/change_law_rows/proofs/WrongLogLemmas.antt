@@ -32,8 +32,7 @@ use Rattle.change_script.specs.declared.report.Last.TheVariants as last
 use Rattle.change_script.specs.declared.report.NodeLog.{NodeLog}
 use Rattle.change_law.specs.Lawful.{EndedSince, IsRunAt, Merge, Pace}
 use Rattle.change_law.specs.Members.{Member, by_node, of_history, event_of, events}
-use Rattle.change_law.proofs.FoundLaws.{events_of_nodes}
-use Rattle.change_law.proofs.MemberLaws.{at_line, events_parts, parted_at}
+use Rattle.change_law.proofs.MemberLaws.{at_line, events_of_nodes, events_parts, parted_at}
 use Rattle.change_law.proofs.TestLaws.{counted_some, some_counted}
 use Rattle.change_law_rows.specs.WrongLogs.{altered, hurried, running_two, swapped}
 use Rattle.change_law_rows.proofs.PlaceLemmas.{done_at, passes_there}

@@ -12,7 +12,6 @@ use Rattle.base.proofs.EachLaws.{each_at}
 use Rattle.base.proofs.PlaceLaws.{tails_are}
 use Rattle.base.proofs.RangeLaws.{all_in_range}
 use Rattle.gate_word.specs.Phases.{is_idle}
-use Rattle.quiesce_core.specs.Doers.{is_of_change}
 use Rattle.quiesce_core.specs.Effect.{effect}
 use Rattle.quiesce_core.specs.Runs.{IsRun, done_by, is_begin_of, state_after}
 use Rattle.quiesce_core.specs.State.{State, exchange, gate}
@@ -24,6 +23,7 @@ use Rattle.quiesce_core.proofs.RunLaws.{fronts_are_runs}
 use Rattle.quiescence_laws.specs.Drained.{is_drained}
 use Rattle.quiescence_laws.specs.Events.{reopens}
 use Rattle.quiescence_laws.specs.Roots.{has_root}
+use Rattle.quiescence_laws.proofs.DrainingLaws.{no_node_reopens}
 use Rattle.quiescence_laws.proofs.ExchangeLaws.{PortStep, stays, begins, calls, ends, port_step}
 use Rattle.quiesce_core.proofs.PortEventLaws.{next_serial}
 use Rattle.quiescence_laws.proofs.RootLaws.{closed_stays, has_no_root}
@@ -35,10 +35,6 @@ use Rattle.change_law.proofs.MemberLaws.{all_parts, at_line, events_parts, line_
 use Rattle.change_law_rows.specs.WrongLooks.{early, outdated}
 use Rattle.change_law_rows.proofs.PlaceLemmas.{done_at}
 use Rattle.change_law_rows.proofs.WrongLogLemmas.{begun_before, log_of_s, some_log}
-
-reopening_is_of_the_change : (p : ℕ) (e : Event) → is_of_change e ≡ false → reopens p e ≡ false
-reopening_is_of_the_change p (event.Reopen q) h = absurd (both_ways true h refl)
-reopening_is_of_the_change p _ h = refl
 
 -- the third transaction begins before the port is found drained, since the port is closed then
 
@@ -53,7 +49,7 @@ not_early m merge run drained =
     let kinds = (all_parts IsOfItsKind (w.before ++ of_history (to.Drained 1 2) ∷ []) w.after
     (subst (All IsOfItsKind) (w.parts ∙ sym (append_assoc w.before (of_history (to.Drained 1 2) ∷ []) w.after)) merge.by_nodes)).1 in
     let none : list_any (reopens 1) (events w.after) ≡ false =
-    none_happens (reopens 1) (reopening_is_of_the_change 1) w.after kinds (ap (λ ls. list_any (reopens 1) (filter_map event_of ls)) nothing) in
+    none_happens (reopens 1) (no_node_reopens 1) w.after kinds (ap (λ ls. list_any (reopens 1) (filter_map event_of ls)) nothing) in
     let whole : events m ≡ events w.before ++ events w.after = ap events w.parts ∙ events_parts w.before (of_history (to.Drained 1 2) ∷ w.after) in
     let did : done_by 1 (events m) ≡ log_of_s = merge.logs 1 some_log (omega arith) in
     let b = done_at 1 (events m) log_of_s (event.Begin 1 3 3) did (4, omega arith, refl) in

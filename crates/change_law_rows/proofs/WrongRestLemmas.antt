@@ -31,13 +31,12 @@ use Rattle.change_law.specs.Lawful.{CameToRest, EndedSince, IsFinishAt, IsOfItsK
 use Rattle.change_law.specs.Members.{Member, by_node, of_history, event_of, events, lines, state_at}
 use Rattle.change_law.specs.Opening.{fold_at}
 use Rattle.change_law.specs.Scene.{config_after}
-use Rattle.change_law.proofs.MemberLaws.{AtLine, all_parts, at_line, config_of_lines, events_parts, lines_parts, parted_at}
+use Rattle.change_law.proofs.MemberLaws.{AtLine, all_parts, at_line, config_of_lines, events_parts, lines_of_nodes, lines_parts, parted_at}
 use Rattle.change_law.proofs.TestLaws.{some_counted}
 use Rattle.change_law_rows.specs.Filled.{log_0, log_1}
-use Rattle.plan_laws.specs.Systems.{buffer_at}
+use Rattle.change_law_rows.specs.Systems.{buffer_at}
 use Rattle.change_law_rows.specs.WrongRuns.{rested_before, resting_small}
 use Rattle.change_law_rows.proofs.PlaceLemmas.{DoneAt, done_at, passes_there}
-use Rattle.change_law_rows.proofs.WrongLineLemmas.{lines_of_nodes}
 use Rattle.change_law_rows.proofs.WrongLogLemmas.{AreFew, ends_by_sources, few_behind, some_log}
 use Rattle.change_law_rows.proofs.WrongRunLemmas.{behind_line, ends_in}
 use Rattle.change_law_rows.proofs.WrongStateLemmas.{folds_so}

@@ -22,8 +22,7 @@ use Rattle.change_script.specs.declared.report.Last.TheVariants as last
 use Rattle.change_law.specs.Lawful.{CameToRest, EndedSince, EndsAs, IsFolded, IsOfRounds, IsRunAt, Merge, Pace, on_threads, in_rounds, is_done}
 use Rattle.change_law.specs.Members.{Member, by_node, of_history, event_of, events, lines, without_roots}
 use Rattle.change_law.specs.Opening.{fold_of_node}
-use Rattle.change_law.proofs.FoundLaws.{events_of_nodes}
-use Rattle.change_law.proofs.MemberLaws.{at_line, events_parts, parted_at}
+use Rattle.change_law.proofs.MemberLaws.{at_line, events_of_nodes, events_parts, parted_at}
 use Rattle.change_law.proofs.SerialLaws.{one_serial}
 use Rattle.change_law_rows.specs.RunOut.{history, report, script}
 use Rattle.plan_laws.specs.Systems.{source_at}

@@ -22,7 +22,7 @@ use Rattle.change_law.specs.Scene.{Seen, config_after, drained_line, root_line}
 use Rattle.change_law.specs.Statements.{change, finish}
 use Rattle.change_law.proofs.StandingLaws.{graph_by}
 use Rattle.change_law_rows.specs.Alone as alone
-use Rattle.plan_laws.specs.Systems.{lone, lone_of, pair}
+use Rattle.change_law_rows.specs.Systems.{lone, lone_of, pair}
 use Rattle.change_law_rows.specs.WrongSights.{closing, given_up_idly, given_up_late, replacing, replacing_pair, seen_both_ways, seen_neither_way, seen_twice, stopped_twice, unseen}
 use Rattle.change_law_rows.proofs.StatementLemmas.{after_start, known}
 

@@ -26,7 +26,8 @@ use Rattle.change_law.specs.Scene.{config_after}
 use Rattle.change_law.specs.Statements.{Statement, change, finish, run, start}
 use Rattle.change_law.proofs.MemberLaws.{config_of_lines}
 use Rattle.change_law_rows.specs.Alone as alone
-use Rattle.plan_laws.specs.Systems.{bank, lone, lone_of, source_at, two}
+use Rattle.plan_laws.specs.Systems.{bank, source_at}
+use Rattle.change_law_rows.specs.Systems.{lone, lone_of, two}
 use Rattle.change_law_rows.specs.WrongLogs.{running_two}
 use Rattle.change_law_rows.specs.WrongSights.{replacing}
 use Rattle.change_law_rows.specs.WrongTellings.{a_to_a, change_to_four, finished_within_six, invented, log_of_a, moving_twice, of_three, renamed, run_of_two, skipped_to_nine, tried_again, trying_again, turned, turned_log}

@@ -10,7 +10,8 @@ use Rattle.change_law.specs.Members.{Member, of_history}
 use Rattle.change_law.specs.Scene.{Seen}
 use Rattle.change_law.specs.Statements.{Statement, start, finish}
 use Rattle.change_law.specs.Told.{Told, no_more, counted}
-use Rattle.plan_laws.specs.Systems.{lone, source_at}
+use Rattle.plan_laws.specs.Systems.{source_at}
+use Rattle.change_law_rows.specs.Systems.{lone}
 use Rattle.change_law_rows.specs.Looks.{found}
 
 abbrev pub script : List Statement

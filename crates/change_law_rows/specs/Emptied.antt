@@ -9,7 +9,8 @@ use Rattle.change_law.specs.Members.{Member, of_history}
 use Rattle.change_law.specs.Scene.{Seen}
 use Rattle.change_law.specs.Statements.{Statement, start, change, finish, show}
 use Rattle.change_law.specs.Told.{Told, no_more, counted, shown_graph, looked}
-use Rattle.plan_laws.specs.Systems.{one_or_none, sink_t}
+use Rattle.plan_laws.specs.Systems.{sink_t}
+use Rattle.change_law_rows.specs.Systems.{one_or_none}
 
 abbrev pub script : List Statement
 script =

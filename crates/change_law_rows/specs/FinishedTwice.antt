@@ -3,7 +3,7 @@ use Rattle.std.specs.Prelude.{List, Some, [], ◌∷◌, ◌++◌, codes, drop, 
 use Rattle.change_script.specs.declared.report.HistoryLine.TheVariants as to
 use Rattle.change_script.specs.declared.report.Report.{Report}
 use Rattle.change_law.specs.Statements.{Statement, start, finish}
-use Rattle.plan_laws.specs.Systems.{two_of}
+use Rattle.change_law_rows.specs.Systems.{two_of}
 use Rattle.change_law_rows.specs.RunOut as run_out
 use Rattle.change_law_rows.specs.WrongRuns.{ended_idly}
 

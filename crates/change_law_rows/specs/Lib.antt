@@ -1,3 +1,4 @@
+pub mod Systems
 pub mod Looks
 pub mod Shown
 pub mod Ran

@@ -11,7 +11,8 @@ use Rattle.change_law.specs.Members.{Member, by_node, of_history}
 use Rattle.change_law.specs.Scene.{Seen}
 use Rattle.change_law.specs.Statements.{Statement, start, run}
 use Rattle.change_law.specs.Told.{Told, no_more, counted}
-use Rattle.plan_laws.specs.Systems.{sink_t, sink_u, source_at, two_of}
+use Rattle.plan_laws.specs.Systems.{sink_t, sink_u, source_at}
+use Rattle.change_law_rows.specs.Systems.{two_of}
 use Rattle.change_law_rows.specs.Looks.{found}
 
 abbrev pub script : List Statement

@@ -10,7 +10,8 @@ use Rattle.change_law.specs.Members.{Member, by_node, of_history}
 use Rattle.change_law.specs.Scene.{Seen}
 use Rattle.change_law.specs.Statements.{Statement, start, change}
 use Rattle.change_law.specs.Told.{Told, no_more, looked}
-use Rattle.plan_laws.specs.Systems.{pair, sink_t, source_at}
+use Rattle.plan_laws.specs.Systems.{sink_t, source_at}
+use Rattle.change_law_rows.specs.Systems.{pair}
 use Rattle.change_law_rows.specs.Looks.{found}
 
 abbrev pub script : List Statement

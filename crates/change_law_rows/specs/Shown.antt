@@ -9,7 +9,8 @@ use Rattle.change_law.specs.Members.{Member, of_history}
 use Rattle.change_law.specs.Scene.{Seen}
 use Rattle.change_law.specs.Statements.{Statement, start, show}
 use Rattle.change_law.specs.Told.{Told, no_more, shown_graph}
-use Rattle.plan_laws.specs.Systems.{one, sink_t}
+use Rattle.plan_laws.specs.Systems.{sink_t}
+use Rattle.change_law_rows.specs.Systems.{one}
 
 abbrev pub script : List Statement
 script =

@@ -10,7 +10,7 @@ use Rattle.change_law.specs.Members.{Member, by_node, of_history}
 use Rattle.change_law.specs.Scene.{Seen}
 use Rattle.change_law.specs.Statements.{Statement, start, run}
 use Rattle.change_law.specs.Told.{Told, no_more, counted}
-use Rattle.plan_laws.specs.Systems.{adder_a, asker_q, sums}
+use Rattle.change_law_rows.specs.Systems.{adder_a, asker_q, sums}
 use Rattle.change_law_rows.specs.Looks.{found}
 
 abbrev pub script : List Statement

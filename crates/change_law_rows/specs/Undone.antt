@@ -9,7 +9,8 @@ use Rattle.change_law.specs.Members.{Member, of_history}
 use Rattle.change_law.specs.Scene.{Seen}
 use Rattle.change_law.specs.Statements.{Statement, start, change, finish}
 use Rattle.change_law.specs.Told.{Told, no_more, counted, looked}
-use Rattle.plan_laws.specs.Systems.{lone, lone_of, source_at}
+use Rattle.plan_laws.specs.Systems.{source_at}
+use Rattle.change_law_rows.specs.Systems.{lone, lone_of}
 use Rattle.change_law_rows.specs.Looks.{found}
 
 abbrev pub script : List Statement

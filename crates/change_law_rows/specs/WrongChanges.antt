@@ -5,7 +5,8 @@ use Rattle.change_script.specs.declared.report.HistoryLine.TheVariants as to
 use Rattle.change_plan.specs.declared.plan_data.Move.{Move}
 use Rattle.change_law.specs.Follows.{Part}
 use Rattle.change_law.specs.Statements.{Statement, start, change}
-use Rattle.plan_laws.specs.Systems.{line, map_m, one, pair, sink_t, source_at}
+use Rattle.plan_laws.specs.Systems.{line, map_m, sink_t, source_at}
+use Rattle.change_law_rows.specs.Systems.{one, pair}
 use Rattle.change_law_rows.specs.SecondLook as second_look
 
 -- a change is skipped though none before it was given up

@@ -3,7 +3,8 @@ use Rattle.std.specs.Prelude.{List, [], ◌∷◌, ◌++◌, codes, pos, Some, N
 use Rattle.change_script.specs.declared.report.HistoryLine.{HistoryLine}
 use Rattle.change_script.specs.declared.report.HistoryLine.TheVariants as to
 use Rattle.change_law.specs.Statements.{Statement, start, change}
-use Rattle.plan_laws.specs.Systems.{sink_t, source_at, three}
+use Rattle.plan_laws.specs.Systems.{sink_t, source_at}
+use Rattle.change_law_rows.specs.Systems.{three}
 use Rattle.change_law_rows.specs.Alone as alone
 use Rattle.change_law_rows.specs.WrongSights.{closing}
 

@@ -5,7 +5,8 @@ use Rattle.change_script.specs.declared.report.Last.TheVariants as last
 use Rattle.change_script.specs.declared.report.NodeLog.{NodeLog}
 use Rattle.change_script.specs.declared.report.Report.{Report}
 use Rattle.change_law.specs.Statements.{Statement, start, change, run, finish}
-use Rattle.plan_laws.specs.Systems.{line, two_of}
+use Rattle.plan_laws.specs.Systems.{line}
+use Rattle.change_law_rows.specs.Systems.{two_of}
 use Rattle.change_law_rows.specs.Moved as moved
 use Rattle.change_law_rows.specs.Ran as ran
 use Rattle.change_law_rows.specs.RunOut as run_out

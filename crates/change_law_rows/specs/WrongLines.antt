@@ -5,7 +5,8 @@ use Rattle.change_script.specs.declared.report.HistoryLine.TheVariants as to
 use Rattle.change_script.specs.declared.report.Report.{Report}
 use Rattle.config_graph.specs.Graph.{Graph}
 use Rattle.change_law.specs.Statements.{Statement, start, finish}
-use Rattle.plan_laws.specs.Systems.{lone, map_m, sink_t, sink_u, source_at, two}
+use Rattle.plan_laws.specs.Systems.{map_m, sink_t, sink_u, source_at}
+use Rattle.change_law_rows.specs.Systems.{lone, two}
 use Rattle.change_law_rows.specs.Shown as shown
 use Rattle.change_law_rows.specs.WrongLogs.{hurried}
 

@@ -6,7 +6,8 @@ use Rattle.change_script.specs.declared.report.Last.TheVariants as last
 use Rattle.change_script.specs.declared.report.NodeLog.{NodeLog}
 use Rattle.change_script.specs.declared.report.Report.{Report}
 use Rattle.change_law.specs.Statements.{Statement, start, run}
-use Rattle.plan_laws.specs.Systems.{map_m, sink_t, sink_u, source_at, two}
+use Rattle.plan_laws.specs.Systems.{map_m, sink_t, sink_u, source_at}
+use Rattle.change_law_rows.specs.Systems.{two}
 use Rattle.change_law_rows.specs.Moved as moved
 
 -- two sinks have each other's logs

@@ -5,7 +5,8 @@ use Rattle.change_script.specs.declared.report.HistoryLine.TheVariants as to
 use Rattle.change_script.specs.declared.report.Last.TheVariants as last
 use Rattle.change_script.specs.declared.report.Report.{Report}
 use Rattle.change_law.specs.Statements.{Statement, start, change, run}
-use Rattle.plan_laws.specs.Systems.{map_m, pair, sink_t, source_at}
+use Rattle.plan_laws.specs.Systems.{map_m, sink_t, source_at}
+use Rattle.change_law_rows.specs.Systems.{pair}
 
 -- a port is said to be drained with the serial before its last
 abbrev pub early : Report

@@ -10,7 +10,7 @@ use Rattle.change_law_rows.specs.Moved as moved
 use Rattle.change_law_rows.specs.Ran as ran
 use Rattle.change_law_rows.specs.RunOut as run_out
 use Rattle.change_law_rows.specs.Shown as shown
-use Rattle.plan_laws.specs.Systems.{small}
+use Rattle.change_law_rows.specs.Systems.{small}
 
 -- the first run ends with nothing, though nothing is at rest: no node does anything
 abbrev pub ended_idly : Report

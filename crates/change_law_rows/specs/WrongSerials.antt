@@ -5,7 +5,8 @@ use Rattle.change_script.specs.declared.report.HistoryLine.TheVariants as to
 use Rattle.change_script.specs.declared.report.Last.TheVariants as last
 use Rattle.change_script.specs.declared.report.NodeLog.{NodeLog}
 use Rattle.change_script.specs.declared.report.Report.{Report}
-use Rattle.plan_laws.specs.Systems.{buffer_at, sink_t, source_at}
+use Rattle.plan_laws.specs.Systems.{sink_t, source_at}
+use Rattle.change_law_rows.specs.Systems.{buffer_at}
 use Rattle.change_law_rows.specs.GivenUp as given_up
 use Rattle.change_law_rows.specs.OpenUnordered as open_unordered
 

@@ -3,7 +3,8 @@ use Rattle.std.specs.Prelude.{List, [], ◌∷◌, ◌++◌, codes, pos, None}
 use Rattle.change_script.specs.declared.report.HistoryLine.{HistoryLine}
 use Rattle.change_script.specs.declared.report.HistoryLine.TheVariants as to
 use Rattle.change_law.specs.Statements.{Statement, start, change}
-use Rattle.plan_laws.specs.Systems.{lone, lone_of, pair, sink_t, source_at}
+use Rattle.plan_laws.specs.Systems.{sink_t, source_at}
+use Rattle.change_law_rows.specs.Systems.{lone, lone_of, pair}
 
 -- A source that leads nowhere is replaced, and the change may make one round: it closes the source's port.
 abbrev pub replacing : List Statement

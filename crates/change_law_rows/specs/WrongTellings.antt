@@ -9,7 +9,8 @@ use Rattle.change_script.specs.declared.report.NodeLog.{NodeLog}
 use Rattle.change_script.specs.declared.report.Report.{Report}
 use Rattle.change_law.specs.Statements.{Statement, start, change}
 use Rattle.change_law_rows.specs.Alone as alone
-use Rattle.plan_laws.specs.Systems.{bank, lone, lone_of}
+use Rattle.plan_laws.specs.Systems.{bank}
+use Rattle.change_law_rows.specs.Systems.{lone, lone_of}
 use Rattle.change_law_rows.specs.WrongLogs.{hurried}
 use Rattle.change_law_rows.specs.WrongSights.{closing, committing}
 

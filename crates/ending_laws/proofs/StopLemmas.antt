@@ -27,13 +27,12 @@ use Rattle.change_script.specs.declared.report.HistoryLine.TheVariants as to
 use Rattle.change_law.specs.Lawful.{IsOfItsKind}
 use Rattle.change_law.specs.Members.{Member, by_node, of_history, lines_of_events}
 use Rattle.commit_laws.specs.Steps.{live_ports}
+use Rattle.commit_laws.proofs.GateLaws.{live_listed}
 use Rattle.change_law.specs.Serial.{after_changes, looks_after}
-use Rattle.change_law.proofs.FoundLaws.{events_of_nodes}
-use Rattle.change_law.proofs.MemberLaws.{all_parts, events_parts}
+use Rattle.change_law.proofs.MemberLaws.{all_parts, events_of_nodes, events_parts}
 use Rattle.change_law.proofs.TestLaws.{some_counted}
 use Rattle.report_laws.specs.Courses.{Course}
 use Rattle.report_laws.specs.Existing.{StopsEnd}
-use Rattle.report_laws.proofs.ClosedPortLaws.{all_live}
 use Rattle.report_laws.proofs.ClosingLaws.{shut, shut_at}
 use Rattle.report_laws.proofs.CourseLaws.{course_run, with_rounds}
 use Rattle.report_laws.proofs.EndingRoundLaws.{rounds_long, some_or_none}
@@ -140,7 +139,7 @@ pub stops_end : StillIsIdle → RestBounds → StopsEnd
 stops_end still_is_idle rest_bounds w r =
     let ports = live_ports w.machine.config in
     let c = course_of w r in
-    let live = all_live w.machine.config in
+    let live = live_listed w.machine.config in
     let history = lines_of_events w.events in
     let m = members_of w.events in
     let waiting = after_changes w (map event.Close ports) in

@@ -10,15 +10,13 @@ use Rattle.config_graph.specs.Graph.{Graph}
 use Rattle.change_plan.specs.declared.plan_data.Plan.{Plan}
 use Rattle.gate_word.specs.Phases.{is_idle}
 use Rattle.quiesce_core.specs.declared.state.Slot.{Slot}
-use Rattle.quiesce_core.specs.Rules.{is_live_port}
 use Rattle.quiesce_core.specs.State.{Configuration, State, exchange, gate, is_live, owner, slot}
 use Rattle.quiescence_laws.specs.Drained.{is_drained}
 use Rattle.quiescence_laws.specs.Roots.{has_root}
 use Rattle.commit_laws.specs.Lists.{In}
 use Rattle.commit_laws.proofs.MemberLaws.{any_of, select, selected}
-use Rattle.commit_laws.proofs.TurningLaws.{IsLivePort, SameLinks, live_port}
+use Rattle.commit_laws.proofs.TurningLaws.{IsLivePort, SameLinks}
 use Rattle.plan_laws.specs.Commit.{is_at, is_one_of, node_path, ports_to_close, ports_where, stands_in}
-use Rattle.commit_laws.specs.Steps.{live_ports}
 use Rattle.change_law.proofs.TestLaws.{range_rises}
 
 one_is_live : (old : Graph) (places : List ℕ) (c : Configuration) (n : ℕ) → is_one_of old places c n ≡ true → is_live c n ≡ true
@@ -34,9 +32,6 @@ frozen_live old plan c p i =
 
 pub frozen_listed : (old : Graph) (plan : Plan) (c : Configuration) (p : ℕ) → p < length c.gates → is_one_of old plan.freeze c (owner c p) ≡ true → In (ports_to_close old plan c) p
 frozen_listed old plan c p low frozen = select (λ q. is_one_of old plan.freeze c (owner c q)) 0 (length c.gates) p (omega arith) (omega (arith, low)) frozen
-
-pub all_live : (c : Configuration) (p : ℕ) → In (live_ports c) p → IsLivePort c p
-all_live c p i = live_port c p (selected (is_live_port c) 0 (length c.gates) p i).passes
 
 pub where_rise : (test : ℕ → Bool) (c : Configuration) → IsStrictlyIncreasing (ports_where test c)
 where_rise test c = IsStrictlyIncreasing-filter test (range_with_len 0 (length c.gates)) (range_rises 0 (length c.gates))

@@ -29,7 +29,7 @@ use Rattle.change_law.proofs.MemberLaws.{events_parts}
 use Rattle.report_laws.specs.Courses.{Course}
 use Rattle.report_laws.proofs.ClosedPortLaws.{around, root_there}
 use Rattle.report_laws.proofs.CourseLaws.{course_machine, course_run, with_changes, with_root}
-use Rattle.report_laws.proofs.LineLaws.{none_both}
+use Rattle.change_law.proofs.TestLaws.{none_both}
 
 -- lines of closes and reopenings
 pub lines_of_closes : (ports : List ℕ) → lines_of_events (map event.Close ports) ≡ map to.Close ports

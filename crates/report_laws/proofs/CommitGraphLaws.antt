@@ -50,11 +50,12 @@ use Rattle.change_law.specs.Scene.{Seen, config_after, drained_line, root_line}
 use Rattle.change_law.specs.Scripts.{more_made}
 use Rattle.change_law.specs.Statements.{Statement, start, change, run, finish, show, graph_of}
 use Rattle.change_law.proofs.MemberLaws.{all_parts, changes_are_lines, config_of_lines, events_without_roots, lines_parts}
+use Rattle.change_law.proofs.TestLaws.{none_both, none_counted, none_mapped}
 use Rattle.report_laws.specs.Described.{IsLeftAt, LeavesDescribed}
 use Rattle.report_laws.specs.SoundStatements.{named_by, AreSound, ChangesSoundly, GoOnSoundly, IsSoundGraph, StartsSoundly, made_of}
 use Rattle.report_laws.proofs.AloneLaws.{changes_run}
 use Rattle.report_laws.proofs.GrowthLemmas.{commit_nodes, commit_ports, nodes_after, nodes_by, ports_after, ports_by, total, total_both, total_none}
-use Rattle.report_laws.proofs.LineLaws.{all_changes, changes, changes_both, changes_of_closes, changes_of_lines, changes_of_looks, config_more, config_of, none_both, none_counted, none_mapped, none_of_events}
+use Rattle.report_laws.proofs.LineLaws.{all_changes, changes, changes_both, changes_of_closes, changes_of_lines, changes_of_looks, config_more, config_of, none_of_events}
 
 -- what plan_laws says of commits
 abbrev pub EachMayCommit : Type 0

@@ -178,14 +178,6 @@ done_both : (xs ys : List Event) → done (xs ++ ys) ≡ done xs ++ done ys
 done_both [] ys = refl
 done_both (x ∷ xs) ys = ap (λ m. by_node x ∷ m) (done_both xs ys)
 
-pub events_done : (es : List Event) → events (map by_node es) ≡ es
-events_done [] = refl
-events_done (e ∷ es) = ap (λ xs. e ∷ xs) (events_done es)
-
-pub lines_done : (es : List Event) → lines (map by_node es) ≡ []
-lines_done [] = refl
-lines_done (e ∷ es) = lines_done es
-
 -- nodes went on from a world, and did these events
 pub record WentOn (history : List HistoryLine) (w : World) (m : List Member) (v : World) : Type 0 where
   pub later : List Event

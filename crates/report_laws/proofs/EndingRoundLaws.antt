@@ -39,7 +39,7 @@ use Rattle.turn_laws.proofs.ReachedLaws.{holds_where_reached, turn_goes_on}
 use Rattle.change_law.specs.Serial.{run_ends}
 use Rattle.report_laws.specs.Existing.{RunsEnd}
 use Rattle.report_laws.proofs.CourseLaws.{turn_config, turn_events}
-use Rattle.report_laws.proofs.LineLaws.{none_both}
+use Rattle.change_law.proofs.TestLaws.{none_both}
 use Rattle.report_laws.proofs.GrowthLemmas.{total, total_both}
 
 -- what drain_laws says of the steps

@@ -1,8 +1,7 @@
 -- Lines of a history: which events they are, and to which configuration they lead.
-use Rattle.std.proofs.Common.{◌≡◌, ◌∙◌, ℕ, ◌<◌, ◌≤◌, Bool, false, ◌||◌, List, [], ◌∷◌, ◌++◌, map, refl, ap, ⊎_elim, arith}
+use Rattle.std.proofs.Common.{◌≡◌, ◌∙◌, ℕ, Bool, false, List, [], ◌∷◌, ◌++◌, map, refl, ap}
 use Rattle.std.specs.Prelude.{filter, filter_map, fold}
-use Rattle.std.specs.List.{cons_option, count_by, list_any}
-use Rattle.std.proofs.lemmas.Bool.{both_ways, cases_lt, or_parts}
+use Rattle.std.specs.List.{cons_option, list_any}
 use Rattle.std.proofs.lemmas.List.Elements.{filter_map-append}
 use Rattle.commit_laws.specs.Steps.{change_all}
 use Rattle.commit_laws.proofs.CommitLaws.{after_both}
@@ -17,15 +16,11 @@ use Rattle.change_script.specs.declared.report.HistoryLine.{HistoryLine}
 use Rattle.change_script.specs.declared.report.HistoryLine.TheVariants as to
 use Rattle.change_law.specs.Members.{event_of, line_of, lines_of_events}
 use Rattle.change_law.specs.Scene.{Seen, config_after, drained_line, root_line}
-use Rattle.change_law.proofs.TestLaws.{counted_some}
+use Rattle.change_law.proofs.MemberLaws.{kept_change}
 
 -- the events of lines
 abbrev pub changes : List HistoryLine → List Event
 changes h = filter_map event_of h
-
-kept_change : (l : HistoryLine) (es : List Event) → filter is_of_change (cons_option (event_of l) es) ≡ cons_option (event_of l) (filter is_of_change es)
-kept_change (to.Make n made from) es = refl
-kept_change _ es = refl
 
 pub all_changes : (h : List HistoryLine) → filter is_of_change (changes h) ≡ changes h
 all_changes [] = refl
@@ -78,22 +73,7 @@ changes_of_lines (event.End p k v ∷ es) = changes_of_lines es
 
 -- tests of lines that none passes
 
-pub none_both : {A : Type 0} (t : A → Bool) (xs ys : List A) → list_any t xs ≡ false → list_any t ys ≡ false → list_any t (xs ++ ys) ≡ false
-none_both t [] ys h k = k
-none_both t (x ∷ xs) ys h k =
-    let parts = or_parts (t x) (list_any t xs) h in ap (λ b. b || list_any t (xs ++ ys)) parts.0 ∙ none_both t xs ys parts.1 k
-
-pub none_mapped : {A B : Type 0} (t : B → Bool) (f : A → B) → ((x : A) → t (f x) ≡ false) → (xs : List A) → list_any t (map f xs) ≡ false
-none_mapped t f h [] = refl
-none_mapped t f h (x ∷ xs) = ap (λ b. b || list_any t (map f xs)) (h x) ∙ none_mapped t f h xs
-
 pub none_of_events : (t : HistoryLine → Bool) → ((e : Event) (ls : List HistoryLine) → list_any t ls ≡ false → list_any t (cons_option (line_of e) ls) ≡ false) → (es : List Event)
     → list_any t (lines_of_events es) ≡ false
 none_of_events t h [] = refl
 none_of_events t h (e ∷ es) = h e (lines_of_events es) (none_of_events t h es)
-
-pub none_counted : {A : Type 0} (t : A → Bool) (xs : List A) → list_any t xs ≡ false → count_by t xs ≡ 0
-none_counted t xs h = ⊎_elim
-    (λ (some : 0 < count_by t xs). absurd (both_ways (list_any t xs) h (counted_some t xs (omega (arith, some)))))
-    (λ (none : count_by t xs ≤ 0). omega (arith, none))
-    (cases_lt 0 (count_by t xs))

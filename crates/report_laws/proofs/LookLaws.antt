@@ -3,7 +3,7 @@ use Rattle.std.proofs.Common.{◌≡◌, ◌∙◌, ℕ, zero, suc, ◌+◌, ◌
 use Rattle.std.specs.Prelude.{◌⊎◌, ◌==◌, All, filter}
 use Rattle.std.specs.List.{count_by, list_any}
 use Rattle.std.specs.List.Sorted.{IsStrictlyIncreasing}
-use Rattle.std.proofs.lemmas.Bool.{both_ways, cases_Bool, not-true}
+use Rattle.std.proofs.lemmas.Bool.{cases_Bool, not-true}
 use Rattle.std.proofs.lemmas.List.{append-nil, length-append}
 use Rattle.std.proofs.lemmas.List.Elements.{All-append, All-cons, All-nil, All-head, All-tail}
 use Rattle.std.proofs.lemmas.List.Kept.{IsStrictlyIncreasing-filter}
@@ -11,13 +11,11 @@ use Rattle.std.proofs.lemmas.Grind.{flat_map-append}
 use Rattle.base.proofs.MapLaws.{count_by-append}
 use Rattle.commit_laws.specs.Lists.{In}
 use Rattle.quiesce_core.specs.declared.event.Event.{Event}
-use Rattle.quiesce_core.specs.declared.event.Event.TheVariants as event
-use Rattle.quiesce_core.specs.Doers.{is_of_change}
 use Rattle.quiesce_core.specs.Runs.{IsRun, state_after}
 use Rattle.quiesce_core.specs.State.{exchange}
 use Rattle.quiescence_laws.specs.Drained.{is_drained}
 use Rattle.quiescence_laws.specs.Events.{reopens}
-use Rattle.quiescence_laws.proofs.DrainingLaws.{drained_stays}
+use Rattle.quiescence_laws.proofs.DrainingLaws.{drained_stays, no_node_reopens}
 use Rattle.turns.specs.Round.{after_rounds}
 use Rattle.turns.specs.World.{World}
 use Rattle.turn_laws.proofs.ReachedLaws.{holds_where_reached}
@@ -27,9 +25,10 @@ use Rattle.change_law.specs.Lawful.{IsOfItsKind}
 use Rattle.change_law.specs.Members.{Member, by_node, of_history, events, lines}
 use Rattle.change_law.specs.Scene.{AreSeen, Seen, drained_line}
 use Rattle.change_law.specs.Serial.{Looks, look_once, looks_after, seen_at}
-use Rattle.change_law.proofs.MemberLaws.{all_parts, events_parts, lines_parts}
+use Rattle.change_law.proofs.MemberLaws.{all_parts, events_of_nodes, events_parts, lines_of_nodes, lines_parts}
+use Rattle.change_law.proofs.TestLaws.{none_both}
 use Rattle.report_laws.specs.Courses.{Course}
-use Rattle.report_laws.proofs.CourseLaws.{WentOn, course_machine, course_run, events_done, lines_done, with_rounds, with_said}
+use Rattle.report_laws.proofs.CourseLaws.{WentOn, course_machine, course_run, with_rounds, with_said}
 
 -- those that pass, and those that don't
 
@@ -134,10 +133,6 @@ all_seen w v ports rise j p =
 
 -- what looks find of the world
 
-no_node_reopens : (p : ℕ) (e : Event) → is_of_change e ≡ false → reopens p e ≡ false
-no_node_reopens p (event.Reopen q) h = absurd (both_ways true h refl)
-no_node_reopens p _ h = refl
-
 nodes_reopen_none : (p : ℕ) (es : List Event) → All IsOfItsKind (map by_node es) → list_any (reopens p) es ≡ false
 nodes_reopen_none p [] h = refl
 nodes_reopen_none p (e ∷ es) h =
@@ -185,7 +180,7 @@ record Waited (history : List HistoryLine) (w : World) (m : List Member) (ports 
   drained : (p : ℕ) → In ports p → In l.left p ⊎ (is_drained v.machine p ≡ true)
 
 none_more : (p : ℕ) (m k : List Member) → list_any (reopens p) (events m) ≡ false → list_any (reopens p) (events k) ≡ false → list_any (reopens p) (events (m ++ k)) ≡ false
-none_more p m k h g = ap (list_any (reopens p)) (events_parts m k) ∙ Rattle.report_laws.proofs.LineLaws.none_both (reopens p) (events m) (events k) h g
+none_more p m k h g = ap (list_any (reopens p)) (events_parts m k) ∙ none_both (reopens p) (events m) (events k) h g
 
 look : (history : List HistoryLine) (w : World) (m : List Member) (ports : List ℕ) (v : World) (l : Looks) → Waited history w m ports v l → Looked history w m ports v (look_once v l)
 look history w m ports v l h =
@@ -212,14 +207,14 @@ wait history w m ports v u l h g =
     let v_is = (holds_where_reached v h.course.reached).0 in
     let u_is = (holds_where_reached u g.course.reached).0 in
     let grown : u.events ≡ v.events ++ g.later =
-    sym g.course.events_are ∙ events_parts (m ++ h.later) (map by_node g.later) ∙ (λ i. h.course.events_are i ++ events_done g.later i) in
+    sym g.course.events_are ∙ events_parts (m ++ h.later) (map by_node g.later) ∙ (λ i. h.course.events_are i ++ events_of_nodes g.later i) in
     let run : IsRun (v.events ++ g.later) = subst IsRun grown (course_run (history ++ drained_lines l.seen) u ((m ++ h.later) ++ map by_node g.later) g.course) in
     record {
       later = h.later ++ map by_node g.later;
       course = subst (Course (history ++ drained_lines l.seen) u) (append_assoc m h.later (map by_node g.later)) g.course;
       config = g.config ∙ h.config;
-      not_reopened = λ p. none_more p h.later (map by_node g.later) (h.not_reopened p) (ap (list_any (reopens p)) (events_done g.later) ∙ nodes_reopen_none p g.later kinds);
-      lines_later = lines_parts h.later (map by_node g.later) ∙ (λ i. h.lines_later i ++ lines_done g.later i) ∙ append-nil (drained_lines l.seen);
+      not_reopened = λ p. none_more p h.later (map by_node g.later) (h.not_reopened p) (ap (list_any (reopens p)) (events_of_nodes g.later) ∙ nodes_reopen_none p g.later kinds);
+      lines_later = lines_parts h.later (map by_node g.later) ∙ (λ i. h.lines_later i ++ lines_of_nodes g.later i) ∙ append-nil (drained_lines l.seen);
       listed = h.listed;
       drained = λ p i. ⊎_elim
           (λ (left : In l.left p). inl left)

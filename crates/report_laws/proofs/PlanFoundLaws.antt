@@ -34,7 +34,7 @@ use Rattle.change_plan.proofs.SelectsLaws.{Contains-places}
 use Rattle.change_law.specs.Planning.{all_shifts, can_be_planned, have_one_kind, is_fit, is_fit_as, is_led, is_shift, is_touched, leads_no_further, leads_to, leads_within, may_move, may_move_all, may_move_at, planned, rises, shifts, shifts_to}
 use Rattle.change_law.specs.Statements.{Statement, start, change, run, finish, show}
 use Rattle.change_law.proofs.PlanningLaws.{led_decides, planned_so, shift_decides}
-use Rattle.change_law.proofs.TestLaws.{any_has, has_any}
+use Rattle.commit_laws.proofs.MemberLaws.{any_if, any_of}
 use Rattle.report_laws.specs.Existing.{HavePlans, HavePlansFrom}
 use Rattle.report_laws.specs.SoundStatements.{AreSound, GoOnSoundly, IsSoundGraph}
 
@@ -57,14 +57,14 @@ module _ (g : Graph) where
 
   goes_on : (rest : ℕ → ℕ → Bool) (t : Target) → list_any (goes rest t) g.links ≡ true → GoesOn rest t
   goes_on rest t h =
-      let w = any_has (goes rest t) g.links h in
+      let w = any_of (goes rest t) g.links h in
       let first = and_parts (w.0.from == t.node) (depends_at g.nodes t.node t.provide w.0.require && rest t.node w.0.require) w.2 in
       let second = and_parts (depends_at g.nodes t.node t.provide w.0.require) (rest t.node w.0.require) first.1 in
       record { link = w.0; there = w.1; from = eqb-true w.0.from t.node first.0; depends = second.0; further = second.1 }
 
   goes_by : (rest : ℕ → ℕ → Bool) (t : Target) (w : GoesOn rest t) (other : ℕ → ℕ → Bool) → other t.node w.link.require ≡ true → list_any (goes other t) g.links ≡ true
   goes_by rest t w other h =
-      has_any (goes other t) g.links w.link w.there
+      any_if (goes other t) g.links w.link w.there
       (and_from (w.link.from == t.node) _ (eq-eqb w.link.from t.node w.from) (and_from (depends_at g.nodes t.node t.provide w.link.require) _ w.depends h))
 
   module _ (set : ℕ → Bool) where
@@ -169,7 +169,7 @@ fit_so old new m f =
     let gone = f.leads.removed in
     let made = f.leads.created in
     let s : Shift = record { old = f.source; new = f.target } in
-    has_any (is_fit_as old new m) (all_shifts old new) s (has_shift old new f.source f.target gone.node made.node gone.here made.here)
+    any_if (is_fit_as old new m) (all_shifts old new) s (has_shift old new f.source f.target gone.node made.node gone.here made.here)
     (and_from (is_led old new s m) _ ((led_decides old new s m).1 f.leads) ((λ i. have_one_kind (gone.here i) (made.here i)) ∙ (kind_decides gone.node.kind made.node.kind).1 f.same_kind))
 
 no_end : (end : Move → List ℕ) (before : List Move) (path : List ℕ) → ¬ Any (λ b. end b ≡ path) before → not (list_any (λ b. bytes_eq (end b) path) before) ≡ true

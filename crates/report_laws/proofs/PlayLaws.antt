@@ -1,8 +1,8 @@
 -- What a report of rounds says of each statement: the lines are right, and the course goes on by them.
 use Rattle.std.proofs.Common.{◌≡◌, ◌∙◌, ℕ, ◌+◌, ◌-◌, ◌<◌, ◌≤◌, Bool, true, false, cond, ◌||◌, List, [], ◌∷◌, ◌++◌, append_assoc, map, length, None, refl, sym, ap, subst, ⊎_elim, inl, inr, arith}
 use Rattle.std.specs.Prelude.{◌⊎◌, ◌==◌, ℤ, filter}
-use Rattle.std.specs.List.{cons_option, count_by, list_all, list_any, range_with_len}
-use Rattle.std.proofs.lemmas.Bool.{both_ways, cases_Bool, cases_lt, eqb-true, eq-eqb, or_cases, or_right}
+use Rattle.std.specs.List.{count_by, list_any}
+use Rattle.std.proofs.lemmas.Bool.{both_ways, cases_Bool, cases_lt, eqb-true, eq-eqb, or_right}
 use Rattle.std.proofs.lemmas.List.{append-nil}
 use Rattle.base.proofs.MapLaws.{count_by-append, no_length}
 use Rattle.config_graph.specs.Graph.{Graph, ports}
@@ -13,6 +13,7 @@ use Rattle.change_plan.specs.declared.plan_data.Move.{Move}
 use Rattle.change_plan.specs.declared.plan_data.Plan.{Plan}
 use Rattle.commit_laws.specs.Lists.{In}
 use Rattle.commit_laws.specs.Steps.{MayStepAll, live_ports}
+use Rattle.commit_laws.proofs.GateLaws.{live_listed}
 use Rattle.commit_laws.proofs.MeanwhileLaws.{front_is_of_change}
 use Rattle.commit_laws.proofs.TurningLaws.{IsLivePort, SameLinks, same_graph}
 use Rattle.plan_laws.specs.Commit.{commit_events, is_frozen_or_new, is_one_of, ports_to_close}
@@ -23,7 +24,7 @@ use Rattle.quiesce_core.specs.Doers.{is_of_change}
 use Rattle.quiesce_core.specs.Live.{AreLinked, IsGraphOf, IsLiveNode}
 use Rattle.quiesce_core.specs.Runs.{IsRun, state_after}
 use Rattle.quiesce_core.specs.Rules.{is_live_port}
-use Rattle.quiesce_core.specs.State.{Configuration, State, empty, owner}
+use Rattle.quiesce_core.specs.State.{State, owner}
 use Rattle.quiescence_laws.specs.Drained.{is_drained}
 use Rattle.quiescence_laws.specs.Starts.{start_of}
 use Rattle.turns.specs.Round.{FirstAt, after_rounds, ended, is_end}
@@ -38,13 +39,13 @@ use Rattle.change_law.specs.Members.{Member, by_node, of_history, events, is_pen
 use Rattle.change_law.specs.Scene.{AreSeen, config_after, root_line}
 use Rattle.change_law.specs.Serial.{ChangesTo, FinishesAt, Looks, Plays, RunsTo, ShowsGraph, StopsAt, after_changes, finish_ends, is_none_left, looks_after, seen_at, wait_ends}
 use Rattle.change_law.specs.Statements.{Statement, start, change, run, finish, show}
-use Rattle.change_law.proofs.MemberLaws.{events_parts}
+use Rattle.change_law.proofs.MemberLaws.{events_of_nodes, events_parts}
 use Rattle.report_laws.specs.Courses.{Course}
 use Rattle.report_laws.specs.SoundStatements.{GoOnSoundly, IsSoundGraph}
-use Rattle.report_laws.proofs.ClosedPortLaws.{all_live, frozen_listed, frozen_live, frozen_same, same_to_close, where_rise}
+use Rattle.report_laws.proofs.ClosedPortLaws.{frozen_listed, frozen_live, frozen_same, same_to_close, where_rise}
 use Rattle.report_laws.proofs.ClosingLaws.{lines_of_reopens, reopens_are_of_change, reopens_run, shut, shut_same, with_roots}
 use Rattle.report_laws.proofs.CommitGraphLaws.{CommitsByConfiguration, Fits, Stands}
-use Rattle.report_laws.proofs.CourseLaws.{WentOn, course_config, course_machine, course_run, events_done, with_changes, with_rounds, with_said}
+use Rattle.report_laws.proofs.CourseLaws.{WentOn, course_config, course_machine, course_run, with_changes, with_rounds, with_said}
 use Rattle.report_laws.proofs.LookLaws.{Looked, all_seen, are_looks, looked}
 
 -- what plan_laws says of the run of a commit
@@ -64,7 +65,7 @@ rounds_and_line : (h : List HistoryLine) (w v : World) (m : List Member) (l : Hi
     → Rattle.change_law.specs.Members.event_of l ≡ None → Rattle.change_law.specs.Members.is_root l ≡ false
     → ((before : List Member) → Rattle.change_law.specs.Lawful.IsDrainedAt before (of_history l)) → (k : List Member) × Course (h ++ l ∷ []) v k
 rounds_and_line h w v m l g c counted none rootless drained =
-    let grown : v.events ≡ w.events ++ g.later = sym g.course.events_are ∙ events_parts m (map by_node g.later) ∙ (λ i. c.events_are i ++ events_done g.later i) in
+    let grown : v.events ≡ w.events ++ g.later = sym g.course.events_are ∙ events_parts m (map by_node g.later) ∙ (λ i. c.events_are i ++ events_of_nodes g.later i) in
     ((m ++ map by_node g.later) ++ of_history l ∷ [], with_said h v (m ++ map by_node g.later) l g.course none rootless (drained (m ++ map by_node g.later)) (counted g.later grown))
 
 play_run : (h : List HistoryLine) (w v : World) (m : List Member) (k : ℕ) (ls : List HistoryLine) → RunsTo w k ls v → Course h w m → GoesBy h (run k) ls v
@@ -393,7 +394,7 @@ pub stops_by : (h ls : List HistoryLine) (w v : World) (m : List Member) → Cou
 stops_by h ls w v m c s =
     let ports = live_ports w.machine.config in
     let config = course_config h w m c in
-    let live : (q : ℕ) → In ports q → IsLivePort w.machine.config q = all_live w.machine.config in
+    let live : (q : ℕ) → In ports q → IsLivePort w.machine.config q = live_listed w.machine.config in
     let first = h ++ to.Stop ∷ [] in
     let first_members = m ++ of_history to.Stop ∷ [] in
     let head = with_said h w m to.Stop c refl refl tt tt in

@@ -7,7 +7,7 @@ use Rattle.std.specs.Option.{option_map_or}
 use Rattle.std.proofs.lemmas.Bool.{and_parts, cases_eq, eqb-true}
 use Rattle.std.proofs.lemmas.Grind.{flat_map-append}
 use Rattle.std.proofs.lemmas.List.{append-nil}
-use Rattle.std.proofs.lemmas.List.Elements.{All-append, All-cons, All-nil, filter-append}
+use Rattle.std.proofs.lemmas.List.Elements.{All-cons, All-nil, filter-append}
 use Rattle.std.proofs.lemmas.List.Sums.{fold_push}
 use Rattle.base.specs.Each.{Each, EachAfter}
 use Rattle.base.proofs.EachLaws.{each_at}
@@ -43,7 +43,7 @@ use Rattle.change_script.specs.declared.report.NodeLog.{NodeLog}
 use Rattle.change_script.specs.declared.report.Report.{Report}
 use Rattle.change_law.specs.Endings.{moved_to}
 use Rattle.change_law.specs.Follows.{Follows, IsRight, IsStop, Part, lines_of}
-use Rattle.change_law.specs.Lawful.{EndsAs, IsDrainedAt, IsEndedOnce, IsFinishAt, IsFolded, IsGraphAt, IsGraphDescribed, IsLawfulBy, IsLogIn, IsOfRounds, IsOfItsKind, IsQuiescentAt, IsRunAt, Lawful, Merge, Pace, in_rounds, is_unfinished, unfinished_of}
+use Rattle.change_law.specs.Lawful.{EndsAs, IsDrainedAt, IsEndedOnce, IsFinishAt, IsFolded, IsGraphAt, IsGraphDescribed, IsLawfulBy, IsLogIn, IsOfRounds, IsOfItsKind, IsQuiescentAt, IsRunAt, Lawful, Merge, in_rounds, is_unfinished, unfinished_of}
 use Rattle.change_law.specs.Lawful as lawful
 use Rattle.change_law.specs.Members.{Member, of_history, event_of, events, lines, made_slot, without_roots}
 use Rattle.change_law.specs.Opening.{fold_of_node}

@@ -1,5 +1,5 @@
 -- The statements of a sound script: one start stands before all others, each graph is sound and has room, and each
--- change may be planned from the graph that the statement before it named.
+-- change may be planned from the graph that was named last.
 use Rattle.std.specs.Prelude.{◌≡◌, ⊤, ℕ, ℤ, List, [], ◌∷◌, length, Option, Some}
 use Rattle.config_graph.specs.Graph.{Graph, IsGraph, ports}
 use Rattle.config_graph.specs.Sound.{Sound}
