@@ -1,7 +1,7 @@
 -- A file that is written is read, from its start line on.
 use Rattle.std.proofs.Common.{◌≡◌, ◌≢◌, ℕ, ℤ, ◌+◌, ◌&&◌, ◌==◌, true, false, not, inl, inr, List, [], ◌∷◌, ◌++◌, map, Ok, codes, refl, sym, ap, ◌∙◌}
 use Rattle.std.specs.List.{AllByRecursion, flat_map}
-use Rattle.std.proofs.lemmas.Bool.{and_parts}
+use Rattle.std.proofs.lemmas.Bool.{and_parts, not-true}
 use Rattle.std.proofs.lemmas.List.{append_assoc}
 use Rattle.quiesce_core.specs.declared.event.Event.{Event}
 use Rattle.change_script.specs.declared.event_files.EventFile.{EventFile}
@@ -25,7 +25,7 @@ use Rattle.event_laws.specs.EventForms.{MeansEvent}
 use Rattle.event_laws.specs.FileTexts.{CanBeFile, file_text, said, start_text}
 use Rattle.event_laws.proofs.FormLemmas.{means}
 use Rattle.event_laws.proofs.LineTextLemmas.{Neat, ends_well}
-use Rattle.event_laws.proofs.MarginLemmas.{itself_said, line_said, not_true}
+use Rattle.event_laws.proofs.MarginLemmas.{itself_said, line_said}
 
 -- ---- the start line
 
@@ -76,7 +76,7 @@ module _
 -- ---- lines that are written say what they write
 
 no_margin : (byte : ℕ) → not (is_margin byte) && not (byte == 35) ≡ true → (is_margin byte ≡ false) × (byte ≢ 35)
-no_margin byte h = let both = and_parts (not (is_margin byte)) (not (byte == 35)) h in (not_true (is_margin byte) both.0, λ same. let e : false ≡ true = ap (λ b. not (b == 35)) (sym same) ∙ both.1 in cc)
+no_margin byte h = let both = and_parts (not (is_margin byte)) (not (byte == 35)) h in (not-true (is_margin byte) both.0, λ same. let e : false ≡ true = ap (λ b. not (b == 35)) (sym same) ∙ both.1 in cc)
 
 -- a line ends with a byte that is no margin
 record Last (line : List ℕ) : Type 0 where
@@ -87,7 +87,7 @@ record Last (line : List ℕ) : Type 0 where
 
 last_of : (line : List ℕ) → ends_well line ≡ true → Last line
 last_of [] ends = cc
-last_of (byte ∷ []) ends = record { front = []; last = byte; is = refl; none = not_true (is_margin byte) ends }
+last_of (byte ∷ []) ends = record { front = []; last = byte; is = refl; none = not-true (is_margin byte) ends }
 last_of (byte ∷ next ∷ bytes) ends =
     let more = last_of (next ∷ bytes) ends in
     record { front = byte ∷ more.front; last = more.last; is = ap (λ xs. byte ∷ xs) more.is; none = more.none }

@@ -1,7 +1,7 @@
 -- Lines of a text one by one: what a line says, whatever stands at its ends.
 use Rattle.std.proofs.Common.{◌≡◌, ◌≢◌, reverse, ℕ, suc, ◌+◌, ◌-◌, ◌≤◌, ◌==◌, ◌&&◌, Bool, true, false, not, if◌then◌else◌, inl, inr, List, [], ◌∷◌, ◌++◌, take, drop, length, arith, refl, sym, ap, ◌∙◌, append-nil}
 use Rattle.std.specs.List.{list_all, prefix_len, suffix_len}
-use Rattle.std.proofs.lemmas.Bool.{cond-true, cond-false, and_parts, cases_Bool}
+use Rattle.std.proofs.lemmas.Bool.{cond-true, cond-false, and_parts, cases_Bool, not-true}
 use Rattle.std.proofs.lemmas.Bool.Decides.{nat_tests}
 use Rattle.std.proofs.lemmas.Grind.{common_steps}
 use Rattle.std.proofs.lemmas.List.{length-append, length-reverse, reverse-append}
@@ -13,19 +13,15 @@ use Rattle.event_laws.specs.FileTexts.{are_margins, is_one_line, said}
 
 -- ---- a line and the lines behind it
 
-pub not_true : (a : Bool) → not a ≡ true → a ≡ false
-not_true true h = cc
-not_true false h = refl
-
 line_first : (line rest : List ℕ) → is_one_line line ≡ true → lines (line ++ (10 ∷ rest)) ≡ line ∷ lines rest
 line_first line rest one =
     let all = AllPass-from_list_all (λ b. not (b == 10)) line one in
-    slice_split_at (λ b. b == 10) line 10 rest (λ k d low. not_true _ (all k d low)) refl
+    slice_split_at (λ b. b == 10) line 10 rest (λ k d low. not-true _ (all k d low)) refl
 
 line_last : (line : List ℕ) → is_one_line line ≡ true → lines line ≡ line ∷ []
 line_last line one =
     let all = AllPass-from_list_all (λ b. not (b == 10)) line one in
-    slice_split_none (λ b. b == 10) line (λ k d low. not_true _ (all k d low))
+    slice_split_none (λ b. b == 10) line (λ k d low. not-true _ (all k d low))
 
 first_or_none : (b : Bool) (first : Line) (rest : List Line) → (if b then first ∷ rest else rest) ≡ (if b then first ∷ [] else []) ++ rest
 first_or_none true first rest = refl

@@ -1,15 +1,14 @@
 -- The paths of the nodes of a text's graph are paths of scripts.
-use Rattle.std.proofs.Common.{◌≡◌, ◌≢◌, ◌⊎◌, ◌<◌, ◌^◌, ◌≤◌, ◌+◌, ◌-◌, ◌==◌, ◌&&◌, ℕ, zero, suc, ℤ, pos, negsuc, Bool, true, false, not, cond, nat_eq, inl, inr, List, [], ◌∷◌, ◌++◌, map, All, Option, Some, None, take, drop, length, get_or, codes, refl, sym, ap, subst, ◌∙◌, arith}
-use Rattle.std.specs.Prelude.{◌≤ℤ◌, ◌+ℤ◌, ◌-ℤ◌, ◌*ℤ◌, int_le, int_lt, int_div, int_rem, nat_le, if◌then◌else◌, slice_get, slice_index, option_map, option_and_then, find, bytes_eq, IsTrue}
+use Rattle.std.proofs.Common.{◌≡◌, ◌⊎◌, ◌<◌, ◌^◌, ◌≤◌, ◌+◌, ◌-◌, ◌==◌, ◌&&◌, ℕ, suc, ℤ, pos, negsuc, Bool, true, false, not, nat_eq, inl, inr, List, [], ◌∷◌, ◌++◌, map, All, Option, Some, None, take, drop, length, get_or, refl, sym, ap, subst, ◌∙◌, arith}
+use Rattle.std.specs.Prelude.{◌≤ℤ◌, ◌+ℤ◌, ◌-ℤ◌, ◌*ℤ◌, int_le, int_lt, int_div, int_rem, nat_le, if◌then◌else◌, slice_get, slice_index, option_map, option_and_then, find, bytes_eq}
 use Rattle.std.specs.List.{AllByRecursion, AllPass, Contains, flat_map, list_all, starts_with, zip}
 use Rattle.std.specs.Option.{option_map_or}
 use Rattle.std.specs.Ordering.{int_eq}
 use Rattle.std.proofs.lemmas.Int.{ints}
 use Rattle.config_graph.specs.declared.kind.Kind.{Kind}
 use Rattle.config_graph.specs.Kinds.{kind_named}
-use Rattle.std.proofs.lemmas.Bool.{and_parts, cond-true, cond-false, false≢true}
+use Rattle.std.proofs.lemmas.Bool.{and_parts, false≢true}
 use Rattle.std.proofs.lemmas.Bool.Decides.{nat_tests}
-use Rattle.std.proofs.lemmas.Grind.{common_steps}
 use Rattle.std.proofs.lemmas.List.{length-take, take_all}
 use Rattle.std.proofs.lemmas.List.Elements.{Contains-append_left, Contains-append_right, Contains-append_cases}
 use Rattle.std.proofs.lemmas.List.Sums.{list_all-from_AllPass}
@@ -20,7 +19,7 @@ use Rattle.base.proofs.OptionLaws.{made_of_two, option_map_some}
 use Rattle.config_graph.specs.Graph.{Graph}
 use Rattle.config_graph.specs.declared.node.Node.{Node}
 use Rattle.darwin_lexer.specs.declared.front.Front.{Front}
-use Rattle.darwin_lexer.specs.declared.front.Front.TheVariants.{Gap, Lexeme}
+use Rattle.darwin_lexer.specs.declared.front.Front.TheVariants.{Lexeme}
 use Rattle.darwin_lexer.specs.declared.token.Token.{Token}
 use Rattle.darwin_lexer.specs.declared.token.TokenKind.{TokenKind}
 use Rattle.darwin_lexer.specs.declared.token.TokenKind.TheVariants as kinds
@@ -32,29 +31,27 @@ use Rattle.darwin_lexer.specs.Spelling.{IsToken, IsLongest, Means, SpellsName}
 use Rattle.darwin_lexer.specs.Tokens.{bytes_of, token_at, Tokenizes, ended, gap, token, IsTokens}
 use Rattle.darwin_parser.specs.Grammar.{IsUnit}
 use Rattle.darwin_parser.specs.Tree as trees
-use Rattle.darwin_parser.specs.Tree.{Name, Expr, num, var, neg, op, PortDecl, ArrayDecl, InstEntry, single, element, Stmt, Stmts, Component, Tree}
+use Rattle.darwin_parser.specs.Tree.{Name, Expr, num, var, neg, op, PortDecl, ArrayDecl, single, element, Stmt, Stmts, Component, Tree}
 use Rattle.darwin_types.specs.Scope.{array_named, component_named, is_primitive}
 use Rattle.darwin_walk.specs.declared.fault.Fault.{Fault}
 use Rattle.darwin_walk.specs.declared.fault.Fault.TheVariants as shown
-use Rattle.darwin_walk.specs.Instance.{values, integers, element_arguments, Segment, Child, children, children_of, element_child, index_fault, value_fault, element_index_faults, faults_of, instance_faults}
+use Rattle.darwin_walk.specs.Instance.{values, integers, element_arguments, Child, children, children_of, element_child, index_fault, value_fault, element_index_faults, faults_of, instance_faults}
 use Rattle.darwin_walk.specs.Reached.{Reached, valued, turn, made, bound, range, port_size, array_size, reached_in, reached_in_component, with_variable}
-use Rattle.darwin_walk.specs.Value.{Value, integer, out_of_range, zero_divisor, Variable, Env, value_of_name, exact, truth, is_true, integer_operation, is_decided, on_integer, operation, parameters, value}
+use Rattle.darwin_walk.specs.Value.{Value, integer, out_of_range, zero_divisor, Variable, Env, exact, truth, is_true, integer_operation, is_decided, on_integer, operation, parameters, value}
 use Rattle.darwin_parser.specs.declared.tree.Op.{Op}
 use Rattle.darwin_parser.specs.declared.tree.Op.TheVariants.{Or, And, Eq, Ne, Lt, Le, Gt, Ge, Add, Sub, Mul, Div, Rem}
 use Rattle.darwin_walk.specs.Reaches as steps
 use Rattle.darwin_walk.specs.Reaches.{Reaches, ReachedIn, reached_at}
 use Rattle.elaborator.specs.PathBytes.{is_path_byte}
-use Rattle.elaborator.specs.Paths.{Path, within}
 use Rattle.elaborator.specs.Instances.{Instance, Inst, at_top, below, child_path, children_in, instance_of, is_expanded, made_in, top_instance}
-use Rattle.elaborator.specs.Faults.{Faults, faults_in, own_faults, kind_argument_faults}
+use Rattle.elaborator.specs.Faults.{faults_in, own_faults, kind_argument_faults}
 use Rattle.elaborator.specs.Faults.Faults.{out_of_range as out_of_range_holds, zero_divisor as zero_divisor_holds, bad_index as bad_index_holds}
 use Rattle.elaborator.specs.Elaboration.{ElaboratesTo, HasNoFault}
 use Rattle.elaborator.specs.Graph.{natural, node_of}
 use Rattle.elaborator.specs.declared.error.ElabError.TheVariants as error
 use Rattle.elaborator.proofs.NameLaws.{AreSpelled, IsComponentSpelled, child_named, tree_spelled}
-use Rattle.change_script.specs.Paths.{is_name, is_path, path_fits}
+use Rattle.change_script.specs.Paths.{is_name}
 use Rattle.change_script.specs.StatementTexts.{IsInteger, IsWrittenPath}
-use Rattle.change_script.specs.Tokens.{is_word}
 use Rattle.event_laws.proofs.SegmentLemmas.{IsGood, IsIndex, name_plain, path_bytes_word, within_good}
 
 -- ---- names among tokens are names by themselves

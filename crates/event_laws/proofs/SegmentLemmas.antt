@@ -3,7 +3,7 @@ use Rattle.std.proofs.Common.{◌≡◌, ◌⊎◌, ◌<◌, ◌^◌, ◌-◌, �
 use Rattle.std.specs.List.{list_all, onto_first, slice_index}
 use Rattle.std.specs.Char.{is_ascii_digit}
 use Rattle.std.specs.Str.Parse.{AllDigits, IsNumeral}
-use Rattle.std.proofs.lemmas.Bool.{and_parts, cases_Bool, and_from}
+use Rattle.std.proofs.lemmas.Bool.{and_parts, cases_Bool, and_from, not-true}
 use Rattle.std.proofs.lemmas.Bool.Decides.{nat_tests}
 use Rattle.std.proofs.lemmas.Fmt.{decimal_is_IsNumeral}
 use Rattle.std.proofs.Math.Seq.{drop-append_seam, get_or-append_seam, take-append_seam}
@@ -50,11 +50,7 @@ abbrev is_plain : List ℕ → Bool
 is_plain bytes = list_all (λ b. not (b == 46) && not (b == 91)) bytes
 
 no_stop : (bytes : List ℕ) → list_all (λ b. not (b == 46)) bytes ≡ true → segments bytes ≡ bytes ∷ []
-no_stop bytes all = slice_split_none (λ b. b == 46) bytes (λ k d low. not_true _ (AllPass-from_list_all (λ b. not (b == 46)) bytes all k d low))
-  where
-    not_true : (a : Bool) → not a ≡ true → a ≡ false
-    not_true true h = cc
-    not_true false h = refl
+no_stop bytes all = slice_split_none (λ b. b == 46) bytes (λ k d low. not-true _ (AllPass-from_list_all (λ b. not (b == 46)) bytes all k d low))
 
 onto_joined : (x : ℕ) (parts others : List (List ℕ)) → 0 < length parts → onto_first x (parts ++ others) ≡ onto_first x parts ++ others
 onto_joined x [] others some = absurd (omega arith)
