@@ -25,7 +25,7 @@ use Rattle.base.proofs.MapLaws.{All-filter_map}
 use Rattle.base.proofs.RisingLaws.{places_more}
 
 -- a bit that is not set stands in the list
-clear_within : (bits : List Bool) (j : ℕ) → get_or bits j true ≡ false → j < length bits
+pub clear_within : (bits : List Bool) (j : ℕ) → get_or bits j true ≡ false → j < length bits
 clear_within bits j h =
     elim (cases_lt j (length bits)) [
       | inl low ↦ low

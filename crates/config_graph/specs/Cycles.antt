@@ -31,6 +31,10 @@ graph_wiring g = record {
 abbrev pub OnCycle : Graph → ℕ → Type 0
 OnCycle g i = CallPath (graph_wiring g) i i
 
+-- some node is on a cycle
+abbrev pub HasCycle : Graph → Type 0
+HasCycle g = (i : ℕ) × OnCycle g i
+
 -- node i may call a node whose mark isn't set
 abbrev pub LeadsToUnmarked : Graph → List Bool → ℕ → Type 0
 LeadsToUnmarked g marks i = (j : ℕ) × MayCall (graph_wiring g) i j × ¬ IsMarked marks j

@@ -1,11 +1,11 @@
 //! Cycles of depended-on links.
 
 ghost use Rattle.std.specs.Prelude.{◌≡◌, ◌+◌, ◌<◌, ◌≤◌, ◌↔◌, ℕ, ◌⊎◌, length, All, Contains, IfNone, IfOk, IfSome};
-ghost use Rattle.std.specs.Prelude.{IsTrue, OnOk, Some, slice_get, false, option_map, option_to_list, replicate};
+ghost use Rattle.std.specs.Prelude.{IsTrue, OnOk, Some, slice_get, false, not, option_map, option_to_list, replicate};
 ghost use Rattle.std.specs.Prelude.{vec_len};
-ghost use Rattle.std.specs.List.{range_with_len};
+ghost use Rattle.std.specs.List.{list_any, range_with_len};
 ghost use Rattle.std.specs.Option.{ForSome};
-ghost use Rattle.config_graph.specs.Cycles.{FirstOnCycle, LeadsToUnmarked, OnCycle, leads_by, graph_wiring};
+ghost use Rattle.config_graph.specs.Cycles.{FirstOnCycle, HasCycle, LeadsToUnmarked, OnCycle, leads_by, graph_wiring};
 ghost use Rattle.config_graph.specs.Marks.{IsMarked};
 ghost use Rattle.config_graph.specs.declared.node.Port.{Port};
 ghost use Rattle.config_graph.specs.Wiring.{CallPath, HasNoCycle, MayCall};
@@ -19,7 +19,8 @@ use std::alloc::Global;
 /// The first node that is on a cycle, or `None` where no node is on one.
 ///
 /// Where there is no cycle, time grows with the number of nodes and links alone. Where there is one, each node before
-/// the first on a cycle from which a way leads to a cycle costs a search of its own.
+/// the first on a cycle from which a way leads to a cycle costs a search of its own; `has_cycle` says at once that there
+/// is one.
 pub fn first_on_cycle(alloc: Global, graph: &Graph) -> Result<Option<u32>, NoMemory>
     ensures found { IfOk result (λ node. IfSome node (FirstOnCycle graph.now)) }
     ensures absent { IfOk result (λ node. IfNone node (HasNoCycle (graph_wiring graph.now))) }
@@ -33,13 +34,30 @@ pub fn first_on_cycle(alloc: Global, graph: &Graph) -> Result<Option<u32>, NoMem
     Ok(None)
 }
 
+/// Whether a node is on a cycle. Time grows with the number of nodes and links alone.
+pub fn has_cycle(alloc: Global, graph: &Graph) -> Result<bool, NoMemory>
+    ensures { IfOk result (λ has. IsTrue has ↔ HasCycle graph.now) }
+{
+    let acyclic = list_acyclic(alloc, graph)?;
+    Ok(has_unset(&acyclic))
+}
+
+/// Whether some bit isn't set.
+fn has_unset(bits: &[bool]) -> bool
+    ensures { result ≡ list_any not bits.now }
+{
+    bits.iter().any(|bit| !*bit)
+}
+
 /// The nodes that lead only to nodes of this list, as a bit for each node, taken in until there are no more. None of
-/// them is on a cycle, and each other node leads to another that isn't of them.
+/// them is on a cycle, and each other node leads to another that isn't of them, so that a walk among those comes back.
 fn list_acyclic(alloc: Global, graph: &Graph) -> Result<Vec<bool>, NoMemory>
     ensures length { IfOk result (λ acyclic. vec_len acyclic ≡ length graph.now.nodes) }
     ensures acyclic { IfOk result (λ acyclic. (i : ℕ) → IsMarked acyclic.items i → ¬ OnCycle graph.now i) }
     ensures closed { IfOk result (λ acyclic. (i : ℕ) → i < length graph.now.nodes
         → IsMarked acyclic.items i ⊎ LeadsToUnmarked graph.now acyclic.items i) }
+    ensures cycle { IfOk result (λ acyclic. (i : ℕ) → i < length graph.now.nodes → ¬ IsMarked acyclic.items i
+        → HasCycle graph.now) }
 {
     let count = graph.node_count();
     let mut acyclic = no_bits(alloc, count)?;

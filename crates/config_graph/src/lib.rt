@@ -11,7 +11,7 @@ mod numbering;
 mod writing;
 
 pub use base::{List, NoMemory, Text};
-pub use cycles::first_on_cycle;
+pub use cycles::{first_on_cycle, has_cycle};
 pub use graph::{Graph, same};
 pub use kind::{Kind, kind_of};
 pub use laws::{

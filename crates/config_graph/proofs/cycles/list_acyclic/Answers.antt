@@ -1,15 +1,16 @@
-use Rattle.std.proofs.Common.{◌≡◌, ℕ, ◌∷◌, [], ◌++◌, ◌<◌, ◌∙◌, ap, sym, arith, false, true, length, refl, get_or, inl, inr, subst, vec_len, All, Contains, zero-add, ◌⊎◌}
+use Rattle.std.proofs.Common.{◌≡◌, ℕ, Bool, List, ◌∷◌, [], ◌++◌, ◌<◌, ◌∙◌, ap, sym, arith, false, true, length, refl, get_or, inl, inr, subst, vec_len, All, Contains, zero-add, ◌⊎◌}
 use Rattle.std.specs.List.{range_with_len}
 use Rattle.std.proofs.lemmas.List.{length-replicate, get_or_read}
 use Rattle.std.proofs.lemmas.List.FromFn.{get_or-range_with_len, length-range_with_len}
 use Rattle.config_graph.specs.Cycles.{LeadsToUnmarked, OnCycle, graph_wiring}
 use Rattle.config_graph.proofs.cycles.list_acyclic.Goals.{else-not-index-via-then-not-index+else-leads_only_to, else-not-index-via-else-not-index}
 use Rattle.std.proofs.lemmas.Bool.{false≢true}
+use Rattle.config_graph.specs.Graph.{Graph}
 use Rattle.config_graph.specs.Wiring.{MayCall}
 use Rattle.config_graph.specs.Marks.{IsMarked}
 use Rattle.config_graph.proofs.CycleLaws.{range_below}
 use Rattle.config_graph.proofs.WalkLaws.{acyclic_next}
-use Rattle.config_graph.proofs.ClosureLaws.{IsClosedAt, closed_left, closed_marked}
+use Rattle.config_graph.proofs.ClosureLaws.{IsClosedAt, closed_left, closed_marked, cycle_if_unmarked}
 use Rattle.config_graph.proofs.MarkLaws.{marked_only, none_marked}
 use Rattle.config_graph.proofs.SearchLaws.{All-before_last, All-last, clear_falls}
 use Rattle.config_graph.proofs.cycles.list_acyclic.Goals as goal
@@ -86,3 +87,18 @@ loop-node-preserved c =
       acyclic = c.loop-node.invariant.acyclic;
       closed = λ i within_. closed_left g acyclic c.pop.new.self.items node done i (subst (λ xs. IsClosedAt g acyclic xs i) c.in-Some.ensures.items (c.loop-node.invariant.closed i within_));
     }
+
+-- when none waits any more
+none_waits : (g : Graph) (marks : List Bool) (waiting : List ℕ) → length waiting ≡ 0 → (i : ℕ) → IsClosedAt g marks waiting i → IsMarked marks i ⊎ LeadsToUnmarked g marks i
+none_waits g marks waiting none i (inl marked) = inl marked
+none_waits g marks waiting none i (inr (inl waits)) = absurd (omega (arith, none, waits.1))
+none_waits g marks waiting none i (inr (inr leads)) = inr leads
+
+pub returns-clause-cycle : goal.returns-clause-cycle
+returns-clause-cycle c =
+    let g = c.args.graph.now in
+    let acyclic = c.loop-node.acyclic in
+    let waiting = c.loop-node.waiting in
+    let none : length waiting.items ≡ 0 = omega (arith, c.in_default.ensures.cases.0, waiting.ok.0) in
+    cycle_if_unmarked g c.node_count-count.ensures.graph.within acyclic.items (omega (arith, acyclic.ok.0, c.loop-node.invariant.long))
+    (λ i low. none_waits g acyclic.items waiting.items none i (c.loop-node.invariant.closed i low))
