@@ -1,6 +1,6 @@
 //! Graphs, with the indexes that answer look-ups at once.
 
-ghost use Rattle.std.specs.Prelude.{◌≡◌, ◌+◌, ◌^◌, ◌<◌, ◌↔◌, ℕ, length, slice_get, Some, IfOk, IfSome, All, Contains};
+ghost use Rattle.std.specs.Prelude.{◌≡◌, ◌^◌, ◌<◌, ◌↔◌, ℕ, length, slice_get, Some, IfOk, IfSome, All, Contains};
 ghost use Rattle.std.specs.Prelude.{IsTrue};
 ghost use Rattle.std.specs.List.Sorted.{IsStrictlyIncreasing};
 ghost use Rattle.config_graph.specs.declared.node.Link.{Link};

@@ -3,7 +3,7 @@
 ghost use Rattle.std.specs.Prelude.{◌≡◌, ◌<◌, ◌^◌, [], length, map, replicate, IfOk, All};
 ghost use Rattle.std.specs.Ordering.{nat_cmp};
 ghost use Rattle.std.specs.Cmp.Lexicographic.{slice_cmp};
-ghost use Rattle.config_graph.specs.Graph.{Graph, IsLinkWithin, OneLinkAPort, PathsRise, index_of};
+ghost use Rattle.config_graph.specs.Graph.{IsLinkWithin, OneLinkAPort, PathsRise, index_of};
 ghost use Rattle.config_graph.specs.Indexes.{incoming, links_in, no_target, targets};
 
 use crate::numbering::Numbering;
