@@ -66,12 +66,6 @@ pub rise : (nodes : List Node) → paths_rise nodes ≡ true → PathsRise nodes
 rise [] is = λ i j d low high. absurd (omega arith)
 rise (n ∷ nodes) is = AllPairs-cons Before n nodes (first_before n nodes is) (rise nodes (rest_rises n nodes is))
 
--- a list of two members or more, as the code looks at its first two
-pub rise_on : (nodes : List Node) (d : Node) → 1 < length nodes → paths_rise nodes ≡ (comes_before (get_or nodes 0 d) (get_or nodes 1 d) && paths_rise (drop 1 nodes))
-rise_on [] d long = absurd (omega arith)
-rise_on (n ∷ []) d long = absurd (omega arith)
-rise_on (n ∷ next ∷ more) d long = refl
-
 pub rise_end : (nodes : List Node) → length nodes ≤ 1 → paths_rise nodes ≡ true
 rise_end [] short = refl
 rise_end (n ∷ []) short = refl

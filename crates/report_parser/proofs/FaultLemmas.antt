@@ -9,9 +9,9 @@ use Rattle.report_reader.specs.Ends.{status_in}
 use Rattle.report_reader.specs.Parts.{words}
 use Rattle.report_parser.specs.declared.error.ReportFault.{ReportFault}
 use Rattle.report_parser.specs.declared.error.ReportFault.TheVariants as faults
-use Rattle.report_parser.specs.declared.history.Behind.TheVariants as behinds
+use Rattle.report_parser.specs.declared.history.LineAbove.TheVariants as aboves
 use Rattle.report_parser.specs.declared.version.Version.{Version}
-use Rattle.report_parser.specs.Stages.{Found, Front, IsReportFault, Stage, after, after_history, after_logs, after_unfinished, after_version, ended_from, events_from, finish, head_from, head_in, history_from, is_over, last_from, last_of, log_from, log_with, logs_from, named, over, reading, status_from, unfinished_from, version_from, version_in}
+use Rattle.report_parser.specs.Stages.{Found, Front, IsReportFault, Stage, after, after_history, after_logs, after_unfinished, after_version, ended_from, events_from, head_from, head_in, history_from, is_over, last_from, last_of, log_from, log_with, logs_from, named, over, reading, status_from, unfinished_from, version_from, version_in}
 use Rattle.report_parser.specs.TextLines.{lines, tail}
 
 -- a fault of a text, and an answer that isn't want of memory
@@ -28,13 +28,9 @@ named_tells : {A : Type 0} (o : Option A) (number : ℕ) (left : List (List ℕ)
 named_tells None number left = tt
 named_tells (Some a) number left = tt
 
-after_tells : {A B : Type 0} (s : Stage A) (next : Front A → Stage B) → Tells s → ((f : Front A) → Tells (next f)) → Tells (after s next)
+after_tells : {A B : Type 0} (s : Stage A) (next : Front A → Result B ReportFault) → Tells s → ((f : Front A) → Tells (next f)) → Tells (after s next)
 after_tells (Ok f) next first more = more f
 after_tells (Err fault) next first more = first
-
-finish_tells : {A : Type 0} (s : Stage A) (next : Front A → Result Found ReportFault) → Tells s → ((f : Front A) → Tells (next f)) → Tells (finish s next)
-finish_tells (Ok f) next first more = more f
-finish_tells (Err fault) next first more = first
 
 version_tells : (number : ℕ) (ls : List (List ℕ)) → Tells (version_from number ls)
 version_tells number [] = tt
@@ -77,15 +73,15 @@ over_tells version past logs unfinished rest status =
 
 ends_tell : (version : Version) (past : List HistoryLine) (logs : List NodeLog) (rest : List ℕ) (unfinished : Front (Option ℕ)) → Tells (after_unfinished version past logs rest unfinished)
 ends_tell version past logs rest unfinished =
-    finish_tells (status_from unfinished.number unfinished.left) (over version past logs unfinished.read rest) (status_tells unfinished.number unfinished.left) (over_tells version past logs unfinished.read rest)
+    after_tells (status_from unfinished.number unfinished.left) (over version past logs unfinished.read rest) (status_tells unfinished.number unfinished.left) (over_tells version past logs unfinished.read rest)
 
 reading_tells : (text : List ℕ) → Tells (reading text)
 reading_tells text =
-    finish_tells (version_from 1 (lines text)) (after_version (tail text)) (version_tells 1 (lines text)) (λ version. by version.read (history_from version.read [] behinds.Other version.number version.left))
+    after_tells (version_from 1 (lines text)) (after_version (tail text)) (version_tells 1 (lines text)) (λ version. by version.read (history_from version.read [] aboves.Other version.number version.left))
   where
     by : (version : Version) (past : Front (List HistoryLine)) → Tells (after_history version (tail text) past)
     by version past =
-        finish_tells (logs_from version (makes past.read) [] past.number past.left) (after_logs version past.read (tail text)) (logs_tell version (makes past.read) [] past.number past.left)
+        after_tells (logs_from version (makes past.read) [] past.number past.left) (after_logs version past.read (tail text)) (logs_tell version (makes past.read) [] past.number past.left)
         (λ logs. ends_tell version past.read logs.read (tail text) (unfinished_from version logs.number logs.left))
 
 pub no_memory : (text : List ℕ) → IsReportFault text faults.NoMemory → ⊥

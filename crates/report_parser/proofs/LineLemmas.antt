@@ -1,18 +1,14 @@
 -- Lines at the front of a text, and a text as its lines.
-use Rattle.std.proofs.Common.{◌≡◌, ◌==◌, ◌<◌, ◌≤◌, ◌+◌, ◌-◌, ℕ, suc, Bool, true, false, not, inl, inr, List, [], ◌∷◌, ◌++◌, take, drop, length, arith, refl, sym, ap, subst, ◌∙◌}
+use Rattle.std.proofs.Common.{◌≡◌, ◌==◌, ◌+◌, ℕ, suc, Bool, true, false, not, inl, inr, List, [], ◌∷◌, ◌++◌, append_assoc, length, arith, refl, sym, ap, subst, ◌∙◌}
 use Rattle.std.specs.Prelude.{flat_map}
-use Rattle.std.specs.List.{prefix_len}
+use Rattle.std.specs.List.{onto_first, slice_split}
 use Rattle.std.proofs.lemmas.Bool.{and_from, and_parts, cases_Bool, cond-true, cond-false}
 use Rattle.std.proofs.lemmas.Bool.Decides.{nat_tests}
-use Rattle.std.proofs.lemmas.List.{append-nil}
-use Rattle.base.proofs.PlaceLaws.{rest_is}
+use Rattle.std.proofs.lemmas.List.{append-nil, same_from_push}
 use Rattle.change_script.specs.Reports.{ended}
 use Rattle.report_reader.specs.ReportLines.{lacks}
 use Rattle.report_parser.specs.Stages.{is_over}
 use Rattle.report_parser.specs.TextLines.{lines, onto_line, onto_tail, tail}
-
-abbrev before_feed : ℕ → Bool
-before_feed byte = not (byte == 10)
 
 -- a line at the front, and what stands behind it
 pub record Fronted (text line rest : List ℕ) : Type 0 where
@@ -36,39 +32,6 @@ fronted_here byte bytes is = record {
   end = cond-true _ _ _ is;
   parts = ap (λ b. b ∷ bytes) (feed_is byte is);
 }
-
--- the first line goes up to the first line feed
-pub first_line : (text : List ℕ) → prefix_len before_feed text < length text → Fronted text (take (prefix_len before_feed text) text) (drop (prefix_len before_feed text + 1) text)
-first_line [] within = absurd (omega arith)
-first_line (b ∷ bs) within =
-    let n : ℕ = prefix_len before_feed bs in
-    elim (cases_Bool (b == 10)) [
-      | inl is ↦
-          let none : prefix_len before_feed (b ∷ bs) ≡ 0 = cond-false _ _ _ (ap not is) in
-          subst (λ k. Fronted (b ∷ bs) (take k (b ∷ bs)) (drop (k + 1) (b ∷ bs))) (sym none) (fronted_here b bs is)
-      | inr other ↦
-          let more : prefix_len before_feed (b ∷ bs) ≡ suc n = cond-true _ _ _ (ap not other) ∙ (let e : 1 + n ≡ suc n = omega arith in e) in
-          let step : suc n + 1 ≡ suc (n + 1) = omega arith in
-          subst (λ k. Fronted (b ∷ bs) (take k (b ∷ bs)) (drop (k + 1) (b ∷ bs))) (sym more)
-          (subst (λ k. Fronted (b ∷ bs) (b ∷ take n bs) (drop k (b ∷ bs))) (sym step) (fronted_more b bs (take n bs) (drop (n + 1) bs) other (first_line bs (omega arith))))
-    ]
-
--- the same, as the code has what is left
-pub first_line_at : (text : List ℕ) (n : ℕ) → n ≡ prefix_len before_feed text → n < length text → Fronted text (take n text) (take (length text - (n + 1)) (drop (n + 1) text))
-first_line_at text n is within =
-    let rest = rest_is text (n + 1) (omega arith) in
-    subst (λ r. Fronted text (take n text) r) (sym rest) (subst (λ k. Fronted text (take k text) (drop (k + 1) text)) (sym is) (first_line text (omega arith)))
-
--- where there is no line feed, there is no line
-pub no_line : (text : List ℕ) → length text ≤ prefix_len before_feed text → lines text ≡ []
-no_line [] all = refl
-no_line (b ∷ bs) all =
-    elim (cases_Bool (b == 10)) [
-      | inl is ↦ let none : prefix_len before_feed (b ∷ bs) ≡ 0 = cond-false _ _ _ (ap not is) in absurd (omega arith)
-      | inr other ↦
-          let more : prefix_len before_feed (b ∷ bs) ≡ 1 + prefix_len before_feed bs = cond-true _ _ _ (ap not other) in
-          cond-false _ _ _ other ∙ ap (onto_line b) (no_line bs (omega arith))
-    ]
 
 other_byte : (byte : ℕ) → not (byte == 10) ≡ true → (byte == 10) ≡ false
 other_byte byte is = grind (arith, nat_tests)
@@ -178,3 +141,39 @@ over_is (b ∷ bs) =
 -- a text that ends with a line feed is its lines
 pub all_lines : (text : List ℕ) → tail text ≡ [] → flat_map ended (lines text) ≡ text
 all_lines text none = sym (append-nil (flat_map ended (lines text))) ∙ ap (λ t. flat_map ended (lines text) ++ t) (sym none) ∙ whole text
+
+-- ---- a text that is parted at its line feeds: its lines, and what stands behind the last
+
+abbrev feed : ℕ → Bool
+feed byte = byte == 10
+
+onto_both : (byte : ℕ) (ls : List (List ℕ)) (left : List ℕ) → onto_first byte (ls ++ left ∷ []) ≡ onto_line byte ls ++ onto_tail byte ls left ∷ []
+onto_both byte [] left = refl
+onto_both byte (line ∷ more) left = refl
+
+parts_are : (text : List ℕ) → slice_split feed text ≡ lines text ++ tail text ∷ []
+parts_are [] = refl
+parts_are (b ∷ bs) =
+    elim (cases_Bool (b == 10)) [
+      | inl is ↦
+          let f = fronted_here b bs is in
+          cond-true _ _ _ is ∙ ap (λ parts. [] ∷ parts) (parts_are bs) ∙ (λ i. sym f.ls i ++ sym f.end i ∷ [])
+      | inr other ↦
+          let at_lines : lines (b ∷ bs) ≡ onto_line b (lines bs) = cond-false _ _ _ other in
+          let at_tail : tail (b ∷ bs) ≡ onto_tail b (lines bs) (tail bs) = cond-false _ _ _ other in
+          cond-false _ _ _ other ∙ ap (onto_first b) (parts_are bs) ∙ onto_both b (lines bs) (tail bs) ∙ (λ i. sym at_lines i ++ sym at_tail i ∷ [])
+    ]
+
+-- Where the first part is all, there is no line; else it is the first line.
+pub no_line : (text part : List ℕ) → slice_split feed text ≡ part ∷ [] → lines text ≡ []
+no_line text part is = (same_from_push (lines text) [] (tail text) part (sym (parts_are text) ∙ is)).0
+
+pub first_line : (text line behind : List ℕ) → slice_split feed text ≡ line ∷ slice_split feed behind → Fronted text line behind
+first_line text line behind is =
+    let both = same_from_push (lines text) (line ∷ lines behind) (tail text) (tail behind) (sym (parts_are text) ∙ is ∙ ap (λ parts. line ∷ parts) (parts_are behind)) in
+    record {
+      ls = both.0;
+      end = both.1;
+      parts = sym (whole text) ∙ (λ i. flat_map ended (both.0 i) ++ both.1 i) ∙ append_assoc (ended line) (flat_map ended (lines behind)) (tail behind)
+          ∙ ap (λ t. ended line ++ t) (whole behind) ∙ append_assoc line (10 ∷ []) behind;
+    }

@@ -1,6 +1,7 @@
 -- The logs of a report, and the lines behind them: what is written is read, and what is read was written.
 use Rattle.std.proofs.Common.{◌≡◌, ◌==◌, ◌+◌, ◌<◌, ◌%◌, ◌^◌, ℕ, suc, Bool, true, not, inl, inr, List, [], ◌∷◌, ◌++◌, Option, Some, None, codes, decimal, bytes_eq, refl, sym, ap, subst, ◌∙◌, append_assoc, arith, All}
 use Rattle.std.specs.Prelude.{flat_map, Result, Ok, Err}
+use Rattle.std.specs.Option.{option_map_or}
 use Rattle.std.proofs.lemmas.Bool.{and_from, and_parts, cases_Bool, cond-true, cond-false}
 use Rattle.std.proofs.lemmas.Bool.Decides.{nat_tests}
 use Rattle.std.proofs.lemmas.Fmt.{decimal_by_steps}
@@ -23,7 +24,7 @@ use Rattle.report_parser.specs.declared.error.ReportFault.{ReportFault}
 use Rattle.report_parser.specs.declared.version.Version.{Version}
 use Rattle.report_parser.specs.Limits.{event_keeps, last_keeps}
 use Rattle.report_parser.specs.ReportTexts.{IsLog, written_by}
-use Rattle.report_parser.specs.Stages.{Front, Stage, after, ended_from, event_of, events_from, front, goes_on, head_in, keeping, last_from, last_of, log_from, log_with, logs_from, named}
+use Rattle.report_parser.specs.Stages.{Front, Stage, after, ended_from, event_of, events_from, front, head_in, keeping, last_from, last_of, log_from, log_with, logs_from, named}
 use Rattle.report_parser.specs.TextLines.{lines}
 use Rattle.report_parser.proofs.LineLemmas.{AllLack, line_at}
 use Rattle.report_parser.proofs.HistoryLemmas.{keep_true, none_some, some_is}
@@ -125,7 +126,7 @@ events_written : (version : Version) (rest line : List ℕ) (more : List (List �
     → (n : ℕ) × (events_from version past number (lines (flat_map event_text later ++ rest)) ≡ front (past ++ later) n (lines rest))
 events_written version rest line more rest_is other [] past number all = (
   number,
-  ap (events_from version past number) rest_is ∙ ap (λ o. goes_on (keeping (event_keeps version) o) (λ event. events_from version (past ++ event ∷ []) (number + 1) more) (front past number (line ∷ more))) other
+  ap (events_from version past number) rest_is ∙ ap (λ o. option_map_or (λ event. events_from version (past ++ event ∷ []) (number + 1) more) (keeping (event_keeps version) o) (front past number (line ∷ more))) other
       ∙ (λ i. front (sym (append-nil past) i) number (sym rest_is i)),
 )
 events_written version rest line more rest_is other (event ∷ later) past number all =
@@ -137,7 +138,7 @@ events_written version rest line more rest_is other (event ∷ later) past numbe
     let on = events_written version rest line more rest_is other later (past ++ event ∷ []) (number + 1) (all_rest (IsEvent version) event later all) in (
       on.0,
       ap (events_from version past number) front_is
-          ∙ ap (λ o. goes_on o (λ event. events_from version (past ++ event ∷ []) (number + 1) (lines text)) (front past number (written event ∷ lines text))) found
+          ∙ ap (λ o. option_map_or (λ event. events_from version (past ++ event ∷ []) (number + 1) (lines text)) o (front past number (written event ∷ lines text))) found
           ∙ on.1 ∙ ap (λ es. front es on.0 (lines rest)) (append_assoc past (event ∷ []) later),
     )
 
@@ -199,7 +200,7 @@ logs_written version all rest (made ∷ others) (log ∷ logs) past number of_th
 
 -- ---- what is read was written
 
-pub after_ok : {A B : Type 0} (s : Stage A) (next : Front A → Stage B) (r : Front B) → after s next ≡ Ok r → (f : Front A) × (s ≡ Ok f) × (next f ≡ Ok r)
+pub after_ok : {A B : Type 0} (s : Stage A) (next : Front A → Result B ReportFault) (r : B) → after s next ≡ Ok r → (f : Front A) × (s ≡ Ok f) × (next f ≡ Ok r)
 after_ok (Err fault) next r e = let never : ⊥ = cc in absurd never
 after_ok (Ok f) next r e = (f, refl, e)
 
@@ -240,12 +241,12 @@ events_by : (version : Version) (f : Front (List Event)) (line : List ℕ) (more
     → events_from version past number (line ∷ more) ≡ f → (o : Option Event) → event_of version line ≡ o → EventsRead version past f.read (line ∷ more) f.left
 events_by version f line more lack on past number e None is =
     let here : front past number (line ∷ more) ≡ f
-    = sym (ap (λ o. goes_on o (λ event. events_from version (past ++ event ∷ []) (number + 1) more) (front past number (line ∷ more))) is) ∙ e in
+    = sym (ap (λ o. option_map_or (λ event. events_from version (past ++ event ∷ []) (number + 1) more) o (front past number (line ∷ more))) is) ∙ e in
     subst (λ (g : Front (List Event)). EventsRead version past g.read (line ∷ more) g.left) here
     (record { more = []; is = sym (append-nil past); text = refl; each = no_members (IsEvent version); lack = lack })
 events_by version f line more lack on past number e (Some event) is =
     let onward : events_from version (past ++ event ∷ []) (number + 1) more ≡ f
-    = sym (ap (λ o. goes_on o (λ event. events_from version (past ++ event ∷ []) (number + 1) more) (front past number (line ∷ more))) is) ∙ e in
+    = sym (ap (λ o. option_map_or (λ event. events_from version (past ++ event ∷ []) (number + 1) more) o (front past number (line ∷ more))) is) ∙ e in
     let rest = on (past ++ event ∷ []) (number + 1) onward in
     let found = kept (event_keeps version) (event_in (words line)) event is in
     let says = event_says line event found.0 in

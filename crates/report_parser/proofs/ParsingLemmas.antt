@@ -54,11 +54,6 @@ no_memory_beside text faults.NoMemory version report e is = refl
 no_memory_beside text faults.Short version report e is = right_wrong (found_of version report) faults.Short (sym (text_is_read version text report is) ∙ e (λ f. cc))
 no_memory_beside text (faults.BadLine n) version report e is = right_wrong (found_of version report) (faults.BadLine n) (sym (text_is_read version text report is) ∙ e (λ f. cc))
 
-pub fault_or_memory : (text : List ℕ) (fault other : ReportFault) → (fault ≢ faults.NoMemory → reading text ≡ Err fault) → reading text ≡ Err other → (fault ≡ other) ⊎ (fault ≡ faults.NoMemory)
-fault_or_memory text faults.NoMemory other e is = inr refl
-fault_or_memory text faults.Short other e is = inl (same_fault text faults.Short other (e (λ f. cc)) is)
-fault_or_memory text (faults.BadLine n) other e is = inl (same_fault text (faults.BadLine n) other (e (λ f. cc)) is)
-
 -- ---- laws
 
 pub one_report : (version other : Version) (text : List ℕ) (report same : Report) → IsReportText version text report → IsReportText other text same → (version ≡ other) × (report ≡ same)

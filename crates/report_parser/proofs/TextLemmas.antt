@@ -1,6 +1,7 @@
 -- Whole texts: the text of a report is read as this report, and what is read of a text is a report whose text it is.
 use Rattle.std.proofs.Common.{◌≡◌, ◌==◌, ◌+◌, ◌≤◌, ℕ, true, false, inl, inr, List, [], ◌∷◌, ◌++◌, Option, Some, None, IfSome, codes, decimal, bytes_eq, refl, sym, ap, subst, ◌∙◌, append_assoc, arith}
-use Rattle.std.specs.Prelude.{flat_map, Result, Ok, Err, slice_get}
+use Rattle.std.specs.Prelude.{flat_map, Ok, Err, slice_get}
+use Rattle.std.specs.Option.{option_map_or}
 use Rattle.std.proofs.lemmas.Bool.{cases_Bool, cond-true, cond-false, false≢true}
 use Rattle.std.proofs.lemmas.Fmt.{decimal_digit}
 use Rattle.std.proofs.lemmas.List.{append-nil}
@@ -19,19 +20,18 @@ use Rattle.report_reader.specs.Parts.{words}
 use Rattle.report_reader.specs.Readings.{line_in}
 use Rattle.report_reader.specs.ReportLines.{lacks}
 use Rattle.report_reader.proofs.EndLaws.{head_with_path_words, head_words, status_of, status_says, status_words, unfinished_of as read_unfinished, unfinished_says, unfinished_words}
-use Rattle.report_parser.specs.declared.error.ReportFault.{ReportFault}
-use Rattle.report_parser.specs.declared.history.Behind.TheVariants as behinds
+use Rattle.report_parser.specs.declared.history.LineAbove.TheVariants as aboves
 use Rattle.report_parser.specs.declared.version.Version.{Version}
 use Rattle.report_parser.specs.declared.version.Version.TheVariants as versions
 use Rattle.report_parser.specs.Limits.{is_slot}
 use Rattle.report_parser.specs.ReportTexts.{CanBeShown, IsReport, IsReportText, StandsBehind, written_by}
 use Rattle.base.specs.Each.{EachAfter}
 use Rattle.config_graph.specs.Graph.{Graph}
-use Rattle.report_parser.specs.Stages.{Found, Front, Stage, after_history, after_logs, after_unfinished, after_version, finish, front, goes_on, history_from, is_over, keeping, logs_from, named, over, reading, status_from, unfinished_from, unfinished_of, version_from, version_in}
+use Rattle.report_parser.specs.Stages.{Found, Front, after, after_history, after_logs, after_unfinished, after_version, front, history_from, is_over, keeping, logs_from, named, over, reading, status_from, unfinished_from, unfinished_of, version_from, version_in}
 use Rattle.report_parser.specs.TextLines.{lines, onto_line, onto_tail, tail}
 use Rattle.report_parser.proofs.LineLemmas.{AllLack, line_at, lines_lack, whole}
 use Rattle.report_parser.proofs.HistoryLemmas.{IsTold, Reads, Stops, history_read, history_written, keep_true, none_some, some_is}
-use Rattle.report_parser.proofs.LogLemmas.{AllOf, AllRead, kept, logs_at_end, logs_read, logs_written, named_ok, ok_is, one_lacks, texts_of}
+use Rattle.report_parser.proofs.LogLemmas.{AllOf, AllRead, after_ok, kept, logs_at_end, logs_read, logs_written, named_ok, ok_is, one_lacks, texts_of}
 use Rattle.report_parser.proofs.SlotLemmas.{AllHead, CanHead, FoundBy, all_head, all_of, are_logs, found_by, logs_made, same_slots, same_texts, slots_in_order}
 
 -- ---- a text that ends with a line feed
@@ -132,7 +132,7 @@ unfinished_written version None status number can low =
     let none : unfinished_of version line ≡ None = ap (λ ws. keeping (is_slot version) (unfinished_in ws)) (status_words status low) in (
       number,
       ap (unfinished_from version number) (status_front status low)
-          ∙ ap (λ o. goes_on o (λ slot. front (Some slot) (number + 1) []) (front None number (line ∷ []))) none
+          ∙ ap (λ o. option_map_or (λ slot. front (Some slot) (number + 1) []) o (front None number (line ∷ []))) none
           ∙ ap (front None number) (sym (status_front status low)),
     )
 unfinished_written version (Some slot) status number can low =
@@ -142,7 +142,7 @@ unfinished_written version (Some slot) status number can low =
     let found : unfinished_of version line ≡ Some slot = ap (keeping (is_slot version)) (read_unfinished slot small) ∙ keep_true (is_slot version) slot can.1 in (
       number + 1,
       ap (unfinished_from version number) (ap lines (append_assoc line (codes "\n") rest) ∙ (line_at line rest (unfinished_line_lacks slot small)).ls)
-          ∙ ap (λ o. goes_on o (λ slot. front (Some slot) (number + 1) (lines rest)) (front None number (line ∷ lines rest))) found,
+          ∙ ap (λ o. option_map_or (λ slot. front (Some slot) (number + 1) (lines rest)) o (front None number (line ∷ lines rest))) found,
     )
 
 status_written : (n number : ℕ) → n ≤ 255 → status_from number (lines (ended (with_one (codes "status") n))) ≡ Ok (front n (number + 1) [])
@@ -215,12 +215,12 @@ module _ (tells : (graph : Graph) → CanBeShown graph → IsTold graph) (versio
   ends_read number =
       let u = unfinished_written version report.unfinished report.status number is.unfinished low in
       ap (after_unfinished version report.history report.logs []) u.1
-      ∙ ap (λ s. finish s (over version report.history report.logs report.unfinished [])) (status_written report.status u.0 low)
+      ∙ ap (λ s. after s (over version report.history report.logs report.unfinished [])) (status_written report.status u.0 low)
 
   logs_are_read : (number : ℕ) → after_history version [] (front report.history number (lines logs_text)) ≡ Ok (record { version = version; report = report })
   logs_are_read number =
       let l = logs_written version made ends_text made report.logs [] number of_them in
-      ap (λ s. finish s (after_logs version report.history [])) l.1 ∙ ends_read l.0
+      ap (λ s. after s (after_logs version report.history [])) l.1 ∙ ends_read l.0
 
   pub is_read : (text : List ℕ) → text ≡ text_by by_version report → reading text ≡ Ok (record { version = version; report = report })
   is_read text text_is =
@@ -234,16 +234,12 @@ module _ (tells : (graph : Graph) → CanBeShown graph → IsTold graph) (versio
       = ap tail text_is ∙ ends_whole (((ended head ++ flat_map history_text report.history) ++ flat_map (log_text by_version made) report.logs) ++ unfinished_text report.unfinished) (with_one (codes "status") report.status) in
       let lines_are : lines text ≡ head ∷ lines later_text = ap lines text_at ∙ f.ls in
       let begins = begins_logs version made made report.logs ends_text of_them (all_head version [] report.history is.history) (begins_ends version report.unfinished report.status is.unfinished low) in
-      let past = history_written version logs_text begins.line begins.more begins.is begins.stops tells report.history [] behinds.Other (1 + 1) refl is.history in
-      (λ i. finish (version_from 1 (lines_are i)) (after_version (nothing i)))
-      ∙ ap (λ o. finish (named o 1 (lines later_text)) (after_version [])) line.1
+      let past = history_written version logs_text begins.line begins.more begins.is begins.stops tells report.history [] aboves.Other (1 + 1) refl is.history in
+      (λ i. after (version_from 1 (lines_are i)) (after_version (nothing i)))
+      ∙ ap (λ o. after (named o 1 (lines later_text)) (after_version [])) line.1
       ∙ ap (after_history version []) past.reads ∙ logs_are_read past.last
 
 -- ---- what is read of a text is a report whose text it is
-
-finish_ok : {A : Type 0} (s : Stage A) (next : Front A → Result Found ReportFault) (r : Found) → finish s next ≡ Ok r → (f : Front A) × (s ≡ Ok f) × (next f ≡ Ok r)
-finish_ok (Err fault) next r e = let never : ⊥ = cc in absurd never
-finish_ok (Ok f) next r e = (f, refl, e)
 
 over_lines : (left : List (List ℕ)) (rest : List ℕ) → is_over left rest ≡ true → (left ≡ []) × (rest ≡ [])
 over_lines [] [] is = (refl, refl)
@@ -270,7 +266,7 @@ unfinished_read version number [] = record { text = refl; can = tt }
 unfinished_read version number (line ∷ more) = by (unfinished_of version line) refl
   where
     with_found : Option ℕ → Front (Option ℕ)
-    with_found o = goes_on o (λ slot. front (Some slot) (number + 1) more) (front None number (line ∷ more))
+    with_found o = option_map_or (λ slot. front (Some slot) (number + 1) more) o (front None number (line ∷ more))
 
     by : (o : Option ℕ) → unfinished_of version line ≡ o → UnfinishedRead version (unfinished_from version number (line ∷ more)).read (line ∷ more) (unfinished_from version number (line ∷ more)).left
     by None is = subst (λ (f : Front (Option ℕ)). UnfinishedRead version f.read (line ∷ more) f.left) (sym (ap with_found is)) (record { text = refl; can = tt })
@@ -309,7 +305,7 @@ version_line line version e =
 record ReadSo (text : List ℕ) (version : Version) (line : List ℕ) (more : List (List ℕ)) (hf : Front (List HistoryLine)) (lf : Front (List NodeLog)) (sf : Front ℕ) : Type 0 where
   lines_are : lines text ≡ line ∷ more
   version_is : version_in line ≡ Some version
-  past : history_from version [] behinds.Other (1 + 1) more ≡ hf
+  past : history_from version [] aboves.Other (1 + 1) more ≡ hf
   logs : logs_from version (makes hf.read) [] hf.number hf.left ≡ Ok lf
   status : status_from (unfinished_from version lf.number lf.left).number (unfinished_from version lf.number lf.left).left ≡ Ok sf
   ends : sf.left ≡ []
@@ -335,8 +331,8 @@ module _ (reads : Reads) (text : List ℕ) (version : Version) (line : List ℕ)
 
   is_report_at : (l : List ℕ) (left : List (List ℕ)) → hf.left ≡ l ∷ left → IsReportText version text (report_of version hf lf sf)
   is_report_at l left left_is =
-      let past_is : history_from version [] behinds.Other (1 + 1) more ≡ front hf.read hf.number (l ∷ left) = so.past ∙ ap (front hf.read hf.number) left_is in
-      let past = history_read version reads hf.read hf.number l left more lacking.1 [] behinds.Other (1 + 1) refl past_is in
+      let past_is : history_from version [] aboves.Other (1 + 1) more ≡ front hf.read hf.number (l ∷ left) = so.past ∙ ap (front hf.read hf.number) left_is in
+      let past = history_read version reads hf.read hf.number l left more lacking.1 [] aboves.Other (1 + 1) refl past_is in
       let logs = logs_read version (makes hf.read) [] hf.left hf.number lf (subst AllLack (sym left_is) past.lack) so.logs in
       let ends = unfinished_read version lf.number lf.left in
       let status = status_read (unfinished_after version lf).number (unfinished_after version lf).left sf so.status in
@@ -376,7 +372,7 @@ module _ (reads : Reads) (text : List ℕ) (version : Version) (line : List ℕ)
 
 pub is_written : (reads : Reads) (text : List ℕ) (found : Found) → reading text ≡ Ok found → IsReportText found.version text found.report
 is_written reads text found e =
-    let step = finish_ok (version_from 1 (lines text)) (after_version (tail text)) found e in
+    let step = after_ok (version_from 1 (lines text)) (after_version (tail text)) found e in
     by (lines text) refl step.0 step.1 step.2
   where
     by : (ls : List (List ℕ)) → lines text ≡ ls → (f : Front Version) → version_from 1 ls ≡ Ok f → after_version (tail text) f ≡ Ok found → IsReportText found.version text found.report
@@ -384,11 +380,11 @@ is_written reads text found e =
     by (line ∷ more) is f first e =
         let name = named_ok (version_in line) 1 more f first in
         let version = name.0 in
-        let e' : after_history version (tail text) (history_from version [] behinds.Other (1 + 1) more) ≡ Ok found = ap (after_version (tail text)) (sym name.2) ∙ e in
-        let hf : Front (List HistoryLine) = history_from version [] behinds.Other (1 + 1) more in
-        let logs = finish_ok (logs_from version (makes hf.read) [] hf.number hf.left) (after_logs version hf.read (tail text)) found e' in
+        let e' : after_history version (tail text) (history_from version [] aboves.Other (1 + 1) more) ≡ Ok found = ap (after_version (tail text)) (sym name.2) ∙ e in
+        let hf : Front (List HistoryLine) = history_from version [] aboves.Other (1 + 1) more in
+        let logs = after_ok (logs_from version (makes hf.read) [] hf.number hf.left) (after_logs version hf.read (tail text)) found e' in
         let lf = logs.0 in
-        let status = finish_ok (status_from (unfinished_after version lf).number (unfinished_after version lf).left) (over version hf.read lf.read (unfinished_after version lf).read (tail text)) found logs.2 in
+        let status = after_ok (status_from (unfinished_after version lf).number (unfinished_after version lf).left) (over version hf.read lf.read (unfinished_after version lf).read (tail text)) found logs.2 in
         let end = over_ok version hf.read lf.read (unfinished_after version lf).read (tail text) status.0 found status.2 in
         let so : ReadSo text version line more hf lf status.0 = record {
           lines_are = is;

@@ -13,6 +13,6 @@ abbrev pub leaving : {A : Type 0} → A → Rest → Front A
 leaving read rest = front read rest.number (lines rest.text.now)
 
 -- What stands behind the next line feed is as it was, and the numbers of all lines can be told as before.
-pub record Follows (old new : Rest) : Type 0 where
+pub record IsRestOf (new old : Rest) : Type 0 where
   pub tail : tail new.text.now ≡ tail old.text.now
   pub room : new.number + length new.text.now ≤ old.number + length old.text.now

@@ -2,6 +2,7 @@
 -- line that doesn't.
 use Rattle.std.specs.Prelude.{◌≡◌, ℕ, ◌+◌, ◌==◌, Bool, true, false, ◌&&◌, if◌then◌else◌, List, [], ◌∷◌, ◌++◌, bytes_eq, codes, length, Option, Some, None, option_map, Result, Ok, Err}
 use Rattle.std.specs.List.{list_all}
+use Rattle.std.specs.Option.{option_map_or}
 use Rattle.quiesce_core.specs.declared.event.Event.{Event}
 use Rattle.change_script.specs.Reports.{SlotPath, log_head, makes}
 use Rattle.change_script.specs.declared.report.HistoryLine.{HistoryLine}
@@ -15,8 +16,8 @@ use Rattle.report_reader.specs.Parts.{is_end, words}
 use Rattle.report_reader.specs.Readings.{event_in, last_in, line_in}
 use Rattle.report_parser.specs.declared.error.ReportFault.{ReportFault}
 use Rattle.report_parser.specs.declared.error.ReportFault.TheVariants as faults
-use Rattle.report_parser.specs.declared.history.Behind.{Behind}
-use Rattle.report_parser.specs.declared.history.Behind.TheVariants as behinds
+use Rattle.report_parser.specs.declared.history.LineAbove.{LineAbove}
+use Rattle.report_parser.specs.declared.history.LineAbove.TheVariants as aboves
 use Rattle.report_parser.specs.declared.version.Version.{Version}
 use Rattle.report_parser.specs.declared.version.Version.TheVariants as versions
 use Rattle.report_parser.specs.Limits.{event_keeps, is_slot, last_keeps, line_keeps}
@@ -36,8 +37,8 @@ Stage A = Result (Front A) ReportFault
 abbrev pub front : {A : Type 0} → A → ℕ → List (List ℕ) → Front A
 front read number left = record { read = read; number = number; left = left }
 
--- the next stage, where this one has no fault
-abbrev pub after : {A B : Type 0} → Stage A → (Front A → Stage B) → Stage B
+-- what comes of a stage, where it has no fault
+abbrev pub after : {A B : Type 0} → Stage A → (Front A → Result B ReportFault) → Result B ReportFault
 after (Err fault) next = Err fault
 after (Ok f) next = next f
 
@@ -45,11 +46,6 @@ after (Ok f) next = next f
 abbrev pub named : {A : Type 0} → Option A → ℕ → List (List ℕ) → Stage A
 named None number left = Err (faults.BadLine number)
 named (Some read) number left = Ok (front read (number + 1) left)
-
--- goes on with what was found, and else stops
-abbrev pub goes_on : {A B : Type 0} → Option A → (A → B) → B → B
-goes_on None on stop = stop
-goes_on (Some found) on stop = on found
 
 -- a value, where a test holds of it
 abbrev pub keeping : {A : Type 0} → (A → Bool) → Option A → Option A
@@ -66,54 +62,54 @@ version_from number [] = Err faults.Short
 version_from number (line ∷ more) = named (version_in line) number more
 
 -- whether an `open` line may stand behind a line
-abbrev pub is_after_pending : Behind → Bool
-is_after_pending behinds.Pending = true
-is_after_pending behind = false
+abbrev pub is_after_pending : LineAbove → Bool
+is_after_pending aboves.Pending = true
+is_after_pending above = false
 
-abbrev pub is_after_show : Behind → Bool
-is_after_show behinds.Show = true
-is_after_show behind = false
+abbrev pub is_after_show : LineAbove → Bool
+is_after_show aboves.Show = true
+is_after_show above = false
 
-abbrev pub behind_line : HistoryLine → Behind
-behind_line says = if is_pending_or_root says then behinds.Pending else behinds.Other
+abbrev pub line_above : HistoryLine → LineAbove
+line_above says = if is_pending_or_root says then aboves.Pending else aboves.Other
 
 -- whether a line can stand there, where so many nodes were made: nodes are made in the slots 0, 1 and on
-abbrev pub stands : ℕ → Behind → HistoryLine → Bool
-stands made behind (history.Make slot node from) = slot == made
-stands made behind (history.Root port serial) = is_after_pending behind
-stands made behind says = true
+abbrev pub stands : ℕ → LineAbove → HistoryLine → Bool
+stands made above (history.Make slot node from) = slot == made
+stands made above (history.Root port serial) = is_after_pending above
+stands made above says = true
 
 -- a history so far, and what its last line is
 abbrev pub Past : Type 0
-Past = List HistoryLine × Behind
+Past = List HistoryLine × LineAbove
 
 abbrev pub with_line : List HistoryLine → HistoryLine → Past
-with_line past says = (past ++ says ∷ [], behind_line says)
+with_line past says = (past ++ says ∷ [], line_above says)
 
 -- `show` before these lines: the graph is judged where a line stands behind its text; of one that is cut off each line
 -- has the form of one
 abbrev pub shown_in : List HistoryLine → List (List ℕ) → Option Past
 shown_in past more =
-    if is_end (behind_graph more) then (if list_all has_form (graph_lines more) then Some (past, behinds.Show) else None)
-    else option_map (λ graph. (past ++ history.Show graph ∷ [], behinds.Show)) (graph_in (graph_lines more))
+    if is_end (behind_graph more) then (if list_all has_form (graph_lines more) then Some (past, aboves.Show) else None)
+    else option_map (λ graph. (past ++ history.Show graph ∷ [], aboves.Show)) (graph_in (graph_lines more))
 
 -- a line of one form of its own
-abbrev pub said_in : Version → List HistoryLine → Behind → List ℕ → Option Past
-said_in version past behind line =
+abbrev pub said_in : Version → List HistoryLine → LineAbove → List ℕ → Option Past
+said_in version past above line =
     option_map (with_line past)
-    (keeping (λ says. line_keeps version says && stands (length (makes past)) behind says) (line_in (words line)))
+    (keeping (λ says. line_keeps version says && stands (length (makes past)) above says) (line_in (words line)))
 
 -- the history with its next line, where the line fits; `show` stands for the lines of its graph
-abbrev pub past_with : Version → List HistoryLine → Behind → List ℕ → List (List ℕ) → Option Past
-past_with version past behind line more =
-    if is_after_show behind && is_graph_line (words line) then Some (past, behinds.Show)
+abbrev pub past_with : Version → List HistoryLine → LineAbove → List ℕ → List (List ℕ) → Option Past
+past_with version past above line more =
+    if is_after_show above && is_graph_line (words line) then Some (past, aboves.Show)
     else if bytes_eq line (codes "show") then shown_in past more
-    else said_in version past behind line
+    else said_in version past above line
 
-abbrev pub history_from : Version → List HistoryLine → Behind → ℕ → List (List ℕ) → Front (List HistoryLine)
-history_from version past behind number [] = front past number []
-history_from version past behind number (line ∷ more) =
-    goes_on (past_with version past behind line more) (λ next. history_from version next.0 next.1 (number + 1) more)
+abbrev pub history_from : Version → List HistoryLine → LineAbove → ℕ → List (List ℕ) → Front (List HistoryLine)
+history_from version past above number [] = front past number []
+history_from version past above number (line ∷ more) =
+    option_map_or (λ next. history_from version next.0 next.1 (number + 1) more) (past_with version past above line more)
     (front past number (line ∷ more))
 
 -- an event of a node
@@ -123,7 +119,7 @@ event_of version line = keeping (event_keeps version) (event_in (words line))
 abbrev pub events_from : Version → List Event → ℕ → List (List ℕ) → Front (List Event)
 events_from version past number [] = front past number []
 events_from version past number (line ∷ more) =
-    goes_on (event_of version line) (λ event. events_from version (past ++ event ∷ []) (number + 1) more) (front past number (line ∷ more))
+    option_map_or (λ event. events_from version (past ++ event ∷ []) (number + 1) more) (event_of version line) (front past number (line ∷ more))
 
 -- the end of a log
 abbrev pub last_of : Version → List ℕ → Option Last
@@ -165,7 +161,7 @@ unfinished_of version line = keeping (is_slot version) (unfinished_in (words lin
 abbrev pub unfinished_from : Version → ℕ → List (List ℕ) → Front (Option ℕ)
 unfinished_from version number [] = front None number []
 unfinished_from version number (line ∷ more) =
-    goes_on (unfinished_of version line) (λ slot. front (Some slot) (number + 1) more) (front None number (line ∷ more))
+    option_map_or (λ slot. front (Some slot) (number + 1) more) (unfinished_of version line) (front None number (line ∷ more))
 
 -- `status N`
 abbrev pub status_from : ℕ → List (List ℕ) → Stage ℕ
@@ -187,28 +183,24 @@ over version past logs unfinished rest status =
     then Ok (record { version = version; report = record { history = past; logs = logs; unfinished = unfinished; status = status.read } })
     else Err (faults.BadLine status.number)
 
-abbrev pub finish : {A : Type 0} → Stage A → (Front A → Result Found ReportFault) → Result Found ReportFault
-finish (Err fault) next = Err fault
-finish (Ok f) next = next f
-
 abbrev pub after_unfinished : Version → List HistoryLine → List NodeLog → List ℕ → Front (Option ℕ) → Result Found ReportFault
 after_unfinished version past logs rest unfinished =
-    finish (status_from unfinished.number unfinished.left) (over version past logs unfinished.read rest)
+    after (status_from unfinished.number unfinished.left) (over version past logs unfinished.read rest)
 
 abbrev pub after_logs : Version → List HistoryLine → List ℕ → Front (List NodeLog) → Result Found ReportFault
 after_logs version past rest logs = after_unfinished version past logs.read rest (unfinished_from version logs.number logs.left)
 
 abbrev pub after_history : Version → List ℕ → Front (List HistoryLine) → Result Found ReportFault
 after_history version rest past =
-    finish (logs_from version (makes past.read) [] past.number past.left) (after_logs version past.read rest)
+    after (logs_from version (makes past.read) [] past.number past.left) (after_logs version past.read rest)
 
 abbrev pub after_version : List ℕ → Front Version → Result Found ReportFault
-after_version rest version = after_history version.read rest (history_from version.read [] behinds.Other version.number version.left)
+after_version rest version = after_history version.read rest (history_from version.read [] aboves.Other version.number version.left)
 
 -- The report of a text and its version; or the first line that can't stand in its place, or that the text ends too
 -- soon.
 abbrev pub reading : List ℕ → Result Found ReportFault
-reading text = finish (version_from 1 (lines text)) (after_version (tail text))
+reading text = after (version_from 1 (lines text)) (after_version (tail text))
 
 -- This is the first line that can't stand in its place, or no line is and the text ends too soon.
 abbrev pub IsReportFault : List ℕ → ReportFault → Type 0

@@ -1,7 +1,7 @@
 //! The first line of a report, and those behind its logs.
 
 ghost use Rattle.std.specs.Prelude.{◌≡◌, None, Some, IfErr, IfOk, Err, Ok};
-ghost use Rattle.report_parser.specs.Rests.{Follows, HasRoom, leaving};
+ghost use Rattle.report_parser.specs.Rests.{HasRoom, IsRestOf, leaving};
 ghost use Rattle.report_parser.specs.Stages.{is_over, status_from, unfinished_from, unfinished_of, version_from};
 ghost use Rattle.report_parser.specs.TextLines.{lines, tail};
 
@@ -16,7 +16,7 @@ pub fn version(rest: Rest<'_>) -> Result<(Version, Rest<'_>), ReportFault>
     requires { HasRoom rest }
     ensures read { IfOk result
         (λ found. version_from rest.entry.number (lines rest.entry.text.now) ≡ Ok (leaving found.0 found.1)) }
-    ensures follows { IfOk result (λ found. Follows rest.entry found.1) }
+    ensures follows { IfOk result (λ found. IsRestOf found.1 rest.entry) }
     ensures fault { IfErr result (λ fault. version_from rest.entry.number (lines rest.entry.text.now) ≡ Err fault) }
 {
     let Some((line, behind)) = next_line(rest) else {
@@ -32,7 +32,7 @@ pub fn version(rest: Rest<'_>) -> Result<(Version, Rest<'_>), ReportFault>
 pub fn unfinished(version: Version, rest: Rest<'_>) -> (Option<u32>, Rest<'_>)
     requires { HasRoom rest }
     ensures read { unfinished_from version rest.entry.number (lines rest.entry.text.now) ≡ leaving result.0 result.1 }
-    ensures follows { Follows rest.entry result.1 }
+    ensures follows { IsRestOf result.1 rest.entry }
 {
     let Some((line, behind)) = next_line(rest) else {
         return (None, rest);
@@ -59,7 +59,7 @@ pub fn status(rest: Rest<'_>) -> Result<(u8, Rest<'_>), ReportFault>
     requires { HasRoom rest }
     ensures read { IfOk result
         (λ found. status_from rest.entry.number (lines rest.entry.text.now) ≡ Ok (leaving found.0 found.1)) }
-    ensures follows { IfOk result (λ found. Follows rest.entry found.1) }
+    ensures follows { IfOk result (λ found. IsRestOf found.1 rest.entry) }
     ensures fault { IfErr result (λ fault. status_from rest.entry.number (lines rest.entry.text.now) ≡ Err fault) }
 {
     let Some((line, behind)) = next_line(rest) else {

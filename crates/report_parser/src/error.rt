@@ -5,8 +5,8 @@ use std::alloc::{AllocError, AllocFailed};
 /// The first line at fault, by its number from 1, or that there is none and the text ends too soon.
 #[derive(Debug, Drop)]
 pub enum ReportFault {
-    /// The line has none of the forms that may stand in its place. A graph that no sound graph's text shows is a fault
-    /// of its `show` line. Bytes behind the line of the status are a fault of the line that they would be.
+    /// The line has none of the forms that may stand in its place. Lines behind `show` that are no sound graph's text
+    /// are a fault of the `show` line. Bytes behind the line of the status are a fault of the line that they would be.
     BadLine(u32),
     /// The text ends before the end of the line of its status.
     Short,

@@ -2,10 +2,10 @@
 
 ghost use Rattle.std.specs.Prelude.{◌≡◌, ◌≤◌, ◌<◌, ◌+◌, ◌^◌, [], ◌∷◌, ◌&&◌, None, Some, IfOk, MatchOption, length};
 ghost use Rattle.change_script.specs.Reports.{makes};
-ghost use Rattle.report_parser.specs.declared.history.Behind.TheVariants as behinds;
+ghost use Rattle.report_parser.specs.declared.history.LineAbove.TheVariants as aboves;
 ghost use Rattle.report_parser.specs.Limits.{line_keeps};
-ghost use Rattle.report_parser.specs.Rests.{Follows, HasRoom, leaving};
-ghost use Rattle.report_parser.specs.Stages.{behind_line, history_from, past_with, said_in, shown_in, stands};
+ghost use Rattle.report_parser.specs.Rests.{HasRoom, IsRestOf, leaving};
+ghost use Rattle.report_parser.specs.Stages.{history_from, line_above, past_with, said_in, shown_in, stands};
 ghost use Rattle.report_parser.specs.TextLines.{lines};
 
 use crate::graphs::{have_forms, read_graph, split_graph};
@@ -18,9 +18,9 @@ use config_graph::NoMemory;
 use report_reader::is_graph_line;
 use std::alloc::Global;
 
-/// What the last line of a history so far is.
+/// What the last line of a history so far is, the one above the next.
 #[derive(Clone, Copy, Debug, PartialEq, Eq)]
-pub enum Behind {
+pub enum LineAbove {
     /// `pending`, or an `open` line behind it.
     Pending,
     /// `show`, or a line of its graph.
@@ -32,7 +32,7 @@ pub enum Behind {
 #[derive(Clone, Copy)]
 struct Place {
     made: u32,
-    behind: Behind,
+    above: LineAbove,
 }
 
 /// The lines of the history, as many as there are.
@@ -45,14 +45,14 @@ pub fn read_history<'a>(
     requires room { HasRoom rest }
     requires empty { history.old.items ≡ [] }
     ensures read { IfOk result
-        (λ found. history_from version [] behinds.Other rest.entry.number (lines rest.entry.text.now)
+        (λ found. history_from version [] aboves.Other rest.entry.number (lines rest.entry.text.now)
         ≡ leaving history.new.items found) }
-    ensures follows { IfOk result (λ found. Follows rest.entry found) }
+    ensures follows { IfOk result (λ found. IsRestOf found rest.entry) }
 {
     history.reserve_exact(count_lines(rest.text))?;
     let mut place = Place {
         made: 0,
-        behind: Behind::Other,
+        above: LineAbove::Other,
     };
     let mut left = rest;
     'lines: while let Some((line, behind)) = next_line(left) {
@@ -89,7 +89,7 @@ fn is_behind_history(line: &[u8]) -> bool {
     line.len() < SHORTEST_LINE || line.starts_with(b"log ") || line.starts_with(b"status ")
 }
 
-/// The next line, where it fits; `None` where it doesn't. `behind` is what is left behind it.
+/// The next line, where it fits; `None` where it doesn't. `behind` is what is left below it.
 fn push_line(
     alloc: Global,
     history: &mut Vec<HistoryLine>,
@@ -102,13 +102,13 @@ fn push_line(
     requires room { HasRoom behind }
     requires few { place.made + 1 ≤ behind.number }
     ensures { IfOk result (λ found. MatchOption found
-        ((past_with version history.old.items place.behind line.now (lines behind.entry.text.now) ≡ None)
+        ((past_with version history.old.items place.above line.now (lines behind.entry.text.now) ≡ None)
         × (history.new.items ≡ history.old.items))
-        (λ next. (past_with version history.old.items place.behind line.now (lines behind.entry.text.now)
-        ≡ Some (history.new.items, next.behind))
+        (λ next. (past_with version history.old.items place.above line.now (lines behind.entry.text.now)
+        ≡ Some (history.new.items, next.above))
         × (next.made ≡ length (makes history.new.items)) × (next.made ≤ place.made + 1))) }
 {
-    if place.behind == Behind::Show && is_graph_line(line) {
+    if place.above == LineAbove::Show && is_graph_line(line) {
         return Ok(Some(place));
     }
     if line == b"show".as_slice() {
@@ -129,12 +129,12 @@ fn push_shown(
     requires room { HasRoom behind }
     ensures { IfOk result (λ found. MatchOption found
         ((shown_in history.old.items (lines behind.entry.text.now) ≡ None) × (history.new.items ≡ history.old.items))
-        (λ next. (shown_in history.old.items (lines behind.entry.text.now) ≡ Some (history.new.items, next.behind))
+        (λ next. (shown_in history.old.items (lines behind.entry.text.now) ≡ Some (history.new.items, next.above))
         × (next.made ≡ length (makes history.new.items)) × (next.made ≡ made))) }
 {
     let next = Place {
         made,
-        behind: Behind::Show,
+        above: LineAbove::Show,
     };
     let (shown, more) = split_graph(behind.text);
     if has_no_line(more) {
@@ -159,8 +159,8 @@ fn push_said(
     requires made { place.made ≡ length (makes history.old.items) }
     requires few { place.made + 1 < 2 ^ 32 }
     ensures { IfOk result (λ found. MatchOption found
-        ((said_in version history.old.items place.behind line.now ≡ None) × (history.new.items ≡ history.old.items))
-        (λ next. (said_in version history.old.items place.behind line.now ≡ Some (history.new.items, next.behind))
+        ((said_in version history.old.items place.above line.now ≡ None) × (history.new.items ≡ history.old.items))
+        (λ next. (said_in version history.old.items place.above line.now ≡ Some (history.new.items, next.above))
         × (next.made ≡ length (makes history.new.items)) × (next.made ≤ place.made + 1))) }
 {
     let Some(says) = line_said(alloc, line)? else {
@@ -177,18 +177,18 @@ fn push_said(
 impl Place {
     /// Whether a line keeps the limits of this version and can stand there.
     fn fits(self, version: Version, line: &HistoryLine) -> bool
-        ensures { result ≡ (line_keeps version line.now && stands self.made self.behind line.now) }
+        ensures { result ≡ (line_keeps version line.now && stands self.made self.above line.now) }
     {
         line_keeps(version, line) && self.stands(line)
     }
 
     /// Whether a line can stand there.
     fn stands(self, line: &HistoryLine) -> bool
-        ensures { result ≡ stands self.made self.behind line.now }
+        ensures { result ≡ stands self.made self.above line.now }
     {
         match line {
             HistoryLine::Make { slot, .. } => *slot == self.made,
-            HistoryLine::Root { .. } => self.behind == Behind::Pending,
+            HistoryLine::Root { .. } => self.above == LineAbove::Pending,
             _ => true,
         }
     }
@@ -197,20 +197,20 @@ impl Place {
     fn and(self, line: &HistoryLine) -> Place
         requires { self.made + 1 < 2 ^ 32 }
         ensures made { result.made ≡ self.made + length (makes (line.now ∷ [])) }
-        ensures behind { result.behind ≡ behind_line line.now }
+        ensures above { result.above ≡ line_above line.now }
     {
         match line {
             HistoryLine::Make { .. } => Place {
                 made: self.made + 1,
-                behind: Behind::Other,
+                above: LineAbove::Other,
             },
             HistoryLine::Pending { .. } | HistoryLine::Root { .. } => Place {
                 made: self.made,
-                behind: Behind::Pending,
+                above: LineAbove::Pending,
             },
             _ => Place {
                 made: self.made,
-                behind: Behind::Other,
+                above: LineAbove::Other,
             },
         }
     }

@@ -5,7 +5,7 @@ ghost use Rattle.change_script.specs.Reports.{log_head, makes};
 ghost use Rattle.report_parser.specs.declared.error.ReportFault.{ReportFault};
 ghost use Rattle.report_parser.specs.declared.error.ReportFault.TheVariants as faults;
 ghost use Rattle.report_parser.specs.ReportTexts.{written_by};
-ghost use Rattle.report_parser.specs.Rests.{Follows, HasRoom, leaving};
+ghost use Rattle.report_parser.specs.Rests.{HasRoom, IsRestOf, leaving};
 ghost use Rattle.report_parser.specs.Stages.{event_of, events_from, head_from, last_from, last_of, log_from, logs_from};
 ghost use Rattle.report_parser.specs.TextLines.{lines};
 
@@ -32,7 +32,7 @@ pub fn read_logs<'a>(
     ensures read { IfOk result
         (λ found. logs_from version (makes history.now) logs.old.items rest.entry.number (lines rest.entry.text.now)
         ≡ Ok (leaving logs.new.items found)) }
-    ensures follows { IfOk result (λ found. Follows rest.entry found) }
+    ensures follows { IfOk result (λ found. IsRestOf found rest.entry) }
     ensures fault { IfErr result (λ fault. fault ≢ faults.NoMemory
         → logs_from version (makes history.now) logs.old.items rest.entry.number (lines rest.entry.text.now)
         ≡ Err fault) }
@@ -56,7 +56,7 @@ fn read_log_of<'a>(
     ensures read { IfOk result (λ found. logs_from version (makes (line.now ∷ [])) logs.old.items rest.entry.number
         (lines rest.entry.text.now)
         ≡ Ok (leaving logs.new.items found)) }
-    ensures follows { IfOk result (λ found. Follows rest.entry found) }
+    ensures follows { IfOk result (λ found. IsRestOf found rest.entry) }
     ensures fault { IfErr result (λ fault. fault ≢ faults.NoMemory
         → logs_from version (makes (line.now ∷ [])) logs.old.items rest.entry.number (lines rest.entry.text.now)
         ≡ Err fault) }
@@ -81,7 +81,7 @@ fn read_log<'a>(
     ensures read { IfOk result (λ found. log_from version (record { slot = slot; path = path.now }) rest.entry.number
         (lines rest.entry.text.now)
         ≡ Ok (leaving found.0 found.1)) }
-    ensures follows { IfOk result (λ found. Follows rest.entry found.1) }
+    ensures follows { IfOk result (λ found. IsRestOf found.1 rest.entry) }
     ensures fault { IfErr result (λ fault. fault ≢ faults.NoMemory
         → log_from version (record { slot = slot; path = path.now }) rest.entry.number (lines rest.entry.text.now)
         ≡ Err fault) }
@@ -105,7 +105,7 @@ fn read_head<'a>(
     ensures read { IfOk result (λ found. head_from version (record { slot = slot; path = path.now }) rest.entry.number
         (lines rest.entry.text.now)
         ≡ Ok (leaving (record { slot = slot; path = path.now }) found)) }
-    ensures follows { IfOk result (λ found. Follows rest.entry found) }
+    ensures follows { IfOk result (λ found. IsRestOf found rest.entry) }
     ensures fault { IfErr result (λ fault. fault ≢ faults.NoMemory
         → head_from version (record { slot = slot; path = path.now }) rest.entry.number (lines rest.entry.text.now)
         ≡ Err fault) }
@@ -145,7 +145,7 @@ fn read_events<'a>(
     requires { HasRoom rest }
     ensures read { IfOk result (λ found. events_from version [] rest.entry.number (lines rest.entry.text.now)
         ≡ leaving found.0.items found.1) }
-    ensures follows { IfOk result (λ found. Follows rest.entry found.1) }
+    ensures follows { IfOk result (λ found. IsRestOf found.1 rest.entry) }
 {
     let mut events = Vec::with_capacity(alloc, count_events(rest.text))?;
     let mut left = rest;
@@ -197,7 +197,7 @@ fn read_last<'a>(
     requires { HasRoom rest }
     ensures read { IfOk result
         (λ found. last_from version rest.entry.number (lines rest.entry.text.now) ≡ Ok (leaving found.0 found.1)) }
-    ensures follows { IfOk result (λ found. Follows rest.entry found.1) }
+    ensures follows { IfOk result (λ found. IsRestOf found.1 rest.entry) }
     ensures fault { IfErr result (λ fault. fault ≢ faults.NoMemory
         → last_from version rest.entry.number (lines rest.entry.text.now) ≡ Err fault) }
 {

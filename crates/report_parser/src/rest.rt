@@ -1,10 +1,11 @@
 //! What is left of a text, line by line.
 
-ghost use Rattle.std.specs.Prelude.{◌≡◌, ◌<◌, ◌≤◌, ◌+◌, ◌==◌, ◌∷◌, ◌++◌, [], not, length, IfSome, MatchOption};
-ghost use Rattle.std.specs.List.{prefix_len};
+ghost use Rattle.std.specs.Prelude.{◌≡◌, ◌<◌, ◌+◌, ◌∷◌, ◌++◌, [], length, IfSome, MatchOption};
 ghost use Rattle.report_reader.specs.Parts.{is_end};
-ghost use Rattle.report_parser.specs.Rests.{Follows, HasRoom};
+ghost use Rattle.report_parser.specs.Rests.{HasRoom, IsRestOf};
 ghost use Rattle.report_parser.specs.TextLines.{lines, tail};
+
+use change_script::cut;
 
 /// What is left of a text, where its first line has this number.
 #[derive(Clone, Copy)]
@@ -19,7 +20,7 @@ pub fn next_line(rest: Rest<'_>) -> Option<(&[u8], Rest<'_>)>
     ensures line { MatchOption result (lines rest.entry.text.now ≡ [])
         (λ found. lines rest.entry.text.now ≡ found.0.now ∷ lines found.1.text.now) }
     ensures number { IfSome result (λ found. found.1.number ≡ rest.entry.number + 1) }
-    ensures follows { IfSome result (λ found. Follows rest.entry found.1) }
+    ensures follows { IfSome result (λ found. IsRestOf found.1 rest.entry) }
     ensures shorter { IfSome result (λ found. length found.1.text.now < length rest.entry.text.now) }
 {
     let (line, text) = first_line(rest.text)?;
@@ -39,11 +40,10 @@ pub fn first_line(text: &[u8]) -> Option<(&[u8], &[u8])>
     ensures tail { IfSome result (λ found. tail text.now ≡ tail found.1.now) }
     ensures parts { IfSome result (λ found. text.now ≡ found.0.now ++ 10 ∷ found.1.now) }
 {
-    let len = line_len(text);
-    if len < text.len() {
-        Some((&text[..len], &text[len + 1..]))
-    } else {
-        None
+    let (line, behind) = cut(text, b'\n');
+    match behind {
+        Some(behind) => Some((line, behind)),
+        None => None,
     }
 }
 
@@ -55,12 +55,4 @@ pub fn has_no_line(text: &[u8]) -> bool
         Some(_) => false,
         None => true,
     }
-}
-
-/// How many bytes stand before the first line feed.
-fn line_len(text: &[u8]) -> usize
-    ensures len { result ≡ prefix_len (λ byte. not (byte == 10)) text.now }
-    ensures within { result ≤ length text.now }
-{
-    text.iter().take_while(|byte| **byte != b'\n').count()
 }

@@ -1,7 +1,7 @@
 use Rattle.std.proofs.Common.{◌≡◌, ◌≤◌, [], length}
 use Rattle.change_script.specs.Reports.{makes}
-use Rattle.report_parser.specs.declared.history.Behind.TheVariants as behinds
-use Rattle.report_parser.specs.Rests.{Follows}
+use Rattle.report_parser.specs.declared.history.LineAbove.TheVariants as aboves
+use Rattle.report_parser.specs.Rests.{IsRestOf}
 use Rattle.report_parser.specs.Stages.{history_from}
 use Rattle.report_parser.specs.TextLines.{lines}
 use Rattle.report_parser.proofs.history.read_history.Given as goal
@@ -9,11 +9,11 @@ use Rattle.report_parser.proofs.history.read_history.Given as goal
 -- What is left goes on with what was read.
 abbrev pub invariant-lines : goal.invariant-lines
 invariant-lines l = record {
-  same : history_from l.version l.history.items l.place.behind l.left.number (lines l.left.text.now)
-      ≡ history_from l.version [] behinds.Other l.rest.number (lines l.rest.text.now);
+  same : history_from l.version l.history.items l.place.above l.left.number (lines l.left.text.now)
+      ≡ history_from l.version [] aboves.Other l.rest.number (lines l.rest.text.now);
   made : l.place.made ≡ length (makes l.history.items);
   few : l.place.made ≤ l.left.number;
-  follows : Follows l.rest l.left;
+  follows : IsRestOf l.left l.rest;
 }
 
 abbrev pub decreases-lines : goal.decreases-lines

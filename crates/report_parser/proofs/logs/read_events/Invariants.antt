@@ -1,5 +1,5 @@
 use Rattle.std.proofs.Common.{◌≡◌, [], length}
-use Rattle.report_parser.specs.Rests.{Follows}
+use Rattle.report_parser.specs.Rests.{IsRestOf}
 use Rattle.report_parser.specs.Stages.{events_from}
 use Rattle.report_parser.specs.TextLines.{lines}
 use Rattle.report_parser.proofs.logs.read_events.Given as goal
@@ -8,7 +8,7 @@ use Rattle.report_parser.proofs.logs.read_events.Given as goal
 abbrev pub invariant-lines : goal.invariant-lines
 invariant-lines l = record {
   same : events_from l.version l.events.items l.left.number (lines l.left.text.now) ≡ events_from l.version [] l.rest.number (lines l.rest.text.now);
-  follows : Follows l.rest l.left;
+  follows : IsRestOf l.left l.rest;
 }
 
 abbrev pub decreases-lines : goal.decreases-lines

@@ -1,6 +1,6 @@
 use Rattle.std.proofs.Common.{◌≡◌, drop}
 use Rattle.change_script.specs.Reports.{makes}
-use Rattle.report_parser.specs.Rests.{Follows}
+use Rattle.report_parser.specs.Rests.{IsRestOf}
 use Rattle.report_parser.specs.Stages.{logs_from}
 use Rattle.report_parser.specs.TextLines.{lines}
 use Rattle.report_parser.proofs.logs.read_logs.Given as goal
@@ -10,5 +10,5 @@ abbrev pub invariant-loop-line : goal.invariant-loop-line
 invariant-loop-line l = record {
   same : logs_from l.version (makes (drop l.line-index l.history)) l.logs.items l.left.number (lines l.left.text.now)
       ≡ logs_from l.version (makes l.history) l.initial.logs.items l.rest.number (lines l.rest.text.now);
-  follows : Follows l.rest l.left;
+  follows : IsRestOf l.left l.rest;
 }

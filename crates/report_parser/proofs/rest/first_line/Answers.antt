@@ -1,15 +1,14 @@
-use Rattle.std.proofs.Common.{arith}
-use Rattle.report_parser.proofs.LineLemmas.{first_line_at, no_line}
+use Rattle.report_parser.proofs.LineLemmas.{first_line, no_line}
 use Rattle.report_parser.proofs.rest.first_line.Goals as goal
 
-pub returns-then-len-text-clause-line : goal.returns-then-len-text-clause-line
-returns-then-len-text-clause-line c = (first_line_at c.args.text.now _ c.line_len-len.ensures.len (omega arith)).ls
+pub returns-in-Some-clause-line : goal.returns-in-Some-clause-line
+returns-in-Some-clause-line c = (first_line c.args.text.now c.cut.result.0.now c.in-Some.behind.now (rw c.in-Some.is at c.cut.ensures.cut)).ls
 
-pub returns-then-len-text-clause-tail : goal.returns-then-len-text-clause-tail
-returns-then-len-text-clause-tail c = (first_line_at c.args.text.now _ c.line_len-len.ensures.len (omega arith)).end
+pub returns-in-Some-clause-tail : goal.returns-in-Some-clause-tail
+returns-in-Some-clause-tail c = (first_line c.args.text.now c.cut.result.0.now c.in-Some.behind.now (rw c.in-Some.is at c.cut.ensures.cut)).end
 
-pub returns-then-len-text-clause-parts : goal.returns-then-len-text-clause-parts
-returns-then-len-text-clause-parts c = (first_line_at c.args.text.now _ c.line_len-len.ensures.len (omega arith)).parts
+pub returns-in-Some-clause-parts : goal.returns-in-Some-clause-parts
+returns-in-Some-clause-parts c = (first_line c.args.text.now c.cut.result.0.now c.in-Some.behind.now (rw c.in-Some.is at c.cut.ensures.cut)).parts
 
-pub returns-else-len-text-clause-line : goal.returns-else-len-text-clause-line
-returns-else-len-text-clause-line c = no_line c.args.text.now (omega arith)
+pub returns-in-None-clause-line : goal.returns-in-None-clause-line
+returns-in-None-clause-line c = no_line c.args.text.now c.cut.result.0.now (rw c.in-None.is at c.cut.ensures.cut)
