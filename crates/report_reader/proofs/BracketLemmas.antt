@@ -6,7 +6,7 @@ use Rattle.std.specs.Str.Parse.{AllDigits}
 use Rattle.std.proofs.lemmas.Bool.{and_from, cond-true, cond-false, cases_Bool}
 use Rattle.std.proofs.lemmas.Bool.Decides.{nat_tests}
 use Rattle.std.proofs.lemmas.List.Splits.{join_with_byte-slice_split, slice_split_none, slice_split_at}
-use Rattle.report_reader.specs.Parts.{bracketed, closed, is_empty, is_end, opened, two_of}
+use Rattle.report_reader.specs.Parts.{bracketed, closed, is_end, opened, two_of}
 use Rattle.report_reader.specs.ReportLines.{lacks}
 use Rattle.report_reader.proofs.TextLaws.{lacks_append, lacks_at}
 use Rattle.report_reader.proofs.NumberLemmas.{ended_is, some_is, when_some}
@@ -59,10 +59,6 @@ in_two at text p e =
     let all = subst (PartsLack at) parts (split_lack at text) in
     record { whole = sym (join_with_byte-slice_split at text) ∙ ap (join_with_byte at) parts; first = all.0 }
 
-empty_is : (text : List ℕ) → is_empty text ≡ true → text ≡ []
-empty_is [] is = refl
-empty_is (byte ∷ bytes) is = let never : ⊥ = cc in absurd never
-
 record IsClosed (name : List ℕ) (parts : Option (List ℕ × List ℕ)) (p : List ℕ × List ℕ) : Type 0 where
   inner : parts ≡ Some (p.1, [])
   same_name : name ≡ p.0
@@ -70,9 +66,9 @@ record IsClosed (name : List ℕ) (parts : Option (List ℕ × List ℕ)) (p : L
 closed_is : (name : List ℕ) (parts : Option (List ℕ × List ℕ)) (p : List ℕ × List ℕ) → closed name parts ≡ Some p → IsClosed name parts p
 closed_is name None p e = let never : ⊥ = cc in absurd never
 closed_is name (Some parts) p e =
-    let last = when_some (is_empty parts.1) (Some (name, parts.0)) p e in
+    let last = when_some (is_end parts.1) (Some (name, parts.0)) p e in
     let is = some_is (name, parts.0) p last.1 in
-    record { inner = ap (λ behind. Some (parts.0, behind)) (empty_is parts.1 last.0) ∙ ap (λ q. Some (q.1, [])) is; same_name = ap (λ q. q.0) is }
+    record { inner = ap (λ behind. Some (parts.0, behind)) (ended_is parts.1 last.0) ∙ ap (λ q. Some (q.1, [])) is; same_name = ap (λ q. q.0) is }
 
 pub record Bracket (word : List ℕ) (p : List ℕ × List ℕ) : Type 0 where
   pub whole : word ≡ p.0 ++ (40 ∷ (p.1 ++ (41 ∷ [])))

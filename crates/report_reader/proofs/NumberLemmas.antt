@@ -98,9 +98,9 @@ digits_unspaced (byte ∷ bytes) all (suc k) d low = digits_unspaced bytes all.1
 pub decimal_unspaced : (n : ℕ) → n < 2 ^ 64 → Unspaced (decimal n)
 decimal_unspaced n small = digits_unspaced (decimal n) (decimal_is_IsNumeral n small).0.1
 
-pub ended_is : (words : List (List ℕ)) → is_end words ≡ true → words ≡ []
+pub ended_is : {A : Type 0} (left : List A) → is_end left ≡ true → left ≡ []
 ended_is [] is = refl
-ended_is (word ∷ words) is = let never : ⊥ = cc in absurd never
+ended_is (part ∷ more) is = let never : ⊥ = cc in absurd never
 
 pub record WritesOne (most : ℕ) (words : List (List ℕ)) (n : ℕ) : Type 0 where
   pub texts : words ≡ decimal n ∷ []

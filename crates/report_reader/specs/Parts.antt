@@ -11,7 +11,8 @@ parts_left at (Some text) = slice_split (λ byte. byte == at) text
 abbrev pub words : List ℕ → List (List ℕ)
 words line = slice_split (λ byte. byte == 32) line
 
-abbrev pub is_end : List (List ℕ) → Bool
+-- whether nothing is left
+abbrev pub is_end : {A : Type 0} → List A → Bool
 is_end [] = true
 is_end (part ∷ more) = false
 
@@ -27,12 +28,8 @@ two_of [] = None
 two_of (first ∷ []) = None
 two_of (first ∷ second ∷ more) = if is_end more then Some (first, second) else None
 
-abbrev pub is_empty : List ℕ → Bool
-is_empty [] = true
-is_empty (byte ∷ bytes) = false
-
 abbrev pub unless_more : List ℕ → List ℕ → List ℕ → Option (List ℕ × List ℕ)
-unless_more name inside behind = if is_empty behind then Some (name, inside) else None
+unless_more name inside behind = if is_end behind then Some (name, inside) else None
 
 abbrev pub closed : List ℕ → Option (List ℕ × List ℕ) → Option (List ℕ × List ℕ)
 closed name None = None

@@ -30,8 +30,7 @@ IsNodeEvent (events.Remove n) = ⊥
 
 -- numbers below 2^64
 abbrev pub Are64 : List ℕ → Type 0
-Are64 [] = ⊤
-Are64 (number ∷ more) = (number < 2 ^ 64) × Are64 more
+Are64 numbers = AllByRecursion (λ number. number < 2 ^ 64) numbers
 
 -- the numbers of the end of a log
 abbrev pub IsLast : Last → Type 0
