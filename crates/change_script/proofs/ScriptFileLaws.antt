@@ -1,5 +1,5 @@
 -- A text is one script or has one first fault, and reading its lines one after the other finds which.
-use Rattle.std.proofs.Common.{◌≡◌, ◌≢◌, ◌⊎◌, inl, inr, ℕ, suc, ◌-◌, Bool, true, false, List, [], ◌∷◌, ◌++◌, length, Option, Some, None, Result, Ok, Err, refl, sym, ap, append_assoc, if◌then◌else◌, ◌∙◌, arith}
+use Rattle.std.proofs.Common.{◌≡◌, ◌≢◌, ◌⊎◌, inl, inr, ℕ, suc, ◌-◌, Bool, true, false, List, [], ◌∷◌, ◌++◌, length, Option, Some, None, Result, Ok, Err, refl, sym, ap, if◌then◌else◌, ◌∙◌, arith}
 use Rattle.std.specs.List.{slice_get}
 use Rattle.std.specs.Option.{option_or}
 use Rattle.change_script.specs.declared.script.Body.{Body}
@@ -13,7 +13,7 @@ use Rattle.change_script.specs.EventFiles.{first_fault}
 use Rattle.change_script.specs.Lines.{Line, statements}
 use Rattle.change_script.proofs.EventFileLaws.{first_is_one}
 use Rattle.change_script.specs.ScriptLines.{meaning}
-use Rattle.change_script.specs.ScriptFiles.{has, is_start, is_end, ends_with_end, fault_in, fault_of, fault_in_lines, said, said_by, said_with, line_faults, lack, is_full, is_out_of_order, IsScript, IsScriptFault}
+use Rattle.change_script.specs.ScriptFiles.{has, is_start, is_end, ends_with_end, fault_in, fault_of, fault_in_lines, said, said_by, line_faults, lack, is_full, is_out_of_order, IsScript, IsScriptFault}
 
 pub ends_at : (lines : List ScriptLine) (last : ScriptLine) → slice_get lines (length lines - 1) ≡ Some last → ends_with_end lines ≡ is_end last.body
 ends_at [] last e = cc
@@ -82,35 +82,6 @@ no_want_of_memory text e =
       | inl here ↦ no_want_among [] lines here
       | inr later ↦ no_want_of (has is_start (said lines)) (ends_with_end (said lines)) later.1
     ]
-
--- A line that is right: what is left decides, below one statement more.
-pub passed : (above : List ScriptLine) (line : Line) (rest : List Line) (body : Body) → meaning line.bytes ≡ Ok body → fault_in above line.number (Ok body) ≡ None
-    → first_fault (line_faults above (line ∷ rest)) ≡ first_fault (line_faults (above ++ record { number = line.number; body = body } ∷ []) rest)
-passed above line rest body means right =
-    let none : fault_of above line ≡ None = ap (fault_in above line.number) means ∙ right in
-    let one : said_by line ≡ record { number = line.number; body = body } ∷ [] = ap (said_with line.number) means in
-    ap (λ o. first_fault (o ∷ line_faults (above ++ said_by line) rest)) none ∙ ap (λ more. first_fault (line_faults (above ++ more) rest)) one
-
-pub onward : (above : List ScriptLine) (line : Line) (rest : List Line) (body : Body) → meaning line.bytes ≡ Ok body
-    → above ++ said (line ∷ rest) ≡ (above ++ record { number = line.number; body = body } ∷ []) ++ said rest
-onward above line rest body means =
-    let one : said_by line ≡ record { number = line.number; body = body } ∷ [] = ap (said_with line.number) means in
-    ap (λ more. above ++ (more ++ said rest)) one ∙ sym (append_assoc above (record { number = line.number; body = body } ∷ []) (said rest))
-
--- A line that isn't.
-pub stopped : (above : List ScriptLine) (line : Line) (rest : List Line) (fault : ScriptError) → fault_in above line.number (meaning line.bytes) ≡ Some fault
-    → first_fault (line_faults above (line ∷ rest)) ≡ Some fault
-stopped above line rest fault is = ap (λ o. first_fault (o ∷ line_faults (above ++ said_by line) rest)) is
-
--- what the code finds
-pub script_is : (text : List ℕ) (script : Script) → first_fault (line_faults [] (statements text)) ≡ None → script.lines ≡ said (statements text) → lack script.lines ≡ None → IsScript text script
-script_is text script right read complete =
-    let lines = statements text in
-    (ap (λ o. option_or o (lack (said lines))) right ∙ ap lack (sym read) ∙ complete, read)
-
-pub lack_is : (text : List ℕ) (lines : List ScriptLine) (fault : ScriptError) → first_fault (line_faults [] (statements text)) ≡ None → lines ≡ said (statements text) → lack lines ≡ Some fault
-    → IsScriptFault text fault
-lack_is text lines fault right read lacks = ap (λ o. option_or o (lack (said (statements text)))) right ∙ ap lack (sym read) ∙ lacks
 
 pub fault_is : (text : List ℕ) (fault : ScriptError) → first_fault (line_faults [] (statements text)) ≡ Some fault → IsScriptFault text fault
 fault_is text fault first = ap (λ o. option_or o (lack (said (statements text)))) first

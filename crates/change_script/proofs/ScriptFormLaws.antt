@@ -2,7 +2,7 @@
 use Rattle.std.proofs.Common.{◌≡◌, ℕ, inl, inr, Bool, true, false, not, ◌&&◌, ◌||◌, nat_eq, List, [], ◌∷◌, ◌++◌, drop, Option, Some, None, Ok, Err, codes, refl, sym, ap, subst, ◌∙◌}
 use Rattle.std.specs.Prelude.{◌↔◌}
 use Rattle.std.specs.List.{list_all, prefix_len, starts_with}
-use Rattle.std.proofs.lemmas.Bool.{cond-true, cond-false, and_parts, cases_Bool}
+use Rattle.std.proofs.lemmas.Bool.{cond-true, cond-false, and_parts, cases_Bool, not-true}
 use Rattle.std.proofs.lemmas.Bool.Decides.{Decides-eqb}
 use Rattle.std.proofs.lemmas.Slice.Eq.{starts_is}
 use Rattle.change_script.specs.declared.script.Body.{Body}
@@ -22,13 +22,9 @@ none_skipped : (bs : List ℕ) → begins_blank bs ≡ false → without_blanks 
 none_skipped [] fails = refl
 none_skipped (b ∷ bs) fails = ap (λ n. drop n (b ∷ bs)) (cond-false _ _ _ fails)
 
-not_true : (a : Bool) → not a ≡ true → a ≡ false
-not_true true h = cc
-not_true false h = refl
-
 begins_no_blank : (name : List ℕ) → is_blankless name ≡ true → begins_blank name ≡ false
 begins_no_blank [] h = cc
-begins_no_blank (b ∷ bs) h = not_true (is_blank b) (and_parts (not (is_blank b)) (list_all (λ byte. not (is_blank byte)) bs) h).0
+begins_no_blank (b ∷ bs) h = not-true (is_blank b) (and_parts (not (is_blank b)) (list_all (λ byte. not (is_blank byte)) bs) h).0
 
 all_skipped : (blanks name : List ℕ) → list_all is_blank blanks ≡ true → is_blankless name ≡ true → without_blanks (blanks ++ name) ≡ name
 all_skipped [] name all none = none_skipped name (begins_no_blank name none)

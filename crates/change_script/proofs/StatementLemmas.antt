@@ -116,10 +116,6 @@ system_tokens name args rest is all =
 abbrev ends : Move → Ends
 ends moved = record { from = moved.from; to = moved.to }
 
-further_ends : (more : List Move) → begins_word (more_moves_text more) ≡ false
-further_ends [] = refl
-further_ends (next ∷ more) = refl
-
 moving_ends : (moves : List Move) → begins_word (moving_text moves) ≡ false
 moving_ends [] = refl
 moving_ends (first ∷ more) = refl

@@ -1,7 +1,7 @@
 -- What the tokens of a line are by its first byte, and by its first word.
 use Rattle.std.proofs.Common.{◌≡◌, ℕ, zero, suc, ◌+◌, Bool, true, false, not, ◌||◌, ◌&&◌, ◌==◌, ◌-◌, ◌≤◌, length, inl, inr, List, [], ◌∷◌, ◌++◌, take, drop, refl, sym, ap, ◌∙◌, arith}
 use Rattle.std.specs.List.{prefix_len, list_all}
-use Rattle.std.proofs.lemmas.Bool.{cond-true, cond-false, and_parts, cases_Bool}
+use Rattle.std.proofs.lemmas.Bool.{cond-true, cond-false, and_parts, cases_Bool, not-true}
 use Rattle.std.proofs.lemmas.Bool.Decides.{nat_tests}
 use Rattle.std.proofs.lemmas.Grind.{common_steps}
 use Rattle.change_script.specs.Tokens.{ScriptToken, word, opened, closed, comma, arrow, is_blank, begins_blank, is_sign, sign, is_word_byte, is_arrow, begins_word, is_word, word_len, onto_word, tokens, tokens_behind}
@@ -44,15 +44,11 @@ not_either true sign h = cc
 not_either false true h = cc
 not_either false false h = (refl, refl)
 
-not_true : (a : Bool) → not a ≡ true → a ≡ false
-not_true true h = cc
-not_true false h = refl
-
 apart_of : (b : ℕ) (bs : List ℕ) → is_word_byte b ≡ true → is_arrow b bs ≡ false → Apart b bs
 apart_of b bs byte no_arrow = let both = not_either (is_blank b) (is_sign b) byte in record { no_blank = both.0; no_sign = both.1; no_arrow = no_arrow }
 
 apart : (b : ℕ) (bs : List ℕ) → begins_word (b ∷ bs) ≡ true → Apart b bs
-apart b bs h = let both = and_parts (is_word_byte b) (not (is_arrow b bs)) h in apart_of b bs both.0 (not_true (is_arrow b bs) both.1)
+apart b bs h = let both = and_parts (is_word_byte b) (not (is_arrow b bs)) h in apart_of b bs both.0 (not-true (is_arrow b bs) both.1)
 
 no_word : (b : ℕ) (bs : List ℕ) → Apart b bs → begins_word (b ∷ bs) ≡ true
 no_word b bs a = ap (λ blank. not (blank || is_sign b) && not (is_arrow b bs)) a.no_blank ∙ ap (λ sign. not sign && not (is_arrow b bs)) a.no_sign ∙ ap not a.no_arrow
@@ -123,10 +119,6 @@ first_of_line (b ∷ bs) fails =
             a_word b bs found.0 found.1 (record { no_blank = fails; no_sign = none; no_arrow = no_arrow }) (at_word b bs fails none no_arrow ∙ found.2)
       ]
     ]
-
--- The sign at the front of a line.
-pub sign_first : (b : ℕ) (bs : List ℕ) → is_blank b ≡ false → is_sign b ≡ true → tokens (b ∷ bs) ≡ sign b ∷ tokens bs
-sign_first b bs fails holds = at_sign b bs fails holds
 
 no_sign_at : (line : List ℕ) (byte : ℕ) (more : List ScriptToken) → First line → is_sign byte ≡ true → ((bytes : List ℕ) → line ≡ byte ∷ bytes → ⊥) → tokens line ≡ sign byte ∷ more → ⊥
 no_sign_at line byte more at_end is other e = cc
@@ -253,7 +245,7 @@ last_apart : (b : ℕ) (rest : List ℕ) → begins_word (b ∷ []) ≡ true →
 last_apart b rest byte ends = apart_of b rest (and_parts (is_word_byte b) true byte).0 (no_arrow_over b rest ends)
 
 more_apart : (b next : ℕ) (bs rest : List ℕ) → begins_word (b ∷ next ∷ bs) ≡ true → Apart b ((next ∷ bs) ++ rest)
-more_apart b next bs rest byte = let both = and_parts (is_word_byte b) (not (is_arrow b (next ∷ bs))) byte in apart_of b ((next ∷ bs) ++ rest) both.0 (not_true (is_arrow b (next ∷ bs)) both.1)
+more_apart b next bs rest byte = let both = and_parts (is_word_byte b) (not (is_arrow b (next ∷ bs))) byte in apart_of b ((next ∷ bs) ++ rest) both.0 (not-true (is_arrow b (next ∷ bs)) both.1)
 
 word_begins : (b : ℕ) (bs rest : List ℕ) → is_word (b ∷ bs) ≡ true → begins_word rest ≡ false → begins_word ((b ∷ bs) ++ rest) ≡ true
 word_begins b [] rest all ends = no_word b rest (last_apart b rest (and_parts (begins_word (b ∷ [])) true all).0 ends)

@@ -73,14 +73,11 @@ makes lines = filter_map made_by lines
 abbrev pub path_in : List SlotPath → ℕ → List ℕ
 path_in made slot = option_map_or (λ (m : SlotPath). m.path) (find (λ (m : SlotPath). m.slot == slot) made) []
 
-abbrev pub path_at : List HistoryLine → ℕ → List ℕ
-path_at lines slot = path_in (makes lines) slot
-
 -- The history has exactly one `make` line of the slot.
 abbrev pub HasOneMake : List HistoryLine → ℕ → Type 0
 HasOneMake lines slot = length (filter (λ (m : SlotPath). m.slot == slot) (makes lines)) ≡ 1
 
--- A log of each slot is of a node that was made once.
+-- Each log is of a slot that has exactly one `make` line.
 abbrev pub LogsAreMade : Report → Type 0
 LogsAreMade report = All (λ (log : NodeLog). HasOneMake report.history log.slot) report.logs
 

@@ -1,6 +1,6 @@
 //! The arguments of a component: integers, parted by commas, in parentheses.
 
-ghost use Rattle.std.specs.Prelude.{◌≡◌, ◌++◌, List, ℕ, true, map, option_map, IfOk};
+ghost use Rattle.std.specs.Prelude.{◌≡◌, true, map, option_map, IfOk};
 ghost use Rattle.std.specs.List.{list_all};
 ghost use Rattle.change_script.specs.Tokens.{tokens};
 ghost use Rattle.change_script.specs.Numbers as of_numbers;

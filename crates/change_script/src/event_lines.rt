@@ -1,6 +1,6 @@
 //! What a line of an event file says.
 
-ghost use Rattle.std.specs.Prelude.{◌≡◌, ◌∷◌, List, ℕ, true, map, length, option_map, option_copied, IfOk};
+ghost use Rattle.std.specs.Prelude.{◌≡◌, map, option_map, option_copied, IfOk};
 ghost use Rattle.change_script.specs.Faults.{MeansLine};
 ghost use Rattle.change_script.specs.Tokens.{tokens};
 ghost use Rattle.change_script.specs.Arguments.{arguments, at_end};

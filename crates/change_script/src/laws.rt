@@ -1,6 +1,6 @@
 //! Laws of the definitions that the contract of `parse_events` cites.
 
-ghost use Rattle.std.specs.Prelude.{◌≡◌, ◌≢◌, ◌⊎◌, ◌↔◌, ℕ, true, false, List, ◌∷◌, ◌++◌, Ok, IsTrue, codes};
+ghost use Rattle.std.specs.Prelude.{◌≡◌, ◌⊎◌, ◌↔◌, ℕ, true, false, List, ◌∷◌, ◌++◌, Ok, IsTrue, codes};
 ghost use Rattle.darwin_lexer.specs.Naming.{IsName};
 ghost use Rattle.quiesce_core.specs.declared.event.Event.{Event};
 ghost use Rattle.change_script.specs.declared.event_lines.EventLine.TheVariants as statements;

@@ -26,8 +26,8 @@ pub fn put_number(line: &mut [u8], end: usize, number: u64) -> usize
     start
 }
 
-/// Puts a word before the byte at `end`, and tells where it starts. It is inlined, so that a verb is moved as a
-/// number of its length is.
+/// Puts a word before the byte at `end`, and tells where it starts. Inlined, so that a verb of known length is copied
+/// as one word.
 #[inline(always)]
 fn put_word(line: &mut [u8], end: usize, word: &[u8]) -> usize
     requires room { length word.now ≤ end }

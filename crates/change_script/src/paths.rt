@@ -1,7 +1,7 @@
 //! Words that are names of the language, and words that are paths of nodes.
 
 ghost use Rattle.std.specs.Prelude.{◌≡◌, ◌≤◌, length};
-ghost use Rattle.change_script.specs.Paths.{ends_index, index_fits, index_number, index_part, is_index, is_name, is_path, is_segment, name_len, name_part, path_fits, path_in, segment_fits};
+ghost use Rattle.change_script.specs.Paths.{index_fits, index_number, is_index, is_name, is_path, is_segment, name_len, path_fits, path_in, segment_fits};
 
 use crate::cuts::cut;
 use crate::error::LineFault;

@@ -116,6 +116,21 @@ fn event_room(event: &Event) -> usize {
             serial,
             value,
         }
+        | Event::More {
+            port,
+            serial,
+            value,
+        }
+        | Event::Ask {
+            port,
+            serial,
+            value,
+        }
+        | Event::Hear {
+            port,
+            serial,
+            value,
+        }
         | Event::Give {
             port,
             serial,

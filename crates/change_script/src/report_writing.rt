@@ -1,12 +1,12 @@
 //! The text of a report.
 
-ghost use Rattle.std.specs.Prelude.{◌≡◌, ◌==◌, ◌≤◌, ◌*◌, ◌++◌, ◌∷◌, false, All, IfSome, Some, find, option_copied, option_to_list, slice_get, length, filter, flat_map, map, codes, decimal, IfOk, OnOk};
+ghost use Rattle.std.specs.Prelude.{◌≡◌, ◌==◌, ◌≤◌, ◌*◌, ◌++◌, false, All, IfSome, Some, find, option_copied, option_to_list, slice_get, length, filter, flat_map, map, codes, decimal, IfOk, OnOk};
 ghost use Rattle.std.specs.Fmt.{signed_decimal};
 ghost use Rattle.config_graph.specs.GraphText.{graph_text as drawn_text, kind_text};
 ghost use Rattle.quiesce_core.specs.Doers.{is_of_change};
 ghost use Rattle.quiesce_core.specs.declared.event.Event.TheVariants as events;
 ghost use Rattle.change_script.specs.Writing.{from_words, spaced, with_one, with_three};
-ghost use Rattle.change_script.specs.Reports.{HasOneMake, LogsAreMade, Version, args_text, ended, event_text, history_text, last_text, log_head, log_text, made_by, makes, path_in, report_text, second, unfinished_text, with_system, with_two};
+ghost use Rattle.change_script.specs.Reports.{LogsAreMade, args_text, ended, event_text, history_text, last_text, log_head, log_text, made_by, makes, path_in, report_text, second, unfinished_text, with_system, with_two};
 ghost use Rattle.change_script.specs.MadeNodes.{made_of};
 
 use crate::event_writing::{LINES, PIECE, put_event, put_events};

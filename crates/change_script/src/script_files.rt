@@ -1,8 +1,8 @@
 //! From a text to a script.
 
-ghost use Rattle.std.specs.Prelude.{◌≡◌, ◌≢◌, ◌+◌, ◌^◌, ◌<◌, ◌≤◌, ◌∷◌, ◌++◌, [], List, ℕ, length, IfOk, IfErr, IsOkAnd, IsErrOf, ◌⊎◌, Ok, Err, None, Some, true};
+ghost use Rattle.std.specs.Prelude.{◌≡◌, ◌≢◌, ◌+◌, ◌^◌, ◌<◌, ◌≤◌, ◌∷◌, ◌++◌, [], List, ℕ, length, IfOk, IfErr, IsOkAnd, IsErrOf, ◌⊎◌, Ok, Err, None, Some};
 ghost use Rattle.change_script.specs.EventFiles.{first_fault};
-ghost use Rattle.change_script.specs.Lines.{statements, statements_from};
+ghost use Rattle.change_script.specs.Lines.{statements};
 ghost use Rattle.change_script.specs.ScriptFiles.{IsScript, IsScriptFault, ends_with_end, fault_in, has, is_end, is_file, is_finish, is_out_of_order, is_start, lack, line_faults, needs_file, needs_start, said};
 ghost use Rattle.change_script.specs.ScriptLines as of_lines;
 ghost use Rattle.change_script.specs.ScriptReading.{IsAbove};

@@ -1,9 +1,8 @@
 //! The words of a line of a script, by the form that the line has.
 
-ghost use Rattle.std.specs.Prelude.{◌≡◌, ◌<◌, List, ℕ, not, nat_eq, codes, length, map, option_copied, option_map, IfOk, IfSome};
+ghost use Rattle.std.specs.Prelude.{◌≡◌, ◌<◌, not, nat_eq, codes, length, map, option_copied, option_map, IfOk, IfSome};
 ghost use Rattle.std.specs.List.{list_all, starts_with};
 ghost use Rattle.change_script.specs.Tokens as of_tokens;
-ghost use Rattle.change_script.specs.Arguments.{at_end};
 ghost use Rattle.change_script.specs.ScriptWords.{change_head, change_within, change_words, ends_of, file_in, first_move, is_blankless, more_moves, moves_in, name_behind, one_word, optional_arguments, start_words, script_verb_bytes, script_verb_named, where_empty, within_and_moves, within_at, without_blanks, words_behind, words_in, words_in_tokens, words_of};
 
 use crate::arguments::arguments;
