@@ -26,7 +26,7 @@ use Rattle.step_board.specs.Going.{BrokeOff, GaveTurns, ShowsSome}
 use Rattle.step_board.specs.Playing.{played}
 use Rattle.step_board.specs.RunFacts.{config_here, round_goes_on, rounds_play}
 use Rattle.step_board.specs.Seeing.{first_undone_in, found_all, sight_of, sights_of}
-use Rattle.step_board.specs.Standing.{AreLogs, StandsBehind, StandsFor}
+use Rattle.step_board.specs.Standing.{AreLogs, StandsFor}
 use Rattle.step_board.proofs.SeeingLaws.{all_agree, find_agree, log_there, looks_at_all, looks_seen, none_left, seen_done, seen_state, sighted_at, sights_seen}
 use Rattle.step_board.proofs.StandingLemmas.{AreSeen, scan_adds, seen_both}
 
@@ -38,9 +38,6 @@ module _ {B : Type 0} (S : B → World → Type 0) where
   pub some_after : {E : Type 0} (a b : B) (begins : Bool) (r : Result Bool E) → IfOk r (λ moved. GaveTurns S a b begins moved) → OnErr r (BrokeOff S a b) → ShowsSome S a → ShowsSome S b
   some_after a b begins (Ok moved) gave broke some = ∥∥₁_map some (λ h. ((round begins h.0).world, (gave h.0 h.1).shows))
   some_after a b begins (Err e) gave broke some = ∥∥₁_map some (λ h. let w = broke h.0 h.1 in (w.world, w.shows))
-
-  pub stands_behind : (a b : B) → BrokeOff S a b → (r : List Entry) → StandsFor S a r → StandsBehind S b r
-  stands_behind a b broke r h = let w = broke (played r) h.shows in record { rounds = h.rounds; world = w.world; went_on = w.went_on; shows = w.shows }
 
   module _ (machine : B → State) (machine_is : (b : B) (w : World) → S b w → w.machine ≡ machine b) (are_reached : (b : B) (w : World) → S b w → IsReached w)
       (folds : (w : World) → IsReached w → (n : ℕ) → state_of w n ≡ fold_of_node w.events n) (logs : B → List (List Event))

@@ -3,6 +3,7 @@ use Rattle.std.proofs.Common.{◌≡◌, ◌∙◌, ◌+◌, ◌<◌, ◌≤◌,
 use Rattle.std.specs.Prelude.{◌==◌, ◌&&◌, is_none, is_some, nat_lt, option_and_then, position, slice_index_or}
 use Rattle.std.specs.List.{position_or_len}
 use Rattle.std.specs.Option.{option_map_or}
+use Rattle.std.proofs.Math.Bool.{and-false}
 use Rattle.std.proofs.lemmas.Bool.{cases_eq, eq-eqb, ne_eqb, cases_Bool, le-ltb, lt-ltb}
 use Rattle.std.proofs.lemmas.List.{length-append, length-set, length-take, take_all, take_more}
 use Rattle.std.proofs.lemmas.List.Folds.{position_or_len_push}
@@ -58,9 +59,6 @@ module _ {A : Type 0} (p : A → Bool) where
         (λ (ne : at ≡ l → ⊥). ap (λ b. place_in (at_more b (p y)) (l + 1)) (ne_eqb at l ne) ∙ before_end (omega (arith, ne, place_below xs)) (p y))
         (cases_eq at l)
 
-pub heirs_first : (c : Configuration) (heirs : List (Option ℕ)) → length heirs ≡ length c.slots → ((k : ℕ) → k < length heirs → slice_index_or heirs k None ≡ None) → AreHeirs c 0 heirs
-heirs_first c heirs count none_ = record { one_a_node = count; heirs_are = λ k below. none_ k (omega (arith, below, count)) }
-
 -- the node in slot i is m
 below_more : (c : Configuration) (i : ℕ) (m : Slot) → slot c i ≡ Some m → (k : ℕ) → heir_below c (i + 1) k ≡ cond (is_some (heir_below c i k)) (heir_below c i k) (cond (took_over k m) (Some i) None)
 below_more c i m there k =
@@ -79,14 +77,10 @@ module _ (heirs : List (Option ℕ)) (i : ℕ) where
   abbrev test : ℕ → Option ℕ → Bool
   test j o = nat_lt j (length heirs) && is_none o
 
-  and_false : (b : Bool) → (b && false) ≡ false
-  and_false true = refl
-  and_false false = refl
-
   mine : (k : ℕ) → k < length heirs → (o : Option ℕ) → slice_index_or heirs k None ≡ o → slice_index_or (after k (test k (slice_index_or heirs k None))) k None ≡ cond (is_some o) o (Some i)
   mine k within None e =
       ap (λ b. slice_index_or (after k b) k None) (ap (test k) e ∙ ap (λ b. b && true) (lt-ltb k (length heirs) within)) ∙ get_or-set_same heirs k (Some i) None within
-  mine k within (Some x) e = ap (λ b. slice_index_or (after k b) k None) (ap (test k) e ∙ and_false (nat_lt k (length heirs))) ∙ e
+  mine k within (Some x) e = ap (λ b. slice_index_or (after k b) k None) (ap (test k) e ∙ and-false (nat_lt k (length heirs))) ∙ e
 
   others : (j k : ℕ) → (j ≡ k → ⊥) → (b : Bool) → slice_index_or (after j b) k None ≡ slice_index_or heirs k None
   others j k ne true = get_or-set_other heirs j k (Some i) None (λ same. ne (sym same))

@@ -1,19 +1,17 @@
 -- The logs of all nodes, slot by slot.
-use Rattle.std.proofs.Common.{◌≡◌, ◌∙◌, ◌+◌, ◌<◌, ℕ, List, [], ◌∷◌, ◌++◌, Option, Some, None, length, map, take, refl, sym, ap, subst, arith}
-use Rattle.std.specs.Prelude.{All, option_map, slice_get, slice_index_or}
+use Rattle.std.proofs.Common.{◌≡◌, ◌∙◌, ◌+◌, ◌<◌, ℕ, List, [], ◌∷◌, ◌++◌, Option, Some, length, map, take, refl, sym, ap, subst, arith}
+use Rattle.std.specs.Prelude.{All, slice_get, slice_index_or}
 use Rattle.std.specs.List.{range_with_len}
 use Rattle.std.proofs.Math.Logic.{∥∥₁_elim}
 use Rattle.std.proofs.Props.{props}
 use Rattle.std.proofs.lemmas.List.{map-append, take_all, take_more}
 use Rattle.std.proofs.lemmas.List.Elements.{All-append, All-cons, All-nil}
 use Rattle.std.proofs.lemmas.List.FromFn.{length-map-range_with_len}
-use Rattle.std.proofs.lemmas.Option.{same_Some}
 use Rattle.base.proofs.PlaceLaws.{slice_get-there}
 use Rattle.change_board.specs.Collecting.{heir_of}
 use Rattle.change_law.specs.Lawful.{EndsAs}
 use Rattle.change_script.specs.declared.report.Last.TheVariants as last
 use Rattle.change_script.specs.declared.report.NodeLog.{NodeLog}
-use Rattle.component_trait.specs.Moves as moves
 use Rattle.component_trait.specs.States.{NodeState}
 use Rattle.quiesce_core.specs.Runs.{done_by}
 use Rattle.quiesce_core.specs.State.{State}
@@ -37,11 +35,6 @@ state_made w r n below =
 
 pub ends_moved : (w : World) → IsReached w → (n j : ℕ) → n < length w.machine.config.slots → EndsAs (state_of w n) (Some j) (last.Moved j)
 ends_moved w r n j below = let t = state_made w r n below in subst (λ o. EndsAs o (Some j) (last.Moved j)) (sym t.1) refl
-
-pub ends_kept : (w : World) → IsReached w → (n : ℕ) → n < length w.machine.config.slots → (xs : List ℕ) → option_map moves.numbers (state_of w n) ≡ Some xs → EndsAs (state_of w n) None (last.State xs)
-ends_kept w r n below xs is =
-    let t = state_made w r n below in
-    subst (λ o. EndsAs o None (last.State xs)) (sym t.1) (same_Some (moves.numbers t.0) xs (sym (ap (option_map moves.numbers) t.1) ∙ is))
 
 -- ---- all logs
 

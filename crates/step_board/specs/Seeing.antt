@@ -1,9 +1,9 @@
 -- What a scan sees of a world: a look at each port made, and a sight of each node made.
-use Rattle.std.specs.Prelude.{ℕ, not, ◌&&◌, List, map, length, find, Option, Some, None, is_some, slice_index_or, [], if◌then◌else◌}
+use Rattle.std.specs.Prelude.{ℕ, not, List, map, length, find, Option, slice_index_or, []}
 use Rattle.std.specs.List.{range_with_len}
 use Rattle.change_board.specs.Scans.{Found, all_ports, live_nodes}
 use Rattle.change_board.specs.Sights.{Sight}
-use Rattle.quiesce_core.specs.State.{State, is_live}
+use Rattle.quiesce_core.specs.State.{State}
 use Rattle.quiesce_core.specs.Words.{word_of}
 use Rattle.quiesce_core.specs.declared.event.Event.{Event}
 use Rattle.turns.specs.Round.{is_done}
@@ -21,11 +21,6 @@ sight_of logs n = record { slot = n; events = slice_index_or logs n [] }
 abbrev pub sights_of : List (List Event) → List Sight
 sights_of logs = map (sight_of logs) (range_with_len 0 (length logs))
 
--- the first live node that isn't done, and the first of those before slot k and of the node there
+-- the first live node that isn't done
 abbrev pub first_undone_in : World → Option ℕ
 first_undone_in w = find (λ n. not (is_done w n)) (live_nodes w.machine.config)
-
-abbrev pub undone_with : World → Option ℕ → ℕ → Option ℕ
-undone_with w before k =
-    if is_some before then before
-    else if is_live w.machine.config k && not (is_done w k) then Some k else None

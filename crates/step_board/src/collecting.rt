@@ -1,6 +1,6 @@
 //! The logs of all nodes, with how each ended.
 
-ghost use Rattle.std.specs.Prelude.{◌≡◌, ◌<◌, ℕ, IfOk, length, slice_index_or, [], None};
+ghost use Rattle.std.specs.Prelude.{◌≡◌, ◌<◌, IfOk, length, slice_index_or, []};
 ghost use Rattle.change_board.specs.Collecting.{heir_of};
 ghost use Rattle.change_law.specs.Lawful.{EndsAs};
 ghost use Rattle.step_board.specs.Going.{ShowsSome};
@@ -26,25 +26,13 @@ fn note_heir(heirs: &mut Vec<Option<u32>>, source: Option<u32>, slot: u32)
     }
 }
 
-/// For so many nodes none that took over its state.
-fn no_heirs(alloc: Global, count: u32) -> Result<Vec<Option<u32>>, NoMemory>
-    ensures count { IfOk result (λ heirs. length heirs.items ≡ count) }
-    ensures none { IfOk result (λ heirs. (k : ℕ) → slice_index_or heirs.items k None ≡ None) }
-{
-    let mut heirs = Vec::with_capacity(alloc, count as usize)?;
-    for _slot in 0..count {
-        heirs.push(None)?;
-    }
-    Ok(heirs)
-}
-
 /// Which node took over the state of each, by slot.
 fn find_heirs<N: Nodes>(alloc: Global, nodes: &N) -> Result<Vec<Option<u32>>, NoMemory>
     ensures { IfOk result
         (λ heirs. AreHeirs (N.machine nodes.now).config (length (N.machine nodes.now).config.slots) heirs.items) }
 {
     let made = nodes.made().nodes;
-    let mut heirs = no_heirs(alloc, made)?;
+    let mut heirs = vec![in alloc; None; made as usize]?;
     for slot in 0..made {
         let source = nodes.source(slot);
         note_heir(&mut heirs, source, slot);

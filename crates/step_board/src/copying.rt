@@ -1,15 +1,16 @@
 //! Copies of logs.
 
-ghost use Rattle.std.specs.Prelude.{◌≡◌, ◌||◌, true, IfOk, IfSome, is_some, not};
+ghost use Rattle.std.specs.Prelude.{◌≡◌, ◌&&◌, ◌||◌, true, IfOk, IfSome, is_some, not};
 ghost use Rattle.quiesce_core.specs.Doers.{is_of_change, is_of_owner};
+ghost use Rattle.step_board.specs.Copies.{is_of_begin, is_of_service};
 
 use config_graph::NoMemory;
 use quiesce_core::Event;
 use std::alloc::Global;
 
-/// Another event of a port's owner like this one. None of another event.
-fn copy_of_owner(event: &Event) -> Option<Event>
-    ensures some { is_some result ≡ is_of_owner event.now }
+/// Another event like this one, by which a transaction begins. None of another event.
+fn copy_of_begin(event: &Event) -> Option<Event>
+    ensures some { is_some result ≡ is_of_begin event.now }
     ensures like { IfSome result (λ e. e ≡ event.now) }
 {
     match *event {
@@ -31,6 +32,16 @@ fn copy_of_owner(event: &Event) -> Option<Event>
             serial,
             value,
         }),
+        _ => None,
+    }
+}
+
+/// Another event like this one, of a port's owner within a transaction. None of another event.
+fn copy_of_owner(event: &Event) -> Option<Event>
+    ensures some { is_some result ≡ (is_of_owner event.now && not (is_of_begin event.now)) }
+    ensures like { IfSome result (λ e. e ≡ event.now) }
+{
+    match *event {
         Event::Ask {
             port,
             serial,
@@ -54,9 +65,9 @@ fn copy_of_owner(event: &Event) -> Option<Event>
     }
 }
 
-/// Another event of a target like this one. None of another event.
-fn copy_of_target(event: &Event) -> Option<Event>
-    ensures some { is_some result ≡ not (is_of_change event.now || is_of_owner event.now) }
+/// Another event like this one, of a target that takes a request up or answers it. None of another event.
+fn copy_of_service(event: &Event) -> Option<Event>
+    ensures some { is_some result ≡ is_of_service event.now }
     ensures like { IfSome result (λ e. e ≡ event.now) }
 {
     match *event {
@@ -78,6 +89,16 @@ fn copy_of_target(event: &Event) -> Option<Event>
             serial,
             value,
         }),
+        _ => None,
+    }
+}
+
+/// Another event like this one, of a target within its service. None of another event.
+fn copy_of_target(event: &Event) -> Option<Event>
+    ensures some { is_some result ≡ not (is_of_change event.now || is_of_owner event.now || is_of_service event.now) }
+    ensures like { IfSome result (λ e. e ≡ event.now) }
+{
+    match *event {
         Event::More {
             port,
             serial,
@@ -136,7 +157,13 @@ fn copy_of_change(event: &Event) -> Result<Event, NoMemory>
 fn copy_event(event: &Event) -> Result<Event, NoMemory>
     ensures { IfOk result (λ e. e ≡ event.now) }
 {
+    if let Some(copy) = copy_of_begin(event) {
+        return Ok(copy);
+    }
     if let Some(copy) = copy_of_owner(event) {
+        return Ok(copy);
+    }
+    if let Some(copy) = copy_of_service(event) {
         return Ok(copy);
     }
     match copy_of_target(event) {

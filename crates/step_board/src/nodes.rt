@@ -1,6 +1,6 @@
 //! The nodes of a system on one thread.
 
-ghost use Rattle.std.specs.Prelude.{◌≡◌, ◌<◌, ◌≤◌, ◌+◌, ℕ, List, [], Option, None, Some, IfOk, OnErr, OnOk, IsTrue, length, map, option_and_then, option_map, slice_index_or};
+ghost use Rattle.std.specs.Prelude.{◌≡◌, ◌<◌, ◌≤◌, ◌+◌, List, [], Option, None, Some, IfOk, OnErr, OnOk, IsTrue, length, map, option_and_then, option_map, slice_index_or};
 ghost use Rattle.std.specs.List.{range_with_len};
 ghost use Rattle.change_board.specs.Collecting.{heir_of};
 ghost use Rattle.change_board.specs.Steps.{HasRoom, Room, less_one};

@@ -7,7 +7,7 @@ ghost use Rattle.gate_records.specs.Looks.{ended_in_word};
 ghost use Rattle.change_board.specs.Scans.{ended_in, is_idle_if_live};
 ghost use Rattle.quiesce_core.specs.Words.{word_of};
 ghost use Rattle.step_board.specs.Going.{BrokeOff, GaveTurnIfLive, GaveTurns, ShowsSome};
-ghost use Rattle.step_board.specs.Seeing.{first_undone_in, found_all, found_at, undone_with};
+ghost use Rattle.step_board.specs.Seeing.{first_undone_in, found_all, found_at};
 ghost use Rattle.turns.specs.World.{World};
 
 use crate::nodes::Nodes;
@@ -43,28 +43,18 @@ pub fn give_turns<N: Nodes>(nodes: &mut N, begins: bool) -> Result<bool, NoMemor
     Ok(moved)
 }
 
-/// The first slot whose node is live and isn't done, with one slot more.
-fn undone_up_to<N: Nodes>(nodes: &N, before: Option<u32>, slot: u32) -> Option<u32>
-    requires some { ShowsSome N.shows nodes.now }
-    ensures { (w : World) → N.shows nodes.now w → result ≡ undone_with w before slot }
-{
-    if before.is_some() || !nodes.is_live(slot) || nodes.is_done(slot) {
-        return before;
-    }
-    Some(slot)
-}
-
 /// The first slot whose node is live and isn't done.
 pub fn first_undone<N: Nodes>(nodes: &N) -> Option<u32>
     requires some { ShowsSome N.shows nodes.now }
     ensures { (w : World) → N.shows nodes.now w → result ≡ first_undone_in w }
 {
-    let mut undone = None;
     let made = nodes.made().nodes;
     for slot in 0..made {
-        undone = undone_up_to(nodes, undone, slot);
+        if nodes.is_live(slot) && !nodes.is_done(slot) {
+            return Some(slot);
+        }
     }
-    undone
+    None
 }
 
 /// Whether all is at rest, where it is told whether the ports are idle. Nodes are looked at only then.

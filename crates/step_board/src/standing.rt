@@ -1,6 +1,6 @@
 //! The board that stands on nodes of one thread.
 
-ghost use Rattle.std.specs.Prelude.{◌≡◌, true, List, []};
+ghost use Rattle.std.specs.Prelude.{true, List, []};
 ghost use Rattle.gate_records.specs.declared.entry.Entry.{Entry};
 ghost use Rattle.step_board.specs.Going.{ShowsSome};
 ghost use Rattle.step_board.specs.Standing.{AreOfRounds, AreParts, StandsBehind, StandsFor};

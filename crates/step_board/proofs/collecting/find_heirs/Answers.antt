@@ -1,11 +1,7 @@
-use Rattle.std.proofs.Common.{◌≡◌, ◌<◌, ◌∙◌, length, sym, subst, arith}
+use Rattle.std.proofs.Common.{◌≡◌, ◌<◌, length, sym, subst, arith}
 use Rattle.step_board.specs.Heirs.{AreHeirs}
-use Rattle.step_board.proofs.HeirLemmas.{heirs_first, heirs_next}
+use Rattle.step_board.proofs.HeirLemmas.{heirs_next}
 use Rattle.step_board.proofs.collecting.find_heirs.Goals as goal
-
-pub loop-slot-init : goal.loop-slot-init
-loop-slot-init g c =
-    heirs_first (g.N.Nodes.machine c.args.nodes.now).config c.in_ok-heirs.heirs.items (c.in_ok-heirs.ensures.count ∙ c.made-made.ensures.nodes) (λ k below. c.in_ok-heirs.ensures.none k)
 
 pub loop-slot-preserved : goal.loop-slot-preserved
 loop-slot-preserved g c =
