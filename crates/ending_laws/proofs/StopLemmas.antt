@@ -3,7 +3,7 @@
 use Rattle.std.proofs.Common.{◌≡◌, ◌∙◌, ℕ, zero, suc, ◌+◌, ◌≤◌, Bool, true, false, not, ◌&&◌, ◌||◌, List, [], ◌∷◌, ◌++◌, length, map, refl, sym, ap, subst, ⊎_elim, inl, arith}
 use Rattle.std.specs.Prelude.{◌==◌, All, is_some}
 use Rattle.std.specs.List.{count_by, list_any}
-use Rattle.std.proofs.lemmas.Bool.{both_ways, cases_Bool}
+use Rattle.std.proofs.lemmas.Bool.{both_ways, cases_Bool, not-true}
 use Rattle.std.proofs.lemmas.List.{length-append}
 use Rattle.std.proofs.lemmas.List.Elements.{All-head, All-tail}
 use Rattle.base.proofs.MapLaws.{count_by-append}
@@ -150,7 +150,7 @@ stops_end still_is_idle rest_bounds w r =
     let l = looked (history ++ map to.Close ports) waiting (m ++ map of_history (map to.Close ports)) ports j shut_so in
     let before = with_rounds (history ++ map to.Close ports) false waiting (m ++ map of_history (map to.Close ports)) found.0 shut_so in
     let posted : ArePosted v = posted_behind_round (after_rounds false waiting found.0) false before.course.reached in
-    let idle = still_is_idle v false l.course.reached posted (not_moved (round false v).moved found.1) in (
+    let idle = still_is_idle v false l.course.reached posted (not-true (round false v).moved found.1) in (
       j,
       none_in (looks_after waiting ports j).left
           (λ p i.
@@ -158,7 +158,3 @@ stops_end still_is_idle rest_bounds w r =
           let drained : is_drained v.machine p ≡ true = (λ k. closed k && (idle p k || is_some (exchange v.machine p).within)) in
           both_ways (is_drained v.machine p) (l.undrained p i) drained),
     )
-  where
-    not_moved : (b : Bool) → not b ≡ true → b ≡ false
-    not_moved true h = absurd (both_ways false refl h)
-    not_moved false h = refl
