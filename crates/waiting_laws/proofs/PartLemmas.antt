@@ -1,6 +1,6 @@
 -- Statements that rounds play, one after the other: worlds are reached, hints are posted, and changes drain in time.
 use Rattle.std.proofs.Common.{◌≡◌, ◌∙◌, ℕ, ◌≤◌, true, false, List, [], ◌∷◌, ◌++◌, append_assoc, map, refl, sym, ap, subst, ⊎_elim, arith}
-use Rattle.std.specs.Prelude.{◌==◌, ◌||◌, fold}
+use Rattle.std.specs.Prelude.{◌==◌, fold}
 use Rattle.std.specs.List.{list_any}
 use Rattle.std.proofs.lemmas.Bool.{both_ways, cases_Bool, cases_eq, eqb-true, or_cases, or_left}
 use Rattle.std.proofs.lemmas.List.{map-append}
